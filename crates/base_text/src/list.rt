@@ -1,0 +1,57 @@
+// A vector that contracts see as the list of its elements.
+ghost use Rattle.std.specs.Prelude.{◌≡◌, List, vec_items};
+
+use std::marker::Model;
+
+/// A vector, which contracts see as the list of its elements.
+#[derive(Debug, Drop)]
+pub struct Listed<T> {
+    items: Vec<T>,
+}
+
+impl<T> Model for Listed<T> {
+    ghost use Rattle.std.specs.Prelude.{List};
+    ghost Value = { List T };
+
+    ghost view = { λ v. v.items.items };
+}
+
+impl<T> Listed<T> {
+    /// The elements, in their order.
+    pub fn as_slice(&self) -> &[T]
+        ensures { result.now ≡ self.now }
+    {
+        &self.items
+    }
+}
+
+impl<T> From<Vec<T>> for Listed<T> {
+    ghost from_gives = { λ items listed. listed ≡ items.items };
+
+    fn from(items: Vec<T>) -> Listed<T> {
+        Listed { items }
+    }
+}
+
+impl<T> From<Listed<T>> for Vec<T> {
+    ghost from_gives = { λ listed items. items.items ≡ listed };
+
+    fn from(listed: Listed<T>) -> Vec<T> {
+        let Listed { items } = listed;
+        items
+    }
+}
+
+#[cfg(test)]
+mod tests {
+    use super::*;
+    use std::test::Fail;
+
+    #[test]
+    fn gives_its_vector_back(rt: HostRuntime) -> Result<(), Fail> {
+        let listed = Listed::from(vec![in rt.alloc(); 3, 1, 2]?);
+        assert_eq!(rt; listed.as_slice(), [3, 1, 2].as_slice());
+        assert_eq!(rt; Vec::from(listed).as_slice(), [3, 1, 2].as_slice());
+        Ok(())
+    }
+}
