@@ -1,0 +1,26 @@
+-- The key that a JSON text gives.
+use Rattle.std.specs.Prelude.{ℕ, List, Option, Some, None, option_map, option_and_then, bytes_eq, codes, if◌then◌else◌}
+use Rattle.serde_json.specs.Data.{Data}
+use Rattle.serde_json.specs.Read.{read}
+use Rattle.reg_records.specs.Json.{text_at, number_at}
+use Rattle.reg_records.specs.declared.key.Key.{Key}
+use Rattle.reg_records.specs.declared.key.Key.TheVariants as keys
+
+-- a version of a subject: a string, and a number within its limits
+abbrev pub schema_key : Data → Option Key
+schema_key d =
+    option_and_then
+        (λ subject. option_map (λ version. keys.Schema subject version) (number_at (codes "version") d))
+        (text_at (codes "subject") d)
+
+-- the key of that kind; the other members don't count
+abbrev pub key_of_kind : List ℕ → Data → Option Key
+key_of_kind kind d = if bytes_eq kind (codes "SCHEMA") then schema_key d else None
+
+-- the key that a JSON value is: its kind is the string `keytype`
+abbrev pub key_in : Data → Option Key
+key_in d = option_and_then (λ kind. key_of_kind kind d) (text_at (codes "keytype") d)
+
+-- the key that a text is
+abbrev pub key_of : List ℕ → Option Key
+key_of text = option_and_then key_in (read text)

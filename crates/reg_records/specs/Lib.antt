@@ -1,0 +1,4 @@
+pub mod Json
+pub mod Key
+pub mod Line
+pub mod Value

@@ -1,0 +1,63 @@
+// What the members of a JSON object say.
+ghost use Rattle.std.specs.Prelude.{◌≡◌, IfOk, option_map};
+ghost use Rattle.serde_json.specs.Read.{read};
+ghost use Rattle.serde_json.specs.View.{view};
+ghost use Rattle.reg_records.specs.Json.{text_at, number_at, has_text_at, has_number_at};
+
+use crate::limits::NUMBER_LIMIT;
+use serde_json::Value as Json;
+use std::alloc::{AllocError, Global};
+
+/// The JSON value that a text is; `None` where it is none.
+pub(crate) fn parse(alloc: Global, text: &str) -> Result<Option<Json>, AllocError>
+    ensures { IfOk result (λ found. option_map view found ≡ read text.now) }
+{
+    match Json::from_str(alloc, text) {
+        Ok(json) => Ok(Some(json)),
+        Err(e) => {
+            if e.is_memory() {
+                return Err(AllocError);
+            }
+            Ok(None)
+        }
+    }
+}
+
+/// The text of the member of that name, if it is a string.
+pub(crate) fn text_at<'a>(json: &'a Json, name: &str) -> Option<&'a str>
+    ensures { option_map (λ text. text.now) result ≡ text_at name.now (view json.now) }
+{
+    json.get(name).and_then(Json::as_str)
+}
+
+/// The member of that name, if it is a whole number that a version or an id may be.
+pub(crate) fn number_at(json: &Json, name: &str) -> Option<u32>
+    ensures { result ≡ number_at name.now (view json.now) }
+{
+    let number = json.get(name).and_then(Json::as_u64)?;
+    if 1 <= number && number <= u64::from(NUMBER_LIMIT) {
+        Some(number as u32)
+    } else {
+        None
+    }
+}
+
+/// Whether the member of that name is that string.
+pub(crate) fn has_text_at(json: &Json, name: &str, text: &str) -> bool
+    ensures { result ≡ has_text_at name.now text.now (view json.now) }
+{
+    match text_at(json, name) {
+        Some(found) => found == text,
+        None => false,
+    }
+}
+
+/// Whether the member of that name is that number.
+pub(crate) fn has_number_at(json: &Json, name: &str, number: u32) -> bool
+    ensures { result ≡ has_number_at name.now number (view json.now) }
+{
+    match number_at(json, name) {
+        Some(found) => found == number,
+        None => false,
+    }
+}

@@ -1,0 +1,175 @@
+// Lines of a topic: `offset TAB key TAB value LF`.
+ghost use Rattle.std.specs.Prelude.{◌≡◌, ◌==◌, true, false, IfOk, IfErr, Ok, Err, MatchOption, position, count_by};
+ghost use Rattle.std.specs.Char.{is_ascii_digit};
+ghost use Rattle.std.specs.List.{list_all};
+ghost use Rattle.std.specs.Str.{is_utf8};
+ghost use Rattle.reg_records.specs.Line.{is_line_feed, is_tab, is_decimal, offset_of, offset_field, key_field, value_field, read_at, reading, reading_at_front, IsFaultOf};
+
+use crate::key::key_of;
+use crate::limits::{LINE_LIMIT, OFFSET_LIMIT};
+use crate::record::{Read, Record};
+use base_text::Text;
+use std::alloc::{AllocError, Global};
+use thiserror::Error;
+
+/// Why a line was refused; the first fault in this order is told.
+#[derive(Clone, Copy, Debug, PartialEq, Eq, Error)]
+pub enum LineError {
+    /// The input ends before the line's LF.
+    #[error("Truncated")]
+    Truncated,
+    /// More than 2,097,152 bytes stand before the LF.
+    #[error("TooLong")]
+    TooLong,
+    /// The line isn't UTF-8.
+    #[error("BadUtf8")]
+    BadUtf8,
+    /// The line doesn't have exactly two TABs.
+    #[error("BadTabs")]
+    BadTabs,
+    /// The offset isn't in decimal digits without a leading zero, or is past its limit.
+    #[error("BadOffset")]
+    BadOffset,
+}
+
+/// Why no line was read.
+#[derive(Clone, Copy, Debug, PartialEq, Eq, Error)]
+pub enum ReadLineError {
+    #[error(transparent)]
+    Line(LineError),
+    #[error("out of memory")]
+    OutOfMemory,
+}
+
+impl From<LineError> for ReadLineError {
+    ghost use Rattle.reg_records.specs.declared.line.ReadLineError.TheVariants.{Line};
+    ghost from_gives = { λ fault e. e ≡ Line fault };
+
+    fn from(fault: LineError) -> ReadLineError {
+        ReadLineError::Line(fault)
+    }
+}
+
+impl From<AllocError> for ReadLineError {
+    ghost use Rattle.reg_records.specs.declared.line.ReadLineError.TheVariants.{OutOfMemory};
+    ghost from_gives = { λ _ e. e ≡ OutOfMemory };
+
+    fn from(_refused: AllocError) -> ReadLineError {
+        ReadLineError::OutOfMemory
+    }
+}
+
+/// Reads the line at the front of `bytes`, up to its LF; what follows isn't looked at.
+///
+/// The line is `offset TAB key TAB value` in UTF-8: the offset in decimal digits without a leading
+/// zero, the key and the value as JSON (RFC 8259), with `null` for no value.
+pub fn read_line(alloc: Global, bytes: &[u8]) -> Result<Read, ReadLineError>
+    ensures record { IfOk result (λ read. reading_at_front bytes.now ≡ Ok read) }
+    ensures fault { IfErr result (IsFaultOf (reading_at_front bytes.now)) }
+{
+    match line_len(bytes) {
+        Some(end) => read_whole_line(alloc, &bytes[..end]),
+        None => Err(ReadLineError::Line(LineError::Truncated)),
+    }
+}
+
+/// How many bytes stand before the first LF, where there is one.
+fn line_len(bytes: &[u8]) -> Option<usize>
+    ensures { result ≡ position is_line_feed bytes.now }
+{
+    bytes.iter().position(|b| *b == b'\n')
+}
+
+/// Reads a line without its LF.
+pub(crate) fn read_whole_line(alloc: Global, line: &[u8]) -> Result<Read, ReadLineError>
+    ensures record { IfOk result (λ read. reading line.now ≡ Ok read) }
+    ensures fault { IfErr result (IsFaultOf (reading line.now)) }
+{
+    if line.len() > LINE_LIMIT {
+        return Err(ReadLineError::Line(LineError::TooLong));
+    }
+    let Some(text) = text_of(line) else {
+        return Err(ReadLineError::Line(LineError::BadUtf8));
+    };
+    let Some((offset, key, value)) = fields_of(text) else {
+        return Err(ReadLineError::Line(LineError::BadTabs));
+    };
+    let Some(offset) = offset_of(offset) else {
+        return Err(ReadLineError::Line(LineError::BadOffset));
+    };
+    Ok(read_at(alloc, offset, key, value)?)
+}
+
+/// The text that the bytes are, if they are UTF-8.
+fn text_of(line: &[u8]) -> Option<&str>
+    ensures { MatchOption result (is_utf8 line.now ≡ false)
+        (λ text. (is_utf8 line.now ≡ true) × (text.now ≡ line.now)) }
+{
+    match str::from_utf8(line) {
+        Ok(text) => Some(text),
+        Err(_) => None,
+    }
+}
+
+/// The three fields of a line that has exactly two TABs.
+fn fields_of(text: &str) -> Option<(&str, &str, &str)>
+    ensures { MatchOption result ((count_by is_tab text.now == 2) ≡ false)
+        (λ fields. ((count_by is_tab text.now == 2) ≡ true) × (fields.0.now ≡ offset_field text.now)
+        × (fields.1.now ≡ key_field text.now) × (fields.2.now ≡ value_field text.now)) }
+{
+    if tab_count(text.as_bytes()) != 2 {
+        return None;
+    }
+    let (offset, rest) = text.split_once('\t')?;
+    let (key, value) = rest.split_once('\t')?;
+    Some((offset, key, value))
+}
+
+fn tab_count(line: &[u8]) -> usize
+    ensures { result ≡ count_by is_tab line.now }
+{
+    line.iter().filter(|b| **b == b'\t').count()
+}
+
+/// The offset that a field spells, within the limit.
+fn offset_of(field: &str) -> Option<u64>
+    ensures { result ≡ offset_of field.now }
+{
+    if !is_decimal(field) {
+        return None;
+    }
+    match field.parse::<u64>() {
+        Ok(offset) if offset <= OFFSET_LIMIT => Some(offset),
+        _ => None,
+    }
+}
+
+/// Whether a field is decimal digits without a leading zero, but for `0` itself.
+fn is_decimal(field: &str) -> bool
+    ensures { result ≡ is_decimal field.now }
+{
+    let digits = field.as_bytes();
+    if digits.is_empty() || (digits.len() > 1 && digits[0] == b'0') {
+        return false;
+    }
+    has_only_digits(digits)
+}
+
+fn has_only_digits(bytes: &[u8]) -> bool
+    ensures { result ≡ list_all is_ascii_digit bytes.now }
+{
+    bytes.iter().all(|b| b.is_ascii_digit())
+}
+
+fn read_at(alloc: Global, offset: u64, key: &str, value: &str) -> Result<Read, AllocError>
+    ensures { IfOk result (λ read. read ≡ read_at offset key.now value.now) }
+{
+    let Some(key) = key_of(alloc, key)? else {
+        return Ok(Read::Foreign(offset));
+    };
+    let value = match value {
+        "null" => None,
+        text => Some(Text::copy_of(alloc, text)?),
+    };
+    Ok(Read::Record(Record { offset, key, value }))
+}

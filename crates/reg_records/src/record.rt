@@ -1,0 +1,22 @@
+// Records, and what a line can say.
+use crate::key::Key;
+use base_text::Text;
+
+/// An entry of the topic. Records of one key are ordered by offset, then no value before a text,
+/// then by the text's bytes.
+#[derive(Debug, Drop, Clone, PartialEq, Eq)]
+pub struct Record {
+    /// Where it stands in the topic, from 0 to 9,223,372,036,854,775,807.
+    pub offset: u64,
+    pub key: Key,
+    /// The text of its value; `None` deletes the key.
+    pub value: Option<Text>,
+}
+
+/// What a line that isn't refused says.
+#[derive(Debug, Drop, PartialEq, Eq)]
+pub enum Read {
+    Record(Record),
+    /// A line whose key is none that is known here, with its offset.
+    Foreign(u64),
+}
