@@ -1,1 +1,3 @@
+mod Lines
+mod Logs
 mod Tabs

@@ -1,15 +1,22 @@
 //! The records of the registry's topic: their keys and values, and the lines that they stand on.
 #![tactic(auto)]
 
+mod device;
 mod json;
 mod key;
 mod limits;
 mod line;
+mod log;
+mod log_reader;
+mod pieces;
 mod record;
 mod value;
 
+pub use device::Device;
 pub use key::Key;
-pub use limits::{LINE_LIMIT, NUMBER_LIMIT, OFFSET_LIMIT};
+pub use limits::{LINE_LIMIT, LINE_READS, LOG_LINES, NUMBER_LIMIT, OFFSET_LIMIT};
 pub use line::{LineError, ReadLineError, read_line};
+pub use log::{Log, LogError, LogFault};
+pub use log_reader::read_log;
 pub use record::{Read, Record};
 pub use value::{Value, decode_value};

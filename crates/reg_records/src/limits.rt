@@ -8,3 +8,9 @@ pub const NUMBER_LIMIT: u32 = 2_147_483_647;
 
 /// The most bytes that a line has before its LF.
 pub const LINE_LIMIT: usize = 2_097_152;
+
+/// The most lines that a log has before its empty line.
+pub const LOG_LINES: u64 = 1_000_000;
+
+/// The most reads that are made for one line.
+pub const LINE_READS: u64 = 4_194_304;

@@ -1,8 +1,9 @@
 // Lines of a topic: `offset TAB key TAB value LF`.
-ghost use Rattle.std.specs.Prelude.{◌≡◌, ◌==◌, true, false, IfOk, IfErr, Ok, Err, MatchOption, position, count_by};
+ghost use Rattle.std.specs.Prelude.{◌≡◌, ◌≤◌, ◌==◌, true, false, IfOk, IfErr, IfSome, Ok, Err, MatchOption, position, count_by};
 ghost use Rattle.std.specs.Char.{is_ascii_digit};
 ghost use Rattle.std.specs.List.{list_all};
 ghost use Rattle.std.specs.Str.{is_utf8};
+ghost use Rattle.reg_records.specs.Log.{offset_in};
 ghost use Rattle.reg_records.specs.Line.{is_line_feed, is_tab, is_decimal, offset_of, offset_field, key_field, value_field, read_at, reading, reading_at_front, IsFaultOf};
 
 use crate::key::key_of;
@@ -84,6 +85,7 @@ fn line_len(bytes: &[u8]) -> Option<usize>
 pub(crate) fn read_whole_line(alloc: Global, line: &[u8]) -> Result<Read, ReadLineError>
     ensures record { IfOk result (λ read. reading line.now ≡ Ok read) }
     ensures fault { IfErr result (IsFaultOf (reading line.now)) }
+    ensures within { IfOk result (λ read. offset_in read ≤ OFFSET_LIMIT) }
 {
     if line.len() > LINE_LIMIT {
         return Err(ReadLineError::Line(LineError::TooLong));
@@ -133,7 +135,8 @@ fn tab_count(line: &[u8]) -> usize
 
 /// The offset that a field spells, within the limit.
 fn offset_of(field: &str) -> Option<u64>
-    ensures { result ≡ offset_of field.now }
+    ensures value { result ≡ offset_of field.now }
+    ensures within { IfSome result (λ offset. offset ≤ OFFSET_LIMIT) }
 {
     if !is_decimal(field) {
         return None;
@@ -162,7 +165,8 @@ fn has_only_digits(bytes: &[u8]) -> bool
 }
 
 fn read_at(alloc: Global, offset: u64, key: &str, value: &str) -> Result<Read, AllocError>
-    ensures { IfOk result (λ read. read ≡ read_at offset key.now value.now) }
+    ensures record { IfOk result (λ read. read ≡ read_at offset key.now value.now) }
+    ensures offset { IfOk result (λ read. offset_in read ≡ offset) }
 {
     let Some(key) = key_of(alloc, key)? else {
         return Ok(Read::Foreign(offset));

@@ -15,7 +15,7 @@ own = numerals_by_value _ (search rules)
 offset_of-unparsed : (field : List ℕ) → is_decimal field ≡ true → ((list_all is_ascii_digit field ≡ true) → ¬ ((0 < length field) × (digits_value 10 field < 2 ^ 64))) → None ≡ offset_of field
 offset_of-unparsed field e h = grind (arith, nat_tests)
 
-pub returns-in_default-2 : goal.returns-in_default-2
-returns-in_default-2 c =
+pub returns-in_default-2-clause-value : goal.returns-in_default-2-clause-value
+returns-in_default-2-clause-value c =
     offset_of-unparsed c.args.field.now (sym c.if-not-is_decimal.ensures) (λ digits.
         OkIff-at_err c.parse.result _ _ _ (parse_digits own 64 c.args.field.now c.parse.result c.parse.ensures.value.0 digits) c.in_default.is)

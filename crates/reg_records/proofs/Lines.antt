@@ -1,0 +1,58 @@
+-- How the bytes that were taken for a line grow.
+use Rattle.std.proofs.Common.{◌≡◌, ◌<◌, ◌⊎◌, inl, inr, List, ℕ, [], ◌∷◌, ◌++◌, length, None, Some, OnSome, IsTrue, false, sym, ap, subst, ◌∙◌, refl, arith, append_assoc}
+use Rattle.std.specs.Io.KnownBytes.{Consumes, Keeps, IsAtEnd}
+use Rattle.std.proofs.KnownBytes.{Consumes-trans, Consumes-kept}
+use Rattle.std.proofs.lemmas.List.Elements.{All-append}
+use Rattle.std.specs.Prelude.{Option}
+use Rattle.std.proofs.lemmas.Bool.{cases_lt, false≢true}
+use Rattle.reg_records.specs.Device.{faults_of, counted, HasFaulted, LAST_COUNT}
+use Rattle.reg_records.specs.declared.device.Device.{Device}
+use Rattle.reg_records.specs.Line.{is_line_feed}
+use Rattle.reg_records.specs.Pieces.{HasNoLineFeed, Holds, Grows}
+use Rattle.reg_records.specs.declared.pieces.LineBuffer.{LineBuffer}
+
+-- one more fault was counted, or none more can be
+pub HasFaulted-counted : {R : Type 0} (old new : Device R) → faults_of new ≡ counted (faults_of old) → HasFaulted old new
+HasFaulted-counted old new e =
+    elim (cases_lt (faults_of old) LAST_COUNT) [ inl below ↦ inl (omega arith) | inr past ↦ inr (omega arith) ]
+
+-- what was taken has no LF, and the buffer stands for it
+abbrev pub TakesPart : Option (List ℕ) → Option (List ℕ) → LineBuffer → Type 0
+TakesPart old new buffer = (line : List ℕ) × HasNoLineFeed line × Holds buffer line × Consumes old new line
+
+pub TakesPart-more : (old mid new : Option (List ℕ)) (before after : LineBuffer) (line bytes : List ℕ)
+    → HasNoLineFeed line → Holds before line → Consumes old mid line
+    → HasNoLineFeed bytes → Consumes mid new bytes → Grows before after bytes → TakesPart old new after
+TakesPart-more old mid new before after line bytes none held read none' read' grows =
+    (line ++ bytes, All-append (λ b. is_line_feed b ≡ false) line bytes none none', grows line held, Consumes-trans old mid new line bytes read read')
+
+pub TakesPart-kept : (old mid new : Option (List ℕ)) (before after : LineBuffer) (line : List ℕ)
+    → HasNoLineFeed line → Holds before line → Consumes old mid line → Keeps mid new → after ≡ before → TakesPart old new after
+TakesPart-kept old mid new before after line none held read kept same =
+    (line, none, subst (λ b. Holds b line) (sym same) held, Consumes-kept old mid new line read kept)
+
+pub Consumes-ended : (old mid new : Option (List ℕ)) (line bytes : List ℕ) → Consumes old mid line → Consumes mid new (bytes ++ 10 ∷ [])
+    → Consumes old new ((line ++ bytes) ++ 10 ∷ [])
+Consumes-ended old mid new line bytes read read' =
+    subst (λ l. Consumes old new l) (sym (append_assoc line bytes (10 ∷ []))) (Consumes-trans old mid new line (bytes ++ 10 ∷ []) read read')
+
+pub IsAtEnd-after : (old mid new : Option (List ℕ)) (line : List ℕ) → Consumes old mid line → IsAtEnd mid → Keeps mid new → OnSome old (IsAtEnd new)
+IsAtEnd-after None mid new line read end kept = tt
+IsAtEnd-after (Some x) None new line read end kept = absurd read
+IsAtEnd-after (Some x) (Some y) None line read end kept = absurd kept
+IsAtEnd-after (Some x) (Some y) (Some z) line read end kept = kept ∙ end
+
+pub IsAtEnd-before : (a b : Option (List ℕ)) (line : List ℕ) → Consumes a b line → line ≡ [] → IsAtEnd b → IsAtEnd a
+IsAtEnd-before None b line read none end = tt
+IsAtEnd-before (Some x) None line read none end = absurd read
+IsAtEnd-before (Some x) (Some y) line read none end = read ∙ ap (λ l. l ++ y) none ∙ end
+
+pub Keeps-none_taken : (a b c : Option (List ℕ)) (line : List ℕ) → Consumes a b line → line ≡ [] → Keeps b c → Keeps a c
+Keeps-none_taken None b c line read none kept = tt
+Keeps-none_taken (Some x) None c line read none kept = absurd read
+Keeps-none_taken (Some x) (Some y) None line read none kept = absurd kept
+Keeps-none_taken (Some x) (Some y) (Some z) line read none kept = kept ∙ sym (read ∙ ap (λ l. l ++ y) none)
+
+pub length-of_nonempty : (line : List ℕ) → (line ≡ [] → IsTrue false) → 0 < length line
+length-of_nonempty [] h = absurd (false≢true (h refl))
+length-of_nonempty (b ∷ line) h = omega arith

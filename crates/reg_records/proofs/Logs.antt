@@ -1,0 +1,207 @@
+-- What a line is to the log that it begins.
+use Rattle.std.proofs.Common.{◌≡◌, ◌<◌, ◌≤◌, ◌+◌, ◌⊎◌, ℕ, suc, cond, Bool, true, false, not, List, [], ◌∷◌, ◌++◌, length, None, Some, IfSome, IfErr, OnSome, inl, inr, Result, Ok, Err, refl, sym, ap, subst, ◌∙◌, arith, append_assoc, append-nil, nat_lt}
+use Rattle.std.specs.Prelude.{Option, IsTrue, count_by, All, max}
+use Rattle.std.specs.Option.{option_to_list}
+use Rattle.std.specs.List.{slice_split, onto_first, join_with_byte}
+use Rattle.std.specs.Io.KnownBytes.{Consumes, Keeps, IsAtEnd}
+use Rattle.std.proofs.lemmas.List.Splits.{slice_split_at, slice_split_none, join_with_byte-slice_split}
+use Rattle.std.proofs.KnownBytes.{Consumes-trans}
+use Rattle.std.proofs.lemmas.List.Sums.{position_or_len_is, sum_by-append, count_by-le-length}
+use Rattle.std.proofs.lemmas.List.Elements.{filter_map-append}
+use Rattle.std.proofs.lemmas.Bool.Decides.{nat_tests}
+use Rattle.reg_records.proofs.Lines.{length-of_nonempty}
+use Rattle.reg_records.proofs.Tabs.{count_by-none}
+use Rattle.reg_records.specs.Device.{HasFaulted, faults_of, line_reads_of}
+use Rattle.reg_records.specs.Line.{is_line_feed, reading}
+use Rattle.reg_records.specs.Log.{LogText, log_from, log_of, map_log, with_read, line_then, fault_at, is_empty_line, record_in, records_in, is_foreign, offset_in, next_after, IsLogOf, IsLogRefusal}
+use Rattle.reg_records.specs.LogSteps.{AddsRead, StepsLog, IsStepRefusal, IsLineRefusal}
+use Rattle.reg_records.specs.declared.device.Device.{Device}
+use Rattle.reg_records.specs.declared.log.Log.{Log}
+use Rattle.reg_records.specs.declared.log.LogError.{LogError}
+use Rattle.reg_records.specs.declared.log.LogError.TheVariants as errors
+use Rattle.reg_records.specs.Pieces.{HasNoLineFeed, LosesReader}
+use Rattle.reg_records.specs.declared.limits.TheConstants.{LOG_LINES, LINE_READS}
+use Rattle.reg_records.specs.declared.line.LineError.{LineError}
+use Rattle.reg_records.specs.declared.line.LineError.TheVariants.{Truncated}
+use Rattle.reg_records.specs.declared.log.LogFault.{LogFault}
+use Rattle.reg_records.specs.declared.log.LogFault.TheVariants.{TooManyLines}
+use Rattle.reg_records.specs.declared.record.Read.{Read}
+use Rattle.reg_records.specs.declared.record.Read.TheVariants as kinds
+
+abbrev pub parts : List ℕ → List (List ℕ)
+parts text = slice_split is_line_feed text
+
+-- a text has a first part
+first_part : (text : List ℕ) → (first : List ℕ) × (more : List (List ℕ)) × (parts text ≡ first ∷ more)
+first_part [] = ([], [], refl)
+first_part (b ∷ text) =
+    elim (is_line_feed b) as (λ t. (first : List ℕ) × (more : List (List ℕ)) × (cond t ([] ∷ parts text) (onto_first b (parts text)) ≡ first ∷ more)) [
+      | true ↦ ([], parts text, refl)
+      | false ↦ let (first, more, e) = first_part text in (b ∷ first, more, ap (onto_first b) e)
+    ]
+
+-- a line, and the text after its LF
+abbrev pub from_line : ℕ → List ℕ → List ℕ → Result LogText (ℕ × LogFault)
+from_line n line text = cond (is_empty_line line) (Ok (record { reads = []; rest = text })) (line_then n (reading line) (log_from (suc n) (parts text)))
+
+log_from-parts : (n : ℕ) (line text : List ℕ) → log_from n (line ∷ parts text) ≡ from_line n line text
+log_from-parts n line text =
+    let (first, more, e) = first_part text in
+    let joined : join_with_byte 10 (first ∷ more) ≡ text = ap (join_with_byte 10) (sym e) ∙ join_with_byte-slice_split 10 text in
+    ap (λ lines. log_from n (line ∷ lines)) e
+    ∙ ap (λ rest. cond (is_empty_line line) (Ok (record { reads = []; rest = rest })) (line_then n (reading line) (log_from (suc n) (first ∷ more)))) joined
+    ∙ ap (λ lines. cond (is_empty_line line) (Ok (record { reads = []; rest = text })) (line_then n (reading line) (log_from (suc n) lines))) (sym e)
+
+-- the log of a text that begins with a line and its LF
+log_from-line : (n : ℕ) (text line rest : List ℕ) → HasNoLineFeed line → text ≡ (line ++ 10 ∷ []) ++ rest → log_from n (parts text) ≡ from_line n line rest
+log_from-line n text line rest none e =
+    ap (λ t. log_from n (parts t)) (e ∙ append_assoc line (10 ∷ []) rest)
+    ∙ ap (log_from n) (slice_split_at is_line_feed line 10 rest none refl)
+    ∙ log_from-parts n line rest
+
+pub log_from-read : (n : ℕ) (old new : Option (List ℕ)) (line : List ℕ) (read : Read)
+    → HasNoLineFeed line → Consumes old new (line ++ 10 ∷ []) → is_empty_line line ≡ false → reading line ≡ Ok read → n ≤ LOG_LINES
+    → IfSome old (λ text. IfSome new (λ rest. log_from n (parts text) ≡ map_log (with_read read) (log_from (suc n) (parts rest))))
+log_from-read n None new line read none taken some says within = tt
+log_from-read n (Some text) None line read none taken some says within = absurd taken
+log_from-read n (Some text) (Some rest) line read none taken some says within =
+    let few : nat_lt LOG_LINES n ≡ false = grind (arith, nat_tests) in
+    log_from-line n text line rest none taken
+    ∙ ap (λ b. cond b (Ok (record { reads = []; rest = rest })) (line_then n (reading line) (log_from (suc n) (parts rest)))) some
+    ∙ ap (λ r. line_then n r (log_from (suc n) (parts rest))) says
+    ∙ ap (λ b. cond b (Err (n, TooManyLines)) (map_log (with_read read) (log_from (suc n) (parts rest)))) few
+
+pub log_from-ended : (n : ℕ) (old new : Option (List ℕ)) (line : List ℕ)
+    → HasNoLineFeed line → Consumes old new (line ++ 10 ∷ []) → is_empty_line line ≡ true
+    → IfSome old (λ text. (rest : List ℕ) × (log_from n (parts text) ≡ Ok (record { reads = []; rest = rest })) × (new ≡ Some rest))
+log_from-ended n None new line none taken ended = tt
+log_from-ended n (Some text) None line none taken ended = absurd taken
+log_from-ended n (Some text) (Some rest) line none taken ended = (
+  rest,
+  log_from-line n text line rest none taken
+  ∙ ap (λ b. cond b (Ok (record { reads = []; rest = rest })) (line_then n (reading line) (log_from (suc n) (parts rest)))) ended,
+  refl,
+)
+
+pub log_from-refused : (n : ℕ) (old new : Option (List ℕ)) (line : List ℕ) (fault : LogFault)
+    → HasNoLineFeed line → Consumes old new (line ++ 10 ∷ []) → is_empty_line line ≡ false
+    → ((more : Result LogText (ℕ × LogFault)) → line_then n (reading line) more ≡ Err (n, fault))
+    → IfSome old (λ text. log_from n (parts text) ≡ Err (n, fault))
+log_from-refused n None new line fault none taken some refused = tt
+log_from-refused n (Some text) None line fault none taken some refused = absurd taken
+log_from-refused n (Some text) (Some rest) line fault none taken some refused =
+    log_from-line n text line rest none taken
+    ∙ ap (λ b. cond b (Ok (record { reads = []; rest = rest })) (line_then n (reading line) (log_from (suc n) (parts rest)))) some
+    ∙ refused (log_from (suc n) (parts rest))
+
+is_empty_line-some : (line : List ℕ) → 0 < length line → is_empty_line line ≡ false
+is_empty_line-some line some = grind (arith, nat_tests)
+
+pub log_from-unended : (n : ℕ) (old new : Option (List ℕ)) (line : List ℕ)
+    → HasNoLineFeed line → 0 < length line → Consumes old new line → OnSome old (IsAtEnd new)
+    → IfSome old (λ text. log_from n (parts text) ≡ Err (n, fault_at n Truncated))
+log_from-unended n None new line none some taken end = tt
+log_from-unended n (Some text) None line none some taken end = absurd taken
+log_from-unended n (Some text) (Some rest) line none some taken end =
+    let whole : text ≡ line = taken ∙ ap (λ r. line ++ r) end ∙ append-nil line in
+    ap (λ t. log_from n (parts t)) whole
+    ∙ ap (log_from n) (slice_split_none is_line_feed line none)
+    ∙ ap (λ b. cond b (Ok (record { reads = []; rest = [] })) (Err (n, fault_at n Truncated))) (is_empty_line-some line some)
+
+-- ---- how many LFs were taken
+
+line_feeds-none : (bytes : List ℕ) → HasNoLineFeed bytes → count_by is_line_feed bytes ≡ 0
+line_feeds-none bytes none =
+    count_by-none is_line_feed bytes
+        (position_or_len_is is_line_feed bytes (length bytes) 0 (omega arith) (λ k h. none k 0 h) (λ h. absurd (omega arith)))
+
+pub line_feeds-append : (xs ys : List ℕ) → count_by is_line_feed (xs ++ ys) ≡ count_by is_line_feed xs + count_by is_line_feed ys
+line_feeds-append xs ys = sum_by-append (λ b. cond (is_line_feed b) 1 0) xs ys
+
+pub line_feeds-line : (line : List ℕ) → HasNoLineFeed line → count_by is_line_feed (line ++ 10 ∷ []) ≡ 1
+line_feeds-line line none = omega (arith, line_feeds-append line (10 ∷ []), line_feeds-none line none)
+
+-- ---- refusals
+
+pub IsStepRefusal-line : {R : Type 0} (n : ℕ) (before after : Device R) (old new : Option (List ℕ)) (line : List ℕ) (e : LogError)
+    → HasNoLineFeed line → Consumes old new (line ++ 10 ∷ []) → is_empty_line line ≡ false → IsLineRefusal n line e → IsStepRefusal n before after old new e
+IsStepRefusal-line n before after old new line (errors.Fault at fault) none taken some refused =
+    (refused.0, log_from-refused n old new line fault none taken some refused.1)
+IsStepRefusal-line n before after old new line (errors.ReadFault at) none taken some refused = absurd refused
+IsStepRefusal-line n before after old new line errors.OutOfMemory none taken some refused = tt
+
+-- ---- the lines so far
+
+abbrev pub with_reads : List Read → LogText → LogText
+with_reads reads log = record { reads = reads ++ log.reads; rest = log.rest }
+
+map_log-with_reads : (reads : List Read) (read : Read) (more : Result LogText (ℕ × LogFault))
+    → map_log (with_reads reads) (map_log (with_read read) more) ≡ map_log (with_reads (reads ++ read ∷ [])) more
+map_log-with_reads reads read (Ok log) = ap (λ all. Ok (record { reads = all; rest = log.rest })) (sym (append_assoc reads (read ∷ []) log.reads))
+map_log-with_reads reads read (Err fault) = refl
+
+-- what is read of the old text so far, and what is left of it
+abbrev pub GoesOn : Option (List ℕ) → Option (List ℕ) → List Read → ℕ → Type 0
+GoesOn old now reads n = IfSome old (λ text. IfSome now (λ rest. log_of text ≡ map_log (with_reads reads) (log_from n (parts rest))))
+
+pub GoesOn-none : (old : Option (List ℕ)) → GoesOn old old [] 1
+GoesOn-none None = tt
+GoesOn-none (Some text) = nothing (log_of text)
+  where
+    nothing : (more : Result LogText (ℕ × LogFault)) → more ≡ map_log (with_reads []) more
+    nothing (Ok log) = refl
+    nothing (Err fault) = refl
+
+pub GoesOn-more : (old mid new : Option (List ℕ)) (reads : List Read) (read : Read) (n : ℕ) (taken : List ℕ) → GoesOn old mid reads n
+    → Consumes old mid taken
+    → IfSome mid (λ text. IfSome new (λ rest. log_from n (parts text) ≡ map_log (with_read read) (log_from (suc n) (parts rest))))
+    → GoesOn old new (reads ++ read ∷ []) (suc n)
+GoesOn-more None mid new reads read n taken so_far took step = tt
+GoesOn-more (Some text) None new reads read n taken so_far took step = absurd took
+GoesOn-more (Some text) (Some left) None reads read n taken so_far took step = tt
+GoesOn-more (Some text) (Some left) (Some rest) reads read n taken so_far took step =
+    so_far ∙ ap (map_log (with_reads reads)) step ∙ map_log-with_reads reads read (log_from (suc n) (parts rest))
+
+records_in-append : (reads : List Read) (read : Read) → records_in (reads ++ read ∷ []) ≡ records_in reads ++ option_to_list (record_in read)
+records_in-append reads read = filter_map-append record_in reads (read ∷ []) ∙ ap (λ last. records_in reads ++ last) (last_record read)
+  where
+    last_record : (r : Read) → records_in (r ∷ []) ≡ option_to_list (record_in r)
+    last_record (kinds.Record r) = refl
+    last_record (kinds.Foreign offset) = refl
+
+next_after-append : (reads : List Read) (read : Read) → next_after (reads ++ read ∷ []) ≡ max (next_after reads) (suc (offset_in read))
+next_after-append [] read = omega arith
+next_after-append (r ∷ reads) read = omega (arith, next_after-append reads read)
+
+pub IsLogOf-more : (old : Log) (reads : List Read) (read : Read) (new : Log) → IsLogOf reads old → AddsRead old read new → IsLogOf (reads ++ read ∷ []) new
+IsLogOf-more old reads read new is adds = record {
+  records = adds.records ∙ ap (λ all. all ++ option_to_list (record_in read)) is.records ∙ sym (records_in-append reads read);
+  foreign = adds.foreign ∙ omega (arith, is.foreign, sum_by-append (λ r. cond (is_foreign r) 1 0) reads (read ∷ []));
+  next = adds.next ∙ ap (λ n. max n (suc (offset_in read))) is.next ∙ sym (next_after-append reads read);
+}
+
+pub foreign-le : (log : Log) (reads : List Read) → IsLogOf reads log → log.foreign ≤ length reads
+foreign-le log reads is = omega (arith, is.foreign, count_by-le-length is_foreign reads)
+
+pub IsLogRefusal-step : {R : Type 0} (n : ℕ) (before mid after : Device R) (old now new : Option (List ℕ)) (reads : List Read) (taken : List ℕ) (e : LogError)
+    → GoesOn old now reads n → Consumes old now taken → count_by is_line_feed taken + 1 ≡ n → faults_of mid ≡ faults_of before
+    → IsStepRefusal n mid after now new e → IsLogRefusal before after old new e
+IsLogRefusal-step n before mid after old now new reads taken (errors.Fault line fault) so_far took count faults step =
+    refused old now so_far took step.1
+  where
+    refused : (old now : Option (List ℕ)) → GoesOn old now reads n → Consumes old now taken
+        → IfSome now (λ text. log_from n (parts text) ≡ Err (n, fault)) → IfSome old (λ text. log_of text ≡ Err (line, fault))
+    refused None now so_far took e = tt
+    refused (Some text) None so_far took e = absurd took
+    refused (Some text) (Some rest) so_far took e = so_far ∙ ap (map_log (with_reads reads)) e ∙ ap (λ k. Err (k, fault)) (sym step.0)
+IsLogRefusal-step n before mid after old now new reads taken (errors.ReadFault line) so_far took count faults step =
+    let (is, (why, part, none, read)) = step in (
+      elim why [ inl counted ↦ inl (elim counted [ inl more ↦ inl (omega (arith, faults, more)) | inr last ↦ inr last ]) | inr many ↦ inr many ],
+      taken ++ part,
+      Consumes-trans old now new taken part took read,
+      omega (arith, is, count, line_feeds-append taken part, line_feeds-none part none),
+    )
+IsLogRefusal-step n before mid after old now new reads taken errors.OutOfMemory so_far took count faults step = tt
+
+pub is_empty_line-unless : (line : List ℕ) → (line ≡ [] → IsTrue false) → is_empty_line line ≡ false
+is_empty_line-unless line h = is_empty_line-some line (length-of_nonempty line h)

@@ -1,0 +1,22 @@
+use Rattle.std.proofs.Common.{◌≡◌, ◌≤◌, ◌+◌, ◌-◌, ℕ, List, length}
+use Rattle.std.specs.Prelude.{count_by}
+use Rattle.std.specs.Io.KnownBytes.{Consumes}
+use Rattle.reg_records.specs.Device.{bytes_in, faults_of}
+use Rattle.reg_records.specs.Line.{is_line_feed}
+use Rattle.reg_records.specs.Log.{IsLogOf}
+use Rattle.reg_records.specs.declared.limits.TheConstants.{LOG_LINES}
+use Rattle.reg_records.specs.declared.record.Read.{Read}
+use Rattle.reg_records.proofs.Logs.{GoesOn}
+use Rattle.reg_records.proofs.log_reader.read_log.Given as goal
+
+-- the log holds what the lines so far say, and what is left begins with the line of that number
+abbrev pub invariant-loop-log : goal.invariant-loop-log
+invariant-loop-log g l =
+    (reads : List Read) × IsLogOf reads l.log × (length reads + 1 ≡ l.number) × (l.number ≤ LOG_LINES + 1)
+    × ((taken : List ℕ) × Consumes (bytes_in g.R.Read.remaining l.initial.reader) (bytes_in g.R.Read.remaining l.reader) taken
+    × (count_by is_line_feed taken + 1 ≡ l.number))
+    × GoesOn (bytes_in g.R.Read.remaining l.initial.reader) (bytes_in g.R.Read.remaining l.reader) reads l.number
+    × (faults_of l.reader ≡ faults_of l.initial.reader)
+
+abbrev pub decreases-loop-log : goal.decreases-loop-log
+decreases-loop-log g l = LOG_LINES + 2 - l.number

@@ -1,0 +1,31 @@
+use Rattle.std.proofs.Common.{◌≡◌, ℕ, List, [], ◌∷◌, ◌++◌, refl, ap, ◌∙◌, rules, true, false}
+use Rattle.std.proofs.lemmas.Result.{err_from_is_err_and}
+use Rattle.reg_records.specs.Log.{is_empty_line}
+use Rattle.reg_records.proofs.Logs.{log_from-read, log_from-ended, log_from-unended, line_feeds-line, IsStepRefusal-line, is_empty_line-unless}
+use Rattle.reg_records.proofs.log_reader.read_next.Goals as goal
+
+pub returns-in-Unended-clause-refused : goal.returns-in-Unended-clause-refused
+returns-in-Unended-clause-refused g c =
+    let (line, none, some, read, end) = rw (c.in-Some.is, c.in-Unended.is) at c.in_ok-front.ensures.taken in
+    rw c.fault_at.ensures (refl, log_from-unended c.args.number _ _ line none some read end)
+
+pub returns-then-is_empty-clause-step : goal.returns-then-is_empty-clause-step
+returns-then-is_empty-clause-step g c =
+    let (line, none, read, held) = rw (c.in-Some.is, c.in-Line.is) at c.in_ok-front.ensures.taken in
+    let ended : is_empty_line line ≡ true = ap is_empty_line ((c.if-is_empty.ensures line held).0 refl) in
+    (refl, log_from-ended c.args.number _ _ line none read ended)
+
+pub returns-in_err-read-clause-refused : goal.returns-in_err-read-clause-refused
+returns-in_err-read-clause-refused g c =
+    let (line, none, read, held) = rw (c.in-Some.is, c.in-Line.is) at c.in_ok-front.ensures.taken in
+    let some = is_empty_line-unless line (c.if-is_empty.ensures line held).1 in
+    let p = err_from_is_err_and c.from_residual-in_err-read.result c.from_residual-in_err-read.ensures.1 in
+    rw (p.1, p.2) (IsStepRefusal-line c.args.number c.args.reader.now c.take_line.new.reader _ _ line _ none read some (c.in_err-read.ensures.refused line held))
+
+pub returns-clause-step : goal.returns-clause-step
+returns-clause-step g c =
+    let (line, none, read, held) = rw (c.in-Some.is, c.in-Line.is) at c.in_ok-front.ensures.taken in
+    let some = is_empty_line-unless line (c.if-is_empty.ensures line held).1 in
+    let (within, says) = c.in_ok-read.ensures.read line held in
+    (within, c.in_ok-read.read, c.in_ok-add.ensures, (line ++ 10 ∷ [], read, line_feeds-line line none),
+      log_from-read c.args.number _ _ line c.in_ok-read.read none read some says within)

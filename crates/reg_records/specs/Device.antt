@@ -1,0 +1,45 @@
+-- What a device counts, and the bytes of the reader or the writer in it.
+use Rattle.std.specs.Prelude.{◌≡◌, ◌≢◌, ◌⊎◌, ℕ, suc, ◌-◌, ◌^◌, ◌<◌, min, List, length, Option, Result, MatchResult}
+use Rattle.std.specs.IoError.{error_kind}
+use Rattle.std.specs.declared.io.Error.{Error}
+use Rattle.std.specs.declared.io.ErrorKind.TheVariants.{Interrupted}
+use Rattle.reg_records.specs.declared.device.Device.{Device}
+
+-- the greatest count
+abbrev pub LAST_COUNT : ℕ
+LAST_COUNT = 2 ^ 64 - 1
+
+-- one more, up to the greatest count
+abbrev pub counted : ℕ → ℕ
+counted n = min (suc n) LAST_COUNT
+
+-- the reader or the writer in it
+abbrev pub inner_of : {T : Type 0} → Device T → T
+inner_of d = d.inner
+
+-- how many faults it has answered, up to the greatest count
+abbrev pub faults_of : {T : Type 0} → Device T → ℕ
+faults_of d = d.faults
+
+-- how many reads it has made since it last took an LF, up to the greatest count
+abbrev pub line_reads_of : {T : Type 0} → Device T → ℕ
+line_reads_of d = d.line_reads
+
+-- the bytes of the reader or the writer in it, where they are known
+abbrev pub bytes_in : {T : Type 0} → (T → Option (List ℕ)) → Device T → Option (List ℕ)
+bytes_in bytes d = bytes d.inner
+
+-- a fault was counted, or the count stood at its last value
+abbrev pub HasFaulted : {T : Type 0} → Device T → Device T → Type 0
+HasFaulted old new = (faults_of old < faults_of new) ⊎ (faults_of new ≡ LAST_COUNT)
+
+-- the count rose where the answer was a fault, and there alone; an interruption is none
+abbrev pub CountsFault : {T A : Type 0} → Device T → Device T → Result A Error → Type 0
+CountsFault old new answer = MatchResult answer (λ _. new.faults ≡ old.faults)
+    (λ e. (error_kind e ≡ Interrupted → new.faults ≡ old.faults) × (error_kind e ≢ Interrupted → new.faults ≡ counted old.faults))
+
+-- the same of a write, where taking no byte of a piece that has some is a fault too
+abbrev pub CountsWrite : {T : Type 0} → Device T → Device T → List ℕ → Result ℕ Error → Type 0
+CountsWrite old new piece answer = MatchResult answer
+    (λ n. (n ≡ 0 → 0 < length piece → new.faults ≡ counted old.faults) × ((n ≡ 0 → length piece ≡ 0) → new.faults ≡ old.faults))
+    (λ e. (error_kind e ≡ Interrupted → new.faults ≡ old.faults) × (error_kind e ≢ Interrupted → new.faults ≡ counted old.faults))

@@ -1,0 +1,89 @@
+-- A log is the lines of a text up to an empty line or the end of the text.
+use Rattle.std.specs.Prelude.{◌≡◌, ◌⊎◌, ⊤, ℕ, suc, ◌+◌, ◌≤◌, max, List, [], ◌∷◌, Bool, true, false, ◌==◌, nat_lt, length, count_by, Option, Some, None, IfSome, Result, Ok, Err, if◌then◌else◌}
+use Rattle.std.specs.List.{filter_map, join_with_byte, slice_split}
+use Rattle.std.specs.Io.KnownBytes.{Consumes}
+use Rattle.reg_records.specs.Device.{HasFaulted, line_reads_of}
+use Rattle.reg_records.specs.Line.{is_line_feed, reading}
+use Rattle.reg_records.specs.declared.device.Device.{Device}
+use Rattle.reg_records.specs.declared.log.Log.{Log}
+use Rattle.reg_records.specs.declared.log.LogError.{LogError}
+use Rattle.reg_records.specs.declared.log.LogError.TheVariants as errors
+use Rattle.reg_records.specs.declared.limits.TheConstants.{LOG_LINES, LINE_READS}
+use Rattle.reg_records.specs.declared.line.LineError.{LineError}
+use Rattle.reg_records.specs.declared.line.LineError.TheVariants.{Truncated}
+use Rattle.reg_records.specs.declared.log.LogFault.{LogFault}
+use Rattle.reg_records.specs.declared.log.LogFault.TheVariants as faults
+use Rattle.reg_records.specs.declared.record.Record.{Record}
+use Rattle.reg_records.specs.declared.record.Read.{Read}
+use Rattle.reg_records.specs.declared.record.Read.TheVariants as reads
+
+abbrev pub is_empty_line : List ℕ → Bool
+is_empty_line line = length line == 0
+
+-- what the lines of a log say, in their order, and the bytes after its empty line
+pub record LogText : Type 0 where
+  pub reads : List Read
+  pub rest : List ℕ
+
+abbrev pub with_read : Read → LogText → LogText
+with_read read log = record { reads = read ∷ log.reads; rest = log.rest }
+
+abbrev pub map_log : (LogText → LogText) → Result LogText (ℕ × LogFault) → Result LogText (ℕ × LogFault)
+map_log f (Ok log) = Ok (f log)
+map_log f (Err fault) = Err fault
+
+-- the fault of a line, unless the log has more lines than it may
+abbrev pub fault_at : ℕ → LineError → LogFault
+fault_at number fault = if nat_lt LOG_LINES number then faults.TooManyLines else faults.Line fault
+
+-- what a line says, before what the lines after it say; the first fault is told with its line's number
+abbrev pub line_then : ℕ → Result Read LineError → Result LogText (ℕ × LogFault) → Result LogText (ℕ × LogFault)
+line_then number (Err fault) more = Err (number, fault_at number fault)
+line_then number (Ok read) more = if nat_lt LOG_LINES number then Err (number, faults.TooManyLines) else map_log (with_read read) more
+
+-- the log that begins with the line of that number
+abbrev pub log_from : ℕ → List (List ℕ) → Result LogText (ℕ × LogFault)
+log_from number [] = Ok (record { reads = []; rest = [] })
+log_from number (last ∷ []) = if is_empty_line last then Ok (record { reads = []; rest = [] }) else Err (number, fault_at number Truncated)
+log_from number (line ∷ next ∷ lines) = if is_empty_line line then Ok (record { reads = []; rest = join_with_byte 10 (next ∷ lines) })
+    else line_then number (reading line) (log_from (suc number) (next ∷ lines))
+
+-- the log at the front of a text, whose lines are what stands before, between and after its LFs, or the number of its first line that has a fault, and the fault
+abbrev pub log_of : List ℕ → Result LogText (ℕ × LogFault)
+log_of text = log_from 1 (slice_split is_line_feed text)
+
+abbrev pub record_in : Read → Option Record
+record_in (reads.Record r) = Some r
+record_in (reads.Foreign offset) = None
+
+abbrev pub is_foreign : Read → Bool
+is_foreign (reads.Record r) = false
+is_foreign (reads.Foreign offset) = true
+
+abbrev pub offset_in : Read → ℕ
+offset_in (reads.Record r) = r.offset
+offset_in (reads.Foreign offset) = offset
+
+-- the records among them
+abbrev pub records_in : List Read → List Record
+records_in read = filter_map record_in read
+
+-- one more than the greatest offset, or 0
+abbrev pub next_after : List Read → ℕ
+next_after [] = 0
+next_after (r ∷ rs) = max (suc (offset_in r)) (next_after rs)
+
+-- the log holds what its lines say
+pub record IsLogOf (read : List Read) (log : Log) : Type 0 where
+  pub records : log.records.items ≡ records_in read
+  pub foreign : log.foreign ≡ count_by is_foreign read
+  pub next : log.next ≡ next_after read
+
+-- why no log was read: a line's fault comes where it is the first, and a reader's fault only where one
+-- was counted or a line took as many reads as it may; its line is the one after those that were read
+abbrev pub IsLogRefusal : {R : Type 0} → Device R → Device R → Option (List ℕ) → Option (List ℕ) → LogError → Type 0
+IsLogRefusal before after old new (errors.Fault line fault) = IfSome old (λ text. log_of text ≡ Err (line, fault))
+IsLogRefusal before after old new (errors.ReadFault line) =
+    (HasFaulted before after ⊎ (LINE_READS ≤ line_reads_of after))
+    × (taken : List ℕ) × Consumes old new taken × (count_by is_line_feed taken + 1 ≡ line)
+IsLogRefusal before after old new errors.OutOfMemory = ⊤

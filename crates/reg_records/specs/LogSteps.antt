@@ -1,0 +1,46 @@
+-- What one line adds to a log.
+use Rattle.std.specs.Prelude.{◌≡◌, ⊤, ℕ, suc, ◌+◌, ◌≤◌, max, List, [], ◌++◌, Bool, true, false, Option, Some, None, IfSome, Result, Ok, Err, count_by, if◌then◌else◌}
+use Rattle.std.specs.Option.{option_to_list}
+use Rattle.std.specs.List.{slice_split}
+use Rattle.std.specs.Io.KnownBytes.{Consumes}
+use Rattle.reg_records.specs.Device.{HasFaulted, faults_of, line_reads_of}
+use Rattle.reg_records.specs.Line.{is_line_feed, reading}
+use Rattle.reg_records.specs.Log.{LogText, log_from, map_log, with_read, line_then, record_in, is_foreign, offset_in}
+use Rattle.reg_records.specs.Pieces.{HasNoLineFeed, LosesReader}
+use Rattle.reg_records.specs.declared.device.Device.{Device}
+use Rattle.reg_records.specs.declared.limits.TheConstants.{LOG_LINES}
+use Rattle.reg_records.specs.declared.log.Log.{Log}
+use Rattle.reg_records.specs.declared.log.LogError.{LogError}
+use Rattle.reg_records.specs.declared.log.LogFault.{LogFault}
+use Rattle.reg_records.specs.declared.log.LogError.TheVariants as errors
+use Rattle.reg_records.specs.declared.record.Read.{Read}
+
+-- the new log is the old one with what a line says
+pub record AddsRead (old : Log) (read : Read) (new : Log) : Type 0 where
+  pub records : new.records.items ≡ old.records.items ++ option_to_list (record_in read)
+  pub foreign : new.foreign ≡ old.foreign + (if is_foreign read then 1 else 0)
+  pub next : new.next ≡ max old.next (suc (offset_in read))
+
+-- what became of the line of that number: it says something and the log goes on, or the log ends there
+abbrev pub StepsLog : ℕ → Option (List ℕ) → Option (List ℕ) → Log → Log → Bool → Type 0
+StepsLog number old new before after true =
+    (number ≤ LOG_LINES) × (read : Read) × AddsRead before read after
+    × ((taken : List ℕ) × Consumes old new taken × (count_by is_line_feed taken ≡ 1))
+    × IfSome old (λ text. IfSome new (λ rest. log_from number (slice_split is_line_feed text)
+        ≡ map_log (with_read read) (log_from (suc number) (slice_split is_line_feed rest))))
+StepsLog number old new before after false =
+    (after ≡ before) × IfSome old (λ text. (rest : List ℕ)
+        × (log_from number (slice_split is_line_feed text) ≡ Ok (record { reads = []; rest = rest })) × (new ≡ Some rest))
+
+-- why the line of that number was refused
+abbrev pub IsStepRefusal : {R : Type 0} → ℕ → Device R → Device R → Option (List ℕ) → Option (List ℕ) → LogError → Type 0
+IsStepRefusal number before after old new (errors.Fault line fault) =
+    (line ≡ number) × IfSome old (λ text. log_from number (slice_split is_line_feed text) ≡ Err (number, fault))
+IsStepRefusal number before after old new (errors.ReadFault line) = (line ≡ number) × LosesReader before after old new
+IsStepRefusal number before after old new errors.OutOfMemory = ⊤
+
+-- why a line that was taken whole says nothing
+abbrev pub IsLineRefusal : ℕ → List ℕ → LogError → Type 0
+IsLineRefusal number bytes (errors.Fault line fault) = (line ≡ number) × ((more : Result LogText (ℕ × LogFault)) → line_then number (reading bytes) more ≡ Err (number, fault))
+IsLineRefusal number bytes (errors.ReadFault line) = ⊥
+IsLineRefusal number bytes errors.OutOfMemory = ⊤

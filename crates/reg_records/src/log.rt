@@ -1,0 +1,88 @@
+// Logs: the lines of a topic, up to an empty line or the end of the input.
+ghost use Rattle.std.specs.Prelude.{◌≡◌, All, ◌<◌};
+
+use crate::limits::{LOG_LINES, OFFSET_LIMIT};
+use crate::line::LineError;
+use crate::record::{Read, Record};
+use std::alloc::{AllocError, Global};
+use thiserror::Error;
+
+/// The records of a log.
+#[derive(Debug, Drop)]
+pub struct Log {
+    /// The records of its lines, in their order.
+    pub records: Vec<Record>,
+    /// How many of its lines have a key that is none known here.
+    pub foreign: u64,
+    /// One more than the greatest offset of its lines, or 0.
+    pub next: u64,
+    pub ghost ahead: { All (λ r. r.offset < next) records.items },
+}
+
+/// What is wrong with a line of a log.
+#[derive(Clone, Copy, Debug, PartialEq, Eq, Error)]
+pub enum LogFault {
+    #[error(transparent)]
+    Line(LineError),
+    /// The log has more than 1,000,000 lines.
+    #[error("TooManyLines")]
+    TooManyLines,
+}
+
+/// Why no log was read.
+#[derive(Clone, Copy, Debug, PartialEq, Eq, Error)]
+pub enum LogError {
+    /// The first line that has a fault; lines count from 1.
+    #[error("line {line}: {fault}")]
+    Fault { line: u64, fault: LogFault },
+    /// The reader failed, or was asked 4,194,304 times for one line.
+    #[error("line {line}: ReadFault")]
+    ReadFault { line: u64 },
+    #[error("out of memory")]
+    OutOfMemory,
+}
+
+impl From<AllocError> for LogError {
+    ghost use Rattle.reg_records.specs.declared.log.LogError.TheVariants.{OutOfMemory};
+    ghost from_gives = { λ _ e. e ≡ OutOfMemory };
+
+    fn from(_refused: AllocError) -> LogError {
+        LogError::OutOfMemory
+    }
+}
+
+impl Log {
+    ghost use Rattle.std.specs.Prelude.{[], ◌≤◌, OnOk};
+    ghost use Rattle.reg_records.specs.Log.{IsLogOf, offset_in};
+    ghost use Rattle.reg_records.specs.LogSteps.{AddsRead};
+
+    /// A log without lines.
+    pub(crate) fn new(alloc: Global) -> Log
+        ensures { IsLogOf [] result }
+    {
+        Log {
+            records: Vec::new(alloc),
+            foreign: 0,
+            next: 0,
+        }
+    }
+
+    /// Adds what a line says.
+    pub(crate) fn add(&mut self, read: Read) -> Result<(), AllocError>
+        requires counted { self.old.foreign ≤ LOG_LINES }
+        requires within { offset_in read ≤ OFFSET_LIMIT }
+        ensures { OnOk result (AddsRead self.old read self.new) }
+    {
+        match read {
+            Read::Record(record) => {
+                self.next = self.next.max(record.offset + 1);
+                self.records.push(record)?;
+            }
+            Read::Foreign(offset) => {
+                self.next = self.next.max(offset + 1);
+                self.foreign += 1;
+            }
+        }
+        Ok(())
+    }
+}

@@ -1,0 +1,98 @@
+// Reading a log line by line.
+ghost use Rattle.std.specs.Prelude.{◌≡◌, ◌<◌, ◌≤◌, ◌+◌, ℕ, List, IfOk, IfErr, OnOk, IfSome, Some, Ok};
+ghost use Rattle.reg_records.specs.Device.{bytes_in, faults_of};
+ghost use Rattle.reg_records.specs.Line.{reading};
+ghost use Rattle.reg_records.specs.Log.{LogText, log_of, IsLogOf, IsLogRefusal, fault_at, offset_in};
+ghost use Rattle.reg_records.specs.LogSteps.{StepsLog, IsStepRefusal, IsLineRefusal};
+ghost use Rattle.reg_records.specs.Pieces.{Holds};
+
+use crate::device::Device;
+use crate::limits::{LOG_LINES, OFFSET_LIMIT};
+use crate::line::{LineError, ReadLineError};
+use crate::log::{Log, LogError, LogFault};
+use crate::pieces::{Front, LineBuffer, take_line};
+use crate::record::Read;
+use std::alloc::Global;
+use std::io::BufRead;
+
+/// Reads the log at the front of `reader`: lines up to an empty line or the end of the input. What
+/// stands after the empty line is left unread.
+///
+/// A line past its limit is read to its LF, its bytes dropped, before its fault is told.
+pub fn read_log<R: BufRead>(alloc: Global, reader: &mut Device<R>) -> Result<Log, LogError>
+    ensures read { IfOk result (λ log. IfSome (bytes_in R.remaining reader.old) (λ text. (found : LogText)
+        × (log_of text ≡ Ok found) × IsLogOf found.reads log × (bytes_in R.remaining reader.new ≡ Some found.rest))) }
+    ensures refused { IfErr result
+        (IsLogRefusal reader.old reader.new (bytes_in R.remaining reader.old) (bytes_in R.remaining reader.new)) }
+    ensures faults { OnOk result (faults_of reader.new ≡ faults_of reader.old) }
+{
+    let mut log = Log::new(alloc);
+    let mut number = 1;
+    while read_next(alloc, reader, number, &mut log)? {
+        number += 1;
+    }
+    Ok(log)
+}
+
+/// Reads the line of that number into the log, and tells whether the log goes on.
+fn read_next<R: BufRead>(
+    alloc: Global,
+    reader: &mut Device<R>,
+    number: u64,
+    log: &mut Log,
+) -> Result<bool, LogError>
+    requires counted { log.old.foreign < number }
+    requires within { number ≤ LOG_LINES + 1 }
+    ensures step { IfOk result
+        (StepsLog number (bytes_in R.remaining reader.old) (bytes_in R.remaining reader.new) log.old log.new) }
+    ensures refused { IfErr result
+        (IsStepRefusal number reader.old reader.new (bytes_in R.remaining reader.old) (bytes_in R.remaining reader.new)) }
+    ensures faults { OnOk result (faults_of reader.new ≡ faults_of reader.old) }
+{
+    let Some(front) = take_line(alloc, reader)? else {
+        return Err(LogError::ReadFault { line: number });
+    };
+    let line = match front {
+        Front::End => return Ok(false),
+        Front::Unended => return Err(fault_at(number, LineError::Truncated)),
+        Front::Line(line) => line,
+    };
+    if line.is_empty() {
+        return Ok(false);
+    }
+    let read = read_numbered(alloc, number, &line)?;
+    log.add(read)?;
+    Ok(true)
+}
+
+/// What the line of that number says.
+fn read_numbered(alloc: Global, number: u64, line: &LineBuffer) -> Result<Read, LogError>
+    ensures read { (bytes : List ℕ) → Holds line.now bytes → IfOk result (λ read. (number ≤ LOG_LINES) × (reading bytes ≡ Ok read)) }
+    ensures within { IfOk result (λ read. offset_in read ≤ OFFSET_LIMIT) }
+    ensures refused { (bytes : List ℕ) → Holds line.now bytes → IfErr result (IsLineRefusal number bytes) }
+{
+    match line.read(alloc) {
+        Err(ReadLineError::OutOfMemory) => Err(LogError::OutOfMemory),
+        Err(ReadLineError::Line(fault)) => Err(fault_at(number, fault)),
+        Ok(_) if number > LOG_LINES => Err(LogError::Fault {
+            line: number,
+            fault: LogFault::TooManyLines,
+        }),
+        Ok(read) => Ok(read),
+    }
+}
+
+/// The fault of a line, unless the log has more lines than it may.
+fn fault_at(number: u64, fault: LineError) -> LogError
+    ensures { result ≡ LogError.Fault number (fault_at number fault) }
+{
+    let fault = if number > LOG_LINES {
+        LogFault::TooManyLines
+    } else {
+        LogFault::Line(fault)
+    };
+    LogError::Fault {
+        line: number,
+        fault,
+    }
+}
