@@ -11,7 +11,7 @@ use Rattle.std.proofs.lemmas.List.Elements.{filter_map-append}
 use Rattle.std.proofs.lemmas.Bool.Decides.{nat_tests}
 use Rattle.reg_records.proofs.Lines.{length-of_nonempty}
 use Rattle.reg_records.proofs.Tabs.{count_by-none}
-use Rattle.reg_records.specs.Device.{HasFaulted, faults_of, line_reads_of}
+use Rattle.reg_records.specs.Device.{HasFaulted, faults_of, reads_of}
 use Rattle.reg_records.specs.Line.{is_line_feed, reading}
 use Rattle.reg_records.specs.Log.{LogText, log_from, log_of, map_log, with_read, line_then, fault_at, is_empty_line, record_in, records_in, is_foreign, offset_in, next_after, IsLogOf, IsLogRefusal}
 use Rattle.reg_records.specs.LogSteps.{AddsRead, StepsLog, IsStepRefusal, IsLineRefusal}

@@ -21,9 +21,13 @@ inner_of d = d.inner
 abbrev pub faults_of : {T : Type 0} → Device T → ℕ
 faults_of d = d.faults
 
--- how many reads it has made since it last took an LF, up to the greatest count
-abbrev pub line_reads_of : {T : Type 0} → Device T → ℕ
-line_reads_of d = d.line_reads
+-- how many reads it has made since it last took the LF of a line, up to the greatest count
+abbrev pub reads_of : {T : Type 0} → Device T → ℕ
+reads_of d = d.reads
+
+-- how many of its writes and flushes in a row were interrupted, up to the greatest count
+abbrev pub interruptions_of : {T : Type 0} → Device T → ℕ
+interruptions_of d = d.interruptions
 
 -- the bytes of the reader or the writer in it, where they are known
 abbrev pub bytes_in : {T : Type 0} → (T → Option (List ℕ)) → Device T → Option (List ℕ)
@@ -38,7 +42,12 @@ abbrev pub CountsFault : {T A : Type 0} → Device T → Device T → Result A E
 CountsFault old new answer = MatchResult answer (λ _. new.faults ≡ old.faults)
     (λ e. (error_kind e ≡ Interrupted → new.faults ≡ old.faults) × (error_kind e ≢ Interrupted → new.faults ≡ counted old.faults))
 
--- the same of a write, where taking no byte of a piece that has some is a fault too
+-- an interruption of a write or a flush is counted, and any other answer begins the count anew
+abbrev pub CountsInterruption : {T A : Type 0} → Device T → Device T → Result A Error → Type 0
+CountsInterruption old new answer = MatchResult answer (λ _. interruptions_of new ≡ 0)
+    (λ e. (error_kind e ≡ Interrupted → interruptions_of new ≡ counted (interruptions_of old)) × (error_kind e ≢ Interrupted → interruptions_of new ≡ 0))
+
+-- the count of faults after a write, where taking no byte of a piece that has some is a fault too
 abbrev pub CountsWrite : {T : Type 0} → Device T → Device T → List ℕ → Result ℕ Error → Type 0
 CountsWrite old new piece answer = MatchResult answer
     (λ n. (n ≡ 0 → 0 < length piece → new.faults ≡ counted old.faults) × ((n ≡ 0 → length piece ≡ 0) → new.faults ≡ old.faults))

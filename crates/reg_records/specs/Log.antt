@@ -2,7 +2,7 @@
 use Rattle.std.specs.Prelude.{◌≡◌, ◌⊎◌, ⊤, ℕ, suc, ◌+◌, ◌≤◌, max, List, [], ◌∷◌, Bool, true, false, ◌==◌, nat_lt, length, count_by, Option, Some, None, IfSome, Result, Ok, Err, if◌then◌else◌}
 use Rattle.std.specs.List.{filter_map, join_with_byte, slice_split}
 use Rattle.std.specs.Io.KnownBytes.{Consumes}
-use Rattle.reg_records.specs.Device.{HasFaulted, line_reads_of}
+use Rattle.reg_records.specs.Device.{HasFaulted, reads_of}
 use Rattle.reg_records.specs.Line.{is_line_feed, reading}
 use Rattle.reg_records.specs.declared.device.Device.{Device}
 use Rattle.reg_records.specs.declared.log.Log.{Log}
@@ -84,6 +84,6 @@ pub record IsLogOf (read : List Read) (log : Log) : Type 0 where
 abbrev pub IsLogRefusal : {R : Type 0} → Device R → Device R → Option (List ℕ) → Option (List ℕ) → LogError → Type 0
 IsLogRefusal before after old new (errors.Fault line fault) = IfSome old (λ text. log_of text ≡ Err (line, fault))
 IsLogRefusal before after old new (errors.ReadFault line) =
-    (HasFaulted before after ⊎ (LINE_READS ≤ line_reads_of after))
+    (HasFaulted before after ⊎ (LINE_READS ≤ reads_of after))
     × (taken : List ℕ) × Consumes old new taken × (count_by is_line_feed taken + 1 ≡ line)
 IsLogRefusal before after old new errors.OutOfMemory = ⊤

@@ -3,7 +3,7 @@ use Rattle.std.specs.Prelude.{◌≡◌, ⊤, ℕ, suc, ◌+◌, ◌≤◌, max,
 use Rattle.std.specs.Option.{option_to_list}
 use Rattle.std.specs.List.{slice_split}
 use Rattle.std.specs.Io.KnownBytes.{Consumes}
-use Rattle.reg_records.specs.Device.{HasFaulted, faults_of, line_reads_of}
+use Rattle.reg_records.specs.Device.{HasFaulted, faults_of, reads_of}
 use Rattle.reg_records.specs.Line.{is_line_feed, reading}
 use Rattle.reg_records.specs.Log.{LogText, log_from, map_log, with_read, line_then, record_in, is_foreign, offset_in}
 use Rattle.reg_records.specs.Pieces.{HasNoLineFeed, LosesReader}

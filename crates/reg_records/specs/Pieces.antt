@@ -5,7 +5,7 @@ use Rattle.std.specs.Io.KnownBytes.{Consumes, Keeps, IsAtEnd}
 use Rattle.reg_records.specs.Line.{is_line_feed}
 use Rattle.reg_records.specs.declared.limits.TheConstants.{LINE_LIMIT, LINE_READS}
 use Rattle.reg_records.specs.declared.device.Device.{Device}
-use Rattle.reg_records.specs.Device.{faults_of, line_reads_of, counted, HasFaulted}
+use Rattle.reg_records.specs.Device.{faults_of, reads_of, counted, HasFaulted}
 use Rattle.reg_records.specs.declared.pieces.LineBuffer.{LineBuffer}
 use Rattle.reg_records.specs.declared.pieces.Piece.{Piece}
 use Rattle.reg_records.specs.declared.pieces.Piece.TheVariants.{Ended, More, NoMore, Interrupted, Faulted}
@@ -41,13 +41,13 @@ TakesLine old new fronts.End = IsAtEnd old × Keeps old new
 
 -- what one read adds to the counts of a device
 abbrev pub CountsPiece : {R : Type 0} → Device R → Device R → Piece → Type 0
-CountsPiece old new Ended = (line_reads_of new ≡ 0) × (faults_of new ≡ faults_of old)
-CountsPiece old new More = (line_reads_of new ≡ counted (line_reads_of old)) × (faults_of new ≡ faults_of old)
-CountsPiece old new NoMore = (line_reads_of new ≡ counted (line_reads_of old)) × (faults_of new ≡ faults_of old)
-CountsPiece old new Interrupted = (line_reads_of new ≡ counted (line_reads_of old)) × (faults_of new ≡ faults_of old)
-CountsPiece old new Faulted = (line_reads_of new ≡ counted (line_reads_of old)) × (faults_of new ≡ counted (faults_of old))
+CountsPiece old new Ended = (reads_of new ≡ 0) × (faults_of new ≡ faults_of old)
+CountsPiece old new More = (reads_of new ≡ counted (reads_of old)) × (faults_of new ≡ faults_of old)
+CountsPiece old new NoMore = (reads_of new ≡ counted (reads_of old)) × (faults_of new ≡ faults_of old)
+CountsPiece old new Interrupted = (reads_of new ≡ counted (reads_of old)) × (faults_of new ≡ faults_of old)
+CountsPiece old new Faulted = (reads_of new ≡ counted (reads_of old)) × (faults_of new ≡ counted (faults_of old))
 
 -- a fault was counted, or there were as many reads for a line as may be; what was taken has no LF
 abbrev pub LosesReader : {R : Type 0} → Device R → Device R → Option (List ℕ) → Option (List ℕ) → Type 0
 LosesReader before after old new =
-    (HasFaulted before after ⊎ (LINE_READS ≤ line_reads_of after)) × (line : List ℕ) × HasNoLineFeed line × Consumes old new line
+    (HasFaulted before after ⊎ (LINE_READS ≤ reads_of after)) × (line : List ℕ) × HasNoLineFeed line × Consumes old new line

@@ -169,10 +169,10 @@ impl<R: BufRead> Device<R> {
         ensures taken { IfOk result (TakesPiece (bytes_in R.remaining self.old) (bytes_in R.remaining self.new) line.old line.new) }
         ensures counts { IfOk result (CountsPiece self.old self.new) }
     {
-        self.line_reads = one_more(self.line_reads);
+        self.reads = one_more(self.reads);
         let piece = take_piece(&mut self.inner, line)?;
         match piece {
-            Piece::Ended => self.line_reads = 0,
+            Piece::Ended => self.reads = 0,
             Piece::Faulted => self.faults = one_more(self.faults),
             _ => {}
         }
