@@ -1,3 +1,5 @@
 mod Lines
 mod Logs
 mod Tabs
+pub mod ReadsBack
+pub mod ValuesReadBack

@@ -14,7 +14,7 @@ module _ {X : Type 0} (p : X → Bool) where
   count_by-none (x ∷ xs) h =
       let first = sum_by-cons counted x xs in
       elim (p x) as (λ b. cond (not b) (1 + position_or_len p xs) 0 ≡ suc (length xs)
-          → count_by p (x ∷ xs) ≡ cond b 1 0 + count_by p xs → count_by p (x ∷ xs) ≡ 0) [
+      → count_by p (x ∷ xs) ≡ cond b 1 0 + count_by p xs → count_by p (x ∷ xs) ≡ 0) [
         | true ↦ λ e _. absurd (omega arith)
         | false ↦ λ e sum.
             let rest : position_or_len p xs ≡ length xs = omega arith in
@@ -27,8 +27,8 @@ module _ {X : Type 0} (p : X → Bool) where
   count_by-after_first (x ∷ xs) h =
       let first = sum_by-cons counted x xs in
       elim (p x) as (λ b. cond (not b) (1 + position_or_len p xs) 0 < suc (length xs)
-          → count_by p (x ∷ xs) ≡ cond b 1 0 + count_by p xs
-          → count_by p (x ∷ xs) ≡ suc (count_by p (drop (cond (not b) (1 + position_or_len p xs) 0 + 1) (x ∷ xs)))) [
+      → count_by p (x ∷ xs) ≡ cond b 1 0 + count_by p xs
+      → count_by p (x ∷ xs) ≡ suc (count_by p (drop (cond (not b) (1 + position_or_len p xs) 0 + 1) (x ∷ xs)))) [
         | true ↦ λ e sum. omega arith
         | false ↦ λ e sum.
             let rest : position_or_len p xs < length xs = omega arith in

@@ -2,8 +2,12 @@
 use Rattle.std.specs.Prelude.{ℕ, List, ◌&&◌, ◌==◌, Bool, false, Option, Some, None, option_and_then, nat_le, bytes_eq, is_some, if◌then◌else◌}
 use Rattle.std.specs.Option.{option_map_or}
 use Rattle.serde_json.specs.Data.{Data}
-use Rattle.serde_json.specs.Find.{get, as_str, as_number, as_u64}
+use Rattle.serde_json.specs.Find.{get, as_null, as_str, as_number, as_u64}
 use Rattle.reg_records.specs.declared.limits.TheConstants.{NUMBER_LIMIT}
+
+-- the JSON value null
+abbrev pub is_null : Data → Bool
+is_null d = is_some (as_null d)
 
 -- the text of the member of that name, if it is a string
 abbrev pub text_at : List ℕ → Data → Option (List ℕ)

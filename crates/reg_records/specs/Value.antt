@@ -1,19 +1,15 @@
 -- The value that a record's text gives, which its key has a say in.
-use Rattle.std.specs.Prelude.{ℕ, List, Bool, true, false, ◌&&◌, ◌||◌, Option, Some, None, option_map, option_and_then, is_some, bytes_eq, codes, if◌then◌else◌}
+use Rattle.std.specs.Prelude.{ℕ, List, Bool, true, false, ◌&&◌, ◌||◌, Option, Some, None, option_map, option_and_then, bytes_eq, codes, if◌then◌else◌}
 use Rattle.std.specs.Option.{option_map_or}
 use Rattle.serde_json.specs.Data.{Data, Items, no_items, item}
-use Rattle.serde_json.specs.Find.{get, as_null, as_bool, as_str, as_array}
+use Rattle.serde_json.specs.Find.{get, as_bool, as_str, as_array, as_object}
 use Rattle.serde_json.specs.Read.{read}
-use Rattle.reg_records.specs.Json.{text_at, number_at, has_text_at, has_number_at}
+use Rattle.reg_records.specs.Json.{is_null, text_at, number_at, has_text_at, has_number_at}
 use Rattle.reg_records.specs.declared.key.Key.{Key}
 use Rattle.reg_records.specs.declared.key.Key.TheVariants as keys
 use Rattle.reg_records.specs.declared.value.Value.{Value}
 use Rattle.reg_records.specs.declared.value.Value.TheVariants as values
 use Rattle.reg_records.specs.declared.record.Record.{Record}
-
--- the JSON value null
-abbrev pub is_null : Data → Bool
-is_null d = is_some (as_null d)
 
 abbrev pub has_no_item : Items → Bool
 has_no_item no_items = true
@@ -52,12 +48,35 @@ abbrev pub schema_value : List ℕ → ℕ → Data → Option Value
 schema_value subject version d =
     if has_text_at (codes "subject") subject d && has_number_at (codes "version") version d && is_plain_avro d
     then option_and_then (λ id. option_and_then (λ schema. option_map (λ deleted. values.Schema subject version id schema deleted)
-        (deleted_in d)) (text_at (codes "schema") d)) (number_at (codes "id") d)
+    (deleted_in d)) (text_at (codes "schema") d)) (number_at (codes "id") d)
     else None
+
+-- the name of a level, which is kept as it stands
+abbrev pub config_value : Data → Option Value
+config_value d = option_map (λ level. values.Config level) (text_at (codes "compatibilityLevel") d)
+
+-- the name of a mode, which is kept as it stands
+abbrev pub mode_value : Data → Option Value
+mode_value d = option_map (λ mode. values.Mode mode) (text_at (codes "mode") d)
+
+-- the last version that a soft delete of the subject covers: it names the key's subject again
+abbrev pub delete_subject_value : List ℕ → Data → Option Value
+delete_subject_value subject d =
+    if has_text_at (codes "subject") subject d
+    then option_map (λ version. values.DeleteSubject subject version) (number_at (codes "version") d)
+    else None
+
+-- any JSON object
+abbrev pub noop_value : Data → Option Value
+noop_value d = option_map (λ _. values.Noop) (as_object d)
 
 -- the value that a JSON value is, under that key
 abbrev pub value_in : Key → Data → Option Value
 value_in (keys.Schema subject version) d = schema_value subject version d
+value_in (keys.Config scope) d = config_value d
+value_in (keys.Mode scope) d = mode_value d
+value_in (keys.DeleteSubject subject) d = delete_subject_value subject d
+value_in keys.Noop d = noop_value d
 
 -- the value of a record; a record without text has none, and one that can't be read has none
 abbrev pub value_of : Record → Option Value

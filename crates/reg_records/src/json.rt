@@ -1,5 +1,6 @@
-// What the members of a JSON object say.
-ghost use Rattle.std.specs.Prelude.{◌≡◌, IfOk, option_map};
+// What the members of a JSON object say, and strings as JSON writes them.
+ghost use Rattle.std.specs.Prelude.{◌≡◌, IfOk, option_map, string_bytes};
+ghost use Rattle.json.specs.Print.{quoted};
 ghost use Rattle.serde_json.specs.Read.{read};
 ghost use Rattle.serde_json.specs.View.{view};
 ghost use Rattle.reg_records.specs.Json.{text_at, number_at, has_text_at, has_number_at};
@@ -59,5 +60,15 @@ pub(crate) fn has_number_at(json: &Json, name: &str, number: u32) -> bool
     match number_at(json, name) {
         Some(found) => found == number,
         None => false,
+    }
+}
+
+/// The JSON string of a text, between its quotes (RFC 8259, section 7).
+pub(crate) fn quoted(alloc: Global, text: &str) -> Result<String, AllocError>
+    ensures { IfOk result (λ written. string_bytes written ≡ quoted text.now) }
+{
+    match serde_json::to_string(alloc, &text) {
+        Ok(written) => Ok(written),
+        Err(_) => Err(AllocError),
     }
 }

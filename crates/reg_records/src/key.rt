@@ -1,9 +1,12 @@
 // The keys of records.
-ghost use Rattle.std.specs.Prelude.{◌≡◌, IfOk};
+ghost use Rattle.std.specs.Prelude.{◌≡◌, ◌++◌, IfOk, codes, decimal, string_bytes};
+ghost use Rattle.serde_json.specs.Written.{compact_text};
 ghost use Rattle.serde_json.specs.View.{view};
-ghost use Rattle.reg_records.specs.Key.{key_of, key_in, schema_key};
+ghost use Rattle.reg_records.specs.declared.key.Key.{Key};
+ghost use Rattle.reg_records.specs.Key.{key_of, key_in, schema_key, config_key, mode_key, delete_subject_key, scope_in};
+ghost use Rattle.reg_records.specs.Written.{written_key, scope_data, IsOf32Bits};
 
-use crate::json::{number_at, parse, text_at};
+use crate::json::{number_at, parse, quoted, text_at};
 use base_text::Text;
 use serde_json::Value as Json;
 use std::alloc::{AllocError, Global};
@@ -13,6 +16,30 @@ use std::alloc::{AllocError, Global};
 pub enum Key {
     /// A version of a subject, from 1 to 2,147,483,647; its value is a schema.
     Schema { subject: Text, version: u32 },
+    /// The compatibility level of a subject, or the global one.
+    Config(Option<Text>),
+    /// The mode of a subject, or the global one.
+    Mode(Option<Text>),
+    /// The soft delete of a subject; its value is the last version that is deleted.
+    DeleteSubject(Text),
+    /// No operation.
+    Noop,
+}
+
+impl Key {
+    /// The JSON text that is written for the key, without spaces and with its members in a fixed
+    /// order. The only error is want of memory.
+    pub fn written(&self, alloc: Global) -> Result<Text, AllocError>
+        ensures { IfOk result (λ text. text ≡ written_key self.now) }
+    {
+        match self {
+            Key::Schema { subject, version } => schema_key_text(alloc, subject, *version),
+            Key::Config(scope) => config_key_text(alloc, scope),
+            Key::Mode(scope) => mode_key_text(alloc, scope),
+            Key::DeleteSubject(subject) => delete_subject_key_text(alloc, subject),
+            Key::Noop => Text::copy_of(alloc, "{\"keytype\":\"NOOP\",\"magic\":0}"),
+        }
+    }
 }
 
 /// The key that a text is; `None` where it is none that is known here.
@@ -30,6 +57,10 @@ fn key_in(alloc: Global, json: &Json) -> Result<Option<Key>, AllocError>
 {
     match text_at(json, "keytype") {
         Some("SCHEMA") => schema_key(alloc, json),
+        Some("CONFIG") => config_key(alloc, json),
+        Some("MODE") => mode_key(alloc, json),
+        Some("DELETE_SUBJECT") => delete_subject_key(alloc, json),
+        Some("NOOP") => Ok(Some(Key::Noop)),
         _ => Ok(None),
     }
 }
@@ -48,3 +79,106 @@ fn schema_key(alloc: Global, json: &Json) -> Result<Option<Key>, AllocError>
         version,
     }))
 }
+
+fn config_key(alloc: Global, json: &Json) -> Result<Option<Key>, AllocError>
+    ensures { IfOk result (λ key. key ≡ config_key (view json.now)) }
+{
+    match scope_in(alloc, json)? {
+        Some(scope) => Ok(Some(Key::Config(scope))),
+        None => Ok(None),
+    }
+}
+
+fn mode_key(alloc: Global, json: &Json) -> Result<Option<Key>, AllocError>
+    ensures { IfOk result (λ key. key ≡ mode_key (view json.now)) }
+{
+    match scope_in(alloc, json)? {
+        Some(scope) => Ok(Some(Key::Mode(scope))),
+        None => Ok(None),
+    }
+}
+
+fn delete_subject_key(alloc: Global, json: &Json) -> Result<Option<Key>, AllocError>
+    ensures { IfOk result (λ key. key ≡ delete_subject_key (view json.now)) }
+{
+    match text_at(json, "subject") {
+        Some(subject) => Ok(Some(Key::DeleteSubject(Text::copy_of(alloc, subject)?))),
+        None => Ok(None),
+    }
+}
+
+/// The subject that a level or a mode is of, `Some(None)` for the global scope; `None` where the
+/// member is neither absent, nor null, nor a string.
+fn scope_in(alloc: Global, json: &Json) -> Result<Option<Option<Text>>, AllocError>
+    ensures { IfOk result (λ scope. scope ≡ scope_in (view json.now)) }
+{
+    let Some(subject) = json.get("subject") else {
+        return Ok(Some(None));
+    };
+    if subject.is_null() {
+        return Ok(Some(None));
+    }
+    match subject.as_str() {
+        Some(text) => Ok(Some(Some(Text::copy_of(alloc, text)?))),
+        None => Ok(None),
+    }
+}
+
+fn schema_key_text(alloc: Global, subject: &Text, version: u32) -> Result<Text, AllocError>
+    ensures { IfOk result (λ text. text ≡ written_key (Key.Schema subject.now version)) }
+{
+    let subject = quoted(alloc, subject.as_str())?;
+    Ok(Text::from(schema_key_object(alloc, subject.as_str(), version)?))
+}
+
+/// The object of a version's key, whose subject is written already.
+fn schema_key_object(alloc: Global, subject: &str, version: u32) -> Result<String, AllocError>
+    ensures { IfOk result (λ text. string_bytes text
+        ≡ codes "{\"keytype\":\"SCHEMA\",\"subject\":" ++ subject.now ++ codes ",\"version\":" ++ decimal version
+        ++ codes ",\"magic\":1}") }
+{
+    format!(in alloc;
+        "{{\"keytype\":\"SCHEMA\",\"subject\":{subject},\"version\":{version},\"magic\":1}}"
+    )
+}
+
+fn config_key_text(alloc: Global, scope: &Option<Text>) -> Result<Text, AllocError>
+    ensures { IfOk result (λ text. text ≡ written_key (Key.Config scope.now)) }
+{
+    let subject = scope_text(alloc, scope)?;
+    let text = format!(in alloc; "{{\"keytype\":\"CONFIG\",\"subject\":{subject},\"magic\":0}}")?;
+    Ok(Text::from(text))
+}
+
+fn mode_key_text(alloc: Global, scope: &Option<Text>) -> Result<Text, AllocError>
+    ensures { IfOk result (λ text. text ≡ written_key (Key.Mode scope.now)) }
+{
+    let subject = scope_text(alloc, scope)?;
+    let text = format!(in alloc; "{{\"keytype\":\"MODE\",\"subject\":{subject},\"magic\":0}}")?;
+    Ok(Text::from(text))
+}
+
+fn delete_subject_key_text(alloc: Global, subject: &Text) -> Result<Text, AllocError>
+    ensures { IfOk result (λ text. text ≡ written_key (Key.DeleteSubject subject.now)) }
+{
+    let subject = quoted(alloc, subject.as_str())?;
+    let text = format!(in alloc;
+        "{{\"keytype\":\"DELETE_SUBJECT\",\"subject\":{subject},\"magic\":0}}"
+    )?;
+    Ok(Text::from(text))
+}
+
+/// The JSON text of a scope: its subject, or `null` for the global one.
+fn scope_text(alloc: Global, scope: &Option<Text>) -> Result<String, AllocError>
+    ensures { IfOk result (λ text. string_bytes text ≡ compact_text (scope_data scope.now)) }
+{
+    match scope {
+        Some(subject) => quoted(alloc, subject.as_str()),
+        None => String::from_str(alloc, "null"),
+    }
+}
+
+/// Two keys with one written text are one key.
+pub fn written_keys_are_apart()
+    ensures { (a b : Key) → IsOf32Bits a → IsOf32Bits b → written_key a ≡ written_key b → a ≡ b }
+{}

@@ -13,7 +13,7 @@ mod record;
 mod value;
 
 pub use device::Device;
-pub use key::Key;
+pub use key::{Key, written_keys_are_apart};
 pub use limits::{LINE_LIMIT, LINE_READS, LOG_LINES, NUMBER_LIMIT, OFFSET_LIMIT};
 pub use line::{LineError, ReadLineError, read_line};
 pub use log::{Log, LogError, LogFault};

@@ -44,6 +44,7 @@ pub enum ReadLineError {
 
 impl From<LineError> for ReadLineError {
     ghost use Rattle.reg_records.specs.declared.line.ReadLineError.TheVariants.{Line};
+
     ghost from_gives = { λ fault e. e ≡ Line fault };
 
     fn from(fault: LineError) -> ReadLineError {
@@ -53,6 +54,7 @@ impl From<LineError> for ReadLineError {
 
 impl From<AllocError> for ReadLineError {
     ghost use Rattle.reg_records.specs.declared.line.ReadLineError.TheVariants.{OutOfMemory};
+
     ghost from_gives = { λ _ e. e ≡ OutOfMemory };
 
     fn from(_refused: AllocError) -> ReadLineError {

@@ -1,9 +1,14 @@
 // The values of records.
-ghost use Rattle.std.specs.Prelude.{◌≡◌, IfOk, option_map};
+ghost use Rattle.std.specs.Prelude.{◌≡◌, ◌++◌, ℕ, IfOk, Some, codes, decimal, option_map, string_bytes};
+ghost use Rattle.serde_json.specs.Data.{boolean};
+ghost use Rattle.serde_json.specs.Written.{compact_text};
 ghost use Rattle.serde_json.specs.View.{view};
-ghost use Rattle.reg_records.specs.Value.{value_of, value_in, schema_value, is_plain_avro, is_absent_or, is_absent, is_avro_name, is_empty_list, deleted_in};
+ghost use Rattle.reg_records.specs.Value.{value_of, value_in, schema_value, config_value, mode_value, delete_subject_value, noop_value, is_plain_avro, is_absent_or, is_absent, is_avro_name, is_empty_list, deleted_in};
+ghost use Rattle.reg_records.specs.Written.{written_value, IsValueOf};
+ghost use Rattle.reg_records.specs.declared.key.Key.{Key};
+ghost use Rattle.reg_records.specs.declared.value.Value.{Value};
 
-use crate::json::{has_number_at, has_text_at, number_at, parse, text_at};
+use crate::json::{has_number_at, has_text_at, number_at, parse, quoted, text_at};
 use crate::key::Key;
 use crate::record::Record;
 use base_text::Text;
@@ -21,6 +26,43 @@ pub enum Value {
         schema: Text,
         deleted: bool,
     },
+    /// The name of a compatibility level, as it stands in the record.
+    Config(Text),
+    /// The name of a mode, as it stands in the record.
+    Mode(Text),
+    /// The subject is soft-deleted up to this version, from 1 to 2,147,483,647.
+    DeleteSubject {
+        subject: Text,
+        version: u32,
+    },
+    /// Nothing.
+    Noop,
+}
+
+impl Value {
+    /// The JSON text that is written for the value, without spaces and with its members in a fixed
+    /// order; `None` for no operation, which is written without a value. The only error is want of
+    /// memory.
+    pub fn written(&self, alloc: Global) -> Result<Option<Text>, AllocError>
+        ensures { IfOk result (λ text. text ≡ written_value self.now) }
+    {
+        let text = match self {
+            Value::Schema {
+                subject,
+                version,
+                id,
+                schema,
+                deleted,
+            } => schema_value_text(alloc, subject, *version, *id, schema, *deleted)?,
+            Value::Config(level) => config_value_text(alloc, level)?,
+            Value::Mode(mode) => mode_value_text(alloc, mode)?,
+            Value::DeleteSubject { subject, version } => {
+                delete_subject_value_text(alloc, subject, *version)?
+            }
+            Value::Noop => return Ok(None),
+        };
+        Ok(Some(text))
+    }
 }
 
 /// The value that a record's text gives; `None` for a record without text, and for one whose text
@@ -42,6 +84,10 @@ fn value_in(alloc: Global, key: &Key, json: &Json) -> Result<Option<Value>, Allo
 {
     match key {
         Key::Schema { subject, version } => schema_value(alloc, subject, *version, json),
+        Key::Config(_) => config_value(alloc, json),
+        Key::Mode(_) => mode_value(alloc, json),
+        Key::DeleteSubject(subject) => delete_subject_value(subject, json),
+        Key::Noop => Ok(noop_value(json)),
     }
 }
 
@@ -74,6 +120,48 @@ fn schema_value(
         schema: Text::copy_of(alloc, schema)?,
         deleted,
     }))
+}
+
+fn config_value(alloc: Global, json: &Json) -> Result<Option<Value>, AllocError>
+    ensures { IfOk result (λ value. value ≡ config_value (view json.now)) }
+{
+    match text_at(json, "compatibilityLevel") {
+        Some(level) => Ok(Some(Value::Config(Text::copy_of(alloc, level)?))),
+        None => Ok(None),
+    }
+}
+
+fn mode_value(alloc: Global, json: &Json) -> Result<Option<Value>, AllocError>
+    ensures { IfOk result (λ value. value ≡ mode_value (view json.now)) }
+{
+    match text_at(json, "mode") {
+        Some(mode) => Ok(Some(Value::Mode(Text::copy_of(alloc, mode)?))),
+        None => Ok(None),
+    }
+}
+
+fn delete_subject_value(subject: &Text, json: &Json) -> Result<Option<Value>, AllocError>
+    ensures { IfOk result (λ value. value ≡ delete_subject_value subject.now (view json.now)) }
+{
+    if !has_text_at(json, "subject", subject.as_str()) {
+        return Ok(None);
+    }
+    match number_at(json, "version") {
+        Some(version) => Ok(Some(Value::DeleteSubject {
+            subject: subject.clone()?,
+            version,
+        })),
+        None => Ok(None),
+    }
+}
+
+fn noop_value(json: &Json) -> Option<Value>
+    ensures { result ≡ noop_value (view json.now) }
+{
+    match json.as_object() {
+        Some(_) => Some(Value::Noop),
+        None => None,
+    }
 }
 
 /// Whether the schema is an Avro schema that stands alone.
@@ -129,4 +217,82 @@ fn deleted_in(json: &Json) -> Option<bool>
         Some(mark) if !mark.is_null() => mark.as_bool(),
         _ => Some(false),
     }
+}
+
+fn schema_value_text(
+    alloc: Global,
+    subject: &Text,
+    version: u32,
+    id: u32,
+    schema: &Text,
+    deleted: bool,
+) -> Result<Text, AllocError>
+    ensures { IfOk result (λ text. Some text ≡ written_value (Value.Schema subject.now version id schema.now deleted)) }
+{
+    let subject = quoted(alloc, subject.as_str())?;
+    let schema = quoted(alloc, schema.as_str())?;
+    let text = schema_value_object(
+        alloc,
+        subject.as_str(),
+        version,
+        id,
+        schema.as_str(),
+        deleted,
+    )?;
+    Ok(Text::from(text))
+}
+
+/// The object of a version's value, whose subject and schema are written already.
+fn schema_value_object(
+    alloc: Global,
+    subject: &str,
+    version: u32,
+    id: u32,
+    schema: &str,
+    deleted: bool,
+) -> Result<String, AllocError>
+    ensures { IfOk result (λ text. string_bytes text
+        ≡ codes "{\"subject\":" ++ subject.now ++ codes ",\"version\":" ++ decimal version ++ codes ",\"id\":" ++ decimal id
+        ++ codes ",\"schema\":" ++ schema.now ++ codes ",\"deleted\":" ++ compact_text (boolean deleted) ++ codes "}") }
+{
+    format!(in alloc;
+        "{{\"subject\":{subject},\"version\":{version},\"id\":{id},\"schema\":{schema},\"deleted\":{deleted}}}")
+}
+
+fn config_value_text(alloc: Global, level: &Text) -> Result<Text, AllocError>
+    ensures { IfOk result (λ text. Some text ≡ written_value (Value.Config level.now)) }
+{
+    let level = quoted(alloc, level.as_str())?;
+    let text = format!(in alloc; "{{\"compatibilityLevel\":{level}}}")?;
+    Ok(Text::from(text))
+}
+
+fn mode_value_text(alloc: Global, mode: &Text) -> Result<Text, AllocError>
+    ensures { IfOk result (λ text. Some text ≡ written_value (Value.Mode mode.now)) }
+{
+    let mode = quoted(alloc, mode.as_str())?;
+    let text = format!(in alloc; "{{\"mode\":{mode}}}")?;
+    Ok(Text::from(text))
+}
+
+fn delete_subject_value_text(alloc: Global, subject: &Text, version: u32) -> Result<Text, AllocError>
+    ensures { IfOk result (λ text. Some text ≡ written_value (Value.DeleteSubject subject.now version)) }
+{
+    let subject = quoted(alloc, subject.as_str())?;
+    Ok(Text::from(delete_subject_object(alloc, subject.as_str(), version)?))
+}
+
+/// The object of a soft delete, whose subject is written already.
+fn delete_subject_object(alloc: Global, subject: &str, version: u32) -> Result<String, AllocError>
+    ensures { IfOk result (λ text. string_bytes text
+        ≡ codes "{\"subject\":" ++ subject.now ++ codes ",\"version\":" ++ decimal version ++ codes "}") }
+{
+    format!(in alloc; "{{\"subject\":{subject},\"version\":{version}}}")
+}
+
+/// A written value is read again, under its key.
+pub fn written_values_read_back()
+    ensures { (offset : ℕ) (k : Key) (v : Value) → IsValueOf k v
+        → value_of (record { offset = offset; key = k; value = written_value v }) ≡ Some v }
+{
 }

@@ -18,4 +18,4 @@ offset_of-unparsed field e h = grind (arith, nat_tests)
 pub returns-in_default-2-clause-value : goal.returns-in_default-2-clause-value
 returns-in_default-2-clause-value c =
     offset_of-unparsed c.args.field.now (sym c.if-not-is_decimal.ensures) (λ digits.
-        OkIff-at_err c.parse.result _ _ _ (parse_digits own 64 c.args.field.now c.parse.result c.parse.ensures.value.0 digits) c.in_default.is)
+    OkIff-at_err c.parse.result _ _ _ (parse_digits own 64 c.args.field.now c.parse.result c.parse.ensures.value.0 digits) c.in_default.is)

@@ -1,0 +1,51 @@
+-- The text that is written for a value reads back, under its key.
+use Rattle.std.proofs.Common.{◌≡◌, ◌≤◌, ◌<◌, ◌^◌, ◌==◌, ℕ, List, [], Bool, true, false, Option, Some, None, option_and_then, codes, sym, ap, ◌∙◌, refl, eq-eqb, arith}
+use Rattle.std.proofs.lemmas.Bool.{le-leb}
+use Rattle.std.proofs.lemmas.Slice.Eq.{bytes_eq-Decides}
+use Rattle.std.specs.Prelude.{bytes_eq}
+use Rattle.json.specs.Tree.{depth, HasNumbers}
+use Rattle.json.proofs.Printed.Decimals.{IsNumber-decimal}
+use Rattle.serde_json.specs.Data.{Data}
+use Rattle.serde_json.specs.Read.{read, of_json, max_depth}
+use Rattle.serde_json.specs.Written.{compact_text, outline}
+use Rattle.serde_json.proofs.Numbers.{number_of-decimal}
+use Rattle.reg_records.specs.declared.key.Key.{Key}
+use Rattle.reg_records.specs.declared.key.Key.TheVariants.{Schema, Config, Mode, DeleteSubject, Noop}
+use Rattle.reg_records.specs.declared.value.Value.{Value}
+use Rattle.reg_records.specs.declared.value.Value.TheVariants as values
+use Rattle.reg_records.specs.declared.record.Record.{Record}
+use Rattle.reg_records.specs.Json.{within_number_limit}
+use Rattle.reg_records.specs.Value.{value_in, value_of}
+use Rattle.reg_records.specs.Written.{schema_data, config_data, mode_data, delete_subject_data, written_value, IsVersionOrId, IsValueOf}
+use Rattle.reg_records.proofs.ReadsBack.{read-compact_text}
+
+same_bytes : (xs : List ℕ) → bytes_eq xs xs ≡ true
+same_bytes xs = (bytes_eq-Decides xs xs).1 refl
+
+same_number : (n : ℕ) → (n == n) ≡ true
+same_number n = eq-eqb n n refl
+
+schema_again : (subject : List ℕ) (version id : ℕ) (schema : List ℕ) (deleted : Bool) → IsVersionOrId version → IsVersionOrId id
+    → option_and_then (value_in (Schema subject version)) (read (compact_text (schema_data subject version id schema deleted))) ≡ Some (values.Schema subject version id schema deleted)
+schema_again subject version id schema deleted v i =
+    let n = IsNumber-decimal version (omega arith) in
+    let m = IsNumber-decimal id (omega arith) in
+    ap (option_and_then (value_in (Schema subject version))) (read-compact_text (schema_data subject version id schema deleted) (tt, (n, (m, (tt, (tt, tt))))) (omega arith))
+    ∙ rw (number_of-decimal version (omega arith), number_of-decimal id (omega arith), same_bytes subject,
+        le-leb 1 version v.0, le-leb version _ v.1, same_number version, le-leb 1 id i.0, le-leb id _ i.1)
+
+delete_subject_again : (subject : List ℕ) (version : ℕ) → IsVersionOrId version
+    → option_and_then (value_in (DeleteSubject subject)) (read (compact_text (delete_subject_data subject version))) ≡ Some (values.DeleteSubject subject version)
+delete_subject_again subject version v =
+    let n = IsNumber-decimal version (omega arith) in
+    ap (option_and_then (value_in (DeleteSubject subject))) (read-compact_text (delete_subject_data subject version) (tt, (n, tt)) (omega arith))
+    ∙ rw (number_of-decimal version (omega arith), same_bytes subject, le-leb 1 version v.0, le-leb version _ v.1)
+
+pub value_of-written_value : (offset : ℕ) (k : Key) (v : Value) → IsValueOf k v → value_of (record { offset = offset; key = k; value = written_value v }) ≡ Some v
+unfolding written_value
+value_of-written_value offset (Schema subject version) (values.Schema of_subject of_version id schema deleted) h =
+    rw (h.0, h.1) (schema_again subject version id schema deleted h.2 h.3)
+value_of-written_value offset (Config scope) (values.Config level) h = ap (option_and_then (value_in (Config scope))) (read-compact_text (config_data level) (tt, tt) (omega arith))
+value_of-written_value offset (Mode scope) (values.Mode mode) h = ap (option_and_then (value_in (Mode scope))) (read-compact_text (mode_data mode) (tt, tt) (omega arith))
+value_of-written_value offset (DeleteSubject subject) (values.DeleteSubject of_subject version) h = rw h.0 (delete_subject_again subject version h.1)
+value_of-written_value offset _ _ h = absurd h

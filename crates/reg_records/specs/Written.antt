@@ -1,0 +1,97 @@
+-- The texts that are written for a key and a value: compact JSON, its members in this order.
+use Rattle.std.specs.Prelude.{◌≡◌, ◌<◌, ◌≤◌, ◌^◌, ⊤, ℕ, List, Bool, Option, Some, None, option_map, codes}
+use Rattle.serde_json.specs.Data.{unsigned, Data, null, boolean, number, string, object, Members, no_members, member}
+use Rattle.serde_json.specs.Written.{compact_text}
+use Rattle.reg_records.specs.declared.key.Key.{Key}
+use Rattle.reg_records.specs.declared.key.Key.TheVariants.{Schema, Config, Mode, DeleteSubject, Noop}
+use Rattle.reg_records.specs.declared.limits.TheConstants.{NUMBER_LIMIT}
+use Rattle.reg_records.specs.declared.value.Value.{Value}
+use Rattle.reg_records.specs.declared.value.Value.TheVariants as values
+
+-- a subject, or null for the global scope
+abbrev pub scope_data : Option (List ℕ) → Data
+scope_data None = null
+scope_data (Some subject) = string subject
+
+-- the version of the keys' own format
+abbrev pub magic : ℕ → Members
+magic n = member (codes "magic") (number (unsigned n)) no_members
+
+abbrev pub subject_and : Data → Members → Members
+subject_and subject rest = member (codes "subject") subject rest
+
+abbrev pub of_kind : List ℕ → Members → Data
+of_kind kind rest = object (member (codes "keytype") (string kind) rest)
+
+-- the object that is written for a key
+abbrev pub key_data : Key → Data
+key_data (Schema subject version) =
+    of_kind (codes "SCHEMA") (subject_and (string subject) (member (codes "version") (number (unsigned version)) (magic 1)))
+key_data (Config scope) = of_kind (codes "CONFIG") (subject_and (scope_data scope) (magic 0))
+key_data (Mode scope) = of_kind (codes "MODE") (subject_and (scope_data scope) (magic 0))
+key_data (DeleteSubject subject) = of_kind (codes "DELETE_SUBJECT") (subject_and (string subject) (magic 0))
+key_data Noop = of_kind (codes "NOOP") (magic 0)
+
+-- its text
+unfoldable pub written_key : Key → List ℕ
+written_key k = compact_text (key_data k)
+
+-- the key's version is a number of 32 bits
+abbrev pub IsOf32Bits : Key → Type 0
+IsOf32Bits (Schema subject version) = version < 2 ^ 32
+IsOf32Bits (Config scope) = ⊤
+IsOf32Bits (Mode scope) = ⊤
+IsOf32Bits (DeleteSubject subject) = ⊤
+IsOf32Bits Noop = ⊤
+
+-- a version or an id, from 1 to its limit
+abbrev pub IsVersionOrId : ℕ → Type 0
+IsVersionOrId n = (1 ≤ n) × (n ≤ NUMBER_LIMIT)
+
+-- the key's version is within its limits
+abbrev pub IsInLimits : Key → Type 0
+IsInLimits (Schema subject version) = IsVersionOrId version
+IsInLimits (Config scope) = ⊤
+IsInLimits (Mode scope) = ⊤
+IsInLimits (DeleteSubject subject) = ⊤
+IsInLimits Noop = ⊤
+
+-- the object that is written for a version
+abbrev pub schema_data : List ℕ → ℕ → ℕ → List ℕ → Bool → Data
+schema_data subject version id schema deleted =
+    object (member (codes "subject") (string subject) (member (codes "version") (number (unsigned version))
+    (member (codes "id") (number (unsigned id)) (member (codes "schema") (string schema)
+    (member (codes "deleted") (boolean deleted) no_members)))))
+
+-- the object that is written for a level, and for a mode
+abbrev pub config_data : List ℕ → Data
+config_data level = object (member (codes "compatibilityLevel") (string level) no_members)
+
+abbrev pub mode_data : List ℕ → Data
+mode_data mode = object (member (codes "mode") (string mode) no_members)
+
+-- the object that is written for a soft delete
+abbrev pub delete_subject_data : List ℕ → ℕ → Data
+delete_subject_data subject version =
+    object (member (codes "subject") (string subject) (member (codes "version") (number (unsigned version)) no_members))
+
+-- the object that is written for a value; none for no operation
+abbrev pub value_data : Value → Option Data
+value_data (values.Schema subject version id schema deleted) = Some (schema_data subject version id schema deleted)
+value_data (values.Config level) = Some (config_data level)
+value_data (values.Mode mode) = Some (mode_data mode)
+value_data (values.DeleteSubject subject version) = Some (delete_subject_data subject version)
+value_data values.Noop = None
+
+-- its text
+unfoldable pub written_value : Value → Option (List ℕ)
+written_value v = option_map compact_text (value_data v)
+
+-- the value may stand under the key, and has a text
+abbrev pub IsValueOf : Key → Value → Type 0
+IsValueOf (Schema subject version) (values.Schema of_subject of_version id schema deleted) =
+    (of_subject ≡ subject) × (of_version ≡ version) × IsVersionOrId version × IsVersionOrId id
+IsValueOf (Config scope) (values.Config level) = ⊤
+IsValueOf (Mode scope) (values.Mode mode) = ⊤
+IsValueOf (DeleteSubject subject) (values.DeleteSubject of_subject version) = (of_subject ≡ subject) × IsVersionOrId version
+IsValueOf key value = ⊥
