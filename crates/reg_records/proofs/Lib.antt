@@ -3,3 +3,8 @@ mod Logs
 mod Tabs
 pub mod ReadsBack
 pub mod ValuesReadBack
+pub mod Fields
+pub mod Controls
+pub mod Grammar
+pub mod Shown
+pub mod WrittenLines

@@ -79,7 +79,7 @@ log_from-ended n (Some text) None line none taken ended = absurd taken
 log_from-ended n (Some text) (Some rest) line none taken ended = (
   rest,
   log_from-line n text line rest none taken
-  ∙ ap (λ b. cond b (Ok (record { reads = []; rest = rest })) (line_then n (reading line) (log_from (suc n) (parts rest)))) ended,
+      ∙ ap (λ b. cond b (Ok (record { reads = []; rest = rest })) (line_then n (reading line) (log_from (suc n) (parts rest)))) ended,
   refl,
 )
 
@@ -113,7 +113,7 @@ log_from-unended n (Some text) (Some rest) line none some taken end =
 line_feeds-none : (bytes : List ℕ) → HasNoLineFeed bytes → count_by is_line_feed bytes ≡ 0
 line_feeds-none bytes none =
     count_by-none is_line_feed bytes
-        (position_or_len_is is_line_feed bytes (length bytes) 0 (omega arith) (λ k h. none k 0 h) (λ h. absurd (omega arith)))
+    (position_or_len_is is_line_feed bytes (length bytes) 0 (omega arith) (λ k h. none k 0 h) (λ h. absurd (omega arith)))
 
 pub line_feeds-append : (xs ys : List ℕ) → count_by is_line_feed (xs ++ ys) ≡ count_by is_line_feed xs + count_by is_line_feed ys
 line_feeds-append xs ys = sum_by-append (λ b. cond (is_line_feed b) 1 0) xs ys

@@ -18,8 +18,8 @@ use Rattle.serde_json.proofs.Numbers.{number_of-decimal}
 use Rattle.reg_records.specs.declared.key.Key.{Key}
 use Rattle.reg_records.specs.declared.key.Key.TheVariants.{Schema, Config, Mode, DeleteSubject, Noop}
 use Rattle.reg_records.specs.Json.{text_at}
-use Rattle.reg_records.specs.Key.{config_key, mode_key, delete_subject_key, key_of}
-use Rattle.reg_records.specs.Written.{key_data, written_key, IsOf32Bits}
+use Rattle.reg_records.specs.Key.{config_key, mode_key, delete_subject_key, key_in, key_of}
+use Rattle.reg_records.specs.Written.{key_data, written_key, IsOf32Bits, IsInLimits}
 
 -- the compact text of a value reads as what its outline is
 pub read-compact_text : (d : Data) → HasNumbers (outline d) → depth (outline d) ≤ max_depth → read (compact_text d) ≡ of_json (outline d)
@@ -75,6 +75,17 @@ any_key-outline (Mode None) h = rw (number_of-decimal 0 (omega arith))
 any_key-outline (Mode (Some subject)) h = rw (number_of-decimal 0 (omega arith))
 any_key-outline (DeleteSubject subject) h = rw (number_of-decimal 0 (omega arith))
 any_key-outline Noop h = rw (number_of-decimal 0 (omega arith))
+
+pub key_of-written_key : (k : Key) → IsInLimits k → key_of (written_key k) ≡ Some k
+key_of-written_key (Schema subject version) h =
+    ap (option_and_then key_in) (read-written_key (Schema subject version) (omega (arith, h.1)))
+    ∙ rw (number_of-decimal version (omega (arith, h.1)), number_of-decimal 1 (omega arith), le-leb 1 version h.0, le-leb version _ h.1)
+key_of-written_key (Config None) h = ap (option_and_then key_in) (read-written_key (Config None) tt) ∙ rw (number_of-decimal 0 (omega arith))
+key_of-written_key (Config (Some subject)) h = ap (option_and_then key_in) (read-written_key (Config (Some subject)) tt) ∙ rw (number_of-decimal 0 (omega arith))
+key_of-written_key (Mode None) h = ap (option_and_then key_in) (read-written_key (Mode None) tt) ∙ rw (number_of-decimal 0 (omega arith))
+key_of-written_key (Mode (Some subject)) h = ap (option_and_then key_in) (read-written_key (Mode (Some subject)) tt) ∙ rw (number_of-decimal 0 (omega arith))
+key_of-written_key (DeleteSubject subject) h = ap (option_and_then key_in) (read-written_key (DeleteSubject subject) tt) ∙ rw (number_of-decimal 0 (omega arith))
+key_of-written_key Noop h = ap (option_and_then key_in) (read-written_key Noop tt) ∙ rw (number_of-decimal 0 (omega arith))
 
 pub written_key-apart : (a b : Key) → IsOf32Bits a → IsOf32Bits b → written_key a ≡ written_key b → a ≡ b
 written_key-apart a b ha hb same =

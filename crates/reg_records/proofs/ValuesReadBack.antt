@@ -31,8 +31,16 @@ schema_again subject version id schema deleted v i =
     let n = IsNumber-decimal version (omega arith) in
     let m = IsNumber-decimal id (omega arith) in
     ap (option_and_then (value_in (Schema subject version))) (read-compact_text (schema_data subject version id schema deleted) (tt, (n, (m, (tt, (tt, tt))))) (omega arith))
-    ∙ rw (number_of-decimal version (omega arith), number_of-decimal id (omega arith), same_bytes subject,
-        le-leb 1 version v.0, le-leb version _ v.1, same_number version, le-leb 1 id i.0, le-leb id _ i.1)
+    ∙ rw (
+      number_of-decimal version (omega arith),
+      number_of-decimal id (omega arith),
+      same_bytes subject,
+      le-leb 1 version v.0,
+      le-leb version _ v.1,
+      same_number version,
+      le-leb 1 id i.0,
+      le-leb id _ i.1,
+    )
 
 delete_subject_again : (subject : List ℕ) (version : ℕ) → IsVersionOrId version
     → option_and_then (value_in (DeleteSubject subject)) (read (compact_text (delete_subject_data subject version))) ≡ Some (values.DeleteSubject subject version)

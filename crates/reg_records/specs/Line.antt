@@ -1,5 +1,5 @@
 -- A line is `offset TAB key TAB value`, in UTF-8, before its LF.
-use Rattle.std.specs.Prelude.{◌≡◌, ⊤, ℕ, List, [], Bool, ◌&&◌, ◌||◌, ◌==◌, not, nat_lt, nat_le, length, take, slice_index, bytes_eq, codes, count_by, position, Option, Some, None, option_map, Result, Ok, Err, if◌then◌else◌}
+use Rattle.std.specs.Prelude.{◌≡◌, ◌≤◌, ⊤, ℕ, List, [], ◌∷◌, ◌++◌, Bool, true, ◌&&◌, ◌||◌, ◌==◌, not, nat_lt, nat_le, length, take, slice_index, bytes_eq, codes, decimal, count_by, position, Option, Some, None, option_map, Result, Ok, Err, if◌then◌else◌}
 use Rattle.std.specs.Char.{is_ascii_digit}
 use Rattle.std.specs.List.{before_first, after_first, list_all}
 use Rattle.std.specs.Option.{option_map_or}
@@ -62,6 +62,27 @@ reading line =
 -- what the line at the front of the bytes says; bytes without LF are no whole line
 abbrev pub reading_at_front : List ℕ → Result Read LineError
 reading_at_front bytes = option_map_or reading (first_line bytes) (Err Truncated)
+
+-- no byte of the text passes the test
+abbrev pub is_free_of : (ℕ → Bool) → List ℕ → Bool
+is_free_of test text = list_all (λ b. not (test b)) text
+
+-- the three fields, parted by TABs
+abbrev pub line_of : List ℕ → List ℕ → List ℕ → List ℕ
+line_of offset key value = offset ++ 9 ∷ (key ++ 9 ∷ value)
+
+-- the grammar of a line: an offset, a key and a value
+pub record IsLine (line : List ℕ) (offset : ℕ) (key value : List ℕ) : Type 0 where
+  pub fields : line ≡ line_of (decimal offset) key value
+  pub offset_fits : offset ≤ OFFSET_LIMIT
+  pub key_has_no_tab : is_free_of is_tab key ≡ true
+  pub value_has_no_tab : is_free_of is_tab value ≡ true
+  pub utf8 : is_utf8 line ≡ true
+  pub fits : length line ≤ LINE_LIMIT
+
+-- the line is one of the grammar, and that is what its fields say
+abbrev pub Spells : List ℕ → Read → Type 0
+Spells line read = (offset : ℕ) × (key : List ℕ) × (value : List ℕ) × IsLine line offset key value × (read ≡ read_at offset key value)
 
 -- the refusal is that fault; want of memory is none
 abbrev pub IsFaultOf : Result Read LineError → ReadLineError → Type 0

@@ -27,10 +27,10 @@ StepsLog number old new before after true =
     (number ≤ LOG_LINES) × (read : Read) × AddsRead before read after
     × ((taken : List ℕ) × Consumes old new taken × (count_by is_line_feed taken ≡ 1))
     × IfSome old (λ text. IfSome new (λ rest. log_from number (slice_split is_line_feed text)
-        ≡ map_log (with_read read) (log_from (suc number) (slice_split is_line_feed rest))))
+    ≡ map_log (with_read read) (log_from (suc number) (slice_split is_line_feed rest))))
 StepsLog number old new before after false =
     (after ≡ before) × IfSome old (λ text. (rest : List ℕ)
-        × (log_from number (slice_split is_line_feed text) ≡ Ok (record { reads = []; rest = rest })) × (new ≡ Some rest))
+    × (log_from number (slice_split is_line_feed text) ≡ Ok (record { reads = []; rest = rest })) × (new ≡ Some rest))
 
 -- why the line of that number was refused
 abbrev pub IsStepRefusal : {R : Type 0} → ℕ → Device R → Device R → Option (List ℕ) → Option (List ℕ) → LogError → Type 0

@@ -1,12 +1,15 @@
--- The texts that are written for a key and a value: compact JSON, its members in this order.
-use Rattle.std.specs.Prelude.{◌≡◌, ◌<◌, ◌≤◌, ◌^◌, ⊤, ℕ, List, Bool, Option, Some, None, option_map, codes}
+-- What is written for a key and a value, compact JSON with its members in this order, and for a record.
+use Rattle.std.specs.Prelude.{◌≡◌, ◌<◌, ◌≤◌, ◌^◌, ⊤, ℕ, List, [], ◌∷◌, ◌++◌, Bool, true, false, Option, Some, None, option_map, unwrap_or, bytes_eq, codes, decimal}
+use Rattle.std.specs.Option.{ForSome}
 use Rattle.serde_json.specs.Data.{unsigned, Data, null, boolean, number, string, object, Members, no_members, member}
 use Rattle.serde_json.specs.Written.{compact_text}
 use Rattle.reg_records.specs.declared.key.Key.{Key}
 use Rattle.reg_records.specs.declared.key.Key.TheVariants.{Schema, Config, Mode, DeleteSubject, Noop}
-use Rattle.reg_records.specs.declared.limits.TheConstants.{NUMBER_LIMIT}
+use Rattle.reg_records.specs.declared.limits.TheConstants.{NUMBER_LIMIT, OFFSET_LIMIT}
+use Rattle.reg_records.specs.declared.record.Record.{Record}
 use Rattle.reg_records.specs.declared.value.Value.{Value}
 use Rattle.reg_records.specs.declared.value.Value.TheVariants as values
+use Rattle.reg_records.specs.Line.{is_tab, is_line_feed, is_free_of, line_of}
 
 -- a subject, or null for the global scope
 abbrev pub scope_data : Option (List ℕ) → Data
@@ -95,3 +98,21 @@ IsValueOf (Config scope) (values.Config level) = ⊤
 IsValueOf (Mode scope) (values.Mode mode) = ⊤
 IsValueOf (DeleteSubject subject) (values.DeleteSubject of_subject version) = (of_subject ≡ subject) × IsVersionOrId version
 IsValueOf key value = ⊥
+
+-- a text that can stand as the value of a line: no TAB, no LF, and not the text `null`
+abbrev pub IsValueField : List ℕ → Type 0
+IsValueField text = (is_free_of is_tab text ≡ true) × (is_free_of is_line_feed text ≡ true) × (bytes_eq text (codes "null") ≡ false)
+
+-- the record can be written as a line, if that isn't too long
+pub record HasLine (r : Record) : Type 0 where
+  pub offset_fits : r.offset ≤ OFFSET_LIMIT
+  pub key_fits : IsInLimits r.key
+  pub value_fits : ForSome r.value IsValueField
+
+-- the line of a record, without its LF
+abbrev pub line_text : Record → List ℕ
+line_text r = line_of (decimal r.offset) (written_key r.key) (unwrap_or r.value (codes "null"))
+
+-- with its LF
+abbrev pub written_line : Record → List ℕ
+written_line r = line_text r ++ 10 ∷ []

@@ -6,7 +6,7 @@ ghost use Rattle.reg_records.specs.declared.key.Key.{Key};
 ghost use Rattle.reg_records.specs.Key.{key_of, key_in, schema_key, config_key, mode_key, delete_subject_key, scope_in};
 ghost use Rattle.reg_records.specs.Written.{written_key, scope_data, IsOf32Bits};
 
-use crate::json::{number_at, parse, quoted, text_at};
+use crate::members::{number_at, parse, quoted, text_at};
 use base_text::Text;
 use serde_json::Value as Json;
 use std::alloc::{AllocError, Global};

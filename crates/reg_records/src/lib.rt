@@ -2,21 +2,25 @@
 #![tactic(auto)]
 
 mod device;
-mod json;
 mod key;
 mod limits;
 mod line;
 mod log;
 mod log_reader;
+mod members;
 mod pieces;
 mod record;
+#[cfg(test)]
+mod tests;
 mod value;
+mod write;
 
 pub use device::Device;
 pub use key::{Key, written_keys_are_apart};
 pub use limits::{LINE_LIMIT, LINE_READS, LOG_LINES, NUMBER_LIMIT, OFFSET_LIMIT};
-pub use line::{LineError, ReadLineError, read_line};
+pub use line::{LineError, ReadLineError, lines_are_of_the_grammar, read_line};
 pub use log::{Log, LogError, LogFault};
 pub use log_reader::read_log;
 pub use record::{Read, Record};
-pub use value::{Value, decode_value};
+pub use value::{Value, decode_value, written_values_have_lines, written_values_read_back};
+pub use write::{WriteLineError, has_line, write_line};

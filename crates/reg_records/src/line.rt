@@ -1,10 +1,11 @@
 // Lines of a topic: `offset TAB key TAB value LF`.
-ghost use Rattle.std.specs.Prelude.{◌≡◌, ◌≤◌, ◌==◌, true, false, IfOk, IfErr, IfSome, Ok, Err, MatchOption, position, count_by};
+ghost use Rattle.std.specs.Prelude.{◌≡◌, ◌≤◌, ◌==◌, ℕ, List, true, false, IfOk, IfErr, IfSome, Ok, Err, MatchOption, position, count_by};
 ghost use Rattle.std.specs.Char.{is_ascii_digit};
 ghost use Rattle.std.specs.List.{list_all};
 ghost use Rattle.std.specs.Str.{is_utf8};
 ghost use Rattle.reg_records.specs.Log.{offset_in};
-ghost use Rattle.reg_records.specs.Line.{is_line_feed, is_tab, is_decimal, offset_of, offset_field, key_field, value_field, read_at, reading, reading_at_front, IsFaultOf};
+ghost use Rattle.reg_records.specs.Line.{is_line_feed, is_tab, is_decimal, offset_of, offset_field, key_field, value_field, read_at, reading, reading_at_front, IsFaultOf, Spells};
+ghost use Rattle.reg_records.specs.declared.record.Read.{Read};
 
 use crate::key::key_of;
 use crate::limits::{LINE_LIMIT, OFFSET_LIMIT};
@@ -179,3 +180,9 @@ fn read_at(alloc: Global, offset: u64, key: &str, value: &str) -> Result<Read, A
     };
     Ok(Read::Record(Record { offset, key, value }))
 }
+
+/// The lines that can be read are those of the grammar, and each is read as its fields say.
+pub fn lines_are_of_the_grammar()
+    ensures read { (line : List ℕ) (read : Read) → reading line ≡ Ok read → Spells line read }
+    ensures spelled { (line : List ℕ) (read : Read) → Spells line read → reading line ≡ Ok read }
+{}

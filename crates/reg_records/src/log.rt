@@ -44,6 +44,7 @@ pub enum LogError {
 
 impl From<AllocError> for LogError {
     ghost use Rattle.reg_records.specs.declared.log.LogError.TheVariants.{OutOfMemory};
+
     ghost from_gives = { λ _ e. e ≡ OutOfMemory };
 
     fn from(_refused: AllocError) -> LogError {

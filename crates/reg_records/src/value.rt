@@ -1,15 +1,16 @@
 // The values of records.
-ghost use Rattle.std.specs.Prelude.{◌≡◌, ◌++◌, ℕ, IfOk, Some, codes, decimal, option_map, string_bytes};
+ghost use Rattle.std.specs.Prelude.{◌≡◌, ◌++◌, ◌≤◌, ℕ, IfOk, Some, codes, decimal, option_map, string_bytes};
 ghost use Rattle.serde_json.specs.Data.{boolean};
 ghost use Rattle.serde_json.specs.Written.{compact_text};
 ghost use Rattle.serde_json.specs.View.{view};
 ghost use Rattle.reg_records.specs.Value.{value_of, value_in, schema_value, config_value, mode_value, delete_subject_value, noop_value, is_plain_avro, is_absent_or, is_absent, is_avro_name, is_empty_list, deleted_in};
-ghost use Rattle.reg_records.specs.Written.{written_value, IsValueOf};
+ghost use Rattle.reg_records.specs.Written.{written_value, HasLine, IsInLimits, IsValueOf};
 ghost use Rattle.reg_records.specs.declared.key.Key.{Key};
 ghost use Rattle.reg_records.specs.declared.value.Value.{Value};
 
-use crate::json::{has_number_at, has_text_at, number_at, parse, quoted, text_at};
 use crate::key::Key;
+use crate::limits::OFFSET_LIMIT;
+use crate::members::{has_number_at, has_text_at, number_at, parse, quoted, text_at};
 use crate::record::Record;
 use base_text::Text;
 use serde_json::Value as Json;
@@ -256,7 +257,8 @@ fn schema_value_object(
         ++ codes ",\"schema\":" ++ schema.now ++ codes ",\"deleted\":" ++ compact_text (boolean deleted) ++ codes "}") }
 {
     format!(in alloc;
-        "{{\"subject\":{subject},\"version\":{version},\"id\":{id},\"schema\":{schema},\"deleted\":{deleted}}}")
+        "{{\"subject\":{subject},\"version\":{version},\"id\":{id},\"schema\":{schema},\"deleted\":{deleted}}}"
+    )
 }
 
 fn config_value_text(alloc: Global, level: &Text) -> Result<Text, AllocError>
@@ -275,7 +277,11 @@ fn mode_value_text(alloc: Global, mode: &Text) -> Result<Text, AllocError>
     Ok(Text::from(text))
 }
 
-fn delete_subject_value_text(alloc: Global, subject: &Text, version: u32) -> Result<Text, AllocError>
+fn delete_subject_value_text(
+    alloc: Global,
+    subject: &Text,
+    version: u32,
+) -> Result<Text, AllocError>
     ensures { IfOk result (λ text. Some text ≡ written_value (Value.DeleteSubject subject.now version)) }
 {
     let subject = quoted(alloc, subject.as_str())?;
@@ -294,5 +300,10 @@ fn delete_subject_object(alloc: Global, subject: &str, version: u32) -> Result<S
 pub fn written_values_read_back()
     ensures { (offset : ℕ) (k : Key) (v : Value) → IsValueOf k v
         → value_of (record { offset = offset; key = k; value = written_value v }) ≡ Some v }
-{
-}
+{}
+
+/// A record whose value was written for its key has a line.
+pub fn written_values_have_lines()
+    ensures { (offset : ℕ) (k : Key) (v : Value) → offset ≤ OFFSET_LIMIT → IsInLimits k → IsValueOf k v
+        → HasLine (record { offset = offset; key = k; value = written_value v }) }
+{}

@@ -1,2 +1,5 @@
 mod Digits
+mod Folds
+mod Fronts
+mod Outputs
 pub mod Written

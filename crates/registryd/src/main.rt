@@ -1,6 +1,9 @@
 //! The program `registryd`: a registry of Avro schemas.
 #![tactic(auto)]
 
+mod answer;
+mod fold;
+mod front;
 mod limits;
 mod request;
 mod response;

@@ -12,6 +12,7 @@ pub enum Status {
     Ok,
     BadRequest,
     NotFound,
+    InternalServerError,
 }
 
 /// A response with a body of JSON.
@@ -51,6 +52,7 @@ impl Status {
             Status::Ok => "200 OK",
             Status::BadRequest => "400 Bad Request",
             Status::NotFound => "404 Not Found",
+            Status::InternalServerError => "500 Internal Server Error",
         }
     }
 }

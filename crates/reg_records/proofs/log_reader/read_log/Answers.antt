@@ -23,6 +23,6 @@ loop-log-preserved g c =
       omega (arith, few),
       (taken ++ more, Consumes-trans _ _ _ taken more took took', omega (arith, feeds, one, line_feeds-append taken more)),
       subst (λ k. GoesOn (bytes_in g.R.Read.remaining c.args.reader.now) (bytes_in g.R.Read.remaining c.read_next.new.reader) (reads ++ read ∷ []) k) next
-      (GoesOn-more _ _ _ reads read number taken so_far took step),
+          (GoesOn-more _ _ _ reads read number taken so_far took step),
       c.in_ok-read_next.ensures.faults ∙ faults,
     )

@@ -26,6 +26,10 @@ pub returns-clause-step : goal.returns-clause-step
 returns-clause-step g c =
     let (line, none, read, held) = rw (c.in-Some.is, c.in-Line.is) at c.in_ok-front.ensures.taken in
     let some = is_empty_line-unless line (c.if-is_empty.ensures line held).1 in
-    let (within, says) = c.in_ok-read.ensures.read line held in
-    (within, c.in_ok-read.read, c.in_ok-add.ensures, (line ++ 10 ∷ [], read, line_feeds-line line none),
-      log_from-read c.args.number _ _ line c.in_ok-read.read none read some says within)
+    let (within, says) = c.in_ok-read.ensures.read line held in (
+      within,
+      c.in_ok-read.read,
+      c.in_ok-add.ensures,
+      (line ++ 10 ∷ [], read, line_feeds-line line none),
+      log_from-read c.args.number _ _ line c.in_ok-read.read none read some says within,
+    )

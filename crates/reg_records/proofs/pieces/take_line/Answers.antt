@@ -16,12 +16,15 @@ returns-in-Ended g c =
     let (line, none, held, read, reads, faults) = c.loop-i.invariant in
     let counts = rw c.in-Ended.is at c.in_ok-take_piece.ensures.counts in
     let (bytes, none', read', grows) = rw c.in-Ended.is at c.in_ok-take_piece.ensures.taken in
-    record { taken = (
-      line ++ bytes,
-      All-append (λ b. is_line_feed b ≡ false) line bytes none none',
-      Consumes-ended _ _ _ line bytes read read',
-      grows line held,
-    ); faults = counts.1 ∙ faults }
+    record {
+      taken = (
+        line ++ bytes,
+        All-append (λ b. is_line_feed b ≡ false) line bytes none none',
+        Consumes-ended _ _ _ line bytes read read',
+        grows line held,
+      );
+      faults = counts.1 ∙ faults;
+    }
 
 pub returns-in-NoMore : goal.returns-in-NoMore
 returns-in-NoMore g c =

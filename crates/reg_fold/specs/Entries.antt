@@ -1,0 +1,36 @@
+-- The entries: what stands where rs are the last records.
+use Rattle.std.specs.Prelude.{ℕ, List, ◌||◌, Option, Some, None, option_and_then, fold}
+use Rattle.std.specs.FinMap as finmap
+use Rattle.std.specs.List.{filter_map}
+use Rattle.reg_records.specs.Value.{value_of}
+use Rattle.reg_records.specs.declared.record.Record.{Record}
+use Rattle.reg_records.specs.declared.value.Value.{Value}
+use Rattle.reg_records.specs.declared.value.Value.TheVariants as values
+use Rattle.reg_set.specs.Records.{Records, records_of}
+use Rattle.reg_fold.specs.EntryOrder.{place_cmp, place_of}
+use Rattle.reg_fold.specs.Marks.{is_marked}
+use Rattle.reg_fold.specs.declared.entry.Entry.{Entry}
+
+-- a version's value gives its entry: soft where the value says deleted, or where its subject was soft-deleted later
+abbrev pub entry_in : Records → ℕ → Value → Option Entry
+entry_in rs offset (values.Schema subject version id schema deleted) = Some (record {
+  subject = subject;
+  version = version;
+  id = id;
+  text = schema;
+  offset = offset;
+  soft = deleted || is_marked rs subject version offset;
+})
+entry_in rs offset value = None
+
+-- the entry of a record; one without a version's value has none
+unfoldable pub entry_of : Records → Record → Option Entry
+entry_of rs r = option_and_then (entry_in rs r.offset) (value_of r)
+
+-- the entries of all records, each at its subject and version
+unfoldable pub entry_map : Records → finmap.FinMap place_cmp Entry
+entry_map rs = fold (λ m e. finmap.insert m (place_of e) e) finmap.empty (filter_map (entry_of rs) (records_of rs))
+
+-- the entries by subject, by its bytes, then by version
+unfoldable pub entries : Records → List Entry
+entries rs = finmap.values (entry_map rs)

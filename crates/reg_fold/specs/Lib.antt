@@ -1,0 +1,9 @@
+pub mod Entries
+pub mod EntryOrder
+pub mod Greatest
+pub mod Kept
+pub mod Marks
+pub mod Named
+pub mod Opaque
+pub mod Refusal
+pub mod Standing

@@ -1,0 +1,20 @@
+-- Opaque versions: records of SCHEMA keys whose text can't be read as a value. Below, rs are the last records.
+use Rattle.std.specs.Prelude.{ℕ, min, Bool, true, false, ◌&&◌, Option, is_some, is_none, map}
+use Rattle.std.specs.List.{filter, reduce}
+use Rattle.reg_records.specs.Value.{value_of}
+use Rattle.reg_records.specs.declared.key.Key.{Key}
+use Rattle.reg_records.specs.declared.key.Key.TheVariants as keys
+use Rattle.reg_records.specs.declared.record.Record.{Record}
+use Rattle.reg_set.specs.Records.{Records, records_of}
+
+abbrev pub is_version : Key → Bool
+is_version (keys.Schema subject version) = true
+is_version key = false
+
+-- whether the record has a text for a version, and it can't be read
+unfoldable pub is_opaque : Record → Bool
+is_opaque r = is_version r.key && is_some r.value && is_none (value_of r)
+
+-- the least offset of such a record
+unfoldable pub opaque : Records → Option ℕ
+opaque rs = reduce min (map (λ r. r.offset) (filter is_opaque (records_of rs)))

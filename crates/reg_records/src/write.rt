@@ -1,0 +1,119 @@
+// Written lines of a topic: `offset TAB key TAB value LF`.
+ghost use Rattle.std.specs.Prelude.{◌≡◌, ◌↔◌, ◌==◌, ◌++◌, ◌<◌, ◌≤◌, ℕ, List, Ok, IfOk, OnOk, IsErrOf, IsTrue, codes, decimal, length, string_bytes, unwrap_or};
+ghost use Rattle.reg_records.specs.declared.record.Read.TheVariants as reads;
+ghost use Rattle.std.specs.Option.{ForSome};
+ghost use Rattle.reg_records.specs.Line.{is_free_of, line_of, reading_at_front};
+ghost use Rattle.reg_records.specs.Written.{HasLine, IsInLimits, IsValueField, line_text, written_line};
+
+use crate::key::Key;
+use crate::limits::{LINE_LIMIT, NUMBER_LIMIT, OFFSET_LIMIT};
+use crate::record::Record;
+use base_text::Text;
+use std::alloc::{AllocError, Global};
+use thiserror::Error;
+
+/// Why no line was written.
+#[derive(Clone, Copy, Debug, PartialEq, Eq, Error)]
+pub enum WriteLineError {
+    /// More than 2,097,152 bytes would stand before the LF.
+    #[error("TooLong")]
+    TooLong,
+    #[error("out of memory")]
+    OutOfMemory,
+}
+
+impl From<AllocError> for WriteLineError {
+    ghost use Rattle.reg_records.specs.declared.write.WriteLineError.TheVariants.{OutOfMemory};
+
+    ghost from_gives = { λ _ e. e ≡ OutOfMemory };
+
+    fn from(_refused: AllocError) -> WriteLineError {
+        WriteLineError::OutOfMemory
+    }
+}
+
+/// Whether a record can be written as a line: its offset and its version are within their limits,
+/// and its value holds no TAB and no LF and isn't the text `null`.
+pub fn has_line(record: &Record) -> bool
+    ensures { IsTrue result ↔ HasLine record.now }
+{
+    record.offset <= OFFSET_LIMIT && is_in_limits(&record.key) && has_value_field(&record.value)
+}
+
+/// The line of a record, with its LF: `read_line` gives the record back, whatever follows the line.
+///
+/// The key is JSON (RFC 8259) without spaces, its members in a fixed order; no value is `null`.
+pub fn write_line(alloc: Global, record: &Record) -> Result<Vec<u8>, WriteLineError>
+    requires { HasLine record.now }
+    ensures line { IfOk result (λ line. line.items ≡ written_line record.now) }
+    ensures reads_back { IfOk result
+        (λ line. (rest : List ℕ) → reading_at_front (line.items ++ rest) ≡ Ok (reads.Record record.now)) }
+    ensures within { OnOk result (length (line_text record.now) ≤ LINE_LIMIT) }
+    ensures too_long { IsErrOf result WriteLineError.TooLong → LINE_LIMIT < length (line_text record.now) }
+{
+    let mut line = line_text(alloc, record)?;
+    if line.len() > LINE_LIMIT {
+        return Err(WriteLineError::TooLong);
+    }
+    line.push('\n')?;
+    Ok(line.into_bytes())
+}
+
+fn line_text(alloc: Global, record: &Record) -> Result<String, AllocError>
+    ensures { IfOk result (λ line. string_bytes line ≡ line_text record.now) }
+{
+    let key = record.key.written(alloc)?;
+    joined(
+        alloc,
+        record.offset,
+        key.as_str(),
+        value_field(&record.value),
+    )
+}
+
+/// The text of a value, or `null` where there is none.
+fn value_field(value: &Option<Text>) -> &str
+    ensures { result.now ≡ unwrap_or value.now (codes "null") }
+{
+    match value {
+        Some(text) => text.as_str(),
+        None => "null",
+    }
+}
+
+fn joined(alloc: Global, offset: u64, key: &str, value: &str) -> Result<String, AllocError>
+    ensures { IfOk result (λ line. string_bytes line ≡ line_of (decimal offset) key.now value.now) }
+{
+    format!(in alloc; "{offset}\t{key}\t{value}")
+}
+
+fn is_in_limits(key: &Key) -> bool
+    ensures { IsTrue result ↔ IsInLimits key.now }
+{
+    match key {
+        Key::Schema { version, .. } => 1 <= *version && *version <= NUMBER_LIMIT,
+        _ => true,
+    }
+}
+
+fn has_value_field(value: &Option<Text>) -> bool
+    ensures { IsTrue result ↔ ForSome value.now IsValueField }
+{
+    match value {
+        Some(text) => is_value_field(text.as_str()),
+        None => true,
+    }
+}
+
+fn is_value_field(text: &str) -> bool
+    ensures { IsTrue result ↔ IsValueField text.now }
+{
+    let bytes = text.as_bytes();
+    is_free_of(bytes, b'\t') && is_free_of(bytes, b'\n') && text != "null"
+}
+
+fn is_free_of(bytes: &[u8], byte: u8) -> bool
+    ensures { result ≡ is_free_of (λ b. b == byte) bytes.now }
+{
+    bytes.iter().all(|b| *b != byte)
+}

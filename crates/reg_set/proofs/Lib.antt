@@ -1,0 +1,10 @@
+mod Compactions
+mod Equality
+mod InOrder
+mod Kept
+mod Lasts
+mod Latest
+mod Orders
+mod Places
+mod Takes
+mod Unions

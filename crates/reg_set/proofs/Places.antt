@@ -1,0 +1,137 @@
+-- Where a record stands among records in order.
+use Rattle.std.proofs.Common.{◌≡◌, ℕ, suc, zero, ◌+◌, ◌<◌, Bool, true, false, ◌||◌, List, [], ◌∷◌, ◌++◌, length, get_or, take, drop, refl, sym, ap, ◌∙◌, add-one, arith}
+use Rattle.std.proofs.lemmas.Bool.{false≢true}
+use Rattle.std.proofs.lemmas.Cmp.{tied_itself}
+use Rattle.std.proofs.lemmas.List.{take-append-drop, drop_more}
+use Rattle.std.proofs.lemmas.List.Folds.{list_any-append}
+use Rattle.std.specs.FinSet as set
+use Rattle.std.specs.FinSet.{contains, from_list, contains-from_list, contains-insert, same_set}
+use Rattle.std.specs.List.{list_any, list_all, insert}
+use Rattle.std.specs.Ordering.{eq_by_cmp, is_eq, is_lt}
+use Rattle.std.specs.declared.cmp.Ordering.{Ordering}
+use Rattle.std.specs.declared.cmp.Ordering.TheVariants.{Less, Equal, Greater}
+use Rattle.reg_records.specs.declared.record.Record.{Record}
+use Rattle.reg_set.specs.RecordOrder.{record_cmp}
+use Rattle.reg_set.specs.Records.{is_in_order}
+use Rattle.reg_set.proofs.Orders.{record_cmp-total, record_cmp-ties}
+use Rattle.reg_set.proofs.InOrder.{both, first_of, second_of, less, turned, before_all, none_of_later}
+use Rattle.reg_set.proofs.Latest.{neither_left}
+
+all_at : (p : Record → Bool) (xs : List Record) (i : ℕ) (d : Record) → list_all p xs ≡ true → i < length xs → p (get_or xs i d) ≡ true
+all_at p [] i d all h = absurd (omega arith)
+all_at p (x ∷ xs) zero d all h = first_of _ _ all
+all_at p (x ∷ xs) (suc i) d all h = all_at p xs i d (second_of _ _ all) (omega arith)
+
+abbrev is_before : Record → Record → Bool
+is_before r q = is_lt (record_cmp q r)
+
+before_up_to : (r : Record) (xs : List Record) (i : ℕ) (d : Record) → is_in_order xs ≡ true → i < length xs → is_before r (get_or xs i d) ≡ true → list_all (is_before r) (take (suc i) xs) ≡ true
+before_up_to r [] i d ordered h one = absurd (omega arith)
+before_up_to r (x ∷ xs) zero d ordered h one = both one refl
+before_up_to r (x ∷ xs) (suc i) d ordered h one =
+    let later = less _ (all_at _ xs i d (first_of _ _ ordered) (omega arith)) in
+    let first : is_before r x ≡ true = ap is_lt (record_cmp-total.trans x (get_or xs i d) r later (less _ one)) in
+    both first (before_up_to r xs i d (second_of _ _ ordered) (omega arith) one)
+
+-- what stands before a record that stands before r does too
+pub front_is_before : (r : Record) (xs : List Record) (i : ℕ) (d : Record) → is_in_order xs ≡ true → i < length xs → is_lt (record_cmp (get_or xs i d) r) ≡ true → list_all (λ q. is_lt (record_cmp q r)) (take (i + 1) xs) ≡ true
+front_is_before r xs i d ordered h one = rw add-one (before_up_to r xs i d ordered h one)
+
+abbrev is_after : Record → Record → Bool
+is_after r q = is_lt (record_cmp r q)
+
+abbrev is_same : Record → Record → Bool
+is_same r q = eq_by_cmp record_cmp r q
+
+back_in_order : (front back : List Record) → is_in_order (front ++ back) ≡ true → is_in_order back ≡ true
+back_in_order [] back h = h
+back_in_order (x ∷ front) back h = back_in_order front back (second_of _ _ h)
+
+all_between : (p : Record → Bool) (front back : List Record) (r : Record) → list_all p (front ++ back) ≡ true → p r ≡ true → list_all p (front ++ r ∷ back) ≡ true
+all_between p [] back r all one = both one all
+all_between p (x ∷ front) back r all one = both (first_of _ _ all) (all_between p front back r (second_of _ _ all) one)
+
+any_between : (p : Record → Bool) (front back : List Record) (r : Record) → list_any p (front ++ r ∷ back) ≡ (p r || list_any p (front ++ back))
+any_between p [] back r = refl
+any_between p (x ∷ front) back r = ap (λ b. p x || b) (any_between p front back r) ∙ swapped (p x) (p r) (list_any p (front ++ back))
+  where
+    swapped : (a b c : Bool) → (a || (b || c)) ≡ (b || (a || c))
+    swapped true true c = refl
+    swapped true false c = refl
+    swapped false b c = refl
+
+-- a record between those that stand before it and those that stand after it
+between_in_order : (front back : List Record) (r : Record) → is_in_order (front ++ back) ≡ true → list_all (is_before r) front ≡ true → list_all (is_after r) back ≡ true → is_in_order (front ++ r ∷ back) ≡ true
+between_in_order [] back r ordered before after = both after ordered
+between_in_order (x ∷ front) back r ordered before after =
+    both (all_between (is_after x) front back r (first_of _ _ ordered) (first_of _ _ before)) (between_in_order front back r (second_of _ _ ordered) (second_of _ _ before) after)
+
+none_before : (r : Record) (front : List Record) → list_all (is_before r) front ≡ true → list_any (is_same r) front ≡ false
+none_before r [] h = refl
+none_before r (x ∷ front) h =
+    let apart : is_same r x ≡ false = ap is_eq (turned x r Less (less _ (first_of _ _ h))) in
+    ap (λ b. b || list_any (is_same r) front) apart ∙ none_before r front (second_of _ _ h)
+
+-- what does not stand before r, and is not r, stands after it
+after_it : (r q : Record) (o : Ordering) → record_cmp r q ≡ o → is_before r q ≡ false → is_eq o ≡ false → o ≡ Less
+after_it r q Less e not_before apart = refl
+after_it r q Equal e not_before apart = absurd (false≢true (sym apart))
+after_it r q Greater e not_before apart = absurd (false≢true (sym not_before ∙ ap is_lt (turned r q Greater e)))
+
+-- r is among those in order that don't stand before it only where it is the first
+first_or_none : (r q : Record) (qs : List Record) → is_in_order (q ∷ qs) ≡ true → is_before r q ≡ false → list_any (is_same r) (q ∷ qs) ≡ is_same r q
+first_or_none r q qs ordered not_before =
+    elim (is_same r q) as (λ b. is_same r q ≡ b → (b || list_any (is_same r) qs) ≡ b) [
+      | true ↦ λ _. refl
+      | false ↦ λ e.
+          let after = after_it r q _ refl not_before e in
+          none_of_later r r qs (tied_itself record_cmp-total r) (before_all r q qs after (first_of _ _ ordered))
+    ] refl
+
+pub all_after : (r : Record) (back : List Record) → is_in_order back ≡ true → list_any (is_before r) back ≡ false → list_any (is_same r) back ≡ false → list_all (is_after r) back ≡ true
+all_after r [] ordered not_before apart = refl
+all_after r (q ∷ qs) ordered not_before apart =
+    let after = after_it r q _ refl (neither_left _ _ not_before) (neither_left _ _ apart) in
+    both (ap is_lt after) (before_all r q qs after (first_of _ _ ordered))
+
+-- what stands at a place, and what of a list stands before it and from it on
+module _ (r : Record) (rs : List Record) (n : ℕ) where
+  parted : take n rs ++ drop n rs ≡ rs
+  parted = take-append-drop n rs
+
+  pub rest_in_order : is_in_order rs ≡ true → is_in_order (drop n rs) ≡ true
+  rest_in_order ordered = back_in_order (take n rs) (drop n rs) (ap is_in_order parted ∙ ordered)
+
+  -- r is in the list where it is what stands from its place on
+  pub any_from_place : list_all (is_before r) (take n rs) ≡ true → list_any (is_same r) rs ≡ list_any (is_same r) (drop n rs)
+  any_from_place before =
+      ap (list_any (is_same r)) (sym parted) ∙ list_any-append (is_same r) (take n rs) (drop n rs) ∙ ap (λ b. b || list_any (is_same r) (drop n rs)) (none_before r (take n rs) before)
+
+  pub any_at_place : (q : Record) → n < length rs → q ≡ get_or rs n q → is_in_order rs ≡ true → list_any (is_before r) (drop n rs) ≡ false → list_any (is_same r) (drop n rs) ≡ is_same r q
+  any_at_place q within here ordered not_before =
+      let next : drop n rs ≡ q ∷ drop (n + 1) rs = drop_more rs n q within ∙ ap (λ x. x ∷ drop (n + 1) rs) (sym here) in
+      let first = neither_left (is_before r q) _ (sym (ap (list_any (is_before r)) next) ∙ not_before) in
+      ap (list_any (is_same r)) next ∙ first_or_none r q (drop (n + 1) rs) (sym (ap is_in_order next) ∙ rest_in_order ordered) first
+
+  pub insert_in_order : is_in_order rs ≡ true → list_all (is_before r) (take n rs) ≡ true → list_any (is_before r) (drop n rs) ≡ false → list_any (is_same r) rs ≡ false → is_in_order (insert rs n r) ≡ true
+  insert_in_order ordered before not_before apart =
+      between_in_order (take n rs) (drop n rs) r (ap is_in_order parted ∙ ordered) before (all_after r (drop n rs) (rest_in_order ordered) not_before (sym (any_from_place before) ∙ apart))
+
+  pub from_list-insert : from_list {R = record_cmp} (insert rs n r) ≡ set.insert (from_list rs) r
+  from_list-insert =
+      same_set record_cmp-total record_cmp-ties _ _ (λ q.
+      contains-from_list record_cmp-total (insert rs n r) q ∙ any_between (is_same q) (take n rs) (drop n rs) r
+      ∙ ap (λ b. is_same q r || b) (ap (list_any (is_same q)) parted ∙ sym (contains-from_list record_cmp-total rs q))
+      ∙ sym (contains-insert record_cmp-total (from_list rs) r q))
+
+  -- what is of a key and in the list stands before the place or from it on
+  pub in_parts : (q : Record) → contains (from_list {R = record_cmp} rs) q ≡ true → (list_any (is_same q) (take n rs) || list_any (is_same q) (drop n rs)) ≡ true
+  in_parts q inside =
+      sym (list_any-append (is_same q) (take n rs) (drop n rs)) ∙ ap (list_any (is_same q)) parted ∙ sym (contains-from_list record_cmp-total rs q) ∙ inside
+
+  pub any_of_rest : list_any (is_same r) (drop n rs) ≡ true → list_any (is_same r) rs ≡ true
+  any_of_rest h = ap (list_any (is_same r)) (sym parted) ∙ list_any-append (is_same r) (take n rs) (drop n rs) ∙ among _ _ h
+    where
+      among : (a b : Bool) → b ≡ true → (a || b) ≡ true
+      among true b h = refl
+      among false b h = h

@@ -1,0 +1,60 @@
+-- What merging and compacting keep: the laws that every order of arrival rests on.
+use Rattle.std.specs.Prelude.{◌≡◌, ◌↔◌, true, Option, Some, None}
+use Rattle.std.specs.FinSet.{contains, union, insert}
+use Rattle.std.specs.Option.{option_cmp}
+use Rattle.std.specs.Ordering.{ord_max}
+use Rattle.reg_records.specs.declared.key.Key.{Key}
+use Rattle.reg_records.specs.declared.record.Record.{Record}
+use Rattle.reg_set.specs.Compaction.{IsCompactionOf}
+use Rattle.reg_set.specs.LastRecords.{last, last_records, IsGreatestOf}
+use Rattle.reg_set.specs.RecordOrder.{age_cmp}
+use Rattle.reg_set.specs.Records.{Records}
+
+abbrev pub MergingIsCommutative : Type 0
+MergingIsCommutative = (R S : Records) → union R S ≡ union S R
+
+abbrev pub MergingIsAssociative : Type 0
+MergingIsAssociative = (R S T : Records) → union (union R S) T ≡ union R (union S T)
+
+abbrev pub MergingIsIdempotent : Type 0
+MergingIsIdempotent = (R : Records) → union R R ≡ R
+
+-- the greater of two last records of one key; any record is greater than none
+abbrev pub later : Option Record → Option Record → Option Record
+later = ord_max (option_cmp age_cmp)
+
+-- key by key, the last record of a union is the greater of the two lasts
+abbrev pub LastOfUnion : Type 0
+LastOfUnion = (R S : Records) (key : Key) → last (union R S) key ≡ later (last R key) (last S key)
+
+-- a last record is the greatest of its key, and a key without one has no record
+abbrev pub LastIsGreatest : Type 0
+LastIsGreatest = (R : Records) (key : Key) (r : Record) → (last R key ≡ Some r) ↔ IsGreatestOf R key r
+
+abbrev pub NoLastIsNoRecord : Type 0
+NoLastIsNoRecord = (R : Records) (r : Record) → contains R r ≡ true → ¬ (last R r.key ≡ None)
+
+-- the last records are the last ones of their keys
+abbrev pub LastOfLastRecords : Type 0
+LastOfLastRecords = (R : Records) (key : Key) → last (last_records R) key ≡ last R key
+
+-- the lasts of what a compaction keeps are those of the whole
+abbrev pub LastOfCompaction : Type 0
+LastOfCompaction = (C R : Records) → IsCompactionOf C R → (key : Key) → last C key ≡ last R key
+
+abbrev pub CompactionsUnite : Type 0
+CompactionsUnite = (C R D S : Records) → IsCompactionOf C R → IsCompactionOf D S → IsCompactionOf (union C D) (union R S)
+
+-- the last records are the least compaction, and those of each compaction
+abbrev pub LastRecordsAreCompaction : Type 0
+LastRecordsAreCompaction = (R : Records) → IsCompactionOf (last_records R) R
+
+abbrev pub LastRecordsOfCompaction : Type 0
+LastRecordsOfCompaction = (C R : Records) → IsCompactionOf C R → last_records C ≡ last_records R
+
+-- what comes after may be added to the last records alone
+abbrev pub LastRecordsOfInsert : Type 0
+LastRecordsOfInsert = (R : Records) (r : Record) → last_records (insert (last_records R) r) ≡ last_records (insert R r)
+
+abbrev pub LastRecordsOfUnion : Type 0
+LastRecordsOfUnion = (R S : Records) → last_records (union (last_records R) S) ≡ last_records (union R S)

@@ -1,0 +1,36 @@
+-- The last record of each key.
+use Rattle.std.specs.Prelude.{◌≡◌, Bool, true, false, List, Option}
+use Rattle.std.specs.FinSet.{contains, retain}
+use Rattle.std.specs.List.{filter, reduce}
+use Rattle.std.specs.Option.{option_map_or}
+use Rattle.std.specs.Ordering.{eq_by_cmp, is_le, ord_max}
+use Rattle.reg_records.specs.declared.key.Key.{Key}
+use Rattle.reg_records.specs.declared.record.Record.{Record}
+use Rattle.reg_set.specs.RecordOrder.{age_cmp, key_cmp, record_cmp}
+use Rattle.reg_set.specs.Records.{Records, records_of}
+
+-- whether the record is one of that key
+unfoldable pub is_of : Key → Record → Bool
+is_of key r = eq_by_cmp key_cmp key r.key
+
+-- the greatest of some records of one key
+unfoldable pub greatest : List Record → Option Record
+greatest = reduce (ord_max age_cmp)
+
+-- the last record of a key: the greatest of its records in the set
+unfoldable pub last : Records → Key → Option Record
+last s key = greatest (filter (is_of key) (records_of s))
+
+-- whether the record is the last of its key
+unfoldable pub is_last : Records → Record → Bool
+is_last s r = option_map_or (eq_by_cmp record_cmp r) (last s r.key) false
+
+-- the records that are the last of their keys
+unfoldable pub last_records : Records → Records
+last_records s = retain s (is_last s)
+
+-- the record is one of that key in the set, and each of that key in the set is at most that one
+pub record IsGreatestOf (s : Records) (key : Key) (r : Record) : Type 0 where
+  pub is_in_set : contains s r ≡ true
+  pub is_of_key : r.key ≡ key
+  pub is_greatest : (q : Record) → contains s q ≡ true → q.key ≡ key → is_le (age_cmp q r) ≡ true

@@ -1,0 +1,5 @@
+pub mod Compaction
+pub mod Join
+pub mod LastRecords
+pub mod RecordOrder
+pub mod Records

@@ -1,0 +1,12 @@
+//! The set of the records that a node has taken, and the last record of each key in it.
+#![tactic(auto)]
+
+mod laws;
+mod order;
+mod record_set;
+
+pub use laws::{
+    last_is_greatest, last_records_are_enough, last_records_of_unions, merging_joins_sets,
+    records_are_ordered,
+};
+pub use record_set::{RecordSet, Taken, is_compaction_of};

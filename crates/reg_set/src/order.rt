@@ -1,0 +1,101 @@
+// The order of records, and where a record stands among others.
+ghost use Rattle.std.specs.Prelude.{◌≡◌, ◌≤◌, true, false, not, IfOk, IsTrue, take, drop, length};
+ghost use Rattle.std.specs.List.{list_any, list_all};
+ghost use Rattle.std.specs.Ordering.{eq_by_cmp, is_lt};
+ghost use Rattle.reg_records.specs.Written.{IsOf32Bits};
+ghost use Rattle.reg_set.specs.LastRecords.{is_of};
+ghost use Rattle.reg_set.specs.RecordOrder.{key_cmp, record_cmp};
+ghost use Rattle.reg_set.specs.Records.{is_in_order};
+
+use reg_records::{Key, Record, written_keys_are_apart};
+use std::alloc::{AllocError, Global};
+use std::cmp::Ordering;
+
+/// By offset, then by the bytes of the key's written text, then no value before a text, then by
+/// the text's bytes. Memory is taken for equal offsets alone.
+fn compare(alloc: Global, one: &Record, other: &Record) -> Result<Ordering, AllocError>
+    ensures { IfOk result (λ order. order ≡ record_cmp one.now other.now) }
+{
+    match one.offset.cmp(&other.offset) {
+        Ordering::Equal => compare_at_offset(alloc, one, other),
+        order => Ok(order),
+    }
+}
+
+fn compare_at_offset(alloc: Global, one: &Record, other: &Record) -> Result<Ordering, AllocError>
+    requires { one.now.offset ≡ other.now.offset }
+    ensures { IfOk result (λ order. order ≡ record_cmp one.now other.now) }
+{
+    let keys = compare_keys(alloc, &one.key, &other.key)?;
+    Ok(keys.then(one.value.cmp(&other.value)))
+}
+
+fn compare_keys(alloc: Global, one: &Key, other: &Key) -> Result<Ordering, AllocError>
+    ensures { IfOk result (λ order. order ≡ key_cmp one.now other.now) }
+{
+    is_of_32_bits(one);
+    is_of_32_bits(other);
+    written_keys_are_apart();
+    Ok(one.written(alloc)?.cmp(&other.written(alloc)?))
+}
+
+/// A key of the program has no version of more than 32 bits.
+fn is_of_32_bits(key: &Key)
+    ensures { IsOf32Bits key.now }
+{
+    if let Key::Schema {
+        subject: _,
+        version,
+    } = key
+    {
+        let _version = *version;
+    }
+}
+
+/// How many of the records, which stand in order, stand before that one.
+pub(crate) fn count_before(
+    alloc: Global,
+    records: &[Record],
+    record: &Record,
+) -> Result<usize, AllocError>
+    requires { IsTrue (is_in_order records.now) }
+    ensures within { IfOk result (λ n. n ≤ length records.now) }
+    ensures before { IfOk result
+        (λ n. list_all (λ q. is_lt (record_cmp q «record».now)) (take n records.now) ≡ true) }
+    ensures not_before { IfOk result
+        (λ n. list_any (λ q. is_lt (record_cmp q «record».now)) (drop n records.now) ≡ false) }
+{
+    for place in (0..records.len()).rev() {
+        if compare(alloc, &records[place], record)? == Ordering::Less {
+            return Ok(place + 1);
+        }
+    }
+    Ok(0)
+}
+
+/// Whether the record is among the records, which stand in order, at its place.
+pub(crate) fn stands_at(records: &[Record], place: usize, record: &Record) -> bool
+    requires in_order { IsTrue (is_in_order records.now) }
+    requires before { list_all (λ q. is_lt (record_cmp q «record».now)) (take place records.now) ≡ true }
+    requires not_before { list_any (λ q. is_lt (record_cmp q «record».now)) (drop place records.now) ≡ false }
+    ensures { result ≡ list_any (eq_by_cmp record_cmp «record».now) records.now }
+{
+    match records.get(place) {
+        Some(other) => *other == *record,
+        None => false,
+    }
+}
+
+/// Whether one of the records is of that key.
+pub(crate) fn has_key(records: &[Record], key: &Key) -> bool
+    ensures { result ≡ list_any (is_of key.now) records.now }
+{
+    records.iter().any(|record| is_of(record, key))
+}
+
+/// Whether the record is of that key.
+pub(crate) fn is_of(record: &Record, key: &Key) -> bool
+    ensures { result ≡ is_of key.now «record».now }
+{
+    record.key == *key
+}

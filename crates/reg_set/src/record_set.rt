@@ -1,0 +1,195 @@
+// A set of records, and the last record of each key in it.
+ghost use Rattle.std.specs.Prelude.{◌≡◌, ◌≢◌, ◌<◌, ◌↔◌, [], vec_len, true, OnOk, OnErr, IfOk, IsTrue, option_map};
+ghost use Rattle.std.specs.FinSet as set;
+ghost use Rattle.std.specs.List.{list_all, remove};
+ghost use Rattle.std.specs.Option.{option_map_or};
+ghost use Rattle.reg_records.specs.declared.key.Key.{Key};
+ghost use Rattle.reg_set.specs.Compaction.{IsCompactionOf};
+ghost use Rattle.reg_set.specs.Join.{later};
+ghost use Rattle.reg_set.specs.LastRecords.{last, last_records};
+ghost use Rattle.reg_set.specs.Records.{records_of, is_in_order};
+
+use crate::order::{count_before, has_key, is_of, stands_at};
+use reg_records::{Key, Record};
+use std::alloc::{AllocError, Global};
+use std::marker::Model;
+
+/// What taking a record did to a set.
+#[derive(Clone, Copy, Debug, PartialEq, Eq)]
+pub enum Taken {
+    /// The record is now the last of its key, and wasn't before.
+    Fresh,
+    /// The record was in the set.
+    Repeat,
+    /// The record is new, and its key has a later one.
+    Older,
+}
+
+/// A finite set of records.
+///
+/// Records of one key are ordered by offset, then no value before a text, then by the text's bytes.
+/// The greatest is the last record of the key; a last record without a value deletes the key.
+#[derive(Debug, Drop)]
+pub struct RecordSet {
+    // In order: by offset, then by the key's written text, then by value. None stands twice.
+    records: Vec<Record>,
+}
+
+impl Model for RecordSet {
+    ghost use Rattle.std.specs.FinSet as set;
+    ghost use Rattle.std.specs.Prelude.{IsTrue};
+    ghost use Rattle.reg_records.specs.contracts.record.Record as stored;
+    ghost use Rattle.reg_set.specs.Records.{Records, is_in_order};
+
+    ghost Value = { Records };
+
+    ghost coded = { set.code (stored.the_row).coded };
+
+    ghost view = { λ s. set.from_list s.records.items };
+
+    ghost invariant = { λ s. IsTrue (is_in_order s.records.items) };
+}
+
+impl Clone for RecordSet {
+    ghost is_clone = { λ s copy. copy ≡ s };
+
+    fn clone(&self) -> Result<RecordSet, AllocError> {
+        Ok(RecordSet {
+            records: self.records.clone()?,
+        })
+    }
+}
+
+impl RecordSet {
+    /// The empty set.
+    pub fn new(alloc: Global) -> RecordSet
+        ensures empty { result ≡ set.empty }
+        ensures no_records { records_of result ≡ [] }
+    {
+        RecordSet {
+            records: Vec::new(alloc),
+        }
+    }
+
+    /// Adds the record, and says what that did. The only error is want of memory; the set is then
+    /// as it was.
+    pub fn take(&mut self, record: &Record) -> Result<Taken, AllocError>
+        ensures added { OnOk result (self.new ≡ set.insert self.old «record».now) }
+        ensures fresh { IfOk result (λ taken.
+            (taken ≡ Taken.Fresh) ↔ (last self.new «record».now.key ≢ last self.old «record».now.key)) }
+        ensures repeat { IfOk result (λ taken.
+            (taken ≡ Taken.Repeat) ↔ IsTrue (set.contains self.old «record».now)) }
+        ensures refused { OnErr result (self.new ≡ self.old) }
+    {
+        let alloc = *self.records.allocator();
+        let records: &[Record] = &self.records;
+        let place = count_before(alloc, records, record)?;
+        if stands_at(records, place, record) {
+            return Ok(Taken::Repeat);
+        }
+        let taken = if has_key(&records[place..], &record.key) {
+            Taken::Older
+        } else {
+            Taken::Fresh
+        };
+        let copy = record.clone()?;
+        self.records.insert(place, copy)?;
+        Ok(taken)
+    }
+
+    /// The last record of the key: the greatest of its records.
+    pub fn last(&self, key: &Key) -> Option<&Record>
+        ensures { option_map (λ found. found.now) result ≡ last self.now key.now }
+    {
+        self.records.iter().rev().find(|record| is_of(record, key))
+    }
+
+    /// The records, by offset, then by the bytes of the key's written text, then no value before a
+    /// text, then by the text's bytes.
+    pub fn records(&self) -> &[Record]
+        ensures all { result.now ≡ records_of self.now }
+        ensures in_order { IsTrue (is_in_order result.now) }
+        ensures members { self.now ≡ set.from_list result.now }
+    {
+        self.records.as_slice()
+    }
+
+    /// Whether the record is in the set.
+    pub fn contains(&self, record: &Record) -> bool
+        ensures { result ≡ set.contains self.now «record».now }
+    {
+        self.records.contains(record)
+    }
+
+    /// Adds the records of the other set. The only error is want of memory; the set is then as it
+    /// was.
+    pub fn merge(&mut self, other: &RecordSet) -> Result<(), AllocError>
+        ensures merged { OnOk result (self.new ≡ set.union self.old other.now) }
+        ensures lasts { OnOk result
+            ((key : Key) → last self.new key ≡ later (last self.old key) (last other.now key)) }
+        ensures refused { OnErr result (self.new ≡ self.old) }
+    {
+        let mut merged = self.clone()?;
+        for record in other.records() {
+            merged.take(record)?;
+        }
+        *self = merged;
+        Ok(())
+    }
+
+    /// Leaves the last record of each key alone, those without a value too.
+    pub fn compact(&mut self)
+        ensures left { self.new ≡ last_records self.old }
+        ensures lasts { (key : Key) → last self.new key ≡ last self.old key }
+        ensures compaction { IsCompactionOf self.new self.old }
+    {
+        for place in (0..self.records.len()).rev() {
+            if has_key(&self.records[place + 1..], &self.records[place].key) {
+                discard(&mut self.records, place);
+            }
+        }
+    }
+}
+
+/// Removes the record at that place.
+fn discard(records: &mut Vec<Record>, place: usize)
+    requires { place < vec_len records.old }
+    ensures { records.new.items ≡ remove records.old.items place }
+{
+    records.remove(place);
+}
+
+/// Whether `compaction` is a part of `whole` that has the last record of each key of `whole`.
+pub fn is_compaction_of(compaction: &RecordSet, whole: &RecordSet) -> bool
+    ensures { IsTrue result ↔ IsCompactionOf compaction.now whole.now }
+{
+    is_part_of(compaction, whole) && has_lasts_of(compaction, whole)
+}
+
+fn is_part_of(part: &RecordSet, whole: &RecordSet) -> bool
+    ensures { result ≡ list_all (set.contains whole.now) (records_of part.now) }
+{
+    part.records().iter().all(|record| whole.contains(record))
+}
+
+fn has_lasts_of(part: &RecordSet, whole: &RecordSet) -> bool
+    ensures { result ≡ list_all (λ r. option_map_or (set.contains part.now) (last whole.now r.key) true)
+        (records_of whole.now) }
+{
+    whole
+        .records()
+        .iter()
+        .all(|record| has_last_of(part, whole, &record.key))
+}
+
+fn has_last_of(part: &RecordSet, whole: &RecordSet, key: &Key) -> bool
+    ensures { result ≡ option_map_or (set.contains part.now) (last whole.now key.now) true }
+{
+    match whole.last(key) {
+        Some(record) => part.contains(record),
+        None => true,
+    }
+}
+
+#[cfg(test)]
+mod tests;
