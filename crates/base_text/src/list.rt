@@ -11,6 +11,7 @@ pub struct Listed<T> {
 
 impl<T> Model for Listed<T> {
     ghost use Rattle.std.specs.Prelude.{List};
+
     ghost Value = { List T };
 
     ghost view = { λ v. v.items.items };

@@ -1,9 +1,9 @@
 -- What a fold writes and counts, by the log that it read and the front of what stands after it.
-use Rattle.std.proofs.Common.{◌≡◌, ◌<◌, ◌≤◌, ℕ, zero, suc, List, [], length, take, min, true, false, refl, sym, ap, subst, ◌∙◌, arith, length-take, Option, None, Some, IfSome, nat_lt, if◌then◌else◌}
-use Rattle.std.specs.Prelude.{Ok, count_by}
+use Rattle.std.proofs.Common.{◌≡◌, ℕ, zero, suc, List, length, min, refl, sym, ap, subst, ◌∙◌, arith, length-take, Option, None, Some, IfSome, nat_lt, if◌then◌else◌}
+use Rattle.std.specs.Prelude.{Ok}
 use Rattle.std.proofs.lemmas.Bool.{lt-ltb}
 use Rattle.std.specs.FinSet.{from_list}
-use Rattle.reg_records.specs.Log.{LogText, log_of, IsLogOf, is_foreign}
+use Rattle.reg_records.specs.Log.{LogText, log_of, IsLogOf}
 use Rattle.reg_records.specs.declared.log.Log.{Log}
 use Rattle.reg_set.specs.LastRecords.{last_records}
 use Rattle.reg_set.specs.Records.{Records}

@@ -1,11 +1,11 @@
 -- What is written for a text, by the head that it begins with.
-use Rattle.std.proofs.Common.{◌≡◌, ◌<◌, ◌≤◌, ◌+◌, ℕ, List, [], ◌∷◌, ◌++◌, length, take, min, true, refl, sym, ap, subst, ◌∙◌, arith, length-append, length-take}
+use Rattle.std.proofs.Common.{◌≡◌, ◌<◌, ◌≤◌, ℕ, List, [], length, min, true, sym, ap, subst, ◌∙◌, arith, length-append, length-take}
 use Rattle.httparse.specs.Grammar.{RequestHead, ReadsRequest, print_request}
 use Rattle.httparse.proofs.GrammarLemmas.{request_unique}
 use Rattle.reg_fold.specs.declared.refusal.Refusal.TheVariants as refusals
 use Rattle.reg_set.specs.Records.{Records}
 use Rattle.registryd.specs.Answer.{answer_to, refused, IsOutput}
-use Rattle.registryd.specs.Request.{head_front, BeginsWithHead}
+use Rattle.registryd.specs.Request.{head_front}
 use Rattle.registryd.specs.Response.{response_text}
 use Rattle.registryd.specs.declared.limits.TheConstants.{HEAD_FIELDS, HEAD_LIMIT}
 

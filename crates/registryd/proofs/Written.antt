@@ -1,7 +1,7 @@
 -- What was written so far, and then more.
-use Rattle.std.proofs.Common.{◌<◌, ◌+◌, ◌≤◌, ◌⊎◌, inl, inr, ℕ, List, ◌++◌, length, take, drop, sym, ap, ◌∙◌, ◌-◌, ◌≡◌, arith, take_all, take-take, length-take, length-drop, take-append-drop}
+use Rattle.std.proofs.Common.{◌+◌, ◌≤◌, inl, inr, ℕ, List, ◌++◌, length, take, drop, sym, ap, ◌∙◌, ◌-◌, ◌≡◌, arith, take_all, take-take, length-take, length-drop, take-append-drop}
 use Rattle.std.proofs.lemmas.List.{drop-take}
-use Rattle.reg_records.specs.Device.{HasFaulted, faults_of}
+use Rattle.reg_records.specs.Device.{faults_of}
 use Rattle.reg_records.specs.declared.device.Device.{Device}
 use Rattle.registryd.specs.Writing.{LosesWriter}
 

@@ -29,7 +29,7 @@ refused refusal closes =
 abbrev pub schema_response : Records → List ℕ → Response
 schema_response rs part =
     option_map_or (λ e. record { status = statuses.Ok; closes = false; body = schema_body e.text })
-        (option_and_then (named rs) (id_in part)) (refused refusals.SchemaNotFound false)
+    (option_and_then (named rs) (id_in part)) (refused refusals.SchemaNotFound false)
 
 -- the response to a method and a target
 abbrev pub answer_to : Records → List ℕ → List ℕ → Response

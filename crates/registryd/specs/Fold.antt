@@ -1,8 +1,7 @@
 -- What the fold of a log and a request does.
-use Rattle.std.specs.Prelude.{◌≡◌, ◌⊎◌, ⊤, ℕ, ◌≤◌, List, [], Option, IfSome, Ok, Err, length, nat_lt, count_by, if◌then◌else◌}
+use Rattle.std.specs.Prelude.{◌≡◌, ⊤, ℕ, List, Option, IfSome, Ok, Err, length, nat_lt, count_by, if◌then◌else◌}
 use Rattle.std.specs.FinSet.{from_list}
-use Rattle.std.specs.Io.KnownBytes.{Appends, Keeps}
-use Rattle.reg_records.specs.Device.{HasFaulted}
+use Rattle.std.specs.Io.KnownBytes.{Keeps}
 use Rattle.reg_records.specs.Log.{LogText, log_of, records_in, is_foreign}
 use Rattle.reg_records.specs.declared.device.Device.{Device}
 use Rattle.reg_records.specs.declared.log.LogError.{LogError}

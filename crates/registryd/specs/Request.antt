@@ -1,5 +1,5 @@
 -- What the head of a request asks for.
-use Rattle.std.specs.Prelude.{ℕ, ◌≤◌, List, Bool, ◌&&◌, ◌==◌, not, nat_eq, nat_le, nat_lt, length, take, drop, bytes_eq, codes, Option, Some, None, option_and_then, if◌then◌else◌}
+use Rattle.std.specs.Prelude.{ℕ, ◌≤◌, List, Bool, ◌&&◌, ◌==◌, not, nat_eq, nat_le, nat_lt, length, take, drop, bytes_eq, codes, Option, Some, None, if◌then◌else◌}
 use Rattle.std.specs.Char.{is_ascii_digit}
 use Rattle.std.specs.List.{before_first, list_all, list_any, starts_with}
 use Rattle.std.specs.Str.Parse.{digits_value}

@@ -1,6 +1,6 @@
 -- The text of a response (RFC 9112), and its body.
 use Rattle.std.specs.Prelude.{ℕ, List, [], ◌++◌, Bool, length, codes, decimal, if◌then◌else◌}
-use Rattle.serde_json.specs.Data.{unsigned, Data, number, string, object, member, no_members}
+use Rattle.serde_json.specs.Data.{unsigned, number, string, object, member, no_members}
 use Rattle.serde_json.specs.Written.{compact_text}
 use Rattle.registryd.specs.declared.response.Response.{Response}
 use Rattle.registryd.specs.declared.response.Status.{Status}

@@ -44,6 +44,7 @@ pub enum FoldError {
 
 impl From<AllocError> for FoldError {
     ghost use Rattle.registryd.specs.declared.fold.FoldError.TheVariants.{OutOfMemory};
+
     ghost from_gives = { λ _ e. e ≡ OutOfMemory };
 
     fn from(_refused: AllocError) -> FoldError {

@@ -20,6 +20,7 @@ pub enum FrontError {
 
 impl From<AllocError> for FrontError {
     ghost use Rattle.registryd.specs.declared.front.FrontError.TheVariants.{OutOfMemory};
+
     ghost from_gives = { λ _ e. e ≡ OutOfMemory };
 
     fn from(_refused: AllocError) -> FrontError {

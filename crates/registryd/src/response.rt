@@ -60,11 +60,7 @@ impl Status {
 fn closing_field(closes: bool) -> &'static str
     ensures { result.now ≡ closing_field closes }
 {
-    if closes {
-        "Connection: close\r\n"
-    } else {
-        ""
-    }
+    if closes { "Connection: close\r\n" } else { "" }
 }
 
 /// The body that gives a schema's text.

@@ -1,4 +1,4 @@
-use Rattle.std.proofs.Common.{◌≡◌, ◌<◌, length, true, ap, sym, ◌∙◌, arith, rules}
+use Rattle.std.proofs.Common.{◌≡◌, ◌<◌, length, true, ap, ◌∙◌, arith}
 use Rattle.std.proofs.lemmas.Bool.{false≢true}
 use Rattle.std.proofs.lemmas.Bool.Decides.{nat_tests}
 use Rattle.std.proofs.lemmas.Result.{IfOk-weaker}
@@ -21,14 +21,14 @@ returns c =
     let some : 0 < length front = grind (arith, nat_tests, c.if-is_empty.ensures) in
     let response = c.match-head_of.response in
     IfOk-weaker c.to_text.result _ _ (λ out written text is.
-        elim c.match-head_of.branch [
-          | in-Some+in_ok-response-in-Some w ↦
-              let (head, rest, reads, few, method, target) = w.in-Some.ensures.head in
-              let same : response ≡ answer_to rs head.method head.target =
-              w.response-is ∙ w.in_ok-response-in-Some.ensures
-              ∙ ap (λ m. answer_to rs m w.in-Some.target.now) method ∙ ap (λ t. answer_to rs head.method t) target in
-              IsOutput-answered rs text front _ head rest is reads few (written ∙ ap response_text same)
-          | in-None+in_ok-response-in-None w ↦
-              let same : response ≡ refused refusals.BadRequest true = w.response-is ∙ w.in_ok-response-in-None.ensures in
-              IsOutput-malformed rs text front _ is some (λ head rest reads few. false≢true (w.in-None.ensures.found head rest reads few)) (written ∙ ap response_text same)
-        ]) c.to_text.ensures
+    elim c.match-head_of.branch [
+      | in-Some+in_ok-response-in-Some w ↦
+          let (head, rest, reads, few, method, target) = w.in-Some.ensures.head in
+          let same : response ≡ answer_to rs head.method head.target =
+          w.response-is ∙ w.in_ok-response-in-Some.ensures
+          ∙ ap (λ m. answer_to rs m w.in-Some.target.now) method ∙ ap (λ t. answer_to rs head.method t) target in
+          IsOutput-answered rs text front _ head rest is reads few (written ∙ ap response_text same)
+      | in-None+in_ok-response-in-None w ↦
+          let same : response ≡ refused refusals.BadRequest true = w.response-is ∙ w.in_ok-response-in-None.ensures in
+          IsOutput-malformed rs text front _ is some (λ head rest reads few. false≢true (w.in-None.ensures.found head rest reads few)) (written ∙ ap response_text same)
+    ]) c.to_text.ensures

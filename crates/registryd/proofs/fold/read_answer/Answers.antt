@@ -1,4 +1,4 @@
-use Rattle.std.proofs.Common.{◌≡◌, refl, ap, ◌∙◌, length, nat_lt, if◌then◌else◌}
+use Rattle.std.proofs.Common.{refl, ap, ◌∙◌, length, nat_lt, if◌then◌else◌}
 use Rattle.std.specs.FinSet.{from_list}
 use Rattle.reg_set.specs.LastRecords.{last_records}
 use Rattle.reg_set.specs.RecordOrder.{record_cmp}
@@ -14,4 +14,4 @@ returns-clause-answered g c =
     let set = c.in_ok-registry.ensures ∙ ap (λ items. last_records (from_list {R = record_cmp} items)) c.deref.ensures.value in
     let ones = c.request_count.ensures ∙ ap (λ bytes. if nat_lt 0 (length bytes) then 1 else 0) c.deref-3.ensures.value in
     both _ _ _ (output_for _ _ log _ front.items _ read set is (λ text whole. c.in_ok-out.ensures text (c.deref-2.ensures.value ∙ whole)))
-      (counts_for _ _ log front.items _ read is refl ones)
+    (counts_for _ _ log front.items _ read is refl ones)

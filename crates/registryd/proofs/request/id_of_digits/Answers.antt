@@ -1,4 +1,4 @@
-use Rattle.std.proofs.Common.{◌≡◌, ap, sym, ◌∙◌, ◌*◌, ◌+◌, arith, rules}
+use Rattle.std.proofs.Common.{sym, arith}
 use Rattle.registryd.proofs.Digits.{one_more_digit}
 use Rattle.registryd.proofs.request.id_of_digits.Goals as goal
 

@@ -1,4 +1,4 @@
-use Rattle.std.proofs.Common.{◌≡◌, ◌+◌, ◌≤◌, List, ℕ, ◌++◌, length, take, drop, inl, inr, sym, ap, subst, ◌∙◌, refl, arith, take-append-drop}
+use Rattle.std.proofs.Common.{◌+◌, ◌≤◌, length, take, drop, sym, subst, ◌∙◌, take-append-drop}
 use Rattle.std.proofs.KnownBytes.{Appends-trans, Appends-kept}
 use Rattle.std.proofs.lemmas.Result.{err_from_is_err_and}
 use Rattle.registryd.proofs.Written.{LosesWriter-later, take-rest, fits-rest}
@@ -12,8 +12,10 @@ returns-in_err-at-clause-lost g c =
     let bytes = c.args.bytes.now in
     let at = c.loop-at.at in
     let p = err_from_is_err_and c.from_residual.result c.from_residual.ensures.1 in
-    rw p.1 (LosesWriter-later c.args.writer.now c.loop-at.writer c.write_some.new.writer faults lost.0,
-      (take at bytes, drop at bytes, sym (take-append-drop at bytes), Appends-kept _ _ _ (take at bytes) written lost.1))
+    rw p.1 (
+      LosesWriter-later c.args.writer.now c.loop-at.writer c.write_some.new.writer faults lost.0,
+      (take at bytes, drop at bytes, sym (take-append-drop at bytes), Appends-kept _ _ _ (take at bytes) written lost.1),
+    )
 
 pub loop-at-preserved : goal.loop-at-preserved
 loop-at-preserved g c =
