@@ -1,0 +1,106 @@
+-- Kinds of branches, and names that are primitives or uses.
+use Rattle.std.proofs.Common.{◌≡◌, ℕ, List, [], ◌∷◌, ◌++◌, Bool, true, false, ◌&&◌, ◌||◌, not, cond, Option, Some, None, is_some, find, bytes_eq, Result, IfOk, refl, sym, ◌∙◌, ap, subst}
+use Rattle.std.specs.List.{list_any}
+use Rattle.std.proofs.lemmas.List.Folds.{list_any-append}
+use Rattle.std.proofs.lemmas.Result.{IfOk-weaker}
+use Rattle.std.proofs.lemmas.Slice.Eq.{bytes_eq-Decides}
+use Rattle.avro_schema.specs.declared.kinds.Kind.{Kind}
+use Rattle.avro_schema.specs.declared.kinds.Kind.TheVariants as kind
+use Rattle.avro_schema.specs.declared.node.Primitive.{Primitive}
+use Rattle.avro_schema.specs.Names.{primitives, primitive_text, primitive_named, all_distinct}
+use Rattle.avro_schema.specs.declared.reader.Reader.{Reader}
+use Rattle.avro_schema.specs.Form.{Heading, Form, plain, by_name, form_of_name}
+use Rattle.avro_schema.specs.Places.{Definition, named, defined_by}
+use Rattle.avro_schema.specs.Faults.{kind_of, kind_named, same_kind, is_union, fits_union}
+use Rattle.avro_schema.specs.Reader.{may_stand, HasMet, opened}
+use Rattle.avro_schema.proofs.TextLemmas.{bytes_eq-sym, all_distinct-middle, all_distinct-push}
+
+pub form_plain : (s : List ℕ) (p : Primitive) → Some p ≡ primitive_named s → form_of_name s ≡ plain p
+form_plain s p e = ap (λ (o : Option Primitive). elim o [ None ↦ by_name s | Some q ↦ plain q ]) (sym e)
+
+pub form_use : (s : List ℕ) → None ≡ primitive_named s → form_of_name s ≡ by_name s
+form_use s e = ap (λ (o : Option Primitive). elim o [ None ↦ by_name s | Some q ↦ plain q ]) (sym e)
+
+passes_first : {X : Type 0} (t : X → Bool) (y x : X) (b : Bool) (o : Option X) → t y ≡ b → (o ≡ Some x → t x ≡ true) → cond b (Some y) o ≡ Some x → t x ≡ true
+passes_first t y x true o h later k = let same : y ≡ x = cc in ap t (sym same) ∙ h
+passes_first t y x false o h later k = later k
+
+pub find-passes : {X : Type 0} (t : X → Bool) (xs : List X) (x : X) → find t xs ≡ Some x → t x ≡ true
+find-passes t [] x e = cc
+find-passes t (y ∷ xs) x e = passes_first t y x (t y) (find t xs) refl (find-passes t xs x) e
+
+kind_plain : (ds : List Definition) (ns : List ℕ) (n : ℕ) (s : List ℕ) (o : Option Primitive) → o ≡ primitive_named s → is_some o ≡ true → kind.Unnamed s ≡ kind_of ds ns n (form_of_name s)
+kind_plain ds ns n s None e h = cc
+kind_plain ds ns n s (Some p) e h =
+    let text : primitive_text p ≡ s = (bytes_eq-Decides (primitive_text p) s).0 (find-passes (λ p. bytes_eq (primitive_text p) s) primitives p (sym e)) in
+    ap kind.Unnamed (sym text) ∙ ap (kind_of ds ns n) (sym (form_plain s p e))
+
+pub kind_primitive : (ds : List Definition) (ns : List ℕ) (n : ℕ) (s : List ℕ) (o : Option Primitive) → o ≡ primitive_named s → is_some o ≡ true → kind.Unnamed s ≡ kind_of ds ns n (form_of_name s)
+kind_primitive = kind_plain
+
+pub kind_use : (ds : List Definition) (ns : List ℕ) (n : ℕ) (s : List ℕ) (o : Option Primitive) → o ≡ primitive_named s → is_some o ≡ false → kind_of ds ns n (form_of_name s) ≡ kind_named (named ds n ns s)
+kind_use ds ns n s None e h = ap (kind_of ds ns n) (form_use s e)
+kind_use ds ns n s (Some p) e h = cc
+
+-- ---- the kinds that were added
+
+pub same_kind-sym : (a b : Kind) → same_kind a b ≡ same_kind b a
+same_kind-sym (kind.Unnamed s) (kind.Unnamed t) = bytes_eq-sym s t
+same_kind-sym (kind.Unnamed s) (kind.Named t) = refl
+same_kind-sym (kind.Unnamed s) kind.Union = refl
+same_kind-sym (kind.Unnamed s) kind.Unknown = refl
+same_kind-sym (kind.Named s) (kind.Unnamed t) = refl
+same_kind-sym (kind.Named s) (kind.Named t) = bytes_eq-sym s t
+same_kind-sym (kind.Named s) kind.Union = refl
+same_kind-sym (kind.Named s) kind.Unknown = refl
+same_kind-sym kind.Union (kind.Unnamed t) = refl
+same_kind-sym kind.Union (kind.Named t) = refl
+same_kind-sym kind.Union kind.Union = refl
+same_kind-sym kind.Union kind.Unknown = refl
+same_kind-sym kind.Unknown (kind.Unnamed t) = refl
+same_kind-sym kind.Unknown (kind.Named t) = refl
+same_kind-sym kind.Unknown kind.Union = refl
+same_kind-sym kind.Unknown kind.Unknown = refl
+
+both : (a b : Bool) → a && b ≡ true → (a ≡ true) × (b ≡ true)
+both true b e = (refl, e)
+both false b e = cc
+
+flip : (a : Bool) → not a ≡ true → a ≡ false
+flip true e = cc
+flip false e = refl
+
+nothing : (a b : Bool) → a ≡ false → b ≡ false → not (a || (b || false)) ≡ true
+nothing a b p q = rw (p, q)
+
+-- a kind that may stand beside those before it
+pub fits_more : (ks : List Kind) (k : Kind) → fits_union ks ≡ true → may_stand k ks ≡ true → fits_union (ks ++ k ∷ []) ≡ true
+fits_more ks k fits stands =
+    let old = both _ _ fits in
+    let new = both _ _ stands in
+    let none : not (list_any is_union (ks ++ k ∷ [])) ≡ true = ap not (list_any-append is_union ks (k ∷ [])) ∙ nothing (list_any is_union ks) (is_union k) (flip _ old.0) (flip _ new.0) in
+    let distinct : all_distinct same_kind (ks ++ k ∷ []) ≡ true = all_distinct-push same_kind same_kind-sym ks k old.1 (flip _ new.1) in
+    rw (none, distinct)
+
+or_true : (b : Bool) → b || true ≡ true
+or_true true = refl
+or_true false = refl
+
+and_false : (a : Bool) → a && false ≡ false
+and_false true = refl
+and_false false = refl
+
+by_which : (u a : Bool) (ks : List Kind) (k : Kind) (more : List Kind) → is_union k ≡ u → list_any (same_kind k) ks ≡ a → not u && not a ≡ false → fits_union (ks ++ k ∷ more) ≡ false
+by_which true a ks k more e h x = let some : list_any is_union (ks ++ k ∷ more) ≡ true = list_any-append is_union ks (k ∷ more) ∙ ap (λ b. list_any is_union ks || (b || list_any is_union more)) e ∙ or_true (list_any is_union ks) in rw some
+by_which false true ks k more e h x = rw (all_distinct-middle same_kind same_kind-sym ks k more h) (and_false _)
+by_which false false ks k more e h x = cc
+
+-- one that may not
+pub fits_not : (ks : List Kind) (k : Kind) (more : List Kind) → may_stand k ks ≡ false → fits_union (ks ++ k ∷ more) ≡ false
+fits_not ks k more stands = by_which (is_union k) (list_any (same_kind k) ks) ks k more refl refl stands
+
+pub kind_as : {E : Type 0} (r : Result Kind E) (a : Reader) (ns : List ℕ) (f g : Form) → g ≡ f → IfOk r (λ k. (ds : List Definition) → HasMet a ds → k ≡ kind_of ds ns (opened a) f) → IfOk r (λ k. (ds : List Definition) → HasMet a ds → k ≡ kind_of ds ns (opened a) g)
+kind_as r a ns f g e h = subst (λ (j : Form). IfOk r (λ k. (ds : List Definition) → HasMet a ds → k ≡ kind_of ds ns (opened a) j)) (sym e) h
+
+pub kind_named_as : {E : Type 0} (r : Result Kind E) (a : Reader) (ns : List ℕ) (h : Heading) (g : Form) → ((ds : List Definition) → kind_of ds ns (opened a) g ≡ kind_named (defined_by ns (opened a) h)) → IfOk r (λ k. (n : ℕ) → k ≡ kind_named (defined_by ns n h)) → IfOk r (λ k. (ds : List Definition) → HasMet a ds → k ≡ kind_of ds ns (opened a) g)
+kind_named_as r a ns h g e i = IfOk-weaker r (λ k. (n : ℕ) → k ≡ kind_named (defined_by ns n h)) (λ k. (ds : List Definition) → HasMet a ds → k ≡ kind_of ds ns (opened a) g) (λ k x ds met. x (opened a) ∙ sym (e ds)) i

@@ -1,0 +1,128 @@
+-- Which faults stand where a kind of type is refused.
+use Rattle.std.proofs.Common.{◌≡◌, inl, inr, ℕ, ◌+◌, ◌≤◌, List, [], ◌∷◌, ◌++◌, Bool, true, false, ◌&&◌, Option, Some, None, is_some, is_none, Contains, refl, sym, ◌∙◌, ap, subst, arith, string_bytes}
+use Rattle.std.specs.List.{cons_option, flat_map}
+use Rattle.std.proofs.lemmas.List.{append-nil}
+use Rattle.std.proofs.lemmas.List.Elements.{Contains-append_left, Contains-append_right, Contains-append_cases}
+use Rattle.serde_json.specs.Data.{Num, Data}
+use Rattle.avro_schema.specs.declared.error.SchemaError.{SchemaError}
+use Rattle.avro_schema.specs.declared.error.SchemaError.TheVariants as fault
+use Rattle.avro_schema.specs.declared.heading.TypeNames.{TypeNames}
+use Rattle.avro_schema.specs.declared.node.FullName.{FullName}
+use Rattle.avro_schema.specs.Form.{Heading, Form, Forms, Fields, by_name, record_of, enum_of, fixed_of, array_of, map_of, union_of, ill_formed, ill_fields}
+use Rattle.avro_schema.specs.Places.{count, forms_count, fields_count, type_name, places_of_fields, Definition, definitions, defined, named}
+use Rattle.avro_schema.specs.Faults.{unless, fits_fields, faults_at, is_new, heading_faults, written_faults, symbols_faults, size_faults, field_list_faults}
+use Rattle.avro_schema.specs.Schema.{IsRefusalBy}
+use Rattle.avro_schema.specs.Reader.{too_many, type_faults, branches_faults, fields_faults, has_distinct_names, HasNames}
+use Rattle.avro_schema.proofs.Later.{From, defined-later, definitions_of_fields-from}
+use Rattle.avro_schema.proofs.Reading.{weaken, left, alone, in_parts, in_own, in_count}
+use Rattle.avro_schema.proofs.Types.{definition_of, defined_by-names, is_new-names, defined_first}
+
+pub refused_open : (ds : List Definition) (ns : List ℕ) (f : Form) (n : ℕ) (e : SchemaError) → 1 ≤ count f → IsRefusalBy (too_many (n + 1)) e → IsRefusalBy (type_faults ds ns f n) e
+refused_open ds ns f n e one = weaken _ _ e (in_count (n + 1) (n + count f) _ e (omega arith))
+
+pub refused_use : (ds : List Definition) (ns s : List ℕ) (n : ℕ) → named ds n ns s ≡ None → IsRefusalBy (type_faults ds ns (by_name s) n) (fault.Unknown s)
+refused_use ds ns s n none =
+    let same : named (ds ++ []) n ns s ≡ None = ap (λ l. named l n ns s) (append-nil ds) ∙ none in
+    weaken _ _ _ (in_own (n + 0) (unless (is_some (named (ds ++ []) n ns s)) (fault.Unknown s)) [] _) (alone _ (fault.Unknown s) (ap is_some same))
+
+pub refused_ill_formed : (ds : List Definition) (ns : List ℕ) (n : ℕ) → IsRefusalBy (type_faults ds ns ill_formed n) fault.BadForm
+refused_ill_formed ds ns n = weaken (fault.BadForm ∷ []) (type_faults ds ns ill_formed n) fault.BadForm (in_own (n + 0) (fault.BadForm ∷ []) [] _) (λ _. (0, omega arith, refl))
+
+pub refused_array : (ds : List Definition) (ns : List ℕ) (f : Form) (n m : ℕ) (e : SchemaError) → m ≡ n + 1 → IsRefusalBy (type_faults ds ns f m) e → IsRefusalBy (type_faults ds ns (array_of f) n) e
+refused_array ds ns f n m e is r =
+    let s : IsRefusalBy (type_faults ds ns f (n + 1)) e = subst (λ k. IsRefusalBy (type_faults ds ns f k) e) is r in
+    weaken _ _ e (in_parts (n + 1 + count f) (n + (1 + count f)) [] _ e (omega arith)) s
+
+pub refused_map : (ds : List Definition) (ns : List ℕ) (f : Form) (n m : ℕ) (e : SchemaError) → m ≡ n + 1 → IsRefusalBy (type_faults ds ns f m) e → IsRefusalBy (type_faults ds ns (map_of f) n) e
+refused_map ds ns f n m e is r =
+    let s : IsRefusalBy (type_faults ds ns f (n + 1)) e = subst (λ k. IsRefusalBy (type_faults ds ns f k) e) is r in
+    weaken _ _ e (in_parts (n + 1 + count f) (n + (1 + count f)) [] _ e (omega arith)) s
+
+-- faults that are listed before the count of the nodes
+before_count : (m n : ℕ) (own es : List SchemaError) (e : SchemaError) → m ≤ n → Contains (own ++ (too_many m ++ es)) e → Contains (too_many n ++ (own ++ es)) e
+before_count m n own es e le c =
+    elim (Contains-append_cases own (too_many m ++ es) e c) [
+      | inl k ↦ in_own n own es e k
+      | inr k ↦ in_parts m n own es e le k
+    ]
+
+pub refused_union : (ds : List Definition) (ns : List ℕ) (fs : Forms) (n m : ℕ) (e : SchemaError) → m ≡ n + 1 → IsRefusalBy (branches_faults ds ns fs m) e → IsRefusalBy (type_faults ds ns (union_of fs) n) e
+refused_union ds ns fs n m e is r =
+    let s : IsRefusalBy (branches_faults ds ns fs (n + 1)) e = subst (λ k. IsRefusalBy (branches_faults ds ns fs k) e) is r in
+    weaken _ _ e (before_count (n + 1 + forms_count fs) (n + (1 + forms_count fs)) _ _ e (omega arith)) s
+
+-- ---- types with a name
+
+-- what a named type is refused for by itself
+in_heading : (n m : ℕ) (es : List Definition) (ns : List ℕ) (h : Heading) (more fs : List SchemaError) (e : SchemaError) → Contains (written_faults h) e → Contains (too_many n ++ ((heading_faults es ns m h ++ more) ++ fs)) e
+in_heading n m es ns h more fs e c = in_own n (heading_faults es ns m h ++ more) fs e (Contains-append_left (heading_faults es ns m h) more e (Contains-append_left (written_faults h) _ e c))
+
+pub refused_names_record : (ds : List Definition) (ns : List ℕ) (h : Heading) (fs : Fields) (n : ℕ) (e : SchemaError) → IsRefusalBy (written_faults h) e → IsRefusalBy (type_faults ds ns (record_of h fs) n) e
+refused_names_record ds ns h fs n e = weaken _ _ e (in_heading _ n _ ns h (field_list_faults fs) _ e)
+
+pub refused_names_enum : (ds : List Definition) (ns : List ℕ) (h : Heading) (ss : Option (List (List ℕ))) (d : Option Data) (n : ℕ) (e : SchemaError) → IsRefusalBy (written_faults h) e → IsRefusalBy (type_faults ds ns (enum_of h ss d) n) e
+refused_names_enum ds ns h ss d n e = weaken _ _ e (in_heading _ n _ ns h (symbols_faults ss d) _ e)
+
+pub refused_names_fixed : (ds : List Definition) (ns : List ℕ) (h : Heading) (s : Option Num) (n : ℕ) (e : SchemaError) → IsRefusalBy (written_faults h) e → IsRefusalBy (type_faults ds ns (fixed_of h s) n) e
+refused_names_fixed ds ns h s n e = weaken _ _ e (in_heading _ n _ ns h (size_faults s) _ e)
+
+pub refused_symbols : (ds : List Definition) (ns : List ℕ) (h : Heading) (ss : Option (List (List ℕ))) (d : Option Data) (n : ℕ) (e : SchemaError) → IsRefusalBy (symbols_faults ss d) e → IsRefusalBy (type_faults ds ns (enum_of h ss d) n) e
+refused_symbols ds ns h ss d n e = weaken _ _ e (λ c. in_own (n + 1) (heading_faults _ ns n h ++ symbols_faults ss d) [] e (Contains-append_right (heading_faults _ ns n h) (symbols_faults ss d) e c))
+
+pub refused_size : (ds : List Definition) (ns : List ℕ) (h : Heading) (s : Option Num) (n : ℕ) (e : SchemaError) → IsRefusalBy (size_faults s) e → IsRefusalBy (type_faults ds ns (fixed_of h s) n) e
+refused_size ds ns h s n e = weaken _ _ e (λ c. in_own (n + 1) (heading_faults _ ns n h ++ size_faults s) [] e (Contains-append_right (heading_faults _ ns n h) (size_faults s) e c))
+
+-- a name that was defined before, or one node too many
+in_opening : (ds later : List Definition) (ns : List ℕ) (h : Heading) (r : TypeNames) (n m : ℕ) (more fs : List SchemaError) (e : SchemaError) → HasNames ns h r → From n later → n + 1 ≤ m
+    → Contains (unless (is_none (defined ds n (string_bytes r.text))) fault.Redefined ++ too_many (n + 1)) e → Contains (too_many m ++ ((heading_faults (ds ++ later) ns n h ++ more) ++ fs)) e
+in_opening ds later ns h r n m more fs e has from le c =
+    let same : is_new (ds ++ later) ns n h ≡ is_none (defined ds n (string_bytes r.text)) = is_new-names (ds ++ later) ns h r n has ∙ ap is_none (defined-later ds later n (string_bytes r.text) from) in
+    elim (Contains-append_cases (unless (is_none (defined ds n (string_bytes r.text))) fault.Redefined) (too_many (n + 1)) e c) [
+      | inl k ↦ in_own m (heading_faults (ds ++ later) ns n h ++ more) fs e (Contains-append_left (heading_faults (ds ++ later) ns n h) more e
+          (Contains-append_right (written_faults h) _ e (subst (λ b. Contains (unless b fault.Redefined) e) (sym same) k)))
+      | inr k ↦ in_count (n + 1) m _ e le k
+    ]
+
+abbrev OpeningFaults : List Definition → TypeNames → ℕ → List SchemaError
+OpeningFaults ds r n = unless (is_none (defined ds n (string_bytes r.text))) fault.Redefined ++ too_many (n + 1)
+
+from_first : (ns : List ℕ) (h : Heading) (r : TypeNames) (n : ℕ) (es : List Definition) (o : Option Definition) → o ≡ Some (definition_of r n) → From n es → From n (cons_option o es)
+from_first ns h r n es o e f = subst (λ p. From n (cons_option p es)) (sym e) (omega arith, f)
+
+pub refused_opening_enum : (ds : List Definition) (ns : List ℕ) (h : Heading) (r : TypeNames) (ss : Option (List (List ℕ))) (d : Option Data) (n : ℕ) (e : SchemaError) → HasNames ns h r → IsRefusalBy (OpeningFaults ds r n) e → IsRefusalBy (type_faults ds ns (enum_of h ss d) n) e
+refused_opening_enum ds ns h r ss d n e has = weaken _ _ e (in_opening ds _ ns h r n (n + 1) (symbols_faults ss d) [] e has (from_first ns h r n [] _ (defined_by-names ns h r n has) tt) (omega arith))
+
+pub refused_opening_fixed : (ds : List Definition) (ns : List ℕ) (h : Heading) (r : TypeNames) (s : Option Num) (n : ℕ) (e : SchemaError) → HasNames ns h r → IsRefusalBy (OpeningFaults ds r n) e → IsRefusalBy (type_faults ds ns (fixed_of h s) n) e
+refused_opening_fixed ds ns h r s n e has = weaken _ _ e (in_opening ds _ ns h r n (n + 1) (size_faults s) [] e has (from_first ns h r n [] _ (defined_by-names ns h r n has) tt) (omega arith))
+
+pub refused_opening_record : (ds : List Definition) (ns : List ℕ) (h : Heading) (r : TypeNames) (fs : Fields) (n : ℕ) (e : SchemaError) → HasNames ns h r → IsRefusalBy (OpeningFaults ds r n) e → IsRefusalBy (type_faults ds ns (record_of h fs) n) e
+refused_opening_record ds ns h r fs n e has =
+    weaken _ _ e (in_opening ds _ ns h r n (n + (1 + fields_count fs)) (field_list_faults fs) _ e has (from_first ns h r n _ _ (defined_by-names ns h r n has) (definitions_of_fields-from (type_name ns h).namespace (n + 1) n fs (omega arith))) (omega arith))
+
+-- the list of a record's fields
+pub refused_list : (ds : List Definition) (ns : List ℕ) (h : Heading) (fs : Fields) (n : ℕ) (e : SchemaError) → IsRefusalBy (field_list_faults fs) e → IsRefusalBy (type_faults ds ns (record_of h fs) n) e
+refused_list ds ns h fs n e = weaken _ _ e (λ c. in_own (n + (1 + fields_count fs)) (heading_faults _ ns n h ++ field_list_faults fs) _ e (Contains-append_right (heading_faults _ ns n h) (field_list_faults fs) e c))
+
+pub refused_no_fields : IsRefusalBy (field_list_faults ill_fields) fault.BadForm
+refused_no_fields = λ _. (0, omega arith, refl)
+
+and_false : (a b : Bool) → b ≡ false → a && b ≡ false
+and_false true b e = e
+and_false false b e = refl
+
+pub refused_same_names : (fs : Fields) → has_distinct_names fs ≡ false → IsRefusalBy (field_list_faults fs) fault.BadForm
+refused_same_names fs e = left _ _ fault.BadForm (alone (fits_fields fs) fault.BadForm (and_false _ _ e))
+
+pub refused_fields : (ds : List Definition) (ns : List ℕ) (h : Heading) (r : TypeNames) (fs : Fields) (n m : ℕ) (e : SchemaError) → HasNames ns h r → m ≡ n + 1 → IsRefusalBy (fields_faults (ds ++ definition_of r n ∷ []) r.name.namespace fs m) e → IsRefusalBy (type_faults ds ns (record_of h fs) n) e
+refused_fields ds ns h r fs n m e has is refused =
+    let d = definition_of r n in
+    let s : IsRefusalBy (fields_faults (ds ++ d ∷ []) r.name.namespace fs (n + 1)) e = subst (λ k. IsRefusalBy (fields_faults (ds ++ d ∷ []) r.name.namespace fs k) e) is refused in
+    let t : IsRefusalBy (fields_faults (ds ++ d ∷ []) (type_name ns h).namespace fs (n + 1)) e = subst (λ (k : FullName). IsRefusalBy (fields_faults (ds ++ d ∷ []) k.namespace fs (n + 1)) e) has.name s in
+    let ps = places_of_fields (type_name ns h).namespace (n + 1) fs in
+    let all : List Definition → List SchemaError = λ es. too_many (n + (1 + fields_count fs)) ++ ((heading_faults es ns n h ++ field_list_faults fs) ++ flat_map (faults_at es) ps) in
+    let lifted : Contains (fields_faults (ds ++ d ∷ []) (type_name ns h).namespace fs (n + 1)) e → Contains (all ((ds ++ d ∷ []) ++ definitions ps)) e = λ c.
+    elim (Contains-append_cases (field_list_faults fs) _ e c) [
+      | inl k ↦ in_own _ (heading_faults _ ns n h ++ field_list_faults fs) _ e (Contains-append_right (heading_faults _ ns n h) (field_list_faults fs) e k)
+      | inr k ↦ in_parts (n + 1 + fields_count fs) _ (heading_faults _ ns n h ++ field_list_faults fs) _ e (omega arith) k
+    ] in
+    weaken _ _ e (λ c. subst (λ es. Contains (all es) e) (defined_first ds d (definitions ps) _ (defined_by-names ns h r n has)) (lifted c)) t

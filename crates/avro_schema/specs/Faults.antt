@@ -1,0 +1,137 @@
+-- What is wrong with a schema. Each rule is stated with the fault that stands where it is broken.
+use Rattle.std.specs.Prelude.{ℕ, ◌+◌, List, [], ◌∷◌, ◌++◌, map, Bool, true, false, ◌&&◌, not, nat_le, Option, is_some, is_none, unwrap_or, flat_map, codes, bytes_eq}
+use Rattle.std.specs.List.{list_any, list_all}
+use Rattle.std.specs.Option.{option_map_or}
+use Rattle.serde_json.specs.Data.{Num, Data}
+use Rattle.serde_json.specs.Find.{as_str, as_u64}
+use Rattle.avro_schema.specs.declared.error.SchemaError.{SchemaError}
+use Rattle.avro_schema.specs.declared.error.SchemaError.TheVariants as fault
+use Rattle.avro_schema.specs.declared.kinds.Kind.{Kind}
+use Rattle.avro_schema.specs.declared.kinds.Kind.TheVariants.{Unnamed, Named, Union, Unknown}
+use Rattle.avro_schema.specs.Names.{primitive_text, is_name, is_full_name, is_type_name, full_text, all_distinct, has_text}
+use Rattle.avro_schema.specs.Form.{Heading, FieldHeading, Form, plain, by_name, record_of, enum_of, array_of, map_of, union_of, fixed_of, ill_formed, Forms, no_forms, and_form, Fields, no_fields, ill_fields, and_field}
+use Rattle.avro_schema.specs.Places.{count, own_namespace, Place, places, Definition, definitions, defined, defined_by, named}
+
+abbrev pub unless : Bool → SchemaError → List SchemaError
+unless true e = []
+unless false e = e ∷ []
+
+-- a test of what is written, passed where it is missing
+abbrev pub if_written : {A : Type 0} → (A → Bool) → Option A → Bool
+if_written test o = option_map_or test o true
+
+-- ---- unions (Avro 1.11, "Unions")
+
+abbrev pub same_kind : Kind → Kind → Bool
+same_kind (Unnamed a) (Unnamed b) = bytes_eq a b
+same_kind (Named a) (Named b) = bytes_eq a b
+same_kind _ _ = false
+
+abbrev pub is_union : Kind → Bool
+is_union Union = true
+is_union _ = false
+
+-- no member is itself a union, and no two are of one kind
+abbrev pub fits_union : List Kind → Bool
+fits_union ks = not (list_any is_union ks) && all_distinct same_kind ks
+
+abbrev pub kind_named : Option Definition → Kind
+kind_named o = option_map_or (λ d. Named d.name) o Unknown
+
+-- ---- enums and fixed (Avro 1.11, "Enums", "Fixed")
+
+-- the symbols are distinct names
+abbrev pub fits_symbols : List (List ℕ) → Bool
+fits_symbols ss = list_all is_name ss && all_distinct bytes_eq ss
+
+-- a default is one of the symbols
+abbrev pub is_symbol : List (List ℕ) → Data → Bool
+is_symbol ss d = option_map_or (has_text ss) (as_str d) false
+
+abbrev pub fits_enum : Option Data → List (List ℕ) → Bool
+fits_enum d ss = fits_symbols ss && if_written (is_symbol ss) d
+
+-- a whole number of 31 bits
+abbrev pub fits_size : Num → Bool
+fits_size n = option_map_or (λ k. nat_le k 2147483647) (as_u64 n) false
+
+abbrev pub symbols_faults : Option (List (List ℕ)) → Option Data → List SchemaError
+symbols_faults ss d = unless (is_some ss) fault.BadForm ++ unless (if_written (fits_enum d) ss) fault.BadEnum
+
+abbrev pub size_faults : Option Num → List SchemaError
+size_faults n = unless (is_some n) fault.BadForm ++ unless (if_written fits_size n) fault.BadFixed
+
+-- ---- records (Avro 1.11, "Records")
+
+abbrev pub field_headings : Fields → List FieldHeading
+field_headings (and_field h f fs) = h ∷ field_headings fs
+field_headings _ = []
+
+abbrev pub are_written : Fields → Bool
+are_written no_fields = true
+are_written ill_fields = false
+are_written (and_field h f fs) = are_written fs
+
+abbrev pub field_name : FieldHeading → List ℕ
+field_name h = unwrap_or h.name []
+
+-- each field has a name and, where it writes aliases, an array of strings
+abbrev pub is_formed : FieldHeading → Bool
+is_formed h = is_name (field_name h) && is_some h.aliases
+
+abbrev pub fits_fields : Fields → Bool
+fits_fields fs = are_written fs && list_all is_formed (field_headings fs) && all_distinct bytes_eq (map field_name (field_headings fs))
+
+abbrev pub has_good_aliases : FieldHeading → Bool
+has_good_aliases h = if_written (list_all is_name) h.aliases
+
+abbrev pub field_list_faults : Fields → List SchemaError
+field_list_faults fs = unless (fits_fields fs) fault.BadForm ++ unless (list_all has_good_aliases (field_headings fs)) fault.BadName
+
+-- ---- types
+
+-- a named type has a name, and its names are names
+abbrev pub written_faults : Heading → List SchemaError
+written_faults h = unless (is_some h.name && is_some h.aliases) fault.BadForm ++ unless (if_written is_type_name h.name && if_written (list_all is_full_name) h.aliases) fault.BadName
+
+module _ (ds : List Definition) where
+  abbrev pub kind_of : List ℕ → ℕ → Form → Kind
+  kind_of ns n (plain p) = Unnamed (primitive_text p)
+  kind_of ns n (by_name s) = kind_named (named ds n ns s)
+  kind_of ns n (record_of h fs) = kind_named (defined_by ns n h)
+  kind_of ns n (enum_of h ss d) = kind_named (defined_by ns n h)
+  kind_of ns n (fixed_of h s) = kind_named (defined_by ns n h)
+  kind_of ns n (array_of f) = Unnamed (codes "array")
+  kind_of ns n (map_of f) = Unnamed (codes "map")
+  kind_of ns n (union_of fs) = Union
+  kind_of ns n ill_formed = Unknown
+
+  abbrev pub kinds : List ℕ → ℕ → Forms → List Kind
+  kinds ns n no_forms = []
+  kinds ns n (and_form f fs) = kind_of ns n f ∷ kinds ns (n + count f) fs
+
+  -- no definition of that name opens before node n
+  abbrev pub is_new : List ℕ → ℕ → Heading → Bool
+  is_new ns n h = if_written (λ s. is_none (defined ds n (full_text (own_namespace ns h) s))) h.name
+
+  abbrev pub heading_faults : List ℕ → ℕ → Heading → List SchemaError
+  heading_faults ns n h = written_faults h ++ unless (is_new ns n h) fault.Redefined
+
+  -- what is wrong with a type, those inside it apart
+  abbrev pub faults_of : List ℕ → ℕ → Form → List SchemaError
+  faults_of ns n (plain p) = []
+  faults_of ns n (by_name s) = unless (is_some (named ds n ns s)) (fault.Unknown s)
+  faults_of ns n (record_of h fs) = heading_faults ns n h ++ field_list_faults fs
+  faults_of ns n (enum_of h ss d) = heading_faults ns n h ++ symbols_faults ss d
+  faults_of ns n (fixed_of h s) = heading_faults ns n h ++ size_faults s
+  faults_of ns n (array_of f) = []
+  faults_of ns n (map_of f) = []
+  faults_of ns n (union_of fs) = unless (fits_union (kinds ns (n + 1) fs)) fault.BadUnion
+  faults_of ns n ill_formed = fault.BadForm ∷ []
+
+  abbrev pub faults_at : Place → List SchemaError
+  faults_at p = faults_of p.namespace p.before p.type
+
+-- the faults of a type that is a whole schema
+abbrev pub form_faults : Form → List SchemaError
+form_faults f = let ps = places [] 0 f in flat_map (faults_at (definitions ps)) ps

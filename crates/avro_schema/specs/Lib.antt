@@ -1,0 +1,9 @@
+pub mod Names
+pub mod Form
+pub mod Places
+pub mod Nodes
+pub mod Faults
+pub mod Schema
+pub mod Defaults
+pub mod Order
+pub mod Reader

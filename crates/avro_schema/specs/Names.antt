@@ -1,0 +1,91 @@
+-- Names, namespaces and full names (Avro 1.11, "Names").
+use Rattle.std.specs.Prelude.{ℕ, List, [], ◌∷◌, ◌++◌, Bool, true, false, ◌&&◌, ◌||◌, not, ◌==◌, nat_le, if◌then◌else◌, Option, find, is_none, codes, bytes_eq}
+use Rattle.std.specs.List.{list_any, list_all, before_last, after_last}
+use Rattle.avro_schema.specs.declared.node.FullName.{FullName}
+use Rattle.avro_schema.specs.declared.node.Primitive.{Primitive}
+use Rattle.avro_schema.specs.declared.node.Primitive.TheVariants.{Null, Boolean, Int, Long, Float, Double, Bytes, String}
+
+-- ---- primitive names (Avro 1.11, "Primitive Types")
+
+abbrev pub primitives : List Primitive
+primitives = Null ∷ Boolean ∷ Int ∷ Long ∷ Float ∷ Double ∷ Bytes ∷ String ∷ []
+
+abbrev pub primitive_text : Primitive → List ℕ
+primitive_text Null = codes "null"
+primitive_text Boolean = codes "boolean"
+primitive_text Int = codes "int"
+primitive_text Long = codes "long"
+primitive_text Float = codes "float"
+primitive_text Double = codes "double"
+primitive_text Bytes = codes "bytes"
+primitive_text String = codes "string"
+
+abbrev pub primitive_named : List ℕ → Option Primitive
+primitive_named s = find (λ p. bytes_eq (primitive_text p) s) primitives
+
+-- ---- names
+
+abbrev pub is_between : ℕ → ℕ → ℕ → Bool
+is_between low high x = nat_le low x && nat_le x high
+
+-- A letter or `_`, and after the first also a digit.
+abbrev pub begins_name : ℕ → Bool
+begins_name x = is_between 65 90 x || is_between 97 122 x || (x == 95)
+
+abbrev pub goes_on_name : ℕ → Bool
+goes_on_name x = begins_name x || is_between 48 57 x
+
+abbrev pub is_name : List ℕ → Bool
+is_name [] = false
+is_name (x ∷ xs) = begins_name x && list_all goes_on_name xs
+
+abbrev pub is_dot : ℕ → Bool
+is_dot x = x == 46
+
+abbrev pub has_dot : List ℕ → Bool
+has_dot s = list_any is_dot s
+
+-- each part between dots is a name
+abbrev mutual
+  pub is_full_name : List ℕ → Bool
+  is_full_name [] = false
+  is_full_name (x ∷ xs) = begins_name x && goes_on_full_name xs
+
+  pub goes_on_full_name : List ℕ → Bool
+  goes_on_full_name [] = true
+  goes_on_full_name (x ∷ xs) = elim (is_dot x) [ true ↦ is_full_name xs | false ↦ goes_on_name x && goes_on_full_name xs ]
+
+-- the name of a type: each part is a name, and the last one no primitive's
+abbrev pub is_type_name : List ℕ → Bool
+is_type_name s = is_full_name s && is_none (primitive_named (after_last is_dot s))
+
+-- ---- full names
+
+-- what a text names where a namespace applies: a text with a dot is a full name already
+abbrev pub full_name : List ℕ → List ℕ → FullName
+full_name namespace s = record { namespace = (if has_dot s then before_last is_dot s else namespace); name = after_last is_dot s }
+
+-- a name behind a namespace, with a dot between them unless it is the null namespace
+abbrev pub joined : List ℕ → List ℕ → List ℕ
+joined [] s = s
+joined (x ∷ xs) s = (x ∷ xs) ++ 46 ∷ s
+
+-- the full name as a text: one with a dot stays as it is written
+abbrev pub full_text : List ℕ → List ℕ → List ℕ
+full_text namespace s = if has_dot s then s else joined namespace s
+
+abbrev pub dotted : FullName → List ℕ
+dotted n = joined n.namespace n.name
+
+abbrev pub same_name : FullName → FullName → Bool
+same_name m n = bytes_eq m.namespace n.namespace && bytes_eq m.name n.name
+
+-- ---- lists
+
+-- no element is the same as one after it
+abbrev pub all_distinct : {X : Type 0} → (X → X → Bool) → List X → Bool
+all_distinct same [] = true
+all_distinct same (x ∷ xs) = not (list_any (same x) xs) && all_distinct same xs
+
+abbrev pub has_text : List (List ℕ) → List ℕ → Bool
+has_text texts s = list_any (bytes_eq s) texts

@@ -1,0 +1,82 @@
+// Fields of records, their types apart.
+ghost use Rattle.std.specs.Prelude.{◌≡◌, IfOk, IfErr, false, map, option_map, codes, bytes_eq};
+ghost use Rattle.std.specs.List.{list_all};
+ghost use Rattle.serde_json.specs.View.{view};
+ghost use Rattle.serde_json.specs.Find.{get};
+ghost use Rattle.serde_json.specs.Written.{has_float, compact_text};
+ghost use Rattle.avro_schema.specs.Names as spec;
+ghost use Rattle.avro_schema.specs.Form.{field_heading_of};
+ghost use Rattle.avro_schema.specs.Schema.{IsRefusalBy};
+ghost use Rattle.avro_schema.specs.Reader.{HasFieldNames, field_faults};
+
+use crate::kinds::are_distinct;
+use crate::members::{aliases_of, string_at};
+use crate::names::is_name;
+use crate::{Field, SchemaError};
+use base_text::Text;
+use serde_json::Value;
+use std::alloc::{AllocError, Global};
+
+/// What a field is written with, its type apart.
+#[derive(Drop)]
+pub(crate) struct FieldNames {
+    pub(crate) name: Text,
+    pub(crate) aliases: Vec<Text>,
+    pub(crate) default: Option<Text>,
+}
+
+/// Reads what a field is written with, its type apart.
+pub(crate) fn read_field_names(alloc: Global, value: &Value) -> Result<FieldNames, SchemaError>
+    requires { has_float (view value.now) ≡ false }
+    ensures ok { IfOk result (HasFieldNames (field_heading_of (view value.now))) }
+    ensures err { IfErr result (IsRefusalBy (field_faults (field_heading_of (view value.now)))) }
+{
+    let Some(name) = string_at(value, "name") else {
+        return Err(SchemaError::BadForm);
+    };
+    if !is_name(name) {
+        return Err(SchemaError::BadForm);
+    }
+    let Some(aliases) = aliases_of(alloc, value)? else {
+        return Err(SchemaError::BadForm);
+    };
+    if !are_names(aliases.as_slice()) {
+        return Err(SchemaError::BadName);
+    }
+    let name = Text::copy_of(alloc, name)?;
+    let default = default_of(alloc, value)?;
+    Ok(FieldNames {
+        name,
+        aliases,
+        default,
+    })
+}
+
+/// The text of a field's default, where it has one.
+fn default_of(alloc: Global, value: &Value) -> Result<Option<Text>, AllocError>
+    requires { has_float (view value.now) ≡ false }
+    ensures { IfOk result (λ o. o ≡ option_map compact_text (get (codes "default") (view value.now))) }
+{
+    match value.get("default") {
+        Some(member) => Ok(Some(Text::from(member.to_string(alloc)?))),
+        None => Ok(None),
+    }
+}
+
+/// Whether each of the texts is a name.
+pub(crate) fn are_names(texts: &[Text]) -> bool
+    ensures { result ≡ list_all spec.is_name texts.now }
+{
+    texts.iter().all(|text| is_name(text.as_str()))
+}
+
+/// Whether no two of the fields have one name.
+pub(crate) fn have_distinct_names(alloc: Global, fields: &[Field]) -> Result<bool, AllocError>
+    ensures { IfOk result (λ b. b ≡ spec.all_distinct bytes_eq (map (λ f. f.name) fields.now)) }
+{
+    let mut names = Vec::new(alloc);
+    for field in fields {
+        names.push(field.name.clone()?)?;
+    }
+    are_distinct(alloc, names.as_slice())
+}

@@ -1,0 +1,66 @@
+// What a union may have once, and which texts are distinct.
+ghost use Rattle.std.specs.Prelude.{◌≡◌, List, [], ◌∷◌, ◌++◌, IfOk, bytes_eq};
+ghost use Rattle.avro_schema.specs.Names.{all_distinct};
+
+use base_text::Text;
+use std::alloc::{AllocError, Global};
+use std::collections::BTreeSet;
+
+/// What a union may have once (Avro 1.11, "Unions"). A name stands for the type that it names.
+#[derive(Debug, Drop)]
+pub(crate) enum Kind {
+    /// A primitive, an array or a map.
+    Unnamed(Text),
+    /// The full name of a record, an enum or a fixed type.
+    Named(Text),
+    Union,
+    /// A name that names nothing, or no type at all.
+    Unknown,
+}
+
+/// Whether no two of the texts are the same.
+pub(crate) fn are_distinct(alloc: Global, texts: &[Text]) -> Result<bool, AllocError>
+    ensures { IfOk result (λ b. b ≡ all_distinct bytes_eq texts.now) }
+{
+    let mut seen = BTreeSet::new(alloc);
+    for text in texts {
+        if !seen.insert(text.clone()?)? {
+            return Ok(false);
+        }
+    }
+    Ok(true)
+}
+
+/// The kinds of the branches that were read so far.
+#[derive(Drop)]
+pub(crate) struct Kinds {
+    unnamed: BTreeSet<Text>,
+    named: BTreeSet<Text>,
+}
+
+impl Kinds {
+    ghost use Rattle.avro_schema.specs.declared.kinds.Kind.{Kind};
+    ghost use Rattle.avro_schema.specs.Reader.{HoldsKinds, may_stand};
+
+    pub(crate) fn new(alloc: Global) -> Kinds
+        ensures { HoldsKinds result [] }
+    {
+        Kinds {
+            unnamed: BTreeSet::new(alloc),
+            named: BTreeSet::new(alloc),
+        }
+    }
+
+    /// Adds a branch's kind, and says whether it may stand beside those before it.
+    pub(crate) fn add(&mut self, kind: Kind) -> Result<bool, AllocError>
+        ensures { IfOk result (λ fits. (ks : List Kind) → HoldsKinds self.old ks
+            → HoldsKinds self.new (ks ++ kind ∷ []) × (fits ≡ may_stand kind ks)) }
+    {
+        match kind {
+            Kind::Unnamed(text) => Ok(self.unnamed.insert(text)?),
+            Kind::Named(text) => Ok(self.named.insert(text)?),
+            Kind::Union => Ok(false),
+            Kind::Unknown => Ok(true),
+        }
+    }
+}

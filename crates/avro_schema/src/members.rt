@@ -1,0 +1,127 @@
+// Members of an object that are texts.
+ghost use Rattle.std.specs.Prelude.{◌≡◌, IfOk, option_map};
+ghost use Rattle.serde_json.specs.View.{view, number_view, items_view, members_view};
+ghost use Rattle.serde_json.specs.Written as written;
+ghost use Rattle.avro_schema.specs.Form as spec;
+ghost use Rattle.avro_schema.specs.Reader.{items_at, number_at as spec_number_at};
+
+use crate::SchemaError;
+use base_text::Text;
+use serde_json::{Map, Number, Value};
+use std::alloc::{AllocError, AllocFailed, Global};
+
+impl From<AllocError> for SchemaError {
+    ghost use Rattle.std.specs.Prelude.{◌≡◌};
+    ghost use Rattle.avro_schema.specs.declared.error.SchemaError.TheVariants.{OutOfMemory};
+
+    ghost from_gives = { λ _ e. e ≡ OutOfMemory };
+
+    fn from(_refused: AllocError) -> SchemaError {
+        SchemaError::OutOfMemory
+    }
+}
+
+impl<T: Drop> From<AllocFailed<T>> for SchemaError {
+    ghost use Rattle.std.specs.Prelude.{◌≡◌};
+    ghost use Rattle.avro_schema.specs.declared.error.SchemaError.TheVariants.{OutOfMemory};
+
+    ghost from_gives = { λ _ e. e ≡ OutOfMemory };
+
+    fn from(_refused: AllocFailed<T>) -> SchemaError {
+        SchemaError::OutOfMemory
+    }
+}
+
+/// The text that a member is.
+pub(crate) fn string_at<'v>(value: &'v Value, name: &str) -> Option<&'v str>
+    ensures { option_map (λ s. s.now) result ≡ spec.string_at name.now (view value.now) }
+{
+    match value.get(name) {
+        Some(member) => member.as_str(),
+        None => None,
+    }
+}
+
+/// The array that a member is.
+pub(crate) fn array_at<'v>(value: &'v Value, name: &str) -> Option<&'v Vec<Value>>
+    ensures { option_map (λ v. items_view v.now.items) result ≡ items_at name.now (view value.now) }
+{
+    match value.get(name) {
+        Some(member) => member.as_array(),
+        None => None,
+    }
+}
+
+/// The number that a member is.
+pub(crate) fn number_at<'v>(value: &'v Value, name: &str) -> Option<&'v Number>
+    ensures { option_map (λ n. number_view n.now) result ≡ spec_number_at name.now (view value.now) }
+{
+    match value.get(name) {
+        Some(member) => member.as_number(),
+        None => None,
+    }
+}
+
+/// The texts of an array of strings, or None where the value is none.
+pub(crate) fn strings_in(alloc: Global, value: &Value) -> Result<Option<Vec<Text>>, AllocError>
+    ensures { IfOk result (λ o. option_map (λ v. v.items) o ≡ spec.strings_in (view value.now)) }
+{
+    let Some(items) = value.as_array() else {
+        return Ok(None);
+    };
+    let mut texts = Vec::new(alloc);
+    for item in items {
+        let Some(text) = item.as_str() else {
+            return Ok(None);
+        };
+        texts.push(Text::copy_of(alloc, text)?)?;
+    }
+    Ok(Some(texts))
+}
+
+/// The aliases that an object writes, none where the member is absent.
+pub(crate) fn aliases_of(alloc: Global, value: &Value) -> Result<Option<Vec<Text>>, AllocError>
+    ensures { IfOk result (λ o. option_map (λ v. v.items) o ≡ spec.aliases_of (view value.now)) }
+{
+    match value.get("aliases") {
+        Some(member) => strings_in(alloc, member),
+        None => Ok(Some(Vec::new(alloc))),
+    }
+}
+
+/// Whether a number somewhere in a value is no whole number of 64 bits.
+#[cycle(has_float)]
+pub(crate) fn has_float(value: &Value) -> bool
+    ensures { result ≡ written.has_float (view value.now) }
+{
+    match value {
+        Value::Number(number) => number.is_f64(),
+        Value::Array(items) => items_have_float(items),
+        Value::Object(members) => members_have_float(members),
+        _ => false,
+    }
+}
+
+#[cycle(has_float)]
+fn items_have_float(items: &Vec<Value>) -> bool
+    ensures { result ≡ written.items_have_float (items_view items.now.items) }
+{
+    for item in items {
+        if has_float(item) {
+            return true;
+        }
+    }
+    false
+}
+
+#[cycle(has_float)]
+fn members_have_float(members: &Map<String, Value>) -> bool
+    ensures { result ≡ written.members_have_float (members_view members.now.entries) }
+{
+    for (_, member) in members.iter() {
+        if has_float(member) {
+            return true;
+        }
+    }
+    false
+}

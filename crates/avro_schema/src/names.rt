@@ -1,0 +1,138 @@
+// Names and full names (Avro 1.11, "Names").
+ghost use Rattle.std.specs.Prelude.{◌≡◌, IfOk, string_bytes};
+ghost use Rattle.std.specs.List.{after_last, list_all};
+ghost use Rattle.avro_schema.specs.Names as spec;
+
+use crate::{FullName, Primitive};
+use base_text::Text;
+use std::alloc::{AllocError, Global};
+
+/// The primitive type of that name.
+pub(crate) fn primitive_named(text: &str) -> Option<Primitive>
+    ensures { result ≡ spec.primitive_named text.now }
+{
+    match text {
+        "null" => Some(Primitive::Null),
+        "boolean" => Some(Primitive::Boolean),
+        "int" => Some(Primitive::Int),
+        "long" => Some(Primitive::Long),
+        "float" => Some(Primitive::Float),
+        "double" => Some(Primitive::Double),
+        "bytes" => Some(Primitive::Bytes),
+        "string" => Some(Primitive::String),
+        _ => None,
+    }
+}
+
+fn begins_name(byte: u8) -> bool
+    ensures { result ≡ spec.begins_name byte }
+{
+    matches!(byte, b'A'..=b'Z' | b'a'..=b'z' | b'_')
+}
+
+fn goes_on_name(byte: u8) -> bool
+    ensures { result ≡ spec.goes_on_name byte }
+{
+    begins_name(byte) || matches!(byte, b'0'..=b'9')
+}
+
+/// Whether a text is a name.
+pub(crate) fn is_name(text: &str) -> bool
+    ensures { result ≡ spec.is_name text.now }
+{
+    match text.as_bytes().split_first() {
+        Some((first, rest)) => begins_name(*first) && all_go_on(rest),
+        None => false,
+    }
+}
+
+fn all_go_on(bytes: &[u8]) -> bool
+    ensures { result ≡ list_all spec.goes_on_name bytes.now }
+{
+    bytes.iter().all(|byte| goes_on_name(*byte))
+}
+
+/// Whether each part of a text between dots is a name.
+pub(crate) fn is_full_name(text: &str) -> bool
+    ensures { result ≡ spec.is_full_name text.now }
+{
+    let mut begins = true;
+    for byte in text.as_bytes() {
+        if begins {
+            if !begins_name(*byte) {
+                return false;
+            }
+            begins = false;
+        } else if *byte == b'.' {
+            begins = true;
+        } else if !goes_on_name(*byte) {
+            return false;
+        }
+    }
+    !begins
+}
+
+/// Whether a text may name a type.
+pub(crate) fn is_type_name(text: &str) -> bool
+    ensures { result ≡ spec.is_type_name text.now }
+{
+    is_full_name(text) && primitive_named(last_part(text)).is_none()
+}
+
+pub(crate) fn has_dot(text: &str) -> bool
+    ensures { result ≡ spec.has_dot text.now }
+{
+    text.as_bytes().contains(&b'.')
+}
+
+/// What stands after the last dot.
+fn last_part(text: &str) -> &str
+    ensures { result.now ≡ after_last spec.is_dot text.now }
+{
+    match text.rsplit_once('.') {
+        Some((_, last)) => last,
+        None => text,
+    }
+}
+
+/// What a text names where a namespace applies.
+pub(crate) fn full_name(alloc: Global, namespace: &str, text: &str) -> Result<FullName, AllocError>
+    ensures { IfOk result (λ n. n ≡ spec.full_name namespace.now text.now) }
+{
+    match text.rsplit_once('.') {
+        Some((before, last)) => of_parts(alloc, before, last),
+        None => of_parts(alloc, namespace, text),
+    }
+}
+
+fn of_parts(alloc: Global, namespace: &str, name: &str) -> Result<FullName, AllocError>
+    ensures { IfOk result (λ n. n ≡ record { namespace = namespace.now; name = name.now }) }
+{
+    Ok(FullName {
+        namespace: Text::copy_of(alloc, namespace)?,
+        name: Text::copy_of(alloc, name)?,
+    })
+}
+
+/// A name behind a namespace.
+pub(crate) fn joined(alloc: Global, namespace: &str, name: &str) -> Result<String, AllocError>
+    ensures { IfOk result (λ t. string_bytes t ≡ spec.joined namespace.now name.now) }
+{
+    let mut full = String::from_str(alloc, namespace)?;
+    if !namespace.is_empty() {
+        full.push_str(".")?;
+    }
+    full.push_str(name)?;
+    Ok(full)
+}
+
+/// The full name that a text gives where a namespace applies, as a text.
+pub(crate) fn full_text(alloc: Global, namespace: &str, text: &str) -> Result<String, AllocError>
+    ensures { IfOk result (λ t. string_bytes t ≡ spec.full_text namespace.now text.now) }
+{
+    if has_dot(text) {
+        String::from_str(alloc, text)
+    } else {
+        joined(alloc, namespace, text)
+    }
+}

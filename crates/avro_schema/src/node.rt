@@ -1,0 +1,71 @@
+// The nodes of a schema: one for each type that is written out.
+use base_text::{Listed, Text};
+
+/// A primitive type (Avro 1.11, "Primitive Types").
+#[derive(Clone, Copy, Debug, PartialEq, Eq)]
+pub enum Primitive {
+    Null,
+    Boolean,
+    Int,
+    Long,
+    Float,
+    Double,
+    Bytes,
+    String,
+}
+
+/// The name of a record, an enum or a fixed type, or an alias of it (Avro 1.11, "Names").
+#[derive(Debug, Drop)]
+pub struct FullName {
+    /// What stands before the last dot; the null namespace is the empty text.
+    pub namespace: Text,
+    /// The last part.
+    pub name: Text,
+}
+
+/// Which node of its schema, counted from 0 in the order in which the types open in the text.
+#[derive(Clone, Copy, Debug, PartialEq, Eq)]
+pub struct NodeId {
+    pub index: usize,
+}
+
+/// A field of a record (Avro 1.11, "Records").
+#[derive(Debug, Drop)]
+pub struct Field {
+    pub name: Text,
+    pub aliases: Listed<Text>,
+    /// Its default as JSON with no spaces, where it has one.
+    pub default: Option<Text>,
+    /// Its type.
+    pub node: NodeId,
+}
+
+/// A type that is written out (Avro 1.11, "Complex Types"). A use of a defined name is no node of
+/// its own, but the id of the definition's.
+#[derive(Debug, Drop)]
+pub enum Node {
+    Primitive(Primitive),
+    Record {
+        name: FullName,
+        aliases: Listed<FullName>,
+        fields: Listed<Field>,
+    },
+    Enum {
+        name: FullName,
+        aliases: Listed<FullName>,
+        symbols: Listed<Text>,
+        default: Option<Text>,
+    },
+    /// An array of items of this type.
+    Array(NodeId),
+    /// A map to values of this type.
+    Map(NodeId),
+    /// A union of these branches.
+    Union(Listed<NodeId>),
+    Fixed {
+        name: FullName,
+        aliases: Listed<FullName>,
+        /// In bytes.
+        size: u32,
+    },
+}

@@ -1,0 +1,80 @@
+// Symbols of enums, and sizes of fixed types.
+ghost use Rattle.std.specs.Prelude.{◌≡◌, IfOk, IfErr, true, codes};
+ghost use Rattle.serde_json.specs.View.{view};
+ghost use Rattle.serde_json.specs.Find.{get, as_str};
+ghost use Rattle.avro_schema.specs.Names.{has_text};
+ghost use Rattle.avro_schema.specs.Form.{strings_at};
+ghost use Rattle.avro_schema.specs.Faults.{symbols_faults, size_faults, is_symbol, unless};
+ghost use Rattle.avro_schema.specs.Schema.{IsRefusalBy};
+ghost use Rattle.avro_schema.specs.Reader.{HasSymbols, HasSize, number_at};
+
+use crate::SchemaError;
+use crate::fields::are_names;
+use crate::kinds::are_distinct;
+use crate::members::{number_at as member_number, strings_in};
+use base_text::Text;
+use serde_json::Value;
+use std::alloc::Global;
+
+/// The symbols of an enum, and its default.
+#[derive(Drop)]
+pub(crate) struct Symbols {
+    pub(crate) symbols: Vec<Text>,
+    pub(crate) default: Option<Text>,
+}
+
+/// Reads an enum's symbols and its default.
+pub(crate) fn read_symbols(alloc: Global, value: &Value) -> Result<Symbols, SchemaError>
+    ensures ok { IfOk result (HasSymbols (strings_at (codes "symbols") (view value.now)) (get (codes "default") (view value.now))) }
+    ensures err { IfErr result (IsRefusalBy (symbols_faults (strings_at (codes "symbols") (view value.now)) (get (codes "default") (view value.now)))) }
+{
+    let Some(member) = value.get("symbols") else {
+        return Err(SchemaError::BadForm);
+    };
+    let Some(symbols) = strings_in(alloc, member)? else {
+        return Err(SchemaError::BadForm);
+    };
+    if !are_names(symbols.as_slice()) || !are_distinct(alloc, symbols.as_slice())? {
+        return Err(SchemaError::BadEnum);
+    }
+    let default = match value.get("default") {
+        Some(member) => Some(read_symbol(alloc, member, symbols.as_slice())?),
+        None => None,
+    };
+    Ok(Symbols { symbols, default })
+}
+
+/// Reads an enum's default, which is one of its symbols.
+fn read_symbol(alloc: Global, value: &Value, symbols: &[Text]) -> Result<Text, SchemaError>
+    ensures ok { IfOk result (λ t. (as_str (view value.now) ≡ Some t) × (is_symbol symbols.now (view value.now) ≡ true)) }
+    ensures err { IfErr result (IsRefusalBy (unless (is_symbol symbols.now (view value.now)) SchemaError.BadEnum)) }
+{
+    let Some(text) = value.as_str() else {
+        return Err(SchemaError::BadEnum);
+    };
+    let symbol = Text::copy_of(alloc, text)?;
+    if !has_symbol(symbols, &symbol) {
+        return Err(SchemaError::BadEnum);
+    }
+    Ok(symbol)
+}
+
+fn has_symbol(symbols: &[Text], symbol: &Text) -> bool
+    ensures { result ≡ has_text symbols.now symbol.now }
+{
+    symbols.iter().any(|other| symbol == other)
+}
+
+/// Reads the size of a fixed type.
+pub(crate) fn read_size(value: &Value) -> Result<u32, SchemaError>
+    ensures ok { IfOk result (HasSize (number_at (codes "size") (view value.now))) }
+    ensures err { IfErr result (IsRefusalBy (size_faults (number_at (codes "size") (view value.now)))) }
+{
+    let Some(number) = member_number(value, "size") else {
+        return Err(SchemaError::BadForm);
+    };
+    match number.as_u64() {
+        Some(size) if size <= 2147483647 => Ok(size as u32),
+        _ => Err(SchemaError::BadFixed),
+    }
+}
