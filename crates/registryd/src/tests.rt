@@ -1,7 +1,8 @@
 // Whole folds: a log, a request, and what is written.
-use crate::fold::{Folded, fold};
+use crate::fold::{FoldError, Folded, fold};
 use reg_records::Device;
 use std::alloc::Global;
+use std::io::{self, BufRead, ErrorKind, Read};
 use std::test::Fail;
 
 // Each row is a log, the id that is asked for, and what is written: a body, after its status.
@@ -156,6 +157,87 @@ fn foreign_lines_are_counted(rt: HostRuntime) -> Result<(), Fail> {
         };
         assert_eq!(rt; told.as_str(), count, "{row}");
         assert!(rt; writer.into_inner().is_empty());
+    }
+    Ok(())
+}
+
+// Gives a byte at each read, and fails after some reads.
+#[derive(Drop)]
+struct Failing<'a> {
+    bytes: &'a [u8],
+    left: usize,
+}
+
+impl Failing<'_> {
+    fn count(&mut self) -> io::Result<()> {
+        if self.left == 0 {
+            return Err(io::Error::from(ErrorKind::BrokenPipe));
+        }
+        self.left -= 1;
+        Ok(())
+    }
+}
+
+impl Read for Failing<'_> {
+    fn read(&mut self, buf: &mut [u8]) -> io::Result<usize> {
+        self.count()?;
+        match (self.bytes.split_first(), buf.first_mut()) {
+            (Some((byte, rest)), Some(place)) => {
+                *place = *byte;
+                self.bytes = rest;
+                Ok(1)
+            }
+            _ => Ok(0),
+        }
+    }
+}
+
+impl BufRead for Failing<'_> {
+    fn fill_buf(&mut self) -> io::Result<&[u8]> {
+        self.count()?;
+        Ok(&self.bytes[..self.bytes.len().min(1)])
+    }
+
+    fn consume(&mut self, amount: usize) {
+        self.bytes = &self.bytes[amount.min(self.bytes.len())..];
+    }
+}
+
+static SHORT_LOG: &str = "1\t{\"keytype\":\"NOOP\"}\tnull\n\nGET /schemas/ids/1 HTTP/1.1\r\n\r\n";
+
+#[test]
+fn a_reader_that_fails_gives_nothing(rt: HostRuntime) -> Result<(), Fail> {
+    let alloc = rt.alloc();
+    for left in 0..=SHORT_LOG.len() {
+        let mut reader = Device::new(Failing {
+            bytes: SHORT_LOG.as_bytes(),
+            left,
+        });
+        let mut writer = Device::new(Vec::new(alloc));
+        assert_eq!(rt;
+            fold(alloc, &mut reader, &mut writer),
+            Err(FoldError::ReadFault)
+        );
+        assert_eq!(rt; reader.faults(), 1);
+        assert!(rt; writer.into_inner().is_empty());
+    }
+    Ok(())
+}
+
+#[test]
+fn a_writer_that_is_full_has_a_front(rt: HostRuntime) -> Result<(), Fail> {
+    let alloc = rt.alloc();
+    let (_, whole) = folded(alloc, SHORT_LOG)?;
+    for room in 0..whole.len().min(256) {
+        let mut bytes = [0u8; 256];
+        let mut reader = Device::new(SHORT_LOG.as_bytes());
+        let mut writer = Device::new(&mut bytes[..room]);
+        assert_eq!(rt;
+            fold(alloc, &mut reader, &mut writer),
+            Err(FoldError::WriteFault)
+        );
+        assert_eq!(rt; writer.faults(), 1);
+        assert_eq!(rt; &bytes[..room], &whole.as_bytes()[..room]);
     }
     Ok(())
 }
