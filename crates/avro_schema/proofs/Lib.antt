@@ -13,6 +13,8 @@ pub mod KindLemmas
 pub mod SetLemmas
 pub mod Answering
 pub mod WholeLemmas
+pub mod Numbered
+pub mod Leading
 pub mod Sound
 pub mod DefaultLemmas
 pub mod WordLength

@@ -1,5 +1,5 @@
 -- What a schema's text means, or the faults that stand in it.
-use Rattle.std.specs.Prelude.{◌≡◌, ◌≢◌, ℕ, List, [], ◌∷◌, ◌++◌, length, not, nat_le, Option, Some, None, option_and_then, Contains}
+use Rattle.std.specs.Prelude.{◌≢◌, ℕ, List, [], ◌∷◌, ◌++◌, length, not, nat_le, Option, Some, None, option_and_then, Contains}
 use Rattle.serde_json.specs.Data.{Data}
 use Rattle.serde_json.specs.Read.{read}
 use Rattle.serde_json.specs.Written.{has_float, compact_text}
@@ -44,7 +44,3 @@ if_none_stands (e ∷ es) x = None
 -- what a text means, where no fault stands in it
 abbrev pub schema_of : List ℕ → Option Meaning
 schema_of text = option_and_then (λ d. if_none_stands (faults text) (record { nodes = nodes (form d); normal_text = compact_text d })) (read text)
-
--- this is what some text means
-abbrev pub IsSchema : Meaning → Type 0
-IsSchema m = (text : List ℕ) × (schema_of text ≡ Some m)

@@ -36,7 +36,8 @@ impl Model for Schema {
 
 impl Schema {
     ghost use Rattle.avro_schema.specs.Nodes.{name_in};
-    ghost use Rattle.avro_schema.specs.Schema.{schema_of, faults, IsSchema, IsRefusalBy};
+    ghost use Rattle.avro_schema.specs.Schema.{schema_of, faults, IsRefusalBy};
+    ghost use Rattle.avro_schema.specs.Order.{IsSound};
 
     /// Reads a schema's text: at most 1,048,576 bytes of JSON, which nests at most 127 deep.
     ///
@@ -76,17 +77,17 @@ impl Schema {
         self.nodes.as_slice()
     }
 
-    /// The number of nodes.
+    /// The number of nodes, at least one. Each node leads only to nodes of this schema.
     pub fn node_count(&self) -> usize
         ensures count { result ≡ length self.now.nodes }
-        ensures of_a_text { IsSchema self.now }
+        ensures sound { IsSound self.now.nodes }
     {
         self.nodes.as_slice().len()
     }
 
     /// The node of the whole schema.
     pub fn root(&self) -> NodeId
-        ensures { result.index ≡ 0 }
+        ensures { result ≡ record { index = 0 } }
     {
         NodeId { index: 0 }
     }
