@@ -1,6 +1,6 @@
 // Whole folds: a log, a request, and what is written.
 use crate::fold::{FoldError, Folded, fold};
-use reg_records::Device;
+use reg_records::{Device, LINE_LIMIT, LineError, LogFault};
 use std::alloc::Global;
 use std::io::{self, BufRead, ErrorKind, Read};
 use std::test::Fail;
@@ -100,6 +100,40 @@ fn the_first_fault_of_a_log_is_told(rt: HostRuntime) -> Result<(), Fail> {
         }
         assert!(rt; writer.into_inner().is_empty());
     }
+    Ok(())
+}
+
+// A log of one line that has that many bytes before its LF.
+fn log_of_one_line(alloc: Global, len: usize) -> Result<String, Fail> {
+    let mut log = String::from_str(alloc, "7\t{\"keytype\":\"NOOP\"}\t")?;
+    for _ in log.len()..len {
+        log.push('x')?;
+    }
+    log.push_str("\n\n")?;
+    Ok(log)
+}
+
+#[test]
+fn a_line_ends_at_its_limit(rt: HostRuntime) -> Result<(), Fail> {
+    let alloc = rt.alloc();
+    let log = log_of_one_line(alloc, LINE_LIMIT)?;
+    let (done, out) = folded(alloc, log.as_str())?;
+    let nothing = Folded {
+        foreign: 0,
+        requests: 0,
+    };
+    assert_eq!(rt; done, nothing);
+    assert!(rt; out.is_empty());
+
+    let log = log_of_one_line(alloc, LINE_LIMIT + 1)?;
+    let mut reader = Device::new(log.as_bytes());
+    let mut writer = Device::new(Vec::new(alloc));
+    let fault = LogFault::Line(LineError::TooLong);
+    assert_eq!(rt;
+        fold(alloc, &mut reader, &mut writer),
+        Err(FoldError::Log { line: 1, fault })
+    );
+    assert!(rt; writer.into_inner().is_empty());
     Ok(())
 }
 
