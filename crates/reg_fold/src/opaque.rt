@@ -24,12 +24,12 @@ pub(crate) fn opaque_of(alloc: Global, last: &RecordSet) -> Result<Option<u64>, 
 
 /// Whether the record has a text for a version, and it can't be read.
 #[tactic(auto, unfolding(crate::specs::Opaque::is_opaque))]
-fn is_opaque(alloc: Global, record: &Record) -> Result<bool, AllocError>
-    ensures { IfOk result (λ it_is. it_is ≡ is_opaque record.now) }
+fn is_opaque(alloc: Global, given: &Record) -> Result<bool, AllocError>
+    ensures { IfOk result (λ it_is. it_is ≡ is_opaque given.now) }
 {
-    match record.key {
+    match given.key {
         Key::Schema { .. } => {
-            Ok(record.value.is_some() && decode_value(alloc, record)?.is_none())
+            Ok(given.value.is_some() && decode_value(alloc, given)?.is_none())
         }
         _ => Ok(false),
     }

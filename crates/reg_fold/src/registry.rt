@@ -85,15 +85,15 @@ impl Registry {
 
     /// Adds a record, in any order of arrival: a registry over a set becomes the registry over that
     /// set with the record. The only error is want of memory; the registry is then as it was.
-    pub fn apply(&mut self, record: &Record) -> Result<(), AllocError>
-        ensures added { OnOk result (self.new ≡ last_records (set.insert self.old «record».now)) }
+    pub fn apply(&mut self, given: &Record) -> Result<(), AllocError>
+        ensures added { OnOk result (self.new ≡ last_records (set.insert self.old given.now)) }
         ensures whole { OnOk result ((whole : Records) → self.old ≡ last_records whole
-            → self.new ≡ last_records (set.insert whole «record».now)) }
+            → self.new ≡ last_records (set.insert whole given.now)) }
         ensures refused { OnErr result (self.new ≡ self.old) }
     {
         last_records_of_unions();
         let mut last = self.last.clone()?;
-        last.take(record)?;
+        last.take(given)?;
         last.compact();
         *self = Registry::over(*self.entries.allocator(), last)?;
         Ok(())

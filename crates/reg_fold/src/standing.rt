@@ -26,8 +26,8 @@ pub(crate) fn entries_of(alloc: Global, last: &RecordSet) -> Result<Vec<Entry>, 
 
 /// The entry of a record, if it has a version's value.
 #[tactic(auto, unfolding(crate::specs::Entries::entry_of))]
-fn entry_of(alloc: Global, last: &RecordSet, record: &Record) -> Result<Option<Entry>, AllocError>
-    ensures { IfOk result (λ entry. entry ≡ entry_of last.now record.now) }
+fn entry_of(alloc: Global, last: &RecordSet, given: &Record) -> Result<Option<Entry>, AllocError>
+    ensures { IfOk result (λ entry. entry ≡ entry_of last.now given.now) }
 {
     let Some(
         Value::Schema {
@@ -37,17 +37,17 @@ fn entry_of(alloc: Global, last: &RecordSet, record: &Record) -> Result<Option<E
             schema,
             deleted,
         },
-    ) = decode_value(alloc, record)?
+    ) = decode_value(alloc, given)?
     else {
         return Ok(None);
     };
-    let soft = deleted || is_marked(alloc, last, &subject, version, record.offset)?;
+    let soft = deleted || is_marked(alloc, last, &subject, version, given.offset)?;
     Ok(Some(Entry {
         subject,
         version,
         id,
         text: schema,
-        offset: record.offset,
+        offset: given.offset,
         soft,
     }))
 }

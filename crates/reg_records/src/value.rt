@@ -68,14 +68,14 @@ impl Value {
 
 /// The value that a record's text gives; `None` for a record without text, and for one whose text
 /// can't be read as a value of its key. The only error is want of memory.
-pub fn decode_value(alloc: Global, record: &Record) -> Result<Option<Value>, AllocError>
-    ensures { IfOk result (λ value. value ≡ value_of record.now) }
+pub fn decode_value(alloc: Global, given: &Record) -> Result<Option<Value>, AllocError>
+    ensures { IfOk result (λ value. value ≡ value_of given.now) }
 {
-    let Some(text) = &record.value else {
+    let Some(text) = &given.value else {
         return Ok(None);
     };
     match parse(alloc, text.as_str())? {
-        Some(json) => value_in(alloc, &record.key, &json),
+        Some(json) => value_in(alloc, &given.key, &json),
         None => Ok(None),
     }
 }

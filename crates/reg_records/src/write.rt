@@ -34,24 +34,24 @@ impl From<AllocError> for WriteLineError {
 
 /// Whether a record can be written as a line: its offset and its version are within their limits,
 /// and its value holds no TAB and no LF and isn't the text `null`.
-pub fn has_line(record: &Record) -> bool
-    ensures { IsTrue result ↔ HasLine record.now }
+pub fn has_line(given: &Record) -> bool
+    ensures { IsTrue result ↔ HasLine given.now }
 {
-    record.offset <= OFFSET_LIMIT && is_in_limits(&record.key) && has_value_field(&record.value)
+    given.offset <= OFFSET_LIMIT && is_in_limits(&given.key) && has_value_field(&given.value)
 }
 
 /// The line of a record, with its LF: `read_line` gives the record back, whatever follows the line.
 ///
 /// The key is JSON (RFC 8259) without spaces, its members in a fixed order; no value is `null`.
-pub fn write_line(alloc: Global, record: &Record) -> Result<Vec<u8>, WriteLineError>
-    requires { HasLine record.now }
-    ensures line { IfOk result (λ line. line.items ≡ written_line record.now) }
+pub fn write_line(alloc: Global, given: &Record) -> Result<Vec<u8>, WriteLineError>
+    requires { HasLine given.now }
+    ensures line { IfOk result (λ line. line.items ≡ written_line given.now) }
     ensures reads_back { IfOk result
-        (λ line. (rest : List ℕ) → reading_at_front (line.items ++ rest) ≡ Ok (reads.Record record.now)) }
-    ensures within { OnOk result (length (line_text record.now) ≤ LINE_LIMIT) }
-    ensures too_long { IsErrOf result WriteLineError.TooLong → LINE_LIMIT < length (line_text record.now) }
+        (λ line. (rest : List ℕ) → reading_at_front (line.items ++ rest) ≡ Ok (reads.Record given.now)) }
+    ensures within { OnOk result (length (line_text given.now) ≤ LINE_LIMIT) }
+    ensures too_long { IsErrOf result WriteLineError.TooLong → LINE_LIMIT < length (line_text given.now) }
 {
-    let mut line = line_text(alloc, record)?;
+    let mut line = line_text(alloc, given)?;
     if line.len() > LINE_LIMIT {
         return Err(WriteLineError::TooLong);
     }
@@ -59,15 +59,15 @@ pub fn write_line(alloc: Global, record: &Record) -> Result<Vec<u8>, WriteLineEr
     Ok(line.into_bytes())
 }
 
-fn line_text(alloc: Global, record: &Record) -> Result<String, AllocError>
-    ensures { IfOk result (λ line. string_bytes line ≡ line_text record.now) }
+fn line_text(alloc: Global, given: &Record) -> Result<String, AllocError>
+    ensures { IfOk result (λ line. string_bytes line ≡ line_text given.now) }
 {
-    let key = record.key.written(alloc)?;
+    let key = given.key.written(alloc)?;
     joined(
         alloc,
-        record.offset,
+        given.offset,
         key.as_str(),
-        value_field(&record.value),
+        value_field(&given.value),
     )
 }
 

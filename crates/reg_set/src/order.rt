@@ -56,17 +56,17 @@ fn is_of_32_bits(key: &Key)
 pub(crate) fn count_before(
     alloc: Global,
     records: &[Record],
-    record: &Record,
+    given: &Record,
 ) -> Result<usize, AllocError>
     requires { IsTrue (is_in_order records.now) }
     ensures within { IfOk result (λ n. n ≤ length records.now) }
     ensures before { IfOk result
-        (λ n. list_all (λ q. is_lt (record_cmp q «record».now)) (take n records.now) ≡ true) }
+        (λ n. list_all (λ q. is_lt (record_cmp q given.now)) (take n records.now) ≡ true) }
     ensures not_before { IfOk result
-        (λ n. list_any (λ q. is_lt (record_cmp q «record».now)) (drop n records.now) ≡ false) }
+        (λ n. list_any (λ q. is_lt (record_cmp q given.now)) (drop n records.now) ≡ false) }
 {
     for place in (0..records.len()).rev() {
-        if compare(alloc, &records[place], record)? == Ordering::Less {
+        if compare(alloc, &records[place], given)? == Ordering::Less {
             return Ok(place + 1);
         }
     }
@@ -74,14 +74,14 @@ pub(crate) fn count_before(
 }
 
 /// Whether the record is among the records, which stand in order, at its place.
-pub(crate) fn stands_at(records: &[Record], place: usize, record: &Record) -> bool
+pub(crate) fn stands_at(records: &[Record], place: usize, given: &Record) -> bool
     requires in_order { IsTrue (is_in_order records.now) }
-    requires before { list_all (λ q. is_lt (record_cmp q «record».now)) (take place records.now) ≡ true }
-    requires not_before { list_any (λ q. is_lt (record_cmp q «record».now)) (drop place records.now) ≡ false }
-    ensures { result ≡ list_any (eq_by_cmp record_cmp «record».now) records.now }
+    requires before { list_all (λ q. is_lt (record_cmp q given.now)) (take place records.now) ≡ true }
+    requires not_before { list_any (λ q. is_lt (record_cmp q given.now)) (drop place records.now) ≡ false }
+    ensures { result ≡ list_any (eq_by_cmp record_cmp given.now) records.now }
 {
     match records.get(place) {
-        Some(other) => *other == *record,
+        Some(other) => *other == *given,
         None => false,
     }
 }
@@ -94,8 +94,8 @@ pub(crate) fn has_key(records: &[Record], key: &Key) -> bool
 }
 
 /// Whether the record is of that key.
-pub(crate) fn is_of(record: &Record, key: &Key) -> bool
-    ensures { result ≡ is_of key.now «record».now }
+pub(crate) fn is_of(given: &Record, key: &Key) -> bool
+    ensures { result ≡ is_of key.now given.now }
 {
-    record.key == *key
+    given.key == *key
 }

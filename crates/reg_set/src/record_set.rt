@@ -73,26 +73,26 @@ impl RecordSet {
 
     /// Adds the record, and says what that did. The only error is want of memory; the set is then
     /// as it was.
-    pub fn take(&mut self, record: &Record) -> Result<Taken, AllocError>
-        ensures added { OnOk result (self.new ≡ set.insert self.old «record».now) }
+    pub fn take(&mut self, given: &Record) -> Result<Taken, AllocError>
+        ensures added { OnOk result (self.new ≡ set.insert self.old given.now) }
         ensures fresh { IfOk result (λ taken.
-            (taken ≡ Taken.Fresh) ↔ (last self.new «record».now.key ≢ last self.old «record».now.key)) }
+            (taken ≡ Taken.Fresh) ↔ (last self.new given.now.key ≢ last self.old given.now.key)) }
         ensures repeat { IfOk result (λ taken.
-            (taken ≡ Taken.Repeat) ↔ IsTrue (set.contains self.old «record».now)) }
+            (taken ≡ Taken.Repeat) ↔ IsTrue (set.contains self.old given.now)) }
         ensures refused { OnErr result (self.new ≡ self.old) }
     {
         let alloc = *self.records.allocator();
         let records: &[Record] = &self.records;
-        let place = count_before(alloc, records, record)?;
-        if stands_at(records, place, record) {
+        let place = count_before(alloc, records, given)?;
+        if stands_at(records, place, given) {
             return Ok(Taken::Repeat);
         }
-        let taken = if has_key(&records[place..], &record.key) {
+        let taken = if has_key(&records[place..], &given.key) {
             Taken::Older
         } else {
             Taken::Fresh
         };
-        let copy = record.clone()?;
+        let copy = given.clone()?;
         self.records.insert(place, copy)?;
         Ok(taken)
     }
@@ -115,10 +115,10 @@ impl RecordSet {
     }
 
     /// Whether the record is in the set.
-    pub fn contains(&self, record: &Record) -> bool
-        ensures { result ≡ set.contains self.now «record».now }
+    pub fn contains(&self, given: &Record) -> bool
+        ensures { result ≡ set.contains self.now given.now }
     {
-        self.records.contains(record)
+        self.records.contains(given)
     }
 
     /// Adds the records of the other set. The only error is want of memory; the set is then as it

@@ -9,7 +9,7 @@ use Rattle.reg_records.proofs.write.write_line.Goals as goal
 
 pub returns-clause-reads_back : goal.returns-clause-reads_back
 returns-clause-reads_back c = λ rest.
-    let r = c.args.record.now in
+    let r = c.args.given.now in
     let text : string_bytes c.in_ok-line.line ≡ line_text r = search rules in
     let utf8 = ap is_utf8 (sym text) ∙ is_utf8-from_IsUtf8 _ (IsUtf8-string_bytes c.in_ok-line.line) in
     let fits : length (line_text r) ≤ LINE_LIMIT = omega (arith, ap length text) in

@@ -6,7 +6,7 @@ use Rattle.reg_set.proofs.order.count_before.Goals as goal
 
 pub returns-then-eq-clause-before : goal.returns-then-eq-clause-before
 returns-then-eq-clause-before c =
-    let r = c.args.record.now in
+    let r = c.args.given.now in
     let found = c.index-records-place.result in
     let is_less : is_lt (record_cmp found r) ≡ true = search rules in
     let within : c.loop-place.place - 1 < length c.args.records.now = omega arith in

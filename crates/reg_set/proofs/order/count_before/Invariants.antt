@@ -5,4 +5,4 @@ use Rattle.reg_set.specs.RecordOrder.{record_cmp}
 use Rattle.reg_set.proofs.order.count_before.Given as goal
 
 abbrev pub invariant-loop-place : goal.invariant-loop-place
-invariant-loop-place l = list_any (λ q. is_lt (record_cmp q l.record)) (drop l.place l.records) ≡ false
+invariant-loop-place l = list_any (λ q. is_lt (record_cmp q l.given)) (drop l.place l.records) ≡ false

@@ -9,7 +9,7 @@ use Rattle.reg_set.proofs.order.stands_at.Goals as goal
 
 pub returns-in-Some : goal.returns-in-Some
 returns-in-Some c =
-    let r = c.args.record.now in
+    let r = c.args.given.now in
     let rs = c.args.records.now in
     let other = c.in-Some.other.now in
     let lookup = c.in-Some.ensures.lookup in
@@ -18,7 +18,7 @@ returns-in-Some c =
 
 pub returns-in-None : goal.returns-in-None
 returns-in-None c =
-    let r = c.args.record.now in
+    let r = c.args.given.now in
     let rs = c.args.records.now in
     let none = drop_of_length-le rs c.in-None.ensures.lookup.3 in
     sym (any_from_place r rs c.args.place c.requires.before ∙ ap (list_any (eq_by_cmp record_cmp r)) none)

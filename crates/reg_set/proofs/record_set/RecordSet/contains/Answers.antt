@@ -9,7 +9,7 @@ use Rattle.reg_set.proofs.record_set.RecordSet.contains.Goals as goal
 
 pub returns : goal.returns
 returns c =
-    let r = c.args.record.now in
+    let r = c.args.given.now in
     c.contains.ensures.value ∙ list_any-same _ (eq_by_cmp record_cmp r) (eq-by_cmp r) c.deref.result.now
     ∙ ap (list_any (eq_by_cmp record_cmp r)) c.deref.ensures.value
     ∙ sym (contains-from_list record_cmp-total c.self.inside.records.items r) ∙ ap (λ s. contains s r) c.self.view_is

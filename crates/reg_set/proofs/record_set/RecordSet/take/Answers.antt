@@ -24,17 +24,17 @@ inside S rs seen r b view same is =
 
 pub returns-then-stands_at-clause-added : goal.returns-then-stands_at-clause-added
 returns-then-stands_at-clause-added c =
-    let there = inside c.args.self.now c.self.inside.records.items _ c.args.record.now _ c.self.view_is c.deref-records.ensures.value c.stands_at.ensures in
-    sym (insert-contained c.args.self.now c.args.record.now (there ∙ c.if-stands_at.true))
+    let there = inside c.args.self.now c.self.inside.records.items _ c.args.given.now _ c.self.view_is c.deref-records.ensures.value c.stands_at.ensures in
+    sym (insert-contained c.args.self.now c.args.given.now (there ∙ c.if-stands_at.true))
 
 pub returns-then-stands_at-clause-repeat : goal.returns-then-stands_at-clause-repeat
 returns-then-stands_at-clause-repeat c =
-    let there = inside c.args.self.now c.self.inside.records.items _ c.args.record.now _ c.self.view_is c.deref-records.ensures.value c.stands_at.ensures in
+    let there = inside c.args.self.now c.self.inside.records.items _ c.args.given.now _ c.self.view_is c.deref-records.ensures.value c.stands_at.ensures in
     (λ _. there ∙ c.if-stands_at.true, λ _. refl)
 
 pub invariant_of-self-2 : goal.invariant_of-self-2
 invariant_of-self-2 c =
-    let r = c.args.record.now in
+    let r = c.args.given.now in
     let rs = c.self.inside.records.items in
     let n = c.in_ok-place.place in
     let same = c.deref-records.ensures.value in
@@ -48,7 +48,7 @@ invariant_of-self-2 c =
 
 pub returns-clause-added : goal.returns-clause-added
 returns-clause-added c =
-    let r = c.args.record.now in
+    let r = c.args.given.now in
     let rs = c.self.inside.records.items in
     let n = c.in_ok-place.place in
     let copy : c.in_ok-copy.copy ≡ r = search rules in
@@ -57,7 +57,7 @@ returns-clause-added c =
 
 pub returns-clause-fresh : goal.returns-clause-fresh
 returns-clause-fresh c =
-    let r = c.args.record.now in
+    let r = c.args.given.now in
     let rs = c.self.inside.records.items in
     let n = c.in_ok-place.place in
     let same = c.deref-records.ensures.value in
@@ -82,6 +82,6 @@ returns-clause-fresh c =
 
 pub returns-clause-repeat : goal.returns-clause-repeat
 returns-clause-repeat c =
-    let r = c.args.record.now in
+    let r = c.args.given.now in
     let outside = inside c.args.self.now c.self.inside.records.items _ r _ c.self.view_is c.deref-records.ensures.value c.stands_at.ensures ∙ c.if-stands_at.false in
     (elim c.if-has_key.branch [ then-has_key w ↦ λ e. absurd (cc) | else-has_key w ↦ λ e. absurd (cc) ], λ there. absurd (false≢true (sym outside ∙ there)))
