@@ -5,7 +5,7 @@ use std::process::Abort;
 use std::test::Fail;
 
 // The number of nodes, the field whose default is none, or the fault.
-fn answer(alloc: Global, text: &str) -> Result<String, AllocError> {
+pub(crate) fn answer(alloc: Global, text: &str) -> Result<String, AllocError> {
     match Schema::read(alloc, text) {
         Ok(schema) => answer_of(alloc, &schema),
         Err(SchemaError::Unknown(name)) => {
@@ -168,7 +168,7 @@ fn records(rt: HostRuntime) -> Result<(), Fail> {
 }
 
 // Avro 1.11, "Enums", "Arrays", "Maps", "Fixed".
-const ENUMS_ARRAYS_MAPS_AND_FIXED: [(&str, &str); 24] = [
+const ENUMS_ARRAYS_MAPS_AND_FIXED: [(&str, &str); 25] = [
     (
         r#"{"type":"enum","name":"Suit","symbols":["SPADES","HEARTS","DIAMONDS","CLUBS"]}"#,
         "1",
@@ -216,6 +216,7 @@ const ENUMS_ARRAYS_MAPS_AND_FIXED: [(&str, &str); 24] = [
     ),
     (r#"{"type":"fixed","name":"F","size":-1}"#, "BadFixed"),
     (r#"{"type":"fixed","name":"F","size":16.0}"#, "FloatNumber"),
+    (r#"{"type":"fixed","name":"F","size":"4"}"#, "BadForm"),
     (r#"{"type":"fixed","name":"F"}"#, "BadForm"),
 ];
 
@@ -226,7 +227,7 @@ fn enums_arrays_maps_and_fixed(rt: HostRuntime) -> Result<(), Fail> {
 }
 
 // Avro 1.11, "Unions".
-const UNIONS: [(&str, &str); 15] = [
+const UNIONS: [(&str, &str); 16] = [
     (r#"["null","string"]"#, "3"),
     (r#"[]"#, "1"),
     (r#"["int","long","float","double"]"#, "5"),
@@ -241,6 +242,10 @@ const UNIONS: [(&str, &str); 15] = [
     (
         r#"[{"type":"fixed","name":"a.F","size":1},{"type":"enum","name":"b.F","symbols":[]}]"#,
         "3",
+    ),
+    (
+        r#"[{"type":"array","items":"int"},{"type":"record","name":"array","fields":[]}]"#,
+        "4",
     ),
     (r#"["int","int"]"#, "BadUnion"),
     (r#"["int",{"type":"int"}]"#, "BadUnion"),
@@ -273,7 +278,7 @@ fn unions(rt: HostRuntime) -> Result<(), Fail> {
 
 // Avro 1.11, "Names", with its own example first. A name without a dot is looked for in the
 // null namespace too.
-const NAMES: [(&str, &str); 29] = [
+const NAMES: [(&str, &str); 31] = [
     (
         r#"{"type":"record","name":"Example","doc":"A simple name","fields":[{"name":"inheritNull","type":{"type":"enum","name":"Simple","symbols":["a","b"]}},{"name":"explicitNamespace","type":{"type":"fixed","name":"Simple","namespace":"explicit","size":12}},{"name":"fullName","type":{"type":"record","name":"a.full.Name","namespace":"ignored","fields":[{"name":"inheritNamespace","type":{"type":"enum","name":"Understanding","symbols":["d","e"]}}]}}]}"#,
         "5",
@@ -289,6 +294,10 @@ const NAMES: [(&str, &str); 29] = [
     (
         r#"{"type":"record","name":"R","fields":[{"name":"a","type":{"type":"record","name":"n.S","fields":[{"name":"r","type":"R"}]}}]}"#,
         "2",
+    ),
+    (
+        r#"{"type":"record","name":"R","namespace":"n","fields":[{"name":"f","type":"R"}]}"#,
+        "1",
     ),
     (
         r#"{"type":"record","name":"R","namespace":"n","fields":[{"name":"f","type":"n.R"}]}"#,
@@ -339,6 +348,7 @@ const NAMES: [(&str, &str); 29] = [
     (r#"{"type":"fixed","name":"F-1","size":1}"#, "BadName"),
     (r#"{"type":"fixed","name":"int","size":1}"#, "BadName"),
     (r#"{"type":"fixed","name":"a.string","size":1}"#, "BadName"),
+    (r#"{"type":"fixed","name":"string.F","size":1}"#, "1"),
     (
         r#"{"type":"fixed","name":"F","aliases":["G","m.H","int"],"size":1}"#,
         "1",
@@ -373,9 +383,7 @@ fn names(rt: HostRuntime) -> Result<(), Fail> {
 
 // Avro 1.11, "Schema Declaration": a text is a JSON string, object or array. A number in it is a
 // whole number of 64 bits.
-const JSON_TEXTS: [(&str, &str); 19] = [
-    (" \"int\"\n", "1"),
-    (r#"{"type":"int","type":"long"}"#, "1"),
+const JSON_TEXTS: [(&str, &str); 17] = [
     (
         r#"{"type":"int","x":18446744073709551615,"y":-9223372036854775808}"#,
         "1",
@@ -511,11 +519,7 @@ fn defaults_of_types_inside(rt: HostRuntime) -> Result<(), Fail> {
 
 // The field with the invalid default is named, also inside another type. Defaults that are
 // numbers with a fraction are no numbers of this profile.
-const NAMES_A_BAD_DEFAULT: [(&str, &str); 5] = [
-    (
-        r#"{"type":"record","name":"R","fields":[{"name":"x","type":"boolean","default":0}]}"#,
-        "BadDefault x",
-    ),
+const NAMES_A_BAD_DEFAULT: [(&str, &str); 3] = [
     (
         r#"{"type":"record","name":"R","fields":[{"name":"a","type":"int","default":0},{"name":"b","type":"int","default":null}]}"#,
         "BadDefault b",
@@ -527,10 +531,6 @@ const NAMES_A_BAD_DEFAULT: [(&str, &str); 5] = [
     (
         r#"{"type":"record","name":"R","fields":[{"name":"x","type":"double","default":0.0}]}"#,
         "FloatNumber",
-    ),
-    (
-        r#"{"type":"record","name":"R","fields":[{"name":"x","type":"double","default":0}]}"#,
-        "2",
     ),
 ];
 
