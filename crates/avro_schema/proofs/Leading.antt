@@ -16,7 +16,7 @@ use Rattle.avro_schema.proofs.Later.{count-type}
 use Rattle.avro_schema.proofs.Reading.{nil-left, nil-right}
 use Rattle.avro_schema.proofs.Types.{and_true}
 
--- node i is one of the nodes ns, and is node n or a later one, or no array and no map
+-- node i is one of the nodes, and is node n or a later one, or no array and no map
 abbrev pub IsPart : List Node → ℕ → NodeId → Type 0
 IsPart all n i = (i.index < length all) × ((n ≤ i.index) ⊎ (inner (slice_get all i.index) ≡ None))
 
@@ -39,7 +39,7 @@ pub well_closed : (all : List Node) (n : ℕ) (xs : List Node) → AreWell all n
 well_closed all n [] a = refl
 well_closed all n (x ∷ xs) a = and_true _ _ a.0.0 (well_closed all (n + 1) xs a.1)
 
--- and what the one of them at i is of comes later, or is no array and no map
+-- and what node m is of, which is the i-th of them, comes later, or is no array and no map
 pub well_leads : (all : List Node) (n m i : ℕ) (xs : List Node) (j : NodeId) → AreWell all n xs → m ≡ n + i → inner (slice_get xs i) ≡ Some j → (m < j.index) ⊎ (inner (slice_get all j.index) ≡ None)
 well_leads all n m i [] j a e is = cc
 well_leads all n m zero (x ∷ xs) j a e is = let same : n ≡ m = omega arith in subst (λ k. (k < j.index) ⊎ (inner (slice_get all j.index) ≡ None)) same (a.0.1 j is)
