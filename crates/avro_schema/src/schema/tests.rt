@@ -17,6 +17,23 @@ fn names_a_node(rt: HostRuntime) -> Result<(), Fail> {
     Ok(())
 }
 
+#[test]
+fn a_use_is_the_node_of_its_definition(rt: HostRuntime) -> Result<(), Fail> {
+    let text = r#"{"type":"record","name":"R","namespace":"n","fields":[{"name":"f","type":"R"}]}"#;
+    let schema = Schema::read(rt.alloc(), text)?;
+    assert_eq!(rt; schema.node_count(), 1);
+    let Node::Record { name, fields, .. } = schema.node(schema.root()) else {
+        return Err(Fail::from("no record"));
+    };
+    assert_eq!(rt; name.namespace.as_str(), "n");
+    assert_eq!(rt; name.name.as_str(), "R");
+    assert_eq!(rt; fields.as_slice().len(), 1);
+    let field = fields.as_slice().first().ok_or("no field")?;
+    assert_eq!(rt; field.name.as_str(), "f");
+    assert_eq!(rt; field.node, schema.root());
+    Ok(())
+}
+
 // Avro 1.11, "Aliases": a type `a.b` with the aliases `c` and `x.y` has those of `a.c` and `x.y`.
 #[test]
 fn gives_an_alias_the_namespace_of_its_type(rt: HostRuntime) -> Result<(), Fail> {
