@@ -28,9 +28,7 @@ fn is_opaque(alloc: Global, given: &Record) -> Result<bool, AllocError>
     ensures { IfOk result (λ it_is. it_is ≡ is_opaque given.now) }
 {
     match given.key {
-        Key::Schema { .. } => {
-            Ok(given.value.is_some() && decode_value(alloc, given)?.is_none())
-        }
+        Key::Schema { .. } => Ok(given.value.is_some() && decode_value(alloc, given)?.is_none()),
         _ => Ok(false),
     }
 }

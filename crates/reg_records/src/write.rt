@@ -63,12 +63,7 @@ fn line_text(alloc: Global, given: &Record) -> Result<String, AllocError>
     ensures { IfOk result (λ line. string_bytes line ≡ line_text given.now) }
 {
     let key = given.key.written(alloc)?;
-    joined(
-        alloc,
-        given.offset,
-        key.as_str(),
-        value_field(&given.value),
-    )
+    joined(alloc, given.offset, key.as_str(), value_field(&given.value))
 }
 
 /// The text of a value, or `null` where there is none.
