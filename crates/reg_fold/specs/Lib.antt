@@ -1,6 +1,5 @@
 pub mod Entries
 pub mod EntryOrder
-pub mod Greatest
 pub mod Kept
 pub mod Marks
 pub mod Named

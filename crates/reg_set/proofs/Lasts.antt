@@ -10,9 +10,10 @@ use Rattle.std.specs.declared.cmp.Ordering.{Ordering}
 use Rattle.std.specs.declared.cmp.Ordering.TheVariants.{Less, Equal, Greater}
 use Rattle.reg_records.specs.declared.key.Key.{Key}
 use Rattle.reg_records.specs.declared.record.Record.{Record}
+use Rattle.reg_set.specs.Greatest.{greatest}
+use Rattle.reg_set.specs.LastRecords.{is_of, last, IsGreatestOf}
 use Rattle.reg_set.specs.RecordOrder.{age_cmp, key_cmp, record_cmp}
 use Rattle.reg_set.specs.Records.{Records, records_of}
-use Rattle.reg_set.specs.LastRecords.{is_of, greatest, last, IsGreatestOf}
 use Rattle.reg_set.proofs.Orders.{age_cmp-total, age_cmp-of_one_key, key_cmp-total, key_cmp-ties, record_cmp-total, record_cmp-ties}
 use Rattle.reg_set.proofs.InOrder.{both, first_of, second_of, contains-records_of}
 
@@ -130,8 +131,7 @@ most-among a (x ∷ xs) =
     ] (most-among (ord_max age_cmp a x) xs)
 
 -- the greatest of a list is among it, and each of the list is at most that one
-greatest-some : (xs : List Record) (r : Record) → greatest xs ≡ Some r → (list_any (eq_by_cmp record_cmp r) xs ≡ true) × (list_all (λ q. is_le (age_cmp q r)) xs ≡ true)
-unfolding greatest
+greatest-some : (xs : List Record) (r : Record) → greatest age_cmp xs ≡ Some r → (list_any (eq_by_cmp record_cmp r) xs ≡ true) × (list_all (λ q. is_le (age_cmp q r)) xs ≡ true)
 greatest-some [] r e = absurd (cc)
 greatest-some (x ∷ xs) r e =
     let same : most x xs ≡ r = ap (λ o. unwrap_or o r) e in (
@@ -139,8 +139,7 @@ greatest-some (x ∷ xs) r e =
       subst (λ m. list_all (λ q. is_le (age_cmp q m)) (x ∷ xs) ≡ true) same (both (most-first x xs) (most-others x xs)),
     )
 
-greatest-none : (xs : List Record) → greatest xs ≡ None → xs ≡ []
-unfolding greatest
+greatest-none : (xs : List Record) → greatest age_cmp xs ≡ None → xs ≡ []
 greatest-none [] e = refl
 greatest-none (x ∷ xs) e = absurd (cc)
 

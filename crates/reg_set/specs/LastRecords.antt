@@ -1,11 +1,12 @@
 -- The last record of each key.
-use Rattle.std.specs.Prelude.{◌≡◌, Bool, true, false, List, Option}
+use Rattle.std.specs.Prelude.{◌≡◌, Bool, true, false, Option}
 use Rattle.std.specs.FinSet.{contains, retain}
-use Rattle.std.specs.List.{filter, reduce}
+use Rattle.std.specs.List.{filter}
 use Rattle.std.specs.Option.{option_map_or}
-use Rattle.std.specs.Ordering.{eq_by_cmp, is_le, ord_max}
+use Rattle.std.specs.Ordering.{eq_by_cmp, is_le}
 use Rattle.reg_records.specs.declared.key.Key.{Key}
 use Rattle.reg_records.specs.declared.record.Record.{Record}
+use Rattle.reg_set.specs.Greatest.{greatest}
 use Rattle.reg_set.specs.RecordOrder.{age_cmp, key_cmp, record_cmp}
 use Rattle.reg_set.specs.Records.{Records, records_of}
 
@@ -13,13 +14,9 @@ use Rattle.reg_set.specs.Records.{Records, records_of}
 unfoldable pub is_of : Key → Record → Bool
 is_of key r = eq_by_cmp key_cmp key r.key
 
--- the greatest of some records of one key
-unfoldable pub greatest : List Record → Option Record
-greatest = reduce (ord_max age_cmp)
-
 -- the last record of a key: the greatest of its records in the set
 unfoldable pub last : Records → Key → Option Record
-last s key = greatest (filter (is_of key) (records_of s))
+last s key = greatest age_cmp (filter (is_of key) (records_of s))
 
 -- whether the record is the last of its key
 unfoldable pub is_last : Records → Record → Bool

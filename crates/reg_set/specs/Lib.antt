@@ -1,4 +1,5 @@
 pub mod Compaction
+pub mod Greatest
 pub mod Join
 pub mod LastRecords
 pub mod RecordOrder
