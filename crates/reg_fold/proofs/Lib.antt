@@ -1,3 +1,4 @@
 mod Chosen
+mod InOrder
 mod Nothing
 mod Placed

@@ -6,9 +6,10 @@ ghost use Rattle.reg_set.specs.Compaction.{IsCompactionOf};
 ghost use Rattle.reg_set.specs.LastRecords.{last_records};
 ghost use Rattle.reg_set.specs.Records.{Records};
 ghost use Rattle.reg_fold.specs.Entries.{entries};
+ghost use Rattle.reg_fold.specs.EntryOrder.{IsInOrder};
 ghost use Rattle.reg_fold.specs.Named.{named};
 ghost use Rattle.reg_fold.specs.Opaque.{opaque};
-ghost use Rattle.reg_fold.specs.Standing.{live, greatest_id, greatest_version};
+ghost use Rattle.reg_fold.specs.Standing.{live, HasRisingVersions, greatest_id, greatest_version};
 
 use crate::entry::Entry;
 use crate::opaque::opaque_of;
@@ -117,17 +118,19 @@ impl Registry {
         Ok(())
     }
 
-    /// The entries, by subject, by its bytes, and then by version.
+    /// The entries, by subject, by its bytes, and then by version, each version of a subject once.
     pub fn entries(&self) -> &[Entry]
-        ensures { result.now ≡ entries self.now }
+        ensures all { result.now ≡ entries self.now }
+        ensures in_order { IsInOrder result.now }
     {
         &self.entries
     }
 
-    /// The live entries of a subject, which are those that aren't soft, by version. The only error
-    /// is want of memory.
+    /// The live entries of a subject, which are those that aren't soft, by version, each version
+    /// once. The only error is want of memory.
     pub fn live(&self, subject: &str) -> Result<Vec<&Entry>, AllocError>
-        ensures { IfOk result (λ found. map (λ e. e.now) found.items ≡ live self.now subject.now) }
+        ensures all { IfOk result (λ found. map (λ e. e.now) found.items ≡ live self.now subject.now) }
+        ensures in_order { IfOk result (λ found. HasRisingVersions (map (λ e. e.now) found.items)) }
     {
         let mut found = Vec::new(*self.entries.allocator());
         for entry in &self.entries {
