@@ -1,0 +1,9 @@
+pub mod Sound
+pub mod MatchLaws
+pub mod Rows
+pub mod Hops
+pub mod Searching
+pub mod Order
+pub mod BreadthFirst
+pub mod Verdicts
+pub mod Examples

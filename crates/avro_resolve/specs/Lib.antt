@@ -1,0 +1,9 @@
+pub mod Match
+pub mod Pairing
+pub mod Table
+pub mod Trails
+pub mod Follow
+pub mod Texts
+pub mod Row
+pub mod Search
+pub mod Verdict

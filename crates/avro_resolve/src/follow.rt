@@ -1,0 +1,144 @@
+// Where a hop leads, and whether a trail leads to a clash. Nothing here takes memory.
+ghost use Rattle.std.specs.Prelude.{◌≡◌, ◌<◌, ◌↔◌, IsTrue, Some, length, filter_map, slice_get, [], ◌∷◌};
+ghost use Rattle.avro_resolve.specs.Table as spec;
+ghost use Rattle.avro_resolve.specs.Follow.{pair_by, same_hop};
+ghost use Rattle.avro_resolve.specs.Row.{kind_of};
+ghost use Rattle.avro_resolve.specs.Trails.{IsTrail, HopsNameOne};
+
+use crate::fields::partner;
+use crate::row::{Cause, Row, row_at};
+use crate::table::Pair;
+use crate::trail::{ClashKind, Hop, Trail};
+use avro_schema::{Field, NodeId, Schema};
+
+impl Trail {
+    /// Whether the hops lead from the roots of a reader's and a writer's schema to a pair that
+    /// clashes in this way. Takes no memory.
+    pub fn check(&self, r: &Schema, w: &Schema) -> bool
+        ensures trail { IsTrue result ↔ IsTrail r.now.nodes w.now.nodes self.now }
+        ensures hops_name_one { HopsNameOne r.now.nodes w.now.nodes }
+    {
+        let mut pair = Pair {
+            reader: r.root(),
+            writer: w.root(),
+        };
+        let _sound = r.node_count();
+        let _sound = w.node_count();
+        for hop in self.hops.as_slice() {
+            match follow(r, w, pair, hop) {
+                Some(next) => pair = next,
+                None => return false,
+            }
+        }
+        clashes_so(r, w, pair, &self.kind)
+    }
+}
+
+/// The pair that a hop leads to, if it is a hop of this pair.
+fn follow(r: &Schema, w: &Schema, pair: Pair, hop: &Hop) -> Option<Pair>
+    requires reader { pair.reader.index < length r.now.nodes }
+    requires writer { pair.writer.index < length w.now.nodes }
+    ensures { result ≡ pair_by (spec.obligations r.now.nodes w.now.nodes pair) hop.now }
+{
+    match row_at(r, w, pair) {
+        Row::Clash(_) => None,
+        Row::WriterBranches(i, branches) => writer_branch(i, branches, hop),
+        Row::One(only, next) => only_pair(&only, next, hop),
+        Row::Fields(reader, writer) => field_pair(reader, writer, hop),
+        Row::Nothing => None,
+    }
+}
+
+/// The one pair that is owed, if this is its hop.
+fn only_pair(only: &Hop, next: Pair, hop: &Hop) -> Option<Pair>
+    ensures { result ≡ pair_by (record { hop = only.now; pair = next } ∷ []) hop.now }
+{
+    if hop.is_same(only) { Some(next) } else { None }
+}
+
+/// The pair of the reader's type and the writer's branch that a hop names.
+fn writer_branch(i: NodeId, branches: &[NodeId], hop: &Hop) -> Option<Pair>
+    ensures { result ≡ pair_by (spec.owed_in (spec.to_writer_branches i branches.now)) hop.now }
+{
+    match hop {
+        Hop::Writer(k) => match branch_at(branches, *k) {
+            Some(b) => Some(Pair {
+                reader: i,
+                writer: b,
+            }),
+            None => None,
+        },
+        _ => None,
+    }
+}
+
+/// The branch of that number, if there is one.
+fn branch_at(branches: &[NodeId], k: usize) -> Option<NodeId>
+    ensures { result ≡ slice_get branches.now k }
+{
+    branches.get(k).copied()
+}
+
+/// The pair of the field that a hop names and its partner.
+fn field_pair(reader: &[Field], writer: &[Field], hop: &Hop) -> Option<Pair>
+    ensures { result ≡ pair_by (filter_map (spec.to_partner writer.now) reader.now) hop.now }
+{
+    let Hop::Field(name) = hop else {
+        return None;
+    };
+    for f in reader {
+        if let Some(g) = partner(writer, f)
+            && *name == f.name
+        {
+            return Some(Pair {
+                reader: f.node,
+                writer: g.node,
+            });
+        }
+    }
+    None
+}
+
+/// Whether a pair clashes in this way.
+fn clashes_so(r: &Schema, w: &Schema, pair: Pair, kind: &ClashKind) -> bool
+    requires reader { pair.reader.index < length r.now.nodes }
+    requires writer { pair.writer.index < length w.now.nodes }
+    ensures { IsTrue result ↔ (spec.clash_of r.now.nodes w.now.nodes pair ≡ Some kind.now) }
+{
+    match row_at(r, w, pair) {
+        Row::Clash(cause) => is_of_kind(&cause, kind),
+        _ => false,
+    }
+}
+
+fn is_of_kind(cause: &Cause<'_>, kind: &ClashKind) -> bool
+    ensures { IsTrue result ↔ (kind_of cause.now ≡ kind.now) }
+{
+    match cause {
+        Cause::MissingUnionBranch => matches!(kind, ClashKind::MissingUnionBranch),
+        Cause::NameMismatch => matches!(kind, ClashKind::NameMismatch),
+        Cause::LackingField(name) => {
+            matches!(kind, ClashKind::ReaderFieldMissingDefaultValue(other) if **name == *other)
+        }
+        Cause::UnknownSymbol(name) => {
+            matches!(kind, ClashKind::MissingEnumSymbols(other) if **name == *other)
+        }
+        Cause::FixedSizeMismatch => matches!(kind, ClashKind::FixedSizeMismatch),
+        Cause::TypeMismatch => matches!(kind, ClashKind::TypeMismatch),
+    }
+}
+
+impl Hop {
+    /// Whether two hops are the same.
+    fn is_same(&self, other: &Hop) -> bool
+        ensures { result ≡ same_hop self.now other.now }
+    {
+        match self {
+            Hop::Field(name) => matches!(other, Hop::Field(field) if *name == *field),
+            Hop::Items => matches!(other, Hop::Items),
+            Hop::Values => matches!(other, Hop::Values),
+            Hop::Writer(k) => matches!(other, Hop::Writer(l) if *k == *l),
+            Hop::Reader(k) => matches!(other, Hop::Reader(l) if *k == *l),
+        }
+    }
+}

@@ -1,0 +1,20 @@
+//! Resolution of a reader's schema against a writer's (Avro 1.11, "Schema Resolution"): whether
+//! the two are compatible, and where they aren't, a shortest trail to a clash.
+#![tactic(auto)]
+
+mod fields;
+mod follow;
+mod matching;
+mod names;
+mod resolving;
+mod row;
+mod search;
+mod table;
+mod trail;
+
+pub use matching::matches;
+pub use resolving::{Counted, Verdict, resolve, resolve_counted};
+pub use trail::{ClashKind, Hop, Trail};
+
+#[cfg(test)]
+mod tests;

@@ -1,0 +1,104 @@
+// Which types match.
+ghost use Rattle.std.specs.Prelude.{◌≡◌, ◌<◌, length, false};
+ghost use Rattle.avro_resolve.specs.Match as spec;
+
+use crate::names::{names_match, primitives_match};
+use avro_schema::{Node, NodeId, Schema};
+
+/// Whether the reader's type `i` matches the writer's type `j`, whatever their parts resolve to.
+/// Takes no memory.
+pub fn matches(r: &Schema, i: NodeId, w: &Schema, j: NodeId) -> bool
+    requires reader { i.index < length r.now.nodes }
+    requires writer { j.index < length w.now.nodes }
+    ensures value { result ≡ spec.matches r.now.nodes w.now.nodes i j }
+    ensures by_cases { spec.IsByCases r.now.nodes w.now.nodes }
+    ensures each_itself { spec.EachMatchesItself r.now.nodes }
+{
+    let _sound = r.node_count();
+    match_inward(r, i, w, j)
+}
+
+/// The same, array by array and map by map.
+fn match_inward(r: &Schema, i: NodeId, w: &Schema, j: NodeId) -> bool
+    requires reader { i.index < length r.now.nodes }
+    requires writer { j.index < length w.now.nodes }
+    ensures { result ≡ spec.matches r.now.nodes w.now.nodes i j }
+{
+    let mut i = i;
+    let mut j = j;
+    let mut left = r.node_count();
+    let _sound = w.node_count();
+    'inward: loop {
+        let reader = r.node(i);
+        let writer = w.node(j);
+        match parts_of(reader, writer) {
+            Some((a, b)) => {
+                i = a;
+                j = b;
+            }
+            None => return nodes_match(reader, writer),
+        }
+        if left == 0 {
+            return false;
+        }
+        left -= 1;
+    }
+}
+
+/// What two arrays or two maps are of.
+fn parts_of(reader: &Node, writer: &Node) -> Option<(NodeId, NodeId)>
+    ensures { result ≡ spec.parts_of reader.now writer.now }
+{
+    match reader {
+        Node::Array(i) => match writer {
+            Node::Array(j) => Some((*i, *j)),
+            _ => None,
+        },
+        Node::Map(i) => match writer {
+            Node::Map(j) => Some((*i, *j)),
+            _ => None,
+        },
+        _ => None,
+    }
+}
+
+/// Whether two types match that aren't both arrays or both maps.
+fn nodes_match(reader: &Node, writer: &Node) -> bool
+    ensures { result ≡ spec.nodes_match (λ k l. false) reader.now writer.now }
+{
+    match reader {
+        Node::Union(_) => true,
+        Node::Primitive(p) => match writer {
+            Node::Primitive(q) => primitives_match(*p, *q),
+            _ => is_union(writer),
+        },
+        Node::Record { name, aliases, .. } => match writer {
+            Node::Record { name: other, .. } => names_match(name, aliases.as_slice(), other),
+            _ => is_union(writer),
+        },
+        Node::Enum { name, aliases, .. } => match writer {
+            Node::Enum { name: other, .. } => names_match(name, aliases.as_slice(), other),
+            _ => is_union(writer),
+        },
+        Node::Fixed {
+            name,
+            aliases,
+            size,
+        } => match writer {
+            Node::Fixed {
+                name: other,
+                size: written,
+                ..
+            } => *size == *written && names_match(name, aliases.as_slice(), other),
+            _ => is_union(writer),
+        },
+        Node::Array(_) => is_union(writer),
+        Node::Map(_) => is_union(writer),
+    }
+}
+
+fn is_union(node: &Node) -> bool
+    ensures { result ≡ spec.is_union node.now }
+{
+    matches!(node, Node::Union(_))
+}

@@ -1,0 +1,67 @@
+// Whether two schemas resolve.
+ghost use Rattle.std.specs.Prelude.{◌≡◌, ◌≤◌, ◌*◌, length, IfOk};
+
+use crate::search::Search;
+use crate::table::{Outcome, look_up};
+use crate::trail::Trail;
+use avro_schema::Schema;
+use std::alloc::{AllocError, Global};
+
+/// Whether a reader's schema and a writer's are compatible.
+#[derive(Debug, Drop)]
+pub enum Verdict {
+    /// No trail leads to a clash.
+    Compatible,
+    /// A shortest trail to a clash, and among the shortest the first in dictionary order of the
+    /// numbers that the pairs on it have among those that are owed by the one before.
+    Clash(Trail),
+}
+
+/// A verdict, and how many pairs of types were looked up for it.
+#[derive(Debug, Drop)]
+pub struct Counted {
+    pub verdict: Verdict,
+    pub pairs: usize,
+}
+
+ghost use Rattle.avro_resolve.specs.Verdict.{IsVerdict, HaveOneVerdict};
+
+/// Resolves a reader's schema `r` against a writer's schema `w` (Avro 1.11, "Schema Resolution").
+/// The only error is want of memory.
+pub fn resolve(alloc: Global, r: &Schema, w: &Schema) -> Result<Verdict, AllocError>
+    ensures verdict { IfOk result (IsVerdict r.now.nodes w.now.nodes) }
+    ensures one_verdict { HaveOneVerdict r.now.nodes w.now.nodes }
+{
+    Ok(resolve_counted(alloc, r, w)?.verdict)
+}
+
+/// The same, with the number of pairs of types that were looked up: at most one for each node of
+/// the one schema and each of the other.
+pub fn resolve_counted(alloc: Global, r: &Schema, w: &Schema) -> Result<Counted, AllocError>
+    ensures verdict { IfOk result (λ c. IsVerdict r.now.nodes w.now.nodes c.verdict) }
+    ensures pairs { IfOk result (λ c. c.pairs ≤ length r.now.nodes * length w.now.nodes) }
+{
+    let _sound = r.node_count();
+    let _sound = w.node_count();
+    let mut search = Search::start(alloc, r, w)?;
+    let mut head = 0;
+    'heads: while head < search.entries.len() {
+        let pair = search.entries[head].pair;
+        match look_up(alloc, r, w, pair)? {
+            Outcome::Clashes(kind) => {
+                let hops = search.hops_to(alloc, head)?;
+                let verdict = Verdict::Clash(Trail { hops, kind });
+                return Ok(Counted {
+                    verdict,
+                    pairs: head + 1,
+                });
+            }
+            Outcome::Owes(obligations) => search.expand(head, obligations)?,
+        }
+        head += 1;
+    }
+    Ok(Counted {
+        verdict: Verdict::Compatible,
+        pairs: head,
+    })
+}

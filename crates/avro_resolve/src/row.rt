@@ -1,0 +1,258 @@
+// The row of the table that a pair of types falls under, with what it takes from the schemas.
+ghost use Rattle.std.specs.Prelude.{◌≡◌, ◌<◌, ℕ, List, Option, is_some, All, length, not, find, option_copied};
+ghost use Rattle.avro_schema.specs.declared.node.Node.TheVariants as kind;
+ghost use Rattle.avro_schema.specs.Names.{has_text};
+ghost use Rattle.avro_resolve.specs.Table as spec;
+ghost use Rattle.avro_resolve.specs.Row.{outcome_of};
+
+use crate::fields::first_lacking;
+use crate::matching::matches;
+use crate::names::{names_match, primitives_match};
+use crate::table::Pair;
+use crate::trail::Hop;
+use avro_schema::{Field, FullName, Node, NodeId, Primitive, Schema};
+use base_text::Text;
+
+/// Why a pair clashes, with the name that it is about.
+#[derive(Drop)]
+pub enum Cause<'a> {
+    MissingUnionBranch,
+    NameMismatch,
+    LackingField(&'a Text),
+    UnknownSymbol(&'a Text),
+    FixedSizeMismatch,
+    TypeMismatch,
+}
+
+/// What a pair comes to, by what it takes from the schemas.
+#[derive(Drop)]
+pub enum Row<'a> {
+    Clash(Cause<'a>),
+    /// The reader's type with each branch of the writer's union.
+    WriterBranches(NodeId, &'a [NodeId]),
+    /// One obligation, whose hop takes no memory.
+    One(Hop, Pair),
+    /// The reader's fields and the writer's, where none lacks a value.
+    Fields(&'a [Field], &'a [Field]),
+    Nothing,
+}
+
+/// The row of a pair. Takes no memory.
+pub fn row_at<'a>(r: &'a Schema, w: &'a Schema, pair: Pair) -> Row<'a>
+    requires reader { pair.reader.index < length r.now.nodes }
+    requires writer { pair.writer.index < length w.now.nodes }
+    ensures { outcome_of result ≡ spec.outcome r.now.nodes w.now.nodes pair }
+{
+    // That the reader's branches are nodes of its schema is what counting them tells.
+    let _sound = r.node_count();
+    let writer = w.node(pair.writer);
+    if let Node::Union(branches) = writer {
+        return Row::WriterBranches(pair.reader, branches.as_slice());
+    }
+    match r.node(pair.reader) {
+        Node::Union(branches) => branch_row(r, branches.as_slice(), w, pair.writer),
+        reader => plain_row(reader, writer),
+    }
+}
+
+/// The row of two types that are no unions.
+fn plain_row<'a>(reader: &'a Node, writer: &'a Node) -> Row<'a>
+    ensures { outcome_of result ≡ spec.plain_row reader.now writer.now }
+{
+    match reader {
+        Node::Array(a) => match writer {
+            Node::Array(b) => one_row(Hop::Items, *a, *b),
+            _ => Row::Clash(Cause::TypeMismatch),
+        },
+        Node::Map(a) => match writer {
+            Node::Map(b) => one_row(Hop::Values, *a, *b),
+            _ => Row::Clash(Cause::TypeMismatch),
+        },
+        Node::Record {
+            name,
+            aliases,
+            fields,
+        } => record_row(name, aliases.as_slice(), fields.as_slice(), writer),
+        Node::Enum {
+            name,
+            aliases,
+            symbols,
+            default,
+        } => {
+            let has_default = default.is_some();
+            enum_row(
+                name,
+                aliases.as_slice(),
+                symbols.as_slice(),
+                has_default,
+                writer,
+            )
+        }
+        Node::Fixed {
+            name,
+            aliases,
+            size,
+        } => fixed_row(name, aliases.as_slice(), *size, writer),
+        Node::Primitive(p) => match writer {
+            Node::Primitive(q) => primitive_row(*p, *q),
+            _ => Row::Clash(Cause::TypeMismatch),
+        },
+        Node::Union(_) => Row::Clash(Cause::TypeMismatch),
+    }
+}
+
+/// One obligation.
+fn one_row<'a>(hop: Hop, reader: NodeId, writer: NodeId) -> Row<'a>
+    ensures { outcome_of result ≡ spec.to_part hop reader writer }
+{
+    Row::One(hop, Pair { reader, writer })
+}
+
+fn record_row<'a>(
+    name: &FullName,
+    aliases: &[FullName],
+    fields: &'a [Field],
+    writer: &'a Node,
+) -> Row<'a>
+    ensures { outcome_of result ≡ spec.plain_row (kind.Record name.now aliases.now fields.now) writer.now }
+{
+    match writer {
+        Node::Record {
+            name: other,
+            fields: others,
+            ..
+        } => {
+            if names_match(name, aliases, other) {
+                field_row(fields, others.as_slice())
+            } else {
+                Row::Clash(Cause::NameMismatch)
+            }
+        }
+        _ => Row::Clash(Cause::TypeMismatch),
+    }
+}
+
+fn enum_row<'a>(
+    name: &FullName,
+    aliases: &[FullName],
+    symbols: &[Text],
+    has_default: bool,
+    writer: &'a Node,
+) -> Row<'a>
+    ensures { (d : Option (List ℕ)) → is_some d ≡ has_default
+        → outcome_of result ≡ spec.plain_row (kind.Enum name.now aliases.now symbols.now d) writer.now }
+{
+    match writer {
+        Node::Enum {
+            name: other,
+            symbols: others,
+            ..
+        } => {
+            if names_match(name, aliases, other) {
+                symbol_row(symbols, has_default, others.as_slice())
+            } else {
+                Row::Clash(Cause::NameMismatch)
+            }
+        }
+        _ => Row::Clash(Cause::TypeMismatch),
+    }
+}
+
+fn fixed_row<'a>(name: &FullName, aliases: &[FullName], size: u32, writer: &Node) -> Row<'a>
+    ensures { outcome_of result ≡ spec.plain_row (kind.Fixed name.now aliases.now size) writer.now }
+{
+    match writer {
+        Node::Fixed {
+            name: other,
+            size: written,
+            ..
+        } => {
+            if !names_match(name, aliases, other) {
+                Row::Clash(Cause::NameMismatch)
+            } else if size == *written {
+                Row::Nothing
+            } else {
+                Row::Clash(Cause::FixedSizeMismatch)
+            }
+        }
+        _ => Row::Clash(Cause::TypeMismatch),
+    }
+}
+
+fn primitive_row<'a>(reader: Primitive, writer: Primitive) -> Row<'a>
+    ensures { outcome_of result ≡ spec.plain_row (kind.Primitive reader) (kind.Primitive writer) }
+{
+    if primitives_match(reader, writer) {
+        Row::Nothing
+    } else {
+        Row::Clash(Cause::TypeMismatch)
+    }
+}
+
+/// The row of a reader's union: its first branch that matches.
+fn branch_row<'a>(r: &Schema, branches: &[NodeId], w: &Schema, j: NodeId) -> Row<'a>
+    requires reader { All (λ b. b.index < length r.now.nodes) branches.now }
+    requires writer { j.index < length w.now.nodes }
+    ensures { outcome_of result ≡ spec.to_reader_branch j (spec.first_branch r.now.nodes w.now.nodes branches.now j) }
+{
+    match first_branch(r, branches, w, j) {
+        Some((k, b)) => Row::One(
+            Hop::Reader(k),
+            Pair {
+                reader: b,
+                writer: j,
+            },
+        ),
+        None => Row::Clash(Cause::MissingUnionBranch),
+    }
+}
+
+/// The first branch that matches, with its number.
+fn first_branch(r: &Schema, branches: &[NodeId], w: &Schema, j: NodeId) -> Option<(usize, NodeId)>
+    requires reader { All (λ b. b.index < length r.now.nodes) branches.now }
+    requires writer { j.index < length w.now.nodes }
+    ensures { result ≡ spec.first_branch r.now.nodes w.now.nodes branches.now j }
+{
+    for (k, b) in branches.iter().enumerate() {
+        if matches(r, *b, w, j) {
+            return Some((k, *b));
+        }
+    }
+    None
+}
+
+/// The row of two records whose names match.
+fn field_row<'a>(reader: &'a [Field], writer: &'a [Field]) -> Row<'a>
+    ensures { outcome_of result ≡ spec.to_fields reader.now writer.now }
+{
+    match first_lacking(reader, writer) {
+        Some(f) => Row::Clash(Cause::LackingField(&f.name)),
+        None => Row::Fields(reader, writer),
+    }
+}
+
+/// The row of two enums whose names match, where the reader's has a default or none.
+fn symbol_row<'a>(reader: &[Text], has_default: bool, writer: &'a [Text]) -> Row<'a>
+    ensures { outcome_of result ≡ spec.with_symbols reader.now has_default writer.now }
+{
+    if has_default {
+        return Row::Nothing;
+    }
+    match first_unknown(reader, writer) {
+        Some(s) => Row::Clash(Cause::UnknownSymbol(s)),
+        None => Row::Nothing,
+    }
+}
+
+/// The first of the writer's symbols that isn't among the reader's.
+fn first_unknown<'a>(reader: &[Text], writer: &'a [Text]) -> Option<&'a Text>
+    ensures { option_copied result ≡ find (λ s. not (has_text reader.now s)) writer.now }
+{
+    writer.iter().find(|s| !is_symbol(s, reader))
+}
+
+fn is_symbol(symbol: &Text, symbols: &[Text]) -> bool
+    ensures { result ≡ has_text symbols.now symbol.now }
+{
+    symbols.iter().any(|other| *symbol == *other)
+}

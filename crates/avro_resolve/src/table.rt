@@ -1,0 +1,114 @@
+// What a pair of types comes to: a clash, or the pairs that have to resolve for it.
+ghost use Rattle.std.specs.Prelude.{◌≡◌, ◌<◌, length, filter_map, map, IfOk};
+ghost use Rattle.avro_resolve.specs.Row.{kind_of};
+ghost use Rattle.avro_resolve.specs.Table as spec;
+
+use crate::fields::partner;
+use crate::row::{Cause, Row, row_at};
+use crate::trail::{ClashKind, Hop};
+use avro_schema::{Field, NodeId, Schema};
+use base_text::Listed;
+use std::alloc::{AllocError, Global};
+
+/// A reader's type and a writer's type.
+#[derive(Debug, Clone, Copy, PartialEq, Eq)]
+pub struct Pair {
+    pub reader: NodeId,
+    pub writer: NodeId,
+}
+
+/// A pair that has to resolve for another to do so, and the hop that leads to it.
+#[derive(Debug, Drop)]
+pub struct Obligation {
+    pub hop: Hop,
+    pub pair: Pair,
+}
+
+/// A pair either clashes, or has obligations, perhaps none.
+#[derive(Debug, Drop)]
+pub enum Outcome {
+    Clashes(ClashKind),
+    Owes(Listed<Obligation>),
+}
+
+/// What a pair comes to. The only error is want of memory.
+pub fn look_up(alloc: Global, r: &Schema, w: &Schema, pair: Pair) -> Result<Outcome, AllocError>
+    requires reader { pair.reader.index < length r.now.nodes }
+    requires writer { pair.writer.index < length w.now.nodes }
+    ensures { IfOk result (λ o. o ≡ spec.outcome r.now.nodes w.now.nodes pair) }
+{
+    match row_at(r, w, pair) {
+        Row::Clash(cause) => Ok(Outcome::Clashes(clash_kind(cause)?)),
+        Row::WriterBranches(i, branches) => {
+            let obligations = to_writer_branches(alloc, i, branches)?;
+            Ok(Outcome::Owes(Listed::from(obligations)))
+        }
+        Row::One(hop, next) => {
+            let mut obligations = Vec::new(alloc);
+            obligations.push(Obligation { hop, pair: next })?;
+            Ok(Outcome::Owes(Listed::from(obligations)))
+        }
+        Row::Fields(reader, writer) => {
+            let obligations = to_fields(alloc, reader, writer)?;
+            Ok(Outcome::Owes(Listed::from(obligations)))
+        }
+        Row::Nothing => Ok(Outcome::Owes(Listed::from(Vec::new(alloc)))),
+    }
+}
+
+fn clash_kind(cause: Cause<'_>) -> Result<ClashKind, AllocError>
+    ensures { IfOk result (λ kind. kind ≡ kind_of cause.entry) }
+{
+    match cause {
+        Cause::MissingUnionBranch => Ok(ClashKind::MissingUnionBranch),
+        Cause::NameMismatch => Ok(ClashKind::NameMismatch),
+        Cause::LackingField(name) => Ok(ClashKind::ReaderFieldMissingDefaultValue(name.clone()?)),
+        Cause::UnknownSymbol(name) => Ok(ClashKind::MissingEnumSymbols(name.clone()?)),
+        Cause::FixedSizeMismatch => Ok(ClashKind::FixedSizeMismatch),
+        Cause::TypeMismatch => Ok(ClashKind::TypeMismatch),
+    }
+}
+
+/// The reader's type with each branch of the writer's union.
+fn to_writer_branches(
+    alloc: Global,
+    i: NodeId,
+    branches: &[NodeId],
+) -> Result<Vec<Obligation>, AllocError>
+    ensures { IfOk result (λ os. os.items ≡ spec.owed_in (spec.to_writer_branches i branches.now)) }
+{
+    let mut obligations = Vec::new(alloc);
+    for (k, b) in branches.iter().enumerate() {
+        let pair = Pair {
+            reader: i,
+            writer: *b,
+        };
+        obligations.push(Obligation {
+            hop: Hop::Writer(k),
+            pair,
+        })?;
+    }
+    Ok(obligations)
+}
+
+/// The reader's fields that are paired, each with its partner.
+fn to_fields(
+    alloc: Global,
+    reader: &[Field],
+    writer: &[Field],
+) -> Result<Vec<Obligation>, AllocError>
+    ensures { IfOk result (λ os. os.items ≡ filter_map (spec.to_partner writer.now) reader.now) }
+{
+    let mut obligations = Vec::new(alloc);
+    for f in reader {
+        if let Some(g) = partner(writer, f) {
+            let hop = Hop::Field(f.name.clone()?);
+            let pair = Pair {
+                reader: f.node,
+                writer: g.node,
+            };
+            obligations.push(Obligation { hop, pair })?;
+        }
+    }
+    Ok(obligations)
+}

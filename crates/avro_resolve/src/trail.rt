@@ -1,0 +1,101 @@
+// Trails: the hops from the roots to a clash.
+
+use base_text::{Listed, Text};
+use std::fmt;
+
+/// A step from a pair of types to another pair that has to resolve for it.
+#[derive(Clone, Debug, Drop, PartialEq, Eq)]
+pub enum Hop {
+    /// Into the reader's field of that name, and the writer's field that it is paired with.
+    Field(Text),
+    /// Into the items of two arrays.
+    Items,
+    /// Into the values of two maps.
+    Values,
+    /// To a branch of the writer's union, counted from 0.
+    Writer(usize),
+    /// To a branch of the reader's union, counted from 0.
+    Reader(usize),
+}
+
+/// Why a reader's type can't read a writer's.
+#[derive(Clone, Debug, Drop, PartialEq, Eq)]
+pub enum ClashKind {
+    /// No branch of the reader's union matches.
+    MissingUnionBranch,
+    /// The names of two named types don't match.
+    NameMismatch,
+    /// The reader's field of that name has no field to read and no default.
+    ReaderFieldMissingDefaultValue(Text),
+    /// The reader's enum lacks that symbol and has no default.
+    MissingEnumSymbols(Text),
+    /// Two fixed types differ in size.
+    FixedSizeMismatch,
+    /// The types are of kinds that never resolve.
+    TypeMismatch,
+}
+
+/// The hops from the pair of roots to a pair that clashes, and why it does.
+#[derive(Debug, Drop)]
+pub struct Trail {
+    pub hops: Listed<Hop>,
+    pub kind: ClashKind,
+}
+
+impl fmt::Display for Hop {
+    ghost use Rattle.std.specs.Prelude.{Some};
+    ghost use Rattle.avro_resolve.specs.Texts.{hop_text};
+
+    ghost output = { λ hop. Some (hop_text hop) };
+
+    fn fmt<W: fmt::Write>(&self, f: &mut fmt::Formatter<W>) -> fmt::Result {
+        match self {
+            Hop::Field(name) => write!(f, "field:{}", name.as_str()),
+            Hop::Items => write!(f, "items"),
+            Hop::Values => write!(f, "values"),
+            Hop::Writer(k) => write!(f, "writer:{k}"),
+            Hop::Reader(k) => write!(f, "reader:{k}"),
+        }
+    }
+}
+
+impl fmt::Display for ClashKind {
+    ghost use Rattle.std.specs.Prelude.{Some};
+    ghost use Rattle.avro_resolve.specs.Texts.{clash_text};
+
+    ghost output = { λ kind. Some (clash_text kind) };
+
+    fn fmt<W: fmt::Write>(&self, f: &mut fmt::Formatter<W>) -> fmt::Result {
+        match self {
+            ClashKind::MissingUnionBranch => write!(f, "MISSING_UNION_BRANCH"),
+            ClashKind::NameMismatch => write!(f, "NAME_MISMATCH"),
+            ClashKind::ReaderFieldMissingDefaultValue(name) => {
+                write!(f, "READER_FIELD_MISSING_DEFAULT_VALUE {}", name.as_str())
+            }
+            ClashKind::MissingEnumSymbols(symbol) => {
+                write!(f, "MISSING_ENUM_SYMBOLS {}", symbol.as_str())
+            }
+            ClashKind::FixedSizeMismatch => write!(f, "FIXED_SIZE_MISMATCH"),
+            ClashKind::TypeMismatch => write!(f, "TYPE_MISMATCH"),
+        }
+    }
+}
+
+/// The hops alone: `/` and the hop for each hop, and `/` where there is none.
+impl fmt::Display for Trail {
+    ghost use Rattle.std.specs.Prelude.{Some};
+    ghost use Rattle.avro_resolve.specs.Texts.{trail_text};
+
+    ghost output = { λ trail. Some (trail_text trail.hops) };
+
+    fn fmt<W: fmt::Write>(&self, f: &mut fmt::Formatter<W>) -> fmt::Result {
+        let hops = self.hops.as_slice();
+        if hops.is_empty() {
+            return write!(f, "/");
+        }
+        for hop in hops {
+            write!(f, "/{hop}")?;
+        }
+        Ok(())
+    }
+}
