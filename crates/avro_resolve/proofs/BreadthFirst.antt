@@ -567,7 +567,7 @@ pub record IsSearched (r w : List Node) (es : List Entry) (n : ℕ) : Type 0 whe
 
 -- each entry leads back
 pub leads_back : (r w : List Node) (es : List Entry) (n : ℕ) → IsSearched r w es n → LeadsBack es
-leads_back r w es n k = subst LeadsBack (sym k.entries) back
+leads_back r w es n k = subst LeadsBack (sym {a = es} k.entries) back
   where
     stands : (gs : List Reached) (x : ℕ) (s : Step) → from_at (entries_of gs) x ≡ Some s → (g : Reached) × (slice_get gs x ≡ Some g) × (g.entry.from ≡ Some s)
     stands [] x s e = cc

@@ -119,18 +119,13 @@ pub record IsInward (r w : List Node) (i j a b : NodeId) (left : ℕ) : Type 0 w
   pub writer : b.index < length w
   pub decides : matches r w i j ≡ matches_within (suc left) r w a b
 
--- types that aren't both arrays or both maps match whatever parts do
-without_parts : (p q : NodeId → NodeId → Bool) (m n : Node) → parts_of m n ≡ None → nodes_match p m n ≡ nodes_match q m n
-without_parts p q (kind.Array c) (kind.Array d) e = cc
-without_parts p q (kind.Map c) (kind.Map d) e = cc
-without_parts p q _ _ e = refl
-
--- and the others match where their parts do
+-- two arrays or two maps match where their parts do
 by_parts : (p : NodeId → NodeId → Bool) (m n : Node) (c d : NodeId) → parts_of m n ≡ Some (c, d) → nodes_match p m n ≡ p c d
 by_parts p (kind.Array a) (kind.Array b) c d e = let one : (a, b) ≡ (c, d) = cc in ap (λ (x : NodeId × NodeId). p x.0 x.1) one
 by_parts p (kind.Map a) (kind.Map b) c d e = let one : (a, b) ≡ (c, d) = cc in ap (λ (x : NodeId × NodeId). p x.0 x.1) one
 by_parts p _ _ c d e = cc
 
+-- the parts are those of the two types
 reader_part : (m n : Node) (c d : NodeId) → parts_of m n ≡ Some (c, d) → IsOf c (Some m)
 reader_part (kind.Array a) (kind.Array b) c d e = let one : (a, b) ≡ (c, d) = cc in ap (λ (x : NodeId × NodeId). Some x.0) one
 reader_part (kind.Map a) (kind.Map b) c d e = let one : (a, b) ≡ (c, d) = cc in ap (λ (x : NodeId × NodeId). Some x.0) one
@@ -143,15 +138,10 @@ writer_part _ _ c d e = cc
 
 module _ {r w : List Node} {i j a b : NodeId} {left : ℕ} (now : IsInward r w i j a b left) {m n : Node} (m_at : slice_get r a.index ≡ Some m) (n_at : slice_get w b.index ≡ Some n) where
   -- the two nodes decide
-  pub at_nodes : matches r w i j ≡ nodes_match (λ k l. matches_within left r w k l) m n
+  at_nodes : matches r w i j ≡ nodes_match (λ k l. matches_within left r w k l) m n
   at_nodes = now.decides ∙ ap (λ o. both (nodes_match (λ k l. matches_within left r w k l)) o (slice_get w b.index)) m_at ∙ ap (λ o. both (nodes_match (λ k l. matches_within left r w k l)) (Some m) o) n_at
 
-  pub at_last : parts_of m n ≡ None → nodes_match (λ k l. false) m n ≡ matches r w i j
-  at_last e = sym (at_nodes ∙ without_parts (λ k l. matches_within left r w k l) (λ k l. false) m n e)
-
-  pub not_further : (c d : NodeId) → parts_of m n ≡ Some (c, d) → left ≡ 0 → false ≡ matches r w i j
-  not_further c d e none = sym (at_nodes ∙ by_parts (λ k l. matches_within left r w k l) m n c d e ∙ ap (λ k. matches_within k r w c d) none)
-
+  -- one step on
   pub further : IsSound r → IsSound w → (c d : NodeId) → parts_of m n ≡ Some (c, d) → left ≢ 0 → IsInward r w i j c d (left - 1)
   further s t c d e more =
       let one_less : left ≡ suc (left - 1) = omega arith in

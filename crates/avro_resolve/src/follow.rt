@@ -13,7 +13,7 @@ use avro_schema::{Field, NodeId, Schema};
 
 impl Trail {
     /// Whether the hops lead from the roots of a reader's and a writer's schema to a pair that
-    /// clashes in this way. Takes no memory.
+    /// clashes in this way. A trail need not be the one that `resolve` shows. Takes no memory.
     pub fn check(&self, r: &Schema, w: &Schema) -> bool
         ensures trail { IsTrue result ↔ IsTrail r.now.nodes w.now.nodes self.now }
         ensures hops_name_one { HopsNameOne r.now.nodes w.now.nodes }
@@ -22,6 +22,7 @@ impl Trail {
             reader: r.root(),
             writer: w.root(),
         };
+        // Counting the nodes tells that they are sound.
         let _sound = r.node_count();
         let _sound = w.node_count();
         for hop in self.hops.as_slice() {

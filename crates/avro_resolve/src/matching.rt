@@ -5,8 +5,10 @@ ghost use Rattle.avro_resolve.specs.Match as spec;
 use crate::names::{names_match, primitives_match};
 use avro_schema::{Node, NodeId, Schema};
 
-/// Whether the reader's type `i` matches the writer's type `j`, whatever their parts resolve to.
-/// Takes no memory.
+/// Whether the reader's type `i` matches the writer's type `j` (Avro 1.11, "Schema Resolution").
+///
+/// Arrays match where their items do, and maps where their values do; what is inside a record or a
+/// union isn't looked at. Each id is below its schema's `node_count`. Takes no memory.
 pub fn matches(r: &Schema, i: NodeId, w: &Schema, j: NodeId) -> bool
     requires reader { i.index < length r.now.nodes }
     requires writer { j.index < length w.now.nodes }
@@ -14,6 +16,7 @@ pub fn matches(r: &Schema, i: NodeId, w: &Schema, j: NodeId) -> bool
     ensures by_cases { spec.IsByCases r.now.nodes w.now.nodes }
     ensures each_itself { spec.EachMatchesItself r.now.nodes }
 {
+    // Counting the nodes tells that they are sound.
     let _sound = r.node_count();
     match_inward(r, i, w, j)
 }

@@ -12,8 +12,8 @@ use std::alloc::{AllocError, Global};
 pub enum Verdict {
     /// No trail leads to a clash.
     Compatible,
-    /// A shortest trail to a clash, and among the shortest the first in dictionary order of the
-    /// numbers that the pairs on it have among those that are owed by the one before.
+    /// A shortest trail to a clash. Of several it is the first in dictionary order of its pairs'
+    /// numbers: a pair's number is its place among those that the pair before it needs.
     Clash(Trail),
 }
 
@@ -27,7 +27,9 @@ pub struct Counted {
 ghost use Rattle.avro_resolve.specs.Verdict.{IsVerdict, HaveOneVerdict};
 
 /// Resolves a reader's schema `r` against a writer's schema `w` (Avro 1.11, "Schema Resolution").
-/// The only error is want of memory.
+///
+/// Whether a field has a default counts, and not whether the default is valid. The only error is
+/// want of memory.
 pub fn resolve(alloc: Global, r: &Schema, w: &Schema) -> Result<Verdict, AllocError>
     ensures verdict { IfOk result (IsVerdict r.now.nodes w.now.nodes) }
     ensures one_verdict { HaveOneVerdict r.now.nodes w.now.nodes }
@@ -35,12 +37,13 @@ pub fn resolve(alloc: Global, r: &Schema, w: &Schema) -> Result<Verdict, AllocEr
     Ok(resolve_counted(alloc, r, w)?.verdict)
 }
 
-/// The same, with the number of pairs of types that were looked up: at most one for each node of
-/// the one schema and each of the other.
+/// The same, with the number of pairs of types that were looked up: at most `r.node_count()` times
+/// `w.node_count()`.
 pub fn resolve_counted(alloc: Global, r: &Schema, w: &Schema) -> Result<Counted, AllocError>
     ensures verdict { IfOk result (λ c. IsVerdict r.now.nodes w.now.nodes c.verdict) }
     ensures pairs { IfOk result (λ c. c.pairs ≤ length r.now.nodes * length w.now.nodes) }
 {
+    // Counting the nodes tells that they are sound.
     let _sound = r.node_count();
     let _sound = w.node_count();
     let mut search = Search::start(alloc, r, w)?;

@@ -43,7 +43,7 @@ pub fn row_at<'a>(r: &'a Schema, w: &'a Schema, pair: Pair) -> Row<'a>
     requires writer { pair.writer.index < length w.now.nodes }
     ensures { outcome_of result ≡ spec.outcome r.now.nodes w.now.nodes pair }
 {
-    // That the reader's branches are nodes of its schema is what counting them tells.
+    // Counting the nodes tells that they are sound.
     let _sound = r.node_count();
     let writer = w.node(pair.writer);
     if let Node::Union(branches) = writer {

@@ -248,7 +248,7 @@ fn resolves_other_types(rt: HostRuntime) -> Result<(), Fail> {
     Ok(())
 }
 
-static UNIONS: [Row; 14] = [
+static UNIONS: [Row; 17] = [
     (r#"["null","string"]"#, r#""string""#, COMPATIBLE),
     (
         r#"["null","string"]"#,
@@ -291,6 +291,23 @@ static UNIONS: [Row; 14] = [
         r#"{"type":"fixed","name":"F","size":5}"#,
         "/: MISSING_UNION_BRANCH",
     ),
+    // Records match by an alias too, and otherwise not at all.
+    (
+        r#"["null",{"type":"record","name":"New","aliases":["Old"],"fields":[]}]"#,
+        r#"["null",{"type":"record","name":"Old","fields":[]}]"#,
+        COMPATIBLE,
+    ),
+    (
+        r#"["null",{"type":"record","name":"New","fields":[]}]"#,
+        r#"["null",{"type":"record","name":"Old","fields":[]}]"#,
+        "/writer:1: MISSING_UNION_BRANCH",
+    ),
+    // Enums match by their names alone.
+    (
+        r#"["null",{"type":"enum","name":"E","symbols":["A"]}]"#,
+        r#"{"type":"enum","name":"E","symbols":["A","B"]}"#,
+        "/reader:1: MISSING_ENUM_SYMBOLS B",
+    ),
     ("[]", r#""int""#, "/: MISSING_UNION_BRANCH"),
     (r#""int""#, "[]", COMPATIBLE),
     ("[]", "[]", COMPATIBLE),
@@ -307,7 +324,8 @@ static PRIMITIVES: [&str; 8] = [
     "null", "boolean", "int", "long", "float", "double", "bytes", "string",
 ];
 
-/// A row for each writer's primitive: the readers' that read it, in the order above.
+/// A row for each writer's primitive: `+` for each of the readers' that reads it, and `-` for each
+/// that is of another type, in the order above.
 static READ_BY: [(&str, &str); 8] = [
     ("null", "+-------"),
     ("boolean", "-+------"),
@@ -326,8 +344,11 @@ fn readers_of(alloc: Global, writer: &str) -> Result<String, Fail> {
     for reader in &PRIMITIVES {
         let reader = format!(in alloc; "\"{reader}\"")?;
         let found = verdict(alloc, reader.as_str(), writer.as_str())?;
-        let reads = found.as_str() == COMPATIBLE;
-        marks.push_str(if reads { "+" } else { "-" })?;
+        marks.push_str(match found.as_str() {
+            COMPATIBLE => "+",
+            "/: TYPE_MISMATCH" => "-",
+            _ => "?",
+        })?;
     }
     Ok(marks)
 }
@@ -338,34 +359,46 @@ fn resolves_primitives(rt: HostRuntime) -> Result<(), Fail> {
         let found = readers_of(rt.alloc(), writer)?;
         assert_eq!(rt; found.as_str(), *want, "{writer}");
     }
-    assert_eq!(rt;
-        verdict(rt.alloc(), "\"int\"", "\"long\"")?.as_str(),
-        "/: TYPE_MISMATCH"
-    );
     Ok(())
 }
 
-static ARRAY_OF_INTS: &str =
-    r#"{"type":"record","name":"R","fields":[{"name":"a","type":{"type":"array","items":"int"}},{"name":"b","type":"int","default":0}]}"#;
+static INTS: &str =
+    r#"{"type":"record","name":"R","fields":[{"name":"a","type":{"type":"array","items":"int"}},{"name":"b","type":"int","default":0},{"name":"next","type":["null","R"]}]}"#;
 
-static ARRAY_OF_STRINGS: &str =
-    r#"{"type":"record","name":"R","fields":[{"name":"a","type":{"type":"array","items":"string"}},{"name":"c","type":"string"}]}"#;
+static STRINGS: &str =
+    r#"{"type":"record","name":"R","fields":[{"name":"a","type":{"type":"array","items":"string"}},{"name":"c","type":"string"},{"name":"next","type":["null","R"]}]}"#;
 
 /// Hops by their last words, whether the types are said to mismatch or the names, and whether
 /// they are a trail of the two schemas above.
-static HOPS: [(&str, bool, bool); 6] = [
+static HOPS: [(&str, bool, bool); 13] = [
     ("a items", true, true),
+    // Another kind, an end too early, and a field that the writer lacks.
     ("a items", false, false),
     ("a", true, false),
+    ("", true, false),
     ("b", true, false),
+    ("c", true, false),
+    // Hops of other types.
     ("a values", true, false),
     ("a items items", true, false),
+    ("items", true, false),
+    // A trail need not be a shortest one.
+    ("next writer:1 reader:1 a items", true, true),
+    // Another branch than the first that matches, one that ends without a clash, and none.
+    ("next writer:1 reader:0 a items", true, false),
+    ("next writer:0 reader:0", true, false),
+    ("next writer:2 reader:1 a items", true, false),
 ];
 
 fn hop(alloc: Global, word: &str) -> Result<Hop, AllocError> {
     match word {
         "items" => Ok(Hop::Items),
         "values" => Ok(Hop::Values),
+        "writer:0" => Ok(Hop::Writer(0)),
+        "writer:1" => Ok(Hop::Writer(1)),
+        "writer:2" => Ok(Hop::Writer(2)),
+        "reader:0" => Ok(Hop::Reader(0)),
+        "reader:1" => Ok(Hop::Reader(1)),
         name => Ok(Hop::Field(Text::copy_of(alloc, name)?)),
     }
 }
@@ -386,8 +419,8 @@ fn trail(alloc: Global, words: &str, types: bool) -> Result<Trail, AllocError> {
 
 #[test]
 fn checks_trails(rt: HostRuntime) -> Result<(), Fail> {
-    let r = Schema::read(rt.alloc(), ARRAY_OF_INTS)?;
-    let w = Schema::read(rt.alloc(), ARRAY_OF_STRINGS)?;
+    let r = Schema::read(rt.alloc(), INTS)?;
+    let w = Schema::read(rt.alloc(), STRINGS)?;
     for (words, types, want) in &HOPS {
         let found = trail(rt.alloc(), words, *types)?.check(&r, &w);
         assert_eq!(rt; found, *want, "{words}");
@@ -402,6 +435,7 @@ fn matches_types(rt: HostRuntime) -> Result<(), Fail> {
         r#"[{"type":"array","items":"long"},{"type":"map","values":"long"}]"#,
     )?;
     let w = Schema::read(rt.alloc(), r#"{"type":"array","items":"int"}"#)?;
+    assert!(rt; w.node_count() == 2);
     let mut found = Vec::new(rt.alloc());
     for index in 0..r.node_count() {
         found.push(matches(&r, NodeId { index }, &w, w.root()))?;

@@ -31,7 +31,8 @@ pub enum ClashKind {
     MissingEnumSymbols(Text),
     /// Two fixed types differ in size.
     FixedSizeMismatch,
-    /// The types are of kinds that never resolve.
+    /// The types are of different kinds, or two primitives of which the writer's isn't promoted to
+    /// the reader's.
     TypeMismatch,
 }
 
