@@ -1,12 +1,11 @@
 -- The reading of a line is that of the grammar.
-use Rattle.std.proofs.Common.{◌≡◌, ℕ, zero, suc, ◌≤◌, ◌<◌, ◌^◌, ◌==◌, Bool, true, false, cond, not, ◌&&◌, List, [], ◌∷◌, length, get_or, nat_lt, nat_le, decimal, Option, Some, None, Result, Ok, Err, refl, sym, ap, ◌∙◌, arith, rules, eq-eqb}
+use Rattle.std.proofs.Common.{◌≡◌, ℕ, zero, suc, ◌≤◌, ◌<◌, ◌^◌, ◌==◌, Bool, true, false, cond, not, ◌&&◌, List, length, get_or, nat_lt, decimal, Option, Some, None, Result, Ok, Err, refl, sym, ap, ◌∙◌, arith, rules, eq-eqb}
 use Rattle.std.specs.Option.{option_map_or}
 use Rattle.std.specs.Char.{is_ascii_digit}
 use Rattle.std.specs.List.{list_all}
 use Rattle.std.specs.Prelude.{count_by}
-use Rattle.std.specs.Str.{is_utf8}
 use Rattle.std.specs.Str.Parse.{digits_value}
-use Rattle.std.proofs.lemmas.Bool.{and_parts, and_from, and_right, not-false, not_from_false, ne_eqb, eqb-true, eqb-false, le-leb, leb-true, le-ltb, ltb-false, lt-ltb}
+use Rattle.std.proofs.lemmas.Bool.{and_parts, and_from, and_right, not_from_false, ne_eqb, eqb-true, eqb-false, le-leb, leb-true, le-ltb, ltb-false}
 use Rattle.std.proofs.lemmas.Fmt.{decimal_digit, decimal_nonempty, first_decimal, digits_decimal, digits_value-decimal, decimal-digits_value}
 use Rattle.std.proofs.lemmas.Str.Parse.{IsNumeralModel, numerals_by_value}
 use Rattle.reg_records.specs.declared.line.LineError.{LineError}
@@ -14,7 +13,7 @@ use Rattle.reg_records.specs.declared.line.LineError.TheVariants.{BadOffset}
 use Rattle.reg_records.specs.declared.limits.TheConstants.{OFFSET_LIMIT, LINE_LIMIT}
 use Rattle.reg_records.specs.declared.record.Read.{Read}
 use Rattle.reg_records.specs.Line.{is_tab, is_decimal, offset_of, offset_field, key_field, value_field, read_at, reading, line_of, IsLine, Spells}
-use Rattle.reg_records.proofs.Fields.{offset_field-line_of, key_field-line_of, value_field-line_of, count_by-line_of, HasFields, has_fields}
+use Rattle.reg_records.proofs.Fields.{offset_field-line_of, key_field-line_of, value_field-line_of, count_by-line_of, has_fields}
 use Rattle.reg_records.proofs.Controls.{are_shown-decimal, is_free_of-are_shown}
 
 own : IsNumeralModel (λ ds. list_all is_ascii_digit ds ≡ true) (digits_value 10)

@@ -1,5 +1,5 @@
 -- How the bytes that were taken for a line grow.
-use Rattle.std.proofs.Common.{◌≡◌, ◌<◌, ◌⊎◌, inl, inr, List, ℕ, [], ◌∷◌, ◌++◌, length, None, Some, OnSome, IsTrue, false, sym, ap, subst, ◌∙◌, refl, arith, append_assoc}
+use Rattle.std.proofs.Common.{◌≡◌, ◌<◌, inl, inr, List, ℕ, [], ◌∷◌, ◌++◌, length, None, Some, OnSome, IsTrue, false, sym, ap, subst, ◌∙◌, refl, arith, append_assoc}
 use Rattle.std.specs.Io.KnownBytes.{Consumes, Keeps, IsAtEnd}
 use Rattle.std.proofs.KnownBytes.{Consumes-trans, Consumes-kept}
 use Rattle.std.proofs.lemmas.List.Elements.{All-append}

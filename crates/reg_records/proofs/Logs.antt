@@ -1,9 +1,9 @@
 -- What a line is to the log that it begins.
-use Rattle.std.proofs.Common.{◌≡◌, ◌<◌, ◌≤◌, ◌+◌, ◌⊎◌, ℕ, suc, cond, Bool, true, false, not, List, [], ◌∷◌, ◌++◌, length, None, Some, IfSome, IfErr, OnSome, inl, inr, Result, Ok, Err, refl, sym, ap, subst, ◌∙◌, arith, append_assoc, append-nil, nat_lt}
-use Rattle.std.specs.Prelude.{Option, IsTrue, count_by, All, max}
+use Rattle.std.proofs.Common.{◌≡◌, ◌<◌, ◌≤◌, ◌+◌, ℕ, suc, cond, true, false, List, [], ◌∷◌, ◌++◌, length, None, Some, IfSome, OnSome, inl, inr, Result, Ok, Err, refl, sym, ap, ◌∙◌, arith, append_assoc, append-nil, nat_lt}
+use Rattle.std.specs.Prelude.{Option, IsTrue, count_by, max}
 use Rattle.std.specs.Option.{option_to_list}
 use Rattle.std.specs.List.{slice_split, onto_first, join_with_byte}
-use Rattle.std.specs.Io.KnownBytes.{Consumes, Keeps, IsAtEnd}
+use Rattle.std.specs.Io.KnownBytes.{Consumes, IsAtEnd}
 use Rattle.std.proofs.lemmas.List.Splits.{slice_split_at, slice_split_none, join_with_byte-slice_split}
 use Rattle.std.proofs.KnownBytes.{Consumes-trans}
 use Rattle.std.proofs.lemmas.List.Sums.{position_or_len_is, sum_by-append, count_by-le-length}
@@ -11,17 +11,16 @@ use Rattle.std.proofs.lemmas.List.Elements.{filter_map-append}
 use Rattle.std.proofs.lemmas.Bool.Decides.{nat_tests}
 use Rattle.reg_records.proofs.Lines.{length-of_nonempty}
 use Rattle.reg_records.proofs.Tabs.{count_by-none}
-use Rattle.reg_records.specs.Device.{HasFaulted, faults_of, reads_of}
+use Rattle.reg_records.specs.Device.{faults_of}
 use Rattle.reg_records.specs.Line.{is_line_feed, reading}
 use Rattle.reg_records.specs.Log.{LogText, log_from, log_of, map_log, with_read, line_then, fault_at, is_empty_line, record_in, records_in, is_foreign, offset_in, next_after, IsLogOf, IsLogRefusal}
-use Rattle.reg_records.specs.LogSteps.{AddsRead, StepsLog, IsStepRefusal, IsLineRefusal}
+use Rattle.reg_records.specs.LogSteps.{AddsRead, IsStepRefusal, IsLineRefusal}
 use Rattle.reg_records.specs.declared.device.Device.{Device}
 use Rattle.reg_records.specs.declared.log.Log.{Log}
 use Rattle.reg_records.specs.declared.log.LogError.{LogError}
 use Rattle.reg_records.specs.declared.log.LogError.TheVariants as errors
-use Rattle.reg_records.specs.Pieces.{HasNoLineFeed, LosesReader}
-use Rattle.reg_records.specs.declared.limits.TheConstants.{LOG_LINES, LINE_READS}
-use Rattle.reg_records.specs.declared.line.LineError.{LineError}
+use Rattle.reg_records.specs.Pieces.{HasNoLineFeed}
+use Rattle.reg_records.specs.declared.limits.TheConstants.{LOG_LINES}
 use Rattle.reg_records.specs.declared.line.LineError.TheVariants.{Truncated}
 use Rattle.reg_records.specs.declared.log.LogFault.{LogFault}
 use Rattle.reg_records.specs.declared.log.LogFault.TheVariants.{TooManyLines}

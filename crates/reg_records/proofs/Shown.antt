@@ -1,5 +1,5 @@
 -- What is written for a key or a value holds no control character.
-use Rattle.std.proofs.Common.{◌≡◌, ℕ, ◌^◌, ◌<◌, ◌≤◌, Bool, true, false, List, [], ◌∷◌, ◌++◌, Option, Some, None, decimal, bytes_eq, codes, refl, subst, arith}
+use Rattle.std.proofs.Common.{◌≡◌, ℕ, ◌≤◌, Bool, true, false, Some, None, bytes_eq, codes, refl, subst, arith}
 use Rattle.std.specs.Option.{ForSome}
 use Rattle.json.specs.Print.{quoted}
 use Rattle.serde_json.specs.Data.{Data, object, Members, no_members, member}

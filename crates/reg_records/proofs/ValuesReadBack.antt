@@ -1,20 +1,16 @@
 -- The text that is written for a value reads back, under its key.
-use Rattle.std.proofs.Common.{◌≡◌, ◌≤◌, ◌<◌, ◌^◌, ◌==◌, ℕ, List, [], Bool, true, false, Option, Some, None, option_and_then, codes, sym, ap, ◌∙◌, refl, eq-eqb, arith}
+use Rattle.std.proofs.Common.{◌≡◌, ◌==◌, ℕ, List, Bool, true, Some, option_and_then, ap, ◌∙◌, refl, eq-eqb, arith}
 use Rattle.std.proofs.lemmas.Bool.{le-leb}
 use Rattle.std.proofs.lemmas.Slice.Eq.{bytes_eq-Decides}
 use Rattle.std.specs.Prelude.{bytes_eq}
-use Rattle.json.specs.Tree.{depth, HasNumbers}
 use Rattle.json.proofs.Printed.Decimals.{IsNumber-decimal}
-use Rattle.serde_json.specs.Data.{Data}
-use Rattle.serde_json.specs.Read.{read, of_json, max_depth}
-use Rattle.serde_json.specs.Written.{compact_text, outline}
+use Rattle.serde_json.specs.Read.{read}
+use Rattle.serde_json.specs.Written.{compact_text}
 use Rattle.serde_json.proofs.Numbers.{number_of-decimal}
 use Rattle.reg_records.specs.declared.key.Key.{Key}
-use Rattle.reg_records.specs.declared.key.Key.TheVariants.{Schema, Config, Mode, DeleteSubject, Noop}
+use Rattle.reg_records.specs.declared.key.Key.TheVariants.{Schema, Config, Mode, DeleteSubject}
 use Rattle.reg_records.specs.declared.value.Value.{Value}
 use Rattle.reg_records.specs.declared.value.Value.TheVariants as values
-use Rattle.reg_records.specs.declared.record.Record.{Record}
-use Rattle.reg_records.specs.Json.{within_number_limit}
 use Rattle.reg_records.specs.Value.{value_in, value_of}
 use Rattle.reg_records.specs.Written.{schema_data, config_data, mode_data, delete_subject_data, written_value, IsVersionOrId, IsValueOf}
 use Rattle.reg_records.proofs.ReadsBack.{read-compact_text}

@@ -1,13 +1,12 @@
 -- The line that is written for a record reads as that record.
-use Rattle.std.proofs.Common.{◌≡◌, ℕ, ◌≤◌, ◌<◌, ◌^◌, Bool, true, false, cond, List, [], ◌∷◌, ◌++◌, length, decimal, codes, bytes_eq, unwrap_or, Option, Some, None, Ok, Err, refl, sym, ap, ap₂, ◌∙◌, arith, append_assoc}
+use Rattle.std.proofs.Common.{◌≡◌, ℕ, ◌≤◌, true, List, [], ◌∷◌, ◌++◌, length, decimal, codes, unwrap_or, Option, Some, None, Ok, Err, refl, ap, ◌∙◌, arith, append_assoc}
 use Rattle.std.specs.Option.{ForSome, option_map_or}
 use Rattle.std.specs.Str.{is_utf8}
 use Rattle.reg_records.specs.declared.limits.TheConstants.{LINE_LIMIT}
 use Rattle.reg_records.specs.declared.line.LineError.TheVariants.{Truncated}
 use Rattle.reg_records.specs.declared.record.Record.{Record}
 use Rattle.reg_records.specs.declared.record.Read.TheVariants as reads
-use Rattle.reg_records.specs.Key.{key_of}
-use Rattle.reg_records.specs.Line.{is_tab, is_line_feed, is_free_of, value_text, read_at, reading, reading_at_front}
+use Rattle.reg_records.specs.Line.{is_tab, is_line_feed, is_free_of, value_text, reading, reading_at_front}
 use Rattle.reg_records.specs.Written.{written_key, IsValueField, HasLine, line_text, written_line}
 use Rattle.reg_records.proofs.Controls.{are_shown-decimal, is_free_of-are_shown}
 use Rattle.reg_records.proofs.Fields.{is_free_of-append, first_line-seam}

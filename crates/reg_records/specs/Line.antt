@@ -1,5 +1,5 @@
 -- A line is `offset TAB key TAB value`, in UTF-8, before its LF.
-use Rattle.std.specs.Prelude.{◌≡◌, ◌≤◌, ⊤, ℕ, List, [], ◌∷◌, ◌++◌, Bool, true, ◌&&◌, ◌||◌, ◌==◌, not, nat_lt, nat_le, length, take, slice_index, bytes_eq, codes, decimal, count_by, position, Option, Some, None, option_map, Result, Ok, Err, if◌then◌else◌}
+use Rattle.std.specs.Prelude.{◌≡◌, ◌≤◌, ⊤, ℕ, List, ◌∷◌, ◌++◌, Bool, true, ◌&&◌, ◌==◌, not, nat_lt, nat_le, length, take, slice_index, bytes_eq, codes, decimal, count_by, position, Option, Some, None, option_map, Result, Ok, Err, if◌then◌else◌}
 use Rattle.std.specs.Char.{is_ascii_digit}
 use Rattle.std.specs.List.{before_first, after_first, list_all}
 use Rattle.std.specs.Option.{option_map_or}

@@ -1,12 +1,11 @@
 -- What one line adds to a log.
-use Rattle.std.specs.Prelude.{◌≡◌, ⊤, ℕ, suc, ◌+◌, ◌≤◌, max, List, [], ◌++◌, Bool, true, false, Option, Some, None, IfSome, Result, Ok, Err, count_by, if◌then◌else◌}
+use Rattle.std.specs.Prelude.{◌≡◌, ⊤, ℕ, suc, ◌+◌, ◌≤◌, max, List, [], ◌++◌, Bool, true, false, Option, Some, IfSome, Result, Ok, Err, count_by, if◌then◌else◌}
 use Rattle.std.specs.Option.{option_to_list}
 use Rattle.std.specs.List.{slice_split}
 use Rattle.std.specs.Io.KnownBytes.{Consumes}
-use Rattle.reg_records.specs.Device.{HasFaulted, faults_of, reads_of}
 use Rattle.reg_records.specs.Line.{is_line_feed, reading}
 use Rattle.reg_records.specs.Log.{LogText, log_from, map_log, with_read, line_then, record_in, is_foreign, offset_in}
-use Rattle.reg_records.specs.Pieces.{HasNoLineFeed, LosesReader}
+use Rattle.reg_records.specs.Pieces.{LosesReader}
 use Rattle.reg_records.specs.declared.device.Device.{Device}
 use Rattle.reg_records.specs.declared.limits.TheConstants.{LOG_LINES}
 use Rattle.reg_records.specs.declared.log.Log.{Log}

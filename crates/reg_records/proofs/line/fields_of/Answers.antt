@@ -1,4 +1,4 @@
-use Rattle.std.proofs.Common.{◌≡◌, ◌+◌, ◌<◌, Some, None, suc, length, MatchOption, ap, arith, rules, Bor, List, ℕ}
+use Rattle.std.proofs.Common.{◌≡◌, ◌<◌, length, ap, arith, rules}
 use Rattle.std.specs.Prelude.{count_by}
 use Rattle.std.specs.List.{position_or_len, before_first, after_first}
 use Rattle.std.proofs.lemmas.Str.Pattern.{split_once_first}

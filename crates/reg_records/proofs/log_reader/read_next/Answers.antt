@@ -1,4 +1,4 @@
-use Rattle.std.proofs.Common.{◌≡◌, ℕ, List, [], ◌∷◌, ◌++◌, refl, ap, ◌∙◌, rules, true, false}
+use Rattle.std.proofs.Common.{◌≡◌, [], ◌∷◌, ◌++◌, refl, ap, true}
 use Rattle.std.proofs.lemmas.Result.{err_from_is_err_and}
 use Rattle.reg_records.specs.Log.{is_empty_line}
 use Rattle.reg_records.proofs.Logs.{log_from-read, log_from-ended, log_from-unended, line_feeds-line, IsStepRefusal-line, is_empty_line-unless}

@@ -1,8 +1,7 @@
-use Rattle.std.proofs.Common.{◌≡◌, false, get_or, subst, arith, rules, take_all}
+use Rattle.std.proofs.Common.{◌≡◌, false, get_or, arith, take_all}
 use Rattle.std.proofs.lemmas.List.Elements.{All-more}
 use Rattle.std.proofs.lemmas.Bool.Decides.{nat_tests}
 use Rattle.reg_records.specs.Line.{is_line_feed}
-use Rattle.reg_records.specs.Pieces.{HasNoLineFeed}
 use Rattle.reg_records.proofs.pieces.line_feed_place.Goals as goal
 
 pub loop-i-preserved : goal.loop-i-preserved

@@ -1,9 +1,9 @@
-use Rattle.std.proofs.Common.{◌≡◌, ◌<◌, ◌+◌, ◌≤◌, ◌⊎◌, inl, inr, false, List, ℕ, [], ◌∷◌, ◌++◌, length, refl, ap, sym, subst, ◌∙◌, arith, rules}
+use Rattle.std.proofs.Common.{◌≡◌, inl, inr, false, [], ◌++◌, refl, ap, sym, subst, ◌∙◌, arith, rules}
 use Rattle.std.proofs.KnownBytes.{Consumes-nil, Consumes-kept}
 use Rattle.std.proofs.lemmas.List.Elements.{All-append, All-nil}
-use Rattle.reg_records.specs.Device.{HasFaulted, counted}
+use Rattle.reg_records.specs.Device.{counted}
 use Rattle.reg_records.specs.Line.{is_line_feed}
-use Rattle.reg_records.specs.Pieces.{HasNoLineFeed, Holds}
+use Rattle.reg_records.specs.Pieces.{Holds}
 use Rattle.reg_records.proofs.Lines.{HasFaulted-counted, length-of_nonempty, TakesPart-more, TakesPart-kept, Consumes-ended, IsAtEnd-after, IsAtEnd-before, Keeps-none_taken}
 use Rattle.reg_records.proofs.pieces.take_line.Goals.{then-is_empty, else-is_empty, in-More, in-Interrupted}
 use Rattle.reg_records.proofs.pieces.take_line.Goals as goal

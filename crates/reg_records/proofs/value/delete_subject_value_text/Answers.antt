@@ -1,7 +1,5 @@
-use Rattle.std.proofs.Common.{◌≡◌, ◌++◌, ℕ, List, Bool, Some, codes, decimal, rules, append_assoc, ap}
+use Rattle.std.proofs.Common.{◌≡◌, ◌++◌, ℕ, List, Some, codes, decimal, rules, append_assoc}
 use Rattle.json.specs.Print.{escape_byte, quoted}
-use Rattle.serde_json.specs.Data.{boolean}
-use Rattle.serde_json.specs.Written.{compact_text}
 use Rattle.reg_records.specs.declared.value.Value.TheVariants.{DeleteSubject}
 use Rattle.reg_records.specs.Written.{written_value}
 use Rattle.reg_records.proofs.value.delete_subject_value_text.Goals as goal

@@ -1,4 +1,4 @@
-use Rattle.std.proofs.Common.{◌≡◌, ◌++◌, ℕ, List, Bool, Some, codes, decimal, rules, append_assoc, ap}
+use Rattle.std.proofs.Common.{◌≡◌, ◌++◌, ℕ, List, Bool, Some, codes, decimal, rules, append_assoc}
 use Rattle.json.specs.Print.{escape_byte, quoted}
 use Rattle.serde_json.specs.Data.{boolean}
 use Rattle.serde_json.specs.Written.{compact_text}
