@@ -19,7 +19,7 @@ use Rattle.reg_fold.specs.Standing.{live, HasRisingVersions}
 use Rattle.reg_fold.specs.declared.entry.Entry.{Entry}
 use Rattle.reg_fold.proofs.Placed.{entries-empty, place_cmp-total, placed}
 
--- each of two tests that both hold
+-- where two tests hold, each of them does
 left_of : (a b : Bool) → T (a && b) → T a
 left_of true b h = tt
 left_of false b h = h
@@ -28,7 +28,7 @@ right_of : (a b : Bool) → T (a && b) → T b
 right_of true b h = h
 right_of false b h = absurd h
 
--- an order that is a Less
+-- what passes the test for Less is Less
 less : (o : Ordering) → T (is_lt o) → o ≡ Less
 less Less h = refl
 less Equal h = absurd h
@@ -62,18 +62,18 @@ put-placed e (f ∷ fs) h =
       | Greater ↦ λ _. (h.0, put-placed e fs h.1)
     ] refl
 
--- nor do many entries, one after another, change that
+-- and so does putting many entries, one after another
 fold-placed : (es : List Entry) (m : finmap.FinMap place_cmp Entry) → ArePlaced (finmap.entries m) → ArePlaced (finmap.entries (fold placed m es))
 fold-placed [] m h = h
 fold-placed (e ∷ es) m h =
     fold-placed es (placed m e) (subst ArePlaced (sym (finmap.entries-insert place_cmp-total m (place_of e) e)) (put-placed e (finmap.entries m) h))
 
--- a place below those of a map stands before its entries
+-- a place below those of some entries stands before each of them
 before_all : (p : Place) (es : List (Place × Entry)) → ArePlaced es → T (below_all place_cmp p es) → AllByRecursion (λ e. place_cmp p (place_of e) ≡ Less) (map (λ e. e.1) es)
 before_all p [] h s = tt
 before_all p (e ∷ es) h s = (ap (place_cmp p) (sym h.0) ∙ less _ (left_of _ _ s), before_all p es h.1 (right_of (is_lt (place_cmp p e.0)) _ s))
 
--- sorted by their places, the entries are in order
+-- entries that are sorted by the places they are kept at are in order
 in_order : (es : List (Place × Entry)) → ArePlaced es → T (is_sorted place_cmp es) → IsInOrder (map (λ e. e.1) es)
 unfolding IsStrictlySortedBy
 in_order [] h s = tt
@@ -109,7 +109,7 @@ module _ (subject : List ℕ) where
       let tie : slice_cmp nat_cmp e.subject f.subject ≡ Equal = ap (slice_cmp nat_cmp e.subject) (sym same) ∙ tied_itself nat_list_cmp_total e.subject in
       sym (ap (λ o. ordering_then o (nat_cmp e.version f.version)) tie) ∙ before
 
-  -- and a smaller one than all live ones that come after it
+  -- and it has a smaller one than all live entries that come after it
   smaller_than_all : (e : Entry) (es : List Entry) → is_live e ≡ true → AllByRecursion (λ f. place_cmp (place_of e) (place_of f) ≡ Less) es → AllByRecursion (λ n. nat_cmp e.version n ≡ Less) (map (λ f. f.version) (filter is_live es))
   smaller_than_all e [] one h = tt
   smaller_than_all e (f ∷ fs) one h =
