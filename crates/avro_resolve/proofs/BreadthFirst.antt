@@ -565,9 +565,17 @@ pub record IsSearched (r w : List Node) (es : List Entry) (n : ℕ) : Type 0 whe
   pub entries : es ≡ entries_of reached
   pub search : IsSearch r w reached n
 
+-- the roots were reached by no step
+no_step : (from : Option Step) (s : Step) → from ≡ None → from ≡ Some s → ⊥
+no_step from s e is = let no : None ≡ Some s = sym e ∙ is in cc
+
+-- the others by one
+one_step : (from : Option Step) (a s : Step) → from ≡ Some a → from ≡ Some s → a ≡ s
+one_step from a s e is = let two : Some a ≡ Some s = sym e ∙ is in cc
+
 -- each entry leads back
 pub leads_back : (r w : List Node) (es : List Entry) (n : ℕ) → IsSearched r w es n → LeadsBack es
-leads_back r w es n k = subst LeadsBack (sym {a = es} k.entries) back
+leads_back r w es n k = subst LeadsBack (sym k.entries) back
   where
     stands : (gs : List Reached) (x : ℕ) (s : Step) → from_at (entries_of gs) x ≡ Some s → (g : Reached) × (slice_get gs x ≡ Some g) × (g.entry.from ≡ Some s)
     stands [] x s e = cc
@@ -578,8 +586,8 @@ leads_back r w es n k = subst LeadsBack (sym {a = es} k.entries) back
     back x s from =
         let (g, at, is) = stands k.reached x s from in
         elim (k.search.reach.origins x g at) [
-          | inl root ↦ let no : None ≡ Some s = sym root.from ∙ is in cc
-          | inr child ↦ let two : Some child.step ≡ Some s = sym child.from ∙ is in let one : child.step ≡ s = cc in subst (λ (z : Step). z.place < x) one child.earlier
+          | inl root ↦ absurd (no_step g.entry.from s root.from is)
+          | inr child ↦ subst (λ (z : Step). z.place < x) (one_step g.entry.from child.step s child.from is) child.earlier
         ]
 
 -- the entry at a place, and what was reached there
