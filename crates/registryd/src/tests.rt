@@ -2,7 +2,7 @@
 use crate::fold::{FoldError, Folded, fold};
 use reg_records::{Device, LINE_LIMIT, LineError, LogFault};
 use std::alloc::Global;
-use std::io::{self, BufRead, ErrorKind, Read};
+use std::io::{self, BufRead, ErrorKind, Read, Write};
 use std::test::Fail;
 
 // Each row is a log, the id that is asked for, and what is written: a body, after its status.
@@ -273,5 +273,32 @@ fn a_writer_that_is_full_has_a_front(rt: HostRuntime) -> Result<(), Fail> {
         assert_eq!(rt; writer.faults(), 1);
         assert_eq!(rt; &bytes[..room], &whole.as_bytes()[..room]);
     }
+    Ok(())
+}
+
+// Takes all bytes, and knows whether it was flushed after them.
+#[derive(Drop)]
+struct Flushed {
+    is_flushed: bool,
+}
+
+impl Write for Flushed {
+    fn write(&mut self, buf: &[u8]) -> io::Result<usize> {
+        self.is_flushed = false;
+        Ok(buf.len())
+    }
+
+    fn flush(&mut self) -> io::Result<()> {
+        self.is_flushed = true;
+        Ok(())
+    }
+}
+
+#[test]
+fn what_is_written_is_flushed(rt: HostRuntime) -> Result<(), Fail> {
+    let mut reader = Device::new(SHORT_LOG.as_bytes());
+    let mut writer = Device::new(Flushed { is_flushed: false });
+    fold(rt.alloc(), &mut reader, &mut writer)?;
+    assert!(rt; writer.into_inner().is_flushed);
     Ok(())
 }
