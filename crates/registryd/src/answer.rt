@@ -1,7 +1,10 @@
 // The answer to the request at the front of some bytes.
-ghost use Rattle.std.specs.Prelude.{◌≡◌, List, ℕ, IfOk, string_bytes};
+ghost use Rattle.std.specs.Prelude.{◌≡◌, List, ℕ, IfOk, take, string_bytes};
+ghost use Rattle.std.specs.Str.Parse.{digits_value};
+ghost use Rattle.reg_fold.specs.Refusal.{status_of};
 ghost use Rattle.registryd.specs.Answer.{answer_to, schema_response, refused, status_for, IsOutput};
 ghost use Rattle.registryd.specs.Request.{head_front};
+ghost use Rattle.registryd.specs.Response.{status_text};
 
 use crate::request::{asked_part, head_of, id_in};
 use crate::response::{Response, Status, refusal_body, schema_body};
@@ -65,8 +68,10 @@ fn refuse(alloc: Global, refusal: Refusal, closes: bool) -> Result<Response, All
     })
 }
 
+/// The status of a refusal, whose number is the one that the refusal itself gives.
 fn status_for(refusal: Refusal) -> Status
-    ensures { result ≡ status_for refusal }
+    ensures status { result ≡ status_for refusal }
+    ensures number { digits_value 10 (take 3 (status_text result)) ≡ status_of refusal }
 {
     match refusal {
         Refusal::BadRequest => Status::BadRequest,
