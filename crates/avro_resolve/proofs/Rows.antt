@@ -10,6 +10,7 @@ use Rattle.avro_schema.specs.declared.node.Node.{Node}
 use Rattle.avro_schema.specs.declared.node.Node.TheVariants as kind
 use Rattle.avro_schema.specs.Names.{all_distinct, has_text}
 use Rattle.avro_schema.specs.Order.{IsSound, fields_of_node, parts_of_node}
+use Rattle.avro_schema.specs.Defaults.{field_named}
 use Rattle.avro_resolve.specs.declared.trail.Hop.{Hop}
 use Rattle.avro_resolve.specs.declared.trail.Hop.TheVariants as hop
 use Rattle.avro_resolve.specs.declared.trail.ClashKind.{ClashKind}
@@ -19,7 +20,7 @@ use Rattle.avro_resolve.specs.declared.table.Obligation.{Obligation}
 use Rattle.avro_resolve.specs.declared.table.Outcome.{Outcome}
 use Rattle.avro_resolve.specs.declared.table.Outcome.TheVariants.{Clashes, Owes}
 use Rattle.avro_resolve.specs.Match.{names_match, primitives_match, matches}
-use Rattle.avro_resolve.specs.Pairing.{field_named, first_field, partner, lacks_value}
+use Rattle.avro_resolve.specs.Pairing.{first_field, partner, lacks_value}
 use Rattle.avro_resolve.specs.Table.{pair, to_writer_branch, to_writer_branches, to_reader_branch, to_field, to_partner, unless_lacking, to_fields, unless_unknown, with_symbols, given, to_part, plain_row, first_branch, row, row_of, owed_in, obligations}
 use Rattle.avro_resolve.specs.Trails.{HopsNameOne}
 use Rattle.avro_resolve.proofs.MatchLaws.{IsOf, inner_part}

@@ -1,10 +1,8 @@
 -- How the fields of a reader's record and of a writer's are paired.
-use Rattle.std.specs.Prelude.{ℕ, List, [], ◌∷◌, Bool, ◌&&◌, Option, None, is_none, find, bytes_eq}
+use Rattle.std.specs.Prelude.{ℕ, List, [], ◌∷◌, Bool, ◌&&◌, Option, None, is_none}
 use Rattle.std.specs.Option.{option_or}
 use Rattle.avro_schema.specs.declared.node.Field.{Field}
-
-abbrev pub field_named : List Field → List ℕ → Option Field
-field_named fs s = find (λ f. bytes_eq f.name s) fs
+use Rattle.avro_schema.specs.Defaults.{field_named}
 
 -- the field that the first of the names with one has
 abbrev pub first_field : List Field → List (List ℕ) → Option Field

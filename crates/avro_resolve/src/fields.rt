@@ -1,5 +1,6 @@
 // Which fields of two records are paired.
 ghost use Rattle.std.specs.Prelude.{◌≡◌, find, option_copied};
+ghost use Rattle.avro_schema.specs.Defaults.{field_named as spec_field_named};
 ghost use Rattle.avro_resolve.specs.Pairing as spec;
 
 use avro_schema::Field;
@@ -7,7 +8,7 @@ use base_text::Text;
 
 /// The field of that name.
 fn field_named<'a>(fields: &'a [Field], name: &Text) -> Option<&'a Field>
-    ensures { option_copied result ≡ spec.field_named fields.now name.now }
+    ensures { option_copied result ≡ spec_field_named fields.now name.now }
 {
     fields.iter().find(|f| f.name == *name)
 }
