@@ -21,9 +21,10 @@ use Rattle.avro_schema.specs.Order.{IsSound}
 use Rattle.avro_resolve.specs.declared.table.Outcome.TheVariants.{Clashes, Owes}
 use Rattle.avro_resolve.specs.Table.{outcome, clash_in, owed_in, clash_of, obligations}
 use Rattle.avro_resolve.specs.Trails.{end_at, after_hop, roots, trail_from, trail_along, ComesFirst, AreCompatible, IsShown}
-use Rattle.avro_resolve.specs.Search.{same_pair, is_reached, unless_reached, with_entry, entry_from, expanded, from_at, IsWayBack, LeadsBack}
+use Rattle.avro_resolve.specs.Search.{same_pair, is_reached, unless_reached, with_entry, entry_from, expanded, from_at, hop_numbered, hop_at, IsStep, IsWayBack, LeadsBack}
 use Rattle.avro_resolve.proofs.Order.{ComesFirst_refl, ComesFirst_trans, ComesFirst-append, ComesFirst-longer, Before, Before-weaker, Before-children, Before-siblings, Before_trans, Before-root}
 use Rattle.avro_resolve.proofs.Rows.{IsWithin, obligations_within}
+use Rattle.avro_resolve.proofs.Searching.{same_pair-≡}
 
 -- a pair that was reached, and the obligations' numbers that led to it
 pub record Reached : Type 0 where
@@ -101,20 +102,6 @@ reached_at (g ∷ gs) p e = go (same_pair g.entry.pair p) refl (reached_at gs p)
     go true same ih = (0, g, refl, same)
     go false same ih = let (y, b, at, is) = ih (subst (λ t. (t || is_reached (entries_of gs) p) ≡ true) same e) in (suc y, b, at, is)
 
-and_left : (a b : Bool) → (a && b) ≡ true → a ≡ true
-and_left true b e = refl
-and_left false b e = e
-
-and_right : (a b : Bool) → (a && b) ≡ true → b ≡ true
-and_right true b e = e
-and_right false b e = cc
-
-same_pair-≡ : (p q : Pair) → same_pair p q ≡ true → p ≡ q
-same_pair-≡ p q e =
-    let readers : p.reader.index ≡ q.reader.index = eqb-true _ _ (and_left (eqb p.reader.index q.reader.index) _ e) in
-    let writers : p.writer.index ≡ q.writer.index = eqb-true _ _ (and_right (eqb p.reader.index q.reader.index) _ e) in
-    ap (λ i. record { reader = record { index = i }; writer = p.writer }) readers ∙ ap (λ i. record { reader = q.reader; writer = record { index = i } }) writers
-
 -- ---- what the search keeps
 
 module _ (r w : List Node) where
@@ -142,7 +129,7 @@ pub record IsChild (r w : List Node) (gs : List Reached) (n x : ℕ) (g : Reache
   pub earlier : step.place < x
   pub from : g.entry.from ≡ Some step
   pub owes : slice_get (owed r w parent) number ≡ Some obligation
-  pub hop : step.hop ≡ obligation.hop
+  pub counted : step.number ≡ number
   pub pair : g.entry.pair ≡ obligation.pair
   pub path : g.path ≡ parent.path ++ number ∷ []
 
@@ -211,7 +198,7 @@ module _ (r w : List Node) where
 
     weaker : (x : ℕ) (a : Reached) → IsRoot x a ⊎ IsChild r w gs n x a → IsRoot x a ⊎ IsChild r w gs (n + 1) x a
     weaker x a (inl root) = inl root
-    weaker x a (inr child) = inr (record { parent = child.parent; step = child.step; number = child.number; obligation = child.obligation; stands = child.stands; below = omega (arith, child.below); earlier = child.earlier; from = child.from; owes = child.owes; hop = child.hop; pair = child.pair; path = child.path })
+    weaker x a (inr child) = inr (record { parent = child.parent; step = child.step; number = child.number; obligation = child.obligation; stands = child.stands; below = omega (arith, child.below); earlier = child.earlier; from = child.from; owes = child.owes; counted = child.counted; pair = child.pair; path = child.path })
 
     -- the next entry has no clash
     pub begins : IsExpanding r w gs n h 0
@@ -258,14 +245,14 @@ module _ (r w : List Node) where
 
 -- an entry more changes nothing of the others
 abbrev child_at : Reached → ℕ → ℕ → Obligation → Reached
-child_at h n k o = record { entry = entry_from n o; path = h.path ++ k ∷ [] }
+child_at h n k o = record { entry = entry_from n k o; path = h.path ++ k ∷ [] }
 
 lifts : (gs hs : List Reached) (a : Reached) (m : ℕ) (o : Obligation) → Closes gs a m o → Closes (gs ++ hs) a m o
 lifts gs hs a m o (y, b, at, same, first) = (y, b, get_push gs hs y b at, same, first)
 
 lifts_origin : (r w : List Node) (gs hs : List Reached) (n x : ℕ) (g : Reached) → IsRoot x g ⊎ IsChild r w gs n x g → IsRoot x g ⊎ IsChild r w (gs ++ hs) n x g
 lifts_origin r w gs hs n x g (inl root) = inl root
-lifts_origin r w gs hs n x g (inr child) = inr (record { parent = child.parent; step = child.step; number = child.number; obligation = child.obligation; stands = get_push gs hs child.step.place child.parent child.stands; below = child.below; earlier = child.earlier; from = child.from; owes = child.owes; hop = child.hop; pair = child.pair; path = child.path })
+lifts_origin r w gs hs n x g (inr child) = inr (record { parent = child.parent; step = child.step; number = child.number; obligation = child.obligation; stands = get_push gs hs child.step.place child.parent child.stands; below = child.below; earlier = child.earlier; from = child.from; owes = child.owes; counted = child.counted; pair = child.pair; path = child.path })
 
 -- a pair that wasn't reached has a number of its own
 new_number : (r w : List Node) (p : Pair) → IsWithin r w p → (gs : List Reached) → ((x : ℕ) (g : Reached) → slice_get gs x ≡ Some g → IsWithin r w g.entry.pair) → is_reached (entries_of gs) p ≡ false → list_any (eqb (number_of r w p)) (numbers_of r w gs) ≡ false
@@ -332,7 +319,7 @@ module _ (r w : List Node) (gs : List Reached) (n : ℕ) (h : Reached) (k : ℕ)
   }
     where
       child : Reached
-      child = record { entry = entry_from n o; path = h.path ++ k ∷ [] }
+      child = record { entry = entry_from n k o; path = h.path ++ k ∷ [] }
 
       head_below : n < length gs
       head_below = get_below gs n h s.head
@@ -345,7 +332,7 @@ module _ (r w : List Node) (gs : List Reached) (n : ℕ) (h : Reached) (k : ℕ)
       first_of (g ∷ gs) some = (g, refl)
 
       child_of_head : (x : ℕ) → x ≡ length gs → IsChild r w (gs ++ child ∷ []) (n + 1) x child
-      child_of_head x new = record { parent = h; step = record { place = n; hop = o.hop }; number = k; obligation = o; stands = get_push gs (child ∷ []) n h s.head; below = omega arith; earlier = omega (arith, head_below); from = refl; owes = owes; hop = refl; pair = refl; path = refl }
+      child_of_head x new = record { parent = h; step = record { place = n; number = k }; number = k; obligation = o; stands = get_push gs (child ∷ []) n h s.head; below = omega arith; earlier = omega (arith, head_below); from = refl; owes = owes; counted = refl; pair = refl; path = refl }
 
       by_child : Closes (gs ++ child ∷ []) h k o
       by_child = (length gs, child, get_last gs child, refl, ComesFirst_refl (h.path ++ k ∷ []))
@@ -366,7 +353,7 @@ module _ (r w : List Node) (gs : List Reached) (n : ℕ) (h : Reached) (k : ℕ)
 
 module _ (r w : List Node) (n : ℕ) (h : Reached) (inside : (m : ℕ) (o : Obligation) → slice_get (owed r w h) m ≡ Some o → IsWithin r w o.pair) where
   abbrev Expands : List Obligation → ℕ → List Reached → Type 0
-  Expands os k gs = (gs' : List Reached) × (entries_of gs' ≡ expanded n os (entries_of gs)) × IsExpanding r w gs' n h (k + length os)
+  Expands os k gs = (gs' : List Reached) × (entries_of gs' ≡ expanded n k os (entries_of gs)) × IsExpanding r w gs' n h (k + length os)
 
   expand_from : (os : List Obligation) (k : ℕ) (gs : List Reached) → IsExpanding r w gs n h k → ((m : ℕ) (o : Obligation) → slice_get os m ≡ Some o → slice_get (owed r w h) (k + m) ≡ Some o) → Expands os k gs
   expand_from [] k gs s owes = (gs, refl, subst (IsExpanding r w gs n h) (let e : k ≡ k + 0 = omega arith in e) s)
@@ -384,13 +371,13 @@ module _ (r w : List Node) (n : ℕ) (h : Reached) (inside : (m : ℕ) (o : Obli
       go : (b : Bool) → is_reached (entries_of gs) o.pair ≡ b → ((hs : List Reached) → IsExpanding r w hs n h (k + 1) → Expands os (k + 1) hs) → Expands (o ∷ os) k gs
       go true is ih =
           let (hs, same, t) = ih gs (skips r w gs n h k s o now is) in
-          (hs, same ∙ ap (λ b. expanded n os (unless_reached b (entries_of gs) (entry_from n o))) (sym is), counted hs t)
+          (hs, same ∙ ap (λ b. expanded n (k + 1) os (unless_reached b (entries_of gs) (entry_from n k o))) (sym is), counted hs t)
       go false is ih =
           let (hs, same, t) = ih (gs ++ child_at h n k o ∷ []) (adds r w gs n h k s o now (inside k o now) is) in
-          (hs, same ∙ ap (expanded n os) (map-append (λ (g : Reached). g.entry) gs (child_at h n k o ∷ [])) ∙ ap (λ b. expanded n os (unless_reached b (entries_of gs) (entry_from n o))) (sym is), counted hs t)
+          (hs, same ∙ ap (expanded n (k + 1) os) (map-append (λ (g : Reached). g.entry) gs (child_at h n k o ∷ [])) ∙ ap (λ b. expanded n (k + 1) os (unless_reached b (entries_of gs) (entry_from n k o))) (sym is), counted hs t)
 
   -- the head is done
-  pub expands : (gs : List Reached) → IsSearch r w gs n → slice_get gs n ≡ Some h → clash_of r w h.entry.pair ≡ None → (gs' : List Reached) × (entries_of gs' ≡ expanded n (owed r w h) (entries_of gs)) × IsSearch r w gs' (n + 1)
+  pub expands : (gs : List Reached) → IsSearch r w gs n → slice_get gs n ≡ Some h → clash_of r w h.entry.pair ≡ None → (gs' : List Reached) × (entries_of gs' ≡ expanded n 0 (owed r w h) (entries_of gs)) × IsSearch r w gs' (n + 1)
   expands gs s head peaceful =
       let (hs, same, t) = expand_from (owed r w h) 0 gs (begins r w gs n h s head peaceful) (λ m o at. ap (slice_get (owed r w h)) (let e : 0 + m ≡ m = omega arith in e) ∙ at) in
       (hs, same, finishes r w hs n h (0 + length (owed r w h)) t (omega arith))
@@ -475,8 +462,15 @@ prepended_is (h ∷ back) t = prepended_is back (after_hop h t) ∙ ap (λ l. re
 from_of : (gs : List Reached) (x : ℕ) (g : Reached) → slice_get gs x ≡ Some g → from_at (entries_of gs) x ≡ g.entry.from
 from_of gs x g at = ap (option_and_then (λ (e : Entry). e.from)) (slice_get-map (λ (a : Reached). a.entry) gs x ∙ ap (option_map (λ (a : Reached). a.entry)) at)
 
+-- the hop of the step by which an entry was reached
+hop_of_child : (r w : List Node) (gs : List Reached) (n x : ℕ) (g : Reached) (c : IsChild r w gs n x g) → hop_at r w (entries_of gs) c.step ≡ Some c.obligation.hop
+hop_of_child r w gs n x g c =
+    ap (option_and_then (λ (e : Entry). hop_numbered r w e.pair c.step.number)) (slice_get-map (λ (a : Reached). a.entry) gs c.step.place ∙ ap (option_map (λ (a : Reached). a.entry)) c.stands)
+    ∙ ap (hop_numbered r w c.parent.entry.pair) c.counted
+    ∙ ap (option_map (λ (o : Obligation). o.hop)) c.owes
+
 module _ (r w : List Node) (gs : List Reached) (n : ℕ) (s : IsReach r w gs n) where
-  way_trail : (back : List Hop) (x : ℕ) (g : Reached) → slice_get gs x ≡ Some g → IsWayBack (entries_of gs) x back → (ms : List ℕ) (t : Trail) → trail_from r w g.entry.pair ms ≡ Some t → trail_from r w roots (g.path ++ ms) ≡ Some (prepended back t)
+  way_trail : (back : List Hop) (x : ℕ) (g : Reached) → slice_get gs x ≡ Some g → IsWayBack r w (entries_of gs) x back → (ms : List ℕ) (t : Trail) → trail_from r w g.entry.pair ms ≡ Some t → trail_from r w roots (g.path ++ ms) ≡ Some (prepended back t)
   unfolding prepended
   way_trail [] x g at way ms t leads = elim (s.origins x g at) [
     | inl root ↦ ap (λ p. trail_from r w roots (p ++ ms)) root.path ∙ ap (λ p. trail_from r w p ms) (sym root.pair) ∙ leads
@@ -487,19 +481,20 @@ module _ (r w : List Node) (gs : List Reached) (n : ℕ) (s : IsReach r w gs n) 
     | inr child ↦ by_child child (λ y a stands rest ks u on. way_trail back y a stands rest ks u on)
   ]
     where
-      by_child : IsChild r w gs n x g → ((y : ℕ) (a : Reached) → slice_get gs y ≡ Some a → IsWayBack (entries_of gs) y back → (ks : List ℕ) (u : Trail) → trail_from r w a.entry.pair ks ≡ Some u → trail_from r w roots (a.path ++ ks) ≡ Some (prepended back u)) →
+      by_child : IsChild r w gs n x g → ((y : ℕ) (a : Reached) → slice_get gs y ≡ Some a → IsWayBack r w (entries_of gs) y back → (ks : List ℕ) (u : Trail) → trail_from r w a.entry.pair ks ≡ Some u → trail_from r w roots (a.path ++ ks) ≡ Some (prepended back u)) →
           trail_from r w roots (g.path ++ ms) ≡ Some (prepended back (after_hop h t))
       by_child child ih =
           let (step, from, same, rest) = way in
           let two : Some step ≡ Some child.step = sym from ∙ from_of gs x g at ∙ child.from in
           let one : step ≡ child.step = cc in
-          let hops : child.obligation.hop ≡ h = sym child.hop ∙ ap (λ (z : Step). z.hop) (sym one) ∙ same in
+          let both : Some child.obligation.hop ≡ Some h = sym (hop_of_child r w gs n x g child) ∙ ap (hop_at r w (entries_of gs)) (sym one) ∙ same in
+          let hops : child.obligation.hop ≡ h = cc in
           let on : trail_from r w child.parent.entry.pair (child.number ∷ ms) ≡ Some (after_hop h t) =
           ap (option_and_then (λ o. option_map (after_hop o.hop) (trail_from r w o.pair ms))) child.owes
           ∙ ap (λ p. option_map (after_hop child.obligation.hop) (trail_from r w p ms)) (sym child.pair)
           ∙ ap (option_map (after_hop child.obligation.hop)) leads
           ∙ ap (λ k. Some (after_hop k t)) hops in
-          let behind : IsWayBack (entries_of gs) child.step.place back = subst (λ (z : Step). IsWayBack (entries_of gs) z.place back) one rest in
+          let behind : IsWayBack r w (entries_of gs) child.step.place back = subst (λ (z : Step). IsWayBack r w (entries_of gs) z.place back) one rest in
           ap (λ p. trail_from r w roots (p ++ ms)) child.path
           ∙ ap (trail_from r w roots) (append_assoc child.parent.path (child.number ∷ []) ms)
           ∙ ih child.step.place child.parent child.stands behind (child.number ∷ ms) (after_hop h t) on
@@ -514,7 +509,7 @@ root_of : (r w : List Node) (gs : List Reached) (n : ℕ) → IsReach r w gs n �
 root_of r w gs n s = let (g, at) = first_of gs s.begun in (g, at, elim (s.origins 0 g at) [ inl root ↦ root | inr child ↦ absurd (omega (arith, child.earlier)) ])
 
 -- the entry that is looked at clashes
-pub shows : (r w : List Node) (gs : List Reached) (n : ℕ) (e : Reached) (c : ClashKind) (hops : List Hop) → IsSearch r w gs n → slice_get gs n ≡ Some e → clash_of r w e.entry.pair ≡ Some c → IsWayBack (entries_of gs) n (reverse hops) → IsShown r w (record { hops = hops; kind = c })
+pub shows : (r w : List Node) (gs : List Reached) (n : ℕ) (e : Reached) (c : ClashKind) (hops : List Hop) → IsSearch r w gs n → slice_get gs n ≡ Some e → clash_of r w e.entry.pair ≡ Some c → IsWayBack r w (entries_of gs) n (reverse hops) → IsShown r w (record { hops = hops; kind = c })
 shows r w gs n e c hops s next clash way = (e.path, leads, first)
   where
     leads : trail_along r w e.path ≡ Some (record { hops = hops; kind = c })
@@ -574,20 +569,30 @@ one_step : (from : Option Step) (a s : Step) → from ≡ Some a → from ≡ So
 one_step from a s e is = let two : Some a ≡ Some s = sym e ∙ is in cc
 
 -- each entry leads back
-pub leads_back : (r w : List Node) (es : List Entry) (n : ℕ) → IsSearched r w es n → LeadsBack es
-leads_back r w es n k = subst LeadsBack (sym k.entries) back
+pub leads_back : (r w : List Node) (es : List Entry) (n : ℕ) → IsSearched r w es n → LeadsBack r w es
+leads_back r w es n k = subst (LeadsBack r w) (sym k.entries) back
   where
     stands : (gs : List Reached) (x : ℕ) (s : Step) → from_at (entries_of gs) x ≡ Some s → (g : Reached) × (slice_get gs x ≡ Some g) × (g.entry.from ≡ Some s)
     stands [] x s e = cc
     stands (g ∷ gs) zero s e = (g, refl, e)
     stands (g ∷ gs) (suc x) s e = stands gs x s e
 
-    back : LeadsBack (entries_of k.reached)
+    by_child : (x : ℕ) (g : Reached) → (c : IsChild r w k.reached n x g) → IsStep r w (entries_of k.reached) x c.step
+    by_child x g c = record {
+      earlier = c.earlier;
+      entry = c.parent.entry;
+      stands = slice_get-map (λ (a : Reached). a.entry) k.reached c.step.place ∙ ap (option_map (λ (a : Reached). a.entry)) c.stands;
+      reader = (k.search.reach.within c.step.place c.parent c.stands).reader;
+      writer = (k.search.reach.within c.step.place c.parent c.stands).writer;
+      numbered = subst (λ m. m < length (owed r w c.parent)) (sym c.counted) (get_below (owed r w c.parent) c.number c.obligation c.owes);
+    }
+
+    back : LeadsBack r w (entries_of k.reached)
     back x s from =
         let (g, at, is) = stands k.reached x s from in
         elim (k.search.reach.origins x g at) [
           | inl root ↦ absurd (no_step g.entry.from s root.from is)
-          | inr child ↦ subst (λ (z : Step). z.place < x) (one_step g.entry.from child.step s child.from is) child.earlier
+          | inr child ↦ subst (IsStep r w (entries_of k.reached) x) (one_step g.entry.from child.step s child.from is) (by_child x g child)
         ]
 
 -- the entry at a place, and what was reached there
@@ -605,13 +610,13 @@ module _ (r w : List Node) (es : List Entry) (n : ℕ) (k : IsSearched r w es n)
   searched_within e at = let (g, at_g, is) = there e at in subst (λ (x : Entry). IsWithin r w x.pair) is (k.search.reach.within n g at_g)
 
   -- it clashes
-  pub searched_clash : (e : Entry) (c : ClashKind) (hops : List Hop) → slice_get es n ≡ Some e → outcome r w e.pair ≡ Clashes c → IsWayBack es n (reverse hops) → IsShown r w (record { hops = hops; kind = c })
+  pub searched_clash : (e : Entry) (c : ClashKind) (hops : List Hop) → slice_get es n ≡ Some e → outcome r w e.pair ≡ Clashes c → IsWayBack r w es n (reverse hops) → IsShown r w (record { hops = hops; kind = c })
   searched_clash e c hops at is way =
       let (g, at_g, same) = there e at in
-      shows r w k.reached n g c hops k.search at_g (ap (λ (x : Entry). clash_of r w x.pair) same ∙ ap clash_in is) (subst (λ l. IsWayBack l n (reverse hops)) k.entries way)
+      shows r w k.reached n g c hops k.search at_g (ap (λ (x : Entry). clash_of r w x.pair) same ∙ ap clash_in is) (subst (λ l. IsWayBack r w l n (reverse hops)) k.entries way)
 
   -- it doesn't
-  pub searched_next : IsSound r → IsSound w → (e : Entry) (os : List Obligation) → slice_get es n ≡ Some e → outcome r w e.pair ≡ Owes os → IsSearched r w (expanded n os es) (n + 1)
+  pub searched_next : IsSound r → IsSound w → (e : Entry) (os : List Obligation) → slice_get es n ≡ Some e → outcome r w e.pair ≡ Owes os → IsSearched r w (expanded n 0 os es) (n + 1)
   searched_next s t e os at is =
       let (g, at_g, same) = there e at in
       let of_g : outcome r w g.entry.pair ≡ Owes os = ap (λ (x : Entry). outcome r w x.pair) same ∙ is in
@@ -619,7 +624,7 @@ module _ (r w : List Node) (es : List Entry) (n : ℕ) (k : IsSearched r w es n)
       let (hs, entries, search) = expands r w n g (obligations_within r w s t g.entry.pair inside) k.reached k.search at_g (ap clash_in of_g) in
       record {
         reached = hs;
-        entries = sym (entries ∙ ap (λ l. expanded n l (entries_of k.reached)) (ap owed_in of_g) ∙ ap (expanded n os) (sym k.entries));
+        entries = sym (entries ∙ ap (λ l. expanded n 0 l (entries_of k.reached)) (ap owed_in of_g) ∙ ap (expanded n 0 os) (sym k.entries));
         search = search;
       }
 
@@ -642,10 +647,10 @@ searched_first r w s t es is =
     }
 
 -- entries are never taken away
-pub length-expanded : (n : ℕ) (os : List Obligation) (es : List Entry) → length es ≤ length (expanded n os es)
-length-expanded n [] es = omega arith
-length-expanded n (o ∷ os) es = omega (arith, more (is_reached es o.pair), length-expanded n os (with_entry es (entry_from n o)))
+pub length-expanded : (n k : ℕ) (os : List Obligation) (es : List Entry) → length es ≤ length (expanded n k os es)
+length-expanded n k [] es = omega arith
+length-expanded n k (o ∷ os) es = omega (arith, more (is_reached es o.pair), length-expanded n (k + 1) os (with_entry es (entry_from n k o)))
   where
-    more : (b : Bool) → length es ≤ length (unless_reached b es (entry_from n o))
+    more : (b : Bool) → length es ≤ length (unless_reached b es (entry_from n k o))
     more true = omega arith
-    more false = omega (arith, length-append es (entry_from n o ∷ []))
+    more false = omega (arith, length-append es (entry_from n k o ∷ []))

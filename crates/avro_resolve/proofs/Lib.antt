@@ -2,7 +2,9 @@ pub mod Sound
 pub mod MatchLaws
 pub mod Rows
 pub mod Hops
+pub mod Named
 pub mod Searching
+pub mod SeenLaws
 pub mod Order
 pub mod BreadthFirst
 pub mod Verdicts

@@ -212,7 +212,7 @@ no_two_branches i bs k l a b at_k at_l same =
 abbrev names : List Field → List (List ℕ)
 names fs = map (λ f. f.name) fs
 
-not_true : (a : Bool) → not a ≡ true → a ≡ false
+pub not_true : (a : Bool) → not a ≡ true → a ≡ false
 not_true true e = cc
 not_true false e = refl
 
@@ -225,7 +225,7 @@ or_right true b e = cc
 or_right false b e = e
 
 -- a name that is among none of the fields' names is not a field's
-name_apart : (s : List ℕ) (fs : List Field) (x : ℕ) (f : Field) → list_any (bytes_eq s) (names fs) ≡ false → slice_get fs x ≡ Some f → f.name ≢ s
+pub name_apart : (s : List ℕ) (fs : List Field) (x : ℕ) (f : Field) → list_any (bytes_eq s) (names fs) ≡ false → slice_get fs x ≡ Some f → f.name ≢ s
 name_apart s [] x f h at same = cc
 name_apart s (g ∷ fs) zero f h at same =
     let one : g ≡ f = cc in

@@ -1,71 +1,108 @@
 -- What the search keeps, step by step.
-use Rattle.std.proofs.Common.{◌≡◌, ℕ, ◌<◌, List, [], ◌∷◌, ◌++◌, length, Bool, true, false, ◌&&◌, ◌||◌, eqb, cond, Option, Some, None, option_and_then, get_or, append_assoc, append-nil, refl, sym, ◌∙◌, ap, subst, arith}
-use Rattle.std.proofs.lemmas.Grind.{common_steps}
-use Rattle.std.proofs.lemmas.Bool.Decides.{nat_tests}
+use Rattle.std.proofs.Common.{◌≡◌, ℕ, ◌<◌, List, [], ◌∷◌, ◌++◌, length, Bool, true, false, not, ◌||◌, eqb, Option, Some, None, option_and_then, get_or, append_assoc, append-nil, slice_get, refl, sym, ◌∙◌, ap, subst}
+use Rattle.std.proofs.lemmas.Bool.{eqb-true}
 use Rattle.std.proofs.lemmas.List.Folds.{list_any-append}
-use Rattle.std.specs.declared.cmp.Ordering.{Ordering}
-use Rattle.std.specs.declared.cmp.Ordering.TheVariants.{Less, Equal, Greater}
-use Rattle.std.specs.Ordering.{nat_cmp, ordering_then, is_eq}
-use Rattle.std.specs.BTreeSet.{BTreeSet, contains}
-use Rattle.std.specs.BTreeMap.{is_at}
 use Rattle.std.proofs.lemmas.Option.{slice_get_read}
 use Rattle.avro_resolve.specs.declared.trail.Hop.{Hop}
+use Rattle.avro_resolve.proofs.Sound.{and_left, and_right}
 use Rattle.avro_resolve.specs.declared.table.Pair.{Pair}
+use Rattle.avro_resolve.specs.declared.table.Outcome.TheVariants.{Owes}
+use Rattle.avro_resolve.specs.declared.row.Cause.{Cause}
+use Rattle.avro_resolve.specs.declared.row.Row.{Row}
+use Rattle.avro_resolve.specs.declared.row.Row.TheVariants.{Clash, WriterBranches, One, Fields, Nothing}
+use Rattle.avro_resolve.specs.Row.{outcome_of}
+use Rattle.avro_resolve.specs.Table.{owed_in, obligations}
 use Rattle.avro_resolve.specs.declared.search.Step.{Step}
 use Rattle.avro_resolve.specs.declared.search.Entry.{Entry}
-use Rattle.avro_resolve.specs.Search.{same_pair, is_reached, AgreesWith, from_at, IsWayBack}
+use Rattle.avro_resolve.specs.Search.{same_pair, is_reached, is_seen, IsFair, AgreesWith, from_at, hop_numbered, hop_at, IsStep, IsWayBack}
+use Rattle.avro_resolve.specs.declared.seen.Seen.{Seen}
+use Rattle.avro_schema.specs.declared.node.Node.{Node}
 
-abbrev pair_cmp : ℕ × ℕ → ℕ × ℕ → Ordering
-pair_cmp a b = ordering_then (nat_cmp a.0 b.0) (nat_cmp a.1 b.1)
+-- ---- pairs
 
-is_eq-nat_cmp : (a b : ℕ) → is_eq (nat_cmp a b) ≡ eqb a b
-is_eq-nat_cmp a b = grind (arith, common_steps, nat_tests)
+pub same_pair-≡ : (p q : Pair) → same_pair p q ≡ true → p ≡ q
+same_pair-≡ p q e =
+    let readers : p.reader.index ≡ q.reader.index = eqb-true _ _ (and_left (eqb p.reader.index q.reader.index) _ e) in
+    let writers : p.writer.index ≡ q.writer.index = eqb-true _ _ (and_right (eqb p.reader.index q.reader.index) _ e) in
+    ap (λ i. record { reader = record { index = i }; writer = p.writer }) readers ∙ ap (λ i. record { reader = q.reader; writer = record { index = i } }) writers
 
-is_eq-then : (o p : Ordering) → is_eq (ordering_then o p) ≡ (is_eq o && is_eq p)
-is_eq-then Less p = refl
-is_eq-then Equal p = refl
-is_eq-then Greater p = refl
+-- ---- the pairs that were seen beside the entries
 
-key-same_pair : (p q : Pair) → is_at (pair_cmp (p.reader.index, p.writer.index)) (q.reader.index, q.writer.index) ≡ same_pair p q
-key-same_pair p q = is_eq-then (nat_cmp p.reader.index q.reader.index) (nat_cmp p.writer.index q.writer.index) ∙ ap (λ b. b && is_eq (nat_cmp p.writer.index q.writer.index)) (is_eq-nat_cmp p.reader.index q.reader.index) ∙ ap (λ b. same_first && b) (is_eq-nat_cmp p.writer.index q.writer.index)
-  where
-    same_first : Bool
-    same_first = eqb p.reader.index q.reader.index
+or_last : (a b : Bool) → (a || b) ≡ (b || (a || false))
+or_last true true = refl
+or_last true false = refl
+or_last false true = refl
+or_last false false = refl
 
--- ---- the set of pairs beside the entries
-
-cond_or : (a b : Bool) → cond a true b ≡ (b || (a || false))
-cond_or true true = refl
-cond_or true false = refl
-cond_or false true = refl
-cond_or false false = refl
-
-pub agrees_added : (seen new : BTreeSet (ℕ × ℕ)) (es : List Entry) (e : Entry) → AgreesWith seen es
-    → ((q : ℕ × ℕ) → contains pair_cmp new q ≡ cond (is_at (pair_cmp (e.pair.reader.index, e.pair.writer.index)) q) true (contains pair_cmp seen q))
+pub agrees_added : (seen new : Seen) (es : List Entry) (e : Entry) → AgreesWith seen es
+    → ((p : Pair) → is_seen new p ≡ (same_pair e.pair p || is_seen seen p)) → IsFair new
     → AgreesWith new (es ++ e ∷ [])
-agrees_added seen new es e agrees added p =
-    added (p.reader.index, p.writer.index)
-    ∙ ap (λ b. cond b true (contains pair_cmp seen (p.reader.index, p.writer.index))) (key-same_pair e.pair p)
-    ∙ ap (cond (same_pair e.pair p) true) (agrees p)
-    ∙ cond_or (same_pair e.pair p) (is_reached es p)
-    ∙ sym (list_any-append (λ (x : Entry). same_pair x.pair p) es (e ∷ []))
+agrees_added seen new es e agrees added fair = record {
+  same = λ p. added p
+      ∙ ap (λ b. same_pair e.pair p || b) (agrees.same p)
+      ∙ or_last (same_pair e.pair p) (is_reached es p)
+      ∙ sym (list_any-append (λ (x : Entry). same_pair x.pair p) es (e ∷ []));
+  fair = fair;
+}
+
+pub agrees_still : (seen new : Seen) (es : List Entry) (e : Entry) → AgreesWith seen es → is_seen seen e.pair ≡ true
+    → ((p : Pair) → is_seen new p ≡ (same_pair e.pair p || is_seen seen p)) → IsFair new
+    → AgreesWith new es
+agrees_still seen new es e agrees there added fair = record { same = still; fair = fair }
+  where
+    go : (p : Pair) (b : Bool) → same_pair e.pair p ≡ b → is_seen new p ≡ is_reached es p
+    go p true same = added p ∙ ap (λ b. b || is_seen seen p) same ∙ sym there ∙ ap (is_seen seen) (same_pair-≡ e.pair p same) ∙ agrees.same p
+    go p false same = added p ∙ ap (λ b. b || is_seen seen p) same ∙ agrees.same p
+
+    still : (p : Pair) → is_seen new p ≡ is_reached es p
+    still p = go p (same_pair e.pair p) refl
 
 -- ---- the way back
+
+module _ (r w : List Node) (es : List Entry) (s : Step) (e : Entry) (at : slice_get es s.place ≡ Some e) where
+  same_entry : (f : Entry) → slice_get es s.place ≡ Some f → f ≡ e
+  same_entry f at_f = let two : Some f ≡ Some e = sym at_f ∙ at in cc
+
+  -- a step's entry and number
+  pub step_reader : (x : ℕ) → IsStep r w es x s → e.pair.reader.index < length r
+  step_reader x step = subst (λ (f : Entry). f.pair.reader.index < length r) (same_entry step.entry step.stands) step.reader
+
+  pub step_writer : (x : ℕ) → IsStep r w es x s → e.pair.writer.index < length w
+  step_writer x step = subst (λ (f : Entry). f.pair.writer.index < length w) (same_entry step.entry step.stands) step.writer
+
+  pub step_numbered : (x : ℕ) → IsStep r w es x s → s.number < length (obligations r w e.pair)
+  step_numbered x step = subst (λ (f : Entry). s.number < length (obligations r w f.pair)) (same_entry step.entry step.stands) step.numbered
+
+  pub step_hop : (h : Hop) → hop_numbered r w e.pair s.number ≡ Some h → hop_at r w es s ≡ Some h
+  step_hop h is = ap (option_and_then (λ (f : Entry). hop_numbered r w f.pair s.number)) at ∙ is
 
 pub from_read : (es : List Entry) (n x : ℕ) (e : Entry) → n ≡ length es → x < n → e ≡ get_or es x e → from_at es x ≡ e.from
 from_read es n x e len below is = ap (option_and_then (λ (y : Entry). y.from)) (slice_get_read es n x e len below is)
 
--- one step further back
-pub way_further : (es : List Entry) (place at : ℕ) (hops : List Hop) (s : Step) (h : Hop) (all : List Hop)
-    → ((rest : List Hop) → IsWayBack es at rest → IsWayBack es place (hops ++ rest))
-    → from_at es at ≡ Some s → h ≡ s.hop → all ≡ hops ++ h ∷ []
-    → (rest : List Hop) → IsWayBack es s.place rest → IsWayBack es place (all ++ rest)
-way_further es place at hops s h all now from same is rest way =
-    let longer : IsWayBack es place (hops ++ h ∷ rest) = now (h ∷ rest) (s, from, sym same, way) in
-    subst (λ l. IsWayBack es place (l ++ rest)) (sym is) (subst (IsWayBack es place) (sym (append_assoc hops (h ∷ []) rest)) longer)
+module _ (r w : List Node) where
+  -- one step further back
+  pub way_further : (es : List Entry) (place at : ℕ) (hops : List Hop) (s : Step) (h : Hop) (all : List Hop)
+      → ((rest : List Hop) → IsWayBack r w es at rest → IsWayBack r w es place (hops ++ rest))
+      → from_at es at ≡ Some s → hop_at r w es s ≡ Some h → all ≡ hops ++ h ∷ []
+      → (rest : List Hop) → IsWayBack r w es s.place rest → IsWayBack r w es place (all ++ rest)
+  way_further es place at hops s h all now from named is rest way =
+      let longer : IsWayBack r w es place (hops ++ h ∷ rest) = now (h ∷ rest) (s, from, named, way) in
+      subst (λ l. IsWayBack r w es place (l ++ rest)) (sym is) (subst (IsWayBack r w es place) (sym (append_assoc hops (h ∷ []) rest)) longer)
 
-pub way_whole : (es : List Entry) (place at : ℕ) (hops : List Hop) → ((rest : List Hop) → IsWayBack es at rest → IsWayBack es place (hops ++ rest)) → from_at es at ≡ None → IsWayBack es place hops
-way_whole es place at hops now none = subst (IsWayBack es place) (append-nil hops) (now [] none)
+  pub way_whole : (es : List Entry) (place at : ℕ) (hops : List Hop) → ((rest : List Hop) → IsWayBack r w es at rest → IsWayBack r w es place (hops ++ rest)) → from_at es at ≡ None → IsWayBack r w es place hops
+  way_whole es place at hops now none = subst (IsWayBack r w es place) (append-nil hops) (now [] none)
+
+-- a row that is no clash
+pub owes_of : (row : Row) → ((c : Cause) → row ≡ Clash c → ⊥) → outcome_of row ≡ Owes (owed_in (outcome_of row))
+owes_of (Clash c) other = absurd (other c refl)
+owes_of (WriterBranches i bs) other = refl
+owes_of (One h p) other = refl
+owes_of (Fields fs gs) other = refl
+owes_of Nothing other = refl
+
+pub not_false : (b : Bool) → false ≡ not b → b ≡ true
+not_false true e = refl
+not_false false e = cc
 
 pub not_some : {A : Type 0} (o : Option A) → ((x : A) → o ≡ Some x → ⊥) → o ≡ None
 not_some None h = refl

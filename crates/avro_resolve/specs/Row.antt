@@ -1,5 +1,6 @@
 -- What the rows of the table stand for.
-use Rattle.std.specs.Prelude.{[], ◌∷◌, filter_map}
+use Rattle.std.specs.Prelude.{[], ◌∷◌, Bool, true, map, filter_map, bytes_eq}
+use Rattle.avro_schema.specs.Names.{all_distinct}
 use Rattle.avro_resolve.specs.declared.trail.ClashKind.{ClashKind}
 use Rattle.avro_resolve.specs.declared.trail.ClashKind.TheVariants as clash
 use Rattle.avro_resolve.specs.declared.table.Outcome.{Outcome}
@@ -24,3 +25,8 @@ outcome_of (WriterBranches i bs) = to_writer_branches i bs.now
 outcome_of (One h p) = Owes (record { hop = h; pair = p } ∷ [])
 outcome_of (Fields fs gs) = Owes (filter_map (to_partner gs.now) fs.now)
 outcome_of Nothing = Owes []
+
+-- no two of the writer's fields have one name
+abbrev pub has_distinct : Row → Bool
+has_distinct (Fields fs gs) = all_distinct bytes_eq (map (λ g. g.name) gs.now)
+has_distinct _ = true

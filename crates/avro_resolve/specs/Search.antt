@@ -1,13 +1,16 @@
 -- What the search keeps: the pairs that were reached, in the order in which they were.
-use Rattle.std.specs.Prelude.{◌≡◌, ◌<◌, ℕ, List, [], ◌∷◌, ◌++◌, Bool, true, false, ◌&&◌, ◌==◌, Option, Some, None, option_and_then, slice_get}
+use Rattle.std.specs.Prelude.{◌≡◌, ◌<◌, ℕ, ◌+◌, List, [], ◌∷◌, ◌++◌, length, Bool, true, false, ◌&&◌, ◌||◌, ◌==◌, Option, Some, None, option_map, option_and_then, slice_get}
 use Rattle.std.specs.List.{list_any}
 use Rattle.std.specs.Ordering.{nat_cmp, ordering_then}
 use Rattle.std.specs.BTreeSet.{BTreeSet, contains}
+use Rattle.avro_schema.specs.declared.node.Node.{Node}
 use Rattle.avro_resolve.specs.declared.trail.Hop.{Hop}
 use Rattle.avro_resolve.specs.declared.table.Pair.{Pair}
 use Rattle.avro_resolve.specs.declared.table.Obligation.{Obligation}
 use Rattle.avro_resolve.specs.declared.search.Step.{Step}
 use Rattle.avro_resolve.specs.declared.search.Entry.{Entry}
+use Rattle.avro_resolve.specs.declared.seen.Seen.{Seen}
+use Rattle.avro_resolve.specs.Table.{obligations}
 
 abbrev pub same_pair : Pair → Pair → Bool
 same_pair p q = (p.reader.index == q.reader.index) && (p.writer.index == q.writer.index)
@@ -15,9 +18,27 @@ same_pair p q = (p.reader.index == q.reader.index) && (p.writer.index == q.write
 abbrev pub is_reached : List Entry → Pair → Bool
 is_reached es p = list_any (λ e. same_pair e.pair p) es
 
--- the set has the pairs of the entries
-abbrev pub AgreesWith : BTreeSet (ℕ × ℕ) → List Entry → Type 0
-AgreesWith seen es = (p : Pair) → contains (λ a b. ordering_then (nat_cmp a.0 b.0) (nat_cmp a.1 b.1)) seen (p.reader.index, p.writer.index) ≡ is_reached es p
+-- whether the set of the other pairs has one
+abbrev pub is_more : BTreeSet (ℕ × ℕ) → ℕ → ℕ → Bool
+is_more more i j = contains (λ a b. ordering_then (nat_cmp a.0 b.0) (nat_cmp a.1 b.1)) more (i, j)
+
+-- whether a writer's type was seen, by the first that was with this reader's type, and the set of the others
+abbrev pub is_beside : BTreeSet (ℕ × ℕ) → ℕ → ℕ → Option (Option ℕ) → Bool
+is_beside more i j None = is_more more i j
+is_beside more i j (Some None) = false
+is_beside more i j (Some (Some first)) = (first == j) || is_more more i j
+
+abbrev pub is_seen : Seen → Pair → Bool
+is_seen seen p = is_beside seen.more p.reader.index p.writer.index (slice_get seen.first.items p.reader.index)
+
+-- the set has only pairs of a reader's type that came with another before
+abbrev pub IsFair : Seen → Type 0
+IsFair seen = (i j : ℕ) → slice_get seen.first.items i ≡ Some None → is_more seen.more i j ≡ false
+
+-- the pairs that were seen are those of the entries
+pub record AgreesWith (seen : Seen) (es : List Entry) : Type 0 where
+  pub same : (p : Pair) → is_seen seen p ≡ is_reached es p
+  pub fair : IsFair seen
 
 abbrev pub unless_reached : Bool → List Entry → Entry → List Entry
 unless_reached true es e = es
@@ -27,22 +48,39 @@ unless_reached false es e = es ++ e ∷ []
 abbrev pub with_entry : List Entry → Entry → List Entry
 with_entry es e = unless_reached (is_reached es e.pair) es e
 
-abbrev pub entry_from : ℕ → Obligation → Entry
-entry_from place o = record { pair = o.pair; from = Some (record { place = place; hop = o.hop }) }
+-- by the obligation of that number of the pair at a place
+abbrev pub entry_from : ℕ → ℕ → Obligation → Entry
+entry_from place number o = record { pair = o.pair; from = Some (record { place = place; number = number }) }
 
--- the entries, and what the pair at a place owes
-abbrev pub expanded : ℕ → List Obligation → List Entry → List Entry
-expanded place [] es = es
-expanded place (o ∷ os) es = expanded place os (with_entry es (entry_from place o))
+-- the entries, and what the pair at a place owes, numbered from here on
+abbrev pub expanded : ℕ → ℕ → List Obligation → List Entry → List Entry
+expanded place number [] es = es
+expanded place number (o ∷ os) es = expanded place (number + 1) os (with_entry es (entry_from place number o))
 
 abbrev pub from_at : List Entry → ℕ → Option Step
 from_at es x = option_and_then (λ e. e.from) (slice_get es x)
 
--- each entry was reached from one before it
-abbrev pub LeadsBack : List Entry → Type 0
-LeadsBack es = (x : ℕ) (s : Step) → from_at es x ≡ Some s → s.place < x
+module _ (r w : List Node) where
+  -- the hop of a pair's obligation of that number
+  abbrev pub hop_numbered : Pair → ℕ → Option Hop
+  hop_numbered p number = option_map (λ o. o.hop) (slice_get (obligations r w p) number)
 
--- these hops lead from a place back to the roots
-abbrev pub IsWayBack : List Entry → ℕ → List Hop → Type 0
-IsWayBack es x [] = from_at es x ≡ None
-IsWayBack es x (h ∷ hs) = (s : Step) × (from_at es x ≡ Some s) × (s.hop ≡ h) × IsWayBack es s.place hs
+  abbrev pub hop_at : List Entry → Step → Option Hop
+  hop_at es s = option_and_then (λ e. hop_numbered e.pair s.number) (slice_get es s.place)
+
+  -- a step to place x, by an obligation of an entry before it
+  pub record IsStep (es : List Entry) (x : ℕ) (s : Step) : Type 0 where
+    pub earlier : s.place < x
+    pub entry : Entry
+    pub stands : slice_get es s.place ≡ Some entry
+    pub reader : entry.pair.reader.index < length r
+    pub writer : entry.pair.writer.index < length w
+    pub numbered : s.number < length (obligations r w entry.pair)
+
+  abbrev pub LeadsBack : List Entry → Type 0
+  LeadsBack es = (x : ℕ) (s : Step) → from_at es x ≡ Some s → IsStep es x s
+
+  -- these hops lead from a place back to the roots
+  abbrev pub IsWayBack : List Entry → ℕ → List Hop → Type 0
+  IsWayBack es x [] = from_at es x ≡ None
+  IsWayBack es x (h ∷ hs) = (s : Step) × (from_at es x ≡ Some s) × (hop_at es s ≡ Some h) × IsWayBack es s.place hs

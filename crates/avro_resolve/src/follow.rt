@@ -41,7 +41,7 @@ fn follow(r: &Schema, w: &Schema, pair: Pair, hop: &Hop) -> Option<Pair>
     requires writer { pair.writer.index < length w.now.nodes }
     ensures { result ≡ pair_by (spec.obligations r.now.nodes w.now.nodes pair) hop.now }
 {
-    match row_at(r, w, pair) {
+    match row_at(r, w, pair, None) {
         Row::Clash(_) => None,
         Row::WriterBranches(i, branches) => writer_branch(i, branches, hop),
         Row::One(only, next) => only_pair(&only, next, hop),
@@ -106,7 +106,7 @@ fn clashes_so(r: &Schema, w: &Schema, pair: Pair, kind: &ClashKind) -> bool
     requires writer { pair.writer.index < length w.now.nodes }
     ensures { IsTrue result ↔ (spec.clash_of r.now.nodes w.now.nodes pair ≡ Some kind.now) }
 {
-    match row_at(r, w, pair) {
+    match row_at(r, w, pair, None) {
         Row::Clash(cause) => is_of_kind(&cause, kind),
         _ => false,
     }

@@ -4,11 +4,13 @@
 
 mod fields;
 mod follow;
+mod guess;
 mod matching;
 mod names;
 mod resolving;
 mod row;
 mod search;
+mod seen;
 mod table;
 mod trail;
 

@@ -1,8 +1,9 @@
 // Whether two schemas resolve.
 ghost use Rattle.std.specs.Prelude.{◌≡◌, ◌≤◌, ◌*◌, length, IfOk};
 
+use crate::row::{Row, row_at};
 use crate::search::Search;
-use crate::table::{Outcome, look_up};
+use crate::table::clash_kind;
 use crate::trail::Trail;
 use avro_schema::Schema;
 use std::alloc::{AllocError, Global};
@@ -50,16 +51,17 @@ pub fn resolve_counted(alloc: Global, r: &Schema, w: &Schema) -> Result<Counted,
     let mut head = 0;
     'heads: while head < search.entries.len() {
         let pair = search.entries[head].pair;
-        match look_up(alloc, r, w, pair)? {
-            Outcome::Clashes(kind) => {
-                let hops = search.hops_to(alloc, head)?;
+        match row_at(r, w, pair, Some(alloc)) {
+            Row::Clash(cause) => {
+                let kind = clash_kind(cause)?;
+                let hops = search.hops_to(alloc, r, w, head)?;
                 let verdict = Verdict::Clash(Trail { hops, kind });
                 return Ok(Counted {
                     verdict,
                     pairs: head + 1,
                 });
             }
-            Outcome::Owes(obligations) => search.expand(head, obligations)?,
+            row => search.expand(alloc, head, row)?,
         }
         head += 1;
     }

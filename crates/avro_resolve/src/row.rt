@@ -1,17 +1,20 @@
 // The row of the table that a pair of types falls under, with what it takes from the schemas.
-ghost use Rattle.std.specs.Prelude.{◌≡◌, ◌<◌, ℕ, List, Option, is_some, All, length, not, find, option_copied};
+ghost use Rattle.std.specs.Prelude.{◌≡◌, ◌<◌, ℕ, List, Option, IsTrue, true, is_some, All, length, map, not, find, slice_get, bytes_eq, option_copied};
 ghost use Rattle.avro_schema.specs.declared.node.Node.TheVariants as kind;
-ghost use Rattle.avro_schema.specs.Names.{has_text};
+ghost use Rattle.avro_schema.specs.Names.{has_text, all_distinct};
 ghost use Rattle.avro_resolve.specs.Table as spec;
-ghost use Rattle.avro_resolve.specs.Row.{outcome_of};
+ghost use Rattle.avro_schema.specs.Order.{has_distinct_fields};
+ghost use Rattle.avro_resolve.specs.Row.{outcome_of, has_distinct};
 
 use crate::fields::first_lacking;
+use crate::guess::Guess;
 use crate::matching::matches;
 use crate::names::{names_match, primitives_match};
 use crate::table::Pair;
 use crate::trail::Hop;
 use avro_schema::{Field, FullName, Node, NodeId, Primitive, Schema};
 use base_text::Text;
+use std::alloc::Global;
 
 /// Why a pair clashes, with the name that it is about.
 #[derive(Drop)]
@@ -37,27 +40,31 @@ pub enum Row<'a> {
     Nothing,
 }
 
-/// The row of a pair. Takes no memory.
-pub fn row_at<'a>(r: &'a Schema, w: &'a Schema, pair: Pair) -> Row<'a>
+/// The row of a pair. Without memory names among many are looked for one by one.
+pub fn row_at<'a>(r: &'a Schema, w: &'a Schema, pair: Pair, memory: Option<Global>) -> Row<'a>
     requires reader { pair.reader.index < length r.now.nodes }
     requires writer { pair.writer.index < length w.now.nodes }
-    ensures { outcome_of result ≡ spec.outcome r.now.nodes w.now.nodes pair }
+    ensures row { outcome_of result ≡ spec.outcome r.now.nodes w.now.nodes pair }
+    ensures distinct { has_distinct result ≡ true }
 {
     // Counting the nodes tells that they are sound.
     let _sound = r.node_count();
+    let _sound = w.node_count();
     let writer = w.node(pair.writer);
     if let Node::Union(branches) = writer {
         return Row::WriterBranches(pair.reader, branches.as_slice());
     }
     match r.node(pair.reader) {
         Node::Union(branches) => branch_row(r, branches.as_slice(), w, pair.writer),
-        reader => plain_row(reader, writer),
+        reader => plain_row(reader, writer, memory),
     }
 }
 
 /// The row of two types that are no unions.
-fn plain_row<'a>(reader: &'a Node, writer: &'a Node) -> Row<'a>
-    ensures { outcome_of result ≡ spec.plain_row reader.now writer.now }
+fn plain_row<'a>(reader: &'a Node, writer: &'a Node, memory: Option<Global>) -> Row<'a>
+    requires { has_distinct_fields writer.now ≡ true }
+    ensures row { outcome_of result ≡ spec.plain_row reader.now writer.now }
+    ensures distinct { has_distinct result ≡ true }
 {
     match reader {
         Node::Array(a) => match writer {
@@ -72,7 +79,7 @@ fn plain_row<'a>(reader: &'a Node, writer: &'a Node) -> Row<'a>
             name,
             aliases,
             fields,
-        } => record_row(name, aliases.as_slice(), fields.as_slice(), writer),
+        } => record_row(name, aliases.as_slice(), fields.as_slice(), writer, memory),
         Node::Enum {
             name,
             aliases,
@@ -86,6 +93,7 @@ fn plain_row<'a>(reader: &'a Node, writer: &'a Node) -> Row<'a>
                 symbols.as_slice(),
                 has_default,
                 writer,
+                memory,
             )
         }
         Node::Fixed {
@@ -103,7 +111,8 @@ fn plain_row<'a>(reader: &'a Node, writer: &'a Node) -> Row<'a>
 
 /// One obligation.
 fn one_row<'a>(hop: Hop, reader: NodeId, writer: NodeId) -> Row<'a>
-    ensures { outcome_of result ≡ spec.to_part hop reader writer }
+    ensures row { outcome_of result ≡ spec.to_part hop reader writer }
+    ensures distinct { has_distinct result ≡ true }
 {
     Row::One(hop, Pair { reader, writer })
 }
@@ -113,8 +122,11 @@ fn record_row<'a>(
     aliases: &[FullName],
     fields: &'a [Field],
     writer: &'a Node,
+    memory: Option<Global>,
 ) -> Row<'a>
-    ensures { outcome_of result ≡ spec.plain_row (kind.Record name.now aliases.now fields.now) writer.now }
+    requires { has_distinct_fields writer.now ≡ true }
+    ensures row { outcome_of result ≡ spec.plain_row (kind.Record name.now aliases.now fields.now) writer.now }
+    ensures distinct { has_distinct result ≡ true }
 {
     match writer {
         Node::Record {
@@ -123,7 +135,7 @@ fn record_row<'a>(
             ..
         } => {
             if names_match(name, aliases, other) {
-                field_row(fields, others.as_slice())
+                field_row(fields, others.as_slice(), memory)
             } else {
                 Row::Clash(Cause::NameMismatch)
             }
@@ -138,9 +150,11 @@ fn enum_row<'a>(
     symbols: &[Text],
     has_default: bool,
     writer: &'a Node,
+    memory: Option<Global>,
 ) -> Row<'a>
-    ensures { (d : Option (List ℕ)) → is_some d ≡ has_default
+    ensures row { (d : Option (List ℕ)) → is_some d ≡ has_default
         → outcome_of result ≡ spec.plain_row (kind.Enum name.now aliases.now symbols.now d) writer.now }
+    ensures distinct { has_distinct result ≡ true }
 {
     match writer {
         Node::Enum {
@@ -149,7 +163,7 @@ fn enum_row<'a>(
             ..
         } => {
             if names_match(name, aliases, other) {
-                symbol_row(symbols, has_default, others.as_slice())
+                symbol_row(symbols, has_default, others.as_slice(), memory)
             } else {
                 Row::Clash(Cause::NameMismatch)
             }
@@ -159,7 +173,8 @@ fn enum_row<'a>(
 }
 
 fn fixed_row<'a>(name: &FullName, aliases: &[FullName], size: u32, writer: &Node) -> Row<'a>
-    ensures { outcome_of result ≡ spec.plain_row (kind.Fixed name.now aliases.now size) writer.now }
+    ensures row { outcome_of result ≡ spec.plain_row (kind.Fixed name.now aliases.now size) writer.now }
+    ensures distinct { has_distinct result ≡ true }
 {
     match writer {
         Node::Fixed {
@@ -180,7 +195,8 @@ fn fixed_row<'a>(name: &FullName, aliases: &[FullName], size: u32, writer: &Node
 }
 
 fn primitive_row<'a>(reader: Primitive, writer: Primitive) -> Row<'a>
-    ensures { outcome_of result ≡ spec.plain_row (kind.Primitive reader) (kind.Primitive writer) }
+    ensures row { outcome_of result ≡ spec.plain_row (kind.Primitive reader) (kind.Primitive writer) }
+    ensures distinct { has_distinct result ≡ true }
 {
     if primitives_match(reader, writer) {
         Row::Nothing
@@ -193,7 +209,8 @@ fn primitive_row<'a>(reader: Primitive, writer: Primitive) -> Row<'a>
 fn branch_row<'a>(r: &Schema, branches: &[NodeId], w: &Schema, j: NodeId) -> Row<'a>
     requires reader { All (λ b. b.index < length r.now.nodes) branches.now }
     requires writer { j.index < length w.now.nodes }
-    ensures { outcome_of result ≡ spec.to_reader_branch j (spec.first_branch r.now.nodes w.now.nodes branches.now j) }
+    ensures row { outcome_of result ≡ spec.to_reader_branch j (spec.first_branch r.now.nodes w.now.nodes branches.now j) }
+    ensures distinct { has_distinct result ≡ true }
 {
     match first_branch(r, branches, w, j) {
         Some((k, b)) => Row::One(
@@ -222,33 +239,100 @@ fn first_branch(r: &Schema, branches: &[NodeId], w: &Schema, j: NodeId) -> Optio
 }
 
 /// The row of two records whose names match.
-fn field_row<'a>(reader: &'a [Field], writer: &'a [Field]) -> Row<'a>
-    ensures { outcome_of result ≡ spec.to_fields reader.now writer.now }
+fn field_row<'a>(reader: &'a [Field], writer: &'a [Field], memory: Option<Global>) -> Row<'a>
+    requires { all_distinct bytes_eq (map (λ f. f.name) writer.now) ≡ true }
+    ensures row { outcome_of result ≡ spec.to_fields reader.now writer.now }
+    ensures distinct { has_distinct result ≡ true }
 {
-    match first_lacking(reader, writer) {
+    match first_lacking(reader, writer, memory) {
         Some(f) => Row::Clash(Cause::LackingField(&f.name)),
         None => Row::Fields(reader, writer),
     }
 }
 
 /// The row of two enums whose names match, where the reader's has a default or none.
-fn symbol_row<'a>(reader: &[Text], has_default: bool, writer: &'a [Text]) -> Row<'a>
-    ensures { outcome_of result ≡ spec.with_symbols reader.now has_default writer.now }
+fn symbol_row<'a>(
+    reader: &[Text],
+    has_default: bool,
+    writer: &'a [Text],
+    memory: Option<Global>,
+) -> Row<'a>
+    ensures row { outcome_of result ≡ spec.with_symbols reader.now has_default writer.now }
+    ensures distinct { has_distinct result ≡ true }
 {
     if has_default {
         return Row::Nothing;
     }
-    match first_unknown(reader, writer) {
+    match first_unknown(reader, writer, memory) {
         Some(s) => Row::Clash(Cause::UnknownSymbol(s)),
         None => Row::Nothing,
     }
 }
 
 /// The first of the writer's symbols that isn't among the reader's.
-fn first_unknown<'a>(reader: &[Text], writer: &'a [Text]) -> Option<&'a Text>
+fn first_unknown<'a>(
+    reader: &[Text],
+    writer: &'a [Text],
+    memory: Option<Global>,
+) -> Option<&'a Text>
     ensures { option_copied result ≡ find (λ s. not (has_text reader.now s)) writer.now }
 {
-    writer.iter().find(|s| !is_symbol(s, reader))
+    let mut near = 0;
+    let mut guess = Guess::new(memory);
+    for s in writer {
+        let (next, known) = is_symbol_near(s, reader, near, &mut guess);
+        near = next;
+        if !known {
+            return Some(s);
+        }
+    }
+    None
+}
+
+/// How many symbols are looked at before the search from the first.
+const NEAR: usize = 8;
+
+/// Whether a symbol is among these, with a place after which the next one may be looked for; it is
+/// looked for at `near` and a few places on, and where a guess is, before anywhere else.
+fn is_symbol_near<'a>(
+    symbol: &Text,
+    symbols: &'a [Text],
+    near: usize,
+    guess: &mut Guess<'a>,
+) -> (usize, bool)
+    ensures { result.1 ≡ has_text symbols.now symbol.now }
+{
+    for k in near..near.saturating_add(NEAR) {
+        let Some(other) = symbol_at(symbols, k) else {
+            break;
+        };
+        if *symbol == *other {
+            return (k.saturating_add(1), true);
+        }
+    }
+    if let Some(k) = guess.of_symbol(symbols, symbol)
+        && is_at(symbol, symbols, k)
+    {
+        return (k.saturating_add(1), true);
+    }
+    (near, is_symbol(symbol, symbols))
+}
+
+/// Whether the symbol stands at a place.
+fn is_at(symbol: &Text, symbols: &[Text], k: usize) -> bool
+    ensures { IsTrue result → true ≡ has_text symbols.now symbol.now }
+{
+    match symbol_at(symbols, k) {
+        Some(other) => *symbol == *other,
+        None => false,
+    }
+}
+
+/// The symbol at a place, if there is one.
+fn symbol_at(symbols: &[Text], k: usize) -> Option<&Text>
+    ensures { option_copied result ≡ slice_get symbols.now k }
+{
+    symbols.get(k)
 }
 
 fn is_symbol(symbol: &Text, symbols: &[Text]) -> bool

@@ -1,24 +1,30 @@
 // The search for a clash, breadth first over pairs of types.
-ghost use Rattle.std.specs.Prelude.{◌≡◌, ◌≤◌, ◌<◌, ◌*◌, [], ◌∷◌, None, length, reverse, vec_len, IfOk, OnOk};
-ghost use Rattle.avro_resolve.specs.Table.{outcome};
+ghost use Rattle.std.specs.Prelude.{◌≡◌, ◌<◌, [], ◌∷◌, true, None, length, reverse, vec_len, slice_get, filter_map, map, option_map, Some, bytes_eq, IfOk, OnOk};
+ghost use Rattle.std.specs.List.{enumerate_from};
+ghost use Rattle.avro_resolve.specs.Table as spec;
+ghost use Rattle.avro_resolve.specs.Row.{outcome_of, has_distinct};
+ghost use Rattle.avro_schema.specs.Names.{all_distinct};
 ghost use Rattle.avro_resolve.specs.Trails.{roots};
 
-use crate::table::{Obligation, Outcome, Pair, look_up};
-use crate::trail::{Hop, Trail};
-use avro_schema::Schema;
+use crate::fields::partner_near;
+use crate::guess::Guess;
+use crate::row::Row;
+use crate::seen::Seen;
+use crate::table::{Pair, owed};
+use crate::trail::Hop;
+use avro_schema::{Field, NodeId, Schema};
 use base_text::Listed;
 use std::alloc::{AllocError, Global};
-use std::collections::BTreeSet;
 
-/// Where a pair was reached from: the place of an earlier pair, and the hop.
-#[derive(Drop)]
+/// Where a pair was reached from: the place of an earlier pair, and the number of its obligation.
+#[derive(Clone, Copy)]
 pub struct Step {
     pub place: usize,
-    pub hop: Hop,
+    pub number: usize,
 }
 
 /// A pair that was reached, and from where; the roots from nowhere.
-#[derive(Drop)]
+#[derive(Clone, Copy)]
 pub struct Entry {
     pub pair: Pair,
     pub from: Option<Step>,
@@ -28,11 +34,11 @@ pub struct Entry {
 #[derive(Drop)]
 pub struct Search {
     pub entries: Vec<Entry>,
-    pub seen: BTreeSet<(usize, usize)>,
+    pub seen: Seen,
 }
 
 impl Search {
-    ghost use Rattle.avro_resolve.specs.Search.{AgreesWith, with_entry, expanded, IsWayBack, LeadsBack};
+    ghost use Rattle.avro_resolve.specs.Search.{AgreesWith, with_entry, entry_from, expanded, hop_numbered, IsWayBack, LeadsBack};
 
     /// A search that has reached the pair of roots.
     pub fn start(alloc: Global, r: &Schema, w: &Schema) -> Result<Search, AllocError>
@@ -45,56 +51,139 @@ impl Search {
         };
         let mut search = Search {
             entries: Vec::new(alloc),
-            seen: BTreeSet::new(alloc),
+            seen: Seen::none(alloc, r.node_count())?,
         };
         search.reach(Entry { pair, from: None })?;
         Ok(search)
     }
 
     /// Adds an entry, unless its pair was reached before.
-    pub fn reach(&mut self, entry: Entry) -> Result<(), AllocError>
+    fn reach(&mut self, entry: Entry) -> Result<(), AllocError>
         requires { AgreesWith self.old.seen self.old.entries.items }
         ensures entries { OnOk result (self.new.entries.items ≡ with_entry self.old.entries.items entry) }
         ensures agrees { OnOk result (AgreesWith self.new.seen self.new.entries.items) }
     {
-        let Pair { reader, writer } = entry.pair;
-        if self.seen.insert((reader.index, writer.index))? {
+        if self.seen.insert(entry.pair)? {
             self.entries.push(entry)?;
         }
         Ok(())
     }
 
     /// Adds what the pair at a place owes.
-    pub fn expand(
-        &mut self,
-        place: usize,
-        obligations: Listed<Obligation>,
-    ) -> Result<(), AllocError>
-        requires { AgreesWith self.old.seen self.old.entries.items }
-        ensures entries { OnOk result (self.new.entries.items ≡ expanded place obligations self.old.entries.items) }
+    pub fn expand(&mut self, alloc: Global, place: usize, row: Row<'_>) -> Result<(), AllocError>
+        requires distinct { has_distinct row ≡ true }
+        requires agrees { AgreesWith self.old.seen self.old.entries.items }
+        ensures entries { OnOk result (self.new.entries.items ≡ expanded place 0 (spec.owed_in (outcome_of row.entry)) self.old.entries.items) }
         ensures agrees { OnOk result (AgreesWith self.new.seen self.new.entries.items) }
     {
-        'owed: for owed in Vec::from(obligations) {
-            let Obligation { hop, pair } = owed;
-            let from = Some(Step { place, hop });
-            self.reach(Entry { pair, from })?;
+        match row {
+            Row::Clash(_) => Ok(()),
+            Row::WriterBranches(i, branches) => self.reach_branches(place, i, branches),
+            Row::One(_, pair) => self.reach(reached(pair, place, 0)),
+            Row::Fields(reader, writer) => self.reach_fields(alloc, place, reader, writer),
+            Row::Nothing => Ok(()),
+        }
+    }
+
+    /// Adds the reader's type with each branch of the writer's union.
+    fn reach_branches(
+        &mut self,
+        place: usize,
+        i: NodeId,
+        branches: &[NodeId],
+    ) -> Result<(), AllocError>
+        requires { AgreesWith self.old.seen self.old.entries.items }
+        ensures entries { OnOk result (self.new.entries.items ≡ expanded place 0 (spec.owed_in (spec.to_writer_branches i branches.now)) self.old.entries.items) }
+        ensures agrees { OnOk result (AgreesWith self.new.seen self.new.entries.items) }
+    {
+        for (k, b) in branches.iter().enumerate() {
+            let pair = Pair {
+                reader: i,
+                writer: *b,
+            };
+            self.reach(reached(pair, place, k))?;
+        }
+        Ok(())
+    }
+
+    /// Adds the reader's fields that are paired, each with its partner.
+    fn reach_fields(
+        &mut self,
+        alloc: Global,
+        place: usize,
+        reader: &[Field],
+        writer: &[Field],
+    ) -> Result<(), AllocError>
+        requires distinct { all_distinct bytes_eq (map (λ g. g.name) writer.now) ≡ true }
+        requires agrees { AgreesWith self.old.seen self.old.entries.items }
+        ensures entries { OnOk result (self.new.entries.items ≡ expanded place 0 (filter_map (spec.to_partner writer.now) reader.now) self.old.entries.items) }
+        ensures agrees { OnOk result (AgreesWith self.new.seen self.new.entries.items) }
+    {
+        let mut number = 0;
+        let mut near = 0;
+        let mut guess = Guess::new(Some(alloc));
+        for f in reader {
+            let (next, found) = partner_near(writer, f, near, &mut guess);
+            near = next;
+            if let Some(g) = found {
+                let pair = Pair {
+                    reader: f.node,
+                    writer: g.node,
+                };
+                self.reach(reached(pair, place, number))?;
+                number += 1;
+            }
         }
         Ok(())
     }
 
     /// The hops from the roots to the pair at a place.
-    pub fn hops_to(&self, alloc: Global, place: usize) -> Result<Listed<Hop>, AllocError>
+    pub fn hops_to(
+        &self,
+        alloc: Global,
+        r: &Schema,
+        w: &Schema,
+        place: usize,
+    ) -> Result<Listed<Hop>, AllocError>
         requires within { place < vec_len self.now.entries }
-        requires back { LeadsBack self.now.entries.items }
-        ensures { IfOk result (λ hops. IsWayBack self.now.entries.items place (reverse hops)) }
+        requires back { LeadsBack r.now.nodes w.now.nodes self.now.entries.items }
+        ensures { IfOk result (λ hops. IsWayBack r.now.nodes w.now.nodes self.now.entries.items place (reverse hops)) }
     {
         let mut hops = Vec::new(alloc);
         let mut at = place;
-        'back: while let Some(step) = &self.entries[at].from {
-            hops.push(step.hop.clone()?)?;
+        'back: while let Some(step) = self.entries[at].from {
+            let parent = self.entries[step.place].pair;
+            hops.push(hop_of(alloc, r, w, parent, step.number)?)?;
             at = step.place;
         }
         hops.reverse();
         Ok(Listed::from(hops))
     }
+}
+
+/// The entry of a pair that the pair at a place owes.
+fn reached(pair: Pair, place: usize, number: usize) -> Entry
+    ensures { result ≡ record { pair = pair; from = Some (record { place = place; number = number }) } }
+{
+    Entry {
+        pair,
+        from: Some(Step { place, number }),
+    }
+}
+
+/// The hop of a pair's obligation of that number.
+fn hop_of(
+    alloc: Global,
+    r: &Schema,
+    w: &Schema,
+    pair: Pair,
+    number: usize,
+) -> Result<Hop, AllocError>
+    requires reader { pair.reader.index < length r.now.nodes }
+    requires writer { pair.writer.index < length w.now.nodes }
+    requires numbered { number < length (spec.obligations r.now.nodes w.now.nodes pair) }
+    ensures { IfOk result (λ h. option_map (λ o. o.hop) (slice_get (spec.obligations r.now.nodes w.now.nodes pair) number) ≡ Some h) }
+{
+    let obligations = owed(alloc, r, w, pair)?;
+    obligations[number].hop.clone()
 }

@@ -1,5 +1,5 @@
 // What a pair of types comes to: a clash, or the pairs that have to resolve for it.
-ghost use Rattle.std.specs.Prelude.{◌≡◌, ◌<◌, length, filter_map, map, IfOk};
+ghost use Rattle.std.specs.Prelude.{◌≡◌, ◌<◌, length, filter_map, IfOk};
 ghost use Rattle.avro_resolve.specs.Row.{kind_of};
 ghost use Rattle.avro_resolve.specs.Table as spec;
 
@@ -31,32 +31,32 @@ pub enum Outcome {
     Owes(Listed<Obligation>),
 }
 
-/// What a pair comes to. The only error is want of memory.
-pub fn look_up(alloc: Global, r: &Schema, w: &Schema, pair: Pair) -> Result<Outcome, AllocError>
+/// The obligations of a pair. The only error is want of memory.
+pub fn owed(
+    alloc: Global,
+    r: &Schema,
+    w: &Schema,
+    pair: Pair,
+) -> Result<Vec<Obligation>, AllocError>
     requires reader { pair.reader.index < length r.now.nodes }
     requires writer { pair.writer.index < length w.now.nodes }
-    ensures { IfOk result (λ o. o ≡ spec.outcome r.now.nodes w.now.nodes pair) }
+    ensures { IfOk result (λ os. os.items ≡ spec.obligations r.now.nodes w.now.nodes pair) }
 {
-    match row_at(r, w, pair) {
-        Row::Clash(cause) => Ok(Outcome::Clashes(clash_kind(cause)?)),
-        Row::WriterBranches(i, branches) => {
-            let obligations = to_writer_branches(alloc, i, branches)?;
-            Ok(Outcome::Owes(Listed::from(obligations)))
-        }
+    match row_at(r, w, pair, Some(alloc)) {
+        Row::Clash(_) => Ok(Vec::new(alloc)),
+        Row::WriterBranches(i, branches) => to_writer_branches(alloc, i, branches),
         Row::One(hop, next) => {
             let mut obligations = Vec::new(alloc);
             obligations.push(Obligation { hop, pair: next })?;
-            Ok(Outcome::Owes(Listed::from(obligations)))
+            Ok(obligations)
         }
-        Row::Fields(reader, writer) => {
-            let obligations = to_fields(alloc, reader, writer)?;
-            Ok(Outcome::Owes(Listed::from(obligations)))
-        }
-        Row::Nothing => Ok(Outcome::Owes(Listed::from(Vec::new(alloc)))),
+        Row::Fields(reader, writer) => to_fields(alloc, reader, writer),
+        Row::Nothing => Ok(Vec::new(alloc)),
     }
 }
 
-fn clash_kind(cause: Cause<'_>) -> Result<ClashKind, AllocError>
+/// What a clash is told as.
+pub fn clash_kind(cause: Cause<'_>) -> Result<ClashKind, AllocError>
     ensures { IfOk result (λ kind. kind ≡ kind_of cause.entry) }
 {
     match cause {

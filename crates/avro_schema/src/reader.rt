@@ -1,5 +1,5 @@
 // Reading a schema's JSON into nodes, in one pass.
-ghost use Rattle.std.specs.Prelude.{◌≡◌, ◌+◌, ℕ, List, [], ◌∷◌, ◌++◌, IfOk, IfErr, true, false, None, option_map, is_none, codes, string_bytes};
+ghost use Rattle.std.specs.Prelude.{◌≡◌, ◌<◌, ◌+◌, set, ℕ, List, [], ◌∷◌, ◌++◌, IfOk, IfErr, true, false, None, option_map, is_none, codes, string_bytes};
 ghost use Rattle.avro_schema.specs.Form.{heading_of};
 ghost use Rattle.avro_schema.specs.Places.{defined_by};
 ghost use Rattle.avro_schema.specs.Faults.{kind_named};
@@ -59,6 +59,15 @@ impl Reader {
         }
         self.nodes.push(node)?;
         Ok(index)
+    }
+
+    /// Writes the node at a place that is open.
+    fn close(&mut self, index: usize, node: Node)
+        requires { index < opened self.old }
+        ensures nodes { nodes_of self.new ≡ set (nodes_of self.old) index node }
+        ensures names { self.new.names ≡ self.old.names }
+    {
+        self.nodes[index] = node;
     }
 
     /// Opens the next node, and defines a full name as it.
@@ -191,7 +200,7 @@ impl Reader {
     {
         let index = self.open(Node::Primitive(Primitive::Null))?;
         let items = self.read_member(alloc, value, "items", namespace)?;
-        self.nodes[index] = Node::Array(items);
+        self.close(index, Node::Array(items));
         Ok(NodeId { index })
     }
 
@@ -208,7 +217,7 @@ impl Reader {
     {
         let index = self.open(Node::Primitive(Primitive::Null))?;
         let values = self.read_member(alloc, value, "values", namespace)?;
-        self.nodes[index] = Node::Map(values);
+        self.close(index, Node::Map(values));
         Ok(NodeId { index })
     }
 
@@ -225,7 +234,7 @@ impl Reader {
     {
         let index = self.open(Node::Primitive(Primitive::Null))?;
         let branches = self.read_branches(alloc, items, namespace)?;
-        self.nodes[index] = Node::Union(Listed::from(branches));
+        self.close(index, Node::Union(Listed::from(branches)));
         Ok(NodeId { index })
     }
 
@@ -277,11 +286,12 @@ impl Reader {
         if !have_distinct_names(alloc, fields.as_slice())? {
             return Err(SchemaError::BadForm);
         }
-        self.nodes[index] = Node::Record {
+        let node = Node::Record {
             name,
             aliases: Listed::from(aliases),
             fields: Listed::from(fields),
         };
+        self.close(index, node);
         Ok(NodeId { index })
     }
 

@@ -41,7 +41,7 @@ then_ties Equal b e = (refl, e)
 then_ties Greater b e = absurd (cc)
 
 -- places that tie are one place
-place_cmp-ties : (p q : Place) → place_cmp p q ≡ Equal → p ≡ q
+pub place_cmp-ties : (p q : Place) → place_cmp p q ≡ Equal → p ≡ q
 place_cmp-ties p q e =
     let ties = then_ties (slice_cmp nat_cmp p.0 q.0) (nat_cmp p.1 q.1) e in
     let subjects = slice_cmp-IsAntisymmetric nat_cmp-IsAntisymmetric p.0 q.0 ties.0 in

@@ -1,4 +1,6 @@
+mod Applies
 mod Chosen
 mod InOrder
 mod Nothing
 mod Placed
+mod Places

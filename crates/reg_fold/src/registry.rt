@@ -15,7 +15,7 @@ use crate::entry::Entry;
 use crate::opaque::opaque_of;
 use crate::standing::entries_of;
 use reg_records::Record;
-use reg_set::{RecordSet, last_records_are_enough, last_records_of_unions, records_are_ordered};
+use reg_set::{RecordSet, last_records_are_enough, last_records_of_unions};
 use std::alloc::{AllocError, Global};
 use std::marker::Model;
 
@@ -112,7 +112,7 @@ impl Registry {
         last_records_of_unions();
         let alloc = *self.entries.allocator();
         let mut last = self.last.clone()?;
-        last.merge(&set_of(alloc, records)?)?;
+        last.merge(&RecordSet::of(alloc, records)?)?;
         last.compact();
         *self = Registry::over(alloc, last)?;
         Ok(())
@@ -183,18 +183,6 @@ impl Registry {
     {
         self.opaque
     }
-}
-
-/// The set of those records.
-fn set_of(alloc: Global, records: &[Record]) -> Result<RecordSet, AllocError>
-    ensures { IfOk result (λ found. found ≡ set.from_list records.now) }
-{
-    records_are_ordered();
-    let mut found = RecordSet::new(alloc);
-    for record in records {
-        found.take(record)?;
-    }
-    Ok(found)
 }
 
 #[cfg(test)]

@@ -1,7 +1,9 @@
 // The entries that some last records give.
-ghost use Rattle.std.specs.Prelude.{◌≡◌, IfOk};
+ghost use Rattle.std.specs.Prelude.{◌≡◌, IfOk, false};
 ghost use Rattle.reg_fold.specs.Entries.{entries, entry_of};
-ghost use Rattle.reg_fold.specs.Marks.{is_marked};
+ghost use Rattle.std.specs.Option.{option_map_or};
+ghost use Rattle.reg_records.specs.Value.{value_of};
+ghost use Rattle.reg_fold.specs.Marks.{is_marked, covers};
 
 use crate::entry::Entry;
 use base_text::Text;
@@ -63,17 +65,26 @@ fn is_marked(
 ) -> Result<bool, AllocError>
     ensures { IfOk result (λ marked. marked ≡ is_marked last.now subject.now version offset) }
 {
-    let Some(delete) = last.last(&Key::DeleteSubject(subject.clone()?)) else {
-        return Ok(false);
-    };
-    let Some(
-        Value::DeleteSubject {
-            version: greatest,
-            ..
-        },
-    ) = decode_value(alloc, delete)?
-    else {
-        return Ok(false);
-    };
-    Ok(version <= greatest && offset < delete.offset)
+    let key = Key::DeleteSubject(subject.clone()?);
+    match last.last(&key) {
+        Some(delete) => is_covered(alloc, delete, version, offset),
+        None => Ok(false),
+    }
+}
+
+/// Whether a soft delete covers what stands at that version and offset.
+fn is_covered(
+    alloc: Global,
+    delete: &Record,
+    version: u32,
+    offset: u64,
+) -> Result<bool, AllocError>
+    ensures { IfOk result (λ covered. covered ≡ option_map_or (λ value. covers delete.now.offset value version offset) (value_of delete.now) false) }
+{
+    match decode_value(alloc, delete)? {
+        Some(Value::DeleteSubject {
+            version: greatest, ..
+        }) => Ok(version <= greatest && offset < delete.offset),
+        _ => Ok(false),
+    }
 }

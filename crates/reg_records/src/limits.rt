@@ -1,4 +1,5 @@
 // The limits of the numbers and the lines of a topic.
+ghost use Rattle.std.specs.Prelude.{◌≡◌};
 
 /// The greatest offset, 2^63 - 1; the least is 0.
 pub const OFFSET_LIMIT: u64 = 9_223_372_036_854_775_807;
@@ -14,3 +15,12 @@ pub const LOG_LINES: u64 = 1_000_000;
 
 /// The most reads that are made for one line.
 pub const LINE_READS: u64 = 4_194_304;
+
+/// The limits, in digits.
+pub fn limits_are_as_written()
+    ensures offset { OFFSET_LIMIT ≡ 9223372036854775807 }
+    ensures number { NUMBER_LIMIT ≡ 2147483647 }
+    ensures line { LINE_LIMIT ≡ 2097152 }
+    ensures lines { LOG_LINES ≡ 1000000 }
+    ensures reads { LINE_READS ≡ 4194304 }
+{}

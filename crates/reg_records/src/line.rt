@@ -70,6 +70,7 @@ impl From<AllocError> for ReadLineError {
 pub fn read_line(alloc: Global, bytes: &[u8]) -> Result<Read, ReadLineError>
     ensures record { IfOk result (λ read. reading_at_front bytes.now ≡ Ok read) }
     ensures fault { IfErr result (IsFaultOf (reading_at_front bytes.now)) }
+    ensures at_once { (fault : LineError) → reading_at_front bytes.now ≡ Err fault → result ≡ Err (ReadLineError.Line fault) }
 {
     match line_len(bytes) {
         Some(end) => read_whole_line(alloc, &bytes[..end]),
@@ -88,6 +89,7 @@ fn line_len(bytes: &[u8]) -> Option<usize>
 pub(crate) fn read_whole_line(alloc: Global, line: &[u8]) -> Result<Read, ReadLineError>
     ensures record { IfOk result (λ read. reading line.now ≡ Ok read) }
     ensures fault { IfErr result (IsFaultOf (reading line.now)) }
+    ensures at_once { (fault : LineError) → reading line.now ≡ Err fault → result ≡ Err (ReadLineError.Line fault) }
     ensures within { IfOk result (λ read. offset_in read ≤ OFFSET_LIMIT) }
 {
     if line.len() > LINE_LIMIT {

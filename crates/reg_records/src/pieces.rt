@@ -1,7 +1,7 @@
 // Lines as they come from a reader, piece by piece.
 ghost use Rattle.std.specs.Prelude.{◌≡◌, ◌<◌, ◌≤◌, ◌+◌, ℕ, List, [], ◌∷◌, ◌++◌, Ok, IfOk, IfErr, OnOk, OnSome, MatchOption, length, take, slice_index, All, IsTrue, ◌↔◌};
 ghost use Rattle.std.specs.Io.KnownBytes.{Consumes};
-ghost use Rattle.reg_records.specs.Device.{bytes_in, faults_of};
+ghost use Rattle.reg_records.specs.Device.{bytes_in, faults_of, reads_of};
 ghost use Rattle.reg_records.specs.Line.{is_line_feed, reading, IsFaultOf};
 ghost use Rattle.reg_records.specs.Log.{offset_in};
 ghost use Rattle.reg_records.specs.Pieces.{HasNoLineFeed, Holds, Grows, TakesPiece, TakesLine, CountsPiece, LosesReader};
@@ -143,6 +143,7 @@ pub(crate) fn take_line<R: BufRead>(
         (LosesReader reader.old reader.new (bytes_in R.remaining reader.old) (bytes_in R.remaining reader.new))
         (TakesLine (bytes_in R.remaining reader.old) (bytes_in R.remaining reader.new))) }
     ensures faults { IfOk result (λ taken. OnSome taken (faults_of reader.new ≡ faults_of reader.old)) }
+    ensures bound { OnOk result (reads_of reader.new ≤ reads_of reader.old + LINE_READS) }
 {
     let mut line = LineBuffer::new(alloc);
     for _i in 0..LINE_READS {

@@ -1,10 +1,8 @@
 mod Compactions
 mod Equality
 mod InOrder
-mod Kept
+mod Indexed
 mod Lasts
-mod Latest
 mod Orders
 mod Places
-mod Takes
 mod Unions

@@ -15,7 +15,10 @@ use Rattle.reg_set.specs.RecordOrder.{record_cmp}
 use Rattle.reg_set.specs.Records.{is_in_order}
 use Rattle.reg_set.proofs.Orders.{record_cmp-total, record_cmp-ties}
 use Rattle.reg_set.proofs.InOrder.{both, first_of, second_of, less, turned, before_all, none_of_later}
-use Rattle.reg_set.proofs.Latest.{neither_left}
+
+neither_left : (a b : Bool) → (a || b) ≡ false → a ≡ false
+neither_left true b e = absurd (false≢true (sym e))
+neither_left false b e = refl
 
 all_at : (p : Record → Bool) (xs : List Record) (i : ℕ) (d : Record) → list_all p xs ≡ true → i < length xs → p (get_or xs i d) ≡ true
 all_at p [] i d all h = absurd (omega arith)
@@ -124,14 +127,20 @@ module _ (r : Record) (rs : List Record) (n : ℕ) where
       ∙ ap (λ b. is_same q r || b) (ap (list_any (is_same q)) parted ∙ sym (contains-from_list record_cmp-total rs q))
       ∙ sym (contains-insert record_cmp-total (from_list rs) r q))
 
-  -- what is of a key and in the list stands before the place or from it on
-  pub in_parts : (q : Record) → contains (from_list {R = record_cmp} rs) q ≡ true → (list_any (is_same q) (take n rs) || list_any (is_same q) (drop n rs)) ≡ true
-  in_parts q inside =
-      sym (list_any-append (is_same q) (take n rs) (drop n rs)) ∙ ap (list_any (is_same q)) parted ∙ sym (contains-from_list record_cmp-total rs q) ∙ inside
+-- what does not stand before r has none that does after it
+none_after : (r x : Record) (xs : List Record) → list_all (λ q. is_lt (record_cmp x q)) xs ≡ true → is_before r x ≡ false → list_any (is_before r) xs ≡ false
+none_after r x [] later not_before = refl
+none_after r x (q ∷ qs) later not_before =
+    let one : is_before r q ≡ false =
+    elim (is_before r q) as (λ b. is_before r q ≡ b → b ≡ false) [
+      | true ↦ λ e. absurd (false≢true (sym not_before ∙ ap is_lt (record_cmp-total.trans x q r (less _ (first_of _ _ later)) (less _ e))))
+      | false ↦ λ _. refl
+    ] refl in
+    ap (λ b. b || list_any (is_before r) qs) one ∙ none_after r x qs (second_of _ _ later) not_before
 
-  pub any_of_rest : list_any (is_same r) (drop n rs) ≡ true → list_any (is_same r) rs ≡ true
-  any_of_rest h = ap (list_any (is_same r)) (sym parted) ∙ list_any-append (is_same r) (take n rs) (drop n rs) ∙ among _ _ h
-    where
-      among : (a b : Bool) → b ≡ true → (a || b) ≡ true
-      among true b h = refl
-      among false b h = h
+-- a record that does not stand before r, and what stands after it
+pub none_before_from : (r : Record) (xs : List Record) (i : ℕ) (d : Record) → is_in_order xs ≡ true → i < length xs → is_lt (record_cmp (get_or xs i d) r) ≡ false → list_any (λ q. is_lt (record_cmp q r)) (drop i xs) ≡ false
+none_before_from r [] i d ordered h one = absurd (omega arith)
+none_before_from r (x ∷ xs) zero d ordered h one =
+    ap (λ b. b || list_any (is_before r) xs) one ∙ none_after r x xs (first_of _ _ ordered) one
+none_before_from r (x ∷ xs) (suc i) d ordered h one = none_before_from r xs i d (second_of _ _ ordered) (omega arith) one

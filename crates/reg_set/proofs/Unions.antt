@@ -1,8 +1,11 @@
 -- Unions of sets of records, and their last records.
-use Rattle.std.proofs.Common.{◌≡◌, ℕ, ◌+◌, ◌<◌, List, [], ◌∷◌, ◌++◌, length, get_or, take, Bool, true, false, cond, ◌||◌, ◌⊎◌, inl, inr, ⊎_elim, Some, None, refl, sym, ap, ◌∙◌}
+use Rattle.std.proofs.Common.{◌≡◌, ℕ, ◌+◌, ◌<◌, List, [], ◌∷◌, ◌++◌, length, get_or, map, take, Bool, true, false, cond, ◌||◌, ◌⊎◌, inl, inr, ⊎_elim, Some, None, refl, sym, ap, ◌∙◌}
 use Rattle.std.proofs.lemmas.Bool.{false≢true}
-use Rattle.std.specs.FinSet.{contains, empty, from_list, insert, union, contains-empty, contains-insert, contains-union, from_list_push, same_set}
+use Rattle.std.specs.FinSet.{contains, empty, from_list, insert, union, contains-empty, contains-insert, contains-union, contains-from_list, from_list_push, same_set}
 use Rattle.std.proofs.lemmas.List.{take_more}
+use Rattle.std.proofs.lemmas.List.Sorted.{list_any-IsPermutation}
+use Rattle.std.specs.List.Sorted.{IsPermutation}
+use denote.Ref.{Bor}
 use Rattle.std.specs.Ordering.{eq_by_cmp, is_eq, is_le, is_lt}
 use Rattle.std.proofs.lemmas.Cmp.{tied_itself}
 use Rattle.reg_records.specs.declared.key.Key.{Key}
@@ -130,3 +133,19 @@ union-more R rs i r within here =
     ap from_list (take_more rs i r within ∙ ap (λ x. take i rs ++ x ∷ []) (sym here)) ∙ from_list_push record_cmp-total record_cmp-ties (take i rs) r in
     insert-union (union R front) r ∙ merging_is_associative R front (insert empty r)
     ∙ ap (union R) (sym (insert-union front r) ∙ sym pushed)
+
+-- the order of a list doesn't count
+pub from_list-permuted : (xs ys : List Record) → IsPermutation xs ys → from_list {R = record_cmp} xs ≡ from_list ys
+from_list-permuted xs ys h =
+    same_set record_cmp-total record_cmp-ties _ _ (λ q.
+    contains-from_list record_cmp-total xs q ∙ list_any-IsPermutation (eq_by_cmp record_cmp q) xs ys h ∙ sym (contains-from_list record_cmp-total ys q))
+
+map_push : (xs : List (Bor Record)) (x : Bor Record) → map (λ r. r.now) (xs ++ x ∷ []) ≡ map (λ r. r.now) xs ++ x.now ∷ []
+map_push [] x = refl
+map_push (y ∷ ys) x = ap (λ l. y.now ∷ l) (map_push ys x)
+
+-- one more of a list of references
+pub from_list-more : (xs : List (Bor Record)) (i : ℕ) (x : Bor Record) → i < length xs → x ≡ get_or xs i x → insert (from_list {R = record_cmp} (map (λ r. r.now) (take i xs))) x.now ≡ from_list (map (λ r. r.now) (take (i + 1) xs))
+from_list-more xs i x within here =
+    sym (ap (λ l. from_list {R = record_cmp} (map (λ r. r.now) l)) (take_more xs i x within ∙ ap (λ y. take i xs ++ y ∷ []) (sym here))
+    ∙ ap from_list (map_push (take i xs) x) ∙ from_list_push record_cmp-total record_cmp-ties (map (λ r. r.now) (take i xs)) x.now)

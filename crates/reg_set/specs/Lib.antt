@@ -1,5 +1,6 @@
 pub mod Compaction
 pub mod Greatest
+pub mod Index
 pub mod Join
 pub mod LastRecords
 pub mod RecordOrder

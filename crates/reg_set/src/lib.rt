@@ -1,6 +1,7 @@
 //! The set of the records that a node has taken, and the last record of each key in it.
 #![tactic(auto)]
 
+mod index;
 mod laws;
 mod order;
 mod record_set;

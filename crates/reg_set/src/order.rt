@@ -3,7 +3,6 @@ ghost use Rattle.std.specs.Prelude.{◌≡◌, ◌≤◌, true, false, not, IfOk
 ghost use Rattle.std.specs.List.{list_any, list_all};
 ghost use Rattle.std.specs.Ordering.{eq_by_cmp, is_lt};
 ghost use Rattle.reg_records.specs.Written.{IsOf32Bits};
-ghost use Rattle.reg_set.specs.LastRecords.{is_of};
 ghost use Rattle.reg_set.specs.RecordOrder.{key_cmp, record_cmp};
 ghost use Rattle.reg_set.specs.Records.{is_in_order};
 
@@ -65,12 +64,23 @@ pub(crate) fn count_before(
     ensures not_before { IfOk result
         (λ n. list_any (λ q. is_lt (record_cmp q given.now)) (drop n records.now) ≡ false) }
 {
-    for place in (0..records.len()).rev() {
-        if compare(alloc, &records[place], given)? == Ordering::Less {
-            return Ok(place + 1);
+    // Most records come in order, after all others.
+    if let Some(last) = records.last() {
+        if compare(alloc, last, given)? == Ordering::Less {
+            return Ok(records.len());
         }
     }
-    Ok(0)
+    let mut low = 0;
+    let mut high = records.len();
+    while low < high {
+        let middle = low + (high - low) / 2;
+        if compare(alloc, &records[middle], given)? == Ordering::Less {
+            low = middle + 1;
+        } else {
+            high = middle;
+        }
+    }
+    Ok(low)
 }
 
 /// Whether the record is among the records, which stand in order, at its place.
@@ -84,18 +94,4 @@ pub(crate) fn stands_at(records: &[Record], place: usize, given: &Record) -> boo
         Some(other) => *other == *given,
         None => false,
     }
-}
-
-/// Whether one of the records is of that key.
-pub(crate) fn has_key(records: &[Record], key: &Key) -> bool
-    ensures { result ≡ list_any (is_of key.now) records.now }
-{
-    records.iter().any(|record| is_of(record, key))
-}
-
-/// Whether the record is of that key.
-pub(crate) fn is_of(given: &Record, key: &Key) -> bool
-    ensures { result ≡ is_of key.now given.now }
-{
-    given.key == *key
 }

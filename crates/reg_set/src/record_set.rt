@@ -1,7 +1,7 @@
 // A set of records, and the last record of each key in it.
-ghost use Rattle.std.specs.Prelude.{◌≡◌, ◌≢◌, ◌<◌, ◌↔◌, [], vec_len, true, OnOk, OnErr, IfOk, IsTrue, option_map};
+ghost use Rattle.std.specs.Prelude.{◌≡◌, ◌≢◌, ◌↔◌, [], true, OnOk, OnErr, IfOk, IsTrue, option_map};
 ghost use Rattle.std.specs.FinSet as set;
-ghost use Rattle.std.specs.List.{list_all, remove};
+ghost use Rattle.std.specs.List.{list_all};
 ghost use Rattle.std.specs.Option.{option_map_or};
 ghost use Rattle.reg_records.specs.declared.key.Key.{Key};
 ghost use Rattle.reg_set.specs.Compaction.{IsCompactionOf};
@@ -9,9 +9,12 @@ ghost use Rattle.reg_set.specs.Join.{later};
 ghost use Rattle.reg_set.specs.LastRecords.{last, last_records};
 ghost use Rattle.reg_set.specs.Records.{records_of, is_in_order};
 
-use crate::order::{count_before, has_key, is_of, stands_at};
+use crate::index::{has_later, keep_lasts, put};
+use crate::order::{count_before, stands_at};
 use reg_records::{Key, Record};
 use std::alloc::{AllocError, Global};
+use std::cmp::Ordering;
+use std::collections::BTreeMap;
 use std::marker::Model;
 
 /// What taking a record did to a set.
@@ -33,13 +36,15 @@ pub enum Taken {
 pub struct RecordSet {
     // In order: by offset, then by the key's written text, then by value. None stands twice.
     records: Vec<Record>,
+    // The last of those records, by their keys.
+    lasts: BTreeMap<Key, Record>,
 }
 
 impl Model for RecordSet {
     ghost use Rattle.std.specs.FinSet as set;
-    ghost use Rattle.std.specs.Prelude.{IsTrue};
     ghost use Rattle.reg_records.specs.contracts.record.Record as stored;
-    ghost use Rattle.reg_set.specs.Records.{Records, is_in_order};
+    ghost use Rattle.reg_set.specs.Index.{IsIndexed};
+    ghost use Rattle.reg_set.specs.Records.{Records};
 
     ghost Value = { Records };
 
@@ -47,7 +52,7 @@ impl Model for RecordSet {
 
     ghost view = { λ s. set.from_list s.records.items };
 
-    ghost invariant = { λ s. IsTrue (is_in_order s.records.items) };
+    ghost invariant = { λ s. IsIndexed s.records.items s.lasts };
 }
 
 impl Clone for RecordSet {
@@ -56,6 +61,7 @@ impl Clone for RecordSet {
     fn clone(&self) -> Result<RecordSet, AllocError> {
         Ok(RecordSet {
             records: self.records.clone()?,
+            lasts: self.lasts.clone()?,
         })
     }
 }
@@ -68,7 +74,22 @@ impl RecordSet {
     {
         RecordSet {
             records: Vec::new(alloc),
+            lasts: BTreeMap::new(alloc),
         }
+    }
+
+    /// The set of those records. The only error is want of memory.
+    pub fn of(alloc: Global, records: &[Record]) -> Result<RecordSet, AllocError>
+        ensures { IfOk result (λ found. found ≡ set.from_list records.now) }
+    {
+        // In this order nearly every record is the last so far, and is put at the end.
+        let mut in_turn: Vec<&Record> = records.iter().collect(alloc)?;
+        in_turn.sort_unstable_by(|one, other| stand(one, other));
+        let mut found = RecordSet::new(alloc);
+        for record in &in_turn {
+            found.take(record)?;
+        }
+        Ok(found)
     }
 
     /// Adds the record, and says what that did. The only error is want of memory; the set is then
@@ -87,21 +108,19 @@ impl RecordSet {
         if stands_at(records, place, given) {
             return Ok(Taken::Repeat);
         }
-        let taken = if has_key(&records[place..], &given.key) {
-            Taken::Older
-        } else {
-            Taken::Fresh
-        };
-        let copy = given.clone()?;
-        self.records.insert(place, copy)?;
-        Ok(taken)
+        if has_later(&self.lasts, given) {
+            self.records.insert(place, given.clone()?)?;
+            return Ok(Taken::Older);
+        }
+        put(&mut self.records, &mut self.lasts, place, given)?;
+        Ok(Taken::Fresh)
     }
 
     /// The last record of the key: the greatest of its records.
     pub fn last(&self, key: &Key) -> Option<&Record>
         ensures { option_map (λ found. found.now) result ≡ last self.now key.now }
     {
-        self.records.iter().rev().find(|record| is_of(record, key))
+        self.lasts.get(key)
     }
 
     /// The records, by offset, then by the bytes of the key's written text, then no value before a
@@ -143,20 +162,13 @@ impl RecordSet {
         ensures lasts { (key : Key) → last self.new key ≡ last self.old key }
         ensures compaction { IsCompactionOf self.new self.old }
     {
-        for place in (0..self.records.len()).rev() {
-            if has_key(&self.records[place + 1..], &self.records[place].key) {
-                discard(&mut self.records, place);
-            }
-        }
+        keep_lasts(&mut self.records, &self.lasts);
     }
 }
 
-/// Removes the record at that place.
-fn discard(records: &mut Vec<Record>, place: usize)
-    requires { place < vec_len records.old }
-    ensures { records.new.items ≡ remove records.old.items place }
-{
-    records.remove(place);
+/// The order in which records are taken: by offset, then by key.
+fn stand(one: &Record, other: &Record) -> Ordering {
+    one.offset.cmp(&other.offset).then(one.key.cmp(&other.key))
 }
 
 /// Whether `compaction` is a part of `whole` that has the last record of each key of `whole`.

@@ -11,7 +11,7 @@ use crate::front::{FrontError, read_front};
 use crate::writing::write_whole;
 use reg_fold::Registry;
 use reg_records::{Device, LogError, LogFault, Record, read_log};
-use reg_set::{RecordSet, records_are_ordered};
+use reg_set::RecordSet;
 use std::alloc::{AllocError, Global};
 use std::io::{BufRead, Write};
 use thiserror::Error;
@@ -127,10 +127,5 @@ fn fold_error(e: LogError) -> FoldError
 fn registry_of(alloc: Global, records: &[Record]) -> Result<Registry, AllocError>
     ensures { IfOk result (λ registry. registry ≡ last_records (set.from_list records.now)) }
 {
-    records_are_ordered();
-    let mut all = RecordSet::new(alloc);
-    for record in records {
-        all.take(record)?;
-    }
-    Registry::of_set(alloc, &all)
+    Registry::of_set(alloc, &RecordSet::of(alloc, records)?)
 }

@@ -1,5 +1,5 @@
 // The bytes in which the head of a request is looked for.
-ghost use Rattle.std.specs.Prelude.{◌≡◌, ◌<◌, ◌≤◌, ℕ, List, ◌++◌, false, vec_len, IfOk, IfErr, IfSome, OnOk};
+ghost use Rattle.std.specs.Prelude.{◌≡◌, ◌<◌, ◌≤◌, ◌+◌, ℕ, List, ◌++◌, false, vec_len, IfOk, IfErr, IfSome, OnOk};
 ghost use Rattle.std.specs.Io.KnownBytes.{Consumes, IsAtEnd};
 ghost use Rattle.reg_records.specs.Device.{bytes_in, faults_of, reads_of, counted, HasFaulted};
 ghost use Rattle.registryd.specs.Front.{IsFrontRefusal};
@@ -33,6 +33,7 @@ pub fn read_front<R: Read>(alloc: Global, reader: &mut Device<R>) -> Result<Vec<
     ensures read { IfOk result (λ front. IfSome (bytes_in R.remaining reader.old) (λ text. front.items ≡ head_front text)) }
     ensures faults { OnOk result (faults_of reader.new ≡ faults_of reader.old) }
     ensures refused { IfErr result (IsFrontRefusal reader.old reader.new) }
+    ensures bound { reads_of reader.new ≤ reads_of reader.old + REQUEST_READS }
 {
     let mut front = Vec::new(alloc);
     for _i in 0..REQUEST_READS {
@@ -53,7 +54,7 @@ fn read_more<R: Read>(reader: &mut Device<R>, front: &mut Vec<u8>) -> Result<boo
         × (front.new.items ≡ front.old.items ++ bytes) × (vec_len front.new ≤ HEAD_LIMIT)) }
     ensures end { IfOk result (λ more. more ≡ false → IsAtEnd (bytes_in R.remaining reader.new)) }
     ensures faults { OnOk result (faults_of reader.new ≡ faults_of reader.old) }
-    ensures reads { OnOk result (reads_of reader.new ≡ counted (reads_of reader.old)) }
+    ensures reads { reads_of reader.new ≡ counted (reads_of reader.old) }
     ensures refused { IfErr result (λ e. e ≡ FrontError.ReadFault → HasFaulted reader.old reader.new) }
 {
     let mut buffer = [0u8; 512];

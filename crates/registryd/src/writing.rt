@@ -1,7 +1,7 @@
 // Writing a response whole.
-ghost use Rattle.std.specs.Prelude.{◌≡◌, ◌<◌, ◌≤◌, OnOk, OnErr, IfOk, length, take};
+ghost use Rattle.std.specs.Prelude.{◌≡◌, ◌<◌, ◌≤◌, ◌+◌, OnOk, OnErr, IfOk, length, take};
 ghost use Rattle.std.specs.Io.KnownBytes.{Appends, Keeps};
-ghost use Rattle.reg_records.specs.Device.{bytes_in, faults_of};
+ghost use Rattle.reg_records.specs.Device.{bytes_in, faults_of, interruptions_of};
 ghost use Rattle.registryd.specs.Writing.{AppendsFront, LosesWriter};
 
 use crate::limits::INTERRUPTION_LIMIT;
@@ -44,6 +44,7 @@ fn write_some<W: Write>(writer: &mut Device<W>, bytes: &[u8]) -> Result<usize, W
     ensures faults { OnOk result (faults_of writer.new ≡ faults_of writer.old) }
     ensures lost { OnErr result (LosesWriter writer.old writer.new
         × Keeps (bytes_in W.contents writer.old) (bytes_in W.contents writer.new)) }
+    ensures bound { OnErr result (interruptions_of writer.new ≤ interruptions_of writer.old + INTERRUPTION_LIMIT) }
 {
     for _i in 0..INTERRUPTION_LIMIT {
         match writer.write(bytes) {
@@ -63,6 +64,7 @@ fn flush<W: Write>(writer: &mut Device<W>) -> Result<(), WriteFault>
     ensures kept { Keeps (bytes_in W.contents writer.old) (bytes_in W.contents writer.new) }
     ensures faults { OnOk result (faults_of writer.new ≡ faults_of writer.old) }
     ensures lost { OnErr result (LosesWriter writer.old writer.new) }
+    ensures bound { OnErr result (interruptions_of writer.new ≤ interruptions_of writer.old + INTERRUPTION_LIMIT) }
 {
     for _i in 0..INTERRUPTION_LIMIT {
         match writer.flush() {

@@ -1,4 +1,4 @@
-use Rattle.std.proofs.Common.{◌≡◌, ◌≤◌, ℕ, List}
+use Rattle.std.proofs.Common.{◌≡◌, ◌≤◌, ◌+◌, ℕ, List}
 use Rattle.std.specs.Io.KnownBytes.{Consumes}
 use Rattle.reg_records.specs.Device.{bytes_in, faults_of, reads_of}
 use Rattle.reg_records.specs.Pieces.{HasNoLineFeed, Holds}
@@ -9,4 +9,4 @@ abbrev pub invariant-loop-i : goal.invariant-loop-i
 invariant-loop-i g l =
     (line : List ℕ) × HasNoLineFeed line × Holds l.line line
     × Consumes (bytes_in g.R.Read.remaining l.initial.reader) (bytes_in g.R.Read.remaining l.reader) line
-    × (l._i ≤ reads_of l.reader) × (faults_of l.reader ≡ faults_of l.initial.reader)
+    × (l._i ≤ reads_of l.reader) × (faults_of l.reader ≡ faults_of l.initial.reader) × (reads_of l.reader ≤ reads_of l.initial.reader + l._i)

@@ -31,14 +31,14 @@ read_array-returns-in_err-items-clause-err t c =
     exit_err c.from_residual-in_err-items.result (RefusesType a c.args.namespace.now (array_in (view c.args.value.now))) c.in_err-items.field-0.0 c.from_residual-in_err-items.ensures.1
     (λ ds met. refused_array ds c.args.namespace.now (form_in (codes "items") (view c.args.value.now)) (opened a) (opened c.open.new.self) _ (opened-more _ a c.open.new.self c.in_ok-index.ensures.ok.1) (c.in_err-items.ensures.err ds (c.in_ok-index.ensures.met ds met)))
 
-pub read_array-index_mut-requires : goal.read_array-index_mut-requires
-read_array-index_mut-requires t c =
+pub read_array-close-requires : goal.read_array-close-requires
+read_array-close-requires t c =
     let lt : c.in_ok-index.index < opened c.read_member.new.self = still_there c.args.self.now c.open.new.self c.read_member.new.self _ c.in_ok-index.index c.in_ok-index.ensures.ok.0 c.in_ok-index.ensures.ok.1 c.in_ok-items.ensures.ok.0 in
-    omega (arith, c.read_member.new.self.nodes.ok.0)
+    lt
 
 pub read_array-returns-clause-ok : goal.read_array-returns-clause-ok
 read_array-returns-clause-ok t c =
-    array_read c.args.self.now c.open.new.self c.read_member.new.self _ c.args.namespace.now (form_in (codes "items") (view c.args.value.now)) _ c.in_ok-index.index c.in_ok-items.items c.in_ok-index.ensures.ok.0 c.in_ok-index.ensures.ok.1 c.in_ok-index.ensures.met c.in_ok-items.ensures.ok refl refl
+    array_read c.args.self.now c.open.new.self c.read_member.new.self _ c.args.namespace.now (form_in (codes "items") (view c.args.value.now)) _ c.in_ok-index.index c.in_ok-items.items c.in_ok-index.ensures.ok.0 c.in_ok-index.ensures.ok.1 c.in_ok-index.ensures.met c.in_ok-items.ensures.ok c.close.ensures.nodes c.close.ensures.names
 
 pub read_map-returns-in_err-index-clause-err : goal.read_map-returns-in_err-index-clause-err
 read_map-returns-in_err-index-clause-err t c =
@@ -52,14 +52,14 @@ read_map-returns-in_err-values-clause-err t c =
     exit_err c.from_residual-in_err-values.result (RefusesType a c.args.namespace.now (map_in (view c.args.value.now))) c.in_err-values.field-0.0 c.from_residual-in_err-values.ensures.1
     (λ ds met. refused_map ds c.args.namespace.now (form_in (codes "values") (view c.args.value.now)) (opened a) (opened c.open.new.self) _ (opened-more _ a c.open.new.self c.in_ok-index.ensures.ok.1) (c.in_err-values.ensures.err ds (c.in_ok-index.ensures.met ds met)))
 
-pub read_map-index_mut-requires : goal.read_map-index_mut-requires
-read_map-index_mut-requires t c =
+pub read_map-close-requires : goal.read_map-close-requires
+read_map-close-requires t c =
     let lt : c.in_ok-index.index < opened c.read_member.new.self = still_there c.args.self.now c.open.new.self c.read_member.new.self _ c.in_ok-index.index c.in_ok-index.ensures.ok.0 c.in_ok-index.ensures.ok.1 c.in_ok-values.ensures.ok.0 in
-    omega (arith, c.read_member.new.self.nodes.ok.0)
+    lt
 
 pub read_map-returns-clause-ok : goal.read_map-returns-clause-ok
 read_map-returns-clause-ok t c =
-    map_read c.args.self.now c.open.new.self c.read_member.new.self _ c.args.namespace.now (form_in (codes "values") (view c.args.value.now)) _ c.in_ok-index.index c.in_ok-values.values c.in_ok-index.ensures.ok.0 c.in_ok-index.ensures.ok.1 c.in_ok-index.ensures.met c.in_ok-values.ensures.ok refl refl
+    map_read c.args.self.now c.open.new.self c.read_member.new.self _ c.args.namespace.now (form_in (codes "values") (view c.args.value.now)) _ c.in_ok-index.index c.in_ok-values.values c.in_ok-index.ensures.ok.0 c.in_ok-index.ensures.ok.1 c.in_ok-index.ensures.met c.in_ok-values.ensures.ok c.close.ensures.nodes c.close.ensures.names
 
 pub read_union-returns-in_err-index-clause-err : goal.read_union-returns-in_err-index-clause-err
 read_union-returns-in_err-index-clause-err t c =
@@ -75,14 +75,14 @@ read_union-returns-in_err-branches-clause-err t c =
     exit_err c.from_residual-in_err-branches.result (RefusesType a c.args.namespace.now (union_of fs)) c.in_err-branches.field-0.0 c.from_residual-in_err-branches.ensures.1
     (λ ds met. refused_union ds c.args.namespace.now fs (opened a) (opened c.open.new.self) _ (opened-more _ a c.open.new.self c.in_ok-index.ensures.ok.1) (c.in_err-branches.ensures.err ds (c.in_ok-index.ensures.met ds met)))
 
-pub read_union-index_mut-requires : goal.read_union-index_mut-requires
-read_union-index_mut-requires t c =
+pub read_union-close-requires : goal.read_union-close-requires
+read_union-close-requires t c =
     let lt : c.in_ok-index.index < opened c.read_branches.new.self = still_there c.args.self.now c.open.new.self c.read_branches.new.self _ c.in_ok-index.index c.in_ok-index.ensures.ok.0 c.in_ok-index.ensures.ok.1 c.in_ok-branches.ensures.ok.0 in
-    omega (arith, c.read_branches.new.self.nodes.ok.0)
+    lt
 
 pub read_union-returns-clause-ok : goal.read_union-returns-clause-ok
 read_union-returns-clause-ok t c =
-    union_read c.args.self.now c.open.new.self c.read_branches.new.self _ c.args.namespace.now (forms (items_view c.args.items.now.items)) _ c.in_ok-index.index c.in_ok-branches.branches.items c.from.result c.in_ok-index.ensures.ok.0 c.in_ok-index.ensures.ok.1 c.in_ok-index.ensures.met c.in_ok-branches.ensures.ok c.from.ensures refl refl
+    union_read c.args.self.now c.open.new.self c.read_branches.new.self _ c.args.namespace.now (forms (items_view c.args.items.now.items)) _ c.in_ok-index.index c.in_ok-branches.branches.items c.from.result c.in_ok-index.ensures.ok.0 c.in_ok-index.ensures.ok.1 c.in_ok-index.ensures.met c.in_ok-branches.ensures.ok c.from.ensures c.close.ensures.nodes c.close.ensures.names
 
 pub read_member-read_type-requires : goal.read_member-read_type-requires
 read_member-read_type-requires t c =
@@ -230,10 +230,10 @@ read_record-returns-then-not-branch-clause-err t c =
     let twice : has_distinct_names fs ≡ false = tested_names _ r.name.namespace fs c.open_named.new.self c.read_fields.new.self _ _ read (c.in_ok-have_distinct_names.ensures ∙ ap (λ l. all_distinct bytes_eq (map (λ g. g.name) l)) c.as_slice.ensures.value) ∙ c.if-not-branch.true in
     refused_list ds c.args.namespace.now (heading_of d) (written_fields d) (opened a) fault.BadForm (subst (λ (gs : Fields). IsRefusalBy (field_list_faults gs) fault.BadForm) (sym same) (refused_same_names fs twice))
 
-pub read_record-index_mut-requires : goal.read_record-index_mut-requires
-read_record-index_mut-requires t c =
+pub read_record-close-requires : goal.read_record-close-requires
+read_record-close-requires t c =
     let lt : c.in_ok-index.index < opened c.read_fields.new.self = still_there c.args.self.now c.open_named.new.self c.read_fields.new.self _ c.in_ok-index.index c.in_ok-index.ensures.ok.0 c.in_ok-index.ensures.ok.1 c.in_ok-fields.ensures.ok.0 in
-    omega (arith, c.read_fields.new.self.nodes.ok.0)
+    lt
 
 pub read_record-returns-clause-ok : goal.read_record-returns-clause-ok
 read_record-returns-clause-ok t c =
@@ -245,7 +245,7 @@ read_record-returns-clause-ok t c =
     let reads : ReadsFields c.open_named.new.self c.read_fields.new.self r.name.namespace fs c.in_ok-fields.fields.items = subst (λ (m : List ℕ). ReadsFields c.open_named.new.self c.read_fields.new.self m fs c.in_ok-fields.fields.items) c.as_str.ensures c.in_ok-fields.ensures.ok in
     let all : ReadsFields c.open_named.new.self c.read_fields.new.self r.name.namespace (written_fields d) c.in_ok-fields.fields.items = subst (λ (gs : Fields). ReadsFields c.open_named.new.self c.read_fields.new.self r.name.namespace gs c.in_ok-fields.fields.items) (sym same) reads in
     record_read a c.open_named.new.self c.read_fields.new.self _ c.args.namespace.now (heading_of d) r (written_fields d) _ c.in_ok-index.index c.in_ok-fields.fields.items c.from-2.result c.from.result c.in_ok-have_distinct_names.field-0 c.in_ok-text.ensures.ok c.in_ok-index.ensures.ok.0 c.in_ok-index.ensures.ok.1 c.in_ok-index.ensures.met all
-    (c.in_ok-have_distinct_names.ensures ∙ ap (λ l. all_distinct bytes_eq (map (λ g. g.name) l)) c.as_slice.ensures.value) c.if-not-branch.false c.from-2.ensures c.from.ensures refl refl
+    (c.in_ok-have_distinct_names.ensures ∙ ap (λ l. all_distinct bytes_eq (map (λ g. g.name) l)) c.as_slice.ensures.value) c.if-not-branch.false c.from-2.ensures c.from.ensures c.close.ensures.nodes c.close.ensures.names
 
 pub read_branches-read_type-requires : goal.read_branches-read_type-requires
 read_branches-read_type-requires t c =

@@ -1,0 +1,235 @@
+-- The entry that stands at a place, by the last record of its key.
+use Rattle.std.proofs.Common.{◌≡◌, ℕ, Bool, true, false, cond, ◌||◌, ◌&&◌, codes, option_map, ◌⊎◌, inl, inr, ⊎_elim, List, [], ◌∷◌, Option, Some, None, option_and_then, refl, sym, ap, subst, ◌∙◌}
+use Rattle.std.proofs.lemmas.Bool.{false≢true}
+use Rattle.std.proofs.lemmas.Cmp.{tied_itself}
+use Rattle.std.specs.Prelude.{⊤, IfSome}
+use Rattle.std.specs.Cmp.{IsTotalOrder}
+use Rattle.std.specs.FinMap as finmap
+use Rattle.std.specs.FinSet.{IsAntisymmetric, contains, from_list, contains-from_list}
+use Rattle.std.specs.List.{cons_option, filter_map, fold, list_any}
+use Rattle.std.specs.Option.{option_or, unwrap_or}
+use Rattle.std.specs.Ordering.{eq_by_cmp, is_eq}
+use Rattle.std.specs.declared.cmp.Ordering.{Ordering}
+use Rattle.std.specs.declared.cmp.Ordering.TheVariants.{Less, Equal, Greater}
+use Rattle.serde_json.specs.Data.{Data}
+use Rattle.serde_json.specs.Read.{read}
+use Rattle.serde_json.specs.Find.{as_object}
+use Rattle.reg_records.specs.Json.{text_at, number_at, has_text_at, has_number_at}
+use Rattle.reg_records.specs.Value.{value_of, value_in, schema_value, is_plain_avro, deleted_in}
+use Rattle.reg_records.specs.declared.key.Key.{Key}
+use Rattle.reg_records.specs.declared.key.Key.TheVariants as keys
+use Rattle.reg_records.specs.declared.record.Record.{Record}
+use Rattle.reg_records.specs.declared.value.Value.{Value}
+use Rattle.reg_records.specs.declared.value.Value.TheVariants as values
+use Rattle.reg_set.specs.Join.{LastIsGreatest}
+use Rattle.reg_set.specs.LastRecords.{last}
+use Rattle.reg_set.specs.RecordOrder.{record_cmp}
+use Rattle.reg_set.specs.Records.{Records, records_of}
+use Rattle.reg_fold.specs.Entries.{entry_in, entry_of, entry_map}
+use Rattle.reg_fold.specs.EntryOrder.{Place, place_cmp, place_of}
+use Rattle.reg_fold.specs.declared.entry.Entry.{Entry}
+use Rattle.reg_fold.proofs.InOrder.{place_cmp-ties}
+use Rattle.reg_fold.proofs.Placed.{place_cmp-total, placed}
+
+pub equal : (o : Ordering) → is_eq o ≡ true → o ≡ Equal
+equal Less h = absurd (false≢true h)
+equal Equal h = refl
+equal Greater h = absurd (false≢true h)
+
+-- a version's value names its key
+abbrev pub named_by : Key → Value → Type 0
+named_by key (values.Schema subject version id schema deleted) = key ≡ keys.Schema subject version
+named_by key (values.Config level) = ⊤
+named_by key (values.Mode mode) = ⊤
+named_by key (values.DeleteSubject subject version) = ⊤
+named_by key values.Noop = ⊤
+
+all_named : (key : Key) {X : Type 0} (o : Option X) (f : X → Option Value) → ((x : X) → IfSome (f x) (named_by key)) → IfSome (option_and_then f o) (named_by key)
+all_named key None f h = tt
+all_named key (Some x) f h = h x
+
+cond_named : (key : Key) (b : Bool) (o : Option Value) → IfSome o (named_by key) → IfSome (cond b o None) (named_by key)
+cond_named key true o h = h
+cond_named key false o h = tt
+
+value_in-named : (key : Key) (d : Data) → IfSome (value_in key d) (named_by key)
+value_in-named (keys.Schema subject version) d =
+    let of_deleted : ℕ → List ℕ → Option Value = λ id schema. option_map (λ deleted. values.Schema subject version id schema deleted) (deleted_in d) in
+    let of_schema : ℕ → Option Value = λ id. option_and_then (of_deleted id) (text_at (codes "schema") d) in
+    let P : Value → Type 0 = named_by (keys.Schema subject version) in
+    cond_named (keys.Schema subject version) (has_text_at (codes "subject") subject d && has_number_at (codes "version") version d && is_plain_avro d) (option_and_then of_schema (number_at (codes "id") d))
+    (all_named (keys.Schema subject version) (number_at (codes "id") d) of_schema (λ id.
+    all_named (keys.Schema subject version) (text_at (codes "schema") d) (of_deleted id) (λ schema.
+    elim (deleted_in d) as (λ o. IfSome (option_map (λ deleted. values.Schema subject version id schema deleted) o) P) [ None ↦ tt | Some deleted ↦ refl ])))
+value_in-named (keys.Config scope) d =
+    elim (text_at (codes "compatibilityLevel") d) as (λ o. IfSome (option_map (λ level. values.Config level) o) (named_by (keys.Config scope))) [ None ↦ tt | Some level ↦ tt ]
+value_in-named (keys.Mode scope) d =
+    elim (text_at (codes "mode") d) as (λ o. IfSome (option_map (λ mode. values.Mode mode) o) (named_by (keys.Mode scope))) [ None ↦ tt | Some mode ↦ tt ]
+value_in-named (keys.DeleteSubject subject) d =
+    cond_named (keys.DeleteSubject subject) (has_text_at (codes "subject") subject d) (option_map (λ version. values.DeleteSubject subject version) (number_at (codes "version") d))
+    (elim (number_at (codes "version") d) as (λ o. IfSome (option_map (λ version. values.DeleteSubject subject version) o) (named_by (keys.DeleteSubject subject))) [ None ↦ tt | Some version ↦ tt ])
+value_in-named keys.Noop d =
+    elim (as_object d) as (λ o. IfSome (option_map (λ _. values.Noop) o) (named_by keys.Noop)) [ None ↦ tt | Some found ↦ tt ]
+
+pub value_of-named : (r : Record) → IfSome (value_of r) (named_by r.key)
+value_of-named r =
+    all_named r.key r.value (λ text. option_and_then (value_in r.key) (read text)) (λ text. all_named r.key (read text) (value_in r.key) (value_in-named r.key))
+
+-- an entry stands at the place of its record's key
+pub entry_of-key : (rs : Records) (r : Record) (e : Entry) → entry_of rs r ≡ Some e → r.key ≡ keys.Schema e.subject e.version
+unfolding entry_of
+entry_of-key rs r e is =
+    elim (value_of r) as (λ o. IfSome o (named_by r.key) → option_and_then (entry_in rs r.offset) o ≡ Some e → r.key ≡ keys.Schema e.subject e.version) [
+      | None ↦ λ _ is. absurd (cc)
+      | Some v ↦ λ named is. of_value v named is
+    ] (value_of-named r) is
+  where
+    of_value : (v : Value) → named_by r.key v → entry_in rs r.offset v ≡ Some e → r.key ≡ keys.Schema e.subject e.version
+    of_value (values.Schema subject version id schema deleted) named is =
+        named ∙ ap (λ o. keys.Schema (unwrap_or o e).subject (unwrap_or o e).version) is
+    of_value (values.Config level) named is = absurd (cc)
+    of_value (values.Mode mode) named is = absurd (cc)
+    of_value (values.DeleteSubject subject version) named is = absurd (cc)
+    of_value values.Noop named is = absurd (cc)
+
+abbrev pub subject_of : Key → List ℕ
+subject_of (keys.Schema subject version) = subject
+subject_of (keys.Config scope) = []
+subject_of (keys.Mode scope) = []
+subject_of (keys.DeleteSubject subject) = []
+subject_of keys.Noop = []
+
+abbrev pub version_of : Key → ℕ
+version_of (keys.Schema subject version) = version
+version_of (keys.Config scope) = 0
+version_of (keys.Mode scope) = 0
+version_of (keys.DeleteSubject subject) = 0
+version_of keys.Noop = 0
+
+module _ (h : Record → Option Entry) (keyed : (r : Record) (e : Entry) → h r ≡ Some e → r.key ≡ keys.Schema e.subject e.version) (p : Place) where
+  -- the entry, if it stands at the place
+  abbrev here : Entry → Option Entry
+  here e = cond (eq_by_cmp place_cmp p (place_of e)) (Some e) None
+
+  -- the last of the entries of a list that stands at the place
+  abbrev found : List Record → Option Entry
+  found [] = None
+  found (x ∷ xs) = option_or (found xs) (option_and_then here (h x))
+
+  or_assoc : (a b c : Option Entry) → option_or a (option_or b c) ≡ option_or (option_or a b) c
+  or_assoc None b c = refl
+  or_assoc (Some a) b c = refl
+
+  or_none : (o : Option Entry) → option_or o None ≡ o
+  or_none None = refl
+  or_none (Some x) = refl
+
+  get-fold : (xs : List Record) (m : finmap.FinMap place_cmp Entry) → finmap.get (fold placed m (filter_map h xs)) p ≡ option_or (found xs) (finmap.get m p)
+  get-fold [] m = refl
+  get-fold (x ∷ xs) m =
+      elim (h x) as (λ o. finmap.get (fold placed m (cons_option o (filter_map h xs))) p ≡ option_or (option_or (found xs) (option_and_then here o)) (finmap.get m p)) [
+        | None ↦ get-fold xs m ∙ ap (λ o. option_or o (finmap.get m p)) (sym (or_none (found xs)))
+        | Some e ↦ get-fold xs (placed m e)
+            ∙ ap (option_or (found xs)) (finmap.get-insert place_cmp-total m (place_of e) e p ∙ chosen (eq_by_cmp place_cmp p (place_of e)) e (finmap.get m p))
+            ∙ or_assoc (found xs) (here e) (finmap.get m p)
+      ]
+    where
+      chosen : (b : Bool) (e : Entry) (o : Option Entry) → cond b (Some e) o ≡ option_or (cond b (Some e) None) o
+      chosen true e o = refl
+      chosen false e o = refl
+
+  of_other_key : (x : Record) → ¬ (x.key ≡ keys.Schema p.0 p.1) → option_and_then here (h x) ≡ None
+  of_other_key x apart =
+      elim (h x) as (λ o. h x ≡ o → option_and_then here o ≡ None) [
+        | None ↦ λ _. refl
+        | Some e ↦ λ is. elim (eq_by_cmp place_cmp p (place_of e)) as (λ b. eq_by_cmp place_cmp p (place_of e) ≡ b → cond b (Some e) None ≡ None) [
+          | true ↦ λ t. absurd (apart (keyed x e is ∙ ap (λ q. keys.Schema q.0 q.1) (sym (place_cmp-ties p (place_of e) (equal _ t)))))
+          | false ↦ λ _. refl
+        ] refl
+      ] refl
+
+  of_its_key : (q : Record) → q.key ≡ keys.Schema p.0 p.1 → option_and_then here (h q) ≡ h q
+  of_its_key q same =
+      elim (h q) as (λ o. h q ≡ o → option_and_then here o ≡ o) [
+        | None ↦ λ _. refl
+        | Some e ↦ λ is.
+            let k : keys.Schema p.0 p.1 ≡ keys.Schema e.subject e.version = sym same ∙ keyed q e is in
+            let place : p ≡ place_of e = λ i. (subject_of (k i), version_of (k i)) in
+            ap (λ b. cond b (Some e) None) (ap is_eq (ap (place_cmp p) (sym place) ∙ tied_itself place_cmp-total p))
+      ] refl
+
+  module _ (total : IsTotalOrder record_cmp) (ties : IsAntisymmetric record_cmp) where
+    is : Record → Record → Bool
+    is q x = eq_by_cmp record_cmp q x
+
+    among_first : (x : Record) (xs : List Record) → list_any (eq_by_cmp record_cmp x) (x ∷ xs) ≡ true
+    among_first x xs = ap (λ o. is_eq o || list_any (eq_by_cmp record_cmp x) xs) (tied_itself total x)
+
+    or_right : (a b : Bool) → b ≡ true → (a || b) ≡ true
+    or_right true b h = refl
+    or_right false b h = h
+
+    found-none : (xs : List Record) → ((x : Record) → list_any (eq_by_cmp record_cmp x) xs ≡ true → ¬ (x.key ≡ keys.Schema p.0 p.1)) → found xs ≡ None
+    found-none [] each = refl
+    found-none (x ∷ xs) each =
+        ap (λ o. option_or o (option_and_then here (h x))) (found-none xs (λ y there. each y (or_right (eq_by_cmp record_cmp y x) _ there)))
+        ∙ of_other_key x (each x (among_first x xs))
+
+    module _ (q : Record) (of_key : q.key ≡ keys.Schema p.0 p.1) where
+      other : (x : Record) → (x.key ≡ keys.Schema p.0 p.1 → x ≡ q) → eq_by_cmp record_cmp q x ≡ false → option_and_then here (h x) ≡ None
+      other x one apart =
+          of_other_key x (λ same. false≢true (sym apart ∙ ap (eq_by_cmp record_cmp q) (one same) ∙ ap is_eq (tied_itself total q)))
+
+      itself : (x : Record) → eq_by_cmp record_cmp q x ≡ true → option_and_then here (h x) ≡ h q
+      itself x same = ap (λ y. option_and_then here (h y)) (sym (ties q x (equal _ same))) ∙ of_its_key q of_key
+
+      twice : (o : Option Entry) → option_or o o ≡ o
+      twice None = refl
+      twice (Some e) = refl
+
+      found-either : (xs : List Record) → ((x : Record) → list_any (eq_by_cmp record_cmp x) xs ≡ true → x.key ≡ keys.Schema p.0 p.1 → x ≡ q) → (found xs ≡ None) ⊎ (found xs ≡ h q)
+      found-either [] each = inl refl
+      found-either (x ∷ xs) each =
+          let rest = found-either xs (λ y there. each y (or_right (eq_by_cmp record_cmp y x) _ there)) in
+          elim (eq_by_cmp record_cmp q x) as (λ b. eq_by_cmp record_cmp q x ≡ b → (found (x ∷ xs) ≡ None) ⊎ (found (x ∷ xs) ≡ h q)) [
+            | true ↦ λ same. inr (ap (option_or (found xs)) (itself x same) ∙ ⊎_elim (λ none. ap (λ o. option_or o (h q)) none) (λ some. ap (λ o. option_or o (h q)) some ∙ twice (h q)) rest)
+            | false ↦ λ apart.
+                let stays = ap (option_or (found xs)) (other x (each x (among_first x xs)) apart) ∙ or_none (found xs) in
+                ⊎_elim (λ none. inl (stays ∙ none)) (λ some. inr (stays ∙ some)) rest
+          ] refl
+
+      found-some : (xs : List Record) → ((x : Record) → list_any (eq_by_cmp record_cmp x) xs ≡ true → x.key ≡ keys.Schema p.0 p.1 → x ≡ q) → list_any (eq_by_cmp record_cmp q) xs ≡ true → found xs ≡ h q
+      found-some [] each there = absurd (false≢true there)
+      found-some (x ∷ xs) each there =
+          let later : (y : Record) → list_any (eq_by_cmp record_cmp y) xs ≡ true → y.key ≡ keys.Schema p.0 p.1 → y ≡ q = λ y h. each y (or_right (eq_by_cmp record_cmp y x) _ h) in
+          elim (eq_by_cmp record_cmp q x) as (λ b. eq_by_cmp record_cmp q x ≡ b → (b || list_any (eq_by_cmp record_cmp q) xs) ≡ true → found (x ∷ xs) ≡ h q) [
+            | true ↦ λ same _. ap (option_or (found xs)) (itself x same) ∙ ⊎_elim (λ none. ap (λ o. option_or o (h q)) none) (λ some. ap (λ o. option_or o (h q)) some ∙ twice (h q)) (found-either xs later)
+            | false ↦ λ apart there.
+                ap (option_or (found xs)) (other x (each x (among_first x xs)) apart) ∙ or_none (found xs) ∙ found-some xs later there
+          ] refl there
+
+-- where each record of a set is the last of its key, the entry at a place is that of the last record of its key
+module _ (total : IsTotalOrder record_cmp) (ties : IsAntisymmetric record_cmp) (greatest : LastIsGreatest) (S : Records) (members : from_list (records_of S) ≡ S) (lasts : (r : Record) → contains S r ≡ true → last S r.key ≡ Some r) where
+  inside : (q : Record) → contains S q ≡ list_any (eq_by_cmp record_cmp q) (records_of S)
+  inside q = ap (λ s. contains s q) (sym members) ∙ contains-from_list total (records_of S) q
+
+  pub entry_at : (p : Place) → finmap.get (entry_map S) p ≡ option_and_then (entry_of S) (last S (keys.Schema p.0 p.1))
+  unfolding entry_map
+  entry_at p =
+      let key = keys.Schema p.0 p.1 in
+      let h = entry_of S in
+      let all = records_of S in
+      let keyed = entry_of-key S in
+      get-fold h keyed p all finmap.empty
+      ∙ ap (option_or (found h keyed p all)) (finmap.get-empty place_cmp p) ∙ or_none h keyed p (found h keyed p all)
+      ∙ elim (last S key) as (λ o. last S key ≡ o → found h keyed p all ≡ option_and_then h o) [
+        | None ↦ λ none. found-none h keyed p total ties all (λ x there same. none_some x (sym none ∙ ap (last S) (sym same) ∙ lasts x (inside x ∙ there)))
+        | Some q ↦ λ some.
+            let fact = (greatest S key q).0 some in
+            found-some h keyed p total ties q fact.is_of_key all
+            (λ x there same. ap (λ o. unwrap_or o x) (sym (lasts x (inside x ∙ there)) ∙ ap (last S) same ∙ some))
+            (sym (inside q) ∙ fact.is_in_set)
+      ] refl
+    where
+      none_some : (x : Record) → None ≡ Some x → ⊥
+      none_some x e = cc

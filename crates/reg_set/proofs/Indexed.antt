@@ -1,0 +1,177 @@
+-- The map of the last records, beside the records in order.
+use Rattle.std.proofs.Common.{◌≡◌, ℕ, Bool, true, false, cond, ◌&&◌, ⊎_elim, List, [], ◌∷◌, Option, Some, None, refl, sym, ap, subst, ◌∙◌, rules}
+use Rattle.std.proofs.lemmas.Bool.{false≢true}
+use Rattle.std.proofs.lemmas.Cmp.{tied_itself}
+use Rattle.std.specs.BTreeMap.{BTreeMap, Updates, IsEmpty, IsUnchanged, get, is_at}
+use Rattle.std.specs.Map.{lookup}
+use Rattle.std.specs.FinSet.{contains, empty, from_list, insert, contains-empty, contains-from_list, same_set}
+use Rattle.std.specs.List.{filter, list_all, list_any, AllZip}
+use Rattle.std.specs.Option.{option_map_or}
+use Rattle.std.specs.Ordering.{eq_by_cmp, is_eq, is_le, is_lt}
+use Rattle.std.specs.declared.cmp.Ordering.{Ordering}
+use Rattle.std.specs.declared.cmp.Ordering.TheVariants.{Equal}
+use Rattle.reg_records.specs.contracts.key.KeyPartialEq.TheImpl as key_eq
+use Rattle.reg_records.specs.contracts.key.KeyClone.TheImpl as key_clone
+use Rattle.reg_records.specs.contracts.record.RecordClone.TheImpl as record_clone
+use Rattle.reg_records.specs.contracts.key.KeyOrd.TheImpl.Laws.{total-law, matches_eq-law}
+use Rattle.reg_records.specs.declared.key.Key.{Key}
+use Rattle.reg_records.specs.declared.record.Record.{Record}
+use Rattle.reg_set.specs.Index.{stored_cmp, last_at, HasLasts}
+use Rattle.reg_set.specs.Join.{later}
+use Rattle.reg_set.specs.LastRecords.{last, is_last, last_records}
+use Rattle.reg_set.specs.RecordOrder.{age_cmp, record_cmp}
+use Rattle.reg_set.specs.Records.{Records, is_in_order}
+use Rattle.reg_set.proofs.Compactions.{contains-last_records, last_of_last_records}
+use Rattle.reg_set.proofs.InOrder.{both, first_of, second_of}
+use Rattle.reg_set.proofs.Lasts.{equal, le_itself, any_filter, last-greatest, last-absent}
+use Rattle.reg_set.proofs.Orders.{record_cmp-total, record_cmp-ties}
+use Rattle.reg_set.proofs.Unions.{in_insert, insert-itself, insert-union, last_of_union}
+
+key_eq-is : (a b : Key) → (key_eq.ghosts).eq a b ≡ true → a ≡ b
+key_eq-is a b e = search rules
+
+-- keys that tie in the map's order are one key
+pub stored-ties : (a b : Key) → stored_cmp a b ≡ Equal → a ≡ b
+stored-ties a b e = key_eq-is a b (matches_eq-law a b ∙ ap is_eq e)
+
+pub stored-itself : (a b : Key) → a ≡ b → is_eq (stored_cmp a b) ≡ true
+stored-itself a b e = ap (λ k. is_eq (stored_cmp a k)) (sym e) ∙ ap is_eq (tied_itself total-law a)
+
+-- copies are equal to what they are copies of
+pub key_copy : (a b : Key) → (key_clone.ghosts).is_clone a b → b ≡ a
+key_copy a b h = search rules
+
+pub record_copy : (a b : Record) → (record_clone.ghosts).is_clone a b → b ≡ a
+record_copy a b h = search rules
+
+-- the last of a single record
+alone : (r : Record) → last (insert empty r) r.key ≡ Some r
+alone r =
+    last-greatest (insert empty r) r.key r (record {
+      is_in_set = insert-itself empty r;
+      is_of_key = refl;
+      is_greatest = λ q inside same. ⊎_elim (λ e. ap (λ x. is_le (age_cmp x r)) e ∙ le_itself r)
+          (λ h. absurd (false≢true (sym (contains-empty record_cmp q) ∙ h))) (in_insert empty r q inside);
+    })
+
+later-none : (o : Option Record) → later o None ≡ o
+later-none None = refl
+later-none (Some x) = refl
+
+-- whether a last record is later than r
+abbrev pub is_later : Option Record → Record → Bool
+is_later o r = option_map_or (λ last. is_lt (age_cmp r last)) o false
+
+later-older : (o : Option Record) (r : Record) → is_later o r ≡ true → later o (Some r) ≡ o
+later-older None r h = absurd (false≢true h)
+later-older (Some q) r h = ap (λ b. cond b (Some q) (Some r)) h
+
+later-fresh : (o : Option Record) (r : Record) → is_later o r ≡ false → later o (Some r) ≡ Some r
+later-fresh None r h = refl
+later-fresh (Some q) r h = ap (λ b. cond b (Some q) (Some r)) h
+
+module _ (S : Records) (r : Record) where
+  at_key : last (insert S r) r.key ≡ later (last S r.key) (Some r)
+  at_key =
+      ap (λ s. last s r.key) (insert-union S r) ∙ last_of_union S (insert empty r) r.key ∙ ap (later (last S r.key)) (alone r)
+
+  pub last-fresh : is_later (last S r.key) r ≡ false → last (insert S r) r.key ≡ Some r
+  last-fresh h = at_key ∙ later-fresh (last S r.key) r h
+
+  -- the lasts of other keys stay
+  pub last-other : (key : Key) → is_eq (stored_cmp r.key key) ≡ false → last (insert S r) key ≡ last S key
+  last-other key apart =
+      let none : last (insert empty r) key ≡ None =
+      last-absent (insert empty r) key (λ q inside same. ⊎_elim
+      (λ e. false≢true (sym apart ∙ stored-itself r.key key (sym (ap (λ x. x.key) e) ∙ same)))
+      (λ h. false≢true (sym (contains-empty record_cmp q) ∙ h)) (in_insert empty r q inside)) in
+      ap (λ s. last s key) (insert-union S r) ∙ last_of_union S (insert empty r) key ∙ ap (later (last S key)) none ∙ later-none (last S key)
+
+  pub last-older : is_later (last S r.key) r ≡ true → (key : Key) → last (insert S r) key ≡ last S key
+  last-older h key =
+      elim (is_eq (stored_cmp r.key key)) as (λ b. is_eq (stored_cmp r.key key) ≡ b → last (insert S r) key ≡ last S key) [
+        | true ↦ λ e. subst (λ k. last (insert S r) k ≡ last S k) (stored-ties r.key key (equal _ e)) (at_key ∙ later-older (last S r.key) r h)
+        | false ↦ λ e. last-other key e
+      ] refl
+
+module _ (rs : List Record) (m : BTreeMap Key Record) (has : HasLasts rs m) (r : Record) (more : List Record) (added : from_list {R = record_cmp} more ≡ insert (from_list rs) r) where
+  pub has_lasts-older : is_later (last_at m r.key) r ≡ true → HasLasts more m
+  has_lasts-older h key =
+      let S : Records = from_list rs in
+      has key ∙ sym (ap (λ s. last s key) added ∙ last-older S r (ap (λ o. is_later o r) (sym (has r.key)) ∙ h) key)
+
+  pub has_lasts-put : (n : BTreeMap Key Record) → Updates stored_cmp m n r.key (Some r) → is_later (last_at m r.key) r ≡ false → HasLasts more n
+  has_lasts-put n put h key =
+      let S : Records = from_list rs in
+      let whole : Records = insert S r in
+      let first = last-fresh S r (ap (λ o. is_later o r) (sym (has r.key)) ∙ h) in
+      put.0 key
+      ∙ elim (is_eq (stored_cmp r.key key)) as (λ b. is_eq (stored_cmp r.key key) ≡ b → cond b (Some r) (last_at m key) ≡ last whole key) [
+        | true ↦ λ e. sym (ap (last whole) (sym (stored-ties r.key key (equal _ e))) ∙ first)
+        | false ↦ λ e. has key ∙ sym (last-other S r key e)
+      ] refl
+      ∙ ap (λ s. last s key) (sym added)
+
+pub has_lasts-unchanged : (rs : List Record) (m n : BTreeMap Key Record) → IsUnchanged m n → HasLasts rs m → HasLasts rs n
+has_lasts-unchanged rs m n same has key = ap (λ es. lookup (is_at (stored_cmp key)) es) same ∙ has key
+
+pub has_lasts-empty : (rs : List Record) (m : BTreeMap Key Record) → rs ≡ [] → IsEmpty m → HasLasts rs m
+has_lasts-empty rs m none is_empty key =
+    ap (λ es. lookup (is_at (stored_cmp key)) es) is_empty
+    ∙ sym (ap (λ xs. last (from_list xs) key) none ∙ last-absent (from_list []) key (λ q inside same. false≢true (sym (contains-empty record_cmp q) ∙ inside)))
+
+-- copies of entries that are equal to them
+pub zipped : (C : Key → Key → Type 0) (D : Record → Record → Type 0) → ((a b : Key) → C a b → b ≡ a) → ((a b : Record) → D a b → b ≡ a) → (xs ys : List (Key × Record)) → AllZip (λ p q. C p.0 q.0 × D p.1 q.1) xs ys → ys ≡ xs
+zipped C D c d [] [] h = refl
+zipped C D c d [] (y ∷ ys) h = absurd h
+zipped C D c d (x ∷ xs) [] h = absurd h
+zipped C D c d (x ∷ xs) (y ∷ ys) h = λ i. (c x.0 y.0 h.0.0 i, d x.1 y.1 h.0.1 i) ∷ zipped C D c d xs ys h.1 i
+
+pub listed : (D : Record → Record → Type 0) → ((a b : Record) → D a b → b ≡ a) → (xs ys : List Record) → AllZip D xs ys → ys ≡ xs
+listed D d [] [] h = refl
+listed D d [] (y ∷ ys) h = absurd h
+listed D d (x ∷ xs) [] h = absurd h
+listed D d (x ∷ xs) (y ∷ ys) h = λ i. d x y h.0 i ∷ listed D d xs ys h.1 i
+
+all-filter : (p t : Record → Bool) (xs : List Record) → list_all p xs ≡ true → list_all p (filter t xs) ≡ true
+all-filter p t [] h = refl
+all-filter p t (x ∷ xs) h =
+    elim (t x) as (λ b. list_all p (cond b (x ∷ filter t xs) (filter t xs)) ≡ true) [
+      | true ↦ both (first_of _ _ h) (all-filter p t xs (second_of _ _ h))
+      | false ↦ all-filter p t xs (second_of _ _ h)
+    ]
+
+pub filter-in_order : (t : Record → Bool) (xs : List Record) → is_in_order xs ≡ true → is_in_order (filter t xs) ≡ true
+filter-in_order t [] h = refl
+filter-in_order t (x ∷ xs) h =
+    elim (t x) as (λ b. is_in_order (cond b (x ∷ filter t xs) (filter t xs)) ≡ true) [
+      | true ↦ both (all-filter _ t xs (first_of _ _ h)) (filter-in_order t xs (second_of _ _ h))
+      | false ↦ filter-in_order t xs (second_of _ _ h)
+    ]
+
+-- whether a map has the record as the last of its key
+abbrev pub is_kept : BTreeMap Key Record → Record → Bool
+is_kept m r = option_map_or (eq_by_cmp record_cmp r) (last_at m r.key) false
+
+module _ (rs : List Record) (m : BTreeMap Key Record) (has : HasLasts rs m) where
+  kept-last : (r : Record) → is_kept m r ≡ is_last (from_list rs) r
+  unfolding is_last
+  kept-last r = ap (λ o. option_map_or (eq_by_cmp record_cmp r) o false) (has r.key)
+
+  swapped : (a b : Bool) → (a && b) ≡ (b && a)
+  swapped true true = refl
+  swapped true false = refl
+  swapped false true = refl
+  swapped false false = refl
+
+  pub from_list-kept : from_list (filter (is_kept m) rs) ≡ last_records (from_list rs)
+  from_list-kept =
+      let S : Records = from_list rs in
+      same_set record_cmp-total record_cmp-ties _ _ (λ q.
+      contains-from_list record_cmp-total (filter (is_kept m) rs) q ∙ any_filter (is_kept m) q rs
+      ∙ (λ i. kept-last q i && sym (contains-from_list record_cmp-total rs q) i)
+      ∙ swapped (is_last S q) (contains S q) ∙ sym (contains-last_records S q))
+
+  pub has_lasts-kept : HasLasts (filter (is_kept m) rs) m
+  has_lasts-kept key =
+      has key ∙ sym (ap (λ s. last s key) from_list-kept ∙ last_of_last_records (from_list rs) key)
