@@ -11,11 +11,6 @@ use Rattle.reg_records.specs.Line.{is_line_feed}
 use Rattle.reg_records.specs.Pieces.{HasNoLineFeed, Holds, Grows}
 use Rattle.reg_records.specs.declared.pieces.LineBuffer.{LineBuffer}
 
--- one more fault was counted, or none more can be
-pub HasFaulted-counted : {R : Type 0} (old new : Device R) → faults_of new ≡ counted (faults_of old) → HasFaulted old new
-HasFaulted-counted old new e =
-    elim (cases_lt (faults_of old) LAST_COUNT) [ inl below ↦ inl (omega arith) | inr past ↦ inr (omega arith) ]
-
 -- what was taken has no LF, and the buffer stands for it
 abbrev pub TakesPart : Option (List ℕ) → Option (List ℕ) → LineBuffer → Type 0
 TakesPart old new buffer = (line : List ℕ) × HasNoLineFeed line × Holds buffer line × Consumes old new line

@@ -9,11 +9,11 @@ use Rattle.std.proofs.KnownBytes.{Consumes-trans}
 use Rattle.std.proofs.lemmas.List.Sums.{position_or_len_is, sum_by-append, count_by-le-length}
 use Rattle.std.proofs.lemmas.List.Elements.{filter_map-append}
 use Rattle.std.proofs.lemmas.Bool.Decides.{nat_tests}
-use Rattle.reg_records.proofs.Lines.{length-of_nonempty}
+use Rattle.reg_records.proofs.Lines.{Consumes-ended, length-of_nonempty}
 use Rattle.reg_records.proofs.Tabs.{count_by-none}
-use Rattle.reg_records.specs.Device.{faults_of}
+use Rattle.reg_records.specs.Device.{all_reads_of, counted_by, faults_of}
 use Rattle.reg_records.specs.Line.{is_line_feed, reading}
-use Rattle.reg_records.specs.Log.{LogText, log_from, log_of, map_log, with_read, line_then, fault_at, is_empty_line, record_in, records_in, is_foreign, offset_in, next_after, IsLogOf, IsLogRefusal}
+use Rattle.reg_records.specs.Log.{LogText, log_from, log_of, map_log, with_read, line_then, fault_at, is_empty_line, record_in, records_in, is_foreign, offset_in, next_after, IsLogOf, IsLogRefusal, LosesLine, TakesLastLine}
 use Rattle.reg_records.specs.LogSteps.{AddsRead, IsStepRefusal, IsLineRefusal}
 use Rattle.reg_records.specs.declared.device.Device.{Device}
 use Rattle.reg_records.specs.declared.log.Log.{Log}
@@ -123,11 +123,12 @@ line_feeds-line line none = omega (arith, line_feeds-append line (10 ∷ []), li
 -- ---- refusals
 
 pub IsStepRefusal-line : {R : Type 0} (n : ℕ) (before after : Device R) (old new : Option (List ℕ)) (line : List ℕ) (e : LogError)
-    → HasNoLineFeed line → Consumes old new (line ++ 10 ∷ []) → is_empty_line line ≡ false → IsLineRefusal n line e → IsStepRefusal n before after old new e
-IsStepRefusal-line n before after old new line (errors.Fault at fault) none taken some refused =
-    (refused.0, log_from-refused n old new line fault none taken some refused.1)
-IsStepRefusal-line n before after old new line (errors.ReadFault at) none taken some refused = absurd refused
-IsStepRefusal-line n before after old new line errors.OutOfMemory none taken some refused = tt
+    → faults_of after ≡ faults_of before → HasNoLineFeed line → Consumes old new (line ++ 10 ∷ []) → is_empty_line line ≡ false
+    → IsLineRefusal n line e → IsStepRefusal n before after old new e
+IsStepRefusal-line n before after old new line (errors.Fault at fault) faults none taken some refused =
+    (refused.0, faults, log_from-refused n old new line fault none taken some refused.1, line, none, inl taken)
+IsStepRefusal-line n before after old new line (errors.ReadFault at) faults none taken some refused = absurd refused
+IsStepRefusal-line n before after old new line errors.OutOfMemory faults none taken some refused = faults
 
 -- ---- the lines so far
 
@@ -182,25 +183,51 @@ IsLogOf-more old reads read new is adds = record {
 pub foreign-le : (log : Log) (reads : List Read) → IsLogOf reads log → log.foreign ≤ length reads
 foreign-le log reads is = omega (arith, is.foreign, count_by-le-length is_foreign reads)
 
+OnSome-end : (old now new : Option (List ℕ)) (taken : List ℕ) → Consumes old now taken → OnSome now (IsAtEnd new) → OnSome old (IsAtEnd new)
+OnSome-end None now new taken took end = tt
+OnSome-end (Some text) None new taken took end = absurd took
+OnSome-end (Some text) (Some rest) new taken took end = end
+
+TakesLastLine-after : (old now new : Option (List ℕ)) (taken part : List ℕ)
+    → Consumes old now taken → TakesLastLine now new part → TakesLastLine old new (taken ++ part)
+TakesLastLine-after old now new taken part took last = elim last [
+  | inl ended ↦ inl (Consumes-ended old now new taken part took ended)
+  | inr whole ↦ inr (Consumes-trans old now new taken part took whole.0, OnSome-end old now new taken took whole.1)
+]
+
+LosesLine-after : {R : Type 0} (before mid after : Device R)
+    → faults_of mid ≡ faults_of before → counted_by 0 (all_reads_of before) ≤ all_reads_of mid → LosesLine mid after → LosesLine before after
+LosesLine-after before mid after faults reads lost = elim lost [
+  | inl counted ↦ inl (omega (arith, faults, counted))
+  | inr many ↦ inr (many.0 ∙ faults, many.1, omega (arith, reads, many.2))
+]
+
 pub IsLogRefusal-step : {R : Type 0} (n : ℕ) (before mid after : Device R) (old now new : Option (List ℕ)) (reads : List Read) (taken : List ℕ) (e : LogError)
-    → GoesOn old now reads n → Consumes old now taken → count_by is_line_feed taken + 1 ≡ n → faults_of mid ≡ faults_of before
+    → GoesOn old now reads n → Consumes old now taken → count_by is_line_feed taken + 1 ≡ n
+    → faults_of mid ≡ faults_of before → counted_by 0 (all_reads_of before) ≤ all_reads_of mid
     → IsStepRefusal n mid after now new e → IsLogRefusal before after old new e
-IsLogRefusal-step n before mid after old now new reads taken (errors.Fault line fault) so_far took count faults step =
-    refused old now so_far took step.1
+IsLogRefusal-step n before mid after old now new reads taken (errors.Fault line fault) so_far took count faults least step =
+    let (is, same, first, part, none, last) = step in (
+      same ∙ faults,
+      refused old now so_far took first,
+      taken ++ part,
+      TakesLastLine-after old now new taken part took last,
+      omega (arith, is, count, line_feeds-append taken part, line_feeds-none part none),
+    )
   where
     refused : (old now : Option (List ℕ)) → GoesOn old now reads n → Consumes old now taken
         → IfSome now (λ text. log_from n (parts text) ≡ Err (n, fault)) → IfSome old (λ text. log_of text ≡ Err (line, fault))
     refused None now so_far took e = tt
     refused (Some text) None so_far took e = absurd took
     refused (Some text) (Some rest) so_far took e = so_far ∙ ap (map_log (with_reads reads)) e ∙ ap (λ k. Err (k, fault)) (sym step.0)
-IsLogRefusal-step n before mid after old now new reads taken (errors.ReadFault line) so_far took count faults step =
-    let (is, (why, part, none, read)) = step in (
-      elim why [ inl counted ↦ inl (elim counted [ inl more ↦ inl (omega (arith, faults, more)) | inr last ↦ inr last ]) | inr many ↦ inr many ],
+IsLogRefusal-step n before mid after old now new reads taken (errors.ReadFault line) so_far took count faults least step =
+    let (is, (lost, part, none, read)) = step in (
+      LosesLine-after before mid after faults least lost,
       taken ++ part,
       Consumes-trans old now new taken part took read,
       omega (arith, is, count, line_feeds-append taken part, line_feeds-none part none),
     )
-IsLogRefusal-step n before mid after old now new reads taken errors.OutOfMemory so_far took count faults step = tt
+IsLogRefusal-step n before mid after old now new reads taken errors.OutOfMemory so_far took count faults least step = step ∙ faults
 
 pub is_empty_line-unless : (line : List ℕ) → (line ≡ [] → IsTrue false) → is_empty_line line ≡ false
 is_empty_line-unless line h = is_empty_line-some line (length-of_nonempty line h)

@@ -1,5 +1,5 @@
 -- What a device counts, and the bytes of the reader or the writer in it.
-use Rattle.std.specs.Prelude.{◌≡◌, ◌≢◌, ◌⊎◌, ℕ, suc, ◌-◌, ◌^◌, ◌<◌, min, List, length, Option, Result, MatchResult}
+use Rattle.std.specs.Prelude.{◌≡◌, ◌≢◌, ◌⊎◌, ℕ, suc, ◌+◌, ◌-◌, ◌^◌, ◌<◌, min, List, length, Option, Result, MatchResult}
 use Rattle.std.specs.IoError.{error_kind}
 use Rattle.std.specs.declared.io.Error.{Error}
 use Rattle.std.specs.declared.io.ErrorKind.TheVariants.{Interrupted}
@@ -13,6 +13,10 @@ LAST_COUNT = 2 ^ 64 - 1
 abbrev pub counted : ℕ → ℕ
 counted n = min (suc n) LAST_COUNT
 
+-- so many more, up to the greatest count
+abbrev pub counted_by : ℕ → ℕ → ℕ
+counted_by more n = min (n + more) LAST_COUNT
+
 -- the reader or the writer in it
 abbrev pub inner_of : {T : Type 0} → Device T → T
 inner_of d = d.inner
@@ -21,9 +25,13 @@ inner_of d = d.inner
 abbrev pub faults_of : {T : Type 0} → Device T → ℕ
 faults_of d = d.faults
 
--- how many reads it has made since it last took the LF of a line, up to the greatest count
+-- how many reads it has made since its count began, up to the greatest count
 abbrev pub reads_of : {T : Type 0} → Device T → ℕ
 reads_of d = d.reads
+
+-- how many reads it has made in all, up to the greatest count
+abbrev pub all_reads_of : {T : Type 0} → Device T → ℕ
+all_reads_of d = d.all_reads
 
 -- how many of its writes and flushes in a row were interrupted, up to the greatest count
 abbrev pub interruptions_of : {T : Type 0} → Device T → ℕ

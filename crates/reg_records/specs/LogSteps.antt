@@ -1,11 +1,12 @@
--- What one line adds to a log.
+-- Private: what one line adds to a log.
 use Rattle.std.specs.Prelude.{◌≡◌, ⊤, ℕ, suc, ◌+◌, ◌≤◌, max, List, [], ◌++◌, Bool, true, false, Option, Some, IfSome, Result, Ok, Err, count_by, if◌then◌else◌}
 use Rattle.std.specs.Option.{option_to_list}
 use Rattle.std.specs.List.{slice_split}
 use Rattle.std.specs.Io.KnownBytes.{Consumes}
+use Rattle.reg_records.specs.Device.{faults_of}
 use Rattle.reg_records.specs.Line.{is_line_feed, reading}
-use Rattle.reg_records.specs.Log.{LogText, log_from, map_log, with_read, line_then, record_in, is_foreign, offset_in}
-use Rattle.reg_records.specs.Pieces.{LosesReader}
+use Rattle.reg_records.specs.Log.{LogText, log_from, map_log, with_read, line_then, record_in, is_foreign, offset_in, TakesLastLine}
+use Rattle.reg_records.specs.Pieces.{HasNoLineFeed, LeavesLine}
 use Rattle.reg_records.specs.declared.device.Device.{Device}
 use Rattle.reg_records.specs.declared.limits.TheConstants.{LOG_LINES}
 use Rattle.reg_records.specs.declared.log.Log.{Log}
@@ -34,9 +35,11 @@ StepsLog number old new before after false =
 -- why the line of that number was refused
 abbrev pub IsStepRefusal : {R : Type 0} → ℕ → Device R → Device R → Option (List ℕ) → Option (List ℕ) → LogError → Type 0
 IsStepRefusal number before after old new (errors.Fault line fault) =
-    (line ≡ number) × IfSome old (λ text. log_from number (slice_split is_line_feed text) ≡ Err (number, fault))
-IsStepRefusal number before after old new (errors.ReadFault line) = (line ≡ number) × LosesReader before after old new
-IsStepRefusal number before after old new errors.OutOfMemory = ⊤
+    (line ≡ number) × (faults_of after ≡ faults_of before)
+    × IfSome old (λ text. log_from number (slice_split is_line_feed text) ≡ Err (number, fault))
+    × (taken : List ℕ) × HasNoLineFeed taken × TakesLastLine old new taken
+IsStepRefusal number before after old new (errors.ReadFault line) = (line ≡ number) × LeavesLine before after old new
+IsStepRefusal number before after old new errors.OutOfMemory = faults_of after ≡ faults_of before
 
 -- why a line that was taken whole says nothing
 abbrev pub IsLineRefusal : ℕ → List ℕ → LogError → Type 0

@@ -1,16 +1,18 @@
--- How a line is taken from a reader, piece by piece.
-use Rattle.std.specs.Prelude.{◌≡◌, ◌⊎◌, ℕ, ◌<◌, ◌≤◌, List, [], ◌∷◌, ◌++◌, length, All, false, Option, OnSome}
+-- Private: how a line is taken from a reader, piece by piece.
+use Rattle.std.specs.Prelude.{◌≡◌, ◌≢◌, ℕ, ◌<◌, List, [], ◌∷◌, ◌++◌, length, All, false, Option, OnSome}
 use Rattle.std.specs.Bool.{MatchBool}
 use Rattle.std.specs.Io.KnownBytes.{Consumes, Keeps, IsAtEnd}
 use Rattle.reg_records.specs.Line.{is_line_feed}
-use Rattle.reg_records.specs.declared.limits.TheConstants.{LINE_LIMIT, LINE_READS}
+use Rattle.std.specs.declared.io.ErrorKind.TheVariants.{Interrupted}
+use Rattle.reg_records.specs.Log.{LosesLine}
+use Rattle.reg_records.specs.declared.limits.TheConstants.{LINE_LIMIT}
 use Rattle.reg_records.specs.declared.device.Device.{Device}
-use Rattle.reg_records.specs.Device.{faults_of, reads_of, counted, HasFaulted}
+use Rattle.reg_records.specs.Device.{faults_of, counted}
 use Rattle.reg_records.specs.declared.pieces.LineBuffer.{LineBuffer}
 use Rattle.reg_records.specs.declared.pieces.Piece.{Piece}
-use Rattle.reg_records.specs.declared.pieces.Piece.TheVariants.{Ended, More, NoMore, Interrupted, Faulted}
-use Rattle.reg_records.specs.declared.pieces.Front.{Front}
-use Rattle.reg_records.specs.declared.pieces.Front.TheVariants as fronts
+use Rattle.reg_records.specs.declared.pieces.Piece.TheVariants.{Ended, More, NoMore, Failed}
+use Rattle.reg_records.specs.declared.pieces.NextLine.{NextLine}
+use Rattle.reg_records.specs.declared.pieces.NextLine.TheVariants as nexts
 
 abbrev pub HasNoLineFeed : List ℕ → Type 0
 HasNoLineFeed bytes = All (λ b. is_line_feed b ≡ false) bytes
@@ -30,24 +32,21 @@ TakesPiece old new before after Ended =
 TakesPiece old new before after More =
     (bytes : List ℕ) × HasNoLineFeed bytes × Consumes old new bytes × Grows before after bytes
 TakesPiece old new before after NoMore = IsAtEnd old × Keeps old new × (after ≡ before)
-TakesPiece old new before after Interrupted = Keeps old new × (after ≡ before)
-TakesPiece old new before after Faulted = Keeps old new × (after ≡ before)
+TakesPiece old new before after (Failed kind) = Keeps old new × (after ≡ before)
 
 -- what the reads for one line took: a line and its LF, bytes without LF up to the end, or nothing at the end
-abbrev pub TakesLine : Option (List ℕ) → Option (List ℕ) → Front → Type 0
-TakesLine old new (fronts.Line buffer) = (line : List ℕ) × HasNoLineFeed line × Consumes old new (line ++ 10 ∷ []) × Holds buffer line
-TakesLine old new fronts.Unended = (line : List ℕ) × HasNoLineFeed line × (0 < length line) × Consumes old new line × OnSome old (IsAtEnd new)
-TakesLine old new fronts.End = IsAtEnd old × Keeps old new
+abbrev pub TakesLine : Option (List ℕ) → Option (List ℕ) → NextLine → Type 0
+TakesLine old new (nexts.Line buffer) = (line : List ℕ) × HasNoLineFeed line × Consumes old new (line ++ 10 ∷ []) × Holds buffer line
+TakesLine old new nexts.Unended = (line : List ℕ) × HasNoLineFeed line × (0 < length line) × Consumes old new line × OnSome old (IsAtEnd new)
+TakesLine old new nexts.End = IsAtEnd old × Keeps old new
 
--- what one read adds to the counts of a device
+-- what one read adds to the count of faults: one where it failed, unless it was interrupted
 abbrev pub CountsPiece : {R : Type 0} → Device R → Device R → Piece → Type 0
-CountsPiece old new Ended = (reads_of new ≡ 0) × (faults_of new ≡ faults_of old)
-CountsPiece old new More = (reads_of new ≡ counted (reads_of old)) × (faults_of new ≡ faults_of old)
-CountsPiece old new NoMore = (reads_of new ≡ counted (reads_of old)) × (faults_of new ≡ faults_of old)
-CountsPiece old new Interrupted = (reads_of new ≡ counted (reads_of old)) × (faults_of new ≡ faults_of old)
-CountsPiece old new Faulted = (reads_of new ≡ counted (reads_of old)) × (faults_of new ≡ counted (faults_of old))
+CountsPiece old new Ended = faults_of new ≡ faults_of old
+CountsPiece old new More = faults_of new ≡ faults_of old
+CountsPiece old new NoMore = faults_of new ≡ faults_of old
+CountsPiece old new (Failed kind) = (kind ≡ Interrupted → faults_of new ≡ faults_of old) × (kind ≢ Interrupted → faults_of new ≡ counted (faults_of old))
 
--- a fault was counted, or there were as many reads for a line as may be; what was taken has no LF
-abbrev pub LosesReader : {R : Type 0} → Device R → Device R → Option (List ℕ) → Option (List ℕ) → Type 0
-LosesReader before after old new =
-    (HasFaulted before after ⊎ (LINE_READS ≤ reads_of after)) × (line : List ℕ) × HasNoLineFeed line × Consumes old new line
+-- no whole line was taken, since the reader was lost; what was taken has no LF
+abbrev pub LeavesLine : {R : Type 0} → Device R → Device R → Option (List ℕ) → Option (List ℕ) → Type 0
+LeavesLine before after old new = LosesLine before after × (line : List ℕ) × HasNoLineFeed line × Consumes old new line

@@ -1,11 +1,14 @@
 // Readers and writers whose faults are counted.
-ghost use Rattle.std.specs.Prelude.{◌≡◌, IsTrue, ◌↔◌, ◌≢◌};
+ghost use Rattle.std.specs.Prelude.{◌≡◌, IfOk, IsTrue, MatchResult, ◌↔◌, ◌≢◌};
 ghost use Rattle.std.specs.Io.{ReadsAtMost, WritesAtMost};
 ghost use Rattle.std.specs.Io.KnownBytes.{ReadConsumes, WriteAppends, Keeps};
 ghost use Rattle.std.specs.IoError.{error_kind};
-ghost use Rattle.reg_records.specs.Device.{inner_of, faults_of, reads_of, interruptions_of, bytes_in, counted, CountsFault, CountsWrite, CountsInterruption};
+ghost use Rattle.reg_records.specs.Device.{inner_of, faults_of, reads_of, all_reads_of, interruptions_of, bytes_in, counted, CountsFault, CountsWrite, CountsInterruption};
+ghost use Rattle.reg_records.specs.Pieces.{CountsPiece, TakesPiece};
 
-use std::io::{self, ErrorKind, Read, Write};
+use crate::pieces::{LineBuffer, Piece, take_piece};
+use std::alloc::AllocError;
+use std::io::{self, BufRead, ErrorKind, Read, Write};
 
 /// A reader or a writer that counts the faults which it answers.
 ///
@@ -13,9 +16,10 @@ use std::io::{self, ErrorKind, Read, Write};
 /// takes no byte of a piece that has some.
 #[derive(Debug, Drop)]
 pub struct Device<T> {
-    pub(crate) inner: T,
-    pub(crate) faults: u64,
-    pub(crate) reads: u64,
+    inner: T,
+    faults: u64,
+    reads: u64,
+    all_reads: u64,
     interruptions: u64,
 }
 
@@ -24,6 +28,7 @@ impl<T> Device<T> {
     pub fn new(inner: T) -> Device<T>
         ensures faults { faults_of result ≡ 0 }
         ensures reads { reads_of result ≡ 0 }
+        ensures all_reads { all_reads_of result ≡ 0 }
         ensures interruptions { interruptions_of result ≡ 0 }
         ensures inner { inner_of result ≡ inner }
     {
@@ -31,6 +36,7 @@ impl<T> Device<T> {
             inner,
             faults: 0,
             reads: 0,
+            all_reads: 0,
             interruptions: 0,
         }
     }
@@ -42,11 +48,18 @@ impl<T> Device<T> {
         self.faults
     }
 
-    /// How many reads it has made since it last took the LF of a line, up to 2^64 - 1.
+    /// How many reads it has made since its count began, up to 2^64 - 1.
     pub fn reads(&self) -> u64
         ensures { result ≡ reads_of self.now }
     {
         self.reads
+    }
+
+    /// How many reads it has made in all, up to 2^64 - 1.
+    pub fn all_reads(&self) -> u64
+        ensures { result ≡ all_reads_of self.now }
+    {
+        self.all_reads
     }
 
     /// How many of its writes and flushes in a row were interrupted, up to 2^64 - 1.
@@ -54,6 +67,18 @@ impl<T> Device<T> {
         ensures { result ≡ interruptions_of self.now }
     {
         self.interruptions
+    }
+
+    /// Begins the counts of reads and of interruptions anew, as for a line or a request.
+    pub fn begin_count(&mut self)
+        ensures inner { inner_of self.new ≡ inner_of self.old }
+        ensures faults { faults_of self.new ≡ faults_of self.old }
+        ensures reads { reads_of self.new ≡ 0 }
+        ensures all_reads { all_reads_of self.new ≡ all_reads_of self.old }
+        ensures interruptions { interruptions_of self.new ≡ 0 }
+    {
+        self.reads = 0;
+        self.interruptions = 0;
     }
 
     /// Counts an error of a write or a flush.
@@ -64,7 +89,7 @@ impl<T> Device<T> {
         ensures interruption { error_kind e.now ≡ ErrorKind.Interrupted
             → (faults_of self.new ≡ faults_of self.old) × (interruptions_of self.new ≡ counted (interruptions_of self.old)) }
     {
-        if is_fault(e) {
+        if is_fault(e.kind()) {
             self.faults = one_more(self.faults);
             self.interruptions = 0;
         } else {
@@ -80,9 +105,30 @@ impl<T> Device<T> {
             inner,
             faults: _,
             reads: _,
+            all_reads: _,
             interruptions: _,
         } = self;
         inner
+    }
+}
+
+impl<R: BufRead> Device<R> {
+    /// Takes bytes of a line in one read, up to its LF, and counts the read, and a fault.
+    pub(crate) fn take_piece(&mut self, line: &mut LineBuffer) -> Result<Piece, AllocError>
+        ensures taken { IfOk result (TakesPiece (bytes_in R.remaining self.old) (bytes_in R.remaining self.new) line.old line.new) }
+        ensures faults { MatchResult result (CountsPiece self.old self.new) (λ _. faults_of self.new ≡ faults_of self.old) }
+        ensures reads { reads_of self.new ≡ counted (reads_of self.old) }
+        ensures all_reads { all_reads_of self.new ≡ counted (all_reads_of self.old) }
+    {
+        self.reads = one_more(self.reads);
+        self.all_reads = one_more(self.all_reads);
+        let piece = take_piece(&mut self.inner, line)?;
+        if let Piece::Failed(kind) = piece
+            && is_fault(kind)
+        {
+            self.faults = one_more(self.faults);
+        }
+        Ok(piece)
     }
 }
 
@@ -94,12 +140,14 @@ impl<R: Read> Read for Device<R> {
         ensures bytes { ReadConsumes (bytes_in R.remaining self.old) (bytes_in R.remaining self.new) result buf.new }
         ensures faults { CountsFault self.old self.new result }
         ensures reads { reads_of self.new ≡ counted (reads_of self.old) }
+        ensures all_reads { all_reads_of self.new ≡ counted (all_reads_of self.old) }
     {
         self.reads = one_more(self.reads);
+        self.all_reads = one_more(self.all_reads);
         match self.inner.read(buf) {
             Ok(n) => Ok(n),
             Err(e) => {
-                if is_fault(&e) {
+                if is_fault(e.kind()) {
                     self.faults = one_more(self.faults);
                 }
                 Err(e)
@@ -144,15 +192,15 @@ impl<W: Write> Write for Device<W> {
     }
 }
 
-/// Whether an error is a fault, as all but an interruption are.
-pub(crate) fn is_fault(e: &io::Error) -> bool
-    ensures { IsTrue result ↔ (error_kind e.now ≢ ErrorKind.Interrupted) }
+/// Whether an error of that kind is a fault, as all but an interruption are.
+fn is_fault(kind: ErrorKind) -> bool
+    ensures { IsTrue result ↔ (kind ≢ ErrorKind.Interrupted) }
 {
-    e.kind() != ErrorKind::Interrupted
+    kind != ErrorKind::Interrupted
 }
 
 /// One more, up to 2^64 - 1.
-pub(crate) fn one_more(count: u64) -> u64
+fn one_more(count: u64) -> u64
     ensures { result ≡ counted count }
 {
     count.saturating_add(1)

@@ -17,7 +17,9 @@ mod write;
 
 pub use device::Device;
 pub use key::{Key, written_keys_are_apart};
-pub use limits::{limits_are_as_written, LINE_LIMIT, LINE_READS, LOG_LINES, NUMBER_LIMIT, OFFSET_LIMIT};
+pub use limits::{
+    LINE_LIMIT, LINE_READS, LOG_LINES, NUMBER_LIMIT, OFFSET_LIMIT, limits_are_as_written,
+};
 pub use line::{LineError, ReadLineError, lines_are_of_the_grammar, read_line};
 pub use log::{Log, LogError, LogFault};
 pub use log_reader::read_log;

@@ -1,16 +1,16 @@
 // Reading a log line by line.
 ghost use Rattle.std.specs.Prelude.{◌≡◌, ◌<◌, ◌≤◌, ◌+◌, ℕ, List, IfOk, IfErr, OnOk, IfSome, Some, Ok};
-ghost use Rattle.reg_records.specs.Device.{bytes_in, faults_of};
+ghost use Rattle.reg_records.specs.Device.{all_reads_of, bytes_in, counted_by, faults_of, reads_of};
 ghost use Rattle.reg_records.specs.Line.{reading};
 ghost use Rattle.reg_records.specs.Log.{LogText, log_of, IsLogOf, IsLogRefusal, fault_at, offset_in};
 ghost use Rattle.reg_records.specs.LogSteps.{StepsLog, IsStepRefusal, IsLineRefusal};
 ghost use Rattle.reg_records.specs.Pieces.{Holds};
 
 use crate::device::Device;
-use crate::limits::{LOG_LINES, OFFSET_LIMIT};
+use crate::limits::{LINE_READS, LOG_LINES, OFFSET_LIMIT};
 use crate::line::{LineError, ReadLineError};
 use crate::log::{Log, LogError, LogFault};
-use crate::pieces::{Front, LineBuffer, take_line};
+use crate::pieces::{LineBuffer, NextLine, take_line};
 use crate::record::Read;
 use std::alloc::Global;
 use std::io::BufRead;
@@ -25,6 +25,7 @@ pub fn read_log<R: BufRead>(alloc: Global, reader: &mut Device<R>) -> Result<Log
     ensures refused { IfErr result
         (IsLogRefusal reader.old reader.new (bytes_in R.remaining reader.old) (bytes_in R.remaining reader.new)) }
     ensures faults { OnOk result (faults_of reader.new ≡ faults_of reader.old) }
+    ensures bound { reads_of reader.new ≤ LINE_READS }
 {
     let mut log = Log::new(alloc);
     let mut number = 1;
@@ -48,14 +49,16 @@ fn read_next<R: BufRead>(
     ensures refused { IfErr result
         (IsStepRefusal number reader.old reader.new (bytes_in R.remaining reader.old) (bytes_in R.remaining reader.new)) }
     ensures faults { OnOk result (faults_of reader.new ≡ faults_of reader.old) }
+    ensures bound { reads_of reader.new ≤ LINE_READS }
+    ensures reads { counted_by 0 (all_reads_of reader.old) ≤ all_reads_of reader.new }
 {
-    let Some(front) = take_line(alloc, reader)? else {
+    let Some(next) = take_line(alloc, reader)? else {
         return Err(LogError::ReadFault { line: number });
     };
-    let line = match front {
-        Front::End => return Ok(false),
-        Front::Unended => return Err(fault_at(number, LineError::Truncated)),
-        Front::Line(line) => line,
+    let line = match next {
+        NextLine::End => return Ok(false),
+        NextLine::Unended => return Err(fault_at(number, LineError::Truncated)),
+        NextLine::Line(line) => line,
     };
     if line.is_empty() {
         return Ok(false);

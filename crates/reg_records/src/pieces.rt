@@ -1,17 +1,18 @@
 // Lines as they come from a reader, piece by piece.
-ghost use Rattle.std.specs.Prelude.{◌≡◌, ◌<◌, ◌≤◌, ◌+◌, ℕ, List, [], ◌∷◌, ◌++◌, Ok, IfOk, IfErr, OnOk, OnSome, MatchOption, length, take, slice_index, All, IsTrue, ◌↔◌};
+ghost use Rattle.std.specs.Prelude.{◌≡◌, ◌<◌, ◌≤◌, ◌+◌, ℕ, List, [], ◌∷◌, ◌++◌, Ok, IfOk, IfErr, OnOk, OnSome, MatchOption, MatchResult, length, take, slice_index, IsTrue, ◌↔◌};
 ghost use Rattle.std.specs.Io.KnownBytes.{Consumes};
-ghost use Rattle.reg_records.specs.Device.{bytes_in, faults_of, reads_of};
+ghost use Rattle.reg_records.specs.Device.{all_reads_of, bytes_in, counted_by, faults_of, reads_of};
+ghost use Rattle.std.specs.IoError.{error_kind};
 ghost use Rattle.reg_records.specs.Line.{is_line_feed, reading, IsFaultOf};
 ghost use Rattle.reg_records.specs.Log.{offset_in};
-ghost use Rattle.reg_records.specs.Pieces.{HasNoLineFeed, Holds, Grows, TakesPiece, TakesLine, CountsPiece, LosesReader};
+ghost use Rattle.reg_records.specs.Pieces.{HasNoLineFeed, Holds, Grows, TakesPiece, TakesLine, LeavesLine};
 
-use crate::device::{Device, is_fault, one_more};
+use crate::device::Device;
 use crate::limits::{LINE_LIMIT, LINE_READS, OFFSET_LIMIT};
 use crate::line::{LineError, ReadLineError, read_whole_line};
 use crate::record::Read;
 use std::alloc::{AllocError, Global};
-use std::io::BufRead;
+use std::io::{self, BufRead, ErrorKind};
 
 /// What is kept of a line that comes in pieces: its bytes, or that they are too many.
 #[derive(Drop)]
@@ -74,13 +75,13 @@ pub(crate) enum Piece {
     More,
     /// The end of the input.
     NoMore,
-    Interrupted,
-    Faulted,
+    /// Nothing, for an error of that kind.
+    Failed(ErrorKind),
 }
 
-/// What stood at the front of a reader.
+/// What comes next from a reader.
 #[derive(Drop)]
-pub(crate) enum Front {
+pub(crate) enum NextLine {
     /// A line with its LF.
     Line(LineBuffer),
     /// Bytes without LF, up to the end.
@@ -89,18 +90,15 @@ pub(crate) enum Front {
 }
 
 /// Takes bytes of a line in one read, up to its LF.
-fn take_piece<R: BufRead>(reader: &mut R, line: &mut LineBuffer) -> Result<Piece, AllocError>
+pub(crate) fn take_piece<R: BufRead>(
+    reader: &mut R,
+    line: &mut LineBuffer,
+) -> Result<Piece, AllocError>
     ensures { IfOk result (TakesPiece (R.remaining reader.old) (R.remaining reader.new) line.old line.new) }
 {
     let available = match reader.fill_buf() {
         Ok(available) => available,
-        Err(e) => {
-            return Ok(if is_fault(&e) {
-                Piece::Faulted
-            } else {
-                Piece::Interrupted
-            });
-        }
+        Err(e) => return Ok(failed(&e)),
     };
     if available.is_empty() {
         return Ok(Piece::NoMore);
@@ -120,6 +118,12 @@ fn take_piece<R: BufRead>(reader: &mut R, line: &mut LineBuffer) -> Result<Piece
     }
 }
 
+fn failed(e: &io::Error) -> Piece
+    ensures { result ≡ Piece.Failed (error_kind e.now) }
+{
+    Piece::Failed(e.kind())
+}
+
 /// The place of the first LF.
 fn line_feed_place(bytes: &[u8]) -> Option<usize>
     ensures { MatchOption result (HasNoLineFeed bytes.now)
@@ -133,50 +137,36 @@ fn line_feed_place(bytes: &[u8]) -> Option<usize>
     None
 }
 
-/// Takes the line at the front of a reader; a fault of the reader, or too many reads for one line,
-/// is `None`.
+/// Takes the next line from a reader, whose counts of reads and interruptions begin anew; a fault of
+/// the reader, or too many reads for one line, is `None`.
 pub(crate) fn take_line<R: BufRead>(
     alloc: Global,
     reader: &mut Device<R>,
-) -> Result<Option<Front>, AllocError>
+) -> Result<Option<NextLine>, AllocError>
     ensures taken { IfOk result (λ taken. MatchOption taken
-        (LosesReader reader.old reader.new (bytes_in R.remaining reader.old) (bytes_in R.remaining reader.new))
+        (LeavesLine reader.old reader.new (bytes_in R.remaining reader.old) (bytes_in R.remaining reader.new))
         (TakesLine (bytes_in R.remaining reader.old) (bytes_in R.remaining reader.new))) }
-    ensures faults { IfOk result (λ taken. OnSome taken (faults_of reader.new ≡ faults_of reader.old)) }
-    ensures bound { OnOk result (reads_of reader.new ≤ reads_of reader.old + LINE_READS) }
+    ensures faults { MatchResult result (λ taken. OnSome taken (faults_of reader.new ≡ faults_of reader.old))
+        (λ _. faults_of reader.new ≡ faults_of reader.old) }
+    ensures bound { reads_of reader.new ≤ LINE_READS }
+    ensures reads { all_reads_of reader.new ≡ counted_by (reads_of reader.new) (all_reads_of reader.old) }
 {
     let mut line = LineBuffer::new(alloc);
+    reader.begin_count();
     for _i in 0..LINE_READS {
         match reader.take_piece(&mut line)? {
-            Piece::Ended => return Ok(Some(Front::Line(line))),
+            Piece::Ended => return Ok(Some(NextLine::Line(line))),
             Piece::NoMore => {
                 return Ok(Some(if line.is_empty() {
-                    Front::End
+                    NextLine::End
                 } else {
-                    Front::Unended
+                    NextLine::Unended
                 }));
             }
-            Piece::Faulted => return Ok(None),
             Piece::More => {}
-            Piece::Interrupted => {}
+            Piece::Failed(ErrorKind::Interrupted) => {}
+            Piece::Failed(_) => return Ok(None),
         }
     }
     Ok(None)
-}
-
-impl<R: BufRead> Device<R> {
-    /// Takes bytes of a line in one read, and counts the read, and a fault.
-    fn take_piece(&mut self, line: &mut LineBuffer) -> Result<Piece, AllocError>
-        ensures taken { IfOk result (TakesPiece (bytes_in R.remaining self.old) (bytes_in R.remaining self.new) line.old line.new) }
-        ensures counts { IfOk result (CountsPiece self.old self.new) }
-    {
-        self.reads = one_more(self.reads);
-        let piece = take_piece(&mut self.inner, line)?;
-        match piece {
-            Piece::Ended => self.reads = 0,
-            Piece::Faulted => self.faults = one_more(self.faults),
-            _ => {}
-        }
-        Ok(piece)
-    }
 }

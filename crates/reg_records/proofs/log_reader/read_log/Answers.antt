@@ -7,13 +7,13 @@ use Rattle.reg_records.proofs.log_reader.read_log.Goals as goal
 
 pub returns-in_err-read_next-clause-refused : goal.returns-in_err-read_next-clause-refused
 returns-in_err-read_next-clause-refused g c =
-    let (reads, is, count, within, (taken, took, feeds), so_far, faults) = c.loop-log.invariant in
+    let (reads, is, count, within, (taken, took, feeds), so_far, faults, least) = c.loop-log.invariant in
     let p = err_from_is_err_and c.from_residual.result c.from_residual.ensures.1 in
-    rw (p.1, p.2) (IsLogRefusal-step c.loop-log.number c.args.reader.now c.loop-log.reader c.read_next.new.reader _ _ _ reads taken _ so_far took feeds faults c.in_err-read_next.ensures.refused)
+    rw (p.1, p.2) (IsLogRefusal-step c.loop-log.number c.args.reader.now c.loop-log.reader c.read_next.new.reader _ _ _ reads taken _ so_far took feeds faults least c.in_err-read_next.ensures.refused)
 
 pub loop-log-preserved : goal.loop-log-preserved
 loop-log-preserved g c =
-    let (reads, is, count, within, (taken, took, feeds), so_far, faults) = c.loop-log.invariant in
+    let (reads, is, count, within, (taken, took, feeds), so_far, faults, least) = c.loop-log.invariant in
     let (few, read, adds, (more, took', one), step) = rw c.if-branch.true at c.in_ok-read_next.ensures.step in
     let number = c.loop-log.number in
     let next : suc number ≡ number + 1 = omega arith in (
@@ -25,4 +25,5 @@ loop-log-preserved g c =
       subst (λ k. GoesOn (bytes_in g.R.Read.remaining c.args.reader.now) (bytes_in g.R.Read.remaining c.read_next.new.reader) (reads ++ read ∷ []) k) next
           (GoesOn-more _ _ _ reads read number taken so_far took step),
       c.in_ok-read_next.ensures.faults ∙ faults,
+      omega (arith, least, c.in_ok-read_next.ensures.reads),
     )

@@ -1,7 +1,7 @@
 use Rattle.std.proofs.Common.{◌≡◌, ◌≤◌, ◌+◌, ◌-◌, ℕ, List, length}
 use Rattle.std.specs.Prelude.{count_by}
 use Rattle.std.specs.Io.KnownBytes.{Consumes}
-use Rattle.reg_records.specs.Device.{bytes_in, faults_of}
+use Rattle.reg_records.specs.Device.{all_reads_of, bytes_in, counted_by, faults_of}
 use Rattle.reg_records.specs.Line.{is_line_feed}
 use Rattle.reg_records.specs.Log.{IsLogOf}
 use Rattle.reg_records.specs.declared.limits.TheConstants.{LOG_LINES}
@@ -16,7 +16,7 @@ invariant-loop-log g l =
     × ((taken : List ℕ) × Consumes (bytes_in g.R.Read.remaining l.initial.reader) (bytes_in g.R.Read.remaining l.reader) taken
     × (count_by is_line_feed taken + 1 ≡ l.number))
     × GoesOn (bytes_in g.R.Read.remaining l.initial.reader) (bytes_in g.R.Read.remaining l.reader) reads l.number
-    × (faults_of l.reader ≡ faults_of l.initial.reader)
+    × (faults_of l.reader ≡ faults_of l.initial.reader) × (counted_by 0 (all_reads_of l.initial.reader) ≤ all_reads_of l.reader)
 
 abbrev pub decreases-loop-log : goal.decreases-loop-log
 decreases-loop-log g l = LOG_LINES + 2 - l.number

@@ -1,6 +1,6 @@
-use Rattle.std.proofs.Common.{◌≡◌, ◌≤◌, ◌+◌, ℕ, List}
+use Rattle.std.proofs.Common.{◌≡◌, ℕ, List}
 use Rattle.std.specs.Io.KnownBytes.{Consumes}
-use Rattle.reg_records.specs.Device.{bytes_in, faults_of, reads_of}
+use Rattle.reg_records.specs.Device.{all_reads_of, bytes_in, counted_by, faults_of, reads_of}
 use Rattle.reg_records.specs.Pieces.{HasNoLineFeed, Holds}
 use Rattle.reg_records.proofs.pieces.take_line.Given as goal
 
@@ -8,5 +8,6 @@ use Rattle.reg_records.proofs.pieces.take_line.Given as goal
 abbrev pub invariant-loop-i : goal.invariant-loop-i
 invariant-loop-i g l =
     (line : List ℕ) × HasNoLineFeed line × Holds l.line line
-    × Consumes (bytes_in g.R.Read.remaining l.initial.reader) (bytes_in g.R.Read.remaining l.reader) line
-    × (l._i ≤ reads_of l.reader) × (faults_of l.reader ≡ faults_of l.initial.reader) × (reads_of l.reader ≤ reads_of l.initial.reader + l._i)
+    × Consumes (bytes_in g.R.Read.remaining l.fn.reader) (bytes_in g.R.Read.remaining l.reader) line
+    × (faults_of l.reader ≡ faults_of l.fn.reader) × (reads_of l.reader ≡ l._i)
+    × (all_reads_of l.reader ≡ counted_by l._i (all_reads_of l.fn.reader))
