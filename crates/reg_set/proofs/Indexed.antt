@@ -1,9 +1,7 @@
--- The map of the last records, beside the records in order.
+-- The last records, beside the records in order.
 use Rattle.std.proofs.Common.{◌≡◌, ℕ, Bool, true, false, cond, ◌&&◌, ⊎_elim, List, [], ◌∷◌, Option, Some, None, refl, sym, ap, subst, ◌∙◌, rules}
 use Rattle.std.proofs.lemmas.Bool.{false≢true}
 use Rattle.std.proofs.lemmas.Cmp.{tied_itself}
-use Rattle.std.specs.BTreeMap.{BTreeMap, Updates, IsEmpty, IsUnchanged, get, is_at}
-use Rattle.std.specs.Map.{lookup}
 use Rattle.std.specs.FinSet.{contains, empty, from_list, insert, contains-empty, contains-from_list, same_set}
 use Rattle.std.specs.List.{filter, list_all, list_any, AllZip}
 use Rattle.std.specs.Option.{option_map_or}
@@ -16,12 +14,12 @@ use Rattle.reg_records.specs.contracts.record.RecordClone.TheImpl as record_clon
 use Rattle.reg_records.specs.contracts.key.KeyOrd.TheImpl.Laws.{total-law, matches_eq-law}
 use Rattle.reg_records.specs.declared.key.Key.{Key}
 use Rattle.reg_records.specs.declared.record.Record.{Record}
-use Rattle.reg_set.specs.Index.{stored_cmp, last_at, HasLasts}
+use Rattle.reg_set.specs.Index.{stored_cmp}
 use Rattle.reg_set.specs.Join.{later}
 use Rattle.reg_set.specs.LastRecords.{last, is_last, last_records}
 use Rattle.reg_set.specs.RecordOrder.{age_cmp, record_cmp}
 use Rattle.reg_set.specs.Records.{Records, is_in_order}
-use Rattle.reg_set.proofs.Compactions.{contains-last_records, last_of_last_records}
+use Rattle.reg_set.proofs.Compactions.{contains-last_records, last_records_of_insert}
 use Rattle.reg_set.proofs.InOrder.{both, first_of, second_of}
 use Rattle.reg_set.proofs.Lasts.{equal, le_itself, any_filter, last-greatest, last-absent}
 use Rattle.reg_set.proofs.Orders.{record_cmp-total, record_cmp-ties}
@@ -71,7 +69,7 @@ later-fresh None r h = refl
 later-fresh (Some q) r h = ap (λ b. cond b (Some q) (Some r)) h
 
 module _ (S : Records) (r : Record) where
-  at_key : last (insert S r) r.key ≡ later (last S r.key) (Some r)
+  pub at_key : last (insert S r) r.key ≡ later (last S r.key) (Some r)
   at_key =
       ap (λ s. last s r.key) (insert-union S r) ∙ last_of_union S (insert empty r) r.key ∙ ap (later (last S r.key)) (alone r)
 
@@ -93,32 +91,6 @@ module _ (S : Records) (r : Record) where
         | true ↦ λ e. subst (λ k. last (insert S r) k ≡ last S k) (stored-ties r.key key (equal _ e)) (at_key ∙ later-older (last S r.key) r h)
         | false ↦ λ e. last-other key e
       ] refl
-
-module _ (rs : List Record) (m : BTreeMap Key Record) (has : HasLasts rs m) (r : Record) (more : List Record) (added : from_list {R = record_cmp} more ≡ insert (from_list rs) r) where
-  pub has_lasts-older : is_later (last_at m r.key) r ≡ true → HasLasts more m
-  has_lasts-older h key =
-      let S : Records = from_list rs in
-      has key ∙ sym (ap (λ s. last s key) added ∙ last-older S r (ap (λ o. is_later o r) (sym (has r.key)) ∙ h) key)
-
-  pub has_lasts-put : (n : BTreeMap Key Record) → Updates stored_cmp m n r.key (Some r) → is_later (last_at m r.key) r ≡ false → HasLasts more n
-  has_lasts-put n put h key =
-      let S : Records = from_list rs in
-      let whole : Records = insert S r in
-      let first = last-fresh S r (ap (λ o. is_later o r) (sym (has r.key)) ∙ h) in
-      put.0 key
-      ∙ elim (is_eq (stored_cmp r.key key)) as (λ b. is_eq (stored_cmp r.key key) ≡ b → cond b (Some r) (last_at m key) ≡ last whole key) [
-        | true ↦ λ e. sym (ap (last whole) (sym (stored-ties r.key key (equal _ e))) ∙ first)
-        | false ↦ λ e. has key ∙ sym (last-other S r key e)
-      ] refl
-      ∙ ap (λ s. last s key) (sym added)
-
-pub has_lasts-unchanged : (rs : List Record) (m n : BTreeMap Key Record) → IsUnchanged m n → HasLasts rs m → HasLasts rs n
-has_lasts-unchanged rs m n same has key = ap (λ es. lookup (is_at (stored_cmp key)) es) same ∙ has key
-
-pub has_lasts-empty : (rs : List Record) (m : BTreeMap Key Record) → rs ≡ [] → IsEmpty m → HasLasts rs m
-has_lasts-empty rs m none is_empty key =
-    ap (λ es. lookup (is_at (stored_cmp key)) es) is_empty
-    ∙ sym (ap (λ xs. last (from_list xs) key) none ∙ last-absent (from_list []) key (λ q inside same. false≢true (sym (contains-empty record_cmp q) ∙ inside)))
 
 -- copies of entries that are equal to them
 pub zipped : (C : Key → Key → Type 0) (D : Record → Record → Type 0) → ((a b : Key) → C a b → b ≡ a) → ((a b : Record) → D a b → b ≡ a) → (xs ys : List (Key × Record)) → AllZip (λ p q. C p.0 q.0 × D p.1 q.1) xs ys → ys ≡ xs
@@ -149,29 +121,29 @@ filter-in_order t (x ∷ xs) h =
       | false ↦ filter-in_order t xs (second_of _ _ h)
     ]
 
--- whether a map has the record as the last of its key
-abbrev pub is_kept : BTreeMap Key Record → Record → Bool
-is_kept m r = option_map_or (eq_by_cmp record_cmp r) (last_at m r.key) false
+-- what is added to the last records is added to the whole
+pub added-lasts : (S L : Records) (r : Record) → L ≡ last_records S → last_records (insert L r) ≡ last_records (insert S r)
+added-lasts S L r same = ap (λ s. last_records (insert s r)) same ∙ last_records_of_insert S r
 
-module _ (rs : List Record) (m : BTreeMap Key Record) (has : HasLasts rs m) where
-  kept-last : (r : Record) → is_kept m r ≡ is_last (from_list rs) r
-  unfolding is_last
-  kept-last r = ap (λ o. option_map_or (eq_by_cmp record_cmp r) o false) (has r.key)
+-- the last records of a list, kept among it
+module _ (rs : List Record) where
+  abbrev whole : Records
+  whole = from_list rs
 
-  swapped : (a b : Bool) → (a && b) ≡ (b && a)
-  swapped true true = refl
-  swapped true false = refl
-  swapped false true = refl
-  swapped false false = refl
+  abbrev kept : List Record
+  kept = filter (contains (last_records whole)) rs
 
-  pub from_list-kept : from_list (filter (is_kept m) rs) ≡ last_records (from_list rs)
+  drawn : (a b c : Bool) → a ≡ (b && c) → (a && b) ≡ a
+  drawn a true c e = ap (λ x. x && true) e ∙ one c ∙ sym e
+    where
+      one : (c : Bool) → (c && true) ≡ c
+      one true = refl
+      one false = refl
+  drawn a false c e = ap (λ x. x && false) e ∙ sym e
+
+  pub from_list-kept : from_list kept ≡ last_records whole
   from_list-kept =
-      let S : Records = from_list rs in
       same_set record_cmp-total record_cmp-ties _ _ (λ q.
-      contains-from_list record_cmp-total (filter (is_kept m) rs) q ∙ any_filter (is_kept m) q rs
-      ∙ (λ i. kept-last q i && sym (contains-from_list record_cmp-total rs q) i)
-      ∙ swapped (is_last S q) (contains S q) ∙ sym (contains-last_records S q))
-
-  pub has_lasts-kept : HasLasts (filter (is_kept m) rs) m
-  has_lasts-kept key =
-      has key ∙ sym (ap (λ s. last s key) from_list-kept ∙ last_of_last_records (from_list rs) key)
+      contains-from_list record_cmp-total kept q ∙ any_filter (contains (last_records whole)) q rs
+      ∙ ap (λ b. contains (last_records whole) q && b) (sym (contains-from_list record_cmp-total rs q))
+      ∙ drawn _ (contains whole q) (is_last whole q) (contains-last_records whole q))

@@ -32,7 +32,7 @@ le_of Less h = refl
 le_of Equal h = refl
 le_of Greater h = absurd (false≢true (sym h))
 
-both_le : (o : Ordering) → is_le o ≡ true → is_le (ordering_reverse o) ≡ true → o ≡ Equal
+pub both_le : (o : Ordering) → is_le o ≡ true → is_le (ordering_reverse o) ≡ true → o ≡ Equal
 both_le Less h k = absurd (false≢true k)
 both_le Equal h k = refl
 both_le Greater h k = absurd (false≢true h)

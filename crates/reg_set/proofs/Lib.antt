@@ -1,8 +1,10 @@
+mod ByKey
 mod Compactions
 mod Equality
 mod InOrder
 mod Indexed
 mod Lasts
+mod OneEach
 mod Orders
 mod Places
 mod Unions

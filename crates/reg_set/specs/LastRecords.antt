@@ -1,6 +1,6 @@
 -- The last record of each key.
-use Rattle.std.specs.Prelude.{◌≡◌, Bool, true, false, Option}
-use Rattle.std.specs.FinSet.{contains, retain}
+use Rattle.std.specs.Prelude.{◌≡◌, Bool, true, false, not, Option}
+use Rattle.std.specs.FinSet.{contains, insert, retain}
 use Rattle.std.specs.List.{filter}
 use Rattle.std.specs.Option.{option_map_or}
 use Rattle.std.specs.Ordering.{eq_by_cmp, is_le}
@@ -25,6 +25,12 @@ is_last s r = option_map_or (eq_by_cmp record_cmp r) (last s r.key) false
 -- the records that are the last of their keys
 unfoldable pub last_records : Records → Records
 last_records s = retain s (is_last s)
+
+-- the set with that as its only record of the key, or with no record of it
+unfoldable pub with_last : Records → Key → Option Record → Records
+with_last s key last =
+    let others = retain s (λ r. not (is_of key r)) in
+    option_map_or (insert others) last others
 
 -- the record is one of that key in the set, and each of that key in the set is at most that one
 pub record IsGreatestOf (s : Records) (key : Key) (r : Record) : Type 0 where

@@ -2,10 +2,12 @@
 #![tactic(auto)]
 
 mod index;
+mod last_records;
 mod laws;
 mod order;
 mod record_set;
 
+pub use last_records::LastRecords;
 pub use laws::{
     last_is_greatest, last_records_are_enough, last_records_of_unions, merging_joins_sets,
     records_are_ordered,

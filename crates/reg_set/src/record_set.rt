@@ -9,12 +9,12 @@ ghost use Rattle.reg_set.specs.Join.{later};
 ghost use Rattle.reg_set.specs.LastRecords.{last, last_records};
 ghost use Rattle.reg_set.specs.Records.{records_of, is_in_order};
 
-use crate::index::{has_later, keep_lasts, put};
+use crate::index::{keep_lasts, put};
+use crate::last_records::LastRecords;
 use crate::order::{count_before, stands_at};
 use reg_records::{Key, Record};
 use std::alloc::{AllocError, Global};
 use std::cmp::Ordering;
-use std::collections::BTreeMap;
 use std::marker::Model;
 
 /// What taking a record did to a set.
@@ -36,8 +36,8 @@ pub enum Taken {
 pub struct RecordSet {
     // In order: by offset, then by the key's written text, then by value. None stands twice.
     records: Vec<Record>,
-    // The last of those records, by their keys.
-    lasts: BTreeMap<Key, Record>,
+    // The last ones of those.
+    lasts: LastRecords,
 }
 
 impl Model for RecordSet {
@@ -74,7 +74,7 @@ impl RecordSet {
     {
         RecordSet {
             records: Vec::new(alloc),
-            lasts: BTreeMap::new(alloc),
+            lasts: LastRecords::new(alloc),
         }
     }
 
@@ -108,7 +108,7 @@ impl RecordSet {
         if stands_at(records, place, given) {
             return Ok(Taken::Repeat);
         }
-        if has_later(&self.lasts, given) {
+        if !self.lasts.is_news(given) {
             self.records.insert(place, given.clone()?)?;
             return Ok(Taken::Older);
         }
@@ -120,7 +120,14 @@ impl RecordSet {
     pub fn last(&self, key: &Key) -> Option<&Record>
         ensures { option_map (λ found. found.now) result ≡ last self.now key.now }
     {
-        self.lasts.get(key)
+        self.lasts.last(key)
+    }
+
+    /// The last record of each key.
+    pub(crate) fn lasts(&self) -> &LastRecords
+        ensures { result.now ≡ last_records self.now }
+    {
+        &self.lasts
     }
 
     /// The records, by offset, then by the bytes of the key's written text, then no value before a

@@ -1,0 +1,185 @@
+// The last record of each key.
+ghost use Rattle.std.specs.Prelude.{◌≡◌, ◌≢◌, false, Some, OnOk, OnErr, IfOk, IsTrue, IfSome, IsSome, map, option_map};
+ghost use Rattle.std.specs.BTreeMap.{IsOrdered, IsUnchanged, Updates};
+ghost use Rattle.std.specs.FinSet as set;
+ghost use Rattle.std.specs.List.Sorted.{IsStrictlySortedBy};
+ghost use Rattle.std.specs.Ordering.{is_lt};
+ghost use Rattle.reg_set.specs.Index.{last_at, stored_cmp};
+ghost use Rattle.reg_set.specs.LastRecords.{last, last_records, with_last};
+ghost use Rattle.reg_set.specs.RecordOrder.{age_cmp};
+
+use crate::record_set::RecordSet;
+use reg_records::{Key, Record};
+use std::alloc::{AllocError, Global};
+use std::collections::BTreeMap;
+use std::marker::Model;
+
+/// The last record of each key, and no other: what compacting a set of records leaves.
+///
+/// Contracts see it as the set of these records.
+#[derive(Debug, Drop)]
+pub struct LastRecords {
+    by_key: BTreeMap<Key, Record>,
+}
+
+impl Model for LastRecords {
+    ghost use Rattle.std.specs.BTreeMap.{values};
+    ghost use Rattle.std.specs.FinSet as set;
+    ghost use Rattle.reg_records.specs.contracts.record.Record as stored;
+    ghost use Rattle.reg_set.specs.Index.{IsByKey};
+    ghost use Rattle.reg_set.specs.Records.{Records};
+
+    ghost Value = { Records };
+
+    ghost coded = { set.code (stored.the_row).coded };
+
+    ghost view = { λ s. set.from_list (values s.by_key) };
+
+    ghost invariant = { λ s. IsByKey s.by_key };
+}
+
+impl Clone for LastRecords {
+    ghost is_clone = { λ s copy. copy ≡ s };
+
+    fn clone(&self) -> Result<LastRecords, AllocError> {
+        Ok(LastRecords {
+            by_key: self.by_key.clone()?,
+        })
+    }
+}
+
+impl LastRecords {
+    /// Of no record.
+    pub fn new(alloc: Global) -> LastRecords
+        ensures { result ≡ set.empty }
+    {
+        LastRecords {
+            by_key: BTreeMap::new(alloc),
+        }
+    }
+
+    /// Those of a set. The only error is want of memory.
+    pub fn of(set: &RecordSet) -> Result<LastRecords, AllocError>
+        ensures { IfOk result (λ found. found ≡ last_records set.now) }
+    {
+        set.lasts().clone()
+    }
+
+    /// The last record of the key.
+    pub fn last(&self, key: &Key) -> Option<&Record>
+        ensures { option_map (λ found. found.now) result ≡ last self.now key.now }
+    {
+        self.by_key.get(key)
+    }
+
+    /// Whether the record is the last of its key.
+    pub fn contains(&self, given: &Record) -> bool
+        ensures { result ≡ set.contains self.now given.now }
+    {
+        match self.by_key.get(&given.key) {
+            Some(last) => *last == *given,
+            None => false,
+        }
+    }
+
+    /// Whether the record is later than the last of its key. It takes no memory.
+    pub fn is_news(&self, given: &Record) -> bool
+        ensures news { IsTrue result → last_records (set.insert self.now given.now) ≢ self.now }
+        ensures no_news { result ≡ false → last_records (set.insert self.now given.now) ≡ self.now }
+    {
+        match self.by_key.get(&given.key) {
+            Some(last) => is_older(last, given),
+            None => true,
+        }
+    }
+
+    /// Adds the record, unless its key has that one or a later one, and gives the record that it
+    /// took the place of. The only error is want of memory; all is then as it was.
+    pub fn put(&mut self, given: &Record) -> Result<Option<Record>, AllocError>
+        ensures added { OnOk result (self.new ≡ last_records (set.insert self.old given.now)) }
+        ensures there { OnOk result (IsSome (last self.new given.now.key)) }
+        ensures of_key { IfOk result (λ before. IfSome before (λ r. r.key ≡ given.now.key)) }
+        ensures before { IfOk result (λ before. self.new ≢ self.old
+            → before ≡ last self.old given.now.key) }
+        ensures taken_back { IfOk result (λ before. self.new ≢ self.old
+            → with_last self.new given.now.key before ≡ self.old) }
+        ensures refused { OnErr result (self.new ≡ self.old) }
+    {
+        if !self.is_news(given) {
+            return Ok(None);
+        }
+        let before = insert_copy(&mut self.by_key, given)?;
+        Ok(before)
+    }
+
+    /// Makes that the last record of the key, which has one; `None` leaves the key without one. It
+    /// takes no memory, so what `put` gave takes the `put` back.
+    pub fn put_back(&mut self, key: &Key, before: Option<Record>)
+        requires there { IsSome (last self.old key.now) }
+        requires of_key { IfSome before (λ r. r.key ≡ key.now) }
+        ensures { self.new ≡ with_last self.old key.now before }
+    {
+        replace(&mut self.by_key, key, before);
+    }
+
+    /// The records, one a key, by the derived order of keys. The only error is want of memory.
+    pub fn records(&self, alloc: Global) -> Result<Vec<&Record>, AllocError>
+        ensures all { IfOk result (λ found. self.now
+            ≡ set.from_list (map (λ r. r.now) found.items)) }
+        ensures one_a_key { IfOk result (λ found.
+            IsStrictlySortedBy stored_cmp (map (λ r. r.now.key) found.items)) }
+    {
+        let found: Vec<&Record> = self.by_key.values().collect(alloc)?;
+        Ok(found)
+    }
+
+    /// That the set is one of last records, which costs nothing at run time.
+    pub fn is_compact(&self)
+        ensures { last_records self.now ≡ self.now }
+    {
+        let _by_key = &self.by_key;
+    }
+}
+
+/// Puts a copy of the record at its key, and gives the one before.
+fn insert_copy(
+    by_key: &mut BTreeMap<Key, Record>,
+    given: &Record,
+) -> Result<Option<Record>, AllocError>
+    ensures put { OnOk result (Updates stored_cmp by_key.old by_key.new given.now.key (Some given.now)) }
+    ensures before { IfOk result (λ before. before ≡ last_at by_key.old given.now.key) }
+    ensures in_order { OnOk result (IsOrdered stored_cmp by_key.new) }
+    ensures refused { OnErr result (IsUnchanged by_key.old by_key.new) }
+{
+    let key = given.key.clone()?;
+    let last = given.clone()?;
+    Ok(by_key.insert(key, last)?)
+}
+
+/// Makes that the record of the key, which has one; `None` leaves it without one.
+fn replace(by_key: &mut BTreeMap<Key, Record>, key: &Key, given: Option<Record>)
+    requires { IsSome (last_at by_key.old key.now) }
+    ensures replaced { Updates stored_cmp by_key.old by_key.new key.now given }
+    ensures in_order { IsOrdered stored_cmp by_key.new }
+{
+    match given {
+        Some(record) => {
+            if let Some(last) = by_key.get_mut(key) {
+                *last = record;
+            }
+        }
+        None => {
+            by_key.remove(key);
+        }
+    }
+}
+
+/// Whether the first of two records of one key is the older one.
+fn is_older(one: &Record, other: &Record) -> bool
+    ensures { result ≡ is_lt (age_cmp one.now other.now) }
+{
+    one.offset
+        .cmp(&other.offset)
+        .then(one.value.cmp(&other.value))
+        .is_lt()
+}
