@@ -20,16 +20,16 @@ use Rattle.reg_fold.specs.declared.entry.Entry.{Entry}
 use Rattle.reg_fold.proofs.Placed.{entries-empty, place_cmp-total, placed}
 
 -- where two tests hold, each of them does
-left_of : (a b : Bool) → T (a && b) → T a
+pub left_of : (a b : Bool) → T (a && b) → T a
 left_of true b h = tt
 left_of false b h = h
 
-right_of : (a b : Bool) → T (a && b) → T b
+pub right_of : (a b : Bool) → T (a && b) → T b
 right_of true b h = h
 right_of false b h = absurd h
 
 -- what passes the test for Less is Less
-less : (o : Ordering) → T (is_lt o) → o ≡ Less
+pub less : (o : Ordering) → T (is_lt o) → o ≡ Less
 less Less h = refl
 less Equal h = absurd h
 less Greater h = absurd h
@@ -49,7 +49,7 @@ place_cmp-ties p q e =
     λ i. (subjects i, versions i)
 
 -- each entry is kept at its own place
-abbrev ArePlaced : List (Place × Entry) → Type 0
+abbrev pub ArePlaced : List (Place × Entry) → Type 0
 ArePlaced = AllByRecursion (λ kept. kept.0 ≡ place_of kept.1)
 
 -- to put an entry at its place leaves each at its own
@@ -82,12 +82,15 @@ in_order (e ∷ es) h s = (
   in_order es h.1 (right_of (below_all place_cmp e.0 es) _ s),
 )
 
+pub entry_map-placed : (rs : Records) → ArePlaced (finmap.entries (entry_map rs))
+unfolding entry_map
+entry_map-placed rs = fold-placed (filter_map (entry_of rs) (records_of rs)) finmap.empty (subst ArePlaced (sym entries-empty) tt)
+
 -- the entries stand in order, each place once
 pub entries-in_order : (rs : Records) → IsInOrder (entries rs)
-unfolding entries entry_map
+unfolding entries
 entries-in_order rs =
-    let kept = fold-placed (filter_map (entry_of rs) (records_of rs)) finmap.empty (subst ArePlaced (sym entries-empty) tt) in
-    in_order (finmap.entries (entry_map rs)) kept (finmap.entries_sorted (entry_map rs))
+    in_order (finmap.entries (entry_map rs)) (entry_map-placed rs) (finmap.entries_sorted (entry_map rs))
 
 module _ (subject : List ℕ) where
   -- whether it is a live entry of the subject

@@ -1,11 +1,13 @@
--- The entries: what stands where rs are the last records.
-use Rattle.std.specs.Prelude.{ℕ, List, ◌||◌, Option, Some, None, option_and_then, fold}
+-- The entries: the versions that can be read, where rs are the last records.
+use Rattle.std.specs.Prelude.{◌≡◌, ◌↔◌, ℕ, List, ◌||◌, Option, Some, None, option_and_then, fold}
 use Rattle.std.specs.FinMap as finmap
-use Rattle.std.specs.List.{filter_map}
+use Rattle.std.specs.List.{Contains, filter_map}
 use Rattle.reg_records.specs.Value.{value_of}
+use Rattle.reg_records.specs.declared.key.Key.{Key}
 use Rattle.reg_records.specs.declared.record.Record.{Record}
 use Rattle.reg_records.specs.declared.value.Value.{Value}
 use Rattle.reg_records.specs.declared.value.Value.TheVariants as values
+use Rattle.reg_set.specs.LastRecords.{last}
 use Rattle.reg_set.specs.Records.{Records, records_of}
 use Rattle.reg_fold.specs.EntryOrder.{place_cmp, place_of}
 use Rattle.reg_fold.specs.Marks.{is_marked}
@@ -21,7 +23,10 @@ entry_in rs offset (values.Schema subject version id schema deleted) = Some (rec
   offset = offset;
   soft = deleted || is_marked rs subject version offset;
 })
-entry_in rs offset value = None
+entry_in rs offset (values.Config level) = None
+entry_in rs offset (values.Mode mode) = None
+entry_in rs offset (values.DeleteSubject subject version) = None
+entry_in rs offset values.Noop = None
 
 -- the entry of a record; one without a version's value has none
 unfoldable pub entry_of : Records → Record → Option Entry
@@ -34,3 +39,11 @@ entry_map rs = fold (λ m e. finmap.insert m (place_of e) e) finmap.empty (filte
 -- the entries by subject, by its bytes, then by version
 unfoldable pub entries : Records → List Entry
 entries rs = finmap.values (entry_map rs)
+
+-- an entry that some last record gives
+abbrev pub IsOfLast : Records → Entry → Type 0
+IsOfLast rs e = (key : Key) × (r : Record) × (last rs key ≡ Some r) × (entry_of rs r ≡ Some e)
+
+-- an entry is there exactly where some last record gives it
+abbrev pub AreOfLasts : Records → List Entry → Type 0
+AreOfLasts rs es = (e : Entry) → Contains es e ↔ IsOfLast rs e

@@ -8,12 +8,15 @@ use Rattle.reg_records.specs.declared.value.Value.TheVariants as values
 use Rattle.reg_set.specs.LastRecords.{last}
 use Rattle.reg_set.specs.Records.{Records}
 
--- a soft delete at an offset marks the versions up to its own that stand at smaller offsets
+-- a soft delete at an offset marks the versions up to its own that are at smaller offsets
 abbrev pub covers : ℕ → Value → ℕ → ℕ → Bool
+covers at (values.Schema subject own id schema deleted) version offset = false
+covers at (values.Config level) version offset = false
+covers at (values.Mode mode) version offset = false
 covers at (values.DeleteSubject subject greatest) version offset = nat_le version greatest && nat_lt offset at
-covers at value version offset = false
+covers at values.Noop version offset = false
 
--- whether the last record of the subject's DELETE_SUBJECT key marks what stands at that version and offset
+-- whether the last record of the subject's DELETE_SUBJECT key marks what is at that version and offset
 unfoldable pub is_marked : Records → List ℕ → ℕ → ℕ → Bool
 is_marked rs subject version offset =
     option_map_or (λ r. option_map_or (λ value. covers r.offset value version offset) (value_of r) false) (last rs (keys.DeleteSubject subject)) false

@@ -9,7 +9,10 @@ use Rattle.reg_set.specs.Records.{Records, records_of}
 
 abbrev pub is_version : Key → Bool
 is_version (keys.Schema subject version) = true
-is_version key = false
+is_version (keys.Config scope) = false
+is_version (keys.Mode scope) = false
+is_version (keys.DeleteSubject subject) = false
+is_version keys.Noop = false
 
 -- whether the record has a text for a version, and it can't be read
 unfoldable pub is_opaque : Record → Bool

@@ -1,11 +1,12 @@
 //! The registry: what stands in a set of records, by the last record of each key.
 #![tactic(auto)]
 
+mod entries;
 mod entry;
+mod marks;
 mod opaque;
 mod refusal;
 mod registry;
-mod standing;
 
 pub use entry::Entry;
 pub use refusal::{Refusal, StoreFault};

@@ -29,6 +29,6 @@ fn is_opaque(alloc: Global, given: &Record) -> Result<bool, AllocError>
 {
     match given.key {
         Key::Schema { .. } => Ok(given.value.is_some() && decode_value(alloc, given)?.is_none()),
-        _ => Ok(false),
+        Key::Config(_) | Key::Mode(_) | Key::DeleteSubject(_) | Key::Noop => Ok(false),
     }
 }

@@ -1,32 +1,40 @@
 // Why a request is refused.
 ghost use Rattle.std.specs.Prelude.{◌≡◌};
-ghost use Rattle.reg_fold.specs.Refusal.{code_of, status_of, message_of};
+ghost use Rattle.std.specs.Option.{option_copied};
+ghost use Rattle.reg_fold.specs.Refusal.{code_of, status_of, lack_of, reason_of, message_of};
 
-use thiserror::Error;
+use std::error::Error;
+use std::fmt;
 
 /// Why a request is refused: its code, and the reason where a code has several.
-#[derive(Clone, Copy, Debug, PartialEq, Eq, Error)]
+#[derive(Clone, Copy, Debug, PartialEq, Eq)]
 pub enum Refusal {
     /// The request has a form that no registry answers.
-    #[error("Bad Request")]
     BadRequest,
     /// The registry has no such route.
-    #[error("Not Found")]
     NotFound,
     /// No entry has the id, or the schema.
-    #[error("Schema not found")]
     SchemaNotFound,
     /// The registry's own fault.
-    #[error("Store error: {0}")]
     Store(StoreFault),
 }
 
 /// What the registry lacked.
-#[derive(Clone, Copy, Debug, PartialEq, Eq, Error)]
+#[derive(Clone, Copy, Debug, PartialEq, Eq)]
 pub enum StoreFault {
     /// Memory was refused.
-    #[error("memory")]
     Memory,
+}
+
+impl StoreFault {
+    /// The reason, as it ends the message.
+    fn reason(&self) -> &str
+        ensures { result.now ≡ lack_of self.now }
+    {
+        match self {
+            StoreFault::Memory => "memory",
+        }
+    }
 }
 
 impl Refusal {
@@ -54,6 +62,16 @@ impl Refusal {
         }
     }
 
+    /// Where the code has several reasons, this one: what the message has after its colon.
+    pub fn reason(&self) -> Option<&str>
+        ensures { option_copied result ≡ reason_of self.now }
+    {
+        match self {
+            Refusal::BadRequest | Refusal::NotFound | Refusal::SchemaNotFound => None,
+            Refusal::Store(fault) => Some(fault.reason()),
+        }
+    }
+
     /// The message that the answer's body has.
     pub fn message(&self) -> &str
         ensures { result.now ≡ message_of self.now }
@@ -67,30 +85,15 @@ impl Refusal {
     }
 }
 
-#[cfg(test)]
-mod tests {
-    use super::*;
-    use std::test::Fail;
+impl fmt::Display for Refusal {
+    ghost use Rattle.std.specs.Prelude.{Some};
+    ghost use Rattle.reg_fold.specs.Refusal.{message_of};
 
-    #[test]
-    fn says_its_code_and_message(rt: HostRuntime) -> Result<(), Fail> {
-        let rows = [
-            (Refusal::BadRequest, 400, 400, "Bad Request"),
-            (Refusal::NotFound, 404, 404, "Not Found"),
-            (Refusal::SchemaNotFound, 40403, 404, "Schema not found"),
-            (
-                Refusal::Store(StoreFault::Memory),
-                50001,
-                500,
-                "Store error: memory",
-            ),
-        ];
-        for (refusal, code, status, message) in rows {
-            assert_eq!(rt; refusal.code(), code);
-            assert_eq!(rt; refusal.status(), status);
-            assert_eq!(rt; refusal.message(), message);
-            assert_eq!(rt; refusal.to_string(rt.alloc())?.as_str(), message);
-        }
-        Ok(())
+    ghost output = { λ refusal. Some (message_of refusal) };
+
+    fn fmt<W: fmt::Write>(&self, f: &mut fmt::Formatter<W>) -> fmt::Result {
+        write!(f, "{}", self.message())
     }
 }
+
+impl Error for Refusal {}

@@ -5,17 +5,20 @@ ghost use Rattle.std.specs.Option.{option_copied};
 ghost use Rattle.reg_set.specs.Compaction.{IsCompactionOf};
 ghost use Rattle.reg_set.specs.LastRecords.{last_records};
 ghost use Rattle.reg_set.specs.Records.{Records};
-ghost use Rattle.reg_fold.specs.Entries.{entries};
+ghost use Rattle.reg_fold.specs.Entries.{AreOfLasts, entries};
 ghost use Rattle.reg_fold.specs.EntryOrder.{IsInOrder};
 ghost use Rattle.reg_fold.specs.Named.{named};
 ghost use Rattle.reg_fold.specs.Opaque.{opaque};
 ghost use Rattle.reg_fold.specs.Standing.{live, HasRisingVersions, greatest_id, greatest_version};
 
+use crate::entries::entries_of;
 use crate::entry::Entry;
 use crate::opaque::opaque_of;
-use crate::standing::entries_of;
 use reg_records::Record;
-use reg_set::{RecordSet, last_records_are_enough, last_records_of_unions};
+use reg_set::{
+    RecordSet, last_is_greatest, last_records_are_enough, last_records_of_unions,
+    records_are_ordered,
+};
 use std::alloc::{AllocError, Global};
 use std::marker::Model;
 
@@ -46,11 +49,24 @@ impl Model for Registry {
     ghost invariant = { λ a. IsKept a.last a.entries.items a.opaque };
 }
 
+impl Clone for Registry {
+    ghost is_clone = { λ registry copy. copy ≡ registry };
+
+    fn clone(&self) -> Result<Registry, AllocError> {
+        Ok(Registry {
+            last: self.last.clone()?,
+            entries: self.entries.clone()?,
+            opaque: self.opaque,
+        })
+    }
+}
+
 impl Registry {
     /// The registry over no record.
     pub fn empty(alloc: Global) -> Registry
         ensures { result ≡ set.empty }
     {
+        records_are_ordered();
         let last = RecordSet::new(alloc);
         let entries = Vec::new(alloc);
         Registry {
@@ -75,6 +91,7 @@ impl Registry {
 
     /// What stands where those are the last records.
     fn over(alloc: Global, last: RecordSet) -> Result<Registry, AllocError>
+        requires { last_records last ≡ last }
         ensures { IfOk result (λ registry. registry ≡ last) }
     {
         Ok(Registry {
@@ -93,6 +110,7 @@ impl Registry {
         ensures refused { OnErr result (self.new ≡ self.old) }
     {
         last_records_of_unions();
+        last_records_are_enough();
         let mut last = self.last.clone()?;
         last.take(given)?;
         last.compact();
@@ -110,6 +128,7 @@ impl Registry {
         ensures refused { OnErr result (self.new ≡ self.old) }
     {
         last_records_of_unions();
+        last_records_are_enough();
         let alloc = *self.entries.allocator();
         let mut last = self.last.clone()?;
         last.merge(&RecordSet::of(alloc, records)?)?;
@@ -122,7 +141,12 @@ impl Registry {
     pub fn entries(&self) -> &[Entry]
         ensures all { result.now ≡ entries self.now }
         ensures in_order { IsInOrder result.now }
+        ensures given { AreOfLasts self.now result.now }
+        ensures lasts { last_records self.now ≡ self.now }
     {
+        records_are_ordered();
+        last_is_greatest();
+        let _records = self.last.records();
         &self.entries
     }
 
@@ -131,6 +155,7 @@ impl Registry {
     pub fn live(&self, subject: &str) -> Result<Vec<&Entry>, AllocError>
         ensures all { IfOk result (λ found. map (λ e. e.now) found.items ≡ live self.now subject.now) }
         ensures in_order { IfOk result (λ found. HasRisingVersions (map (λ e. e.now) found.items)) }
+        ensures lasts { last_records self.now ≡ self.now }
     {
         let mut found = Vec::new(*self.entries.allocator());
         for entry in &self.entries {
@@ -184,6 +209,3 @@ impl Registry {
         self.opaque
     }
 }
-
-#[cfg(test)]
-mod tests;

@@ -8,7 +8,7 @@ use Rattle.reg_fold.proofs.registry.Registry.live.Goals as goal
 pub returns-clause-in_order : goal.returns-clause-in_order
 returns-clause-in_order c =
     let seen = take_all c.loop-entry.entry-index c.deref-entry-items.result.now (omega arith) in
-    let kept = seen ∙ c.deref-entry-items.ensures.value ∙ c.self.invariant.0 ∙ ap entries c.self.view_is in
+    let kept = seen ∙ c.deref-entry-items.ensures.value ∙ c.self.invariant.all_found ∙ ap entries c.self.view_is in
     let all : map (λ e. e.now) c.loop-entry.found.items ≡ live c.args.self.now c.args.subject.now =
     c.loop-entry.invariant ∙ ap (filter (λ e. bytes_eq e.subject c.args.subject.now && not e.soft)) kept in
     subst HasRisingVersions (sym all) (live-rising c.args.subject.now c.args.self.now)

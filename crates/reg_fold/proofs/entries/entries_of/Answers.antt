@@ -9,8 +9,8 @@ use Rattle.std.specs.Option.{option_map_or}
 use Rattle.reg_fold.specs.Entries.{entries, entry_map, entry_of}
 use Rattle.reg_fold.specs.EntryOrder.{place_cmp}
 use Rattle.reg_fold.proofs.Placed.{entries-empty, folded_more, insert_entry-entries, placed}
-use Rattle.reg_fold.proofs.standing.entries_of.Goals as goal
-use Rattle.reg_fold.proofs.standing.entries_of.Goals.{in-Some+in_ok-clone+in_ok-insert+in-Some-1, in-Some+in_ok-clone+in_ok-insert+in-None-1, in_default}
+use Rattle.reg_fold.proofs.entries.entries_of.Goals as goal
+use Rattle.reg_fold.proofs.entries.entries_of.Goals.{in-Some+in_ok-clone+in_ok-insert+in-Some-1, in-Some+in_ok-clone+in_ok-insert+in-None-1, in_default}
 
 pub loop-record-init : goal.loop-record-init
 loop-record-init c = c.new-ordered.ensures.empty ∙ sym entries-empty

@@ -3,7 +3,7 @@ use Rattle.std.specs.FinMap as finmap
 use Rattle.std.specs.List.{filter_map, fold}
 use Rattle.reg_fold.specs.Entries.{entry_of}
 use Rattle.reg_fold.specs.EntryOrder.{place_cmp, place_of}
-use Rattle.reg_fold.proofs.standing.entries_of.Given as goal
+use Rattle.reg_fold.proofs.entries.entries_of.Given as goal
 
 abbrev pub invariant-loop-record : goal.invariant-loop-record
 invariant-loop-record l =
