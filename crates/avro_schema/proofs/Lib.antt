@@ -14,6 +14,7 @@ pub mod SetLemmas
 pub mod Answering
 pub mod WholeLemmas
 pub mod Numbered
+pub mod DistinctNames
 pub mod Leading
 pub mod Sound
 pub mod DefaultLemmas
@@ -24,3 +25,4 @@ pub mod TokenLength
 pub mod NumberLength
 pub mod CompactLength
 pub mod NormalLemmas
+pub mod NoSchema

@@ -2,12 +2,12 @@
 use Rattle.std.proofs.Common.{◌≡◌, inl, inr, ◌⊎◌, ℕ, suc, ◌+◌, ◌<◌, List, [], ◌∷◌, ◌++◌, length, Bool, true, false, ◌&&◌, nat_lt, bytes_eq, cond, find, filter_map, slice_get, Option, Some, None, refl, sym, ◌∙◌, ap, subst, arith}
 use Rattle.std.specs.List.{cons_option}
 use Rattle.std.specs.Option.{option_or}
+use Rattle.avro_schema.specs.declared.node.FullName.{FullName}
 use Rattle.avro_schema.specs.declared.node.Node.{Node}
 use Rattle.avro_schema.specs.Names.{has_dot, joined}
 use Rattle.avro_schema.specs.Form.{Heading, Form, plain, by_name, record_of, enum_of, array_of, map_of, union_of, fixed_of, ill_formed, Forms, no_forms, and_form, Fields, no_fields, ill_fields, and_field}
 use Rattle.avro_schema.specs.Places.{count, Place, place, places, places_of_forms, places_of_fields, type_name, Definition, definitions, defined_by, defined, named}
-use Rattle.avro_schema.specs.Nodes.{node_of, node_at}
-use Rattle.avro_schema.specs.Order.{inner}
+use Rattle.avro_schema.specs.Nodes.{node_of, node_at, name_in}
 use Rattle.avro_schema.proofs.Later.{count-type}
 
 -- ---- the numbers of places
@@ -59,11 +59,49 @@ module _ (ds : List Definition) where
     Numbered-fields ns n (and_field h f fs) =
         Numbered-append n (n + count f) (places ns n f) (places_of_fields ns (n + count f) fs) (Numbered-type ns n f) (ap (λ k. n + k) (sym (count-type ds ns n f))) (Numbered-fields ns (n + count f) fs)
 
+-- ---- the node of a place
+
+-- what is at a place of all nodes is at that of the nodes from node n on
+abbrev AreFrom : List Node → ℕ → List Node → Type 0
+AreFrom all n xs = (k : ℕ) → slice_get all (n + k) ≡ slice_get xs k
+
+module _ (ds : List Definition) (all : List Node) where
+  -- the node that a place writes is at its number
+  abbrev pub Stands : List Place → Type 0
+  Stands [] = Unit {0}
+  Stands (p ∷ ps) = ((x : Node) → node_at ds p ≡ Some x → slice_get all p.before ≡ Some x) × Stands ps
+
+  pub stands_front : (ps qs : List Place) → Stands (ps ++ qs) → Stands ps
+  stands_front [] qs a = tt
+  stands_front (p ∷ ps) qs a = (a.0, stands_front ps qs a.1)
+
+  pub stands_rest : (ps qs : List Place) → Stands (ps ++ qs) → Stands qs
+  stands_rest [] qs a = a
+  stands_rest (p ∷ ps) qs a = stands_rest ps qs a.1
+
+  -- the nodes that are left after a place
+  from_next : (n : ℕ) (o : Option Node) (xs : List Node) → AreFrom all n (cons_option o xs) → AreFrom all (after n o) xs
+  from_next n None xs a = a
+  from_next n (Some x) xs a = λ k. let same : n + 1 + k ≡ n + suc k = omega arith in ap (slice_get all) same ∙ a (suc k)
+
+  -- the node of the first place
+  first_node : (n m : ℕ) (o : Option Node) (xs : List Node) → m ≡ n → AreFrom all n (cons_option o xs) → (x : Node) → o ≡ Some x → slice_get all m ≡ Some x
+  first_node n m None xs is a x e = cc
+  first_node n m (Some y) xs is a x e = let same : m ≡ n + 0 = omega arith in ap (slice_get all) same ∙ a 0 ∙ e
+
+  pub numbered_stand : (n : ℕ) (ps : List Place) → Numbered ds n ps → AreFrom all n (filter_map (node_at ds) ps) → Stands ps
+  numbered_stand n [] a from = tt
+  numbered_stand n (p ∷ ps) a from = (first_node n p.before (node_at ds p) _ a.0 from, numbered_stand (after n (node_at ds p)) ps a.1 (from_next n (node_at ds p) _ from))
+
 -- ---- the node of a definition
 
--- node k is one of the nodes xs from node n on, and is no array and no map
+-- a node that has a name of its own
+abbrev pub HasName : Option Node → Type 0
+HasName o = (m : FullName) × (name_in o ≡ Some m)
+
+-- node k is one of the nodes xs from node n on, and has a name
 abbrev pub IsNamedAt : List Node → ℕ → ℕ → Type 0
-IsNamedAt xs n k = (i : ℕ) × (k ≡ n + i) × (i < length xs) × (inner (slice_get xs i) ≡ None)
+IsNamedAt xs n k = (i : ℕ) × (k ≡ n + i) × (i < length xs) × HasName (slice_get xs i)
 
 -- one more node in front
 past_one : (x : Node) (xs : List Node) (n k : ℕ) → IsNamedAt xs (n + 1) k → IsNamedAt (x ∷ xs) n k
@@ -80,12 +118,12 @@ defined_by-node ns n h None e is = cc
 defined_by-node ns n h (Some s) e is = cc
 
 -- a named type at node n, or one after it
-at_heading : (test : Definition → Bool) (x : Node) (xs : List Node) (n m : ℕ) (o : Option Definition) (es : List Definition) (d : Definition) → inner (Some x) ≡ None → m ≡ n → ((e : Definition) → o ≡ Some e → e.node ≡ m)
+at_heading : (test : Definition → Bool) (x : Node) (xs : List Node) (n m : ℕ) (o : Option Definition) (es : List Definition) (d : Definition) → HasName (Some x) → m ≡ n → ((e : Definition) → o ≡ Some e → e.node ≡ m)
     → (find test es ≡ Some d → IsNamedAt xs (n + 1) d.node) → find test (cons_option o es) ≡ Some d → IsNamedAt (x ∷ xs) n d.node
-at_heading test x xs n m None es d leaf is node rest e = past_one x xs n d.node (rest e)
-at_heading test x xs n m (Some c) es d leaf is node rest e =
+at_heading test x xs n m None es d own is node rest e = past_one x xs n d.node (rest e)
+at_heading test x xs n m (Some c) es d own is node rest e =
     elim (found_either (test c) c d (find test es) e) [
-      | inl same ↦ (0, ap (λ t. t.node) (sym same) ∙ node c refl ∙ omega arith, omega arith, leaf)
+      | inl same ↦ (0, ap (λ t. t.node) (sym same) ∙ node c refl ∙ omega arith, omega arith, own)
       | inr later ↦ past_one x xs n d.node (rest later)
     ]
 
@@ -95,9 +133,9 @@ module _ (ds : List Definition) (test : Definition → Bool) (d : Definition) wh
       → find test (definitions (place ns m f ∷ ps)) ≡ Some d → IsNamedAt (filter_map (node_at ds) (place ns m f ∷ ps)) n d.node
   found_place ns n m (plain p) ps is rest e = past_one _ _ n d.node (rest e)
   found_place ns n m (by_name s) ps is rest e = rest e
-  found_place ns n m (record_of h fs) ps is rest e = at_heading test _ _ n m (defined_by ns m h) (definitions ps) d refl is (defined_by-node ns m h h.name) rest e
-  found_place ns n m (enum_of h ss v) ps is rest e = at_heading test _ _ n m (defined_by ns m h) (definitions ps) d refl is (defined_by-node ns m h h.name) rest e
-  found_place ns n m (fixed_of h s) ps is rest e = at_heading test _ _ n m (defined_by ns m h) (definitions ps) d refl is (defined_by-node ns m h h.name) rest e
+  found_place ns n m (record_of h fs) ps is rest e = at_heading test _ _ n m (defined_by ns m h) (definitions ps) d (type_name ns h, refl) is (defined_by-node ns m h h.name) rest e
+  found_place ns n m (enum_of h ss v) ps is rest e = at_heading test _ _ n m (defined_by ns m h) (definitions ps) d (type_name ns h, refl) is (defined_by-node ns m h h.name) rest e
+  found_place ns n m (fixed_of h s) ps is rest e = at_heading test _ _ n m (defined_by ns m h) (definitions ps) d (type_name ns h, refl) is (defined_by-node ns m h h.name) rest e
   found_place ns n m (array_of f) ps is rest e = past_one _ _ n d.node (rest e)
   found_place ns n m (map_of f) ps is rest e = past_one _ _ n d.node (rest e)
   found_place ns n m (union_of fs) ps is rest e = past_one _ _ n d.node (rest e)

@@ -11,7 +11,7 @@ use Rattle.avro_schema.specs.declared.node.Primitive.{Primitive}
 use Rattle.avro_schema.specs.declared.node.Primitive.TheVariants as simple
 use Rattle.avro_schema.specs.declared.node.Node.{Node}
 use Rattle.avro_schema.specs.declared.node.Node.TheVariants as kind
-use Rattle.avro_schema.specs.Order.{fields_of_node}
+use Rattle.avro_schema.specs.Sound.{fields_of_node}
 
 -- ---- whole numbers
 

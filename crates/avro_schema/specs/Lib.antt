@@ -5,5 +5,5 @@ pub mod Nodes
 pub mod Faults
 pub mod Schema
 pub mod Defaults
-pub mod Order
+pub mod Sound
 pub mod Reader

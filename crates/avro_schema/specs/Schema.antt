@@ -1,5 +1,5 @@
 -- What a schema's text means, or the faults that stand in it.
-use Rattle.std.specs.Prelude.{◌≢◌, ℕ, List, [], ◌∷◌, ◌++◌, length, not, nat_le, Option, Some, None, option_and_then, Contains}
+use Rattle.std.specs.Prelude.{◌≢◌, ℕ, List, [], ◌∷◌, ◌++◌, length, Bool, true, false, not, nat_le, Option, Some, None, option_and_then, Contains}
 use Rattle.serde_json.specs.Data.{Data}
 use Rattle.serde_json.specs.Read.{read}
 use Rattle.serde_json.specs.Written.{has_float, compact_text}
@@ -16,6 +16,10 @@ longest_text = 1048576
 
 abbrev pub most_nodes : ℕ
 most_nodes = 65535
+
+abbrev pub is_memory : SchemaError → Bool
+is_memory fault.OutOfMemory = true
+is_memory _ = false
 
 -- an answer for want of memory, or one of the faults es
 abbrev pub IsRefusalBy : List SchemaError → SchemaError → Type 0

@@ -32,11 +32,12 @@ impl Schema {
     ///
     /// Where several defaults are invalid, any one of their fields is named. Each default is read
     /// again from its text, so memory may be wanted.
-    pub fn check_defaults(&self, alloc: Global) -> Result<(), DefaultError>
+    pub fn check_defaults(&self) -> Result<(), DefaultError>
         ensures ok { OnOk result (spec.bad_defaults self.now.nodes ≡ []) }
         ensures bad { (name : List ℕ) → result ≡ Err (DefaultError.BadDefault name)
             → Contains (spec.bad_defaults self.now.nodes) name }
     {
+        let alloc = self.allocator();
         let nodes = self.nodes();
         for node in nodes {
             if let Node::Record { fields, .. } = node {

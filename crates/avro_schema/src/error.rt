@@ -44,6 +44,18 @@ pub enum SchemaError {
     OutOfMemory,
 }
 
+impl SchemaError {
+    ghost use Rattle.std.specs.Prelude.{◌≡◌};
+    ghost use Rattle.avro_schema.specs.Schema.{is_memory};
+
+    /// Whether memory was refused; else the text is no schema.
+    pub fn is_memory(&self) -> bool
+        ensures { result ≡ is_memory self.now }
+    {
+        matches!(self, SchemaError::OutOfMemory)
+    }
+}
+
 /// Why a schema's defaults were refused.
 #[derive(Debug, Drop, Error)]
 pub enum DefaultError {

@@ -6,6 +6,7 @@ mod error;
 mod fields;
 mod heading;
 mod kinds;
+mod laws;
 mod members;
 mod names;
 mod node;
@@ -16,6 +17,7 @@ mod symbols;
 mod word;
 
 pub use error::{DefaultError, SchemaError};
+pub use laws::schemas_are_sound;
 pub use node::{Field, FullName, Node, NodeId, Primitive};
 pub use schema::Schema;
 

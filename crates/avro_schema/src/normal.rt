@@ -1,28 +1,14 @@
 // The normal text of a schema: its JSON with no spaces, the members of each object in byte order
 // of their names.
-ghost use Rattle.std.specs.Prelude.{◌≡◌, ◌≤◌, Some, false, length, IfOk, string_bytes};
+ghost use Rattle.std.specs.Prelude.{◌≡◌, ◌≤◌, Some, false, length, IfOk};
 ghost use Rattle.serde_json.specs.Read.{read};
 ghost use Rattle.serde_json.specs.View.{view};
 ghost use Rattle.serde_json.specs.Written.{compact_text, has_float};
 ghost use Rattle.avro_schema.specs.Schema.{schema_of, longest_text};
 
-use crate::Schema;
 use base_text::Text;
 use serde_json::Value;
 use std::alloc::{AllocError, Global};
-
-impl Schema {
-    /// The schema's JSON with no spaces, the members of each object in byte order of their names.
-    ///
-    /// It is a schema's text of its own, and means this schema. Two schemas are the same where
-    /// their normal texts are equal. The only error is want of memory.
-    pub fn normal_text(&self, alloc: Global) -> Result<String, AllocError>
-        ensures text { IfOk result (λ s. string_bytes s ≡ self.now.normal_text) }
-        ensures reads_back { schema_of self.now.normal_text ≡ Some self.now }
-    {
-        String::from_str(alloc, self.normal())
-    }
-}
 
 /// The normal text of a schema that was read from `text`. The only error is want of memory.
 pub(crate) fn normal_of(alloc: Global, text: &str, value: &Value) -> Result<Text, AllocError>

@@ -1,16 +1,17 @@
 // A schema: the list of its nodes, the root first.
-ghost use Rattle.std.specs.Prelude.{◌≡◌, ◌≢◌, ◌<◌, ◌≤◌, length, slice_get, Some, None, IfOk, IfErr, option_copied};
+ghost use Rattle.std.specs.Prelude.{◌≡◌, ◌≢◌, ◌<◌, ◌≤◌, length, slice_get, Some, None, All, IfOk, IfErr, option_copied, string_bytes};
 ghost use Rattle.serde_json.specs.Data.{depth};
 ghost use Rattle.serde_json.specs.Read.{read as json_of};
 ghost use Rattle.serde_json.specs.View.{view};
 
+use crate::laws::schemas_are_sound;
 use crate::members::has_float;
 use crate::normal::normal_of;
 use crate::reader::Reader;
 use crate::{FullName, Node, NodeId, SchemaError};
-use base_text::{Listed, Text};
+use base_text::Text;
 use serde_json::Value;
-use std::alloc::Global;
+use std::alloc::{AllocError, Global};
 use std::marker::Model;
 
 const LONGEST_TEXT: usize = 1048576;
@@ -18,7 +19,7 @@ const LONGEST_TEXT: usize = 1048576;
 /// A schema that was read. Contracts see its nodes, the root first, and its normal text.
 #[derive(Debug, Drop)]
 pub struct Schema {
-    nodes: Listed<Node>,
+    nodes: Vec<Node>,
     normal: Text,
 }
 
@@ -28,16 +29,16 @@ impl Model for Schema {
 
     ghost Value = { Meaning };
 
-    ghost view = { λ s. record { nodes = s.nodes; normal_text = s.normal } };
+    ghost view = { λ s. record { nodes = s.nodes.items; normal_text = s.normal } };
 
     ghost invariant = { λ s. schema_of s.normal
-        ≡ Some (record { nodes = s.nodes; normal_text = s.normal }) };
+        ≡ Some (record { nodes = s.nodes.items; normal_text = s.normal }) };
 }
 
 impl Schema {
     ghost use Rattle.avro_schema.specs.Nodes.{name_in};
     ghost use Rattle.avro_schema.specs.Schema.{schema_of, faults, IsRefusalBy};
-    ghost use Rattle.avro_schema.specs.Order.{IsSound};
+    ghost use Rattle.avro_schema.specs.Sound.{IsSound, parts_of_node};
 
     /// Reads a schema's text: at most 1,048,576 bytes of JSON, which nests at most 127 deep.
     ///
@@ -59,45 +60,84 @@ impl Schema {
         reader.read_type(alloc, &value, "")?;
         let normal = normal_of(alloc, text, &value)?;
         Ok(Schema {
-            nodes: Listed::from(reader.nodes),
+            nodes: reader.nodes,
             normal,
         })
     }
 
-    pub(crate) fn normal(&self) -> &str
+    /// Reads a schema's text where it is one. The only error is want of memory.
+    pub fn read_if_any(alloc: Global, text: &str) -> Result<Option<Schema>, AllocError>
+        ensures { IfOk result (λ found. found ≡ schema_of text.now) }
+    {
+        match Schema::read(alloc, text) {
+            Ok(schema) => Ok(Some(schema)),
+            Err(error) => {
+                if error.is_memory() {
+                    return Err(AllocError);
+                }
+                Ok(None)
+            }
+        }
+    }
+
+    /// The schema's JSON with no spaces, the members of each object in byte order of their names.
+    ///
+    /// It is a schema's text of its own, and means this schema. Two schemas are the same where
+    /// their normal texts are equal.
+    pub fn normal(&self) -> &Text
         ensures text { result.now ≡ self.now.normal_text }
         ensures reads_back { schema_of self.now.normal_text ≡ Some self.now }
     {
-        self.normal.as_str()
+        &self.normal
+    }
+
+    /// A copy of the normal text. The only error is want of memory.
+    pub fn normal_text(&self) -> Result<String, AllocError>
+        ensures text { IfOk result (λ s. string_bytes s ≡ self.now.normal_text) }
+        ensures reads_back { schema_of self.now.normal_text ≡ Some self.now }
+    {
+        String::from_str(self.allocator(), self.normal.as_str())
+    }
+
+    /// The allocator that the schema was read with.
+    pub(crate) fn allocator(&self) -> Global {
+        *self.nodes.allocator()
     }
 
     pub(crate) fn nodes(&self) -> &[Node]
         ensures { result.now ≡ self.now.nodes }
     {
-        self.nodes.as_slice()
+        &self.nodes
     }
 
-    /// The number of nodes, at least one. Each node leads only to nodes of this schema.
+    /// The number of nodes, at least one.
     pub fn node_count(&self) -> usize
         ensures count { result ≡ length self.now.nodes }
         ensures sound { IsSound self.now.nodes }
     {
-        self.nodes.as_slice().len()
+        schemas_are_sound();
+        self.nodes.len()
     }
 
     /// The node of the whole schema.
     pub fn root(&self) -> NodeId
-        ensures { result ≡ record { index = 0 } }
+        ensures first { result ≡ record { index = 0 } }
+        ensures within { result.index < length self.now.nodes }
     {
+        schemas_are_sound();
+        prove!(self.nodes.len() > 0);
         NodeId { index: 0 }
     }
 
     /// The node of that id.
     pub fn node(&self, id: NodeId) -> &Node
         requires { id.index < length self.now.nodes }
-        ensures { slice_get self.now.nodes id.index ≡ Some result.now }
+        ensures at { slice_get self.now.nodes id.index ≡ Some result.now }
+        ensures within { All (λ part. part.index < length self.now.nodes) (parts_of_node result.now) }
+        ensures sound { IsSound self.now.nodes }
     {
-        &self.nodes.as_slice()[id.index]
+        schemas_are_sound();
+        &self.nodes[id.index]
     }
 
     /// The full name of the node of that id, where it is a record, an enum or a fixed type.

@@ -17,7 +17,7 @@ pub(crate) fn answer(alloc: Global, text: &str) -> Result<String, AllocError> {
 }
 
 fn answer_of(alloc: Global, schema: &Schema) -> Result<String, AllocError> {
-    match schema.check_defaults(alloc) {
+    match schema.check_defaults() {
         Ok(()) => {
             let count = schema.node_count();
             format!(in alloc; "{count}")

@@ -1,7 +1,7 @@
 -- The nodes so far have good defaults alone.
 use Rattle.std.proofs.Common.{◌≡◌, drop, flat_map}
 use Rattle.avro_schema.specs.Defaults.{bad_fields}
-use Rattle.avro_schema.specs.Order.{fields_of_node}
+use Rattle.avro_schema.specs.Sound.{fields_of_node}
 use Rattle.avro_schema.proofs.schema.Schema.check_defaults.Given as goal
 
 abbrev pub invariant-loop-node : goal.invariant-loop-node

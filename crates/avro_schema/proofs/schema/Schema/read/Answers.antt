@@ -1,4 +1,4 @@
-use Rattle.std.proofs.Common.{◌≡◌, ◌∙◌, Some, sym, ap, length, nat_le, true, false}
+use Rattle.std.proofs.Common.{◌≡◌, ◌∙◌, sym, length, nat_le, true, false}
 use Rattle.serde_json.specs.View.{view}
 use Rattle.serde_json.specs.Written.{has_float}
 use Rattle.avro_schema.specs.Schema.{IsRefusalBy, faults, longest_text}
@@ -17,7 +17,6 @@ returns-clause-ok c =
     let short : nat_le (length c.args.text.now) longest_text ≡ true = le-true _ _ c.if-text-gt-LONGEST_TEXT.false in
     let whole : has_float d ≡ false = sym c.if-has_float.ensures in
     read_whole c.args.text.now d c.new-reader.result c.read_type.new.self c.in_ok-read_type.field-0 c.in_ok-normal.normal short c.in_ok-value.ensures.ok whole c.new-reader.ensures.empty c.new-reader.ensures.met c.in_ok-read_type.ensures.ok c.in_ok-normal.ensures.text
-    ∙ ap (λ l. Some (record { nodes = l; normal_text = c.in_ok-normal.normal })) (sym c.from.ensures)
 
 pub invariant_of-result : goal.invariant_of-result
 invariant_of-result c =
@@ -26,4 +25,3 @@ invariant_of-result c =
     let whole : has_float d ≡ false = sym c.if-has_float.ensures in
     c.in_ok-normal.ensures.same
     ∙ read_whole c.args.text.now d c.new-reader.result c.read_type.new.self c.in_ok-read_type.field-0 c.in_ok-normal.normal short c.in_ok-value.ensures.ok whole c.new-reader.ensures.empty c.new-reader.ensures.met c.in_ok-read_type.ensures.ok c.in_ok-normal.ensures.text
-    ∙ ap (λ l. Some (record { nodes = l; normal_text = c.in_ok-normal.normal })) (sym c.from.ensures)

@@ -1,0 +1,10 @@
+// The laws of schemas. What is proved here costs nothing at run time: a function that needs a law
+// calls it.
+ghost use Rattle.std.specs.Prelude.{◌≡◌, ℕ, List, Some};
+ghost use Rattle.avro_schema.specs.Schema.{Meaning, schema_of};
+ghost use Rattle.avro_schema.specs.Sound.{IsSound};
+
+/// The nodes of each schema are sound.
+pub fn schemas_are_sound()
+    ensures { (text : List ℕ) (m : Meaning) → schema_of text ≡ Some m → IsSound m.nodes }
+{}
