@@ -1,6 +1,7 @@
 // A vector that contracts see as the list of its elements.
 ghost use Rattle.std.specs.Prelude.{◌≡◌, List, vec_items};
 
+use std::alloc::AllocError;
 use std::marker::Model;
 
 /// A vector, which contracts see as the list of its elements.
@@ -43,6 +44,20 @@ impl<T> From<Listed<T>> for Vec<T> {
     }
 }
 
+/// Element by element; where an element's clone equals it, the list's does.
+impl<T: Clone> Clone for Listed<T> {
+    ghost use Rattle.std.specs.List.{AllZip};
+
+    ghost is_clone = { λ listed copy. AllZip T.is_clone listed copy
+        × (((x y : T) → T.is_clone x y → y ≡ x) → copy ≡ listed) };
+
+    fn clone(&self) -> Result<Listed<T>, AllocError> {
+        Ok(Listed {
+            items: self.items.clone()?,
+        })
+    }
+}
+
 #[cfg(test)]
 mod tests {
     use super::*;
@@ -52,6 +67,7 @@ mod tests {
     fn gives_its_vector_back(rt: HostRuntime) -> Result<(), Fail> {
         let listed = Listed::from(vec![in rt.alloc(); 3, 1, 2]?);
         assert_eq!(rt; listed.as_slice(), [3, 1, 2].as_slice());
+        assert_eq!(rt; listed.clone()?.as_slice(), [3, 1, 2].as_slice());
         assert_eq!(rt; Vec::from(listed).as_slice(), [3, 1, 2].as_slice());
         Ok(())
     }
