@@ -13,15 +13,16 @@ use Rattle.avro_schema.specs.declared.node.Node.{Node}
 use Rattle.avro_resolve.specs.declared.trail.Hop.{Hop}
 use Rattle.avro_resolve.specs.declared.trail.ClashKind.{ClashKind}
 use Rattle.avro_resolve.specs.declared.trail.Trail.{Trail}
-use Rattle.avro_resolve.specs.declared.table.Pair.{Pair}
-use Rattle.avro_resolve.specs.declared.table.Obligation.{Obligation}
+use Rattle.avro_resolve.specs.declared.obligations.Pair.{Pair}
+use Rattle.avro_resolve.specs.declared.obligations.Obligation.{Obligation}
 use Rattle.avro_resolve.specs.declared.search.Step.{Step}
 use Rattle.avro_resolve.specs.declared.search.Entry.{Entry}
 use Rattle.avro_schema.specs.Order.{IsSound}
-use Rattle.avro_resolve.specs.declared.table.Outcome.TheVariants.{Clashes, Owes}
+use Rattle.avro_resolve.specs.declared.obligations.Outcome.TheVariants.{Clashes, Owes}
 use Rattle.avro_resolve.specs.Table.{outcome, clash_in, owed_in, clash_of, obligations}
 use Rattle.avro_resolve.specs.Trails.{end_at, after_hop, roots, trail_from, trail_along, ComesFirst, AreCompatible, IsShown}
-use Rattle.avro_resolve.specs.Search.{same_pair, is_reached, unless_reached, with_entry, entry_from, expanded, from_at, hop_numbered, hop_at, IsStep, IsWayBack, LeadsBack}
+use Rattle.avro_resolve.specs.Seen.{same_pair}
+use Rattle.avro_resolve.specs.Search.{is_reached, unless_reached, with_entry, entry_from, expanded, from_at, hop_numbered, hop_at, IsStep, IsWayBack, LeadsBack}
 use Rattle.avro_resolve.proofs.Order.{ComesFirst_refl, ComesFirst_trans, ComesFirst-append, ComesFirst-longer, Before, Before-weaker, Before-children, Before-siblings, Before_trans, Before-root}
 use Rattle.avro_resolve.proofs.Rows.{IsWithin, obligations_within}
 use Rattle.avro_resolve.proofs.Searching.{same_pair-≡}

@@ -33,9 +33,9 @@ unfolding serde_json_on_literals digits
 round_about = refl
 
 -- the first branch that matches is taken, by the last part of its name
-pub first_branch : option_map shown_text (trail_along (nodes_in (codes "[{\"type\":\"record\",\"name\":\"a.R\",\"fields\":[{\"name\":\"x\",\"type\":\"int\"}]},{\"type\":\"record\",\"name\":\"b.R\",\"fields\":[]}]")) (nodes_in (codes "{\"type\":\"record\",\"name\":\"b.R\",\"fields\":[]}")) (0 ∷ [])) ≡ Some (codes "/reader:0: READER_FIELD_MISSING_DEFAULT_VALUE x")
+pub first_matching_branch : option_map shown_text (trail_along (nodes_in (codes "[{\"type\":\"record\",\"name\":\"a.R\",\"fields\":[{\"name\":\"x\",\"type\":\"int\"}]},{\"type\":\"record\",\"name\":\"b.R\",\"fields\":[]}]")) (nodes_in (codes "{\"type\":\"record\",\"name\":\"b.R\",\"fields\":[]}")) (0 ∷ [])) ≡ Some (codes "/reader:0: READER_FIELD_MISSING_DEFAULT_VALUE x")
 unfolding serde_json_on_literals digits
-first_branch = refl
+first_matching_branch = refl
 
 -- a symbol that the reader lacks
 pub symbol_gone : option_map shown_text (trail_along (nodes_in (codes "{\"type\":\"enum\",\"name\":\"E\",\"symbols\":[\"A\"]}")) (nodes_in (codes "{\"type\":\"enum\",\"name\":\"E\",\"symbols\":[\"A\",\"B\"]}")) ([])) ≡ Some (codes "/: MISSING_ENUM_SYMBOLS B")

@@ -11,8 +11,8 @@ use Rattle.avro_resolve.specs.declared.trail.Hop.{Hop}
 use Rattle.avro_resolve.specs.declared.trail.Hop.TheVariants as hop
 use Rattle.avro_resolve.specs.declared.trail.ClashKind.{ClashKind}
 use Rattle.avro_resolve.specs.declared.trail.Trail.{Trail}
-use Rattle.avro_resolve.specs.declared.table.Pair.{Pair}
-use Rattle.avro_resolve.specs.declared.table.Obligation.{Obligation}
+use Rattle.avro_resolve.specs.declared.obligations.Pair.{Pair}
+use Rattle.avro_resolve.specs.declared.obligations.Obligation.{Obligation}
 use Rattle.avro_resolve.specs.Pairing.{partner}
 use Rattle.avro_resolve.specs.Table.{pair, to_writer_branch, to_writer_branches, to_field, to_partner, owed_in, clash_of, obligations}
 use Rattle.avro_resolve.specs.Trails.{end_at, after_hop, roots, trail_from, IsTrail, HopsNameOne}

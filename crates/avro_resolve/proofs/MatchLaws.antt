@@ -11,7 +11,8 @@ use Rattle.avro_schema.specs.declared.node.Node.TheVariants as kind
 use Rattle.avro_schema.specs.Order.{IsSound, inner, parts_of_node}
 use Rattle.avro_schema.specs.Names.{primitive_text, same_name}
 use Rattle.avro_resolve.proofs.Sound.{part_below}
-use Rattle.avro_resolve.specs.Match.{both, nodes_match, parts_of, matches_within, matches, names_match, same_primitive, promotions, primitives_match, IsByCases, EachMatchesItself}
+use Rattle.avro_resolve.specs.Inward.{inner_types}
+use Rattle.avro_resolve.specs.Match.{both, nodes_match, matches_within, matches, names_match, same_primitive, promotions, primitives_match, IsByCases, EachMatchesItself}
 
 -- a is what the array or the map is of
 abbrev pub IsOf : NodeId → Option Node → Type 0
@@ -120,18 +121,18 @@ pub record IsInward (r w : List Node) (i j a b : NodeId) (left : ℕ) : Type 0 w
   pub decides : matches r w i j ≡ matches_within (suc left) r w a b
 
 -- two arrays or two maps match where their parts do
-by_parts : (p : NodeId → NodeId → Bool) (m n : Node) (c d : NodeId) → parts_of m n ≡ Some (c, d) → nodes_match p m n ≡ p c d
+by_parts : (p : NodeId → NodeId → Bool) (m n : Node) (c d : NodeId) → inner_types m n ≡ Some (c, d) → nodes_match p m n ≡ p c d
 by_parts p (kind.Array a) (kind.Array b) c d e = let one : (a, b) ≡ (c, d) = cc in ap (λ (x : NodeId × NodeId). p x.0 x.1) one
 by_parts p (kind.Map a) (kind.Map b) c d e = let one : (a, b) ≡ (c, d) = cc in ap (λ (x : NodeId × NodeId). p x.0 x.1) one
 by_parts p _ _ c d e = cc
 
 -- the parts are those of the two types
-reader_part : (m n : Node) (c d : NodeId) → parts_of m n ≡ Some (c, d) → IsOf c (Some m)
+reader_part : (m n : Node) (c d : NodeId) → inner_types m n ≡ Some (c, d) → IsOf c (Some m)
 reader_part (kind.Array a) (kind.Array b) c d e = let one : (a, b) ≡ (c, d) = cc in ap (λ (x : NodeId × NodeId). Some x.0) one
 reader_part (kind.Map a) (kind.Map b) c d e = let one : (a, b) ≡ (c, d) = cc in ap (λ (x : NodeId × NodeId). Some x.0) one
 reader_part _ _ c d e = cc
 
-writer_part : (m n : Node) (c d : NodeId) → parts_of m n ≡ Some (c, d) → IsOf d (Some n)
+writer_part : (m n : Node) (c d : NodeId) → inner_types m n ≡ Some (c, d) → IsOf d (Some n)
 writer_part (kind.Array a) (kind.Array b) c d e = let one : (a, b) ≡ (c, d) = cc in ap (λ (x : NodeId × NodeId). Some x.1) one
 writer_part (kind.Map a) (kind.Map b) c d e = let one : (a, b) ≡ (c, d) = cc in ap (λ (x : NodeId × NodeId). Some x.1) one
 writer_part _ _ c d e = cc
@@ -142,7 +143,7 @@ module _ {r w : List Node} {i j a b : NodeId} {left : ℕ} (now : IsInward r w i
   at_nodes = now.decides ∙ ap (λ o. both (nodes_match (λ k l. matches_within left r w k l)) o (slice_get w b.index)) m_at ∙ ap (λ o. both (nodes_match (λ k l. matches_within left r w k l)) (Some m) o) n_at
 
   -- one step on
-  pub further : IsSound r → IsSound w → (c d : NodeId) → parts_of m n ≡ Some (c, d) → left ≢ 0 → IsInward r w i j c d (left - 1)
+  pub further : IsSound r → IsSound w → (c d : NodeId) → inner_types m n ≡ Some (c, d) → left ≢ 0 → IsInward r w i j c d (left - 1)
   further s t c d e more =
       let one_less : left ≡ suc (left - 1) = omega arith in
       record {

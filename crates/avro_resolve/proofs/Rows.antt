@@ -15,13 +15,13 @@ use Rattle.avro_resolve.specs.declared.trail.Hop.{Hop}
 use Rattle.avro_resolve.specs.declared.trail.Hop.TheVariants as hop
 use Rattle.avro_resolve.specs.declared.trail.ClashKind.{ClashKind}
 use Rattle.avro_resolve.specs.declared.trail.ClashKind.TheVariants as clash
-use Rattle.avro_resolve.specs.declared.table.Pair.{Pair}
-use Rattle.avro_resolve.specs.declared.table.Obligation.{Obligation}
-use Rattle.avro_resolve.specs.declared.table.Outcome.{Outcome}
-use Rattle.avro_resolve.specs.declared.table.Outcome.TheVariants.{Clashes, Owes}
+use Rattle.avro_resolve.specs.declared.obligations.Pair.{Pair}
+use Rattle.avro_resolve.specs.declared.obligations.Obligation.{Obligation}
+use Rattle.avro_resolve.specs.declared.obligations.Outcome.{Outcome}
+use Rattle.avro_resolve.specs.declared.obligations.Outcome.TheVariants.{Clashes, Owes}
 use Rattle.avro_resolve.specs.Match.{names_match, primitives_match, matches}
 use Rattle.avro_resolve.specs.Pairing.{first_field, partner, lacks_value}
-use Rattle.avro_resolve.specs.Table.{pair, to_writer_branch, to_writer_branches, to_reader_branch, to_field, to_partner, unless_lacking, to_fields, unless_unknown, with_symbols, given, to_part, plain_row, first_branch, row, row_of, owed_in, obligations}
+use Rattle.avro_resolve.specs.Table.{pair, to_writer_branch, to_writer_branches, to_reader_branch, to_field, to_partner, unless_lacking, to_fields, unless_unknown, with_symbols, given, to_part, plain_row, first_matching_branch, row, row_of, owed_in, obligations}
 use Rattle.avro_resolve.specs.Trails.{HopsNameOne}
 use Rattle.avro_resolve.proofs.MatchLaws.{IsOf, inner_part}
 use Rattle.avro_resolve.proofs.Sound.{part_below, distinct_at, and_left, and_right}
@@ -67,12 +67,12 @@ module _ (Q : Outcome → Type 0) (clash_holds : (c : ClashKind) → Q (Clashes 
 
     row_holds : (r w : List Node) (i j : NodeId) (m n : Node)
         → ((bs : List NodeId) → n ≡ kind.Union bs → Q (to_writer_branches i bs))
-        → ((bs : List NodeId) (b : ℕ × NodeId) → m ≡ kind.Union bs → first_branch r w bs j ≡ Some b → Q (to_reader_branch j (Some b)))
+        → ((bs : List NodeId) (b : ℕ × NodeId) → m ≡ kind.Union bs → first_matching_branch r w bs j ≡ Some b → Q (to_reader_branch j (Some b)))
         → ((h : Hop) (a b : NodeId) → IsOf a (Some m) → IsOf b (Some n) → Q (to_part h a b))
         → Q (Owes (filter_map (to_partner (fields_of_node n)) (fields_of_node m)))
         → Q (row r w i j m n)
     row_holds r w i j m (kind.Union bs) to_writer to_reader of_part to_field = to_writer bs refl
-    row_holds r w i j (kind.Union bs) n to_writer to_reader of_part to_field = to_reader_branch_holds j (first_branch r w bs j) (λ b found. to_reader bs b refl found)
+    row_holds r w i j (kind.Union bs) n to_writer to_reader of_part to_field = to_reader_branch_holds j (first_matching_branch r w bs j) (λ b found. to_reader bs b refl found)
     row_holds r w i j m n to_writer to_reader of_part to_field = plain_row_holds m n of_part to_field
 
 -- ---- where an obligation stands

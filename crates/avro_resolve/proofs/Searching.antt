@@ -5,16 +5,15 @@ use Rattle.std.proofs.lemmas.List.Folds.{list_any-append}
 use Rattle.std.proofs.lemmas.Option.{slice_get_read}
 use Rattle.avro_resolve.specs.declared.trail.Hop.{Hop}
 use Rattle.avro_resolve.proofs.Sound.{and_left, and_right}
-use Rattle.avro_resolve.specs.declared.table.Pair.{Pair}
-use Rattle.avro_resolve.specs.declared.table.Outcome.TheVariants.{Owes}
-use Rattle.avro_resolve.specs.declared.row.Cause.{Cause}
-use Rattle.avro_resolve.specs.declared.row.Row.{Row}
-use Rattle.avro_resolve.specs.declared.row.Row.TheVariants.{Clash, WriterBranches, One, Fields, Nothing}
-use Rattle.avro_resolve.specs.Row.{outcome_of}
-use Rattle.avro_resolve.specs.Table.{owed_in, obligations}
+use Rattle.avro_resolve.specs.declared.obligations.Pair.{Pair}
+use Rattle.avro_resolve.specs.declared.trail.ClashKind.{ClashKind}
+use Rattle.avro_resolve.specs.declared.obligations.Outcome.{Outcome}
+use Rattle.avro_resolve.specs.declared.obligations.Outcome.TheVariants.{Clashes, Owes}
+use Rattle.avro_resolve.specs.Table.{clash_in, owed_in, obligations}
 use Rattle.avro_resolve.specs.declared.search.Step.{Step}
 use Rattle.avro_resolve.specs.declared.search.Entry.{Entry}
-use Rattle.avro_resolve.specs.Search.{same_pair, is_reached, is_seen, IsFair, AgreesWith, from_at, hop_numbered, hop_at, IsStep, IsWayBack}
+use Rattle.avro_resolve.specs.Seen.{same_pair, is_seen, IsFair}
+use Rattle.avro_resolve.specs.Search.{is_reached, AgreesWith, from_at, hop_numbered, hop_at, IsStep, IsWayBack}
 use Rattle.avro_resolve.specs.declared.seen.Seen.{Seen}
 use Rattle.avro_schema.specs.declared.node.Node.{Node}
 
@@ -92,13 +91,14 @@ module _ (r w : List Node) where
   pub way_whole : (es : List Entry) (place at : ℕ) (hops : List Hop) → ((rest : List Hop) → IsWayBack r w es at rest → IsWayBack r w es place (hops ++ rest)) → from_at es at ≡ None → IsWayBack r w es place hops
   way_whole es place at hops now none = subst (IsWayBack r w es place) (append-nil hops) (now [] none)
 
--- a row that is no clash
-pub owes_of : (row : Row) → ((c : Cause) → row ≡ Clash c → ⊥) → outcome_of row ≡ Owes (owed_in (outcome_of row))
-owes_of (Clash c) other = absurd (other c refl)
-owes_of (WriterBranches i bs) other = refl
-owes_of (One h p) other = refl
-owes_of (Fields fs gs) other = refl
-owes_of Nothing other = refl
+-- what a row comes to, by its clash
+pub clashes_when : (o : Outcome) (c : ClashKind) → Some c ≡ clash_in o → o ≡ Clashes c
+clashes_when (Clashes d) c e = let one : c ≡ d = cc in ap Clashes (sym one)
+clashes_when (Owes os) c e = cc
+
+pub owes_when : (o : Outcome) → None ≡ clash_in o → o ≡ Owes (owed_in o)
+owes_when (Clashes d) e = cc
+owes_when (Owes os) e = refl
 
 pub not_false : (b : Bool) → false ≡ not b → b ≡ true
 not_false true e = refl

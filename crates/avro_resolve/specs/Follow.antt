@@ -1,9 +1,9 @@
--- Where a hop leads.
+-- Private: where a hop leads.
 use Rattle.std.specs.Prelude.{List, Bool, true, false, ◌==◌, Option, option_map, find, bytes_eq}
 use Rattle.avro_resolve.specs.declared.trail.Hop.{Hop}
 use Rattle.avro_resolve.specs.declared.trail.Hop.TheVariants as hop
-use Rattle.avro_resolve.specs.declared.table.Pair.{Pair}
-use Rattle.avro_resolve.specs.declared.table.Obligation.{Obligation}
+use Rattle.avro_resolve.specs.declared.obligations.Pair.{Pair}
+use Rattle.avro_resolve.specs.declared.obligations.Obligation.{Obligation}
 
 abbrev pub same_hop : Hop → Hop → Bool
 same_hop (hop.Field a) (hop.Field b) = bytes_eq a b

@@ -2,8 +2,10 @@ pub mod Match
 pub mod Pairing
 pub mod Table
 pub mod Trails
-pub mod Follow
 pub mod Texts
-pub mod Row
-pub mod Search
 pub mod Verdict
+pub mod Follow
+pub mod Inward
+pub mod Row
+pub mod Seen
+pub mod Search

@@ -40,16 +40,6 @@ nodes_match parts (kind.Array i) (kind.Array j) = parts i j
 nodes_match parts (kind.Map i) (kind.Map j) = parts i j
 nodes_match parts r w = false
 
-abbrev pub is_union : Node → Bool
-is_union (kind.Union bs) = true
-is_union _ = false
-
--- what two arrays or two maps are of
-abbrev pub parts_of : Node → Node → Option (NodeId × NodeId)
-parts_of (kind.Array i) (kind.Array j) = Some (i, j)
-parts_of (kind.Map i) (kind.Map j) = Some (i, j)
-parts_of _ _ = None
-
 -- a test of the nodes at two places
 abbrev pub both : (Node → Node → Bool) → Option Node → Option Node → Bool
 both test (Some m) (Some n) = test m n

@@ -1,29 +1,29 @@
--- What the rows of the table stand for.
-use Rattle.std.specs.Prelude.{[], ◌∷◌, Bool, true, map, filter_map, bytes_eq}
+-- Private: what the rows of the table stand for.
+use Rattle.std.specs.Prelude.{[], ◌∷◌, Bool, true, map, bytes_eq}
 use Rattle.avro_schema.specs.Names.{all_distinct}
 use Rattle.avro_resolve.specs.declared.trail.ClashKind.{ClashKind}
 use Rattle.avro_resolve.specs.declared.trail.ClashKind.TheVariants as clash
-use Rattle.avro_resolve.specs.declared.table.Outcome.{Outcome}
-use Rattle.avro_resolve.specs.declared.table.Outcome.TheVariants.{Clashes, Owes}
-use Rattle.avro_resolve.specs.declared.row.Cause.{Cause}
-use Rattle.avro_resolve.specs.declared.row.Cause.TheVariants as cause
-use Rattle.avro_resolve.specs.declared.row.Row.{Row}
-use Rattle.avro_resolve.specs.declared.row.Row.TheVariants.{Clash, WriterBranches, One, Fields, Nothing}
-use Rattle.avro_resolve.specs.Table.{to_writer_branches, to_partner}
+use Rattle.avro_resolve.specs.declared.obligations.Outcome.{Outcome}
+use Rattle.avro_resolve.specs.declared.obligations.Outcome.TheVariants.{Clashes, Owes}
+use Rattle.avro_resolve.specs.declared.table.Cause.{Cause}
+use Rattle.avro_resolve.specs.declared.table.Cause.TheVariants as cause
+use Rattle.avro_resolve.specs.declared.table.Row.{Row}
+use Rattle.avro_resolve.specs.declared.table.Row.TheVariants.{Clash, WriterBranches, One, Fields, Nothing}
+use Rattle.avro_resolve.specs.Table.{to_writer_branches, to_fields}
 
-abbrev pub kind_of : Cause → ClashKind
-kind_of cause.MissingUnionBranch = clash.MissingUnionBranch
-kind_of cause.NameMismatch = clash.NameMismatch
-kind_of (cause.LackingField f) = clash.ReaderFieldMissingDefaultValue f.now
-kind_of (cause.UnknownSymbol s) = clash.MissingEnumSymbols s.now
-kind_of cause.FixedSizeMismatch = clash.FixedSizeMismatch
-kind_of cause.TypeMismatch = clash.TypeMismatch
+abbrev pub clash_of_cause : Cause → ClashKind
+clash_of_cause cause.MissingUnionBranch = clash.MissingUnionBranch
+clash_of_cause cause.NameMismatch = clash.NameMismatch
+clash_of_cause (cause.LackingField f) = clash.ReaderFieldMissingDefaultValue f.now
+clash_of_cause (cause.UnknownSymbol s) = clash.MissingEnumSymbols s.now
+clash_of_cause cause.FixedSizeMismatch = clash.FixedSizeMismatch
+clash_of_cause cause.TypeMismatch = clash.TypeMismatch
 
 abbrev pub outcome_of : Row → Outcome
-outcome_of (Clash c) = Clashes (kind_of c)
+outcome_of (Clash c) = Clashes (clash_of_cause c)
 outcome_of (WriterBranches i bs) = to_writer_branches i bs.now
 outcome_of (One h p) = Owes (record { hop = h; pair = p } ∷ [])
-outcome_of (Fields fs gs) = Owes (filter_map (to_partner gs.now) fs.now)
+outcome_of (Fields fs gs) = to_fields fs.now gs.now
 outcome_of Nothing = Owes []
 
 -- no two of the writer's fields have one name

@@ -1,39 +1,18 @@
--- What the search keeps: the pairs that were reached, in the order in which they were.
-use Rattle.std.specs.Prelude.{◌≡◌, ◌<◌, ℕ, ◌+◌, List, [], ◌∷◌, ◌++◌, length, Bool, true, false, ◌&&◌, ◌||◌, ◌==◌, Option, Some, None, option_map, option_and_then, slice_get}
+-- Private: what the search keeps, the pairs that were reached, in the order in which they were.
+use Rattle.std.specs.Prelude.{◌≡◌, ◌<◌, ℕ, ◌+◌, List, [], ◌∷◌, ◌++◌, length, Bool, true, false, Option, Some, None, option_map, option_and_then, slice_get}
 use Rattle.std.specs.List.{list_any}
-use Rattle.std.specs.Ordering.{nat_cmp, ordering_then}
-use Rattle.std.specs.BTreeSet.{BTreeSet, contains}
 use Rattle.avro_schema.specs.declared.node.Node.{Node}
 use Rattle.avro_resolve.specs.declared.trail.Hop.{Hop}
-use Rattle.avro_resolve.specs.declared.table.Pair.{Pair}
-use Rattle.avro_resolve.specs.declared.table.Obligation.{Obligation}
+use Rattle.avro_resolve.specs.declared.obligations.Pair.{Pair}
+use Rattle.avro_resolve.specs.declared.obligations.Obligation.{Obligation}
 use Rattle.avro_resolve.specs.declared.search.Step.{Step}
 use Rattle.avro_resolve.specs.declared.search.Entry.{Entry}
 use Rattle.avro_resolve.specs.declared.seen.Seen.{Seen}
+use Rattle.avro_resolve.specs.Seen.{same_pair, is_seen, IsFair}
 use Rattle.avro_resolve.specs.Table.{obligations}
-
-abbrev pub same_pair : Pair → Pair → Bool
-same_pair p q = (p.reader.index == q.reader.index) && (p.writer.index == q.writer.index)
 
 abbrev pub is_reached : List Entry → Pair → Bool
 is_reached es p = list_any (λ e. same_pair e.pair p) es
-
--- whether the set of the other pairs has one
-abbrev pub is_more : BTreeSet (ℕ × ℕ) → ℕ → ℕ → Bool
-is_more more i j = contains (λ a b. ordering_then (nat_cmp a.0 b.0) (nat_cmp a.1 b.1)) more (i, j)
-
--- whether a writer's type was seen, by the first that was with this reader's type, and the set of the others
-abbrev pub is_beside : BTreeSet (ℕ × ℕ) → ℕ → ℕ → Option (Option ℕ) → Bool
-is_beside more i j None = is_more more i j
-is_beside more i j (Some None) = false
-is_beside more i j (Some (Some first)) = (first == j) || is_more more i j
-
-abbrev pub is_seen : Seen → Pair → Bool
-is_seen seen p = is_beside seen.more p.reader.index p.writer.index (slice_get seen.first.items p.reader.index)
-
--- the set has only pairs of a reader's type that came with another before
-abbrev pub IsFair : Seen → Type 0
-IsFair seen = (i j : ℕ) → slice_get seen.first.items i ≡ Some None → is_more seen.more i j ≡ false
 
 -- the pairs that were seen are those of the entries
 pub record AgreesWith (seen : Seen) (es : List Entry) : Type 0 where

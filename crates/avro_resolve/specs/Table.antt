@@ -20,10 +20,10 @@ use Rattle.avro_resolve.specs.declared.trail.Hop.{Hop}
 use Rattle.avro_resolve.specs.declared.trail.Hop.TheVariants as hop
 use Rattle.avro_resolve.specs.declared.trail.ClashKind.{ClashKind}
 use Rattle.avro_resolve.specs.declared.trail.ClashKind.TheVariants as clash
-use Rattle.avro_resolve.specs.declared.table.Pair.{Pair}
-use Rattle.avro_resolve.specs.declared.table.Obligation.{Obligation}
-use Rattle.avro_resolve.specs.declared.table.Outcome.{Outcome}
-use Rattle.avro_resolve.specs.declared.table.Outcome.TheVariants.{Clashes, Owes}
+use Rattle.avro_resolve.specs.declared.obligations.Pair.{Pair}
+use Rattle.avro_resolve.specs.declared.obligations.Obligation.{Obligation}
+use Rattle.avro_resolve.specs.declared.obligations.Outcome.{Outcome}
+use Rattle.avro_resolve.specs.declared.obligations.Outcome.TheVariants.{Clashes, Owes}
 use Rattle.avro_resolve.specs.Match.{names_match, primitives_match, matches}
 use Rattle.avro_resolve.specs.Pairing.{partner, lacks_value}
 
@@ -94,12 +94,12 @@ plain_row (kind.Primitive p) (kind.Primitive q) = given (primitives_match p q) c
 plain_row m n = Clashes clash.TypeMismatch
 
 module _ (r w : List Node) where
-  abbrev pub first_branch : List NodeId → NodeId → Option (ℕ × NodeId)
-  first_branch bs j = find (λ b. matches r w b.1 j) (enumerate_from 0 bs)
+  abbrev pub first_matching_branch : List NodeId → NodeId → Option (ℕ × NodeId)
+  first_matching_branch bs j = find (λ b. matches r w b.1 j) (enumerate_from 0 bs)
 
   abbrev pub row : NodeId → NodeId → Node → Node → Outcome
   row i j m (kind.Union bs) = to_writer_branches i bs
-  row i j (kind.Union bs) n = to_reader_branch j (first_branch bs j)
+  row i j (kind.Union bs) n = to_reader_branch j (first_matching_branch bs j)
   row i j m n = plain_row m n
 
   abbrev pub row_of : NodeId → NodeId → Option Node → Option Node → Outcome

@@ -1,11 +1,11 @@
 -- Trails from the pair of roots to a clash, and the one that is shown.
-use Rattle.std.specs.Prelude.{◌≡◌, ◌<◌, ℕ, List, [], ◌∷◌, length, ◌⊎◌, Option, Some, None, IsSome, option_map, option_and_then, slice_get}
+use Rattle.std.specs.Prelude.{◌≡◌, ◌<◌, ◌↔◌, ℕ, List, [], ◌∷◌, length, ◌⊎◌, Option, Some, None, IsSome, option_map, option_and_then, slice_get}
 use Rattle.avro_schema.specs.declared.node.Node.{Node}
 use Rattle.avro_resolve.specs.declared.trail.Hop.{Hop}
 use Rattle.avro_resolve.specs.declared.trail.ClashKind.{ClashKind}
 use Rattle.avro_resolve.specs.declared.trail.Trail.{Trail}
-use Rattle.avro_resolve.specs.declared.table.Pair.{Pair}
-use Rattle.avro_resolve.specs.declared.table.Obligation.{Obligation}
+use Rattle.avro_resolve.specs.declared.obligations.Pair.{Pair}
+use Rattle.avro_resolve.specs.declared.obligations.Obligation.{Obligation}
 use Rattle.avro_resolve.specs.Table.{pair, clash_of, obligations}
 
 abbrev pub end_at : ClashKind → Trail
@@ -31,9 +31,16 @@ module _ (r w : List Node) where
   abbrev pub IsTrail : Trail → Type 0
   IsTrail t = (ks : List ℕ) × (trail_along ks ≡ Some t)
 
-  -- no list of pairs leads from the roots to a clash
+  -- no list of pairs leads from this one to a clash
+  abbrev pub AreCompatibleAt : Pair → Type 0
+  AreCompatibleAt p = (ks : List ℕ) → trail_from p ks ≡ None
+
   abbrev pub AreCompatible : Type 0
-  AreCompatible = (ks : List ℕ) → trail_along ks ≡ None
+  AreCompatible = AreCompatibleAt roots
+
+-- A pair is compatible exactly where it has no clash and each of its obligations is compatible.
+abbrev pub AreCompatibleByObligations : List Node → List Node → Type 0
+AreCompatibleByObligations r w = (p : Pair) → AreCompatibleAt r w p ↔ ((clash_of r w p ≡ None) × ((k : ℕ) (o : Obligation) → slice_get (obligations r w p) k ≡ Some o → AreCompatibleAt r w o.pair))
 
 -- dictionary order
 abbrev pub InOrder : List ℕ → List ℕ → Type 0

@@ -7,7 +7,6 @@ ghost use Rattle.avro_resolve.specs.Pairing as spec;
 use crate::guess::Guess;
 use avro_schema::Field;
 use base_text::Text;
-use std::alloc::Global;
 
 /// The field of that name.
 fn field_named<'a>(fields: &'a [Field], name: &Text) -> Option<&'a Field>
@@ -48,12 +47,12 @@ fn field_at(fields: &[Field], k: usize) -> Option<&Field>
     fields.get(k)
 }
 
-/// How many fields are looked at before the search from the first.
+/// How far on the partner of the next field is looked for before anywhere else.
 const NEAR: usize = 8;
 
-/// The same, with a place after which the partner of the reader's next field may be looked for;
-/// the partner of a name is looked for at `near` and a few places on, and where a guess is, before
-/// anywhere else.
+/// The partner of a reader's field, with a place after which that of the reader's next field may
+/// be looked for. A field of its name is looked for near that place first, and then where a guess
+/// is.
 pub fn partner_near<'a>(
     writer: &'a [Field],
     field: &Field,
@@ -63,24 +62,40 @@ pub fn partner_near<'a>(
     requires { all_distinct bytes_eq (map (λ f. f.name) writer.now) ≡ true }
     ensures { option_copied result.1 ≡ spec.partner writer.now field.now }
 {
-    for k in near..near.saturating_add(NEAR) {
-        let Some(g) = field_at(writer, k) else {
-            break;
-        };
-        if g.name == field.name {
-            return (k.saturating_add(1), Some(g));
-        }
+    if let Some(found) = nearby(writer, field, near) {
+        return found;
     }
     if let Some(k) = guess.of_field(writer, &field.name)
-        && let Some(g) = partner_guessed(writer, field, k)
+        && let Some(g) = named_at(writer, field, k)
     {
         return (k.saturating_add(1), Some(g));
     }
     (near, partner(writer, field))
 }
 
+/// The field of that name at `near`, at the last place before the one that was found there, or a
+/// few places on, and the place after it.
+fn nearby<'a>(writer: &'a [Field], field: &Field, near: usize) -> Option<(usize, Option<&'a Field>)>
+    requires { all_distinct bytes_eq (map (λ f. f.name) writer.now) ≡ true }
+    ensures { IfSome result (λ found. option_copied found.1 ≡ spec.partner writer.now field.now) }
+{
+    if let Some(g) = named_at(writer, field, near) {
+        return Some((near.saturating_add(1), Some(g)));
+    }
+    let before = near.saturating_sub(2);
+    if let Some(g) = named_at(writer, field, before) {
+        return Some((before.saturating_add(1), Some(g)));
+    }
+    for k in near.saturating_add(1)..near.saturating_add(NEAR) {
+        if let Some(g) = named_at(writer, field, k) {
+            return Some((k.saturating_add(1), Some(g)));
+        }
+    }
+    None
+}
+
 /// The field at a place, if it has the field's name.
-fn partner_guessed<'a>(writer: &'a [Field], field: &Field, k: usize) -> Option<&'a Field>
+fn named_at<'a>(writer: &'a [Field], field: &Field, k: usize) -> Option<&'a Field>
     requires { all_distinct bytes_eq (map (λ f. f.name) writer.now) ≡ true }
     ensures { IfSome result (λ g. Some g.now ≡ spec.partner writer.now field.now) }
 {
@@ -91,22 +106,10 @@ fn partner_guessed<'a>(writer: &'a [Field], field: &Field, k: usize) -> Option<&
 }
 
 /// The first of the reader's fields that has no field to read and no default.
-pub fn first_lacking<'a>(
-    reader: &'a [Field],
-    writer: &[Field],
-    memory: Option<Global>,
-) -> Option<&'a Field>
-    requires { all_distinct bytes_eq (map (λ f. f.name) writer.now) ≡ true }
+pub fn first_lacking<'a>(reader: &'a [Field], writer: &[Field]) -> Option<&'a Field>
     ensures { option_copied result ≡ find (spec.lacks_value writer.now) reader.now }
 {
-    let mut near = 0;
-    let mut guess = Guess::new(memory);
-    for f in reader {
-        let (next, found) = partner_near(writer, f, near, &mut guess);
-        near = next;
-        if found.is_none() && f.default.is_none() {
-            return Some(f);
-        }
-    }
-    None
+    reader
+        .iter()
+        .find(|f| partner(writer, f).is_none() && f.default.is_none())
 }

@@ -2,12 +2,12 @@
 ghost use Rattle.std.specs.Prelude.{◌≡◌, ◌<◌, ◌↔◌, IsTrue, Some, length, filter_map, slice_get, [], ◌∷◌};
 ghost use Rattle.avro_resolve.specs.Table as spec;
 ghost use Rattle.avro_resolve.specs.Follow.{pair_by, same_hop};
-ghost use Rattle.avro_resolve.specs.Row.{kind_of};
+ghost use Rattle.avro_resolve.specs.Row.{clash_of_cause};
 ghost use Rattle.avro_resolve.specs.Trails.{IsTrail, HopsNameOne};
 
-use crate::fields::partner;
-use crate::row::{Cause, Row, row_at};
-use crate::table::Pair;
+use crate::fields::{first_lacking, partner};
+use crate::obligations::Pair;
+use crate::table::{Cause, Row, row_at};
 use crate::trail::{ClashKind, Hop, Trail};
 use avro_schema::{Field, NodeId, Schema};
 
@@ -45,7 +45,7 @@ fn follow(r: &Schema, w: &Schema, pair: Pair, hop: &Hop) -> Option<Pair>
         Row::Clash(_) => None,
         Row::WriterBranches(i, branches) => writer_branch(i, branches, hop),
         Row::One(only, next) => only_pair(&only, next, hop),
-        Row::Fields(reader, writer) => field_pair(reader, writer, hop),
+        Row::Fields(reader, writer) => paired_field(reader, writer, hop),
         Row::Nothing => None,
     }
 }
@@ -80,6 +80,16 @@ fn branch_at(branches: &[NodeId], k: usize) -> Option<NodeId>
     branches.get(k).copied()
 }
 
+/// The pair of the field that a hop names and its partner, unless a field lacks a value.
+fn paired_field(reader: &[Field], writer: &[Field], hop: &Hop) -> Option<Pair>
+    ensures { result ≡ pair_by (spec.owed_in (spec.to_fields reader.now writer.now)) hop.now }
+{
+    if first_lacking(reader, writer).is_some() {
+        return None;
+    }
+    field_pair(reader, writer, hop)
+}
+
 /// The pair of the field that a hop names and its partner.
 fn field_pair(reader: &[Field], writer: &[Field], hop: &Hop) -> Option<Pair>
     ensures { result ≡ pair_by (filter_map (spec.to_partner writer.now) reader.now) hop.now }
@@ -108,12 +118,23 @@ fn clashes_so(r: &Schema, w: &Schema, pair: Pair, kind: &ClashKind) -> bool
 {
     match row_at(r, w, pair, None) {
         Row::Clash(cause) => is_of_kind(&cause, kind),
+        Row::Fields(reader, writer) => lacks_so(reader, writer, kind),
         _ => false,
     }
 }
 
+/// Whether two records whose names match clash in this way.
+fn lacks_so(reader: &[Field], writer: &[Field], kind: &ClashKind) -> bool
+    ensures { IsTrue result ↔ (spec.clash_in (spec.to_fields reader.now writer.now) ≡ Some kind.now) }
+{
+    match first_lacking(reader, writer) {
+        Some(f) => is_of_kind(&Cause::LackingField(&f.name), kind),
+        None => false,
+    }
+}
+
 fn is_of_kind(cause: &Cause<'_>, kind: &ClashKind) -> bool
-    ensures { IsTrue result ↔ (kind_of cause.now ≡ kind.now) }
+    ensures { IsTrue result ↔ (clash_of_cause cause.now ≡ kind.now) }
 {
     match cause {
         Cause::MissingUnionBranch => matches!(kind, ClashKind::MissingUnionBranch),

@@ -3,17 +3,21 @@
 #![tactic(auto)]
 
 mod fields;
+mod firsts;
 mod follow;
+mod grid;
 mod guess;
+mod laws;
 mod matching;
 mod names;
+mod obligations;
 mod resolving;
-mod row;
 mod search;
 mod seen;
 mod table;
 mod trail;
 
+pub use laws::{obligations_are_compatible, schemas_have_one_verdict};
 pub use matching::matches;
 pub use resolving::{Counted, Verdict, resolve, resolve_counted};
 pub use trail::{ClashKind, Hop, Trail};

@@ -1,6 +1,7 @@
 // Which types match.
 ghost use Rattle.std.specs.Prelude.{◌≡◌, ◌<◌, length, false};
 ghost use Rattle.avro_resolve.specs.Match as spec;
+ghost use Rattle.avro_resolve.specs.Inward.{inner_types, is_union_node};
 
 use crate::names::{names_match, primitives_match};
 use avro_schema::{Node, NodeId, Schema};
@@ -34,7 +35,7 @@ fn match_inward(r: &Schema, i: NodeId, w: &Schema, j: NodeId) -> bool
     'inward: loop {
         let reader = r.node(i);
         let writer = w.node(j);
-        match parts_of(reader, writer) {
+        match inner_types(reader, writer) {
             Some((a, b)) => {
                 i = a;
                 j = b;
@@ -49,8 +50,8 @@ fn match_inward(r: &Schema, i: NodeId, w: &Schema, j: NodeId) -> bool
 }
 
 /// What two arrays or two maps are of.
-fn parts_of(reader: &Node, writer: &Node) -> Option<(NodeId, NodeId)>
-    ensures { result ≡ spec.parts_of reader.now writer.now }
+fn inner_types(reader: &Node, writer: &Node) -> Option<(NodeId, NodeId)>
+    ensures { result ≡ inner_types reader.now writer.now }
 {
     match reader {
         Node::Array(i) => match writer {
@@ -73,15 +74,15 @@ fn nodes_match(reader: &Node, writer: &Node) -> bool
         Node::Union(_) => true,
         Node::Primitive(p) => match writer {
             Node::Primitive(q) => primitives_match(*p, *q),
-            _ => is_union(writer),
+            _ => is_union_node(writer),
         },
         Node::Record { name, aliases, .. } => match writer {
             Node::Record { name: other, .. } => names_match(name, aliases.as_slice(), other),
-            _ => is_union(writer),
+            _ => is_union_node(writer),
         },
         Node::Enum { name, aliases, .. } => match writer {
             Node::Enum { name: other, .. } => names_match(name, aliases.as_slice(), other),
-            _ => is_union(writer),
+            _ => is_union_node(writer),
         },
         Node::Fixed {
             name,
@@ -93,15 +94,15 @@ fn nodes_match(reader: &Node, writer: &Node) -> bool
                 size: written,
                 ..
             } => *size == *written && names_match(name, aliases.as_slice(), other),
-            _ => is_union(writer),
+            _ => is_union_node(writer),
         },
-        Node::Array(_) => is_union(writer),
-        Node::Map(_) => is_union(writer),
+        Node::Array(_) => is_union_node(writer),
+        Node::Map(_) => is_union_node(writer),
     }
 }
 
-fn is_union(node: &Node) -> bool
-    ensures { result ≡ spec.is_union node.now }
+fn is_union_node(node: &Node) -> bool
+    ensures { result ≡ is_union_node node.now }
 {
     matches!(node, Node::Union(_))
 }

@@ -1,9 +1,8 @@
 // Whether two schemas resolve.
 ghost use Rattle.std.specs.Prelude.{◌≡◌, ◌≤◌, ◌*◌, length, IfOk};
 
-use crate::row::{Row, row_at};
 use crate::search::Search;
-use crate::table::clash_kind;
+use crate::table::row_at;
 use crate::trail::Trail;
 use avro_schema::Schema;
 use std::alloc::{AllocError, Global};
@@ -16,6 +15,17 @@ pub enum Verdict {
     /// A shortest trail to a clash. Of several it is the first in dictionary order of its pairs'
     /// numbers: a pair's number is its place among those that the pair before it needs.
     Clash(Trail),
+}
+
+impl Clone for Verdict {
+    ghost is_clone = { λ verdict copy. copy ≡ verdict };
+
+    fn clone(&self) -> Result<Verdict, AllocError> {
+        match self {
+            Verdict::Compatible => Ok(Verdict::Compatible),
+            Verdict::Clash(trail) => Ok(Verdict::Clash(trail.clone()?)),
+        }
+    }
 }
 
 /// A verdict, and how many pairs of types were looked up for it.
@@ -51,17 +61,15 @@ pub fn resolve_counted(alloc: Global, r: &Schema, w: &Schema) -> Result<Counted,
     let mut head = 0;
     'heads: while head < search.entries.len() {
         let pair = search.entries[head].pair;
-        match row_at(r, w, pair, Some(alloc)) {
-            Row::Clash(cause) => {
-                let kind = clash_kind(cause)?;
-                let hops = search.hops_to(alloc, r, w, head)?;
-                let verdict = Verdict::Clash(Trail { hops, kind });
-                return Ok(Counted {
-                    verdict,
-                    pairs: head + 1,
-                });
-            }
-            row => search.expand(alloc, head, row)?,
+        let row = row_at(r, w, pair, Some(alloc));
+        if let Some(cause) = search.expand(alloc, head, row)? {
+            let kind = cause.kind()?;
+            let hops = search.hops_to(alloc, r, w, head)?;
+            let verdict = Verdict::Clash(Trail { hops, kind });
+            return Ok(Counted {
+                verdict,
+                pairs: head + 1,
+            });
         }
         head += 1;
     }

@@ -2,15 +2,15 @@
 ghost use Rattle.std.specs.Prelude.{◌≡◌, ◌<◌, [], ◌∷◌, true, None, length, reverse, vec_len, slice_get, filter_map, map, option_map, Some, bytes_eq, IfOk, OnOk};
 ghost use Rattle.std.specs.List.{enumerate_from};
 ghost use Rattle.avro_resolve.specs.Table as spec;
-ghost use Rattle.avro_resolve.specs.Row.{outcome_of, has_distinct};
+ghost use Rattle.avro_resolve.specs.Row.{clash_of_cause, outcome_of, has_distinct};
 ghost use Rattle.avro_schema.specs.Names.{all_distinct};
 ghost use Rattle.avro_resolve.specs.Trails.{roots};
 
 use crate::fields::partner_near;
 use crate::guess::Guess;
-use crate::row::Row;
+use crate::obligations::{Pair, owed};
 use crate::seen::Seen;
-use crate::table::{Pair, owed};
+use crate::table::{Cause, Row};
 use crate::trail::Hop;
 use avro_schema::{Field, NodeId, Schema};
 use base_text::Listed;
@@ -51,7 +51,7 @@ impl Search {
         };
         let mut search = Search {
             entries: Vec::new(alloc),
-            seen: Seen::none(alloc, r.node_count())?,
+            seen: Seen::none(alloc, r.node_count(), w.node_count())?,
         };
         search.reach(Entry { pair, from: None })?;
         Ok(search)
@@ -69,20 +69,27 @@ impl Search {
         Ok(())
     }
 
-    /// Adds what the pair at a place owes.
-    pub fn expand(&mut self, alloc: Global, place: usize, row: Row<'_>) -> Result<(), AllocError>
+    /// Adds what the pair at a place owes, or says why it clashes.
+    pub fn expand<'a>(
+        &mut self,
+        alloc: Global,
+        place: usize,
+        row: Row<'a>,
+    ) -> Result<Option<Cause<'a>>, AllocError>
         requires distinct { has_distinct row ≡ true }
         requires agrees { AgreesWith self.old.seen self.old.entries.items }
+        ensures clash { IfOk result (λ cause. option_map clash_of_cause cause ≡ spec.clash_in (outcome_of row.entry)) }
         ensures entries { OnOk result (self.new.entries.items ≡ expanded place 0 (spec.owed_in (outcome_of row.entry)) self.old.entries.items) }
-        ensures agrees { OnOk result (AgreesWith self.new.seen self.new.entries.items) }
+        ensures agrees { IfOk result (λ cause. cause ≡ None → AgreesWith self.new.seen self.new.entries.items) }
     {
         match row {
-            Row::Clash(_) => Ok(()),
-            Row::WriterBranches(i, branches) => self.reach_branches(place, i, branches),
-            Row::One(_, pair) => self.reach(reached(pair, place, 0)),
-            Row::Fields(reader, writer) => self.reach_fields(alloc, place, reader, writer),
-            Row::Nothing => Ok(()),
+            Row::Clash(cause) => return Ok(Some(cause)),
+            Row::WriterBranches(i, branches) => self.reach_branches(place, i, branches)?,
+            Row::One(_, pair) => self.reach(reached(pair, place, 0))?,
+            Row::Fields(reader, writer) => return self.reach_fields(alloc, place, reader, writer),
+            Row::Nothing => {}
         }
+        Ok(None)
     }
 
     /// Adds the reader's type with each branch of the writer's union.
@@ -106,19 +113,22 @@ impl Search {
         Ok(())
     }
 
-    /// Adds the reader's fields that are paired, each with its partner.
-    fn reach_fields(
+    /// Adds the reader's fields that are paired, each with its partner; where one lacks a value,
+    /// names the first such field and adds none.
+    fn reach_fields<'a>(
         &mut self,
         alloc: Global,
         place: usize,
-        reader: &[Field],
+        reader: &'a [Field],
         writer: &[Field],
-    ) -> Result<(), AllocError>
+    ) -> Result<Option<Cause<'a>>, AllocError>
         requires distinct { all_distinct bytes_eq (map (λ g. g.name) writer.now) ≡ true }
         requires agrees { AgreesWith self.old.seen self.old.entries.items }
-        ensures entries { OnOk result (self.new.entries.items ≡ expanded place 0 (filter_map (spec.to_partner writer.now) reader.now) self.old.entries.items) }
-        ensures agrees { OnOk result (AgreesWith self.new.seen self.new.entries.items) }
+        ensures clash { IfOk result (λ cause. option_map clash_of_cause cause ≡ spec.clash_in (spec.to_fields reader.now writer.now)) }
+        ensures entries { OnOk result (self.new.entries.items ≡ expanded place 0 (spec.owed_in (spec.to_fields reader.now writer.now)) self.old.entries.items) }
+        ensures agrees { IfOk result (λ cause. cause ≡ None → AgreesWith self.new.seen self.new.entries.items) }
     {
+        let before = self.entries.len();
         let mut number = 0;
         let mut near = 0;
         let mut guess = Guess::new(Some(alloc));
@@ -132,9 +142,12 @@ impl Search {
                 };
                 self.reach(reached(pair, place, number))?;
                 number += 1;
+            } else if f.default.is_none() {
+                self.entries.truncate(before);
+                return Ok(Some(Cause::LackingField(&f.name)));
             }
         }
-        Ok(())
+        Ok(None)
     }
 
     /// The hops from the roots to the pair at a place.

@@ -1,36 +1,42 @@
 // Which pairs were seen.
-ghost use Rattle.std.specs.Prelude.{◌≡◌, ◌||◌, false, not, slice_get, IfOk, OnOk};
-ghost use Rattle.avro_resolve.specs.Search.{is_seen, same_pair, IsFair};
+ghost use Rattle.std.specs.Prelude.{◌≡◌, ℕ, ◌||◌, false, not, IfOk, OnOk};
+ghost use Rattle.avro_resolve.specs.Seen.{is_seen, IsFair, is_further, IsFairFurther, are_further, AreFair, same_pair, same_numbers};
 
-use crate::table::Pair;
+use crate::firsts::{Firsts, Known};
+use crate::grid::Grid;
+use crate::obligations::Pair;
 use std::alloc::{AllocError, Global};
-use std::collections::BTreeSet;
 
 /// The pairs that were seen: for each of the reader's types the first of the writer's that came
-/// with it, mostly the only one, and the other pairs.
+/// with it, mostly the only one, and the further pairs.
 #[derive(Drop)]
 pub struct Seen {
-    pub first: Vec<Option<usize>>,
-    pub more: BTreeSet<(usize, usize)>,
+    pub first: Firsts,
+    pub further: Option<Further>,
+    memory: Global,
+    writers: usize,
+}
+
+/// The pairs whose reader's type came before: for each of the writer's types the first of the
+/// reader's that came with it here, and the other pairs.
+#[derive(Drop)]
+pub struct Further {
+    pub first: Firsts,
+    pub others: Grid,
 }
 
 impl Seen {
-    /// No pair of a reader's schema of so many types.
-    pub fn none(alloc: Global, readers: usize) -> Result<Seen, AllocError>
+    /// No pair of schemas of so many types.
+    pub fn none(alloc: Global, readers: usize, writers: usize) -> Result<Seen, AllocError>
         ensures none { IfOk result (λ s. (p : _) → is_seen s p ≡ false) }
         ensures fair { IfOk result IsFair }
     {
         Ok(Seen {
-            first: vec![in alloc; None; readers]?,
-            more: BTreeSet::new(alloc),
+            first: Firsts::none(alloc, readers)?,
+            further: None,
+            memory: alloc,
+            writers,
         })
-    }
-
-    /// The first of the writer's types that came with this type of the reader's.
-    fn first_with(&self, i: usize) -> Option<Option<usize>>
-        ensures { result ≡ slice_get self.now.first.items i }
-    {
-        self.first.get(i).copied()
     }
 
     /// Adds a pair, and says whether it is new.
@@ -40,22 +46,63 @@ impl Seen {
         ensures seen { OnOk result ((p : _) → is_seen self.new p ≡ (same_pair pair p || is_seen self.old p)) }
         ensures fair { OnOk result (IsFair self.new) }
     {
-        let Pair { reader, writer } = pair;
-        let i = reader.index;
-        let j = writer.index;
-        match self.first_with(i) {
-            None => Ok(self.more.insert((i, j))?),
-            Some(None) => {
-                self.first[i] = Some(j);
-                Ok(true)
-            }
-            Some(Some(first)) => {
-                if first == j {
-                    Ok(false)
-                } else {
-                    Ok(self.more.insert((i, j))?)
-                }
-            }
+        let i = pair.reader.index;
+        let j = pair.writer.index;
+        match self.first.join(i, j) {
+            Known::New => Ok(true),
+            Known::Same => Ok(false),
+            Known::Other => Ok(insert_further(&mut self.further, self.memory, self.writers, i, j)?),
+        }
+    }
+}
+
+/// Adds a further pair, perhaps the first, and says whether it is new.
+fn insert_further(
+    further: &mut Option<Further>,
+    alloc: Global,
+    writers: usize,
+    i: usize,
+    j: usize,
+) -> Result<bool, AllocError>
+    requires { AreFair further.old }
+    ensures new { IfOk result (λ b. b ≡ not (are_further further.old i j)) }
+    ensures added { OnOk result ((k l : ℕ) → are_further further.new k l ≡ (same_numbers i j k l || are_further further.old k l)) }
+    ensures fair { OnOk result (AreFair further.new) }
+{
+    match further {
+        Some(pairs) => pairs.insert(i, j),
+        None => {
+            let mut pairs = Further::none(alloc, writers)?;
+            let new = pairs.insert(i, j)?;
+            *further = Some(pairs);
+            Ok(new)
+        }
+    }
+}
+
+impl Further {
+    /// No pair with so many types of the writer's.
+    fn none(alloc: Global, writers: usize) -> Result<Further, AllocError>
+        ensures none { IfOk result (λ f. (i j : ℕ) → is_further f i j ≡ false) }
+        ensures fair { IfOk result IsFairFurther }
+    {
+        Ok(Further {
+            first: Firsts::none(alloc, writers)?,
+            others: Grid::none(alloc),
+        })
+    }
+
+    /// Adds a pair, and says whether it is new.
+    fn insert(&mut self, i: usize, j: usize) -> Result<bool, AllocError>
+        requires { IsFairFurther self.old }
+        ensures new { IfOk result (λ b. b ≡ not (is_further self.old i j)) }
+        ensures added { OnOk result ((k l : ℕ) → is_further self.new k l ≡ (same_numbers i j k l || is_further self.old k l)) }
+        ensures fair { OnOk result (IsFairFurther self.new) }
+    {
+        match self.first.join(j, i) {
+            Known::New => Ok(true),
+            Known::Same => Ok(false),
+            Known::Other => Ok(self.others.insert(i, j)?),
         }
     }
 }

@@ -1,114 +1,351 @@
-// What a pair of types comes to: a clash, or the pairs that have to resolve for it.
-ghost use Rattle.std.specs.Prelude.{◌≡◌, ◌<◌, length, filter_map, IfOk};
-ghost use Rattle.avro_resolve.specs.Row.{kind_of};
+// The table: the row that a pair of types falls under, with what it takes from the schemas.
+ghost use Rattle.std.specs.Prelude.{◌≡◌, ◌<◌, ℕ, List, Option, IsTrue, true, is_some, All, length, map, not, find, slice_get, bytes_eq, option_copied, IfOk};
+ghost use Rattle.avro_schema.specs.declared.node.Node.TheVariants as kind;
+ghost use Rattle.avro_schema.specs.Names.{has_text, all_distinct};
 ghost use Rattle.avro_resolve.specs.Table as spec;
+ghost use Rattle.avro_schema.specs.Order.{has_distinct_fields};
+ghost use Rattle.avro_resolve.specs.Row.{clash_of_cause, outcome_of, has_distinct};
 
-use crate::fields::partner;
-use crate::row::{Cause, Row, row_at};
+use crate::guess::Guess;
+use crate::matching::matches;
+use crate::names::{names_match, primitives_match};
+use crate::obligations::Pair;
 use crate::trail::{ClashKind, Hop};
-use avro_schema::{Field, NodeId, Schema};
-use base_text::Listed;
+use avro_schema::{Field, FullName, Node, NodeId, Primitive, Schema};
+use base_text::Text;
 use std::alloc::{AllocError, Global};
 
-/// A reader's type and a writer's type.
-#[derive(Debug, Clone, Copy, PartialEq, Eq)]
-pub struct Pair {
-    pub reader: NodeId,
-    pub writer: NodeId,
+/// Why a pair clashes, with the name that it is about.
+#[derive(Drop)]
+pub enum Cause<'a> {
+    MissingUnionBranch,
+    NameMismatch,
+    LackingField(&'a Text),
+    UnknownSymbol(&'a Text),
+    FixedSizeMismatch,
+    TypeMismatch,
 }
 
-/// A pair that has to resolve for another to do so, and the hop that leads to it.
-#[derive(Debug, Drop)]
-pub struct Obligation {
-    pub hop: Hop,
-    pub pair: Pair,
+impl Cause<'_> {
+    /// What a clash is told as.
+    pub fn kind(self) -> Result<ClashKind, AllocError>
+        ensures { IfOk result (λ kind. kind ≡ clash_of_cause self.entry) }
+    {
+        match self {
+            Cause::MissingUnionBranch => Ok(ClashKind::MissingUnionBranch),
+            Cause::NameMismatch => Ok(ClashKind::NameMismatch),
+            Cause::LackingField(name) => {
+                Ok(ClashKind::ReaderFieldMissingDefaultValue(name.clone()?))
+            }
+            Cause::UnknownSymbol(name) => Ok(ClashKind::MissingEnumSymbols(name.clone()?)),
+            Cause::FixedSizeMismatch => Ok(ClashKind::FixedSizeMismatch),
+            Cause::TypeMismatch => Ok(ClashKind::TypeMismatch),
+        }
+    }
 }
 
-/// A pair either clashes, or has obligations, perhaps none.
-#[derive(Debug, Drop)]
-pub enum Outcome {
-    Clashes(ClashKind),
-    Owes(Listed<Obligation>),
+/// What a pair comes to, by what it takes from the schemas.
+#[derive(Drop)]
+pub enum Row<'a> {
+    Clash(Cause<'a>),
+    /// The reader's type with each branch of the writer's union.
+    WriterBranches(NodeId, &'a [NodeId]),
+    /// One obligation, whose hop takes no memory.
+    One(Hop, Pair),
+    /// The reader's fields and the writer's, of two records whose names match.
+    Fields(&'a [Field], &'a [Field]),
+    Nothing,
 }
 
-/// The obligations of a pair. The only error is want of memory.
-pub fn owed(
-    alloc: Global,
-    r: &Schema,
-    w: &Schema,
-    pair: Pair,
-) -> Result<Vec<Obligation>, AllocError>
+/// The row of a pair. Without memory symbols among many are looked for one by one.
+pub fn row_at<'a>(r: &'a Schema, w: &'a Schema, pair: Pair, memory: Option<Global>) -> Row<'a>
     requires reader { pair.reader.index < length r.now.nodes }
     requires writer { pair.writer.index < length w.now.nodes }
-    ensures { IfOk result (λ os. os.items ≡ spec.obligations r.now.nodes w.now.nodes pair) }
+    ensures row { outcome_of result ≡ spec.outcome r.now.nodes w.now.nodes pair }
+    ensures distinct { has_distinct result ≡ true }
 {
-    match row_at(r, w, pair, Some(alloc)) {
-        Row::Clash(_) => Ok(Vec::new(alloc)),
-        Row::WriterBranches(i, branches) => to_writer_branches(alloc, i, branches),
-        Row::One(hop, next) => {
-            let mut obligations = Vec::new(alloc);
-            obligations.push(Obligation { hop, pair: next })?;
-            Ok(obligations)
+    // Counting the nodes tells that they are sound.
+    let _sound = r.node_count();
+    let _sound = w.node_count();
+    let writer = w.node(pair.writer);
+    if let Node::Union(branches) = writer {
+        return Row::WriterBranches(pair.reader, branches.as_slice());
+    }
+    match r.node(pair.reader) {
+        Node::Union(branches) => branch_row(r, branches.as_slice(), w, pair.writer),
+        reader => plain_row(reader, writer, memory),
+    }
+}
+
+/// The row of two types that are no unions.
+fn plain_row<'a>(reader: &'a Node, writer: &'a Node, memory: Option<Global>) -> Row<'a>
+    requires { has_distinct_fields writer.now ≡ true }
+    ensures row { outcome_of result ≡ spec.plain_row reader.now writer.now }
+    ensures distinct { has_distinct result ≡ true }
+{
+    match reader {
+        Node::Array(a) => match writer {
+            Node::Array(b) => one_row(Hop::Items, *a, *b),
+            _ => Row::Clash(Cause::TypeMismatch),
+        },
+        Node::Map(a) => match writer {
+            Node::Map(b) => one_row(Hop::Values, *a, *b),
+            _ => Row::Clash(Cause::TypeMismatch),
+        },
+        Node::Record {
+            name,
+            aliases,
+            fields,
+        } => record_row(name, aliases.as_slice(), fields.as_slice(), writer),
+        Node::Enum {
+            name,
+            aliases,
+            symbols,
+            default,
+        } => {
+            let has_default = default.is_some();
+            enum_row(
+                name,
+                aliases.as_slice(),
+                symbols.as_slice(),
+                has_default,
+                writer,
+                memory,
+            )
         }
-        Row::Fields(reader, writer) => to_fields(alloc, reader, writer),
-        Row::Nothing => Ok(Vec::new(alloc)),
+        Node::Fixed {
+            name,
+            aliases,
+            size,
+        } => fixed_row(name, aliases.as_slice(), *size, writer),
+        Node::Primitive(p) => match writer {
+            Node::Primitive(q) => primitive_row(*p, *q),
+            _ => Row::Clash(Cause::TypeMismatch),
+        },
+        Node::Union(_) => Row::Clash(Cause::TypeMismatch),
     }
 }
 
-/// What a clash is told as.
-pub fn clash_kind(cause: Cause<'_>) -> Result<ClashKind, AllocError>
-    ensures { IfOk result (λ kind. kind ≡ kind_of cause.entry) }
+/// One obligation.
+fn one_row<'a>(hop: Hop, reader: NodeId, writer: NodeId) -> Row<'a>
+    ensures row { outcome_of result ≡ spec.to_part hop reader writer }
+    ensures distinct { has_distinct result ≡ true }
 {
-    match cause {
-        Cause::MissingUnionBranch => Ok(ClashKind::MissingUnionBranch),
-        Cause::NameMismatch => Ok(ClashKind::NameMismatch),
-        Cause::LackingField(name) => Ok(ClashKind::ReaderFieldMissingDefaultValue(name.clone()?)),
-        Cause::UnknownSymbol(name) => Ok(ClashKind::MissingEnumSymbols(name.clone()?)),
-        Cause::FixedSizeMismatch => Ok(ClashKind::FixedSizeMismatch),
-        Cause::TypeMismatch => Ok(ClashKind::TypeMismatch),
+    Row::One(hop, Pair { reader, writer })
+}
+
+fn record_row<'a>(
+    name: &FullName,
+    aliases: &[FullName],
+    fields: &'a [Field],
+    writer: &'a Node,
+) -> Row<'a>
+    requires { has_distinct_fields writer.now ≡ true }
+    ensures row { outcome_of result ≡ spec.plain_row (kind.Record name.now aliases.now fields.now) writer.now }
+    ensures distinct { has_distinct result ≡ true }
+{
+    match writer {
+        Node::Record {
+            name: other,
+            fields: others,
+            ..
+        } => {
+            if names_match(name, aliases, other) {
+                Row::Fields(fields, others.as_slice())
+            } else {
+                Row::Clash(Cause::NameMismatch)
+            }
+        }
+        _ => Row::Clash(Cause::TypeMismatch),
     }
 }
 
-/// The reader's type with each branch of the writer's union.
-fn to_writer_branches(
-    alloc: Global,
-    i: NodeId,
+fn enum_row<'a>(
+    name: &FullName,
+    aliases: &[FullName],
+    symbols: &[Text],
+    has_default: bool,
+    writer: &'a Node,
+    memory: Option<Global>,
+) -> Row<'a>
+    ensures row { (d : Option (List ℕ)) → is_some d ≡ has_default
+        → outcome_of result ≡ spec.plain_row (kind.Enum name.now aliases.now symbols.now d) writer.now }
+    ensures distinct { has_distinct result ≡ true }
+{
+    match writer {
+        Node::Enum {
+            name: other,
+            symbols: others,
+            ..
+        } => {
+            if names_match(name, aliases, other) {
+                symbol_row(symbols, has_default, others.as_slice(), memory)
+            } else {
+                Row::Clash(Cause::NameMismatch)
+            }
+        }
+        _ => Row::Clash(Cause::TypeMismatch),
+    }
+}
+
+fn fixed_row<'a>(name: &FullName, aliases: &[FullName], size: u32, writer: &Node) -> Row<'a>
+    ensures row { outcome_of result ≡ spec.plain_row (kind.Fixed name.now aliases.now size) writer.now }
+    ensures distinct { has_distinct result ≡ true }
+{
+    match writer {
+        Node::Fixed {
+            name: other,
+            size: written,
+            ..
+        } => {
+            if !names_match(name, aliases, other) {
+                Row::Clash(Cause::NameMismatch)
+            } else if size == *written {
+                Row::Nothing
+            } else {
+                Row::Clash(Cause::FixedSizeMismatch)
+            }
+        }
+        _ => Row::Clash(Cause::TypeMismatch),
+    }
+}
+
+fn primitive_row<'a>(reader: Primitive, writer: Primitive) -> Row<'a>
+    ensures row { outcome_of result ≡ spec.plain_row (kind.Primitive reader) (kind.Primitive writer) }
+    ensures distinct { has_distinct result ≡ true }
+{
+    if primitives_match(reader, writer) {
+        Row::Nothing
+    } else {
+        Row::Clash(Cause::TypeMismatch)
+    }
+}
+
+/// The row of a reader's union: its first branch that matches.
+fn branch_row<'a>(r: &Schema, branches: &[NodeId], w: &Schema, j: NodeId) -> Row<'a>
+    requires reader { All (λ b. b.index < length r.now.nodes) branches.now }
+    requires writer { j.index < length w.now.nodes }
+    ensures row { outcome_of result ≡ spec.to_reader_branch j (spec.first_matching_branch r.now.nodes w.now.nodes branches.now j) }
+    ensures distinct { has_distinct result ≡ true }
+{
+    match first_matching_branch(r, branches, w, j) {
+        Some((k, b)) => Row::One(
+            Hop::Reader(k),
+            Pair {
+                reader: b,
+                writer: j,
+            },
+        ),
+        None => Row::Clash(Cause::MissingUnionBranch),
+    }
+}
+
+/// The first branch that matches, with its number.
+fn first_matching_branch(
+    r: &Schema,
     branches: &[NodeId],
-) -> Result<Vec<Obligation>, AllocError>
-    ensures { IfOk result (λ os. os.items ≡ spec.owed_in (spec.to_writer_branches i branches.now)) }
+    w: &Schema,
+    j: NodeId,
+) -> Option<(usize, NodeId)>
+    requires reader { All (λ b. b.index < length r.now.nodes) branches.now }
+    requires writer { j.index < length w.now.nodes }
+    ensures { result ≡ spec.first_matching_branch r.now.nodes w.now.nodes branches.now j }
 {
-    let mut obligations = Vec::new(alloc);
     for (k, b) in branches.iter().enumerate() {
-        let pair = Pair {
-            reader: i,
-            writer: *b,
-        };
-        obligations.push(Obligation {
-            hop: Hop::Writer(k),
-            pair,
-        })?;
-    }
-    Ok(obligations)
-}
-
-/// The reader's fields that are paired, each with its partner.
-fn to_fields(
-    alloc: Global,
-    reader: &[Field],
-    writer: &[Field],
-) -> Result<Vec<Obligation>, AllocError>
-    ensures { IfOk result (λ os. os.items ≡ filter_map (spec.to_partner writer.now) reader.now) }
-{
-    let mut obligations = Vec::new(alloc);
-    for f in reader {
-        if let Some(g) = partner(writer, f) {
-            let hop = Hop::Field(f.name.clone()?);
-            let pair = Pair {
-                reader: f.node,
-                writer: g.node,
-            };
-            obligations.push(Obligation { hop, pair })?;
+        if matches(r, *b, w, j) {
+            return Some((k, *b));
         }
     }
-    Ok(obligations)
+    None
+}
+
+/// The row of two enums whose names match, where the reader's has a default or none.
+fn symbol_row<'a>(
+    reader: &[Text],
+    has_default: bool,
+    writer: &'a [Text],
+    memory: Option<Global>,
+) -> Row<'a>
+    ensures row { outcome_of result ≡ spec.with_symbols reader.now has_default writer.now }
+    ensures distinct { has_distinct result ≡ true }
+{
+    if has_default {
+        return Row::Nothing;
+    }
+    match first_unknown(reader, writer, memory) {
+        Some(s) => Row::Clash(Cause::UnknownSymbol(s)),
+        None => Row::Nothing,
+    }
+}
+
+/// The first of the writer's symbols that isn't among the reader's.
+fn first_unknown<'a>(
+    reader: &[Text],
+    writer: &'a [Text],
+    memory: Option<Global>,
+) -> Option<&'a Text>
+    ensures { option_copied result ≡ find (λ s. not (has_text reader.now s)) writer.now }
+{
+    let mut near = 0;
+    let mut guess = Guess::new(memory);
+    for s in writer {
+        let (next, known) = is_symbol_near(s, reader, near, &mut guess);
+        near = next;
+        if !known {
+            return Some(s);
+        }
+    }
+    None
+}
+
+/// How many symbols are looked at before the search from the first.
+const NEAR: usize = 8;
+
+/// Whether a symbol is among these, with a place after which the next one may be looked for; it is
+/// looked for at `near` and a few places on, and where a guess is, before anywhere else.
+fn is_symbol_near<'a>(
+    symbol: &Text,
+    symbols: &'a [Text],
+    near: usize,
+    guess: &mut Guess<'a>,
+) -> (usize, bool)
+    ensures { result.1 ≡ has_text symbols.now symbol.now }
+{
+    for k in near..near.saturating_add(NEAR) {
+        let Some(other) = symbol_at(symbols, k) else {
+            break;
+        };
+        if *symbol == *other {
+            return (k.saturating_add(1), true);
+        }
+    }
+    if let Some(k) = guess.of_symbol(symbols, symbol)
+        && is_at(symbol, symbols, k)
+    {
+        return (k.saturating_add(1), true);
+    }
+    (near, is_symbol(symbol, symbols))
+}
+
+/// Whether the symbol stands at a place.
+fn is_at(symbol: &Text, symbols: &[Text], k: usize) -> bool
+    ensures { IsTrue result → true ≡ has_text symbols.now symbol.now }
+{
+    match symbol_at(symbols, k) {
+        Some(other) => *symbol == *other,
+        None => false,
+    }
+}
+
+/// The symbol at a place, if there is one.
+fn symbol_at(symbols: &[Text], k: usize) -> Option<&Text>
+    ensures { option_copied result ≡ slice_get symbols.now k }
+{
+    symbols.get(k)
+}
+
+fn is_symbol(symbol: &Text, symbols: &[Text]) -> bool
+    ensures { result ≡ has_text symbols.now symbol.now }
+{
+    symbols.iter().any(|other| *symbol == *other)
 }

@@ -1,10 +1,12 @@
 // Trails: the hops from the roots to a clash.
+ghost use Rattle.std.specs.Prelude.{◌≡◌};
 
 use base_text::{Listed, Text};
+use std::alloc::AllocError;
 use std::fmt;
 
 /// A step from a pair of types to another pair that has to resolve for it.
-#[derive(Clone, Debug, Drop, PartialEq, Eq)]
+#[derive(Debug, Drop, PartialEq, Eq)]
 pub enum Hop {
     /// Into the reader's field of that name, and the writer's field that it is paired with.
     Field(Text),
@@ -19,7 +21,7 @@ pub enum Hop {
 }
 
 /// Why a reader's type can't read a writer's.
-#[derive(Clone, Debug, Drop, PartialEq, Eq)]
+#[derive(Debug, Drop, PartialEq, Eq)]
 pub enum ClashKind {
     /// No branch of the reader's union matches.
     MissingUnionBranch,
@@ -41,6 +43,49 @@ pub enum ClashKind {
 pub struct Trail {
     pub hops: Listed<Hop>,
     pub kind: ClashKind,
+}
+
+impl Clone for Hop {
+    ghost is_clone = { λ hop copy. copy ≡ hop };
+
+    fn clone(&self) -> Result<Hop, AllocError> {
+        match self {
+            Hop::Field(name) => Ok(Hop::Field(name.clone()?)),
+            Hop::Items => Ok(Hop::Items),
+            Hop::Values => Ok(Hop::Values),
+            Hop::Writer(k) => Ok(Hop::Writer(*k)),
+            Hop::Reader(k) => Ok(Hop::Reader(*k)),
+        }
+    }
+}
+
+impl Clone for ClashKind {
+    ghost is_clone = { λ kind copy. copy ≡ kind };
+
+    fn clone(&self) -> Result<ClashKind, AllocError> {
+        match self {
+            ClashKind::MissingUnionBranch => Ok(ClashKind::MissingUnionBranch),
+            ClashKind::NameMismatch => Ok(ClashKind::NameMismatch),
+            ClashKind::ReaderFieldMissingDefaultValue(name) => {
+                Ok(ClashKind::ReaderFieldMissingDefaultValue(name.clone()?))
+            }
+            ClashKind::MissingEnumSymbols(symbol) => {
+                Ok(ClashKind::MissingEnumSymbols(symbol.clone()?))
+            }
+            ClashKind::FixedSizeMismatch => Ok(ClashKind::FixedSizeMismatch),
+            ClashKind::TypeMismatch => Ok(ClashKind::TypeMismatch),
+        }
+    }
+}
+
+impl Clone for Trail {
+    ghost is_clone = { λ trail copy. copy ≡ trail };
+
+    fn clone(&self) -> Result<Trail, AllocError> {
+        let hops = self.hops.clone()?;
+        let kind = self.kind.clone()?;
+        Ok(Trail { hops, kind })
+    }
 }
 
 impl fmt::Display for Hop {

@@ -1,36 +1,42 @@
-use Rattle.std.proofs.Common.{◌≡◌, ◌∙◌, sym, ap, length, arith}
+use Rattle.std.proofs.Common.{◌≡◌, ◌∙◌, sym, ap, subst, length, reverse, option_map, arith}
+use Rattle.avro_resolve.specs.Search.{expanded, IsWayBack, LeadsBack}
 use Rattle.std.proofs.lemmas.Option.{slice_get_read}
 use Rattle.avro_resolve.proofs.BreadthFirst.{leads_back, searched_first, searched_within, searched_clash, searched_next, searched_few, searched_all, length-expanded}
-use Rattle.avro_resolve.specs.Row.{outcome_of}
+use Rattle.avro_resolve.specs.Row.{clash_of_cause, outcome_of}
 use Rattle.avro_resolve.specs.Table.{owed_in}
-use Rattle.avro_resolve.specs.declared.table.Outcome.TheVariants.{Clashes}
-use Rattle.avro_resolve.proofs.Searching.{owes_of}
+use Rattle.avro_resolve.specs.declared.obligations.Outcome.TheVariants.{Clashes}
+use Rattle.avro_resolve.proofs.Searching.{clashes_when, owes_when}
 use Rattle.avro_resolve.proofs.resolving.resolve_counted.Goals as goal
 
 pub heads-init : goal.heads-init
 heads-init c =
     (c.in_ok-search.ensures.agrees, searched_first c.args.r.now.nodes c.args.w.now.nodes c.node_count-sound.ensures.sound c.node_count-sound-2.ensures.sound c.in_ok-search.search.entries.items c.in_ok-search.ensures.first, omega arith)
 
-pub row_at-requires-clause-reader : goal.row_at-requires-clause-reader
-row_at-requires-clause-reader c =
+pub row_at-row-requires-clause-reader : goal.row_at-row-requires-clause-reader
+row_at-row-requires-clause-reader c =
     let at = slice_get_read c.heads.search.entries.items _ c.heads.head c.index.result.now c.heads.search.entries.ok.0 (omega (arith, c.heads-test.true, c.len.ensures)) c.index.ensures in
     (searched_within _ _ _ _ c.heads.invariant.1 c.index.result.now at).reader
 
-pub row_at-requires-clause-writer : goal.row_at-requires-clause-writer
-row_at-requires-clause-writer c =
+pub row_at-row-requires-clause-writer : goal.row_at-row-requires-clause-writer
+row_at-row-requires-clause-writer c =
     let at = slice_get_read c.heads.search.entries.items _ c.heads.head c.index.result.now c.heads.search.entries.ok.0 (omega (arith, c.heads-test.true, c.len.ensures)) c.index.ensures in
     (searched_within _ _ _ _ c.heads.invariant.1 c.index.result.now at).writer
 
 pub hops_to-requires-clause-back : goal.hops_to-requires-clause-back
-hops_to-requires-clause-back c = leads_back _ _ _ _ c.heads.invariant.1
+hops_to-requires-clause-back c =
+    let clash = clashes_when (outcome_of c.row_at-row.result) (clash_of_cause c.in-Some.cause) (ap (option_map clash_of_cause) (sym c.in-Some.is) ∙ c.in_ok-cause.ensures.clash) in
+    let same = c.in_ok-cause.ensures.entries ∙ ap (λ o. expanded c.heads.head 0 (owed_in o) c.heads.search.entries.items) clash in
+    subst (LeadsBack c.args.r.now.nodes c.args.w.now.nodes) (sym same) (leads_back _ _ _ _ c.heads.invariant.1)
 
-pub returns-in-Clash-clause-verdict : goal.returns-in-Clash-clause-verdict
-returns-in-Clash-clause-verdict c =
+pub returns-in-Some-clause-verdict : goal.returns-in-Some-clause-verdict
+returns-in-Some-clause-verdict c =
     let at = slice_get_read c.heads.search.entries.items _ c.heads.head c.index.result.now c.heads.search.entries.ok.0 (omega (arith, c.heads-test.true, c.len.ensures)) c.index.ensures in
-    searched_clash _ _ _ _ c.heads.invariant.1 c.index.result.now c.in_ok-kind-in-Clash.kind c.in_ok-hops-in-Clash.hops at (sym c.row_at.ensures.row ∙ ap outcome_of c.in-Clash.is ∙ ap Clashes (sym c.in_ok-kind-in-Clash.ensures)) c.in_ok-hops-in-Clash.ensures
+    let clash = clashes_when (outcome_of c.row_at-row.result) (clash_of_cause c.in-Some.cause) (ap (option_map clash_of_cause) (sym c.in-Some.is) ∙ c.in_ok-cause.ensures.clash) in
+    let same = c.in_ok-cause.ensures.entries ∙ ap (λ o. expanded c.heads.head 0 (owed_in o) c.heads.search.entries.items) clash in
+    searched_clash _ _ _ _ c.heads.invariant.1 c.index.result.now c.in_ok-kind.kind c.in_ok-hops.hops at (sym c.row_at-row.ensures.row ∙ clash ∙ ap Clashes (sym c.in_ok-kind.ensures)) (subst (λ es. IsWayBack c.args.r.now.nodes c.args.w.now.nodes es c.heads.head (reverse c.in_ok-hops.hops)) same c.in_ok-hops.ensures)
 
-pub returns-in-Clash-clause-pairs : goal.returns-in-Clash-clause-pairs
-returns-in-Clash-clause-pairs c =
+pub returns-in-Some-clause-pairs : goal.returns-in-Some-clause-pairs
+returns-in-Some-clause-pairs c =
     omega (arith, c.heads-test.true, c.len.ensures, c.heads.search.entries.ok.0, searched_few _ _ _ _ c.heads.invariant.1)
 
 pub heads-smaller : goal.heads-smaller
@@ -40,9 +46,9 @@ heads-smaller c =
 pub heads-preserved : goal.heads-preserved
 heads-preserved c =
     let at = slice_get_read c.heads.search.entries.items _ c.heads.head c.index.result.now c.heads.search.entries.ok.0 (omega (arith, c.heads-test.true, c.len.ensures)) c.index.ensures in
-    let next = searched_next _ _ _ _ c.heads.invariant.1 c.node_count-sound.ensures.sound c.node_count-sound-2.ensures.sound c.index.result.now (owed_in (outcome_of c.row_at.result)) at (sym c.row_at.ensures.row ∙ owes_of c.row_at.result c.in_default.not-Clash) in
-    let entries = c.in_ok-expand-in_default.ensures.entries in
-    (c.in_ok-expand-in_default.ensures.agrees, rw entries next, omega (arith, c.heads-test.true, c.len.ensures, c.heads.search.entries.ok.0, c.expand.new.self.entries.ok.0, ap length entries, length-expanded c.heads.head 0 (owed_in (outcome_of c.row_at.result)) c.heads.search.entries.items))
+    let next = searched_next _ _ _ _ c.heads.invariant.1 c.node_count-sound.ensures.sound c.node_count-sound-2.ensures.sound c.index.result.now (owed_in (outcome_of c.row_at-row.result)) at (sym c.row_at-row.ensures.row ∙ owes_when (outcome_of c.row_at-row.result) (ap (option_map clash_of_cause) (sym c.in_default.is) ∙ c.in_ok-cause.ensures.clash)) in
+    let entries = c.in_ok-cause.ensures.entries in
+    (c.in_ok-cause.ensures.agrees c.in_default.is, rw entries next, omega (arith, c.heads-test.true, c.len.ensures, c.heads.search.entries.ok.0, c.expand.new.self.entries.ok.0, ap length entries, length-expanded c.heads.head 0 (owed_in (outcome_of c.row_at-row.result)) c.heads.search.entries.items))
 
 pub returns-clause-verdict : goal.returns-clause-verdict
 returns-clause-verdict c =

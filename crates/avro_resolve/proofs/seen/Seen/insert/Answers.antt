@@ -1,57 +1,30 @@
-use Rattle.std.proofs.Common.{◌≡◌, sym, ◌∙◌, ap, refl, not, Some, None, slice_get}
-use Rattle.std.proofs.lemmas.Bool.{ne_eqb}
-use Rattle.avro_resolve.proofs.SeenLaws.{set_added, set_fair, first_added, first_fair, still_seen, beside_free, beside_first, beside_other, not_free}
+use Rattle.avro_resolve.specs.Seen.{are_further}
+use Rattle.avro_resolve.proofs.SeenLaws.{joined_new, joined_same, joined_other}
 use Rattle.avro_resolve.proofs.seen.Seen.insert.Goals as goal
 
-pub returns-in_ok-insert-in-None-clause-seen : goal.returns-in_ok-insert-in-None-clause-seen
-returns-in_ok-insert-in-None-clause-seen c =
-    let at : slice_get c.args.self.now.first.items c.args.pair.reader.index ≡ None = sym c.first_with.ensures ∙ c.in-None.is in
-    λ p. set_added c.args.pair.reader.index c.args.pair.writer.index c.args.self.now.first.items c.args.self.now.more c.insert.new.self (not_free (slice_get c.args.self.now.first.items c.args.pair.reader.index) None at refl) c.in_ok-insert-in-None.ensures.updates.0 p.reader.index p.writer.index
+pub returns-in-New-clause-new : goal.returns-in-New-clause-new
+returns-in-New-clause-new c = (joined_new c.args.self.now.first.of.items c.join.new.self.of.items c.args.pair.reader.index c.args.pair.writer.index (are_further c.args.self.now.further) c.join.result c.join.ensures.known c.join.ensures.firsts c.requires.first c.in-New.is).is_new
 
-pub returns-in_ok-insert-in-None-clause-fair : goal.returns-in_ok-insert-in-None-clause-fair
-returns-in_ok-insert-in-None-clause-fair c =
-    let at : slice_get c.args.self.now.first.items c.args.pair.reader.index ≡ None = sym c.first_with.ensures ∙ c.in-None.is in
-    set_fair c.args.pair.reader.index c.args.pair.writer.index c.args.self.now.first.items c.args.self.now.more c.insert.new.self (not_free (slice_get c.args.self.now.first.items c.args.pair.reader.index) None at refl) c.in_ok-insert-in-None.ensures.updates.0 c.requires
+pub returns-in-New-clause-seen : goal.returns-in-New-clause-seen
+returns-in-New-clause-seen c = λ p. (joined_new c.args.self.now.first.of.items c.join.new.self.of.items c.args.pair.reader.index c.args.pair.writer.index (are_further c.args.self.now.further) c.join.result c.join.ensures.known c.join.ensures.firsts c.requires.first c.in-New.is).added p.reader.index p.writer.index
 
-pub returns-in-Some-None-clause-new : goal.returns-in-Some-None-clause-new
-returns-in-Some-None-clause-new c =
-    let at : slice_get c.args.self.now.first.items c.args.pair.reader.index ≡ Some None = sym c.first_with.ensures ∙ c.in-Some-None.is ∙ ap Some c.in-Some-None.field-0-is in
-    beside_free c.args.self.now.more c.args.pair.reader.index c.args.pair.writer.index _ at
+pub returns-in-New-clause-fair : goal.returns-in-New-clause-fair
+returns-in-New-clause-fair c = record { first = (joined_new c.args.self.now.first.of.items c.join.new.self.of.items c.args.pair.reader.index c.args.pair.writer.index (are_further c.args.self.now.further) c.join.result c.join.ensures.known c.join.ensures.firsts c.requires.first c.in-New.is).fair; further = c.requires.further }
 
-pub returns-in-Some-None-clause-seen : goal.returns-in-Some-None-clause-seen
-returns-in-Some-None-clause-seen c =
-    let at : slice_get c.args.self.now.first.items c.args.pair.reader.index ≡ Some None = sym c.first_with.ensures ∙ c.in-Some-None.is ∙ ap Some c.in-Some-None.field-0-is in
-    λ p. first_added c.args.pair.reader.index c.args.pair.writer.index c.args.self.now.first.items c.args.self.now.more at c.requires p.reader.index p.writer.index
+pub returns-in-Same-clause-new : goal.returns-in-Same-clause-new
+returns-in-Same-clause-new c = (joined_same c.args.self.now.first.of.items c.join.new.self.of.items c.args.pair.reader.index c.args.pair.writer.index (are_further c.args.self.now.further) c.join.result c.join.ensures.known c.join.ensures.firsts c.requires.first c.in-Same.is).is_new
 
-pub returns-in-Some-None-clause-fair : goal.returns-in-Some-None-clause-fair
-returns-in-Some-None-clause-fair c =
-    let at : slice_get c.args.self.now.first.items c.args.pair.reader.index ≡ Some None = sym c.first_with.ensures ∙ c.in-Some-None.is ∙ ap Some c.in-Some-None.field-0-is in
-    first_fair c.args.pair.reader.index c.args.pair.writer.index c.args.self.now.first.items c.args.self.now.more at c.requires
+pub returns-in-Same-clause-seen : goal.returns-in-Same-clause-seen
+returns-in-Same-clause-seen c = λ p. (joined_same c.args.self.now.first.of.items c.join.new.self.of.items c.args.pair.reader.index c.args.pair.writer.index (are_further c.args.self.now.further) c.join.result c.join.ensures.known c.join.ensures.firsts c.requires.first c.in-Same.is).added p.reader.index p.writer.index
 
-pub returns-then-first-j-clause-new : goal.returns-then-first-j-clause-new
-returns-then-first-j-clause-new c =
-    let at : slice_get c.args.self.now.first.items c.args.pair.reader.index ≡ Some (Some c.in-Some-Some.first) = sym c.first_with.ensures ∙ c.in-Some-Some.is ∙ ap Some c.in-Some-Some.field-0-is in
-    ap not (sym (beside_first c.args.self.now.more c.args.pair.reader.index c.args.pair.writer.index c.in-Some-Some.first _ at c.if-first-j.true))
+pub returns-in-Same-clause-fair : goal.returns-in-Same-clause-fair
+returns-in-Same-clause-fair c = record { first = (joined_same c.args.self.now.first.of.items c.join.new.self.of.items c.args.pair.reader.index c.args.pair.writer.index (are_further c.args.self.now.further) c.join.result c.join.ensures.known c.join.ensures.firsts c.requires.first c.in-Same.is).fair; further = c.requires.further }
 
-pub returns-then-first-j-clause-seen : goal.returns-then-first-j-clause-seen
-returns-then-first-j-clause-seen c =
-    let at : slice_get c.args.self.now.first.items c.args.pair.reader.index ≡ Some (Some c.in-Some-Some.first) = sym c.first_with.ensures ∙ c.in-Some-Some.is ∙ ap Some c.in-Some-Some.field-0-is in
-    still_seen c.args.self.now c.args.pair (beside_first c.args.self.now.more c.args.pair.reader.index c.args.pair.writer.index c.in-Some-Some.first _ at c.if-first-j.true)
+pub returns-in_ok-insert_further-in-Other-clause-new : goal.returns-in_ok-insert_further-in-Other-clause-new
+returns-in_ok-insert_further-in-Other-clause-new c = (joined_other c.args.self.now.first.of.items c.join.new.self.of.items c.args.pair.reader.index c.args.pair.writer.index (are_further c.args.self.now.further) c.join.result c.join.ensures.known c.join.ensures.firsts c.requires.first c.in-Other.is (are_further c.insert_further.new.further) c.in_ok-insert_further-in-Other.field-0 c.in_ok-insert_further-in-Other.ensures.new c.in_ok-insert_further-in-Other.ensures.added).is_new
 
-pub returns-in_ok-insert-in-Some-Some-clause-new :
-    goal.returns-in_ok-insert-in-Some-Some-clause-new
-returns-in_ok-insert-in-Some-Some-clause-new c =
-    let at : slice_get c.args.self.now.first.items c.args.pair.reader.index ≡ Some (Some c.in-Some-Some.first) = sym c.first_with.ensures ∙ c.in-Some-Some.is ∙ ap Some c.in-Some-Some.field-0-is in
-    beside_other c.args.self.now.more c.args.pair.reader.index c.args.pair.writer.index c.in-Some-Some.first _ c.in_ok-insert-in-Some-Some.field-0 at (ne_eqb _ _ c.if-first-j.false) c.in_ok-insert-in-Some-Some.ensures.added
+pub returns-in_ok-insert_further-in-Other-clause-seen : goal.returns-in_ok-insert_further-in-Other-clause-seen
+returns-in_ok-insert_further-in-Other-clause-seen c = λ p. (joined_other c.args.self.now.first.of.items c.join.new.self.of.items c.args.pair.reader.index c.args.pair.writer.index (are_further c.args.self.now.further) c.join.result c.join.ensures.known c.join.ensures.firsts c.requires.first c.in-Other.is (are_further c.insert_further.new.further) c.in_ok-insert_further-in-Other.field-0 c.in_ok-insert_further-in-Other.ensures.new c.in_ok-insert_further-in-Other.ensures.added).added p.reader.index p.writer.index
 
-pub returns-in_ok-insert-in-Some-Some-clause-seen :
-    goal.returns-in_ok-insert-in-Some-Some-clause-seen
-returns-in_ok-insert-in-Some-Some-clause-seen c =
-    let at : slice_get c.args.self.now.first.items c.args.pair.reader.index ≡ Some (Some c.in-Some-Some.first) = sym c.first_with.ensures ∙ c.in-Some-Some.is ∙ ap Some c.in-Some-Some.field-0-is in
-    λ p. set_added c.args.pair.reader.index c.args.pair.writer.index c.args.self.now.first.items c.args.self.now.more c.insert-else-first-j.new.self (not_free (slice_get c.args.self.now.first.items c.args.pair.reader.index) (Some (Some c.in-Some-Some.first)) at refl) c.in_ok-insert-in-Some-Some.ensures.updates.0 p.reader.index p.writer.index
-
-pub returns-in_ok-insert-in-Some-Some-clause-fair :
-    goal.returns-in_ok-insert-in-Some-Some-clause-fair
-returns-in_ok-insert-in-Some-Some-clause-fair c =
-    let at : slice_get c.args.self.now.first.items c.args.pair.reader.index ≡ Some (Some c.in-Some-Some.first) = sym c.first_with.ensures ∙ c.in-Some-Some.is ∙ ap Some c.in-Some-Some.field-0-is in
-    set_fair c.args.pair.reader.index c.args.pair.writer.index c.args.self.now.first.items c.args.self.now.more c.insert-else-first-j.new.self (not_free (slice_get c.args.self.now.first.items c.args.pair.reader.index) (Some (Some c.in-Some-Some.first)) at refl) c.in_ok-insert-in-Some-Some.ensures.updates.0 c.requires
+pub returns-in_ok-insert_further-in-Other-clause-fair : goal.returns-in_ok-insert_further-in-Other-clause-fair
+returns-in_ok-insert_further-in-Other-clause-fair c = record { first = (joined_other c.args.self.now.first.of.items c.join.new.self.of.items c.args.pair.reader.index c.args.pair.writer.index (are_further c.args.self.now.further) c.join.result c.join.ensures.known c.join.ensures.firsts c.requires.first c.in-Other.is (are_further c.insert_further.new.further) c.in_ok-insert_further-in-Other.field-0 c.in_ok-insert_further-in-Other.ensures.new c.in_ok-insert_further-in-Other.ensures.added).fair; further = c.in_ok-insert_further-in-Other.ensures.fair }

@@ -1,0 +1,63 @@
+// A set of pairs of numbers, of which many may have one first number.
+ghost use Rattle.std.specs.Prelude.{◌≡◌, ◌≢◌, ◌↔◌, ◌<◌, ℕ, ◌||◌, false, not, IsTrue, IfOk, OnOk, unwrap_or};
+ghost use Rattle.std.specs.Int.{bit_at};
+ghost use Rattle.avro_resolve.specs.Seen.{in_grid, word_at, same_numbers};
+
+use std::alloc::{AllocError, Global};
+use std::collections::BTreeMap;
+
+/// Pairs of numbers: for a first number and 64 second ones a word, whose bits say which are there.
+#[derive(Drop)]
+pub struct Grid {
+    pub words: BTreeMap<(usize, usize), u64>,
+}
+
+impl Grid {
+    /// No pair.
+    pub fn none(alloc: Global) -> Grid
+        ensures { (i j : ℕ) → in_grid result i j ≡ false }
+    {
+        Grid {
+            words: BTreeMap::new(alloc),
+        }
+    }
+
+    /// The word of a first number, of that number in their order.
+    fn word(&self, i: usize, word: usize) -> u64
+        ensures { result ≡ word_at self.now.words i word }
+    {
+        match self.words.get(&(i, word)) {
+            Some(bits) => *bits,
+            None => 0,
+        }
+    }
+
+    /// Adds a pair, and says whether it is new.
+    pub fn insert(&mut self, i: usize, j: usize) -> Result<bool, AllocError>
+        ensures new { IfOk result (λ b. b ≡ not (in_grid self.old i j)) }
+        ensures added { OnOk result ((k l : ℕ) → in_grid self.new k l ≡ (same_numbers i j k l || in_grid self.old k l)) }
+    {
+        let bits = self.word(i, j / 64);
+        let bit = j % 64;
+        if has_bit(bits, bit) {
+            return Ok(false);
+        }
+        self.words.insert((i, j / 64), with_bit(bits, bit))?;
+        Ok(true)
+    }
+}
+
+fn with_bit(bits: u64, k: usize) -> u64
+    requires { k < 64 }
+    ensures set { bit_at result k ≡ 1 }
+    ensures others { (i : ℕ) → i ≢ k → bit_at result i ≡ bit_at bits i }
+{
+    bits | (1 << k)
+}
+
+fn has_bit(bits: u64, k: usize) -> bool
+    requires { k < 64 }
+    ensures { IsTrue result ↔ (bit_at bits k ≡ 1) }
+{
+    bits & (1 << k) != 0
+}
