@@ -1,12 +1,15 @@
 -- How the bytes that were taken for a line grow.
-use Rattle.std.proofs.Common.{◌≡◌, ◌<◌, inl, inr, List, ℕ, [], ◌∷◌, ◌++◌, length, None, Some, OnSome, IsTrue, false, sym, ap, subst, ◌∙◌, refl, arith, append_assoc}
+use Rattle.std.proofs.Common.{◌≡◌, ◌<◌, ◌≤◌, ◌+◌, inl, inr, List, ℕ, [], ◌∷◌, ◌++◌, length, take, None, Some, OnSome, IsTrue, false, cond, nat_lt, sym, ap, subst, ◌∙◌, refl, arith, append_assoc}
 use Rattle.std.specs.Io.KnownBytes.{Consumes, Keeps, IsAtEnd}
 use Rattle.std.proofs.KnownBytes.{Consumes-trans, Consumes-kept}
-use Rattle.std.proofs.lemmas.List.Elements.{All-append}
-use Rattle.std.specs.Prelude.{Option}
-use Rattle.std.proofs.lemmas.Bool.{cases_lt, false≢true}
-use Rattle.reg_records.specs.Device.{faults_of, counted, HasFaulted, LAST_COUNT}
-use Rattle.reg_records.specs.declared.device.Device.{Device}
+use Rattle.std.proofs.lemmas.List.Elements.{All-append, All-from_get_or}
+use Rattle.std.specs.Prelude.{Option, position}
+use Rattle.std.specs.List.{position_or_len}
+use Rattle.std.proofs.lemmas.List.{get_or-take, length-take, take_more}
+use Rattle.std.proofs.lemmas.List.Quantifiers.{position-Some}
+use Rattle.std.proofs.lemmas.List.Sums.{fails_before_first}
+use Rattle.std.proofs.lemmas.Option.{none-some}
+use Rattle.std.proofs.lemmas.Bool.{cases_lt, eqb-true, false≢true, lt-ltb}
 use Rattle.reg_records.specs.Line.{is_line_feed}
 use Rattle.reg_records.specs.Pieces.{HasNoLineFeed, Holds, Grows}
 use Rattle.reg_records.specs.declared.pieces.LineBuffer.{LineBuffer}
@@ -51,3 +54,23 @@ Keeps-none_taken (Some x) (Some y) (Some z) line read none kept = kept ∙ sym (
 pub length-of_nonempty : (line : List ℕ) → (line ≡ [] → IsTrue false) → 0 < length line
 length-of_nonempty [] h = absurd (false≢true (h refl))
 length-of_nonempty (b ∷ line) h = omega arith
+
+-- the first LF is after bytes without LF
+pub before_line_feed : (bytes : List ℕ) (end : ℕ) → position is_line_feed bytes ≡ Some end
+    → (end < length bytes) × HasNoLineFeed (take end bytes) × (take (end + 1) bytes ≡ take end bytes ++ 10 ∷ [])
+before_line_feed bytes end e =
+    let (within, at, before) = position-Some is_line_feed bytes end 0 e in (
+      within,
+      All-from_get_or (λ b. is_line_feed b ≡ false) (take end bytes) 0 (λ k h.
+          let below : k < end = omega (arith, length-take end bytes, h) in
+          rw (get_or-take end bytes k 0 below) (before k below)),
+      take_more bytes end 0 within ∙ ap (λ b. take end bytes ++ b ∷ []) (eqb-true _ _ at),
+    )
+
+pub no_line_feed : (bytes : List ℕ) → position is_line_feed bytes ≡ None → HasNoLineFeed bytes
+no_line_feed bytes e =
+    let past : length bytes ≤ position_or_len is_line_feed bytes = unless_within _ _ e in
+    λ k d h. fails_before_first is_line_feed bytes k d (omega arith)
+  where
+    unless_within : (n m : ℕ) → cond (nat_lt n m) (Some n) None ≡ None → m ≤ n
+    unless_within n m none = elim (cases_lt n m) [ inl below ↦ absurd (none-some n (sym none ∙ ap (λ b. cond b (Some n) None) (lt-ltb n m below))) | inr past ↦ past ]

@@ -66,17 +66,17 @@ object_field d h text e =
 -- the value that is written under a key can stand as the value of a line
 field_of_value : (k : Key) (v : Value) → IsValueOf k v → ForSome (written_value v) IsValueField
 unfolding written_value
-field_of_value (Schema subject version) (values.Schema of_subject of_version id schema true) h =
-    object_field (schema_data of_subject of_version id schema true)
-    (are_shown-quoted of_subject, (are_shown-decimal of_version (omega (arith, h.1, h.2.1)), (are_shown-decimal id (omega (arith, h.3.1)), (are_shown-quoted schema, (refl, tt)))))
-field_of_value (Schema subject version) (values.Schema of_subject of_version id schema false) h =
-    object_field (schema_data of_subject of_version id schema false)
-    (are_shown-quoted of_subject, (are_shown-decimal of_version (omega (arith, h.1, h.2.1)), (are_shown-decimal id (omega (arith, h.3.1)), (are_shown-quoted schema, (refl, tt)))))
-field_of_value (Config scope) (values.Config level) h = object_field (config_data level) (are_shown-quoted level, tt)
-field_of_value (Mode scope) (values.Mode mode) h = object_field (mode_data mode) (are_shown-quoted mode, tt)
-field_of_value (DeleteSubject subject) (values.DeleteSubject of_subject version) h =
-    object_field (delete_subject_data of_subject version) (are_shown-quoted of_subject, (are_shown-decimal version (omega (arith, h.1.1)), tt))
-field_of_value _ _ h = absurd h
+field_of_value k (values.Schema subject version id schema true) h =
+    object_field (schema_data subject version id schema true)
+    (are_shown-quoted subject, (are_shown-decimal version (omega (arith, h.1.1)), (are_shown-decimal id (omega (arith, h.2.1)), (are_shown-quoted schema, (refl, tt)))))
+field_of_value k (values.Schema subject version id schema false) h =
+    object_field (schema_data subject version id schema false)
+    (are_shown-quoted subject, (are_shown-decimal version (omega (arith, h.1.1)), (are_shown-decimal id (omega (arith, h.2.1)), (are_shown-quoted schema, (refl, tt)))))
+field_of_value k (values.Config level) h = object_field (config_data level) (are_shown-quoted level, tt)
+field_of_value k (values.Mode mode) h = object_field (mode_data mode) (are_shown-quoted mode, tt)
+field_of_value k (values.DeleteSubject subject version) h =
+    object_field (delete_subject_data subject version) (are_shown-quoted subject, (are_shown-decimal version (omega (arith, h.1.1)), tt))
+field_of_value k values.Noop h = absurd h
 
 pub HasLine-written_value : (offset : ℕ) (k : Key) (v : Value) → offset ≤ OFFSET_LIMIT → IsInLimits k → IsValueOf k v → HasLine (record { offset = offset; key = k; value = written_value v })
 HasLine-written_value offset k v fits key h = record { offset_fits = fits; key_fits = key; value_fits = field_of_value k v h }

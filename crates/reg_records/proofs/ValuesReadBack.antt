@@ -47,9 +47,8 @@ delete_subject_again subject version v =
 
 pub value_of-written_value : (offset : ℕ) (k : Key) (v : Value) → IsValueOf k v → value_of (record { offset = offset; key = k; value = written_value v }) ≡ Some v
 unfolding written_value
-value_of-written_value offset (Schema subject version) (values.Schema of_subject of_version id schema deleted) h =
-    rw (h.0, h.1) (schema_again subject version id schema deleted h.2 h.3)
-value_of-written_value offset (Config scope) (values.Config level) h = ap (option_and_then (value_in (Config scope))) (read-compact_text (config_data level) (tt, tt) (omega arith))
-value_of-written_value offset (Mode scope) (values.Mode mode) h = ap (option_and_then (value_in (Mode scope))) (read-compact_text (mode_data mode) (tt, tt) (omega arith))
-value_of-written_value offset (DeleteSubject subject) (values.DeleteSubject of_subject version) h = rw h.0 (delete_subject_again subject version h.1)
-value_of-written_value offset _ _ h = absurd h
+value_of-written_value offset k (values.Schema subject version id schema deleted) h = rw h.0 (schema_again subject version id schema deleted h.1 h.2)
+value_of-written_value offset k (values.Config level) h = rw h.1 (ap (option_and_then (value_in (Config h.0))) (read-compact_text (config_data level) (tt, tt) (omega arith)))
+value_of-written_value offset k (values.Mode mode) h = rw h.1 (ap (option_and_then (value_in (Mode h.0))) (read-compact_text (mode_data mode) (tt, tt) (omega arith)))
+value_of-written_value offset k (values.DeleteSubject subject version) h = rw h.0 (delete_subject_again subject version h.1)
+value_of-written_value offset k values.Noop h = absurd h

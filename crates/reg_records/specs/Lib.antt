@@ -1,4 +1,5 @@
 pub mod Device
+pub mod Errors
 pub mod Json
 pub mod Key
 pub mod Line

@@ -11,8 +11,8 @@ use Rattle.reg_records.specs.Device.{faults_of, counted}
 use Rattle.reg_records.specs.declared.pieces.LineBuffer.{LineBuffer}
 use Rattle.reg_records.specs.declared.pieces.Piece.{Piece}
 use Rattle.reg_records.specs.declared.pieces.Piece.TheVariants.{Ended, More, NoMore, Failed}
-use Rattle.reg_records.specs.declared.pieces.NextLine.{NextLine}
-use Rattle.reg_records.specs.declared.pieces.NextLine.TheVariants as nexts
+use Rattle.reg_records.specs.declared.line_reader.NextLine.{NextLine}
+use Rattle.reg_records.specs.declared.line_reader.NextLine.TheVariants as nexts
 
 abbrev pub HasNoLineFeed : List ℕ → Type 0
 HasNoLineFeed bytes = All (λ b. is_line_feed b ≡ false) bytes

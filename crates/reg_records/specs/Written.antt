@@ -92,12 +92,11 @@ written_value v = option_map compact_text (value_data v)
 
 -- the value may stand under the key, and has a text
 abbrev pub IsValueOf : Key → Value → Type 0
-IsValueOf (Schema subject version) (values.Schema of_subject of_version id schema deleted) =
-    (of_subject ≡ subject) × (of_version ≡ version) × IsVersionOrId version × IsVersionOrId id
-IsValueOf (Config scope) (values.Config level) = ⊤
-IsValueOf (Mode scope) (values.Mode mode) = ⊤
-IsValueOf (DeleteSubject subject) (values.DeleteSubject of_subject version) = (of_subject ≡ subject) × IsVersionOrId version
-IsValueOf key value = ⊥
+IsValueOf key (values.Schema subject version id schema deleted) = (key ≡ Schema subject version) × IsVersionOrId version × IsVersionOrId id
+IsValueOf key (values.Config level) = (scope : Option (List ℕ)) × (key ≡ Config scope)
+IsValueOf key (values.Mode mode) = (scope : Option (List ℕ)) × (key ≡ Mode scope)
+IsValueOf key (values.DeleteSubject subject version) = (key ≡ DeleteSubject subject) × IsVersionOrId version
+IsValueOf key values.Noop = ⊥
 
 -- a text that can stand as the value of a line: no TAB, no LF, and not the text `null`
 abbrev pub IsValueField : List ℕ → Type 0

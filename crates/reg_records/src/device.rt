@@ -2,7 +2,6 @@
 ghost use Rattle.std.specs.Prelude.{◌≡◌, IfOk, IsTrue, MatchResult, ◌↔◌, ◌≢◌};
 ghost use Rattle.std.specs.Io.{ReadsAtMost, WritesAtMost};
 ghost use Rattle.std.specs.Io.KnownBytes.{ReadConsumes, WriteAppends, Keeps};
-ghost use Rattle.std.specs.IoError.{error_kind};
 ghost use Rattle.reg_records.specs.Device.{inner_of, faults_of, reads_of, all_reads_of, interruptions_of, bytes_in, counted, CountsFault, CountsWrite, CountsInterruption};
 ghost use Rattle.reg_records.specs.Pieces.{CountsPiece, TakesPiece};
 
@@ -41,28 +40,28 @@ impl<T> Device<T> {
         }
     }
 
-    /// How many faults it has answered, up to 2^64 - 1.
+    /// How many faults it has answered, up to `u64::MAX`.
     pub fn faults(&self) -> u64
         ensures { result ≡ faults_of self.now }
     {
         self.faults
     }
 
-    /// How many reads it has made since its count began, up to 2^64 - 1.
+    /// How many reads it has made since its count began, up to `u64::MAX`.
     pub fn reads(&self) -> u64
         ensures { result ≡ reads_of self.now }
     {
         self.reads
     }
 
-    /// How many reads it has made in all, up to 2^64 - 1.
+    /// How many reads it has made in all, up to `u64::MAX`.
     pub fn all_reads(&self) -> u64
         ensures { result ≡ all_reads_of self.now }
     {
         self.all_reads
     }
 
-    /// How many of its writes and flushes in a row were interrupted, up to 2^64 - 1.
+    /// How many of its writes and flushes in a row were interrupted, up to `u64::MAX`.
     pub fn interruptions(&self) -> u64
         ensures { result ≡ interruptions_of self.now }
     {
@@ -81,15 +80,28 @@ impl<T> Device<T> {
         self.interruptions = 0;
     }
 
-    /// Counts an error of a write or a flush.
-    fn count(&mut self, e: &io::Error)
+    /// Counts an error of a read.
+    fn count_read_error(&mut self, kind: ErrorKind)
         ensures inner { inner_of self.new ≡ inner_of self.old }
-        ensures fault { error_kind e.now ≢ ErrorKind.Interrupted
+        ensures reads { reads_of self.new ≡ reads_of self.old }
+        ensures all_reads { all_reads_of self.new ≡ all_reads_of self.old }
+        ensures fault { kind ≢ ErrorKind.Interrupted → faults_of self.new ≡ counted (faults_of self.old) }
+        ensures interruption { kind ≡ ErrorKind.Interrupted → faults_of self.new ≡ faults_of self.old }
+    {
+        if is_fault(kind) {
+            self.faults = one_more(self.faults);
+        }
+    }
+
+    /// Counts an error of a write or a flush.
+    fn count_write_error(&mut self, kind: ErrorKind)
+        ensures inner { inner_of self.new ≡ inner_of self.old }
+        ensures fault { kind ≢ ErrorKind.Interrupted
             → (faults_of self.new ≡ counted (faults_of self.old)) × (interruptions_of self.new ≡ 0) }
-        ensures interruption { error_kind e.now ≡ ErrorKind.Interrupted
+        ensures interruption { kind ≡ ErrorKind.Interrupted
             → (faults_of self.new ≡ faults_of self.old) × (interruptions_of self.new ≡ counted (interruptions_of self.old)) }
     {
-        if is_fault(e.kind()) {
+        if is_fault(kind) {
             self.faults = one_more(self.faults);
             self.interruptions = 0;
         } else {
@@ -123,10 +135,8 @@ impl<R: BufRead> Device<R> {
         self.reads = one_more(self.reads);
         self.all_reads = one_more(self.all_reads);
         let piece = take_piece(&mut self.inner, line)?;
-        if let Piece::Failed(kind) = piece
-            && is_fault(kind)
-        {
-            self.faults = one_more(self.faults);
+        if let Piece::Failed(kind) = piece {
+            self.count_read_error(kind);
         }
         Ok(piece)
     }
@@ -144,15 +154,11 @@ impl<R: Read> Read for Device<R> {
     {
         self.reads = one_more(self.reads);
         self.all_reads = one_more(self.all_reads);
-        match self.inner.read(buf) {
-            Ok(n) => Ok(n),
-            Err(e) => {
-                if is_fault(e.kind()) {
-                    self.faults = one_more(self.faults);
-                }
-                Err(e)
-            }
+        let answer = self.inner.read(buf);
+        if let Err(e) = &answer {
+            self.count_read_error(e.kind());
         }
+        answer
     }
 }
 
@@ -173,7 +179,7 @@ impl<W: Write> Write for Device<W> {
                     self.faults = one_more(self.faults);
                 }
             }
-            Err(e) => self.count(e),
+            Err(e) => self.count_write_error(e.kind()),
         }
         answer
     }
@@ -186,7 +192,7 @@ impl<W: Write> Write for Device<W> {
         let answer = self.inner.flush();
         match &answer {
             Ok(()) => self.interruptions = 0,
-            Err(e) => self.count(e),
+            Err(e) => self.count_write_error(e.kind()),
         }
         answer
     }
@@ -199,7 +205,7 @@ fn is_fault(kind: ErrorKind) -> bool
     kind != ErrorKind::Interrupted
 }
 
-/// One more, up to 2^64 - 1.
+/// One more, up to `u64::MAX`.
 fn one_more(count: u64) -> u64
     ensures { result ≡ counted count }
 {

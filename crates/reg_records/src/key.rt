@@ -1,11 +1,12 @@
 // The keys of records.
-ghost use Rattle.std.specs.Prelude.{◌≡◌, ◌++◌, IfOk, codes, decimal, string_bytes};
+ghost use Rattle.std.specs.Prelude.{◌≡◌, ◌↔◌, ◌++◌, IfOk, IsTrue, codes, decimal, string_bytes};
 ghost use Rattle.serde_json.specs.Written.{compact_text};
 ghost use Rattle.serde_json.specs.View.{view};
 ghost use Rattle.reg_records.specs.declared.key.Key.{Key};
 ghost use Rattle.reg_records.specs.Key.{key_of, key_in, schema_key, config_key, mode_key, delete_subject_key, scope_in};
-ghost use Rattle.reg_records.specs.Written.{written_key, scope_data, IsOf32Bits};
+ghost use Rattle.reg_records.specs.Written.{written_key, scope_data, IsInLimits, IsOf32Bits};
 
+use crate::limits::NUMBER_LIMIT;
 use crate::members::{number_at, parse, quoted, text_at};
 use base_text::Text;
 use serde_json::Value as Json;
@@ -14,7 +15,7 @@ use std::alloc::{AllocError, Global};
 /// What a record is about: the last record of each key stands.
 #[derive(Debug, Drop, Clone, PartialEq, Eq, PartialOrd, Ord)]
 pub enum Key {
-    /// A version of a subject, from 1 to 2,147,483,647; its value is a schema.
+    /// A version of a subject, from 1 to `NUMBER_LIMIT`; its value is a schema.
     Schema { subject: Text, version: u32 },
     /// The compatibility level of a subject, or the global one.
     Config(Option<Text>),
@@ -38,6 +39,16 @@ impl Key {
             Key::Mode(scope) => mode_key_text(alloc, scope),
             Key::DeleteSubject(subject) => delete_subject_key_text(alloc, subject),
             Key::Noop => Text::copy_of(alloc, "{\"keytype\":\"NOOP\",\"magic\":0}"),
+        }
+    }
+
+    /// Whether its version, where it has one, is within its limits.
+    pub(crate) fn is_in_limits(&self) -> bool
+        ensures { IsTrue result ↔ IsInLimits self.now }
+    {
+        match self {
+            Key::Schema { version, .. } => 1 <= *version && *version <= NUMBER_LIMIT,
+            Key::Config(_) | Key::Mode(_) | Key::DeleteSubject(_) | Key::Noop => true,
         }
     }
 }

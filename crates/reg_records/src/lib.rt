@@ -5,13 +5,12 @@ mod device;
 mod key;
 mod limits;
 mod line;
+mod line_reader;
 mod log;
 mod log_reader;
 mod members;
 mod pieces;
 mod record;
-#[cfg(test)]
-mod tests;
 mod value;
 mod write;
 

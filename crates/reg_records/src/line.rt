@@ -12,36 +12,76 @@ use crate::limits::{LINE_LIMIT, OFFSET_LIMIT};
 use crate::record::{Read, Record};
 use base_text::Text;
 use std::alloc::{AllocError, Global};
-use thiserror::Error;
+use std::error::Error;
+use std::fmt;
 
 /// Why a line was refused; the first fault in this order is told.
-#[derive(Clone, Copy, Debug, PartialEq, Eq, Error)]
+#[derive(Clone, Copy, Debug, PartialEq, Eq)]
 pub enum LineError {
     /// The input ends before the line's LF.
-    #[error("Truncated")]
     Truncated,
-    /// More than 2,097,152 bytes stand before the LF.
-    #[error("TooLong")]
+    /// More than `LINE_LIMIT` bytes stand before the LF.
     TooLong,
     /// The line isn't UTF-8.
-    #[error("BadUtf8")]
     BadUtf8,
     /// The line doesn't have exactly two TABs.
-    #[error("BadTabs")]
     BadTabs,
     /// The offset isn't in decimal digits without a leading zero, or is past its limit.
-    #[error("BadOffset")]
     BadOffset,
 }
 
 /// Why no line was read.
-#[derive(Clone, Copy, Debug, PartialEq, Eq, Error)]
+#[derive(Clone, Copy, Debug, PartialEq, Eq)]
 pub enum ReadLineError {
-    #[error(transparent)]
     Line(LineError),
-    #[error("out of memory")]
     OutOfMemory,
 }
+
+impl LineError {
+    ghost use Rattle.reg_records.specs.Errors.{line_error_name};
+
+    /// Its name, as it is reported.
+    pub fn name(self) -> &'static str
+        ensures { result.now ≡ line_error_name self }
+    {
+        match self {
+            LineError::Truncated => "Truncated",
+            LineError::TooLong => "TooLong",
+            LineError::BadUtf8 => "BadUtf8",
+            LineError::BadTabs => "BadTabs",
+            LineError::BadOffset => "BadOffset",
+        }
+    }
+}
+
+impl fmt::Display for LineError {
+    ghost use Rattle.std.specs.Prelude.{Some};
+    ghost use Rattle.reg_records.specs.Errors.{line_error_name};
+
+    ghost output = { λ e. Some (line_error_name e) };
+
+    fn fmt<W: fmt::Write>(&self, f: &mut fmt::Formatter<W>) -> fmt::Result {
+        write!(f, "{}", self.name())
+    }
+}
+
+impl Error for LineError {}
+
+impl fmt::Display for ReadLineError {
+    ghost use Rattle.std.specs.Prelude.{Some};
+    ghost use Rattle.reg_records.specs.Errors.{read_line_error_text};
+
+    ghost output = { λ e. Some (read_line_error_text e) };
+
+    fn fmt<W: fmt::Write>(&self, f: &mut fmt::Formatter<W>) -> fmt::Result {
+        match self {
+            ReadLineError::Line(e) => write!(f, "{e}"),
+            ReadLineError::OutOfMemory => write!(f, "out of memory"),
+        }
+    }
+}
+
+impl Error for ReadLineError {}
 
 impl From<LineError> for ReadLineError {
     ghost use Rattle.reg_records.specs.declared.line.ReadLineError.TheVariants.{Line};
@@ -79,7 +119,7 @@ pub fn read_line(alloc: Global, bytes: &[u8]) -> Result<Read, ReadLineError>
 }
 
 /// How many bytes stand before the first LF, where there is one.
-fn line_len(bytes: &[u8]) -> Option<usize>
+pub(crate) fn line_len(bytes: &[u8]) -> Option<usize>
     ensures { result ≡ position is_line_feed bytes.now }
 {
     bytes.iter().position(|b| *b == b'\n')

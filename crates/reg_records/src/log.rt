@@ -5,7 +5,8 @@ use crate::limits::{LOG_LINES, OFFSET_LIMIT};
 use crate::line::LineError;
 use crate::record::{Read, Record};
 use std::alloc::{AllocError, Global};
-use thiserror::Error;
+use std::error::Error;
+use std::fmt;
 
 /// The records of a log.
 #[derive(Debug, Drop)]
@@ -20,27 +21,67 @@ pub struct Log {
 }
 
 /// What is wrong with a line of a log.
-#[derive(Clone, Copy, Debug, PartialEq, Eq, Error)]
+#[derive(Clone, Copy, Debug, PartialEq, Eq)]
 pub enum LogFault {
-    #[error(transparent)]
     Line(LineError),
-    /// The log has more than 1,000,000 lines.
-    #[error("TooManyLines")]
+    /// The log has more than `LOG_LINES` lines.
     TooManyLines,
 }
 
 /// Why no log was read.
-#[derive(Clone, Copy, Debug, PartialEq, Eq, Error)]
+#[derive(Clone, Copy, Debug, PartialEq, Eq)]
 pub enum LogError {
     /// The first line that has a fault; lines count from 1.
-    #[error("line {line}: {fault}")]
     Fault { line: u64, fault: LogFault },
-    /// The reader failed, or was asked 4,194,304 times for one line.
-    #[error("line {line}: ReadFault")]
+    /// The reader failed, or was asked `LINE_READS` times for one line.
     ReadFault { line: u64 },
-    #[error("out of memory")]
     OutOfMemory,
 }
+
+impl LogFault {
+    ghost use Rattle.std.specs.Prelude.{◌≡◌};
+    ghost use Rattle.reg_records.specs.Errors.{log_fault_name};
+
+    /// Its name, as it is reported.
+    pub fn name(self) -> &'static str
+        ensures { result.now ≡ log_fault_name self }
+    {
+        match self {
+            LogFault::Line(e) => e.name(),
+            LogFault::TooManyLines => "TooManyLines",
+        }
+    }
+}
+
+impl fmt::Display for LogFault {
+    ghost use Rattle.std.specs.Prelude.{Some};
+    ghost use Rattle.reg_records.specs.Errors.{log_fault_name};
+
+    ghost output = { λ e. Some (log_fault_name e) };
+
+    fn fmt<W: fmt::Write>(&self, f: &mut fmt::Formatter<W>) -> fmt::Result {
+        write!(f, "{}", self.name())
+    }
+}
+
+impl Error for LogFault {}
+
+impl fmt::Display for LogError {
+    ghost use Rattle.std.specs.Prelude.{Some};
+    ghost use Rattle.reg_records.specs.Errors.{log_error_text};
+
+    ghost output = { λ e. Some (log_error_text e) };
+
+    fn fmt<W: fmt::Write>(&self, f: &mut fmt::Formatter<W>) -> fmt::Result {
+        match self {
+            LogError::Fault { line, fault } => write!(f, "line {line}: {fault}"),
+            LogError::ReadFault { line } => write!(f, "line {line}: ReadFault"),
+            LogError::OutOfMemory => write!(f, "out of memory"),
+        }
+    }
+}
+
+impl Error for LogError {}
 
 impl From<AllocError> for LogError {
     ghost use Rattle.reg_records.specs.declared.log.LogError.TheVariants.{OutOfMemory};

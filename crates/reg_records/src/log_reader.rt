@@ -1,16 +1,17 @@
 // Reading a log line by line.
 ghost use Rattle.std.specs.Prelude.{◌≡◌, ◌<◌, ◌≤◌, ◌+◌, ℕ, List, IfOk, IfErr, OnOk, IfSome, Some, Ok};
 ghost use Rattle.reg_records.specs.Device.{all_reads_of, bytes_in, counted_by, faults_of, reads_of};
-ghost use Rattle.reg_records.specs.Line.{reading};
+ghost use Rattle.reg_records.specs.Line.{IsFaultOf, reading};
 ghost use Rattle.reg_records.specs.Log.{LogText, log_of, IsLogOf, IsLogRefusal, fault_at, offset_in};
 ghost use Rattle.reg_records.specs.LogSteps.{StepsLog, IsStepRefusal, IsLineRefusal};
 ghost use Rattle.reg_records.specs.Pieces.{Holds};
 
 use crate::device::Device;
 use crate::limits::{LINE_READS, LOG_LINES, OFFSET_LIMIT};
-use crate::line::{LineError, ReadLineError};
+use crate::line::{LineError, ReadLineError, read_whole_line};
+use crate::line_reader::{NextLine, take_line};
 use crate::log::{Log, LogError, LogFault};
-use crate::pieces::{LineBuffer, NextLine, take_line};
+use crate::pieces::LineBuffer;
 use crate::record::Read;
 use std::alloc::Global;
 use std::io::BufRead;
@@ -74,7 +75,7 @@ fn read_numbered(alloc: Global, number: u64, line: &LineBuffer) -> Result<Read, 
     ensures within { IfOk result (λ read. offset_in read ≤ OFFSET_LIMIT) }
     ensures refused { (bytes : List ℕ) → Holds line.now bytes → IfErr result (IsLineRefusal number bytes) }
 {
-    match line.read(alloc) {
+    match read_taken(alloc, line) {
         Err(ReadLineError::OutOfMemory) => Err(LogError::OutOfMemory),
         Err(ReadLineError::Line(fault)) => Err(fault_at(number, fault)),
         Ok(_) if number > LOG_LINES => Err(LogError::Fault {
@@ -82,6 +83,18 @@ fn read_numbered(alloc: Global, number: u64, line: &LineBuffer) -> Result<Read, 
             fault: LogFault::TooManyLines,
         }),
         Ok(read) => Ok(read),
+    }
+}
+
+/// What a line that was taken says.
+fn read_taken(alloc: Global, line: &LineBuffer) -> Result<Read, ReadLineError>
+    ensures record { (bytes : List ℕ) → Holds line.now bytes → IfOk result (λ read. reading bytes ≡ Ok read) }
+    ensures fault { (bytes : List ℕ) → Holds line.now bytes → IfErr result (IsFaultOf (reading bytes)) }
+    ensures within { IfOk result (λ read. offset_in read ≤ OFFSET_LIMIT) }
+{
+    match line.within_limit() {
+        Some(bytes) => read_whole_line(alloc, bytes),
+        None => Err(ReadLineError::Line(LineError::TooLong)),
     }
 }
 

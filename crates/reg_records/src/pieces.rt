@@ -1,28 +1,23 @@
 // Lines as they come from a reader, piece by piece.
-ghost use Rattle.std.specs.Prelude.{◌≡◌, ◌<◌, ◌≤◌, ◌+◌, ℕ, List, [], ◌∷◌, ◌++◌, Ok, IfOk, IfErr, OnOk, OnSome, MatchOption, MatchResult, length, take, slice_index, IsTrue, ◌↔◌};
-ghost use Rattle.std.specs.Io.KnownBytes.{Consumes};
-ghost use Rattle.reg_records.specs.Device.{all_reads_of, bytes_in, counted_by, faults_of, reads_of};
+ghost use Rattle.std.specs.Prelude.{◌≡◌, ◌<◌, ◌↔◌, ℕ, List, [], IfOk, OnOk, MatchOption, length, IsTrue};
 ghost use Rattle.std.specs.IoError.{error_kind};
-ghost use Rattle.reg_records.specs.Line.{is_line_feed, reading, IsFaultOf};
-ghost use Rattle.reg_records.specs.Log.{offset_in};
-ghost use Rattle.reg_records.specs.Pieces.{HasNoLineFeed, Holds, Grows, TakesPiece, TakesLine, LeavesLine};
+ghost use Rattle.reg_records.specs.Pieces.{Holds, Grows, TakesPiece};
 
-use crate::device::Device;
-use crate::limits::{LINE_LIMIT, LINE_READS, OFFSET_LIMIT};
-use crate::line::{LineError, ReadLineError, read_whole_line};
-use crate::record::Read;
+use crate::limits::LINE_LIMIT;
+use crate::line::line_len;
 use std::alloc::{AllocError, Global};
 use std::io::{self, BufRead, ErrorKind};
 
 /// What is kept of a line that comes in pieces: its bytes, or that they are too many.
 #[derive(Drop)]
 pub(crate) struct LineBuffer {
-    pub(crate) bytes: Vec<u8>,
-    pub(crate) is_long: bool,
+    bytes: Vec<u8>,
+    is_long: bool,
 }
 
 impl LineBuffer {
-    fn new(alloc: Global) -> LineBuffer
+    /// A line of which nothing has come.
+    pub(crate) fn new(alloc: Global) -> LineBuffer
         ensures { Holds result [] }
     {
         LineBuffer {
@@ -47,16 +42,16 @@ impl LineBuffer {
         Ok(())
     }
 
-    /// What the whole line says.
-    pub(crate) fn read(&self, alloc: Global) -> Result<Read, ReadLineError>
-        ensures record { (line : List ℕ) → Holds self.now line → IfOk result (λ read. reading line ≡ Ok read) }
-        ensures fault { (line : List ℕ) → Holds self.now line → IfErr result (IsFaultOf (reading line)) }
-        ensures within { IfOk result (λ read. offset_in read ≤ OFFSET_LIMIT) }
+    /// The bytes of the line; `None` where they are more than a line may have.
+    pub(crate) fn within_limit(&self) -> Option<&[u8]>
+        ensures { (line : List ℕ) → Holds self.now line
+            → MatchOption result (LINE_LIMIT < length line) (λ bytes. bytes.now ≡ line) }
     {
         if self.is_long {
-            return Err(ReadLineError::Line(LineError::TooLong));
+            None
+        } else {
+            Some(&self.bytes)
         }
-        read_whole_line(alloc, &self.bytes)
     }
 
     pub(crate) fn is_empty(&self) -> bool
@@ -79,16 +74,6 @@ pub(crate) enum Piece {
     Failed(ErrorKind),
 }
 
-/// What comes next from a reader.
-#[derive(Drop)]
-pub(crate) enum NextLine {
-    /// A line with its LF.
-    Line(LineBuffer),
-    /// Bytes without LF, up to the end.
-    Unended,
-    End,
-}
-
 /// Takes bytes of a line in one read, up to its LF.
 pub(crate) fn take_piece<R: BufRead>(
     reader: &mut R,
@@ -103,7 +88,7 @@ pub(crate) fn take_piece<R: BufRead>(
     if available.is_empty() {
         return Ok(Piece::NoMore);
     }
-    match line_feed_place(available) {
+    match line_len(available) {
         Some(end) => {
             line.add(&available[..end])?;
             reader.consume(end + 1);
@@ -122,51 +107,4 @@ fn failed(e: &io::Error) -> Piece
     ensures { result ≡ Piece.Failed (error_kind e.now) }
 {
     Piece::Failed(e.kind())
-}
-
-/// The place of the first LF.
-fn line_feed_place(bytes: &[u8]) -> Option<usize>
-    ensures { MatchOption result (HasNoLineFeed bytes.now)
-        (λ end. (end < length bytes.now) × HasNoLineFeed (take end bytes.now) × (slice_index bytes.now end ≡ 10)) }
-{
-    for (i, b) in bytes.iter().enumerate() {
-        if *b == b'\n' {
-            return Some(i);
-        }
-    }
-    None
-}
-
-/// Takes the next line from a reader, whose counts of reads and interruptions begin anew; a fault of
-/// the reader, or too many reads for one line, is `None`.
-pub(crate) fn take_line<R: BufRead>(
-    alloc: Global,
-    reader: &mut Device<R>,
-) -> Result<Option<NextLine>, AllocError>
-    ensures taken { IfOk result (λ taken. MatchOption taken
-        (LeavesLine reader.old reader.new (bytes_in R.remaining reader.old) (bytes_in R.remaining reader.new))
-        (TakesLine (bytes_in R.remaining reader.old) (bytes_in R.remaining reader.new))) }
-    ensures faults { MatchResult result (λ taken. OnSome taken (faults_of reader.new ≡ faults_of reader.old))
-        (λ _. faults_of reader.new ≡ faults_of reader.old) }
-    ensures bound { reads_of reader.new ≤ LINE_READS }
-    ensures reads { all_reads_of reader.new ≡ counted_by (reads_of reader.new) (all_reads_of reader.old) }
-{
-    let mut line = LineBuffer::new(alloc);
-    reader.begin_count();
-    for _i in 0..LINE_READS {
-        match reader.take_piece(&mut line)? {
-            Piece::Ended => return Ok(Some(NextLine::Line(line))),
-            Piece::NoMore => {
-                return Ok(Some(if line.is_empty() {
-                    NextLine::End
-                } else {
-                    NextLine::Unended
-                }));
-            }
-            Piece::More => {}
-            Piece::Failed(ErrorKind::Interrupted) => {}
-            Piece::Failed(_) => return Ok(None),
-        }
-    }
-    Ok(None)
 }

@@ -6,7 +6,7 @@ use base_text::Text;
 /// then by the text's bytes.
 #[derive(Debug, Drop, Clone, PartialEq, Eq)]
 pub struct Record {
-    /// Where it stands in the topic, from 0 to 9,223,372,036,854,775,807.
+    /// Where it stands in the topic, from 0 to `OFFSET_LIMIT`.
     pub offset: u64,
     pub key: Key,
     /// The text of its value; `None` deletes the key.

@@ -19,7 +19,7 @@ use std::alloc::{AllocError, Global};
 /// What a record's value says of its key.
 #[derive(Debug, Drop, PartialEq, Eq)]
 pub enum Value {
-    /// The schema of a version, with its id from 1 to 2,147,483,647.
+    /// The schema of a version, with its id from 1 to `NUMBER_LIMIT`.
     Schema {
         subject: Text,
         version: u32,
@@ -31,7 +31,7 @@ pub enum Value {
     Config(Text),
     /// The name of a mode, as it stands in the record.
     Mode(Text),
-    /// The subject is soft-deleted up to this version, from 1 to 2,147,483,647.
+    /// The subject is soft-deleted up to this version, from 1 to `NUMBER_LIMIT`.
     DeleteSubject {
         subject: Text,
         version: u32,

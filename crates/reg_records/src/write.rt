@@ -3,24 +3,39 @@ ghost use Rattle.std.specs.Prelude.{◌≡◌, ◌↔◌, ◌==◌, ◌++◌, �
 ghost use Rattle.reg_records.specs.declared.record.Read.TheVariants as reads;
 ghost use Rattle.std.specs.Option.{ForSome};
 ghost use Rattle.reg_records.specs.Line.{is_free_of, line_of, reading_at_front};
-ghost use Rattle.reg_records.specs.Written.{HasLine, IsInLimits, IsValueField, line_text, written_line};
+ghost use Rattle.reg_records.specs.Written.{HasLine, IsValueField, line_text, written_line};
 
-use crate::key::Key;
-use crate::limits::{LINE_LIMIT, NUMBER_LIMIT, OFFSET_LIMIT};
+use crate::limits::{LINE_LIMIT, OFFSET_LIMIT};
+use crate::line::LineError;
 use crate::record::Record;
 use base_text::Text;
 use std::alloc::{AllocError, Global};
-use thiserror::Error;
+use std::error::Error;
+use std::fmt;
 
 /// Why no line was written.
-#[derive(Clone, Copy, Debug, PartialEq, Eq, Error)]
+#[derive(Clone, Copy, Debug, PartialEq, Eq)]
 pub enum WriteLineError {
-    /// More than 2,097,152 bytes would stand before the LF.
-    #[error("TooLong")]
+    /// More than `LINE_LIMIT` bytes would stand before the LF.
     TooLong,
-    #[error("out of memory")]
     OutOfMemory,
 }
+
+impl fmt::Display for WriteLineError {
+    ghost use Rattle.std.specs.Prelude.{Some};
+    ghost use Rattle.reg_records.specs.Errors.{write_line_error_text};
+
+    ghost output = { λ e. Some (write_line_error_text e) };
+
+    fn fmt<W: fmt::Write>(&self, f: &mut fmt::Formatter<W>) -> fmt::Result {
+        match self {
+            WriteLineError::TooLong => write!(f, "{}", LineError::TooLong.name()),
+            WriteLineError::OutOfMemory => write!(f, "out of memory"),
+        }
+    }
+}
+
+impl Error for WriteLineError {}
 
 impl From<AllocError> for WriteLineError {
     ghost use Rattle.reg_records.specs.declared.write.WriteLineError.TheVariants.{OutOfMemory};
@@ -37,7 +52,7 @@ impl From<AllocError> for WriteLineError {
 pub fn has_line(given: &Record) -> bool
     ensures { IsTrue result ↔ HasLine given.now }
 {
-    given.offset <= OFFSET_LIMIT && is_in_limits(&given.key) && has_value_field(&given.value)
+    given.offset <= OFFSET_LIMIT && given.key.is_in_limits() && has_value_field(&given.value)
 }
 
 /// The line of a record, with its LF: `read_line` gives the record back, whatever follows the line.
@@ -80,15 +95,6 @@ fn joined(alloc: Global, offset: u64, key: &str, value: &str) -> Result<String, 
     ensures { IfOk result (λ line. string_bytes line ≡ line_of (decimal offset) key.now value.now) }
 {
     format!(in alloc; "{offset}\t{key}\t{value}")
-}
-
-fn is_in_limits(key: &Key) -> bool
-    ensures { IsTrue result ↔ IsInLimits key.now }
-{
-    match key {
-        Key::Schema { version, .. } => 1 <= *version && *version <= NUMBER_LIMIT,
-        _ => true,
-    }
 }
 
 fn has_value_field(value: &Option<Text>) -> bool

@@ -1,5 +1,9 @@
-//! Tests of the calls on records, sets of records and registries, as their users make them.
+//! Tests of records, sets and registries over their crates' public calls.
 #![tactic(auto)]
 
+#[cfg(test)]
+mod devices;
+#[cfg(test)]
+mod records;
 #[cfg(test)]
 mod registry;

@@ -2,7 +2,7 @@ use Rattle.std.proofs.Common.{◌≡◌, ℕ, List}
 use Rattle.std.specs.Io.KnownBytes.{Consumes}
 use Rattle.reg_records.specs.Device.{all_reads_of, bytes_in, counted_by, faults_of, reads_of}
 use Rattle.reg_records.specs.Pieces.{HasNoLineFeed, Holds}
-use Rattle.reg_records.proofs.pieces.take_line.Given as goal
+use Rattle.reg_records.proofs.line_reader.take_line.Given as goal
 
 -- the line so far has no LF, each turn made one read for it, and no fault was counted
 abbrev pub invariant-loop-i : goal.invariant-loop-i

@@ -5,8 +5,8 @@ use Rattle.std.proofs.lemmas.List.Elements.{All-append, All-nil}
 use Rattle.reg_records.specs.Line.{is_line_feed}
 use Rattle.reg_records.specs.Pieces.{Holds}
 use Rattle.reg_records.proofs.Lines.{length-of_nonempty, TakesPart-more, TakesPart-kept, Consumes-ended, IsAtEnd-after, IsAtEnd-before, Keeps-none_taken}
-use Rattle.reg_records.proofs.pieces.take_line.Goals.{then-is_empty, else-is_empty, in-More, in-Failed-Interrupted}
-use Rattle.reg_records.proofs.pieces.take_line.Goals as goal
+use Rattle.reg_records.proofs.line_reader.take_line.Goals.{then-is_empty, else-is_empty, in-More, in-Failed-Interrupted}
+use Rattle.reg_records.proofs.line_reader.take_line.Goals as goal
 
 pub loop-i-init : goal.loop-i-init
 loop-i-init g c = (
