@@ -3,6 +3,7 @@ use Rattle.std.proofs.Common.{◌≡◌, ℕ, ◌+◌, ◌<◌, List, [], ◌∷
 use Rattle.std.proofs.lemmas.Bool.{false≢true}
 use Rattle.std.specs.FinSet.{contains, empty, from_list, insert, union, contains-empty, contains-insert, contains-union, contains-from_list, from_list_push, same_set}
 use Rattle.std.proofs.lemmas.List.{take_more}
+use Rattle.std.proofs.lemmas.List.Folds.{list_any-append}
 use Rattle.std.proofs.lemmas.List.Sorted.{list_any-IsPermutation}
 use Rattle.std.specs.List.Sorted.{IsPermutation}
 use denote.Ref.{Bor}
@@ -121,18 +122,13 @@ pub insert-contained : (R : Records) (r : Record) → contains R r ≡ true → 
 insert-contained R r there =
     one_set (insert R r) R (λ q h. ⊎_elim (λ e. ap (contains R) e ∙ there) (λ k. k) (in_insert R r q h)) (insert-in R r)
 
--- to merge a list of records is to add one after another
-pub union-none : (R : Records) → union R (from_list []) ≡ R
-union-none R =
-    one_set (union R (from_list [])) R (part_of_union R (from_list []) R (λ q h. h) (λ q h. absurd (false≢true (sym (contains-empty record_cmp q) ∙ h)))) (in_left R (from_list []))
-
-pub union-more : (R : Records) (rs : List Record) (i : ℕ) (r : Record) → i < length rs → r ≡ get_or rs i r → insert (union R (from_list (take i rs))) r ≡ union R (from_list (take (i + 1) rs))
-union-more R rs i r within here =
-    let front : Records = from_list (take i rs) in
-    let pushed : from_list {R = record_cmp} (take (i + 1) rs) ≡ insert front r =
-    ap from_list (take_more rs i r within ∙ ap (λ x. take i rs ++ x ∷ []) (sym here)) ∙ from_list_push record_cmp-total record_cmp-ties (take i rs) r in
-    insert-union (union R front) r ∙ merging_is_associative R front (insert empty r)
-    ∙ ap (union R) (sym (insert-union front r) ∙ sym pushed)
+-- the records of two lists
+pub from_list-both : (xs ys : List Record) → from_list {R = record_cmp} (xs ++ ys) ≡ union (from_list xs) (from_list ys)
+from_list-both xs ys =
+    same_set record_cmp-total record_cmp-ties _ _ (λ q.
+    contains-from_list record_cmp-total (xs ++ ys) q ∙ list_any-append (eq_by_cmp record_cmp q) xs ys
+    ∙ sym (contains-union record_cmp-total (from_list xs) (from_list ys) q
+    ∙ (λ i. contains-from_list record_cmp-total xs q i || contains-from_list record_cmp-total ys q i)))
 
 -- the order of a list doesn't count
 pub from_list-permuted : (xs ys : List Record) → IsPermutation xs ys → from_list {R = record_cmp} xs ≡ from_list ys

@@ -6,6 +6,7 @@ mod last_records;
 mod laws;
 mod order;
 mod record_set;
+mod turns;
 
 pub use last_records::LastRecords;
 pub use laws::{

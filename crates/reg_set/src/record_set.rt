@@ -1,5 +1,5 @@
 // A set of records, and the last record of each key in it.
-ghost use Rattle.std.specs.Prelude.{◌≡◌, ◌≢◌, ◌↔◌, [], true, OnOk, OnErr, IfOk, IsTrue, option_map};
+ghost use Rattle.std.specs.Prelude.{◌≡◌, ◌≢◌, ◌↔◌, [], true, OnOk, OnErr, IfOk, IsTrue, map, option_map};
 ghost use Rattle.std.specs.FinSet as set;
 ghost use Rattle.std.specs.List.{list_all};
 ghost use Rattle.std.specs.Option.{option_map_or};
@@ -12,9 +12,9 @@ ghost use Rattle.reg_set.specs.Records.{records_of, is_in_order};
 use crate::index::{keep_lasts, put};
 use crate::last_records::LastRecords;
 use crate::order::{count_before, stands_at};
+use crate::turns::{of_both, sort};
 use reg_records::{Key, Record};
 use std::alloc::{AllocError, Global};
-use std::cmp::Ordering;
 use std::marker::Model;
 
 /// What taking a record did to a set.
@@ -82,14 +82,8 @@ impl RecordSet {
     pub fn of(alloc: Global, records: &[Record]) -> Result<RecordSet, AllocError>
         ensures { IfOk result (λ found. found ≡ set.from_list records.now) }
     {
-        // In this order nearly every record is the last so far, and is put at the end.
-        let mut in_turn: Vec<&Record> = records.iter().collect(alloc)?;
-        in_turn.sort_unstable_by(|one, other| stand(one, other));
-        let mut found = RecordSet::new(alloc);
-        for record in &in_turn {
-            found.take(record)?;
-        }
-        Ok(found)
+        let found: Vec<&Record> = records.iter().collect(alloc)?;
+        set_of(alloc, found)
     }
 
     /// Adds the record, and says what that did. The only error is want of memory; the set is then
@@ -155,11 +149,9 @@ impl RecordSet {
             ((key : Key) → last self.new key ≡ later (last self.old key) (last other.now key)) }
         ensures refused { OnErr result (self.new ≡ self.old) }
     {
-        let mut merged = self.clone()?;
-        for record in other.records() {
-            merged.take(record)?;
-        }
-        *self = merged;
+        let alloc = *self.records.allocator();
+        let both = of_both(alloc, self.records(), other.records())?;
+        *self = set_of(alloc, both)?;
         Ok(())
     }
 
@@ -173,9 +165,18 @@ impl RecordSet {
     }
 }
 
-/// The order in which records are taken: by offset, then by key.
-fn stand(one: &Record, other: &Record) -> Ordering {
-    one.offset.cmp(&other.offset).then(one.key.cmp(&other.key))
+/// The set of those records. The only error is want of memory.
+fn set_of(alloc: Global, records: Vec<&Record>) -> Result<RecordSet, AllocError>
+    ensures { IfOk result (λ found. found ≡ set.from_list (map (λ r. r.now) records.entry.items)) }
+{
+    // In their order nearly every record comes after all before it, and is put at the end.
+    let mut in_turn = records;
+    sort(&mut in_turn);
+    let mut found = RecordSet::new(alloc);
+    for record in &in_turn {
+        found.take(record)?;
+    }
+    Ok(found)
 }
 
 /// Whether `compaction` is a part of `whole` that has the last record of each key of `whole`.

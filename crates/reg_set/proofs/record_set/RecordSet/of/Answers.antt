@@ -1,30 +1,14 @@
-use Rattle.std.proofs.Common.{◌≡◌, ◌<◌, ◌+◌, ◌++◌, [], ◌∷◌, length, take, map, sym, ap, ◌∙◌, arith}
+use Rattle.std.proofs.Common.{◌≡◌, List, IfOk, map, subst}
 use Rattle.std.proofs.lemmas.Iterator.{YieldsList-from_slice}
 use Rattle.std.proofs.lemmas.Iterator.Consumers.{map_from_collect}
 use Rattle.std.proofs.lemmas.Result.{IfOk-at_ok}
-use Rattle.std.proofs.lemmas.List.{take_all, take_more}
-use Rattle.std.proofs.lemmas.List.Sorted.{IsPermutation-map}
-use Rattle.std.specs.FinSet.{from_list, insert}
-use Rattle.reg_set.proofs.Unions.{from_list-permuted, from_list-more}
+use Rattle.std.specs.FinSet.{from_list}
+use Rattle.reg_records.specs.declared.record.Record.{Record}
 use Rattle.reg_set.proofs.record_set.RecordSet.of.Goals as goal
-
-pub loop-record-init : goal.loop-record-init
-loop-record-init c = c.new-found.ensures.empty
-
-pub loop-record-preserved : goal.loop-record-preserved
-loop-record-preserved c =
-    let xs = c.deref-record-items.result.now in
-    let i = c.loop-record.record-index in
-    let within : i < length xs = omega arith in
-    c.in_ok-take.ensures.added ∙ ap (λ s. insert s c.record-item.result.now) c.loop-record.invariant
-    ∙ from_list-more xs i c.record-item.result within c.record-item.is
 
 pub returns : goal.returns
 returns c =
-    let xs = c.deref-record-items.result.now in
-    let items : map (λ r. r.now) c.in_ok-in_turn.in_turn.items ≡ c.args.records.now =
-    IfOk-at_ok _ c.in_ok-in_turn.was (map_from_collect c.collect.result c.collect.ensures.ran (YieldsList-from_slice c.args.records.now c.iter.ensures.rest)) in
-    c.loop-record.invariant
-    ∙ ap (λ l. from_list (map (λ r. r.now) l)) (take_all c.loop-record.record-index xs (omega arith) ∙ c.deref-record-items.ensures.value)
-    ∙ sym (from_list-permuted _ _ (IsPermutation-map (λ r. r.now) _ _ c.sort_unstable_by.ensures.permutation))
-    ∙ ap from_list items
+    let items : map (λ r. r.now) c.in_ok-found.found.items ≡ c.args.records.now =
+    IfOk-at_ok _ c.in_ok-found.was (map_from_collect c.collect.result c.collect.ensures.ran (YieldsList-from_slice c.args.records.now c.iter.ensures.rest)) in
+    let P : List Record → Type 0 = λ l. IfOk c.set_of.result (λ found. found ≡ from_list l) in
+    subst P items c.set_of.ensures
