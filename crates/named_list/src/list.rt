@@ -1,0 +1,95 @@
+// A list of items with distinct names.
+ghost use Rattle.std.specs.Prelude.{◌≡◌, IfOk, List, Some, None, true, if◌then◌else◌, map, find, position, option_copied, bytes_eq};
+ghost use Rattle.named_list.specs.Distinct.{all_distinct};
+
+use crate::Named;
+use crate::index::index_of;
+use crate::lookup::{are_distinct, item_at, place_in, place_in_order};
+use base_text::Text;
+use std::alloc::{AllocError, Global};
+use std::marker::Model;
+
+/// Up to how many items a name is looked for one by one.
+const SHORT: usize = 8;
+
+/// A list of items with distinct names. Contracts see the list of the items.
+#[derive(Debug, Drop)]
+pub struct NamedList<T: Named> {
+    items: Vec<T>,
+    /// The places of the items in the order of their names. A short list has none.
+    by_name: Vec<usize>,
+}
+
+impl<T: Named> Model for NamedList<T> {
+    ghost use Rattle.std.specs.Prelude.{◌≡◌, ◌<◌, List, true, length, map, bytes_eq};
+    ghost use Rattle.named_list.specs.Distinct.{all_distinct};
+    ghost use Rattle.named_list.specs.Index.{IsIndex};
+
+    ghost Value = { List T };
+
+    ghost view = { λ l. l.items.items };
+
+    ghost invariant = { λ l. (all_distinct bytes_eq (map T.name l.items.items) ≡ true)
+        × (0 < length l.by_name.items → IsIndex (map T.name l.items.items) l.by_name.items) };
+}
+
+impl<T: Named + Drop> NamedList<T> {
+    /// The list of the items, or None where two of them have one name. The only error is want of
+    /// memory.
+    pub fn of(alloc: Global, items: Vec<T>) -> Result<Option<NamedList<T>>, AllocError>
+        ensures { IfOk result (λ found. found
+            ≡ (if all_distinct bytes_eq (map T.name items.items) then Some items.items else None)) }
+    {
+        if items.len() <= SHORT {
+            if !are_distinct(items.as_slice()) {
+                return Ok(None);
+            }
+            let by_name = Vec::new(alloc);
+            return Ok(Some(NamedList { items, by_name }));
+        }
+        match index_of(alloc, items.as_slice())? {
+            Some(by_name) => Ok(Some(NamedList { items, by_name })),
+            None => Ok(None),
+        }
+    }
+}
+
+impl<T: Named> NamedList<T> {
+    /// The items, in their order.
+    pub fn as_slice(&self) -> &[T]
+        ensures items { result.now ≡ self.now }
+        ensures distinct { all_distinct bytes_eq (map T.name self.now) ≡ true }
+    {
+        &self.items
+    }
+
+    /// Where the item of that name is in the list. Takes as long as [`NamedList::get`].
+    pub fn place(&self, name: &Text) -> Option<usize>
+        ensures { result ≡ position (λ item. bytes_eq (T.name item) name.now) self.now }
+    {
+        if self.by_name.is_empty() {
+            place_in(self.items.as_slice(), name)
+        } else {
+            place_in_order(self.items.as_slice(), self.by_name.as_slice(), name)
+        }
+    }
+
+    /// The item of that name. Takes time that grows with the logarithm of the length, and no memory.
+    pub fn get(&self, name: &Text) -> Option<&T>
+        ensures { option_copied result ≡ find (λ item. bytes_eq (T.name item) name.now) self.now }
+    {
+        match self.place(name) {
+            Some(place) => item_at(self.items.as_slice(), place),
+            None => None,
+        }
+    }
+}
+
+impl<T: Named> From<NamedList<T>> for Vec<T> {
+    ghost from_gives = { λ list items. items.items ≡ list };
+
+    fn from(list: NamedList<T>) -> Vec<T> {
+        let NamedList { items, by_name: _ } = list;
+        items
+    }
+}
