@@ -17,7 +17,7 @@ use Rattle.avro_resolve.specs.declared.obligations.Pair.{Pair}
 use Rattle.avro_resolve.specs.declared.obligations.Obligation.{Obligation}
 use Rattle.avro_resolve.specs.declared.search.Step.{Step}
 use Rattle.avro_resolve.specs.declared.search.Entry.{Entry}
-use Rattle.avro_schema.specs.Order.{IsSound}
+use Rattle.avro_schema.specs.Sound.{IsSound}
 use Rattle.avro_resolve.specs.declared.obligations.Outcome.TheVariants.{Clashes, Owes}
 use Rattle.avro_resolve.specs.Table.{outcome, clash_in, owed_in, clash_of, obligations}
 use Rattle.avro_resolve.specs.Trails.{end_at, after_hop, roots, trail_from, trail_along, ComesFirst, AreCompatible, IsShown}

@@ -6,7 +6,7 @@ use Rattle.std.proofs.lemmas.Slice.Eq.{bytes_eq-Decides}
 use Rattle.avro_schema.specs.declared.node.NodeId.{NodeId}
 use Rattle.avro_schema.specs.declared.node.Field.{Field}
 use Rattle.avro_schema.specs.declared.node.Node.{Node}
-use Rattle.avro_schema.specs.Order.{IsSound}
+use Rattle.avro_schema.specs.Sound.{IsSound}
 use Rattle.avro_resolve.specs.declared.trail.Hop.{Hop}
 use Rattle.avro_resolve.specs.declared.trail.Hop.TheVariants as hop
 use Rattle.avro_resolve.specs.declared.trail.ClashKind.{ClashKind}

@@ -8,7 +8,7 @@ use Rattle.avro_schema.specs.declared.node.Primitive.{Primitive}
 use Rattle.avro_schema.specs.declared.node.NodeId.{NodeId}
 use Rattle.avro_schema.specs.declared.node.Node.{Node}
 use Rattle.avro_schema.specs.declared.node.Node.TheVariants as kind
-use Rattle.avro_schema.specs.Order.{IsSound, inner, parts_of_node}
+use Rattle.avro_schema.specs.Sound.{IsSound, inner, parts_of_node}
 use Rattle.avro_schema.specs.Names.{primitive_text, same_name}
 use Rattle.avro_resolve.proofs.Sound.{part_below}
 use Rattle.avro_resolve.specs.Inward.{inner_types}

@@ -1,16 +1,17 @@
 -- A field that is found anywhere is the one of its name, where names are distinct.
-use Rattle.std.proofs.Common.{◌≡◌, ℕ, zero, suc, List, [], ◌∷◌, Bool, true, false, not, ◌||◌, Some, map, slice_get, bytes_eq, refl, sym, ◌∙◌, ap}
-use Rattle.std.specs.List.{list_any}
+use Rattle.std.proofs.Common.{◌≡◌, ℕ, zero, suc, List, [], ◌∷◌, Bool, true, false, ◌||◌, Some, slice_get, bytes_eq, refl, sym, ◌∙◌, ap}
 use Rattle.std.specs.Option.{option_or}
 use Rattle.std.proofs.lemmas.Slice.Eq.{bytes_eq-Decides}
 use Rattle.avro_schema.specs.declared.node.Field.{Field}
-use Rattle.avro_schema.specs.Names.{all_distinct, has_text}
+use Rattle.avro_schema.specs.Names.{has_text}
+use Rattle.avro_schema.specs.Sound.{HaveDistinctNames}
 use Rattle.avro_schema.specs.Defaults.{field_named}
 use Rattle.avro_resolve.specs.Pairing.{first_field, partner}
-use Rattle.avro_resolve.proofs.Sound.{and_left, and_right}
-use Rattle.avro_resolve.proofs.Rows.{not_true, name_apart}
 
-pub named_at : (fs : List Field) → all_distinct bytes_eq (map (λ (f : Field). f.name) fs) ≡ true → (k : ℕ) (g : Field) (s : List ℕ) → slice_get fs k ≡ Some g → g.name ≡ s → field_named fs s ≡ Some g
+HaveDistinctNames-rest : (f : Field) (fs : List Field) → HaveDistinctNames (f ∷ fs) → HaveDistinctNames fs
+HaveDistinctNames-rest f fs distinct a b g h at_a at_b same = let more : suc a ≡ suc b = distinct (suc a) (suc b) g h at_a at_b same in cc
+
+pub named_at : (fs : List Field) → HaveDistinctNames fs → (k : ℕ) (g : Field) (s : List ℕ) → slice_get fs k ≡ Some g → g.name ≡ s → field_named fs s ≡ Some g
 named_at [] distinct k g s at same = cc
 named_at (f ∷ fs) distinct zero g s at same =
     let one : f ≡ g = cc in
@@ -19,15 +20,14 @@ named_at (f ∷ fs) distinct zero g s at same =
   where
     here : bytes_eq f.name s ≡ true → f ≡ g → field_named (f ∷ fs) s ≡ Some g
     here matches one = rw matches (ap Some one)
-named_at (f ∷ fs) distinct (suc k) g s at same = go (bytes_eq f.name s) refl (named_at fs (and_right (not (list_any (bytes_eq f.name) (map (λ (h : Field). h.name) fs))) _ distinct) k g s at same)
+named_at (f ∷ fs) distinct (suc k) g s at same = go (bytes_eq f.name s) refl (named_at fs (HaveDistinctNames-rest f fs distinct) k g s at same)
   where
     go : (b : Bool) → bytes_eq f.name s ≡ b → field_named fs s ≡ Some g → field_named (f ∷ fs) s ≡ Some g
-    go true is rest =
-        absurd (name_apart f.name fs k g (not_true _ (and_left (not (list_any (bytes_eq f.name) (map (λ (h : Field). h.name) fs))) _ distinct)) at (same ∙ sym ((bytes_eq-Decides f.name s).0 is)))
+    go true is rest = let no : 0 ≡ suc k = distinct 0 (suc k) f g refl at ((bytes_eq-Decides f.name s).0 is ∙ sym same) in cc
     go false is rest = rw is rest
 
 -- it is the partner of a field of that name
-pub partner_at : (fs : List Field) (f : Field) → all_distinct bytes_eq (map (λ (g : Field). g.name) fs) ≡ true → (k : ℕ) (g : Field) → slice_get fs k ≡ Some g → bytes_eq g.name f.name ≡ true → Some g ≡ partner fs f
+pub partner_at : (fs : List Field) (f : Field) → HaveDistinctNames fs → (k : ℕ) (g : Field) → slice_get fs k ≡ Some g → bytes_eq g.name f.name ≡ true → Some g ≡ partner fs f
 partner_at fs f distinct k g at same = sym (ap (λ o. option_or o (first_field fs f.aliases)) (named_at fs distinct k g f.name at ((bytes_eq-Decides g.name f.name).0 same)))
 
 -- a text at a place is one of the texts

@@ -1,15 +1,14 @@
 -- What follows from the rows of the table: obligations stay within the two schemas, and no two of a pair have one hop.
-use Rattle.std.proofs.Common.{◌≡◌, ◌≢◌, ℕ, zero, suc, ◌+◌, ◌<◌, List, [], ◌∷◌, length, Bool, true, false, not, ◌||◌, ◌==◌, Option, Some, None, is_some, option_map, find, filter_map, map, slice_get, bytes_eq, refl, sym, ◌∙◌, ap, subst, arith}
-use Rattle.std.specs.List.{list_any, enumerate_from, cons_option, position_or_len}
+use Rattle.std.proofs.Common.{◌≡◌, ◌≢◌, ℕ, zero, suc, ◌+◌, ◌<◌, List, [], ◌∷◌, length, Bool, true, false, not, ◌==◌, Option, Some, None, is_some, option_map, find, filter_map, map, slice_get, bytes_eq, refl, sym, ◌∙◌, ap, subst, arith}
+use Rattle.std.specs.List.{enumerate_from, cons_option, position_or_len}
 use Rattle.std.specs.Option.{option_or}
 use Rattle.std.proofs.lemmas.List.Folds.{find_at}
-use Rattle.std.proofs.lemmas.Slice.Eq.{bytes_eq-Decides}
 use Rattle.avro_schema.specs.declared.node.NodeId.{NodeId}
 use Rattle.avro_schema.specs.declared.node.Field.{Field}
 use Rattle.avro_schema.specs.declared.node.Node.{Node}
 use Rattle.avro_schema.specs.declared.node.Node.TheVariants as kind
-use Rattle.avro_schema.specs.Names.{all_distinct, has_text}
-use Rattle.avro_schema.specs.Order.{IsSound, fields_of_node, parts_of_node}
+use Rattle.avro_schema.specs.Names.{has_text}
+use Rattle.avro_schema.specs.Sound.{IsSound, HaveDistinctNames, fields_of_node, parts_of_node}
 use Rattle.avro_schema.specs.Defaults.{field_named}
 use Rattle.avro_resolve.specs.declared.trail.Hop.{Hop}
 use Rattle.avro_resolve.specs.declared.trail.Hop.TheVariants as hop
@@ -24,7 +23,7 @@ use Rattle.avro_resolve.specs.Pairing.{first_field, partner, lacks_value}
 use Rattle.avro_resolve.specs.Table.{pair, to_writer_branch, to_writer_branches, to_reader_branch, to_field, to_partner, unless_lacking, to_fields, unless_unknown, with_symbols, given, to_part, plain_row, first_matching_branch, row, row_of, owed_in, obligations}
 use Rattle.avro_resolve.specs.Trails.{HopsNameOne}
 use Rattle.avro_resolve.proofs.MatchLaws.{IsOf, inner_part}
-use Rattle.avro_resolve.proofs.Sound.{part_below, distinct_at, and_left, and_right}
+use Rattle.avro_resolve.proofs.Sound.{part_below}
 
 -- ---- what holds of each form of outcome holds of each row
 
@@ -209,49 +208,29 @@ no_two_branches i bs k l a b at_k at_l same =
     omega arith
 
 -- a reader's fields by their names
-abbrev names : List Field → List (List ℕ)
-names fs = map (λ f. f.name) fs
-
-pub not_true : (a : Bool) → not a ≡ true → a ≡ false
-not_true true e = cc
-not_true false e = refl
-
-or_left : (a b : Bool) → (a || b) ≡ false → a ≡ false
-or_left true b e = e
-or_left false b e = refl
-
-or_right : (a b : Bool) → (a || b) ≡ false → b ≡ false
-or_right true b e = cc
-or_right false b e = e
-
--- a name that is among none of the fields' names is not a field's
-pub name_apart : (s : List ℕ) (fs : List Field) (x : ℕ) (f : Field) → list_any (bytes_eq s) (names fs) ≡ false → slice_get fs x ≡ Some f → f.name ≢ s
-name_apart s [] x f h at same = cc
-name_apart s (g ∷ fs) zero f h at same =
-    let one : g ≡ f = cc in
-    let yes : bytes_eq s g.name ≡ true = (bytes_eq-Decides s g.name).1 (sym same ∙ ap (λ (k : Field). k.name) (sym one)) in
-    let no : bytes_eq s g.name ≡ false = or_left (bytes_eq s g.name) _ h in
-    cc
-name_apart s (g ∷ fs) (suc x) f h at same = name_apart s fs x f (or_right (bytes_eq s g.name) _ h) at same
-
-no_two_field : (gs fs : List Field) (f : Field) (p : Option Field) → list_any (bytes_eq f.name) (names fs) ≡ false → NoTwo (filter_map (to_partner gs) fs) → NoTwo (cons_option (option_map (to_field f) p) (filter_map (to_partner gs) fs))
-no_two_field gs fs f None h rest = rest
-no_two_field gs fs f (Some g) h rest = no_two_more (to_field f g) (filter_map (to_partner gs) fs) apart rest
+no_two_field : (gs fs : List Field) (f : Field) (p : Option Field) → ((x : ℕ) (h : Field) → slice_get fs x ≡ Some h → h.name ≢ f.name) → NoTwo (filter_map (to_partner gs) fs) → NoTwo (cons_option (option_map (to_field f) p) (filter_map (to_partner gs) fs))
+no_two_field gs fs f None apart rest = rest
+no_two_field gs fs f (Some g) apart rest = no_two_more (to_field f g) (filter_map (to_partner gs) fs) other_hop rest
   where
-    apart : (k : ℕ) (o : Obligation) → slice_get (filter_map (to_partner gs) fs) k ≡ Some o → o.hop ≢ (to_field f g).hop
-    apart k o at same =
+    other_hop : (k : ℕ) (o : Obligation) → slice_get (filter_map (to_partner gs) fs) k ≡ Some o → o.hop ≢ (to_field f g).hop
+    other_hop k o at same =
         let (f', g', x, f_at, has, one) = field_at gs fs k o at in
         let hops : hop.Field f'.name ≡ hop.Field f.name = ap (λ (u : Obligation). u.hop) one ∙ same in
         let both : f'.name ≡ f.name = cc in
-        name_apart f.name fs x f' h f_at both
+        apart x f' f_at both
 
-no_two_fields : (gs fs : List Field) → all_distinct bytes_eq (names fs) ≡ true → NoTwo (filter_map (to_partner gs) fs)
+no_two_fields : (gs fs : List Field) → HaveDistinctNames fs → NoTwo (filter_map (to_partner gs) fs)
 no_two_fields gs [] h = no_two_none
-no_two_fields gs (f ∷ fs) h =
-    no_two_field gs fs f (partner gs f) (not_true _ (and_left (not (list_any (bytes_eq f.name) (names fs))) _ h)) (no_two_fields gs fs (and_right (not (list_any (bytes_eq f.name) (names fs))) _ h))
+no_two_fields gs (f ∷ fs) h = no_two_field gs fs f (partner gs f) apart (no_two_fields gs fs rest)
+  where
+    apart : (x : ℕ) (g : Field) → slice_get fs x ≡ Some g → g.name ≢ f.name
+    apart x g at same = let no : suc x ≡ 0 = h (suc x) 0 g f at refl same in cc
+
+    rest : HaveDistinctNames fs
+    rest a b g k at_a at_b same = let more : suc a ≡ suc b = h (suc a) (suc b) g k at_a at_b same in cc
 
 module _ (r w : List Node) (i j : NodeId) where
-  no_two_row : (m n : Node) → all_distinct bytes_eq (names (fields_of_node m)) ≡ true → NoTwo (owed_in (row r w i j m n))
+  no_two_row : (m n : Node) → HaveDistinctNames (fields_of_node m) → NoTwo (owed_in (row r w i j m n))
   no_two_row m n distinct =
       row_holds (λ o. NoTwo (owed_in o)) (λ c. no_two_none) no_two_none r w i j m n
       (λ bs is. no_two_branches i bs)
@@ -259,9 +238,9 @@ module _ (r w : List Node) (i j : NodeId) where
       (λ h a b of_a of_b. no_two_one _)
       (no_two_fields (fields_of_node n) (fields_of_node m) distinct)
 
-  no_two_row_of : (m n : Option Node) → ((p : Node) → m ≡ Some p → all_distinct bytes_eq (names (fields_of_node p)) ≡ true) → NoTwo (owed_in (row_of r w i j m n))
+  no_two_row_of : (m n : Option Node) → ((p : Node) → m ≡ Some p → HaveDistinctNames (fields_of_node p)) → NoTwo (owed_in (row_of r w i j m n))
   no_two_row_of (Some p) (Some q) distinct = no_two_row p q (distinct p refl)
   no_two_row_of _ _ distinct = no_two_none
 
 pub hops_name_one : (r w : List Node) → IsSound r → HopsNameOne r w
-hops_name_one r w s p = no_two_row_of r w p.reader p.writer (slice_get r p.reader.index) (slice_get w p.writer.index) (λ m at. distinct_at r s p.reader.index m at)
+hops_name_one r w s p = no_two_row_of r w p.reader p.writer (slice_get r p.reader.index) (slice_get w p.writer.index) (λ m at. s.distinct_fields p.reader.index m at)

@@ -1,6 +1,6 @@
 -- Private: what the rows of the table stand for.
-use Rattle.std.specs.Prelude.{[], ◌∷◌, Bool, true, map, bytes_eq}
-use Rattle.avro_schema.specs.Names.{all_distinct}
+use Rattle.std.specs.Prelude.{[], ◌∷◌}
+use Rattle.avro_schema.specs.Sound.{HaveDistinctNames}
 use Rattle.avro_resolve.specs.declared.trail.ClashKind.{ClashKind}
 use Rattle.avro_resolve.specs.declared.trail.ClashKind.TheVariants as clash
 use Rattle.avro_resolve.specs.declared.obligations.Outcome.{Outcome}
@@ -27,6 +27,6 @@ outcome_of (Fields fs gs) = to_fields fs.now gs.now
 outcome_of Nothing = Owes []
 
 -- no two of the writer's fields have one name
-abbrev pub has_distinct : Row → Bool
-has_distinct (Fields fs gs) = all_distinct bytes_eq (map (λ g. g.name) gs.now)
-has_distinct _ = true
+abbrev pub HasDistinct : Row → Type 0
+HasDistinct (Fields fs gs) = HaveDistinctNames gs.now
+HasDistinct _ = Unit {0}

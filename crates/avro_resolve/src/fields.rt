@@ -1,6 +1,6 @@
 // Which fields of two records are paired.
 ghost use Rattle.std.specs.Prelude.{◌≡◌, true, find, map, slice_get, option_copied, bytes_eq, Some, IfSome};
-ghost use Rattle.avro_schema.specs.Names.{all_distinct};
+ghost use Rattle.avro_schema.specs.Sound.{HaveDistinctNames};
 ghost use Rattle.avro_schema.specs.Defaults.{field_named as spec_field_named};
 ghost use Rattle.avro_resolve.specs.Pairing as spec;
 
@@ -59,7 +59,7 @@ pub fn partner_near<'a>(
     near: usize,
     guess: &mut Guess<'a>,
 ) -> (usize, Option<&'a Field>)
-    requires { all_distinct bytes_eq (map (λ f. f.name) writer.now) ≡ true }
+    requires { HaveDistinctNames writer.now }
     ensures { option_copied result.1 ≡ spec.partner writer.now field.now }
 {
     if let Some(found) = nearby(writer, field, near) {
@@ -76,7 +76,7 @@ pub fn partner_near<'a>(
 /// The field of that name at `near`, at the last place before the one that was found there, or a
 /// few places on, and the place after it.
 fn nearby<'a>(writer: &'a [Field], field: &Field, near: usize) -> Option<(usize, Option<&'a Field>)>
-    requires { all_distinct bytes_eq (map (λ f. f.name) writer.now) ≡ true }
+    requires { HaveDistinctNames writer.now }
     ensures { IfSome result (λ found. option_copied found.1 ≡ spec.partner writer.now field.now) }
 {
     if let Some(g) = named_at(writer, field, near) {
@@ -96,7 +96,7 @@ fn nearby<'a>(writer: &'a [Field], field: &Field, near: usize) -> Option<(usize,
 
 /// The field at a place, if it has the field's name.
 fn named_at<'a>(writer: &'a [Field], field: &Field, k: usize) -> Option<&'a Field>
-    requires { all_distinct bytes_eq (map (λ f. f.name) writer.now) ≡ true }
+    requires { HaveDistinctNames writer.now }
     ensures { IfSome result (λ g. Some g.now ≡ spec.partner writer.now field.now) }
 {
     match field_at(writer, k) {

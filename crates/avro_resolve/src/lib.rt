@@ -21,6 +21,3 @@ pub use laws::{obligations_are_compatible, schemas_have_one_verdict};
 pub use matching::matches;
 pub use resolving::{Counted, Verdict, resolve, resolve_counted};
 pub use trail::{ClashKind, Hop, Trail};
-
-#[cfg(test)]
-mod tests;

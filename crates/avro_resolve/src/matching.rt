@@ -17,21 +17,9 @@ pub fn matches(r: &Schema, i: NodeId, w: &Schema, j: NodeId) -> bool
     ensures by_cases { spec.IsByCases r.now.nodes w.now.nodes }
     ensures each_itself { spec.EachMatchesItself r.now.nodes }
 {
-    // Counting the nodes tells that they are sound.
-    let _sound = r.node_count();
-    match_inward(r, i, w, j)
-}
-
-/// The same, array by array and map by map.
-fn match_inward(r: &Schema, i: NodeId, w: &Schema, j: NodeId) -> bool
-    requires reader { i.index < length r.now.nodes }
-    requires writer { j.index < length w.now.nodes }
-    ensures { result ≡ spec.matches r.now.nodes w.now.nodes i j }
-{
     let mut i = i;
     let mut j = j;
     let mut left = r.node_count();
-    let _sound = w.node_count();
     'inward: loop {
         let reader = r.node(i);
         let writer = w.node(j);

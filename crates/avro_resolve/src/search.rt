@@ -2,8 +2,8 @@
 ghost use Rattle.std.specs.Prelude.{◌≡◌, ◌<◌, [], ◌∷◌, true, None, length, reverse, vec_len, slice_get, filter_map, map, option_map, Some, bytes_eq, IfOk, OnOk};
 ghost use Rattle.std.specs.List.{enumerate_from};
 ghost use Rattle.avro_resolve.specs.Table as spec;
-ghost use Rattle.avro_resolve.specs.Row.{clash_of_cause, outcome_of, has_distinct};
-ghost use Rattle.avro_schema.specs.Names.{all_distinct};
+ghost use Rattle.avro_resolve.specs.Row.{clash_of_cause, outcome_of, HasDistinct};
+ghost use Rattle.avro_schema.specs.Sound.{HaveDistinctNames, IsSound};
 ghost use Rattle.avro_resolve.specs.Trails.{roots};
 
 use crate::fields::partner_near;
@@ -44,6 +44,8 @@ impl Search {
     pub fn start(alloc: Global, r: &Schema, w: &Schema) -> Result<Search, AllocError>
         ensures first { IfOk result (λ s. s.entries.items ≡ record { pair = roots; from = None } ∷ []) }
         ensures agrees { IfOk result (λ s. AgreesWith s.seen s.entries.items) }
+        ensures reader { IsSound r.now.nodes }
+        ensures writer { IsSound w.now.nodes }
     {
         let pair = Pair {
             reader: r.root(),
@@ -76,7 +78,7 @@ impl Search {
         place: usize,
         row: Row<'a>,
     ) -> Result<Option<Cause<'a>>, AllocError>
-        requires distinct { has_distinct row ≡ true }
+        requires distinct { HasDistinct row }
         requires agrees { AgreesWith self.old.seen self.old.entries.items }
         ensures clash { IfOk result (λ cause. option_map clash_of_cause cause ≡ spec.clash_in (outcome_of row.entry)) }
         ensures entries { OnOk result (self.new.entries.items ≡ expanded place 0 (spec.owed_in (outcome_of row.entry)) self.old.entries.items) }
@@ -122,7 +124,7 @@ impl Search {
         reader: &'a [Field],
         writer: &[Field],
     ) -> Result<Option<Cause<'a>>, AllocError>
-        requires distinct { all_distinct bytes_eq (map (λ g. g.name) writer.now) ≡ true }
+        requires distinct { HaveDistinctNames writer.now }
         requires agrees { AgreesWith self.old.seen self.old.entries.items }
         ensures clash { IfOk result (λ cause. option_map clash_of_cause cause ≡ spec.clash_in (spec.to_fields reader.now writer.now)) }
         ensures entries { OnOk result (self.new.entries.items ≡ expanded place 0 (spec.owed_in (spec.to_fields reader.now writer.now)) self.old.entries.items) }

@@ -1,10 +1,10 @@
 // The table: the row that a pair of types falls under, with what it takes from the schemas.
 ghost use Rattle.std.specs.Prelude.{◌≡◌, ◌<◌, ℕ, List, Option, IsTrue, true, is_some, All, length, map, not, find, slice_get, bytes_eq, option_copied, IfOk};
 ghost use Rattle.avro_schema.specs.declared.node.Node.TheVariants as kind;
-ghost use Rattle.avro_schema.specs.Names.{has_text, all_distinct};
+ghost use Rattle.avro_schema.specs.Names.{has_text};
 ghost use Rattle.avro_resolve.specs.Table as spec;
-ghost use Rattle.avro_schema.specs.Order.{has_distinct_fields};
-ghost use Rattle.avro_resolve.specs.Row.{clash_of_cause, outcome_of, has_distinct};
+ghost use Rattle.avro_schema.specs.Sound.{HaveDistinctNames, fields_of_node};
+ghost use Rattle.avro_resolve.specs.Row.{clash_of_cause, outcome_of, HasDistinct};
 
 use crate::guess::Guess;
 use crate::matching::matches;
@@ -62,11 +62,8 @@ pub fn row_at<'a>(r: &'a Schema, w: &'a Schema, pair: Pair, memory: Option<Globa
     requires reader { pair.reader.index < length r.now.nodes }
     requires writer { pair.writer.index < length w.now.nodes }
     ensures row { outcome_of result ≡ spec.outcome r.now.nodes w.now.nodes pair }
-    ensures distinct { has_distinct result ≡ true }
+    ensures distinct { HasDistinct result }
 {
-    // Counting the nodes tells that they are sound.
-    let _sound = r.node_count();
-    let _sound = w.node_count();
     let writer = w.node(pair.writer);
     if let Node::Union(branches) = writer {
         return Row::WriterBranches(pair.reader, branches.as_slice());
@@ -79,9 +76,9 @@ pub fn row_at<'a>(r: &'a Schema, w: &'a Schema, pair: Pair, memory: Option<Globa
 
 /// The row of two types that are no unions.
 fn plain_row<'a>(reader: &'a Node, writer: &'a Node, memory: Option<Global>) -> Row<'a>
-    requires { has_distinct_fields writer.now ≡ true }
+    requires { HaveDistinctNames (fields_of_node writer.now) }
     ensures row { outcome_of result ≡ spec.plain_row reader.now writer.now }
-    ensures distinct { has_distinct result ≡ true }
+    ensures distinct { HasDistinct result }
 {
     match reader {
         Node::Array(a) => match writer {
@@ -129,7 +126,7 @@ fn plain_row<'a>(reader: &'a Node, writer: &'a Node, memory: Option<Global>) -> 
 /// One obligation.
 fn one_row<'a>(hop: Hop, reader: NodeId, writer: NodeId) -> Row<'a>
     ensures row { outcome_of result ≡ spec.to_part hop reader writer }
-    ensures distinct { has_distinct result ≡ true }
+    ensures distinct { HasDistinct result }
 {
     Row::One(hop, Pair { reader, writer })
 }
@@ -140,9 +137,9 @@ fn record_row<'a>(
     fields: &'a [Field],
     writer: &'a Node,
 ) -> Row<'a>
-    requires { has_distinct_fields writer.now ≡ true }
+    requires { HaveDistinctNames (fields_of_node writer.now) }
     ensures row { outcome_of result ≡ spec.plain_row (kind.Record name.now aliases.now fields.now) writer.now }
-    ensures distinct { has_distinct result ≡ true }
+    ensures distinct { HasDistinct result }
 {
     match writer {
         Node::Record {
@@ -170,7 +167,7 @@ fn enum_row<'a>(
 ) -> Row<'a>
     ensures row { (d : Option (List ℕ)) → is_some d ≡ has_default
         → outcome_of result ≡ spec.plain_row (kind.Enum name.now aliases.now symbols.now d) writer.now }
-    ensures distinct { has_distinct result ≡ true }
+    ensures distinct { HasDistinct result }
 {
     match writer {
         Node::Enum {
@@ -190,7 +187,7 @@ fn enum_row<'a>(
 
 fn fixed_row<'a>(name: &FullName, aliases: &[FullName], size: u32, writer: &Node) -> Row<'a>
     ensures row { outcome_of result ≡ spec.plain_row (kind.Fixed name.now aliases.now size) writer.now }
-    ensures distinct { has_distinct result ≡ true }
+    ensures distinct { HasDistinct result }
 {
     match writer {
         Node::Fixed {
@@ -212,7 +209,7 @@ fn fixed_row<'a>(name: &FullName, aliases: &[FullName], size: u32, writer: &Node
 
 fn primitive_row<'a>(reader: Primitive, writer: Primitive) -> Row<'a>
     ensures row { outcome_of result ≡ spec.plain_row (kind.Primitive reader) (kind.Primitive writer) }
-    ensures distinct { has_distinct result ≡ true }
+    ensures distinct { HasDistinct result }
 {
     if primitives_match(reader, writer) {
         Row::Nothing
@@ -226,7 +223,7 @@ fn branch_row<'a>(r: &Schema, branches: &[NodeId], w: &Schema, j: NodeId) -> Row
     requires reader { All (λ b. b.index < length r.now.nodes) branches.now }
     requires writer { j.index < length w.now.nodes }
     ensures row { outcome_of result ≡ spec.to_reader_branch j (spec.first_matching_branch r.now.nodes w.now.nodes branches.now j) }
-    ensures distinct { has_distinct result ≡ true }
+    ensures distinct { HasDistinct result }
 {
     match first_matching_branch(r, branches, w, j) {
         Some((k, b)) => Row::One(
@@ -267,7 +264,7 @@ fn symbol_row<'a>(
     memory: Option<Global>,
 ) -> Row<'a>
     ensures row { outcome_of result ≡ spec.with_symbols reader.now has_default writer.now }
-    ensures distinct { has_distinct result ≡ true }
+    ensures distinct { HasDistinct result }
 {
     if has_default {
         return Row::Nothing;

@@ -10,7 +10,7 @@ use Rattle.avro_resolve.proofs.resolving.resolve_counted.Goals as goal
 
 pub heads-init : goal.heads-init
 heads-init c =
-    (c.in_ok-search.ensures.agrees, searched_first c.args.r.now.nodes c.args.w.now.nodes c.node_count-sound.ensures.sound c.node_count-sound-2.ensures.sound c.in_ok-search.search.entries.items c.in_ok-search.ensures.first, omega arith)
+    (c.in_ok-search.ensures.agrees, searched_first c.args.r.now.nodes c.args.w.now.nodes c.in_ok-search.ensures.reader c.in_ok-search.ensures.writer c.in_ok-search.search.entries.items c.in_ok-search.ensures.first, omega arith)
 
 pub row_at-row-requires-clause-reader : goal.row_at-row-requires-clause-reader
 row_at-row-requires-clause-reader c =
@@ -46,7 +46,7 @@ heads-smaller c =
 pub heads-preserved : goal.heads-preserved
 heads-preserved c =
     let at = slice_get_read c.heads.search.entries.items _ c.heads.head c.index.result.now c.heads.search.entries.ok.0 (omega (arith, c.heads-test.true, c.len.ensures)) c.index.ensures in
-    let next = searched_next _ _ _ _ c.heads.invariant.1 c.node_count-sound.ensures.sound c.node_count-sound-2.ensures.sound c.index.result.now (owed_in (outcome_of c.row_at-row.result)) at (sym c.row_at-row.ensures.row ∙ owes_when (outcome_of c.row_at-row.result) (ap (option_map clash_of_cause) (sym c.in_default.is) ∙ c.in_ok-cause.ensures.clash)) in
+    let next = searched_next _ _ _ _ c.heads.invariant.1 c.in_ok-search.ensures.reader c.in_ok-search.ensures.writer c.index.result.now (owed_in (outcome_of c.row_at-row.result)) at (sym c.row_at-row.ensures.row ∙ owes_when (outcome_of c.row_at-row.result) (ap (option_map clash_of_cause) (sym c.in_default.is) ∙ c.in_ok-cause.ensures.clash)) in
     let entries = c.in_ok-cause.ensures.entries in
     (c.in_ok-cause.ensures.agrees c.in_default.is, rw entries next, omega (arith, c.heads-test.true, c.len.ensures, c.heads.search.entries.ok.0, c.expand.new.self.entries.ok.0, ap length entries, length-expanded c.heads.head 0 (owed_in (outcome_of c.row_at-row.result)) c.heads.search.entries.items))
 

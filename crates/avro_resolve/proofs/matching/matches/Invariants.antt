@@ -1,5 +1,5 @@
 use Rattle.avro_resolve.proofs.MatchLaws.{IsInward}
-use Rattle.avro_resolve.proofs.matching.match_inward.Given as goal
+use Rattle.avro_resolve.proofs.matching.matches.Given as goal
 
 -- what is left to look through decides
 abbrev pub invariant-inward : goal.invariant-inward
