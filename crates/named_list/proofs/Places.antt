@@ -15,6 +15,7 @@ use Rattle.std.specs.Cmp.Lexicographic.{slice_cmp}
 use Rattle.std.specs.List.{list_any, slice_get, position_or_len}
 use Rattle.std.specs.List.Sorted.{IsStrictlySortedBy}
 use Rattle.std.specs.Ordering.{nat_cmp, is_eq, ordering_reverse}
+use Rattle.std.specs.declared.cmp.Ordering.{Ordering}
 use Rattle.std.specs.declared.cmp.Ordering.TheVariants.{Less, Equal, Greater}
 use Rattle.named_list.specs.Distinct.{all_distinct}
 use Rattle.named_list.specs.Index.{names_at, IsIndex}
@@ -73,7 +74,7 @@ module _ (s : List ℕ) where
     at_or_below k (inl e) less = ap (λ j. slice_cmp nat_cmp (get_or ordered j d) s) e ∙ less
     at_or_below k (inr h) less = nat_list_cmp_total.trans (get_or ordered k d) (get_or ordered m d) s (Less-from_sorted (slice_cmp nat_cmp) ordered k m d in_order h within) less
 
-    pub apart_below : slice_cmp nat_cmp (get_or ordered m d) s ≡ Less → (k : ℕ) → k < m + 1 → bytes_eq (get_or ordered k d) s ≡ false
+    apart_below : slice_cmp nat_cmp (get_or ordered m d) s ≡ Less → (k : ℕ) → k < m + 1 → bytes_eq (get_or ordered k d) s ≡ false
     apart_below less k h = apart_if (get_or ordered k d) s (ap is_eq (at_or_below k (eq-or-lt_of_le (omega arith)) less))
 
     turned : (x : List ℕ) → slice_cmp nat_cmp x s ≡ Greater → slice_cmp nat_cmp s x ≡ Less
@@ -83,7 +84,7 @@ module _ (s : List ℕ) where
     at_or_above k (inl e) inside greater = ap (λ j. slice_cmp nat_cmp s (get_or ordered j d)) (sym e) ∙ turned (get_or ordered m d) greater
     at_or_above k (inr h) inside greater = nat_list_cmp_total.trans s (get_or ordered m d) (get_or ordered k d) (turned (get_or ordered m d) greater) (Less-from_sorted (slice_cmp nat_cmp) ordered m k d in_order h inside)
 
-    pub apart_above : slice_cmp nat_cmp (get_or ordered m d) s ≡ Greater → (k : ℕ) → m ≤ k → k < length ordered → bytes_eq (get_or ordered k d) s ≡ false
+    apart_above : slice_cmp nat_cmp (get_or ordered m d) s ≡ Greater → (k : ℕ) → m ≤ k → k < length ordered → bytes_eq (get_or ordered k d) s ≡ false
     apart_above greater k h inside =
         apart_if (get_or ordered k d) s (ap is_eq (nat_list_cmp_total.antisymm (get_or ordered k d) s ∙ ap ordering_reverse (at_or_above k (eq-or-lt_of_le h) inside greater)))
 
@@ -94,10 +95,16 @@ module _ (s : List ℕ) where
       (list_any-IsPermutation (λ name. bytes_eq name s) names (names_at names places) index.whole
       ∙ list_any_none (λ name. bytes_eq name s) (names_at names places) (λ k d h. none k d (subst (λ n. k < n) (length-map places _) h)))
 
--- the name of the item that is at a place of the index
-pub middle_name : {X : Type 0} (name : X → List ℕ) (items : List X) (places : List ℕ) → IsIndex (map name items) places → (m : ℕ) → m < length places → (x : X) (d : List ℕ) → x ≡ get_or items (get_or places m 0) x
-    → get_or (names_at (map name items) places) m d ≡ name x
-middle_name name items places index m within x d is =
-    let inside = subst (λ n. get_or places m 0 < n) (length-map items name) (index.within m 0 within) in
-    get_or-map (λ k. get_or (map name items) k []) places m 0 d within
-    ∙ get_or-map name items (get_or places m 0) x [] inside ∙ ap name (sym is)
+-- what the name at a place of the index settles
+module _ (s : List ℕ) (names : List (List ℕ)) (places : List ℕ) (index : IsIndex names places) (m : ℕ) (within : m < length places) (d : List ℕ) where
+  fits : m < length (names_at names places)
+  fits = subst (λ n. m < n) (sym (length-map places _)) within
+
+  there : (o : Ordering) → slice_cmp nat_cmp (get_or names (get_or places m 0) []) s ≡ o → slice_cmp nat_cmp (get_or (names_at names places) m d) s ≡ o
+  there o h = ap (λ n. slice_cmp nat_cmp n s) (get_or-map (λ k. get_or names k []) places m 0 d within) ∙ h
+
+  pub none_below : slice_cmp nat_cmp (get_or names (get_or places m 0) []) s ≡ Less → (k : ℕ) → k < m + 1 → bytes_eq (get_or (names_at names places) k d) s ≡ false
+  none_below less = apart_below s (names_at names places) index.in_order m fits d (there Less less)
+
+  pub none_above : slice_cmp nat_cmp (get_or names (get_or places m 0) []) s ≡ Greater → (k : ℕ) → m ≤ k → k < length places → bytes_eq (get_or (names_at names places) k d) s ≡ false
+  none_above greater k h inside = apart_above s (names_at names places) index.in_order m fits d (there Greater greater) k h (subst (λ n. k < n) (sym (length-map places _)) inside)

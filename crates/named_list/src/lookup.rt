@@ -1,5 +1,7 @@
 // Where an item of a name is in a list.
-ghost use Rattle.std.specs.Prelude.{◌≡◌, true, map, position, option_copied, slice_get, bytes_eq};
+ghost use Rattle.std.specs.Prelude.{◌≡◌, true, map, position, option_copied, slice_get, bytes_eq, ◌<◌, length, slice_index_or, []};
+ghost use Rattle.std.specs.Cmp.Lexicographic.{slice_cmp};
+ghost use Rattle.std.specs.Ordering.{nat_cmp};
 ghost use Rattle.std.specs.List.{list_any};
 ghost use Rattle.named_list.specs.Distinct.{all_distinct};
 ghost use Rattle.named_list.specs.Index.{IsIndex};
@@ -49,11 +51,19 @@ pub(crate) fn place_in_order<T: Named>(items: &[T], by_name: &[usize], name: &Te
     while low < high {
         let middle = low + (high - low) / 2;
         let place = by_name[middle];
-        match items[place].name().cmp(name) {
+        match compare_at(items, place, name) {
             Ordering::Less => low = middle + 1,
             Ordering::Equal => return Some(place),
             Ordering::Greater => high = middle,
         }
     }
     None
+}
+
+/// How the name of the item at that place compares with a name.
+fn compare_at<T: Named>(items: &[T], place: usize, name: &Text) -> Ordering
+    requires { place < length items.now }
+    ensures { result ≡ slice_cmp nat_cmp (slice_index_or (map T.name items.now) place []) name.now }
+{
+    items[place].name().cmp(name)
 }
