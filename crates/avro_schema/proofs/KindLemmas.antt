@@ -8,11 +8,11 @@ use Rattle.avro_schema.specs.declared.kinds.Kind.{Kind}
 use Rattle.avro_schema.specs.declared.kinds.Kind.TheVariants as kind
 use Rattle.avro_schema.specs.declared.node.Primitive.{Primitive}
 use Rattle.avro_schema.specs.Names.{primitives, primitive_text, primitive_named, all_distinct}
-use Rattle.avro_schema.specs.declared.reader.Reader.{Reader}
+use Rattle.avro_schema.specs.declared.builder.Builder.{Builder}
 use Rattle.avro_schema.specs.Form.{Heading, Form, plain, by_name, form_of_name}
 use Rattle.avro_schema.specs.Places.{Definition, named, defined_by}
-use Rattle.avro_schema.specs.Faults.{kind_of, kind_named, same_kind, is_union, fits_union}
-use Rattle.avro_schema.specs.Reader.{may_stand, HasMet, opened}
+use Rattle.avro_schema.specs.Faults.{kind_in_union, kind_named, same_kind, is_union_kind, fits_union}
+use Rattle.avro_schema.specs.Building.{may_stand, HasMet, opened}
 use Rattle.avro_schema.proofs.TextLemmas.{bytes_eq-sym, all_distinct-middle, all_distinct-push}
 
 pub form_plain : (s : List ℕ) (p : Primitive) → Some p ≡ primitive_named s → form_of_name s ≡ plain p
@@ -29,17 +29,17 @@ pub find-passes : {X : Type 0} (t : X → Bool) (xs : List X) (x : X) → find t
 find-passes t [] x e = cc
 find-passes t (y ∷ xs) x e = passes_first t y x (t y) (find t xs) refl (find-passes t xs x) e
 
-kind_plain : (ds : List Definition) (ns : List ℕ) (n : ℕ) (s : List ℕ) (o : Option Primitive) → o ≡ primitive_named s → is_some o ≡ true → kind.Unnamed s ≡ kind_of ds ns n (form_of_name s)
+kind_plain : (ds : List Definition) (ns : List ℕ) (n : ℕ) (s : List ℕ) (o : Option Primitive) → o ≡ primitive_named s → is_some o ≡ true → kind.Unnamed s ≡ kind_in_union ds ns n (form_of_name s)
 kind_plain ds ns n s None e h = cc
 kind_plain ds ns n s (Some p) e h =
     let text : primitive_text p ≡ s = (bytes_eq-Decides (primitive_text p) s).0 (find-passes (λ p. bytes_eq (primitive_text p) s) primitives p (sym e)) in
-    ap kind.Unnamed (sym text) ∙ ap (kind_of ds ns n) (sym (form_plain s p e))
+    ap kind.Unnamed (sym text) ∙ ap (kind_in_union ds ns n) (sym (form_plain s p e))
 
-pub kind_primitive : (ds : List Definition) (ns : List ℕ) (n : ℕ) (s : List ℕ) (o : Option Primitive) → o ≡ primitive_named s → is_some o ≡ true → kind.Unnamed s ≡ kind_of ds ns n (form_of_name s)
+pub kind_primitive : (ds : List Definition) (ns : List ℕ) (n : ℕ) (s : List ℕ) (o : Option Primitive) → o ≡ primitive_named s → is_some o ≡ true → kind.Unnamed s ≡ kind_in_union ds ns n (form_of_name s)
 kind_primitive = kind_plain
 
-pub kind_use : (ds : List Definition) (ns : List ℕ) (n : ℕ) (s : List ℕ) (o : Option Primitive) → o ≡ primitive_named s → is_some o ≡ false → kind_of ds ns n (form_of_name s) ≡ kind_named (named ds n ns s)
-kind_use ds ns n s None e h = ap (kind_of ds ns n) (form_use s e)
+pub kind_use : (ds : List Definition) (ns : List ℕ) (n : ℕ) (s : List ℕ) (o : Option Primitive) → o ≡ primitive_named s → is_some o ≡ false → kind_in_union ds ns n (form_of_name s) ≡ kind_named (named ds n ns s)
+kind_use ds ns n s None e h = ap (kind_in_union ds ns n) (form_use s e)
 kind_use ds ns n s (Some p) e h = cc
 
 -- ---- the kinds that were added
@@ -78,7 +78,7 @@ pub fits_more : (ks : List Kind) (k : Kind) → fits_union ks ≡ true → may_s
 fits_more ks k fits stands =
     let old = both _ _ fits in
     let new = both _ _ stands in
-    let none : not (list_any is_union (ks ++ k ∷ [])) ≡ true = ap not (list_any-append is_union ks (k ∷ [])) ∙ nothing (list_any is_union ks) (is_union k) (flip _ old.0) (flip _ new.0) in
+    let none : not (list_any is_union_kind (ks ++ k ∷ [])) ≡ true = ap not (list_any-append is_union_kind ks (k ∷ [])) ∙ nothing (list_any is_union_kind ks) (is_union_kind k) (flip _ old.0) (flip _ new.0) in
     let distinct : all_distinct same_kind (ks ++ k ∷ []) ≡ true = all_distinct-push same_kind same_kind-sym ks k old.1 (flip _ new.1) in
     rw (none, distinct)
 
@@ -90,17 +90,17 @@ and_false : (a : Bool) → a && false ≡ false
 and_false true = refl
 and_false false = refl
 
-by_which : (u a : Bool) (ks : List Kind) (k : Kind) (more : List Kind) → is_union k ≡ u → list_any (same_kind k) ks ≡ a → not u && not a ≡ false → fits_union (ks ++ k ∷ more) ≡ false
-by_which true a ks k more e h x = let some : list_any is_union (ks ++ k ∷ more) ≡ true = list_any-append is_union ks (k ∷ more) ∙ ap (λ b. list_any is_union ks || (b || list_any is_union more)) e ∙ or_true (list_any is_union ks) in rw some
+by_which : (u a : Bool) (ks : List Kind) (k : Kind) (more : List Kind) → is_union_kind k ≡ u → list_any (same_kind k) ks ≡ a → not u && not a ≡ false → fits_union (ks ++ k ∷ more) ≡ false
+by_which true a ks k more e h x = let some : list_any is_union_kind (ks ++ k ∷ more) ≡ true = list_any-append is_union_kind ks (k ∷ more) ∙ ap (λ b. list_any is_union_kind ks || (b || list_any is_union_kind more)) e ∙ or_true (list_any is_union_kind ks) in rw some
 by_which false true ks k more e h x = rw (all_distinct-middle same_kind same_kind-sym ks k more h) (and_false _)
 by_which false false ks k more e h x = cc
 
 -- one that may not
 pub fits_not : (ks : List Kind) (k : Kind) (more : List Kind) → may_stand k ks ≡ false → fits_union (ks ++ k ∷ more) ≡ false
-fits_not ks k more stands = by_which (is_union k) (list_any (same_kind k) ks) ks k more refl refl stands
+fits_not ks k more stands = by_which (is_union_kind k) (list_any (same_kind k) ks) ks k more refl refl stands
 
-pub kind_as : {E : Type 0} (r : Result Kind E) (a : Reader) (ns : List ℕ) (f g : Form) → g ≡ f → IfOk r (λ k. (ds : List Definition) → HasMet a ds → k ≡ kind_of ds ns (opened a) f) → IfOk r (λ k. (ds : List Definition) → HasMet a ds → k ≡ kind_of ds ns (opened a) g)
-kind_as r a ns f g e h = subst (λ (j : Form). IfOk r (λ k. (ds : List Definition) → HasMet a ds → k ≡ kind_of ds ns (opened a) j)) (sym e) h
+pub kind_as : {E : Type 0} (r : Result Kind E) (a : Builder) (ns : List ℕ) (f g : Form) → g ≡ f → IfOk r (λ k. (ds : List Definition) → HasMet a ds → k ≡ kind_in_union ds ns (opened a) f) → IfOk r (λ k. (ds : List Definition) → HasMet a ds → k ≡ kind_in_union ds ns (opened a) g)
+kind_as r a ns f g e h = subst (λ (j : Form). IfOk r (λ k. (ds : List Definition) → HasMet a ds → k ≡ kind_in_union ds ns (opened a) j)) (sym e) h
 
-pub kind_named_as : {E : Type 0} (r : Result Kind E) (a : Reader) (ns : List ℕ) (h : Heading) (g : Form) → ((ds : List Definition) → kind_of ds ns (opened a) g ≡ kind_named (defined_by ns (opened a) h)) → IfOk r (λ k. (n : ℕ) → k ≡ kind_named (defined_by ns n h)) → IfOk r (λ k. (ds : List Definition) → HasMet a ds → k ≡ kind_of ds ns (opened a) g)
-kind_named_as r a ns h g e i = IfOk-weaker r (λ k. (n : ℕ) → k ≡ kind_named (defined_by ns n h)) (λ k. (ds : List Definition) → HasMet a ds → k ≡ kind_of ds ns (opened a) g) (λ k x ds met. x (opened a) ∙ sym (e ds)) i
+pub kind_named_as : {E : Type 0} (r : Result Kind E) (a : Builder) (ns : List ℕ) (h : Heading) (g : Form) → ((ds : List Definition) → kind_in_union ds ns (opened a) g ≡ kind_named (defined_by ns (opened a) h)) → IfOk r (λ k. (n : ℕ) → k ≡ kind_named (defined_by ns n h)) → IfOk r (λ k. (ds : List Definition) → HasMet a ds → k ≡ kind_in_union ds ns (opened a) g)
+kind_named_as r a ns h g e i = IfOk-weaker r (λ k. (n : ℕ) → k ≡ kind_named (defined_by ns n h)) (λ k. (ds : List Definition) → HasMet a ds → k ≡ kind_in_union ds ns (opened a) g) (λ k x ds met. x (opened a) ∙ sym (e ds)) i

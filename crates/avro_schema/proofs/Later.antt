@@ -12,7 +12,7 @@ use Rattle.avro_schema.specs.Names.{joined, full_text}
 use Rattle.avro_schema.specs.Form.{Heading, Form, plain, by_name, record_of, enum_of, array_of, map_of, union_of, fixed_of, ill_formed, Forms, no_forms, and_form, Fields, no_fields, ill_fields, and_field}
 use Rattle.avro_schema.specs.Places.{count, forms_count, fields_count, own_namespace, Place, place, places, type_name, places_in, places_of_forms, places_of_fields, Definition, definition_at, definitions, defined, defined_by, named}
 use Rattle.avro_schema.specs.Nodes.{type_aliases, field_at, node_id, branches, field_list, node_of, node_at}
-use Rattle.avro_schema.specs.Faults.{unless, fits_union, kind_of, kinds, is_new, heading_faults, field_list_faults, symbols_faults, size_faults, faults_of, faults_at}
+use Rattle.avro_schema.specs.Faults.{unless, fits_union, kind_in_union, kinds, is_new, heading_faults, field_list_faults, symbols_faults, size_faults, faults_of, faults_at}
 
 -- each of the definitions opens at node n or after it
 abbrev pub From : ℕ → List Definition → Type 0
@@ -50,7 +50,7 @@ module _ (ds es : List Definition) where
   node_id-later ns n (by_name s) p = simp (named-later n ns s p)
   node_id-later ns n _ p = refl
 
-  pub kind_of-later : (ns : List ℕ) (n : ℕ) (f : Form) → From n es → kind_of (ds ++ es) ns n f ≡ kind_of ds ns n f
+  pub kind_of-later : (ns : List ℕ) (n : ℕ) (f : Form) → From n es → kind_in_union (ds ++ es) ns n f ≡ kind_in_union ds ns n f
   kind_of-later ns n (by_name s) p = simp (named-later n ns s p)
   kind_of-later ns n _ p = refl
 
@@ -66,7 +66,7 @@ module _ (ds es : List Definition) where
   kinds-later ns n (and_form f fs) p =
       let here : From n es = From-weaker _ _ es (omega arith) p in
       let rest : From (n + count f + forms_count fs) es = From-weaker _ _ es (omega arith) p in
-      ap (λ i. i ∷ kinds (ds ++ es) ns (n + count f) fs) (kind_of-later ns n f here) ∙ ap (λ is. kind_of ds ns n f ∷ is) (kinds-later ns (n + count f) fs rest)
+      ap (λ i. i ∷ kinds (ds ++ es) ns (n + count f) fs) (kind_of-later ns n f here) ∙ ap (λ is. kind_in_union ds ns n f ∷ is) (kinds-later ns (n + count f) fs rest)
 
   pub field_list-later : (ns : List ℕ) (n : ℕ) (fs : Fields) → From (n + fields_count fs) es → field_list (ds ++ es) ns n fs ≡ field_list ds ns n fs
   field_list-later ns n no_fields p = refl

@@ -11,7 +11,7 @@ use Rattle.avro_schema.specs.Names.{all_distinct}
 use Rattle.avro_schema.specs.Form.{Heading, Form, plain, by_name, record_of, enum_of, array_of, map_of, union_of, fixed_of, ill_formed, Forms, no_forms, and_form, Fields, no_fields, ill_fields, and_field}
 use Rattle.avro_schema.specs.Places.{count, forms_count, fields_count, Place, places, places_of_forms, places_of_fields, type_name, Definition, named}
 use Rattle.avro_schema.specs.Nodes.{node_id, definition_id, branches, field_list, node_of, node_at}
-use Rattle.avro_schema.specs.Faults.{unless, faults_of, faults_at, is_union, same_kind, fits_union, kind_of, kinds, fits_fields, field_list_faults, heading_faults, are_written, is_formed, field_headings}
+use Rattle.avro_schema.specs.Faults.{unless, faults_of, faults_at, is_union_kind, same_kind, fits_union, kind_in_union, kinds, fits_fields, field_list_faults, heading_faults, are_written, is_formed, field_headings}
 use Rattle.avro_schema.specs.Sound.{inner, fields_of_node, parts_of_node, IsNoUnion, HaveDistinctNames}
 use Rattle.avro_schema.proofs.Later.{count-type}
 use Rattle.avro_schema.proofs.Numbered.{HasName, Stands, stands_front, stands_rest}
@@ -116,7 +116,7 @@ module _ (ds : List Definition) (all : List Node) (known : (ns s : List ℕ) (n 
   written_no_union n x at flat bs e = flat bs (sym (at x refl) ∙ e)
 
   -- a branch that is no union
-  branch_no_union : (ns : List ℕ) (n : ℕ) (f : Form) → faults_of ds ns n f ≡ [] → ((x : Node) → node_of ds ns n f ≡ Some x → slice_get all n ≡ Some x) → is_union (kind_of ds ns n f) ≡ false → IsNoUnion (slice_get all (node_id ds ns n f).index)
+  branch_no_union : (ns : List ℕ) (n : ℕ) (f : Form) → faults_of ds ns n f ≡ [] → ((x : Node) → node_of ds ns n f ≡ Some x → slice_get all n ≡ Some x) → is_union_kind (kind_in_union ds ns n f) ≡ false → IsNoUnion (slice_get all (node_id ds ns n f).index)
   branch_no_union ns n (plain p) e at apart = written_no_union n _ at (λ bs f. cc)
   branch_no_union ns n (by_name s) e at apart = used_no_union ns s n (named ds n ns s) refl e
   branch_no_union ns n (record_of h fs) e at apart = written_no_union n _ at (λ bs f. cc)
@@ -134,11 +134,11 @@ module _ (ds : List Definition) (all : List Node) (known : (ns s : List ℕ) (n 
       let here : IsPart all n (node_id ds ns n f) = part_of ns n f (nil-left _ _ e) (omega arith) in
       All-cons (λ (i : NodeId). i.index < length all) _ _ here.0 (branches_below ns (n + count f) fs (good_rest ds (places ns n f) (places_of_forms ns (n + count f) fs) e) (omega arith))
 
-  branches_flat : (ns : List ℕ) (n : ℕ) (fs : Forms) → Good ds (places_of_forms ns n fs) → Stands ds all (places_of_forms ns n fs) → list_any is_union (kinds ds ns n fs) ≡ false → AreNoUnions all (branches ds ns n fs)
+  branches_flat : (ns : List ℕ) (n : ℕ) (fs : Forms) → Good ds (places_of_forms ns n fs) → Stands ds all (places_of_forms ns n fs) → list_any is_union_kind (kinds ds ns n fs) ≡ false → AreNoUnions all (branches ds ns n fs)
   branches_flat ns n no_forms e st apart = All-nil (λ (i : NodeId). IsNoUnion (slice_get all i.index))
   branches_flat ns n (and_form f fs) e st apart =
       let qs = places_of_forms ns (n + count f) fs in
-      let both = neither (is_union (kind_of ds ns n f)) (list_any is_union (kinds ds ns (n + count f) fs)) apart in
+      let both = neither (is_union_kind (kind_in_union ds ns n f)) (list_any is_union_kind (kinds ds ns (n + count f) fs)) apart in
       All-cons (λ (i : NodeId). IsNoUnion (slice_get all i.index)) (node_id ds ns n f) (branches ds ns (n + count f) fs)
       (branch_no_union ns n f (nil-left _ _ e) st.0 both.0)
       (branches_flat ns (n + count f) fs (good_rest ds (places ns n f) qs e) (stands_rest ds all (places ns n f) qs st) both.1)

@@ -18,11 +18,7 @@ pub mod DistinctNames
 pub mod Leading
 pub mod Sound
 pub mod DefaultLemmas
-pub mod WordLength
-pub mod StringLength
-pub mod LexedLength
-pub mod TokenLength
-pub mod NumberLength
-pub mod CompactLength
 pub mod NormalLemmas
 pub mod NoSchema
+pub mod ReadsBack
+pub mod NormalMeaning

@@ -1,4 +1,4 @@
--- The reader's map of names, beside the definitions that it has met.
+-- The builder's map of names, beside the definitions that it has met.
 use Rattle.std.proofs.Common.{◌≡◌, ℕ, ◌+◌, ◌≤◌, ◌<◌, List, [], ◌∷◌, ◌++◌, length, Bool, true, false, ◌&&◌, nat_lt, cond, Option, Some, None, is_some, is_none, option_map, find, bytes_eq, Result, refl, sym, ◌∙◌, ap, subst, arith, IfOk}
 use Rattle.std.specs.Option.{option_or}
 use Rattle.std.specs.BTreeMap.{get_by_text}
@@ -9,13 +9,13 @@ use Rattle.std.proofs.lemmas.Slice.Eq.{bytes_eq-Decides}
 use Rattle.avro_schema.specs.declared.kinds.Kind.TheVariants as kind
 use Rattle.avro_schema.specs.declared.node.Node.{Node}
 use denote.Ref.{Bor}
-use Rattle.avro_schema.specs.declared.reader.Reader.{Reader}
+use Rattle.avro_schema.specs.declared.builder.Builder.{Builder}
 use Rattle.avro_schema.specs.Names.{has_dot, joined}
 use Rattle.avro_schema.specs.Places.{Definition, defined, named}
 use Rattle.avro_schema.specs.Faults.{kind_named}
-use Rattle.avro_schema.specs.Schema.{most_nodes}
-use Rattle.avro_schema.specs.Reader.{Before, nodes_of, opened, node_named, HasMet}
+use Rattle.avro_schema.specs.Building.{Before, nodes_of, opened, node_named, HasMet}
 use Rattle.avro_schema.proofs.Types.{found-at, opened-more}
+use Rattle.avro_schema.specs.declared.limits.TheConstants.{MOST_NODES}
 
 pub same_result : {T E : Type 0} (r : Result T E) (m n : T) → m ≡ n → IfOk r (λ x. x ≡ m) → IfOk r (λ x. x ≡ n)
 same_result r m n e h = subst (λ y. IfOk r (λ x. x ≡ y)) e h
@@ -29,7 +29,7 @@ Before-push n [] d b lt = (lt, tt)
 Before-push n (x ∷ ds) d b lt = (b.0, Before-push n ds d b.1 lt)
 
 -- one more node is open
-pub met_more : (a b : Reader) (ds : List Definition) (x : Node) → nodes_of b ≡ nodes_of a ++ x ∷ [] → b.names ≡ a.names → opened a < most_nodes → HasMet a ds → HasMet b ds
+pub met_more : (a b : Builder) (ds : List Definition) (x : Node) → nodes_of b ≡ nodes_of a ++ x ∷ [] → b.names ≡ a.names → opened a < MOST_NODES → HasMet a ds → HasMet b ds
 met_more a b ds x opens keeps lt met =
     let more : opened b ≡ opened a + 1 = opened-more x a b opens in
     record {
@@ -56,7 +56,7 @@ named_too ds bs i s true e new =
 named_too ds bs i s false e new =
     sym (ap (option_map (λ d. d.node)) (find-append (λ d. bytes_eq d.name s) ds (record { name = bs; node = i } ∷ []) ∙ ap (λ b. option_or (find (λ d. bytes_eq d.name s) ds) (cond b (Some (record { name = bs; node = i })) None)) e ∙ or_none _))
 
-pub met_named : (a b c : Reader) (ds : List Definition) (x : Node) (bs : List ℕ) → nodes_of b ≡ nodes_of a ++ x ∷ [] → b.names ≡ a.names → HasMet b ds → get_by_text a.names bs ≡ None → c.nodes ≡ b.nodes
+pub met_named : (a b c : Builder) (ds : List Definition) (x : Node) (bs : List ℕ) → nodes_of b ≡ nodes_of a ++ x ∷ [] → b.names ≡ a.names → HasMet b ds → get_by_text a.names bs ≡ None → c.nodes ≡ b.nodes
     → ((cs : List ℕ) → get_by_text c.names cs ≡ cond (bytes_eq bs cs) (Some (opened a)) (get_by_text b.names cs)) → HasMet c (ds ++ record { name = bs; node = opened a } ∷ [])
 met_named a b c ds x bs opens keeps met new stays updates =
     let more : opened b ≡ opened a + 1 = opened-more x a b opens in
@@ -77,17 +77,17 @@ none_not None e = cc
 none_not (Some d) e = refl
 
 -- a name that the map has is defined
-pub is_defined : (r : Reader) (ds : List Definition) (s : List ℕ) (b : Bool) → HasMet r ds → is_some (get_by_text r.names s) ≡ b → is_some (defined ds (opened r) s) ≡ b
+pub is_defined : (r : Builder) (ds : List Definition) (s : List ℕ) (b : Bool) → HasMet r ds → is_some (get_by_text r.names s) ≡ b → is_some (defined ds (opened r) s) ≡ b
 is_defined r ds s b met e = sym (some_node (defined ds (opened r) s)) ∙ ap is_some (sym (found-at r ds s met)) ∙ e
 
-pub not_new : (r : Reader) (ds : List Definition) (s : List ℕ) → HasMet r ds → is_some (get_by_text r.names s) ≡ true → is_none (defined ds (opened r) s) ≡ false
+pub not_new : (r : Builder) (ds : List Definition) (s : List ℕ) → HasMet r ds → is_some (get_by_text r.names s) ≡ true → is_none (defined ds (opened r) s) ≡ false
 not_new r ds s met e = none_not _ (is_defined r ds s true met e)
 
 no_definition : (o : Option Definition) → is_some o ≡ false → o ≡ None
 no_definition None e = refl
 no_definition (Some d) e = cc
 
-pub is_undefined : (r : Reader) (ds : List Definition) (s : List ℕ) → HasMet r ds → is_some (get_by_text r.names s) ≡ false → defined ds (opened r) s ≡ None
+pub is_undefined : (r : Builder) (ds : List Definition) (s : List ℕ) → HasMet r ds → is_some (get_by_text r.names s) ≡ false → defined ds (opened r) s ≡ None
 is_undefined r ds s met e = no_definition _ (is_defined r ds s false met e)
 
 or_some : {A : Type 0} (o p : Option A) → is_some o ≡ true → option_or o p ≡ o
@@ -97,18 +97,18 @@ or_some (Some x) p e = refl
 pub named_dotted : (ds : List Definition) (n : ℕ) (ns s : List ℕ) → has_dot s ≡ true → named ds n ns s ≡ defined ds n s
 named_dotted ds n ns s e = ap (λ b. cond b (defined ds n s) (option_or (defined ds n (joined ns s)) (defined ds n s))) e
 
-pub named_near : (r : Reader) (ds : List Definition) (ns s full : List ℕ) → HasMet r ds → has_dot s ≡ false → full ≡ joined ns s → is_some (get_by_text r.names full) ≡ true → named ds (opened r) ns s ≡ defined ds (opened r) full
+pub named_near : (r : Builder) (ds : List Definition) (ns s full : List ℕ) → HasMet r ds → has_dot s ≡ false → full ≡ joined ns s → is_some (get_by_text r.names full) ≡ true → named ds (opened r) ns s ≡ defined ds (opened r) full
 named_near r ds ns s full met e is found =
     let some : is_some (defined ds (opened r) (joined ns s)) ≡ true = ap (λ t. is_some (defined ds (opened r) t)) (sym is) ∙ is_defined r ds full true met found in
     ap (λ b. cond b (defined ds (opened r) s) (option_or (defined ds (opened r) (joined ns s)) (defined ds (opened r) s))) e ∙ or_some _ _ some ∙ ap (λ t. defined ds (opened r) t) (sym is)
 
-pub named_far : (r : Reader) (ds : List Definition) (ns s full : List ℕ) → HasMet r ds → has_dot s ≡ false → full ≡ joined ns s → is_some (get_by_text r.names full) ≡ false → named ds (opened r) ns s ≡ defined ds (opened r) s
+pub named_far : (r : Builder) (ds : List Definition) (ns s full : List ℕ) → HasMet r ds → has_dot s ≡ false → full ≡ joined ns s → is_some (get_by_text r.names full) ≡ false → named ds (opened r) ns s ≡ defined ds (opened r) s
 named_far r ds ns s full met e is absent =
     let none : defined ds (opened r) (joined ns s) ≡ None = ap (λ t. defined ds (opened r) t) (sym is) ∙ is_undefined r ds full met absent in
     ap (λ b. cond b (defined ds (opened r) s) (option_or (defined ds (opened r) (joined ns s)) (defined ds (opened r) s))) e ∙ ap (λ o. option_or o (defined ds (opened r) s)) none
 
 -- what a look-up of the text s gives, where that is what a use names
-pub looked_up : (r : Reader) (ds : List Definition) (s : List ℕ) (o : Option Definition) → HasMet r ds → o ≡ defined ds (opened r) s → get_by_text r.names s ≡ option_map (λ d. d.node) o
+pub looked_up : (r : Builder) (ds : List Definition) (s : List ℕ) (o : Option Definition) → HasMet r ds → o ≡ defined ds (opened r) s → get_by_text r.names s ≡ option_map (λ d. d.node) o
 looked_up r ds s o met e = found-at r ds s met ∙ ap (option_map (λ d. d.node)) (sym e)
 
 -- ---- kinds

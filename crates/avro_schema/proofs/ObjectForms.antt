@@ -12,7 +12,7 @@ use Rattle.serde_json.specs.declared.number.Number.{Number}
 use Rattle.avro_schema.specs.declared.word.TypeWord.{TypeWord}
 use Rattle.avro_schema.specs.declared.word.TypeWord.TheVariants as word
 use Rattle.avro_schema.specs.Form.{Form, Fields, ill_formed, form, form_at, fields_at, fields_in, type_in, type_word, string_at, object_of, object_of_word, record_of, array_of, map_of, heading_of}
-use Rattle.avro_schema.specs.Reader.{form_or_ill, form_in, fields_or_ill, items_at, is_object}
+use Rattle.avro_schema.specs.Building.{form_or_ill, form_in, fields_or_ill, items_at, is_object}
 
 -- ---- what a value is seen as
 

@@ -1,4 +1,4 @@
--- What the reader holds after one type and then another, and which faults stand.
+-- What the builder holds after one type and then another, and which faults stand.
 use Rattle.std.proofs.Common.{◌≡◌, inl, inr, ℕ, ◌+◌, ◌≤◌, List, [], ◌∷◌, ◌++◌, length, set, Bool, true, false, nat_le, Some, None, Contains, refl, sym, ◌∙◌, ap, subst, arith, filter_map, append_assoc, length-append, length-set}
 use Rattle.std.specs.List.{cons_option, flat_map}
 use Rattle.std.proofs.lemmas.List.{append-nil}
@@ -8,14 +8,15 @@ use Rattle.std.proofs.Math.Seq.{set-append_seam}
 use Rattle.avro_schema.specs.declared.error.SchemaError.{SchemaError}
 use Rattle.avro_schema.specs.declared.error.SchemaError.TheVariants as fault
 use Rattle.avro_schema.specs.declared.node.Node.{Node}
-use Rattle.avro_schema.specs.declared.reader.Reader.{Reader}
+use Rattle.avro_schema.specs.declared.builder.Builder.{Builder}
 use Rattle.avro_schema.specs.Form.{Form, Forms, Fields}
 use Rattle.avro_schema.specs.Places.{count, forms_count, fields_count, Place, places, places_of_forms, places_of_fields, Definition, definition_at, definitions}
 use Rattle.avro_schema.specs.Nodes.{node_at}
 use Rattle.avro_schema.specs.Faults.{unless, faults_at}
-use Rattle.avro_schema.specs.Schema.{most_nodes, IsRefusalBy}
-use Rattle.avro_schema.specs.Reader.{Before, nodes_of, opened, HasMet, Reads, too_many, faults_in}
+use Rattle.avro_schema.specs.Schema.{IsRefusalBy}
+use Rattle.avro_schema.specs.Building.{Before, nodes_of, opened, HasMet, Reads, too_many, faults_in}
 use Rattle.avro_schema.proofs.Later.{SameAlong, count-type, count-forms, count-fields}
+use Rattle.avro_schema.specs.declared.limits.TheConstants.{MOST_NODES}
 
 -- ---- refusals
 
@@ -51,7 +52,7 @@ nat_le-down : (m k n : ℕ) → m ≤ k → nat_le k n ≡ true → nat_le m n �
 nat_le-down m k n h t = grind arith
 
 pub more_nodes : (m k : ℕ) (e : SchemaError) → m ≤ k → Contains (too_many m) e → Contains (too_many k) e
-more_nodes m k e h = unless-mono (nat_le m most_nodes) (nat_le k most_nodes) fault.TooManyNodes e (nat_le-down m k most_nodes h)
+more_nodes m k e h = unless-mono (nat_le m MOST_NODES) (nat_le k MOST_NODES) fault.TooManyNodes e (nat_le-down m k MOST_NODES h)
 
 pub unless-nil : (b : Bool) (x : SchemaError) → b ≡ true → unless b x ≡ []
 unless-nil true x h = refl
@@ -81,18 +82,18 @@ pub definitions-append : (ds : List Definition) (ps qs : List Place) → (ds ++ 
 definitions-append ds ps qs = append_assoc ds (definitions ps) (definitions qs) ∙ ap (λ l. ds ++ l) (sym (filter_map-append definition_at ps qs))
 
 -- from a to b the types at these places were read, where the definitions are es in all
-pub record ReadsTo (es : List Definition) (ps : List Place) (a b : Reader) : Type 0 where
+pub record ReadsTo (es : List Definition) (ps : List Place) (a b : Builder) : Type 0 where
   pub nodes : nodes_of b ≡ nodes_of a ++ filter_map (node_at es) ps
   pub met : HasMet b es
   pub none_stands : flat_map (faults_at es) ps ≡ []
 
-pub to : (ds : List Definition) (ps : List Place) (a b : Reader) → Reads ds ps a b → ReadsTo (ds ++ definitions ps) ps a b
+pub to : (ds : List Definition) (ps : List Place) (a b : Builder) → Reads ds ps a b → ReadsTo (ds ++ definitions ps) ps a b
 to ds ps a b r = record { nodes = r.nodes; met = r.met; none_stands = r.none_stands }
 
-pub from_to : (ds es : List Definition) (ps : List Place) (a b : Reader) → es ≡ ds ++ definitions ps → ReadsTo es ps a b → Reads ds ps a b
+pub from_to : (ds es : List Definition) (ps : List Place) (a b : Builder) → es ≡ ds ++ definitions ps → ReadsTo es ps a b → Reads ds ps a b
 from_to ds es ps a b e r = let s : ReadsTo (ds ++ definitions ps) ps a b = subst (λ l. ReadsTo l ps a b) e r in record { nodes = s.nodes; met = s.met; none_stands = s.none_stands }
 
-pub Reads-append : (ds : List Definition) (ps qs : List Place) (a b c : Reader) → SameAlong (ds ++ definitions ps) (definitions qs) ps → Reads ds ps a b → Reads (ds ++ definitions ps) qs b c → Reads ds (ps ++ qs) a c
+pub Reads-append : (ds : List Definition) (ps qs : List Place) (a b c : Builder) → SameAlong (ds ++ definitions ps) (definitions qs) ps → Reads ds ps a b → Reads (ds ++ definitions ps) qs b c → Reads ds (ps ++ qs) a c
 Reads-append ds ps qs a b c same r s =
     let es : List Definition = (ds ++ definitions ps) ++ definitions qs in
     let whole : ReadsTo es (ps ++ qs) a c = record {
@@ -105,18 +106,18 @@ Reads-append ds ps qs a b c same r s =
 opened-length : (xs ys zs : List Node) (n : ℕ) → zs ≡ xs ++ ys → length ys ≡ n → length zs ≡ length xs + n
 opened-length xs ys zs n e h = ap length e ∙ grind (arith, length-append)
 
-pub opened-type : (ds : List Definition) (ns : List ℕ) (n : ℕ) (f : Form) (a b : Reader) → Reads ds (places ns n f) a b → opened b ≡ opened a + count f
+pub opened-type : (ds : List Definition) (ns : List ℕ) (n : ℕ) (f : Form) (a b : Builder) → Reads ds (places ns n f) a b → opened b ≡ opened a + count f
 opened-type ds ns n f a b r = opened-length _ _ _ _ r.nodes (count-type _ ns n f)
 
-pub opened-forms : (ds : List Definition) (ns : List ℕ) (n : ℕ) (fs : Forms) (a b : Reader) → Reads ds (places_of_forms ns n fs) a b → opened b ≡ opened a + forms_count fs
+pub opened-forms : (ds : List Definition) (ns : List ℕ) (n : ℕ) (fs : Forms) (a b : Builder) → Reads ds (places_of_forms ns n fs) a b → opened b ≡ opened a + forms_count fs
 opened-forms ds ns n fs a b r = opened-length _ _ _ _ r.nodes (count-forms _ ns n fs)
 
-pub opened-fields : (ds : List Definition) (ns : List ℕ) (n : ℕ) (fs : Fields) (a b : Reader) → Reads ds (places_of_fields ns n fs) a b → opened b ≡ opened a + fields_count fs
+pub opened-fields : (ds : List Definition) (ns : List ℕ) (n : ℕ) (fs : Fields) (a b : Builder) → Reads ds (places_of_fields ns n fs) a b → opened b ≡ opened a + fields_count fs
 opened-fields ds ns n fs a b r = opened-length _ _ _ _ r.nodes (count-fields _ ns n fs)
 
 -- ---- a node that opens before its parts, and is written when they are read
 
-pub closes : (es : List Definition) (p : Place) (ps : List Place) (x y : Node) (a a1 b c : Reader) → nodes_of a1 ≡ nodes_of a ++ y ∷ [] → ReadsTo es ps a1 b
+pub closes : (es : List Definition) (p : Place) (ps : List Place) (x y : Node) (a a1 b c : Builder) → nodes_of a1 ≡ nodes_of a ++ y ∷ [] → ReadsTo es ps a1 b
     → nodes_of c ≡ set (nodes_of b) (opened a) x → c.names ≡ b.names → node_at es p ≡ Some x → faults_at es p ≡ [] → ReadsTo es (p ∷ ps) a c
 closes es p ps x y a a1 b c opens r writes keeps is good =
     let inner : List Node = filter_map (node_at es) ps in
@@ -125,12 +126,12 @@ closes es p ps x y a a1 b c opens r writes keeps is good =
     let same : opened c ≡ opened b = ap length writes ∙ length-set (nodes_of b) (opened a) x in
     record {
       nodes = done ∙ ap (λ o. nodes_of a ++ cons_option o inner) (sym is);
-      met = record { names = λ s. rw keeps (r.met.names s); before = subst (λ n. Before n es) (sym same) r.met.before; small = subst (λ n. n ≤ most_nodes) (sym same) r.met.small };
+      met = record { names = λ s. rw keeps (r.met.names s); before = subst (λ n. Before n es) (sym same) r.met.before; small = subst (λ n. n ≤ MOST_NODES) (sym same) r.met.small };
       none_stands = nil-append _ _ good r.none_stands;
     }
 
 -- a node that has no parts
-pub opens_one : (es : List Definition) (p : Place) (x : Node) (a b : Reader) → nodes_of b ≡ nodes_of a ++ x ∷ [] → HasMet b es → node_at es p ≡ Some x → faults_at es p ≡ [] → ReadsTo es (p ∷ []) a b
+pub opens_one : (es : List Definition) (p : Place) (x : Node) (a b : Builder) → nodes_of b ≡ nodes_of a ++ x ∷ [] → HasMet b es → node_at es p ≡ Some x → faults_at es p ≡ [] → ReadsTo es (p ∷ []) a b
 opens_one es p x a b opens met is good = record {
   nodes = opens ∙ ap (λ o. nodes_of a ++ cons_option o []) (sym is);
   met = met;
@@ -138,7 +139,7 @@ opens_one es p x a b opens met is good = record {
 }
 
 -- a type that adds no node
-pub opens_none : (es : List Definition) (p : Place) (a : Reader) → HasMet a es → node_at es p ≡ None → faults_at es p ≡ [] → ReadsTo es (p ∷ []) a a
+pub opens_none : (es : List Definition) (p : Place) (a : Builder) → HasMet a es → node_at es p ≡ None → faults_at es p ≡ [] → ReadsTo es (p ∷ []) a a
 opens_none es p a met is good = record {
   nodes = sym (append-nil (nodes_of a)) ∙ ap (λ o. nodes_of a ++ cons_option o []) (sym is);
   met = met;

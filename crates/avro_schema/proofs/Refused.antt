@@ -12,7 +12,7 @@ use Rattle.avro_schema.specs.Form.{Heading, Form, Forms, Fields, by_name, record
 use Rattle.avro_schema.specs.Places.{count, forms_count, fields_count, type_name, places_of_fields, Definition, definitions, defined, named}
 use Rattle.avro_schema.specs.Faults.{unless, fits_fields, faults_at, is_new, heading_faults, written_faults, symbols_faults, size_faults, field_list_faults}
 use Rattle.avro_schema.specs.Schema.{IsRefusalBy}
-use Rattle.avro_schema.specs.Reader.{too_many, type_faults, branches_faults, fields_faults, has_distinct_names, HasNames}
+use Rattle.avro_schema.specs.Building.{too_many, type_faults, branches_faults, fields_faults, has_distinct_names, HasNames}
 use Rattle.avro_schema.proofs.Later.{From, defined-later, definitions_of_fields-from}
 use Rattle.avro_schema.proofs.Reading.{weaken, left, alone, in_parts, in_own, in_count}
 use Rattle.avro_schema.proofs.Types.{definition_of, defined_by-names, is_new-names, defined_first}

@@ -10,8 +10,8 @@ use Rattle.avro_schema.specs.declared.kinds.Kind.{Kind}
 use Rattle.avro_schema.specs.declared.kinds.Kind.TheVariants as kind
 use Rattle.avro_schema.specs.declared.kinds.Kinds.{Kinds}
 use Rattle.avro_schema.specs.Names.{all_distinct}
-use Rattle.avro_schema.specs.Faults.{same_kind, is_union}
-use Rattle.avro_schema.specs.Reader.{HoldsKinds, may_stand}
+use Rattle.avro_schema.specs.Faults.{same_kind, is_union_kind}
+use Rattle.avro_schema.specs.Building.{HoldsKinds, may_stand}
 use Rattle.avro_schema.proofs.TextLemmas.{bytes_eq-sym, all_distinct-middle}
 
 by_cases : (b o : Bool) → cond b true o ≡ o || (b || false)
@@ -73,7 +73,7 @@ added_unnamed s n k key ks fits holds is updates keeps added = (
     unnamed = put_kind kind.Unnamed s.unnamed n.unnamed key ks k (λ q. any_unnamed q k key is) holds.unnamed updates;
     named = λ t. ap (λ m. contains (slice_cmp nat_cmp) m t) keeps ∙ holds.named t ∙ sym (same_any (same_kind (kind.Named t)) ks k (ap (same_kind (kind.Named t)) is));
   },
-  added ∙ ap not (holds.unnamed key) ∙ ap (λ (j : Kind). not (is_union j) && not (list_any (same_kind j) ks)) (sym is),
+  added ∙ ap not (holds.unnamed key) ∙ ap (λ (j : Kind). not (is_union_kind j) && not (list_any (same_kind j) ks)) (sym is),
 )
 
 pub added_named : (s n : Kinds) (k : Kind) (key : List ℕ) (ks : List Kind) (fits : Bool) → HoldsKinds s ks → k ≡ kind.Named key → Updates (slice_cmp nat_cmp) s.named n.named key true → n.unnamed ≡ s.unnamed → fits ≡ not (contains (slice_cmp nat_cmp) s.named key)
@@ -83,7 +83,7 @@ added_named s n k key ks fits holds is updates keeps added = (
     unnamed = λ t. ap (λ m. contains (slice_cmp nat_cmp) m t) keeps ∙ holds.unnamed t ∙ sym (same_any (same_kind (kind.Unnamed t)) ks k (ap (same_kind (kind.Unnamed t)) is));
     named = put_kind kind.Named s.named n.named key ks k (λ q. any_named q k key is) holds.named updates;
   },
-  added ∙ ap not (holds.named key) ∙ ap (λ (j : Kind). not (is_union j) && not (list_any (same_kind j) ks)) (sym is),
+  added ∙ ap not (holds.named key) ∙ ap (λ (j : Kind). not (is_union_kind j) && not (list_any (same_kind j) ks)) (sym is),
 )
 
 none_any : (ks : List Kind) → list_any (same_kind kind.Unknown) ks ≡ false
@@ -104,7 +104,7 @@ added_none s k ks fits holds p q e = (
 )
 
 pub added_unknown : (s : Kinds) (k : Kind) (ks : List Kind) → HoldsKinds s ks → k ≡ kind.Unknown → HoldsKinds s (ks ++ k ∷ []) × (true ≡ may_stand k ks)
-added_unknown s k ks holds is = added_none s k ks true holds (λ t. ap (same_kind (kind.Unnamed t)) is) (λ t. ap (same_kind (kind.Named t)) is) (ap not (sym (none_any ks)) ∙ ap (λ (j : Kind). not (is_union j) && not (list_any (same_kind j) ks)) (sym is))
+added_unknown s k ks holds is = added_none s k ks true holds (λ t. ap (same_kind (kind.Unnamed t)) is) (λ t. ap (same_kind (kind.Named t)) is) (ap not (sym (none_any ks)) ∙ ap (λ (j : Kind). not (is_union_kind j) && not (list_any (same_kind j) ks)) (sym is))
 
 pub added_union : (s : Kinds) (k : Kind) (ks : List Kind) → HoldsKinds s ks → k ≡ kind.Union → HoldsKinds s (ks ++ k ∷ []) × (false ≡ may_stand k ks)
-added_union s k ks holds is = added_none s k ks false holds (λ t. ap (same_kind (kind.Unnamed t)) is) (λ t. ap (same_kind (kind.Named t)) is) (ap (λ (j : Kind). not (is_union j) && not (list_any (same_kind j) ks)) (sym is))
+added_union s k ks holds is = added_none s k ks false holds (λ t. ap (same_kind (kind.Unnamed t)) is) (λ t. ap (same_kind (kind.Named t)) is) (ap (λ (j : Kind). not (is_union_kind j) && not (list_any (same_kind j) ks)) (sym is))

@@ -14,12 +14,13 @@ use Rattle.avro_schema.specs.Form.{Form, form, by_name, ill_formed}
 use Rattle.avro_schema.specs.Places.{count, places, Definition, definitions, named}
 use Rattle.avro_schema.specs.Nodes.{nodes}
 use Rattle.avro_schema.specs.Faults.{unless, form_faults}
-use Rattle.avro_schema.specs.Schema.{Meaning, longest_text, most_nodes, data_faults, json_faults, if_none_stands, schema_of}
+use Rattle.avro_schema.specs.Schema.{Meaning, data_faults, json_faults, if_none_stands, schema_of}
 use Rattle.avro_schema.specs.Sound.{inner, IsSound}
 use Rattle.avro_schema.proofs.Later.{count-type}
 use Rattle.avro_schema.proofs.Numbered.{Numbered-type, IsNamedAt, named_at, Stands, numbered_stand}
 use Rattle.avro_schema.proofs.Leading.{IsDefinedAt, IsWell, AreWell, well_type, well_at}
 use Rattle.avro_schema.proofs.Reading.{nil-left, nil-right}
+use Rattle.avro_schema.specs.declared.limits.TheConstants.{LONGEST_TEXT, MOST_NODES}
 
 -- ---- one root
 
@@ -82,7 +83,7 @@ sound_form f e = record {
 }
 
 -- where something is given, no fault stands
-none_stood : {A : Type 0} (es : List SchemaError) (x y : A) → if_none_stands es x ≡ Some y → (es ≡ []) × (x ≡ y)
+pub none_stood : {A : Type 0} (es : List SchemaError) (x y : A) → if_none_stands es x ≡ Some y → (es ≡ []) × (x ≡ y)
 none_stood [] x y e = (refl, cc)
 none_stood (z ∷ es) x y e = cc
 
@@ -92,9 +93,9 @@ sound_data es None m e = cc
 sound_data es (Some d) m e =
     let means : Meaning = record { nodes = nodes (form d); normal_text = compact_text d } in
     let stood : (es ++ data_faults d ≡ []) × (means ≡ m) = none_stood (es ++ data_faults d) means m e in
-    let none : form_faults (form d) ≡ [] = nil-right (unless (not (has_float d)) fault.FloatNumber ++ unless (nat_le (count (form d)) most_nodes) fault.TooManyNodes) _ (nil-right es (data_faults d) stood.0) in
+    let none : form_faults (form d) ≡ [] = nil-right (unless (not (has_float d)) fault.FloatNumber ++ unless (nat_le (count (form d)) MOST_NODES) fault.TooManyNodes) _ (nil-right es (data_faults d) stood.0) in
     subst (λ (k : Meaning). IsSound k.nodes) stood.1 (sound_form (form d) none)
 
 -- the nodes of each schema that is read from a text
 pub sound_text : (text : List ℕ) (m : Meaning) → schema_of text ≡ Some m → IsSound m.nodes
-sound_text text m e = sound_data (unless (nat_le (length text) longest_text) fault.TooLong) (read text) m e
+sound_text text m e = sound_data (unless (nat_le (length text) LONGEST_TEXT) fault.TooLong) (read text) m e

@@ -13,14 +13,14 @@ use Rattle.avro_schema.specs.declared.node.Node.TheVariants as kind
 use Rattle.avro_schema.specs.declared.node.NodeId.{NodeId}
 use Rattle.avro_schema.specs.declared.node.Field.{Field}
 use Rattle.avro_schema.specs.declared.node.Primitive.{Primitive}
-use Rattle.avro_schema.specs.declared.reader.Reader.{Reader}
+use Rattle.avro_schema.specs.declared.builder.Builder.{Builder}
 use Rattle.avro_schema.specs.declared.symbols.Symbols.{Symbols}
 use Rattle.avro_schema.specs.Names.{full_text}
 use Rattle.avro_schema.specs.Form.{Heading, Form, Forms, Fields, plain, by_name, record_of, enum_of, fixed_of, array_of, map_of, union_of}
 use Rattle.avro_schema.specs.Places.{own_namespace, type_name, Place, place, places, places_of_forms, places_of_fields, Definition, definition_at, definitions, defined, defined_by, named}
 use Rattle.avro_schema.specs.Nodes.{node_at, node_id, definition_id, branches, field_list, type_aliases, size_of}
 use Rattle.avro_schema.specs.Faults.{unless, if_written, fits_union, kinds, faults_at, is_new, heading_faults, field_list_faults, fits_enum, are_written, is_formed, has_good_aliases, field_headings}
-use Rattle.avro_schema.specs.Reader.{Before, nodes_of, opened, HasMet, Reads, IsTypeRead, AreBranchesRead, AreFieldsRead, are_formed, has_distinct_names, HasNames, HasSymbols, HasSize}
+use Rattle.avro_schema.specs.Building.{Before, nodes_of, opened, HasMet, Reads, IsTypeRead, AreBranchesRead, AreFieldsRead, are_formed, has_distinct_names, HasNames, HasSymbols, HasSize}
 use Rattle.avro_schema.proofs.Later.{From, defined-later, definitions_of_fields-from}
 use Rattle.avro_schema.proofs.Reading.{unless-nil, nil-append, to, from_to, closes, opens_one, opens_none}
 
@@ -38,12 +38,12 @@ pub defined-all : (ds : List Definition) (n : ℕ) (s : List ℕ) → Before n d
 defined-all [] n s b = refl
 defined-all (d ∷ ds) n s b = ap (λ t. cond (t && bytes_eq d.name s) (Some d) (defined ds n s)) (lt-ltb d.node n b.0) ∙ ap (λ o. cond (bytes_eq d.name s) (Some d) o) (defined-all ds n s b.1)
 
-pub found-at : (r : Reader) (ds : List Definition) (s : List ℕ) → HasMet r ds → get_by_text r.names s ≡ option_map (λ d. d.node) (defined ds (opened r) s)
+pub found-at : (r : Builder) (ds : List Definition) (s : List ℕ) → HasMet r ds → get_by_text r.names s ≡ option_map (λ d. d.node) (defined ds (opened r) s)
 found-at r ds s h = h.names s ∙ ap (option_map (λ d. d.node)) (sym (defined-all ds (opened r) s h.before))
 
 -- ---- one type at node n
 
-abbrev pub IsReadAt : ℕ → List Definition → List ℕ → Form → Reader → Reader → NodeId → Type 0
+abbrev pub IsReadAt : ℕ → List Definition → List ℕ → Form → Builder → Builder → NodeId → Type 0
 IsReadAt n ds ns f a b i = Reads ds (places ns n f) a b × (i ≡ node_id (ds ++ definitions (places ns n f)) ns n f)
 
 abbrev pub at_node : ℕ → NodeId
@@ -52,44 +52,44 @@ at_node n = record { index = n }
 same_list : (ds : List Definition) → ds ≡ ds ++ []
 same_list ds = sym (append-nil ds)
 
-pub read_plain : (ds : List Definition) (ns : List ℕ) (p : Primitive) (a b : Reader) → nodes_of b ≡ nodes_of a ++ kind.Primitive p ∷ [] → HasMet b ds → IsTypeRead ds ns (plain p) a b (at_node (opened a))
+pub read_plain : (ds : List Definition) (ns : List ℕ) (p : Primitive) (a b : Builder) → nodes_of b ≡ nodes_of a ++ kind.Primitive p ∷ [] → HasMet b ds → IsTypeRead ds ns (plain p) a b (at_node (opened a))
 read_plain ds ns p a b opens met = (from_to ds ds _ a b (same_list ds) (opens_one ds (place ns (opened a) (plain p)) (kind.Primitive p) a b opens met refl refl), refl)
 
-pub read_use : (ds : List Definition) (ns s : List ℕ) (d : Definition) (a : Reader) → HasMet a ds → named ds (opened a) ns s ≡ Some d → IsTypeRead ds ns (by_name s) a a (at_node d.node)
+pub read_use : (ds : List Definition) (ns s : List ℕ) (d : Definition) (a : Builder) → HasMet a ds → named ds (opened a) ns s ≡ Some d → IsTypeRead ds ns (by_name s) a a (at_node d.node)
 read_use ds ns s d a met is = (
   from_to ds ds _ a a (same_list ds) (opens_none ds (place ns (opened a) (by_name s)) a met refl (ap (λ o. unless (is_some o) (fault.Unknown s)) is)),
   rw (append-nil ds) (ap definition_id (sym is)),
 )
 
 -- the parts of a type, and then the node that is written
-close_with : (ds : List Definition) (ns : List ℕ) (f : Form) (ps : List Place) (x y : Node) (a a1 b c : Reader) → definition_at (place ns (opened a) f) ≡ None
+close_with : (ds : List Definition) (ns : List ℕ) (f : Form) (ps : List Place) (x y : Node) (a a1 b c : Builder) → definition_at (place ns (opened a) f) ≡ None
     → nodes_of a1 ≡ nodes_of a ++ y ∷ [] → Reads ds ps a1 b → nodes_of c ≡ set (nodes_of b) (opened a) x → c.names ≡ b.names
     → node_at (ds ++ definitions ps) (place ns (opened a) f) ≡ Some x → faults_at (ds ++ definitions ps) (place ns (opened a) f) ≡ [] → Reads ds (place ns (opened a) f ∷ ps) a c
 close_with ds ns f ps x y a a1 b c none opens r writes keeps is good =
     from_to ds (ds ++ definitions ps) (place ns (opened a) f ∷ ps) a c (ap (λ o. ds ++ cons_option o (definitions ps)) (sym none))
     (closes (ds ++ definitions ps) (place ns (opened a) f) ps x y a a1 b c opens (to ds ps a1 b r) writes keeps is good)
 
-pub opened-more : (y : Node) (a a1 : Reader) → nodes_of a1 ≡ nodes_of a ++ y ∷ [] → opened a1 ≡ opened a + 1
+pub opened-more : (y : Node) (a a1 : Builder) → nodes_of a1 ≡ nodes_of a ++ y ∷ [] → opened a1 ≡ opened a + 1
 opened-more y a a1 e = ap length e ∙ grind (arith, length-append)
 
-pub read_array : (ds : List Definition) (ns : List ℕ) (f : Form) (y : Node) (i : NodeId) (a a1 b c : Reader) → nodes_of a1 ≡ nodes_of a ++ y ∷ [] → IsTypeRead ds ns f a1 b i
+pub read_array : (ds : List Definition) (ns : List ℕ) (f : Form) (y : Node) (i : NodeId) (a a1 b c : Builder) → nodes_of a1 ≡ nodes_of a ++ y ∷ [] → IsTypeRead ds ns f a1 b i
     → nodes_of c ≡ set (nodes_of b) (opened a) (kind.Array i) → c.names ≡ b.names → IsTypeRead ds ns (array_of f) a c (at_node (opened a))
 read_array ds ns f y i a a1 b c opens r writes keeps =
     let s : IsReadAt (opened a + 1) ds ns f a1 b i = subst (λ n. IsReadAt n ds ns f a1 b i) (opened-more y a a1 opens) r in
     (close_with ds ns (array_of f) (places ns (opened a + 1) f) (kind.Array i) y a a1 b c refl opens s.0 writes keeps (ap (λ j. Some (kind.Array j)) (sym s.1)) refl, refl)
 
-pub read_map : (ds : List Definition) (ns : List ℕ) (f : Form) (y : Node) (i : NodeId) (a a1 b c : Reader) → nodes_of a1 ≡ nodes_of a ++ y ∷ [] → IsTypeRead ds ns f a1 b i
+pub read_map : (ds : List Definition) (ns : List ℕ) (f : Form) (y : Node) (i : NodeId) (a a1 b c : Builder) → nodes_of a1 ≡ nodes_of a ++ y ∷ [] → IsTypeRead ds ns f a1 b i
     → nodes_of c ≡ set (nodes_of b) (opened a) (kind.Map i) → c.names ≡ b.names → IsTypeRead ds ns (map_of f) a c (at_node (opened a))
 read_map ds ns f y i a a1 b c opens r writes keeps =
     let s : IsReadAt (opened a + 1) ds ns f a1 b i = subst (λ n. IsReadAt n ds ns f a1 b i) (opened-more y a a1 opens) r in
     (close_with ds ns (map_of f) (places ns (opened a + 1) f) (kind.Map i) y a a1 b c refl opens s.0 writes keeps (ap (λ j. Some (kind.Map j)) (sym s.1)) refl, refl)
 
-abbrev AreReadAt : ℕ → List Definition → List ℕ → Forms → Reader → Reader → List NodeId → Type 0
+abbrev AreReadAt : ℕ → List Definition → List ℕ → Forms → Builder → Builder → List NodeId → Type 0
 AreReadAt n ds ns fs a b is =
     let ps = places_of_forms ns n fs in
     Reads ds ps a b × (is ≡ branches (ds ++ definitions ps) ns n fs) × (fits_union (kinds (ds ++ definitions ps) ns n fs) ≡ true)
 
-pub read_union : (ds : List Definition) (ns : List ℕ) (fs : Forms) (y : Node) (is : List NodeId) (a a1 b c : Reader) → nodes_of a1 ≡ nodes_of a ++ y ∷ [] → AreBranchesRead ds ns fs a1 b is
+pub read_union : (ds : List Definition) (ns : List ℕ) (fs : Forms) (y : Node) (is : List NodeId) (a a1 b c : Builder) → nodes_of a1 ≡ nodes_of a ++ y ∷ [] → AreBranchesRead ds ns fs a1 b is
     → nodes_of c ≡ set (nodes_of b) (opened a) (kind.Union is) → c.names ≡ b.names → IsTypeRead ds ns (union_of fs) a c (at_node (opened a))
 read_union ds ns fs y is a a1 b c opens r writes keeps =
     let s : AreReadAt (opened a + 1) ds ns fs a1 b is = subst (λ n. AreReadAt n ds ns fs a1 b is) (opened-more y a a1 opens) r in
@@ -124,7 +124,7 @@ good_heading ds es ns h r n has new later =
 pub defined_first : (ds : List Definition) (d : Definition) (es : List Definition) (o : Option Definition) → o ≡ Some d → (ds ++ d ∷ []) ++ es ≡ ds ++ cons_option o es
 defined_first ds d es o e = append_assoc ds (d ∷ []) es ∙ ap (λ p. ds ++ cons_option p es) (sym e)
 
-pub read_leaf : (ds : List Definition) (ns : List ℕ) (h : Heading) (r : TypeNames) (f : Form) (x : Node) (a b : Reader) → HasNames ns h r → definition_at (place ns (opened a) f) ≡ defined_by ns (opened a) h
+pub read_leaf : (ds : List Definition) (ns : List ℕ) (h : Heading) (r : TypeNames) (f : Form) (x : Node) (a b : Builder) → HasNames ns h r → definition_at (place ns (opened a) f) ≡ defined_by ns (opened a) h
     → nodes_of b ≡ nodes_of a ++ x ∷ [] → HasMet b (ds ++ definition_of r (opened a) ∷ []) → node_at (ds ++ definition_of r (opened a) ∷ []) (place ns (opened a) f) ≡ Some x
     → faults_at (ds ++ definition_of r (opened a) ∷ []) (place ns (opened a) f) ≡ [] → Reads ds (place ns (opened a) f ∷ []) a b
 read_leaf ds ns h r f x a b has defines opens met is good =
@@ -132,7 +132,7 @@ read_leaf ds ns h r f x a b has defines opens met is good =
     from_to ds (ds ++ d ∷ []) (place ns (opened a) f ∷ []) a b (sym (append-nil (ds ++ d ∷ [])) ∙ defined_first ds d [] _ (defines ∙ defined_by-names ns h r (opened a) has))
     (opens_one (ds ++ d ∷ []) (place ns (opened a) f) x a b opens met is good)
 
-pub read_enum : (ds : List Definition) (ns : List ℕ) (h : Heading) (r : TypeNames) (ss : Option (List (List ℕ))) (d : Option Data) (v : Symbols) (a b : Reader) → HasNames ns h r → HasSymbols ss d v
+pub read_enum : (ds : List Definition) (ns : List ℕ) (h : Heading) (r : TypeNames) (ss : Option (List (List ℕ))) (d : Option Data) (v : Symbols) (a b : Builder) → HasNames ns h r → HasSymbols ss d v
     → nodes_of b ≡ nodes_of a ++ kind.Enum r.name r.aliases.items v.symbols.items v.default ∷ [] → HasMet b (ds ++ definition_of r (opened a) ∷ []) → defined ds (opened a) (string_bytes r.text) ≡ None
     → IsTypeRead ds ns (enum_of h ss d) a b (at_node (opened a))
 read_enum ds ns h r ss d v a b has symbols opens met new =
@@ -146,7 +146,7 @@ read_enum ds ns h r ss d v a b has symbols opens met new =
     ∙ ap (λ o. Some (kind.Enum r.name r.aliases.items v.symbols.items o)) symbols.default in
     (read_leaf ds ns h r (enum_of h ss d) _ a b has refl opens met is good, refl)
 
-pub read_fixed : (ds : List Definition) (ns : List ℕ) (h : Heading) (r : TypeNames) (s : Option Num) (size : ℕ) (a b : Reader) → HasNames ns h r → HasSize s size
+pub read_fixed : (ds : List Definition) (ns : List ℕ) (h : Heading) (r : TypeNames) (s : Option Num) (size : ℕ) (a b : Builder) → HasNames ns h r → HasSize s size
     → nodes_of b ≡ nodes_of a ++ kind.Fixed r.name r.aliases.items size ∷ [] → HasMet b (ds ++ definition_of r (opened a) ∷ []) → defined ds (opened a) (string_bytes r.text) ≡ None
     → IsTypeRead ds ns (fixed_of h s) a b (at_node (opened a))
 read_fixed ds ns h r s size a b has sized opens met new =
@@ -158,7 +158,7 @@ read_fixed ds ns h r s size a b has sized opens met new =
     ∙ ap (λ n. Some (kind.Fixed r.name r.aliases.items n)) sized.size in
     (read_leaf ds ns h r (fixed_of h s) _ a b has refl opens met is good, refl)
 
-abbrev AreFieldsReadAt : ℕ → List Definition → List ℕ → Fields → Reader → Reader → List Field → Type 0
+abbrev AreFieldsReadAt : ℕ → List Definition → List ℕ → Fields → Builder → Builder → List Field → Type 0
 AreFieldsReadAt n ds ns fs a b gs =
     let ps = places_of_fields ns n fs in
     Reads ds ps a b × (gs ≡ field_list (ds ++ definitions ps) ns n fs) × (are_formed fs ≡ true)
@@ -168,7 +168,7 @@ good_fields fs p q =
     let both = and_parts (are_written fs && list_all is_formed (field_headings fs)) (list_all has_good_aliases (field_headings fs)) p in
     nil-append _ _ (unless-nil _ fault.BadForm (and_true _ _ both.0 q)) (unless-nil _ fault.BadName both.1)
 
-pub read_record : (ds : List Definition) (ns : List ℕ) (h : Heading) (r : TypeNames) (fs : Fields) (y : Node) (gs : List Field) (a a1 b c : Reader) → HasNames ns h r
+pub read_record : (ds : List Definition) (ns : List ℕ) (h : Heading) (r : TypeNames) (fs : Fields) (y : Node) (gs : List Field) (a a1 b c : Builder) → HasNames ns h r
     → nodes_of a1 ≡ nodes_of a ++ y ∷ [] → defined ds (opened a) (string_bytes r.text) ≡ None → AreFieldsRead (ds ++ definition_of r (opened a) ∷ []) r.name.namespace fs a1 b gs → has_distinct_names fs ≡ true
     → nodes_of c ≡ set (nodes_of b) (opened a) (kind.Record r.name r.aliases.items gs) → c.names ≡ b.names → IsTypeRead ds ns (record_of h fs) a c (at_node (opened a))
 read_record ds ns h r fs y gs a a1 b c has opens new reads distinct writes keeps =

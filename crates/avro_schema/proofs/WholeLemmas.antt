@@ -7,16 +7,17 @@ use Rattle.serde_json.specs.Written.{has_float, compact_text}
 use Rattle.avro_schema.specs.declared.error.SchemaError.{SchemaError}
 use Rattle.avro_schema.specs.declared.error.SchemaError.TheVariants as fault
 use Rattle.avro_schema.specs.declared.node.NodeId.{NodeId}
-use Rattle.avro_schema.specs.declared.reader.Reader.{Reader}
+use Rattle.avro_schema.specs.declared.builder.Builder.{Builder}
 use Rattle.avro_schema.specs.Form.{Form, form}
 use Rattle.avro_schema.specs.Places.{count, places}
 use Rattle.avro_schema.specs.Nodes.{nodes}
 use Rattle.avro_schema.specs.Faults.{unless, form_faults}
-use Rattle.avro_schema.specs.Schema.{IsRefusalBy, longest_text, most_nodes, data_faults, json_faults, faults, if_none_stands, schema_of}
-use Rattle.avro_schema.specs.Reader.{nodes_of, opened, HasMet, Reads, ReadsType, RefusesType, type_faults}
+use Rattle.avro_schema.specs.Schema.{IsRefusalBy, data_faults, json_faults, faults, if_none_stands, schema_of}
+use Rattle.avro_schema.specs.Building.{nodes_of, opened, HasMet, Reads, ReadsType, RefusesType, type_faults}
 use Rattle.avro_schema.proofs.Reading.{left, right, alone, unless-nil, nil-append, opened-type}
+use Rattle.avro_schema.specs.declared.limits.TheConstants.{LONGEST_TEXT, MOST_NODES}
 
-pub too_long : (text : List ℕ) → nat_le (length text) longest_text ≡ false → IsRefusalBy (faults text) fault.TooLong
+pub too_long : (text : List ℕ) → nat_le (length text) LONGEST_TEXT ≡ false → IsRefusalBy (faults text) fault.TooLong
 too_long text e = left _ _ fault.TooLong (alone _ fault.TooLong e)
 
 pub not_json : (text : List ℕ) → read text ≡ None → IsRefusalBy (faults text) fault.NotJson
@@ -29,20 +30,20 @@ pub is_float : (text : List ℕ) (d : Data) → read text ≡ Some d → has_flo
 is_float text d is e = in_data text d fault.FloatNumber is (left _ _ _ (left _ _ _ (alone _ fault.FloatNumber (ap not e))))
 
 -- a refusal of the whole type
-pub refused_whole : (text : List ℕ) (d : Data) (a : Reader) (e : SchemaError) → read text ≡ Some d → nodes_of a ≡ [] → HasMet a [] → RefusesType a [] (form d) e → IsRefusalBy (faults text) e
+pub refused_whole : (text : List ℕ) (d : Data) (a : Builder) (e : SchemaError) → read text ≡ Some d → nodes_of a ≡ [] → HasMet a [] → RefusesType a [] (form d) e → IsRefusalBy (faults text) e
 refused_whole text d a e is none met refused =
     let zero_nodes : opened a ≡ 0 = ap length none in
     let r : IsRefusalBy (type_faults [] [] (form d) 0) e = subst (λ n. IsRefusalBy (type_faults [] [] (form d) n) e) zero_nodes (refused [] met) in
     in_data text d e is (λ n.
-    elim (Contains-append_cases (unless (nat_le (0 + count (form d)) most_nodes) fault.TooManyNodes) (form_faults (form d)) e (r n)) [
-      | inl k ↦ Contains-append_left (unless (not (has_float d)) fault.FloatNumber ++ unless (nat_le (count (form d)) most_nodes) fault.TooManyNodes) (form_faults (form d)) e (Contains-append_right (unless (not (has_float d)) fault.FloatNumber) _ e (subst (λ m. Contains (unless (nat_le m most_nodes) fault.TooManyNodes) e) (zero-add (count (form d))) k))
+    elim (Contains-append_cases (unless (nat_le (0 + count (form d)) MOST_NODES) fault.TooManyNodes) (form_faults (form d)) e (r n)) [
+      | inl k ↦ Contains-append_left (unless (not (has_float d)) fault.FloatNumber ++ unless (nat_le (count (form d)) MOST_NODES) fault.TooManyNodes) (form_faults (form d)) e (Contains-append_right (unless (not (has_float d)) fault.FloatNumber) _ e (subst (λ m. Contains (unless (nat_le m MOST_NODES) fault.TooManyNodes) e) (zero-add (count (form d))) k))
       | inr k ↦ Contains-append_right _ (form_faults (form d)) e k
     ])
 
 pub le-true : (m n : ℕ) → m ≤ n → nat_le m n ≡ true
 le-true m n h = grind arith
 
-at_zero : (f : Form) (a b : Reader) → nodes_of a ≡ [] → Reads [] (places [] (opened a) f) a b → Reads [] (places [] 0 f) a b
+at_zero : (f : Form) (a b : Builder) → nodes_of a ≡ [] → Reads [] (places [] (opened a) f) a b → Reads [] (places [] 0 f) a b
 at_zero f a b none r = subst (λ n. Reads [] (places [] n f) a b) (ap length none) r
 
 pub given : {A : Type 0} (es : List SchemaError) (x : A) → es ≡ [] → if_none_stands es x ≡ Some x
@@ -50,13 +51,13 @@ given [] x e = refl
 given (y ∷ es) x e = cc
 
 -- the whole type was read
-pub read_whole : (text : List ℕ) (d : Data) (a b : Reader) (i : NodeId) (normal : List ℕ) → nat_le (length text) longest_text ≡ true → read text ≡ Some d → has_float d ≡ false → nodes_of a ≡ [] → HasMet a [] → ReadsType a b [] (form d) i → normal ≡ compact_text d
+pub read_whole : (text : List ℕ) (d : Data) (a b : Builder) (i : NodeId) (normal : List ℕ) → nat_le (length text) LONGEST_TEXT ≡ true → read text ≡ Some d → has_float d ≡ false → nodes_of a ≡ [] → HasMet a [] → ReadsType a b [] (form d) i → normal ≡ compact_text d
     → schema_of text ≡ Some (record { nodes = nodes_of b; normal_text = normal })
 read_whole text d a b i normal short is whole none met reads written =
     let r : Reads [] (places [] 0 (form d)) a b = at_zero (form d) a b none (reads.1 [] met).0 in
     let made : nodes_of b ≡ nodes (form d) = r.nodes ∙ ap (λ l. l ++ nodes (form d)) none in
     let number : opened b ≡ opened a + count (form d) = opened-type [] [] 0 (form d) a b r in
-    let few : count (form d) ≤ most_nodes = omega (arith, r.met.small) in
+    let few : count (form d) ≤ MOST_NODES = omega (arith, r.met.small) in
     let none_in_data : data_faults d ≡ [] = nil-append _ _ (nil-append _ _ (unless-nil _ fault.FloatNumber (ap not whole)) (unless-nil _ fault.TooManyNodes (le-true _ _ few))) r.none_stands in
     let none_stands : faults text ≡ [] = nil-append _ _ (unless-nil _ fault.TooLong short) (ap json_faults is ∙ none_in_data) in
     ap (option_and_then (λ e. if_none_stands (faults text) (record { nodes = nodes (form e); normal_text = compact_text e }))) is

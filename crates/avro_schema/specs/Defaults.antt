@@ -4,7 +4,6 @@ use Rattle.std.specs.List.{list_all}
 use Rattle.std.specs.Option.{option_map_or}
 use Rattle.serde_json.specs.Data.{Num, Data, null, boolean, number, string, array, object, Items, no_items, item, Members, no_members, member}
 use Rattle.serde_json.specs.Find.{get_member, is_float, as_integer}
-use Rattle.serde_json.specs.Read.{read}
 use Rattle.avro_schema.specs.declared.node.NodeId.{NodeId}
 use Rattle.avro_schema.specs.declared.node.Field.{Field}
 use Rattle.avro_schema.specs.declared.node.Primitive.{Primitive}
@@ -30,53 +29,48 @@ greatest_long = pos (2 ^ 63 - 1)
 abbrev pub is_within : ℤ → ℤ → Num → Bool
 is_within least greatest n = option_map_or (λ z. int_le least z && int_le z greatest) (as_integer n) false
 
-abbrev pub takes_number : Num → Primitive → Bool
-takes_number n simple.Int = is_within least_int greatest_int n
-takes_number n simple.Long = is_within least_long greatest_long n
-takes_number n simple.Float = not (is_float n)
-takes_number n simple.Double = not (is_float n)
-takes_number n _ = false
+-- ---- which JSON values a type takes
 
-abbrev pub is_null : Primitive → Bool
-is_null simple.Null = true
-is_null _ = false
+-- What a JSON value is, with the tests of what is in it: whether an array's items are defaults of a type, an object's members of a type, or the members of fields' names of the fields.
+pub data Shape : Type 0 where
+  a_null : Shape
+  a_truth_value : Shape
+  a_number : Num → Shape
+  a_string : Shape
+  an_array : (NodeId → Bool) → Shape
+  an_object : (NodeId → Bool) → (List Field → Bool) → Shape
 
-abbrev pub is_boolean : Primitive → Bool
-is_boolean simple.Boolean = true
-is_boolean _ = false
+abbrev pub primitive_takes : Shape → Primitive → Bool
+primitive_takes a_null simple.Null = true
+primitive_takes a_truth_value simple.Boolean = true
+primitive_takes (a_number n) simple.Int = is_within least_int greatest_int n
+primitive_takes (a_number n) simple.Long = is_within least_long greatest_long n
+primitive_takes (a_number n) simple.Float = not (is_float n)
+primitive_takes (a_number n) simple.Double = not (is_float n)
+primitive_takes a_string simple.String = true
+primitive_takes a_string simple.Bytes = true
+primitive_takes _ _ = false
 
--- ---- the type that a default is a value of
+abbrev pub takes : Option Node → Shape → Bool
+takes (Some (kind.Primitive p)) shape = primitive_takes shape p
+takes (Some (kind.Array i)) (an_array items_fit) = items_fit i
+takes (Some (kind.Map i)) (an_object values_fit fields_fit) = values_fit i
+takes (Some (kind.Record n al fs)) (an_object values_fit fields_fit) = fields_fit fs
+takes (Some (kind.Enum n al ss d)) a_string = true
+takes (Some (kind.Fixed n al size)) a_string = true
+takes _ _ = false
 
--- a union's first branch; the empty union takes none
-abbrev pub first_branch : List Node → Node → Option Node
-first_branch nodes (kind.Union []) = None
-first_branch nodes (kind.Union (b ∷ bs)) = slice_get nodes b.index
-first_branch nodes n = Some n
+-- a union's default is one of its first branch; the empty union takes none
+abbrev pub branch_for_default : List Node → Node → Option Node
+branch_for_default nodes (kind.Union []) = None
+branch_for_default nodes (kind.Union (b ∷ bs)) = slice_get nodes b.index
+branch_for_default nodes n = Some n
 
+-- the type that a default is a value of
 abbrev pub default_type : List Node → NodeId → Option Node
-default_type nodes i = option_and_then (first_branch nodes) (slice_get nodes i.index)
+default_type nodes i = option_and_then (branch_for_default nodes) (slice_get nodes i.index)
 
-abbrev pub is_primitive : (Primitive → Bool) → Option Node → Bool
-is_primitive p (Some (kind.Primitive q)) = p q
-is_primitive p _ = false
-
-abbrev pub takes_string : Option Node → Bool
-takes_string (Some (kind.Primitive simple.String)) = true
-takes_string (Some (kind.Primitive simple.Bytes)) = true
-takes_string (Some (kind.Fixed n al size)) = true
-takes_string (Some (kind.Enum n al ss d)) = true
-takes_string _ = false
-
-abbrev pub takes_items : (NodeId → Bool) → Option Node → Bool
-takes_items items_fit (Some (kind.Array i)) = items_fit i
-takes_items items_fit _ = false
-
-abbrev pub takes_members : (NodeId → Bool) → (List Field → Bool) → Option Node → Bool
-takes_members values_fit fields_fit (Some (kind.Map i)) = values_fit i
-takes_members values_fit fields_fit (Some (kind.Record n al fs)) = fields_fit fs
-takes_members values_fit fields_fit _ = false
-
--- ---- values
+-- ---- the fields of a record
 
 abbrev pub field_named : List Field → List ℕ → Option Field
 field_named fs s = find (λ f. bytes_eq f.name s) fs
@@ -88,30 +82,29 @@ absent_have_defaults ms fs = list_all (λ f. is_some (get_member f.name ms) || i
 module _ (nodes : List Node) where
   -- whether a JSON value is a default of the type
   abbrev mutual
-    pub fits : NodeId → Data → Bool
-    fits i null = is_primitive is_null (default_type nodes i)
-    fits i (boolean b) = is_primitive is_boolean (default_type nodes i)
-    fits i (number n) = is_primitive (takes_number n) (default_type nodes i)
-    fits i (string s) = takes_string (default_type nodes i)
-    fits i (array ds) = takes_items (λ j. items_fit j ds) (default_type nodes i)
-    fits i (object ms) = takes_members (λ j. values_fit j ms) (λ fs. fields_fit fs ms && absent_have_defaults ms fs) (default_type nodes i)
+    pub default_fits : NodeId → Data → Bool
+    default_fits i null = takes (default_type nodes i) a_null
+    default_fits i (boolean b) = takes (default_type nodes i) a_truth_value
+    default_fits i (number n) = takes (default_type nodes i) (a_number n)
+    default_fits i (string s) = takes (default_type nodes i) a_string
+    default_fits i (array ds) = takes (default_type nodes i) (an_array (λ j. items_fit j ds))
+    default_fits i (object ms) = takes (default_type nodes i) (an_object (λ j. values_fit j ms) (λ fs. fields_fit fs ms && absent_have_defaults ms fs))
 
     pub items_fit : NodeId → Items → Bool
     items_fit i no_items = true
-    items_fit i (item d ds) = fits i d && items_fit i ds
+    items_fit i (item d ds) = default_fits i d && items_fit i ds
 
     pub values_fit : NodeId → Members → Bool
     values_fit i no_members = true
-    values_fit i (member k d ms) = fits i d && values_fit i ms
+    values_fit i (member k d ms) = default_fits i d && values_fit i ms
 
-    -- the members of fields' names are values of the fields; others are ignored
+    -- the members of fields' names are defaults of the fields; others are ignored
     pub fields_fit : List Field → Members → Bool
     fields_fit fs no_members = true
-    fields_fit fs (member k d ms) = elim (field_named fs k) [ None ↦ true | Some f ↦ fits f.node d ] && fields_fit fs ms
+    fields_fit fs (member k d ms) = elim (field_named fs k) [ None ↦ true | Some f ↦ default_fits f.node d ] && fields_fit fs ms
 
-  -- a default is kept as its compact text
   abbrev pub has_good_default : Field → Bool
-  has_good_default f = elim (f.default) [ None ↦ true | Some text ↦ elim (read text) [ None ↦ false | Some d ↦ fits f.node d ] ]
+  has_good_default f = elim (f.default) [ None ↦ true | Some d ↦ default_fits f.node d ]
 
   -- the names of the fields whose default is invalid
   abbrev pub bad_fields : List Field → List (List ℕ)

@@ -11,6 +11,7 @@ use Rattle.avro_schema.specs.declared.kinds.Kind.TheVariants.{Unnamed, Named, Un
 use Rattle.avro_schema.specs.Names.{primitive_text, is_name, is_full_name, is_type_name, full_text, all_distinct, has_text}
 use Rattle.avro_schema.specs.Form.{Heading, FieldHeading, Form, plain, by_name, record_of, enum_of, array_of, map_of, union_of, fixed_of, ill_formed, Forms, no_forms, and_form, Fields, no_fields, ill_fields, and_field}
 use Rattle.avro_schema.specs.Places.{count, own_namespace, Place, places, Definition, definitions, defined, defined_by, named}
+use Rattle.avro_schema.specs.declared.limits.TheConstants.{GREATEST_SIZE}
 
 abbrev pub unless : Bool → SchemaError → List SchemaError
 unless true e = []
@@ -27,13 +28,13 @@ same_kind (Unnamed a) (Unnamed b) = bytes_eq a b
 same_kind (Named a) (Named b) = bytes_eq a b
 same_kind _ _ = false
 
-abbrev pub is_union : Kind → Bool
-is_union Union = true
-is_union _ = false
+abbrev pub is_union_kind : Kind → Bool
+is_union_kind Union = true
+is_union_kind _ = false
 
 -- no member is itself a union, and no two are of one kind
 abbrev pub fits_union : List Kind → Bool
-fits_union ks = not (list_any is_union ks) && all_distinct same_kind ks
+fits_union ks = not (list_any is_union_kind ks) && all_distinct same_kind ks
 
 abbrev pub kind_named : Option Definition → Kind
 kind_named o = option_map_or (λ d. Named d.name) o Unknown
@@ -51,9 +52,9 @@ is_symbol ss d = option_map_or (has_text ss) (as_str d) false
 abbrev pub fits_enum : Option Data → List (List ℕ) → Bool
 fits_enum d ss = fits_symbols ss && if_written (is_symbol ss) d
 
--- a whole number of 31 bits
+-- a whole number up to the limit
 abbrev pub fits_size : Num → Bool
-fits_size n = option_map_or (λ k. nat_le k 2147483647) (as_u64 n) false
+fits_size n = option_map_or (λ k. nat_le k GREATEST_SIZE) (as_u64 n) false
 
 abbrev pub symbols_faults : Option (List (List ℕ)) → Option Data → List SchemaError
 symbols_faults ss d = unless (is_some ss) fault.BadForm ++ unless (if_written (fits_enum d) ss) fault.BadEnum
@@ -95,20 +96,20 @@ abbrev pub written_faults : Heading → List SchemaError
 written_faults h = unless (is_some h.name && is_some h.aliases) fault.BadForm ++ unless (if_written is_type_name h.name && if_written (list_all is_full_name) h.aliases) fault.BadName
 
 module _ (ds : List Definition) where
-  abbrev pub kind_of : List ℕ → ℕ → Form → Kind
-  kind_of ns n (plain p) = Unnamed (primitive_text p)
-  kind_of ns n (by_name s) = kind_named (named ds n ns s)
-  kind_of ns n (record_of h fs) = kind_named (defined_by ns n h)
-  kind_of ns n (enum_of h ss d) = kind_named (defined_by ns n h)
-  kind_of ns n (fixed_of h s) = kind_named (defined_by ns n h)
-  kind_of ns n (array_of f) = Unnamed (codes "array")
-  kind_of ns n (map_of f) = Unnamed (codes "map")
-  kind_of ns n (union_of fs) = Union
-  kind_of ns n ill_formed = Unknown
+  abbrev pub kind_in_union : List ℕ → ℕ → Form → Kind
+  kind_in_union ns n (plain p) = Unnamed (primitive_text p)
+  kind_in_union ns n (by_name s) = kind_named (named ds n ns s)
+  kind_in_union ns n (record_of h fs) = kind_named (defined_by ns n h)
+  kind_in_union ns n (enum_of h ss d) = kind_named (defined_by ns n h)
+  kind_in_union ns n (fixed_of h s) = kind_named (defined_by ns n h)
+  kind_in_union ns n (array_of f) = Unnamed (codes "array")
+  kind_in_union ns n (map_of f) = Unnamed (codes "map")
+  kind_in_union ns n (union_of fs) = Union
+  kind_in_union ns n ill_formed = Unknown
 
   abbrev pub kinds : List ℕ → ℕ → Forms → List Kind
   kinds ns n no_forms = []
-  kinds ns n (and_form f fs) = kind_of ns n f ∷ kinds ns (n + count f) fs
+  kinds ns n (and_form f fs) = kind_in_union ns n f ∷ kinds ns (n + count f) fs
 
   -- no definition of that name opens before node n
   abbrev pub is_new : List ℕ → ℕ → Heading → Bool

@@ -3,7 +3,6 @@ use Rattle.std.specs.Prelude.{ℕ, List, [], ◌∷◌, true, false, Option, Som
 use Rattle.std.specs.Option.{option_map_or}
 use Rattle.serde_json.specs.Data.{Num, Data, string, array, object, Items, no_items, item, Members, no_members, member}
 use Rattle.serde_json.specs.Find.{get, as_str, as_array, as_number}
-use Rattle.serde_json.specs.Written.{compact_text}
 use Rattle.avro_schema.specs.declared.node.Primitive.{Primitive}
 use Rattle.avro_schema.specs.declared.word.TypeWord.{TypeWord}
 use Rattle.avro_schema.specs.declared.word.TypeWord.TheVariants.{Record, Enum, Fixed, Array, Map, Error, Other}
@@ -15,11 +14,11 @@ pub record Heading : Type 0 where
   pub namespace : Option (List ℕ)
   pub aliases : Option (List (List ℕ))
 
--- the same of a field, with the text of its default
+-- the same of a field, with its default
 pub record FieldHeading : Type 0 where
   pub name : Option (List ℕ)
   pub aliases : Option (List (List ℕ))
-  pub default : Option (List ℕ)
+  pub default : Option Data
 
 -- Symbols, a size or a type that are missing or wrongly formed are None or `ill_formed`; `ill_fields` stands for fields that are.
 mutual
@@ -66,7 +65,7 @@ abbrev pub heading_of : Data → Heading
 heading_of d = record { name = string_at (codes "name") d; namespace = string_at (codes "namespace") d; aliases = aliases_of d }
 
 abbrev pub field_heading_of : Data → FieldHeading
-field_heading_of d = record { name = string_at (codes "name") d; aliases = aliases_of d; default = option_map compact_text (get (codes "default") d) }
+field_heading_of d = record { name = string_at (codes "name") d; aliases = aliases_of d; default = get (codes "default") d }
 
 -- ---- what a text says
 

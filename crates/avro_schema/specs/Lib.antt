@@ -6,4 +6,5 @@ pub mod Faults
 pub mod Schema
 pub mod Defaults
 pub mod Sound
-pub mod Reader
+pub mod Building
+pub mod JsonCode

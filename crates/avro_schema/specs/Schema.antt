@@ -1,5 +1,11 @@
--- What a schema's text means, or the faults that stand in it.
-use Rattle.std.specs.Prelude.{◌≢◌, ℕ, List, [], ◌∷◌, ◌++◌, length, Bool, true, false, not, nat_le, Option, Some, None, option_and_then, Contains}
+-- What a schema's text means, or the faults in it. The way from a text to its nodes:
+-- `read` gives the JSON data that a text writes, if any;
+-- Form.antt the form of the type that the data writes, before any name is looked up;
+-- Places.antt the types in a form, in the order in which they open, each with the namespace that applies to it and the number of nodes before it, and the definitions among them;
+-- Nodes.antt the node of each place, with the uses looked up among the definitions;
+-- Faults.antt what is wrong at each place.
+-- A text means a schema exactly where its list of faults is empty. Names.antt says what names are, Defaults.antt which defaults are valid, Sound.antt what holds of the nodes of every schema.
+use Rattle.std.specs.Prelude.{◌≢◌, ℕ, List, [], ◌∷◌, ◌++◌, length, Bool, true, false, not, nat_le, Option, Some, None, option_and_then, Contains, codes}
 use Rattle.serde_json.specs.Data.{Data}
 use Rattle.serde_json.specs.Read.{read}
 use Rattle.serde_json.specs.Written.{has_float, compact_text}
@@ -10,16 +16,26 @@ use Rattle.avro_schema.specs.Form.{form}
 use Rattle.avro_schema.specs.Places.{count}
 use Rattle.avro_schema.specs.Nodes.{nodes}
 use Rattle.avro_schema.specs.Faults.{unless, form_faults}
-
-abbrev pub longest_text : ℕ
-longest_text = 1048576
-
-abbrev pub most_nodes : ℕ
-most_nodes = 65535
+use Rattle.avro_schema.specs.declared.limits.TheConstants.{LONGEST_TEXT, MOST_NODES}
 
 abbrev pub is_memory : SchemaError → Bool
 is_memory fault.OutOfMemory = true
 is_memory _ = false
+
+-- the text of an error
+abbrev pub error_name : SchemaError → List ℕ
+error_name fault.NotJson = codes "NotJson"
+error_name fault.FloatNumber = codes "FloatNumber"
+error_name fault.BadName = codes "BadName"
+error_name fault.Redefined = codes "Redefined"
+error_name (fault.Unknown s) = codes "Unknown"
+error_name fault.BadUnion = codes "BadUnion"
+error_name fault.BadEnum = codes "BadEnum"
+error_name fault.BadFixed = codes "BadFixed"
+error_name fault.BadForm = codes "BadForm"
+error_name fault.TooManyNodes = codes "TooManyNodes"
+error_name fault.TooLong = codes "TooLong"
+error_name fault.OutOfMemory = codes "out of memory"
 
 -- an answer for want of memory, or one of the faults es
 abbrev pub IsRefusalBy : List SchemaError → SchemaError → Type 0
@@ -31,7 +47,7 @@ pub record Meaning : Type 0 where
   pub normal_text : List ℕ
 
 abbrev pub data_faults : Data → List SchemaError
-data_faults d = unless (not (has_float d)) fault.FloatNumber ++ unless (nat_le (count (form d)) most_nodes) fault.TooManyNodes ++ form_faults (form d)
+data_faults d = unless (not (has_float d)) fault.FloatNumber ++ unless (nat_le (count (form d)) MOST_NODES) fault.TooManyNodes ++ form_faults (form d)
 
 abbrev pub json_faults : Option Data → List SchemaError
 json_faults None = fault.NotJson ∷ []
@@ -39,7 +55,7 @@ json_faults (Some d) = data_faults d
 
 -- the faults of a text
 abbrev pub faults : List ℕ → List SchemaError
-faults text = unless (nat_le (length text) longest_text) fault.TooLong ++ json_faults (read text)
+faults text = unless (nat_le (length text) LONGEST_TEXT) fault.TooLong ++ json_faults (read text)
 
 abbrev pub if_none_stands : {A : Type 0} → List SchemaError → A → Option A
 if_none_stands [] x = Some x

@@ -1,24 +1,11 @@
 // Which defaults are values of their fields' types (Avro 1.11, "Records").
-ghost use Rattle.std.specs.Prelude.{◌≡◌, ℕ, List, [], Err, IfOk, OnOk, IsErrOf, Contains, option_copied, is_some};
+ghost use Rattle.std.specs.Prelude.{◌≡◌, [], IfErr, OnOk, Contains, option_copied, is_some};
 ghost use Rattle.serde_json.specs.Find.{get_member};
 ghost use Rattle.serde_json.specs.View.{view, number_view, items_view, members_view};
 ghost use Rattle.avro_schema.specs.Defaults as spec;
 
-use crate::{DefaultError, Field, Node, NodeId, Primitive, Schema};
-use base_text::Text;
+use crate::{BadDefault, Field, Node, NodeId, Primitive, Schema};
 use serde_json::{Map, Number, Value};
-use std::alloc::{AllocError, Global};
-
-impl From<AllocError> for DefaultError {
-    ghost use Rattle.std.specs.Prelude.{◌≡◌};
-    ghost use Rattle.avro_schema.specs.declared.error.DefaultError.TheVariants.{OutOfMemory};
-
-    ghost from_gives = { λ _ e. e ≡ OutOfMemory };
-
-    fn from(_refused: AllocError) -> DefaultError {
-        DefaultError::OutOfMemory
-    }
-}
 
 impl Schema {
     /// Tests the default of each field that has one (Avro 1.11, "Records").
@@ -30,18 +17,15 @@ impl Schema {
     /// object whose members of fields' names are valid, where each field that it leaves out has a
     /// default of its own.
     ///
-    /// Where several defaults are invalid, any one of their fields is named. Each default is read
-    /// again from its text, so memory may be wanted.
-    pub fn check_defaults(&self) -> Result<(), DefaultError>
+    /// Where several defaults are invalid, any one of their fields is named. Takes no memory.
+    pub fn check_defaults(&self) -> Result<(), BadDefault<'_>>
         ensures ok { OnOk result (spec.bad_defaults self.now.nodes ≡ []) }
-        ensures bad { (name : List ℕ) → result ≡ Err (DefaultError.BadDefault name)
-            → Contains (spec.bad_defaults self.now.nodes) name }
+        ensures bad { IfErr result (λ bad. Contains (spec.bad_defaults self.now.nodes) bad.field.now) }
     {
-        let alloc = self.allocator();
         let nodes = self.nodes();
         for node in nodes {
             if let Node::Record { fields, .. } = node {
-                check_fields(alloc, nodes, fields.as_slice())?;
+                check_fields(nodes, fields.as_slice())?;
             }
         }
         Ok(())
@@ -49,30 +33,25 @@ impl Schema {
 }
 
 /// Tests the defaults of a record's fields.
-fn check_fields(alloc: Global, nodes: &[Node], fields: &[Field]) -> Result<(), DefaultError>
+fn check_fields<'s>(nodes: &[Node], fields: &'s [Field]) -> Result<(), BadDefault<'s>>
     ensures ok { OnOk result (spec.bad_fields nodes.now fields.now ≡ []) }
-    ensures bad { (name : List ℕ) → result ≡ Err (DefaultError.BadDefault name)
-        → Contains (spec.bad_fields nodes.now fields.now) name }
+    ensures bad { IfErr result (λ bad. Contains (spec.bad_fields nodes.now fields.now) bad.field.now) }
 {
     for field in fields {
-        if !has_good_default(alloc, nodes, field)? {
-            return Err(DefaultError::BadDefault(field.name.clone()?));
+        if !has_good_default(nodes, field) {
+            return Err(BadDefault { field: &field.name });
         }
     }
     Ok(())
 }
 
 /// Whether a field's default is a value of its type, or it has none.
-fn has_good_default(alloc: Global, nodes: &[Node], field: &Field) -> Result<bool, AllocError>
-    ensures { IfOk result (λ b. b ≡ spec.has_good_default nodes.now field.now) }
+fn has_good_default(nodes: &[Node], field: &Field) -> bool
+    ensures { result ≡ spec.has_good_default nodes.now field.now }
 {
-    let Some(text) = &field.default else {
-        return Ok(true);
-    };
-    match Value::from_str(alloc, text.as_str()) {
-        Ok(value) => Ok(fits(nodes, field.node, &value)),
-        Err(error) if error.is_memory() => Err(AllocError),
-        Err(_) => Ok(false),
+    match &field.default {
+        Some(default) => default_fits(nodes, field.node, default.json()),
+        None => true,
     }
 }
 
@@ -91,9 +70,9 @@ fn default_type(nodes: &[Node], id: NodeId) -> Option<&Node>
 }
 
 /// Whether a JSON value is a default of a type.
-#[cycle(fits)]
-fn fits(nodes: &[Node], id: NodeId, value: &Value) -> bool
-    ensures { result ≡ spec.fits nodes.now id (view value.now) }
+#[cycle(default_fits)]
+fn default_fits(nodes: &[Node], id: NodeId, value: &Value) -> bool
+    ensures { result ≡ spec.default_fits nodes.now id (view value.now) }
 {
     let node = default_type(nodes, id);
     match value {
@@ -116,24 +95,24 @@ fn fits(nodes: &[Node], id: NodeId, value: &Value) -> bool
     }
 }
 
-#[cycle(fits)]
+#[cycle(default_fits)]
 fn items_fit(nodes: &[Node], id: NodeId, items: &Vec<Value>) -> bool
     ensures { result ≡ spec.items_fit nodes.now id (items_view items.now.items) }
 {
     for item in items {
-        if !fits(nodes, id, item) {
+        if !default_fits(nodes, id, item) {
             return false;
         }
     }
     true
 }
 
-#[cycle(fits)]
+#[cycle(default_fits)]
 fn values_fit(nodes: &[Node], id: NodeId, members: &Map<String, Value>) -> bool
     ensures { result ≡ spec.values_fit nodes.now id (members_view members.now.entries) }
 {
     for (_name, value) in members.iter() {
-        if !fits(nodes, id, value) {
+        if !default_fits(nodes, id, value) {
             return false;
         }
     }
@@ -141,13 +120,13 @@ fn values_fit(nodes: &[Node], id: NodeId, members: &Map<String, Value>) -> bool
 }
 
 /// Whether the members of fields' names are values of the fields.
-#[cycle(fits)]
+#[cycle(default_fits)]
 fn fields_fit(nodes: &[Node], fields: &[Field], members: &Map<String, Value>) -> bool
     ensures { result ≡ spec.fields_fit nodes.now fields.now (members_view members.now.entries) }
 {
     for (name, value) in members.iter() {
         if let Some(field) = field_named(fields, name.as_str()) {
-            if !fits(nodes, field.node, value) {
+            if !default_fits(nodes, field.node, value) {
                 return false;
             }
         }
@@ -175,7 +154,7 @@ fn has_member(members: &Map<String, Value>, name: &str) -> bool
 }
 
 fn takes_null(node: Option<&Node>) -> bool
-    ensures { result ≡ spec.is_primitive spec.is_null (option_copied node.entry) }
+    ensures { result ≡ spec.takes (option_copied node.entry) spec.a_null }
 {
     match node {
         Some(Node::Primitive(primitive)) => matches!(primitive, Primitive::Null),
@@ -184,7 +163,7 @@ fn takes_null(node: Option<&Node>) -> bool
 }
 
 fn takes_boolean(node: Option<&Node>) -> bool
-    ensures { result ≡ spec.is_primitive spec.is_boolean (option_copied node.entry) }
+    ensures { result ≡ spec.takes (option_copied node.entry) spec.a_truth_value }
 {
     match node {
         Some(Node::Primitive(primitive)) => matches!(primitive, Primitive::Boolean),
@@ -193,8 +172,7 @@ fn takes_boolean(node: Option<&Node>) -> bool
 }
 
 fn takes_number(node: Option<&Node>, number: &Number) -> bool
-    ensures { result
-        ≡ spec.is_primitive (spec.takes_number (number_view number.now)) (option_copied node.entry) }
+    ensures { result ≡ spec.takes (option_copied node.entry) (spec.a_number (number_view number.now)) }
 {
     match node {
         Some(Node::Primitive(primitive)) => is_number_of(number, *primitive),
@@ -203,7 +181,7 @@ fn takes_number(node: Option<&Node>, number: &Number) -> bool
 }
 
 fn takes_string(node: Option<&Node>) -> bool
-    ensures { result ≡ spec.takes_string (option_copied node.entry) }
+    ensures { result ≡ spec.takes (option_copied node.entry) spec.a_string }
 {
     match node {
         Some(Node::Primitive(primitive)) => {
@@ -216,7 +194,7 @@ fn takes_string(node: Option<&Node>) -> bool
 
 /// Whether a number is a default of a primitive type.
 fn is_number_of(number: &Number, primitive: Primitive) -> bool
-    ensures { result ≡ spec.takes_number (number_view number.now) primitive }
+    ensures { result ≡ spec.primitive_takes (spec.a_number (number_view number.now)) primitive }
 {
     match primitive {
         Primitive::Int => is_within(number, i64::from(i32::MIN), i64::from(i32::MAX)),

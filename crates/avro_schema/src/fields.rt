@@ -1,18 +1,17 @@
 // Fields of records, their types apart.
-ghost use Rattle.std.specs.Prelude.{◌≡◌, IfOk, IfErr, false, map, option_map, codes, bytes_eq};
+ghost use Rattle.std.specs.Prelude.{◌≡◌, IfOk, IfErr, map, codes, bytes_eq};
 ghost use Rattle.std.specs.List.{list_all};
 ghost use Rattle.serde_json.specs.View.{view};
 ghost use Rattle.serde_json.specs.Find.{get};
-ghost use Rattle.serde_json.specs.Written.{has_float, compact_text};
 ghost use Rattle.avro_schema.specs.Names as spec;
 ghost use Rattle.avro_schema.specs.Form.{field_heading_of};
 ghost use Rattle.avro_schema.specs.Schema.{IsRefusalBy};
-ghost use Rattle.avro_schema.specs.Reader.{HasFieldNames, field_faults};
+ghost use Rattle.avro_schema.specs.Building.{HasFieldNames, field_faults};
 
 use crate::kinds::are_distinct;
 use crate::members::{aliases_of, string_at};
 use crate::names::is_name;
-use crate::{Field, SchemaError};
+use crate::{DefaultValue, Field, SchemaError};
 use base_text::Text;
 use serde_json::Value;
 use std::alloc::{AllocError, Global};
@@ -22,12 +21,11 @@ use std::alloc::{AllocError, Global};
 pub(crate) struct FieldNames {
     pub(crate) name: Text,
     pub(crate) aliases: Vec<Text>,
-    pub(crate) default: Option<Text>,
+    pub(crate) default: Option<DefaultValue>,
 }
 
 /// Reads what a field is written with, its type apart.
 pub(crate) fn read_field_names(alloc: Global, value: &Value) -> Result<FieldNames, SchemaError>
-    requires { has_float (view value.now) ≡ false }
     ensures ok { IfOk result (HasFieldNames (field_heading_of (view value.now))) }
     ensures err { IfErr result (IsRefusalBy (field_faults (field_heading_of (view value.now)))) }
 {
@@ -44,7 +42,7 @@ pub(crate) fn read_field_names(alloc: Global, value: &Value) -> Result<FieldName
         return Err(SchemaError::BadName);
     }
     let name = Text::copy_of(alloc, name)?;
-    let default = default_of(alloc, value)?;
+    let default = default_of(value)?;
     Ok(FieldNames {
         name,
         aliases,
@@ -52,13 +50,12 @@ pub(crate) fn read_field_names(alloc: Global, value: &Value) -> Result<FieldName
     })
 }
 
-/// The text of a field's default, where it has one.
-fn default_of(alloc: Global, value: &Value) -> Result<Option<Text>, AllocError>
-    requires { has_float (view value.now) ≡ false }
-    ensures { IfOk result (λ o. o ≡ option_map compact_text (get (codes "default") (view value.now))) }
+/// A field's default, where it has one.
+fn default_of(value: &Value) -> Result<Option<DefaultValue>, AllocError>
+    ensures { IfOk result (λ o. o ≡ get (codes "default") (view value.now)) }
 {
     match value.get("default") {
-        Some(member) => Ok(Some(Text::from(member.to_string(alloc)?))),
+        Some(member) => Ok(Some(DefaultValue::copy_of(member)?)),
         None => Ok(None),
     }
 }

@@ -5,7 +5,7 @@ ghost use Rattle.serde_json.specs.View.{view};
 ghost use Rattle.avro_schema.specs.Form.{heading_of};
 ghost use Rattle.avro_schema.specs.Faults.{written_faults};
 ghost use Rattle.avro_schema.specs.Names as spec;
-ghost use Rattle.avro_schema.specs.Reader.{HasNames};
+ghost use Rattle.avro_schema.specs.Building.{HasNames};
 ghost use Rattle.avro_schema.specs.Schema.{IsRefusalBy};
 
 use crate::members::{aliases_of, string_at};

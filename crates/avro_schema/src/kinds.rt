@@ -40,7 +40,7 @@ pub(crate) struct Kinds {
 
 impl Kinds {
     ghost use Rattle.avro_schema.specs.declared.kinds.Kind.{Kind};
-    ghost use Rattle.avro_schema.specs.Reader.{HoldsKinds, may_stand};
+    ghost use Rattle.avro_schema.specs.Building.{HoldsKinds, may_stand};
 
     pub(crate) fn new(alloc: Global) -> Kinds
         ensures { HoldsKinds result [] }

@@ -4,7 +4,16 @@ ghost use Rattle.std.specs.Prelude.{◌≡◌, ℕ, List, Some};
 ghost use Rattle.avro_schema.specs.Schema.{Meaning, schema_of};
 ghost use Rattle.avro_schema.specs.Sound.{IsSound};
 
+use compact_length::compact_texts_are_no_longer;
+
 /// The nodes of each schema are sound.
 pub fn schemas_are_sound()
     ensures { (text : List ℕ) (m : Meaning) → schema_of text ≡ Some m → IsSound m.nodes }
 {}
+
+/// Each schema's normal text means the same schema.
+pub fn normal_texts_read_back()
+    ensures { (text : List ℕ) (m : Meaning) → schema_of text ≡ Some m → schema_of m.normal_text ≡ Some m }
+{
+    compact_texts_are_no_longer();
+}

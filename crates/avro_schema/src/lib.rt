@@ -1,25 +1,26 @@
 //! Avro schemas: what a schema's text says, as a list of nodes (Avro 1.11, "Schema Declaration").
 #![tactic(auto)]
 
+mod builder;
+mod default_value;
 mod defaults;
 mod error;
 mod fields;
 mod heading;
 mod kinds;
 mod laws;
+mod limits;
 mod members;
 mod names;
 mod node;
 mod normal;
-mod reader;
 mod schema;
 mod symbols;
 mod word;
 
-pub use error::{DefaultError, SchemaError};
-pub use laws::schemas_are_sound;
+pub use default_value::DefaultValue;
+pub use error::{BadDefault, SchemaError};
+pub use laws::{normal_texts_read_back, schemas_are_sound};
+pub use limits::{GREATEST_SIZE, LONGEST_TEXT, MOST_NODES, limits_are_as_written};
 pub use node::{Field, FullName, Node, NodeId, Primitive};
 pub use schema::Schema;
-
-#[cfg(test)]
-mod texts;

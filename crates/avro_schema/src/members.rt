@@ -3,34 +3,11 @@ ghost use Rattle.std.specs.Prelude.{◌≡◌, IfOk, option_map};
 ghost use Rattle.serde_json.specs.View.{view, number_view, items_view, members_view};
 ghost use Rattle.serde_json.specs.Written as written;
 ghost use Rattle.avro_schema.specs.Form as spec;
-ghost use Rattle.avro_schema.specs.Reader.{items_at, number_at as spec_number_at};
+ghost use Rattle.avro_schema.specs.Building.{items_at, number_at as spec_number_at};
 
-use crate::SchemaError;
 use base_text::Text;
 use serde_json::{Map, Number, Value};
-use std::alloc::{AllocError, AllocFailed, Global};
-
-impl From<AllocError> for SchemaError {
-    ghost use Rattle.std.specs.Prelude.{◌≡◌};
-    ghost use Rattle.avro_schema.specs.declared.error.SchemaError.TheVariants.{OutOfMemory};
-
-    ghost from_gives = { λ _ e. e ≡ OutOfMemory };
-
-    fn from(_refused: AllocError) -> SchemaError {
-        SchemaError::OutOfMemory
-    }
-}
-
-impl<T: Drop> From<AllocFailed<T>> for SchemaError {
-    ghost use Rattle.std.specs.Prelude.{◌≡◌};
-    ghost use Rattle.avro_schema.specs.declared.error.SchemaError.TheVariants.{OutOfMemory};
-
-    ghost from_gives = { λ _ e. e ≡ OutOfMemory };
-
-    fn from(_refused: AllocFailed<T>) -> SchemaError {
-        SchemaError::OutOfMemory
-    }
-}
+use std::alloc::{AllocError, Global};
 
 /// The text that a member is.
 pub(crate) fn string_at<'v>(value: &'v Value, name: &str) -> Option<&'v str>

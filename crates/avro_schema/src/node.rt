@@ -1,4 +1,5 @@
 // The nodes of a schema: one for each type that is written out.
+use crate::DefaultValue;
 use base_text::{Listed, Text};
 
 /// A primitive type (Avro 1.11, "Primitive Types").
@@ -30,19 +31,19 @@ pub struct NodeId {
 }
 
 /// A field of a record (Avro 1.11, "Records").
-#[derive(Debug, Drop)]
+#[derive(Drop)]
 pub struct Field {
     pub name: Text,
     pub aliases: Listed<Text>,
-    /// Its default as JSON with no spaces, where it has one.
-    pub default: Option<Text>,
+    /// Its default, where it has one.
+    pub default: Option<DefaultValue>,
     /// Its type.
     pub node: NodeId,
 }
 
 /// A type that is written out (Avro 1.11, "Complex Types"). A use of a defined name is no node of
 /// its own, but the id of the definition's.
-#[derive(Debug, Drop)]
+#[derive(Drop)]
 pub enum Node {
     Primitive(Primitive),
     Record {

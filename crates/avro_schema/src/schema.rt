@@ -4,20 +4,19 @@ ghost use Rattle.serde_json.specs.Data.{depth};
 ghost use Rattle.serde_json.specs.Read.{read as json_of};
 ghost use Rattle.serde_json.specs.View.{view};
 
+use crate::builder::Builder;
 use crate::laws::schemas_are_sound;
+use crate::limits::LONGEST_TEXT;
 use crate::members::has_float;
 use crate::normal::normal_of;
-use crate::reader::Reader;
 use crate::{FullName, Node, NodeId, SchemaError};
 use base_text::Text;
 use serde_json::Value;
 use std::alloc::{AllocError, Global};
 use std::marker::Model;
 
-const LONGEST_TEXT: usize = 1048576;
-
 /// A schema that was read. Contracts see its nodes, the root first, and its normal text.
-#[derive(Debug, Drop)]
+#[derive(Drop)]
 pub struct Schema {
     nodes: Vec<Node>,
     normal: Text,
@@ -25,9 +24,13 @@ pub struct Schema {
 
 impl Model for Schema {
     ghost use Rattle.std.specs.Prelude.{◌≡◌, Some};
+    ghost use Rattle.std.specs.Coded.{codes};
+    ghost use Rattle.avro_schema.specs.JsonCode.{json_code};
     ghost use Rattle.avro_schema.specs.Schema.{Meaning, schema_of};
 
     ghost Value = { Meaning };
+
+    ghost coded = { Prim.hlevel (codes, json_code) };
 
     ghost view = { λ s. record { nodes = s.nodes.items; normal_text = s.normal } };
 
@@ -40,7 +43,7 @@ impl Schema {
     ghost use Rattle.avro_schema.specs.Schema.{schema_of, faults, IsRefusalBy};
     ghost use Rattle.avro_schema.specs.Sound.{IsSound, parts_of_node};
 
-    /// Reads a schema's text: at most 1,048,576 bytes of JSON, which nests at most 127 deep.
+    /// Reads a schema's text: JSON of at most `LONGEST_TEXT` bytes.
     ///
     /// A name is looked up among the types that open before it: one with a dot as it is written,
     /// another in the namespace that applies, else in the null namespace. Defaults aren't checked.
@@ -56,11 +59,11 @@ impl Schema {
         if has_float(&value) {
             return Err(SchemaError::FloatNumber);
         }
-        let mut reader = Reader::new(alloc);
-        reader.read_type(alloc, &value, "")?;
+        let mut builder = Builder::new(alloc);
+        builder.read_type(alloc, &value, "")?;
         let normal = normal_of(alloc, text, &value)?;
         Ok(Schema {
-            nodes: reader.nodes,
+            nodes: builder.nodes,
             normal,
         })
     }
@@ -96,12 +99,7 @@ impl Schema {
         ensures text { IfOk result (λ s. string_bytes s ≡ self.now.normal_text) }
         ensures reads_back { schema_of self.now.normal_text ≡ Some self.now }
     {
-        String::from_str(self.allocator(), self.normal.as_str())
-    }
-
-    /// The allocator that the schema was read with.
-    pub(crate) fn allocator(&self) -> Global {
-        *self.nodes.allocator()
+        String::from_str(*self.nodes.allocator(), self.normal.as_str())
     }
 
     pub(crate) fn nodes(&self) -> &[Node]
@@ -165,6 +163,3 @@ fn read_json(alloc: Global, text: &str) -> Result<Value, SchemaError>
         Err(_) => Err(SchemaError::NotJson),
     }
 }
-
-#[cfg(test)]
-mod tests;

@@ -6,11 +6,12 @@ ghost use Rattle.avro_schema.specs.Names.{has_text};
 ghost use Rattle.avro_schema.specs.Form.{strings_at};
 ghost use Rattle.avro_schema.specs.Faults.{symbols_faults, size_faults, is_symbol, unless};
 ghost use Rattle.avro_schema.specs.Schema.{IsRefusalBy};
-ghost use Rattle.avro_schema.specs.Reader.{HasSymbols, HasSize, number_at};
+ghost use Rattle.avro_schema.specs.Building.{HasSymbols, HasSize, number_at};
 
 use crate::SchemaError;
 use crate::fields::are_names;
 use crate::kinds::are_distinct;
+use crate::limits::GREATEST_SIZE;
 use crate::members::{number_at as member_number, strings_in};
 use base_text::Text;
 use serde_json::Value;
@@ -74,7 +75,7 @@ pub(crate) fn read_size(value: &Value) -> Result<u32, SchemaError>
         return Err(SchemaError::BadForm);
     };
     match number.as_u64() {
-        Some(size) if size <= 2147483647 => Ok(size as u32),
+        Some(size) if size <= u64::from(GREATEST_SIZE) => Ok(size as u32),
         _ => Err(SchemaError::BadFixed),
     }
 }

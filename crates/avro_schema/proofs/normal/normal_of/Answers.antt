@@ -3,7 +3,6 @@ use Rattle.std.proofs.Common.{◌≡◌, ◌≤◌, length, Some, sym, ap, ◌�
 use Rattle.serde_json.specs.Read.{read}
 use Rattle.serde_json.specs.View.{view}
 use Rattle.serde_json.proofs.Nesting.{depth-read}
-use Rattle.avro_schema.proofs.CompactLength.{compact_shorter}
 use Rattle.avro_schema.proofs.NormalLemmas.{same_meaning}
 use Rattle.avro_schema.proofs.normal.normal_of.Goals as goal
 
@@ -14,5 +13,5 @@ returns-clause-same c =
     let normal = c.from.result in
     let written = c.from.ensures ∙ c.in_ok-to_string.ensures.text c.requires.whole in
     let back : read normal ≡ Some d = ap read c.from.ensures ∙ c.in_ok-to_string.ensures.reads_back (depth-read text d c.requires.of_text) in
-    let short : length normal ≤ length text = subst (λ s. length s ≤ length text) (sym written) (compact_shorter text d c.requires.of_text) in
+    let short : length normal ≤ length text = subst (λ s. length s ≤ length text) (sym written) (c.compact_texts_are_no_longer.ensures text d c.requires.of_text) in
     same_meaning normal text d back c.requires.of_text (omega arith) c.requires.within

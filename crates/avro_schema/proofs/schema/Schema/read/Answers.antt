@@ -1,27 +1,28 @@
 use Rattle.std.proofs.Common.{◌≡◌, ◌∙◌, sym, length, nat_le, true, false}
 use Rattle.serde_json.specs.View.{view}
 use Rattle.serde_json.specs.Written.{has_float}
-use Rattle.avro_schema.specs.Schema.{IsRefusalBy, faults, longest_text}
+use Rattle.avro_schema.specs.Schema.{IsRefusalBy, faults}
 use Rattle.avro_schema.proofs.Lookups.{exit_err}
 use Rattle.avro_schema.proofs.WholeLemmas.{refused_whole, read_whole, le-true}
 use Rattle.avro_schema.proofs.schema.Schema.read.Goals as goal
+use Rattle.avro_schema.specs.declared.limits.TheConstants.{LONGEST_TEXT}
 
 pub returns-in_err-read_type-clause-err : goal.returns-in_err-read_type-clause-err
 returns-in_err-read_type-clause-err c =
     exit_err c.from_residual-in_err-read_type.result (IsRefusalBy (faults c.args.text.now)) c.in_err-read_type.field-0.0 c.from_residual-in_err-read_type.ensures.1
-    (refused_whole c.args.text.now (view c.in_ok-value.value) c.new-reader.result c.in_err-read_type.field-0.0 c.in_ok-value.ensures.ok c.new-reader.ensures.empty c.new-reader.ensures.met c.in_err-read_type.ensures.err)
+    (refused_whole c.args.text.now (view c.in_ok-value.value) c.new-builder.result c.in_err-read_type.field-0.0 c.in_ok-value.ensures.ok c.new-builder.ensures.empty c.new-builder.ensures.met c.in_err-read_type.ensures.err)
 
 pub returns-clause-ok : goal.returns-clause-ok
 returns-clause-ok c =
     let d = view c.in_ok-value.value in
-    let short : nat_le (length c.args.text.now) longest_text ≡ true = le-true _ _ c.if-text-gt-LONGEST_TEXT.false in
+    let short : nat_le (length c.args.text.now) LONGEST_TEXT ≡ true = le-true _ _ c.if-text-gt-LONGEST_TEXT.false in
     let whole : has_float d ≡ false = sym c.if-has_float.ensures in
-    read_whole c.args.text.now d c.new-reader.result c.read_type.new.self c.in_ok-read_type.field-0 c.in_ok-normal.normal short c.in_ok-value.ensures.ok whole c.new-reader.ensures.empty c.new-reader.ensures.met c.in_ok-read_type.ensures.ok c.in_ok-normal.ensures.text
+    read_whole c.args.text.now d c.new-builder.result c.read_type.new.self c.in_ok-read_type.field-0 c.in_ok-normal.normal short c.in_ok-value.ensures.ok whole c.new-builder.ensures.empty c.new-builder.ensures.met c.in_ok-read_type.ensures.ok c.in_ok-normal.ensures.text
 
 pub invariant_of-result : goal.invariant_of-result
 invariant_of-result c =
     let d = view c.in_ok-value.value in
-    let short : nat_le (length c.args.text.now) longest_text ≡ true = le-true _ _ c.if-text-gt-LONGEST_TEXT.false in
+    let short : nat_le (length c.args.text.now) LONGEST_TEXT ≡ true = le-true _ _ c.if-text-gt-LONGEST_TEXT.false in
     let whole : has_float d ≡ false = sym c.if-has_float.ensures in
     c.in_ok-normal.ensures.same
-    ∙ read_whole c.args.text.now d c.new-reader.result c.read_type.new.self c.in_ok-read_type.field-0 c.in_ok-normal.normal short c.in_ok-value.ensures.ok whole c.new-reader.ensures.empty c.new-reader.ensures.met c.in_ok-read_type.ensures.ok c.in_ok-normal.ensures.text
+    ∙ read_whole c.args.text.now d c.new-builder.result c.read_type.new.self c.in_ok-read_type.field-0 c.in_ok-normal.normal short c.in_ok-value.ensures.ok whole c.new-builder.ensures.empty c.new-builder.ensures.met c.in_ok-read_type.ensures.ok c.in_ok-normal.ensures.text

@@ -1,0 +1,380 @@
+use Rattle.std.proofs.Common.{◌≡◌, ◌≤◌, ◌<◌, ◌∙◌, ◌+◌, ◌++◌, ◌∷◌, [], ℕ, suc, List, length, drop, get_or, false, map, bytes_eq, refl, sym, ap, subst, arith, codes}
+use Rattle.serde_json.specs.Data.{depth, items_depth}
+use Rattle.serde_json.specs.View.{view, items_view}
+use Rattle.serde_json.specs.Written.{has_float}
+use Rattle.avro_schema.specs.declared.error.SchemaError.TheVariants as fault
+use Rattle.avro_schema.specs.declared.word.TypeWord.TheVariants as word
+use Rattle.avro_schema.specs.Names.{all_distinct}
+use Rattle.avro_schema.specs.Form.{Fields, ill_fields, union_of, form, forms, form_of_name, fields_of_items, field_heading_of, heading_of, record_of}
+use Rattle.avro_schema.specs.Schema.{IsRefusalBy}
+use Rattle.avro_schema.specs.Faults.{field_list_faults}
+use Rattle.avro_schema.specs.Building.{opened, form_in, written_fields, fields_or_ill, array_in, map_in, record_in, enum_in, fixed_in, RefusesType, RefusesField, ReadsFields, RefusesFields, RefusesBranches, AreBranchesRead, AreFieldsRead, branches_faults, fields_faults, has_distinct_names, type_faults, field_faults}
+use Rattle.avro_schema.proofs.Reading.{left, right}
+use Rattle.avro_schema.proofs.Types.{opened-more, definition_of}
+use Rattle.avro_schema.proofs.Refused.{refused_open, refused_ill_formed, refused_array, refused_map, refused_union, refused_names_record, refused_opening_record, refused_list, refused_no_fields, refused_same_names, refused_fields}
+use Rattle.avro_schema.proofs.Lookups.{exit_err}
+use Rattle.avro_schema.proofs.KindLemmas.{fits_more}
+use Rattle.avro_schema.proofs.ObjectForms.{get-depth, get-whole, items_at-depth, items_at-whole, item-depth, item-whole, inner_type, worded_type}
+use Rattle.avro_schema.proofs.Answering.{type_ok, type_err, still_there, array_read, map_read, union_read, record_read, defined_at, tested_names, branches_next, branches_no, branches_twice, branches_done, fields_next, fields_no, fields_done, tests_read, next_forms, next_fields, no_forms_left, no_fields_left}
+use Rattle.avro_schema.proofs.Along.{BranchesAlong, FieldsAlong, branches_start, fields_start, tests_start}
+use Rattle.avro_schema.proofs.builder.Builder.+types.Goals as goal
+
+pub read_array-returns-in_err-index-clause-err : goal.read_array-returns-in_err-index-clause-err
+read_array-returns-in_err-index-clause-err t c =
+    let a = c.args.self.now in
+    exit_err c.from_residual.result (RefusesType a c.args.namespace.now (array_in (view c.args.value.now))) c.in_err-index.field-0.0 c.from_residual.ensures.1
+    (λ ds met. refused_open ds c.args.namespace.now (array_in (view c.args.value.now)) (opened a) _ (omega arith) c.in_err-index.ensures.err)
+
+pub read_array-returns-in_err-items-clause-err : goal.read_array-returns-in_err-items-clause-err
+read_array-returns-in_err-items-clause-err t c =
+    let a = c.args.self.now in
+    exit_err c.from_residual-in_err-items.result (RefusesType a c.args.namespace.now (array_in (view c.args.value.now))) c.in_err-items.field-0.0 c.from_residual-in_err-items.ensures.1
+    (λ ds met. refused_array ds c.args.namespace.now (form_in (codes "items") (view c.args.value.now)) (opened a) (opened c.open.new.self) _ (opened-more _ a c.open.new.self c.in_ok-index.ensures.ok.1) (c.in_err-items.ensures.err ds (c.in_ok-index.ensures.met ds met)))
+
+pub read_array-close-requires : goal.read_array-close-requires
+read_array-close-requires t c =
+    let lt : c.in_ok-index.index < opened c.read_member.new.self = still_there c.args.self.now c.open.new.self c.read_member.new.self _ c.in_ok-index.index c.in_ok-index.ensures.ok.0 c.in_ok-index.ensures.ok.1 c.in_ok-items.ensures.ok.0 in
+    lt
+
+pub read_array-returns-clause-ok : goal.read_array-returns-clause-ok
+read_array-returns-clause-ok t c =
+    array_read c.args.self.now c.open.new.self c.read_member.new.self _ c.args.namespace.now (form_in (codes "items") (view c.args.value.now)) _ c.in_ok-index.index c.in_ok-items.items c.in_ok-index.ensures.ok.0 c.in_ok-index.ensures.ok.1 c.in_ok-index.ensures.met c.in_ok-items.ensures.ok c.close.ensures.nodes c.close.ensures.names
+
+pub read_map-returns-in_err-index-clause-err : goal.read_map-returns-in_err-index-clause-err
+read_map-returns-in_err-index-clause-err t c =
+    let a = c.args.self.now in
+    exit_err c.from_residual.result (RefusesType a c.args.namespace.now (map_in (view c.args.value.now))) c.in_err-index.field-0.0 c.from_residual.ensures.1
+    (λ ds met. refused_open ds c.args.namespace.now (map_in (view c.args.value.now)) (opened a) _ (omega arith) c.in_err-index.ensures.err)
+
+pub read_map-returns-in_err-values-clause-err : goal.read_map-returns-in_err-values-clause-err
+read_map-returns-in_err-values-clause-err t c =
+    let a = c.args.self.now in
+    exit_err c.from_residual-in_err-values.result (RefusesType a c.args.namespace.now (map_in (view c.args.value.now))) c.in_err-values.field-0.0 c.from_residual-in_err-values.ensures.1
+    (λ ds met. refused_map ds c.args.namespace.now (form_in (codes "values") (view c.args.value.now)) (opened a) (opened c.open.new.self) _ (opened-more _ a c.open.new.self c.in_ok-index.ensures.ok.1) (c.in_err-values.ensures.err ds (c.in_ok-index.ensures.met ds met)))
+
+pub read_map-close-requires : goal.read_map-close-requires
+read_map-close-requires t c =
+    let lt : c.in_ok-index.index < opened c.read_member.new.self = still_there c.args.self.now c.open.new.self c.read_member.new.self _ c.in_ok-index.index c.in_ok-index.ensures.ok.0 c.in_ok-index.ensures.ok.1 c.in_ok-values.ensures.ok.0 in
+    lt
+
+pub read_map-returns-clause-ok : goal.read_map-returns-clause-ok
+read_map-returns-clause-ok t c =
+    map_read c.args.self.now c.open.new.self c.read_member.new.self _ c.args.namespace.now (form_in (codes "values") (view c.args.value.now)) _ c.in_ok-index.index c.in_ok-values.values c.in_ok-index.ensures.ok.0 c.in_ok-index.ensures.ok.1 c.in_ok-index.ensures.met c.in_ok-values.ensures.ok c.close.ensures.nodes c.close.ensures.names
+
+pub read_union-returns-in_err-index-clause-err : goal.read_union-returns-in_err-index-clause-err
+read_union-returns-in_err-index-clause-err t c =
+    let a = c.args.self.now in
+    let f = union_of (forms (items_view c.args.items.now.items)) in
+    exit_err c.from_residual.result (RefusesType a c.args.namespace.now f) c.in_err-index.field-0.0 c.from_residual.ensures.1
+    (λ ds met. refused_open ds c.args.namespace.now f (opened a) _ (omega arith) c.in_err-index.ensures.err)
+
+pub read_union-returns-in_err-branches-clause-err : goal.read_union-returns-in_err-branches-clause-err
+read_union-returns-in_err-branches-clause-err t c =
+    let a = c.args.self.now in
+    let fs = forms (items_view c.args.items.now.items) in
+    exit_err c.from_residual-in_err-branches.result (RefusesType a c.args.namespace.now (union_of fs)) c.in_err-branches.field-0.0 c.from_residual-in_err-branches.ensures.1
+    (λ ds met. refused_union ds c.args.namespace.now fs (opened a) (opened c.open.new.self) _ (opened-more _ a c.open.new.self c.in_ok-index.ensures.ok.1) (c.in_err-branches.ensures.err ds (c.in_ok-index.ensures.met ds met)))
+
+pub read_union-close-requires : goal.read_union-close-requires
+read_union-close-requires t c =
+    let lt : c.in_ok-index.index < opened c.read_branches.new.self = still_there c.args.self.now c.open.new.self c.read_branches.new.self _ c.in_ok-index.index c.in_ok-index.ensures.ok.0 c.in_ok-index.ensures.ok.1 c.in_ok-branches.ensures.ok.0 in
+    lt
+
+pub read_union-returns-clause-ok : goal.read_union-returns-clause-ok
+read_union-returns-clause-ok t c =
+    union_read c.args.self.now c.open.new.self c.read_branches.new.self _ c.args.namespace.now (forms (items_view c.args.items.now.items)) _ c.in_ok-index.index c.in_ok-branches.branches.items c.from.result c.in_ok-index.ensures.ok.0 c.in_ok-index.ensures.ok.1 c.in_ok-index.ensures.met c.in_ok-branches.ensures.ok c.from.ensures c.close.ensures.nodes c.close.ensures.names
+
+pub read_member-read_type-requires : goal.read_member-read_type-requires
+read_member-read_type-requires t c =
+    let d = view c.args.value.now in
+    let e = view c.in-Some.member.now in
+    let h : depth e < depth d = get-depth c.args.name.now d e (sym c.in-Some.ensures) in
+    (omega arith, get-whole c.args.name.now d e (sym c.in-Some.ensures) c.requires.1.1)
+
+pub read_object-returns-in_default-clause-ok : goal.read_object-returns-in_default-clause-ok
+read_object-returns-in_default-clause-ok t c =
+    let d = view c.args.value.now in
+    type_ok c.read_member.result c.args.self.now c.read_member.new.self c.args.namespace.now (form_in (codes "type") d) (form d) (inner_type d c.requires.1.1.0 (sym c.in_default.ensures)) c.read_member.ensures.ok
+
+pub read_object-returns-in_default-clause-err : goal.read_object-returns-in_default-clause-err
+read_object-returns-in_default-clause-err t c =
+    let d = view c.args.value.now in
+    type_err c.read_member.result c.args.self.now c.args.namespace.now (form_in (codes "type") d) (form d) (inner_type d c.requires.1.1.0 (sym c.in_default.ensures)) c.read_member.ensures.err
+
+pub read_object-returns-in-Record-clause-ok : goal.read_object-returns-in-Record-clause-ok
+read_object-returns-in-Record-clause-ok t c =
+    let d = view c.args.value.now in
+    type_ok c.read_record.result c.args.self.now c.read_record.new.self c.args.namespace.now (record_in d) (form d) (worded_type d c.in-Some.name.now word.Record c.requires.1.1.0 (sym c.in-Some.ensures) (sym c.in-Record.ensures)) c.read_record.ensures.ok
+
+pub read_object-returns-in-Record-clause-err : goal.read_object-returns-in-Record-clause-err
+read_object-returns-in-Record-clause-err t c =
+    let d = view c.args.value.now in
+    type_err c.read_record.result c.args.self.now c.args.namespace.now (record_in d) (form d) (worded_type d c.in-Some.name.now word.Record c.requires.1.1.0 (sym c.in-Some.ensures) (sym c.in-Record.ensures)) c.read_record.ensures.err
+
+pub read_object-returns-in-Enum-clause-ok : goal.read_object-returns-in-Enum-clause-ok
+read_object-returns-in-Enum-clause-ok t c =
+    let d = view c.args.value.now in
+    type_ok c.read_enum.result c.args.self.now c.read_enum.new.self c.args.namespace.now (enum_in d) (form d) (worded_type d c.in-Some.name.now word.Enum c.requires.1.1.0 (sym c.in-Some.ensures) (sym c.in-Enum.ensures)) c.read_enum.ensures.ok
+
+pub read_object-returns-in-Enum-clause-err : goal.read_object-returns-in-Enum-clause-err
+read_object-returns-in-Enum-clause-err t c =
+    let d = view c.args.value.now in
+    type_err c.read_enum.result c.args.self.now c.args.namespace.now (enum_in d) (form d) (worded_type d c.in-Some.name.now word.Enum c.requires.1.1.0 (sym c.in-Some.ensures) (sym c.in-Enum.ensures)) c.read_enum.ensures.err
+
+pub read_object-returns-in-Fixed-clause-ok : goal.read_object-returns-in-Fixed-clause-ok
+read_object-returns-in-Fixed-clause-ok t c =
+    let d = view c.args.value.now in
+    type_ok c.read_fixed.result c.args.self.now c.read_fixed.new.self c.args.namespace.now (fixed_in d) (form d) (worded_type d c.in-Some.name.now word.Fixed c.requires.1.1.0 (sym c.in-Some.ensures) (sym c.in-Fixed.ensures)) c.read_fixed.ensures.ok
+
+pub read_object-returns-in-Fixed-clause-err : goal.read_object-returns-in-Fixed-clause-err
+read_object-returns-in-Fixed-clause-err t c =
+    let d = view c.args.value.now in
+    type_err c.read_fixed.result c.args.self.now c.args.namespace.now (fixed_in d) (form d) (worded_type d c.in-Some.name.now word.Fixed c.requires.1.1.0 (sym c.in-Some.ensures) (sym c.in-Fixed.ensures)) c.read_fixed.ensures.err
+
+pub read_object-returns-in-Array-clause-ok : goal.read_object-returns-in-Array-clause-ok
+read_object-returns-in-Array-clause-ok t c =
+    let d = view c.args.value.now in
+    type_ok c.read_array.result c.args.self.now c.read_array.new.self c.args.namespace.now (array_in d) (form d) (worded_type d c.in-Some.name.now word.Array c.requires.1.1.0 (sym c.in-Some.ensures) (sym c.in-Array.ensures)) c.read_array.ensures.ok
+
+pub read_object-returns-in-Array-clause-err : goal.read_object-returns-in-Array-clause-err
+read_object-returns-in-Array-clause-err t c =
+    let d = view c.args.value.now in
+    type_err c.read_array.result c.args.self.now c.args.namespace.now (array_in d) (form d) (worded_type d c.in-Some.name.now word.Array c.requires.1.1.0 (sym c.in-Some.ensures) (sym c.in-Array.ensures)) c.read_array.ensures.err
+
+pub read_object-returns-in-Map-clause-ok : goal.read_object-returns-in-Map-clause-ok
+read_object-returns-in-Map-clause-ok t c =
+    let d = view c.args.value.now in
+    type_ok c.read_map.result c.args.self.now c.read_map.new.self c.args.namespace.now (map_in d) (form d) (worded_type d c.in-Some.name.now word.Map c.requires.1.1.0 (sym c.in-Some.ensures) (sym c.in-Map.ensures)) c.read_map.ensures.ok
+
+pub read_object-returns-in-Map-clause-err : goal.read_object-returns-in-Map-clause-err
+read_object-returns-in-Map-clause-err t c =
+    let d = view c.args.value.now in
+    type_err c.read_map.result c.args.self.now c.args.namespace.now (map_in d) (form d) (worded_type d c.in-Some.name.now word.Map c.requires.1.1.0 (sym c.in-Some.ensures) (sym c.in-Map.ensures)) c.read_map.ensures.err
+
+pub read_object-returns-in-Other-clause-ok : goal.read_object-returns-in-Other-clause-ok
+read_object-returns-in-Other-clause-ok t c =
+    let d = view c.args.value.now in
+    type_ok c.read_name.result c.args.self.now c.read_name.new.self c.args.namespace.now (form_of_name c.in-Some.name.now) (form d) (worded_type d c.in-Some.name.now word.Other c.requires.1.1.0 (sym c.in-Some.ensures) (sym c.in-Other.ensures)) c.read_name.ensures.ok
+
+pub read_object-returns-in-Other-clause-err : goal.read_object-returns-in-Other-clause-err
+read_object-returns-in-Other-clause-err t c =
+    let d = view c.args.value.now in
+    type_err c.read_name.result c.args.self.now c.args.namespace.now (form_of_name c.in-Some.name.now) (form d) (worded_type d c.in-Some.name.now word.Other c.requires.1.1.0 (sym c.in-Some.ensures) (sym c.in-Other.ensures)) c.read_name.ensures.err
+
+pub read_object-returns-in-Error-clause-err : goal.read_object-returns-in-Error-clause-err
+read_object-returns-in-Error-clause-err t c =
+    let d = view c.args.value.now in
+    λ ds met. subst (λ f. IsRefusalBy (type_faults ds c.args.namespace.now f (opened c.args.self.now)) fault.BadForm) (sym (worded_type d c.in-Some.name.now word.Error c.requires.1.1.0 (sym c.in-Some.ensures) (sym c.in-Error.ensures))) (refused_ill_formed ds c.args.namespace.now (opened c.args.self.now))
+
+pub read_field-returns-in_err-name-clause-err : goal.read_field-returns-in_err-name-clause-err
+read_field-returns-in_err-name-clause-err t c =
+    let d = view c.args.value.now in
+    exit_err c.from_residual.result (RefusesField c.args.self.now c.args.namespace.now (field_heading_of d) (form_in (codes "type") d)) c.in_err-name.field-0.0 c.from_residual.ensures.1
+    (λ ds met. left _ _ _ c.in_err-name.ensures.err)
+
+pub read_field-returns-in_err-node-clause-err : goal.read_field-returns-in_err-node-clause-err
+read_field-returns-in_err-node-clause-err t c =
+    let d = view c.args.value.now in
+    exit_err c.from_residual-in_err-node.result (RefusesField c.args.self.now c.args.namespace.now (field_heading_of d) (form_in (codes "type") d)) c.in_err-node.field-0.0 c.from_residual-in_err-node.ensures.1
+    (λ ds met. right (field_faults (field_heading_of d)) _ _ (c.in_err-node.ensures.err ds met))
+
+pub read_record-returns-in_err-text-clause-err : goal.read_record-returns-in_err-text-clause-err
+read_record-returns-in_err-text-clause-err t c =
+    let d = view c.args.value.now in
+    exit_err c.from_residual.result (RefusesType c.args.self.now c.args.namespace.now (record_in d)) c.in_err-text.field-0.0 c.from_residual.ensures.1
+    (λ ds met. refused_names_record ds c.args.namespace.now (heading_of d) (written_fields d) (opened c.args.self.now) _ c.in_err-text.ensures.err)
+
+pub read_record-returns-in_err-index-clause-err : goal.read_record-returns-in_err-index-clause-err
+read_record-returns-in_err-index-clause-err t c =
+    let d = view c.args.value.now in
+    exit_err c.from_residual-in_err-index.result (RefusesType c.args.self.now c.args.namespace.now (record_in d)) c.in_err-index.field-0.0 c.from_residual-in_err-index.ensures.1
+    (λ ds met. refused_opening_record ds c.args.namespace.now (heading_of d) c.in_ok-text.field-0 (written_fields d) (opened c.args.self.now) _ c.in_ok-text.ensures.ok (c.in_err-index.ensures.err ds met))
+
+pub read_record-returns-in_default-clause-err : goal.read_record-returns-in_default-clause-err
+read_record-returns-in_default-clause-err t c =
+    let d = view c.args.value.now in
+    let none : written_fields d ≡ ill_fields = ap fields_or_ill (sym c.in_default.ensures) in
+    λ ds met. refused_list ds c.args.namespace.now (heading_of d) (written_fields d) (opened c.args.self.now) fault.BadForm (subst (λ (fs : Fields). IsRefusalBy (field_list_faults fs) fault.BadForm) (sym none) refused_no_fields)
+
+pub read_record-read_fields-requires : goal.read_record-read_fields-requires
+read_record-read_fields-requires t c =
+    let d = view c.args.value.now in
+    let ds = items_view c.in-Some.items.now.items in
+    let h : suc (items_depth ds) < depth d = items_at-depth (codes "fields") d ds (sym c.in-Some.ensures) in
+    (omega arith, items_at-whole (codes "fields") d ds (sym c.in-Some.ensures) c.requires.1.1)
+
+pub read_record-returns-in_err-fields-clause-err : goal.read_record-returns-in_err-fields-clause-err
+read_record-returns-in_err-fields-clause-err t c =
+    let d = view c.args.value.now in
+    let a = c.args.self.now in
+    let r = c.in_ok-text.field-0 in
+    let ns = c.args.namespace.now in
+    let is = c.in_ok-index.ensures.ok.0 in
+    let fs : written_fields d ≡ fields_of_items (items_view c.in-Some.items.now.items) = ap fields_or_ill (sym c.in-Some.ensures) in
+    exit_err c.from_residual-in_err-fields.result (RefusesType a ns (record_in d)) c.in_err-fields.field-0.0 c.from_residual-in_err-fields.ensures.1
+    (λ ds met. subst (λ (gs : Fields). IsRefusalBy (type_faults ds ns (record_of (heading_of d) gs) (opened a)) c.in_err-fields.field-0.0) (sym fs)
+    (refused_fields ds ns (heading_of d) r (fields_of_items (items_view c.in-Some.items.now.items)) (opened a) (opened c.open_named.new.self) _ c.in_ok-text.ensures.ok (opened-more _ a c.open_named.new.self c.in_ok-index.ensures.ok.1)
+    (subst (λ (m : List ℕ). RefusesFields c.open_named.new.self m (fields_of_items (items_view c.in-Some.items.now.items)) c.in_err-fields.field-0.0) c.as_str.ensures c.in_err-fields.ensures.err _ (defined_at c.open_named.new.self ds r _ _ is (c.in_ok-index.ensures.met ds met).0))))
+
+pub read_record-returns-then-not-branch-clause-err : goal.read_record-returns-then-not-branch-clause-err
+read_record-returns-then-not-branch-clause-err t c =
+    let d = view c.args.value.now in
+    let a = c.args.self.now in
+    let r = c.in_ok-text.field-0 in
+    let is = c.in_ok-index.ensures.ok.0 in
+    let fs = fields_of_items (items_view c.in-Some.items.now.items) in
+    let same : written_fields d ≡ fs = ap fields_or_ill (sym c.in-Some.ensures) in
+    let reads : ReadsFields c.open_named.new.self c.read_fields.new.self r.name.namespace fs c.in_ok-fields.fields.items = subst (λ (m : List ℕ). ReadsFields c.open_named.new.self c.read_fields.new.self m fs c.in_ok-fields.fields.items) c.as_str.ensures c.in_ok-fields.ensures.ok in
+    λ ds met.
+    let read = reads.1 (ds ++ definition_of r (opened a) ∷ []) (defined_at c.open_named.new.self ds r _ _ is (c.in_ok-index.ensures.met ds met).0) in
+    let twice : has_distinct_names fs ≡ false = tested_names _ r.name.namespace fs c.open_named.new.self c.read_fields.new.self _ _ read (c.in_ok-have_distinct_names.ensures ∙ ap (λ l. all_distinct bytes_eq (map (λ g. g.name) l)) c.as_slice.ensures.value) ∙ c.if-not-branch.true in
+    refused_list ds c.args.namespace.now (heading_of d) (written_fields d) (opened a) fault.BadForm (subst (λ (gs : Fields). IsRefusalBy (field_list_faults gs) fault.BadForm) (sym same) (refused_same_names fs twice))
+
+pub read_record-close-requires : goal.read_record-close-requires
+read_record-close-requires t c =
+    let lt : c.in_ok-index.index < opened c.read_fields.new.self = still_there c.args.self.now c.open_named.new.self c.read_fields.new.self _ c.in_ok-index.index c.in_ok-index.ensures.ok.0 c.in_ok-index.ensures.ok.1 c.in_ok-fields.ensures.ok.0 in
+    lt
+
+pub read_record-returns-clause-ok : goal.read_record-returns-clause-ok
+read_record-returns-clause-ok t c =
+    let d = view c.args.value.now in
+    let a = c.args.self.now in
+    let r = c.in_ok-text.field-0 in
+    let fs = fields_of_items (items_view c.in-Some.items.now.items) in
+    let same : written_fields d ≡ fs = ap fields_or_ill (sym c.in-Some.ensures) in
+    let reads : ReadsFields c.open_named.new.self c.read_fields.new.self r.name.namespace fs c.in_ok-fields.fields.items = subst (λ (m : List ℕ). ReadsFields c.open_named.new.self c.read_fields.new.self m fs c.in_ok-fields.fields.items) c.as_str.ensures c.in_ok-fields.ensures.ok in
+    let all : ReadsFields c.open_named.new.self c.read_fields.new.self r.name.namespace (written_fields d) c.in_ok-fields.fields.items = subst (λ (gs : Fields). ReadsFields c.open_named.new.self c.read_fields.new.self r.name.namespace gs c.in_ok-fields.fields.items) (sym same) reads in
+    record_read a c.open_named.new.self c.read_fields.new.self _ c.args.namespace.now (heading_of d) r (written_fields d) _ c.in_ok-index.index c.in_ok-fields.fields.items c.from-2.result c.from.result c.in_ok-have_distinct_names.field-0 c.in_ok-text.ensures.ok c.in_ok-index.ensures.ok.0 c.in_ok-index.ensures.ok.1 c.in_ok-index.ensures.met all
+    (c.in_ok-have_distinct_names.ensures ∙ ap (λ l. all_distinct bytes_eq (map (λ g. g.name) l)) c.as_slice.ensures.value) c.if-not-branch.false c.from-2.ensures c.from.ensures c.close.ensures.nodes c.close.ensures.names
+
+pub read_branches-read_type-requires : goal.read_branches-read_type-requires
+read_branches-read_type-requires t c =
+    let vs = c.args.items.now.items in
+    let i = c.loop-item.item-index in
+    let lt : i < length vs = omega (arith, ap length c.deref-item-items.ensures.value) in
+    let is : c.item-item.result ≡ get_or vs i c.item-item.result = c.item-item.is ∙ ap (λ l. get_or l i c.item-item.result) c.deref-item-items.ensures.value in
+    let h : depth (view c.item-item.result) ≤ items_depth (items_view vs) = subst (λ v. depth (view v) ≤ items_depth (items_view vs)) (sym is) (item-depth vs i c.item-item.result lt) in
+    (omega arith, ap (λ v. has_float (view v)) is ∙ item-whole vs i c.item-item.result lt c.requires.1.1)
+
+pub read_fields-read_field-requires : goal.read_fields-read_field-requires
+read_fields-read_field-requires t c =
+    let vs = c.args.items.now.items in
+    let i = c.loop-item.item-index in
+    let lt : i < length vs = omega (arith, ap length c.deref-item-items.ensures.value) in
+    let is : c.item-item.result ≡ get_or vs i c.item-item.result = c.item-item.is ∙ ap (λ l. get_or l i c.item-item.result) c.deref-item-items.ensures.value in
+    let h : depth (view c.item-item.result) ≤ items_depth (items_view vs) = subst (λ v. depth (view v) ≤ items_depth (items_view vs)) (sym is) (item-depth vs i c.item-item.result lt) in
+    (omega arith, ap (λ v. has_float (view v)) is ∙ item-whole vs i c.item-item.result lt c.requires.1.1)
+
+pub read_branches-loop-item-init : goal.read_branches-loop-item-init
+read_branches-loop-item-init t c =
+    ([], c.new-kinds.ensures, refl, omega arith, λ ds met. subst (λ l. BranchesAlong c.args.self.now c.args.namespace.now (forms (items_view c.deref-item-items.result.now)) c.args.self.now (forms (items_view c.deref-item-items.result.now)) l [] ds) (sym c.new-branches.ensures.items) (branches_start c.args.self.now c.args.namespace.now (forms (items_view c.deref-item-items.result.now)) ds met))
+
+pub read_branches-returns-then-not-branch-clause-err : goal.read_branches-returns-then-not-branch-clause-err
+read_branches-returns-then-not-branch-clause-err t c = λ ds met.
+    let a = c.args.self.now in
+    let ns = c.args.namespace.now in
+    let vs = c.deref-item-items.result.now in
+    let i = c.loop-item.item-index in
+    let inv = c.loop-item.invariant in
+    let added = c.in_ok-add.ensures inv.0 inv.1 in
+    let refused : IsRefusalBy (branches_faults ds ns (forms (items_view vs)) (opened a)) fault.BadUnion =
+    branches_twice a c.loop-item.self ns (forms (items_view vs)) (forms (items_view (drop i vs))) (forms (items_view (drop (i + 1) vs))) (form (view c.item-item.result)) c.loop-item.branches.items inv.0 c.in_ok-kind.kind ds
+    (next_forms vs i c.item-item.result (omega arith) c.item-item.is) (inv.4 ds met) c.in_ok-kind.ensures (sym added.1 ∙ c.if-not-branch.true) in
+    subst (λ ws. IsRefusalBy (branches_faults ds ns (forms (items_view ws)) (opened a)) fault.BadUnion) c.deref-item-items.ensures.value refused
+
+pub read_branches-returns-in_err-branch-clause-err : goal.read_branches-returns-in_err-branch-clause-err
+read_branches-returns-in_err-branch-clause-err t c =
+    let a = c.args.self.now in
+    let ns = c.args.namespace.now in
+    let vs = c.deref-item-items.result.now in
+    let i = c.loop-item.item-index in
+    let e = c.in_err-branch.field-0.0 in
+    exit_err c.from_residual-in_err-branch.result (RefusesBranches a ns (forms (items_view c.args.items.now.items))) e c.from_residual-in_err-branch.ensures.1
+    (λ ds met. subst (λ ws. IsRefusalBy (branches_faults ds ns (forms (items_view ws)) (opened a)) e) c.deref-item-items.ensures.value
+    (branches_no a c.loop-item.self ns (forms (items_view vs)) (forms (items_view (drop i vs))) (forms (items_view (drop (i + 1) vs))) (form (view c.item-item.result)) c.loop-item.branches.items c.loop-item.invariant.0 ds e
+    (next_forms vs i c.item-item.result (omega arith) c.item-item.is) (c.loop-item.invariant.4 ds met) c.in_err-branch.ensures.err))
+
+pub read_branches-loop-item-preserved : goal.read_branches-loop-item-preserved
+read_branches-loop-item-preserved t c =
+    let a = c.args.self.now in
+    let ns = c.args.namespace.now in
+    let vs = c.deref-item-items.result.now in
+    let i = c.loop-item.item-index in
+    let inv = c.loop-item.invariant in
+    let k = c.in_ok-kind.kind in
+    let added = c.in_ok-add.ensures inv.0 inv.1 in
+    let le : opened a ≤ opened c.read_type.new.self = omega (arith, inv.3, c.in_ok-branch.ensures.ok.0) in (
+      inv.0 ++ k ∷ [],
+      added.0,
+      fits_more inv.0 k inv.2 (sym added.1 ∙ c.if-not-branch.false),
+      le,
+      λ ds met. subst (λ l. BranchesAlong a ns (forms (items_view vs)) c.read_type.new.self (forms (items_view (drop (i + 1) vs))) l (inv.0 ++ k ∷ []) ds) (sym c.in_ok-push.ensures.items)
+          (branches_next a c.loop-item.self c.read_type.new.self ns (forms (items_view vs)) (forms (items_view (drop i vs))) (forms (items_view (drop (i + 1) vs))) (form (view c.item-item.result)) c.loop-item.branches.items inv.0 c.in_ok-branch.branch k ds
+          (next_forms vs i c.item-item.result (omega arith) c.item-item.is) (inv.4 ds met) c.in_ok-branch.ensures.ok c.in_ok-kind.ensures),
+    )
+
+pub read_branches-returns-clause-ok : goal.read_branches-returns-clause-ok
+read_branches-returns-clause-ok t c =
+    let a = c.args.self.now in
+    let ns = c.args.namespace.now in
+    let vs = c.deref-item-items.result.now in
+    let i = c.loop-item.item-index in
+    let inv = c.loop-item.invariant in (
+      inv.3,
+      λ ds met. subst (λ ws. AreBranchesRead ds ns (forms (items_view ws)) a c.loop-item.self c.loop-item.branches.items) c.deref-item-items.ensures.value
+          (branches_done a c.loop-item.self ns (forms (items_view vs)) (forms (items_view (drop i vs))) c.loop-item.branches.items inv.0 ds (no_forms_left vs i (omega arith)) (inv.4 ds met) inv.2),
+    )
+
+pub read_fields-loop-item-init : goal.read_fields-loop-item-init
+read_fields-loop-item-init t c =
+    let fs = fields_of_items (items_view c.deref-item-items.result.now) in
+    (omega arith, λ ds met. (subst (λ l. FieldsAlong c.args.self.now c.args.namespace.now fs c.args.self.now fs l ds) (sym c.new-fields.ensures.items) (fields_start c.args.self.now c.args.namespace.now fs ds met), tests_start fs))
+
+pub read_fields-returns-in_err-field-clause-err : goal.read_fields-returns-in_err-field-clause-err
+read_fields-returns-in_err-field-clause-err t c =
+    let a = c.args.self.now in
+    let ns = c.args.namespace.now in
+    let vs = c.deref-item-items.result.now in
+    let i = c.loop-item.item-index in
+    let d = view c.item-item.result in
+    let e = c.in_err-field.field-0.0 in
+    exit_err c.from_residual.result (RefusesFields a ns (fields_of_items (items_view c.args.items.now.items))) e c.from_residual.ensures.1
+    (λ ds met.
+    let now = c.loop-item.invariant.1 ds met in
+    subst (λ ws. IsRefusalBy (fields_faults ds ns (fields_of_items (items_view ws)) (opened a)) e) c.deref-item-items.ensures.value
+    (fields_no a c.loop-item.self ns (fields_of_items (items_view vs)) (fields_of_items (items_view (drop i vs))) (fields_of_items (items_view (drop (i + 1) vs))) (field_heading_of d) (form_in (codes "type") d) c.loop-item.fields.items ds e
+    (next_fields vs i c.item-item.result (omega arith) c.item-item.is) now.0 now.1 c.in_err-field.ensures.err))
+
+pub read_fields-loop-item-preserved : goal.read_fields-loop-item-preserved
+read_fields-loop-item-preserved t c =
+    let a = c.args.self.now in
+    let ns = c.args.namespace.now in
+    let vs = c.deref-item-items.result.now in
+    let i = c.loop-item.item-index in
+    let d = view c.item-item.result in
+    let all = fields_of_items (items_view vs) in
+    let rest = fields_of_items (items_view (drop i vs)) in
+    let more = fields_of_items (items_view (drop (i + 1) vs)) in
+    let le : opened a ≤ opened c.read_field.new.self = omega (arith, c.loop-item.invariant.0, c.in_ok-field.ensures.ok.0) in
+    let is = next_fields vs i c.item-item.result (omega arith) c.item-item.is in (
+      le,
+      λ ds met.
+          let now = c.loop-item.invariant.1 ds met in (
+            subst (λ l. FieldsAlong a ns all c.read_field.new.self more l ds) (sym c.in_ok-push.ensures.items)
+                (fields_next a c.loop-item.self c.read_field.new.self ns all rest more (field_heading_of d) (form_in (codes "type") d) c.loop-item.fields.items c.in_ok-field.field ds is now.0 c.in_ok-field.ensures.ok),
+            tests_read all rest more (field_heading_of d) (form_in (codes "type") d) a c.loop-item.self c.read_field.new.self ns c.loop-item.fields.items c.in_ok-field.field ds is now.0 now.1 c.in_ok-field.ensures.ok,
+          ),
+    )
+
+pub read_fields-returns-clause-ok : goal.read_fields-returns-clause-ok
+read_fields-returns-clause-ok t c =
+    let a = c.args.self.now in
+    let ns = c.args.namespace.now in
+    let vs = c.deref-item-items.result.now in
+    let i = c.loop-item.item-index in (
+      c.loop-item.invariant.0,
+      λ ds met.
+          let now = c.loop-item.invariant.1 ds met in
+          subst (λ ws. AreFieldsRead ds ns (fields_of_items (items_view ws)) a c.loop-item.self c.loop-item.fields.items) c.deref-item-items.ensures.value
+          (fields_done a c.loop-item.self ns (fields_of_items (items_view vs)) (fields_of_items (items_view (drop i vs))) c.loop-item.fields.items ds (no_fields_left vs i (omega arith)) now.0 now.1),
+    )

@@ -1,0 +1,43 @@
+// The default of a field.
+ghost use Rattle.std.specs.Prelude.{◌≡◌, IfOk};
+ghost use Rattle.serde_json.specs.View.{view};
+
+use serde_json::Value;
+use std::alloc::AllocError;
+use std::marker::Model;
+
+/// A field's default as it is written, which contracts see as JSON data.
+#[derive(Drop)]
+pub struct DefaultValue {
+    json: Value,
+}
+
+impl Model for DefaultValue {
+    ghost use Rattle.serde_json.specs.Data.{Data};
+    ghost use Rattle.serde_json.specs.View.{view as data_of};
+    ghost use Rattle.avro_schema.specs.JsonCode.{json_code};
+
+    ghost Value = { Data };
+
+    ghost coded = { json_code };
+
+    ghost view = { λ default. data_of default.json };
+}
+
+impl DefaultValue {
+    /// A copy of a JSON value. The only error is want of memory.
+    pub(crate) fn copy_of(json: &Value) -> Result<DefaultValue, AllocError>
+        ensures { IfOk result (λ default. default ≡ view json.now) }
+    {
+        Ok(DefaultValue {
+            json: json.clone()?,
+        })
+    }
+
+    /// The default as JSON.
+    pub fn json(&self) -> &Value
+        ensures { view result.now ≡ self.now }
+    {
+        &self.json
+    }
+}
