@@ -1,5 +1,6 @@
 mod Digits
 mod Folds
-mod Fronts
+mod HeadBytes
 mod Outputs
+mod Unions
 pub mod Written

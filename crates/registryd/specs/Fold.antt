@@ -1,16 +1,14 @@
 -- What the fold of a log and a request does.
-use Rattle.std.specs.Prelude.{◌≡◌, ⊤, ℕ, List, Option, IfSome, Ok, Err, length, nat_lt, count_by, if◌then◌else◌}
+use Rattle.std.specs.Prelude.{◌≡◌, ◌⊎◌, ℕ, List, Option, IfSome, Ok, Err, length, nat_lt, count_by, if◌then◌else◌}
 use Rattle.std.specs.FinSet.{from_list}
 use Rattle.std.specs.Io.KnownBytes.{Keeps}
-use Rattle.reg_records.specs.Log.{LogText, log_of, records_in, is_foreign}
+use Rattle.reg_records.specs.Device.{faults_of}
+use Rattle.reg_records.specs.Log.{LogText, LosesLine, log_of, records_in, is_foreign}
 use Rattle.reg_records.specs.declared.device.Device.{Device}
-use Rattle.reg_records.specs.declared.log.LogError.{LogError}
-use Rattle.reg_records.specs.declared.log.LogError.TheVariants as logs
 use Rattle.reg_set.specs.LastRecords.{last_records}
 use Rattle.reg_set.specs.Records.{Records}
 use Rattle.registryd.specs.Answer.{IsOutput}
-use Rattle.registryd.specs.Front.{LosesReader}
-use Rattle.registryd.specs.Writing.{AppendsFront, LosesWriter}
+use Rattle.registryd.specs.Devices.{AppendsFront, LosesRequest, LosesWriter}
 use Rattle.registryd.specs.declared.fold.Folded.{Folded}
 use Rattle.registryd.specs.declared.fold.FoldError.{FoldError}
 use Rattle.registryd.specs.declared.fold.FoldError.TheVariants as errors
@@ -28,22 +26,19 @@ abbrev pub CountsFold : List ℕ → Folded → Type 0
 CountsFold input folded = (log : LogText) × (log_of input ≡ Ok log)
     × (folded.foreign ≡ count_by is_foreign log.reads) × (folded.requests ≡ (if nat_lt 0 (length log.rest) then 1 else 0))
 
--- why nothing was answered
+-- why nothing was answered: a reader is lost in a line of the log, or in the request
 abbrev pub IsReadRefusal : {R : Type 0} → Device R → Device R → Option (List ℕ) → FoldError → Type 0
-IsReadRefusal reader reader' input (errors.Log line fault) = IfSome input (λ text. log_of text ≡ Err (line, fault))
-IsReadRefusal reader reader' input errors.ReadFault = LosesReader reader reader'
+IsReadRefusal reader reader' input (errors.Log line fault) =
+    (faults_of reader' ≡ faults_of reader) × IfSome input (λ text. log_of text ≡ Err (line, fault))
+IsReadRefusal reader reader' input errors.ReadFault = LosesLine reader reader' ⊎ LosesRequest reader reader'
 IsReadRefusal reader reader' input errors.WriteFault = ⊥
-IsReadRefusal reader reader' input errors.OutOfMemory = ⊤
+IsReadRefusal reader reader' input errors.OutOfMemory = faults_of reader' ≡ faults_of reader
 
--- why nothing more was done, and what was written by then
+-- why nothing more was done, what was written by then, and what the other device counted
 abbrev pub IsFoldRefusal : {R W : Type 0} → Device R → Device R → Device W → Device W
     → Option (List ℕ) → Option (List ℕ) → Option (List ℕ) → FoldError → Type 0
 IsFoldRefusal reader reader' writer writer' input old new errors.WriteFault =
-    LosesWriter writer writer' × IfSome input (λ text. (out : List ℕ) × IsOutputFor text out × AppendsFront old new out)
-IsFoldRefusal reader reader' writer writer' input old new refusal = IsReadRefusal reader reader' input refusal × Keeps old new
-
--- what a log's refusal is to the fold
-abbrev pub fold_error_of : LogError → FoldError
-fold_error_of (logs.Fault line fault) = errors.Log line fault
-fold_error_of (logs.ReadFault line) = errors.ReadFault
-fold_error_of logs.OutOfMemory = errors.OutOfMemory
+    LosesWriter writer writer' × (faults_of reader' ≡ faults_of reader)
+    × IfSome input (λ text. (out : List ℕ) × IsOutputFor text out × AppendsFront old new out)
+IsFoldRefusal reader reader' writer writer' input old new refusal =
+    IsReadRefusal reader reader' input refusal × (faults_of writer' ≡ faults_of writer) × Keeps old new

@@ -1,6 +1,7 @@
 pub mod Answer
+pub mod Devices
+pub mod Ended
 pub mod Fold
-pub mod Front
 pub mod Request
 pub mod Response
-pub mod Writing
+pub mod Steps

@@ -41,12 +41,12 @@ abbrev pub id_in : List ℕ → Option ℕ
 id_in part = id_of_digits (percent_decode part)
 
 -- the bytes at the front of a text in which a head is looked for
-abbrev pub head_front : List ℕ → List ℕ
-head_front text = take HEAD_LIMIT text
+abbrev pub head_bytes : List ℕ → List ℕ
+head_bytes text = take HEAD_LIMIT text
 
 -- the text begins with that head, within the limits of a head
 abbrev pub BeginsWithHead : List ℕ → RequestHead → Type 0
-BeginsWithHead text head = (rest : List ℕ) × ReadsRequest (head_front text) head rest × (length head.fields ≤ HEAD_FIELDS)
+BeginsWithHead text head = (rest : List ℕ) × ReadsRequest (head_bytes text) head rest × (length head.fields ≤ HEAD_FIELDS)
 
 -- the text begins with no head
 abbrev pub HasNoHead : List ℕ → Type 0

@@ -3,7 +3,7 @@ ghost use Rattle.std.specs.Prelude.{◌≡◌, List, ℕ, IfOk, take, string_byt
 ghost use Rattle.std.specs.Str.Parse.{digits_value};
 ghost use Rattle.reg_fold.specs.Refusal.{status_of};
 ghost use Rattle.registryd.specs.Answer.{answer_to, schema_response, refused, status_for, IsOutput};
-ghost use Rattle.registryd.specs.Request.{head_front};
+ghost use Rattle.registryd.specs.Request.{head_bytes};
 ghost use Rattle.registryd.specs.Response.{status_text};
 
 use crate::request::{asked_part, head_of, id_in};
@@ -13,13 +13,13 @@ use std::alloc::{AllocError, Global};
 
 /// What is written for requests that begin with these bytes, of which there are as many as a head may
 /// have, or all.
-pub fn output(alloc: Global, registry: &Registry, front: &[u8]) -> Result<String, AllocError>
-    ensures { IfOk result (λ out. (text : List ℕ) → front.now ≡ head_front text → IsOutput registry.now text (string_bytes out)) }
+pub fn output(alloc: Global, registry: &Registry, bytes: &[u8]) -> Result<String, AllocError>
+    ensures { IfOk result (λ out. (text : List ℕ) → bytes.now ≡ head_bytes text → IsOutput registry.now text (string_bytes out)) }
 {
-    if front.is_empty() {
+    if bytes.is_empty() {
         return Ok(String::new(alloc));
     }
-    let response = match head_of(front) {
+    let response = match head_of(bytes) {
         Some((method, target)) => answer(alloc, registry, method, target)?,
         None => refuse(alloc, Refusal::BadRequest, true)?,
     };

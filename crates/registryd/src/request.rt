@@ -13,16 +13,16 @@ use percent_encoding::percent_decode;
 use reg_records::NUMBER_LIMIT;
 use std::alloc::{AllocError, Global};
 
-/// The method and the target of the request head (RFC 9112) at the front of the bytes.
-pub fn head_of(front: &[u8]) -> Option<(&[u8], &[u8])>
-    ensures head { IfSome result (λ parts. (head : RequestHead) × (rest : List ℕ) × ReadsRequest front.now head rest
+/// The method and the target of the request head (RFC 9112) at the bytes of the bytes.
+pub fn head_of(bytes: &[u8]) -> Option<(&[u8], &[u8])>
+    ensures head { IfSome result (λ parts. (head : RequestHead) × (rest : List ℕ) × ReadsRequest bytes.now head rest
         × (length head.fields ≤ HEAD_FIELDS) × (parts.0.now ≡ head.method) × (parts.1.now ≡ head.target)) }
-    ensures found { (head : RequestHead) (rest : List ℕ) → ReadsRequest front.now head rest
+    ensures found { (head : RequestHead) (rest : List ℕ) → ReadsRequest bytes.now head rest
         → length head.fields ≤ HEAD_FIELDS → IsSome result }
 {
     let mut fields = [EMPTY_HEADER_SPAN; HEAD_FIELDS];
-    match parse_request(front, &mut fields) {
-        Ok(Status::Complete(head)) => Some((head.method.of(front), head.path.of(front))),
+    match parse_request(bytes, &mut fields) {
+        Ok(Status::Complete(head)) => Some((head.method.of(bytes), head.path.of(bytes))),
         _ => None,
     }
 }

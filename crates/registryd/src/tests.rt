@@ -1,4 +1,5 @@
 // Whole folds: a log, a request, and what is written.
+use crate::ended::{Command, Ended, command_of};
 use crate::fold::{FoldError, Folded, fold};
 use reg_records::{Device, LINE_LIMIT, LineError, LogFault};
 use std::alloc::Global;
@@ -77,28 +78,100 @@ fn spelled(alloc: Global, text: &str) -> Result<String, Fail> {
     Ok(text.replace(alloc, "|", "\n")?)
 }
 
-// Logs that have a fault, and the first one.
-static FAULTS: &str = r#"07^{"keytype":"NOOP"}^null|| => line 1: BadOffset
-+7^{"keytype":"NOOP"}^null|| => line 1: BadOffset
-7^{"keytype":"NOOP"}^null => line 1: Truncated
-7^{"keytype":"NOOP"}|| => line 1: BadTabs
-~|| => line 1: BadTabs
-7^{"keytype":"NOOP"}^null~|x^{"keytype":"NOOP"}^null|| => line 2: BadOffset
-9223372036854775808^{"keytype":"NOOP"}^null|| => line 1: BadOffset"#;
+// Logs without a request, what is said of them on standard error, and the status.
+static ENDS: &str = r#" =>  => 0
+| =>  => 0
+7^{"keytype":"NOOP"}^null| =>  => 0
+7^{"keytype":"CLEAR_SUBJECT","subject":"s","magic":0}^{"subject":"s"}| => foreign 1| => 0
+7^no JSON^null|8^{"keytype":"NOOP"}^null|9^[]^|| => foreign 2| => 0
+7^no JSON^null|8^{"keytype":"NOOP"}^null|9^[]^^| => line 3: BadTabs| => 2
+7^no JSON^null|8^{"keytype":"NOOP"}^null|9^[]^^|| => line 3: BadTabs| => 2
+07^{"keytype":"NOOP"}^null|| => line 1: BadOffset| => 2
++7^{"keytype":"NOOP"}^null|| => line 1: BadOffset| => 2
+7^{"keytype":"NOOP"}^null => line 1: Truncated| => 2
+7^{"keytype":"NOOP"}|| => line 1: BadTabs| => 2
+~|| => line 1: BadTabs| => 2
+7^{"keytype":"NOOP"}^null~|x^{"keytype":"NOOP"}^null|| => line 2: BadOffset| => 2
+9223372036854775808^{"keytype":"NOOP"}^null|| => line 1: BadOffset| => 2"#;
+
+fn ended<R: BufRead, W: Write>(
+    alloc: Global,
+    reader: &mut Device<R>,
+    writer: &mut Device<W>,
+) -> Ended {
+    match fold(alloc, reader, writer) {
+        Ok(folded) => Ended::Folded(folded),
+        Err(error) => Ended::Failed(error),
+    }
+}
 
 #[test]
-fn the_first_fault_of_a_log_is_told(rt: HostRuntime) -> Result<(), Fail> {
+fn a_log_alone_writes_nothing_and_ends_by_its_first_fault(rt: HostRuntime) -> Result<(), Fail> {
     let alloc = rt.alloc();
-    for row in FAULTS.lines() {
-        let (log, fault) = row.split_once(" => ").ok_or("a log")?;
+    for row in ENDS.lines() {
+        let (log, wanted) = row.split_once(" => ").ok_or("a log")?;
+        let (errors, status) = wanted.split_once(" => ").ok_or("a text")?;
         let input = spelled(alloc, log)?;
         let mut reader = Device::new(input.as_bytes());
         let mut writer = Device::new(Vec::new(alloc));
-        match fold(alloc, &mut reader, &mut writer) {
-            Err(e) => assert_eq!(rt; format!(in alloc; "{e}")?.as_str(), fault),
-            Ok(_) => assert!(rt; false, "{row}"),
+        let ended = ended(alloc, &mut reader, &mut writer);
+        let found = format!(in alloc; "{ended}{} {}", ended.status(), writer.into_inner().len())?;
+        let wanted = format!(in alloc; "{}{status} 0", spelled(alloc, errors)?)?;
+        assert_eq!(rt; found, wanted, "{row}");
+    }
+    Ok(())
+}
+
+// The words of a command line, and whether they ask for a fold.
+static WORDS: [(&str, bool); 7] = [
+    ("registryd fold", true),
+    ("other fold", true),
+    ("registryd", false),
+    ("registryd Fold", false),
+    ("registryd fold fold", false),
+    ("registryd serve", false),
+    ("registryd serve 8081 1 1", false),
+];
+
+#[test]
+fn fold_alone_is_a_command(rt: HostRuntime) -> Result<(), Fail> {
+    let alloc = rt.alloc();
+    for (line, is_fold) in WORDS {
+        let mut words = Vec::new(alloc);
+        for word in line.split(' ') {
+            words.push(String::from_str(alloc, word)?)?;
         }
-        assert!(rt; writer.into_inner().is_empty());
+        assert_eq!(rt; command_of(&words) == Command::Fold, is_fold, "{line}");
+    }
+    Ok(())
+}
+
+// How the program ends where no log says it: the text on standard error, and the status.
+static OTHER_ENDS: [(Ended, &str, u8); 5] = [
+    (
+        Ended::Usage,
+        "usage: registryd fold | registryd serve PORT NODES WORKERS\n",
+        2,
+    ),
+    (Ended::Failed(FoldError::ReadFault), "ReadFault\n", 1),
+    (Ended::Failed(FoldError::WriteFault), "WriteFault\n", 1),
+    (Ended::Failed(FoldError::OutOfMemory), "OutOfMemory\n", 1),
+    (
+        Ended::Failed(FoldError::Log {
+            line: 1_000_001,
+            fault: LogFault::TooManyLines,
+        }),
+        "line 1000001: TooManyLines\n",
+        2,
+    ),
+];
+
+#[test]
+fn other_ends_are_said(rt: HostRuntime) -> Result<(), Fail> {
+    let alloc = rt.alloc();
+    for (ended, errors, status) in OTHER_ENDS {
+        let found = format!(in alloc; "{ended}{}", ended.status())?;
+        assert_eq!(rt; found, format!(in alloc; "{errors}{status}")?);
     }
     Ok(())
 }
@@ -168,46 +241,25 @@ fn other_requests_are_refused(rt: HostRuntime) -> Result<(), Fail> {
     Ok(())
 }
 
-// Logs without a request, and how many of their lines are foreign.
-static COUNTS: &str = r#" => 0
-| => 0
-7^{"keytype":"NOOP"}^null| => 0
-7^{"keytype":"CLEAR_SUBJECT","subject":"s","magic":0}^null|| => 1
-7^no JSON^null|8^{"keytype":"NOOP"}^null|9^[]^^| => line 3: BadTabs
-7^no JSON^null|8^{"keytype":"NOOP"}^null|9^[]^^|| => line 3: BadTabs
-7^no JSON^null|8^{"keytype":"NOOP"}^null|9^[]^|| => 2"#;
+static SHORT_LOG: &str = "1\t{\"keytype\":\"NOOP\"}\tnull\n\nGET /schemas/ids/1 HTTP/1.1\r\n\r\n";
 
-#[test]
-fn foreign_lines_are_counted(rt: HostRuntime) -> Result<(), Fail> {
-    let alloc = rt.alloc();
-    for row in COUNTS.lines() {
-        let (log, count) = row.split_once(" => ").ok_or("a log")?;
-        let input = spelled(alloc, log)?;
-        let mut reader = Device::new(input.as_bytes());
-        let mut writer = Device::new(Vec::new(alloc));
-        let told = match fold(alloc, &mut reader, &mut writer) {
-            Ok(done) => format!(in alloc; "{}", done.foreign)?,
-            Err(e) => format!(in alloc; "{e}")?,
-        };
-        assert_eq!(rt; told.as_str(), count, "{row}");
-        assert!(rt; writer.into_inner().is_empty());
-    }
-    Ok(())
-}
-
-// Gives a byte at each read, and fails after some reads.
+// Gives a byte at each read; after some reads it answers an error so many times.
 #[derive(Drop)]
 struct Failing<'a> {
     bytes: &'a [u8],
     left: usize,
+    kind: ErrorKind,
+    times: u64,
 }
 
 impl Failing<'_> {
     fn count(&mut self) -> io::Result<()> {
-        if self.left == 0 {
-            return Err(io::Error::from(ErrorKind::BrokenPipe));
+        if self.left > 0 {
+            self.left -= 1;
+        } else if self.times > 0 {
+            self.times -= 1;
+            return Err(io::Error::from(self.kind));
         }
-        self.left -= 1;
         Ok(())
     }
 }
@@ -237,23 +289,58 @@ impl BufRead for Failing<'_> {
     }
 }
 
-static SHORT_LOG: &str = "1\t{\"keytype\":\"NOOP\"}\tnull\n\nGET /schemas/ids/1 HTTP/1.1\r\n\r\n";
+// Errors of a reader, how often in a row they come, and the status and the faults that are counted.
+static READ_ERRORS: [(ErrorKind, u64, u8, u64); 7] = [
+    (ErrorKind::Interrupted, 1, 0, 0),
+    (ErrorKind::Interrupted, 1000, 0, 0),
+    (ErrorKind::BrokenPipe, 1, 1, 1),
+    (ErrorKind::TimedOut, 1, 1, 1),
+    (ErrorKind::WouldBlock, 1, 1, 1),
+    (ErrorKind::UnexpectedEof, 1, 1, 1),
+    (ErrorKind::OutOfMemory, u64::MAX, 1, 1),
+];
 
 #[test]
-fn a_reader_that_fails_gives_nothing(rt: HostRuntime) -> Result<(), Fail> {
+fn a_reader_that_fails_gives_nothing_and_an_interruption_is_no_fault(
+    rt: HostRuntime,
+) -> Result<(), Fail> {
     let alloc = rt.alloc();
-    for left in 0..=SHORT_LOG.len() {
+    let (_, whole) = folded(alloc, SHORT_LOG)?;
+    for (kind, times, status, faults) in READ_ERRORS {
+        for left in 0..=SHORT_LOG.len() {
+            let mut reader = Device::new(Failing {
+                bytes: SHORT_LOG.as_bytes(),
+                left,
+                kind,
+                times,
+            });
+            let mut writer = Device::new(Vec::new(alloc));
+            let ended = ended(alloc, &mut reader, &mut writer);
+            let wanted = if status == 0 { whole.len() } else { 0 };
+            let found = (ended.status(), reader.faults(), writer.into_inner().len());
+            assert_eq!(rt; found, (status, faults, wanted));
+        }
+    }
+    Ok(())
+}
+
+// Inputs after which a reader is interrupted without end, and how often it is read for a line or for the request.
+static ENDLESS: [(&str, u64); 2] = [("7", 4_194_304), ("\n", 2_097_152)];
+
+#[test]
+fn a_reader_that_is_interrupted_without_end_is_given_up(rt: HostRuntime) -> Result<(), Fail> {
+    let alloc = rt.alloc();
+    for (input, reads) in ENDLESS {
         let mut reader = Device::new(Failing {
-            bytes: SHORT_LOG.as_bytes(),
-            left,
+            bytes: input.as_bytes(),
+            left: 1,
+            kind: ErrorKind::Interrupted,
+            times: u64::MAX,
         });
         let mut writer = Device::new(Vec::new(alloc));
-        assert_eq!(rt;
-            fold(alloc, &mut reader, &mut writer),
-            Err(FoldError::ReadFault)
-        );
-        assert_eq!(rt; reader.faults(), 1);
-        assert!(rt; writer.into_inner().is_empty());
+        let ended = ended(alloc, &mut reader, &mut writer);
+        let found = (ended.status(), reader.faults(), reader.reads());
+        assert_eq!(rt; found, (1, 0, reads));
     }
     Ok(())
 }
@@ -266,39 +353,72 @@ fn a_writer_that_is_full_has_a_front(rt: HostRuntime) -> Result<(), Fail> {
         let mut bytes = [0u8; 256];
         let mut reader = Device::new(SHORT_LOG.as_bytes());
         let mut writer = Device::new(&mut bytes[..room]);
-        assert_eq!(rt;
-            fold(alloc, &mut reader, &mut writer),
-            Err(FoldError::WriteFault)
-        );
-        assert_eq!(rt; writer.faults(), 1);
-        assert_eq!(rt; &bytes[..room], &whole.as_bytes()[..room]);
+        let ended = ended(alloc, &mut reader, &mut writer);
+        let found = (ended.status(), writer.faults(), &bytes[..room]);
+        assert_eq!(rt; found, (1, 1, &whole.as_bytes()[..room]));
     }
     Ok(())
 }
 
-// Takes all bytes, and knows whether it was flushed after them.
+// Takes a byte at each write; its first writes and its first flushes answer an error.
 #[derive(Drop)]
-struct Flushed {
+struct Refusing {
+    kind: ErrorKind,
+    writes: u64,
+    flushes: u64,
     is_flushed: bool,
 }
 
-impl Write for Flushed {
+impl Write for Refusing {
     fn write(&mut self, buf: &[u8]) -> io::Result<usize> {
+        if self.writes > 0 {
+            self.writes -= 1;
+            return Err(io::Error::from(self.kind));
+        }
         self.is_flushed = false;
-        Ok(buf.len())
+        Ok(buf.len().min(1))
     }
 
     fn flush(&mut self) -> io::Result<()> {
+        if self.flushes > 0 {
+            self.flushes -= 1;
+            return Err(io::Error::from(self.kind));
+        }
         self.is_flushed = true;
         Ok(())
     }
 }
 
+// Errors of a writer, how many writes and flushes answer them, and then the status, the faults and the interruptions that
+// are counted.
+static WRITE_ERRORS: [(ErrorKind, u64, u64, u8, u64, u64); 10] = [
+    (ErrorKind::Interrupted, 0, 0, 0, 0, 0),
+    (ErrorKind::Interrupted, 1, 1, 0, 0, 0),
+    (ErrorKind::Interrupted, 1_048_575, 1_048_575, 0, 0, 0),
+    (ErrorKind::Interrupted, 1_048_576, 0, 1, 0, 1_048_576),
+    (ErrorKind::Interrupted, 0, 1_048_576, 1, 0, 1_048_576),
+    (ErrorKind::BrokenPipe, 1, 0, 1, 1, 0),
+    (ErrorKind::BrokenPipe, 0, 1, 1, 1, 0),
+    (ErrorKind::TimedOut, 1, 0, 1, 1, 0),
+    (ErrorKind::TimedOut, 0, 1, 1, 1, 0),
+    (ErrorKind::WouldBlock, 0, u64::MAX, 1, 1, 0),
+];
+
 #[test]
-fn what_is_written_is_flushed(rt: HostRuntime) -> Result<(), Fail> {
-    let mut reader = Device::new(SHORT_LOG.as_bytes());
-    let mut writer = Device::new(Flushed { is_flushed: false });
-    fold(rt.alloc(), &mut reader, &mut writer)?;
-    assert!(rt; writer.into_inner().is_flushed);
+fn a_write_or_a_flush_that_fails_is_reported(rt: HostRuntime) -> Result<(), Fail> {
+    for (kind, writes, flushes, status, faults, interruptions) in WRITE_ERRORS {
+        let mut reader = Device::new(SHORT_LOG.as_bytes());
+        let mut writer = Device::new(Refusing {
+            kind,
+            writes,
+            flushes,
+            is_flushed: false,
+        });
+        let ended = ended(rt.alloc(), &mut reader, &mut writer);
+        let counts = (writer.faults(), writer.interruptions());
+        let found = (ended.status(), counts, writer.into_inner().is_flushed);
+        let wanted = (status, (faults, interruptions), status == 0);
+        assert_eq!(rt; found, wanted);
+    }
     Ok(())
 }

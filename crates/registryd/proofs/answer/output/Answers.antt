@@ -11,14 +11,14 @@ use Rattle.registryd.proofs.answer.output.Goals as goal
 
 pub returns-then-is_empty : goal.returns-then-is_empty
 returns-then-is_empty c = λ text is.
-    let none : length c.args.front.now ≡ 0 = grind (arith, nat_tests, c.if-is_empty.ensures) in
-    IsOutput-nothing c.args.registry.now text c.args.front.now _ is none c.new.ensures.bytes
+    let none : length c.args.bytes.now ≡ 0 = grind (arith, nat_tests, c.if-is_empty.ensures) in
+    IsOutput-nothing c.args.registry.now text c.args.bytes.now _ is none c.new.ensures.bytes
 
 pub returns : goal.returns
 returns c =
-    let front = c.args.front.now in
+    let bytes = c.args.bytes.now in
     let rs = c.args.registry.now in
-    let some : 0 < length front = grind (arith, nat_tests, c.if-is_empty.ensures) in
+    let some : 0 < length bytes = grind (arith, nat_tests, c.if-is_empty.ensures) in
     let response = c.match-head_of.response in
     IfOk-weaker c.to_text.result _ _ (λ out written text is.
     elim c.match-head_of.branch [
@@ -27,8 +27,8 @@ returns c =
           let same : response ≡ answer_to rs head.method head.target =
           w.response-is ∙ w.in_ok-response-in-Some.ensures
           ∙ ap (λ m. answer_to rs m w.in-Some.target.now) method ∙ ap (λ t. answer_to rs head.method t) target in
-          IsOutput-answered rs text front _ head rest is reads few (written ∙ ap response_text same)
+          IsOutput-answered rs text bytes _ head rest is reads few (written ∙ ap response_text same)
       | in-None+in_ok-response-in-None w ↦
           let same : response ≡ refused refusals.BadRequest true = w.response-is ∙ w.in_ok-response-in-None.ensures in
-          IsOutput-malformed rs text front _ is some (λ head rest reads few. false≢true (w.in-None.ensures.found head rest reads few)) (written ∙ ap response_text same)
+          IsOutput-malformed rs text bytes _ is some (λ head rest reads few. false≢true (w.in-None.ensures.found head rest reads few)) (written ∙ ap response_text same)
     ]) c.to_text.ensures

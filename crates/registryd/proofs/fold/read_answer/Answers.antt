@@ -9,9 +9,9 @@ pub returns-clause-answered : goal.returns-clause-answered
 returns-clause-answered g c =
     let log = c.in-Ok.log in
     let read = c.in-Ok.ensures.read in
-    let front = c.in-Ok-read_front.front in
-    let is = c.in-Ok-read_front.ensures.read in
+    let head = c.in-Ok-read_head_bytes.head in
+    let is = c.in-Ok-read_head_bytes.ensures.read in
     let set = c.in_ok-registry.ensures ∙ ap (λ items. last_records (from_list {R = record_cmp} items)) c.deref.ensures.value in
     let ones = c.request_count.ensures ∙ ap (λ bytes. if nat_lt 0 (length bytes) then 1 else 0) c.deref-3.ensures.value in
-    both _ _ _ (output_for _ _ log _ front.items _ read set is (λ text whole. c.in_ok-out.ensures text (c.deref-2.ensures.value ∙ whole)))
-    (counts_for _ _ log front.items _ read is refl ones)
+    both _ _ _ (output_for _ _ log _ head.items _ read set is (λ text whole. c.in_ok-out.ensures text (c.deref-2.ensures.value ∙ whole)))
+    (counts_for _ _ log head.items _ read is refl ones)

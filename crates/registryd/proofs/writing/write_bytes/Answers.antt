@@ -7,7 +7,7 @@ use Rattle.registryd.proofs.writing.write_bytes.Goals as goal
 
 pub returns-in_err-at-clause-lost : goal.returns-in_err-at-clause-lost
 returns-in_err-at-clause-lost g c =
-    let (written, faults, within) = c.loop-at.invariant in
+    let (written, faults, interruptions, within) = c.loop-at.invariant in
     let lost = c.in_err-at.ensures.lost in
     let bytes = c.args.bytes.now in
     let at = c.loop-at.at in
@@ -19,9 +19,9 @@ returns-in_err-at-clause-lost g c =
 
 pub loop-at-preserved : goal.loop-at-preserved
 loop-at-preserved g c =
-    let (written, faults, within) = c.loop-at.invariant in
+    let (written, faults, interruptions, within) = c.loop-at.invariant in
     let n = c.in_ok-at.field-0 in
     let some = c.in_ok-at.ensures.some in
     let more = take-rest c.args.bytes.now c.loop-at.at n within some.1 in
     let fits : c.loop-at.at + n ≤ length c.args.bytes.now = fits-rest c.args.bytes.now c.loop-at.at n within some.1 in
-    (subst (Appends _ _) (sym more) (Appends-trans _ _ _ _ _ written c.in_ok-at.ensures.written), c.in_ok-at.ensures.faults ∙ faults, fits)
+    (subst (Appends _ _) (sym more) (Appends-trans _ _ _ _ _ written c.in_ok-at.ensures.written), c.in_ok-at.ensures.faults ∙ faults, c.in_ok-at.ensures.interruptions, fits)

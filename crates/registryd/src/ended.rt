@@ -1,0 +1,116 @@
+// What the words of the command line ask for, and how the program ends.
+ghost use Rattle.std.specs.Prelude.{◌≡◌, Some, map, string_bytes};
+ghost use Rattle.registryd.specs.Ended.{command_of, error_text, errors_written, fault_name, line_error_name, status_of};
+
+use crate::fold::{FoldError, Folded};
+use reg_records::{LineError, LogFault};
+use std::error::Error;
+use std::fmt;
+
+/// What the words of the command line ask for.
+#[derive(Clone, Copy, Debug, PartialEq, Eq)]
+pub enum Command {
+    Fold,
+    /// The words are no command: how to use the program is to be said.
+    Usage,
+}
+
+/// What the words ask for, of which the first is the program's name.
+pub fn command_of(words: &[String]) -> Command
+    ensures { result ≡ command_of (map string_bytes words.now) }
+{
+    match words {
+        [_, word] => {
+            if word.as_str() == "fold" {
+                Command::Fold
+            } else {
+                Command::Usage
+            }
+        }
+        _ => Command::Usage,
+    }
+}
+
+/// How the program ends. It is shown as the text that goes to standard error.
+#[derive(Clone, Copy, Debug)]
+pub enum Ended {
+    Usage,
+    Folded(Folded),
+    Failed(FoldError),
+}
+
+impl Ended {
+    /// The exit status.
+    pub fn status(self) -> u8
+        ensures { result ≡ status_of self }
+    {
+        match self {
+            Ended::Folded(_) => 0,
+            Ended::Usage | Ended::Failed(FoldError::Log { line: _, fault: _ }) => 2,
+            Ended::Failed(FoldError::ReadFault)
+            | Ended::Failed(FoldError::WriteFault)
+            | Ended::Failed(FoldError::OutOfMemory) => 1,
+        }
+    }
+}
+
+impl fmt::Display for Ended {
+    ghost output = { λ ended. Some (errors_written ended) };
+
+    fn fmt<W: fmt::Write>(&self, f: &mut fmt::Formatter<W>) -> fmt::Result {
+        match *self {
+            Ended::Usage => writeln!(
+                f,
+                "usage: registryd fold | registryd serve PORT NODES WORKERS"
+            ),
+            Ended::Folded(folded) => {
+                let count = folded.foreign;
+                if count > 0 {
+                    writeln!(f, "foreign {count}")
+                } else {
+                    Ok(())
+                }
+            }
+            Ended::Failed(error) => writeln!(f, "{error}"),
+        }
+    }
+}
+
+impl fmt::Display for FoldError {
+    ghost output = { λ error. Some (error_text error) };
+
+    fn fmt<W: fmt::Write>(&self, f: &mut fmt::Formatter<W>) -> fmt::Result {
+        match *self {
+            FoldError::Log { line, fault } => {
+                let name = fault_name(fault);
+                write!(f, "line {line}: {name}")
+            }
+            FoldError::ReadFault => write!(f, "ReadFault"),
+            FoldError::WriteFault => write!(f, "WriteFault"),
+            FoldError::OutOfMemory => write!(f, "OutOfMemory"),
+        }
+    }
+}
+
+impl Error for FoldError {}
+
+fn fault_name(fault: LogFault) -> &'static str
+    ensures { result.now ≡ fault_name fault }
+{
+    match fault {
+        LogFault::Line(fault) => line_error_name(fault),
+        LogFault::TooManyLines => "TooManyLines",
+    }
+}
+
+fn line_error_name(fault: LineError) -> &'static str
+    ensures { result.now ≡ line_error_name fault }
+{
+    match fault {
+        LineError::Truncated => "Truncated",
+        LineError::TooLong => "TooLong",
+        LineError::BadUtf8 => "BadUtf8",
+        LineError::BadTabs => "BadTabs",
+        LineError::BadOffset => "BadOffset",
+    }
+}
