@@ -1,0 +1,732 @@
+// What the rules of schemas say of texts: a number of nodes, or why a text is refused.
+use avro_schema::{FullName, Node, NodeId, Schema, SchemaError};
+use std::alloc::{AllocError, Global};
+use std::process::Abort;
+use std::test::Fail;
+
+// The number of nodes, the field whose default is none, or the fault.
+fn answer(alloc: Global, text: &str) -> Result<String, AllocError> {
+    match Schema::read(alloc, text) {
+        Ok(schema) => answer_of(alloc, &schema),
+        Err(SchemaError::Unknown(name)) => {
+            let name = name.as_str();
+            format!(in alloc; "Unknown {name}")
+        }
+        Err(error) => format!(in alloc; "{error}"),
+    }
+}
+
+fn answer_of(alloc: Global, schema: &Schema) -> Result<String, AllocError> {
+    match schema.check_defaults() {
+        Ok(()) => {
+            let count = schema.node_count();
+            format!(in alloc; "{count}")
+        }
+        Err(bad) => {
+            let name = bad.field.as_str();
+            format!(in alloc; "BadDefault {name}")
+        }
+    }
+}
+
+fn assert_answers<A: Abort>(
+    rt: &A,
+    alloc: Global,
+    rows: &[(&str, &str)],
+) -> Result<(), AllocError> {
+    for (text, expected) in rows {
+        let found = answer(alloc, text)?;
+        assert_eq!(rt; found.as_str(), *expected, "{text}");
+    }
+    Ok(())
+}
+
+// The text of a record `R` with one field `x`.
+fn record_of(alloc: Global, kind: &str, default: &str) -> Result<String, AllocError> {
+    format!(in alloc;
+        r#"{{"type":"record","name":"R","fields":[{{"name":"x","type":{kind},"default":{default}}}]}}"#
+    )
+}
+
+// Whether a default is one of a type, and else that its field is named.
+fn assert_defaults<A: Abort>(
+    rt: &A,
+    alloc: Global,
+    rows: &[(&str, &str, bool)],
+) -> Result<(), Fail> {
+    for (kind, default, expected) in rows {
+        let text = record_of(alloc, kind, default)?;
+        let schema = Schema::read(alloc, text.as_str())?;
+        let found = answer_of(alloc, &schema)?;
+        let wanted = if *expected {
+            let count = schema.node_count();
+            format!(in alloc; "{count}")?
+        } else {
+            String::from_str(alloc, "BadDefault x")?
+        };
+        assert_eq!(rt; found.as_str(), wanted.as_str(), "{text}");
+    }
+    Ok(())
+}
+
+// Avro 1.11, "Primitive Types", and the attributes that have no effect.
+const PRIMITIVE_TYPES: [(&str, &str); 17] = [
+    (r#""null""#, "1"),
+    (r#""boolean""#, "1"),
+    (r#""int""#, "1"),
+    (r#""long""#, "1"),
+    (r#""float""#, "1"),
+    (r#""double""#, "1"),
+    (r#""bytes""#, "1"),
+    (r#""string""#, "1"),
+    (r#"{"type":"string"}"#, "1"),
+    (r#"{"type":{"type":{"type":"int"}}}"#, "1"),
+    (r#"{"type":"int","logicalType":"date"}"#, "1"),
+    (
+        r#"{"type":"bytes","logicalType":"decimal","precision":4,"scale":2}"#,
+        "1",
+    ),
+    (r#""Int""#, "Unknown Int"),
+    (r#""void""#, "Unknown void"),
+    (r#""array""#, "Unknown array"),
+    (r#"{"type":"void"}"#, "Unknown void"),
+    (r#""""#, "Unknown "),
+];
+
+#[test]
+fn primitive_types(rt: HostRuntime) -> Result<(), Fail> {
+    assert_answers(&rt, rt.alloc(), &PRIMITIVE_TYPES)?;
+    Ok(())
+}
+
+// Avro 1.11, "Records".
+const RECORDS: [(&str, &str); 20] = [
+    (
+        r#"{"type":"record","name":"LongList","aliases":["LinkedLongs"],"fields":[{"name":"value","type":"long"},{"name":"next","type":["null","LongList"]}]}"#,
+        "4",
+    ),
+    (r#"{"type":"record","name":"R","fields":[]}"#, "1"),
+    (
+        r#"{"type":"record","name":"R","doc":7,"fields":[{"name":"a","type":"int","order":"none","doc":[]}]}"#,
+        "2",
+    ),
+    (
+        r#"{"type":"record","name":"R","fields":[{"name":"a","type":"R"}]}"#,
+        "1",
+    ),
+    (
+        r#"{"type":"record","name":"R","fields":[{"name":"a","type":"int","aliases":["b","c"]}]}"#,
+        "2",
+    ),
+    (r#"{"type":"record","name":"R"}"#, "BadForm"),
+    (r#"{"type":"record","name":"R","fields":{}}"#, "BadForm"),
+    (r#"{"type":"record","name":"R","fields":["a"]}"#, "BadForm"),
+    (r#"{"type":"record","fields":[]}"#, "BadForm"),
+    (r#"{"type":"record","name":7,"fields":[]}"#, "BadForm"),
+    (
+        r#"{"type":"record","name":"R","fields":[{"type":"int"}]}"#,
+        "BadForm",
+    ),
+    (
+        r#"{"type":"record","name":"R","fields":[{"name":"a"}]}"#,
+        "BadForm",
+    ),
+    (
+        r#"{"type":"record","name":"R","fields":[{"name":"a.b","type":"int"}]}"#,
+        "BadForm",
+    ),
+    (
+        r#"{"type":"record","name":"R","fields":[{"name":"","type":"int"}]}"#,
+        "BadForm",
+    ),
+    (
+        r#"{"type":"record","name":"R","fields":[{"name":"a","type":"int"},{"name":"a","type":"long"}]}"#,
+        "BadForm",
+    ),
+    (
+        r#"{"type":"record","name":"R","fields":[{"name":"a","type":"int","aliases":["b.c"]}]}"#,
+        "BadName",
+    ),
+    (
+        r#"{"type":"record","name":"R","fields":[{"name":"a","type":"int","aliases":[7]}]}"#,
+        "BadForm",
+    ),
+    (
+        r#"{"type":"record","name":"R","fields":[{"name":"a","type":"int","aliases":"b"}]}"#,
+        "BadForm",
+    ),
+    (
+        r#"{"type":"record","name":"R","aliases":null,"fields":[]}"#,
+        "BadForm",
+    ),
+    (r#"{"type":"error","name":"E","fields":[]}"#, "BadForm"),
+];
+
+#[test]
+fn records(rt: HostRuntime) -> Result<(), Fail> {
+    assert_answers(&rt, rt.alloc(), &RECORDS)?;
+    Ok(())
+}
+
+// Avro 1.11, "Enums", "Arrays", "Maps", "Fixed".
+const ENUMS_ARRAYS_MAPS_AND_FIXED: [(&str, &str); 25] = [
+    (
+        r#"{"type":"enum","name":"Suit","symbols":["SPADES","HEARTS","DIAMONDS","CLUBS"]}"#,
+        "1",
+    ),
+    (
+        r#"{"type":"enum","name":"E","symbols":["A","B"],"default":"B"}"#,
+        "1",
+    ),
+    (r#"{"type":"enum","name":"E","symbols":[]}"#, "1"),
+    (
+        r#"{"type":"enum","name":"E","symbols":["A","B"],"default":"C"}"#,
+        "BadEnum",
+    ),
+    (
+        r#"{"type":"enum","name":"E","symbols":["A"],"default":null}"#,
+        "BadEnum",
+    ),
+    (
+        r#"{"type":"enum","name":"E","symbols":["A","B","A"]}"#,
+        "BadEnum",
+    ),
+    (
+        r#"{"type":"enum","name":"E","symbols":["A","2B"]}"#,
+        "BadEnum",
+    ),
+    (r#"{"type":"enum","name":"E","symbols":["a.b"]}"#, "BadEnum"),
+    (r#"{"type":"enum","name":"E"}"#, "BadForm"),
+    (r#"{"type":"enum","name":"E","symbols":["A",1]}"#, "BadForm"),
+    (r#"{"type":"array","items":"string","default":[]}"#, "2"),
+    (
+        r#"{"type":"array","items":{"type":"array","items":"int"}}"#,
+        "3",
+    ),
+    (r#"{"type":"array"}"#, "BadForm"),
+    (r#"{"type":"array","items":7}"#, "BadForm"),
+    (r#"{"type":"array","items":"X"}"#, "Unknown X"),
+    (r#"{"type":"map","values":"long","default":{}}"#, "2"),
+    (r#"{"type":"map","items":"long"}"#, "BadForm"),
+    (r#"{"type":"fixed","size":16,"name":"md5"}"#, "1"),
+    (r#"{"type":"fixed","name":"F","size":0}"#, "1"),
+    (r#"{"type":"fixed","name":"F","size":2147483647}"#, "1"),
+    (
+        r#"{"type":"fixed","name":"F","size":2147483648}"#,
+        "BadFixed",
+    ),
+    (r#"{"type":"fixed","name":"F","size":-1}"#, "BadFixed"),
+    (r#"{"type":"fixed","name":"F","size":16.0}"#, "FloatNumber"),
+    (r#"{"type":"fixed","name":"F","size":"4"}"#, "BadForm"),
+    (r#"{"type":"fixed","name":"F"}"#, "BadForm"),
+];
+
+#[test]
+fn enums_arrays_maps_and_fixed(rt: HostRuntime) -> Result<(), Fail> {
+    assert_answers(&rt, rt.alloc(), &ENUMS_ARRAYS_MAPS_AND_FIXED)?;
+    Ok(())
+}
+
+// Avro 1.11, "Unions".
+const UNIONS: [(&str, &str); 16] = [
+    (r#"["null","string"]"#, "3"),
+    (r#"[]"#, "1"),
+    (r#"["int","long","float","double"]"#, "5"),
+    (
+        r#"[{"type":"array","items":"int"},{"type":"map","values":"int"}]"#,
+        "5",
+    ),
+    (
+        r#"[{"type":"fixed","name":"F","size":1},{"type":"fixed","name":"G","size":1}]"#,
+        "3",
+    ),
+    (
+        r#"[{"type":"fixed","name":"a.F","size":1},{"type":"enum","name":"b.F","symbols":[]}]"#,
+        "3",
+    ),
+    (
+        r#"[{"type":"array","items":"int"},{"type":"record","name":"array","fields":[]}]"#,
+        "4",
+    ),
+    (r#"["int","int"]"#, "BadUnion"),
+    (r#"["int",{"type":"int"}]"#, "BadUnion"),
+    (r#"["int",["string"]]"#, "BadUnion"),
+    (r#"["int",{"type":["string"]}]"#, "BadUnion"),
+    (
+        r#"[{"type":"map","values":"int"},{"type":"map","values":"long"}]"#,
+        "BadUnion",
+    ),
+    (
+        r#"[{"type":"array","items":"int"},{"type":"array","items":"long"}]"#,
+        "BadUnion",
+    ),
+    (
+        r#"[{"type":"fixed","name":"a.F","size":1},"a.F"]"#,
+        "BadUnion",
+    ),
+    (
+        r#"{"type":"record","name":"n.R","fields":[{"name":"a","type":["R","n.R"]}]}"#,
+        "BadUnion",
+    ),
+    (r#"["int",7]"#, "BadForm"),
+];
+
+#[test]
+fn unions(rt: HostRuntime) -> Result<(), Fail> {
+    assert_answers(&rt, rt.alloc(), &UNIONS)?;
+    Ok(())
+}
+
+// Avro 1.11, "Names", with its own example first. A name without a dot is looked for in the
+// null namespace too.
+const NAMES: [(&str, &str); 31] = [
+    (
+        r#"{"type":"record","name":"Example","doc":"A simple name","fields":[{"name":"inheritNull","type":{"type":"enum","name":"Simple","symbols":["a","b"]}},{"name":"explicitNamespace","type":{"type":"fixed","name":"Simple","namespace":"explicit","size":12}},{"name":"fullName","type":{"type":"record","name":"a.full.Name","namespace":"ignored","fields":[{"name":"inheritNamespace","type":{"type":"enum","name":"Understanding","symbols":["d","e"]}}]}}]}"#,
+        "5",
+    ),
+    (
+        r#"[{"type":"record","name":"a.full.Name","namespace":"ignored","fields":[{"name":"u","type":{"type":"enum","name":"U","symbols":[]}}]},{"type":"array","items":"a.full.U"}]"#,
+        "4",
+    ),
+    (
+        r#"[{"type":"record","name":"a.full.Name","namespace":"ignored","fields":[]},{"type":"array","items":"ignored.Name"}]"#,
+        "Unknown ignored.Name",
+    ),
+    (
+        r#"{"type":"record","name":"R","fields":[{"name":"a","type":{"type":"record","name":"n.S","fields":[{"name":"r","type":"R"}]}}]}"#,
+        "2",
+    ),
+    (
+        r#"{"type":"record","name":"R","namespace":"n","fields":[{"name":"f","type":"R"}]}"#,
+        "1",
+    ),
+    (
+        r#"{"type":"record","name":"R","namespace":"n","fields":[{"name":"f","type":"n.R"}]}"#,
+        "1",
+    ),
+    (
+        r#"{"type":"record","name":"R","namespace":"n","fields":[{"name":"f","type":"m.R"}]}"#,
+        "Unknown m.R",
+    ),
+    (
+        r#"[{"type":"fixed","name":"n.F","size":1},{"type":"array","items":"F"}]"#,
+        "Unknown F",
+    ),
+    (
+        r#"[{"type":"fixed","name":"F","size":1},{"type":"array","items":".F"}]"#,
+        "Unknown .F",
+    ),
+    (
+        r#"["E",{"type":"enum","name":"E","symbols":[]}]"#,
+        "Unknown E",
+    ),
+    (
+        r#"{"type":"record","name":"R","namespace":"n","fields":[{"name":"f","namespace":"m","type":{"type":"fixed","name":"F","size":1}},{"name":"g","type":"n.F"}]}"#,
+        "2",
+    ),
+    (
+        r#"[{"type":"enum","name":"E","symbols":[]},{"type":"record","name":"R","fields":[{"name":"f","type":{"type":"enum","name":"E","symbols":[]}}]}]"#,
+        "Redefined",
+    ),
+    (
+        r#"[{"type":"enum","name":"E","symbols":[]},{"type":"record","name":"n.R","fields":[{"name":"f","type":{"type":"enum","name":"E","symbols":[]}}]}]"#,
+        "4",
+    ),
+    (
+        r#"[{"type":"fixed","name":"n.F","size":1},{"type":"array","items":{"type":"fixed","name":"F","namespace":"n","size":1}}]"#,
+        "Redefined",
+    ),
+    (r#"{"type":"fixed","name":"F","namespace":7,"size":1}"#, "1"),
+    (
+        r#"{"type":"fixed","name":"F","namespace":"a b.9","size":1}"#,
+        "1",
+    ),
+    (r#"{"type":"fixed","name":"2F","size":1}"#, "BadName"),
+    (r#"{"type":"fixed","name":"a..F","size":1}"#, "BadName"),
+    (r#"{"type":"fixed","name":".F","size":1}"#, "BadName"),
+    (r#"{"type":"fixed","name":"a.","size":1}"#, "BadName"),
+    (r#"{"type":"fixed","name":"","size":1}"#, "BadName"),
+    (r#"{"type":"fixed","name":"F-1","size":1}"#, "BadName"),
+    (r#"{"type":"fixed","name":"int","size":1}"#, "BadName"),
+    (r#"{"type":"fixed","name":"a.string","size":1}"#, "BadName"),
+    (r#"{"type":"fixed","name":"string.F","size":1}"#, "1"),
+    (
+        r#"{"type":"fixed","name":"F","aliases":["G","m.H","int"],"size":1}"#,
+        "1",
+    ),
+    (
+        r#"{"type":"fixed","name":"F","aliases":["x-y"],"size":1}"#,
+        "BadName",
+    ),
+    (
+        r#"[{"type":"fixed","name":"F","aliases":["G"],"size":1},{"type":"array","items":"G"}]"#,
+        "Unknown G",
+    ),
+    (
+        r#"[{"type":"record","name":"array","fields":[]},{"type":"map","values":"array"}]"#,
+        "3",
+    ),
+    (
+        r#"[{"type":"fixed","name":"error","size":1},{"type":"map","values":"error"}]"#,
+        "3",
+    ),
+    (
+        r#"[{"type":"fixed","name":"error","size":1},{"type":"map","values":{"type":"error"}}]"#,
+        "BadForm",
+    ),
+];
+
+#[test]
+fn names(rt: HostRuntime) -> Result<(), Fail> {
+    assert_answers(&rt, rt.alloc(), &NAMES)?;
+    Ok(())
+}
+
+// Avro 1.11, "Schema Declaration": a text is a JSON string, object or array. A number in it is a
+// whole number of 64 bits.
+const JSON_TEXTS: [(&str, &str); 17] = [
+    (
+        r#"{"type":"int","x":18446744073709551615,"y":-9223372036854775808}"#,
+        "1",
+    ),
+    ("", "NotJson"),
+    ("int", "NotJson"),
+    ("{", "NotJson"),
+    (r#""int" "int""#, "NotJson"),
+    (r#"{"type":"int","x":01}"#, "NotJson"),
+    ("1", "BadForm"),
+    ("null", "BadForm"),
+    ("true", "BadForm"),
+    ("{}", "BadForm"),
+    (r#"{"type":null}"#, "BadForm"),
+    (r#"{"type":{}}"#, "BadForm"),
+    (r#"{"type":"int","x":1.5}"#, "FloatNumber"),
+    (r#"{"type":"int","x":1e2}"#, "FloatNumber"),
+    (r#"{"type":"int","x":[{"y":-0}]}"#, "FloatNumber"),
+    (r#"{"type":"int","x":18446744073709551616}"#, "FloatNumber"),
+    (r#"{"type":"int","x":-9223372036854775809}"#, "FloatNumber"),
+];
+
+#[test]
+fn json_texts(rt: HostRuntime) -> Result<(), Fail> {
+    assert_answers(&rt, rt.alloc(), &JSON_TEXTS)?;
+    Ok(())
+}
+
+// Avro 1.11, "Records", the table of defaults. A string is a default of each enum and fixed type.
+const DEFAULTS_OF_PLAIN_TYPES: [(&str, &str, bool); 23] = [
+    (r#""null""#, "null", true),
+    (r#""null""#, "0", false),
+    (r#""boolean""#, "true", true),
+    (r#""boolean""#, "0", false),
+    (r#""int""#, "2147483647", true),
+    (r#""int""#, "2147483648", false),
+    (r#""int""#, "-2147483648", true),
+    (r#""int""#, "-2147483649", false),
+    (r#""int""#, r#""1""#, false),
+    (r#""long""#, "9223372036854775807", true),
+    (r#""long""#, "9223372036854775808", false),
+    (r#""long""#, "-9223372036854775808", true),
+    (r#""float""#, "1", true),
+    (r#""float""#, "18446744073709551615", true),
+    (r#""double""#, "-7", true),
+    (r#""double""#, r#""1""#, false),
+    (r#""string""#, r#""""#, true),
+    (r#""string""#, "null", false),
+    (r#""bytes""#, r#""\u00ff""#, true),
+    (r#""bytes""#, "[]", false),
+    (r#"{"type":"fixed","name":"F","size":1}"#, r#""abc""#, true),
+    (
+        r#"{"type":"enum","name":"E","symbols":["A"]}"#,
+        r#""B""#,
+        true,
+    ),
+    (r#"{"type":"enum","name":"E","symbols":["A"]}"#, "0", false),
+];
+
+#[test]
+fn defaults_of_plain_types(rt: HostRuntime) -> Result<(), Fail> {
+    assert_defaults(&rt, rt.alloc(), &DEFAULTS_OF_PLAIN_TYPES)?;
+    Ok(())
+}
+
+// The same of types that hold others.
+const DEFAULTS_OF_TYPES_INSIDE: [(&str, &str, bool); 22] = [
+    (r#"{"type":"array","items":"int"}"#, "[]", true),
+    (r#"{"type":"array","items":"int"}"#, "[1,2]", true),
+    (r#"{"type":"array","items":"int"}"#, r#"[1,"a"]"#, false),
+    (r#"{"type":"array","items":"int"}"#, "{}", false),
+    (r#"{"type":"map","values":"int"}"#, r#"{"a":1,"b":2}"#, true),
+    (
+        r#"{"type":"map","values":"int"}"#,
+        r#"{"a":1,"b":null}"#,
+        false,
+    ),
+    (r#"{"type":"map","values":"int"}"#, "[]", false),
+    (r#"["null","int"]"#, "null", true),
+    (r#"["null","int"]"#, "1", false),
+    (r#"["int","null"]"#, "null", false),
+    (r#"["int","null"]"#, "1", true),
+    ("[]", "null", false),
+    (
+        r#"{"type":"record","name":"S","fields":[{"name":"a","type":"int"}]}"#,
+        r#"{"a":1}"#,
+        true,
+    ),
+    (
+        r#"{"type":"record","name":"S","fields":[{"name":"a","type":"int"}]}"#,
+        r#"{"a":1,"b":null}"#,
+        true,
+    ),
+    (
+        r#"{"type":"record","name":"S","fields":[{"name":"a","type":"int"}]}"#,
+        "{}",
+        false,
+    ),
+    (
+        r#"{"type":"record","name":"S","fields":[{"name":"a","type":"int"}]}"#,
+        r#"{"a":null}"#,
+        false,
+    ),
+    (
+        r#"{"type":"record","name":"S","fields":[{"name":"a","type":"int","aliases":["b"]}]}"#,
+        r#"{"b":1}"#,
+        false,
+    ),
+    (
+        r#"{"type":"record","name":"S","fields":[{"name":"a","type":"int","default":3}]}"#,
+        "{}",
+        true,
+    ),
+    (
+        r#"{"type":"record","name":"S","fields":[{"name":"s","type":["null","S"],"default":null}]}"#,
+        r#"{"s":null}"#,
+        true,
+    ),
+    (
+        r#"{"type":"record","name":"S","fields":[{"name":"s","type":["S","null"],"default":{"s":{}}}]}"#,
+        r#"{"s":{"s":{"s":{}}}}"#,
+        true,
+    ),
+    (r#"["R","null"]"#, "{}", true),
+    (r#"["R","null"]"#, r#"{"x":{"x":null}}"#, false),
+];
+
+#[test]
+fn defaults_of_types_inside(rt: HostRuntime) -> Result<(), Fail> {
+    assert_defaults(&rt, rt.alloc(), &DEFAULTS_OF_TYPES_INSIDE)?;
+    Ok(())
+}
+
+// The field with the invalid default is named, also inside another type. Defaults that are
+// numbers with a fraction are no numbers of this profile.
+const NAMES_A_BAD_DEFAULT: [(&str, &str); 3] = [
+    (
+        r#"{"type":"record","name":"R","fields":[{"name":"a","type":"int","default":0},{"name":"b","type":"int","default":null}]}"#,
+        "BadDefault b",
+    ),
+    (
+        r#"["null",{"type":"map","values":{"type":"record","name":"R","fields":[{"name":"c","type":"int","default":"1"}]}}]"#,
+        "BadDefault c",
+    ),
+    (
+        r#"{"type":"record","name":"R","fields":[{"name":"x","type":"double","default":0.0}]}"#,
+        "FloatNumber",
+    ),
+];
+
+#[test]
+fn names_a_bad_default(rt: HostRuntime) -> Result<(), Fail> {
+    assert_answers(&rt, rt.alloc(), &NAMES_A_BAD_DEFAULT)?;
+    Ok(())
+}
+
+// No space, and the members of each object in byte order of their names.
+const NORMAL_TEXTS: [(&str, &str); 7] = [
+    (r#" "int" "#, r#""int""#),
+    (r#"{ "type" : "int" }"#, r#"{"type":"int"}"#),
+    (
+        r#"{ "name":"R", "fields":[ ], "type":"record" }"#,
+        r#"{"fields":[],"name":"R","type":"record"}"#,
+    ),
+    (
+        r#"[ {"type":"map", "values":"long"}, "null" ]"#,
+        r#"[{"type":"map","values":"long"},"null"]"#,
+    ),
+    (
+        r#"{"type":"int","b":{"d":1,"c":2},"a":[3,{}],"B":-4}"#,
+        r#"{"B":-4,"a":[3,{}],"b":{"c":2,"d":1},"type":"int"}"#,
+    ),
+    (
+        r#"{"type":"int","doc":"\u0041\/\u00e9\n\u0001"}"#,
+        "{\"doc\":\"A/é\\n\\u0001\",\"type\":\"int\"}",
+    ),
+    (r#"{"type":"int","type":"long"}"#, r#"{"type":"long"}"#),
+];
+
+// The normal text of a text, read twice.
+fn normal_text(alloc: Global, text: &str) -> Result<String, SchemaError> {
+    let normal = Schema::read(alloc, text)?.normal_text()?;
+    Ok(Schema::read(alloc, normal.as_str())?.normal_text()?)
+}
+
+#[test]
+fn normal_texts(rt: HostRuntime) -> Result<(), Fail> {
+    for (text, expected) in &NORMAL_TEXTS {
+        let normal = normal_text(rt.alloc(), text)?;
+        assert_eq!(rt; normal.as_str(), *expected, "{text}");
+    }
+    Ok(())
+}
+
+fn push_name(text: &mut String, name: &FullName) -> Result<(), AllocError> {
+    text.push_str(name.namespace.as_str())?;
+    text.push_str(".")?;
+    text.push_str(name.name.as_str())?;
+    text.push_str(" ")
+}
+
+// A node's full name and aliases, and the fields of a record with their types.
+fn push_node(text: &mut String, alloc: Global, node: &Node) -> Result<(), AllocError> {
+    match node {
+        Node::Record { name, fields, .. } => {
+            push_name(text, name)?;
+            for field in fields.as_slice() {
+                let name = field.name.as_str();
+                let index = field.node.index;
+                text.push_str(format!(in alloc; "{name}:{index} ")?.as_str())?;
+            }
+            Ok(())
+        }
+        Node::Fixed { name, aliases, .. } => {
+            push_name(text, name)?;
+            for alias in aliases.as_slice() {
+                push_name(text, alias)?;
+            }
+            Ok(())
+        }
+        _ => text.push_str("unnamed "),
+    }
+}
+
+fn described(alloc: Global, schema: &Schema) -> Result<String, AllocError> {
+    let mut text = String::new(alloc);
+    for index in 0..schema.node_count() {
+        let id = NodeId { index };
+        if schema.name_of(id).is_some() {
+            text.push_str("named ")?;
+        }
+        push_node(&mut text, alloc, schema.node(id))?;
+    }
+    Ok(text)
+}
+
+// A use is the node of its definition, and an alias without a dot takes the namespace of its type
+// (Avro 1.11, "Aliases").
+const NODES: [(&str, &str); 3] = [
+    (
+        r#"[{"type":"fixed","name":"n.F","size":1},"int"]"#,
+        "unnamed named n.F unnamed ",
+    ),
+    (
+        r#"{"type":"record","name":"R","namespace":"n","fields":[{"name":"f","type":"R"}]}"#,
+        "named n.R f:0 ",
+    ),
+    (
+        r#"{"type":"fixed","name":"a.b","aliases":["c","x.y"],"size":1}"#,
+        "named a.b a.c x.y ",
+    ),
+];
+
+#[test]
+fn nodes(rt: HostRuntime) -> Result<(), Fail> {
+    for (text, expected) in &NODES {
+        let schema = Schema::read(rt.alloc(), text)?;
+        let found = described(rt.alloc(), &schema)?;
+        assert_eq!(rt; found.as_str(), *expected, "{text}");
+    }
+    Ok(())
+}
+
+// Where a text is a schema's, and where it is none.
+#[test]
+fn reads_a_schema_if_there_is_one(rt: HostRuntime) -> Result<(), Fail> {
+    for (text, expected) in &PRIMITIVE_TYPES {
+        let found = Schema::read_if_any(rt.alloc(), text)?;
+        assert_eq!(rt; found.is_some(), *expected == "1", "{text}");
+    }
+    Ok(())
+}
+
+// A primitive's name, and spaces up to a length in bytes.
+fn padded(alloc: Global, length: usize) -> Result<String, AllocError> {
+    let mut text = String::from_str(alloc, r#""int""#)?;
+    for _ in text.len()..length {
+        text.push_str(" ")?;
+    }
+    Ok(text)
+}
+
+// A primitive's name in so many objects, one in another.
+fn nested(alloc: Global, objects: u32) -> Result<String, AllocError> {
+    let mut text = String::new(alloc);
+    for _ in 0..objects {
+        text.push_str(r#"{"type":"#)?;
+    }
+    text.push_str(r#""int""#)?;
+    for _ in 0..objects {
+        text.push_str("}")?;
+    }
+    Ok(text)
+}
+
+// A record with so many fields, each a union of the eight primitives.
+fn wide(alloc: Global, fields: u32) -> Result<String, AllocError> {
+    let mut text = String::from_str(alloc, r#"{"type":"record","name":"R","fields":["#)?;
+    for i in 0..fields {
+        if i > 0 {
+            text.push_str(",")?;
+        }
+        let field = format!(in alloc;
+            r#"{{"name":"f{i}","type":["null","boolean","int","long","float","double","bytes","string"]}}"#
+        )?;
+        text.push_str(field.as_str())?;
+    }
+    text.push_str("]}")?;
+    Ok(text)
+}
+
+// So many records, each with a field of the type before it.
+fn chained(alloc: Global, types: u32) -> Result<String, AllocError> {
+    let mut text = String::from_str(alloc, r#"[{"type":"record","name":"n.R0","fields":[]}"#)?;
+    for i in 1..types {
+        let before = i - 1;
+        let record = format!(in alloc;
+            r#",{{"type":"record","name":"n.R{i}","fields":[{{"name":"f","type":"R{before}"}}]}}"#
+        )?;
+        text.push_str(record.as_str())?;
+    }
+    text.push_str("]")?;
+    Ok(text)
+}
+
+// Texts as long, as deep and with as many nodes as the limits allow, one past each, and many types
+// that use one another.
+#[test]
+fn limits(rt: HostRuntime) -> Result<(), Fail> {
+    let alloc = rt.alloc();
+    let rows = [
+        (padded(alloc, 1048576)?, "1"),
+        (padded(alloc, 1048577)?, "TooLong"),
+        (nested(alloc, 127)?, "1"),
+        (nested(alloc, 128)?, "NotJson"),
+        (wide(alloc, 7281)?, "65530"),
+        (wide(alloc, 7282)?, "TooManyNodes"),
+        (chained(alloc, 5000)?, "5001"),
+    ];
+    for (text, expected) in &rows {
+        let found = answer(alloc, text.as_str())?;
+        assert_eq!(rt; found.as_str(), *expected);
+    }
+    Ok(())
+}
