@@ -1,5 +1,7 @@
-//! Tests of the Avro crates over their public calls.
+//! Tests of schemas and of their resolution over the crates' public calls.
 #![tactic(auto)]
 
+#[cfg(test)]
+mod resolution;
 #[cfg(test)]
 mod schema;

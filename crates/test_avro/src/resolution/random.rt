@@ -1,0 +1,147 @@
+// Random schemas: a record with an enum, a fixed type and many fields.
+ghost use Rattle.std.specs.Prelude.{◌<◌};
+
+use std::alloc::{AllocError, Global};
+
+static TYPES: [&str; 16] = [
+    r#""int""#,
+    r#""long""#,
+    r#""double""#,
+    r#""string""#,
+    r#""bytes""#,
+    r#"["null","int"]"#,
+    r#"["null","long"]"#,
+    r#"["string","int"]"#,
+    r#"["null","R"]"#,
+    r#""R""#,
+    r#""E""#,
+    r#"["F","E","null"]"#,
+    r#"{"type":"array","items":"R"}"#,
+    r#"{"type":"array","items":["null","long"]}"#,
+    r#"{"type":"map","values":{"type":"array","items":"int"}}"#,
+    r#"[{"type":"map","values":"R"},{"type":"array","items":"int"}]"#,
+];
+
+static ENUMS: [&str; 3] = [
+    r#"{"type":"enum","name":"E","symbols":["A","B","C"]}"#,
+    r#"{"type":"enum","name":"E","symbols":["C","B","A"]}"#,
+    r#"{"type":"enum","name":"E","symbols":["A","C"],"default":"A"}"#,
+];
+
+/// A generator of numbers, always the same ones for a seed.
+#[derive(Drop)]
+pub struct Random {
+    state: u64,
+}
+
+/// How a field of the reader's is written, with a number for a name.
+enum Shape {
+    Same,
+    WithDefault,
+    Renamed,
+    Added,
+    Dropped,
+}
+
+impl Random {
+    pub fn new(seed: u64) -> Random {
+        Random { state: seed }
+    }
+
+    /// A number below that.
+    fn below(&mut self, many: usize) -> usize
+        requires { 0 < many }
+    {
+        self.state = self
+            .state
+            .wrapping_mul(6364136223846793005)
+            .wrapping_add(1442695040888963407);
+        (self.state >> 33) as usize % many
+    }
+
+    /// One of the texts.
+    fn one_of(&mut self, texts: &[&'static str]) -> &'static str {
+        let k = self.below(texts.len().max(1));
+        match texts.get(k) {
+            Some(text) => text,
+            None => "",
+        }
+    }
+
+    /// A type, mostly the same for the same number.
+    fn type_at(&mut self, number: usize) -> &'static str {
+        if self.below(150) == 0 {
+            return self.one_of(&TYPES);
+        }
+        match TYPES.get(number % 16) {
+            Some(text) => text,
+            None => "",
+        }
+    }
+
+    fn shape(&mut self) -> Shape {
+        match self.below(40) {
+            0..=3 => Shape::WithDefault,
+            4..=7 => Shape::Renamed,
+            8..=11 => Shape::Added,
+            12..=13 => Shape::Dropped,
+            _ => Shape::Same,
+        }
+    }
+
+    /// A record that writes, of fields f0 and so on.
+    pub fn writer(&mut self, alloc: Global, fields: usize) -> Result<String, AllocError> {
+        let mut text = self.head(alloc)?;
+        for number in 0..fields {
+            let of = self.type_at(number);
+            let field = format!(in alloc; ",{{\"name\":\"f{number}\",\"type\":{of}}}")?;
+            text.push_str(field.as_str())?;
+        }
+        text.push_str("]}")?;
+        Ok(text)
+    }
+
+    /// A record that reads one of so many fields, a prime number of them: most are there, in some
+    /// order, some by an alias, and some others with a default.
+    pub fn reader(&mut self, alloc: Global, fields: usize) -> Result<String, AllocError> {
+        let mut text = self.head(alloc)?;
+        let many = fields.max(2);
+        let step = self.below(many - 1).saturating_add(1);
+        let mut number = self.below(many);
+        for _ in 0..many {
+            let field = self.field(alloc, number)?;
+            text.push_str(field.as_str())?;
+            number = number.saturating_add(step) % many;
+        }
+        text.push_str("]}")?;
+        Ok(text)
+    }
+
+    fn field(&mut self, alloc: Global, number: usize) -> Result<String, AllocError> {
+        let of = self.type_at(number);
+        match self.shape() {
+            Shape::Same => { format!(in alloc; ",{{\"name\":\"f{number}\",\"type\":{of}}}") }
+            Shape::WithDefault => {
+                format!(in alloc; ",{{\"name\":\"f{number}\",\"type\":{of},\"default\":0}}")
+            }
+            Shape::Renamed => {
+                format!(in alloc;
+                    ",{{\"name\":\"g{number}\",\"aliases\":[\"z\",\"f{number}\"],\"type\":{of}}}"
+                )
+            }
+            Shape::Added => {
+                format!(in alloc; ",{{\"name\":\"h{number}\",\"type\":{of},\"default\":0}}")
+            }
+            Shape::Dropped => Ok(String::new(alloc)),
+        }
+    }
+
+    /// The front of a record, with its first two fields.
+    fn head(&mut self, alloc: Global) -> Result<String, AllocError> {
+        let symbols = self.one_of(&ENUMS);
+        let size = if self.below(60) == 0 { 5 } else { 4 };
+        format!(in alloc;
+            "{{\"type\":\"record\",\"name\":\"R\",\"fields\":[{{\"name\":\"e\",\"type\":{symbols}}},{{\"name\":\"x\",\"type\":{{\"type\":\"fixed\",\"name\":\"F\",\"size\":{size}}}}}"
+        )
+    }
+}
