@@ -1,5 +1,5 @@
 -- A set of records and none more.
-use Rattle.std.proofs.Common.{◌≡◌, false, ◌||◌, ap, ◌∙◌}
+use Rattle.std.proofs.Common.{◌≡◌, ◌||◌, ap, ◌∙◌}
 use Rattle.std.specs.Cmp.{IsTotalOrder}
 use Rattle.std.specs.FinSet.{IsAntisymmetric, contains-empty, contains-union, empty, contains, same_set, union}
 use Rattle.reg_set.specs.RecordOrder.{record_cmp}

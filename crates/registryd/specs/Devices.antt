@@ -1,5 +1,5 @@
 -- How a reader and a writer are lost, and what the writer has then.
-use Rattle.std.specs.Prelude.{◌≡◌, ◌⊎◌, ◌≤◌, ℕ, List, ◌++◌, Option}
+use Rattle.std.specs.Prelude.{◌≡◌, ◌⊎◌, ℕ, List, ◌++◌, Option}
 use Rattle.std.specs.Io.KnownBytes.{Appends}
 use Rattle.reg_records.specs.Device.{counted, faults_of, interruptions_of, reads_of}
 use Rattle.reg_records.specs.declared.device.Device.{Device}

@@ -1,9 +1,6 @@
 -- What the words of the command line ask for, and how the program ends.
 use Rattle.std.specs.Prelude.{ℕ, ◌∷◌, [], List, ◌++◌, codes, decimal, bytes_eq, nat_lt, if◌then◌else◌}
-use Rattle.reg_records.specs.declared.line.LineError.{LineError}
-use Rattle.reg_records.specs.declared.line.LineError.TheVariants as lines
-use Rattle.reg_records.specs.declared.log.LogFault.{LogFault}
-use Rattle.reg_records.specs.declared.log.LogFault.TheVariants as faults
+use Rattle.reg_records.specs.Errors.{at_line, log_fault_name}
 use Rattle.registryd.specs.declared.ended.Command.{Command}
 use Rattle.registryd.specs.declared.ended.Command.TheVariants as commands
 use Rattle.registryd.specs.declared.ended.Ended.{Ended}
@@ -16,22 +13,9 @@ abbrev pub command_of : List (List ℕ) → Command
 command_of (name ∷ word ∷ []) = if bytes_eq word (codes "fold") then commands.Fold else commands.Usage
 command_of words = commands.Usage
 
--- the name of a line's fault
-abbrev pub line_error_name : LineError → List ℕ
-line_error_name lines.Truncated = codes "Truncated"
-line_error_name lines.TooLong = codes "TooLong"
-line_error_name lines.BadUtf8 = codes "BadUtf8"
-line_error_name lines.BadTabs = codes "BadTabs"
-line_error_name lines.BadOffset = codes "BadOffset"
-
--- the name of a log's fault
-abbrev pub fault_name : LogFault → List ℕ
-fault_name (faults.Line fault) = line_error_name fault
-fault_name faults.TooManyLines = codes "TooManyLines"
-
 -- what is said of a fold that failed
 abbrev pub error_text : FoldError → List ℕ
-error_text (errors.Log line fault) = codes "line " ++ decimal line ++ codes ": " ++ fault_name fault
+error_text (errors.Log line fault) = at_line line (log_fault_name fault)
 error_text errors.ReadFault = codes "ReadFault"
 error_text errors.WriteFault = codes "WriteFault"
 error_text errors.OutOfMemory = codes "OutOfMemory"
@@ -43,10 +27,10 @@ errors_written (ends.Folded folded) = if nat_lt 0 folded.foreign then codes "for
 errors_written (ends.Failed error) = error_text error ++ codes "\n"
 
 -- the exit status
-abbrev pub status_of : Ended → ℕ
-status_of ends.Usage = 2
-status_of (ends.Folded folded) = 0
-status_of (ends.Failed (errors.Log line fault)) = 2
-status_of (ends.Failed errors.ReadFault) = 1
-status_of (ends.Failed errors.WriteFault) = 1
-status_of (ends.Failed errors.OutOfMemory) = 1
+abbrev pub exit_status : Ended → ℕ
+exit_status ends.Usage = 2
+exit_status (ends.Folded folded) = 0
+exit_status (ends.Failed (errors.Log line fault)) = 2
+exit_status (ends.Failed errors.ReadFault) = 1
+exit_status (ends.Failed errors.WriteFault) = 1
+exit_status (ends.Failed errors.OutOfMemory) = 1

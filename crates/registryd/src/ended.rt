@@ -1,9 +1,8 @@
 // What the words of the command line ask for, and how the program ends.
 ghost use Rattle.std.specs.Prelude.{◌≡◌, Some, map, string_bytes};
-ghost use Rattle.registryd.specs.Ended.{command_of, error_text, errors_written, fault_name, line_error_name, status_of};
+ghost use Rattle.registryd.specs.Ended.{command_of, error_text, errors_written, exit_status};
 
 use crate::fold::{FoldError, Folded};
-use reg_records::{LineError, LogFault};
 use std::error::Error;
 use std::fmt;
 
@@ -42,7 +41,7 @@ pub enum Ended {
 impl Ended {
     /// The exit status.
     pub fn status(self) -> u8
-        ensures { result ≡ status_of self }
+        ensures { result ≡ exit_status self }
     {
         match self {
             Ended::Folded(_) => 0,
@@ -81,10 +80,7 @@ impl fmt::Display for FoldError {
 
     fn fmt<W: fmt::Write>(&self, f: &mut fmt::Formatter<W>) -> fmt::Result {
         match *self {
-            FoldError::Log { line, fault } => {
-                let name = fault_name(fault);
-                write!(f, "line {line}: {name}")
-            }
+            FoldError::Log { line, fault } => write!(f, "line {line}: {fault}"),
             FoldError::ReadFault => write!(f, "ReadFault"),
             FoldError::WriteFault => write!(f, "WriteFault"),
             FoldError::OutOfMemory => write!(f, "OutOfMemory"),
@@ -93,24 +89,3 @@ impl fmt::Display for FoldError {
 }
 
 impl Error for FoldError {}
-
-fn fault_name(fault: LogFault) -> &'static str
-    ensures { result.now ≡ fault_name fault }
-{
-    match fault {
-        LogFault::Line(fault) => line_error_name(fault),
-        LogFault::TooManyLines => "TooManyLines",
-    }
-}
-
-fn line_error_name(fault: LineError) -> &'static str
-    ensures { result.now ≡ line_error_name fault }
-{
-    match fault {
-        LineError::Truncated => "Truncated",
-        LineError::TooLong => "TooLong",
-        LineError::BadUtf8 => "BadUtf8",
-        LineError::BadTabs => "BadTabs",
-        LineError::BadOffset => "BadOffset",
-    }
-}

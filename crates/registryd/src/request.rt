@@ -91,7 +91,7 @@ pub fn id_in(alloc: Global, part: &[u8]) -> Result<Option<u32>, AllocError>
     Ok(id_of_digits(&digits))
 }
 
-/// The id that 1 to 10 digits spell.
+/// The id that digits spell; they may begin with zeros.
 fn id_of_digits(digits: &[u8]) -> Option<u32>
     ensures { result ≡ id_of_digits digits.now }
 {

@@ -1,4 +1,4 @@
-use Rattle.std.proofs.Common.{[], refl, sym, subst, ◌∙◌, arith, rules}
+use Rattle.std.proofs.Common.{[], sym, subst, arith, rules}
 use Rattle.std.specs.Io.KnownBytes.{Consumes}
 use Rattle.reg_records.specs.Device.{bytes_in}
 use Rattle.std.proofs.KnownBytes.{Consumes-nil, Consumes-trans}
