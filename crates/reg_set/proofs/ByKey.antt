@@ -93,10 +93,10 @@ module _ (m n : BTreeMap Key Record) (by_key : IsByKey m) (ordered : IsOrdered s
   IsByKey-updated = record {
     is_ordered = ordered;
     of_keys = λ q. subst (λ x. IfSome x (λ r. r.key ≡ q)) (sym (updates.0 q)) (
-      elim (is_eq (stored_cmp key q)) as (λ b. is_eq (stored_cmp key q) ≡ b → IfSome (cond b o (last_at m q)) (λ r. r.key ≡ q)) [
-        | true ↦ λ e. subst (λ k. IfSome o (λ r. r.key ≡ k)) (stored-ties key q (equal _ e)) of_key
-        | false ↦ λ _. by_key.of_keys q
-      ] refl);
+        elim (is_eq (stored_cmp key q)) as (λ b. is_eq (stored_cmp key q) ≡ b → IfSome (cond b o (last_at m q)) (λ r. r.key ≡ q)) [
+          | true ↦ λ e. subst (λ k. IfSome o (λ r. r.key ≡ k)) (stored-ties key q (equal _ e)) of_key
+          | false ↦ λ _. by_key.of_keys q
+        ] refl);
   }
 
   pub last-updated : (q : Key) → last (set_of n) q ≡ cond (is_eq (stored_cmp key q)) o (last (set_of m) q)

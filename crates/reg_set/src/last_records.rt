@@ -1,5 +1,5 @@
 // The last record of each key.
-ghost use Rattle.std.specs.Prelude.{◌≡◌, ◌≢◌, false, Some, OnOk, OnErr, IfOk, IsTrue, IfSome, IsSome, map, option_map};
+ghost use Rattle.std.specs.Prelude.{◌≡◌, ◌≢◌, false, Some, None, OnOk, OnErr, IfOk, IsTrue, IfSome, IsSome, map, option_map};
 ghost use Rattle.std.specs.BTreeMap.{IsOrdered, IsUnchanged, Updates};
 ghost use Rattle.std.specs.FinSet as set;
 ghost use Rattle.std.specs.List.Sorted.{IsStrictlySortedBy};
@@ -103,6 +103,7 @@ impl LastRecords {
             → before ≡ last self.old given.now.key) }
         ensures taken_back { IfOk result (λ before. self.new ≢ self.old
             → with_last self.new given.now.key before ≡ self.old) }
+        ensures kept { IfOk result (λ before. self.new ≡ self.old → before ≡ None) }
         ensures refused { OnErr result (self.new ≡ self.old) }
     {
         if !self.is_news(given) {

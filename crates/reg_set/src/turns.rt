@@ -58,7 +58,10 @@ fn kind_of(key: &Key) -> u8 {
 
 fn subject_of(key: &Key) -> &str {
     match key {
-        Key::Schema { subject, version: _ } => subject.as_str(),
+        Key::Schema {
+            subject,
+            version: _,
+        } => subject.as_str(),
         Key::Config(Some(subject)) => subject.as_str(),
         Key::Mode(Some(subject)) => subject.as_str(),
         Key::DeleteSubject(subject) => subject.as_str(),
@@ -68,7 +71,10 @@ fn subject_of(key: &Key) -> &str {
 
 fn version_of(key: &Key) -> u32 {
     match key {
-        Key::Schema { subject: _, version } => *version,
+        Key::Schema {
+            subject: _,
+            version,
+        } => *version,
         _ => 0,
     }
 }

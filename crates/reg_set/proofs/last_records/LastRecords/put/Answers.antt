@@ -58,3 +58,8 @@ returns-clause-taken_back c = λ changed.
     (returns-clause-before c changed)
     (λ q. last-updated m n c.self.invariant c.in_ok-before.ensures.in_order r.key (Some r) c.in_ok-before.ensures.put refl q
     ∙ ap (λ s. cond (is_eq (stored_cmp r.key q)) (Some r) (last s q)) c.self.view_is)
+
+pub returns-clause-kept : goal.returns-clause-kept
+returns-clause-kept c = λ same.
+    let yes : c.is_news.result ≡ true = search rules in
+    absurd (c.is_news.ensures.news (search rules) (sym (returns-clause-added c) ∙ same))
