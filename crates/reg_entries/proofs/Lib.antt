@@ -1,0 +1,10 @@
+pub mod Chosen
+pub mod Places
+pub mod Views
+pub mod Versions
+pub mod Indexed
+pub mod Greatest
+pub mod Below
+pub mod Found
+pub mod Queries
+pub mod Marks

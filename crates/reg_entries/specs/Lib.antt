@@ -1,0 +1,4 @@
+pub mod EntryOrder
+pub mod Index
+pub mod Marked
+pub mod Sought

@@ -1,0 +1,176 @@
+// The entries, found by place, by subject and by id.
+ghost use Rattle.std.specs.Prelude.{◌≡◌, ℕ, List, Bool, IfOk, OnOk, OnErr, map, option_map, bytes_eq, if◌then◌else◌};
+ghost use Rattle.std.specs.FinMap as finmap;
+ghost use Rattle.std.specs.Option.{option_copied};
+ghost use Rattle.reg_entries.specs.EntryOrder.{Place, place_of, IsInOrder};
+ghost use Rattle.reg_entries.specs.Marked.{with_soft, marked, MarksEach};
+ghost use Rattle.reg_entries.specs.Sought.{of_subject, live_of, HasRisingVersions, named, greatest_id, greatest_version};
+ghost use Rattle.reg_entries.specs.declared.entry.Entry.{Entry};
+
+use crate::entry::{Entry, Mark};
+use crate::lists::{keep_live, list_all, list_between, set_marks};
+use crate::names::{
+    At, Name, forget, greatest_with, leave_room, name_above, place_of, set_version, version_below,
+    version_of, write,
+};
+use base_text::Text;
+use std::alloc::{AllocError, Global};
+use std::collections::{BTreeMap, BTreeSet};
+use std::marker::Model;
+
+/// The entries of a registry, found by place, by subject and by id.
+///
+/// A place is a subject and a version. Contracts see the map from places to entries, in which each
+/// entry is at its own place.
+#[derive(Debug, Drop)]
+pub struct Entries {
+    alloc: Global,
+    entries: BTreeMap<At, Entry>,
+    names: BTreeSet<Name>,
+    // Of each subject with an entry its greatest version.
+    versions: BTreeMap<String, Option<u32>>,
+}
+
+impl Model for Entries {
+    ghost use Rattle.std.specs.Coded.{coded×, coded_ℕ, coded_list};
+    ghost use Rattle.std.specs.FinMap as finmap;
+    ghost use Rattle.reg_entries.specs.EntryOrder.{place_cmp};
+    ghost use Rattle.reg_entries.specs.Index.{IsIndexed};
+    ghost use Rattle.reg_entries.specs.contracts.entry.Entry as stored;
+    ghost use Rattle.reg_entries.specs.declared.entry.Entry.{Entry};
+
+    ghost Value = { finmap.FinMap place_cmp Entry };
+
+    ghost coded = { finmap.code (coded× (coded_list coded_ℕ) coded_ℕ) (stored.the_row).coded };
+
+    ghost view = { λ a. finmap.from_entries a.entries.entries };
+
+    ghost invariant = { λ a. IsIndexed a.entries a.names a.versions };
+}
+
+impl Entries {
+    /// No entry.
+    pub fn new(alloc: Global) -> Entries
+        ensures { result ≡ finmap.empty }
+    {
+        Entries {
+            alloc,
+            entries: BTreeMap::new(alloc),
+            names: BTreeSet::new(alloc),
+            versions: BTreeMap::new(alloc),
+        }
+    }
+
+    /// How many entries there are.
+    pub fn len(&self) -> usize
+        ensures { result ≡ finmap.len self.now }
+    {
+        self.entries.len()
+    }
+
+    /// Puts the entry at its place, where it takes the place of what is there. The only error is
+    /// want of memory; all is then as it was.
+    pub fn put(&mut self, entry: Entry) -> Result<(), AllocError>
+        ensures put { OnOk result (self.new ≡ finmap.insert self.old (place_of entry) entry) }
+        ensures refused { OnErr result (self.new ≡ self.old) }
+    {
+        let (subject, version) = place_of(&entry)?;
+        leave_room(self.alloc, &mut self.versions, subject.as_str())?;
+        write(&mut self.entries, &mut self.names, entry)?;
+        let greatest = greatest_with(&self.versions, subject.as_str(), version);
+        set_version(&mut self.versions, subject.as_str(), Some(greatest));
+        Ok(())
+    }
+
+    /// Removes the entry at a place, if there is one.
+    pub fn remove(&mut self, place: &(Text, u32))
+        ensures { self.new ≡ finmap.remove self.old place.now }
+    {
+        let Some(entry) = self.entries.remove(place) else {
+            return;
+        };
+        forget(&mut self.names, entry);
+        let subject = place.0.as_str();
+        if version_of(&self.versions, subject) == Some(place.1) {
+            let version = version_below(&self.entries, place);
+            set_version(&mut self.versions, subject, version);
+        }
+    }
+
+    /// Gives versions of a subject their marks. A mark of a version that isn't there does nothing.
+    pub fn mark(&mut self, subject: Text, marks: &[Mark])
+        ensures marked { (p : Place) → finmap.get self.new p ≡ option_map (marked subject marks.now) (finmap.get self.old p) }
+        ensures each { (soft : Entry → Bool) → MarksEach soft marks.now (of_subject (finmap.values self.old) subject) → (p : Place) → finmap.get self.new p ≡ option_map (λ e. if bytes_eq e.subject subject then with_soft (soft e) e else e) (finmap.get self.old p) }
+    {
+        set_marks(&mut self.entries, subject, marks);
+    }
+
+    /// The entry at a place.
+    pub fn at(&self, place: &(Text, u32)) -> Option<&Entry>
+        ensures { option_copied result ≡ finmap.get self.now place.now }
+    {
+        self.entries.get(place)
+    }
+
+    /// All entries, by place.
+    pub fn all(&self) -> Result<Vec<&Entry>, AllocError>
+        ensures all { IfOk result (λ found. map (λ e. e.now) found.items ≡ finmap.values self.now) }
+        ensures in_order { IfOk result (λ found. IsInOrder (map (λ e. e.now) found.items)) }
+    {
+        let found = list_all(self.alloc, &self.entries)?;
+        Ok(found)
+    }
+
+    /// The entries of a subject, by version.
+    pub fn of_subject(&self, subject: &str) -> Result<Vec<&Entry>, AllocError>
+        ensures all { IfOk result (λ found. map (λ e. e.now) found.items ≡ of_subject (finmap.values self.now) subject.now) }
+        ensures in_order { IfOk result (λ found. HasRisingVersions (map (λ e. e.now) found.items)) }
+    {
+        let first = (Text::copy_of(self.alloc, subject)?, 0);
+        let last = (Text::copy_of(self.alloc, subject)?, u32::MAX);
+        let found = list_between(self.alloc, &self.entries, &first, &last)?;
+        Ok(found)
+    }
+
+    /// The live entries of a subject, which are those that aren't soft, by version.
+    pub fn live_of(&self, subject: &str) -> Result<Vec<&Entry>, AllocError>
+        ensures all { IfOk result (λ found. map (λ e. e.now) found.items ≡ live_of (finmap.values self.now) subject.now) }
+        ensures in_order { IfOk result (λ found. HasRisingVersions (map (λ e. e.now) found.items)) }
+    {
+        let _ = &self.entries;
+        let mut found = self.of_subject(subject)?;
+        keep_live(&mut found);
+        Ok(found)
+    }
+
+    /// The entry that an id names: of the entries with that id, soft ones too, the one of greatest
+    /// offset; of these the one of greatest subject, by its bytes; of these the one of greatest
+    /// version.
+    pub fn named(&self, id: u32) -> Option<&Entry>
+        ensures { option_copied result ≡ named (finmap.values self.now) id }
+    {
+        let above = name_above(self.alloc, id);
+        let last = self.names.range(..&above).next_back()?;
+        if last.0 == u64::from(id) {
+            self.entries.get(&last.2)
+        } else {
+            None
+        }
+    }
+
+    /// The greatest id of an entry, soft ones too.
+    pub fn greatest_id(&self) -> Option<u32>
+        ensures { result ≡ greatest_id (finmap.values self.now) }
+    {
+        let last = self.names.last()?;
+        let entry = self.entries.get(&last.2)?;
+        Some(entry.id)
+    }
+
+    /// The greatest version of a subject's entries, soft ones too.
+    pub fn greatest_version(&self, subject: &str) -> Option<u32>
+        ensures { result ≡ greatest_version (finmap.values self.now) subject.now }
+    {
+        version_of(&self.versions, subject)
+    }
+}

@@ -1,0 +1,10 @@
+//! The entries of a registry, found by place, by subject and by id.
+#![tactic(auto)]
+
+mod entries;
+mod entry;
+mod lists;
+mod names;
+
+pub use entries::Entries;
+pub use entry::{Entry, Mark};

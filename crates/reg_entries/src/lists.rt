@@ -1,0 +1,75 @@
+// Entries in lists, and their marks.
+ghost use Rattle.std.specs.Prelude.{◌≡◌, false, IfOk, map, not, option_map, if◌then◌else◌};
+ghost use Rattle.std.specs.BTreeMap.{IsOrdered, values};
+ghost use Rattle.std.specs.BTreeMap.Range.{entries_between};
+ghost use Rattle.std.specs.List.{filter};
+ghost use Rattle.std.specs.Map.{values_of};
+ghost use Rattle.std.specs.Ordering.{eq_by_cmp, is_gt};
+ghost use Rattle.reg_entries.specs.EntryOrder.{Place, place_cmp};
+ghost use Rattle.reg_entries.specs.Index.{entry_at, ArePlaced};
+ghost use Rattle.reg_entries.specs.Marked.{with_soft, marked};
+
+use crate::entry::{Entry, Mark};
+use crate::names::At;
+use base_text::Text;
+use std::alloc::{AllocError, Global};
+use std::collections::BTreeMap;
+use std::ops::Bound;
+
+/// All entries, by place.
+pub(crate) fn list_all(
+    alloc: Global,
+    entries: &BTreeMap<At, Entry>,
+) -> Result<Vec<&Entry>, AllocError>
+    ensures { IfOk result (λ found. map (λ e. e.now) found.items ≡ values entries.now) }
+{
+    entries.values().collect(alloc)
+}
+
+/// The entries from one place to another, by place.
+pub(crate) fn list_between<'a>(
+    alloc: Global,
+    entries: &'a BTreeMap<At, Entry>,
+    first: &At,
+    last: &At,
+) -> Result<Vec<&'a Entry>, AllocError>
+    requires { is_gt (place_cmp first.now last.now) ≡ false }
+    ensures { IfOk result (λ found. map (λ e. e.now) found.items ≡ values_of (entries_between place_cmp (Bound.Included first.now) (Bound.Included last.now) entries.now.entries)) }
+{
+    let mut found = Vec::new(alloc);
+    for (_, entry) in entries.range((Bound::Included(first), Bound::Included(last))) {
+        found.push(entry)?;
+    }
+    Ok(found)
+}
+
+/// Leaves those that aren't soft.
+pub(crate) fn keep_live(found: &mut Vec<&Entry>)
+    ensures { found.new.items ≡ filter (λ e. not e.now.soft) found.old.items }
+{
+    found.retain(|entry| !entry.soft);
+}
+
+/// Marks the entry at a place, if there is one.
+pub(crate) fn set_soft(entries: &mut BTreeMap<At, Entry>, place: &At, soft: bool)
+    ensures at { (q : Place) → entry_at entries.new q ≡ (if eq_by_cmp place_cmp place.now q then option_map (with_soft soft) (entry_at entries.old q) else entry_at entries.old q) }
+    ensures ordered { IsOrdered place_cmp entries.new }
+{
+    if let Some(entry) = entries.get_mut(place) {
+        entry.soft = soft;
+    }
+}
+
+/// Gives versions of a subject their marks.
+pub(crate) fn set_marks(entries: &mut BTreeMap<At, Entry>, subject: Text, marks: &[Mark])
+    requires ordered { IsOrdered place_cmp entries.old }
+    requires placed { ArePlaced entries.old }
+    ensures marked { (p : Place) → entry_at entries.new p ≡ option_map (marked subject marks.now) (entry_at entries.old p) }
+    ensures still_ordered { IsOrdered place_cmp entries.new }
+{
+    let mut place = (subject, 0);
+    for mark in marks {
+        place.1 = mark.version;
+        set_soft(entries, &place, mark.soft);
+    }
+}

@@ -1,0 +1,159 @@
+// The names of entries, and the greatest versions of subjects: what is kept beside the entries.
+ghost use Rattle.std.specs.Prelude.{◌≡◌, ◌+◌, [], ◌⊎◌, ◌≤◌, ◌<◌, ◌^◌, ℕ, List, Some, false, cond, not, ◌&&◌, ◌||◌, ◌==◌, bytes_eq, IfOk, OnOk, OnErr, IsSome};
+ghost use Rattle.std.specs.BTreeMap.{IsOrdered, get_by_text};
+ghost use Rattle.std.specs.BTreeSet.{contains};
+ghost use Rattle.std.specs.Ordering.{eq_by_cmp};
+ghost use Rattle.reg_entries.specs.EntryOrder.{place_cmp, place_of};
+ghost use Rattle.reg_entries.specs.Index.{Name, name_of, name_cmp, kept_version, HasAt, ArePlaced, AreNamed, IsGreatestBelow};
+
+use crate::entry::Entry;
+use base_text::Text;
+use std::alloc::{AllocError, Global};
+use std::collections::{BTreeMap, BTreeSet};
+
+/// A subject and a version.
+pub(crate) type At = (Text, u32);
+
+/// An id, an offset and a place: in their order the last name of an id is that of the entry which
+/// the id names.
+pub(crate) type Name = (u64, u64, At);
+
+/// The place of an entry.
+pub(crate) fn place_of(entry: &Entry) -> Result<At, AllocError>
+    ensures place { IfOk result (λ place. place ≡ (entry.now.subject, entry.now.version)) }
+    ensures fits { IfOk result (λ place. place.1 < 2 ^ 32) }
+{
+    let version = entry.version;
+    Ok((entry.subject.clone()?, version))
+}
+
+/// The name of an entry.
+pub(crate) fn name_of(entry: &Entry) -> Result<Name, AllocError>
+    ensures { IfOk result (λ name. name ≡ name_of entry.now) }
+{
+    Ok((u64::from(entry.id), entry.offset, place_of(entry)?))
+}
+
+/// The least name of the ids above that one.
+pub(crate) fn name_above(alloc: Global, id: u32) -> Name
+    ensures { result ≡ (id + 1, 0, ([], 0)) }
+{
+    (u64::from(id) + 1, 0, (Text::from(String::new(alloc)), 0))
+}
+
+/// Takes the name of an entry away.
+pub(crate) fn forget(names: &mut BTreeSet<Name>, entry: Entry)
+    ensures { (n : Name) → contains name_cmp names.new n ≡ cond (eq_by_cmp name_cmp (name_of entry) n) false (contains name_cmp names.old n) }
+{
+    let Entry {
+        subject,
+        version,
+        id,
+        offset,
+        ..
+    } = entry;
+    names.remove(&(u64::from(id), offset, (subject, version)));
+}
+
+/// Takes the name of an entry away, unless the entry that is now at its place has the same.
+pub(crate) fn forget_other(names: &mut BTreeSet<Name>, entry: Entry, id: u32, offset: u64)
+    ensures { (n : Name) → contains name_cmp names.new n ≡ (contains name_cmp names.old n && (not (eq_by_cmp name_cmp (name_of entry) n) || (entry.id == id && entry.offset == offset))) }
+{
+    if entry.id != id || entry.offset != offset {
+        forget(names, entry);
+    }
+}
+
+/// Leaves room for the greatest version of a subject.
+pub(crate) fn leave_room(
+    alloc: Global,
+    versions: &mut BTreeMap<String, Option<u32>>,
+    subject: &str,
+) -> Result<(), AllocError>
+    ensures kept { (s : List ℕ) → kept_version versions.new s ≡ kept_version versions.old s }
+    ensures room { OnOk result (IsSome (get_by_text versions.new subject.now)) }
+{
+    if !versions.contains_key(subject) {
+        versions.insert(String::from_str(alloc, subject)?, None)?;
+    }
+    Ok(())
+}
+
+/// The greatest version of a subject, if it has one.
+pub(crate) fn version_of(versions: &BTreeMap<String, Option<u32>>, subject: &str) -> Option<u32>
+    ensures { result ≡ kept_version versions.now subject.now }
+{
+    *versions.get(subject)?
+}
+
+/// The greatest version of a subject once it has that one too.
+pub(crate) fn greatest_with(
+    versions: &BTreeMap<String, Option<u32>>,
+    subject: &str,
+    version: u32,
+) -> u32
+    ensures reaches { version ≤ result }
+    ensures bounds { (old : ℕ) → kept_version versions.now subject.now ≡ Some old → old ≤ result }
+    ensures either { (result ≡ version) ⊎ (kept_version versions.now subject.now ≡ Some result) }
+{
+    match version_of(versions, subject) {
+        Some(old) if version < old => old,
+        _ => version,
+    }
+}
+
+/// Keeps the greatest version of a subject that has room for it.
+pub(crate) fn set_version(
+    versions: &mut BTreeMap<String, Option<u32>>,
+    subject: &str,
+    version: Option<u32>,
+)
+    ensures { IsSome (get_by_text versions.old subject.now) → (s : List ℕ) → kept_version versions.new s ≡ cond (bytes_eq subject.now s) version (kept_version versions.old s) }
+{
+    if let Some(kept) = versions.get_mut(subject) {
+        *kept = version;
+    }
+}
+
+/// The greatest version of a place's subject below that of the place.
+pub(crate) fn version_below(entries: &BTreeMap<At, Entry>, place: &At) -> Option<u32>
+    ensures { IsGreatestBelow entries.now place.now result }
+{
+    let (found, _) = entries.range(..place).next_back()?;
+    if found.0 == place.0 {
+        Some(found.1)
+    } else {
+        None
+    }
+}
+
+/// Writes an entry and its name. An entry that was at its place goes, with its name.
+pub(crate) fn write(
+    entries: &mut BTreeMap<At, Entry>,
+    names: &mut BTreeSet<Name>,
+    entry: Entry,
+) -> Result<(), AllocError>
+    requires ordered { IsOrdered place_cmp entries.old }
+    requires placed { ArePlaced entries.old }
+    requires named { AreNamed entries.old names.old }
+    ensures written { OnOk result (HasAt entries.old entries.new (place_of entry) (Some entry)) }
+    ensures refused { OnErr result (entries.new.entries ≡ entries.old.entries) }
+    ensures still_ordered { IsOrdered place_cmp entries.new }
+    ensures still_placed { ArePlaced entries.new }
+    ensures still_named { AreNamed entries.new names.new }
+{
+    let place = place_of(&entry)?;
+    let (id, offset) = (entry.id, entry.offset);
+    names.insert(name_of(&entry)?)?;
+    match entries.insert(place, entry) {
+        Ok(None) => Ok(()),
+        Ok(Some(old)) => {
+            forget_other(names, old, id, offset);
+            Ok(())
+        }
+        Err(failed) => {
+            forget(names, failed.value.1);
+            Err(AllocError)
+        }
+    }
+}
