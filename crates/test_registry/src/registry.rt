@@ -166,11 +166,7 @@ fn the_last_records_say_which_versions_are_live(rt: HostRuntime) -> Result<(), F
             &[2, 3, 4],
         ),
         // A soft delete marks nothing at its own offset.
-        (
-            &[Schema(3, 's', 1, 1, "int"), Delete(3, 's', 1)],
-            2,
-            &[1],
-        ),
+        (&[Schema(3, 's', 1, 1, "int"), Delete(3, 's', 1)], 2, &[1]),
         // A later one without a value lifts the mark.
         (
             &[
@@ -182,11 +178,7 @@ fn the_last_records_say_which_versions_are_live(rt: HostRuntime) -> Result<(), F
             &[1],
         ),
         // One of another subject marks nothing.
-        (
-            &[Schema(1, 's', 1, 1, "int"), Delete(2, 't', 1)],
-            2,
-            &[1],
-        ),
+        (&[Schema(1, 's', 1, 1, "int"), Delete(2, 't', 1)], 2, &[1]),
         // A version that can't be read isn't live.
         (
             &[Schema(1, 's', 1, 1, "int"), Unreadable(2, 's', 1)],
@@ -271,7 +263,13 @@ fn a_refusal_has_its_code_and_message(rt: HostRuntime) -> Result<(), Fail> {
     let rows = [
         (Refusal::BadRequest, 400, 400, None, "Bad Request"),
         (Refusal::NotFound, 404, 404, None, "Not Found"),
-        (Refusal::SchemaNotFound, 40403, 404, None, "Schema not found"),
+        (
+            Refusal::SchemaNotFound,
+            40403,
+            404,
+            None,
+            "Schema not found",
+        ),
         (memory, 50001, 500, Some("memory"), "Store error: memory"),
     ];
     let mut right = true;
