@@ -15,12 +15,12 @@ use Rattle.reg_records.specs.declared.record.Record.{Record}
 use Rattle.reg_records.specs.declared.value.Value.{Value}
 use Rattle.reg_records.specs.declared.value.Value.TheVariants as values
 use Rattle.reg_set.specs.LastRecords.{last}
-use Rattle.reg_set.specs.Join.{LastIsGreatest}
 use Rattle.reg_set.specs.Records.{Records}
 use Rattle.reg_fold.specs.Entries.{entry_in, entry_of, entry_map}
-use Rattle.reg_fold.specs.EntryOrder.{Place, place_cmp}
+use Rattle.reg_entries.specs.EntryOrder.{Place, place_cmp}
 use Rattle.reg_fold.specs.Marks.{covers, is_marked}
-use Rattle.reg_fold.specs.declared.entry.Entry.{Entry}
+use Rattle.reg_fold.specs.Step.{EntriesAreOfLasts}
+use Rattle.reg_entries.specs.declared.entry.Entry.{Entry}
 use Rattle.reg_fold.proofs.InOrder.{place_cmp-ties}
 use Rattle.reg_fold.proofs.Placed.{place_cmp-total}
 use Rattle.reg_fold.proofs.Places.{equal, named_by, subject_of, value_of-named, version_of}
@@ -34,13 +34,9 @@ get-put_entry : (m : finmap.FinMap place_cmp Entry) (p : Place) (o : Option Entr
 get-put_entry m p None q = finmap.get-remove place_cmp-total m p q
 get-put_entry m p (Some e) q = finmap.get-insert place_cmp-total m p e q
 
--- the entry that a last record gives
-abbrev pub EntriesAreOfLasts : Records → Type 0
-EntriesAreOfLasts S = (p : Place) → finmap.get (entry_map S) p ≡ option_and_then (entry_of S) (last S (keys.Schema p.0 p.1))
-
 module _ (S T : Records) where
   -- the marks of a subject hang on its DELETE_SUBJECT key alone
-  is_marked-same : (subject : List ℕ) (version offset : ℕ) → last T (keys.DeleteSubject subject) ≡ last S (keys.DeleteSubject subject) → is_marked T subject version offset ≡ is_marked S subject version offset
+  pub is_marked-same : (subject : List ℕ) (version offset : ℕ) → last T (keys.DeleteSubject subject) ≡ last S (keys.DeleteSubject subject) → is_marked T subject version offset ≡ is_marked S subject version offset
   unfolding is_marked
   is_marked-same subject version offset same =
       ap (λ o. option_map_or (λ r. option_map_or (λ value. covers r.offset value version offset) (value_of r) false) o false) same
@@ -103,44 +99,3 @@ module _ (S T : Records) where
         of_T q ∙ ap (option_and_then (entry_of T)) (others (keys.Schema q.0 q.1) (no_version q))
         ∙ and_then_same (entry_of T) (entry_of S) (entry_of-same (λ subject. others (keys.DeleteSubject subject) (no_delete subject))) (last S (keys.Schema q.0 q.1))
         ∙ sym (of_S q))
-
-    -- a soft delete changes entries of its subject alone
-    pub after_delete : LastIsGreatest → (subject : List ℕ) → r.key ≡ keys.DeleteSubject subject → (p : Place) → ¬ (subject ≡ p.0) → finmap.get (entry_map T) p ≡ finmap.get (entry_map S) p
-    unfolding entry_of
-    after_delete greatest subject of_key p apart =
-        let key = keys.Schema p.0 p.1 in
-        let no_version : ¬ (r.key ≡ keys.Schema p.0 p.1) = λ h. different (sym of_key ∙ h) in
-        let no_delete : ¬ (r.key ≡ keys.DeleteSubject p.0) = λ h. apart (ap deleted_in_key (sym of_key ∙ h)) in
-        of_T p ∙ ap (option_and_then (entry_of T)) (others key no_version)
-        ∙ elim (last S key) as (λ o. last S key ≡ o → option_and_then (entry_of T) o ≡ option_and_then (entry_of S) o) [
-          | None ↦ λ _. refl
-          | Some x ↦ λ e. entry_of-subject x p.0 p.1 ((greatest S key x).0 e).is_of_key (others (keys.DeleteSubject p.0) no_delete)
-        ] refl
-        ∙ sym (of_S p)
-      where
-        deleted_in_key : Key → List ℕ
-        deleted_in_key (keys.Schema s v) = []
-        deleted_in_key (keys.Config scope) = []
-        deleted_in_key (keys.Mode scope) = []
-        deleted_in_key (keys.DeleteSubject s) = s
-        deleted_in_key keys.Noop = []
-
-        different : keys.DeleteSubject subject ≡ keys.Schema p.0 p.1 → ⊥
-        different e = cc
-
-        entry_of-subject : (x : Record) (s : List ℕ) (v : ℕ) → x.key ≡ keys.Schema s v → last T (keys.DeleteSubject s) ≡ last S (keys.DeleteSubject s) → entry_of T x ≡ entry_of S x
-        entry_of-subject x s v of_version same = and_then (value_of x) (value_of-named x)
-          where
-            in_value : (value : Value) → named_by x.key value → entry_in T x.offset value ≡ entry_in S x.offset value
-            in_value (values.Schema subject version id schema deleted) named =
-                let is : s ≡ subject = ap subject_of (sym of_version ∙ named) in
-                ap (λ b. Some (record { subject = subject; version = version; id = id; text = schema; offset = x.offset; soft = deleted || b }))
-                (is_marked-same subject version x.offset (ap (λ t. last T (keys.DeleteSubject t)) (sym is) ∙ same ∙ ap (λ t. last S (keys.DeleteSubject t)) is))
-            in_value (values.Config level) named = refl
-            in_value (values.Mode mode) named = refl
-            in_value (values.DeleteSubject subject version) named = refl
-            in_value values.Noop named = refl
-
-            and_then : (o : Option Value) → IfSome o (named_by x.key) → option_and_then (entry_in T x.offset) o ≡ option_and_then (entry_in S x.offset) o
-            and_then None named = refl
-            and_then (Some value) named = in_value value named

@@ -14,9 +14,9 @@ use Rattle.std.specs.declared.cmp.Ordering.{Ordering}
 use Rattle.std.specs.declared.cmp.Ordering.TheVariants.{Less, Equal, Greater}
 use Rattle.reg_set.specs.Records.{Records, records_of}
 use Rattle.reg_fold.specs.Entries.{entries, entry_map, entry_of}
-use Rattle.reg_fold.specs.EntryOrder.{Place, place_cmp, place_of, IsInOrder}
+use Rattle.reg_entries.specs.EntryOrder.{Place, place_cmp, place_of, IsInOrder}
 use Rattle.reg_fold.specs.Standing.{live, HasRisingVersions}
-use Rattle.reg_fold.specs.declared.entry.Entry.{Entry}
+use Rattle.reg_entries.specs.declared.entry.Entry.{Entry}
 use Rattle.reg_fold.proofs.Placed.{entries-empty, place_cmp-total, placed}
 
 -- where two tests hold, each of them does
@@ -35,7 +35,7 @@ less Equal h = absurd h
 less Greater h = absurd h
 
 -- two orders one after the other tie where both do
-then_ties : (a b : Ordering) → ordering_then a b ≡ Equal → (a ≡ Equal) × (b ≡ Equal)
+pub then_ties : (a b : Ordering) → ordering_then a b ≡ Equal → (a ≡ Equal) × (b ≡ Equal)
 then_ties Less b e = absurd (cc)
 then_ties Equal b e = (refl, e)
 then_ties Greater b e = absurd (cc)

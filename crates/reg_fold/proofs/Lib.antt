@@ -1,7 +1,12 @@
 mod Applies
-mod Chosen
+mod Deletes
+mod Folding
 mod InOrder
-mod Nothing
+mod Keeping
+mod Least
+mod News
 mod OfLasts
 mod Placed
 mod Places
+mod Steps
+mod Unreads

@@ -6,7 +6,7 @@ use Rattle.std.specs.Cmp.{IsTotalOrder}
 use Rattle.std.specs.FinMap as finmap
 use Rattle.std.specs.FinMap.Entries.{find, below_all, is_sorted}
 use Rattle.std.specs.FinSet as set
-use Rattle.std.specs.FinSet.{IsAntisymmetric, contains, retain, contains-retain, from_list}
+use Rattle.std.specs.FinSet.{IsAntisymmetric, contains, retain, contains-retain}
 use Rattle.std.specs.List.{Contains, filter_map}
 use Rattle.std.specs.Option.{option_map_or, unwrap_or}
 use Rattle.std.specs.Ordering.{eq_by_cmp, is_eq, is_lt}
@@ -19,11 +19,12 @@ use Rattle.reg_set.specs.LastRecords.{last, is_last, last_records}
 use Rattle.reg_set.specs.RecordOrder.{record_cmp}
 use Rattle.reg_set.specs.Records.{Records, records_of}
 use Rattle.reg_fold.specs.Entries.{AreOfLasts, IsOfLast, entries, entry_map, entry_of}
-use Rattle.reg_fold.specs.EntryOrder.{Place, place_cmp, place_of}
-use Rattle.reg_fold.specs.declared.entry.Entry.{Entry}
+use Rattle.reg_entries.specs.EntryOrder.{Place, place_cmp, place_of}
+use Rattle.reg_fold.specs.Step.{EntriesAreOfLasts}
+use Rattle.reg_entries.specs.declared.entry.Entry.{Entry}
 use Rattle.reg_fold.proofs.InOrder.{ArePlaced, left_of, right_of, less, place_cmp-ties, entry_map-placed}
 use Rattle.reg_fold.proofs.Placed.{place_cmp-total}
-use Rattle.reg_fold.proofs.Places.{entry_at, entry_of-key, equal, subject_of, version_of}
+use Rattle.reg_fold.proofs.Places.{entry_of-key, equal, subject_of, version_of}
 
 -- the last records have no others
 pub last_records-last_records : LastRecordsAreCompaction → LastRecordsOfCompaction → (rs : Records) → last_records (last_records rs) ≡ last_records rs
@@ -98,12 +99,12 @@ and_then_some f None b is = absurd (none_some b is)
 and_then_some f (Some a) b is = (a, refl, is)
 
 -- the entries of a set of last records are those that its records give
-pub are_of_lasts : IsTotalOrder record_cmp → IsAntisymmetric record_cmp → LastIsGreatest → (S : Records) → from_list (records_of S) ≡ S → last_records S ≡ S → AreOfLasts S (entries S)
+pub are_of_lasts : LastIsGreatest → (S : Records) → EntriesAreOfLasts S → AreOfLasts S (entries S)
 unfolding entries
-are_of_lasts total ties greatest S members are_last e = (given, gives)
+are_of_lasts greatest S of_lasts e = (given, gives)
   where
     at_place : finmap.get (entry_map S) (place_of e) ≡ option_and_then (entry_of S) (last S (keys.Schema e.subject e.version))
-    at_place = entry_at total ties greatest S members (last_of_itself total ties S are_last) (place_of e)
+    at_place = of_lasts (place_of e)
 
     given : Contains (entries S) e → IsOfLast S e
     given has =

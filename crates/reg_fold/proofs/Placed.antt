@@ -12,8 +12,8 @@ use Rattle.std.specs.List.{cons_option, filter_map, fold}
 use Rattle.std.specs.Option.{option_map_or}
 use Rattle.std.specs.Ordering.{match_ordering}
 use Rattle.std.specs.declared.cmp.Ordering.TheVariants.{Less, Equal, Greater}
-use Rattle.reg_fold.specs.EntryOrder.{Place, place_cmp, place_of}
-use Rattle.reg_fold.specs.declared.entry.Entry.{Entry}
+use Rattle.reg_entries.specs.EntryOrder.{Place, place_cmp, place_of}
+use Rattle.reg_entries.specs.declared.entry.Entry.{Entry}
 
 pub place_cmp-total : IsTotalOrder place_cmp
 place_cmp-total = then_total (on_total (λ p. p.0) nat_list_cmp_total) (on_total (λ p. p.1) nat_cmp_total)

@@ -5,10 +5,10 @@ use Rattle.std.proofs.lemmas.Cmp.{tied_itself}
 use Rattle.std.specs.Prelude.{⊤, IfSome}
 use Rattle.std.specs.Cmp.{IsTotalOrder}
 use Rattle.std.specs.FinMap as finmap
-use Rattle.std.specs.FinSet.{IsAntisymmetric, contains, from_list, contains-from_list}
+use Rattle.std.specs.FinSet.{IsAntisymmetric, contains, contains-items, items}
 use Rattle.std.specs.List.{cons_option, filter_map, fold, list_any}
 use Rattle.std.specs.Option.{option_or, unwrap_or}
-use Rattle.std.specs.Ordering.{eq_by_cmp, is_eq}
+use Rattle.std.specs.Ordering.{eq_by_cmp, is_eq, match_ordering}
 use Rattle.std.specs.declared.cmp.Ordering.{Ordering}
 use Rattle.std.specs.declared.cmp.Ordering.TheVariants.{Less, Equal, Greater}
 use Rattle.serde_json.specs.Data.{Data}
@@ -24,10 +24,11 @@ use Rattle.reg_records.specs.declared.value.Value.TheVariants as values
 use Rattle.reg_set.specs.Join.{LastIsGreatest}
 use Rattle.reg_set.specs.LastRecords.{last}
 use Rattle.reg_set.specs.RecordOrder.{record_cmp}
-use Rattle.reg_set.specs.Records.{Records, records_of}
+use Rattle.reg_set.specs.Records.{Records, in_order, records_of}
+use Rattle.reg_set.specs.Records.{placed as placed_record}
 use Rattle.reg_fold.specs.Entries.{entry_in, entry_of, entry_map}
-use Rattle.reg_fold.specs.EntryOrder.{Place, place_cmp, place_of}
-use Rattle.reg_fold.specs.declared.entry.Entry.{Entry}
+use Rattle.reg_entries.specs.EntryOrder.{Place, place_cmp, place_of}
+use Rattle.reg_entries.specs.declared.entry.Entry.{Entry}
 use Rattle.reg_fold.proofs.InOrder.{place_cmp-ties}
 use Rattle.reg_fold.proofs.Placed.{place_cmp-total, placed}
 
@@ -209,9 +210,33 @@ module _ (h : Record → Option Entry) (keyed : (r : Record) (e : Entry) → h r
           ] refl there
 
 -- where each record of a set is the last of its key, the entry at a place is that of the last record of its key
-module _ (total : IsTotalOrder record_cmp) (ties : IsAntisymmetric record_cmp) (greatest : LastIsGreatest) (S : Records) (members : from_list (records_of S) ≡ S) (lasts : (r : Record) → contains S r ≡ true → last S r.key ≡ Some r) where
-  inside : (q : Record) → contains S q ≡ list_any (eq_by_cmp record_cmp q) (records_of S)
-  inside q = ap (λ s. contains s q) (sym members) ∙ contains-from_list total (records_of S) q
+module _ (total : IsTotalOrder record_cmp) (ties : IsAntisymmetric record_cmp) (greatest : LastIsGreatest) (S : Records) (lasts : (r : Record) → contains S r ≡ true → last S r.key ≡ Some r) where
+  same_or : (a b c : Bool) → a ≡ b → (b || c) ≡ (a || (b || c))
+  same_or true b c h = ap (λ x. x || c) (sym h)
+  same_or false b c h = refl
+
+  turned_or : (a b c : Bool) → (b || (a || c)) ≡ (a || (b || c))
+  turned_or true true c = refl
+  turned_or true false c = refl
+  turned_or false true c = refl
+  turned_or false false c = refl
+
+  any_placed : (q r : Record) (xs : List Record) → list_any (eq_by_cmp record_cmp q) (placed_record r xs) ≡ (eq_by_cmp record_cmp q r || list_any (eq_by_cmp record_cmp q) xs)
+  any_placed q r [] = refl
+  any_placed q r (x ∷ xs) =
+      elim (record_cmp r x) as (λ o. record_cmp r x ≡ o → list_any (eq_by_cmp record_cmp q) (match_ordering o (r ∷ x ∷ xs) (x ∷ xs) (x ∷ placed_record r xs)) ≡ (eq_by_cmp record_cmp q r || (eq_by_cmp record_cmp q x || list_any (eq_by_cmp record_cmp q) xs))) [
+        | Less ↦ λ _. refl
+        | Equal ↦ λ tie. same_or (eq_by_cmp record_cmp q r) (eq_by_cmp record_cmp q x) (list_any (eq_by_cmp record_cmp q) xs) (ap (eq_by_cmp record_cmp q) (ties r x tie))
+        | Greater ↦ λ _. ap (λ b. eq_by_cmp record_cmp q x || b) (any_placed q r xs) ∙ turned_or (eq_by_cmp record_cmp q r) (eq_by_cmp record_cmp q x) (list_any (eq_by_cmp record_cmp q) xs)
+      ] refl
+
+  any_in_order : (q : Record) (xs : List Record) → list_any (eq_by_cmp record_cmp q) (in_order xs) ≡ list_any (eq_by_cmp record_cmp q) xs
+  any_in_order q [] = refl
+  any_in_order q (x ∷ xs) = any_placed q x (in_order xs) ∙ ap (λ b. eq_by_cmp record_cmp q x || b) (any_in_order q xs)
+
+  pub inside : (q : Record) → contains S q ≡ list_any (eq_by_cmp record_cmp q) (records_of S)
+  unfolding records_of
+  inside q = contains-items S q ∙ sym (any_in_order q (items S))
 
   pub entry_at : (p : Place) → finmap.get (entry_map S) p ≡ option_and_then (entry_of S) (last S (keys.Schema p.0 p.1))
   unfolding entry_map

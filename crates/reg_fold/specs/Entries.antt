@@ -9,9 +9,9 @@ use Rattle.reg_records.specs.declared.value.Value.{Value}
 use Rattle.reg_records.specs.declared.value.Value.TheVariants as values
 use Rattle.reg_set.specs.LastRecords.{last}
 use Rattle.reg_set.specs.Records.{Records, records_of}
-use Rattle.reg_fold.specs.EntryOrder.{place_cmp, place_of}
+use Rattle.reg_entries.specs.EntryOrder.{place_cmp, place_of}
 use Rattle.reg_fold.specs.Marks.{is_marked}
-use Rattle.reg_fold.specs.declared.entry.Entry.{Entry}
+use Rattle.reg_entries.specs.declared.entry.Entry.{Entry}
 
 -- a version's value gives its entry: soft where the value says deleted, or where its subject was soft-deleted later
 abbrev pub entry_in : Records → ℕ → Value → Option Entry

@@ -1,8 +1,11 @@
 pub mod Entries
-pub mod EntryOrder
+pub use Rattle.reg_entries.specs.EntryOrder
 pub mod Kept
 pub mod Marks
 pub mod Named
 pub mod Opaque
 pub mod Refusal
+pub mod Remarked
 pub mod Standing
+pub mod Step
+pub mod Unread

@@ -4,7 +4,7 @@ use Rattle.std.specs.List.{filter, reduce}
 use Rattle.std.specs.List.Sorted.{IsStrictlyIncreasing}
 use Rattle.reg_set.specs.Records.{Records}
 use Rattle.reg_fold.specs.Entries.{entries}
-use Rattle.reg_fold.specs.declared.entry.Entry.{Entry}
+use Rattle.reg_entries.specs.declared.entry.Entry.{Entry}
 
 -- the live entries of a subject, by version: those that aren't soft
 abbrev pub live : Records → List ℕ → List Entry

@@ -1,13 +1,13 @@
-//! The registry: what stands in a set of records, by the last record of each key.
+//! The registry: the entries and what is asked of them, by the last record of each key.
 #![tactic(auto)]
 
-mod entries;
-mod entry;
+mod index;
 mod marks;
-mod opaque;
+mod reading;
 mod refusal;
 mod registry;
+mod unread;
 
-pub use entry::Entry;
+pub use reg_entries::Entry;
 pub use refusal::{Refusal, StoreFault};
 pub use registry::Registry;

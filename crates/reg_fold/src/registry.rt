@@ -1,37 +1,31 @@
 // The registry over the last records of a set.
-ghost use Rattle.std.specs.Prelude.{◌≡◌, IfOk, OnOk, OnErr, map, vec_items};
+ghost use Rattle.std.specs.Prelude.{◌≡◌, IfOk, OnOk, OnErr, map};
 ghost use Rattle.std.specs.FinSet as set;
 ghost use Rattle.std.specs.Option.{option_copied};
 ghost use Rattle.reg_set.specs.Compaction.{IsCompactionOf};
 ghost use Rattle.reg_set.specs.LastRecords.{last_records};
 ghost use Rattle.reg_set.specs.Records.{Records};
 ghost use Rattle.reg_fold.specs.Entries.{AreOfLasts, entries};
-ghost use Rattle.reg_fold.specs.EntryOrder.{IsInOrder};
+ghost use Rattle.reg_entries.specs.EntryOrder.{IsInOrder};
 ghost use Rattle.reg_fold.specs.Named.{named};
 ghost use Rattle.reg_fold.specs.Opaque.{opaque};
 ghost use Rattle.reg_fold.specs.Standing.{live, HasRisingVersions, greatest_id, greatest_version};
 
-use crate::entries::entries_of;
-use crate::entry::Entry;
-use crate::opaque::opaque_of;
+use reg_entries::Entry;
+use crate::index::Index;
 use reg_records::Record;
 use reg_set::{
-    RecordSet, last_is_greatest, last_records_are_enough, last_records_of_unions,
-    records_are_ordered,
+    LastRecords, RecordSet, last_records_are_enough, last_records_of_unions, records_are_ordered,
 };
 use std::alloc::{AllocError, Global};
 use std::marker::Model;
 
-/// What stands in a set of records, by the last record of each key.
+/// The entries of a set of records, and what is asked of them, by the last record of each key.
 ///
 /// Contracts see it as the set of those last records.
 #[derive(Debug, Drop)]
 pub struct Registry {
-    last: RecordSet,
-    // Those of `last`, by subject, then by version.
-    entries: Vec<Entry>,
-    // That of `last`.
-    opaque: Option<u64>,
+    index: Index,
 }
 
 impl Model for Registry {
@@ -44,20 +38,18 @@ impl Model for Registry {
 
     ghost coded = { set.code (rows.the_row).coded };
 
-    ghost view = { λ a. a.last };
+    ghost view = { λ a. a.index.last };
 
-    ghost invariant = { λ a. IsKept a.last a.entries.items a.opaque };
+    ghost invariant = { λ a. IsKept a.index };
 }
 
 impl Clone for Registry {
     ghost is_clone = { λ registry copy. copy ≡ registry };
 
     fn clone(&self) -> Result<Registry, AllocError> {
-        Ok(Registry {
-            last: self.last.clone()?,
-            entries: self.entries.clone()?,
-            opaque: self.opaque,
-        })
+        self.index.last.is_compact();
+        let alloc = self.index.alloc;
+        Registry::over(alloc, &self.index.last.records(alloc)?)
     }
 }
 
@@ -66,39 +58,34 @@ impl Registry {
     pub fn empty(alloc: Global) -> Registry
         ensures { result ≡ set.empty }
     {
-        records_are_ordered();
-        let last = RecordSet::new(alloc);
-        let entries = Vec::new(alloc);
         Registry {
-            last,
-            entries,
-            opaque: None,
+            index: Index::new(alloc),
         }
     }
 
-    /// What stands in a set of records, which is what stands in each compaction of it. The only
-    /// error is want of memory.
+    /// The registry over a set of records, which is that over each compaction of it. The only error
+    /// is want of memory.
     pub fn of_set(alloc: Global, set: &RecordSet) -> Result<Registry, AllocError>
         ensures lasts { IfOk result (λ registry. registry ≡ last_records set.now) }
         ensures compactions { IfOk result (λ registry.
             (part : Records) → IsCompactionOf part set.now → registry ≡ last_records part) }
     {
         last_records_are_enough();
-        let mut last = set.clone()?;
-        last.compact();
-        Registry::over(alloc, last)
+        let last = LastRecords::of(set)?;
+        Registry::over(alloc, &last.records(alloc)?)
     }
 
-    /// What stands where those are the last records.
-    fn over(alloc: Global, last: RecordSet) -> Result<Registry, AllocError>
-        requires { last_records last ≡ last }
-        ensures { IfOk result (λ registry. registry ≡ last) }
+    /// The registry over those records.
+    fn over(alloc: Global, records: &[&Record]) -> Result<Registry, AllocError>
+        ensures { IfOk result (λ registry.
+            registry ≡ last_records (set.from_list (map (λ r. r.now) records.now))) }
     {
-        Ok(Registry {
-            entries: entries_of(alloc, &last)?,
-            opaque: opaque_of(alloc, &last)?,
-            last,
-        })
+        records_are_ordered();
+        let mut registry = Registry::empty(alloc);
+        for record in records {
+            registry.apply(record)?;
+        }
+        Ok(registry)
     }
 
     /// Adds a record, in any order of arrival: a registry over a set becomes the registry over that
@@ -110,12 +97,7 @@ impl Registry {
         ensures refused { OnErr result (self.new ≡ self.old) }
     {
         last_records_of_unions();
-        last_records_are_enough();
-        let mut last = self.last.clone()?;
-        last.take(given)?;
-        last.compact();
-        *self = Registry::over(*self.entries.allocator(), last)?;
-        Ok(())
+        self.index.apply(given)
     }
 
     /// Adds all records or none, in any order of arrival. The only error is want of memory; the
@@ -128,26 +110,40 @@ impl Registry {
         ensures refused { OnErr result (self.new ≡ self.old) }
     {
         last_records_of_unions();
-        last_records_are_enough();
-        let alloc = *self.entries.allocator();
-        let mut last = self.last.clone()?;
-        last.merge(&RecordSet::of(alloc, records)?)?;
-        last.compact();
-        *self = Registry::over(alloc, last)?;
+        records_are_ordered();
+        // One record is added or refused as a whole, without a copy.
+        if records.len() == 1 {
+            return self.apply(&records[0]);
+        }
+        let mut next = self.clone()?;
+        next.apply_each(records)?;
+        *self = next;
+        Ok(())
+    }
+
+    /// Adds all records. The only error is want of memory; some may then have been added.
+    fn apply_each(&mut self, records: &[Record]) -> Result<(), AllocError>
+        ensures { OnOk result (self.new
+            ≡ last_records (set.union self.old (set.from_list records.now))) }
+    {
+        records_are_ordered();
+        self.index.last.is_compact();
+        for record in records {
+            self.apply(record)?;
+        }
         Ok(())
     }
 
     /// The entries, by subject, by its bytes, and then by version, each version of a subject once.
-    pub fn entries(&self) -> &[Entry]
-        ensures all { result.now ≡ entries self.now }
-        ensures in_order { IsInOrder result.now }
-        ensures given { AreOfLasts self.now result.now }
+    /// The only error is want of memory.
+    pub fn entries(&self) -> Result<Vec<&Entry>, AllocError>
+        ensures all { IfOk result (λ found. map (λ e. e.now) found.items ≡ entries self.now) }
+        ensures in_order { IfOk result (λ found. IsInOrder (map (λ e. e.now) found.items)) }
+        ensures given { IfOk result (λ found. AreOfLasts self.now (map (λ e. e.now) found.items)) }
         ensures lasts { last_records self.now ≡ self.now }
     {
-        records_are_ordered();
-        last_is_greatest();
-        let _records = self.last.records();
-        &self.entries
+        self.index.entries_given();
+        self.index.entries.all()
     }
 
     /// The live entries of a subject, which are those that aren't soft, by version, each version
@@ -157,13 +153,8 @@ impl Registry {
         ensures in_order { IfOk result (λ found. HasRisingVersions (map (λ e. e.now) found.items)) }
         ensures lasts { last_records self.now ≡ self.now }
     {
-        let mut found = Vec::new(*self.entries.allocator());
-        for entry in &self.entries {
-            if entry.subject.as_str() == subject && !entry.soft {
-                found.push(entry)?;
-            }
-        }
-        Ok(found)
+        self.index.last.is_compact();
+        self.index.entries.live_of(subject)
     }
 
     /// The entry that an id names: of the entries with that id, soft ones too, the one of greatest
@@ -172,40 +163,27 @@ impl Registry {
     pub fn by_id(&self, id: u32) -> Option<&Entry>
         ensures { option_copied result ≡ named self.now id }
     {
-        let mut best: Option<&Entry> = None;
-        for entry in &self.entries {
-            if entry.id == id {
-                best = Some(match best {
-                    Some(found) => found.later(entry),
-                    None => entry,
-                });
-            }
-        }
-        best
+        self.index.entries.named(id)
     }
 
     /// The greatest id of an entry, soft ones too.
     pub fn greatest_id(&self) -> Option<u32>
         ensures { result ≡ greatest_id self.now }
     {
-        self.entries.iter().map(|entry| entry.id).max()
+        self.index.entries.greatest_id()
     }
 
     /// The greatest version of a subject's entries, soft ones too.
     pub fn greatest_version(&self, subject: &str) -> Option<u32>
         ensures { result ≡ greatest_version self.now subject.now }
     {
-        self.entries
-            .iter()
-            .filter(|entry| entry.subject.as_str() == subject)
-            .map(|entry| entry.version)
-            .max()
+        self.index.entries.greatest_version(subject)
     }
 
     /// The least offset of a version's record that has a text and can't be read.
     pub fn opaque(&self) -> Option<u64>
         ensures { result ≡ opaque self.now }
     {
-        self.opaque
+        self.index.opaque()
     }
 }

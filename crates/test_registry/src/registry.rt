@@ -246,7 +246,7 @@ fn soft_entries_count(rt: HostRuntime) -> Result<(), Fail> {
         Unreadable(5, 'p', 2),
     ];
     let registry = registry_of(alloc, &records_in_order(alloc, &lines, 0)?, Way::Filled)?;
-    let entries = registry.entries();
+    let entries = registry.entries()?;
     assert!(rt;
         entries.iter().map(|entry| entry.version).eq([1, 9, 10])
             && registry.greatest_id() == Some(7)

@@ -1,0 +1,79 @@
+-- What a soft delete does to the entries.
+use Rattle.std.proofs.Common.{◌≡◌, ℕ, Bool, true, false, cond, ◌||◌, List, [], bytes_eq, Option, Some, None, option_and_then, option_map, refl, sym, ap, ◌∙◌}
+use Rattle.std.proofs.lemmas.Bool.{false≢true}
+use Rattle.std.proofs.lemmas.Slice.Eq.{bytes_eq-Decides}
+use Rattle.std.specs.FinMap as finmap
+use Rattle.std.specs.Prelude.{IfSome}
+use Rattle.std.specs.Option.{option_map_or}
+use Rattle.reg_records.specs.Value.{value_of}
+use Rattle.reg_records.specs.declared.key.Key.{Key}
+use Rattle.reg_records.specs.declared.key.Key.TheVariants as keys
+use Rattle.reg_records.specs.declared.record.Record.{Record}
+use Rattle.reg_records.specs.declared.value.Value.{Value}
+use Rattle.reg_records.specs.declared.value.Value.TheVariants as values
+use Rattle.reg_set.specs.LastRecords.{last}
+use Rattle.reg_set.specs.Join.{LastIsGreatest}
+use Rattle.reg_set.specs.Records.{Records}
+use Rattle.reg_fold.specs.Entries.{entry_in, entry_of, entry_map}
+use Rattle.reg_entries.specs.EntryOrder.{Place}
+use Rattle.reg_fold.specs.Marks.{is_marked}
+use Rattle.reg_fold.specs.Remarked.{is_covered_by, is_soft_after, is_soft_by, is_soft_value}
+use Rattle.reg_fold.specs.Step.{EntriesAreOfLasts}
+use Rattle.reg_entries.specs.Marked.{with_soft}
+use Rattle.reg_entries.specs.declared.entry.Entry.{Entry}
+use Rattle.reg_fold.proofs.Applies.{is_marked-same}
+use Rattle.reg_fold.proofs.Places.{named_by, value_of-named}
+
+abbrev deleted_in_key : Key → List ℕ
+deleted_in_key (keys.Schema s v) = []
+deleted_in_key (keys.Config scope) = []
+deleted_in_key (keys.Mode scope) = []
+deleted_in_key (keys.DeleteSubject s) = s
+deleted_in_key keys.Noop = []
+
+different : (s t : List ℕ) (v : ℕ) → keys.DeleteSubject s ≡ keys.Schema t v → ⊥
+different s t v e = cc
+
+module _ (S T : Records) (of_S : EntriesAreOfLasts S) (of_T : EntriesAreOfLasts T) (r : Record) (others : (key : Key) → ¬ (r.key ≡ key) → last T key ≡ last S key) (newest : last T r.key ≡ Some r) (subject : List ℕ) (of_key : r.key ≡ keys.DeleteSubject subject) where
+  -- an entry of the subject, marked anew
+  abbrev pub remarked : Entry → Entry
+  remarked e = cond (bytes_eq e.subject subject) (with_soft (is_soft_after S r e) e) e
+
+  -- the marks of the subject are those of the record
+  own_marks : (s : List ℕ) (version offset : ℕ) → s ≡ subject → is_marked T s version offset ≡ is_covered_by r version offset
+  unfolding is_marked
+  own_marks s version offset same =
+      ap (λ o. option_map_or (λ d. is_covered_by d version offset) o false) (ap (λ x. last T (keys.DeleteSubject x)) same ∙ ap (last T) (sym of_key) ∙ newest)
+
+  other_marks : (s : List ℕ) (version offset : ℕ) → ¬ (s ≡ subject) → is_marked T s version offset ≡ is_marked S s version offset
+  other_marks s version offset apart =
+      is_marked-same S T s version offset (others (keys.DeleteSubject s) (λ h. apart (sym (ap deleted_in_key (sym of_key ∙ h)))))
+
+  -- what a value gives with the record is what it gave without it, marked anew
+  of_value : (x : Record) (o : Option Value) → value_of x ≡ o → last S x.key ≡ Some x → IfSome o (named_by x.key) → option_and_then (entry_in T x.offset) o ≡ option_map remarked (option_and_then (entry_in S x.offset) o)
+  of_value x None is lasts named = refl
+  of_value x (Some (values.Schema s version id schema deleted)) is lasts named =
+      let given : Bool → Entry = λ b. record { subject = s; version = version; id = id; text = schema; offset = x.offset; soft = deleted || b } in
+      let before : Entry = given (is_marked S s version x.offset) in
+      let soft : is_soft_after S r before ≡ (deleted || is_covered_by r version x.offset) =
+      ap (λ o. option_map_or (is_soft_by r) o false) (ap (last S) (sym named) ∙ lasts) ∙ ap (λ o. option_map_or (is_soft_value r x.offset) o false) is in
+      elim (bytes_eq s subject) as (λ b. bytes_eq s subject ≡ b → Some (given (is_marked T s version x.offset)) ≡ Some (cond b (with_soft (is_soft_after S r before) before) before)) [
+        | true ↦ λ t. ap (λ b. Some (given b)) (own_marks s version x.offset ((bytes_eq-Decides s subject).0 t)) ∙ ap (λ b. Some (with_soft b before)) (sym soft)
+        | false ↦ λ t. ap (λ b. Some (given b)) (other_marks s version x.offset (λ h. false≢true (sym t ∙ (bytes_eq-Decides s subject).1 h)))
+      ] refl
+  of_value x (Some (values.Config level)) is lasts named = refl
+  of_value x (Some (values.Mode mode)) is lasts named = refl
+  of_value x (Some (values.DeleteSubject s version)) is lasts named = refl
+  of_value x (Some values.Noop) is lasts named = refl
+
+  -- the entries are those before, those of the subject marked anew
+  pub after_own_delete : LastIsGreatest → (p : Place) → finmap.get (entry_map T) p ≡ option_map remarked (finmap.get (entry_map S) p)
+  unfolding entry_of
+  after_own_delete greatest p =
+      let key = keys.Schema p.0 p.1 in
+      of_T p ∙ ap (option_and_then (entry_of T)) (others key (λ h. different subject p.0 p.1 (sym of_key ∙ h)))
+      ∙ elim (last S key) as (λ o. last S key ≡ o → option_and_then (entry_of T) o ≡ option_map remarked (option_and_then (entry_of S) o)) [
+        | None ↦ λ _. refl
+        | Some x ↦ λ e. of_value x (value_of x) refl (ap (last S) (((greatest S key x).0 e).is_of_key) ∙ e) (value_of-named x)
+      ] refl
+      ∙ ap (option_map remarked) (sym (of_S p))

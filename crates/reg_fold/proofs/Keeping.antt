@@ -1,0 +1,62 @@
+-- What a registry keeps, as a whole.
+use Rattle.std.proofs.Common.{◌≡◌, Bool, true, false, cond, ◌||◌, ◌&&◌, List, [], ◌∷◌, Option, Some, None, refl, sym, ap, ◌∙◌}
+use Rattle.std.proofs.lemmas.Bool.{false≢true}
+use Rattle.std.proofs.lemmas.Cmp.{tied_itself}
+use Rattle.std.specs.BTreeSet.{IsEmpty, IsUnchanged, contains}
+use Rattle.std.specs.Cmp.{IsTotalOrder}
+use Rattle.std.specs.FinMap as finmap
+use Rattle.std.specs.FinSet as set
+use Rattle.std.specs.List.{filter, filter_map, fold, list_any}
+use Rattle.std.specs.Option.{option_map_or}
+use Rattle.std.specs.Ordering.{eq_by_cmp, is_eq}
+use Rattle.reg_records.specs.declared.key.Key.TheVariants as keys
+use Rattle.reg_records.specs.declared.record.Record.{Record}
+use Rattle.reg_set.specs.Greatest.{greatest}
+use Rattle.reg_set.specs.LastRecords.{is_of, last}
+use Rattle.reg_set.specs.RecordOrder.{age_cmp, record_cmp}
+use Rattle.reg_set.specs.Records.{Records, in_order, records_of}
+use Rattle.reg_fold.specs.Entries.{entries, entry_map, entry_of}
+use Rattle.reg_entries.specs.EntryOrder.{place_cmp}
+use Rattle.reg_fold.specs.Kept.{IsKept}
+use Rattle.reg_fold.specs.Opaque.{is_opaque}
+use Rattle.reg_fold.specs.Unread.{Spot, is_unread, spot_cmp}
+use Rattle.reg_entries.specs.declared.entry.Entry.{Entry}
+use Rattle.reg_fold.specs.declared.index.Index.{Index}
+
+-- the entries that are kept are those of the last records
+pub values-kept : (index : Index) → IsKept index → finmap.values index.entries ≡ entries index.last
+unfolding entries
+values-kept index kept = ap (λ (m : finmap.FinMap place_cmp Entry). finmap.values m) kept.all_entries
+
+module _ (total : IsTotalOrder record_cmp) where
+  no_items : (rs : List Record) → ((q : Record) → list_any (eq_by_cmp record_cmp q) rs ≡ false) → rs ≡ []
+  no_items [] none = refl
+  no_items (r ∷ rs) none =
+      absurd (false≢true (sym (none r) ∙ ap (λ o. is_eq o || list_any (eq_by_cmp record_cmp r) rs) (tied_itself total r)))
+
+  records_of-empty : records_of set.empty ≡ []
+  unfolding records_of
+  records_of-empty = ap in_order (no_items (set.items set.empty) (λ q. sym (set.contains-items set.empty q) ∙ set.contains-empty record_cmp q))
+
+  entry_map-empty : entry_map set.empty ≡ finmap.empty
+  unfolding entry_map
+  entry_map-empty = ap (λ found. fold (λ m e. finmap.insert m (e.subject, e.version) e) finmap.empty (filter_map (entry_of set.empty) found)) records_of-empty
+
+  is_unread-empty : (s : Spot) → is_unread set.empty s ≡ false
+  unfolding last
+  is_unread-empty s =
+      ap (λ found. option_map_or (λ r. is_opaque r && eq_by_cmp spot_cmp (r.offset, s.1) s) (greatest age_cmp (filter (is_of (keys.Schema s.1.0 s.1.1)) found)) false) records_of-empty
+
+  -- without a record nothing is kept
+  pub IsKept-empty : (index : Index) → index.last ≡ set.empty → index.entries ≡ finmap.empty → IsEmpty index.unread → IsKept index
+  IsKept-empty index last_is entries_are none = record {
+    all_entries = entries_are ∙ sym (ap entry_map last_is ∙ entry_map-empty);
+    all_unread = λ s. ap (list_any (λ k. is_eq (spot_cmp s k))) none ∙ sym (ap (λ rs. is_unread rs s) last_is ∙ is_unread-empty s);
+  }
+
+-- what is kept of the same records and spots is kept
+pub IsKept-same : (old new : Index) → new.last ≡ old.last → new.entries ≡ old.entries → IsUnchanged old.unread new.unread → IsKept old → IsKept new
+IsKept-same old new last_is entries_are spots kept = record {
+  all_entries = entries_are ∙ kept.all_entries ∙ sym (ap entry_map last_is);
+  all_unread = λ s. ap (list_any (λ k. is_eq (spot_cmp s k))) spots ∙ kept.all_unread s ∙ sym (ap (λ rs. is_unread rs s) last_is);
+}

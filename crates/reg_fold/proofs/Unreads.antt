@@ -1,0 +1,224 @@
+-- What a step does to the places of the opaque versions.
+use Rattle.std.proofs.Common.{◌≡◌, ℕ, Bool, true, false, cond, not, ◌&&◌, ◌==◌, codes, List, is_none, is_some, option_map, Option, Some, None, option_and_then, refl, sym, ap, subst, ◌∙◌}
+use Rattle.std.proofs.lemmas.Bool.{false≢true, eq-eqb, eqb-true}
+use Rattle.std.proofs.lemmas.Cmp.{tied_itself}
+use Rattle.std.specs.BTreeSet.{BTreeSet, contains, Updates}
+use Rattle.std.specs.FinMap.{nat_cmp-IsAntisymmetric}
+use Rattle.std.specs.Option.{option_map_or}
+use Rattle.std.specs.Ordering.{eq_by_cmp, is_eq, nat_cmp}
+use Rattle.std.specs.Prelude.{IfSome}
+use Rattle.std.specs.declared.cmp.Ordering.TheVariants.{Equal}
+use Rattle.serde_json.specs.Data.{Data}
+use Rattle.serde_json.specs.Read.{read}
+use Rattle.reg_records.specs.Json.{text_at, number_at, has_text_at, has_number_at}
+use Rattle.reg_records.specs.Value.{value_of, value_in, is_plain_avro, deleted_in}
+use Rattle.reg_records.specs.declared.key.Key.{Key}
+use Rattle.reg_records.specs.declared.key.Key.TheVariants as keys
+use Rattle.reg_records.specs.declared.record.Record.{Record}
+use Rattle.reg_records.specs.declared.value.Value.{Value}
+use Rattle.reg_records.specs.declared.value.Value.TheVariants as values
+use Rattle.reg_set.specs.LastRecords.{last}
+use Rattle.reg_set.specs.Records.{Records}
+use Rattle.reg_fold.specs.Entries.{entry_in, entry_of}
+use Rattle.reg_entries.specs.EntryOrder.{Place, place_cmp}
+use Rattle.reg_fold.specs.Opaque.{is_opaque, is_version}
+use Rattle.reg_fold.specs.Step.{IsStep}
+use Rattle.reg_fold.specs.Unread.{Forgets, HasUnread, Spot, elsewhere, is_spot_of, is_unread, spot_cmp}
+use Rattle.reg_entries.specs.declared.entry.Entry.{Entry}
+use Rattle.reg_fold.proofs.InOrder.{place_cmp-ties, then_ties}
+use Rattle.reg_fold.proofs.Placed.{place_cmp-total}
+use Rattle.reg_fold.proofs.Places.{equal, subject_of, version_of}
+use Rattle.reg_fold.proofs.Steps.{no_version}
+
+pub spot_cmp-ties : (s t : Spot) → spot_cmp s t ≡ Equal → s ≡ t
+spot_cmp-ties s t e =
+    let ties = then_ties (nat_cmp s.0 t.0) (place_cmp s.1 t.1) e in
+    let offsets = nat_cmp-IsAntisymmetric s.0 t.0 ties.0 in
+    let places = place_cmp-ties s.1 t.1 ties.1 in
+    λ i. (offsets i, places i)
+
+pub same_spot : (s t : Spot) → eq_by_cmp spot_cmp s t ≡ true → s ≡ t
+same_spot s t h = spot_cmp-ties s t (equal _ h)
+
+-- of two places that differ none has a spot of the other
+other_place : (o : ℕ) (p : Place) (s : Spot) → ¬ (s.1 ≡ p) → eq_by_cmp spot_cmp (o, p) s ≡ false
+other_place o p s apart =
+    elim (eq_by_cmp spot_cmp (o, p) s) as (λ b. eq_by_cmp spot_cmp (o, p) s ≡ b → b ≡ false) [
+      | true ↦ λ h. absurd (apart (sym (ap (λ (x : Spot). x.1) (same_spot (o, p) s h))))
+      | false ↦ λ _. refl
+    ] refl
+
+itself : (q p : Place) → q ≡ p → eq_by_cmp place_cmp q p ≡ true
+itself q p h = ap (eq_by_cmp place_cmp q) (sym h) ∙ ap is_eq (tied_itself place_cmp-total q)
+
+stays : (b : Bool) → (b && true) ≡ b
+stays true = refl
+stays false = refl
+
+gone : (o b : Bool) → ((o && b) && not b) ≡ false
+gone true true = refl
+gone true false = refl
+gone false b = refl
+
+put_here : (a o : Bool) → (cond a true (o && a) && true) ≡ a
+put_here true o = refl
+put_here false true = refl
+put_here false false = refl
+
+put_elsewhere : (a o b : Bool) → (a ≡ true → b ≡ true → ⊥) → (cond a true (o && b) && not b) ≡ a
+put_elsewhere true o true apart = absurd (apart refl refl)
+put_elsewhere true o false apart = refl
+put_elsewhere false o b apart = gone o b
+
+none_opaque : (a b : Bool) → a ≡ false → (b && a) ≡ false
+none_opaque a true h = h
+none_opaque a false h = refl
+
+-- what gives an entry isn't opaque
+pub readable : (S : Records) (r : Record) (e : Entry) → entry_of S r ≡ Some e → is_opaque r ≡ false
+unfolding entry_of is_opaque
+readable S r e gives =
+    elim (value_of r) as (λ o. option_and_then (entry_in S r.offset) o ≡ Some e → (is_version r.key && is_some r.value && is_none o) ≡ false) [
+      | None ↦ λ h. absurd (cc)
+      | Some v ↦ λ _. last_false (is_version r.key) (is_some r.value)
+    ] gives
+  where
+    last_false : (a b : Bool) → (a && b && false) ≡ false
+    last_false true true = refl
+    last_false true false = refl
+    last_false false b = refl
+
+-- what has no text isn't opaque
+pub without_text : (r : Record) → is_some r.value ≡ false → is_opaque r ≡ false
+unfolding is_opaque
+without_text r none = middle_false (is_version r.key) (is_some r.value) (is_none (value_of r)) none
+  where
+    middle_false : (a b c : Bool) → b ≡ false → (a && b && c) ≡ false
+    middle_false true false c h = refl
+    middle_false true true c h = absurd (false≢true (sym h))
+    middle_false false b c h = refl
+
+abbrev is_schema : Value → Bool
+is_schema (values.Schema subject version id schema deleted) = true
+is_schema (values.Config level) = false
+is_schema (values.Mode mode) = false
+is_schema (values.DeleteSubject subject version) = false
+is_schema values.Noop = false
+
+all_some : {X : Type 0} (P : Value → Type 0) (o : Option X) (f : X → Option Value) → ((x : X) → IfSome (f x) P) → IfSome (option_and_then f o) P
+all_some P None f h = tt
+all_some P (Some x) f h = h x
+
+cond_some : (P : Value → Type 0) (b : Bool) (o : Option Value) → IfSome o P → IfSome (cond b o None) P
+cond_some P true o h = h
+cond_some P false o h = tt
+
+-- the value of a version is a schema's
+schema_shape : (subject : List ℕ) (version : ℕ) (d : Data) → IfSome (value_in (keys.Schema subject version) d) (λ v. is_schema v ≡ true)
+schema_shape subject version d =
+    let P : Value → Type 0 = λ v. is_schema v ≡ true in
+    let of_deleted : ℕ → List ℕ → Option Value = λ id schema. option_map (λ deleted. values.Schema subject version id schema deleted) (deleted_in d) in
+    let of_schema : ℕ → Option Value = λ id. option_and_then (of_deleted id) (text_at (codes "schema") d) in
+    cond_some P (has_text_at (codes "subject") subject d && has_number_at (codes "version") version d && is_plain_avro d) (option_and_then of_schema (number_at (codes "id") d))
+    (all_some P (number_at (codes "id") d) of_schema (λ id.
+    all_some P (text_at (codes "schema") d) (of_deleted id) (λ schema.
+    elim (deleted_in d) as (λ o. IfSome (option_map (λ deleted. values.Schema subject version id schema deleted) o) P) [ None ↦ tt | Some deleted ↦ refl ])))
+
+value_shape : (r : Record) (p : Place) → r.key ≡ keys.Schema p.0 p.1 → IfSome (value_of r) (λ v. is_schema v ≡ true)
+value_shape r p of_key =
+    let P : Value → Type 0 = λ v. is_schema v ≡ true in
+    all_some P r.value (λ text. option_and_then (value_in r.key) (read text)) (λ text.
+    all_some P (read text) (value_in r.key) (λ d. subst (λ k. IfSome (value_in k d) P) (sym of_key) (schema_shape p.0 p.1 d)))
+
+-- a version's text that gives no entry is opaque
+pub unreadable : (S : Records) (r : Record) (p : Place) → r.key ≡ keys.Schema p.0 p.1 → is_some r.value ≡ true → entry_of S r ≡ None → is_opaque r ≡ true
+unfolding entry_of is_opaque
+unreadable S r p of_key text gives =
+    ap (λ k. is_version k && is_some r.value && is_none (value_of r)) of_key ∙ ap (λ b. b && is_none (value_of r)) text ∙ ap is_none no_value
+  where
+    some_entry : (v : Value) → is_schema v ≡ true → entry_in S r.offset v ≡ None → ⊥
+    some_entry (values.Schema subject version id schema deleted) shape none = cc
+    some_entry (values.Config level) shape none = false≢true shape
+    some_entry (values.Mode mode) shape none = false≢true shape
+    some_entry (values.DeleteSubject subject version) shape none = false≢true shape
+    some_entry values.Noop shape none = false≢true shape
+
+    no_value : value_of r ≡ None
+    no_value =
+        elim (value_of r) as (λ o. IfSome o (λ v. is_schema v ≡ true) → option_and_then (entry_in S r.offset) o ≡ None → o ≡ None) [
+          | None ↦ λ _ _. refl
+          | Some v ↦ λ shape none. absurd (some_entry v shape none)
+        ] (value_shape r p of_key) gives
+
+module _ (S T : Records) (r : Record) (step : IsStep S T r) where
+  -- an opaque version of another place is where it was
+  same_unread : (s : Spot) → ¬ (r.key ≡ keys.Schema s.1.0 s.1.1) → is_unread T s ≡ is_unread S s
+  same_unread s apart = ap (λ o. option_map_or (λ x. is_opaque x && eq_by_cmp spot_cmp (x.offset, s.1) s) o false) (step.others (keys.Schema s.1.0 s.1.1) apart)
+
+  pub unread-other : is_version r.key ≡ false → (u : BTreeSet Spot) → HasUnread S u → HasUnread T u
+  unread-other other u has s = has s ∙ sym (same_unread s (no_version r.key other s.1))
+
+  module _ (p : Place) (of_key : r.key ≡ keys.Schema p.0 p.1) (before : Option Record) (was : before ≡ last S r.key) (u : BTreeSet Spot) (has : HasUnread S u) where
+    other_key : (s : Spot) → ¬ (s.1 ≡ p) → ¬ (r.key ≡ keys.Schema s.1.0 s.1.1)
+    other_key s apart same =
+        let k : keys.Schema s.1.0 s.1.1 ≡ keys.Schema p.0 p.1 = sym same ∙ of_key in
+        apart (λ i. (subject_of (k i), version_of (k i)))
+
+    not_spot : (s : Spot) → ¬ (s.1 ≡ p) → (o : Option Record) → is_spot_of o p s ≡ false
+    not_spot s apart None = refl
+    not_spot s apart (Some b) = other_place b.offset p s apart
+
+    -- at the record's own place
+    now_unread : (s : Spot) → s.1 ≡ p → is_unread T s ≡ (is_opaque r && eq_by_cmp spot_cmp (r.offset, p) s)
+    now_unread s here =
+        ap (λ (q : Place). option_map_or (λ x. is_opaque x && eq_by_cmp spot_cmp (x.offset, q) s) (last T (keys.Schema q.0 q.1)) false) here
+        ∙ ap (λ o. option_map_or (λ x. is_opaque x && eq_by_cmp spot_cmp (x.offset, p) s) o false) (ap (last T) (sym of_key) ∙ step.newest)
+
+    was_unread : (s : Spot) → s.1 ≡ p → is_unread S s ≡ option_map_or (λ x. is_opaque x && eq_by_cmp spot_cmp (x.offset, p) s) before false
+    was_unread s here =
+        ap (λ (q : Place). option_map_or (λ x. is_opaque x && eq_by_cmp spot_cmp (x.offset, q) s) (last S (keys.Schema q.0 q.1)) false) here
+        ∙ ap (λ o. option_map_or (λ x. is_opaque x && eq_by_cmp spot_cmp (x.offset, p) s) o false) (ap (last S) (sym of_key) ∙ sym was)
+
+    -- the earlier record's spot is forgotten
+    pub unread-forgotten : is_opaque r ≡ false → (n : BTreeSet Spot) → Forgets before p u n → HasUnread T n
+    unread-forgotten clear n forgets s =
+        forgets s ∙ ap (λ b. b && not (is_spot_of before p s)) (has s)
+        ∙ elim (eq_by_cmp place_cmp s.1 p) as (λ b. eq_by_cmp place_cmp s.1 p ≡ b → (is_unread S s && not (is_spot_of before p s)) ≡ is_unread T s) [
+          | true ↦ λ t.
+              let here : s.1 ≡ p = place_cmp-ties s.1 p (equal _ t) in
+              ap (λ b. b && not (is_spot_of before p s)) (was_unread s here) ∙ none_left before s ∙ sym (now_unread s here ∙ ap (λ b. b && eq_by_cmp spot_cmp (r.offset, p) s) clear)
+          | false ↦ λ t.
+              let apart : ¬ (s.1 ≡ p) = λ h. false≢true (sym t ∙ itself s.1 p h) in
+              ap (λ b. is_unread S s && not b) (not_spot s apart before) ∙ stays (is_unread S s) ∙ sym (same_unread s (other_key s apart))
+        ] refl
+      where
+        none_left : (o : Option Record) (s : Spot) → (option_map_or (λ x. is_opaque x && eq_by_cmp spot_cmp (x.offset, p) s) o false && not (is_spot_of o p s)) ≡ false
+        none_left None s = refl
+        none_left (Some b) s = gone (is_opaque b) (eq_by_cmp spot_cmp (b.offset, p) s)
+
+    -- the record's own spot is put, and the earlier one's is forgotten
+    pub unread-put : is_opaque r ≡ true → (m n : BTreeSet Spot) → Updates spot_cmp u m (r.offset, p) true → Forgets (elsewhere before r.offset) p m n → HasUnread T n
+    unread-put unread m n put forgets s =
+        forgets s ∙ ap (λ b. b && not (is_spot_of (elsewhere before r.offset) p s)) (put.0 s ∙ ap (cond (eq_by_cmp spot_cmp (r.offset, p) s) true) (has s))
+        ∙ elim (eq_by_cmp place_cmp s.1 p) as (λ b. eq_by_cmp place_cmp s.1 p ≡ b → (cond (eq_by_cmp spot_cmp (r.offset, p) s) true (is_unread S s) && not (is_spot_of (elsewhere before r.offset) p s)) ≡ is_unread T s) [
+          | true ↦ λ t.
+              let here : s.1 ≡ p = place_cmp-ties s.1 p (equal _ t) in
+              ap (λ b. cond (eq_by_cmp spot_cmp (r.offset, p) s) true b && not (is_spot_of (elsewhere before r.offset) p s)) (was_unread s here)
+              ∙ one_left before s ∙ sym (now_unread s here ∙ ap (λ b. b && eq_by_cmp spot_cmp (r.offset, p) s) unread)
+          | false ↦ λ t.
+              let apart : ¬ (s.1 ≡ p) = λ h. false≢true (sym t ∙ itself s.1 p h) in
+              ap (λ b. cond b true (is_unread S s) && not (is_spot_of (elsewhere before r.offset) p s)) (other_place r.offset p s apart)
+              ∙ ap (λ b. is_unread S s && not b) (not_spot s apart (elsewhere before r.offset)) ∙ stays (is_unread S s) ∙ sym (same_unread s (other_key s apart))
+        ] refl
+      where
+        one_left : (o : Option Record) (s : Spot) → (cond (eq_by_cmp spot_cmp (r.offset, p) s) true (option_map_or (λ x. is_opaque x && eq_by_cmp spot_cmp (x.offset, p) s) o false) && not (is_spot_of (elsewhere o r.offset) p s)) ≡ eq_by_cmp spot_cmp (r.offset, p) s
+        one_left None s = put_here (eq_by_cmp spot_cmp (r.offset, p) s) false
+        one_left (Some b) s =
+            elim (b.offset == r.offset) as (λ t. (b.offset == r.offset) ≡ t → (cond (eq_by_cmp spot_cmp (r.offset, p) s) true (is_opaque b && eq_by_cmp spot_cmp (b.offset, p) s) && not (is_spot_of (cond t None (Some b)) p s)) ≡ eq_by_cmp spot_cmp (r.offset, p) s) [
+              | true ↦ λ t.
+                  ap (λ (o : ℕ). cond (eq_by_cmp spot_cmp (r.offset, p) s) true (is_opaque b && eq_by_cmp spot_cmp (o, p) s) && true) (eqb-true b.offset r.offset t)
+                  ∙ put_here (eq_by_cmp spot_cmp (r.offset, p) s) (is_opaque b)
+              | false ↦ λ t.
+                  put_elsewhere (eq_by_cmp spot_cmp (r.offset, p) s) (is_opaque b) (eq_by_cmp spot_cmp (b.offset, p) s) (λ x y.
+                  false≢true (sym t ∙ eq-eqb b.offset r.offset (ap (λ (z : Spot). z.0) (same_spot (b.offset, p) s y ∙ sym (same_spot (r.offset, p) s x)))))
+            ] refl

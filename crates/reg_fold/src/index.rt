@@ -1,0 +1,248 @@
+// What a registry keeps, so that one more record costs what it touches.
+ghost use Rattle.std.specs.Prelude.{◌≡◌, ◌≢◌, IsSome, IfSome, IfOk, OnOk, OnErr, Some, None, true, false, is_some};
+ghost use Rattle.std.specs.FinMap as finmap;
+ghost use Rattle.std.specs.FinSet as set;
+ghost use Rattle.reg_records.specs.declared.key.Key.TheVariants as keys;
+ghost use Rattle.reg_set.specs.LastRecords.{last, last_records, with_last};
+ghost use Rattle.reg_fold.specs.Entries.{AreOfLasts, entries, entry_of};
+ghost use Rattle.reg_fold.specs.Opaque.{is_version, opaque};
+ghost use Rattle.reg_fold.specs.Remarked.{is_delete, is_soft_after};
+ghost use Rattle.reg_fold.specs.Step.{EntriesAreOfLasts, IsStep};
+ghost use Rattle.reg_entries.specs.Marked.{MarksEach};
+ghost use Rattle.reg_entries.specs.Sought.{of_subject};
+
+use reg_entries::Entry;
+use crate::marks::marks_of;
+use crate::reading::entry_of;
+use reg_entries::{Entries, Mark};
+use crate::unread::{Spot, elsewhere, forget};
+use base_text::Text;
+use reg_records::{Key, Record};
+use reg_set::{LastRecords, last_is_greatest, last_records_are_enough, records_are_ordered};
+use std::alloc::{AllocError, Global};
+use std::collections::BTreeSet;
+
+/// The last records, and what they give.
+#[derive(Debug, Drop)]
+pub(crate) struct Index {
+    pub(crate) alloc: Global,
+    pub(crate) last: LastRecords,
+    // Those that the last records give.
+    pub(crate) entries: Entries,
+    // Where the opaque versions are.
+    pub(crate) unread: BTreeSet<Spot>,
+}
+
+impl Index {
+    ghost use Rattle.reg_fold.specs.Kept.{IsKept};
+
+    /// Of no record.
+    pub(crate) fn new(alloc: Global) -> Index
+        ensures kept { IsKept result }
+        ensures empty { result.last ≡ set.empty }
+    {
+        records_are_ordered();
+        Index {
+            alloc,
+            last: LastRecords::new(alloc),
+            entries: Entries::new(alloc),
+            unread: BTreeSet::new(alloc),
+        }
+    }
+
+    /// Adds a record. The only error is want of memory; the last records are then as they were.
+    pub(crate) fn apply(&mut self, given: &Record) -> Result<(), AllocError>
+        requires { IsKept self.old }
+        ensures kept { IsKept self.new }
+        ensures added { OnOk result (self.new.last ≡ last_records (set.insert self.old.last given.now)) }
+        ensures refused { OnErr result (self.new.last ≡ self.old.last) }
+    {
+        if !self.last.is_news(given) {
+            return Ok(());
+        }
+        match &given.key {
+            Key::Schema { subject, version } => self.apply_version(given, subject, *version),
+            Key::DeleteSubject(subject) => self.apply_delete(given, subject),
+            Key::Config(_) | Key::Mode(_) | Key::Noop => self.apply_other(given),
+        }
+    }
+
+    /// Adds a version's record that is news.
+    fn apply_version(
+        &mut self,
+        given: &Record,
+        subject: &Text,
+        version: u32,
+    ) -> Result<(), AllocError>
+        requires kept { IsKept self.old }
+        requires news { last_records (set.insert self.old.last given.now) ≢ self.old.last }
+        requires of_key { given.now.key ≡ keys.Schema subject.now version }
+        ensures kept { IsKept self.new }
+        ensures added { OnOk result (self.new.last ≡ last_records (set.insert self.old.last given.now)) }
+        ensures refused { OnErr result (self.new.last ≡ self.old.last) }
+    {
+        let place = (subject.clone()?, version);
+        match entry_of(self.alloc, &self.last, given)? {
+            Some(entry) => self.put_entry(given, place, entry),
+            None if given.value.is_some() => self.put_unread(given, place),
+            None => self.put_tombstone(given, place),
+        }
+    }
+
+    /// Adds a version's record that gives an entry.
+    fn put_entry(
+        &mut self,
+        given: &Record,
+        place: (Text, u32),
+        entry: Entry,
+    ) -> Result<(), AllocError>
+        requires kept { IsKept self.old }
+        requires news { last_records (set.insert self.old.last given.now) ≢ self.old.last }
+        requires of_key { given.now.key ≡ keys.Schema place.0 place.1 }
+        requires gives { entry_of self.old.last given.now ≡ Some entry }
+        ensures kept { IsKept self.new }
+        ensures added { OnOk result (self.new.last ≡ last_records (set.insert self.old.last given.now)) }
+        ensures refused { OnErr result (self.new.last ≡ self.old.last) }
+    {
+        let before = put_last(&mut self.last, given)?;
+        if let Err(refused) = self.entries.put(entry) {
+            self.last.put_back(&given.key, before);
+            return Err(refused);
+        }
+        forget(&mut self.unread, before, place);
+        Ok(())
+    }
+
+    /// Adds a version's record without a value.
+    fn put_tombstone(&mut self, given: &Record, place: (Text, u32)) -> Result<(), AllocError>
+        requires kept { IsKept self.old }
+        requires news { last_records (set.insert self.old.last given.now) ≢ self.old.last }
+        requires of_key { given.now.key ≡ keys.Schema place.0 place.1 }
+        requires gives { entry_of self.old.last given.now ≡ None }
+        requires no_value { is_some given.now.value ≡ false }
+        ensures kept { IsKept self.new }
+        ensures added { OnOk result (self.new.last ≡ last_records (set.insert self.old.last given.now)) }
+        ensures refused { OnErr result (self.new.last ≡ self.old.last) }
+    {
+        let before = put_last(&mut self.last, given)?;
+        self.entries.remove(&place);
+        forget(&mut self.unread, before, place);
+        Ok(())
+    }
+
+    /// Adds a version's record that has a text and can't be read.
+    fn put_unread(&mut self, given: &Record, place: (Text, u32)) -> Result<(), AllocError>
+        requires kept { IsKept self.old }
+        requires news { last_records (set.insert self.old.last given.now) ≢ self.old.last }
+        requires of_key { given.now.key ≡ keys.Schema place.0 place.1 }
+        requires gives { entry_of self.old.last given.now ≡ None }
+        requires has_text { is_some given.now.value ≡ true }
+        ensures kept { IsKept self.new }
+        ensures added { OnOk result (self.new.last ≡ last_records (set.insert self.old.last given.now)) }
+        ensures refused { OnErr result (self.new.last ≡ self.old.last) }
+    {
+        let spot = (given.offset, (place.0.clone()?, place.1));
+        let before = put_last(&mut self.last, given)?;
+        if let Err(refused) = self.unread.insert(spot) {
+            self.last.put_back(&given.key, before);
+            return Err(AllocError::from(refused));
+        }
+        self.entries.remove(&place);
+        // At one offset the earlier record was where this one is.
+        forget(&mut self.unread, elsewhere(before, given.offset), place);
+        Ok(())
+    }
+
+    /// Adds the record of a soft delete that is news.
+    fn apply_delete(&mut self, given: &Record, subject: &Text) -> Result<(), AllocError>
+        requires kept { IsKept self.old }
+        requires news { last_records (set.insert self.old.last given.now) ≢ self.old.last }
+        requires of_key { given.now.key ≡ keys.DeleteSubject subject.now }
+        ensures kept { IsKept self.new }
+        ensures added { OnOk result (self.new.last ≡ last_records (set.insert self.old.last given.now)) }
+        ensures refused { OnErr result (self.new.last ≡ self.old.last) }
+    {
+        let marks = self.marks(given, subject)?;
+        let name = subject.clone()?;
+        last_is_greatest();
+        put_last(&mut self.last, given)?;
+        self.entries.mark(name, &marks);
+        Ok(())
+    }
+
+    /// The marks of a subject's entries once that is its last soft delete.
+    fn marks(&self, given: &Record, subject: &Text) -> Result<Vec<Mark>, AllocError>
+        ensures { IfOk result (λ marks. MarksEach (is_soft_after self.now.last given.now) marks.items
+            (of_subject (finmap.values self.now.entries) subject.now)) }
+    {
+        let found = self.entries.of_subject(subject.as_str())?;
+        marks_of(self.alloc, &self.last, &found, given)
+    }
+
+    /// Adds the record of another key that is news.
+    fn apply_other(&mut self, given: &Record) -> Result<(), AllocError>
+        requires kept { IsKept self.old }
+        requires news { last_records (set.insert self.old.last given.now) ≢ self.old.last }
+        requires no_version { is_version given.now.key ≡ false }
+        requires no_delete { is_delete given.now.key ≡ false }
+        ensures kept { IsKept self.new }
+        ensures added { OnOk result (self.new.last ≡ last_records (set.insert self.old.last given.now)) }
+        ensures refused { OnErr result (self.new.last ≡ self.old.last) }
+    {
+        put_last(&mut self.last, given)?;
+        Ok(())
+    }
+
+    /// That the entries are those that the last records give, and that these are last records.
+    pub(crate) fn entries_given(&self)
+        ensures given { AreOfLasts self.now.last (entries self.now.last) }
+        ensures lasts { last_records self.now.last ≡ self.now.last }
+    {
+        entries_are_of_lasts(&self.last);
+        last_is_greatest();
+        self.last.is_compact();
+    }
+
+    /// The least offset of an opaque version's record.
+    pub(crate) fn opaque(&self) -> Option<u64>
+        requires { IsKept self.now }
+        ensures { result ≡ opaque self.now.last }
+    {
+        records_are_ordered();
+        last_is_greatest();
+        self.last.is_compact();
+        let first = self.unread.first()?;
+        Some(first.0)
+    }
+}
+
+/// Makes a record that is news the last of its key, and gives the one before.
+fn put_last(lasts: &mut LastRecords, given: &Record) -> Result<Option<Record>, AllocError>
+    requires { last_records (set.insert lasts.old given.now) ≢ lasts.old }
+    ensures added { OnOk result (lasts.new ≡ last_records (set.insert lasts.old given.now)) }
+    ensures step { OnOk result (IsStep lasts.old lasts.new given.now) }
+    ensures there { OnOk result (IsSome (last lasts.new given.now.key)) }
+    ensures of_key { IfOk result (λ before. IfSome before (λ r. r.key ≡ given.now.key)) }
+    ensures before { IfOk result (λ before. before ≡ last lasts.old given.now.key) }
+    ensures taken_back { IfOk result (λ before. with_last lasts.new given.now.key before ≡ lasts.old) }
+    ensures refused { OnErr result (lasts.new ≡ lasts.old) }
+{
+    records_are_ordered();
+    last_is_greatest();
+    last_records_are_enough();
+    lasts.is_compact();
+    entries_are_of_lasts(lasts);
+    let before = lasts.put(given)?;
+    lasts.is_compact();
+    entries_are_of_lasts(lasts);
+    Ok(before)
+}
+
+/// That the entry at a place is the one that the last record of its key gives.
+fn entries_are_of_lasts(lasts: &LastRecords)
+    ensures { EntriesAreOfLasts lasts.now }
+{
+    records_are_ordered();
+    last_is_greatest();
+    lasts.is_compact();
+}
