@@ -12,7 +12,7 @@ ghost use Rattle.reg_set.specs.Records.{records_of, is_in_order};
 use crate::index::{keep_lasts, put};
 use crate::last_records::LastRecords;
 use crate::order::{count_before, stands_at};
-use crate::turns::{of_both, sort};
+use crate::turns::{in_turn, of_both};
 use reg_records::{Key, Record};
 use std::alloc::{AllocError, Global};
 use std::marker::Model;
@@ -170,10 +170,9 @@ fn set_of(alloc: Global, records: Vec<&Record>) -> Result<RecordSet, AllocError>
     ensures { IfOk result (λ found. found ≡ set.from_list (map (λ r. r.now) records.entry.items)) }
 {
     // In their order nearly every record comes after all before it, and is put at the end.
-    let mut in_turn = records;
-    sort(&mut in_turn);
+    let records = in_turn(alloc, &records)?;
     let mut found = RecordSet::new(alloc);
-    for record in &in_turn {
+    for record in &records {
         found.take(record)?;
     }
     Ok(found)
