@@ -174,3 +174,6 @@ impl Entries {
         version_of(&self.versions, subject)
     }
 }
+
+#[cfg(test)]
+mod tests;
