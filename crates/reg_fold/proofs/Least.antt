@@ -22,7 +22,6 @@ use Rattle.reg_set.specs.Records.{Records, records_of}
 use Rattle.reg_entries.specs.EntryOrder.{Place, place_cmp}
 use Rattle.reg_fold.specs.Opaque.{is_opaque, is_version, opaque}
 use Rattle.reg_fold.specs.Unread.{HasUnread, Spot, is_unread, spot_cmp}
-
 use Rattle.reg_fold.proofs.OfLasts.{last_of_itself}
 use Rattle.reg_fold.proofs.Placed.{place_cmp-total}
 use Rattle.reg_fold.proofs.Places.{equal, inside}
@@ -91,11 +90,9 @@ offset_below k s low =
 
 module _ (total : IsTotalOrder record_cmp) (ties : IsAntisymmetric record_cmp) where
   first_among : (r : Record) (rs : List Record) → among r (r ∷ rs) ≡ true
-
   first_among r rs = ap (λ o. is_eq o || list_any (eq_by_cmp record_cmp r) rs) (tied_itself total r)
 
   later_among : (q r : Record) (rs : List Record) → among q rs ≡ true → among q (r ∷ rs) ≡ true
-
   later_among q r rs h = or_later (eq_by_cmp record_cmp q r) (list_any (eq_by_cmp record_cmp q) rs) h
 
   above : (rs : List Record) (m : ℕ) → ((r : Record) → among r rs ≡ true → is_opaque r ≡ true → m ≤ r.offset) → AllByRecursion (λ k. m ≤ k) (map (λ r. r.offset) (filter is_opaque rs))
@@ -108,7 +105,6 @@ module _ (total : IsTotalOrder record_cmp) (ties : IsAntisymmetric record_cmp) w
       ] refl
 
   there : (rs : List Record) (w : Record) → among w rs ≡ true → is_opaque w ≡ true → Has w.offset (map (λ r. r.offset) (filter is_opaque rs))
-
   there [] w h unread = false≢true h
   there (r ∷ rs) w h unread =
       elim (eq_by_cmp record_cmp w r) as (λ b. eq_by_cmp record_cmp w r ≡ b → (b || list_any (eq_by_cmp record_cmp w) rs) ≡ true → Has w.offset (map (λ r. r.offset) (filter is_opaque (r ∷ rs)))) [
@@ -143,10 +139,12 @@ module _ (total : IsTotalOrder record_cmp) (ties : IsAntisymmetric record_cmp) w
     unfolding is_opaque
     has_spot r inside_list unread_too =
         let (p, of_key) = version_place r.key ((both_true (is_version r.key) (is_some r.value && is_none (value_of r)) (three (is_version r.key) (is_some r.value) (is_none (value_of r)) unread_too)).0) in
-        let own : last S r.key ≡ Some r = lasts r (inside total ties greatest S lasts r ∙ inside_list) in
-        (p, has (r.offset, p)
-          ∙ ap (λ o. option_map_or (λ x. is_opaque x && eq_by_cmp spot_cmp (x.offset, p) (r.offset, p)) o false) (ap (last S) (sym of_key) ∙ own)
-          ∙ ap (λ b. b && eq_by_cmp spot_cmp (r.offset, p) (r.offset, p)) unread_too ∙ ap is_eq (tied_itself spot_cmp-total (r.offset, p)))
+        let own : last S r.key ≡ Some r = lasts r (inside total ties greatest S lasts r ∙ inside_list) in (
+          p,
+          has (r.offset, p)
+              ∙ ap (λ o. option_map_or (λ x. is_opaque x && eq_by_cmp spot_cmp (x.offset, p) (r.offset, p)) o false) (ap (last S) (sym of_key) ∙ own)
+              ∙ ap (λ b. b && eq_by_cmp spot_cmp (r.offset, p) (r.offset, p)) unread_too ∙ ap is_eq (tied_itself spot_cmp-total (r.offset, p)),
+        )
 
     pub opaque-none : IsEmpty unread → None ≡ opaque S
     unfolding opaque

@@ -11,12 +11,11 @@ ghost use Rattle.reg_fold.specs.Step.{EntriesAreOfLasts, IsStep};
 ghost use Rattle.reg_entries.specs.Marked.{MarksEach};
 ghost use Rattle.reg_entries.specs.Sought.{of_subject};
 
-use reg_entries::Entry;
 use crate::marks::marks_of;
 use crate::reading::entry_of;
-use reg_entries::{Entries, Mark};
 use crate::unread::{Spot, elsewhere, forget};
 use base_text::Text;
+use reg_entries::{Entries, Entry, Mark};
 use reg_records::{Key, Record};
 use reg_set::{LastRecords, last_is_greatest, last_records_are_enough, records_are_ordered};
 use std::alloc::{AllocError, Global};

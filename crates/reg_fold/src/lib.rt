@@ -8,6 +8,6 @@ mod refusal;
 mod registry;
 mod unread;
 
-pub use reg_entries::Entry;
 pub use refusal::{Refusal, StoreFault};
+pub use reg_entries::Entry;
 pub use registry::Registry;

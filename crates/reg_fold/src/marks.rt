@@ -4,9 +4,8 @@ ghost use Rattle.reg_fold.specs.Marks.{is_marked};
 ghost use Rattle.reg_fold.specs.Remarked.{is_covered_by, is_soft_by, is_soft_after};
 ghost use Rattle.reg_entries.specs.Marked.{MarksEach};
 
-use reg_entries::Entry;
-use reg_entries::Mark;
 use base_text::Text;
+use reg_entries::{Entry, Mark};
 use reg_records::{Key, Record, Value, decode_value};
 use reg_set::LastRecords;
 use std::alloc::{AllocError, Global};
@@ -30,18 +29,16 @@ pub(crate) fn is_marked(
 }
 
 /// Whether a soft delete covers what is at that version and offset.
-fn is_covered(
-    alloc: Global,
-    delete: &Record,
-    version: u32,
-    offset: u64,
-) -> Result<bool, AllocError>
+fn is_covered(alloc: Global, delete: &Record, version: u32, offset: u64) -> Result<bool, AllocError>
     ensures { IfOk result (λ covered. covered ≡ is_covered_by delete.now version offset) }
 {
     match decode_value(alloc, delete)? {
-        Some(Value::DeleteSubject {
-            version: greatest, ..
-        }) => Ok(version <= greatest && offset < delete.offset),
+        Some(
+            Value::DeleteSubject {
+                version: greatest,
+                ..
+            },
+        ) => Ok(version <= greatest && offset < delete.offset),
         Some(Value::Schema { .. } | Value::Config(_) | Value::Mode(_) | Value::Noop) | None => {
             Ok(false)
         }
@@ -93,9 +90,13 @@ fn is_soft_by(alloc: Global, delete: &Record, given: &Record) -> Result<bool, Al
     ensures { IfOk result (λ soft. soft ≡ is_soft_by delete.now given.now) }
 {
     match decode_value(alloc, given)? {
-        Some(Value::Schema {
-            version, deleted, ..
-        }) => Ok(deleted || is_covered(alloc, delete, version, given.offset)?),
+        Some(
+            Value::Schema {
+                version,
+                deleted,
+                ..
+            },
+        ) => Ok(deleted || is_covered(alloc, delete, version, given.offset)?),
         Some(Value::Config(_) | Value::Mode(_) | Value::DeleteSubject { .. } | Value::Noop)
         | None => Ok(false),
     }

@@ -2,8 +2,8 @@
 ghost use Rattle.std.specs.Prelude.{◌≡◌, IfOk};
 ghost use Rattle.reg_fold.specs.Entries.{entry_of};
 
-use reg_entries::Entry;
 use crate::marks::is_marked;
+use reg_entries::Entry;
 use reg_records::{Record, Value, decode_value};
 use reg_set::LastRecords;
 use std::alloc::{AllocError, Global};
@@ -18,13 +18,15 @@ pub(crate) fn entry_of(
     ensures { IfOk result (λ entry. entry ≡ entry_of last.now given.now) }
 {
     match decode_value(alloc, given)? {
-        Some(Value::Schema {
-            subject,
-            version,
-            id,
-            schema,
-            deleted,
-        }) => {
+        Some(
+            Value::Schema {
+                subject,
+                version,
+                id,
+                schema,
+                deleted,
+            },
+        ) => {
             let soft = deleted || is_marked(alloc, last, &subject, version, given.offset)?;
             Ok(Some(Entry {
                 subject,

@@ -11,8 +11,8 @@ ghost use Rattle.reg_fold.specs.Named.{named};
 ghost use Rattle.reg_fold.specs.Opaque.{opaque};
 ghost use Rattle.reg_fold.specs.Standing.{live, HasRisingVersions, greatest_id, greatest_version};
 
-use reg_entries::Entry;
 use crate::index::Index;
+use reg_entries::Entry;
 use reg_records::Record;
 use reg_set::{
     LastRecords, RecordSet, last_records_are_enough, last_records_of_unions, records_are_ordered,
