@@ -209,6 +209,3 @@ fn has_last_of(part: &RecordSet, whole: &RecordSet, key: &Key) -> bool
         None => true,
     }
 }
-
-#[cfg(test)]
-mod tests;

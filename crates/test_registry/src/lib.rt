@@ -7,3 +7,5 @@ mod devices;
 mod records;
 #[cfg(test)]
 mod registry;
+#[cfg(test)]
+mod sets;
