@@ -1,4 +1,4 @@
--- What is kept of the entries: a map m by place, their names by id, and the greatest version of each subject.
+-- Private: what is kept of the entries: a map m by place, their names by id, and the greatest version of each subject.
 use Rattle.std.specs.Prelude.{◌≡◌, ℕ, ◌≤◌, ◌<◌, ◌^◌, Bool, false, List, Option, Some, None, option_and_then, IsSome, IfSome, if◌then◌else◌}
 use Rattle.std.specs.declared.string.String.{String}
 use Rattle.std.specs.declared.cmp.Ordering.{Ordering}

@@ -1,4 +1,4 @@
--- What a registry keeps beside its last records, so that it reads each of them once.
+-- Private: what a registry keeps beside its last records, so that it reads each of them once.
 use Rattle.std.specs.Prelude.{◌≡◌}
 use Rattle.reg_fold.specs.Entries.{entry_map}
 use Rattle.reg_fold.specs.Unread.{HasUnread}

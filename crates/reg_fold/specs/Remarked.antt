@@ -1,4 +1,4 @@
--- What a soft delete makes of the entries of its subject. No public clause speaks of this.
+-- Private: what a soft delete makes of the entries of its subject.
 use Rattle.std.specs.Prelude.{ℕ, List, Bool, true, false, ◌||◌}
 use Rattle.std.specs.Option.{option_map_or}
 use Rattle.reg_records.specs.Value.{value_of}

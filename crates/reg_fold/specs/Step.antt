@@ -1,4 +1,4 @@
--- What one more record does to the last records. No public clause speaks of this.
+-- Private: what one more record does to the last records.
 use Rattle.std.specs.Prelude.{◌≡◌, Option, Some, option_and_then}
 use Rattle.std.specs.FinMap as finmap
 use Rattle.reg_records.specs.declared.key.Key.{Key}

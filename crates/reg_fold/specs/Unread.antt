@@ -1,4 +1,4 @@
--- Where the opaque versions are: what a registry keeps of them. No public clause speaks of this.
+-- Private: where the opaque versions are: what a registry keeps of them.
 use Rattle.std.specs.Prelude.{◌≡◌, ℕ, Bool, false, not, ◌&&◌, ◌==◌, Option, Some, None, if◌then◌else◌}
 use Rattle.std.specs.BTreeSet.{BTreeSet, contains}
 use Rattle.std.specs.Option.{option_map_or}

@@ -7,11 +7,11 @@ use Rattle.std.specs.Ordering.{nat_cmp, ordering_then}
 use Rattle.std.specs.declared.cmp.Ordering.{Ordering}
 use Rattle.std.specs.declared.cmp.Ordering.TheVariants.{Less, Equal, Greater}
 use Rattle.std.proofs.lemmas.Cmp.{nat_cmp_total, nat_list_cmp_total, on_total, then_total, tied_itself}
-use Rattle.reg_records.specs.Written.{written_key, IsOf32Bits}
+use Rattle.reg_records.specs.Written.{key_parts, written_key, IsOf32Bits}
 use Rattle.reg_records.specs.declared.key.Key.{Key}
 use Rattle.reg_records.specs.declared.key.Key.TheVariants.{Schema, Config, Mode, DeleteSubject, Noop}
 use Rattle.reg_records.specs.declared.record.Record.{Record}
-use Rattle.reg_set.specs.RecordOrder.{value_cmp, key_parts, key_cmp, age_cmp, record_cmp}
+use Rattle.reg_set.specs.RecordOrder.{value_cmp, key_cmp, age_cmp, record_cmp}
 
 pub value_cmp-total : IsTotalOrder value_cmp
 unfolding value_cmp

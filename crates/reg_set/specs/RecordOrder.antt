@@ -1,27 +1,16 @@
 -- The order of records.
-use Rattle.std.specs.Prelude.{ℕ, List, [], ◌∷◌, Option, Some, None}
+use Rattle.std.specs.Prelude.{ℕ, List, Option}
 use Rattle.std.specs.Cmp.Lexicographic.{slice_cmp}
 use Rattle.std.specs.Option.{option_cmp}
 use Rattle.std.specs.Ordering.{nat_cmp, on, then_cmp}
 use Rattle.std.specs.declared.cmp.Ordering.{Ordering}
-use Rattle.reg_records.specs.Written.{written_key}
+use Rattle.reg_records.specs.Written.{key_parts, written_key}
 use Rattle.reg_records.specs.declared.key.Key.{Key}
-use Rattle.reg_records.specs.declared.key.Key.TheVariants.{Schema, Config, Mode, DeleteSubject, Noop}
 use Rattle.reg_records.specs.declared.record.Record.{Record}
 
 -- no value stands before a text, and texts are ordered by their bytes
 unfoldable pub value_cmp : Option (List ℕ) → Option (List ℕ) → Ordering
 value_cmp = option_cmp (slice_cmp nat_cmp)
-
--- a key's kind, and its fields
-abbrev pub key_parts : Key → List ℕ
-key_parts (Schema subject version) = 0 ∷ version ∷ subject
-key_parts (Config None) = 1 ∷ []
-key_parts (Config (Some subject)) = 2 ∷ subject
-key_parts (Mode None) = 3 ∷ []
-key_parts (Mode (Some subject)) = 4 ∷ subject
-key_parts (DeleteSubject subject) = 5 ∷ subject
-key_parts Noop = 6 ∷ []
 
 -- keys are ordered by the bytes of their written texts; only keys with versions of more than 32 bits,
 -- which no program has, could share a text, and their parts tell them apart
