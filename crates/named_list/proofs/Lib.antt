@@ -1,3 +1,4 @@
 pub mod Distinct
 pub mod Places
 pub mod Ordered
+pub mod Slotted

@@ -62,12 +62,14 @@ apart_if : (x y : List ℕ) → is_eq (slice_cmp nat_cmp x y) ≡ false → byte
 apart_if x y h = sym (is_eq-slice_cmp x y) ∙ h
 
 module _ (s : List ℕ) where
-  pub named_at : (names : List (List ℕ)) (i : ℕ) → all_distinct bytes_eq names ≡ true → i < length names → slice_cmp nat_cmp (get_or names i []) s ≡ Equal → position (λ name. bytes_eq name s) names ≡ Some i
-  named_at names i distinct within here =
-      let same : bytes_eq (get_or names i []) s ≡ true = sym (is_eq-slice_cmp (get_or names i []) s) ∙ ap is_eq here in
+  pub named_here : (names : List (List ℕ)) (i : ℕ) → all_distinct bytes_eq names ≡ true → i < length names → bytes_eq (get_or names i []) s ≡ true → position (λ name. bytes_eq name s) names ≡ Some i
+  named_here names i distinct within same =
       let is : get_or names i [] ≡ s = (bytes_eq-Decides (get_or names i []) s).0 same in
       position_is (λ name. bytes_eq name s) names i [] within
       (λ k before. ap (bytes_eq (get_or names k [])) (sym is) ∙ apart_from_distinct bytes_eq names k i [] (IsDistinct-from_true bytes_eq names distinct) before within) same
+
+  pub named_at : (names : List (List ℕ)) (i : ℕ) → all_distinct bytes_eq names ≡ true → i < length names → slice_cmp nat_cmp (get_or names i []) s ≡ Equal → position (λ name. bytes_eq name s) names ≡ Some i
+  named_at names i distinct within here = named_here names i distinct within (sym (is_eq-slice_cmp (get_or names i []) s) ∙ ap is_eq here)
 
   module _ (ordered : List (List ℕ)) (in_order : IsStrictlySortedBy (slice_cmp nat_cmp) ordered) (m : ℕ) (within : m < length ordered) (d : List ℕ) where
     at_or_below : (k : ℕ) → (k ≡ m) ⊎ (k < m) → slice_cmp nat_cmp (get_or ordered m d) s ≡ Less → slice_cmp nat_cmp (get_or ordered k d) s ≡ Less
@@ -87,6 +89,9 @@ module _ (s : List ℕ) where
     apart_above : slice_cmp nat_cmp (get_or ordered m d) s ≡ Greater → (k : ℕ) → m ≤ k → k < length ordered → bytes_eq (get_or ordered k d) s ≡ false
     apart_above greater k h inside =
         apart_if (get_or ordered k d) s (ap is_eq (nat_list_cmp_total.antisymm (get_or ordered k d) s ∙ ap ordering_reverse (at_or_above k (eq-or-lt_of_le h) inside greater)))
+
+  pub none_of : (names : List (List ℕ)) → ((k : ℕ) (d : List ℕ) → k < length names → bytes_eq (get_or names k d) s ≡ false) → position (λ name. bytes_eq name s) names ≡ None
+  none_of names none = position-none (λ name. bytes_eq name s) names (list_any_none (λ name. bytes_eq name s) names none)
 
   pub absent : (names : List (List ℕ)) (places : List ℕ) → IsIndex names places → ((k : ℕ) (d : List ℕ) → k < length places → bytes_eq (get_or (names_at names places) k d) s ≡ false)
       → position (λ name. bytes_eq name s) names ≡ None

@@ -5,6 +5,7 @@ mod index;
 mod list;
 mod lookup;
 mod named;
+mod slots;
 
 pub use list::NamedList;
 pub use named::Named;

@@ -4,7 +4,8 @@ ghost use Rattle.named_list.specs.Distinct.{all_distinct};
 
 use crate::Named;
 use crate::index::index_of;
-use crate::lookup::{are_distinct, item_at, place_in, place_in_order};
+use crate::lookup::{are_distinct, item_at, place_in};
+use crate::slots::{place_by_slot, slots_of};
 use base_text::Text;
 use std::alloc::{AllocError, Global};
 use std::marker::Model;
@@ -18,19 +19,22 @@ pub struct NamedList<T: Named> {
     items: Vec<T>,
     /// The places of the items in the order of their names. A short list has none.
     by_name: Vec<usize>,
+    /// Where the place of a name is looked for first. A short list has none.
+    slots: Vec<u32>,
 }
 
 impl<T: Named> Model for NamedList<T> {
     ghost use Rattle.std.specs.Prelude.{◌≡◌, ◌<◌, List, true, length, map, bytes_eq};
     ghost use Rattle.named_list.specs.Distinct.{all_distinct};
     ghost use Rattle.named_list.specs.Index.{IsIndex};
+    ghost use Rattle.named_list.specs.Slots.{HaveSlots};
 
     ghost Value = { List T };
 
     ghost view = { λ l. l.items.items };
 
     ghost invariant = { λ l. (all_distinct bytes_eq (map T.name l.items.items) ≡ true)
-        × (0 < length l.by_name.items → IsIndex (map T.name l.items.items) l.by_name.items) };
+        × (0 < length l.slots.items → IsIndex (map T.name l.items.items) l.by_name.items × HaveSlots l.slots.items (map T.name l.items.items)) };
 }
 
 impl<T: Named + Drop> NamedList<T> {
@@ -44,13 +48,21 @@ impl<T: Named + Drop> NamedList<T> {
             if !are_distinct(items.as_slice()) {
                 return Ok(None);
             }
-            let by_name = Vec::new(alloc);
-            return Ok(Some(NamedList { items, by_name }));
+            return Ok(Some(NamedList {
+                items,
+                by_name: Vec::new(alloc),
+                slots: Vec::new(alloc),
+            }));
         }
-        match index_of(alloc, items.as_slice())? {
-            Some(by_name) => Ok(Some(NamedList { items, by_name })),
-            None => Ok(None),
-        }
+        let Some(by_name) = index_of(alloc, items.as_slice())? else {
+            return Ok(None);
+        };
+        let slots = slots_of(alloc, items.as_slice())?;
+        Ok(Some(NamedList {
+            items,
+            by_name,
+            slots,
+        }))
     }
 }
 
@@ -67,14 +79,16 @@ impl<T: Named> NamedList<T> {
     pub fn place(&self, name: &Text) -> Option<usize>
         ensures { result ≡ position (λ item. bytes_eq (T.name item) name.now) self.now }
     {
-        if self.by_name.is_empty() {
-            place_in(self.items.as_slice(), name)
+        let items = self.items.as_slice();
+        if self.slots.is_empty() {
+            place_in(items, name)
         } else {
-            place_in_order(self.items.as_slice(), self.by_name.as_slice(), name)
+            place_by_slot(items, self.slots.as_slice(), self.by_name.as_slice(), name)
         }
     }
 
-    /// The item of that name. Takes time that grows with the logarithm of the length, and no memory.
+    /// The item of that name. Takes no memory, and mostly as long for a long list as for a short one:
+    /// one in about ten names takes time that grows with the logarithm of the length.
     pub fn get(&self, name: &Text) -> Option<&T>
         ensures { option_copied result ≡ find (λ item. bytes_eq (T.name item) name.now) self.now }
     {
@@ -89,7 +103,11 @@ impl<T: Named> From<NamedList<T>> for Vec<T> {
     ghost from_gives = { λ list items. items.items ≡ list };
 
     fn from(list: NamedList<T>) -> Vec<T> {
-        let NamedList { items, by_name: _ } = list;
+        let NamedList {
+            items,
+            by_name: _,
+            slots: _,
+        } = list;
         items
     }
 }

@@ -1,0 +1,28 @@
+-- A name whose slot is empty is none of the names.
+use Rattle.std.proofs.Common.{◌≡◌, ℕ, ◌<◌, List, false, length, get_or, set, None, position, bytes_eq, ⊎_elim, sym, ap, subst, ◌∙◌, Bool, true, refl, arith}
+use Rattle.std.proofs.lemmas.Bool.{cases_eq}
+use Rattle.std.proofs.lemmas.Grind.{get_or-set_at}
+use Rattle.std.proofs.lemmas.List.{get_or-set_other}
+use Rattle.std.proofs.lemmas.Slice.Eq.{bytes_eq-Decides}
+use Rattle.named_list.specs.Slots.{slot_of, HaveSlots}
+use Rattle.named_list.proofs.Places.{none_of}
+
+module _ (slots : List ℕ) (slot v : ℕ) (within : slot < length slots) (some : 0 < v) where
+  pub kept : (j : ℕ) → 0 < get_or slots j 0 → 0 < get_or (set slots slot v) j 0
+  kept j h =
+      ⊎_elim (λ e. subst (λ n. 0 < n) (sym (get_or-set_at slots slot j v 0 e within)) some)
+      (λ apart. subst (λ n. 0 < n) (sym (get_or-set_other slots slot j v 0 apart)) h) (cases_eq j slot)
+
+  pub put : (j : ℕ) → j ≡ slot → 0 < get_or (set slots slot v) j 0
+  put j e = subst (λ n. 0 < n) (sym (get_or-set_at slots slot j v 0 e within)) some
+
+module _ (slots : List ℕ) (names : List (List ℕ)) (marked : HaveSlots slots names) (s : List ℕ) (empty : get_or slots (slot_of s (length slots)) 0 ≡ 0) where
+  other : (name : List ℕ) → 0 < get_or slots (slot_of name (length slots)) 0 → (b : Bool) → bytes_eq name s ≡ b → b ≡ false
+  other name some true same =
+      let is : name ≡ s = (bytes_eq-Decides name s).0 same in
+      let none = ap (λ n. get_or slots (slot_of n (length slots)) 0) is ∙ empty in
+      absurd (omega (arith, some, none))
+  other name some false same = refl
+
+  pub unslotted : position (λ name. bytes_eq name s) names ≡ None
+  unslotted = none_of s names (λ k d h. other (get_or names k d) (marked k d h) (bytes_eq (get_or names k d) s) refl)

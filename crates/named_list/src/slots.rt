@@ -1,0 +1,92 @@
+// Slots, in which the place of a name is looked for first.
+ghost use Rattle.std.specs.Prelude.{◌≡◌, ◌<◌, true, IfOk, IfSome, Some, map, position, length, bytes_eq};
+ghost use Rattle.named_list.specs.Distinct.{all_distinct};
+ghost use Rattle.named_list.specs.Index.{IsIndex};
+ghost use Rattle.named_list.specs.Slots as spec;
+
+use crate::Named;
+use crate::lookup::place_in_order;
+use base_text::Text;
+use std::alloc::{AllocError, Global};
+
+/// How many slots there are for an item: the more, the fewer items share one.
+const SLOTS_FOR_ITEM: usize = 6;
+
+/// Slots for the items: in the slot of each name is the place of an item of that slot, counted
+/// from 1, and in the others 0. The only error is want of memory.
+pub(crate) fn slots_of<T: Named>(alloc: Global, items: &[T]) -> Result<Vec<u32>, AllocError>
+    ensures { IfOk result (λ slots. spec.HaveSlots slots.items (map T.name items.now)) }
+{
+    let count = items.len().saturating_mul(SLOTS_FOR_ITEM).saturating_add(1);
+    let mut slots = vec![in alloc; 0; count]?;
+    for (place, item) in items.iter().enumerate() {
+        let slot = slot_of(item.name(), count);
+        slots[slot] = slot_at(place);
+    }
+    Ok(slots)
+}
+
+/// What is in a slot for that place.
+fn slot_at(place: usize) -> u32
+    ensures { 0 < result }
+{
+    u32::try_from(place.saturating_add(1)).unwrap_or(u32::MAX)
+}
+
+/// The slot of a name among so many.
+fn slot_of(name: &Text, count: usize) -> usize
+    requires { 0 < count }
+    ensures is { result ≡ spec.slot_of name.now count }
+    ensures within { result < count }
+{
+    hash_of(name.as_str().as_bytes()) as usize % count
+}
+
+/// The hash of a name.
+fn hash_of(name: &[u8]) -> u32
+    ensures { result ≡ spec.hash_from 0 name.now }
+{
+    let mut hash: u32 = 0;
+    for byte in name {
+        hash = hash
+            .wrapping_add(u32::from(*byte))
+            .wrapping_mul(2_654_435_761);
+    }
+    hash
+}
+
+/// Where the item of that name is, looked for in the slot of the name, and in the order of the names
+/// where that slot has the place of another.
+pub(crate) fn place_by_slot<T: Named>(
+    items: &[T],
+    slots: &[u32],
+    by_name: &[usize],
+    name: &Text,
+) -> Option<usize>
+    requires distinct { all_distinct bytes_eq (map T.name items.now) ≡ true }
+    requires index { IsIndex (map T.name items.now) by_name.now }
+    requires slots { spec.HaveSlots slots.now (map T.name items.now) }
+    requires some { 0 < length slots.now }
+    ensures { result ≡ position (λ item. bytes_eq (T.name item) name.now) items.now }
+{
+    let place = slots[slot_of(name, slots.len())];
+    if place == 0 {
+        return None;
+    }
+    let place = (place - 1) as usize;
+    if is_named(items, place, name) {
+        return Some(place);
+    }
+    place_in_order(items, by_name, name)
+}
+
+/// Whether the item at a place has that name.
+fn is_named<T: Named>(items: &[T], place: usize, name: &Text) -> bool
+    requires distinct { all_distinct bytes_eq (map T.name items.now) ≡ true }
+    ensures { result ≡ true → position (λ item. bytes_eq (T.name item) name.now) items.now ≡ Some place }
+{
+    if place >= items.len() {
+        return false;
+    }
+    items[place].name() == name
+}
