@@ -4,19 +4,19 @@ ghost use Rattle.avro_schema.specs.Sound.{HaveDistinctNames};
 ghost use Rattle.avro_schema.specs.Defaults.{field_named as spec_field_named};
 ghost use Rattle.avro_resolve.specs.Pairing as spec;
 
-use crate::guess::Guess;
 use avro_schema::Field;
 use base_text::Text;
+use named_list::NamedList;
 
 /// The field of that name.
-fn field_named<'a>(fields: &'a [Field], name: &Text) -> Option<&'a Field>
+fn field_named<'a>(fields: &'a NamedList<Field>, name: &Text) -> Option<&'a Field>
     ensures { option_copied result ≡ spec_field_named fields.now name.now }
 {
-    fields.iter().find(|f| f.name == *name)
+    fields.get(name)
 }
 
 /// The field that the first of the names with one has.
-fn first_field<'a>(fields: &'a [Field], names: &[Text]) -> Option<&'a Field>
+fn first_field<'a>(fields: &'a NamedList<Field>, names: &[Text]) -> Option<&'a Field>
     ensures { option_copied result ≡ spec.first_field fields.now names.now }
 {
     for name in names {
@@ -30,7 +30,7 @@ fn first_field<'a>(fields: &'a [Field], names: &[Text]) -> Option<&'a Field>
 
 /// The writer's field that a reader's field is paired with: that of its name, else of its first
 /// alias that has one.
-pub fn partner<'a>(writer: &'a [Field], field: &Field) -> Option<&'a Field>
+pub fn partner<'a>(writer: &'a NamedList<Field>, field: &Field) -> Option<&'a Field>
     ensures { option_copied result ≡ spec.partner writer.now field.now }
 {
     let found = field_named(writer, &field.name);
@@ -47,34 +47,29 @@ fn field_at(fields: &[Field], k: usize) -> Option<&Field>
     fields.get(k)
 }
 
-/// How far on the partner of the next field is looked for before anywhere else.
-const NEAR: usize = 8;
-
 /// The partner of a reader's field, with a place after which that of the reader's next field may
-/// be looked for. A field of its name is looked for near that place first, and then where a guess
-/// is.
+/// be looked for. A field of its name is looked for near that place first.
 pub fn partner_near<'a>(
-    writer: &'a [Field],
+    writer: &'a NamedList<Field>,
     field: &Field,
     near: usize,
-    guess: &mut Guess<'a>,
 ) -> (usize, Option<&'a Field>)
     requires { HaveDistinctNames writer.now }
     ensures { option_copied result.1 ≡ spec.partner writer.now field.now }
 {
-    if let Some(found) = nearby(writer, field, near) {
+    if let Some(found) = nearby(writer.as_slice(), field, near) {
         return found;
     }
-    if let Some(k) = guess.of_field(writer, &field.name)
-        && let Some(g) = named_at(writer, field, k)
+    if let Some(k) = writer.place(&field.name)
+        && let Some(g) = named_at(writer.as_slice(), field, k)
     {
         return (k.saturating_add(1), Some(g));
     }
     (near, partner(writer, field))
 }
 
-/// The field of that name at `near`, at the last place before the one that was found there, or a
-/// few places on, and the place after it.
+/// The field of that name at `near`, or at the last place before the one that was found there, and
+/// the place after it.
 fn nearby<'a>(writer: &'a [Field], field: &Field, near: usize) -> Option<(usize, Option<&'a Field>)>
     requires { HaveDistinctNames writer.now }
     ensures { IfSome result (λ found. option_copied found.1 ≡ spec.partner writer.now field.now) }
@@ -85,11 +80,6 @@ fn nearby<'a>(writer: &'a [Field], field: &Field, near: usize) -> Option<(usize,
     let before = near.saturating_sub(2);
     if let Some(g) = named_at(writer, field, before) {
         return Some((before.saturating_add(1), Some(g)));
-    }
-    for k in near.saturating_add(1)..near.saturating_add(NEAR) {
-        if let Some(g) = named_at(writer, field, k) {
-            return Some((k.saturating_add(1), Some(g)));
-        }
     }
     None
 }
@@ -106,7 +96,7 @@ fn named_at<'a>(writer: &'a [Field], field: &Field, k: usize) -> Option<&'a Fiel
 }
 
 /// The first of the reader's fields that has no field to read and no default.
-pub fn first_lacking<'a>(reader: &'a [Field], writer: &[Field]) -> Option<&'a Field>
+pub fn first_lacking<'a>(reader: &'a [Field], writer: &NamedList<Field>) -> Option<&'a Field>
     ensures { option_copied result ≡ find (spec.lacks_value writer.now) reader.now }
 {
     reader

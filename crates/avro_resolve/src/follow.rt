@@ -10,6 +10,7 @@ use crate::obligations::Pair;
 use crate::table::{Cause, Row, row_at};
 use crate::trail::{ClashKind, Hop, Trail};
 use avro_schema::{Field, NodeId, Schema};
+use named_list::NamedList;
 
 impl Trail {
     /// Whether the hops lead from the roots of a reader's and a writer's schema to a pair that
@@ -81,7 +82,7 @@ fn branch_at(branches: &[NodeId], k: usize) -> Option<NodeId>
 }
 
 /// The pair of the field that a hop names and its partner, unless a field lacks a value.
-fn paired_field(reader: &[Field], writer: &[Field], hop: &Hop) -> Option<Pair>
+fn paired_field(reader: &[Field], writer: &NamedList<Field>, hop: &Hop) -> Option<Pair>
     ensures { result ≡ pair_by (spec.owed_in (spec.to_fields reader.now writer.now)) hop.now }
 {
     if first_lacking(reader, writer).is_some() {
@@ -91,7 +92,7 @@ fn paired_field(reader: &[Field], writer: &[Field], hop: &Hop) -> Option<Pair>
 }
 
 /// The pair of the field that a hop names and its partner.
-fn field_pair(reader: &[Field], writer: &[Field], hop: &Hop) -> Option<Pair>
+fn field_pair(reader: &[Field], writer: &NamedList<Field>, hop: &Hop) -> Option<Pair>
     ensures { result ≡ pair_by (filter_map (spec.to_partner writer.now) reader.now) hop.now }
 {
     let Hop::Field(name) = hop else {
@@ -124,7 +125,7 @@ fn clashes_so(r: &Schema, w: &Schema, pair: Pair, kind: &ClashKind) -> bool
 }
 
 /// Whether two records whose names match clash in this way.
-fn lacks_so(reader: &[Field], writer: &[Field], kind: &ClashKind) -> bool
+fn lacks_so(reader: &[Field], writer: &NamedList<Field>, kind: &ClashKind) -> bool
     ensures { IsTrue result ↔ (spec.clash_in (spec.to_fields reader.now writer.now) ≡ Some kind.now) }
 {
     match first_lacking(reader, writer) {

@@ -1,5 +1,4 @@
 // Guesses of where a name stands among many.
-use avro_schema::Field;
 use base_text::Text;
 use std::alloc::{AllocError, Global};
 use std::collections::HashMap;
@@ -26,17 +25,6 @@ impl<'a> Guess<'a> {
         }
     }
 
-    /// Where the field of that name may stand.
-    pub fn of_field(&mut self, fields: &'a [Field], name: &Text) -> Option<usize> {
-        self.wanted = self.wanted.saturating_add(1);
-        if self.wanted == MANY
-            && let Some(alloc) = self.memory
-        {
-            self.places = places_of_fields(alloc, fields).ok();
-        }
-        self.place(name)
-    }
-
     /// Where the symbol may stand.
     pub fn of_symbol(&mut self, symbols: &'a [Text], symbol: &Text) -> Option<usize> {
         self.wanted = self.wanted.saturating_add(1);
@@ -54,14 +42,6 @@ impl<'a> Guess<'a> {
             None => None,
         }
     }
-}
-
-fn places_of_fields(alloc: Global, fields: &[Field]) -> Result<HashMap<&str, usize>, AllocError> {
-    let mut places = HashMap::new(alloc);
-    for (k, f) in fields.iter().enumerate() {
-        places.insert(f.name.as_str(), k)?;
-    }
-    Ok(places)
 }
 
 fn places_of_texts(alloc: Global, texts: &[Text]) -> Result<HashMap<&str, usize>, AllocError> {

@@ -7,6 +7,7 @@ use crate::table::{Row, row_at};
 use crate::trail::{ClashKind, Hop};
 use avro_schema::{Field, NodeId, Schema};
 use base_text::Listed;
+use named_list::NamedList;
 use std::alloc::{AllocError, Global};
 
 /// A reader's type and a writer's type.
@@ -80,7 +81,7 @@ fn to_writer_branches(
 fn to_fields(
     alloc: Global,
     reader: &[Field],
-    writer: &[Field],
+    writer: &NamedList<Field>,
 ) -> Result<Vec<Obligation>, AllocError>
     ensures { IfOk result (λ os. os.items ≡ spec.owed_in (spec.to_fields reader.now writer.now)) }
 {

@@ -59,7 +59,7 @@ pub fn resolve_counted(alloc: Global, r: &Schema, w: &Schema) -> Result<Counted,
     'heads: while head < search.entries.len() {
         let pair = search.entries[head].pair;
         let row = row_at(r, w, pair, Some(alloc));
-        if let Some(cause) = search.expand(alloc, head, row)? {
+        if let Some(cause) = search.expand(head, row)? {
             let kind = cause.kind()?;
             let hops = search.hops_to(alloc, r, w, head)?;
             let verdict = Verdict::Clash(Trail { hops, kind });

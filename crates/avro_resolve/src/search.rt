@@ -7,13 +7,13 @@ ghost use Rattle.avro_schema.specs.Sound.{HaveDistinctNames, IsSound};
 ghost use Rattle.avro_resolve.specs.Trails.{roots};
 
 use crate::fields::partner_near;
-use crate::guess::Guess;
 use crate::obligations::{Pair, owed};
 use crate::seen::Seen;
 use crate::table::{Cause, Row};
 use crate::trail::Hop;
 use avro_schema::{Field, NodeId, Schema};
 use base_text::Listed;
+use named_list::NamedList;
 use std::alloc::{AllocError, Global};
 
 /// Where a pair was reached from: the place of an earlier pair, and the number of its obligation.
@@ -74,7 +74,6 @@ impl Search {
     /// Adds what the pair at a place owes, or says why it clashes.
     pub fn expand<'a>(
         &mut self,
-        alloc: Global,
         place: usize,
         row: Row<'a>,
     ) -> Result<Option<Cause<'a>>, AllocError>
@@ -88,7 +87,7 @@ impl Search {
             Row::Clash(cause) => return Ok(Some(cause)),
             Row::WriterBranches(i, branches) => self.reach_branches(place, i, branches)?,
             Row::One(_, pair) => self.reach(reached(pair, place, 0))?,
-            Row::Fields(reader, writer) => return self.reach_fields(alloc, place, reader, writer),
+            Row::Fields(reader, writer) => return self.reach_fields(place, reader, writer),
             Row::Nothing => {}
         }
         Ok(None)
@@ -119,10 +118,9 @@ impl Search {
     /// names the first such field and adds none.
     fn reach_fields<'a>(
         &mut self,
-        alloc: Global,
         place: usize,
         reader: &'a [Field],
-        writer: &[Field],
+        writer: &NamedList<Field>,
     ) -> Result<Option<Cause<'a>>, AllocError>
         requires distinct { HaveDistinctNames writer.now }
         requires agrees { AgreesWith self.old.seen self.old.entries.items }
@@ -133,9 +131,8 @@ impl Search {
         let before = self.entries.len();
         let mut number = 0;
         let mut near = 0;
-        let mut guess = Guess::new(Some(alloc));
         for f in reader {
-            let (next, found) = partner_near(writer, f, near, &mut guess);
+            let (next, found) = partner_near(writer, f, near);
             near = next;
             if let Some(g) = found {
                 let pair = Pair {

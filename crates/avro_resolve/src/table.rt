@@ -13,6 +13,7 @@ use crate::obligations::Pair;
 use crate::trail::{ClashKind, Hop};
 use avro_schema::{Field, FullName, Node, NodeId, Primitive, Schema};
 use base_text::Text;
+use named_list::NamedList;
 use std::alloc::{AllocError, Global};
 
 /// Why a pair clashes, with the name that it is about.
@@ -53,7 +54,7 @@ pub enum Row<'a> {
     /// One obligation, whose hop takes no memory.
     One(Hop, Pair),
     /// The reader's fields and the writer's, of two records whose names match.
-    Fields(&'a [Field], &'a [Field]),
+    Fields(&'a [Field], &'a NamedList<Field>),
     Nothing,
 }
 
@@ -148,7 +149,7 @@ fn record_row<'a>(
             ..
         } => {
             if names_match(name, aliases, other) {
-                Row::Fields(fields, others.as_slice())
+                Row::Fields(fields, others)
             } else {
                 Row::Clash(Cause::NameMismatch)
             }

@@ -9,6 +9,7 @@ pub mod ObjectForms
 pub mod TextLemmas
 pub mod NameLemmas
 pub mod Lookups
+mod ListedOnce
 pub mod KindLemmas
 pub mod SetLemmas
 pub mod Answering

@@ -1,6 +1,6 @@
 -- Which faults stand where a kind of type is refused.
 use Rattle.std.proofs.Common.{◌≡◌, inl, inr, ℕ, ◌+◌, ◌≤◌, List, [], ◌∷◌, ◌++◌, Bool, true, false, ◌&&◌, Option, Some, None, is_some, is_none, Contains, refl, sym, ◌∙◌, ap, subst, arith, string_bytes}
-use Rattle.std.specs.List.{cons_option, flat_map}
+use Rattle.std.specs.List.{cons_option, flat_map, list_all}
 use Rattle.std.proofs.lemmas.List.{append-nil}
 use Rattle.std.proofs.lemmas.List.Elements.{Contains-append_left, Contains-append_right, Contains-append_cases}
 use Rattle.serde_json.specs.Data.{Num, Data}
@@ -10,7 +10,7 @@ use Rattle.avro_schema.specs.declared.heading.TypeNames.{TypeNames}
 use Rattle.avro_schema.specs.declared.node.FullName.{FullName}
 use Rattle.avro_schema.specs.Form.{Heading, Form, Forms, Fields, by_name, record_of, enum_of, fixed_of, array_of, map_of, union_of, ill_formed, ill_fields}
 use Rattle.avro_schema.specs.Places.{count, forms_count, fields_count, type_name, places_of_fields, Definition, definitions, defined, named}
-use Rattle.avro_schema.specs.Faults.{unless, fits_fields, faults_at, is_new, heading_faults, written_faults, symbols_faults, size_faults, field_list_faults}
+use Rattle.avro_schema.specs.Faults.{unless, are_written, is_formed, has_good_aliases, field_headings, fits_fields, faults_at, is_new, heading_faults, written_faults, symbols_faults, size_faults, field_list_faults}
 use Rattle.avro_schema.specs.Schema.{IsRefusalBy}
 use Rattle.avro_schema.specs.Building.{too_many, type_faults, branches_faults, fields_faults, has_distinct_names, HasNames}
 use Rattle.avro_schema.proofs.Later.{From, defined-later, definitions_of_fields-from}
@@ -110,8 +110,11 @@ and_false : (a b : Bool) → b ≡ false → a && b ≡ false
 and_false true b e = e
 and_false false b e = refl
 
-pub refused_same_names : (fs : Fields) → has_distinct_names fs ≡ false → IsRefusalBy (field_list_faults fs) fault.BadForm
-refused_same_names fs e = left _ _ fault.BadForm (alone (fits_fields fs) fault.BadForm (and_false _ _ e))
+pub refused_same_names : (fs : Fields) (distinct : Bool) (e : SchemaError) → has_distinct_names fs ≡ distinct → IsRefusalBy (unless distinct fault.BadForm) e → IsRefusalBy (field_list_faults fs) e
+refused_same_names fs true e tests refused = λ h. let one = refused h in absurd (omega (arith, one.1))
+refused_same_names fs false e tests refused =
+    let unfit : fits_fields fs ≡ false = and_false (are_written fs && list_all is_formed (field_headings fs)) (has_distinct_names fs) tests in
+    left (unless (fits_fields fs) fault.BadForm) (unless (list_all has_good_aliases (field_headings fs)) fault.BadName) e (subst (λ (b : Bool). IsRefusalBy (unless b fault.BadForm) e) (sym unfit) refused)
 
 pub refused_fields : (ds : List Definition) (ns : List ℕ) (h : Heading) (r : TypeNames) (fs : Fields) (n m : ℕ) (e : SchemaError) → HasNames ns h r → m ≡ n + 1 → IsRefusalBy (fields_faults (ds ++ definition_of r n ∷ []) r.name.namespace fs m) e → IsRefusalBy (type_faults ds ns (record_of h fs) n) e
 refused_fields ds ns h r fs n m e has is refused =

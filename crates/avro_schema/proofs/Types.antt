@@ -133,17 +133,17 @@ read_leaf ds ns h r f x a b has defines opens met is good =
     (opens_one (ds ++ d ∷ []) (place ns (opened a) f) x a b opens met is good)
 
 pub read_enum : (ds : List Definition) (ns : List ℕ) (h : Heading) (r : TypeNames) (ss : Option (List (List ℕ))) (d : Option Data) (v : Symbols) (a b : Builder) → HasNames ns h r → HasSymbols ss d v
-    → nodes_of b ≡ nodes_of a ++ kind.Enum r.name r.aliases.items v.symbols.items v.default ∷ [] → HasMet b (ds ++ definition_of r (opened a) ∷ []) → defined ds (opened a) (string_bytes r.text) ≡ None
+    → nodes_of b ≡ nodes_of a ++ kind.Enum r.name r.aliases.items v.symbols v.default ∷ [] → HasMet b (ds ++ definition_of r (opened a) ∷ []) → defined ds (opened a) (string_bytes r.text) ≡ None
     → IsTypeRead ds ns (enum_of h ss d) a b (at_node (opened a))
 read_enum ds ns h r ss d v a b has symbols opens met new =
     let good : faults_at (ds ++ definition_of r (opened a) ∷ []) (place ns (opened a) (enum_of h ss d)) ≡ [] =
     nil-append _ _ (good_heading ds (definition_of r (opened a) ∷ []) ns h r (opened a) has new (omega arith, tt))
     (nil-append _ _ (unless-nil _ fault.BadForm (ap is_some symbols.symbols)) (unless-nil _ fault.BadEnum (ap (if_written (fits_enum d)) symbols.symbols ∙ symbols.fits))) in
-    let is : node_at (ds ++ definition_of r (opened a) ∷ []) (place ns (opened a) (enum_of h ss d)) ≡ Some (kind.Enum r.name r.aliases.items v.symbols.items v.default) =
+    let is : node_at (ds ++ definition_of r (opened a) ∷ []) (place ns (opened a) (enum_of h ss d)) ≡ Some (kind.Enum r.name r.aliases.items v.symbols v.default) =
     ap (λ m. Some (kind.Enum m (type_aliases m h) (unwrap_or ss []) (option_and_then as_str d))) (sym has.name)
     ∙ ap (λ al. Some (kind.Enum r.name al (unwrap_or ss []) (option_and_then as_str d))) (sym has.aliases)
     ∙ ap (λ o. Some (kind.Enum r.name r.aliases.items (unwrap_or o []) (option_and_then as_str d))) symbols.symbols
-    ∙ ap (λ o. Some (kind.Enum r.name r.aliases.items v.symbols.items o)) symbols.default in
+    ∙ ap (λ o. Some (kind.Enum r.name r.aliases.items v.symbols o)) symbols.default in
     (read_leaf ds ns h r (enum_of h ss d) _ a b has refl opens met is good, refl)
 
 pub read_fixed : (ds : List Definition) (ns : List ℕ) (h : Heading) (r : TypeNames) (s : Option Num) (size : ℕ) (a b : Builder) → HasNames ns h r → HasSize s size

@@ -197,9 +197,9 @@ pub record HasFieldNames (h : FieldHeading) (r : FieldNames) : Type 0 where
   pub default : h.default ≡ r.default
 
 pub record HasSymbols (ss : Option (List (List ℕ))) (d : Option Data) (r : Symbols) : Type 0 where
-  pub symbols : ss ≡ Some r.symbols.items
+  pub symbols : ss ≡ Some r.symbols
   pub default : option_and_then as_str d ≡ r.default
-  pub fits : fits_enum d r.symbols.items ≡ true
+  pub fits : fits_enum d r.symbols ≡ true
 
 pub record HasSize (n : Option Num) (bytes : ℕ) : Type 0 where
   pub size : size_of n ≡ bytes

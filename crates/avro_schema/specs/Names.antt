@@ -1,6 +1,7 @@
 -- Names, namespaces and full names (Avro 1.11, "Names").
 use Rattle.std.specs.Prelude.{ℕ, List, [], ◌∷◌, ◌++◌, Bool, true, false, ◌&&◌, ◌||◌, not, ◌==◌, nat_le, if◌then◌else◌, Option, find, is_none, codes, bytes_eq}
 use Rattle.std.specs.List.{list_any, list_all, before_last, after_last}
+pub use Rattle.named_list.specs.Distinct.{all_distinct}
 use Rattle.avro_schema.specs.declared.node.FullName.{FullName}
 use Rattle.avro_schema.specs.declared.node.Primitive.{Primitive}
 use Rattle.avro_schema.specs.declared.node.Primitive.TheVariants.{Null, Boolean, Int, Long, Float, Double, Bytes, String}
@@ -81,11 +82,6 @@ abbrev pub same_name : FullName → FullName → Bool
 same_name m n = bytes_eq m.namespace n.namespace && bytes_eq m.name n.name
 
 -- ---- lists
-
--- no element is the same as one after it
-abbrev pub all_distinct : {X : Type 0} → (X → X → Bool) → List X → Bool
-all_distinct same [] = true
-all_distinct same (x ∷ xs) = not (list_any (same x) xs) && all_distinct same xs
 
 abbrev pub has_text : List (List ℕ) → List ℕ → Bool
 has_text texts s = list_any (bytes_eq s) texts

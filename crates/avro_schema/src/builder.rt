@@ -6,7 +6,7 @@ ghost use Rattle.avro_schema.specs.Faults.{kind_named};
 ghost use Rattle.serde_json.specs.View.{view, items_view};
 ghost use Rattle.serde_json.specs.Written.{has_float as spec_has_float, items_have_float as spec_items_have_float};
 
-use crate::fields::{FieldNames, have_distinct_names, read_field_names};
+use crate::fields::{FieldNames, named_fields, read_field_names};
 use crate::heading::{TypeNames, read_type_names};
 use crate::kinds::{Kind, Kinds};
 use crate::limits::MOST_NODES;
@@ -282,13 +282,11 @@ impl Builder {
             return Err(SchemaError::BadForm);
         };
         let fields = self.read_fields(alloc, items, name.namespace.as_str())?;
-        if !have_distinct_names(alloc, fields.as_slice())? {
-            return Err(SchemaError::BadForm);
-        }
+        let list = named_fields(alloc, fields)?;
         let node = Node::Record {
             name,
             aliases: Listed::from(aliases),
-            fields: Listed::from(fields),
+            fields: list,
         };
         self.close(index, node);
         Ok(NodeId { index })
@@ -356,7 +354,7 @@ impl Builder {
         let node = Node::Enum {
             name,
             aliases: Listed::from(aliases),
-            symbols: Listed::from(symbols),
+            symbols,
             default,
         };
         let index = self.open_named(text, node)?;

@@ -1,18 +1,19 @@
 // Fields of records, their types apart.
-ghost use Rattle.std.specs.Prelude.{◌≡◌, IfOk, IfErr, map, codes, bytes_eq};
+ghost use Rattle.std.specs.Prelude.{◌≡◌, IfOk, IfErr, MatchOption, true, false, map, codes, bytes_eq};
 ghost use Rattle.std.specs.List.{list_all};
 ghost use Rattle.serde_json.specs.View.{view};
 ghost use Rattle.serde_json.specs.Find.{get};
 ghost use Rattle.avro_schema.specs.Names as spec;
 ghost use Rattle.avro_schema.specs.Form.{field_heading_of};
+ghost use Rattle.avro_schema.specs.Faults.{unless};
 ghost use Rattle.avro_schema.specs.Schema.{IsRefusalBy};
 ghost use Rattle.avro_schema.specs.Building.{HasFieldNames, field_faults};
 
-use crate::kinds::are_distinct;
 use crate::members::{aliases_of, string_at};
 use crate::names::is_name;
 use crate::{DefaultValue, Field, SchemaError};
 use base_text::Text;
+use named_list::NamedList;
 use serde_json::Value;
 use std::alloc::{AllocError, Global};
 
@@ -67,13 +68,28 @@ pub(crate) fn are_names(texts: &[Text]) -> bool
     texts.iter().all(|text| is_name(text.as_str()))
 }
 
-/// Whether no two of the fields have one name.
-pub(crate) fn have_distinct_names(alloc: Global, fields: &[Field]) -> Result<bool, AllocError>
-    ensures { IfOk result (λ b. b ≡ spec.all_distinct bytes_eq (map (λ f. f.name) fields.now)) }
+/// The fields of a record, no two of which may have one name.
+pub(crate) fn named_fields(
+    alloc: Global,
+    fields: Vec<Field>,
+) -> Result<NamedList<Field>, SchemaError>
+    ensures ok { IfOk result (λ list. (list ≡ fields.items) × (spec.all_distinct bytes_eq (map (λ f. f.name) fields.items) ≡ true)) }
+    ensures err { IfErr result (IsRefusalBy (unless (spec.all_distinct bytes_eq (map (λ f. f.name) fields.items)) SchemaError.BadForm)) }
 {
-    let mut names = Vec::new(alloc);
-    for field in fields {
-        names.push(field.name.clone()?)?;
+    match distinct_fields(alloc, fields)? {
+        Some(list) => Ok(list),
+        None => Err(SchemaError::BadForm),
     }
-    are_distinct(alloc, names.as_slice())
+}
+
+/// The fields, unless two of them have one name.
+fn distinct_fields(
+    alloc: Global,
+    fields: Vec<Field>,
+) -> Result<Option<NamedList<Field>>, AllocError>
+    ensures { IfOk result (λ found. MatchOption found
+        (spec.all_distinct bytes_eq (map (λ f. f.name) fields.items) ≡ false)
+        (λ list. (list ≡ fields.items) × (spec.all_distinct bytes_eq (map (λ f. f.name) fields.items) ≡ true))) }
+{
+    NamedList::of(alloc, fields)
 }

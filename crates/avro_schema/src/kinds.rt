@@ -1,6 +1,5 @@
-// What a union may have once, and which texts are distinct.
-ghost use Rattle.std.specs.Prelude.{◌≡◌, List, [], ◌∷◌, ◌++◌, IfOk, bytes_eq};
-ghost use Rattle.avro_schema.specs.Names.{all_distinct};
+// What a union may have once.
+ghost use Rattle.std.specs.Prelude.{◌≡◌, List, [], ◌∷◌, ◌++◌, IfOk};
 
 use base_text::Text;
 use std::alloc::{AllocError, Global};
@@ -16,19 +15,6 @@ pub(crate) enum Kind {
     Union,
     /// A name that names nothing, or no type at all.
     Unknown,
-}
-
-/// Whether no two of the texts are the same.
-pub(crate) fn are_distinct(alloc: Global, texts: &[Text]) -> Result<bool, AllocError>
-    ensures { IfOk result (λ b. b ≡ all_distinct bytes_eq texts.now) }
-{
-    let mut seen = BTreeSet::new(alloc);
-    for text in texts {
-        if !seen.insert(text.clone()?)? {
-            return Ok(false);
-        }
-    }
-    Ok(true)
 }
 
 /// The kinds of the branches that were read so far.

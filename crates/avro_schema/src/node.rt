@@ -1,6 +1,9 @@
 // The nodes of a schema: one for each type that is written out.
+ghost use Rattle.std.specs.Prelude.{◌≡◌};
+
 use crate::DefaultValue;
 use base_text::{Listed, Text};
+use named_list::{Named, NamedList};
 
 /// A primitive type (Avro 1.11, "Primitive Types").
 #[derive(Clone, Copy, Debug, PartialEq, Eq)]
@@ -41,6 +44,14 @@ pub struct Field {
     pub node: NodeId,
 }
 
+impl Named for Field {
+    ghost name = { λ field. field.name };
+
+    fn name(&self) -> &Text {
+        &self.name
+    }
+}
+
 /// A type that is written out (Avro 1.11, "Complex Types"). A use of a defined name is no node of
 /// its own, but the id of the definition's.
 #[derive(Drop)]
@@ -49,12 +60,12 @@ pub enum Node {
     Record {
         name: FullName,
         aliases: Listed<FullName>,
-        fields: Listed<Field>,
+        fields: NamedList<Field>,
     },
     Enum {
         name: FullName,
         aliases: Listed<FullName>,
-        symbols: Listed<Text>,
+        symbols: NamedList<Text>,
         default: Option<Text>,
     },
     /// An array of items of this type.

@@ -1,8 +1,8 @@
 // Symbols of enums, and sizes of fixed types.
-ghost use Rattle.std.specs.Prelude.{◌≡◌, IfOk, IfErr, true, codes};
+ghost use Rattle.std.specs.Prelude.{◌≡◌, IfOk, IfErr, MatchOption, true, false, codes, bytes_eq};
 ghost use Rattle.serde_json.specs.View.{view};
 ghost use Rattle.serde_json.specs.Find.{get, as_str};
-ghost use Rattle.avro_schema.specs.Names.{has_text};
+ghost use Rattle.avro_schema.specs.Names.{all_distinct, has_text};
 ghost use Rattle.avro_schema.specs.Form.{strings_at};
 ghost use Rattle.avro_schema.specs.Faults.{symbols_faults, size_faults, is_symbol, unless};
 ghost use Rattle.avro_schema.specs.Schema.{IsRefusalBy};
@@ -10,17 +10,17 @@ ghost use Rattle.avro_schema.specs.Building.{HasSymbols, HasSize, number_at};
 
 use crate::SchemaError;
 use crate::fields::are_names;
-use crate::kinds::are_distinct;
 use crate::limits::GREATEST_SIZE;
 use crate::members::{number_at as member_number, strings_in};
 use base_text::Text;
+use named_list::NamedList;
 use serde_json::Value;
-use std::alloc::Global;
+use std::alloc::{AllocError, Global};
 
 /// The symbols of an enum, and its default.
 #[derive(Drop)]
 pub(crate) struct Symbols {
-    pub(crate) symbols: Vec<Text>,
+    pub(crate) symbols: NamedList<Text>,
     pub(crate) default: Option<Text>,
 }
 
@@ -35,14 +35,29 @@ pub(crate) fn read_symbols(alloc: Global, value: &Value) -> Result<Symbols, Sche
     let Some(symbols) = strings_in(alloc, member)? else {
         return Err(SchemaError::BadForm);
     };
-    if !are_names(symbols.as_slice()) || !are_distinct(alloc, symbols.as_slice())? {
+    if !are_names(symbols.as_slice()) {
         return Err(SchemaError::BadEnum);
     }
+    let Some(symbols) = distinct_symbols(alloc, symbols)? else {
+        return Err(SchemaError::BadEnum);
+    };
     let default = match value.get("default") {
         Some(member) => Some(read_symbol(alloc, member, symbols.as_slice())?),
         None => None,
     };
     Ok(Symbols { symbols, default })
+}
+
+/// The symbols, unless two of them are the same.
+fn distinct_symbols(
+    alloc: Global,
+    symbols: Vec<Text>,
+) -> Result<Option<NamedList<Text>>, AllocError>
+    ensures { IfOk result (λ found. MatchOption found
+        (all_distinct bytes_eq symbols.items ≡ false)
+        (λ list. (list ≡ symbols.items) × (all_distinct bytes_eq symbols.items ≡ true))) }
+{
+    NamedList::of(alloc, symbols)
 }
 
 /// Reads an enum's default, which is one of its symbols.

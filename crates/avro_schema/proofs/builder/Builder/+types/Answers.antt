@@ -1,4 +1,4 @@
-use Rattle.std.proofs.Common.{◌≡◌, ◌≤◌, ◌<◌, ◌∙◌, ◌+◌, ◌++◌, ◌∷◌, [], ℕ, suc, List, length, drop, get_or, false, map, bytes_eq, refl, sym, ap, subst, arith, codes}
+use Rattle.std.proofs.Common.{◌≡◌, ◌≤◌, ◌<◌, ◌∙◌, ◌+◌, ◌++◌, ◌∷◌, [], ℕ, suc, List, length, drop, get_or, true, false, map, bytes_eq, refl, sym, ap, subst, arith, codes}
 use Rattle.serde_json.specs.Data.{depth, items_depth}
 use Rattle.serde_json.specs.View.{view, items_view}
 use Rattle.serde_json.specs.Written.{has_float}
@@ -216,19 +216,21 @@ read_record-returns-in_err-fields-clause-err t c =
     (refused_fields ds ns (heading_of d) r (fields_of_items (items_view c.in-Some.items.now.items)) (opened a) (opened c.open_named.new.self) _ c.in_ok-text.ensures.ok (opened-more _ a c.open_named.new.self c.in_ok-index.ensures.ok.1)
     (subst (λ (m : List ℕ). RefusesFields c.open_named.new.self m (fields_of_items (items_view c.in-Some.items.now.items)) c.in_err-fields.field-0.0) c.as_str.ensures c.in_err-fields.ensures.err _ (defined_at c.open_named.new.self ds r _ _ is (c.in_ok-index.ensures.met ds met).0))))
 
-pub read_record-returns-then-not-branch-clause-err : goal.read_record-returns-then-not-branch-clause-err
-read_record-returns-then-not-branch-clause-err t c =
+pub read_record-returns-in_err-list-clause-err : goal.read_record-returns-in_err-list-clause-err
+read_record-returns-in_err-list-clause-err t c =
     let d = view c.args.value.now in
     let a = c.args.self.now in
     let r = c.in_ok-text.field-0 in
     let is = c.in_ok-index.ensures.ok.0 in
+    let e = c.in_err-list.field-0.0 in
     let fs = fields_of_items (items_view c.in-Some.items.now.items) in
     let same : written_fields d ≡ fs = ap fields_or_ill (sym c.in-Some.ensures) in
     let reads : ReadsFields c.open_named.new.self c.read_fields.new.self r.name.namespace fs c.in_ok-fields.fields.items = subst (λ (m : List ℕ). ReadsFields c.open_named.new.self c.read_fields.new.self m fs c.in_ok-fields.fields.items) c.as_str.ensures c.in_ok-fields.ensures.ok in
-    λ ds met.
+    exit_err c.from_residual-in_err-list.result (RefusesType a c.args.namespace.now (record_in d)) e c.from_residual-in_err-list.ensures.1
+    (λ ds met.
     let read = reads.1 (ds ++ definition_of r (opened a) ∷ []) (defined_at c.open_named.new.self ds r _ _ is (c.in_ok-index.ensures.met ds met).0) in
-    let twice : has_distinct_names fs ≡ false = tested_names _ r.name.namespace fs c.open_named.new.self c.read_fields.new.self _ _ read (c.in_ok-have_distinct_names.ensures ∙ ap (λ l. all_distinct bytes_eq (map (λ g. g.name) l)) c.as_slice.ensures.value) ∙ c.if-not-branch.true in
-    refused_list ds c.args.namespace.now (heading_of d) (written_fields d) (opened a) fault.BadForm (subst (λ (gs : Fields). IsRefusalBy (field_list_faults gs) fault.BadForm) (sym same) (refused_same_names fs twice))
+    let tests = tested_names _ r.name.namespace fs c.open_named.new.self c.read_fields.new.self _ _ read refl in
+    refused_list ds c.args.namespace.now (heading_of d) (written_fields d) (opened a) e (subst (λ (gs : Fields). IsRefusalBy (field_list_faults gs) e) (sym same) (refused_same_names fs _ e tests c.in_err-list.ensures.err)))
 
 pub read_record-close-requires : goal.read_record-close-requires
 read_record-close-requires t c =
@@ -244,8 +246,8 @@ read_record-returns-clause-ok t c =
     let same : written_fields d ≡ fs = ap fields_or_ill (sym c.in-Some.ensures) in
     let reads : ReadsFields c.open_named.new.self c.read_fields.new.self r.name.namespace fs c.in_ok-fields.fields.items = subst (λ (m : List ℕ). ReadsFields c.open_named.new.self c.read_fields.new.self m fs c.in_ok-fields.fields.items) c.as_str.ensures c.in_ok-fields.ensures.ok in
     let all : ReadsFields c.open_named.new.self c.read_fields.new.self r.name.namespace (written_fields d) c.in_ok-fields.fields.items = subst (λ (gs : Fields). ReadsFields c.open_named.new.self c.read_fields.new.self r.name.namespace gs c.in_ok-fields.fields.items) (sym same) reads in
-    record_read a c.open_named.new.self c.read_fields.new.self _ c.args.namespace.now (heading_of d) r (written_fields d) _ c.in_ok-index.index c.in_ok-fields.fields.items c.from-2.result c.from.result c.in_ok-have_distinct_names.field-0 c.in_ok-text.ensures.ok c.in_ok-index.ensures.ok.0 c.in_ok-index.ensures.ok.1 c.in_ok-index.ensures.met all
-    (c.in_ok-have_distinct_names.ensures ∙ ap (λ l. all_distinct bytes_eq (map (λ g. g.name) l)) c.as_slice.ensures.value) c.if-not-branch.false c.from-2.ensures c.from.ensures c.close.ensures.nodes c.close.ensures.names
+    record_read a c.open_named.new.self c.read_fields.new.self _ c.args.namespace.now (heading_of d) r (written_fields d) _ c.in_ok-index.index c.in_ok-fields.fields.items c.in_ok-list.list c.from.result true c.in_ok-text.ensures.ok c.in_ok-index.ensures.ok.0 c.in_ok-index.ensures.ok.1 c.in_ok-index.ensures.met all
+    (sym c.in_ok-list.ensures.ok.1) refl c.in_ok-list.ensures.ok.0 c.from.ensures c.close.ensures.nodes c.close.ensures.names
 
 pub read_branches-read_type-requires : goal.read_branches-read_type-requires
 read_branches-read_type-requires t c =

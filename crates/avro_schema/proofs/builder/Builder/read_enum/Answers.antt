@@ -37,8 +37,8 @@ returns-clause-ok c =
     let is = c.in_ok-index.ensures.ok.0 in
     let r = c.in_ok-text.field-0 in
     let v = c.in_ok-symbols.field-0 in
-    let opens : nodes_of b ≡ nodes_of a ++ kind.Enum r.name r.aliases.items v.symbols.items v.default ∷ [] =
-    c.in_ok-index.ensures.ok.1 ∙ ap (λ al. nodes_of a ++ kind.Enum r.name al c.from-2.result v.default ∷ []) c.from.ensures ∙ ap (λ ss. nodes_of a ++ kind.Enum r.name r.aliases.items ss v.default ∷ []) c.from-2.ensures in (
+    let opens : nodes_of b ≡ nodes_of a ++ kind.Enum r.name r.aliases.items v.symbols v.default ∷ [] =
+    c.in_ok-index.ensures.ok.1 ∙ ap (λ al. nodes_of a ++ kind.Enum r.name al v.symbols v.default ∷ []) c.from.ensures in (
       omega (arith, opened-more _ a b opens),
       λ ds met.
           let now = c.in_ok-index.ensures.met ds met in
