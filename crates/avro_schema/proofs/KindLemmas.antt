@@ -1,17 +1,17 @@
 -- Kinds of branches, and names that are primitives or uses.
-use Rattle.std.proofs.Common.{◌≡◌, ℕ, List, [], ◌∷◌, ◌++◌, Bool, true, false, ◌&&◌, ◌||◌, not, cond, Option, Some, None, is_some, find, bytes_eq, Result, IfOk, refl, sym, ◌∙◌, ap, subst}
+use Rattle.std.proofs.Common.{◌≡◌, ℕ, List, [], ◌∷◌, ◌++◌, Bool, true, false, ◌&&◌, ◌||◌, not, cond, Option, Some, None, find, Result, IfOk, refl, sym, ◌∙◌, ap, subst}
 use Rattle.std.specs.List.{list_any}
 use Rattle.std.proofs.lemmas.List.Folds.{list_any-append}
 use Rattle.std.proofs.lemmas.Result.{IfOk-weaker}
-use Rattle.std.proofs.lemmas.Slice.Eq.{bytes_eq-Decides}
 use Rattle.avro_schema.specs.declared.kinds.Kind.{Kind}
 use Rattle.avro_schema.specs.declared.kinds.Kind.TheVariants as kind
 use Rattle.avro_schema.specs.declared.node.Primitive.{Primitive}
-use Rattle.avro_schema.specs.Names.{primitives, primitive_text, primitive_named, all_distinct}
+use Rattle.avro_schema.specs.contracts.node.PrimitivePartialEq.TheImpl.Laws.{laws-law}
+use Rattle.avro_schema.specs.Names.{primitive_named, all_distinct}
 use Rattle.avro_schema.specs.declared.builder.Builder.{Builder}
 use Rattle.avro_schema.specs.Form.{Heading, Form, plain, by_name, form_of_name}
 use Rattle.avro_schema.specs.Places.{Definition, named, defined_by}
-use Rattle.avro_schema.specs.Faults.{kind_in_union, kind_named, same_kind, is_union_kind, fits_union}
+use Rattle.avro_schema.specs.Faults.{kind_in_union, kind_named, same_primitive, same_kind, is_union_kind, fits_union}
 use Rattle.avro_schema.specs.Building.{may_stand, HasMet, opened}
 use Rattle.avro_schema.proofs.TextLemmas.{bytes_eq-sym, all_distinct-middle, all_distinct-push}
 
@@ -29,35 +29,51 @@ pub find-passes : {X : Type 0} (t : X → Bool) (xs : List X) (x : X) → find t
 find-passes t [] x e = cc
 find-passes t (y ∷ xs) x e = passes_first t y x (t y) (find t xs) refl (find-passes t xs x) e
 
-kind_plain : (ds : List Definition) (ns : List ℕ) (n : ℕ) (s : List ℕ) (o : Option Primitive) → o ≡ primitive_named s → is_some o ≡ true → kind.Unnamed s ≡ kind_in_union ds ns n (form_of_name s)
-kind_plain ds ns n s None e h = cc
-kind_plain ds ns n s (Some p) e h =
-    let text : primitive_text p ≡ s = (bytes_eq-Decides (primitive_text p) s).0 (find-passes (λ p. bytes_eq (primitive_text p) s) primitives p (sym e)) in
-    ap kind.Unnamed (sym text) ∙ ap (kind_in_union ds ns n) (sym (form_plain s p e))
+pub kind_primitive : (ds : List Definition) (ns : List ℕ) (n : ℕ) (s : List ℕ) (p : Primitive) → Some p ≡ primitive_named s → kind.Primitive p ≡ kind_in_union ds ns n (form_of_name s)
+kind_primitive ds ns n s p e = ap (kind_in_union ds ns n) (sym (form_plain s p e))
 
-pub kind_primitive : (ds : List Definition) (ns : List ℕ) (n : ℕ) (s : List ℕ) (o : Option Primitive) → o ≡ primitive_named s → is_some o ≡ true → kind.Unnamed s ≡ kind_in_union ds ns n (form_of_name s)
-kind_primitive = kind_plain
-
-pub kind_use : (ds : List Definition) (ns : List ℕ) (n : ℕ) (s : List ℕ) (o : Option Primitive) → o ≡ primitive_named s → is_some o ≡ false → kind_in_union ds ns n (form_of_name s) ≡ kind_named (named ds n ns s)
-kind_use ds ns n s None e h = ap (kind_in_union ds ns n) (form_use s e)
-kind_use ds ns n s (Some p) e h = cc
+pub kind_use : (ds : List Definition) (ns : List ℕ) (n : ℕ) (s : List ℕ) → None ≡ primitive_named s → kind_in_union ds ns n (form_of_name s) ≡ kind_named (named ds n ns s)
+kind_use ds ns n s e = ap (kind_in_union ds ns n) (form_use s e)
 
 -- ---- the kinds that were added
 
+pub same_primitive-sym : (p q : Primitive) → same_primitive p q ≡ same_primitive q p
+same_primitive-sym = laws-law.symm
+
 pub same_kind-sym : (a b : Kind) → same_kind a b ≡ same_kind b a
-same_kind-sym (kind.Unnamed s) (kind.Unnamed t) = bytes_eq-sym s t
-same_kind-sym (kind.Unnamed s) (kind.Named t) = refl
-same_kind-sym (kind.Unnamed s) kind.Union = refl
-same_kind-sym (kind.Unnamed s) kind.Unknown = refl
-same_kind-sym (kind.Named s) (kind.Unnamed t) = refl
+same_kind-sym (kind.Primitive s) (kind.Primitive t) = same_primitive-sym s t
+same_kind-sym (kind.Primitive s) kind.Array = refl
+same_kind-sym (kind.Primitive s) kind.Map = refl
+same_kind-sym (kind.Primitive s) (kind.Named t) = refl
+same_kind-sym (kind.Primitive s) kind.Union = refl
+same_kind-sym (kind.Primitive s) kind.Unknown = refl
+same_kind-sym kind.Array (kind.Primitive t) = refl
+same_kind-sym kind.Array kind.Array = refl
+same_kind-sym kind.Array kind.Map = refl
+same_kind-sym kind.Array (kind.Named t) = refl
+same_kind-sym kind.Array kind.Union = refl
+same_kind-sym kind.Array kind.Unknown = refl
+same_kind-sym kind.Map (kind.Primitive t) = refl
+same_kind-sym kind.Map kind.Array = refl
+same_kind-sym kind.Map kind.Map = refl
+same_kind-sym kind.Map (kind.Named t) = refl
+same_kind-sym kind.Map kind.Union = refl
+same_kind-sym kind.Map kind.Unknown = refl
+same_kind-sym (kind.Named s) (kind.Primitive t) = refl
+same_kind-sym (kind.Named s) kind.Array = refl
+same_kind-sym (kind.Named s) kind.Map = refl
 same_kind-sym (kind.Named s) (kind.Named t) = bytes_eq-sym s t
 same_kind-sym (kind.Named s) kind.Union = refl
 same_kind-sym (kind.Named s) kind.Unknown = refl
-same_kind-sym kind.Union (kind.Unnamed t) = refl
+same_kind-sym kind.Union (kind.Primitive t) = refl
+same_kind-sym kind.Union kind.Array = refl
+same_kind-sym kind.Union kind.Map = refl
 same_kind-sym kind.Union (kind.Named t) = refl
 same_kind-sym kind.Union kind.Union = refl
 same_kind-sym kind.Union kind.Unknown = refl
-same_kind-sym kind.Unknown (kind.Unnamed t) = refl
+same_kind-sym kind.Unknown (kind.Primitive t) = refl
+same_kind-sym kind.Unknown kind.Array = refl
+same_kind-sym kind.Unknown kind.Map = refl
 same_kind-sym kind.Unknown (kind.Named t) = refl
 same_kind-sym kind.Unknown kind.Union = refl
 same_kind-sym kind.Unknown kind.Unknown = refl

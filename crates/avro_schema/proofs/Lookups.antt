@@ -1,19 +1,20 @@
 -- The builder's map of names, beside the definitions that it has met.
-use Rattle.std.proofs.Common.{◌≡◌, ℕ, ◌+◌, ◌≤◌, ◌<◌, List, [], ◌∷◌, ◌++◌, length, Bool, true, false, ◌&&◌, nat_lt, cond, Option, Some, None, is_some, is_none, option_map, find, bytes_eq, Result, refl, sym, ◌∙◌, ap, subst, arith, IfOk}
+use Rattle.std.proofs.Common.{◌≡◌, ℕ, suc, ◌+◌, ◌≤◌, ◌<◌, List, [], ◌∷◌, ◌++◌, length, Bool, true, false, ◌&&◌, ◌||◌, ◌==◌, nat_lt, cond, Option, Some, None, is_some, is_none, option_map, find, bytes_eq, nat_cmp, Equal, is_eq, Result, refl, sym, ◌∙◌, ap, subst, arith, IfOk}
 use Rattle.std.specs.Option.{option_or}
 use Rattle.std.specs.BTreeMap.{get_by_text}
+use Rattle.std.specs.Cmp.Lexicographic.{slice_cmp}
+use Rattle.std.proofs.lemmas.Map.Text.{is_eq-slice_cmp}
 use Rattle.std.specs.Result.{IsErrAnd, IfErr}
 use Rattle.std.proofs.lemmas.Result.{err_from_is_err_and}
 use Rattle.std.proofs.lemmas.List.Folds.{find-append}
 use Rattle.std.proofs.lemmas.Slice.Eq.{bytes_eq-Decides}
-use Rattle.avro_schema.specs.declared.kinds.Kind.TheVariants as kind
+use Rattle.std.proofs.lemmas.Bool.Decides.{nat_tests}
 use Rattle.avro_schema.specs.declared.node.Node.{Node}
-use denote.Ref.{Bor}
 use Rattle.avro_schema.specs.declared.builder.Builder.{Builder}
 use Rattle.avro_schema.specs.Names.{has_dot, joined}
 use Rattle.avro_schema.specs.Places.{Definition, defined, named}
-use Rattle.avro_schema.specs.Faults.{kind_named}
 use Rattle.avro_schema.specs.Building.{Before, nodes_of, opened, node_named, HasMet}
+use Rattle.avro_schema.proofs.KindLemmas.{find-passes}
 use Rattle.avro_schema.proofs.Types.{found-at, opened-more}
 use Rattle.avro_schema.specs.declared.limits.TheConstants.{MOST_NODES}
 
@@ -97,38 +98,66 @@ or_some (Some x) p e = refl
 pub named_dotted : (ds : List Definition) (n : ℕ) (ns s : List ℕ) → has_dot s ≡ true → named ds n ns s ≡ defined ds n s
 named_dotted ds n ns s e = ap (λ b. cond b (defined ds n s) (option_or (defined ds n (joined ns s)) (defined ds n s))) e
 
-pub named_near : (r : Builder) (ds : List Definition) (ns s full : List ℕ) → HasMet r ds → has_dot s ≡ false → full ≡ joined ns s → is_some (get_by_text r.names full) ≡ true → named ds (opened r) ns s ≡ defined ds (opened r) full
-named_near r ds ns s full met e is found =
-    let some : is_some (defined ds (opened r) (joined ns s)) ≡ true = ap (λ t. is_some (defined ds (opened r) t)) (sym is) ∙ is_defined r ds full true met found in
-    ap (λ b. cond b (defined ds (opened r) s) (option_or (defined ds (opened r) (joined ns s)) (defined ds (opened r) s))) e ∙ or_some _ _ some ∙ ap (λ t. defined ds (opened r) t) (sym is)
+or_itself : {A : Type 0} (o : Option A) → option_or o o ≡ o
+or_itself None = refl
+or_itself (Some x) = refl
 
-pub named_far : (r : Builder) (ds : List Definition) (ns s full : List ℕ) → HasMet r ds → has_dot s ≡ false → full ≡ joined ns s → is_some (get_by_text r.names full) ≡ false → named ds (opened r) ns s ≡ defined ds (opened r) s
-named_far r ds ns s full met e is absent =
-    let none : defined ds (opened r) (joined ns s) ≡ None = ap (λ t. defined ds (opened r) t) (sym is) ∙ is_undefined r ds full met absent in
-    ap (λ b. cond b (defined ds (opened r) s) (option_or (defined ds (opened r) (joined ns s)) (defined ds (opened r) s))) e ∙ ap (λ o. option_or o (defined ds (opened r) s)) none
+not_empty : (n : ℕ) → (suc n == 0) ≡ false
+not_empty n = grind (arith, nat_tests)
 
--- what a look-up of the text s gives, where that is what a use names
-pub looked_up : (r : Builder) (ds : List Definition) (s : List ℕ) (o : Option Definition) → HasMet r ds → o ≡ defined ds (opened r) s → get_by_text r.names s ≡ option_map (λ d. d.node) o
-looked_up r ds s o met e = found-at r ds s met ∙ ap (option_map (λ d. d.node)) (sym e)
+no_flag : (b : Bool) → b ≡ false → (b || false) ≡ true → ⊥
+no_flag true e h = cc
+no_flag false e h = cc
 
--- ---- kinds
+by_dot : (ds : List Definition) (n : ℕ) (ns s : List ℕ) (b : Bool) → has_dot s ≡ b → ((length ns == 0) || b) ≡ true → named ds n ns s ≡ defined ds n s
+by_dot ds n ns s true e h = named_dotted ds n ns s e
+by_dot ds n [] s false e h = ap (λ b. cond b (defined ds n s) (option_or (defined ds n s) (defined ds n s))) e ∙ or_itself (defined ds n s)
+by_dot ds n (x ∷ ns) s false e h = absurd (no_flag _ (not_empty (length ns)) h)
 
-by_test : (d : Definition) (s : List ℕ) (t b : Bool) (o : Option Definition) → bytes_eq d.name s ≡ b → (is_some o ≡ true → kind_named o ≡ kind.Named s) → is_some (cond (t && b) (Some d) o) ≡ true → kind_named (cond (t && b) (Some d) o) ≡ kind.Named s
-by_test d s true true o e later h = ap kind.Named ((bytes_eq-Decides d.name s).0 e)
-by_test d s true false o e later h = later h
-by_test d s false b o e later h = later h
+-- a text that is its own full name
+pub named_whole : (ds : List Definition) (n : ℕ) (ns s : List ℕ) → ((length ns == 0) || has_dot s) ≡ true → named ds n ns s ≡ defined ds n s
+named_whole ds n ns s h = by_dot ds n ns s (has_dot s) refl h
 
-pub found_name : (ds : List Definition) (n : ℕ) (s : List ℕ) → is_some (defined ds n s) ≡ true → kind_named (defined ds n s) ≡ kind.Named s
-found_name [] n s e = cc
-found_name (d ∷ ds) n s e = by_test d s (nat_lt d.node n) (bytes_eq d.name s) (defined ds n s) refl (found_name ds n s) e
+or_right : (a b : Bool) → (a || b) ≡ false → b ≡ false
+or_right true b h = cc
+or_right false b h = h
+
+-- another is looked for in the namespace that applies, and then by itself
+pub named_joined : (ds : List Definition) (n : ℕ) (ns s full : List ℕ) → ((length ns == 0) || has_dot s) ≡ false → full ≡ joined ns s → named ds n ns s ≡ option_or (defined ds n full) (defined ds n s)
+named_joined ds n ns s full h is =
+    ap (λ b. cond b (defined ds n s) (option_or (defined ds n (joined ns s)) (defined ds n s))) (or_right _ _ h) ∙ ap (λ t. option_or (defined ds n t) (defined ds n s)) (sym is)
+
+pub near_found : {A B : Type 0} (f : A → B) (o : Option A) (p q : Option B) → is_some o ≡ true → option_map f o ≡ p → option_map f o ≡ option_or p q
+near_found f None p q h e = cc
+near_found f (Some x) p q h e = e ∙ sym (or_some p q (ap is_some (sym e)))
+
+pub near_absent : {A B : Type 0} (f : A → B) (o : Option A) (p q : Option B) → is_some o ≡ false → option_map f o ≡ p → q ≡ option_or p q
+near_absent f None p q h e = ap (λ d. option_or d q) e
+near_absent f (Some x) p q h e = cc
+
+and_right : (a b : Bool) → a && b ≡ true → b ≡ true
+and_right true b h = h
+and_right false b h = cc
+
+found_as : (ds : List Definition) (n i : ℕ) (s : List ℕ) (o : Option Definition) → defined ds n s ≡ o → Some i ≡ option_map (λ d. d.node) o → Some (record { name = s; node = i }) ≡ o
+found_as ds n i s None e h = cc
+found_as ds n i s (Some d) e h =
+    let name : s ≡ d.name = sym ((bytes_eq-Decides d.name s).0 (and_right _ _ (find-passes (λ d. nat_lt d.node n && bytes_eq d.name s) ds d e))) in
+    let node : i ≡ d.node = cc in
+    λ j. Some (record { name = name j; node = node j })
+
+-- what a look-up of the text s finds: the key k of the map, and its node
+pub found_key : (r : Builder) (ds : List Definition) (s k : List ℕ) (i : ℕ) → HasMet r ds → slice_cmp nat_cmp s k ≡ Equal → Some i ≡ get_by_text r.names s → Some (record { name = k; node = i }) ≡ defined ds (opened r) s
+found_key r ds s k i met same is =
+    let key : s ≡ k = (bytes_eq-Decides s k).0 (sym (is_eq-slice_cmp s k) ∙ ap is_eq same) in
+    ap (λ t. Some (record { name = t; node = i })) (sym key) ∙ found_as ds (opened r) i s (defined ds (opened r) s) refl (is ∙ found-at r ds s met)
+
+pub absent_key : (r : Builder) (ds : List Definition) (s : List ℕ) → HasMet r ds → None ≡ get_by_text r.names s → None ≡ defined ds (opened r) s
+absent_key r ds s met is = sym (no_node (defined ds (opened r) s) (sym (is ∙ found-at r ds s met)))
 
 pub no_value : {A : Type 0} (o : Option A) → is_some o ≡ false → o ≡ None
 no_value None e = refl
 no_value (Some x) e = cc
-
-pub some-copied : {A : Type 0} (r : Option (Bor A)) → is_some (option_map (λ x. x.now) r) ≡ is_some r
-some-copied None = refl
-some-copied (Some x) = refl
 
 -- a use of a definition that opens at node i
 pub some_use : (o : Option Definition) (i : ℕ) → Some i ≡ option_map (λ d. d.node) o → (d : Definition) × (o ≡ Some d) × (i ≡ d.node)

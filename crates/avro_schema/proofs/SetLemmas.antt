@@ -1,5 +1,5 @@
 -- Sets of texts, beside the lists of the texts that were put in.
-use Rattle.std.proofs.Common.{◌≡◌, ℕ, zero, suc, ◌<◌, List, [], ◌∷◌, ◌++◌, length, get_or, take, drop, Bool, true, false, ◌&&◌, ◌||◌, not, cond, bytes_eq, refl, sym, ◌∙◌, ap, arith}
+use Rattle.std.proofs.Common.{◌≡◌, ℕ, zero, suc, ◌<◌, List, [], ◌∷◌, ◌++◌, length, get_or, take, drop, Bool, true, false, ◌||◌, not, cond, bytes_eq, refl, sym, ◌∙◌, ap, subst, arith}
 use Rattle.std.specs.List.{list_any}
 use Rattle.std.specs.Ordering.{nat_cmp}
 use Rattle.std.specs.Cmp.Lexicographic.{slice_cmp}
@@ -9,9 +9,11 @@ use Rattle.std.proofs.lemmas.Map.Text.{is_eq-slice_cmp}
 use Rattle.avro_schema.specs.declared.kinds.Kind.{Kind}
 use Rattle.avro_schema.specs.declared.kinds.Kind.TheVariants as kind
 use Rattle.avro_schema.specs.declared.kinds.Kinds.{Kinds}
+use Rattle.avro_schema.specs.declared.node.Primitive.{Primitive}
 use Rattle.avro_schema.specs.Names.{all_distinct}
-use Rattle.avro_schema.specs.Faults.{same_kind, is_union_kind}
+use Rattle.avro_schema.specs.Faults.{same_primitive, same_kind}
 use Rattle.avro_schema.specs.Building.{HoldsKinds, may_stand}
+use Rattle.avro_schema.proofs.KindLemmas.{same_primitive-sym}
 use Rattle.avro_schema.proofs.TextLemmas.{bytes_eq-sym, all_distinct-middle}
 
 by_cases : (b o : Bool) → cond b true o ≡ o || (b || false)
@@ -50,61 +52,107 @@ or_false false = refl
 pub same_any : {X : Type 0} (p : X → Bool) (xs : List X) (x : X) → p x ≡ false → list_any p (xs ++ x ∷ []) ≡ list_any p xs
 same_any p xs x e = list_any-append p xs (x ∷ []) ∙ ap (λ b. list_any p xs || (b || false)) e ∙ sym (or_false (list_any p xs))
 
-any_unnamed : (q : List ℕ) (k : Kind) (key : List ℕ) → k ≡ kind.Unnamed key → same_kind (kind.Unnamed q) k ≡ bytes_eq q key
-any_unnamed q k key e = ap (same_kind (kind.Unnamed q)) e
+-- ---- the kinds that were met, after one more
 
-any_named : (q : List ℕ) (k : Kind) (key : List ℕ) → k ≡ kind.Named key → same_kind (kind.Named q) k ≡ bytes_eq q key
-any_named q k key e = ap (same_kind (kind.Named q)) e
+any_last : (a : Bool) → a || (true || false) ≡ true
+any_last true = refl
+any_last false = refl
 
--- the set of one sort after its text was put in
-pub put_kind : (sort : List ℕ → Kind) (s n : BTreeSet (List ℕ)) (key : List ℕ) (ks : List Kind) (k : Kind) → ((q : List ℕ) → same_kind (sort q) k ≡ bytes_eq q key) → ((q : List ℕ) → contains (slice_cmp nat_cmp) s q ≡ list_any (same_kind (sort q)) ks)
-    → Updates (slice_cmp nat_cmp) s n key true → (q : List ℕ) → contains (slice_cmp nat_cmp) n q ≡ list_any (same_kind (sort q)) (ks ++ k ∷ [])
-put_kind sort s n key ks k is has updates q =
+put_named : (s n : BTreeSet (List ℕ)) (key : List ℕ) (ks : List Kind) → ((q : List ℕ) → contains (slice_cmp nat_cmp) s q ≡ list_any (same_kind (kind.Named q)) ks)
+    → Updates (slice_cmp nat_cmp) s n key true → (q : List ℕ) → contains (slice_cmp nat_cmp) n q ≡ list_any (same_kind (kind.Named q)) (ks ++ kind.Named key ∷ [])
+put_named s n key ks has updates q =
     updates.0 q ∙ ap (λ b. cond b true (contains (slice_cmp nat_cmp) s q)) (is_eq-slice_cmp key q ∙ bytes_eq-sym key q) ∙ ap (λ o. cond (bytes_eq q key) true o) (has q)
-    ∙ by_cases (bytes_eq q key) (list_any (same_kind (sort q)) ks) ∙ ap (λ b. list_any (same_kind (sort q)) ks || (b || false)) (sym (is q)) ∙ sym (list_any-append (same_kind (sort q)) ks (k ∷ []))
+    ∙ by_cases (bytes_eq q key) (list_any (same_kind (kind.Named q)) ks) ∙ sym (list_any-append (same_kind (kind.Named q)) ks (kind.Named key ∷ []))
 
-and_true : (b : Bool) → b ≡ not false && b
-and_true b = refl
+put_primitive : (ps ns : List Primitive) (p : Primitive) (ks : List Kind) → ((q : Primitive) → list_any (λ r. same_primitive r q) ps ≡ list_any (same_kind (kind.Primitive q)) ks)
+    → ns ≡ ps ++ p ∷ [] → (q : Primitive) → list_any (λ r. same_primitive r q) ns ≡ list_any (same_kind (kind.Primitive q)) (ks ++ kind.Primitive p ∷ [])
+put_primitive ps ns p ks has pushed q =
+    ap (list_any (λ r. same_primitive r q)) pushed ∙ list_any-append (λ r. same_primitive r q) ps (p ∷ []) ∙ ap (λ b. b || (same_primitive p q || false)) (has q)
+    ∙ ap (λ b. list_any (same_kind (kind.Primitive q)) ks || (b || false)) (same_primitive-sym p q) ∙ sym (list_any-append (same_kind (kind.Primitive q)) ks (kind.Primitive p ∷ []))
 
-pub added_unnamed : (s n : Kinds) (k : Kind) (key : List ℕ) (ks : List Kind) (fits : Bool) → HoldsKinds s ks → k ≡ kind.Unnamed key → Updates (slice_cmp nat_cmp) s.unnamed n.unnamed key true → n.named ≡ s.named → fits ≡ not (contains (slice_cmp nat_cmp) s.unnamed key)
-    → HoldsKinds n (ks ++ k ∷ []) × (fits ≡ may_stand k ks)
-added_unnamed s n k key ks fits holds is updates keeps added = (
+put_flag : (test : Kind → Bool) (b : Bool) (ks : List Kind) (k : Kind) → b ≡ true → test k ≡ true → b ≡ list_any test (ks ++ k ∷ [])
+put_flag test b ks k is same = is ∙ sym (any_last (list_any test ks)) ∙ ap (λ c. list_any test ks || (c || false)) (sym same) ∙ sym (list_any-append test ks (k ∷ []))
+
+kept : (test : Kind → Bool) (b : Bool) (ks : List Kind) (k : Kind) → b ≡ list_any test ks → test k ≡ false → b ≡ list_any test (ks ++ k ∷ [])
+kept test b ks k is apart = is ∙ sym (same_any test ks k apart)
+
+-- a branch of kind k was added, and fits says whether it may stand
+abbrev Added : Kinds → Kind → List Kind → Bool → Type 0
+Added n k ks fits = HoldsKinds n (ks ++ k ∷ []) × (fits ≡ may_stand k ks)
+
+pub as_kind : (n : Kinds) (k j : Kind) (ks : List Kind) (fits : Bool) → k ≡ j → HoldsKinds n (ks ++ j ∷ []) × (fits ≡ may_stand j ks) → HoldsKinds n (ks ++ k ∷ []) × (fits ≡ may_stand k ks)
+as_kind n k j ks fits is added = subst (λ (i : Kind). Added n i ks fits) (sym is) added
+
+pub added_primitive : (s n : Kinds) (p : Primitive) (ks : List Kind) (fits : Bool) → HoldsKinds s ks → n.primitives.items ≡ s.primitives.items ++ p ∷ [] → n.has_array ≡ s.has_array → n.has_map ≡ s.has_map → n.named ≡ s.named
+    → fits ≡ not (list_any (λ q. same_primitive q p) s.primitives.items) → HoldsKinds n (ks ++ kind.Primitive p ∷ []) × (fits ≡ may_stand (kind.Primitive p) ks)
+added_primitive s n p ks fits holds pushed arrays maps names is = (
   record {
-    unnamed = put_kind kind.Unnamed s.unnamed n.unnamed key ks k (λ q. any_unnamed q k key is) holds.unnamed updates;
-    named = λ t. ap (λ m. contains (slice_cmp nat_cmp) m t) keeps ∙ holds.named t ∙ sym (same_any (same_kind (kind.Named t)) ks k (ap (same_kind (kind.Named t)) is));
+    primitives = put_primitive s.primitives.items n.primitives.items p ks holds.primitives pushed;
+    array = kept (same_kind kind.Array) _ ks (kind.Primitive p) (arrays ∙ holds.array) refl;
+    map = kept (same_kind kind.Map) _ ks (kind.Primitive p) (maps ∙ holds.map) refl;
+    named = λ t. kept (same_kind (kind.Named t)) _ ks (kind.Primitive p) (ap (λ m. contains (slice_cmp nat_cmp) m t) names ∙ holds.named t) refl;
   },
-  added ∙ ap not (holds.unnamed key) ∙ ap (λ (j : Kind). not (is_union_kind j) && not (list_any (same_kind j) ks)) (sym is),
+  is ∙ ap not (holds.primitives p),
 )
 
-pub added_named : (s n : Kinds) (k : Kind) (key : List ℕ) (ks : List Kind) (fits : Bool) → HoldsKinds s ks → k ≡ kind.Named key → Updates (slice_cmp nat_cmp) s.named n.named key true → n.unnamed ≡ s.unnamed → fits ≡ not (contains (slice_cmp nat_cmp) s.named key)
-    → HoldsKinds n (ks ++ k ∷ []) × (fits ≡ may_stand k ks)
-added_named s n k key ks fits holds is updates keeps added = (
+pub added_array : (s n : Kinds) (ks : List Kind) (fits : Bool) → HoldsKinds s ks → n.primitives.items ≡ s.primitives.items → n.has_array ≡ true → n.has_map ≡ s.has_map → n.named ≡ s.named
+    → fits ≡ not s.has_array → HoldsKinds n (ks ++ kind.Array ∷ []) × (fits ≡ may_stand kind.Array ks)
+added_array s n ks fits holds primitives has maps names is = (
   record {
-    unnamed = λ t. ap (λ m. contains (slice_cmp nat_cmp) m t) keeps ∙ holds.unnamed t ∙ sym (same_any (same_kind (kind.Unnamed t)) ks k (ap (same_kind (kind.Unnamed t)) is));
-    named = put_kind kind.Named s.named n.named key ks k (λ q. any_named q k key is) holds.named updates;
+    primitives = λ p. kept (same_kind (kind.Primitive p)) _ ks kind.Array (ap (list_any (λ q. same_primitive q p)) primitives ∙ holds.primitives p) refl;
+    array = put_flag (same_kind kind.Array) _ ks kind.Array has refl;
+    map = kept (same_kind kind.Map) _ ks kind.Array (maps ∙ holds.map) refl;
+    named = λ t. kept (same_kind (kind.Named t)) _ ks kind.Array (ap (λ m. contains (slice_cmp nat_cmp) m t) names ∙ holds.named t) refl;
   },
-  added ∙ ap not (holds.named key) ∙ ap (λ (j : Kind). not (is_union_kind j) && not (list_any (same_kind j) ks)) (sym is),
+  is ∙ ap not holds.array,
 )
 
-none_any : (ks : List Kind) → list_any (same_kind kind.Unknown) ks ≡ false
-none_any [] = refl
-none_any (k ∷ ks) = none_any ks
-
-none_union : (ks : List Kind) → list_any (same_kind kind.Union) ks ≡ false
-none_union [] = refl
-none_union (k ∷ ks) = none_union ks
-
-pub added_none : (s : Kinds) (k : Kind) (ks : List Kind) (fits : Bool) → HoldsKinds s ks → ((t : List ℕ) → same_kind (kind.Unnamed t) k ≡ false) → ((t : List ℕ) → same_kind (kind.Named t) k ≡ false) → fits ≡ may_stand k ks → HoldsKinds s (ks ++ k ∷ []) × (fits ≡ may_stand k ks)
-added_none s k ks fits holds p q e = (
+pub added_map : (s n : Kinds) (ks : List Kind) (fits : Bool) → HoldsKinds s ks → n.primitives.items ≡ s.primitives.items → n.has_array ≡ s.has_array → n.has_map ≡ true → n.named ≡ s.named
+    → fits ≡ not s.has_map → HoldsKinds n (ks ++ kind.Map ∷ []) × (fits ≡ may_stand kind.Map ks)
+added_map s n ks fits holds primitives arrays has names is = (
   record {
-    unnamed = λ t. holds.unnamed t ∙ sym (same_any (same_kind (kind.Unnamed t)) ks k (p t));
-    named = λ t. holds.named t ∙ sym (same_any (same_kind (kind.Named t)) ks k (q t));
+    primitives = λ p. kept (same_kind (kind.Primitive p)) _ ks kind.Map (ap (list_any (λ q. same_primitive q p)) primitives ∙ holds.primitives p) refl;
+    array = kept (same_kind kind.Array) _ ks kind.Map (arrays ∙ holds.array) refl;
+    map = put_flag (same_kind kind.Map) _ ks kind.Map has refl;
+    named = λ t. kept (same_kind (kind.Named t)) _ ks kind.Map (ap (λ m. contains (slice_cmp nat_cmp) m t) names ∙ holds.named t) refl;
   },
-  e,
+  is ∙ ap not holds.map,
 )
 
-pub added_unknown : (s : Kinds) (k : Kind) (ks : List Kind) → HoldsKinds s ks → k ≡ kind.Unknown → HoldsKinds s (ks ++ k ∷ []) × (true ≡ may_stand k ks)
-added_unknown s k ks holds is = added_none s k ks true holds (λ t. ap (same_kind (kind.Unnamed t)) is) (λ t. ap (same_kind (kind.Named t)) is) (ap not (sym (none_any ks)) ∙ ap (λ (j : Kind). not (is_union_kind j) && not (list_any (same_kind j) ks)) (sym is))
+pub added_named : (s n : Kinds) (key : List ℕ) (ks : List Kind) (fits : Bool) → HoldsKinds s ks → n.primitives.items ≡ s.primitives.items → n.has_array ≡ s.has_array → n.has_map ≡ s.has_map → Updates (slice_cmp nat_cmp) s.named n.named key true
+    → fits ≡ not (contains (slice_cmp nat_cmp) s.named key) → HoldsKinds n (ks ++ kind.Named key ∷ []) × (fits ≡ may_stand (kind.Named key) ks)
+added_named s n key ks fits holds primitives arrays maps updates is = (
+  record {
+    primitives = λ p. kept (same_kind (kind.Primitive p)) _ ks (kind.Named key) (ap (list_any (λ q. same_primitive q p)) primitives ∙ holds.primitives p) refl;
+    array = kept (same_kind kind.Array) _ ks (kind.Named key) (arrays ∙ holds.array) refl;
+    map = kept (same_kind kind.Map) _ ks (kind.Named key) (maps ∙ holds.map) refl;
+    named = put_named s.named n.named key ks holds.named updates;
+  },
+  is ∙ ap not (holds.named key),
+)
 
-pub added_union : (s : Kinds) (k : Kind) (ks : List Kind) → HoldsKinds s ks → k ≡ kind.Union → HoldsKinds s (ks ++ k ∷ []) × (false ≡ may_stand k ks)
-added_union s k ks holds is = added_none s k ks false holds (λ t. ap (same_kind (kind.Unnamed t)) is) (λ t. ap (same_kind (kind.Named t)) is) (ap (λ (j : Kind). not (is_union_kind j) && not (list_any (same_kind j) ks)) (sym is))
+none_unknown : (ks : List Kind) → list_any (same_kind kind.Unknown) ks ≡ false
+none_unknown [] = refl
+none_unknown (k ∷ ks) = none_unknown ks
+
+pub added_unknown : (s : Kinds) (ks : List Kind) → HoldsKinds s ks → HoldsKinds s (ks ++ kind.Unknown ∷ []) × (true ≡ may_stand kind.Unknown ks)
+added_unknown s ks holds = (
+  record {
+    primitives = λ p. kept (same_kind (kind.Primitive p)) _ ks kind.Unknown (holds.primitives p) refl;
+    array = kept (same_kind kind.Array) _ ks kind.Unknown holds.array refl;
+    map = kept (same_kind kind.Map) _ ks kind.Unknown holds.map refl;
+    named = λ t. kept (same_kind (kind.Named t)) _ ks kind.Unknown (holds.named t) refl;
+  },
+  ap not (sym (none_unknown ks)),
+)
+
+pub added_union : (s : Kinds) (ks : List Kind) → HoldsKinds s ks → HoldsKinds s (ks ++ kind.Union ∷ []) × (false ≡ may_stand kind.Union ks)
+added_union s ks holds = (
+  record {
+    primitives = λ p. kept (same_kind (kind.Primitive p)) _ ks kind.Union (holds.primitives p) refl;
+    array = kept (same_kind kind.Array) _ ks kind.Union holds.array refl;
+    map = kept (same_kind kind.Map) _ ks kind.Union holds.map refl;
+    named = λ t. kept (same_kind (kind.Named t)) _ ks kind.Union (holds.named t) refl;
+  },
+  refl,
+)

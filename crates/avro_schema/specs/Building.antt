@@ -1,6 +1,7 @@
 -- Private: what the builder holds before and after each type that it reads.
 use Rattle.std.specs.Prelude.{◌≡◌, ◌<◌, ◌≤◌, ℕ, ◌+◌, List, [], ◌∷◌, ◌++◌, length, Bool, true, not, ◌&&◌, nat_le, Option, Some, None, is_some, option_map, option_and_then, codes, find, filter_map, flat_map, map, bytes_eq, string_bytes}
 use Rattle.std.specs.List.{list_any, list_all}
+use denote.Ref.{Bor}
 use Rattle.std.specs.Ordering.{nat_cmp}
 use Rattle.std.specs.Cmp.Lexicographic.{slice_cmp}
 use Rattle.std.specs.BTreeMap.{get_by_text}
@@ -15,6 +16,7 @@ use Rattle.avro_schema.specs.declared.kinds.Kinds.{Kinds}
 use Rattle.avro_schema.specs.declared.node.Field.{Field}
 use Rattle.avro_schema.specs.declared.node.Node.{Node}
 use Rattle.avro_schema.specs.declared.node.NodeId.{NodeId}
+use Rattle.avro_schema.specs.declared.node.Primitive.{Primitive}
 use Rattle.avro_schema.specs.declared.builder.Builder.{Builder}
 use Rattle.avro_schema.specs.declared.symbols.Symbols.{Symbols}
 use Rattle.serde_json.specs.Data.{Num, Data, Items}
@@ -23,15 +25,17 @@ use Rattle.avro_schema.specs.Names.{full_text, all_distinct}
 use Rattle.avro_schema.specs.Form.{Heading, FieldHeading, Form, Forms, Fields, record_of, enum_of, fixed_of, array_of, map_of, ill_formed, ill_fields, form, fields_of_items, heading_of, strings_at}
 use Rattle.avro_schema.specs.Places.{count, forms_count, fields_count, own_namespace, type_name, Place, places, places_of_forms, places_of_fields, Definition, definitions}
 use Rattle.avro_schema.specs.Nodes.{type_aliases, field_at, size_of, node_id, branches, field_list, node_at}
-use Rattle.avro_schema.specs.Faults.{unless, is_union_kind, same_kind, fits_union, fits_enum, kinds, written_faults, size_faults, field_list_faults, faults_at, field_headings, field_name, is_formed, has_good_aliases, are_written}
+use Rattle.avro_schema.specs.Faults.{unless, is_union_kind, same_primitive, same_kind, fits_union, fits_enum, kinds, written_faults, size_faults, field_list_faults, faults_at, field_headings, field_name, is_formed, has_good_aliases, are_written}
 use Rattle.avro_schema.specs.Schema.{IsRefusalBy}
 use Rattle.avro_schema.specs.declared.limits.TheConstants.{MOST_NODES}
 
 -- ---- unions
 
--- the sets hold just the kinds ks
+-- the kinds that were met are just ks
 pub record HoldsKinds (s : Kinds) (ks : List Kind) : Type 0 where
-  pub unnamed : (t : List ℕ) → contains (slice_cmp nat_cmp) s.unnamed t ≡ list_any (same_kind (kind.Unnamed t)) ks
+  pub primitives : (p : Primitive) → list_any (λ q. same_primitive q p) s.primitives.items ≡ list_any (same_kind (kind.Primitive p)) ks
+  pub array : s.has_array ≡ list_any (same_kind kind.Array) ks
+  pub map : s.has_map ≡ list_any (same_kind kind.Map) ks
   pub named : (t : List ℕ) → contains (slice_cmp nat_cmp) s.named t ≡ list_any (same_kind (kind.Named t)) ks
 
 -- whether a kind may stand beside the kinds ks
@@ -47,6 +51,10 @@ pub record HasNames (enclosing : List ℕ) (h : Heading) (r : TypeNames) : Type 
   pub aliases : r.aliases.items ≡ type_aliases r.name h
 
 -- ---- the builder
+
+-- the definition that a look-up finds: its name and its node
+abbrev pub definition_of : Bor (List ℕ) × ℕ → Definition
+definition_of p = record { name = p.0.now; node = p.1 }
 
 -- the node at which a full name is defined
 abbrev pub node_named : List Definition → List ℕ → Option ℕ

@@ -1,14 +1,17 @@
 -- What is wrong with a schema. Each rule is stated with the fault that stands where it is broken.
-use Rattle.std.specs.Prelude.{ℕ, ◌+◌, List, [], ◌∷◌, ◌++◌, map, Bool, true, false, ◌&&◌, not, nat_le, Option, is_some, is_none, unwrap_or, flat_map, codes, bytes_eq}
+use Rattle.std.specs.Prelude.{ℕ, ◌+◌, List, [], ◌∷◌, ◌++◌, map, Bool, true, false, ◌&&◌, not, nat_le, Option, is_some, is_none, unwrap_or, flat_map, bytes_eq}
 use Rattle.std.specs.List.{list_any, list_all}
 use Rattle.std.specs.Option.{option_map_or}
+use denote.Enum.Bare.{sameb}
 use Rattle.serde_json.specs.Data.{Num, Data}
 use Rattle.serde_json.specs.Find.{as_str, as_u64}
 use Rattle.avro_schema.specs.declared.error.SchemaError.{SchemaError}
 use Rattle.avro_schema.specs.declared.error.SchemaError.TheVariants as fault
 use Rattle.avro_schema.specs.declared.kinds.Kind.{Kind}
-use Rattle.avro_schema.specs.declared.kinds.Kind.TheVariants.{Unnamed, Named, Union, Unknown}
-use Rattle.avro_schema.specs.Names.{primitive_text, is_name, is_full_name, is_type_name, full_text, all_distinct, has_text}
+use Rattle.avro_schema.specs.declared.kinds.Kind.TheVariants as kind
+use Rattle.avro_schema.specs.declared.node.Primitive.{Primitive}
+use Rattle.avro_schema.specs.contracts.node.Primitive.{the_type}
+use Rattle.avro_schema.specs.Names.{is_name, is_full_name, is_type_name, full_text, all_distinct, has_text}
 use Rattle.avro_schema.specs.Form.{Heading, FieldHeading, Form, plain, by_name, record_of, enum_of, array_of, map_of, union_of, fixed_of, ill_formed, Forms, no_forms, and_form, Fields, no_fields, ill_fields, and_field}
 use Rattle.avro_schema.specs.Places.{count, own_namespace, Place, places, Definition, definitions, defined, defined_by, named}
 use Rattle.avro_schema.specs.declared.limits.TheConstants.{GREATEST_SIZE}
@@ -23,13 +26,20 @@ if_written test o = option_map_or test o true
 
 -- ---- unions (Avro 1.11, "Unions")
 
+-- `==` on primitives
+abbrev pub same_primitive : Primitive → Primitive → Bool
+same_primitive = sameb the_type
+
+-- the same type without a name, or types of the same full name
 abbrev pub same_kind : Kind → Kind → Bool
-same_kind (Unnamed a) (Unnamed b) = bytes_eq a b
-same_kind (Named a) (Named b) = bytes_eq a b
+same_kind (kind.Primitive p) (kind.Primitive q) = same_primitive p q
+same_kind kind.Array kind.Array = true
+same_kind kind.Map kind.Map = true
+same_kind (kind.Named a) (kind.Named b) = bytes_eq a b
 same_kind _ _ = false
 
 abbrev pub is_union_kind : Kind → Bool
-is_union_kind Union = true
+is_union_kind kind.Union = true
 is_union_kind _ = false
 
 -- no member is itself a union, and no two are of one kind
@@ -37,7 +47,7 @@ abbrev pub fits_union : List Kind → Bool
 fits_union ks = not (list_any is_union_kind ks) && all_distinct same_kind ks
 
 abbrev pub kind_named : Option Definition → Kind
-kind_named o = option_map_or (λ d. Named d.name) o Unknown
+kind_named o = option_map_or (λ d. kind.Named d.name) o kind.Unknown
 
 -- ---- enums and fixed (Avro 1.11, "Enums", "Fixed")
 
@@ -97,15 +107,15 @@ written_faults h = unless (is_some h.name && is_some h.aliases) fault.BadForm ++
 
 module _ (ds : List Definition) where
   abbrev pub kind_in_union : List ℕ → ℕ → Form → Kind
-  kind_in_union ns n (plain p) = Unnamed (primitive_text p)
+  kind_in_union ns n (plain p) = kind.Primitive p
   kind_in_union ns n (by_name s) = kind_named (named ds n ns s)
   kind_in_union ns n (record_of h fs) = kind_named (defined_by ns n h)
   kind_in_union ns n (enum_of h ss d) = kind_named (defined_by ns n h)
   kind_in_union ns n (fixed_of h s) = kind_named (defined_by ns n h)
-  kind_in_union ns n (array_of f) = Unnamed (codes "array")
-  kind_in_union ns n (map_of f) = Unnamed (codes "map")
-  kind_in_union ns n (union_of fs) = Union
-  kind_in_union ns n ill_formed = Unknown
+  kind_in_union ns n (array_of f) = kind.Array
+  kind_in_union ns n (map_of f) = kind.Map
+  kind_in_union ns n (union_of fs) = kind.Union
+  kind_in_union ns n ill_formed = kind.Unknown
 
   abbrev pub kinds : List ℕ → ℕ → Forms → List Kind
   kinds ns n no_forms = []

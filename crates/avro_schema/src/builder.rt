@@ -11,7 +11,7 @@ use crate::heading::{TypeNames, read_type_names};
 use crate::kinds::{Kind, Kinds};
 use crate::limits::MOST_NODES;
 use crate::members::{array_at, string_at};
-use crate::names::{full_text, has_dot, joined, primitive_named};
+use crate::names::{full_text, is_whole, joined, primitive_named};
 use crate::symbols::{Symbols, read_size, read_symbols};
 use crate::word::TypeWord;
 use crate::{Field, Node, NodeId, Primitive, SchemaError};
@@ -33,7 +33,7 @@ impl Builder {
     ghost use Rattle.avro_schema.specs.Places.{Definition, named, defined};
     ghost use Rattle.avro_schema.specs.Faults.{unless, kind_in_union};
     ghost use Rattle.avro_schema.specs.Schema.{IsRefusalBy};
-    ghost use Rattle.avro_schema.specs.Building.{HasMet, opened, nodes_of, too_many, ReadsType, RefusesType, ReadsBranches, RefusesBranches, ReadsField, RefusesField, ReadsFields, RefusesFields, is_object, form_in, written_fields, record_in, enum_in, fixed_in, array_in, map_in};
+    ghost use Rattle.avro_schema.specs.Building.{HasMet, definition_of, opened, nodes_of, too_many, ReadsType, RefusesType, ReadsBranches, RefusesBranches, ReadsField, RefusesField, ReadsFields, RefusesFields, is_object, form_in, written_fields, record_in, enum_in, fixed_in, array_in, map_in};
 
     pub(crate) fn new(alloc: Global) -> Builder
         ensures met { HasMet result [] }
@@ -85,20 +85,37 @@ impl Builder {
         Ok(index)
     }
 
-    /// The node that a use names: a name with a dot as it is written, another in the namespace
-    /// that applies, else in the null namespace.
-    fn find(&self, alloc: Global, name: &str, namespace: &str) -> Result<Option<usize>, AllocError>
-        ensures { IfOk result (λ o. (ds : List Definition) → HasMet self.now ds
-            → o ≡ option_map (λ d. d.node) (named ds (opened self.now) namespace.now name.now)) }
+    /// The type that was defined by a full name: its name and its node.
+    fn defined(&self, full: &str) -> Option<(&str, usize)>
+        ensures { (ds : List Definition) → HasMet self.now ds
+            → option_map definition_of result ≡ defined ds (opened self.now) full.now }
     {
-        if !has_dot(name) {
-            let full = joined(alloc, namespace, name)?;
-            let found = self.names.get(full.as_str());
-            if found.is_some() {
-                return Ok(found.copied());
-            }
+        match self.names.get_key_value(full) {
+            Some((name, index)) => Some((name.as_str(), *index)),
+            None => None,
         }
-        Ok(self.names.get(name).copied())
+    }
+
+    /// The type that a use names: a name with a dot as it is written, another in the namespace
+    /// that applies, else in the null namespace.
+    fn find(
+        &self,
+        alloc: Global,
+        name: &str,
+        namespace: &str,
+    ) -> Result<Option<(&str, usize)>, AllocError>
+        ensures { IfOk result (λ o. (ds : List Definition) → HasMet self.now ds
+            → option_map definition_of o ≡ named ds (opened self.now) namespace.now name.now) }
+    {
+        if is_whole(namespace, name) {
+            return Ok(self.defined(name));
+        }
+        let full = joined(alloc, namespace, name)?;
+        let near = self.defined(full.as_str());
+        if near.is_some() {
+            return Ok(near);
+        }
+        Ok(self.defined(name))
     }
 
     /// Reads a name: a primitive's, or a use of a type.
@@ -116,7 +133,7 @@ impl Builder {
             return Ok(NodeId { index });
         }
         match self.find(alloc, name, namespace)? {
-            Some(index) => Ok(NodeId { index }),
+            Some((_, index)) => Ok(NodeId { index }),
             None => Err(SchemaError::Unknown(Text::copy_of(alloc, name)?)),
         }
     }
@@ -420,8 +437,8 @@ impl Builder {
             TypeWord::Record => kind_of_named(alloc, value, namespace),
             TypeWord::Enum => kind_of_named(alloc, value, namespace),
             TypeWord::Fixed => kind_of_named(alloc, value, namespace),
-            TypeWord::Array => Ok(Kind::Unnamed(Text::copy_of(alloc, "array")?)),
-            TypeWord::Map => Ok(Kind::Unnamed(Text::copy_of(alloc, "map")?)),
+            TypeWord::Array => Ok(Kind::Array),
+            TypeWord::Map => Ok(Kind::Map),
             TypeWord::Error => Ok(Kind::Unknown),
             TypeWord::Other => self.kind_of_name(alloc, name, namespace),
         }
@@ -431,19 +448,13 @@ impl Builder {
         ensures { IfOk result (λ k. (ds : List Definition) → HasMet self.now ds
             → k ≡ kind_in_union ds namespace.now (opened self.now) (form_of_name name.now)) }
     {
-        if primitive_named(name).is_some() {
-            return Ok(Kind::Unnamed(Text::copy_of(alloc, name)?));
+        if let Some(primitive) = primitive_named(name) {
+            return Ok(Kind::Primitive(primitive));
         }
-        if !has_dot(name) {
-            let full = joined(alloc, namespace, name)?;
-            if self.names.contains_key(full.as_str()) {
-                return Ok(Kind::Named(Text::from(full)));
-            }
+        match self.find(alloc, name, namespace)? {
+            Some((full, _)) => Ok(Kind::Named(Text::copy_of(alloc, full)?)),
+            None => Ok(Kind::Unknown),
         }
-        if self.names.contains_key(name) {
-            return Ok(Kind::Named(Text::copy_of(alloc, name)?));
-        }
-        Ok(Kind::Unknown)
     }
 }
 

@@ -1,15 +1,17 @@
 // What a union may have once.
 ghost use Rattle.std.specs.Prelude.{◌≡◌, List, [], ◌∷◌, ◌++◌, IfOk};
 
+use crate::Primitive;
 use base_text::Text;
 use std::alloc::{AllocError, Global};
 use std::collections::BTreeSet;
 
 /// What a union may have once (Avro 1.11, "Unions"). A name stands for the type that it names.
-#[derive(Debug, Drop)]
+#[derive(Drop)]
 pub(crate) enum Kind {
-    /// A primitive, an array or a map.
-    Unnamed(Text),
+    Primitive(Primitive),
+    Array,
+    Map,
     /// The full name of a record, an enum or a fixed type.
     Named(Text),
     Union,
@@ -20,7 +22,9 @@ pub(crate) enum Kind {
 /// The kinds of the branches that were read so far.
 #[derive(Drop)]
 pub(crate) struct Kinds {
-    unnamed: BTreeSet<Text>,
+    primitives: Vec<Primitive>,
+    has_array: bool,
+    has_map: bool,
     named: BTreeSet<Text>,
 }
 
@@ -32,7 +36,9 @@ impl Kinds {
         ensures { HoldsKinds result [] }
     {
         Kinds {
-            unnamed: BTreeSet::new(alloc),
+            primitives: Vec::new(alloc),
+            has_array: false,
+            has_map: false,
             named: BTreeSet::new(alloc),
         }
     }
@@ -43,7 +49,21 @@ impl Kinds {
             → HoldsKinds self.new (ks ++ kind ∷ []) × (fits ≡ may_stand kind ks)) }
     {
         match kind {
-            Kind::Unnamed(text) => Ok(self.unnamed.insert(text)?),
+            Kind::Primitive(primitive) => {
+                let fits = !self.primitives.contains(&primitive);
+                self.primitives.push(primitive)?;
+                Ok(fits)
+            }
+            Kind::Array => {
+                let fits = !self.has_array;
+                self.has_array = true;
+                Ok(fits)
+            }
+            Kind::Map => {
+                let fits = !self.has_map;
+                self.has_map = true;
+                Ok(fits)
+            }
             Kind::Named(text) => Ok(self.named.insert(text)?),
             Kind::Union => Ok(false),
             Kind::Unknown => Ok(true),

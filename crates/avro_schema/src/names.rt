@@ -1,5 +1,5 @@
 // Names and full names (Avro 1.11, "Names").
-ghost use Rattle.std.specs.Prelude.{◌≡◌, IfOk, string_bytes};
+ghost use Rattle.std.specs.Prelude.{◌≡◌, ◌==◌, ◌||◌, length, IfOk, string_bytes};
 ghost use Rattle.std.specs.List.{after_last, list_all};
 ghost use Rattle.avro_schema.specs.Names as spec;
 
@@ -124,6 +124,13 @@ pub(crate) fn joined(alloc: Global, namespace: &str, name: &str) -> Result<Strin
     }
     full.push_str(name)?;
     Ok(full)
+}
+
+/// Whether a text is its own full name where a namespace applies.
+pub(crate) fn is_whole(namespace: &str, text: &str) -> bool
+    ensures { result ≡ ((length namespace.now == 0) || spec.has_dot text.now) }
+{
+    namespace.is_empty() || has_dot(text)
 }
 
 /// The full name that a text gives where a namespace applies, as a text.
