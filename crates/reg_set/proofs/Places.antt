@@ -2,18 +2,19 @@
 use Rattle.std.proofs.Common.{◌≡◌, ℕ, suc, zero, ◌+◌, ◌<◌, Bool, true, false, ◌||◌, List, [], ◌∷◌, ◌++◌, length, get_or, take, drop, refl, sym, ap, ◌∙◌, add-one, arith}
 use Rattle.std.proofs.lemmas.Bool.{false≢true}
 use Rattle.std.proofs.lemmas.Cmp.{tied_itself}
-use Rattle.std.proofs.lemmas.List.{take-append-drop, drop_more}
+use Rattle.std.proofs.lemmas.List.{take-append-drop, take_more, drop_more}
 use Rattle.std.proofs.lemmas.List.Folds.{list_any-append}
 use Rattle.std.specs.FinSet as set
-use Rattle.std.specs.FinSet.{contains, from_list, contains-from_list, contains-insert, same_set}
+use Rattle.std.specs.FinSet.{from_list, contains-from_list, contains-insert, same_set}
 use Rattle.std.specs.List.{list_any, list_all, insert}
-use Rattle.std.specs.Ordering.{eq_by_cmp, is_eq, is_lt}
+use Rattle.std.specs.Cmp.{nat_cmp_is}
+use Rattle.std.specs.Ordering.{eq_by_cmp, is_eq, is_lt, nat_cmp}
 use Rattle.std.specs.declared.cmp.Ordering.{Ordering}
 use Rattle.std.specs.declared.cmp.Ordering.TheVariants.{Less, Equal, Greater}
 use Rattle.reg_records.specs.declared.record.Record.{Record}
 use Rattle.reg_set.specs.RecordOrder.{record_cmp}
 use Rattle.reg_set.specs.Records.{is_in_order}
-use Rattle.reg_set.proofs.Orders.{record_cmp-total, record_cmp-ties}
+use Rattle.reg_set.proofs.Orders.{record_cmp-total, record_cmp-ties, record_cmp-by_offset}
 use Rattle.reg_set.proofs.InOrder.{both, first_of, second_of, less, turned, before_all, none_of_later}
 
 neither_left : (a b : Bool) → (a || b) ≡ false → a ≡ false
@@ -69,7 +70,7 @@ between_in_order [] back r ordered before after = both after ordered
 between_in_order (x ∷ front) back r ordered before after =
     both (all_between (is_after x) front back r (first_of _ _ ordered) (first_of _ _ before)) (between_in_order front back r (second_of _ _ ordered) (second_of _ _ before) after)
 
-none_before : (r : Record) (front : List Record) → list_all (is_before r) front ≡ true → list_any (is_same r) front ≡ false
+pub none_before : (r : Record) (front : List Record) → list_all (is_before r) front ≡ true → list_any (is_same r) front ≡ false
 none_before r [] h = refl
 none_before r (x ∷ front) h =
     let apart : is_same r x ≡ false = ap is_eq (turned x r Less (less _ (first_of _ _ h))) in
@@ -144,3 +145,37 @@ none_before_from r [] i d ordered h one = absurd (omega arith)
 none_before_from r (x ∷ xs) zero d ordered h one =
     ap (λ b. b || list_any (is_before r) xs) one ∙ none_after r x xs (first_of _ _ ordered) one
 none_before_from r (x ∷ xs) (suc i) d ordered h one = none_before_from r xs i d (second_of _ _ ordered) (omega arith) one
+
+-- what has an earlier offset comes before
+pub by_earlier : (r q : Record) → r.offset < q.offset → record_cmp r q ≡ Less
+by_earlier r q h =
+    let e : Less ≡ nat_cmp r.offset q.offset = nat_cmp_is r.offset q.offset Less h in
+    sym (record_cmp-by_offset r q (λ tie. let apart : Less ≡ Equal = e ∙ tie in absurd (cc))) ∙ sym e
+
+either_none : (a b : Bool) → a ≡ false → b ≡ false → (a || b) ≡ false
+either_none a b h k = ap (λ x. x || b) h ∙ k
+
+-- a look at one record after another, of which none so far is r
+module _ (r q : Record) (rs : List Record) (n : ℕ) (within : n < length rs) (here : q ≡ get_or rs n q) where
+  any_in_parts : list_any (is_same r) rs ≡ (list_any (is_same r) (take n rs) || list_any (is_same r) (drop n rs))
+  any_in_parts = ap (list_any (is_same r)) (sym (take-append-drop n rs)) ∙ list_any-append (is_same r) (take n rs) (drop n rs)
+
+  from_here : drop n rs ≡ q ∷ drop (n + 1) rs
+  from_here = drop_more rs n q within ∙ ap (λ x. x ∷ drop (n + 1) rs) (sym here)
+
+  pub none_past : is_in_order rs ≡ true → list_any (is_same r) (take n rs) ≡ false → r.offset < q.offset → list_any (is_same r) rs ≡ false
+  none_past ordered none later =
+      let less_than : record_cmp r q ≡ Less = by_earlier r q later in
+      let not_before = none_before_from r rs n q ordered within (ap (λ x. is_lt (record_cmp x r)) (sym here) ∙ ap is_lt (turned r q Less less_than)) in
+      let apart : is_same r q ≡ false = ap is_eq less_than in
+      any_in_parts ∙ either_none _ _ none (any_at_place r rs n q within here ordered not_before ∙ apart)
+
+  pub found_here : is_same r q ≡ true → list_any (is_same r) rs ≡ true
+  found_here same =
+      let rest = ap (list_any (is_same r)) from_here ∙ ap (λ b. b || list_any (is_same r) (drop (n + 1) rs)) same in
+      any_in_parts ∙ elim (list_any (is_same r) (take n rs)) as (λ b. (b || list_any (is_same r) (drop n rs)) ≡ true) [ true ↦ refl | false ↦ rest ]
+
+  pub none_more : list_any (is_same r) (take n rs) ≡ false → is_same r q ≡ false → list_any (is_same r) (take (n + 1) rs) ≡ false
+  none_more none apart =
+      ap (list_any (is_same r)) (take_more rs n q within ∙ ap (λ x. take n rs ++ x ∷ []) (sym here))
+      ∙ list_any-append (is_same r) (take n rs) (q ∷ []) ∙ either_none _ _ none (ap (λ b. b || false) apart)

@@ -95,3 +95,42 @@ pub(crate) fn stands_at(records: &[Record], place: usize, given: &Record) -> boo
         None => false,
     }
 }
+
+/// Whether the record is among the records, which stand in order. It takes no memory, and looks at
+/// the records of its offset alone.
+pub(crate) fn is_among(records: &[Record], given: &Record) -> bool
+    requires { IsTrue (is_in_order records.now) }
+    ensures { result ≡ list_any (eq_by_cmp record_cmp given.now) records.now }
+{
+    let mut place = count_earlier(records, given);
+    while place < records.len() {
+        let record = &records[place];
+        if record.offset > given.offset {
+            return false;
+        }
+        if *record == *given {
+            return true;
+        }
+        place += 1;
+    }
+    false
+}
+
+/// How many of the records, which stand in order, have an earlier offset.
+fn count_earlier(records: &[Record], given: &Record) -> usize
+    requires { IsTrue (is_in_order records.now) }
+    ensures within { result ≤ length records.now }
+    ensures before { list_all (λ q. is_lt (record_cmp q given.now)) (take result records.now) ≡ true }
+{
+    let mut low = 0;
+    let mut high = records.len();
+    while low < high {
+        let middle = low + (high - low) / 2;
+        if records[middle].offset < given.offset {
+            low = middle + 1;
+        } else {
+            high = middle;
+        }
+    }
+    low
+}

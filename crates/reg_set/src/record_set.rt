@@ -11,7 +11,7 @@ ghost use Rattle.reg_set.specs.Records.{records_of, is_in_order};
 
 use crate::index::{keep_lasts, put};
 use crate::last_records::LastRecords;
-use crate::order::{count_before, stands_at};
+use crate::order::{count_before, is_among, stands_at};
 use crate::turns::{in_turn, of_both};
 use reg_records::{Key, Record};
 use std::alloc::{AllocError, Global};
@@ -138,7 +138,7 @@ impl RecordSet {
     pub fn contains(&self, given: &Record) -> bool
         ensures { result ≡ set.contains self.now given.now }
     {
-        self.records.contains(given)
+        self.lasts.contains(given) || is_among(&self.records, given)
     }
 
     /// Adds the records of the other set. The only error is want of memory; the set is then as it
