@@ -1,5 +1,5 @@
 -- The pairs that were seen, pair by pair.
-use Rattle.std.proofs.Common.{◌≡◌, ◌≢◌, ℕ, zero, suc, ◌+◌, ◌*◌, ◌/◌, ◌%◌, ◌<◌, List, [], ◌∷◌, Bool, true, false, not, ◌&&◌, ◌||◌, eqb, cond, replicate, Option, Some, None, unwrap_or, slice_get, slice_set, refl, sym, ◌∙◌, ap, subst, arith}
+use Rattle.std.proofs.Common.{◌≡◌, ◌≢◌, ℕ, zero, suc, ◌/◌, ◌%◌, List, [], ◌∷◌, Bool, true, false, not, ◌&&◌, ◌||◌, eqb, cond, replicate, Option, Some, None, unwrap_or, slice_get, slice_set, refl, sym, ◌∙◌, ap, subst, arith}
 use Rattle.std.proofs.lemmas.Grind.{common_steps}
 use Rattle.std.proofs.lemmas.Bool.{eqb-true, eqb-false, eq-eqb}
 use Rattle.std.proofs.lemmas.Bool.Decides.{nat_tests}
@@ -8,10 +8,9 @@ use Rattle.std.specs.declared.cmp.Ordering.{Ordering}
 use Rattle.std.specs.declared.cmp.Ordering.TheVariants.{Less, Equal, Greater}
 use Rattle.std.specs.Ordering.{nat_cmp, ordering_then, is_eq}
 use Rattle.std.specs.BTreeMap.{BTreeMap, get, is_at}
-use Rattle.avro_resolve.specs.declared.obligations.Pair.{Pair}
 use Rattle.avro_resolve.specs.declared.firsts.Known.{Known}
 use Rattle.avro_resolve.specs.declared.firsts.Known.TheVariants.{New, Same, Other}
-use Rattle.avro_resolve.specs.Seen.{same_numbers, same_pair, known, with_first, is_beside, are_joined, IsFairOver, word_at}
+use Rattle.avro_resolve.specs.Seen.{same_numbers, known, with_first, is_beside, are_joined, IsFairOver, word_at}
 
 -- ---- lists
 

@@ -1,5 +1,5 @@
 -- Names, namespaces and full names (Avro 1.11, "Names").
-use Rattle.std.specs.Prelude.{ℕ, List, [], ◌∷◌, ◌++◌, Bool, true, false, ◌&&◌, ◌||◌, not, ◌==◌, nat_le, if◌then◌else◌, Option, find, is_none, codes, bytes_eq}
+use Rattle.std.specs.Prelude.{ℕ, List, [], ◌∷◌, ◌++◌, Bool, true, false, ◌&&◌, ◌||◌, ◌==◌, nat_le, if◌then◌else◌, Option, find, is_none, codes, bytes_eq}
 use Rattle.std.specs.List.{list_any, list_all, before_last, after_last}
 pub use Rattle.named_list.specs.Distinct.{all_distinct}
 use Rattle.avro_schema.specs.declared.node.FullName.{FullName}

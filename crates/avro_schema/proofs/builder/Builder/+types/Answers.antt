@@ -1,14 +1,13 @@
-use Rattle.std.proofs.Common.{◌≡◌, ◌≤◌, ◌<◌, ◌∙◌, ◌+◌, ◌++◌, ◌∷◌, [], ℕ, suc, List, length, drop, get_or, true, false, map, bytes_eq, refl, sym, ap, subst, arith, codes}
+use Rattle.std.proofs.Common.{◌≡◌, ◌≤◌, ◌<◌, ◌∙◌, ◌+◌, ◌++◌, ◌∷◌, [], ℕ, suc, List, length, drop, get_or, true, refl, sym, ap, subst, arith, codes}
 use Rattle.serde_json.specs.Data.{depth, items_depth}
 use Rattle.serde_json.specs.View.{view, items_view}
 use Rattle.serde_json.specs.Written.{has_float}
 use Rattle.avro_schema.specs.declared.error.SchemaError.TheVariants as fault
 use Rattle.avro_schema.specs.declared.word.TypeWord.TheVariants as word
-use Rattle.avro_schema.specs.Names.{all_distinct}
 use Rattle.avro_schema.specs.Form.{Fields, ill_fields, union_of, form, forms, form_of_name, fields_of_items, field_heading_of, heading_of, record_of}
 use Rattle.avro_schema.specs.Schema.{IsRefusalBy}
 use Rattle.avro_schema.specs.Faults.{field_list_faults}
-use Rattle.avro_schema.specs.Building.{opened, form_in, written_fields, fields_or_ill, array_in, map_in, record_in, enum_in, fixed_in, RefusesType, RefusesField, ReadsFields, RefusesFields, RefusesBranches, AreBranchesRead, AreFieldsRead, branches_faults, fields_faults, has_distinct_names, type_faults, field_faults}
+use Rattle.avro_schema.specs.Building.{opened, form_in, written_fields, fields_or_ill, array_in, map_in, record_in, enum_in, fixed_in, RefusesType, RefusesField, ReadsFields, RefusesFields, RefusesBranches, AreBranchesRead, AreFieldsRead, branches_faults, fields_faults, type_faults, field_faults}
 use Rattle.avro_schema.proofs.Reading.{left, right}
 use Rattle.avro_schema.proofs.Types.{opened-more, definition_of}
 use Rattle.avro_schema.proofs.Refused.{refused_open, refused_ill_formed, refused_array, refused_map, refused_union, refused_names_record, refused_opening_record, refused_list, refused_no_fields, refused_same_names, refused_fields}
