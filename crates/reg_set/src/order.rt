@@ -1,6 +1,7 @@
 // The order of records, and where a record stands among others.
-ghost use Rattle.std.specs.Prelude.{◌≡◌, ◌≤◌, true, false, not, IfOk, IsTrue, take, drop, length};
+ghost use Rattle.std.specs.Prelude.{◌≡◌, ◌<◌, ◌≤◌, true, false, not, IfOk, IsTrue, take, drop, length};
 ghost use Rattle.std.specs.List.{list_any, list_all};
+ghost use Rattle.std.specs.List.Sorted.{IsPartitionPoint};
 ghost use Rattle.std.specs.Ordering.{eq_by_cmp, is_lt};
 ghost use Rattle.reg_records.specs.Written.{IsOf32Bits};
 ghost use Rattle.reg_set.specs.RecordOrder.{key_cmp, record_cmp};
@@ -96,22 +97,20 @@ pub(crate) fn stands_at(records: &[Record], place: usize, given: &Record) -> boo
     }
 }
 
-/// Whether the record is among the records, which stand in order. It takes no memory, and looks at
-/// the records of its offset alone.
+/// Whether the record is among the records, which stand in order. It takes no memory. A binary
+/// search finds the records of its offset, and it looks at those one after another.
 pub(crate) fn is_among(records: &[Record], given: &Record) -> bool
     requires { IsTrue (is_in_order records.now) }
     ensures { result ≡ list_any (eq_by_cmp record_cmp given.now) records.now }
 {
-    let mut place = count_earlier(records, given);
-    while place < records.len() {
-        let record = &records[place];
+    let earlier = count_earlier(records, given);
+    for record in &records[earlier..] {
         if record.offset > given.offset {
             return false;
         }
         if *record == *given {
             return true;
         }
-        place += 1;
     }
     false
 }
@@ -120,17 +119,8 @@ pub(crate) fn is_among(records: &[Record], given: &Record) -> bool
 fn count_earlier(records: &[Record], given: &Record) -> usize
     requires { IsTrue (is_in_order records.now) }
     ensures within { result ≤ length records.now }
-    ensures before { list_all (λ q. is_lt (record_cmp q given.now)) (take result records.now) ≡ true }
+    ensures point { IsPartitionPoint (λ q. q.offset < given.now.offset) (λ q. given.now.offset ≤ q.offset)
+        records.now result }
 {
-    let mut low = 0;
-    let mut high = records.len();
-    while low < high {
-        let middle = low + (high - low) / 2;
-        if records[middle].offset < given.offset {
-            low = middle + 1;
-        } else {
-            high = middle;
-        }
-    }
-    low
+    records.partition_point(|record| record.offset < given.offset)
 }

@@ -1,18 +1,13 @@
-use Rattle.std.proofs.Common.{◌+◌, ◌-◌, ◌/◌, ◌<◌, length, get_or, ap, arith}
-use Rattle.std.specs.Ordering.{is_lt}
-use Rattle.reg_set.proofs.Places.{by_earlier, front_is_before}
+use Rattle.std.proofs.Common.{ltb, ltb-true, ltb-false, rules}
+use Rattle.std.proofs.lemmas.List.Sorted.{IsPartitionedBy-ltb, IsPartitionPoint-from_clause}
+use Rattle.reg_records.specs.declared.record.Record.{Record}
+use Rattle.reg_set.proofs.Places.{offsets_rise}
 use Rattle.reg_set.proofs.order.count_earlier.Goals as goal
 
-pub loop-low-preserved-then-records-middle : goal.loop-low-preserved-then-records-middle
-loop-low-preserved-then-records-middle c =
-    let r = c.args.given.now in
+pub returns-clause-point : goal.returns-clause-point
+returns-clause-point c =
     let rs = c.args.records.now in
-    let found = c.index-records-middle.result in
-    let middle = c.loop-low.low + (c.loop-low.high - c.loop-low.low) / 2 in
-    let below : middle < c.loop-low.high = omega arith in
-    let within : middle < length rs = omega arith in
-    let earlier : (get_or rs middle found).offset < r.offset = omega arith in (
-      omega arith,
-      c.loop-low.invariant.1,
-      front_is_before r rs middle found c.requires within (ap is_lt (by_earlier (get_or rs middle found) r earlier)),
-    )
+    let bound = c.args.given.now.offset in
+    let parted = IsPartitionedBy-ltb (λ (q : Record). q.offset) rs bound (offsets_rise rs c.requires) in
+    let point = IsPartitionPoint-from_clause (λ (q : Record). ltb q.offset bound) rs c.partition_point.result c.partition_point.ensures.partitioned parted (λ a r q k. search rules) in
+    (λ k d from below. ltb-true _ _ (point.0 k d from below), λ k d from within. ltb-false _ _ (point.1 k d from within))
