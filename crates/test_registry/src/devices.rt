@@ -130,12 +130,20 @@ fn a_line_takes_its_reads_and_no_more(rt: HostRuntime) {
     let mut reader = broken_line(ErrorKind::Interrupted, 2 * LINE_READS - 2);
     let first = read_log(alloc, &mut reader).err();
     let reads = reader.reads();
+    // What is left begins with a line of one TAB, which comes in the last read that a line may take.
     let again = read_log(alloc, &mut reader).err();
+    let bad_tabs = LogError::Fault {
+        line: 1,
+        fault: LogFault::Line(LineError::BadTabs),
+    };
     let told = (first, reads, again, reader.faults());
-    assert_eq!(rt;
-        told,
-        (Some(LogError::ReadFault { line: 2 }), LINE_READS, None, 0)
+    let expected = (
+        Some(LogError::ReadFault { line: 2 }),
+        LINE_READS,
+        Some(bad_tabs),
+        0,
     );
+    assert_eq!(rt; told, expected);
 }
 
 // The error of a log, and what is left of its text.
