@@ -1,10 +1,9 @@
 -- What a sorted list of entries has, by what is found in it.
-use Rattle.std.proofs.Common.{◌≡◌, ℕ, ◌<◌, ◌≤◌, ◌^◌, Bool, true, false, cond, not, ◌&&◌, ◌==◌, max, List, [], ◌∷◌, map, Option, Some, None, refl, sym, ap, subst, ◌∙◌, ◌⊎◌, inl, inr, arith}
+use Rattle.std.proofs.Common.{◌≡◌, ℕ, ◌<◌, ◌^◌, Bool, true, false, cond, not, ◌&&◌, List, [], ◌∷◌, map, Option, Some, None, refl, sym, ap, subst, ◌∙◌, inl, inr, arith}
 use Rattle.std.proofs.lemmas.Bool.{false≢true}
 use Rattle.std.proofs.lemmas.Bool.Decides.{nat_tests}
 use Rattle.std.proofs.lemmas.Cmp.{tied_itself, nat_list_cmp_total}
 use Rattle.std.proofs.lemmas.Map.Keys.{IsStrictlyIncreasing-from_sorted}
-use Rattle.std.proofs.lemmas.Map.Text.{is_eq-slice_cmp}
 use Rattle.std.proofs.lemmas.Slice.Eq.{bytes_eq-Decides}
 use Rattle.std.specs.BTreeMap.{BTreeMap, IsOrdered, is_at}
 use Rattle.std.specs.BTreeMap.Range.{range_contains}
@@ -13,17 +12,17 @@ use Rattle.std.specs.FinMap.{slice_cmp-IsAntisymmetric, nat_cmp-IsAntisymmetric}
 use Rattle.std.specs.List.{filter, AllByRecursion}
 use Rattle.std.specs.List.Sorted.{IsStrictlySortedBy}
 use Rattle.std.specs.Map.{keys_of, values_of, lookup}
-use Rattle.std.specs.Ordering.{is_eq, is_gt, is_le, is_lt, nat_cmp, on, ordering_then}
+use Rattle.std.specs.Ordering.{is_eq, is_gt, is_le, is_lt, nat_cmp, ordering_then}
 use Rattle.std.specs.Prelude.{bytes_eq, IfSome}
 use Rattle.std.specs.declared.cmp.Ordering.{Ordering}
 use Rattle.std.specs.declared.cmp.Ordering.TheVariants.{Less, Equal, Greater}
 use Rattle.std.specs.declared.ops.Bound.TheVariants.{Included}
 use Rattle.reg_entries.specs.EntryOrder.{Place, place_cmp, place_of, IsInOrder}
-use Rattle.reg_entries.specs.Index.{entry_at, IsAt, ArePlaced}
+use Rattle.reg_entries.specs.Index.{IsAt, ArePlaced}
 use Rattle.reg_entries.specs.Sought.{HasRisingVersions}
 use Rattle.reg_entries.specs.declared.entry.Entry.{Entry}
 use Rattle.reg_entries.proofs.Chosen.{IsIn}
-use Rattle.reg_entries.proofs.Places.{place_cmp-total, equal, same_place}
+use Rattle.reg_entries.proofs.Places.{place_cmp-total, same_place}
 
 none_found : (p : Place) (es : List (Place × Entry)) → AllByRecursion (λ q. place_cmp p q ≡ Less) (keys_of es) → lookup (is_at (place_cmp p)) es ≡ None
 none_found p [] h = refl

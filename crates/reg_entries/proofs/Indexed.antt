@@ -1,18 +1,12 @@
 -- The names and the greatest versions after an entry is written or removed.
-use Rattle.std.proofs.Common.{◌≡◌, ℕ, ◌+◌, ◌<◌, ◌≤◌, ◌^◌, Bool, true, false, cond, not, ◌&&◌, ◌||◌, ◌==◌, ◌⊎◌, inl, inr, List, Option, Some, None, refl, sym, ap, subst, ◌∙◌, arith}
-use Rattle.std.proofs.lemmas.Bool.{false≢true}
-use Rattle.std.proofs.lemmas.Cmp.{tied_itself}
-use Rattle.std.proofs.lemmas.Map.Text.{is_eq-slice_cmp}
+use Rattle.std.proofs.Common.{◌≡◌, ℕ, ◌<◌, ◌^◌, Bool, true, false, cond, not, ◌&&◌, ◌||◌, ◌==◌, Option, Some, None, refl, sym, ap, subst, ◌∙◌, arith}
 use Rattle.std.specs.BTreeMap.{BTreeMap}
 use Rattle.std.specs.BTreeSet.{BTreeSet, contains}
-use Rattle.std.specs.Cmp.Lexicographic.{slice_cmp}
 use Rattle.std.specs.Option.{option_map_or}
-use Rattle.std.specs.Ordering.{nat_cmp, eq_by_cmp, is_eq, ordering_then}
-use Rattle.std.specs.Prelude.{bytes_eq, IsSome, IfSome}
-use Rattle.std.specs.declared.cmp.Ordering.{Ordering}
-use Rattle.std.specs.declared.cmp.Ordering.TheVariants.{Less, Equal, Greater}
+use Rattle.std.specs.Ordering.{nat_cmp, eq_by_cmp, ordering_then}
+use Rattle.std.specs.Prelude.{IfSome}
 use Rattle.reg_entries.specs.EntryOrder.{Place, place_cmp, place_of}
-use Rattle.reg_entries.specs.Index.{Name, name_of, name_cmp, entry_at, is_named, IsAt, ArePlaced, AreNamed, HasAt, IsGreatest, IsGreatestBelow}
+use Rattle.reg_entries.specs.Index.{Name, name_of, name_cmp, entry_at, is_named, IsAt, ArePlaced, AreNamed, HasAt}
 use Rattle.reg_entries.specs.declared.entry.Entry.{Entry}
 use Rattle.reg_entries.proofs.Places.{name_cmp-ties, equal, then_apart, same_place}
 

@@ -8,3 +8,4 @@ pub mod Below
 pub mod Found
 pub mod Queries
 pub mod Marks
+pub mod Copies

@@ -1,5 +1,5 @@
 -- The orders of places and names.
-use Rattle.std.proofs.Common.{◌≡◌, ℕ, Bool, true, false, refl, sym, ap, ◌∙◌}
+use Rattle.std.proofs.Common.{◌≡◌, true, false, refl, sym}
 use Rattle.std.proofs.lemmas.Bool.{false≢true}
 use Rattle.std.proofs.lemmas.Cmp.{nat_cmp_total, nat_list_cmp_total, on_total, then_total}
 use Rattle.std.specs.Cmp.{IsTotalOrder}
@@ -9,7 +9,7 @@ use Rattle.std.specs.Cmp.Lexicographic.{slice_cmp}
 use Rattle.std.specs.declared.cmp.Ordering.{Ordering}
 use Rattle.std.specs.declared.cmp.Ordering.TheVariants.{Less, Equal, Greater}
 use Rattle.reg_entries.specs.EntryOrder.{Place, place_cmp}
-use Rattle.reg_entries.specs.Index.{Name, name_cmp}
+use Rattle.reg_entries.specs.Index.{name_cmp}
 
 pub place_cmp-total : IsTotalOrder place_cmp
 place_cmp-total = then_total (on_total (λ p. p.0) nat_list_cmp_total) (on_total (λ p. p.1) nat_cmp_total)

@@ -1,18 +1,17 @@
 -- What is found by id and by subject.
-use Rattle.std.proofs.Common.{◌≡◌, ℕ, ◌+◌, ◌<◌, ◌≤◌, Bool, true, false, cond, not, ◌&&◌, ◌==◌, max, List, [], ◌∷◌, map, length, Option, Some, None, refl, sym, ap, subst, ◌∙◌, ◌⊎◌, inl, inr, arith}
+use Rattle.std.proofs.Common.{◌≡◌, ℕ, ◌+◌, ◌<◌, ◌≤◌, true, false, ◌==◌, List, [], ◌∷◌, map, length, Option, Some, None, refl, sym, ap, subst, ◌∙◌, ◌⊎◌, inl, inr, arith}
 use Rattle.std.proofs.lemmas.Bool.{false≢true}
 use Rattle.std.proofs.lemmas.Bool.Decides.{nat_tests}
 use Rattle.std.proofs.lemmas.Cmp.{tied_itself, nat_cmp_total, on_total, then_total}
 use Rattle.std.proofs.lemmas.Slice.Eq.{bytes_eq-Decides}
-use Rattle.std.specs.BTreeMap.{BTreeMap, is_at}
+use Rattle.std.specs.BTreeMap.{BTreeMap}
 use Rattle.std.specs.BTreeSet.{BTreeSet, contains}
 use Rattle.std.specs.Cmp.{IsTotalOrder}
-use Rattle.std.specs.Cmp.Lexicographic.{slice_cmp}
-use Rattle.std.specs.List.{filter, list_any, reduce, AllByRecursion}
+use Rattle.std.specs.List.{filter, list_any}
 use Rattle.std.specs.Map.{values_of}
 use Rattle.std.specs.Option.{option_map_or}
 use Rattle.std.specs.Ordering.{is_eq, is_lt, nat_cmp, ordering_then, ordering_reverse, eq_by_cmp}
-use Rattle.std.specs.Prelude.{bytes_eq, IfSome, IsSome, is_some}
+use Rattle.std.specs.Prelude.{bytes_eq, IfSome, is_some}
 use Rattle.std.specs.declared.cmp.Ordering.{Ordering}
 use Rattle.std.specs.declared.cmp.Ordering.TheVariants.{Less, Equal, Greater}
 use Rattle.std.specs.declared.string.String.{String}
@@ -21,7 +20,7 @@ use Rattle.reg_entries.specs.Index.{Name, name_cmp, name_of, entry_at, is_named,
 use Rattle.reg_entries.specs.Sought.{named, greatest_id, greatest_version}
 use Rattle.reg_entries.specs.declared.entry.Entry.{Entry}
 use Rattle.reg_entries.proofs.Chosen.{IsIn, all_filter, all_map, in_filter, in_map, reduce_none, reduce_greatest, reduce_max, IsUpTo}
-use Rattle.reg_entries.proofs.Found.{all_found, in_values, not_both}
+use Rattle.reg_entries.proofs.Found.{all_found, in_values}
 use Rattle.reg_entries.proofs.Greatest.{is_some_none}
 use Rattle.reg_entries.proofs.Places.{place_cmp-total, name_cmp-total, name_cmp-ties, equal}
 

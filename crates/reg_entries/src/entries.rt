@@ -48,6 +48,19 @@ impl Model for Entries {
     ghost invariant = { λ a. IsIndexed a.entries a.names a.versions };
 }
 
+impl Clone for Entries {
+    ghost is_clone = { λ entries copy. copy ≡ entries };
+
+    fn clone(&self) -> Result<Entries, AllocError> {
+        Ok(Entries {
+            alloc: self.alloc,
+            entries: self.entries.clone()?,
+            names: self.names.clone()?,
+            versions: self.versions.clone()?,
+        })
+    }
+}
+
 impl Entries {
     /// No entry.
     pub fn new(alloc: Global) -> Entries

@@ -39,7 +39,9 @@ fn finds_what_is_put_marked_and_removed(rt: HostRuntime) -> Result<(), Fail> {
     assert_eq!(rt; entries.of_subject("a")?.len(), 3);
     assert_eq!(rt; entries.live_of("a")?.len(), 2);
 
+    let copy = entries.clone()?;
     entries.remove(&(Text::copy_of(alloc, "a")?, 3));
+    assert_eq!(rt; copy.greatest_version("a"), Some(3));
     assert_eq!(rt; entries.all()?.len(), 3);
     assert_eq!(rt; entries.greatest_id(), Some(7));
     assert_eq!(rt; entries.greatest_version("a"), Some(2));

@@ -1,4 +1,4 @@
-use Rattle.std.proofs.Common.{◌≡◌, ◌<◌, false, cond, get_or, length, take_all, option_map, refl, ap, subst, ◌∙◌}
+use Rattle.std.proofs.Common.{◌≡◌, false, cond, get_or, take_all, option_map, refl, ap, subst, ◌∙◌}
 use Rattle.std.proofs.lemmas.List.{get_or_default}
 use Rattle.std.specs.Ordering.{eq_by_cmp}
 use Rattle.reg_entries.specs.EntryOrder.{Place, place_cmp}

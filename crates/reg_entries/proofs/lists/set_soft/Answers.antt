@@ -1,6 +1,6 @@
-use Rattle.std.proofs.Common.{◌≡◌, None, Some, ap, sym, ◌∙◌, rules}
+use Rattle.std.proofs.Common.{◌≡◌, None, Some, ap, ◌∙◌, rules}
 use Rattle.std.specs.Prelude.{is_some}
-use Rattle.reg_entries.specs.Index.{entry_at, HasAt}
+use Rattle.reg_entries.specs.Index.{entry_at}
 use Rattle.reg_entries.specs.Marked.{with_soft}
 use Rattle.reg_entries.proofs.Marks.{soft_at, soft_nowhere}
 use Rattle.reg_entries.proofs.lists.set_soft.Goals as goal

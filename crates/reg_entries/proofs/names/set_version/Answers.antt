@@ -1,4 +1,4 @@
-use Rattle.std.proofs.Common.{◌≡◌, Some, sym, ◌∙◌}
+use Rattle.std.proofs.Common.{Some}
 use Rattle.std.proofs.lemmas.Map.Text.{btree_map_updates_text}
 use Rattle.reg_entries.proofs.Versions.{kept-set}
 use Rattle.reg_entries.proofs.names.set_version.Goals as goal

@@ -5,7 +5,7 @@ use Rattle.std.specs.Map.{lookup}
 use Rattle.std.specs.Option.{option_map_or}
 use Rattle.std.specs.Ordering.{eq_by_cmp}
 use Rattle.reg_entries.specs.EntryOrder.{Place, place_cmp, place_of}
-use Rattle.reg_entries.specs.Index.{Name, name_of, name_cmp, entry_at, is_named, HasAt}
+use Rattle.reg_entries.specs.Index.{Name, name_of, name_cmp, entry_at, HasAt}
 use Rattle.reg_entries.specs.declared.entry.Entry.{Entry}
 use Rattle.reg_entries.proofs.Indexed.{named-new, named-over, named-back, placed-written}
 use Rattle.reg_entries.proofs.names.write.Goals as goal

@@ -1,11 +1,9 @@
 use Rattle.std.proofs.Common.{◌≡◌, ◌≤◌, ℕ, ◌⊎◌, inl, inr, ⊎_elim, List, Some, cond, bytes_eq, sym, ap, subst, ◌∙◌, rules}
-use Rattle.std.proofs.lemmas.Slice.Eq.{bytes_eq-Decides}
-use Rattle.std.specs.BTreeMap.{BTreeMap, get_by_text}
+use Rattle.std.specs.BTreeMap.{get_by_text}
 use Rattle.std.specs.FinMap as finmap
-use Rattle.std.specs.Map.{lookup}
 use Rattle.std.specs.Prelude.{IsSome}
 use Rattle.reg_entries.specs.EntryOrder.{Place, place_cmp, place_of}
-use Rattle.reg_entries.specs.Index.{entry_at, HasAt, IsGreatest, kept_version}
+use Rattle.reg_entries.specs.Index.{kept_version}
 use Rattle.reg_entries.specs.declared.entry.Entry.{Entry}
 use Rattle.reg_entries.proofs.Greatest.{greatest_after_write, greatest_unchanged}
 use Rattle.reg_entries.proofs.Views.{view-written}

@@ -1,9 +1,8 @@
-use Rattle.std.proofs.Common.{◌≡◌, true, false, List, Option, Some, None, cond, bytes_eq, sym, ap, subst, ◌∙◌, rules}
+use Rattle.std.proofs.Common.{◌≡◌, List, Some, None, cond, bytes_eq, sym, ap, subst, ◌∙◌}
 use Rattle.std.specs.BTreeMap.{get_by_text}
 use Rattle.std.specs.FinMap as finmap
 use Rattle.std.specs.Prelude.{IsSome, is_some}
-use Rattle.reg_entries.specs.EntryOrder.{Place, place_cmp, place_of}
-use Rattle.reg_entries.specs.Index.{entry_at, HasAt, IsGreatest, kept_version}
+use Rattle.reg_entries.specs.Index.{entry_at, HasAt, kept_version}
 use Rattle.reg_entries.proofs.Greatest.{greatest_after_lower, greatest_after_remove}
 use Rattle.reg_entries.proofs.Indexed.{named-gone, placed-gone}
 use Rattle.reg_entries.proofs.Versions.{kept_has_room, same_option, different}
