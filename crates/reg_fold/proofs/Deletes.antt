@@ -1,10 +1,13 @@
 -- What a soft delete does to the entries.
-use Rattle.std.proofs.Common.{◌≡◌, ℕ, Bool, true, false, cond, ◌||◌, List, [], bytes_eq, Option, Some, None, option_and_then, option_map, refl, sym, ap, ◌∙◌}
+use Rattle.std.proofs.Common.{◌≡◌, ℕ, Bool, true, false, cond, ◌&&◌, ◌||◌, List, [], bytes_eq, Option, Some, None, option_and_then, option_map, refl, sym, ap, ◌∙◌}
 use Rattle.std.proofs.lemmas.Bool.{false≢true}
+use Rattle.std.proofs.lemmas.Cmp.{tied_itself}
 use Rattle.std.proofs.lemmas.Slice.Eq.{bytes_eq-Decides}
+use Rattle.std.specs.BTreeSet.{BTreeSet, contains}
 use Rattle.std.specs.FinMap as finmap
 use Rattle.std.specs.Prelude.{IfSome}
 use Rattle.std.specs.Option.{option_map_or}
+use Rattle.std.specs.Ordering.{eq_by_cmp, is_eq}
 use Rattle.reg_records.specs.Value.{value_of}
 use Rattle.reg_records.specs.declared.key.Key.{Key}
 use Rattle.reg_records.specs.declared.key.Key.TheVariants as keys
@@ -17,11 +20,13 @@ use Rattle.reg_set.specs.Records.{Records}
 use Rattle.reg_fold.specs.Entries.{entry_in, entry_of, entry_map}
 use Rattle.reg_entries.specs.EntryOrder.{Place}
 use Rattle.reg_fold.specs.Marks.{is_marked}
-use Rattle.reg_fold.specs.Remarked.{is_covered_by, is_soft_after, is_soft_by, is_soft_value}
+use Rattle.reg_fold.specs.Remarked.{is_covered_by, is_soft_after}
+use Rattle.reg_fold.specs.Spots.{HasSpots, Spot, is_deleted, says_deleted, spot_cmp}
 use Rattle.reg_fold.specs.Step.{EntriesAreOfLasts}
 use Rattle.reg_entries.specs.Marked.{with_soft}
 use Rattle.reg_entries.specs.declared.entry.Entry.{Entry}
 use Rattle.reg_fold.proofs.Applies.{is_marked-same}
+use Rattle.reg_fold.proofs.Placed.{spot_cmp-total}
 use Rattle.reg_fold.proofs.Places.{named_by, value_of-named}
 
 abbrev deleted_in_key : Key → List ℕ
@@ -34,10 +39,10 @@ deleted_in_key keys.Noop = []
 different : (s t : List ℕ) (v : ℕ) → keys.DeleteSubject s ≡ keys.Schema t v → ⊥
 different s t v e = cc
 
-module _ (S T : Records) (of_S : EntriesAreOfLasts S) (of_T : EntriesAreOfLasts T) (r : Record) (others : (key : Key) → ¬ (r.key ≡ key) → last T key ≡ last S key) (newest : last T r.key ≡ Some r) (subject : List ℕ) (of_key : r.key ≡ keys.DeleteSubject subject) where
+module _ (S T : Records) (of_S : EntriesAreOfLasts S) (of_T : EntriesAreOfLasts T) (r : Record) (others : (key : Key) → ¬ (r.key ≡ key) → last T key ≡ last S key) (newest : last T r.key ≡ Some r) (deleted : BTreeSet Spot) (has : HasSpots is_deleted S deleted) (subject : List ℕ) (of_key : r.key ≡ keys.DeleteSubject subject) where
   -- an entry of the subject, marked anew
   abbrev pub remarked : Entry → Entry
-  remarked e = cond (bytes_eq e.subject subject) (with_soft (is_soft_after S r e) e) e
+  remarked e = cond (bytes_eq e.subject subject) (with_soft (is_soft_after deleted r e) e) e
 
   -- the marks of the subject are those of the record
   own_marks : (s : List ℕ) (version offset : ℕ) → s ≡ subject → is_marked T s version offset ≡ is_covered_by r version offset
@@ -52,15 +57,22 @@ module _ (S T : Records) (of_S : EntriesAreOfLasts S) (of_T : EntriesAreOfLasts 
   -- what a value gives with the record is what it gave without it, marked anew
   of_value : (x : Record) (o : Option Value) → value_of x ≡ o → last S x.key ≡ Some x → IfSome o (named_by x.key) → option_and_then (entry_in T x.offset) o ≡ option_map remarked (option_and_then (entry_in S x.offset) o)
   of_value x None is lasts named = refl
-  of_value x (Some (values.Schema s version id schema deleted)) is lasts named =
-      let given : Bool → Entry = λ b. record { subject = s; version = version; id = id; text = schema; offset = x.offset; soft = deleted || b } in
+  of_value x (Some (values.Schema s version id schema own)) is lasts named =
+      let given : Bool → Entry = λ b. record { subject = s; version = version; id = id; text = schema; offset = x.offset; soft = own || b } in
       let before : Entry = given (is_marked S s version x.offset) in
-      let soft : is_soft_after S r before ≡ (deleted || is_covered_by r version x.offset) =
-      ap (λ o. option_map_or (is_soft_by r) o false) (ap (last S) (sym named) ∙ lasts) ∙ ap (λ o. option_map_or (is_soft_value r x.offset) o false) is in
-      elim (bytes_eq s subject) as (λ b. bytes_eq s subject ≡ b → Some (given (is_marked T s version x.offset)) ≡ Some (cond b (with_soft (is_soft_after S r before) before) before)) [
+      let spot : Spot = (x.offset, (s, version)) in
+      let says : contains spot_cmp deleted spot ≡ own =
+      has spot ∙ ap (λ o. option_map_or (λ q. is_deleted q && eq_by_cmp spot_cmp (q.offset, (s, version)) spot) o false) (ap (last S) (sym named) ∙ lasts)
+      ∙ ap (λ o. option_map_or says_deleted o false && eq_by_cmp spot_cmp spot spot) is ∙ ap (λ o. own && is_eq o) (tied_itself spot_cmp-total spot) ∙ stays own in
+      let soft : is_soft_after deleted r before ≡ (own || is_covered_by r version x.offset) = ap (λ b. b || is_covered_by r version x.offset) says in
+      elim (bytes_eq s subject) as (λ b. bytes_eq s subject ≡ b → Some (given (is_marked T s version x.offset)) ≡ Some (cond b (with_soft (is_soft_after deleted r before) before) before)) [
         | true ↦ λ t. ap (λ b. Some (given b)) (own_marks s version x.offset ((bytes_eq-Decides s subject).0 t)) ∙ ap (λ b. Some (with_soft b before)) (sym soft)
         | false ↦ λ t. ap (λ b. Some (given b)) (other_marks s version x.offset (λ h. false≢true (sym t ∙ (bytes_eq-Decides s subject).1 h)))
       ] refl
+    where
+      stays : (b : Bool) → (b && true) ≡ b
+      stays true = refl
+      stays false = refl
   of_value x (Some (values.Config level)) is lasts named = refl
   of_value x (Some (values.Mode mode)) is lasts named = refl
   of_value x (Some (values.DeleteSubject s version)) is lasts named = refl

@@ -2,11 +2,11 @@
 use Rattle.std.proofs.Common.{◌≡◌, Bool, true, false, cond, ◌||◌, ◌&&◌, List, [], ◌∷◌, Option, Some, None, refl, sym, ap, ◌∙◌}
 use Rattle.std.proofs.lemmas.Bool.{false≢true}
 use Rattle.std.proofs.lemmas.Cmp.{tied_itself}
-use Rattle.std.specs.BTreeSet.{IsEmpty, IsUnchanged, contains}
+use Rattle.std.specs.BTreeSet.{BTreeSet, IsEmpty, IsUnchanged}
 use Rattle.std.specs.Cmp.{IsTotalOrder}
 use Rattle.std.specs.FinMap as finmap
 use Rattle.std.specs.FinSet as set
-use Rattle.std.specs.List.{filter, filter_map, fold, list_any}
+use Rattle.std.specs.List.{AllZip, filter, filter_map, fold, list_any}
 use Rattle.std.specs.Option.{option_map_or}
 use Rattle.std.specs.Ordering.{eq_by_cmp, is_eq}
 use Rattle.reg_records.specs.declared.key.Key.TheVariants as keys
@@ -19,9 +19,10 @@ use Rattle.reg_fold.specs.Entries.{entries, entry_map, entry_of}
 use Rattle.reg_entries.specs.EntryOrder.{place_cmp}
 use Rattle.reg_fold.specs.Kept.{IsKept}
 use Rattle.reg_fold.specs.Opaque.{is_opaque}
-use Rattle.reg_fold.specs.Unread.{Spot, is_unread, spot_cmp}
+use Rattle.reg_fold.specs.Spots.{Spot, HasSpots, is_deleted, is_spot, spot_cmp}
 use Rattle.reg_entries.specs.declared.entry.Entry.{Entry}
 use Rattle.reg_fold.specs.declared.index.Index.{Index}
+use Rattle.reg_fold.proofs.Spotted.{spots-same}
 
 -- the entries that are kept are those of the last records
 pub values-kept : (index : Index) → IsKept index → finmap.values index.entries ≡ entries index.last
@@ -42,21 +43,32 @@ module _ (total : IsTotalOrder record_cmp) where
   unfolding entry_map
   entry_map-empty = ap (λ found. fold (λ m e. finmap.insert m (e.subject, e.version) e) finmap.empty (filter_map (entry_of set.empty) found)) records_of-empty
 
-  is_unread-empty : (s : Spot) → is_unread set.empty s ≡ false
+  HasSpots-empty : (kind : Record → Bool) (spots : BTreeSet Spot) (rs : Records) → rs ≡ set.empty → IsEmpty spots → HasSpots kind rs spots
   unfolding last
-  is_unread-empty s =
-      ap (λ found. option_map_or (λ r. is_opaque r && eq_by_cmp spot_cmp (r.offset, s.1) s) (greatest age_cmp (filter (is_of (keys.Schema s.1.0 s.1.1)) found)) false) records_of-empty
+  HasSpots-empty kind spots rs rs_are none s =
+      ap (list_any (λ k. is_eq (spot_cmp s k))) none
+      ∙ sym (ap (λ rs. is_spot kind rs s) rs_are
+      ∙ ap (λ found. option_map_or (λ r. kind r && eq_by_cmp spot_cmp (r.offset, s.1) s) (greatest age_cmp (filter (is_of (keys.Schema s.1.0 s.1.1)) found)) false) records_of-empty)
 
   -- without a record nothing is kept
-  pub IsKept-empty : (index : Index) → index.last ≡ set.empty → index.entries ≡ finmap.empty → IsEmpty index.unread → IsKept index
-  IsKept-empty index last_is entries_are none = record {
+  pub IsKept-empty : (index : Index) → index.last ≡ set.empty → index.entries ≡ finmap.empty → IsEmpty index.unread → IsEmpty index.deleted → IsKept index
+  IsKept-empty index last_is entries_are none_unread none_deleted = record {
     all_entries = entries_are ∙ sym (ap entry_map last_is ∙ entry_map-empty);
-    all_unread = λ s. ap (list_any (λ k. is_eq (spot_cmp s k))) none ∙ sym (ap (λ rs. is_unread rs s) last_is ∙ is_unread-empty s);
+    all_unread = HasSpots-empty is_opaque index.unread index.last last_is none_unread;
+    all_deleted = HasSpots-empty is_deleted index.deleted index.last last_is none_deleted;
   }
 
+-- copies of spots that are equal to them
+pub spots-copied : (xs ys : List Spot) → AllZip (λ p q. (q.0 ≡ p.0) × ((q.1.0 ≡ p.1.0) × (q.1.1 ≡ p.1.1))) xs ys → ys ≡ xs
+spots-copied [] [] h = refl
+spots-copied [] (y ∷ ys) h = absurd h
+spots-copied (x ∷ xs) [] h = absurd h
+spots-copied (x ∷ xs) (y ∷ ys) h = λ i. (h.0.0 i, (h.0.1.0 i, h.0.1.1 i)) ∷ spots-copied xs ys h.1 i
+
 -- what is kept of the same records and spots is kept
-pub IsKept-same : (old new : Index) → new.last ≡ old.last → new.entries ≡ old.entries → IsUnchanged old.unread new.unread → IsKept old → IsKept new
-IsKept-same old new last_is entries_are spots kept = record {
+pub IsKept-same : (old new : Index) → new.last ≡ old.last → new.entries ≡ old.entries → IsUnchanged old.unread new.unread → IsUnchanged old.deleted new.deleted → IsKept old → IsKept new
+IsKept-same old new last_is entries_are unread deleted kept = record {
   all_entries = entries_are ∙ kept.all_entries ∙ sym (ap entry_map last_is);
-  all_unread = λ s. ap (list_any (λ k. is_eq (spot_cmp s k))) spots ∙ kept.all_unread s ∙ sym (ap (λ rs. is_unread rs s) last_is);
+  all_unread = spots-same is_opaque old.last new.last old.unread new.unread last_is unread kept.all_unread;
+  all_deleted = spots-same is_deleted old.last new.last old.deleted new.deleted last_is deleted kept.all_deleted;
 }

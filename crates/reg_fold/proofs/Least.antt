@@ -21,11 +21,11 @@ use Rattle.reg_set.specs.RecordOrder.{record_cmp}
 use Rattle.reg_set.specs.Records.{Records, records_of}
 use Rattle.reg_entries.specs.EntryOrder.{Place, place_cmp}
 use Rattle.reg_fold.specs.Opaque.{is_opaque, is_version, opaque}
-use Rattle.reg_fold.specs.Unread.{HasUnread, Spot, is_unread, spot_cmp}
+use Rattle.reg_fold.specs.Spots.{HasSpots, Spot, is_spot, spot_cmp}
 use Rattle.reg_fold.proofs.OfLasts.{last_of_itself}
-use Rattle.reg_fold.proofs.Placed.{place_cmp-total}
+use Rattle.reg_fold.proofs.Placed.{spot_cmp-total}
 use Rattle.reg_fold.proofs.Places.{equal, inside}
-use Rattle.reg_fold.proofs.Unreads.{same_spot}
+use Rattle.reg_fold.proofs.Spotted.{same_spot}
 
 abbrev Has : ℕ → List ℕ → Type 0
 Has m [] = ⊥
@@ -79,9 +79,6 @@ not_above m o h =
       | false ↦ λ t. absurd (h (grind (arith, nat_tests)))
     ] refl
 
-spot_cmp-total : IsTotalOrder spot_cmp
-spot_cmp-total = then_total (on_total (λ s. s.0) nat_cmp_total) (on_total (λ s. s.1) place_cmp-total)
-
 -- of two spots the one that isn't greater has no greater offset
 offset_below : (k s : Spot) → is_gt (spot_cmp k s) ≡ false → k.0 ≤ s.0
 offset_below k s low =
@@ -130,7 +127,7 @@ module _ (total : IsTotalOrder record_cmp) (ties : IsAntisymmetric record_cmp) w
         | false ↦ λ _. rest
       ] refl
 
-  module _ (greatest : LastIsGreatest) (S : Records) (are_last : last_records S ≡ S) (unread : BTreeSet Spot) (has : HasUnread S unread) where
+  module _ (greatest : LastIsGreatest) (S : Records) (are_last : last_records S ≡ S) (unread : BTreeSet Spot) (has : HasSpots is_opaque S unread) where
     lasts : (r : Record) → set.contains S r ≡ true → last S r.key ≡ Some r
     lasts = last_of_itself total ties S are_last
 

@@ -8,5 +8,5 @@ mod News
 mod OfLasts
 mod Placed
 mod Places
+mod Spotted
 mod Steps
-mod Unreads

@@ -14,9 +14,13 @@ use Rattle.std.specs.Ordering.{match_ordering}
 use Rattle.std.specs.declared.cmp.Ordering.TheVariants.{Less, Equal, Greater}
 use Rattle.reg_entries.specs.EntryOrder.{Place, place_cmp, place_of}
 use Rattle.reg_entries.specs.declared.entry.Entry.{Entry}
+use Rattle.reg_fold.specs.Spots.{spot_cmp}
 
 pub place_cmp-total : IsTotalOrder place_cmp
 place_cmp-total = then_total (on_total (λ p. p.0) nat_list_cmp_total) (on_total (λ p. p.1) nat_cmp_total)
+
+pub spot_cmp-total : IsTotalOrder spot_cmp
+spot_cmp-total = then_total (on_total (λ s. s.0) nat_cmp_total) (on_total (λ s. s.1) place_cmp-total)
 
 -- the map with the entry at its place
 abbrev pub placed : finmap.FinMap place_cmp Entry → Entry → finmap.FinMap place_cmp Entry

@@ -1,9 +1,11 @@
 -- Private: what a registry keeps beside its last records, so that it reads each of them once.
 use Rattle.std.specs.Prelude.{◌≡◌}
 use Rattle.reg_fold.specs.Entries.{entry_map}
-use Rattle.reg_fold.specs.Unread.{HasUnread}
+use Rattle.reg_fold.specs.Opaque.{is_opaque}
+use Rattle.reg_fold.specs.Spots.{HasSpots, is_deleted}
 use Rattle.reg_fold.specs.declared.index.Index.{Index}
 
 pub record IsKept (index : Index) : Type 0 where
   pub all_entries : index.entries ≡ entry_map index.last
-  pub all_unread : HasUnread index.last index.unread
+  pub all_unread : HasSpots is_opaque index.last index.unread
+  pub all_deleted : HasSpots is_deleted index.last index.deleted

@@ -6,6 +6,6 @@ pub mod Named
 pub mod Opaque
 pub mod Refusal
 pub mod Remarked
+pub mod Spots
 pub mod Standing
 pub mod Step
-pub mod Unread

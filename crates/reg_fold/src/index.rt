@@ -7,16 +7,18 @@ ghost use Rattle.reg_set.specs.LastRecords.{last, last_records, with_last};
 ghost use Rattle.reg_fold.specs.Entries.{AreOfLasts, entries, entry_of};
 ghost use Rattle.reg_fold.specs.Opaque.{is_version, opaque};
 ghost use Rattle.reg_fold.specs.Remarked.{is_delete, is_soft_after};
+ghost use Rattle.reg_fold.specs.Spots.{is_deleted};
 ghost use Rattle.reg_fold.specs.Step.{EntriesAreOfLasts, IsStep};
+ghost use Rattle.reg_entries.specs.EntryOrder.{place_of};
 ghost use Rattle.reg_entries.specs.Marked.{MarksEach};
 ghost use Rattle.reg_entries.specs.Sought.{of_subject};
 
 use crate::marks::marks_of;
-use crate::reading::entry_of;
-use crate::unread::{Spot, elsewhere, forget};
+use crate::reading::{Reading, reading_of};
+use crate::spots::{Spot, forget, forget_elsewhere, spot_of};
 use base_text::Text;
 use reg_entries::{Entries, Entry, Mark};
-use reg_records::{Key, Record};
+use reg_records::{Key, Record, decode_value};
 use reg_set::{LastRecords, last_is_greatest, last_records_are_enough, records_are_ordered};
 use std::alloc::{AllocError, Global};
 use std::collections::BTreeSet;
@@ -30,6 +32,24 @@ pub(crate) struct Index {
     pub(crate) entries: Entries,
     // Where the opaque versions are.
     pub(crate) unread: BTreeSet<Spot>,
+    // Where the versions are whose own values say deleted.
+    pub(crate) deleted: BTreeSet<Spot>,
+}
+
+impl Clone for Index {
+    ghost use Rattle.reg_fold.specs.Kept.{IsKept};
+
+    ghost is_clone = { λ index copy. (copy.last ≡ index.last) × (IsKept index → IsKept copy) };
+
+    fn clone(&self) -> Result<Index, AllocError> {
+        Ok(Index {
+            alloc: self.alloc,
+            last: self.last.clone()?,
+            entries: self.entries.clone()?,
+            unread: self.unread.clone()?,
+            deleted: self.deleted.clone()?,
+        })
+    }
 }
 
 impl Index {
@@ -46,6 +66,7 @@ impl Index {
             last: LastRecords::new(alloc),
             entries: Entries::new(alloc),
             unread: BTreeSet::new(alloc),
+            deleted: BTreeSet::new(alloc),
         }
     }
 
@@ -81,14 +102,25 @@ impl Index {
         ensures refused { OnErr result (self.new.last ≡ self.old.last) }
     {
         let place = (subject.clone()?, version);
-        match entry_of(self.alloc, &self.last, given)? {
-            Some(entry) => self.put_entry(given, place, entry),
+        match reading_of(self.alloc, &self.last, given)? {
+            Some(
+                Reading {
+                    entry,
+                    deleted: false,
+                },
+            ) => self.put_entry(given, place, entry),
+            Some(
+                Reading {
+                    entry,
+                    deleted: true,
+                },
+            ) => self.put_deleted(given, place, entry),
             None if given.value.is_some() => self.put_unread(given, place),
             None => self.put_tombstone(given, place),
         }
     }
 
-    /// Adds a version's record that gives an entry.
+    /// Adds a version's record that gives an entry and doesn't say deleted.
     fn put_entry(
         &mut self,
         given: &Record,
@@ -99,17 +131,50 @@ impl Index {
         requires news { last_records (set.insert self.old.last given.now) ≢ self.old.last }
         requires of_key { given.now.key ≡ keys.Schema place.0 place.1 }
         requires gives { entry_of self.old.last given.now ≡ Some entry }
+        requires own { is_deleted given.now ≡ false }
         ensures kept { IsKept self.new }
         ensures added { OnOk result (self.new.last ≡ last_records (set.insert self.old.last given.now)) }
         ensures refused { OnErr result (self.new.last ≡ self.old.last) }
     {
-        let before = put_last(&mut self.last, given)?;
-        if let Err(refused) = self.entries.put(entry) {
-            self.last.put_back(&given.key, before);
-            return Err(refused);
-        }
-        forget(&mut self.unread, before, place);
+        let before = put_with(&mut self.last, &mut self.entries, given, entry)?;
+        let spot = spot_of(before, place);
+        forget(&mut self.unread, &spot);
+        forget(&mut self.deleted, &spot);
         Ok(())
+    }
+
+    /// Adds a version's record that gives an entry and says deleted itself.
+    fn put_deleted(
+        &mut self,
+        given: &Record,
+        place: (Text, u32),
+        entry: Entry,
+    ) -> Result<(), AllocError>
+        requires kept { IsKept self.old }
+        requires news { last_records (set.insert self.old.last given.now) ≢ self.old.last }
+        requires of_key { given.now.key ≡ keys.Schema place.0 place.1 }
+        requires gives { entry_of self.old.last given.now ≡ Some entry }
+        requires own { is_deleted given.now ≡ true }
+        ensures kept { IsKept self.new }
+        ensures added { OnOk result (self.new.last ≡ last_records (set.insert self.old.last given.now)) }
+        ensures refused { OnErr result (self.new.last ≡ self.old.last) }
+    {
+        let here = (given.offset, (place.0.clone()?, place.1));
+        let is_new = self.deleted.insert(here)?;
+        match put_with(&mut self.last, &mut self.entries, given, entry) {
+            Ok(before) => {
+                let spot = spot_of(before, place);
+                forget(&mut self.unread, &spot);
+                forget_elsewhere(&mut self.deleted, &spot, given.offset);
+                Ok(())
+            }
+            Err(refused) => {
+                if is_new {
+                    self.deleted.remove(&(given.offset, place));
+                }
+                Err(refused)
+            }
+        }
     }
 
     /// Adds a version's record without a value.
@@ -119,13 +184,16 @@ impl Index {
         requires of_key { given.now.key ≡ keys.Schema place.0 place.1 }
         requires gives { entry_of self.old.last given.now ≡ None }
         requires no_value { is_some given.now.value ≡ false }
+        requires own { is_deleted given.now ≡ false }
         ensures kept { IsKept self.new }
         ensures added { OnOk result (self.new.last ≡ last_records (set.insert self.old.last given.now)) }
         ensures refused { OnErr result (self.new.last ≡ self.old.last) }
     {
         let before = put_last(&mut self.last, given)?;
         self.entries.remove(&place);
-        forget(&mut self.unread, before, place);
+        let spot = spot_of(before, place);
+        forget(&mut self.unread, &spot);
+        forget(&mut self.deleted, &spot);
         Ok(())
     }
 
@@ -136,19 +204,22 @@ impl Index {
         requires of_key { given.now.key ≡ keys.Schema place.0 place.1 }
         requires gives { entry_of self.old.last given.now ≡ None }
         requires has_text { is_some given.now.value ≡ true }
+        requires own { is_deleted given.now ≡ false }
         ensures kept { IsKept self.new }
         ensures added { OnOk result (self.new.last ≡ last_records (set.insert self.old.last given.now)) }
         ensures refused { OnErr result (self.new.last ≡ self.old.last) }
     {
-        let spot = (given.offset, (place.0.clone()?, place.1));
+        let here = (given.offset, (place.0.clone()?, place.1));
         let before = put_last(&mut self.last, given)?;
-        if let Err(refused) = self.unread.insert(spot) {
+        if let Err(refused) = self.unread.insert(here) {
             self.last.put_back(&given.key, before);
             return Err(AllocError::from(refused));
         }
         self.entries.remove(&place);
         // At one offset the earlier record was where this one is.
-        forget(&mut self.unread, elsewhere(before, given.offset), place);
+        let spot = spot_of(before, place);
+        forget_elsewhere(&mut self.unread, &spot, given.offset);
+        forget(&mut self.deleted, &spot);
         Ok(())
     }
 
@@ -171,11 +242,12 @@ impl Index {
 
     /// The marks of a subject's entries once that is its last soft delete.
     fn marks(&self, given: &Record, subject: &Text) -> Result<Vec<Mark>, AllocError>
-        ensures { IfOk result (λ marks. MarksEach (is_soft_after self.now.last given.now) marks.items
+        ensures { IfOk result (λ marks. MarksEach (is_soft_after self.now.deleted given.now) marks.items
             (of_subject (finmap.values self.now.entries) subject.now)) }
     {
         let found = self.entries.of_subject(subject.as_str())?;
-        marks_of(self.alloc, &self.last, &found, given)
+        let value = decode_value(self.alloc, given)?;
+        marks_of(self.alloc, &self.deleted, &found, given, &value)
     }
 
     /// Adds the record of another key that is news.
@@ -213,6 +285,30 @@ impl Index {
         let first = self.unread.first()?;
         Some(first.0)
     }
+}
+
+/// Makes a version's record that is news the last of its key, puts its entry, and gives the record
+/// before. The only error is want of memory; all is then as it was.
+fn put_with(
+    lasts: &mut LastRecords,
+    entries: &mut Entries,
+    given: &Record,
+    entry: Entry,
+) -> Result<Option<Record>, AllocError>
+    requires { last_records (set.insert lasts.old given.now) ≢ lasts.old }
+    ensures added { OnOk result (lasts.new ≡ last_records (set.insert lasts.old given.now)) }
+    ensures step { OnOk result (IsStep lasts.old lasts.new given.now) }
+    ensures before { IfOk result (λ before. before ≡ last lasts.old given.now.key) }
+    ensures put { OnOk result (entries.new ≡ finmap.insert entries.old (place_of entry) entry) }
+    ensures lasts_stay { OnErr result (lasts.new ≡ lasts.old) }
+    ensures entries_stay { OnErr result (entries.new ≡ entries.old) }
+{
+    let before = put_last(lasts, given)?;
+    if let Err(refused) = entries.put(entry) {
+        lasts.put_back(&given.key, before);
+        return Err(refused);
+    }
+    Ok(before)
 }
 
 /// Makes a record that is news the last of its key, and gives the one before.

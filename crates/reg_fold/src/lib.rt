@@ -6,7 +6,7 @@ mod marks;
 mod reading;
 mod refusal;
 mod registry;
-mod unread;
+mod spots;
 
 pub use refusal::{Refusal, StoreFault};
 pub use reg_entries::Entry;

@@ -1,14 +1,18 @@
 // What the last soft delete of a subject marks.
-ghost use Rattle.std.specs.Prelude.{◌≡◌, IfOk, map};
-ghost use Rattle.reg_fold.specs.Marks.{is_marked};
-ghost use Rattle.reg_fold.specs.Remarked.{is_covered_by, is_soft_by, is_soft_after};
+ghost use Rattle.std.specs.Prelude.{◌≡◌, IfOk, false, map};
+ghost use Rattle.std.specs.Option.{option_map_or};
+ghost use Rattle.reg_records.specs.Value.{value_of};
+ghost use Rattle.reg_fold.specs.Marks.{covers, is_marked};
+ghost use Rattle.reg_fold.specs.Remarked.{is_soft_after};
 ghost use Rattle.reg_entries.specs.Marked.{MarksEach};
 
+use crate::spots::Spot;
 use base_text::Text;
 use reg_entries::{Entry, Mark};
 use reg_records::{Key, Record, Value, decode_value};
 use reg_set::LastRecords;
 use std::alloc::{AllocError, Global};
+use std::collections::BTreeSet;
 
 /// Whether a soft delete of the subject came after that version and offset, and covers them.
 #[tactic(auto, unfolding(crate::specs::Marks::is_marked))]
@@ -23,81 +27,67 @@ pub(crate) fn is_marked(
 {
     let key = Key::DeleteSubject(subject.clone()?);
     match last.last(&key) {
-        Some(delete) => is_covered(alloc, delete, version, offset),
+        Some(delete) => {
+            let value = decode_value(alloc, delete)?;
+            Ok(is_covered(&value, delete.offset, version, offset))
+        }
         None => Ok(false),
     }
 }
 
-/// Whether a soft delete covers what is at that version and offset.
-fn is_covered(alloc: Global, delete: &Record, version: u32, offset: u64) -> Result<bool, AllocError>
-    ensures { IfOk result (λ covered. covered ≡ is_covered_by delete.now version offset) }
+/// Whether a soft delete of that value, if it has one, at an offset covers what is at that version
+/// and offset.
+fn is_covered(value: &Option<Value>, at: u64, version: u32, offset: u64) -> bool
+    ensures { result ≡ option_map_or (λ value. covers at value version offset) value.now false }
 {
-    match decode_value(alloc, delete)? {
+    match value {
         Some(
             Value::DeleteSubject {
                 version: greatest,
                 ..
             },
-        ) => Ok(version <= greatest && offset < delete.offset),
+        ) => version <= *greatest && offset < at,
         Some(Value::Schema { .. } | Value::Config(_) | Value::Mode(_) | Value::Noop) | None => {
-            Ok(false)
+            false
         }
     }
 }
 
-/// The marks of some entries of a subject once that is its last soft delete.
+/// The marks of some entries of a subject once that is its last soft delete, with that value. No
+/// other record is read: `deleted` are the spots of the versions whose own values say deleted.
 pub(crate) fn marks_of(
     alloc: Global,
-    last: &LastRecords,
+    deleted: &BTreeSet<Spot>,
     entries: &[&Entry],
     delete: &Record,
+    value: &Option<Value>,
 ) -> Result<Vec<Mark>, AllocError>
+    requires { value.now ≡ value_of delete.now }
     ensures { IfOk result (λ marks.
-        MarksEach (is_soft_after last.now delete.now) marks.items (map (λ e. e.now) entries.now)) }
+        MarksEach (is_soft_after deleted.now delete.now) marks.items (map (λ e. e.now) entries.now)) }
 {
     let mut marks = Vec::new(alloc);
     for entry in entries {
-        marks.push(mark_of(alloc, last, entry, delete)?)?;
+        marks.push(mark_of(deleted, entry, delete, value)?)?;
     }
     Ok(marks)
 }
 
+/// The mark of an entry once that is the last soft delete of its subject, with that value.
 fn mark_of(
-    alloc: Global,
-    last: &LastRecords,
+    deleted: &BTreeSet<Spot>,
     entry: &Entry,
     delete: &Record,
+    value: &Option<Value>,
 ) -> Result<Mark, AllocError>
+    requires { value.now ≡ value_of delete.now }
     ensures { IfOk result (λ mark.
-        mark ≡ record { version = entry.now.version; soft = is_soft_after last.now delete.now entry.now }) }
+        mark ≡ record { version = entry.now.version; soft = is_soft_after deleted.now delete.now entry.now }) }
 {
-    let key = Key::Schema {
-        subject: entry.subject.clone()?,
-        version: entry.version,
-    };
-    let soft = match last.last(&key) {
-        Some(record) => is_soft_by(alloc, delete, record)?,
-        None => false,
-    };
+    let spot = (entry.offset, (entry.subject.clone()?, entry.version));
+    let covered = is_covered(value, delete.offset, entry.version, entry.offset);
     Ok(Mark {
         version: entry.version,
-        soft,
+        soft: deleted.contains(&spot) || covered,
     })
-}
-
-/// Whether a version's record gives a soft entry, by itself or by that soft delete.
-fn is_soft_by(alloc: Global, delete: &Record, given: &Record) -> Result<bool, AllocError>
-    ensures { IfOk result (λ soft. soft ≡ is_soft_by delete.now given.now) }
-{
-    match decode_value(alloc, given)? {
-        Some(
-            Value::Schema {
-                version,
-                deleted,
-                ..
-            },
-        ) => Ok(deleted || is_covered(alloc, delete, version, given.offset)?),
-        Some(Value::Config(_) | Value::Mode(_) | Value::DeleteSubject { .. } | Value::Noop)
-        | None => Ok(false),
-    }
 }

@@ -47,9 +47,9 @@ impl Clone for Registry {
     ghost is_clone = { λ registry copy. copy ≡ registry };
 
     fn clone(&self) -> Result<Registry, AllocError> {
-        self.index.last.is_compact();
-        let alloc = self.index.alloc;
-        Registry::over(alloc, &self.index.last.records(alloc)?)
+        Ok(Registry {
+            index: self.index.clone()?,
+        })
     }
 }
 

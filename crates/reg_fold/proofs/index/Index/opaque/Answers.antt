@@ -1,6 +1,6 @@
 use Rattle.std.proofs.Common.{◌≡◌, ◌<◌, false, true, List, [], ◌∷◌, length, refl, ◌∙◌, arith}
 use Rattle.std.proofs.lemmas.Bool.{false≢true}
-use Rattle.reg_fold.specs.Unread.{Spot}
+use Rattle.reg_fold.specs.Spots.{Spot}
 use Rattle.reg_fold.proofs.Least.{opaque-least, opaque-none}
 use Rattle.reg_fold.proofs.index.Index.opaque.Goals as goal
 

@@ -1,9 +1,10 @@
--- What a step does to the places of the opaque versions.
+-- What a step does to the spots of the versions of a kind.
 use Rattle.std.proofs.Common.{◌≡◌, ℕ, Bool, true, false, cond, not, ◌&&◌, ◌==◌, codes, List, is_none, is_some, option_map, Option, Some, None, option_and_then, refl, sym, ap, subst, ◌∙◌}
 use Rattle.std.proofs.lemmas.Bool.{false≢true, eq-eqb, eqb-true}
 use Rattle.std.proofs.lemmas.Cmp.{tied_itself}
 use Rattle.std.specs.BTreeSet.{BTreeSet, contains, Updates}
 use Rattle.std.specs.FinMap.{nat_cmp-IsAntisymmetric}
+use Rattle.std.specs.List.{list_any}
 use Rattle.std.specs.Option.{option_map_or}
 use Rattle.std.specs.Ordering.{eq_by_cmp, is_eq, nat_cmp}
 use Rattle.std.specs.Prelude.{IfSome}
@@ -23,7 +24,7 @@ use Rattle.reg_fold.specs.Entries.{entry_in, entry_of}
 use Rattle.reg_entries.specs.EntryOrder.{Place, place_cmp}
 use Rattle.reg_fold.specs.Opaque.{is_opaque, is_version}
 use Rattle.reg_fold.specs.Step.{IsStep}
-use Rattle.reg_fold.specs.Unread.{Forgets, HasUnread, Spot, elsewhere, is_spot_of, is_unread, spot_cmp}
+use Rattle.reg_fold.specs.Spots.{Forgets, HasSpots, Spot, elsewhere, is_spot, spot_cmp, spot_of}
 use Rattle.reg_entries.specs.declared.entry.Entry.{Entry}
 use Rattle.reg_fold.proofs.InOrder.{place_cmp-ties, then_ties}
 use Rattle.reg_fold.proofs.Placed.{place_cmp-total}
@@ -150,75 +151,101 @@ unreadable S r p of_key text gives =
           | Some v ↦ λ shape none. absurd (some_entry v shape none)
         ] (value_shape r p of_key) gives
 
-module _ (S T : Records) (r : Record) (step : IsStep S T r) where
-  -- an opaque version of another place is where it was
-  same_unread : (s : Spot) → ¬ (r.key ≡ keys.Schema s.1.0 s.1.1) → is_unread T s ≡ is_unread S s
-  same_unread s apart = ap (λ o. option_map_or (λ x. is_opaque x && eq_by_cmp spot_cmp (x.offset, s.1) s) o false) (step.others (keys.Schema s.1.0 s.1.1) apart)
+-- whether that is the spot, if there is one
+abbrev is_that : Option Spot → Spot → Bool
+is_that spot s = option_map_or (λ t. eq_by_cmp spot_cmp t s) spot false
 
-  pub unread-other : is_version r.key ≡ false → (u : BTreeSet Spot) → HasUnread S u → HasUnread T u
-  unread-other other u has s = has s ∙ sym (same_unread s (no_version r.key other s.1))
+module _ (kind : Record → Bool) (S T : Records) (r : Record) (step : IsStep S T r) where
+  -- a version of another place is where it was
+  same_spots : (s : Spot) → ¬ (r.key ≡ keys.Schema s.1.0 s.1.1) → is_spot kind T s ≡ is_spot kind S s
+  same_spots s apart = ap (λ o. option_map_or (λ x. kind x && eq_by_cmp spot_cmp (x.offset, s.1) s) o false) (step.others (keys.Schema s.1.0 s.1.1) apart)
 
-  module _ (p : Place) (of_key : r.key ≡ keys.Schema p.0 p.1) (before : Option Record) (was : before ≡ last S r.key) (u : BTreeSet Spot) (has : HasUnread S u) where
+  pub spots-other : is_version r.key ≡ false → (u : BTreeSet Spot) → HasSpots kind S u → HasSpots kind T u
+  spots-other other u has s = has s ∙ sym (same_spots s (no_version r.key other s.1))
+
+  module _ (p : Place) (of_key : r.key ≡ keys.Schema p.0 p.1) (before : Option Record) (was : before ≡ last S r.key) (u : BTreeSet Spot) (has : HasSpots kind S u) where
     other_key : (s : Spot) → ¬ (s.1 ≡ p) → ¬ (r.key ≡ keys.Schema s.1.0 s.1.1)
     other_key s apart same =
         let k : keys.Schema s.1.0 s.1.1 ≡ keys.Schema p.0 p.1 = sym same ∙ of_key in
         apart (λ i. (subject_of (k i), version_of (k i)))
 
-    not_spot : (s : Spot) → ¬ (s.1 ≡ p) → (o : Option Record) → is_spot_of o p s ≡ false
-    not_spot s apart None = refl
-    not_spot s apart (Some b) = other_place b.offset p s apart
-
     -- at the record's own place
-    now_unread : (s : Spot) → s.1 ≡ p → is_unread T s ≡ (is_opaque r && eq_by_cmp spot_cmp (r.offset, p) s)
-    now_unread s here =
-        ap (λ (q : Place). option_map_or (λ x. is_opaque x && eq_by_cmp spot_cmp (x.offset, q) s) (last T (keys.Schema q.0 q.1)) false) here
-        ∙ ap (λ o. option_map_or (λ x. is_opaque x && eq_by_cmp spot_cmp (x.offset, p) s) o false) (ap (last T) (sym of_key) ∙ step.newest)
+    now_spot : (s : Spot) → s.1 ≡ p → is_spot kind T s ≡ (kind r && eq_by_cmp spot_cmp (r.offset, p) s)
+    now_spot s here =
+        ap (λ (q : Place). option_map_or (λ x. kind x && eq_by_cmp spot_cmp (x.offset, q) s) (last T (keys.Schema q.0 q.1)) false) here
+        ∙ ap (λ o. option_map_or (λ x. kind x && eq_by_cmp spot_cmp (x.offset, p) s) o false) (ap (last T) (sym of_key) ∙ step.newest)
 
-    was_unread : (s : Spot) → s.1 ≡ p → is_unread S s ≡ option_map_or (λ x. is_opaque x && eq_by_cmp spot_cmp (x.offset, p) s) before false
-    was_unread s here =
-        ap (λ (q : Place). option_map_or (λ x. is_opaque x && eq_by_cmp spot_cmp (x.offset, q) s) (last S (keys.Schema q.0 q.1)) false) here
-        ∙ ap (λ o. option_map_or (λ x. is_opaque x && eq_by_cmp spot_cmp (x.offset, p) s) o false) (ap (last S) (sym of_key) ∙ sym was)
+    was_spot : (s : Spot) → s.1 ≡ p → is_spot kind S s ≡ option_map_or (λ x. kind x && eq_by_cmp spot_cmp (x.offset, p) s) before false
+    was_spot s here =
+        ap (λ (q : Place). option_map_or (λ x. kind x && eq_by_cmp spot_cmp (x.offset, q) s) (last S (keys.Schema q.0 q.1)) false) here
+        ∙ ap (λ o. option_map_or (λ x. kind x && eq_by_cmp spot_cmp (x.offset, p) s) o false) (ap (last S) (sym of_key) ∙ sym was)
 
     -- the earlier record's spot is forgotten
-    pub unread-forgotten : is_opaque r ≡ false → (n : BTreeSet Spot) → Forgets before p u n → HasUnread T n
-    unread-forgotten clear n forgets s =
-        forgets s ∙ ap (λ b. b && not (is_spot_of before p s)) (has s)
-        ∙ elim (eq_by_cmp place_cmp s.1 p) as (λ b. eq_by_cmp place_cmp s.1 p ≡ b → (is_unread S s && not (is_spot_of before p s)) ≡ is_unread T s) [
+    pub spots-forgotten : kind r ≡ false → (n : BTreeSet Spot) → Forgets (spot_of before p) u n → HasSpots kind T n
+    spots-forgotten clear n forgets s =
+        forgets s ∙ ap (λ b. b && not (is_that (spot_of before p) s)) (has s)
+        ∙ elim (eq_by_cmp place_cmp s.1 p) as (λ b. eq_by_cmp place_cmp s.1 p ≡ b → (is_spot kind S s && not (is_that (spot_of before p) s)) ≡ is_spot kind T s) [
           | true ↦ λ t.
               let here : s.1 ≡ p = place_cmp-ties s.1 p (equal _ t) in
-              ap (λ b. b && not (is_spot_of before p s)) (was_unread s here) ∙ none_left before s ∙ sym (now_unread s here ∙ ap (λ b. b && eq_by_cmp spot_cmp (r.offset, p) s) clear)
+              ap (λ b. b && not (is_that (spot_of before p) s)) (was_spot s here) ∙ none_left before s ∙ sym (now_spot s here ∙ ap (λ b. b && eq_by_cmp spot_cmp (r.offset, p) s) clear)
           | false ↦ λ t.
               let apart : ¬ (s.1 ≡ p) = λ h. false≢true (sym t ∙ itself s.1 p h) in
-              ap (λ b. is_unread S s && not b) (not_spot s apart before) ∙ stays (is_unread S s) ∙ sym (same_unread s (other_key s apart))
+              ap (λ b. is_spot kind S s && not b) (not_spot s apart before) ∙ stays (is_spot kind S s) ∙ sym (same_spots s (other_key s apart))
         ] refl
       where
-        none_left : (o : Option Record) (s : Spot) → (option_map_or (λ x. is_opaque x && eq_by_cmp spot_cmp (x.offset, p) s) o false && not (is_spot_of o p s)) ≡ false
+        not_spot : (s : Spot) → ¬ (s.1 ≡ p) → (o : Option Record) → is_that (spot_of o p) s ≡ false
+        not_spot s apart None = refl
+        not_spot s apart (Some b) = other_place b.offset p s apart
+
+        none_left : (o : Option Record) (s : Spot) → (option_map_or (λ x. kind x && eq_by_cmp spot_cmp (x.offset, p) s) o false && not (is_that (spot_of o p) s)) ≡ false
         none_left None s = refl
-        none_left (Some b) s = gone (is_opaque b) (eq_by_cmp spot_cmp (b.offset, p) s)
+        none_left (Some b) s = gone (kind b) (eq_by_cmp spot_cmp (b.offset, p) s)
 
     -- the record's own spot is put, and the earlier one's is forgotten
-    pub unread-put : is_opaque r ≡ true → (m n : BTreeSet Spot) → Updates spot_cmp u m (r.offset, p) true → Forgets (elsewhere before r.offset) p m n → HasUnread T n
-    unread-put unread m n put forgets s =
-        forgets s ∙ ap (λ b. b && not (is_spot_of (elsewhere before r.offset) p s)) (put.0 s ∙ ap (cond (eq_by_cmp spot_cmp (r.offset, p) s) true) (has s))
-        ∙ elim (eq_by_cmp place_cmp s.1 p) as (λ b. eq_by_cmp place_cmp s.1 p ≡ b → (cond (eq_by_cmp spot_cmp (r.offset, p) s) true (is_unread S s) && not (is_spot_of (elsewhere before r.offset) p s)) ≡ is_unread T s) [
+    pub spots-put : kind r ≡ true → (m n : BTreeSet Spot) → Updates spot_cmp u m (r.offset, p) true → Forgets (elsewhere (spot_of before p) r.offset) m n → HasSpots kind T n
+    spots-put own m n put forgets s =
+        forgets s ∙ ap (λ b. b && not (is_that (elsewhere (spot_of before p) r.offset) s)) (put.0 s ∙ ap (cond (eq_by_cmp spot_cmp (r.offset, p) s) true) (has s))
+        ∙ elim (eq_by_cmp place_cmp s.1 p) as (λ b. eq_by_cmp place_cmp s.1 p ≡ b → (cond (eq_by_cmp spot_cmp (r.offset, p) s) true (is_spot kind S s) && not (is_that (elsewhere (spot_of before p) r.offset) s)) ≡ is_spot kind T s) [
           | true ↦ λ t.
               let here : s.1 ≡ p = place_cmp-ties s.1 p (equal _ t) in
-              ap (λ b. cond (eq_by_cmp spot_cmp (r.offset, p) s) true b && not (is_spot_of (elsewhere before r.offset) p s)) (was_unread s here)
-              ∙ one_left before s ∙ sym (now_unread s here ∙ ap (λ b. b && eq_by_cmp spot_cmp (r.offset, p) s) unread)
+              ap (λ b. cond (eq_by_cmp spot_cmp (r.offset, p) s) true b && not (is_that (elsewhere (spot_of before p) r.offset) s)) (was_spot s here)
+              ∙ one_left before s ∙ sym (now_spot s here ∙ ap (λ b. b && eq_by_cmp spot_cmp (r.offset, p) s) own)
           | false ↦ λ t.
               let apart : ¬ (s.1 ≡ p) = λ h. false≢true (sym t ∙ itself s.1 p h) in
-              ap (λ b. cond b true (is_unread S s) && not (is_spot_of (elsewhere before r.offset) p s)) (other_place r.offset p s apart)
-              ∙ ap (λ b. is_unread S s && not b) (not_spot s apart (elsewhere before r.offset)) ∙ stays (is_unread S s) ∙ sym (same_unread s (other_key s apart))
+              ap (λ b. cond b true (is_spot kind S s) && not (is_that (elsewhere (spot_of before p) r.offset) s)) (other_place r.offset p s apart)
+              ∙ ap (λ b. is_spot kind S s && not b) (not_elsewhere s apart before) ∙ stays (is_spot kind S s) ∙ sym (same_spots s (other_key s apart))
         ] refl
       where
-        one_left : (o : Option Record) (s : Spot) → (cond (eq_by_cmp spot_cmp (r.offset, p) s) true (option_map_or (λ x. is_opaque x && eq_by_cmp spot_cmp (x.offset, p) s) o false) && not (is_spot_of (elsewhere o r.offset) p s)) ≡ eq_by_cmp spot_cmp (r.offset, p) s
+        not_elsewhere : (s : Spot) → ¬ (s.1 ≡ p) → (o : Option Record) → is_that (elsewhere (spot_of o p) r.offset) s ≡ false
+        not_elsewhere s apart None = refl
+        not_elsewhere s apart (Some b) =
+            elim (b.offset == r.offset) as (λ t. is_that (cond t None (Some (b.offset, p))) s ≡ false) [
+              | true ↦ refl
+              | false ↦ other_place b.offset p s apart
+            ]
+
+        one_left : (o : Option Record) (s : Spot) → (cond (eq_by_cmp spot_cmp (r.offset, p) s) true (option_map_or (λ x. kind x && eq_by_cmp spot_cmp (x.offset, p) s) o false) && not (is_that (elsewhere (spot_of o p) r.offset) s)) ≡ eq_by_cmp spot_cmp (r.offset, p) s
         one_left None s = put_here (eq_by_cmp spot_cmp (r.offset, p) s) false
         one_left (Some b) s =
-            elim (b.offset == r.offset) as (λ t. (b.offset == r.offset) ≡ t → (cond (eq_by_cmp spot_cmp (r.offset, p) s) true (is_opaque b && eq_by_cmp spot_cmp (b.offset, p) s) && not (is_spot_of (cond t None (Some b)) p s)) ≡ eq_by_cmp spot_cmp (r.offset, p) s) [
+            elim (b.offset == r.offset) as (λ t. (b.offset == r.offset) ≡ t → (cond (eq_by_cmp spot_cmp (r.offset, p) s) true (kind b && eq_by_cmp spot_cmp (b.offset, p) s) && not (is_that (cond t None (Some (b.offset, p))) s)) ≡ eq_by_cmp spot_cmp (r.offset, p) s) [
               | true ↦ λ t.
-                  ap (λ (o : ℕ). cond (eq_by_cmp spot_cmp (r.offset, p) s) true (is_opaque b && eq_by_cmp spot_cmp (o, p) s) && true) (eqb-true b.offset r.offset t)
-                  ∙ put_here (eq_by_cmp spot_cmp (r.offset, p) s) (is_opaque b)
+                  ap (λ (o : ℕ). cond (eq_by_cmp spot_cmp (r.offset, p) s) true (kind b && eq_by_cmp spot_cmp (o, p) s) && true) (eqb-true b.offset r.offset t)
+                  ∙ put_here (eq_by_cmp spot_cmp (r.offset, p) s) (kind b)
               | false ↦ λ t.
-                  put_elsewhere (eq_by_cmp spot_cmp (r.offset, p) s) (is_opaque b) (eq_by_cmp spot_cmp (b.offset, p) s) (λ x y.
+                  put_elsewhere (eq_by_cmp spot_cmp (r.offset, p) s) (kind b) (eq_by_cmp spot_cmp (b.offset, p) s) (λ x y.
                   false≢true (sym t ∙ eq-eqb b.offset r.offset (ap (λ (z : Spot). z.0) (same_spot (b.offset, p) s y ∙ sym (same_spot (r.offset, p) s x)))))
             ] refl
+
+-- a spot that was put is taken back, where it was new, and none has changed
+pub spots-taken_back : (kind : Record → Bool) (S : Records) (u m n : BTreeSet Spot) (t : Spot) → HasSpots kind S u → contains spot_cmp u t ≡ false → Updates spot_cmp u m t true → Updates spot_cmp m n t false → HasSpots kind S n
+spots-taken_back kind S u m n t has is_new put back s =
+    back.0 s ∙ ap (cond (eq_by_cmp spot_cmp t s) false) (put.0 s)
+    ∙ elim (eq_by_cmp spot_cmp t s) as (λ b. eq_by_cmp spot_cmp t s ≡ b → cond b false (cond b true (contains spot_cmp u s)) ≡ contains spot_cmp u s) [
+      | true ↦ λ e. sym is_new ∙ ap (contains spot_cmp u) (same_spot t s e)
+      | false ↦ λ _. refl
+    ] refl
+    ∙ has s
+
+-- spots that are the same keys are the same spots
+pub spots-same : (kind : Record → Bool) (S T : Records) (u n : BTreeSet Spot) → T ≡ S → n.keys ≡ u.keys → HasSpots kind S u → HasSpots kind T n
+spots-same kind S T u n records spots has s = ap (list_any (λ k. is_eq (spot_cmp s k))) spots ∙ has s ∙ sym (ap (λ rs. is_spot kind rs s) records)
