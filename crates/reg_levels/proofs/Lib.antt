@@ -1,0 +1,5 @@
+pub mod FirstClash
+pub mod Considered
+pub mod Examples
+pub mod Rising
+pub mod Alike

@@ -1,0 +1,7 @@
+pub mod Level
+pub mod RequiredPairs
+pub mod LevelVerdict
+pub mod Message
+pub mod Texts
+pub mod Judgement
+pub mod JudgedError

@@ -1,0 +1,56 @@
+-- The pairs of schemas that a level requires to be compatible. Old versions stand by ascending version.
+use Rattle.std.specs.Prelude.{ℕ, ◌-◌, List, [], ◌∷◌, length, map, reverse, drop, flat_map, Bool, true, false, if◌then◌else◌}
+use Rattle.std.specs.List.Sorted.{IsStrictlyIncreasing}
+use Rattle.avro_schema.specs.declared.node.Node.{Node}
+use Rattle.reg_levels.specs.declared.level.Level.{Level}
+use Rattle.reg_levels.specs.declared.level.Level.TheVariants as levels
+use Rattle.reg_levels.specs.declared.direction.Direction.{Direction}
+use Rattle.reg_levels.specs.declared.direction.Direction.TheVariants.{Backward, Forward}
+
+-- the directions in which a level asks, Backward before Forward
+abbrev pub directions : Level → List Direction
+directions levels.None = []
+directions levels.Backward = Backward ∷ []
+directions levels.BackwardTransitive = Backward ∷ []
+directions levels.Forward = Forward ∷ []
+directions levels.ForwardTransitive = Forward ∷ []
+directions levels.Full = Backward ∷ Forward ∷ []
+directions levels.FullTransitive = Backward ∷ Forward ∷ []
+
+-- whether a level looks at all old versions, and not at the greatest alone
+abbrev pub looks_at_all : Level → Bool
+looks_at_all levels.BackwardTransitive = true
+looks_at_all levels.ForwardTransitive = true
+looks_at_all levels.FullTransitive = true
+looks_at_all level = false
+
+-- a version, and the nodes of its schema
+abbrev pub Version : Type 0
+Version = ℕ × List Node
+
+-- each version is smaller than the next one
+abbrev pub HasRisingVersions : {X : Type 0} → List (ℕ × X) → Type 0
+HasRisingVersions olds = IsStrictlyIncreasing (map (λ old. old.0) olds)
+
+-- the old versions that a level looks at: all, or the greatest, which stands last
+abbrev pub looked_at : {X : Type 0} → Level → List X → List X
+looked_at level olds = if looks_at_all level then olds else drop (length olds - 1) olds
+
+-- a pair that is required, and the version and direction that it is required for
+pub record Required : Type 0 where
+  pub version : ℕ
+  pub direction : Direction
+  pub reader : List Node
+  pub writer : List Node
+
+-- Backward the new schema reads the old one, and Forward the old one reads the new
+abbrev pub required : List Node → Version → Direction → Required
+required new old Backward = record { version = old.0; direction = Backward; reader = new; writer = old.1 }
+required new old Forward = record { version = old.0; direction = Forward; reader = old.1; writer = new }
+
+abbrev pub required_of : Level → List Node → Version → List Required
+required_of level new old = map (required new old) (directions level)
+
+-- the pairs that a level requires, from the greatest version down, Backward before Forward
+abbrev pub required_pairs : Level → List Node → List Version → List Required
+required_pairs level new olds = flat_map (required_of level new) (reverse (looked_at level olds))

@@ -1,0 +1,19 @@
+//! Compatibility levels: which pairs of schemas a level requires to be compatible, and whether
+//! they are.
+#![tactic(auto)]
+
+mod checking;
+mod direction;
+mod judged;
+mod judged_error;
+mod level;
+mod verdict;
+mod versions;
+
+pub use checking::{check, level_verdicts_are_single};
+pub use direction::Direction;
+pub use judged::Judged;
+pub use judged_error::JudgedError;
+pub use level::Level;
+pub use verdict::LevelVerdict;
+pub use versions::versions_rise;

@@ -1,0 +1,89 @@
+// What a check of a level says.
+ghost use Rattle.std.specs.Prelude.{◌≡◌, Some, None, true, false, IfOk};
+ghost use Rattle.reg_levels.specs.LevelVerdict.{passed};
+ghost use Rattle.reg_levels.specs.Message as message;
+
+use crate::direction::Direction;
+use avro_resolve::Trail;
+use base_text::Text;
+use std::alloc::{AllocError, Global};
+
+/// Whether a level is met. Where it isn't, the first required pair that clashes is told: its
+/// version, its direction and its trail. Where it is, these are `None`.
+#[derive(Debug, Drop)]
+pub struct LevelVerdict {
+    pub ok: bool,
+    pub version: Option<u32>,
+    pub direction: Option<Direction>,
+    pub trail: Option<Trail>,
+}
+
+impl LevelVerdict {
+    /// `version V, DIRECTION, at TRAIL: CLASH` of the pair that is told; `None` where none is.
+    ///
+    /// The only error is want of memory.
+    pub fn message(&self, alloc: Global) -> Result<Option<Text>, AllocError>
+        ensures { IfOk result (λ m. m ≡ message.message_of self.now) }
+    {
+        match (self.version, self.direction, &self.trail) {
+            (Some(version), Some(direction), Some(trail)) => {
+                Ok(Some(clash_message(alloc, version, direction, trail)?))
+            }
+            _ => Ok(None),
+        }
+    }
+
+    /// The level is met.
+    pub(crate) fn passed() -> LevelVerdict
+        ensures { result ≡ passed }
+    {
+        LevelVerdict {
+            ok: true,
+            version: None,
+            direction: None,
+            trail: None,
+        }
+    }
+
+    /// That version clashes in that direction.
+    pub(crate) fn failed(version: u32, direction: Direction, trail: Trail) -> LevelVerdict
+        ensures { result ≡ record { ok = false; version = Some version; direction = Some direction; trail = Some trail } }
+    {
+        LevelVerdict {
+            ok: false,
+            version: Some(version),
+            direction: Some(direction),
+            trail: Some(trail),
+        }
+    }
+}
+
+impl Clone for LevelVerdict {
+    ghost is_clone = { λ verdict copy. copy ≡ verdict };
+
+    fn clone(&self) -> Result<LevelVerdict, AllocError> {
+        let trail = match &self.trail {
+            Some(trail) => Some(trail.clone()?),
+            None => None,
+        };
+        Ok(LevelVerdict {
+            ok: self.ok,
+            version: self.version,
+            direction: self.direction,
+            trail,
+        })
+    }
+}
+
+fn clash_message(
+    alloc: Global,
+    version: u32,
+    direction: Direction,
+    trail: &Trail,
+) -> Result<Text, AllocError>
+    ensures { IfOk result (λ text. text ≡ message.clash_message version direction trail.now) }
+{
+    let kind = &trail.kind;
+    let text = format!(in alloc; "version {version}, {direction}, at {trail}: {kind}")?;
+    Ok(Text::from(text))
+}
