@@ -8,3 +8,4 @@ pub mod Controls
 pub mod Grammar
 pub mod Shown
 pub mod WrittenLines
+pub mod Decoding

@@ -1,5 +1,5 @@
 -- The text that is written for a value reads back, under its key.
-use Rattle.std.proofs.Common.{◌≡◌, ◌==◌, ℕ, List, Bool, true, Some, option_and_then, ap, ◌∙◌, refl, eq-eqb, arith}
+use Rattle.std.proofs.Common.{◌≡◌, ◌==◌, ℕ, List, Bool, true, Option, Some, option_and_then, ap, ◌∙◌, refl, eq-eqb, arith}
 use Rattle.std.proofs.lemmas.Bool.{le-leb}
 use Rattle.std.proofs.lemmas.Slice.Eq.{bytes_eq-Decides}
 use Rattle.std.specs.Prelude.{bytes_eq}
@@ -7,6 +7,8 @@ use Rattle.json.proofs.Printed.Decimals.{IsNumber-decimal}
 use Rattle.serde_json.specs.Read.{read}
 use Rattle.serde_json.specs.Written.{compact_text}
 use Rattle.serde_json.proofs.Numbers.{number_of-decimal}
+use Rattle.reg_levels.specs.Level.{is_level}
+use Rattle.reg_levels.specs.Texts.{is_schema}
 use Rattle.reg_records.specs.declared.key.Key.{Key}
 use Rattle.reg_records.specs.declared.key.Key.TheVariants.{Schema, Config, Mode, DeleteSubject}
 use Rattle.reg_records.specs.declared.value.Value.{Value}
@@ -21,9 +23,9 @@ same_bytes xs = (bytes_eq-Decides xs xs).1 refl
 same_number : (n : ℕ) → (n == n) ≡ true
 same_number n = eq-eqb n n refl
 
-schema_again : (subject : List ℕ) (version id : ℕ) (schema : List ℕ) (deleted : Bool) → IsVersionOrId version → IsVersionOrId id
+schema_again : (subject : List ℕ) (version id : ℕ) (schema : List ℕ) (deleted : Bool) → IsVersionOrId version → IsVersionOrId id → is_schema schema ≡ true
     → option_and_then (value_in (Schema subject version)) (read (compact_text (schema_data subject version id schema deleted))) ≡ Some (values.Schema subject version id schema deleted)
-schema_again subject version id schema deleted v i =
+schema_again subject version id schema deleted v i read =
     let n = IsNumber-decimal version (omega arith) in
     let m = IsNumber-decimal id (omega arith) in
     ap (option_and_then (value_in (Schema subject version))) (read-compact_text (schema_data subject version id schema deleted) (tt, (n, (m, (tt, (tt, tt))))) (omega arith))
@@ -36,7 +38,11 @@ schema_again subject version id schema deleted v i =
       same_number version,
       le-leb 1 id i.0,
       le-leb id _ i.1,
+      read,
     )
+
+config_again : (scope : Option (List ℕ)) (level : List ℕ) → is_level level ≡ true → option_and_then (value_in (Config scope)) (read (compact_text (config_data level))) ≡ Some (values.Config level)
+config_again scope level named = ap (option_and_then (value_in (Config scope))) (read-compact_text (config_data level) (tt, tt) (omega arith)) ∙ rw named refl
 
 delete_subject_again : (subject : List ℕ) (version : ℕ) → IsVersionOrId version
     → option_and_then (value_in (DeleteSubject subject)) (read (compact_text (delete_subject_data subject version))) ≡ Some (values.DeleteSubject subject version)
@@ -47,8 +53,8 @@ delete_subject_again subject version v =
 
 pub value_of-written_value : (offset : ℕ) (k : Key) (v : Value) → IsValueOf k v → value_of (record { offset = offset; key = k; value = written_value v }) ≡ Some v
 unfolding written_value
-value_of-written_value offset k (values.Schema subject version id schema deleted) h = rw h.0 (schema_again subject version id schema deleted h.1 h.2)
-value_of-written_value offset k (values.Config level) h = rw h.1 (ap (option_and_then (value_in (Config h.0))) (read-compact_text (config_data level) (tt, tt) (omega arith)))
+value_of-written_value offset k (values.Schema subject version id schema deleted) h = rw h.0 (schema_again subject version id schema deleted h.1 h.2 h.3)
+value_of-written_value offset k (values.Config level) h = rw h.1 (config_again h.0 level h.2)
 value_of-written_value offset k (values.Mode mode) h = rw h.1 (ap (option_and_then (value_in (Mode h.0))) (read-compact_text (mode_data mode) (tt, tt) (omega arith)))
 value_of-written_value offset k (values.DeleteSubject subject version) h = rw h.0 (delete_subject_again subject version h.1)
 value_of-written_value offset k values.Noop h = absurd h

@@ -13,6 +13,10 @@ is_null d = is_some (as_null d)
 abbrev pub text_at : List ℕ → Data → Option (List ℕ)
 text_at name d = option_and_then as_str (get name d)
 
+-- the text of the member of that name, if it is a string that passes the test
+abbrev pub text_where : (List ℕ → Bool) → List ℕ → Data → Option (List ℕ)
+text_where test name d = option_and_then (λ text. if test text then Some text else None) (text_at name d)
+
 -- a version or an id: from 1 to the limit
 abbrev pub within_number_limit : ℕ → Option ℕ
 within_number_limit n = if nat_le 1 n && nat_le n NUMBER_LIMIT then Some n else None

@@ -4,9 +4,13 @@ use Rattle.std.specs.Option.{option_map_or}
 use Rattle.serde_json.specs.Data.{Data, Items, no_items, item}
 use Rattle.serde_json.specs.Find.{get, as_bool, as_str, as_array, as_object}
 use Rattle.serde_json.specs.Read.{read}
-use Rattle.reg_records.specs.Json.{is_null, text_at, number_at, has_text_at, has_number_at}
+use Rattle.avro_schema.specs.Schema.{Meaning, schema_of}
+use Rattle.reg_levels.specs.Level.{is_level}
+use Rattle.reg_levels.specs.Texts.{is_schema}
+use Rattle.reg_records.specs.Json.{is_null, text_at, text_where, number_at, has_text_at, has_number_at}
 use Rattle.reg_records.specs.declared.key.Key.{Key}
 use Rattle.reg_records.specs.declared.key.Key.TheVariants as keys
+use Rattle.reg_records.specs.declared.value.Decoded.{Decoded}
 use Rattle.reg_records.specs.declared.value.Value.{Value}
 use Rattle.reg_records.specs.declared.value.Value.TheVariants as values
 use Rattle.reg_records.specs.declared.record.Record.{Record}
@@ -43,19 +47,20 @@ is_plain_avro d =
 abbrev pub deleted_in : Data → Option Bool
 deleted_in d = option_map_or (λ mark. if is_null mark then Some false else as_bool mark) (get (codes "deleted") d) (Some false)
 
--- the value of a version: it names the key's subject and version again
+-- the value of a version: it names the key's subject and version again, and its schema's text, which is kept as it stands,
+-- can be read as a schema; the schema's defaults aren't looked at
 abbrev pub schema_value : List ℕ → ℕ → Data → Option Value
 schema_value subject version d =
     if has_text_at (codes "subject") subject d && has_number_at (codes "version") version d && is_plain_avro d
     then option_and_then (λ id. option_and_then (λ schema. option_map (λ deleted. values.Schema subject version id schema deleted)
-    (deleted_in d)) (text_at (codes "schema") d)) (number_at (codes "id") d)
+    (deleted_in d)) (text_where is_schema (codes "schema") d)) (number_at (codes "id") d)
     else None
 
--- the name of a level, which is kept as it stands
+-- the name of a level, which is kept as it stands; any text that is no level's name gives no value
 abbrev pub config_value : Data → Option Value
-config_value d = option_map (λ level. values.Config level) (text_at (codes "compatibilityLevel") d)
+config_value d = option_map (λ level. values.Config level) (text_where is_level (codes "compatibilityLevel") d)
 
--- the name of a mode, which is kept as it stands
+-- the name of a mode, which is kept as it stands, whatever it is
 abbrev pub mode_value : Data → Option Value
 mode_value d = option_map (λ mode. values.Mode mode) (text_at (codes "mode") d)
 
@@ -81,3 +86,15 @@ value_in keys.Noop d = noop_value d
 -- the value of a record; a record without text has none, and one that can't be read has none
 abbrev pub value_of : Record → Option Value
 value_of r = option_and_then (λ text. option_and_then (value_in r.key) (read text)) r.value
+
+-- the schema that a version's value has
+abbrev pub schema_in : Value → Option Meaning
+schema_in (values.Schema subject version id schema deleted) = schema_of schema
+schema_in (values.Config level) = None
+schema_in (values.Mode mode) = None
+schema_in (values.DeleteSubject subject version) = None
+schema_in values.Noop = None
+
+-- a value with its schema
+abbrev pub with_schema : Value → Decoded
+with_schema v = record { value = v; schema = schema_in v }

@@ -3,6 +3,8 @@ use Rattle.std.specs.Prelude.{◌≡◌, ◌<◌, ◌≤◌, ◌^◌, ⊤, ℕ, 
 use Rattle.std.specs.Option.{ForSome}
 use Rattle.serde_json.specs.Data.{unsigned, Data, null, boolean, number, string, object, Members, no_members, member}
 use Rattle.serde_json.specs.Written.{compact_text}
+use Rattle.reg_levels.specs.Level.{is_level}
+use Rattle.reg_levels.specs.Texts.{is_schema}
 use Rattle.reg_records.specs.declared.key.Key.{Key}
 use Rattle.reg_records.specs.declared.key.Key.TheVariants.{Schema, Config, Mode, DeleteSubject, Noop}
 use Rattle.reg_records.specs.declared.limits.TheConstants.{NUMBER_LIMIT, OFFSET_LIMIT}
@@ -102,8 +104,9 @@ written_value v = option_map compact_text (value_data v)
 
 -- the value may stand under the key, and has a text
 abbrev pub IsValueOf : Key → Value → Type 0
-IsValueOf key (values.Schema subject version id schema deleted) = (key ≡ Schema subject version) × IsVersionOrId version × IsVersionOrId id
-IsValueOf key (values.Config level) = (scope : Option (List ℕ)) × (key ≡ Config scope)
+IsValueOf key (values.Schema subject version id schema deleted) =
+    (key ≡ Schema subject version) × IsVersionOrId version × IsVersionOrId id × (is_schema schema ≡ true)
+IsValueOf key (values.Config level) = (scope : Option (List ℕ)) × (key ≡ Config scope) × (is_level level ≡ true)
 IsValueOf key (values.Mode mode) = (scope : Option (List ℕ)) × (key ≡ Mode scope)
 IsValueOf key (values.DeleteSubject subject version) = (key ≡ DeleteSubject subject) × IsVersionOrId version
 IsValueOf key values.Noop = ⊥

@@ -1,9 +1,11 @@
 // The values of records.
-ghost use Rattle.std.specs.Prelude.{◌≡◌, ◌++◌, ◌≤◌, ℕ, IfOk, Some, codes, decimal, option_map, string_bytes};
+ghost use Rattle.std.specs.Prelude.{◌≡◌, ◌++◌, ◌≤◌, ℕ, IfOk, IfSome, Some, None, codes, decimal, option_map, string_bytes};
 ghost use Rattle.serde_json.specs.Data.{boolean};
 ghost use Rattle.serde_json.specs.Written.{compact_text};
 ghost use Rattle.serde_json.specs.View.{view};
-ghost use Rattle.reg_records.specs.Value.{value_of, value_in, schema_value, config_value, mode_value, delete_subject_value, noop_value, is_plain_avro, is_absent_or, is_absent, is_avro_name, is_empty_list, deleted_in};
+ghost use Rattle.reg_levels.specs.Level.{is_level};
+ghost use Rattle.reg_records.specs.Json.{text_where};
+ghost use Rattle.reg_records.specs.Value.{value_of, schema_in, with_schema, value_in, schema_value, config_value, mode_value, delete_subject_value, noop_value, is_plain_avro, is_absent_or, is_absent, is_avro_name, is_empty_list, deleted_in};
 ghost use Rattle.reg_records.specs.Written.{written_value, HasLine, IsInLimits, IsValueOf};
 ghost use Rattle.reg_records.specs.declared.key.Key.{Key};
 ghost use Rattle.reg_records.specs.declared.value.Value.{Value};
@@ -12,14 +14,17 @@ use crate::key::Key;
 use crate::limits::OFFSET_LIMIT;
 use crate::members::{has_number_at, has_text_at, number_at, parse, quoted, text_at};
 use crate::record::Record;
+use avro_schema::Schema;
 use base_text::Text;
+use reg_levels::Level;
 use serde_json::Value as Json;
 use std::alloc::{AllocError, Global};
 
 /// What a record's value says of its key.
 #[derive(Debug, Drop, PartialEq, Eq)]
 pub enum Value {
-    /// The schema of a version, with its id from 1 to `NUMBER_LIMIT`.
+    /// The schema of a version, as its text stands in the record, with its id from 1 to
+    /// `NUMBER_LIMIT`.
     Schema {
         subject: Text,
         version: u32,
@@ -27,7 +32,8 @@ pub enum Value {
         schema: Text,
         deleted: bool,
     },
-    /// The name of a compatibility level, as it stands in the record.
+    /// The name of a compatibility level, as it stands in the record, whatever the case of its
+    /// letters.
     Config(Text),
     /// The name of a mode, as it stands in the record.
     Mode(Text),
@@ -38,6 +44,13 @@ pub enum Value {
     },
     /// Nothing.
     Noop,
+}
+
+/// A value and, where it is a version's, the schema that its text means.
+#[derive(Drop)]
+pub struct Decoded {
+    pub value: Value,
+    pub schema: Option<Schema>,
 }
 
 impl Value {
@@ -71,34 +84,45 @@ impl Value {
 pub fn decode_value(alloc: Global, given: &Record) -> Result<Option<Value>, AllocError>
     ensures { IfOk result (λ value. value ≡ value_of given.now) }
 {
-    let Some(text) = &given.value else {
-        return Ok(None);
-    };
-    match parse(alloc, text.as_str())? {
-        Some(json) => value_in(alloc, &given.key, &json),
+    match decode(alloc, given)? {
+        Some(Decoded { value, .. }) => Ok(Some(value)),
         None => Ok(None),
     }
 }
 
-fn value_in(alloc: Global, key: &Key, json: &Json) -> Result<Option<Value>, AllocError>
-    ensures { IfOk result (λ value. value ≡ value_in key.now (view json.now)) }
+/// The same, with the schema of a version, so that its text is read only once.
+pub fn decode(alloc: Global, given: &Record) -> Result<Option<Decoded>, AllocError>
+    ensures value { IfOk result (λ found. option_map (λ d. d.value) found ≡ value_of given.now) }
+    ensures schema { IfOk result (λ found. IfSome found (λ d. d.schema ≡ schema_in d.value)) }
 {
-    match key {
-        Key::Schema { subject, version } => schema_value(alloc, subject, *version, json),
-        Key::Config(_) => config_value(alloc, json),
-        Key::Mode(_) => mode_value(alloc, json),
-        Key::DeleteSubject(subject) => delete_subject_value(subject, json),
-        Key::Noop => Ok(noop_value(json)),
+    let Some(text) = &given.value else {
+        return Ok(None);
+    };
+    match parse(alloc, text.as_str())? {
+        Some(json) => decode_in(alloc, &given.key, &json),
+        None => Ok(None),
     }
 }
 
-fn schema_value(
+fn decode_in(alloc: Global, key: &Key, json: &Json) -> Result<Option<Decoded>, AllocError>
+    ensures { IfOk result (λ found. found ≡ option_map with_schema (value_in key.now (view json.now))) }
+{
+    match key {
+        Key::Schema { subject, version } => decode_schema(alloc, subject, *version, json),
+        Key::Config(_) => decode_config(alloc, json),
+        Key::Mode(_) => decode_mode(alloc, json),
+        Key::DeleteSubject(subject) => decode_delete_subject(subject, json),
+        Key::Noop => Ok(decode_noop(json)),
+    }
+}
+
+fn decode_schema(
     alloc: Global,
     subject: &Text,
     version: u32,
     json: &Json,
-) -> Result<Option<Value>, AllocError>
-    ensures { IfOk result (λ value. value ≡ schema_value subject.now version (view json.now)) }
+) -> Result<Option<Decoded>, AllocError>
+    ensures { IfOk result (λ found. found ≡ option_map with_schema (schema_value subject.now version (view json.now))) }
 {
     let is_about_key = has_text_at(json, "subject", subject.as_str())
         && has_number_at(json, "version", version);
@@ -108,60 +132,89 @@ fn schema_value(
     let Some(id) = number_at(json, "id") else {
         return Ok(None);
     };
-    let Some(schema) = text_at(json, "schema") else {
+    let Some(text) = text_at(json, "schema") else {
+        return Ok(None);
+    };
+    let Some(schema) = Schema::read_if_any(alloc, text)? else {
         return Ok(None);
     };
     let Some(deleted) = deleted_in(json) else {
         return Ok(None);
     };
-    Ok(Some(Value::Schema {
-        subject: subject.clone()?,
-        version,
-        id,
-        schema: Text::copy_of(alloc, schema)?,
-        deleted,
+    Ok(Some(Decoded {
+        value: Value::Schema {
+            subject: subject.clone()?,
+            version,
+            id,
+            schema: Text::copy_of(alloc, text)?,
+            deleted,
+        },
+        schema: Some(schema),
     }))
 }
 
-fn config_value(alloc: Global, json: &Json) -> Result<Option<Value>, AllocError>
-    ensures { IfOk result (λ value. value ≡ config_value (view json.now)) }
+fn decode_config(alloc: Global, json: &Json) -> Result<Option<Decoded>, AllocError>
+    ensures { IfOk result (λ found. found ≡ option_map with_schema (config_value (view json.now))) }
 {
-    match text_at(json, "compatibilityLevel") {
-        Some(level) => Ok(Some(Value::Config(Text::copy_of(alloc, level)?))),
+    match level_at(json) {
+        Some(level) => Ok(Some(without_schema(Value::Config(Text::copy_of(alloc, level)?)))),
         None => Ok(None),
     }
 }
 
-fn mode_value(alloc: Global, json: &Json) -> Result<Option<Value>, AllocError>
-    ensures { IfOk result (λ value. value ≡ mode_value (view json.now)) }
+/// The name of a level, whatever the case of its letters.
+fn level_at(json: &Json) -> Option<&str>
+    ensures { option_map (λ text. text.now) result ≡ text_where is_level (codes "compatibilityLevel") (view json.now) }
+{
+    let text = text_at(json, "compatibilityLevel")?;
+    if Level::parse(text).is_some() {
+        Some(text)
+    } else {
+        None
+    }
+}
+
+fn decode_mode(alloc: Global, json: &Json) -> Result<Option<Decoded>, AllocError>
+    ensures { IfOk result (λ found. found ≡ option_map with_schema (mode_value (view json.now))) }
 {
     match text_at(json, "mode") {
-        Some(mode) => Ok(Some(Value::Mode(Text::copy_of(alloc, mode)?))),
+        Some(mode) => Ok(Some(without_schema(Value::Mode(Text::copy_of(alloc, mode)?)))),
         None => Ok(None),
     }
 }
 
-fn delete_subject_value(subject: &Text, json: &Json) -> Result<Option<Value>, AllocError>
-    ensures { IfOk result (λ value. value ≡ delete_subject_value subject.now (view json.now)) }
+fn decode_delete_subject(subject: &Text, json: &Json) -> Result<Option<Decoded>, AllocError>
+    ensures { IfOk result (λ found. found ≡ option_map with_schema (delete_subject_value subject.now (view json.now))) }
 {
     if !has_text_at(json, "subject", subject.as_str()) {
         return Ok(None);
     }
     match number_at(json, "version") {
-        Some(version) => Ok(Some(Value::DeleteSubject {
+        Some(version) => Ok(Some(without_schema(Value::DeleteSubject {
             subject: subject.clone()?,
             version,
-        })),
+        }))),
         None => Ok(None),
     }
 }
 
-fn noop_value(json: &Json) -> Option<Value>
-    ensures { result ≡ noop_value (view json.now) }
+fn decode_noop(json: &Json) -> Option<Decoded>
+    ensures { result ≡ option_map with_schema (noop_value (view json.now)) }
 {
     match json.as_object() {
-        Some(_) => Some(Value::Noop),
+        Some(_) => Some(without_schema(Value::Noop)),
         None => None,
+    }
+}
+
+/// A value that is no version's.
+fn without_schema(value: Value) -> Decoded
+    requires { schema_in value ≡ None }
+    ensures { result ≡ with_schema value }
+{
+    Decoded {
+        value,
+        schema: None,
     }
 }
 
