@@ -1,10 +1,10 @@
 -- What is chosen of some items, where one wins against each other.
-use Rattle.std.proofs.Common.{◌≡◌, ℕ, ◌≤◌, max, Bool, true, false, cond, List, [], ◌∷◌, map, Some, None, refl, sym, ap, subst, ◌∙◌, ◌⊎◌, inl, inr, arith}
+use Rattle.std.proofs.Common.{◌≡◌, ℕ, ◌<◌, ◌≤◌, max, min, Bool, true, false, cond, List, [], ◌∷◌, map, Option, Some, None, refl, sym, ap, subst, ◌∙◌, ◌⊎◌, inl, inr, arith}
 use Rattle.std.specs.Cmp.{IsTotalOrder}
 use Rattle.std.specs.List.{fold, filter, reduce, AllByRecursion}
 use Rattle.std.specs.Ordering.{is_lt, ord_max, ordering_reverse}
 use Rattle.std.specs.declared.cmp.Ordering.{Ordering}
-use Rattle.std.specs.declared.cmp.Ordering.TheVariants.{Less}
+use Rattle.std.specs.declared.cmp.Ordering.TheVariants.{Less, Equal, Greater}
 
 -- x is an item of the list
 abbrev pub IsIn : {X : Type 0} → X → List X → Type 0
@@ -76,3 +76,7 @@ module _ {X : Type 0} (cmp : X → X → Ordering) (total : IsTotalOrder cmp) (x
 -- the greatest number
 pub reduce_max : (x : ℕ) (ys : List ℕ) → AllByRecursion (λ y. y ≤ x) ys → IsIn x ys → reduce max ys ≡ Some x
 reduce_max x = reduce_wins max x (λ y. y ≤ x) (λ y h. omega arith) (λ y h. omega arith) (λ y z h k. omega arith)
+
+-- the least number
+pub reduce_min : (x : ℕ) (ys : List ℕ) → AllByRecursion (λ y. x ≤ y) ys → IsIn x ys → reduce min ys ≡ Some x
+reduce_min x = reduce_wins min x (λ y. x ≤ y) (λ y h. omega arith) (λ y h. omega arith) (λ y z h k. omega arith)

@@ -30,6 +30,14 @@ as_it_is : (b : Bool) → cond b true false ≡ b
 as_it_is true = refl
 as_it_is false = refl
 
+-- a name that goes where it isn't the same
+pub forgotten : (is had same : Bool) → same ≡ false → cond is false had ≡ (had && (not is || same))
+forgotten true true true h = absurd (false≢true (sym h))
+forgotten true true false h = refl
+forgotten true false same h = refl
+forgotten false true same h = refl
+forgotten false false same h = refl
+
 -- whether x is the name of that entry, if there is one
 abbrev names_it : Name → Option Entry → Bool
 names_it x o = option_map_or (λ e. eq_by_cmp name_cmp (name_of e) x) o false

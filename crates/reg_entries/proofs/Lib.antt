@@ -6,6 +6,8 @@ pub mod Indexed
 pub mod Greatest
 pub mod Below
 pub mod Found
+pub mod Listed
+pub mod Texts
 pub mod Queries
 pub mod Marks
 pub mod Copies

@@ -1,5 +1,5 @@
 -- Entries with other marks.
-use Rattle.std.proofs.Common.{◌≡◌, ℕ, ◌+◌, ◌<◌, Bool, true, false, cond, ◌==◌, ◌⊎◌, inl, inr, ⊎_elim, List, [], ◌∷◌, ◌++◌, map, take, length, get_or, fold, Option, Some, None, option_map, refl, sym, ap, subst, ◌∙◌, arith}
+use Rattle.std.proofs.Common.{◌≡◌, ℕ, ◌+◌, ◌<◌, Bool, true, false, cond, ◌&&◌, ◌==◌, ◌⊎◌, inl, inr, ⊎_elim, List, [], ◌∷◌, ◌++◌, map, take, length, get_or, fold, Option, Some, None, option_map, refl, sym, ap, subst, ◌∙◌, arith}
 use Rattle.std.proofs.lemmas.Bool.{false≢true}
 use Rattle.std.proofs.lemmas.List.{take_more}
 use Rattle.std.proofs.lemmas.List.Sums.{fold-append}
@@ -16,10 +16,12 @@ use Rattle.std.specs.declared.string.String.{String}
 use Rattle.reg_entries.specs.EntryOrder.{Place, place_cmp, place_of}
 use Rattle.reg_entries.specs.Index.{Name, name_cmp, name_of, entry_at, IsAt, ArePlaced, AreNamed, HasAt, IsGreatest, IsIndexed, kept_version}
 use Rattle.reg_entries.specs.Marked.{with_soft, mark_one, marked, MarksEach}
+use Rattle.reg_entries.specs.Schemas.{Schema, schema_of, AreListed}
 use Rattle.reg_entries.specs.declared.entry.Entry.{Entry}
 use Rattle.reg_entries.specs.declared.entry.Mark.{Mark}
 use Rattle.reg_entries.proofs.Chosen.{IsIn, all_filter, all_map, in_filter}
 use Rattle.reg_entries.proofs.Found.{all_found, in_values}
+use Rattle.reg_entries.proofs.Listed.{has_it}
 use Rattle.reg_entries.proofs.Queries.{one_place}
 use Rattle.reg_entries.proofs.Places.{place_cmp-total, same_place}
 
@@ -212,3 +214,12 @@ module _ {Y : Type 0} (m n : BTreeMap Place Entry) (names : BTreeSet Name) (vers
                 ∙ fold_reach soft e e.soft (filter (λ x. bytes_eq x.subject s) (values_of m.entries)) (same e is of_s) (in_filter (λ x. bytes_eq x.subject s) e (values_of m.entries) h (in_values p e m.entries is))
             | false ↦ λ h. refl
           ] refl
+
+-- the schemas stay under marks
+pub listed_marked : (m n : BTreeMap Place Entry) (schemas : BTreeSet Schema) → AreListed m schemas → (s : List ℕ) (marks : List Mark)
+    → ((p : Place) → entry_at n p ≡ option_map (marked s marks) (entry_at m p)) → AreListed n schemas
+listed_marked m n schemas listed s marks at x = listed x ∙ each (entry_at m x.2) ∙ ap (λ o. has_it o x) (sym (at x.2))
+  where
+    each : (o : Option Entry) → has_it o x ≡ has_it (option_map (marked s marks) o) x
+    each None = refl
+    each (Some e) = ap (λ (k : Schema). k.1 == x.1 && bytes_eq k.0 x.0) (sym (marked_keeps schema_of (λ b x. refl) s marks e))

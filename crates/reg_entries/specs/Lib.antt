@@ -1,4 +1,5 @@
 pub mod EntryOrder
 pub mod Index
 pub mod Marked
+pub mod Schemas
 pub mod Sought

@@ -4,15 +4,16 @@ ghost use Rattle.std.specs.FinMap as finmap;
 ghost use Rattle.std.specs.Option.{option_copied};
 ghost use Rattle.reg_entries.specs.EntryOrder.{Place, place_of, IsInOrder};
 ghost use Rattle.reg_entries.specs.Marked.{with_soft, marked, MarksEach};
-ghost use Rattle.reg_entries.specs.Sought.{of_subject, live_of, HasRisingVersions, named, greatest_id, greatest_version};
+ghost use Rattle.reg_entries.specs.Sought.{of_subject, live_of, HasRisingVersions, named, greatest_id, greatest_version, id_of};
 ghost use Rattle.reg_entries.specs.declared.entry.Entry.{Entry};
 
 use crate::entry::{Entry, Mark};
 use crate::lists::{keep_live, list_all, list_between, set_marks};
 use crate::names::{
     At, Name, forget, greatest_with, leave_room, name_above, place_of, set_version, version_below,
-    version_of, write,
+    version_of,
 };
+use crate::schemas::{Schema, first_schema, unlist, write_all};
 use base_text::Text;
 use std::alloc::{AllocError, Global};
 use std::collections::{BTreeMap, BTreeSet};
@@ -29,6 +30,7 @@ pub struct Entries {
     names: BTreeSet<Name>,
     // Of each subject with an entry its greatest version.
     versions: BTreeMap<String, Option<u32>>,
+    schemas: BTreeSet<Schema>,
 }
 
 impl Model for Entries {
@@ -36,6 +38,7 @@ impl Model for Entries {
     ghost use Rattle.std.specs.FinMap as finmap;
     ghost use Rattle.reg_entries.specs.EntryOrder.{place_cmp};
     ghost use Rattle.reg_entries.specs.Index.{IsIndexed};
+    ghost use Rattle.reg_entries.specs.Schemas.{AreListed};
     ghost use Rattle.reg_entries.specs.contracts.entry.Entry as stored;
     ghost use Rattle.reg_entries.specs.declared.entry.Entry.{Entry};
 
@@ -45,7 +48,7 @@ impl Model for Entries {
 
     ghost view = { λ a. finmap.from_entries a.entries.entries };
 
-    ghost invariant = { λ a. IsIndexed a.entries a.names a.versions };
+    ghost invariant = { λ a. IsIndexed a.entries a.names a.versions × AreListed a.entries a.schemas };
 }
 
 impl Clone for Entries {
@@ -71,6 +74,7 @@ impl Entries {
             entries: BTreeMap::new(alloc),
             names: BTreeSet::new(alloc),
             versions: BTreeMap::new(alloc),
+            schemas: BTreeSet::new(alloc),
         }
     }
 
@@ -89,7 +93,7 @@ impl Entries {
     {
         let (subject, version) = place_of(&entry)?;
         leave_room(self.alloc, &mut self.versions, subject.as_str())?;
-        write(&mut self.entries, &mut self.names, entry)?;
+        write_all(&mut self.entries, &mut self.names, &mut self.schemas, entry)?;
         let greatest = greatest_with(&self.versions, subject.as_str(), version);
         set_version(&mut self.versions, subject.as_str(), Some(greatest));
         Ok(())
@@ -102,6 +106,7 @@ impl Entries {
         let Some(entry) = self.entries.remove(place) else {
             return;
         };
+        let entry = unlist(&mut self.schemas, entry);
         forget(&mut self.names, entry);
         let subject = place.0.as_str();
         if version_of(&self.versions, subject) == Some(place.1) {
@@ -168,6 +173,22 @@ impl Entries {
             self.entries.get(&last.2)
         } else {
             None
+        }
+    }
+
+    /// The least id of an entry of that normal text, soft ones too. The only error is want of
+    /// memory.
+    pub fn id_of(&self, normal: &str) -> Result<Option<u32>, AllocError>
+        ensures { IfOk result (λ id. id ≡ id_of (finmap.values self.now) normal.now) }
+    {
+        let least = first_schema(self.alloc, normal)?;
+        let Some(first) = self.schemas.range(&least..).next() else {
+            return Ok(None);
+        };
+        if first.0 == least.0 {
+            Ok(Some(first.1))
+        } else {
+            Ok(None)
         }
     }
 

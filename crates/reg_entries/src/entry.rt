@@ -11,6 +11,8 @@ pub struct Entry {
     pub id: u32,
     /// The schema's text, as the record holds it.
     pub text: Text,
+    /// The schema's normal text: two schemas are the same exactly where these are equal.
+    pub normal: Text,
     /// The offset of its record, from 0 to 9,223,372,036,854,775,807.
     pub offset: u64,
     /// Whether it is soft-deleted: by its own value, or by a later delete of its subject.

@@ -5,6 +5,7 @@ mod entries;
 mod entry;
 mod lists;
 mod names;
+mod schemas;
 
 pub use entries::Entries;
 pub use entry::{Entry, Mark};

@@ -7,6 +7,7 @@ fn entry(alloc: Global, place: (&str, u32), id: u32, offset: u64) -> Result<Entr
         version: place.1,
         id,
         text: Text::copy_of(alloc, "{}")?,
+        normal: Text::copy_of(alloc, "{}")?,
         offset,
         soft: false,
     })
@@ -47,5 +48,10 @@ fn finds_what_is_put_marked_and_removed(rt: HostRuntime) -> Result<(), Fail> {
     assert_eq!(rt; entries.greatest_version("a"), Some(2));
     let place = (Text::copy_of(alloc, "a")?, 2);
     assert_eq!(rt; entries.at(&place).map(|found| found.soft), Some(true));
+
+    assert_eq!(rt; entries.id_of("{}")?, Some(3));
+    entries.remove(&(Text::copy_of(alloc, "a")?, 1));
+    assert_eq!(rt; entries.id_of("{}")?, Some(7));
+    assert_eq!(rt; entries.id_of("[]")?, None);
     Ok(())
 }

@@ -11,5 +11,5 @@ returns c =
     let a = c.self.inside in
     let s = c.args.subject.now in
     c.version_of.ensures
-    ∙ greatest_version_is a.entries a.names a.versions c.self.invariant s (kept_version a.versions s) (c.self.invariant.greatest s)
-    ∙ ap (λ es. greatest_version es s) (sym (values-view a.entries c.self.invariant.ordered) ∙ ap finmap.values c.self.view_is)
+    ∙ greatest_version_is a.entries a.names a.versions c.self.invariant.0 s (kept_version a.versions s) (c.self.invariant.0.greatest s)
+    ∙ ap (λ es. greatest_version es s) (sym (values-view a.entries c.self.invariant.0.ordered) ∙ ap finmap.values c.self.view_is)

@@ -22,7 +22,7 @@ pub returns-clause-in_order : goal.returns-clause-in_order
 returns-clause-in_order c =
     let m = c.self.inside.entries in
     let s = c.args.subject.now in
-    let i = c.self.invariant in
+    let i = c.self.invariant.0 in
     let rise : HasRisingVersions (live_of (values_of m.entries) s) =
     versions_rise s (λ e. bytes_eq e.subject s && not e.soft) (λ e h. (bytes_eq-Decides e.subject s).0 (left_of _ _ h)) (values_of m.entries) (values_in_order m.entries (at_places m i.ordered i.placed) i.ordered) in
     subst HasRisingVersions (sym (all_here c ∙ ap (λ es. live_of es s) (sym (ap finmap.values c.self.view_is) ∙ values-view m i.ordered))) rise

@@ -22,8 +22,8 @@ all_here c =
     let s = c.args.subject.now in
     c.in_ok-found.ensures
     ∙ (λ i. values_of (entries_between place_cmp (Included (c.in_ok-copy_of.ensures i, 0)) (Included (c.in_ok-copy_of-2.ensures i, 4294967295)) m.entries))
-    ∙ between_is_subject s m.entries (at_places m c.self.invariant.ordered c.self.invariant.placed)
-    ∙ ap (λ es. of_subject es s) (sym (values-view m c.self.invariant.ordered) ∙ ap finmap.values c.self.view_is)
+    ∙ between_is_subject s m.entries (at_places m c.self.invariant.0.ordered c.self.invariant.0.placed)
+    ∙ ap (λ es. of_subject es s) (sym (values-view m c.self.invariant.0.ordered) ∙ ap finmap.values c.self.view_is)
 
 pub returns-clause-all : goal.returns-clause-all
 returns-clause-all c = all_here c
@@ -32,7 +32,7 @@ pub returns-clause-in_order : goal.returns-clause-in_order
 returns-clause-in_order c =
     let m = c.self.inside.entries in
     let s = c.args.subject.now in
-    let i = c.self.invariant in
+    let i = c.self.invariant.0 in
     let es = values_of m.entries in
     let rise : HasRisingVersions (of_subject es s) = versions_rise s (λ e. bytes_eq e.subject s) (λ e. (bytes_eq-Decides e.subject s).0) es (values_in_order m.entries (at_places m i.ordered i.placed) i.ordered) in
     subst HasRisingVersions (sym (all_here c ∙ ap (λ es. of_subject es s) (sym (ap finmap.values c.self.view_is) ∙ values-view m i.ordered))) rise

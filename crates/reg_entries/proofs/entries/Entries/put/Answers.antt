@@ -9,26 +9,28 @@ use Rattle.reg_entries.proofs.Greatest.{greatest_after_write, greatest_unchanged
 use Rattle.reg_entries.proofs.Views.{view-written}
 use Rattle.reg_entries.proofs.entries.Entries.put.Goals as goal
 
-pub invariant_of-self-in_err-write : goal.invariant_of-self-in_err-write
-invariant_of-self-in_err-write c =
-    let same : c.write.new.entries.entries ≡ c.self.inside.entries.entries = c.in_err-write.ensures.refused in
-    record {
-      ordered = c.write.ensures.still_ordered;
-      placed = c.write.ensures.still_placed;
-      named = c.write.ensures.still_named;
-      greatest = λ s. greatest_unchanged c.self.inside.entries c.write.new.entries same s (kept_version c.self.inside.versions s) (kept_version c.leave_room.new.versions s) (c.leave_room.ensures.kept s) (c.self.invariant.greatest s);
-    }
+pub invariant_of-self-in_err-write_all : goal.invariant_of-self-in_err-write_all
+invariant_of-self-in_err-write_all c =
+    let same : c.write_all.new.entries.entries ≡ c.self.inside.entries.entries = c.in_err-write_all.ensures.refused in (
+      record {
+        ordered = c.write_all.ensures.still_ordered;
+        placed = c.write_all.ensures.still_placed;
+        named = c.write_all.ensures.still_named;
+        greatest = λ s. greatest_unchanged c.self.inside.entries c.write_all.new.entries same s (kept_version c.self.inside.versions s) (kept_version c.leave_room.new.versions s) (c.leave_room.ensures.kept s) (c.self.invariant.0.greatest s);
+      },
+      c.write_all.ensures.still_listed,
+    )
 
-pub returns-in_err-write-clause-refused : goal.returns-in_err-write-clause-refused
-returns-in_err-write-clause-refused c =
-    let same : c.write.new.entries.entries ≡ c.self.inside.entries.entries = c.in_err-write.ensures.refused in
+pub returns-in_err-write_all-clause-refused : goal.returns-in_err-write_all-clause-refused
+returns-in_err-write_all-clause-refused c =
+    let same : c.write_all.new.entries.entries ≡ c.self.inside.entries.entries = c.in_err-write_all.ensures.refused in
     let whole = ap (λ (es : List (Place × Entry)). finmap.from_entries {R = place_cmp} es) same ∙ c.self.view_is in
     search (rules, whole)
 
 pub invariant_of-self-2 : goal.invariant_of-self-2
 invariant_of-self-2 c =
     let m = c.self.inside.entries in
-    let n = c.write.new.entries in
+    let n = c.write_all.new.entries in
     let e = c.args.entry in
     let v = c.greatest_with-greatest.result in
     let before = kept_version c.self.inside.versions in
@@ -45,15 +47,17 @@ invariant_of-self-2 c =
     λ s. c.set_version.ensures room s ∙ ap (λ t. cond (bytes_eq t s) (Some v) (mid s)) third ∙ ap (cond (bytes_eq e.subject s) (Some v)) (c.leave_room.ensures.kept s) in
     let reaches : e.version ≤ v = subst (λ w. w ≤ v) version c.greatest_with-greatest.ensures.reaches in
     let bounds : (old : ℕ) → before e.subject ≡ Some old → old ≤ v = λ old h. c.greatest_with-greatest.ensures.bounds old (at_subject ∙ h) in
-    let either : (v ≡ e.version) ⊎ (before e.subject ≡ Some v) = ⊎_elim (λ h. inl (h ∙ version)) (λ h. inr (sym at_subject ∙ h)) c.greatest_with-greatest.ensures.either in
-    record {
-      ordered = c.write.ensures.still_ordered;
-      placed = c.write.ensures.still_placed;
-      named = c.write.ensures.still_named;
-      greatest = greatest_after_write m n e c.in_ok-write.ensures.written before after c.self.invariant.greatest v reaches bounds either now;
-    }
+    let either : (v ≡ e.version) ⊎ (before e.subject ≡ Some v) = ⊎_elim (λ h. inl (h ∙ version)) (λ h. inr (sym at_subject ∙ h)) c.greatest_with-greatest.ensures.either in (
+      record {
+        ordered = c.write_all.ensures.still_ordered;
+        placed = c.write_all.ensures.still_placed;
+        named = c.write_all.ensures.still_named;
+        greatest = greatest_after_write m n e c.in_ok-write_all.ensures.written before after c.self.invariant.0.greatest v reaches bounds either now;
+      },
+      c.write_all.ensures.still_listed,
+    )
 
 pub returns-clause-put : goal.returns-clause-put
 returns-clause-put c =
-    view-written c.self.inside.entries c.write.new.entries (place_of c.args.entry) c.args.entry c.in_ok-write.ensures.written
+    view-written c.self.inside.entries c.write_all.new.entries (place_of c.args.entry) c.args.entry c.in_ok-write_all.ensures.written
     ∙ ap (λ m. finmap.insert m (place_of c.args.entry) c.args.entry) c.self.view_is

@@ -1,0 +1,133 @@
+// The schemas of entries, by normal text and then by id.
+ghost use Rattle.std.specs.Prelude.{◌≡◌, [], IfOk, OnOk, OnErr, Some, not, ◌&&◌, ◌||◌, cond, false, option_map};
+ghost use Rattle.std.specs.BTreeMap.{IsOrdered};
+ghost use Rattle.std.specs.BTreeSet.{contains};
+ghost use Rattle.std.specs.Ordering.{eq_by_cmp};
+ghost use Rattle.reg_entries.specs.EntryOrder.{Place, place_cmp, place_of};
+ghost use Rattle.reg_entries.specs.Index.{entry_at, HasAt, ArePlaced, AreNamed};
+ghost use Rattle.reg_entries.specs.Schemas.{Schema, schema_of, schema_cmp, is_schema, is_that, AreListed};
+
+use crate::entry::Entry;
+use crate::names::{At, Name, place_of, write};
+use base_text::Text;
+use std::alloc::{AllocError, Global};
+use std::collections::{BTreeMap, BTreeSet};
+
+/// A normal text, an id and a place: in their order the first schema of a text has its least id.
+pub(crate) type Schema = (Text, u32, At);
+
+/// The schema of an entry.
+pub(crate) fn schema_of(entry: &Entry) -> Result<Schema, AllocError>
+    ensures { IfOk result (λ schema. schema ≡ schema_of entry.now) }
+{
+    let id = entry.id;
+    Ok((entry.normal.clone()?, id, place_of(entry)?))
+}
+
+/// The least schema of a normal text.
+pub(crate) fn first_schema(alloc: Global, normal: &str) -> Result<Schema, AllocError>
+    ensures { IfOk result (λ schema. schema ≡ (normal.now, 0, ([], 0))) }
+{
+    Ok((
+        Text::copy_of(alloc, normal)?,
+        0,
+        (Text::from(String::new(alloc)), 0),
+    ))
+}
+
+/// The schema of the entry at a place, if there is one.
+fn schema_at(entries: &BTreeMap<At, Entry>, place: &At) -> Result<Option<Schema>, AllocError>
+    ensures { IfOk result (λ schema. schema ≡ option_map schema_of (entry_at entries.now place.now)) }
+{
+    match entries.get(place) {
+        Some(entry) => Ok(Some(schema_of(entry)?)),
+        None => Ok(None),
+    }
+}
+
+/// Whether the entry at a schema's place has that schema.
+fn has_schema(entries: &BTreeMap<At, Entry>, schema: &Schema) -> bool
+    ensures { result ≡ is_schema entries.now schema.now }
+{
+    match entries.get(&schema.2) {
+        Some(entry) => entry.id == schema.1 && entry.normal == schema.0,
+        None => false,
+    }
+}
+
+/// Takes the schema of an entry away, and gives the entry back.
+pub(crate) fn unlist(schemas: &mut BTreeSet<Schema>, entry: Entry) -> Entry
+    ensures kept { result ≡ entry }
+    ensures gone { (s : Schema) → contains schema_cmp schemas.new s ≡ cond (eq_by_cmp schema_cmp (schema_of entry) s) false (contains schema_cmp schemas.old s) }
+{
+    let Entry {
+        subject,
+        version,
+        id,
+        text,
+        normal,
+        offset,
+        soft,
+    } = entry;
+    let schema = (normal, id, (subject, version));
+    schemas.remove(&schema);
+    let (normal, id, (subject, version)) = schema;
+    Entry {
+        subject,
+        version,
+        id,
+        text,
+        normal,
+        offset,
+        soft,
+    }
+}
+
+/// Writes an entry, its name and its schema. An entry that was at its place goes, with its own.
+pub(crate) fn write_all(
+    entries: &mut BTreeMap<At, Entry>,
+    names: &mut BTreeSet<Name>,
+    schemas: &mut BTreeSet<Schema>,
+    entry: Entry,
+) -> Result<(), AllocError>
+    requires ordered { IsOrdered place_cmp entries.old }
+    requires placed { ArePlaced entries.old }
+    requires named { AreNamed entries.old names.old }
+    requires listed { AreListed entries.old schemas.old }
+    ensures written { OnOk result (HasAt entries.old entries.new (place_of entry) (Some entry)) }
+    ensures refused { OnErr result (entries.new.entries ≡ entries.old.entries) }
+    ensures still_ordered { IsOrdered place_cmp entries.new }
+    ensures still_placed { ArePlaced entries.new }
+    ensures still_named { AreNamed entries.new names.new }
+    ensures still_listed { AreListed entries.new schemas.new }
+{
+    let new = schema_of(&entry)?;
+    let old = schema_at(entries, &new.2)?;
+    schemas.insert(schema_of(&entry)?)?;
+    let written = write(entries, names, entry);
+    settle(schemas, entries, &new);
+    settle_any(schemas, entries, &old);
+    written
+}
+
+/// Takes a schema away unless the entry at its place has it.
+fn settle(schemas: &mut BTreeSet<Schema>, entries: &BTreeMap<At, Entry>, schema: &Schema)
+    ensures { (s : Schema) → contains schema_cmp schemas.new s ≡ (contains schema_cmp schemas.old s && (not (eq_by_cmp schema_cmp schema.now s) || is_schema entries.now s)) }
+{
+    if !has_schema(entries, schema) {
+        schemas.remove(schema);
+    }
+}
+
+/// Takes a schema away, if there is one, unless the entry at its place has it.
+fn settle_any(
+    schemas: &mut BTreeSet<Schema>,
+    entries: &BTreeMap<At, Entry>,
+    schema: &Option<Schema>,
+)
+    ensures { (s : Schema) → contains schema_cmp schemas.new s ≡ (contains schema_cmp schemas.old s && (not (is_that schema.now s) || is_schema entries.now s)) }
+{
+    if let Some(schema) = schema {
+        settle(schemas, entries, schema);
+    }
+}
