@@ -9,5 +9,7 @@ pub mod Found
 pub mod Listed
 pub mod Texts
 pub mod Queries
+pub mod Doubled
+pub mod Least
 pub mod Marks
 pub mod Copies

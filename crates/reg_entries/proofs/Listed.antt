@@ -1,7 +1,6 @@
 -- The order of schemas, and what a set of them has.
-use Rattle.std.proofs.Common.{◌≡◌, ℕ, ◌+◌, ◌<◌, ◌≤◌, Bool, true, false, cond, not, ◌&&◌, ◌||◌, ◌==◌, min, ◌⊎◌, inl, inr, List, [], ◌∷◌, map, option_map, Option, Some, None, refl, sym, ap, subst, ◌∙◌, arith}
+use Rattle.std.proofs.Common.{◌≡◌, ℕ, Bool, true, false, cond, not, ◌&&◌, ◌||◌, ◌==◌, ◌⊎◌, inl, inr, List, option_map, Option, Some, None, refl, sym, ap, subst, ◌∙◌, arith}
 use Rattle.std.proofs.lemmas.Bool.{false≢true}
-use Rattle.std.proofs.lemmas.Bool.Decides.{nat_tests}
 use Rattle.std.proofs.lemmas.Cmp.{tied_itself, nat_cmp_total, nat_list_cmp_total, on_total, then_total}
 use Rattle.std.proofs.lemmas.Slice.Eq.{bytes_eq-Decides}
 use Rattle.std.specs.BTreeMap.{BTreeMap, is_at}
@@ -11,10 +10,8 @@ use Rattle.std.specs.Cmp.Lexicographic.{slice_cmp}
 use Rattle.std.specs.FinMap.{IsAntisymmetric, nat_cmp-IsAntisymmetric, slice_cmp-IsAntisymmetric}
 use Rattle.std.specs.Map.{lookup}
 use Rattle.std.specs.Option.{option_map_or}
-use Rattle.std.specs.Ordering.{nat_cmp, ordering_then, ordering_reverse, eq_by_cmp, is_eq, is_gt}
+use Rattle.std.specs.Ordering.{nat_cmp, ordering_then, eq_by_cmp, is_eq}
 use Rattle.std.specs.Prelude.{bytes_eq, IfSome, OnOk, OnErr}
-use Rattle.std.specs.declared.cmp.Ordering.{Ordering}
-use Rattle.std.specs.declared.cmp.Ordering.TheVariants.{Less, Equal, Greater}
 use Rattle.std.specs.declared.result.Result.{Result}
 use Rattle.std.specs.declared.result.Result.TheVariants.{Ok, Err}
 use Rattle.reg_entries.specs.EntryOrder.{Place, place_cmp, place_of}
@@ -81,11 +78,11 @@ schema_here e s place h = let k = had e s h in λ i. (k.0 i, k.1 i, place i)
 pub own_place : (m : BTreeMap Place Entry) → ArePlaced m → (p : Place) (e : Entry) → entry_at m p ≡ Some e → place_of e ≡ p
 own_place m placed p e is = (subst (λ o. IfSome o (IsAt p)) is (placed p)).0
 
-by_bool : (b : Bool) {X : Type 0} → (b ≡ true → X) → (b ≡ false → X) → X
+pub by_bool : (b : Bool) {X : Type 0} → (b ≡ true → X) → (b ≡ false → X) → X
 by_bool true f g = f refl
 by_bool false f g = g refl
 
-never : (b : Bool) → b ≡ true → b ≡ false → ⊥
+pub never : (b : Bool) → b ≡ true → b ≡ false → ⊥
 never b h k = false≢true (sym k ∙ h)
 
 kept : (b : Bool) (x : Bool) → (b && (x || true)) ≡ b

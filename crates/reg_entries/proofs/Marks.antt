@@ -9,14 +9,14 @@ use Rattle.std.specs.BTreeSet.{BTreeSet}
 use Rattle.std.specs.List.{filter, AllByRecursion}
 use Rattle.std.specs.Map.{values_of}
 use Rattle.std.specs.Option.{option_map_or}
-use Rattle.std.specs.Ordering.{eq_by_cmp, is_eq}
+use Rattle.std.specs.Ordering.{eq_by_cmp, is_eq, nat_cmp}
 use Rattle.std.proofs.lemmas.Cmp.{tied_itself}
 use Rattle.std.specs.Prelude.{bytes_eq, IfSome, is_some}
 use Rattle.std.specs.declared.string.String.{String}
 use Rattle.reg_entries.specs.EntryOrder.{Place, place_cmp, place_of}
 use Rattle.reg_entries.specs.Index.{Name, name_cmp, name_of, entry_at, IsAt, ArePlaced, AreNamed, HasAt, IsGreatest, IsIndexed, kept_version}
 use Rattle.reg_entries.specs.Marked.{with_soft, mark_one, marked, MarksEach}
-use Rattle.reg_entries.specs.Schemas.{Schema, schema_of, AreListed}
+use Rattle.reg_entries.specs.Schemas.{Schema, schema_of, AreListed, AreSuspected}
 use Rattle.reg_entries.specs.declared.entry.Entry.{Entry}
 use Rattle.reg_entries.specs.declared.entry.Mark.{Mark}
 use Rattle.reg_entries.proofs.Chosen.{IsIn, all_filter, all_map, in_filter}
@@ -223,3 +223,26 @@ listed_marked m n schemas listed s marks at x = listed x ∙ each (entry_at m x.
     each : (o : Option Entry) → has_it o x ≡ has_it (option_map (marked s marks) o) x
     each None = refl
     each (Some e) = ap (λ (k : Schema). k.1 == x.1 && bytes_eq k.0 x.0) (sym (marked_keeps schema_of (λ b x. refl) s marks e))
+
+-- and so do the suspects
+pub suspected_marked : (m n : BTreeMap Place Entry) (suspects : BTreeSet ℕ) → AreSuspected m suspects → (s : List ℕ) (marks : List Mark)
+    → ((p : Place) → entry_at n p ≡ option_map (marked s marks) (entry_at m p)) → AreSuspected n suspects
+suspected_marked m n suspects suspected s marks at p q e f at_p at_q ids texts =
+    let old_e = was p e at_p in
+    let old_f = was q f at_q in
+    let e_id : old_e.0.id ≡ e.id = sym (marked_keeps (λ x. x.id) (λ b x. refl) s marks old_e.0) ∙ ap (λ x. x.id) old_e.1.1 in
+    let f_id : old_f.0.id ≡ f.id = sym (marked_keeps (λ x. x.id) (λ b x. refl) s marks old_f.0) ∙ ap (λ x. x.id) old_f.1.1 in
+    let e_text : old_e.0.normal ≡ e.normal = sym (marked_keeps (λ x. x.normal) (λ b x. refl) s marks old_e.0) ∙ ap (λ x. x.normal) old_e.1.1 in
+    let f_text : old_f.0.normal ≡ f.normal = sym (marked_keeps (λ x. x.normal) (λ b x. refl) s marks old_f.0) ∙ ap (λ x. x.normal) old_f.1.1 in
+    subst (λ i. contains nat_cmp suspects i ≡ true) e_id
+    (suspected p q old_e.0 old_f.0 old_e.1.0 old_f.1.0 (e_id ∙ ids ∙ sym f_id) (λ same. texts (sym e_text ∙ same ∙ f_text)))
+  where
+    was : (p : Place) (e : Entry) → entry_at n p ≡ Some e → (o : Entry) × ((entry_at m p ≡ Some o) × (marked s marks o ≡ e))
+    was p e found = each (entry_at m p) refl (sym (at p) ∙ found)
+      where
+        each : (o : Option Entry) → entry_at m p ≡ o → option_map (marked s marks) o ≡ Some e → (o : Entry) × ((entry_at m p ≡ Some o) × (marked s marks o ≡ e))
+        each None is h = absurd (cc)
+        each (Some o) is h = (o, (is, inside h))
+          where
+            inside : Some (marked s marks o) ≡ Some e → marked s marks o ≡ e
+            inside h = cc

@@ -49,7 +49,7 @@ turned cmp total x y h =
     ] refl h
 
 -- the name that a set of names has is that of the entry at its place
-at_name : (m : BTreeMap Place Entry) (names : BTreeSet Name) → ((x : Name) → contains name_cmp names x ≡ is_named m x)
+pub at_name : (m : BTreeMap Place Entry) (names : BTreeSet Name) → ((x : Name) → contains name_cmp names x ≡ is_named m x)
     → (x : Name) → contains name_cmp names x ≡ true → (e : Entry) → entry_at m x.2 ≡ Some e → name_of e ≡ x
 at_name m names named x has e is =
     name_cmp-ties (name_of e) x (equal _ (sym (ap (λ o. option_map_or (λ e. eq_by_cmp name_cmp (name_of e) x) o false) is) ∙ sym (named x) ∙ has))

@@ -1,5 +1,5 @@
 -- The least id of a normal text.
-use Rattle.std.proofs.Common.{◌≡◌, ℕ, ◌+◌, ◌<◌, ◌≤◌, Bool, true, false, cond, ◌&&◌, ◌==◌, min, List, [], ◌∷◌, map, Option, Some, None, refl, sym, ap, subst, ◌∙◌, arith}
+use Rattle.std.proofs.Common.{◌≡◌, ℕ, ◌≤◌, true, false, List, [], ◌∷◌, map, Option, Some, None, refl, sym, ap, subst, ◌∙◌, arith}
 use Rattle.std.proofs.lemmas.Bool.{false≢true}
 use Rattle.std.proofs.lemmas.Bool.Decides.{nat_tests}
 use Rattle.std.proofs.lemmas.Cmp.{tied_itself, nat_list_cmp_total}
@@ -8,15 +8,15 @@ use Rattle.std.specs.BTreeMap.{BTreeMap, IsOrdered}
 use Rattle.std.specs.BTreeSet.{BTreeSet, contains}
 use Rattle.std.specs.Cmp.Lexicographic.{slice_cmp}
 use Rattle.std.specs.FinMap.{nat_cmp-IsAntisymmetric, slice_cmp-IsAntisymmetric}
-use Rattle.std.specs.List.{filter, reduce, AllByRecursion}
+use Rattle.std.specs.List.{filter}
 use Rattle.std.specs.Map.{values_of}
 use Rattle.std.specs.Ordering.{nat_cmp, ordering_then, ordering_reverse, is_gt}
 use Rattle.std.specs.Prelude.{bytes_eq}
 use Rattle.std.specs.declared.cmp.Ordering.{Ordering}
 use Rattle.std.specs.declared.cmp.Ordering.TheVariants.{Less, Equal, Greater}
-use Rattle.reg_entries.specs.EntryOrder.{Place, place_cmp, place_of}
+use Rattle.reg_entries.specs.EntryOrder.{Place, place_cmp}
 use Rattle.reg_entries.specs.Index.{entry_at, ArePlaced}
-use Rattle.reg_entries.specs.Schemas.{Schema, schema_of, schema_cmp, is_schema, AreListed}
+use Rattle.reg_entries.specs.Schemas.{Schema, schema_of, schema_cmp, AreListed}
 use Rattle.reg_entries.specs.Sought.{id_of}
 use Rattle.reg_entries.specs.declared.entry.Entry.{Entry}
 use Rattle.reg_entries.proofs.Chosen.{IsIn, all_filter, all_map, in_filter, in_map, reduce_none, reduce_min}
@@ -26,14 +26,14 @@ use Rattle.reg_entries.proofs.Listed.{had, has_it, has_own, own_place}
 up_to : (a b : ℕ) → is_gt (nat_cmp a b) ≡ false → a ≤ b
 up_to a b h = grind (arith, nat_tests)
 
-zero_first : (b : ℕ) → is_gt (nat_cmp 0 b) ≡ false
+pub zero_first : (b : ℕ) → is_gt (nat_cmp 0 b) ≡ false
 zero_first b = grind (arith, nat_tests)
 
-none_first : (s : List ℕ) → is_gt (slice_cmp nat_cmp [] s) ≡ false
+pub none_first : (s : List ℕ) → is_gt (slice_cmp nat_cmp [] s) ≡ false
 none_first [] = refl
 none_first (x ∷ xs) = refl
 
-then_not_after : (a b : Ordering) → is_gt a ≡ false → is_gt b ≡ false → is_gt (ordering_then a b) ≡ false
+pub then_not_after : (a b : Ordering) → is_gt a ≡ false → is_gt b ≡ false → is_gt (ordering_then a b) ≡ false
 then_not_after Less b h k = refl
 then_not_after Equal b h k = k
 then_not_after Greater b h k = h

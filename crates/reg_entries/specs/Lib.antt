@@ -3,3 +3,4 @@ pub mod Index
 pub mod Marked
 pub mod Schemas
 pub mod Sought
+pub mod TwoSchemas

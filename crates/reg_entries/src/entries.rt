@@ -1,10 +1,10 @@
 // The entries, found by place, by subject and by id.
-ghost use Rattle.std.specs.Prelude.{◌≡◌, ℕ, List, Bool, IfOk, OnOk, OnErr, map, option_map, bytes_eq, if◌then◌else◌};
+ghost use Rattle.std.specs.Prelude.{◌≡◌, ℕ, List, Bool, false, IfOk, OnOk, OnErr, map, option_map, bytes_eq, if◌then◌else◌};
 ghost use Rattle.std.specs.FinMap as finmap;
-ghost use Rattle.std.specs.Option.{option_copied};
+ghost use Rattle.std.specs.Option.{option_copied, option_map_or};
 ghost use Rattle.reg_entries.specs.EntryOrder.{Place, place_of, IsInOrder};
 ghost use Rattle.reg_entries.specs.Marked.{with_soft, marked, MarksEach};
-ghost use Rattle.reg_entries.specs.Sought.{of_subject, live_of, HasRisingVersions, named, greatest_id, greatest_version, id_of};
+ghost use Rattle.reg_entries.specs.Sought.{of_subject, live_of, HasRisingVersions, named, greatest_id, greatest_version, id_of, shares_its_id, two_schemas};
 ghost use Rattle.reg_entries.specs.declared.entry.Entry.{Entry};
 
 use crate::entry::{Entry, Mark};
@@ -14,6 +14,7 @@ use crate::names::{
     version_of,
 };
 use crate::schemas::{Schema, first_schema, unlist, write_all};
+use crate::suspects::{has_other, is_other, suspect};
 use base_text::Text;
 use std::alloc::{AllocError, Global};
 use std::collections::{BTreeMap, BTreeSet};
@@ -31,6 +32,8 @@ pub struct Entries {
     // Of each subject with an entry its greatest version.
     versions: BTreeMap<String, Option<u32>>,
     schemas: BTreeSet<Schema>,
+    // Each id that two entries of different normal texts have, and maybe others.
+    suspects: BTreeSet<u32>,
 }
 
 impl Model for Entries {
@@ -38,7 +41,7 @@ impl Model for Entries {
     ghost use Rattle.std.specs.FinMap as finmap;
     ghost use Rattle.reg_entries.specs.EntryOrder.{place_cmp};
     ghost use Rattle.reg_entries.specs.Index.{IsIndexed};
-    ghost use Rattle.reg_entries.specs.Schemas.{AreListed};
+    ghost use Rattle.reg_entries.specs.Schemas.{AreListed, AreSuspected};
     ghost use Rattle.reg_entries.specs.contracts.entry.Entry as stored;
     ghost use Rattle.reg_entries.specs.declared.entry.Entry.{Entry};
 
@@ -48,7 +51,7 @@ impl Model for Entries {
 
     ghost view = { λ a. finmap.from_entries a.entries.entries };
 
-    ghost invariant = { λ a. IsIndexed a.entries a.names a.versions × AreListed a.entries a.schemas };
+    ghost invariant = { λ a. IsIndexed a.entries a.names a.versions × AreListed a.entries a.schemas × AreSuspected a.entries a.suspects };
 }
 
 impl Clone for Entries {
@@ -60,6 +63,8 @@ impl Clone for Entries {
             entries: self.entries.clone()?,
             names: self.names.clone()?,
             versions: self.versions.clone()?,
+            schemas: self.schemas.clone()?,
+            suspects: self.suspects.clone()?,
         })
     }
 }
@@ -75,6 +80,7 @@ impl Entries {
             names: BTreeSet::new(alloc),
             versions: BTreeMap::new(alloc),
             schemas: BTreeSet::new(alloc),
+            suspects: BTreeSet::new(alloc),
         }
     }
 
@@ -92,6 +98,8 @@ impl Entries {
         ensures refused { OnErr result (self.new ≡ self.old) }
     {
         let (subject, version) = place_of(&entry)?;
+        let doubled = is_other(self.named(entry.id), &entry.normal);
+        suspect(&mut self.suspects, entry.id, doubled)?;
         leave_room(self.alloc, &mut self.versions, subject.as_str())?;
         write_all(&mut self.entries, &mut self.names, &mut self.schemas, entry)?;
         let greatest = greatest_with(&self.versions, subject.as_str(), version);
@@ -190,6 +198,39 @@ impl Entries {
         } else {
             Ok(None)
         }
+    }
+
+    /// The least id that two entries of different normal texts have, soft ones too.
+    ///
+    /// Where no id ever had two, this is constant; else it goes through the entries of each id that
+    /// once had, from the least one on, until it finds two.
+    pub fn two_schemas(&self) -> Option<u32>
+        ensures { result ≡ two_schemas (finmap.values self.now) }
+    {
+        self.suspects.iter().find(|id| self.has_two(**id)).copied()
+    }
+
+    /// Whether two entries of an id have different normal texts.
+    fn has_two(&self, id: u32) -> bool
+        ensures { result ≡ option_map_or (shares_its_id (finmap.values self.now)) (named (finmap.values self.now) id) false }
+    {
+        match self.named(id) {
+            Some(entry) => self.shares_its_id(entry),
+            None => false,
+        }
+    }
+
+    /// Whether an entry has the id of that one and another normal text.
+    fn shares_its_id(&self, entry: &Entry) -> bool
+        ensures { result ≡ shares_its_id (finmap.values self.now) entry.now }
+    {
+        has_other(
+            self.alloc,
+            &self.entries,
+            &self.names,
+            entry.id,
+            &entry.normal,
+        )
     }
 
     /// The greatest id of an entry, soft ones too.

@@ -3,9 +3,12 @@
 
 mod entries;
 mod entry;
+mod laws;
 mod lists;
 mod names;
 mod schemas;
+mod suspects;
 
 pub use entries::Entries;
 pub use entry::{Entry, Mark};
+pub use laws::two_schemas_is_least;

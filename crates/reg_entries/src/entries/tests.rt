@@ -13,6 +13,13 @@ fn entry(alloc: Global, place: (&str, u32), id: u32, offset: u64) -> Result<Entr
     })
 }
 
+// The least id of two schemas, and the least ids of the texts `{}` and `[]`.
+fn schemas(entries: &Entries) -> Result<(Option<u32>, Option<u32>, Option<u32>), AllocError> {
+    let one = entries.id_of("{}")?;
+    let other = entries.id_of("[]")?;
+    Ok((entries.two_schemas(), one, other))
+}
+
 // Each entry's offset tells it from the others.
 #[test]
 fn finds_what_is_put_marked_and_removed(rt: HostRuntime) -> Result<(), Fail> {
@@ -49,9 +56,20 @@ fn finds_what_is_put_marked_and_removed(rt: HostRuntime) -> Result<(), Fail> {
     let place = (Text::copy_of(alloc, "a")?, 2);
     assert_eq!(rt; entries.at(&place).map(|found| found.soft), Some(true));
 
-    assert_eq!(rt; entries.id_of("{}")?, Some(3));
+    assert_eq!(rt; schemas(&entries)?, (None, Some(3), None));
+    let mut other = entry(alloc, ("c", 1), 7, 6)?;
+    other.normal = Text::copy_of(alloc, "[]")?;
+    entries.put(other)?;
+    assert_eq!(rt; schemas(&entries)?, (Some(7), Some(3), Some(7)));
+    let mark = Mark {
+        version: 1,
+        soft: true,
+    };
+    entries.mark(Text::copy_of(alloc, "c")?, &[mark]);
+    assert_eq!(rt; schemas(&entries)?, (Some(7), Some(3), Some(7)));
     entries.remove(&(Text::copy_of(alloc, "a")?, 1));
-    assert_eq!(rt; entries.id_of("{}")?, Some(7));
-    assert_eq!(rt; entries.id_of("[]")?, None);
+    assert_eq!(rt; schemas(&entries)?, (Some(7), Some(7), Some(7)));
+    entries.remove(&(Text::copy_of(alloc, "c")?, 1));
+    assert_eq!(rt; schemas(&entries)?, (None, Some(7), None));
     Ok(())
 }

@@ -1,4 +1,4 @@
-use Rattle.std.proofs.Common.{◌≡◌, ◌&&◌, ◌==◌, false, ap, ◌∙◌, rules, tests}
+use Rattle.std.proofs.Common.{◌≡◌, ◌&&◌, ◌==◌, false, ◌∙◌, rules, tests}
 use Rattle.std.specs.BTreeSet.{contains}
 use Rattle.std.specs.Ordering.{eq_by_cmp}
 use Rattle.reg_entries.specs.Index.{name_of, name_cmp}

@@ -1,7 +1,7 @@
 use Rattle.std.proofs.Common.{◌≡◌, ◌⊎◌, ◌&&◌, ◌||◌, not, true, cond, option_map, Some, ap, subst, ◌∙◌}
 use Rattle.std.specs.BTreeSet.{contains}
 use Rattle.std.specs.Ordering.{eq_by_cmp}
-use Rattle.reg_entries.specs.EntryOrder.{Place, place_of}
+use Rattle.reg_entries.specs.EntryOrder.{place_of}
 use Rattle.reg_entries.specs.Index.{entry_at, HasAt}
 use Rattle.reg_entries.specs.Schemas.{Schema, schema_of, schema_cmp, is_schema}
 use Rattle.reg_entries.proofs.Listed.{listed_settled, either, else_same, here_either}

@@ -6,7 +6,7 @@ use Rattle.reg_entries.specs.Marked.{with_soft, marked, MarksEach}
 use Rattle.reg_entries.specs.Sought.{of_subject}
 use Rattle.reg_entries.specs.declared.entry.Entry.{Entry}
 use Rattle.reg_entries.specs.declared.entry.Mark.{Mark}
-use Rattle.reg_entries.proofs.Marks.{each_marked, indexed_marked, listed_marked}
+use Rattle.reg_entries.proofs.Marks.{each_marked, indexed_marked, listed_marked, suspected_marked}
 use Rattle.reg_entries.proofs.Views.{get-view, values-view}
 use Rattle.reg_entries.proofs.entries.Entries.mark.Goals as goal
 
@@ -15,6 +15,7 @@ invariant_of-self c =
     let a = c.self.inside in (
       indexed_marked a.entries c.set_marks.new.entries a.names a.versions c.self.invariant.0 c.set_marks.ensures.still_ordered c.args.subject c.args.marks.now c.set_marks.ensures.marked,
       listed_marked a.entries c.set_marks.new.entries a.schemas c.self.invariant.1 c.args.subject c.args.marks.now c.set_marks.ensures.marked,
+      suspected_marked a.entries c.set_marks.new.entries a.suspects c.self.invariant.2 c.args.subject c.args.marks.now c.set_marks.ensures.marked,
     )
 
 pub returns-clause-marked : goal.returns-clause-marked

@@ -1,13 +1,41 @@
-use Rattle.std.proofs.Common.{◌≡◌, ◌≤◌, ℕ, ◌⊎◌, inl, inr, ⊎_elim, List, Some, cond, bytes_eq, sym, ap, subst, ◌∙◌, rules}
-use Rattle.std.specs.BTreeMap.{get_by_text}
+use Rattle.std.proofs.Common.{◌≡◌, ◌≤◌, ℕ, ◌⊎◌, inl, inr, ⊎_elim, List, Some, cond, bytes_eq, true, refl, sym, ap, subst, ◌∙◌, rules}
+use Rattle.std.specs.BTreeMap.{get_by_text, is_at}
+use Rattle.std.specs.BTreeSet.{contains}
 use Rattle.std.specs.FinMap as finmap
+use Rattle.std.specs.Map.{lookup, values_of}
+use Rattle.std.specs.Option.{option_copied}
+use Rattle.std.specs.Ordering.{nat_cmp}
 use Rattle.std.specs.Prelude.{IsSome}
 use Rattle.reg_entries.specs.EntryOrder.{Place, place_cmp, place_of}
 use Rattle.reg_entries.specs.Index.{kept_version}
+use Rattle.reg_entries.specs.Schemas.{is_other}
+use Rattle.reg_entries.specs.Sought.{named}
 use Rattle.reg_entries.specs.declared.entry.Entry.{Entry}
 use Rattle.reg_entries.proofs.Greatest.{greatest_after_write, greatest_unchanged}
-use Rattle.reg_entries.proofs.Views.{view-written}
+use Rattle.reg_entries.proofs.Doubled.{suspected_more, suspected_written}
+use Rattle.reg_entries.proofs.Views.{values-view, view-written}
 use Rattle.reg_entries.proofs.entries.Entries.put.Goals as goal
+
+pub invariant_of-self : goal.invariant_of-self
+invariant_of-self c = (
+  c.self.invariant.0,
+  c.self.invariant.1,
+  suspected_more c.self.inside.entries c.self.inside.entries c.self.inside.suspects c.suspect.new.suspects c.self.invariant.2 (λ p. refl) c.suspect.ensures.kept,
+)
+
+pub invariant_of-self-in_err-leave_room : goal.invariant_of-self-in_err-leave_room
+invariant_of-self-in_err-leave_room c =
+    let m = c.self.inside.entries in
+    let i = c.self.invariant in (
+      record {
+        ordered = i.0.ordered;
+        placed = i.0.placed;
+        named = i.0.named;
+        greatest = λ s. greatest_unchanged m m refl s (kept_version c.self.inside.versions s) (kept_version c.leave_room.new.versions s) (c.leave_room.ensures.kept s) (i.0.greatest s);
+      },
+      i.1,
+      suspected_more m m c.self.inside.suspects c.suspect.new.suspects i.2 (λ p. refl) c.suspect.ensures.kept,
+    )
 
 pub invariant_of-self-in_err-write_all : goal.invariant_of-self-in_err-write_all
 invariant_of-self-in_err-write_all c =
@@ -19,6 +47,7 @@ invariant_of-self-in_err-write_all c =
         greatest = λ s. greatest_unchanged c.self.inside.entries c.write_all.new.entries same s (kept_version c.self.inside.versions s) (kept_version c.leave_room.new.versions s) (c.leave_room.ensures.kept s) (c.self.invariant.0.greatest s);
       },
       c.write_all.ensures.still_listed,
+      suspected_more c.self.inside.entries c.write_all.new.entries c.self.inside.suspects c.suspect.new.suspects c.self.invariant.2 (λ p. ap (λ (es : List (Place × Entry)). lookup (is_at (place_cmp p)) es) same) c.suspect.ensures.kept,
     )
 
 pub returns-in_err-write_all-clause-refused : goal.returns-in_err-write_all-clause-refused
@@ -47,7 +76,11 @@ invariant_of-self-2 c =
     λ s. c.set_version.ensures room s ∙ ap (λ t. cond (bytes_eq t s) (Some v) (mid s)) third ∙ ap (cond (bytes_eq e.subject s) (Some v)) (c.leave_room.ensures.kept s) in
     let reaches : e.version ≤ v = subst (λ w. w ≤ v) version c.greatest_with-greatest.ensures.reaches in
     let bounds : (old : ℕ) → before e.subject ≡ Some old → old ≤ v = λ old h. c.greatest_with-greatest.ensures.bounds old (at_subject ∙ h) in
-    let either : (v ≡ e.version) ⊎ (before e.subject ≡ Some v) = ⊎_elim (λ h. inl (h ∙ version)) (λ h. inr (sym at_subject ∙ h)) c.greatest_with-greatest.ensures.either in (
+    let either : (v ≡ e.version) ⊎ (before e.subject ≡ Some v) = ⊎_elim (λ h. inl (h ∙ version)) (λ h. inr (sym at_subject ∙ h)) c.greatest_with-greatest.ensures.either in
+    let i = c.self.invariant in
+    let found : option_copied c.named.result ≡ named (values_of m.entries) e.id = c.named.ensures ∙ ap (λ es. named es e.id) (sym (ap finmap.values c.self.view_is) ∙ values-view m i.0.ordered) in
+    let told : is_other (named (values_of m.entries) e.id) e.normal ≡ true → contains nat_cmp c.suspect.new.suspects e.id ≡ true =
+    λ h. c.in_ok-suspect.ensures.told (c.is_other-doubled.ensures ∙ ap (λ o. is_other o e.normal) found ∙ h) in (
       record {
         ordered = c.write_all.ensures.still_ordered;
         placed = c.write_all.ensures.still_placed;
@@ -55,6 +88,7 @@ invariant_of-self-2 c =
         greatest = greatest_after_write m n e c.in_ok-write_all.ensures.written before after c.self.invariant.0.greatest v reaches bounds either now;
       },
       c.write_all.ensures.still_listed,
+      suspected_written m c.self.inside.names i.0.ordered i.0.placed i.0.named n c.self.inside.suspects c.suspect.new.suspects e i.2 c.in_ok-write_all.ensures.written c.suspect.ensures.kept told,
     )
 
 pub returns-clause-put : goal.returns-clause-put

@@ -1,14 +1,14 @@
-use Rattle.std.proofs.Common.{◌≡◌, true, false, List, Option, Some, None, cond, bytes_eq, sym, ap, subst, ◌∙◌, rules}
+use Rattle.std.proofs.Common.{◌≡◌, false, List, Some, None, cond, bytes_eq, sym, ap, subst, ◌∙◌}
 use Rattle.std.specs.BTreeMap.{get_by_text}
 use Rattle.std.specs.BTreeSet.{contains}
 use Rattle.std.specs.FinMap as finmap
 use Rattle.std.specs.Ordering.{eq_by_cmp}
 use Rattle.std.specs.Prelude.{IsSome, is_some}
-use Rattle.reg_entries.specs.EntryOrder.{Place, place_cmp, place_of}
-use Rattle.reg_entries.specs.Index.{Name, name_of, name_cmp, entry_at, HasAt, IsGreatest, kept_version}
+use Rattle.reg_entries.specs.Index.{Name, name_of, name_cmp, entry_at, HasAt, kept_version}
 use Rattle.reg_entries.proofs.Greatest.{greatest_after_lower, greatest_after_remove}
 use Rattle.reg_entries.proofs.Indexed.{named-gone, placed-gone}
 use Rattle.reg_entries.proofs.Listed.{listed_gone}
+use Rattle.reg_entries.proofs.Doubled.{suspected_gone}
 use Rattle.reg_entries.proofs.Versions.{kept_has_room, same_option, different}
 use Rattle.reg_entries.proofs.Views.{view-gone}
 use Rattle.reg_entries.proofs.entries.Entries.remove.Goals as goal
@@ -42,6 +42,7 @@ invariant_of-self-then-eq c =
         greatest = greatest_after_lower m n p at (kept_version c.self.inside.versions) (kept_version c.set_version.new.versions) i.greatest top c.version_below-version.result c.version_below-version.ensures now;
       },
       listed_gone m n c.self.inside.schemas c.unlist-entry.new.schemas p c.in-Some.entry i.placed c.self.invariant.1 at was c.unlist-entry.ensures.gone,
+      suspected_gone m n c.self.inside.suspects p c.self.invariant.2 at,
     )
 
 pub invariant_of-self-else-eq : goal.invariant_of-self-else-eq
@@ -63,4 +64,5 @@ invariant_of-self-else-eq c =
         greatest = greatest_after_remove m n p at (ap is_some was) (kept_version c.self.inside.versions) i.greatest apart;
       },
       listed_gone m n c.self.inside.schemas c.unlist-entry.new.schemas p c.in-Some.entry i.placed c.self.invariant.1 at was c.unlist-entry.ensures.gone,
+      suspected_gone m n c.self.inside.suspects p c.self.invariant.2 at,
     )
