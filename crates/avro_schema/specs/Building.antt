@@ -1,5 +1,6 @@
 -- Private: what the builder holds before and after each type that it reads.
-use Rattle.std.specs.Prelude.{◌≡◌, ◌<◌, ◌≤◌, ℕ, ◌+◌, List, [], ◌∷◌, ◌++◌, length, Bool, true, not, ◌&&◌, nat_le, Option, Some, None, is_some, option_map, option_and_then, codes, find, filter_map, flat_map, map, bytes_eq, string_bytes}
+use Rattle.std.specs.Prelude.{◌≡◌, ◌<◌, ◌≤◌, ℕ, ◌+◌, List, [], ◌∷◌, ◌++◌, length, Bool, true, false, not, ◌&&◌, nat_le, Option, Some, None, is_some, option_map, option_and_then, codes, find, filter_map, flat_map, map, set, bytes_eq, String, string_bytes}
+use Rattle.std.specs.Global.{Global}
 use Rattle.std.specs.List.{list_any, list_all}
 use denote.Ref.{Bor}
 use Rattle.std.specs.Ordering.{nat_cmp}
@@ -10,11 +11,13 @@ use Rattle.avro_schema.specs.declared.error.SchemaError.{SchemaError}
 use Rattle.avro_schema.specs.declared.error.SchemaError.TheVariants as fault
 use Rattle.avro_schema.specs.declared.fields.FieldNames.{FieldNames}
 use Rattle.avro_schema.specs.declared.heading.TypeNames.{TypeNames}
+use Rattle.avro_schema.specs.declared.named_types.OpenRecord.{OpenRecord}
 use Rattle.avro_schema.specs.declared.kinds.Kind.{Kind}
 use Rattle.avro_schema.specs.declared.kinds.Kind.TheVariants as kind
 use Rattle.avro_schema.specs.declared.kinds.Kinds.{Kinds}
 use Rattle.avro_schema.specs.declared.node.Field.{Field}
 use Rattle.avro_schema.specs.declared.node.Node.{Node}
+use Rattle.avro_schema.specs.declared.node.Node.TheVariants as node_kind
 use Rattle.avro_schema.specs.declared.node.NodeId.{NodeId}
 use Rattle.avro_schema.specs.declared.node.Primitive.{Primitive}
 use Rattle.avro_schema.specs.declared.builder.Builder.{Builder}
@@ -23,9 +26,9 @@ use Rattle.serde_json.specs.Data.{Num, Data, Items}
 use Rattle.serde_json.specs.Find.{get, as_str, as_array, as_object, as_number}
 use Rattle.avro_schema.specs.Names.{full_text, all_distinct}
 use Rattle.avro_schema.specs.Form.{Heading, FieldHeading, Form, Forms, Fields, record_of, enum_of, fixed_of, array_of, map_of, ill_formed, ill_fields, form, fields_of_items, heading_of, strings_at}
-use Rattle.avro_schema.specs.Places.{count, forms_count, fields_count, own_namespace, type_name, Place, places, places_of_forms, places_of_fields, Definition, definitions}
+use Rattle.avro_schema.specs.Places.{count, forms_count, fields_count, own_namespace, type_name, Place, places, places_of_forms, places_of_fields, Definition, definitions, defined}
 use Rattle.avro_schema.specs.Nodes.{type_aliases, field_at, size_of, node_id, branches, field_list, node_at}
-use Rattle.avro_schema.specs.Faults.{unless, is_union_kind, same_primitive, same_kind, fits_union, fits_enum, kinds, written_faults, size_faults, field_list_faults, faults_at, field_headings, field_name, is_formed, has_good_aliases, are_written}
+use Rattle.avro_schema.specs.Faults.{unless, is_union_kind, same_primitive, same_kind, fits_union, fits_enum, kinds, written_faults, size_faults, field_list_faults, faults_at, kind_in_union, field_headings, field_name, is_formed, has_good_aliases, are_written}
 use Rattle.avro_schema.specs.Schema.{IsRefusalBy}
 use Rattle.avro_schema.specs.declared.limits.TheConstants.{MOST_NODES}
 
@@ -212,3 +215,37 @@ pub record HasSymbols (ss : Option (List (List ℕ))) (d : Option Data) (r : Sym
 pub record HasSize (n : Option Num) (bytes : ℕ) : Type 0 where
   pub size : size_of n ≡ bytes
   pub none_stands : size_faults n ≡ []
+
+-- ---- records in two steps
+
+-- the names of an open record, whose full name as a text is text
+abbrev pub names_of : OpenRecord → String Global → TypeNames
+names_of r text = record { text = text; name = r.name; aliases = r.aliases }
+
+-- the record of heading h is open in new, its name defined
+pub record OpensRecord (old new : Builder) (ns : List ℕ) (h : Heading) (r : OpenRecord) : Type 0 where
+  pub text : String Global
+  pub first : Node
+  pub has : HasNames ns h (names_of r text)
+  pub place : r.index ≡ opened old
+  pub opens : nodes_of new ≡ nodes_of old ++ first ∷ []
+  pub met : (ds : List Definition) → HasMet old ds → HasMet new (ds ++ record { name = string_bytes text; node = r.index } ∷ []) × (defined ds r.index (string_bytes text) ≡ None)
+
+-- an open record is written with the fields gs, of distinct names
+pub record ClosesRecord (old new : Builder) (r : OpenRecord) (gs : List Field) (i : NodeId) : Type 0 where
+  pub id : i ≡ record { index = r.index }
+  pub distinct : all_distinct bytes_eq (map (λ g. g.name) gs) ≡ true
+  pub nodes : nodes_of new ≡ set (nodes_of old) r.index (node_kind.Record r.name r.aliases.items gs)
+  pub names : new.names ≡ old.names
+
+-- ---- the kind of a branch that is read next
+
+abbrev pub IsKindOf : Builder → List ℕ → Form → Kind → Type 0
+IsKindOf r ns f k = (ds : List Definition) → HasMet r ds → k ≡ kind_in_union ds ns (opened r) f
+
+-- it fits beside the kinds ks, and is added to them
+abbrev pub AdmitsKind : Builder → List ℕ → Form → List Kind → Kinds → Type 0
+AdmitsKind r ns f ks new = (k : Kind) × IsKindOf r ns f k × (may_stand k ks ≡ true) × HoldsKinds new (ks ++ k ∷ [])
+
+abbrev pub RefusesKind : Builder → List ℕ → Form → List Kind → Type 0
+RefusesKind r ns f ks = (k : Kind) × IsKindOf r ns f k × (may_stand k ks ≡ false)

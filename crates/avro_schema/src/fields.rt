@@ -1,18 +1,18 @@
 // Fields of records, their types apart.
-ghost use Rattle.std.specs.Prelude.{◌≡◌, IfOk, IfErr, MatchOption, true, false, map, codes, bytes_eq};
+ghost use Rattle.std.specs.Prelude.{◌≡◌, IfOk, IfErr, MatchOption, true, false, map, option_map, codes, bytes_eq};
 ghost use Rattle.std.specs.List.{list_all};
-ghost use Rattle.serde_json.specs.View.{view};
+ghost use Rattle.serde_json.specs.View.{view, items_view};
 ghost use Rattle.serde_json.specs.Find.{get};
 ghost use Rattle.avro_schema.specs.Names as spec;
 ghost use Rattle.avro_schema.specs.Form.{field_heading_of};
 ghost use Rattle.avro_schema.specs.Faults.{unless};
 ghost use Rattle.avro_schema.specs.Schema.{IsRefusalBy};
-ghost use Rattle.avro_schema.specs.Building.{HasFieldNames, field_faults};
+ghost use Rattle.avro_schema.specs.Building.{HasFieldNames, field_faults, items_at};
 
 use crate::members::{aliases_of, string_at};
 use crate::names::is_name;
-use crate::{DefaultValue, Field, SchemaError};
-use base_text::Text;
+use crate::{DefaultValue, Field, NodeId, SchemaError};
+use base_text::{Listed, Text};
 use named_list::NamedList;
 use serde_json::Value;
 use std::alloc::{AllocError, Global};
@@ -23,6 +23,32 @@ pub(crate) struct FieldNames {
     pub(crate) name: Text,
     pub(crate) aliases: Vec<Text>,
     pub(crate) default: Option<DefaultValue>,
+}
+
+impl FieldNames {
+    /// The field of that type.
+    pub(crate) fn of_type(self, node: NodeId) -> Field
+        ensures { result ≡ record { name = self.name; aliases = self.aliases.items; default = self.default; node = node } }
+    {
+        let FieldNames {
+            name,
+            aliases,
+            default,
+        } = self;
+        Field {
+            name,
+            aliases: Listed::from(aliases),
+            default,
+            node,
+        }
+    }
+}
+
+/// The array that a record writes as its fields.
+pub(crate) fn field_items(value: &Value) -> Option<&Vec<Value>>
+    ensures { option_map (λ v. items_view v.now.items) result ≡ items_at (codes "fields") (view value.now) }
+{
+    value.get("fields").and_then(Value::as_array)
 }
 
 /// Reads what a field is written with, its type apart.

@@ -1,6 +1,7 @@
 //! Avro schemas: what a schema's text says, as a list of nodes (Avro 1.11, "Schema Declaration").
 #![tactic(auto)]
 
+mod branch_kinds;
 mod builder;
 mod default_value;
 mod defaults;
@@ -11,9 +12,11 @@ mod kinds;
 mod laws;
 mod limits;
 mod members;
+mod named_types;
 mod names;
 mod node;
 mod normal;
+mod read_types;
 mod schema;
 mod symbols;
 mod word;

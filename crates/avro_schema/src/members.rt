@@ -1,42 +1,18 @@
 // Members of an object that are texts.
 ghost use Rattle.std.specs.Prelude.{◌≡◌, IfOk, option_map};
-ghost use Rattle.serde_json.specs.View.{view, number_view, items_view, members_view};
+ghost use Rattle.serde_json.specs.View.{view, items_view, members_view};
 ghost use Rattle.serde_json.specs.Written as written;
 ghost use Rattle.avro_schema.specs.Form as spec;
-ghost use Rattle.avro_schema.specs.Building.{items_at, number_at as spec_number_at};
 
 use base_text::Text;
-use serde_json::{Map, Number, Value};
+use serde_json::{Map, Value};
 use std::alloc::{AllocError, Global};
 
 /// The text that a member is.
 pub(crate) fn string_at<'v>(value: &'v Value, name: &str) -> Option<&'v str>
     ensures { option_map (λ s. s.now) result ≡ spec.string_at name.now (view value.now) }
 {
-    match value.get(name) {
-        Some(member) => member.as_str(),
-        None => None,
-    }
-}
-
-/// The array that a member is.
-pub(crate) fn array_at<'v>(value: &'v Value, name: &str) -> Option<&'v Vec<Value>>
-    ensures { option_map (λ v. items_view v.now.items) result ≡ items_at name.now (view value.now) }
-{
-    match value.get(name) {
-        Some(member) => member.as_array(),
-        None => None,
-    }
-}
-
-/// The number that a member is.
-pub(crate) fn number_at<'v>(value: &'v Value, name: &str) -> Option<&'v Number>
-    ensures { option_map (λ n. number_view n.now) result ≡ spec_number_at name.now (view value.now) }
-{
-    match value.get(name) {
-        Some(member) => member.as_number(),
-        None => None,
-    }
+    value.get(name).and_then(Value::as_str)
 }
 
 /// The texts of an array of strings, or None where the value is none.

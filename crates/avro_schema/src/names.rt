@@ -79,7 +79,7 @@ pub(crate) fn is_type_name(text: &str) -> bool
     is_full_name(text) && primitive_named(last_part(text)).is_none()
 }
 
-pub(crate) fn has_dot(text: &str) -> bool
+fn has_dot(text: &str) -> bool
     ensures { result ≡ spec.has_dot text.now }
 {
     text.as_bytes().contains(&b'.')

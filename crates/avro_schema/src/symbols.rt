@@ -11,7 +11,7 @@ ghost use Rattle.avro_schema.specs.Building.{HasSymbols, HasSize, number_at};
 use crate::SchemaError;
 use crate::fields::are_names;
 use crate::limits::GREATEST_SIZE;
-use crate::members::{number_at as member_number, strings_in};
+use crate::members::strings_in;
 use base_text::Text;
 use named_list::NamedList;
 use serde_json::Value;
@@ -86,7 +86,7 @@ pub(crate) fn read_size(value: &Value) -> Result<u32, SchemaError>
     ensures ok { IfOk result (HasSize (number_at (codes "size") (view value.now))) }
     ensures err { IfErr result (IsRefusalBy (size_faults (number_at (codes "size") (view value.now)))) }
 {
-    let Some(number) = member_number(value, "size") else {
+    let Some(number) = value.get("size").and_then(Value::as_number) else {
         return Err(SchemaError::BadForm);
     };
     match number.as_u64() {

@@ -1,4 +1,5 @@
-use Rattle.std.proofs.Common.{◌≡◌, ◌≤◌, ◌<◌, ◌∙◌, ◌+◌, ◌++◌, ◌∷◌, [], ℕ, suc, List, length, drop, get_or, true, refl, sym, ap, subst, arith, codes}
+use Rattle.std.proofs.Common.{◌≡◌, ◌≤◌, ◌<◌, ◌∙◌, ◌+◌, ◌++◌, ◌∷◌, [], ℕ, suc, List, length, drop, get_or, map, true, bytes_eq, refl, sym, ap, subst, arith, codes}
+use Rattle.std.proofs.lemmas.Result.{IfOk-weaker, IfErr-weaker}
 use Rattle.serde_json.specs.Data.{depth, items_depth}
 use Rattle.serde_json.specs.View.{view, items_view}
 use Rattle.serde_json.specs.Written.{has_float}
@@ -6,11 +7,12 @@ use Rattle.avro_schema.specs.declared.error.SchemaError.TheVariants as fault
 use Rattle.avro_schema.specs.declared.word.TypeWord.TheVariants as word
 use Rattle.avro_schema.specs.Form.{Fields, ill_fields, union_of, form, forms, form_of_name, fields_of_items, field_heading_of, heading_of, record_of}
 use Rattle.avro_schema.specs.Schema.{IsRefusalBy}
-use Rattle.avro_schema.specs.Faults.{field_list_faults}
-use Rattle.avro_schema.specs.Building.{opened, form_in, written_fields, fields_or_ill, array_in, map_in, record_in, enum_in, fixed_in, RefusesType, RefusesField, ReadsFields, RefusesFields, RefusesBranches, AreBranchesRead, AreFieldsRead, branches_faults, fields_faults, type_faults, field_faults}
+use Rattle.avro_schema.specs.Names.{all_distinct}
+use Rattle.avro_schema.specs.Faults.{unless, field_list_faults}
+use Rattle.avro_schema.specs.Building.{names_of, ClosesRecord, ReadsType, opened, form_in, written_fields, fields_or_ill, array_in, map_in, record_in, enum_in, fixed_in, RefusesType, RefusesField, ReadsFields, RefusesFields, RefusesBranches, AreBranchesRead, AreFieldsRead, branches_faults, fields_faults, type_faults, field_faults}
 use Rattle.avro_schema.proofs.Reading.{left, right}
 use Rattle.avro_schema.proofs.Types.{opened-more, definition_of}
-use Rattle.avro_schema.proofs.Refused.{refused_open, refused_ill_formed, refused_array, refused_map, refused_union, refused_names_record, refused_opening_record, refused_list, refused_no_fields, refused_same_names, refused_fields}
+use Rattle.avro_schema.proofs.Refused.{refused_open, refused_ill_formed, refused_array, refused_map, refused_union, refused_list, refused_no_fields, refused_same_names, refused_fields}
 use Rattle.avro_schema.proofs.Lookups.{exit_err}
 use Rattle.avro_schema.proofs.KindLemmas.{fits_more}
 use Rattle.avro_schema.proofs.ObjectForms.{get-depth, get-whole, items_at-depth, items_at-whole, item-depth, item-whole, inner_type, worded_type}
@@ -28,16 +30,16 @@ pub read_array-returns-in_err-items-clause-err : goal.read_array-returns-in_err-
 read_array-returns-in_err-items-clause-err t c =
     let a = c.args.self.now in
     exit_err c.from_residual-in_err-items.result (RefusesType a c.args.namespace.now (array_in (view c.args.value.now))) c.in_err-items.field-0.0 c.from_residual-in_err-items.ensures.1
-    (λ ds met. refused_array ds c.args.namespace.now (form_in (codes "items") (view c.args.value.now)) (opened a) (opened c.open.new.self) _ (opened-more _ a c.open.new.self c.in_ok-index.ensures.ok.1) (c.in_err-items.ensures.err ds (c.in_ok-index.ensures.met ds met)))
+    (λ ds met. refused_array ds c.args.namespace.now (form_in (codes "items") (view c.args.value.now)) (opened a) (opened c.reserve.new.self) _ (opened-more _ a c.reserve.new.self c.in_ok-index.ensures.ok.1) (c.in_err-items.ensures.err ds (c.in_ok-index.ensures.met ds met)))
 
 pub read_array-close-requires : goal.read_array-close-requires
 read_array-close-requires t c =
-    let lt : c.in_ok-index.index < opened c.read_member.new.self = still_there c.args.self.now c.open.new.self c.read_member.new.self _ c.in_ok-index.index c.in_ok-index.ensures.ok.0 c.in_ok-index.ensures.ok.1 c.in_ok-items.ensures.ok.0 in
+    let lt : c.in_ok-index.index < opened c.read_member.new.self = still_there c.args.self.now c.reserve.new.self c.read_member.new.self _ c.in_ok-index.index c.in_ok-index.ensures.ok.0 c.in_ok-index.ensures.ok.1 c.in_ok-items.ensures.ok.0 in
     lt
 
 pub read_array-returns-clause-ok : goal.read_array-returns-clause-ok
 read_array-returns-clause-ok t c =
-    array_read c.args.self.now c.open.new.self c.read_member.new.self _ c.args.namespace.now (form_in (codes "items") (view c.args.value.now)) _ c.in_ok-index.index c.in_ok-items.items c.in_ok-index.ensures.ok.0 c.in_ok-index.ensures.ok.1 c.in_ok-index.ensures.met c.in_ok-items.ensures.ok c.close.ensures.nodes c.close.ensures.names
+    array_read c.args.self.now c.reserve.new.self c.read_member.new.self _ c.args.namespace.now (form_in (codes "items") (view c.args.value.now)) _ c.in_ok-index.index c.in_ok-items.items c.in_ok-index.ensures.ok.0 c.in_ok-index.ensures.ok.1 c.in_ok-index.ensures.met c.in_ok-items.ensures.ok c.close.ensures.nodes c.close.ensures.names
 
 pub read_map-returns-in_err-index-clause-err : goal.read_map-returns-in_err-index-clause-err
 read_map-returns-in_err-index-clause-err t c =
@@ -49,16 +51,16 @@ pub read_map-returns-in_err-values-clause-err : goal.read_map-returns-in_err-val
 read_map-returns-in_err-values-clause-err t c =
     let a = c.args.self.now in
     exit_err c.from_residual-in_err-values.result (RefusesType a c.args.namespace.now (map_in (view c.args.value.now))) c.in_err-values.field-0.0 c.from_residual-in_err-values.ensures.1
-    (λ ds met. refused_map ds c.args.namespace.now (form_in (codes "values") (view c.args.value.now)) (opened a) (opened c.open.new.self) _ (opened-more _ a c.open.new.self c.in_ok-index.ensures.ok.1) (c.in_err-values.ensures.err ds (c.in_ok-index.ensures.met ds met)))
+    (λ ds met. refused_map ds c.args.namespace.now (form_in (codes "values") (view c.args.value.now)) (opened a) (opened c.reserve.new.self) _ (opened-more _ a c.reserve.new.self c.in_ok-index.ensures.ok.1) (c.in_err-values.ensures.err ds (c.in_ok-index.ensures.met ds met)))
 
 pub read_map-close-requires : goal.read_map-close-requires
 read_map-close-requires t c =
-    let lt : c.in_ok-index.index < opened c.read_member.new.self = still_there c.args.self.now c.open.new.self c.read_member.new.self _ c.in_ok-index.index c.in_ok-index.ensures.ok.0 c.in_ok-index.ensures.ok.1 c.in_ok-values.ensures.ok.0 in
+    let lt : c.in_ok-index.index < opened c.read_member.new.self = still_there c.args.self.now c.reserve.new.self c.read_member.new.self _ c.in_ok-index.index c.in_ok-index.ensures.ok.0 c.in_ok-index.ensures.ok.1 c.in_ok-values.ensures.ok.0 in
     lt
 
 pub read_map-returns-clause-ok : goal.read_map-returns-clause-ok
 read_map-returns-clause-ok t c =
-    map_read c.args.self.now c.open.new.self c.read_member.new.self _ c.args.namespace.now (form_in (codes "values") (view c.args.value.now)) _ c.in_ok-index.index c.in_ok-values.values c.in_ok-index.ensures.ok.0 c.in_ok-index.ensures.ok.1 c.in_ok-index.ensures.met c.in_ok-values.ensures.ok c.close.ensures.nodes c.close.ensures.names
+    map_read c.args.self.now c.reserve.new.self c.read_member.new.self _ c.args.namespace.now (form_in (codes "values") (view c.args.value.now)) _ c.in_ok-index.index c.in_ok-values.values c.in_ok-index.ensures.ok.0 c.in_ok-index.ensures.ok.1 c.in_ok-index.ensures.met c.in_ok-values.ensures.ok c.close.ensures.nodes c.close.ensures.names
 
 pub read_union-returns-in_err-index-clause-err : goal.read_union-returns-in_err-index-clause-err
 read_union-returns-in_err-index-clause-err t c =
@@ -72,16 +74,16 @@ read_union-returns-in_err-branches-clause-err t c =
     let a = c.args.self.now in
     let fs = forms (items_view c.args.items.now.items) in
     exit_err c.from_residual-in_err-branches.result (RefusesType a c.args.namespace.now (union_of fs)) c.in_err-branches.field-0.0 c.from_residual-in_err-branches.ensures.1
-    (λ ds met. refused_union ds c.args.namespace.now fs (opened a) (opened c.open.new.self) _ (opened-more _ a c.open.new.self c.in_ok-index.ensures.ok.1) (c.in_err-branches.ensures.err ds (c.in_ok-index.ensures.met ds met)))
+    (λ ds met. refused_union ds c.args.namespace.now fs (opened a) (opened c.reserve.new.self) _ (opened-more _ a c.reserve.new.self c.in_ok-index.ensures.ok.1) (c.in_err-branches.ensures.err ds (c.in_ok-index.ensures.met ds met)))
 
 pub read_union-close-requires : goal.read_union-close-requires
 read_union-close-requires t c =
-    let lt : c.in_ok-index.index < opened c.read_branches.new.self = still_there c.args.self.now c.open.new.self c.read_branches.new.self _ c.in_ok-index.index c.in_ok-index.ensures.ok.0 c.in_ok-index.ensures.ok.1 c.in_ok-branches.ensures.ok.0 in
+    let lt : c.in_ok-index.index < opened c.read_branches.new.self = still_there c.args.self.now c.reserve.new.self c.read_branches.new.self _ c.in_ok-index.index c.in_ok-index.ensures.ok.0 c.in_ok-index.ensures.ok.1 c.in_ok-branches.ensures.ok.0 in
     lt
 
 pub read_union-returns-clause-ok : goal.read_union-returns-clause-ok
 read_union-returns-clause-ok t c =
-    union_read c.args.self.now c.open.new.self c.read_branches.new.self _ c.args.namespace.now (forms (items_view c.args.items.now.items)) _ c.in_ok-index.index c.in_ok-branches.branches.items c.from.result c.in_ok-index.ensures.ok.0 c.in_ok-index.ensures.ok.1 c.in_ok-index.ensures.met c.in_ok-branches.ensures.ok c.from.ensures c.close.ensures.nodes c.close.ensures.names
+    union_read c.args.self.now c.reserve.new.self c.read_branches.new.self _ c.args.namespace.now (forms (items_view c.args.items.now.items)) _ c.in_ok-index.index c.in_ok-branches.branches.items c.from.result c.in_ok-index.ensures.ok.0 c.in_ok-index.ensures.ok.1 c.in_ok-index.ensures.met c.in_ok-branches.ensures.ok c.from.ensures c.close.ensures.nodes c.close.ensures.names
 
 pub read_member-read_type-requires : goal.read_member-read_type-requires
 read_member-read_type-requires t c =
@@ -165,29 +167,17 @@ read_object-returns-in-Error-clause-err t c =
     let d = view c.args.value.now in
     λ ds met. subst (λ f. IsRefusalBy (type_faults ds c.args.namespace.now f (opened c.args.self.now)) fault.BadForm) (sym (worded_type d c.in-Some.name.now word.Error c.requires.1.1.0 (sym c.in-Some.ensures) (sym c.in-Error.ensures))) (refused_ill_formed ds c.args.namespace.now (opened c.args.self.now))
 
-pub read_field-returns-in_err-name-clause-err : goal.read_field-returns-in_err-name-clause-err
-read_field-returns-in_err-name-clause-err t c =
+pub read_field-returns-in_err-names-clause-err : goal.read_field-returns-in_err-names-clause-err
+read_field-returns-in_err-names-clause-err t c =
     let d = view c.args.value.now in
-    exit_err c.from_residual.result (RefusesField c.args.self.now c.args.namespace.now (field_heading_of d) (form_in (codes "type") d)) c.in_err-name.field-0.0 c.from_residual.ensures.1
-    (λ ds met. left _ _ _ c.in_err-name.ensures.err)
+    exit_err c.from_residual.result (RefusesField c.args.self.now c.args.namespace.now (field_heading_of d) (form_in (codes "type") d)) c.in_err-names.field-0.0 c.from_residual.ensures.1
+    (λ ds met. left _ _ _ c.in_err-names.ensures.err)
 
 pub read_field-returns-in_err-node-clause-err : goal.read_field-returns-in_err-node-clause-err
 read_field-returns-in_err-node-clause-err t c =
     let d = view c.args.value.now in
     exit_err c.from_residual-in_err-node.result (RefusesField c.args.self.now c.args.namespace.now (field_heading_of d) (form_in (codes "type") d)) c.in_err-node.field-0.0 c.from_residual-in_err-node.ensures.1
     (λ ds met. right (field_faults (field_heading_of d)) _ _ (c.in_err-node.ensures.err ds met))
-
-pub read_record-returns-in_err-text-clause-err : goal.read_record-returns-in_err-text-clause-err
-read_record-returns-in_err-text-clause-err t c =
-    let d = view c.args.value.now in
-    exit_err c.from_residual.result (RefusesType c.args.self.now c.args.namespace.now (record_in d)) c.in_err-text.field-0.0 c.from_residual.ensures.1
-    (λ ds met. refused_names_record ds c.args.namespace.now (heading_of d) (written_fields d) (opened c.args.self.now) _ c.in_err-text.ensures.err)
-
-pub read_record-returns-in_err-index-clause-err : goal.read_record-returns-in_err-index-clause-err
-read_record-returns-in_err-index-clause-err t c =
-    let d = view c.args.value.now in
-    exit_err c.from_residual-in_err-index.result (RefusesType c.args.self.now c.args.namespace.now (record_in d)) c.in_err-index.field-0.0 c.from_residual-in_err-index.ensures.1
-    (λ ds met. refused_opening_record ds c.args.namespace.now (heading_of d) c.in_ok-text.field-0 (written_fields d) (opened c.args.self.now) _ c.in_ok-text.ensures.ok (c.in_err-index.ensures.err ds met))
 
 pub read_record-returns-in_default-clause-err : goal.read_record-returns-in_default-clause-err
 read_record-returns-in_default-clause-err t c =
@@ -206,47 +196,40 @@ pub read_record-returns-in_err-fields-clause-err : goal.read_record-returns-in_e
 read_record-returns-in_err-fields-clause-err t c =
     let d = view c.args.value.now in
     let a = c.args.self.now in
-    let r = c.in_ok-text.field-0 in
+    let b = c.open_record.new.self in
+    let o = c.in_ok-record.ensures.ok in
+    let r = names_of c.in_ok-record.record o.text in
     let ns = c.args.namespace.now in
-    let is = c.in_ok-index.ensures.ok.0 in
-    let fs : written_fields d ≡ fields_of_items (items_view c.in-Some.items.now.items) = ap fields_or_ill (sym c.in-Some.ensures) in
-    exit_err c.from_residual-in_err-fields.result (RefusesType a ns (record_in d)) c.in_err-fields.field-0.0 c.from_residual-in_err-fields.ensures.1
-    (λ ds met. subst (λ (gs : Fields). IsRefusalBy (type_faults ds ns (record_of (heading_of d) gs) (opened a)) c.in_err-fields.field-0.0) (sym fs)
-    (refused_fields ds ns (heading_of d) r (fields_of_items (items_view c.in-Some.items.now.items)) (opened a) (opened c.open_named.new.self) _ c.in_ok-text.ensures.ok (opened-more _ a c.open_named.new.self c.in_ok-index.ensures.ok.1)
-    (subst (λ (m : List ℕ). RefusesFields c.open_named.new.self m (fields_of_items (items_view c.in-Some.items.now.items)) c.in_err-fields.field-0.0) c.as_str.ensures c.in_err-fields.ensures.err _ (defined_at c.open_named.new.self ds r _ _ is (c.in_ok-index.ensures.met ds met).0))))
+    let given = fields_of_items (items_view c.in-Some.items.now.items) in
+    let fs : written_fields d ≡ given = ap fields_or_ill (sym c.in-Some.ensures) in
+    let e = c.in_err-fields.field-0.0 in
+    exit_err c.from_residual-in_err-fields.result (RefusesType a ns (record_in d)) e c.from_residual-in_err-fields.ensures.1
+    (λ ds met. subst (λ (gs : Fields). IsRefusalBy (type_faults ds ns (record_of (heading_of d) gs) (opened a)) e) (sym fs)
+    (refused_fields ds ns (heading_of d) r given (opened a) (opened b) _ o.has (opened-more _ a b o.opens)
+    (subst (λ (m : List ℕ). RefusesFields b m given e) c.as_str.ensures c.in_err-fields.ensures.err _ (defined_at b ds r _ _ o.place (o.met ds met).0))))
 
-pub read_record-returns-in_err-list-clause-err : goal.read_record-returns-in_err-list-clause-err
-read_record-returns-in_err-list-clause-err t c =
-    let d = view c.args.value.now in
-    let a = c.args.self.now in
-    let r = c.in_ok-text.field-0 in
-    let is = c.in_ok-index.ensures.ok.0 in
-    let e = c.in_err-list.field-0.0 in
-    let fs = fields_of_items (items_view c.in-Some.items.now.items) in
-    let same : written_fields d ≡ fs = ap fields_or_ill (sym c.in-Some.ensures) in
-    let reads : ReadsFields c.open_named.new.self c.read_fields.new.self r.name.namespace fs c.in_ok-fields.fields.items = subst (λ (m : List ℕ). ReadsFields c.open_named.new.self c.read_fields.new.self m fs c.in_ok-fields.fields.items) c.as_str.ensures c.in_ok-fields.ensures.ok in
-    exit_err c.from_residual-in_err-list.result (RefusesType a c.args.namespace.now (record_in d)) e c.from_residual-in_err-list.ensures.1
-    (λ ds met.
-    let read = reads.1 (ds ++ definition_of r (opened a) ∷ []) (defined_at c.open_named.new.self ds r _ _ is (c.in_ok-index.ensures.met ds met).0) in
-    let tests = tested_names _ r.name.namespace fs c.open_named.new.self c.read_fields.new.self _ _ read refl in
-    refused_list ds c.args.namespace.now (heading_of d) (written_fields d) (opened a) e (subst (λ (gs : Fields). IsRefusalBy (field_list_faults gs) e) (sym same) (refused_same_names fs _ e tests c.in_err-list.ensures.err)))
-
-pub read_record-close-requires : goal.read_record-close-requires
-read_record-close-requires t c =
-    let lt : c.in_ok-index.index < opened c.read_fields.new.self = still_there c.args.self.now c.open_named.new.self c.read_fields.new.self _ c.in_ok-index.index c.in_ok-index.ensures.ok.0 c.in_ok-index.ensures.ok.1 c.in_ok-fields.ensures.ok.0 in
+pub read_record-close_record-requires : goal.read_record-close_record-requires
+read_record-close_record-requires t c =
+    let o = c.in_ok-record.ensures.ok in
+    let lt : c.in_ok-record.record.index < opened c.read_fields.new.self = still_there c.args.self.now c.open_record.new.self c.read_fields.new.self _ c.in_ok-record.record.index o.place o.opens c.in_ok-fields.ensures.ok.0 in
     lt
 
 pub read_record-returns-clause-ok : goal.read_record-returns-clause-ok
 read_record-returns-clause-ok t c =
     let d = view c.args.value.now in
     let a = c.args.self.now in
-    let r = c.in_ok-text.field-0 in
-    let fs = fields_of_items (items_view c.in-Some.items.now.items) in
-    let same : written_fields d ≡ fs = ap fields_or_ill (sym c.in-Some.ensures) in
-    let reads : ReadsFields c.open_named.new.self c.read_fields.new.self r.name.namespace fs c.in_ok-fields.fields.items = subst (λ (m : List ℕ). ReadsFields c.open_named.new.self c.read_fields.new.self m fs c.in_ok-fields.fields.items) c.as_str.ensures c.in_ok-fields.ensures.ok in
-    let all : ReadsFields c.open_named.new.self c.read_fields.new.self r.name.namespace (written_fields d) c.in_ok-fields.fields.items = subst (λ (gs : Fields). ReadsFields c.open_named.new.self c.read_fields.new.self r.name.namespace gs c.in_ok-fields.fields.items) (sym same) reads in
-    record_read a c.open_named.new.self c.read_fields.new.self _ c.args.namespace.now (heading_of d) r (written_fields d) _ c.in_ok-index.index c.in_ok-fields.fields.items c.in_ok-list.list c.from.result true c.in_ok-text.ensures.ok c.in_ok-index.ensures.ok.0 c.in_ok-index.ensures.ok.1 c.in_ok-index.ensures.met all
-    (sym c.in_ok-list.ensures.ok.1) refl c.in_ok-list.ensures.ok.0 c.from.ensures c.close.ensures.nodes c.close.ensures.names
+    let b = c.open_record.new.self in
+    let o = c.in_ok-record.ensures.ok in
+    let r = names_of c.in_ok-record.record o.text in
+    let gs = c.in_ok-fields.fields.items in
+    let given = fields_of_items (items_view c.in-Some.items.now.items) in
+    let fs : written_fields d ≡ given = ap fields_or_ill (sym c.in-Some.ensures) in
+    let reads : ReadsFields b c.read_fields.new.self r.name.namespace given gs = subst (λ (m : List ℕ). ReadsFields b c.read_fields.new.self m given gs) c.as_str.ensures c.in_ok-fields.ensures.ok in
+    let all : ReadsFields b c.read_fields.new.self r.name.namespace (written_fields d) gs = subst (λ (hs : Fields). ReadsFields b c.read_fields.new.self r.name.namespace hs gs) (sym fs) reads in
+    IfOk-weaker c.close_record.result (ClosesRecord c.read_fields.new.self c.close_record.new.self c.in_ok-record.record gs) (ReadsType a c.close_record.new.self c.args.namespace.now (record_in d)) (λ i closes.
+    subst (ReadsType a c.close_record.new.self c.args.namespace.now (record_in d)) (sym closes.id)
+    (record_read a b c.read_fields.new.self c.close_record.new.self c.args.namespace.now (heading_of d) r (written_fields d) o.first c.in_ok-record.record.index gs gs r.aliases.items true o.has o.place o.opens o.met all
+    (sym closes.distinct) refl refl refl closes.nodes closes.names)) c.close_record.ensures.ok
 
 pub read_branches-read_type-requires : goal.read_branches-read_type-requires
 read_branches-read_type-requires t c =
@@ -268,20 +251,22 @@ read_fields-read_field-requires t c =
 
 pub read_branches-loop-item-init : goal.read_branches-loop-item-init
 read_branches-loop-item-init t c =
-    ([], c.new-kinds.ensures, refl, omega arith, λ ds met. subst (λ l. BranchesAlong c.args.self.now c.args.namespace.now (forms (items_view c.deref-item-items.result.now)) c.args.self.now (forms (items_view c.deref-item-items.result.now)) l [] ds) (sym c.new-branches.ensures.items) (branches_start c.args.self.now c.args.namespace.now (forms (items_view c.deref-item-items.result.now)) ds met))
+    ([], c.new-kinds.ensures, refl, omega arith, λ ds met. subst (λ l. BranchesAlong c.args.self.now c.args.namespace.now (forms (items_view c.deref-item-items.result.now)) c.args.self.now (forms (items_view c.deref-item-items.result.now)) l [] ds) (sym c.in_ok-branches.ensures.items) (branches_start c.args.self.now c.args.namespace.now (forms (items_view c.deref-item-items.result.now)) ds met))
 
-pub read_branches-returns-then-not-branch-clause-err : goal.read_branches-returns-then-not-branch-clause-err
-read_branches-returns-then-not-branch-clause-err t c = λ ds met.
+pub read_branches-returns-in_err-add_kind-clause-err : goal.read_branches-returns-in_err-add_kind-clause-err
+read_branches-returns-in_err-add_kind-clause-err t c =
     let a = c.args.self.now in
     let ns = c.args.namespace.now in
     let vs = c.deref-item-items.result.now in
     let i = c.loop-item.item-index in
     let inv = c.loop-item.invariant in
-    let added = c.in_ok-add.ensures inv.0 inv.1 in
-    let refused : IsRefusalBy (branches_faults ds ns (forms (items_view vs)) (opened a)) fault.BadUnion =
-    branches_twice a c.loop-item.self ns (forms (items_view vs)) (forms (items_view (drop i vs))) (forms (items_view (drop (i + 1) vs))) (form (view c.item-item.result)) c.loop-item.branches.items inv.0 c.in_ok-kind.kind ds
-    (next_forms vs i c.item-item.result (omega arith) c.item-item.is) (inv.4 ds met) c.in_ok-kind.ensures (sym added.1 ∙ c.if-not-branch.true) in
-    subst (λ ws. IsRefusalBy (branches_faults ds ns (forms (items_view ws)) (opened a)) fault.BadUnion) c.deref-item-items.ensures.value refused
+    let e = c.in_err-add_kind.field-0.0 in
+    exit_err c.from_residual-in_err-add_kind.result (RefusesBranches a ns (forms (items_view c.args.items.now.items))) e c.from_residual-in_err-add_kind.ensures.1
+    (λ ds met. subst (λ ws. IsRefusalBy (branches_faults ds ns (forms (items_view ws)) (opened a)) e) c.deref-item-items.ensures.value (λ no_memory.
+    let no = c.in_err-add_kind.ensures.err no_memory inv.0 inv.1 in
+    subst (IsRefusalBy (branches_faults ds ns (forms (items_view vs)) (opened a))) (sym no.0)
+    (branches_twice a c.loop-item.self ns (forms (items_view vs)) (forms (items_view (drop i vs))) (forms (items_view (drop (i + 1) vs))) (form (view c.item-item.result)) c.loop-item.branches.items inv.0 no.1.0 ds
+    (next_forms vs i c.item-item.result (omega arith) c.item-item.is) (inv.4 ds met) no.1.1 no.1.2) no_memory))
 
 pub read_branches-returns-in_err-branch-clause-err : goal.read_branches-returns-in_err-branch-clause-err
 read_branches-returns-in_err-branch-clause-err t c =
@@ -302,16 +287,16 @@ read_branches-loop-item-preserved t c =
     let vs = c.deref-item-items.result.now in
     let i = c.loop-item.item-index in
     let inv = c.loop-item.invariant in
-    let k = c.in_ok-kind.kind in
-    let added = c.in_ok-add.ensures inv.0 inv.1 in
+    let added = c.in_ok-add_kind.ensures.ok inv.0 inv.1 in
+    let k = added.0 in
     let le : opened a ≤ opened c.read_type.new.self = omega (arith, inv.3, c.in_ok-branch.ensures.ok.0) in (
       inv.0 ++ k ∷ [],
-      added.0,
-      fits_more inv.0 k inv.2 (sym added.1 ∙ c.if-not-branch.false),
+      added.3,
+      fits_more inv.0 k inv.2 added.2,
       le,
       λ ds met. subst (λ l. BranchesAlong a ns (forms (items_view vs)) c.read_type.new.self (forms (items_view (drop (i + 1) vs))) l (inv.0 ++ k ∷ []) ds) (sym c.in_ok-push.ensures.items)
           (branches_next a c.loop-item.self c.read_type.new.self ns (forms (items_view vs)) (forms (items_view (drop i vs))) (forms (items_view (drop (i + 1) vs))) (form (view c.item-item.result)) c.loop-item.branches.items inv.0 c.in_ok-branch.branch k ds
-          (next_forms vs i c.item-item.result (omega arith) c.item-item.is) (inv.4 ds met) c.in_ok-branch.ensures.ok c.in_ok-kind.ensures),
+          (next_forms vs i c.item-item.result (omega arith) c.item-item.is) (inv.4 ds met) c.in_ok-branch.ensures.ok added.1),
     )
 
 pub read_branches-returns-clause-ok : goal.read_branches-returns-clause-ok
@@ -329,7 +314,7 @@ read_branches-returns-clause-ok t c =
 pub read_fields-loop-item-init : goal.read_fields-loop-item-init
 read_fields-loop-item-init t c =
     let fs = fields_of_items (items_view c.deref-item-items.result.now) in
-    (omega arith, λ ds met. (subst (λ l. FieldsAlong c.args.self.now c.args.namespace.now fs c.args.self.now fs l ds) (sym c.new-fields.ensures.items) (fields_start c.args.self.now c.args.namespace.now fs ds met), tests_start fs))
+    (omega arith, λ ds met. (subst (λ l. FieldsAlong c.args.self.now c.args.namespace.now fs c.args.self.now fs l ds) (sym c.in_ok-fields.ensures.items) (fields_start c.args.self.now c.args.namespace.now fs ds met), tests_start fs))
 
 pub read_fields-returns-in_err-field-clause-err : goal.read_fields-returns-in_err-field-clause-err
 read_fields-returns-in_err-field-clause-err t c =
@@ -339,7 +324,7 @@ read_fields-returns-in_err-field-clause-err t c =
     let i = c.loop-item.item-index in
     let d = view c.item-item.result in
     let e = c.in_err-field.field-0.0 in
-    exit_err c.from_residual.result (RefusesFields a ns (fields_of_items (items_view c.args.items.now.items))) e c.from_residual.ensures.1
+    exit_err c.from_residual-in_err-field.result (RefusesFields a ns (fields_of_items (items_view c.args.items.now.items))) e c.from_residual-in_err-field.ensures.1
     (λ ds met.
     let now = c.loop-item.invariant.1 ds met in
     subst (λ ws. IsRefusalBy (fields_faults ds ns (fields_of_items (items_view ws)) (opened a)) e) c.deref-item-items.ensures.value
@@ -379,3 +364,19 @@ read_fields-returns-clause-ok t c =
           subst (λ ws. AreFieldsRead ds ns (fields_of_items (items_view ws)) a c.loop-item.self c.loop-item.fields.items) c.deref-item-items.ensures.value
           (fields_done a c.loop-item.self ns (fields_of_items (items_view vs)) (fields_of_items (items_view (drop i vs))) c.loop-item.fields.items ds (no_fields_left vs i (omega arith)) now.0 now.1),
     )
+
+pub read_record-returns-clause-err : goal.read_record-returns-clause-err
+read_record-returns-clause-err t c =
+    let d = view c.args.value.now in
+    let a = c.args.self.now in
+    let b = c.open_record.new.self in
+    let o = c.in_ok-record.ensures.ok in
+    let r = names_of c.in_ok-record.record o.text in
+    let gs = c.in_ok-fields.fields.items in
+    let given = fields_of_items (items_view c.in-Some.items.now.items) in
+    let fs : written_fields d ≡ given = ap fields_or_ill (sym c.in-Some.ensures) in
+    let reads : ReadsFields b c.read_fields.new.self r.name.namespace given gs = subst (λ (m : List ℕ). ReadsFields b c.read_fields.new.self m given gs) c.as_str.ensures c.in_ok-fields.ensures.ok in
+    IfErr-weaker c.close_record.result (IsRefusalBy (unless (all_distinct bytes_eq (map (λ g. g.name) gs)) fault.BadForm)) (RefusesType a c.args.namespace.now (record_in d)) (λ e refused ds met.
+    let read = reads.1 (ds ++ definition_of r (opened a) ∷ []) (defined_at b ds r _ _ o.place (o.met ds met).0) in
+    let tests = tested_names _ r.name.namespace given b c.read_fields.new.self _ _ read refl in
+    refused_list ds c.args.namespace.now (heading_of d) (written_fields d) (opened a) e (subst (λ (hs : Fields). IsRefusalBy (field_list_faults hs) e) (sym fs) (refused_same_names given _ e tests refused))) c.close_record.ensures.err

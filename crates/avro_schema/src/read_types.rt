@@ -1,0 +1,210 @@
+// Reading a schema's JSON into nodes, in one pass.
+ghost use Rattle.std.specs.Prelude.{◌≡◌, true, false, codes, IfOk, IfErr};
+ghost use Rattle.serde_json.specs.View.{view, items_view};
+ghost use Rattle.serde_json.specs.Written.{has_float as spec_has_float, items_have_float as spec_items_have_float};
+
+use crate::builder::Builder;
+use crate::fields::{field_items, read_field_names};
+use crate::kinds::Kinds;
+use crate::members::string_at;
+use crate::word::TypeWord;
+use crate::{Field, Node, NodeId, SchemaError};
+use base_text::Listed;
+use serde_json::Value;
+use std::alloc::Global;
+
+impl Builder {
+    ghost use Rattle.avro_schema.specs.Form.{form, forms, union_of, fields_of_items, field_heading_of};
+    ghost use Rattle.avro_schema.specs.Building.{ReadsType, RefusesType, ReadsBranches, RefusesBranches, ReadsField, RefusesField, ReadsFields, RefusesFields, is_object, form_in, record_in, array_in, map_in};
+
+    /// Reads a type inside a type of that namespace.
+    #[cycle(types)]
+    pub(crate) fn read_type(
+        &mut self,
+        alloc: Global,
+        value: &Value,
+        namespace: &str,
+    ) -> Result<NodeId, SchemaError>
+        requires { spec_has_float (view value.now) ≡ false }
+        ensures ok { IfOk result (ReadsType self.old self.new namespace.now (form (view value.now))) }
+        ensures err { IfErr result (RefusesType self.old namespace.now (form (view value.now))) }
+    {
+        match value {
+            Value::String(name) => self.read_name(alloc, name.as_str(), namespace),
+            Value::Array(items) => self.read_union(alloc, items, namespace),
+            Value::Object(_) => self.read_object(alloc, value, namespace),
+            _ => Err(SchemaError::BadForm),
+        }
+    }
+
+    #[cycle(types)]
+    fn read_object(
+        &mut self,
+        alloc: Global,
+        value: &Value,
+        namespace: &str,
+    ) -> Result<NodeId, SchemaError>
+        requires object { is_object (view value.now) ≡ true }
+        requires whole { spec_has_float (view value.now) ≡ false }
+        ensures ok { IfOk result (ReadsType self.old self.new namespace.now (form (view value.now))) }
+        ensures err { IfErr result (RefusesType self.old namespace.now (form (view value.now))) }
+    {
+        let Some(name) = string_at(value, "type") else {
+            return self.read_member(alloc, value, "type", namespace);
+        };
+        match TypeWord::of(name) {
+            TypeWord::Record => self.read_record(alloc, value, namespace),
+            TypeWord::Enum => self.read_enum(alloc, value, namespace),
+            TypeWord::Fixed => self.read_fixed(alloc, value, namespace),
+            TypeWord::Array => self.read_array(alloc, value, namespace),
+            TypeWord::Map => self.read_map(alloc, value, namespace),
+            TypeWord::Error => Err(SchemaError::BadForm),
+            TypeWord::Other => self.read_name(alloc, name, namespace),
+        }
+    }
+
+    /// Reads the type that a member writes.
+    #[cycle(types)]
+    fn read_member(
+        &mut self,
+        alloc: Global,
+        value: &Value,
+        name: &str,
+        namespace: &str,
+    ) -> Result<NodeId, SchemaError>
+        requires { spec_has_float (view value.now) ≡ false }
+        ensures ok { IfOk result (ReadsType self.old self.new namespace.now (form_in name.now (view value.now))) }
+        ensures err { IfErr result (RefusesType self.old namespace.now (form_in name.now (view value.now))) }
+    {
+        match value.get(name) {
+            Some(member) => self.read_type(alloc, member, namespace),
+            None => Err(SchemaError::BadForm),
+        }
+    }
+
+    #[cycle(types)]
+    fn read_array(
+        &mut self,
+        alloc: Global,
+        value: &Value,
+        namespace: &str,
+    ) -> Result<NodeId, SchemaError>
+        requires { spec_has_float (view value.now) ≡ false }
+        ensures ok { IfOk result (ReadsType self.old self.new namespace.now (array_in (view value.now))) }
+        ensures err { IfErr result (RefusesType self.old namespace.now (array_in (view value.now))) }
+    {
+        let index = self.reserve()?;
+        let items = self.read_member(alloc, value, "items", namespace)?;
+        self.close(index, Node::Array(items));
+        Ok(NodeId { index })
+    }
+
+    #[cycle(types)]
+    fn read_map(
+        &mut self,
+        alloc: Global,
+        value: &Value,
+        namespace: &str,
+    ) -> Result<NodeId, SchemaError>
+        requires { spec_has_float (view value.now) ≡ false }
+        ensures ok { IfOk result (ReadsType self.old self.new namespace.now (map_in (view value.now))) }
+        ensures err { IfErr result (RefusesType self.old namespace.now (map_in (view value.now))) }
+    {
+        let index = self.reserve()?;
+        let values = self.read_member(alloc, value, "values", namespace)?;
+        self.close(index, Node::Map(values));
+        Ok(NodeId { index })
+    }
+
+    #[cycle(types)]
+    fn read_union(
+        &mut self,
+        alloc: Global,
+        items: &Vec<Value>,
+        namespace: &str,
+    ) -> Result<NodeId, SchemaError>
+        requires { spec_items_have_float (items_view items.now.items) ≡ false }
+        ensures ok { IfOk result (ReadsType self.old self.new namespace.now (union_of (forms (items_view items.now.items)))) }
+        ensures err { IfErr result (RefusesType self.old namespace.now (union_of (forms (items_view items.now.items)))) }
+    {
+        let index = self.reserve()?;
+        let branches = self.read_branches(alloc, items, namespace)?;
+        self.close(index, Node::Union(Listed::from(branches)));
+        Ok(NodeId { index })
+    }
+
+    #[cycle(types)]
+    fn read_branches(
+        &mut self,
+        alloc: Global,
+        items: &Vec<Value>,
+        namespace: &str,
+    ) -> Result<Vec<NodeId>, SchemaError>
+        requires { spec_items_have_float (items_view items.now.items) ≡ false }
+        ensures ok { IfOk result (λ v. ReadsBranches self.old self.new namespace.now (forms (items_view items.now.items)) v.items) }
+        ensures err { IfErr result (RefusesBranches self.old namespace.now (forms (items_view items.now.items))) }
+    {
+        let mut branches = Vec::with_capacity(alloc, items.len())?;
+        let mut kinds = Kinds::new(alloc);
+        for item in items {
+            self.add_kind(alloc, &mut kinds, item, namespace)?;
+            let branch = self.read_type(alloc, item, namespace)?;
+            branches.push(branch)?;
+        }
+        Ok(branches)
+    }
+
+    #[cycle(types)]
+    fn read_record(
+        &mut self,
+        alloc: Global,
+        value: &Value,
+        namespace: &str,
+    ) -> Result<NodeId, SchemaError>
+        requires { spec_has_float (view value.now) ≡ false }
+        ensures ok { IfOk result (ReadsType self.old self.new namespace.now (record_in (view value.now))) }
+        ensures err { IfErr result (RefusesType self.old namespace.now (record_in (view value.now))) }
+    {
+        let Some(items) = field_items(value) else {
+            return Err(SchemaError::BadForm);
+        };
+        let record = self.open_record(alloc, value, namespace)?;
+        let fields = self.read_fields(alloc, items, record.name.namespace.as_str())?;
+        self.close_record(alloc, record, fields)
+    }
+
+    #[cycle(types)]
+    fn read_fields(
+        &mut self,
+        alloc: Global,
+        items: &Vec<Value>,
+        namespace: &str,
+    ) -> Result<Vec<Field>, SchemaError>
+        requires { spec_items_have_float (items_view items.now.items) ≡ false }
+        ensures ok { IfOk result (λ v. ReadsFields self.old self.new namespace.now (fields_of_items (items_view items.now.items)) v.items) }
+        ensures err { IfErr result (RefusesFields self.old namespace.now (fields_of_items (items_view items.now.items))) }
+    {
+        let mut fields = Vec::with_capacity(alloc, items.len())?;
+        for item in items {
+            let field = self.read_field(alloc, item, namespace)?;
+            fields.push(field)?;
+        }
+        Ok(fields)
+    }
+
+    #[cycle(types)]
+    fn read_field(
+        &mut self,
+        alloc: Global,
+        value: &Value,
+        namespace: &str,
+    ) -> Result<Field, SchemaError>
+        requires { spec_has_float (view value.now) ≡ false }
+        ensures ok { IfOk result (ReadsField self.old self.new namespace.now (field_heading_of (view value.now)) (form_in (codes "type") (view value.now))) }
+        ensures err { IfErr result (RefusesField self.old namespace.now (field_heading_of (view value.now)) (form_in (codes "type") (view value.now))) }
+    {
+        let names = read_field_names(alloc, value)?;
+        let node = self.read_member(alloc, value, "type", namespace)?;
+        Ok(names.of_type(node))
+    }
+}
