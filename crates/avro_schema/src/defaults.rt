@@ -5,6 +5,7 @@ ghost use Rattle.serde_json.specs.View.{view, number_view, items_view, members_v
 ghost use Rattle.avro_schema.specs.Defaults as spec;
 
 use crate::{BadDefault, Field, Node, NodeId, Primitive, Schema};
+use named_list::NamedList;
 use serde_json::{Map, Number, Value};
 
 impl Schema {
@@ -87,7 +88,7 @@ fn default_fits(nodes: &[Node], id: NodeId, value: &Value) -> bool
         Value::Object(members) => match node {
             Some(Node::Map(inner)) => values_fit(nodes, *inner, members),
             Some(Node::Record { fields, .. }) => {
-                fields_fit(nodes, fields.as_slice(), members)
+                fields_fit(nodes, fields, members)
                     && absent_have_defaults(members, fields.as_slice())
             }
             _ => false,
@@ -121,7 +122,7 @@ fn values_fit(nodes: &[Node], id: NodeId, members: &Map<String, Value>) -> bool
 
 /// Whether the members of fields' names are values of the fields.
 #[cycle(default_fits)]
-fn fields_fit(nodes: &[Node], fields: &[Field], members: &Map<String, Value>) -> bool
+fn fields_fit(nodes: &[Node], fields: &NamedList<Field>, members: &Map<String, Value>) -> bool
     ensures { result ≡ spec.fields_fit nodes.now fields.now (members_view members.now.entries) }
 {
     for (name, value) in members.iter() {
@@ -134,10 +135,10 @@ fn fields_fit(nodes: &[Node], fields: &[Field], members: &Map<String, Value>) ->
     true
 }
 
-fn field_named<'f>(fields: &'f [Field], name: &str) -> Option<&'f Field>
+fn field_named<'f>(fields: &'f NamedList<Field>, name: &str) -> Option<&'f Field>
     ensures { option_copied result ≡ spec.field_named fields.now name.now }
 {
-    fields.iter().find(|field| field.name.as_str() == name)
+    fields.find(name)
 }
 
 /// Whether each field that the members leave out has a default.

@@ -79,6 +79,12 @@ impl<T: Named> NamedList<T> {
     pub fn place(&self, name: &Text) -> Option<usize>
         ensures { result ≡ position (λ item. bytes_eq (T.name item) name.now) self.now }
     {
+        self.place_of(name.as_str())
+    }
+
+    fn place_of(&self, name: &str) -> Option<usize>
+        ensures { result ≡ position (λ item. bytes_eq (T.name item) name.now) self.now }
+    {
         let items = self.items.as_slice();
         if self.slots.is_empty() {
             place_in(items, name)
@@ -92,7 +98,14 @@ impl<T: Named> NamedList<T> {
     pub fn get(&self, name: &Text) -> Option<&T>
         ensures { option_copied result ≡ find (λ item. bytes_eq (T.name item) name.now) self.now }
     {
-        match self.place(name) {
+        self.find(name.as_str())
+    }
+
+    /// The same as [`NamedList::get`], for a name that is no [`Text`].
+    pub fn find(&self, name: &str) -> Option<&T>
+        ensures { option_copied result ≡ find (λ item. bytes_eq (T.name item) name.now) self.now }
+    {
+        match self.place_of(name) {
             Some(place) => item_at(self.items.as_slice(), place),
             None => None,
         }

@@ -34,14 +34,14 @@ pub(crate) fn item_at<T>(items: &[T], place: usize) -> Option<&T>
 }
 
 /// Where the item of that name is, looked for one by one.
-pub(crate) fn place_in<T: Named>(items: &[T], name: &Text) -> Option<usize>
+pub(crate) fn place_in<T: Named>(items: &[T], name: &str) -> Option<usize>
     ensures { result ≡ position (λ item. bytes_eq (T.name item) name.now) items.now }
 {
-    items.iter().position(|item| item.name() == name)
+    items.iter().position(|item| item.name().as_str() == name)
 }
 
 /// Where the item of that name is, looked for in the order of the names.
-pub(crate) fn place_in_order<T: Named>(items: &[T], by_name: &[usize], name: &Text) -> Option<usize>
+pub(crate) fn place_in_order<T: Named>(items: &[T], by_name: &[usize], name: &str) -> Option<usize>
     requires distinct { all_distinct bytes_eq (map T.name items.now) ≡ true }
     requires index { IsIndex (map T.name items.now) by_name.now }
     ensures { result ≡ position (λ item. bytes_eq (T.name item) name.now) items.now }
@@ -61,9 +61,9 @@ pub(crate) fn place_in_order<T: Named>(items: &[T], by_name: &[usize], name: &Te
 }
 
 /// How the name of the item at that place compares with a name.
-fn compare_at<T: Named>(items: &[T], place: usize, name: &Text) -> Ordering
+fn compare_at<T: Named>(items: &[T], place: usize, name: &str) -> Ordering
     requires { place < length items.now }
     ensures { result ≡ slice_cmp nat_cmp (slice_index_or (map T.name items.now) place []) name.now }
 {
-    items[place].name().cmp(name)
+    items[place].name().as_str().cmp(name)
 }

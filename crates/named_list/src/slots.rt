@@ -6,7 +6,6 @@ ghost use Rattle.named_list.specs.Slots as spec;
 
 use crate::Named;
 use crate::lookup::place_in_order;
-use base_text::Text;
 use std::alloc::{AllocError, Global};
 
 /// How many slots there are for an item: the more, the fewer items share one.
@@ -20,7 +19,7 @@ pub(crate) fn slots_of<T: Named>(alloc: Global, items: &[T]) -> Result<Vec<u32>,
     let count = items.len().saturating_mul(SLOTS_FOR_ITEM).saturating_add(1);
     let mut slots = vec![in alloc; 0; count]?;
     for (place, item) in items.iter().enumerate() {
-        let slot = slot_of(item.name(), count);
+        let slot = slot_of(item.name().as_str(), count);
         slots[slot] = slot_at(place);
     }
     Ok(slots)
@@ -34,12 +33,12 @@ fn slot_at(place: usize) -> u32
 }
 
 /// The slot of a name among so many.
-fn slot_of(name: &Text, count: usize) -> usize
+fn slot_of(name: &str, count: usize) -> usize
     requires { 0 < count }
     ensures is { result ≡ spec.slot_of name.now count }
     ensures within { result < count }
 {
-    hash_of(name.as_str().as_bytes()) as usize % count
+    hash_of(name.as_bytes()) as usize % count
 }
 
 /// The hash of a name.
@@ -61,7 +60,7 @@ pub(crate) fn place_by_slot<T: Named>(
     items: &[T],
     slots: &[u32],
     by_name: &[usize],
-    name: &Text,
+    name: &str,
 ) -> Option<usize>
     requires distinct { all_distinct bytes_eq (map T.name items.now) ≡ true }
     requires index { IsIndex (map T.name items.now) by_name.now }
@@ -81,12 +80,12 @@ pub(crate) fn place_by_slot<T: Named>(
 }
 
 /// Whether the item at a place has that name.
-fn is_named<T: Named>(items: &[T], place: usize, name: &Text) -> bool
+fn is_named<T: Named>(items: &[T], place: usize, name: &str) -> bool
     requires distinct { all_distinct bytes_eq (map T.name items.now) ≡ true }
     ensures { result ≡ true → position (λ item. bytes_eq (T.name item) name.now) items.now ≡ Some place }
 {
     if place >= items.len() {
         return false;
     }
-    items[place].name() == name
+    items[place].name().as_str() == name
 }

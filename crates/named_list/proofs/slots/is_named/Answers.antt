@@ -13,4 +13,4 @@ returns g c =
     let item = get_or-map name items c.args.place c.index-items-place.result [] inside ∙ ap name (sym c.index-items-place.is) in
     λ same. sym (position-map (λ n. bytes_eq n s) name items)
     ∙ named_here s (map name items) c.args.place c.requires.distinct within
-    (ap (λ n. bytes_eq n s) (item ∙ sym c.name.ensures) ∙ sym c.eq.ensures ∙ same)
+    (ap (λ n. bytes_eq n s) (item ∙ sym c.name.ensures ∙ sym c.as_str.ensures) ∙ sym c.eq.ensures ∙ same)
