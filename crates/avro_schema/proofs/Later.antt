@@ -208,9 +208,6 @@ mutual
   definitions_of_fields-from ns n m ill_fields p = tt
   definitions_of_fields-from ns n m (and_field h f fs) p = parts-from ns n m f _ p (definitions_in-from ns n m f (omega arith)) (definitions_of_fields-from ns (n + count f) m fs (omega arith))
 
-pub definitions-from : (ns : List ℕ) (n : ℕ) (f : Form) → From n (definitions (places ns n f))
-definitions-from ns n f = definition-from ns n n f (places_in ns n f) (omega arith) (definitions_in-from ns n n f (omega arith))
-
 -- ---- how many nodes there are
 
 length-and : (ds : List Definition) (ps qs : List Place) → length (filter_map (node_at ds) (ps ++ qs)) ≡ length (filter_map (node_at ds) ps) + length (filter_map (node_at ds) qs)

@@ -9,13 +9,13 @@ use Rattle.avro_schema.specs.declared.error.SchemaError.{SchemaError}
 use Rattle.avro_schema.specs.declared.error.SchemaError.TheVariants as fault
 use Rattle.avro_schema.specs.declared.node.Node.{Node}
 use Rattle.avro_schema.specs.declared.builder.Builder.{Builder}
-use Rattle.avro_schema.specs.Form.{Form, Forms, Fields}
-use Rattle.avro_schema.specs.Places.{count, forms_count, fields_count, Place, places, places_of_forms, places_of_fields, Definition, definition_at, definitions}
+use Rattle.avro_schema.specs.Form.{Form}
+use Rattle.avro_schema.specs.Places.{count, Place, places, Definition, definition_at, definitions}
 use Rattle.avro_schema.specs.Nodes.{node_at}
 use Rattle.avro_schema.specs.Faults.{unless, faults_at}
 use Rattle.avro_schema.specs.Schema.{IsRefusalBy}
 use Rattle.avro_schema.specs.Building.{Before, nodes_of, opened, HasMet, Reads, too_many, faults_in}
-use Rattle.avro_schema.proofs.Later.{SameAlong, count-type, count-forms, count-fields}
+use Rattle.avro_schema.proofs.Later.{SameAlong, count-type}
 use Rattle.avro_schema.specs.declared.limits.TheConstants.{MOST_NODES}
 
 -- ---- refusals
@@ -75,9 +75,6 @@ nil-right (x ∷ xs) ys h = cc
 
 -- ---- one after another
 
-abbrev pub with_definitions : List Definition → List Place → List Definition
-with_definitions ds ps = ds ++ definitions ps
-
 pub definitions-append : (ds : List Definition) (ps qs : List Place) → (ds ++ definitions ps) ++ definitions qs ≡ ds ++ definitions (ps ++ qs)
 definitions-append ds ps qs = append_assoc ds (definitions ps) (definitions qs) ∙ ap (λ l. ds ++ l) (sym (filter_map-append definition_at ps qs))
 
@@ -108,12 +105,6 @@ opened-length xs ys zs n e h = ap length e ∙ grind (arith, length-append)
 
 pub opened-type : (ds : List Definition) (ns : List ℕ) (n : ℕ) (f : Form) (a b : Builder) → Reads ds (places ns n f) a b → opened b ≡ opened a + count f
 opened-type ds ns n f a b r = opened-length _ _ _ _ r.nodes (count-type _ ns n f)
-
-pub opened-forms : (ds : List Definition) (ns : List ℕ) (n : ℕ) (fs : Forms) (a b : Builder) → Reads ds (places_of_forms ns n fs) a b → opened b ≡ opened a + forms_count fs
-opened-forms ds ns n fs a b r = opened-length _ _ _ _ r.nodes (count-forms _ ns n fs)
-
-pub opened-fields : (ds : List Definition) (ns : List ℕ) (n : ℕ) (fs : Fields) (a b : Builder) → Reads ds (places_of_fields ns n fs) a b → opened b ≡ opened a + fields_count fs
-opened-fields ds ns n fs a b r = opened-length _ _ _ _ r.nodes (count-fields _ ns n fs)
 
 -- ---- a node that opens before its parts, and is written when they are read
 

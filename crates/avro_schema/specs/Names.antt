@@ -75,9 +75,6 @@ joined (x ∷ xs) s = (x ∷ xs) ++ 46 ∷ s
 abbrev pub full_text : List ℕ → List ℕ → List ℕ
 full_text namespace s = if has_dot s then s else joined namespace s
 
-abbrev pub dotted : FullName → List ℕ
-dotted n = joined n.namespace n.name
-
 abbrev pub same_name : FullName → FullName → Bool
 same_name m n = bytes_eq m.namespace n.namespace && bytes_eq m.name n.name
 

@@ -1,4 +1,4 @@
-use Rattle.std.proofs.Common.{◌∙◌, sym, ap, refl, set}
+use Rattle.std.proofs.Common.{◌∙◌, ap, refl, set}
 use Rattle.avro_schema.specs.declared.node.Node.TheVariants as kind
 use Rattle.avro_schema.specs.Building.{nodes_of}
 use Rattle.avro_schema.proofs.builder.Builder.close_record.Goals as goal
