@@ -60,12 +60,10 @@ pub fn partner_near<'a>(
     if let Some(found) = nearby(writer.as_slice(), field, near) {
         return found;
     }
-    if let Some(k) = writer.place(&field.name)
-        && let Some(g) = named_at(writer.as_slice(), field, k)
-    {
-        return (k.saturating_add(1), Some(g));
+    match writer.place(&field.name) {
+        Some(k) => (k.saturating_add(1), field_at(writer.as_slice(), k)),
+        None => (near, first_field(writer, field.aliases.as_slice())),
     }
-    (near, partner(writer, field))
 }
 
 /// The field of that name at `near`, or at the last place before the one that was found there, and

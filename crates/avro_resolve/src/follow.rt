@@ -42,7 +42,7 @@ fn follow(r: &Schema, w: &Schema, pair: Pair, hop: &Hop) -> Option<Pair>
     requires writer { pair.writer.index < length w.now.nodes }
     ensures { result ≡ pair_by (spec.obligations r.now.nodes w.now.nodes pair) hop.now }
 {
-    match row_at(r, w, pair, None) {
+    match row_at(r, w, pair) {
         Row::Clash(_) => None,
         Row::WriterBranches(i, branches) => writer_branch(i, branches, hop),
         Row::One(only, next) => only_pair(&only, next, hop),
@@ -117,7 +117,7 @@ fn clashes_so(r: &Schema, w: &Schema, pair: Pair, kind: &ClashKind) -> bool
     requires writer { pair.writer.index < length w.now.nodes }
     ensures { IsTrue result ↔ (spec.clash_of r.now.nodes w.now.nodes pair ≡ Some kind.now) }
 {
-    match row_at(r, w, pair, None) {
+    match row_at(r, w, pair) {
         Row::Clash(cause) => is_of_kind(&cause, kind),
         Row::Fields(reader, writer) => lacks_so(reader, writer, kind),
         _ => false,

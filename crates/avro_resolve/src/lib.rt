@@ -6,7 +6,6 @@ mod fields;
 mod firsts;
 mod follow;
 mod grid;
-mod guess;
 mod laws;
 mod matching;
 mod names;

@@ -42,7 +42,7 @@ pub fn owed(
     requires writer { pair.writer.index < length w.now.nodes }
     ensures { IfOk result (λ os. os.items ≡ spec.obligations r.now.nodes w.now.nodes pair) }
 {
-    match row_at(r, w, pair, Some(alloc)) {
+    match row_at(r, w, pair) {
         Row::Clash(_) => Ok(Vec::new(alloc)),
         Row::WriterBranches(i, branches) => to_writer_branches(alloc, i, branches),
         Row::One(hop, next) => {

@@ -58,7 +58,7 @@ pub fn resolve_counted(alloc: Global, r: &Schema, w: &Schema) -> Result<Counted,
     let mut head = 0;
     'heads: while head < search.entries.len() {
         let pair = search.entries[head].pair;
-        let row = row_at(r, w, pair, Some(alloc));
+        let row = row_at(r, w, pair);
         if let Some(cause) = search.expand(head, row)? {
             let kind = cause.kind()?;
             let hops = search.hops_to(alloc, r, w, head)?;

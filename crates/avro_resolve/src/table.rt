@@ -6,7 +6,6 @@ ghost use Rattle.avro_resolve.specs.Table as spec;
 ghost use Rattle.avro_schema.specs.Sound.{HaveDistinctNames, fields_of_node};
 ghost use Rattle.avro_resolve.specs.Row.{clash_of_cause, outcome_of, HasDistinct};
 
-use crate::guess::Guess;
 use crate::matching::matches;
 use crate::names::{names_match, primitives_match};
 use crate::obligations::Pair;
@@ -14,7 +13,7 @@ use crate::trail::{ClashKind, Hop};
 use avro_schema::{Field, FullName, Node, NodeId, Primitive, Schema};
 use base_text::Text;
 use named_list::NamedList;
-use std::alloc::{AllocError, Global};
+use std::alloc::AllocError;
 
 /// Why a pair clashes, with the name that it is about.
 #[derive(Drop)]
@@ -58,8 +57,8 @@ pub enum Row<'a> {
     Nothing,
 }
 
-/// The row of a pair. Without memory symbols among many are looked for one by one.
-pub fn row_at<'a>(r: &'a Schema, w: &'a Schema, pair: Pair, memory: Option<Global>) -> Row<'a>
+/// The row of a pair.
+pub fn row_at<'a>(r: &'a Schema, w: &'a Schema, pair: Pair) -> Row<'a>
     requires reader { pair.reader.index < length r.now.nodes }
     requires writer { pair.writer.index < length w.now.nodes }
     ensures row { outcome_of result ≡ spec.outcome r.now.nodes w.now.nodes pair }
@@ -71,12 +70,12 @@ pub fn row_at<'a>(r: &'a Schema, w: &'a Schema, pair: Pair, memory: Option<Globa
     }
     match r.node(pair.reader) {
         Node::Union(branches) => branch_row(r, branches.as_slice(), w, pair.writer),
-        reader => plain_row(reader, writer, memory),
+        reader => plain_row(reader, writer),
     }
 }
 
 /// The row of two types that are no unions.
-fn plain_row<'a>(reader: &'a Node, writer: &'a Node, memory: Option<Global>) -> Row<'a>
+fn plain_row<'a>(reader: &'a Node, writer: &'a Node) -> Row<'a>
     requires { HaveDistinctNames (fields_of_node writer.now) }
     ensures row { outcome_of result ≡ spec.plain_row reader.now writer.now }
     ensures distinct { HasDistinct result }
@@ -102,14 +101,7 @@ fn plain_row<'a>(reader: &'a Node, writer: &'a Node, memory: Option<Global>) -> 
             default,
         } => {
             let has_default = default.is_some();
-            enum_row(
-                name,
-                aliases.as_slice(),
-                symbols.as_slice(),
-                has_default,
-                writer,
-                memory,
-            )
+            enum_row(name, aliases.as_slice(), symbols, has_default, writer)
         }
         Node::Fixed {
             name,
@@ -161,10 +153,9 @@ fn record_row<'a>(
 fn enum_row<'a>(
     name: &FullName,
     aliases: &[FullName],
-    symbols: &[Text],
+    symbols: &NamedList<Text>,
     has_default: bool,
     writer: &'a Node,
-    memory: Option<Global>,
 ) -> Row<'a>
     ensures row { (d : Option (List ℕ)) → is_some d ≡ has_default
         → outcome_of result ≡ spec.plain_row (kind.Enum name.now aliases.now symbols.now d) writer.now }
@@ -177,7 +168,7 @@ fn enum_row<'a>(
             ..
         } => {
             if names_match(name, aliases, other) {
-                symbol_row(symbols, has_default, others.as_slice(), memory)
+                symbol_row(symbols, has_default, others.as_slice())
             } else {
                 Row::Clash(Cause::NameMismatch)
             }
@@ -258,71 +249,41 @@ fn first_matching_branch(
 }
 
 /// The row of two enums whose names match, where the reader's has a default or none.
-fn symbol_row<'a>(
-    reader: &[Text],
-    has_default: bool,
-    writer: &'a [Text],
-    memory: Option<Global>,
-) -> Row<'a>
+fn symbol_row<'a>(reader: &NamedList<Text>, has_default: bool, writer: &'a [Text]) -> Row<'a>
     ensures row { outcome_of result ≡ spec.with_symbols reader.now has_default writer.now }
     ensures distinct { HasDistinct result }
 {
     if has_default {
         return Row::Nothing;
     }
-    match first_unknown(reader, writer, memory) {
+    match first_unknown(reader, writer) {
         Some(s) => Row::Clash(Cause::UnknownSymbol(s)),
         None => Row::Nothing,
     }
 }
 
 /// The first of the writer's symbols that isn't among the reader's.
-fn first_unknown<'a>(
-    reader: &[Text],
-    writer: &'a [Text],
-    memory: Option<Global>,
-) -> Option<&'a Text>
+fn first_unknown<'a>(reader: &NamedList<Text>, writer: &'a [Text]) -> Option<&'a Text>
     ensures { option_copied result ≡ find (λ s. not (has_text reader.now s)) writer.now }
 {
     let mut near = 0;
-    let mut guess = Guess::new(memory);
     for s in writer {
-        let (next, known) = is_symbol_near(s, reader, near, &mut guess);
-        near = next;
-        if !known {
-            return Some(s);
+        match symbol_near(s, reader, near) {
+            Some(place) => near = place.saturating_add(1),
+            None => return Some(s),
         }
     }
     None
 }
 
-/// How many symbols are looked at before the search from the first.
-const NEAR: usize = 8;
-
-/// Whether a symbol is among these, with a place after which the next one may be looked for; it is
-/// looked for at `near` and a few places on, and where a guess is, before anywhere else.
-fn is_symbol_near<'a>(
-    symbol: &Text,
-    symbols: &'a [Text],
-    near: usize,
-    guess: &mut Guess<'a>,
-) -> (usize, bool)
-    ensures { result.1 ≡ has_text symbols.now symbol.now }
+/// A place of the symbol among these, if it is there. It is looked for at `near` first.
+fn symbol_near(symbol: &Text, symbols: &NamedList<Text>, near: usize) -> Option<usize>
+    ensures { is_some result ≡ has_text symbols.now symbol.now }
 {
-    for k in near..near.saturating_add(NEAR) {
-        let Some(other) = symbol_at(symbols, k) else {
-            break;
-        };
-        if *symbol == *other {
-            return (k.saturating_add(1), true);
-        }
+    if is_at(symbol, symbols.as_slice(), near) {
+        return Some(near);
     }
-    if let Some(k) = guess.of_symbol(symbols, symbol)
-        && is_at(symbol, symbols, k)
-    {
-        return (k.saturating_add(1), true);
-    }
-    (near, is_symbol(symbol, symbols))
+    symbols.place(symbol)
 }
 
 /// Whether the symbol stands at a place.
@@ -340,10 +301,4 @@ fn symbol_at(symbols: &[Text], k: usize) -> Option<&Text>
     ensures { option_copied result ≡ slice_get symbols.now k }
 {
     symbols.get(k)
-}
-
-fn is_symbol(symbol: &Text, symbols: &[Text]) -> bool
-    ensures { result ≡ has_text symbols.now symbol.now }
-{
-    symbols.iter().any(|other| *symbol == *other)
 }
