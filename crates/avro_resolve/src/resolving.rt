@@ -2,7 +2,7 @@
 ghost use Rattle.std.specs.Prelude.{◌≡◌, ◌≤◌, ◌*◌, length, IfOk};
 
 use crate::search::Search;
-use crate::table::row_at;
+use crate::table::{are_matching_primitives, row_at};
 use crate::trail::Trail;
 use avro_schema::Schema;
 use std::alloc::{AllocError, Global};
@@ -58,6 +58,10 @@ pub fn resolve_counted(alloc: Global, r: &Schema, w: &Schema) -> Result<Counted,
     let mut head = 0;
     'heads: while head < search.entries.len() {
         let pair = search.entries[head].pair;
+        if are_matching_primitives(r, w, pair) {
+            head += 1;
+            continue;
+        }
         let row = row_at(r, w, pair);
         if let Some(cause) = search.expand(head, row)? {
             let kind = cause.kind()?;

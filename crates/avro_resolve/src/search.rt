@@ -16,6 +16,9 @@ use base_text::Listed;
 use named_list::NamedList;
 use std::alloc::{AllocError, Global};
 
+/// For how many pairs there is room at first.
+const SOON_REACHED: usize = 64;
+
 /// Where a pair was reached from: the place of an earlier pair, and the number of its obligation.
 #[derive(Clone, Copy)]
 pub struct Step {
@@ -51,9 +54,11 @@ impl Search {
             reader: r.root(),
             writer: w.root(),
         };
+        let readers = r.node_count();
+        let writers = w.node_count();
         let mut search = Search {
-            entries: Vec::new(alloc),
-            seen: Seen::none(alloc, r.node_count(), w.node_count())?,
+            entries: Vec::with_capacity(alloc, readers.min(SOON_REACHED))?,
+            seen: Seen::none(alloc, readers, writers)?,
         };
         search.reach(Entry { pair, from: None })?;
         Ok(search)

@@ -1,7 +1,8 @@
 // The table: the row that a pair of types falls under, with what it takes from the schemas.
-ghost use Rattle.std.specs.Prelude.{◌≡◌, ◌<◌, ℕ, List, Option, IsTrue, true, is_some, All, length, map, not, find, slice_get, bytes_eq, option_copied, IfOk};
+ghost use Rattle.std.specs.Prelude.{◌≡◌, ◌<◌, ℕ, List, [], Option, IsTrue, true, is_some, All, length, map, not, find, slice_get, bytes_eq, option_copied, IfOk};
 ghost use Rattle.avro_schema.specs.declared.node.Node.TheVariants as kind;
 ghost use Rattle.avro_schema.specs.Names.{has_text};
+ghost use Rattle.avro_resolve.specs.declared.obligations.Outcome.TheVariants as outcome;
 ghost use Rattle.avro_resolve.specs.Table as spec;
 ghost use Rattle.avro_schema.specs.Sound.{HaveDistinctNames, fields_of_node};
 ghost use Rattle.avro_resolve.specs.Row.{clash_of_cause, outcome_of, HasDistinct};
@@ -55,6 +56,21 @@ pub enum Row<'a> {
     /// The reader's fields and the writer's, of two records whose names match.
     Fields(&'a [Field], &'a NamedList<Field>),
     Nothing,
+}
+
+/// Whether a pair is of two primitives that match. Most pairs are, and owe nothing.
+pub fn are_matching_primitives(r: &Schema, w: &Schema, pair: Pair) -> bool
+    requires reader { pair.reader.index < length r.now.nodes }
+    requires writer { pair.writer.index < length w.now.nodes }
+    ensures { IsTrue result → spec.outcome r.now.nodes w.now.nodes pair ≡ outcome.Owes [] }
+{
+    match r.node(pair.reader) {
+        Node::Primitive(p) => match w.node(pair.writer) {
+            Node::Primitive(q) => primitives_match(*p, *q),
+            _ => false,
+        },
+        _ => false,
+    }
 }
 
 /// The row of a pair.

@@ -1,4 +1,4 @@
-use Rattle.std.proofs.Common.{◌≡◌, ◌∙◌, sym, ap, subst, length, reverse, option_map, arith}
+use Rattle.std.proofs.Common.{◌≡◌, ◌∙◌, [], sym, ap, subst, length, reverse, option_map, arith}
 use Rattle.avro_resolve.specs.Search.{expanded, IsWayBack, LeadsBack}
 use Rattle.std.proofs.lemmas.Option.{slice_get_read}
 use Rattle.avro_resolve.proofs.BreadthFirst.{leads_back, searched_first, searched_within, searched_clash, searched_next, searched_few, searched_all, length-expanded}
@@ -11,6 +11,26 @@ use Rattle.avro_resolve.proofs.resolving.resolve_counted.Goals as goal
 pub heads-init : goal.heads-init
 heads-init c =
     (c.in_ok-search.ensures.agrees, searched_first c.args.r.now.nodes c.args.w.now.nodes c.in_ok-search.ensures.reader c.in_ok-search.ensures.writer c.in_ok-search.search.entries.items c.in_ok-search.ensures.first, omega arith)
+
+pub are_matching_primitives-requires-clause-reader : goal.are_matching_primitives-requires-clause-reader
+are_matching_primitives-requires-clause-reader c =
+    let at = slice_get_read c.heads.search.entries.items _ c.heads.head c.index.result.now c.heads.search.entries.ok.0 (omega (arith, c.heads-test.true, c.len.ensures)) c.index.ensures in
+    (searched_within _ _ _ _ c.heads.invariant.1 c.index.result.now at).reader
+
+pub are_matching_primitives-requires-clause-writer : goal.are_matching_primitives-requires-clause-writer
+are_matching_primitives-requires-clause-writer c =
+    let at = slice_get_read c.heads.search.entries.items _ c.heads.head c.index.result.now c.heads.search.entries.ok.0 (omega (arith, c.heads-test.true, c.len.ensures)) c.index.ensures in
+    (searched_within _ _ _ _ c.heads.invariant.1 c.index.result.now at).writer
+
+pub heads-smaller-then-are_matching_primitives : goal.heads-smaller-then-are_matching_primitives
+heads-smaller-then-are_matching_primitives c =
+    omega (arith, c.heads-test.true, c.len.ensures, c.heads.search.entries.ok.0, searched_few _ _ _ _ c.heads.invariant.1)
+
+pub heads-preserved-then-are_matching_primitives : goal.heads-preserved-then-are_matching_primitives
+heads-preserved-then-are_matching_primitives c =
+    let at = slice_get_read c.heads.search.entries.items _ c.heads.head c.index.result.now c.heads.search.entries.ok.0 (omega (arith, c.heads-test.true, c.len.ensures)) c.index.ensures in
+    let owes = c.are_matching_primitives.ensures c.if-are_matching_primitives.true in
+    (c.heads.invariant.0, searched_next _ _ _ _ c.heads.invariant.1 c.in_ok-search.ensures.reader c.in_ok-search.ensures.writer c.index.result.now [] at owes, omega (arith, c.heads-test.true, c.len.ensures))
 
 pub row_at-row-requires-clause-reader : goal.row_at-row-requires-clause-reader
 row_at-row-requires-clause-reader c =
