@@ -3,6 +3,7 @@ pub mod MatchLaws
 pub mod Rows
 pub mod Hops
 pub mod Named
+pub mod Marked
 pub mod Searching
 pub mod SeenLaws
 pub mod Order

@@ -7,5 +7,6 @@ pub mod Verdict
 pub mod Follow
 pub mod Inward
 pub mod Row
+pub mod Marks
 pub mod Seen
 pub mod Search

@@ -7,6 +7,7 @@ mod firsts;
 mod follow;
 mod grid;
 mod laws;
+mod marks;
 mod matching;
 mod names;
 mod obligations;

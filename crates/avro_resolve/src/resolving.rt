@@ -1,8 +1,9 @@
 // Whether two schemas resolve.
 ghost use Rattle.std.specs.Prelude.{◌≡◌, ◌≤◌, ◌*◌, length, IfOk};
 
+use crate::marks::Marks;
 use crate::search::Search;
-use crate::table::{are_matching_primitives, row_at};
+use crate::table::{are_matching_primitives, row_by_marks};
 use crate::trail::Trail;
 use avro_schema::Schema;
 use std::alloc::{AllocError, Global};
@@ -55,6 +56,7 @@ pub fn resolve_counted(alloc: Global, r: &Schema, w: &Schema) -> Result<Counted,
     ensures pairs { IfOk result (λ c. c.pairs ≤ length r.now.nodes * length w.now.nodes) }
 {
     let mut search = Search::start(alloc, r, w)?;
+    let mut marks = Marks::none(Some(alloc));
     let mut head = 0;
     'heads: while head < search.entries.len() {
         let pair = search.entries[head].pair;
@@ -62,7 +64,7 @@ pub fn resolve_counted(alloc: Global, r: &Schema, w: &Schema) -> Result<Counted,
             head += 1;
             continue;
         }
-        let row = row_at(r, w, pair);
+        let row = row_by_marks(r, w, pair, &mut marks);
         if let Some(cause) = search.expand(head, row)? {
             let kind = cause.kind()?;
             let hops = search.hops_to(alloc, r, w, head)?;

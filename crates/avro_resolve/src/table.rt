@@ -3,10 +3,12 @@ ghost use Rattle.std.specs.Prelude.{◌≡◌, ◌<◌, ℕ, List, [], Option, I
 ghost use Rattle.avro_schema.specs.declared.node.Node.TheVariants as kind;
 ghost use Rattle.avro_schema.specs.Names.{has_text};
 ghost use Rattle.avro_resolve.specs.declared.obligations.Outcome.TheVariants as outcome;
+ghost use Rattle.avro_resolve.specs.Marks.{AreMade, branches_in};
 ghost use Rattle.avro_resolve.specs.Table as spec;
 ghost use Rattle.avro_schema.specs.Sound.{HaveDistinctNames, fields_of_node};
 ghost use Rattle.avro_resolve.specs.Row.{clash_of_cause, outcome_of, HasDistinct};
 
+use crate::marks::{Marks, first_marked};
 use crate::matching::matches;
 use crate::names::{names_match, primitives_match};
 use crate::obligations::Pair;
@@ -80,12 +82,32 @@ pub fn row_at<'a>(r: &'a Schema, w: &'a Schema, pair: Pair) -> Row<'a>
     ensures row { outcome_of result ≡ spec.outcome r.now.nodes w.now.nodes pair }
     ensures distinct { HasDistinct result }
 {
+    let mut marks = Marks::none(None);
+    row_by_marks(r, w, pair, &mut marks)
+}
+
+/// The row of a pair, by marks of the branches of the reader's union, if it is one and they were made.
+pub fn row_by_marks<'a>(r: &'a Schema, w: &'a Schema, pair: Pair, marks: &mut Marks) -> Row<'a>
+    requires reader { pair.reader.index < length r.now.nodes }
+    requires writer { pair.writer.index < length w.now.nodes }
+    requires made { AreMade r.now.nodes marks.old.made }
+    ensures row { outcome_of result ≡ spec.outcome r.now.nodes w.now.nodes pair }
+    ensures distinct { HasDistinct result }
+    ensures made { AreMade r.now.nodes marks.new.made }
+{
     let writer = w.node(pair.writer);
     if let Node::Union(branches) = writer {
         return Row::WriterBranches(pair.reader, branches.as_slice());
     }
     match r.node(pair.reader) {
-        Node::Union(branches) => branch_row(r, branches.as_slice(), w, pair.writer),
+        Node::Union(branches) => branch_row(
+            r,
+            pair.reader,
+            branches.as_slice(),
+            w,
+            pair.writer,
+            marks,
+        ),
         reader => plain_row(reader, writer),
     }
 }
@@ -227,13 +249,23 @@ fn primitive_row<'a>(reader: Primitive, writer: Primitive) -> Row<'a>
 }
 
 /// The row of a reader's union: its first branch that matches.
-fn branch_row<'a>(r: &Schema, branches: &[NodeId], w: &Schema, j: NodeId) -> Row<'a>
+fn branch_row<'a>(
+    r: &Schema,
+    i: NodeId,
+    branches: &[NodeId],
+    w: &Schema,
+    j: NodeId,
+    marks: &mut Marks,
+) -> Row<'a>
     requires reader { All (λ b. b.index < length r.now.nodes) branches.now }
     requires writer { j.index < length w.now.nodes }
+    requires branches { branches.now ≡ branches_in (slice_get r.now.nodes i.index) }
+    requires made { AreMade r.now.nodes marks.old.made }
     ensures row { outcome_of result ≡ spec.to_reader_branch j (spec.first_matching_branch r.now.nodes w.now.nodes branches.now j) }
     ensures distinct { HasDistinct result }
+    ensures made { AreMade r.now.nodes marks.new.made }
 {
-    match first_matching_branch(r, branches, w, j) {
+    match first_by_marks(r, i, branches, w, j, marks) {
         Some((k, b)) => Row::One(
             Hop::Reader(k),
             Pair {
@@ -242,6 +274,32 @@ fn branch_row<'a>(r: &Schema, branches: &[NodeId], w: &Schema, j: NodeId) -> Row
             },
         ),
         None => Row::Clash(Cause::MissingUnionBranch),
+    }
+}
+
+/// The first branch that matches, by the branches' marks where the writer's type has a name.
+fn first_by_marks(
+    r: &Schema,
+    i: NodeId,
+    branches: &[NodeId],
+    w: &Schema,
+    j: NodeId,
+    marks: &mut Marks,
+) -> Option<(usize, NodeId)>
+    requires reader { All (λ b. b.index < length r.now.nodes) branches.now }
+    requires writer { j.index < length w.now.nodes }
+    requires branches { branches.now ≡ branches_in (slice_get r.now.nodes i.index) }
+    requires made { AreMade r.now.nodes marks.old.made }
+    ensures first { result ≡ spec.first_matching_branch r.now.nodes w.now.nodes branches.now j }
+    ensures made { AreMade r.now.nodes marks.new.made }
+{
+    let Some(name) = w.name_of(j) else {
+        return first_matching_branch(r, branches, w, j);
+    };
+    marks.look_at(r, i, branches);
+    match marks.of_branches(r, i) {
+        Some(of_branches) => first_marked(r, branches, of_branches, w, j, name),
+        None => first_matching_branch(r, branches, w, j),
     }
 }
 

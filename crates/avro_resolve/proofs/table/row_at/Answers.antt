@@ -1,4 +1,4 @@
 use Rattle.avro_resolve.proofs.table.row_at.Goals as goal
 
-pub plain_row-requires : goal.plain_row-requires
-plain_row-requires c = c.node-writer.ensures.sound.distinct_fields c.args.pair.writer.index c.node-writer.result.now c.node-writer.ensures.at
+pub row_by_marks-requires-clause-made : goal.row_by_marks-requires-clause-made
+row_by_marks-requires-clause-made c = c.none-marks.ensures c.args.r.now.nodes
