@@ -32,7 +32,8 @@ pub struct Entries {
     // Of each subject with an entry its greatest version.
     versions: BTreeMap<String, Option<u32>>,
     schemas: BTreeSet<Schema>,
-    // Each id that two entries of different normal texts have, and maybe others.
+    // Each id that two entries of different normal texts have, and maybe others that were put with
+    // different texts.
     suspects: BTreeSet<u32>,
 }
 
@@ -202,8 +203,8 @@ impl Entries {
 
     /// The least id that two entries of different normal texts have, soft ones too.
     ///
-    /// Where no id ever had two, this is constant; else it goes through the entries of each id that
-    /// once had, from the least one on, until it finds two.
+    /// It goes through the entries of those ids alone that were put with different texts, from the
+    /// least one on, until it finds two that differ.
     pub fn two_schemas(&self) -> Option<u32>
         ensures { result ≡ two_schemas (finmap.values self.now) }
     {
