@@ -1,5 +1,5 @@
 -- A copy of what is kept of the entries keeps the same.
-use Rattle.std.proofs.Common.{◌≡◌, ℕ, false, cond, List, [], ◌∷◌, Option, Some, None, option_and_then, refl, sym, ap, subst, ◌∙◌}
+use Rattle.std.proofs.Common.{◌≡◌, ℕ, ◌==◌, ◌&&◌, bytes_eq, true, false, cond, List, [], ◌∷◌, Option, Some, None, option_and_then, refl, sym, ap, subst, ◌∙◌}
 use Rattle.std.specs.BTreeMap.{BTreeMap, get_by_text, is_at}
 use Rattle.std.specs.BTreeSet.{BTreeSet}
 use Rattle.std.specs.Cmp.Lexicographic.{slice_cmp}
@@ -12,6 +12,7 @@ use Rattle.std.specs.Prelude.{IfSome, IsSome, string_bytes}
 use Rattle.std.specs.declared.string.String.{String}
 use Rattle.reg_entries.specs.EntryOrder.{Place, place_cmp}
 use Rattle.reg_entries.specs.Index.{Name, name_of, name_cmp, entry_at, IsAt, IsGreatest, IsIndexed, kept_version}
+use Rattle.reg_entries.specs.Schemas.{Schema, schema_cmp, AreListed, AreSuspected}
 use Rattle.reg_entries.specs.declared.entry.Entry.{Entry}
 
 -- copies of entries that are equal to them
@@ -21,11 +22,19 @@ entries-copied D d [] (y ∷ ys) h = absurd h
 entries-copied D d (x ∷ xs) [] h = absurd h
 entries-copied D d (x ∷ xs) (y ∷ ys) h = λ i. ((h.0.0.0 i, h.0.0.1 i), d x.1 y.1 h.0.1 i) ∷ entries-copied D d xs ys h.1 i
 
-pub names-copied : (xs ys : List Name) → AllZip (λ p q. (q.0 ≡ p.0) × (q.1 ≡ p.1) × ((q.2.0 ≡ p.2.0) × (q.2.1 ≡ p.2.1))) xs ys → ys ≡ xs
+-- and of names and schemas
+pub names-copied : {A : Type 0} (xs ys : List (A × ℕ × Place)) → AllZip (λ p q. (q.0 ≡ p.0) × (q.1 ≡ p.1) × ((q.2.0 ≡ p.2.0) × (q.2.1 ≡ p.2.1))) xs ys → ys ≡ xs
 names-copied [] [] h = refl
 names-copied [] (y ∷ ys) h = absurd h
 names-copied (x ∷ xs) [] h = absurd h
 names-copied (x ∷ xs) (y ∷ ys) h = λ i. (h.0.0 i, h.0.1 i, (h.0.2.0 i, h.0.2.1 i)) ∷ names-copied xs ys h.1 i
+
+-- and of ids
+pub ids-copied : (xs ys : List ℕ) → AllZip (λ p q. q ≡ p) xs ys → ys ≡ xs
+ids-copied [] [] h = refl
+ids-copied [] (y ∷ ys) h = absurd h
+ids-copied (x ∷ xs) [] h = absurd h
+ids-copied (x ∷ xs) (y ∷ ys) h = λ i. h.0 i ∷ ids-copied xs ys h.1 i
 
 -- copies of the greatest versions are found where those are
 pub versions-copied : {Y : Type 0} (D : Option ℕ → Option ℕ → Type 0) → ((a b : Option ℕ) → D a b → b ≡ a) → (s : List ℕ) (xs ys : List (String Y × Option ℕ)) → AllZip (λ p q. (string_bytes q.0 ≡ string_bytes p.0) × D p.1 q.1) xs ys
@@ -55,3 +64,18 @@ IsIndexed-copied m n old new versions copies entries names found indexed =
       named = λ x. ap (list_any (λ k. is_eq (name_cmp x k))) names ∙ indexed.named x ∙ sym (ap (λ o. option_map_or (λ e. eq_by_cmp name_cmp (name_of e) x) o false) (at x.2));
       greatest = λ s. subst (IsGreatest n s) (sym (ap (option_and_then (λ (o : Option ℕ). o)) (found s))) (greatest-same m n at s (kept_version versions s) (indexed.greatest s));
     }
+
+module _ (m n : BTreeMap Place Entry) (entries : n.entries ≡ m.entries) where
+  at_same : (p : Place) → entry_at n p ≡ entry_at m p
+  at_same p = ap (lookup (is_at (place_cmp p))) entries
+
+  -- what is listed stays so where the entries and the schemas are the same
+  pub AreListed-copied : (old new : BTreeSet Schema) → new.keys ≡ old.keys → AreListed m old → AreListed n new
+  AreListed-copied old new schemas listed s =
+      ap (list_any (λ k. is_eq (schema_cmp s k))) schemas ∙ listed s
+      ∙ sym (ap (λ o. option_map_or (λ e. e.id == s.1 && bytes_eq e.normal s.0) o false) (at_same s.2))
+
+  -- and what is suspected
+  pub AreSuspected-copied : (old new : BTreeSet ℕ) → new.keys ≡ old.keys → AreSuspected m old → AreSuspected n new
+  AreSuspected-copied old new ids suspected p q e f at_p at_q same apart =
+      ap (list_any (λ k. is_eq (nat_cmp e.id k))) ids ∙ suspected p q e f (sym (at_same p) ∙ at_p) (sym (at_same q) ∙ at_q) same apart
