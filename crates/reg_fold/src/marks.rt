@@ -86,8 +86,9 @@ fn mark_of(
 {
     let spot = (entry.offset, (entry.subject.clone()?, entry.version));
     let covered = is_covered(value, delete.offset, entry.version, entry.offset);
+    let soft = deleted.contains(&spot) || covered;
     Ok(Mark {
         version: entry.version,
-        soft: deleted.contains(&spot) || covered,
+        soft,
     })
 }

@@ -20,6 +20,6 @@ returns c =
     let covered : c.is_covered-covered.result ≡ is_covered_by delete e.version e.offset =
     c.is_covered-covered.ensures ∙ ap (λ o. option_map_or (λ value. covers delete.offset value e.version e.offset) o false) c.requires in
     elim c.if-contains.branch [
-      | then-contains w ↦ ap mark (w.result-is ∙ w.if-contains.true ∙ ap (λ b. b || is_covered_by delete e.version e.offset) (sym w.if-contains.true ∙ own))
-      | else-contains w ↦ ap mark (w.result-is ∙ covered ∙ ap (λ b. b || is_covered_by delete e.version e.offset) (sym w.if-contains.false ∙ own))
+      | then-contains w ↦ ap mark (w.soft-is ∙ w.if-contains.true ∙ ap (λ b. b || is_covered_by delete e.version e.offset) (sym w.if-contains.true ∙ own))
+      | else-contains w ↦ ap mark (w.soft-is ∙ covered ∙ ap (λ b. b || is_covered_by delete e.version e.offset) (sym w.if-contains.false ∙ own))
     ]
