@@ -1,13 +1,10 @@
 -- What one more record does to the entries.
-use Rattle.std.proofs.Common.{◌≡◌, ℕ, Bool, true, false, cond, ◌||◌, List, [], Option, Some, None, option_and_then, refl, sym, ap, ◌∙◌}
+use Rattle.std.proofs.Common.{◌≡◌, ℕ, true, false, cond, ◌||◌, List, Option, Some, None, option_and_then, refl, sym, ap, ◌∙◌}
 use Rattle.std.proofs.lemmas.Bool.{false≢true}
 use Rattle.std.proofs.lemmas.Cmp.{tied_itself}
 use Rattle.std.specs.FinMap as finmap
-use Rattle.std.specs.Prelude.{IfSome}
 use Rattle.std.specs.Option.{option_map_or}
 use Rattle.std.specs.Ordering.{eq_by_cmp, is_eq}
-use Rattle.std.specs.declared.cmp.Ordering.{Ordering}
-use Rattle.std.specs.declared.cmp.Ordering.TheVariants.{Less, Equal, Greater}
 use Rattle.reg_records.specs.Value.{value_of}
 use Rattle.reg_records.specs.declared.key.Key.{Key}
 use Rattle.reg_records.specs.declared.key.Key.TheVariants as keys
@@ -23,7 +20,7 @@ use Rattle.reg_fold.specs.Step.{EntriesAreOfLasts}
 use Rattle.reg_entries.specs.declared.entry.Entry.{Entry}
 use Rattle.reg_fold.proofs.InOrder.{place_cmp-ties}
 use Rattle.reg_fold.proofs.Placed.{place_cmp-total}
-use Rattle.reg_fold.proofs.Places.{equal, named_by, subject_of, value_of-named, version_of}
+use Rattle.reg_fold.proofs.Places.{equal, subject_of, version_of}
 
 -- the map with that entry at a place, or none
 abbrev pub put_entry : finmap.FinMap place_cmp Entry → Place → Option Entry → finmap.FinMap place_cmp Entry

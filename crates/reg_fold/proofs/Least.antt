@@ -1,8 +1,8 @@
 -- The first of the places of opaque versions has the least offset.
-use Rattle.std.proofs.Common.{◌≡◌, ℕ, ◌<◌, ◌≤◌, Bool, true, false, cond, ◌&&◌, ◌||◌, ◌⊎◌, inl, inr, ⊎_elim, List, [], ◌∷◌, map, min, Option, Some, None, refl, sym, ap, subst, ◌∙◌, is_none, is_some, nat_le, arith}
+use Rattle.std.proofs.Common.{◌≡◌, ℕ, ◌<◌, ◌≤◌, Bool, true, false, cond, ◌&&◌, ◌||◌, ◌⊎◌, inl, inr, ⊎_elim, List, [], ◌∷◌, map, min, Some, None, refl, sym, ap, subst, ◌∙◌, is_none, is_some, nat_le, arith}
 use Rattle.std.proofs.lemmas.Bool.{false≢true}
 use Rattle.std.proofs.lemmas.Bool.Decides.{nat_tests}
-use Rattle.std.proofs.lemmas.Cmp.{nat_cmp_total, on_total, then_total, tied_itself}
+use Rattle.std.proofs.lemmas.Cmp.{tied_itself}
 use Rattle.std.specs.BTreeSet.{BTreeSet, IsEmpty, IsLowerBound, contains}
 use Rattle.std.specs.Cmp.{IsTotalOrder, nat_cmp_is}
 use Rattle.std.specs.FinSet.{IsAntisymmetric}
@@ -21,7 +21,7 @@ use Rattle.reg_set.specs.RecordOrder.{record_cmp}
 use Rattle.reg_set.specs.Records.{Records, records_of}
 use Rattle.reg_entries.specs.EntryOrder.{Place, place_cmp}
 use Rattle.reg_fold.specs.Opaque.{is_opaque, is_version, opaque}
-use Rattle.reg_fold.specs.Spots.{HasSpots, Spot, is_spot, spot_cmp}
+use Rattle.reg_fold.specs.Spots.{HasSpots, Spot, spot_cmp}
 use Rattle.reg_fold.proofs.OfLasts.{last_of_itself}
 use Rattle.reg_fold.proofs.Placed.{spot_cmp-total}
 use Rattle.reg_fold.proofs.Places.{equal, inside}

@@ -1,5 +1,5 @@
 -- The entries are those that the last records give.
-use Rattle.std.proofs.Common.{◌≡◌, ◌↔◌, ℕ, zero, suc, ◌<◌, Bool, true, false, cond, T, ◌&&◌, List, [], ◌∷◌, length, get_or, map, Option, Some, None, option_and_then, refl, sym, ap, subst, ◌∙◌, arith}
+use Rattle.std.proofs.Common.{◌≡◌, ℕ, zero, suc, ◌<◌, Bool, true, false, cond, T, ◌&&◌, List, [], ◌∷◌, length, get_or, map, Option, Some, None, option_and_then, refl, sym, ap, ◌∙◌, arith}
 use Rattle.std.proofs.lemmas.Bool.{false≢true}
 use Rattle.std.proofs.lemmas.Cmp.{tied_itself}
 use Rattle.std.specs.Cmp.{IsTotalOrder}
@@ -7,24 +7,23 @@ use Rattle.std.specs.FinMap as finmap
 use Rattle.std.specs.FinMap.Entries.{find, below_all, is_sorted}
 use Rattle.std.specs.FinSet as set
 use Rattle.std.specs.FinSet.{IsAntisymmetric, contains, retain, contains-retain}
-use Rattle.std.specs.List.{Contains, filter_map}
+use Rattle.std.specs.List.{Contains}
 use Rattle.std.specs.Option.{option_map_or, unwrap_or}
 use Rattle.std.specs.Ordering.{eq_by_cmp, is_eq, is_lt}
 use Rattle.std.specs.declared.cmp.Ordering.TheVariants.{Equal}
-use Rattle.reg_records.specs.declared.key.Key.{Key}
 use Rattle.reg_records.specs.declared.key.Key.TheVariants as keys
 use Rattle.reg_records.specs.declared.record.Record.{Record}
 use Rattle.reg_set.specs.Join.{LastIsGreatest, LastRecordsAreCompaction, LastRecordsOfCompaction}
 use Rattle.reg_set.specs.LastRecords.{last, is_last, last_records}
 use Rattle.reg_set.specs.RecordOrder.{record_cmp}
-use Rattle.reg_set.specs.Records.{Records, records_of}
+use Rattle.reg_set.specs.Records.{Records}
 use Rattle.reg_fold.specs.Entries.{AreOfLasts, IsOfLast, entries, entry_map, entry_of}
 use Rattle.reg_entries.specs.EntryOrder.{Place, place_cmp, place_of}
 use Rattle.reg_fold.specs.Step.{EntriesAreOfLasts}
 use Rattle.reg_entries.specs.declared.entry.Entry.{Entry}
 use Rattle.reg_fold.proofs.InOrder.{ArePlaced, left_of, right_of, less, place_cmp-ties, entry_map-placed}
 use Rattle.reg_fold.proofs.Placed.{place_cmp-total}
-use Rattle.reg_fold.proofs.Places.{entry_of-key, equal, subject_of, version_of}
+use Rattle.reg_fold.proofs.Places.{entry_of-key, equal}
 
 -- the last records have no others
 pub last_records-last_records : LastRecordsAreCompaction → LastRecordsOfCompaction → (rs : Records) → last_records (last_records rs) ≡ last_records rs

@@ -1,5 +1,5 @@
 -- The entry that stands at a place, by the last record of its key.
-use Rattle.std.proofs.Common.{◌≡◌, ℕ, Bool, true, false, cond, ◌||◌, ◌&&◌, codes, option_map, ◌⊎◌, inl, inr, ⊎_elim, List, [], ◌∷◌, Option, Some, None, option_and_then, refl, sym, ap, subst, ◌∙◌}
+use Rattle.std.proofs.Common.{◌≡◌, ℕ, Bool, true, false, cond, ◌||◌, ◌&&◌, codes, option_map, ◌⊎◌, inl, inr, ⊎_elim, List, [], ◌∷◌, Option, Some, None, option_and_then, refl, sym, ap, ◌∙◌}
 use Rattle.std.proofs.lemmas.Bool.{false≢true}
 use Rattle.std.proofs.lemmas.Cmp.{tied_itself}
 use Rattle.std.specs.Prelude.{⊤, IfSome}
@@ -15,7 +15,7 @@ use Rattle.serde_json.specs.Data.{Data}
 use Rattle.serde_json.specs.Read.{read}
 use Rattle.serde_json.specs.Find.{as_object}
 use Rattle.reg_records.specs.Json.{text_at, number_at, has_text_at, has_number_at}
-use Rattle.reg_records.specs.Value.{value_of, value_in, schema_value, is_plain_avro, deleted_in}
+use Rattle.reg_records.specs.Value.{value_of, value_in, is_plain_avro, deleted_in}
 use Rattle.reg_records.specs.declared.key.Key.{Key}
 use Rattle.reg_records.specs.declared.key.Key.TheVariants as keys
 use Rattle.reg_records.specs.declared.record.Record.{Record}

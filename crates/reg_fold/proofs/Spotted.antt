@@ -13,7 +13,6 @@ use Rattle.serde_json.specs.Data.{Data}
 use Rattle.serde_json.specs.Read.{read}
 use Rattle.reg_records.specs.Json.{text_at, number_at, has_text_at, has_number_at}
 use Rattle.reg_records.specs.Value.{value_of, value_in, is_plain_avro, deleted_in}
-use Rattle.reg_records.specs.declared.key.Key.{Key}
 use Rattle.reg_records.specs.declared.key.Key.TheVariants as keys
 use Rattle.reg_records.specs.declared.record.Record.{Record}
 use Rattle.reg_records.specs.declared.value.Value.{Value}

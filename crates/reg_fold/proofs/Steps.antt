@@ -1,5 +1,5 @@
 -- What a step does to the entries, for each kind of record.
-use Rattle.std.proofs.Common.{◌≡◌, ℕ, Bool, true, false, cond, bytes_eq, List, Option, Some, None, option_and_then, option_map, refl, sym, ap, ◌∙◌}
+use Rattle.std.proofs.Common.{◌≡◌, ℕ, false, cond, bytes_eq, List, Some, None, option_map, sym, ap, ◌∙◌}
 use Rattle.std.proofs.lemmas.Bool.{false≢true}
 use Rattle.std.specs.BTreeSet.{BTreeSet}
 use Rattle.std.specs.FinMap as finmap
@@ -9,7 +9,7 @@ use Rattle.reg_records.specs.declared.key.Key.{Key}
 use Rattle.reg_records.specs.declared.key.Key.TheVariants as keys
 use Rattle.reg_records.specs.declared.record.Record.{Record}
 use Rattle.reg_set.specs.Join.{LastIsGreatest}
-use Rattle.reg_set.specs.LastRecords.{last, last_records}
+use Rattle.reg_set.specs.LastRecords.{last_records}
 use Rattle.reg_set.specs.RecordOrder.{record_cmp}
 use Rattle.reg_set.specs.Records.{Records}
 use Rattle.reg_fold.specs.Entries.{entry_map, entry_of}

@@ -1,5 +1,5 @@
 -- Private: what one more record does to the last records.
-use Rattle.std.specs.Prelude.{◌≡◌, Option, Some, option_and_then}
+use Rattle.std.specs.Prelude.{◌≡◌, Some, option_and_then}
 use Rattle.std.specs.FinMap as finmap
 use Rattle.reg_records.specs.declared.key.Key.{Key}
 use Rattle.reg_records.specs.declared.key.Key.TheVariants as keys

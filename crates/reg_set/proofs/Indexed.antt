@@ -1,12 +1,11 @@
 -- The last records, beside the records in order.
-use Rattle.std.proofs.Common.{◌≡◌, ℕ, Bool, true, false, cond, ◌&&◌, ⊎_elim, List, [], ◌∷◌, Option, Some, None, refl, sym, ap, subst, ◌∙◌, rules}
+use Rattle.std.proofs.Common.{◌≡◌, Bool, true, false, cond, ◌&&◌, ⊎_elim, List, [], ◌∷◌, Option, Some, None, refl, sym, ap, subst, ◌∙◌, rules}
 use Rattle.std.proofs.lemmas.Bool.{false≢true}
 use Rattle.std.proofs.lemmas.Cmp.{tied_itself}
 use Rattle.std.specs.FinSet.{contains, empty, from_list, insert, contains-empty, contains-from_list, same_set}
-use Rattle.std.specs.List.{filter, list_all, list_any, AllZip}
+use Rattle.std.specs.List.{filter, list_all, AllZip}
 use Rattle.std.specs.Option.{option_map_or}
-use Rattle.std.specs.Ordering.{eq_by_cmp, is_eq, is_le, is_lt}
-use Rattle.std.specs.declared.cmp.Ordering.{Ordering}
+use Rattle.std.specs.Ordering.{is_eq, is_le, is_lt}
 use Rattle.std.specs.declared.cmp.Ordering.TheVariants.{Equal}
 use Rattle.reg_records.specs.contracts.key.KeyPartialEq.TheImpl as key_eq
 use Rattle.reg_records.specs.contracts.key.KeyClone.TheImpl as key_clone

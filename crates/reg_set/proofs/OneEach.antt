@@ -12,7 +12,7 @@ use Rattle.reg_records.specs.declared.record.Record.{Record}
 use Rattle.reg_set.specs.Index.{stored_cmp}
 use Rattle.reg_set.specs.Join.{later}
 use Rattle.reg_set.specs.LastRecords.{is_of, last, last_records, with_last}
-use Rattle.reg_set.specs.RecordOrder.{age_cmp, key_cmp, record_cmp}
+use Rattle.reg_set.specs.RecordOrder.{age_cmp, key_cmp}
 use Rattle.reg_set.specs.Records.{Records}
 use Rattle.reg_set.proofs.Compactions.{contains-last_records, last_records-last, last-last_records, last_of_last_records, last_records_are_compaction, last_records_of_compaction}
 use Rattle.reg_set.proofs.Indexed.{is_later, last-fresh, last-other, stored-ties, stored-itself, at_key}

@@ -1,4 +1,4 @@
-use Rattle.std.proofs.Common.{◌≡◌, Some, ap, ◌∙◌, subst}
+use Rattle.std.proofs.Common.{Some, ap, ◌∙◌, subst}
 use Rattle.std.specs.BTreeMap.{Updates}
 use Rattle.reg_records.specs.declared.key.Key.{Key}
 use Rattle.reg_set.specs.Index.{last_at, stored_cmp}

@@ -1,4 +1,4 @@
-use Rattle.std.proofs.Common.{◌≡◌, ap, sym, subst, true, ℕ, List, ◌∙◌}
+use Rattle.std.proofs.Common.{ap, sym, subst, true, ℕ, List, ◌∙◌}
 use Rattle.std.specs.BTreeSet.{Updates}
 use Rattle.std.specs.FinMap as finmap
 use Rattle.reg_entries.specs.EntryOrder.{place_cmp}

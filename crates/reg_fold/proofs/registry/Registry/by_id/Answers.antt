@@ -1,5 +1,5 @@
-use Rattle.std.proofs.Common.{ap, ◌∙◌, max, map, bytes_eq, ◌==◌}
-use Rattle.std.specs.List.{filter, reduce}
+use Rattle.std.proofs.Common.{ap, ◌∙◌, ◌==◌}
+use Rattle.std.specs.List.{filter}
 use Rattle.reg_set.specs.Greatest.{greatest}
 use Rattle.reg_fold.specs.Entries.{entries}
 use Rattle.reg_entries.specs.EntryOrder.{naming_cmp}

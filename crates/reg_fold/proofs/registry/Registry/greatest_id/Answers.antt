@@ -1,8 +1,6 @@
-use Rattle.std.proofs.Common.{ap, ◌∙◌, max, map, bytes_eq, ◌==◌}
-use Rattle.std.specs.List.{filter, reduce}
-use Rattle.reg_set.specs.Greatest.{greatest}
+use Rattle.std.proofs.Common.{ap, ◌∙◌, max, map}
+use Rattle.std.specs.List.{reduce}
 use Rattle.reg_fold.specs.Entries.{entries}
-use Rattle.reg_entries.specs.EntryOrder.{naming_cmp}
 use Rattle.reg_entries.specs.declared.entry.Entry.{Entry}
 use Rattle.reg_fold.proofs.Keeping.{values-kept}
 use Rattle.reg_fold.proofs.registry.Registry.greatest_id.Goals as goal

@@ -1,8 +1,5 @@
-use Rattle.std.proofs.Common.{◌≡◌, IsSome, cond, sym, ap, subst, ◌∙◌}
-use Rattle.std.specs.Ordering.{is_eq}
-use Rattle.reg_set.specs.Index.{stored_cmp}
-use Rattle.reg_set.specs.LastRecords.{last, last_records, with_last}
-use Rattle.reg_set.specs.Records.{Records}
+use Rattle.std.proofs.Common.{◌≡◌, IsSome, sym, ap, subst, ◌∙◌}
+use Rattle.reg_set.specs.LastRecords.{last, with_last}
 use Rattle.reg_set.proofs.ByKey.{set_of, last-set_of, compact-set_of, IsByKey-updated, last-updated}
 use Rattle.reg_set.proofs.OneEach.{same_lasts, last-with_last, compact-with_last}
 use Rattle.reg_set.proofs.last_records.LastRecords.put_back.Goals as goal

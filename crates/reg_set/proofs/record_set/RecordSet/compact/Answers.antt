@@ -1,4 +1,4 @@
-use Rattle.std.proofs.Common.{◌≡◌, subst, sym, ap, ◌∙◌}
+use Rattle.std.proofs.Common.{subst, sym, ap, ◌∙◌}
 use Rattle.std.specs.FinSet.{contains, from_list}
 use Rattle.std.specs.List.{filter}
 use Rattle.reg_set.specs.Compaction.{IsCompactionOf}

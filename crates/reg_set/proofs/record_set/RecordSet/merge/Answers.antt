@@ -1,4 +1,4 @@
-use Rattle.std.proofs.Common.{◌≡◌, sym, ap, ◌∙◌, rules}
+use Rattle.std.proofs.Common.{sym, ap, ◌∙◌}
 use Rattle.std.specs.FinSet.{from_list, union}
 use Rattle.reg_set.specs.LastRecords.{last}
 use Rattle.reg_set.proofs.Unions.{last_of_union, from_list-both}

@@ -1,9 +1,9 @@
 use Rattle.std.proofs.Common.{◌≡◌, [], refl, sym, ap, ◌∙◌}
 use Rattle.std.proofs.lemmas.Bool.{false≢true}
-use Rattle.std.specs.FinSet.{empty, from_list, contains-empty}
+use Rattle.std.specs.FinSet.{from_list, contains-empty}
 use Rattle.reg_set.specs.LastRecords.{last_records}
 use Rattle.reg_set.specs.RecordOrder.{record_cmp}
-use Rattle.reg_set.specs.Records.{Records, records_of, is_in_order}
+use Rattle.reg_set.specs.Records.{records_of, is_in_order}
 use Rattle.reg_set.proofs.InOrder.{records_of-from_list}
 use Rattle.reg_set.proofs.OneEach.{compact_from}
 use Rattle.reg_set.proofs.record_set.RecordSet.new.Goals as goal
