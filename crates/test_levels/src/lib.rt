@@ -1,0 +1,9 @@
+//! Tests of compatibility levels over the crates' public calls.
+#![tactic(auto)]
+
+#[cfg(test)]
+mod judged;
+#[cfg(test)]
+mod names;
+#[cfg(test)]
+mod verdicts;
