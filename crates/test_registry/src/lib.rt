@@ -4,6 +4,8 @@
 #[cfg(test)]
 mod devices;
 #[cfg(test)]
+mod draws;
+#[cfg(test)]
 mod records;
 #[cfg(test)]
 mod registry;

@@ -5,12 +5,12 @@ use reg_records::{
     decode_value, has_line, limits_are_as_written, lines_are_of_the_grammar, read_line, write_line,
     written_keys_are_apart, written_values_have_lines, written_values_read_back,
 };
-use std::alloc::Global;
+use std::alloc::{AllocError, Global};
 use std::test::Fail;
 
 const WRITTEN: &str =
     r#"{"keytype":"SCHEMA","subject":"s","version":1,"magic":1} => {"subject":"s","version":1,"id":1,"schema":"\"string\"","deleted":false}
-{"keytype":"SCHEMA","subject":"aé😀\u0001\t\n\"\\/","version":2147483647,"magic":1} => {"subject":"aé😀\u0001\t\n\"\\/","version":2147483647,"id":7,"schema":"","deleted":true}
+{"keytype":"SCHEMA","subject":"aé😀\u0001\t\n\"\\/","version":2147483647,"magic":1} => {"subject":"aé😀\u0001\t\n\"\\/","version":2147483647,"id":7,"schema":"[]","deleted":true}
 {"keytype":"CONFIG","subject":null,"magic":0} => {"compatibilityLevel":"FULL"}
 {"keytype":"MODE","subject":"s","magic":0} => {"mode":"READWRITE"}
 {"keytype":"DELETE_SUBJECT","subject":"s","magic":0} => {"subject":"s","version":4}
@@ -98,24 +98,24 @@ fn keys_are_read_in_any_spelling(rt: HostRuntime) -> Result<(), Fail> {
 
 const VERSION: &str = r#"{"keytype":"SCHEMA","subject":"s","version":1,"magic":1}"#;
 
-const LIVE: &str = r#"{"subject":"s","version":1,"id":7,"schema":"x","deleted":false}"#;
+const LIVE: &str = r#"{"subject":"s","version":1,"id":7,"schema":"\"int\"","deleted":false}"#;
 
 // The key, the value and what it says; `version` is the key of version 1 of `s`.
 const VALUES: &str =
-    r#"version => {"schema" : "x", "id":7, "more":{}, "version":1, "subject":"\u0073"} => live
-version => {"subject":"s","version":1,"id":6,"id":7,"schema":"x","deleted":null} => live
-version => {"subject":"s","version":1,"id":7,"schema":"x","schemaType":"AVRO","references":[],"metadata":null,"ruleSet":null} => live
-version => {"subject":"s","version":1,"id":7,"schema":"x","schemaType":null,"references":null} => live
-version => {"subject":"s","version":1,"id":7,"schema":"x","deleted":1} => opaque
-version => {"subject":"s","version":1,"id":7,"schema":"x","schemaType":"PROTOBUF"} => opaque
-version => {"subject":"s","version":1,"id":7,"schema":"x","references":[null]} => opaque
-version => {"subject":"s","version":1,"id":7,"schema":"x","metadata":{}} => opaque
-version => {"subject":"s","version":1,"id":7,"schema":"x","ruleSet":{}} => opaque
-version => {"subject":"s","version":1,"id":0,"schema":"x"} => opaque
-version => {"subject":"s","version":1,"id":2147483648,"schema":"x"} => opaque
-version => {"subject":"s","version":1,"id":7.0,"schema":"x"} => opaque
-version => {"subject":"t","version":1,"id":7,"schema":"x"} => opaque
-version => {"subject":"s","version":2,"id":7,"schema":"x"} => opaque
+    r#"version => {"schema" : "\"int\"", "id":7, "more":{}, "version":1, "subject":"\u0073"} => live
+version => {"subject":"s","version":1,"id":6,"id":7,"schema":"\"int\"","deleted":null} => live
+version => {"subject":"s","version":1,"id":7,"schema":"\"int\"","schemaType":"AVRO","references":[],"metadata":null,"ruleSet":null} => live
+version => {"subject":"s","version":1,"id":7,"schema":"\"int\"","schemaType":null,"references":null} => live
+version => {"subject":"s","version":1,"id":7,"schema":"\"int\"","deleted":1} => opaque
+version => {"subject":"s","version":1,"id":7,"schema":"\"int\"","schemaType":"PROTOBUF"} => opaque
+version => {"subject":"s","version":1,"id":7,"schema":"\"int\"","references":[null]} => opaque
+version => {"subject":"s","version":1,"id":7,"schema":"\"int\"","metadata":{}} => opaque
+version => {"subject":"s","version":1,"id":7,"schema":"\"int\"","ruleSet":{}} => opaque
+version => {"subject":"s","version":1,"id":0,"schema":"\"int\""} => opaque
+version => {"subject":"s","version":1,"id":2147483648,"schema":"\"int\""} => opaque
+version => {"subject":"s","version":1,"id":7.0,"schema":"\"int\""} => opaque
+version => {"subject":"t","version":1,"id":7,"schema":"\"int\""} => opaque
+version => {"subject":"s","version":2,"id":7,"schema":"\"int\""} => opaque
 version => {"subject":"s","version":1,"id":7,"schema":{}} => opaque
 version => null => opaque
 version => null  => opaque
@@ -152,35 +152,54 @@ fn values_are_read_by_their_key(rt: HostRuntime) -> Result<(), Fail> {
 }
 
 // What a line of a key that isn't known says, or its fault.
-fn told(alloc: Global, line: &[u8]) -> Result<String, Fail> {
+fn told(alloc: Global, line: &[u8]) -> Result<String, AllocError> {
     match read_line(alloc, line) {
-        Ok(Read::Foreign(offset)) => Ok(format!(in alloc; "foreign {offset}")?),
-        Ok(Read::Record(_)) => Ok(String::from_str(alloc, "record")?),
-        Err(e) => Ok(format!(in alloc; "{e}")?),
+        Ok(Read::Foreign(offset)) => format!(in alloc; "foreign {offset}"),
+        Ok(Read::Record(_)) => String::from_str(alloc, "record"),
+        Err(e) => e.to_string(alloc),
     }
 }
 
 #[test]
 fn faults_come_in_their_order(rt: HostRuntime) -> Result<(), Fail> {
     let alloc = rt.alloc();
-    for (line, expected) in [
-        (b"7\tk\tnull".as_slice(), "Truncated"),
-        (b"07\t\t\t\xff\n7\tk\tnull\n".as_slice(), "BadUtf8"),
-        (b"\r\n".as_slice(), "BadTabs"),
-        (b"07\tk\n".as_slice(), "BadTabs"),
-        (b"07\tk\tnull\t\n".as_slice(), "BadTabs"),
-        (b"07\tk\tnull\n".as_slice(), "BadOffset"),
-        (b"+7\tk\tnull\n".as_slice(), "BadOffset"),
-        (b"9223372036854775808\tk\tnull\n".as_slice(), "BadOffset"),
+    let rows: [(&[u8], &str); 10] = [
+        (b"7\tk\tnull", "Truncated"),
+        (b"07\t\t\t\xff\n7\tk\tnull\n", "BadUtf8"),
+        (b"\r\n", "BadTabs"),
+        (b"07\tk\n", "BadTabs"),
+        (b"07\tk\tnull\t\n", "BadTabs"),
+        (b"07\tk\tnull\n", "BadOffset"),
+        (b"+7\tk\tnull\n", "BadOffset"),
+        (b"9223372036854775808\tk\tnull\n", "BadOffset"),
         (
-            b"9223372036854775807\t\t\n\t".as_slice(),
+            b"9223372036854775807\t\t\n\t",
             "foreign 9223372036854775807",
         ),
-        (b"0\tk\tnull\n".as_slice(), "foreign 0"),
-    ] {
+        (b"0\tk\tnull\n", "foreign 0"),
+    ];
+    for (line, expected) in rows {
         assert_eq!(rt; told(alloc, line)?.as_str(), expected);
     }
     Ok(())
+}
+
+// A fault's name, its text, and that of a log with it.
+fn fault_told(alloc: Global, fault: LogFault) -> Result<String, AllocError> {
+    let e = LogError::Fault { line: 7, fault };
+    format!(in alloc; "{} {fault} {e}", fault.name())
+}
+
+fn other_faults_told(alloc: Global) -> Result<String, AllocError> {
+    format!(in alloc;
+        "{}, {}, {}, {}, {}, {}",
+        ReadLineError::Line(LineError::BadTabs),
+        ReadLineError::OutOfMemory,
+        WriteLineError::TooLong,
+        WriteLineError::OutOfMemory,
+        LogError::ReadFault { line: 1_000_001 },
+        LogError::OutOfMemory
+    )
 }
 
 #[test]
@@ -194,28 +213,21 @@ fn errors_have_their_texts(rt: HostRuntime) -> Result<(), Fail> {
         (LogFault::Line(LineError::BadOffset), "BadOffset"),
         (LogFault::TooManyLines, "TooManyLines"),
     ] {
-        let e = LogError::Fault { line: 7, fault };
-        let text = format!(in alloc; "{fault} line 7: {}", fault.name())?;
-        assert_eq!(rt; format!(in alloc; "{expected} {e}")?, text);
+        let found = fault_told(alloc, fault)?;
+        assert_eq!(rt;
+            found,
+            format!(in alloc; "{expected} {expected} line 7: {expected}")?
+        );
     }
-    let texts = format!(in alloc;
-        "{}, {}, {}, {}, {}, {}",
-        ReadLineError::Line(LineError::BadTabs),
-        ReadLineError::OutOfMemory,
-        WriteLineError::TooLong,
-        WriteLineError::OutOfMemory,
-        LogError::ReadFault { line: 1_000_001 },
-        LogError::OutOfMemory
-    )?;
     assert_eq!(rt;
-        texts.as_str(),
+        other_faults_told(alloc)?.as_str(),
         "BadTabs, out of memory, TooLong, out of memory, line 1000001: ReadFault, out of memory"
     );
     Ok(())
 }
 
 // A record of no operation whose line has that many bytes before its LF.
-fn padded(alloc: Global, len: usize) -> Result<Record, Fail> {
+fn padded(alloc: Global, len: usize) -> Result<Record, AllocError> {
     let mut value = String::new(alloc);
     for _ in 31..len {
         value.push('x')?;
@@ -227,37 +239,53 @@ fn padded(alloc: Global, len: usize) -> Result<Record, Fail> {
     })
 }
 
-// Whether such a record reads back from its line, before which that is put; or why not.
-fn read_again(alloc: Global, len: usize, before: &str) -> Result<String, Fail> {
-    let given = padded(alloc, len)?;
-    if !has_line(&given) {
-        return Ok(String::from_str(alloc, "no line")?);
+fn is_read_as(alloc: Global, line: &[u8], given: &Record) -> bool {
+    match read_line(alloc, line) {
+        Ok(Read::Record(found)) => found == *given,
+        _ => false,
     }
-    let line = match write_line(alloc, &given) {
-        Ok(line) => line,
-        Err(e) => return Ok(format!(in alloc; "written: {e}")?),
-    };
-    let mut text = String::from_str(alloc, before)?.into_bytes();
-    text.extend_from_slice(&line)?;
-    match read_line(alloc, &text) {
-        Ok(found) => Ok(format!(in alloc;
-            "{} bytes, {}",
-            line.len(),
-            found == Read::Record(given)
-        )?),
-        Err(e) => Ok(format!(in alloc; "read: {e}")?),
+}
+
+// How many bytes are written for a record and whether they are read as it, or why none.
+fn written(alloc: Global, given: &Record) -> Result<String, AllocError> {
+    if !has_line(given) {
+        return String::from_str(alloc, "no line");
     }
+    match write_line(alloc, given) {
+        Ok(line) => format!(in alloc; "{} bytes, {}", line.len(), is_read_as(alloc, &line, given)),
+        Err(e) => e.to_string(alloc),
+    }
+}
+
+fn written_of(alloc: Global, len: usize) -> Result<String, AllocError> {
+    written(alloc, &padded(alloc, len)?)
+}
+
+// What is read of the line of a padded record, before which that is put.
+fn read_of(alloc: Global, len: usize, before: &str) -> Result<String, AllocError> {
+    let mut line = format!(in alloc; "{before}7\t{{\"keytype\":\"NOOP\",\"magic\":0}}\t")?;
+    for _ in 31..len {
+        line.push('x')?;
+    }
+    line.push('\n')?;
+    told(alloc, line.as_bytes())
 }
 
 #[test]
 fn lines_end_at_their_limit(rt: HostRuntime) -> Result<(), Fail> {
     let alloc = rt.alloc();
     for (len, before, expected) in [
-        (LINE_LIMIT, "", "2097153 bytes, true"),
-        (LINE_LIMIT, "1", "read: TooLong"),
-        (LINE_LIMIT + 1, "", "written: TooLong"),
+        (LINE_LIMIT, "", "record"),
+        (LINE_LIMIT, "1", "TooLong"),
+        (LINE_LIMIT + 1, "", "TooLong"),
     ] {
-        assert_eq!(rt; read_again(alloc, len, before)?.as_str(), expected);
+        assert_eq!(rt; read_of(alloc, len, before)?.as_str(), expected);
+    }
+    for (len, expected) in [
+        (LINE_LIMIT, "2097153 bytes, true"),
+        (LINE_LIMIT + 1, "TooLong"),
+    ] {
+        assert_eq!(rt; written_of(alloc, len)?.as_str(), expected);
     }
     Ok(())
 }

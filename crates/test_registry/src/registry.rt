@@ -1,4 +1,7 @@
-// Registries over small sets of records.
+// Registries over small sets of records, and beside plain ones.
+mod plain;
+mod side_by_side;
+
 use base_text::Text;
 use reg_fold::{Refusal, Registry, StoreFault};
 use reg_records::{Key, Record};
@@ -90,22 +93,47 @@ enum Way {
 }
 
 fn registry_of(alloc: Global, records: &[Record], way: Way) -> Result<Registry, AllocError> {
-    let mut registry = Registry::empty(alloc);
     match way {
-        Way::Read => return Registry::of_set(alloc, &RecordSet::of(alloc, records)?),
-        Way::Grown => {
-            for record in records {
-                registry.apply(record)?;
-            }
-        }
-        Way::Filled => registry.apply_all(records)?,
+        Way::Read => Registry::of_set(alloc, &RecordSet::of(alloc, records)?),
+        Way::Grown => grown(alloc, records),
+        Way::Filled => filled(alloc, records),
     }
+}
+
+fn grown(alloc: Global, records: &[Record]) -> Result<Registry, AllocError> {
+    let mut registry = Registry::empty(alloc);
+    for record in records {
+        registry.apply(record)?;
+    }
+    Ok(registry)
+}
+
+fn filled(alloc: Global, records: &[Record]) -> Result<Registry, AllocError> {
+    let mut registry = Registry::empty(alloc);
+    registry.apply_all(records)?;
     Ok(registry)
 }
 
 fn live_versions(alloc: Global, registry: &Registry) -> Result<Vec<u32>, AllocError> {
     let live = registry.live("s")?;
     live.iter().map(|entry| entry.version).collect(alloc)
+}
+
+// Whether those versions are live in one order of the lines, whichever way they come.
+fn has_live(
+    alloc: Global,
+    lines: &[Line],
+    order: usize,
+    versions: &[u32],
+) -> Result<bool, AllocError> {
+    let records = records_in_order(alloc, lines, order)?;
+    for way in [Way::Read, Way::Grown, Way::Filled] {
+        let registry = registry_of(alloc, &records, way)?;
+        if live_versions(alloc, &registry)?.as_slice() != versions {
+            return Ok(false);
+        }
+    }
+    Ok(true)
 }
 
 #[test]
@@ -192,18 +220,16 @@ fn the_last_records_say_which_versions_are_live(rt: HostRuntime) -> Result<(), F
             &[1],
         ),
     ];
-    let mut right = true;
     for (lines, orders, versions) in rows {
         for order in 0..orders {
-            let records = records_in_order(alloc, lines, order)?;
-            for way in [Way::Read, Way::Grown, Way::Filled] {
-                let registry = registry_of(alloc, &records, way)?;
-                right = right && live_versions(alloc, &registry)?.as_slice() == versions;
-            }
+            assert!(rt; has_live(alloc, lines, order, versions)?);
         }
     }
-    assert!(rt; right);
     Ok(())
+}
+
+fn grown_in_order(alloc: Global, lines: &[Line], order: usize) -> Result<Registry, AllocError> {
+    grown(alloc, &records_in_order(alloc, lines, order)?)
 }
 
 #[test]
@@ -222,16 +248,19 @@ fn an_id_names_the_greatest_record(rt: HostRuntime) -> Result<(), Fail> {
         (2, Some(("\"bytes\"", true))),
         (3, None),
     ];
-    let mut right = true;
     for order in 0..720 {
-        let registry = registry_of(alloc, &records_in_order(alloc, &lines, order)?, Way::Grown)?;
+        let registry = grown_in_order(alloc, &lines, order)?;
         for (id, named) in rows {
             let found = registry.by_id(id);
-            right = right && found.map(|entry| (entry.text.as_str(), entry.soft)) == named;
+            assert!(rt; found.map(|entry| (entry.text.as_str(), entry.soft)) == named);
         }
     }
-    assert!(rt; right);
     Ok(())
+}
+
+fn versions(alloc: Global, registry: &Registry) -> Result<Vec<u32>, AllocError> {
+    let entries = registry.entries()?;
+    entries.iter().map(|entry| entry.version).collect(alloc)
 }
 
 #[test]
@@ -245,15 +274,12 @@ fn soft_entries_count(rt: HostRuntime) -> Result<(), Fail> {
         Unreadable(6, 'p', 1),
         Unreadable(5, 'p', 2),
     ];
-    let registry = registry_of(alloc, &records_in_order(alloc, &lines, 0)?, Way::Filled)?;
-    let entries = registry.entries()?;
-    assert!(rt;
-        entries.iter().map(|entry| entry.version).eq([1, 9, 10])
-            && registry.greatest_id() == Some(7)
-            && registry.greatest_version("b") == Some(10)
-            && registry.greatest_version("p").is_none()
-            && registry.opaque() == Some(5)
-    );
+    let registry = grown_in_order(alloc, &lines, 0)?;
+    assert!(rt; versions(alloc, &registry)?.as_slice() == [1, 9, 10].as_slice());
+    assert!(rt; registry.greatest_id() == Some(7));
+    assert!(rt; registry.greatest_version("b") == Some(10));
+    assert!(rt; registry.greatest_version("p").is_none());
+    assert!(rt; registry.opaque() == Some(5));
     Ok(())
 }
 
@@ -272,15 +298,10 @@ fn a_refusal_has_its_code_and_message(rt: HostRuntime) -> Result<(), Fail> {
         ),
         (memory, 50001, 500, Some("memory"), "Store error: memory"),
     ];
-    let mut right = true;
     for (refusal, code, status, reason, message) in rows {
-        right = right
-            && refusal.code() == code
-            && refusal.status() == status
-            && refusal.reason() == reason
-            && refusal.message() == message
-            && refusal.to_string(rt.alloc())?.as_str() == message;
+        assert!(rt; (refusal.code(), refusal.status()) == (code, status));
+        assert!(rt; (refusal.reason(), refusal.message()) == (reason, message));
+        assert!(rt; refusal.to_string(rt.alloc())?.as_str() == message);
     }
-    assert!(rt; right);
     Ok(())
 }

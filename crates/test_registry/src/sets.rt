@@ -7,12 +7,22 @@ use reg_records::Record;
 use reg_set::{LastRecords, RecordSet, Taken, is_compaction_of};
 use rows::{INT, LONG, Row, UP_TO_1, UP_TO_4, record_of, records_of, set_of, version_key};
 use std::alloc::{AllocError, Global};
-use std::process::Abort;
 use std::test::Fail;
 
-fn has_rows(records: &[Record], alloc: Global, rows: &[Row]) -> Result<bool, AllocError> {
+fn has_rows(alloc: Global, set: &RecordSet, rows: &[Row]) -> Result<bool, AllocError> {
     let wanted = records_of(alloc, rows)?;
-    Ok(records == wanted.as_slice())
+    Ok(set.records() == wanted.as_slice())
+}
+
+fn record_if_any(alloc: Global, row: Option<Row>) -> Result<Option<Record>, AllocError> {
+    match row {
+        Some(row) => Ok(Some(record_of(alloc, row)?)),
+        None => Ok(None),
+    }
+}
+
+fn take(alloc: Global, set: &mut RecordSet, row: Row) -> Result<Taken, AllocError> {
+    set.take(&record_of(alloc, row)?)
 }
 
 #[test]
@@ -27,8 +37,8 @@ fn taking_is_fresh_repeat_or_older(rt: HostRuntime) -> Result<(), Fail> {
     ];
     let mut set = RecordSet::new(alloc);
     for (row, taken, records) in table {
-        let answer = set.take(&record_of(alloc, row)?)?;
-        assert_eq!(&rt; (answer, set.records().len()), (taken, records));
+        assert!(rt; take(alloc, &mut set, row)? == taken);
+        assert!(rt; set.records().len() == records);
     }
     Ok(())
 }
@@ -52,10 +62,22 @@ fn records_stand_by_offset_then_key_then_value(rt: HostRuntime) -> Result<(), Fa
         ([late, long, delete], [long, delete, late]),
     ];
     for (rows, in_order) in table {
-        let set = set_of(alloc, &rows)?;
-        assert!(&rt; has_rows(set.records(), alloc, &in_order)?);
+        assert!(rt; has_rows(alloc, &set_of(alloc, &rows)?, &in_order)?);
     }
     Ok(())
+}
+
+// Whether the last record of a version is that one.
+fn is_last(
+    alloc: Global,
+    rows: &[Row],
+    version: u32,
+    wanted: Option<Row>,
+) -> Result<bool, AllocError> {
+    let key = version_key(alloc, version)?;
+    let wanted = record_if_any(alloc, wanted)?;
+    let set = set_of(alloc, rows)?;
+    Ok(set.last(&key) == wanted.as_ref())
 }
 
 #[test]
@@ -72,18 +94,14 @@ fn the_last_record_of_a_key_is_its_greatest(rt: HostRuntime) -> Result<(), Fail>
         ([none, int, long], 2, None),
     ];
     for (rows, version, wanted) in table {
-        let set = set_of(alloc, &rows)?;
-        let last = match set.last(&version_key(alloc, version)?) {
-            Some(record) => Some(record.clone()?),
-            None => None,
-        };
-        let wanted = match wanted {
-            Some(row) => Some(record_of(alloc, row)?),
-            None => None,
-        };
-        assert!(&rt; last == wanted);
+        assert!(rt; is_last(alloc, &rows, version, wanted)?);
     }
     Ok(())
+}
+
+fn is_compaction(alloc: Global, part: &[Row], whole: &[Row]) -> Result<bool, AllocError> {
+    let part = set_of(alloc, part)?;
+    Ok(is_compaction_of(&part, &set_of(alloc, whole)?))
 }
 
 #[test]
@@ -99,11 +117,15 @@ fn a_compaction_has_each_last_record(rt: HostRuntime) -> Result<(), Fail> {
         (&both[..], &both[1..], false),
     ];
     for (part, whole, is_one) in table {
-        let part = set_of(alloc, part)?;
-        let whole = set_of(alloc, whole)?;
-        assert_eq!(&rt; is_compaction_of(&part, &whole), is_one);
+        assert!(rt; is_compaction(alloc, part, whole)? == is_one);
     }
     Ok(())
+}
+
+fn merged(alloc: Global, one: &[Row], other: &[Row]) -> Result<RecordSet, AllocError> {
+    let mut set = set_of(alloc, one)?;
+    set.merge(&set_of(alloc, other)?)?;
+    Ok(set)
 }
 
 #[test]
@@ -112,14 +134,13 @@ fn sets_merge_and_compact_in_any_order(rt: HostRuntime) -> Result<(), Fail> {
     let first = Row::Version(4, 1, INT);
     let second = Row::Version(6, 2, LONG);
     let deleted = Row::Tombstone(9, 1);
-    let one = set_of(alloc, &[first, second])?;
-    let other = set_of(alloc, &[deleted, first])?;
+    let one = [first, second];
+    let other = [deleted, first];
     for (left, right) in [(&one, &other), (&other, &one)] {
-        let mut merged = left.clone()?;
-        merged.merge(right)?;
-        assert!(&rt; has_rows(merged.records(), alloc, &[first, second, deleted])?);
-        merged.compact();
-        assert!(&rt; has_rows(merged.records(), alloc, &[second, deleted])?);
+        let mut set = merged(alloc, left, right)?;
+        assert!(rt; has_rows(alloc, &set, &[first, second, deleted])?);
+        set.compact();
+        assert!(rt; has_rows(alloc, &set, &[second, deleted])?);
     }
     Ok(())
 }
@@ -130,8 +151,53 @@ fn are_same(alloc: Global, one: &LastRecords, other: &LastRecords) -> Result<boo
     Ok(left == right)
 }
 
-fn count(alloc: Global, lasts: &LastRecords) -> Result<usize, AllocError> {
-    Ok(lasts.records(alloc)?.len())
+// Whether a put tells that it replaces that record, and is taken back.
+fn is_taken_back(
+    alloc: Global,
+    lasts: &LastRecords,
+    given: &Record,
+    replaced: &Option<Record>,
+) -> Result<bool, AllocError> {
+    let mut undone = lasts.clone()?;
+    let before = undone.put(given)?;
+    let is_told = before == *replaced;
+    if lasts.is_news(given) {
+        undone.put_back(&given.key, before);
+    }
+    Ok(is_told && are_same(alloc, &undone, lasts)?)
+}
+
+// Puts a record, and tells whether that went as it should.
+fn put(alloc: Global, lasts: &mut LastRecords, wanted: &PutRow) -> Result<bool, AllocError> {
+    let given = record_of(alloc, wanted.row)?;
+    let is_told = tells(alloc, lasts, &given, wanted.replaced)?;
+    let is_news = lasts.is_news(&given);
+    lasts.put(&given)?;
+    Ok(
+        is_told
+            && is_news == wanted.is_news
+            && lasts.contains(&given) == wanted.is_news
+            && lasts.records(alloc)?.len() == wanted.records,
+    )
+}
+
+fn tells(
+    alloc: Global,
+    lasts: &LastRecords,
+    given: &Record,
+    replaced: Option<Row>,
+) -> Result<bool, AllocError> {
+    let replaced = record_if_any(alloc, replaced)?;
+    is_taken_back(alloc, lasts, given, &replaced)
+}
+
+// A record that is put, whether it is news, what it replaces, and how many records there are then.
+#[derive(Clone, Copy)]
+struct PutRow {
+    row: Row,
+    is_news: bool,
+    replaced: Option<Row>,
+    records: usize,
 }
 
 #[test]
@@ -147,23 +213,14 @@ fn a_put_tells_what_it_replaced_and_is_taken_back(rt: HostRuntime) -> Result<(),
         (other, true, None, 2),
     ];
     let mut lasts = LastRecords::new(alloc);
-    for (row, news, replaced, records) in table {
-        let given = record_of(alloc, row)?;
-        let wanted = match replaced {
-            Some(row) => Some(record_of(alloc, row)?),
-            None => None,
+    for (row, is_news, replaced, records) in table {
+        let wanted = PutRow {
+            row,
+            is_news,
+            replaced,
+            records,
         };
-        let is_news = lasts.is_news(&given);
-        let mut undone = lasts.clone()?;
-        let before = undone.put(&given)?;
-        assert!(&rt; before == wanted);
-        if is_news {
-            undone.put_back(&given.key, before);
-        }
-        assert!(&rt; are_same(alloc, &undone, &lasts)?);
-        lasts.put(&given)?;
-        assert_eq!(&rt; (is_news, lasts.contains(&given)), (news, news));
-        assert_eq!(&rt; count(alloc, &lasts)?, records);
+        assert!(rt; put(alloc, &mut lasts, &wanted)?);
     }
     Ok(())
 }

@@ -1,28 +1,11 @@
 // Sets beside plain ones, on records that are drawn and on wide ones.
 use super::plain::PlainSet;
+use crate::draws::Draws;
 use base_text::Text;
 use reg_records::{Key, Record};
-use reg_set::{LastRecords, RecordSet, is_compaction_of};
+use reg_set::{LastRecords, RecordSet, Taken, is_compaction_of};
 use std::alloc::{AllocError, Global};
-use std::process::Abort;
 use std::test::Fail;
-
-/// Numbers that look drawn, and are the same in each run.
-#[derive(Drop)]
-struct Draws {
-    state: u64,
-}
-
-impl Draws {
-    /// A number below the limit, which isn't 0.
-    fn below(&mut self, limit: u64) -> u64 {
-        self.state = self
-            .state
-            .wrapping_mul(6_364_136_223_846_793_005)
-            .wrapping_add(1_442_695_040_888_963_407);
-        (self.state >> 33).checked_rem(limit).unwrap_or(0)
-    }
-}
 
 /// Some share a beginning, and JSON escapes some.
 fn subject(alloc: Global, draws: &mut Draws) -> Result<Text, AllocError> {
@@ -98,82 +81,130 @@ fn one(alloc: Global, draws: &mut Draws, offsets: u64) -> Result<Record, AllocEr
     Ok(Record { offset, key, value })
 }
 
-/// Both kinds of set, of the same records, taken in turn.
-fn both_of(
-    rt: &impl Abort,
-    alloc: Global,
-    records: &[Record],
-) -> Result<(RecordSet, PlainSet), AllocError> {
-    let mut set = RecordSet::new(alloc);
-    let mut plain = PlainSet::new(alloc);
-    let mut lasts = LastRecords::new(alloc);
-    for record in records {
-        let is_news = lasts.is_news(record);
-        lasts.put(record)?;
-        let taken = plain.take(alloc, record)?;
-        assert_eq!(rt; set.take(record)?, taken);
-        assert_eq!(rt; is_news, taken == reg_set::Taken::Fresh);
-        assert!(rt; set.last(&record.key) == plain.last(&record.key));
-        assert!(rt; lasts.last(&record.key) == plain.last(&record.key));
-    }
-    assert_same(rt, &set, &plain);
-    assert_same(rt, &RecordSet::of(alloc, records)?, &plain);
-    Ok((set, plain))
+/// Sets of the same records.
+#[derive(Drop)]
+struct Both {
+    set: RecordSet,
+    lasts: LastRecords,
+    plain: PlainSet,
 }
 
-fn assert_same(rt: &impl Abort, set: &RecordSet, plain: &PlainSet) {
-    assert!(rt; set.records() == plain.records.as_slice());
+impl Both {
+    fn new(alloc: Global) -> Both {
+        Both {
+            set: RecordSet::new(alloc),
+            lasts: LastRecords::new(alloc),
+            plain: PlainSet::new(alloc),
+        }
+    }
+
+    /// Takes a record, and tells whether the answers are alike.
+    fn take(&mut self, alloc: Global, record: &Record) -> Result<bool, AllocError> {
+        let is_news = self.lasts.is_news(record);
+        self.lasts.put(record)?;
+        let taken = self.plain.take(alloc, record)?;
+        Ok(
+            self.set.take(record)? == taken
+                && is_news == (taken == Taken::Fresh)
+                && self.have_one_last(&record.key),
+        )
+    }
+
+    fn have_one_last(&self, key: &Key) -> bool {
+        let last = self.plain.last(key);
+        self.set.last(key) == last && self.lasts.last(key) == last
+    }
+
+    /// Takes the first records in turn, and tells whether the answers are alike, and the sets in the end.
+    fn take_all(&mut self, alloc: Global, records: &[Record]) -> Result<bool, AllocError> {
+        for record in records {
+            if !self.take(alloc, record)? {
+                return Ok(false);
+            }
+        }
+        Ok(self.are_same() && self.are_of(alloc, records)?)
+    }
+
+    fn merge(&mut self, alloc: Global, other: &Both) -> Result<(), AllocError> {
+        self.set.merge(&other.set)?;
+        self.plain.merge(alloc, &other.plain)
+    }
+
+    fn compacted(&self, alloc: Global) -> Result<Both, AllocError> {
+        let plain = self.plain.compacted(alloc)?;
+        let lasts = LastRecords::of(&self.set)?;
+        let mut set = self.set.clone()?;
+        set.compact();
+        Ok(Both { set, lasts, plain })
+    }
+
+    fn are_same(&self) -> bool {
+        self.set.records() == self.plain.records.as_slice()
+    }
+
+    /// Whether a set that is made of the records at once has the plain one's.
+    fn are_of(&self, alloc: Global, records: &[Record]) -> Result<bool, AllocError> {
+        let set = RecordSet::of(alloc, records)?;
+        Ok(set.records() == self.plain.records.as_slice())
+    }
+
+    fn have_same_lasts(&self, alloc: Global) -> Result<bool, AllocError> {
+        Ok(self.lasts.records(alloc)?.len() == self.plain.records.len())
+    }
+
+    fn contain_alike(&self, records: &[Record]) -> bool {
+        let (set, plain) = (&self.set, &self.plain);
+        records
+            .iter()
+            .all(|record| set.contains(record) == plain.contains(record))
+    }
+
+    fn are_alike_as_compactions(&self, whole: &Both) -> bool {
+        is_compaction_of(&self.set, &whole.set) == self.plain.is_compaction_of(&whole.plain)
+    }
+
+    /// Merges with sets of further records, and tells whether the answers are alike.
+    fn take_more(&mut self, alloc: Global, records: &[Record]) -> Result<bool, AllocError> {
+        let mut added = Both::new(alloc);
+        let are_taken = added.take_all(alloc, records)?;
+        let are_alike = self.contain_alike(records) && self.are_alike_as_compactions(&added);
+        self.merge(alloc, &added)?;
+        let is_part = added.are_alike_as_compactions(self);
+        Ok(are_taken && are_alike && is_part && self.compact_alike(alloc)?)
+    }
+
+    fn compact_alike(&self, alloc: Global) -> Result<bool, AllocError> {
+        let compacted = self.compacted(alloc)?;
+        Ok(
+            self.are_same()
+                && compacted.are_same()
+                && compacted.are_alike_as_compactions(self)
+                && compacted.have_same_lasts(alloc)?,
+        )
+    }
 }
 
-/// What merging and compacting leave, and what is a compaction of what.
-fn assert_joins_alike(
-    rt: &impl Abort,
-    alloc: Global,
-    one: &[Record],
-    other: &[Record],
-) -> Result<(), AllocError> {
-    let (mut set, mut plain) = both_of(rt, alloc, one)?;
-    let (added, plainly_added) = both_of(rt, alloc, other)?;
-    for record in other {
-        assert_eq!(rt; set.contains(record), plain.contains(record));
-    }
-    assert_eq!(rt;
-        is_compaction_of(&set, &added),
-        plain.is_compaction_of(&plainly_added)
-    );
-    set.merge(&added)?;
-    plain.merge(alloc, &plainly_added)?;
-    assert_same(rt, &set, &plain);
-    let lasts = LastRecords::of(&set)?;
-    let compacted = plain.compacted(alloc)?;
-    assert_eq!(rt; lasts.records(alloc)?.len(), compacted.records.len());
-    let whole = set.clone()?;
-    set.compact();
-    assert_same(rt, &set, &compacted);
-    for (part, plain_part) in [(&set, &compacted), (&added, &plainly_added)] {
-        assert_eq!(rt;
-            is_compaction_of(part, &whole),
-            plain_part.is_compaction_of(&plain)
-        );
-    }
-    Ok(())
+/// Whether taking, merging and compacting leave the same, and what is a compaction of what.
+fn join_alike(alloc: Global, one: &[Record], other: &[Record]) -> Result<bool, AllocError> {
+    let mut both = Both::new(alloc);
+    Ok(both.take_all(alloc, one)? && both.take_more(alloc, other)?)
 }
 
 #[test]
 fn drawn_records_give_the_same_answers(rt: HostRuntime) -> Result<(), Fail> {
     let alloc = rt.alloc();
-    let mut draws = Draws { state: 2026 };
+    let mut draws = Draws::new(2026);
     for offsets in [1, 3, 40, 1_000_000] {
         for count in [0, 1, 5, 60] {
             let one = drawn(alloc, &mut draws, count, offsets)?;
             let other = drawn(alloc, &mut draws, 30, offsets)?;
-            assert_joins_alike(&rt, alloc, &one, &other)?;
+            assert!(rt; join_alike(alloc, &one, &other)?);
         }
     }
     Ok(())
 }
 
-/// One offset or many, one subject or many.
+/// Versions at one offset or at many, in rising order or in falling.
 fn wide(alloc: Global, count: u32, spread: u64, rises: bool) -> Result<Vec<Record>, AllocError> {
     let mut records = Vec::new(alloc);
     for number in 1..count {
@@ -196,7 +227,7 @@ fn wide_sets_give_the_same_answers(rt: HostRuntime) -> Result<(), Fail> {
     let alloc = rt.alloc();
     for (spread, rises) in [(0, true), (0, false), (1, true), (1, false)] {
         let records = wide(alloc, 150, spread, rises)?;
-        assert_joins_alike(&rt, alloc, &records, &records)?;
+        assert!(rt; join_alike(alloc, &records, &records)?);
     }
     Ok(())
 }
