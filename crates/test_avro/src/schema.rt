@@ -1,8 +1,10 @@
 // What the rules of schemas say of texts: a number of nodes, or why a text is refused.
 use avro_schema::{FullName, Node, NodeId, Schema, SchemaError};
 use std::alloc::{AllocError, Global};
-use std::process::Abort;
 use std::test::Fail;
+
+// A text, and its answer.
+type Row = (&'static str, &'static str);
 
 // The number of nodes, the field whose default is none, or the fault.
 fn answer(alloc: Global, text: &str) -> Result<String, AllocError> {
@@ -29,17 +31,8 @@ fn answer_of(alloc: Global, schema: &Schema) -> Result<String, AllocError> {
     }
 }
 
-fn assert_answers<A: Abort>(
-    rt: &A,
-    alloc: Global,
-    rows: &[(&str, &str)],
-) -> Result<(), AllocError> {
-    for (text, expected) in rows {
-        let found = answer(alloc, text)?;
-        assert_eq!(rt; found.as_str(), *expected, "{text}");
-    }
-    Ok(())
-}
+// A type, a default, and whether it is one of that type.
+type DefaultRow = (&'static str, &'static str, bool);
 
 // The text of a record `R` with one field `x`.
 fn record_of(alloc: Global, kind: &str, default: &str) -> Result<String, AllocError> {
@@ -48,29 +41,8 @@ fn record_of(alloc: Global, kind: &str, default: &str) -> Result<String, AllocEr
     )
 }
 
-// Whether a default is one of a type, and else that its field is named.
-fn assert_defaults<A: Abort>(
-    rt: &A,
-    alloc: Global,
-    rows: &[(&str, &str, bool)],
-) -> Result<(), Fail> {
-    for (kind, default, expected) in rows {
-        let text = record_of(alloc, kind, default)?;
-        let schema = Schema::read(alloc, text.as_str())?;
-        let found = answer_of(alloc, &schema)?;
-        let wanted = if *expected {
-            let count = schema.node_count();
-            format!(in alloc; "{count}")?
-        } else {
-            String::from_str(alloc, "BadDefault x")?
-        };
-        assert_eq!(rt; found.as_str(), wanted.as_str(), "{text}");
-    }
-    Ok(())
-}
-
 // Avro 1.11, "Primitive Types", and the attributes that have no effect.
-const PRIMITIVE_TYPES: [(&str, &str); 17] = [
+static PRIMITIVE_TYPES: [Row; 17] = [
     (r#""null""#, "1"),
     (r#""boolean""#, "1"),
     (r#""int""#, "1"),
@@ -93,14 +65,8 @@ const PRIMITIVE_TYPES: [(&str, &str); 17] = [
     (r#""""#, "Unknown "),
 ];
 
-#[test]
-fn primitive_types(rt: HostRuntime) -> Result<(), Fail> {
-    assert_answers(&rt, rt.alloc(), &PRIMITIVE_TYPES)?;
-    Ok(())
-}
-
 // Avro 1.11, "Records".
-const RECORDS: [(&str, &str); 20] = [
+static RECORDS: [Row; 20] = [
     (
         r#"{"type":"record","name":"LongList","aliases":["LinkedLongs"],"fields":[{"name":"value","type":"long"},{"name":"next","type":["null","LongList"]}]}"#,
         "4",
@@ -162,14 +128,8 @@ const RECORDS: [(&str, &str); 20] = [
     (r#"{"type":"error","name":"E","fields":[]}"#, "BadForm"),
 ];
 
-#[test]
-fn records(rt: HostRuntime) -> Result<(), Fail> {
-    assert_answers(&rt, rt.alloc(), &RECORDS)?;
-    Ok(())
-}
-
 // Avro 1.11, "Enums", "Arrays", "Maps", "Fixed".
-const ENUMS_ARRAYS_MAPS_AND_FIXED: [(&str, &str); 25] = [
+static ENUMS_ARRAYS_MAPS_AND_FIXED: [Row; 25] = [
     (
         r#"{"type":"enum","name":"Suit","symbols":["SPADES","HEARTS","DIAMONDS","CLUBS"]}"#,
         "1",
@@ -221,14 +181,8 @@ const ENUMS_ARRAYS_MAPS_AND_FIXED: [(&str, &str); 25] = [
     (r#"{"type":"fixed","name":"F"}"#, "BadForm"),
 ];
 
-#[test]
-fn enums_arrays_maps_and_fixed(rt: HostRuntime) -> Result<(), Fail> {
-    assert_answers(&rt, rt.alloc(), &ENUMS_ARRAYS_MAPS_AND_FIXED)?;
-    Ok(())
-}
-
 // Avro 1.11, "Unions".
-const UNIONS: [(&str, &str); 16] = [
+static UNIONS: [Row; 16] = [
     (r#"["null","string"]"#, "3"),
     (r#"[]"#, "1"),
     (r#"["int","long","float","double"]"#, "5"),
@@ -271,15 +225,9 @@ const UNIONS: [(&str, &str); 16] = [
     (r#"["int",7]"#, "BadForm"),
 ];
 
-#[test]
-fn unions(rt: HostRuntime) -> Result<(), Fail> {
-    assert_answers(&rt, rt.alloc(), &UNIONS)?;
-    Ok(())
-}
-
 // Avro 1.11, "Names", with its own example first. A name without a dot is looked for in the
 // null namespace too.
-const NAMES: [(&str, &str); 31] = [
+static NAMES: [Row; 31] = [
     (
         r#"{"type":"record","name":"Example","doc":"A simple name","fields":[{"name":"inheritNull","type":{"type":"enum","name":"Simple","symbols":["a","b"]}},{"name":"explicitNamespace","type":{"type":"fixed","name":"Simple","namespace":"explicit","size":12}},{"name":"fullName","type":{"type":"record","name":"a.full.Name","namespace":"ignored","fields":[{"name":"inheritNamespace","type":{"type":"enum","name":"Understanding","symbols":["d","e"]}}]}}]}"#,
         "5",
@@ -376,15 +324,9 @@ const NAMES: [(&str, &str); 31] = [
     ),
 ];
 
-#[test]
-fn names(rt: HostRuntime) -> Result<(), Fail> {
-    assert_answers(&rt, rt.alloc(), &NAMES)?;
-    Ok(())
-}
-
 // Avro 1.11, "Schema Declaration": a text is a JSON string, object or array. A number in it is a
 // whole number of 64 bits.
-const JSON_TEXTS: [(&str, &str); 17] = [
+static JSON_TEXTS: [Row; 17] = [
     (
         r#"{"type":"int","x":18446744073709551615,"y":-9223372036854775808}"#,
         "1",
@@ -407,14 +349,8 @@ const JSON_TEXTS: [(&str, &str); 17] = [
     (r#"{"type":"int","x":-9223372036854775809}"#, "FloatNumber"),
 ];
 
-#[test]
-fn json_texts(rt: HostRuntime) -> Result<(), Fail> {
-    assert_answers(&rt, rt.alloc(), &JSON_TEXTS)?;
-    Ok(())
-}
-
 // Avro 1.11, "Records", the table of defaults. A string is a default of each enum and fixed type.
-const DEFAULTS_OF_PLAIN_TYPES: [(&str, &str, bool); 23] = [
+static DEFAULTS_OF_PLAIN_TYPES: [DefaultRow; 23] = [
     (r#""null""#, "null", true),
     (r#""null""#, "0", false),
     (r#""boolean""#, "true", true),
@@ -444,14 +380,8 @@ const DEFAULTS_OF_PLAIN_TYPES: [(&str, &str, bool); 23] = [
     (r#"{"type":"enum","name":"E","symbols":["A"]}"#, "0", false),
 ];
 
-#[test]
-fn defaults_of_plain_types(rt: HostRuntime) -> Result<(), Fail> {
-    assert_defaults(&rt, rt.alloc(), &DEFAULTS_OF_PLAIN_TYPES)?;
-    Ok(())
-}
-
 // The same of types that hold others.
-const DEFAULTS_OF_TYPES_INSIDE: [(&str, &str, bool); 22] = [
+static DEFAULTS_OF_TYPES_INSIDE: [DefaultRow; 22] = [
     (r#"{"type":"array","items":"int"}"#, "[]", true),
     (r#"{"type":"array","items":"int"}"#, "[1,2]", true),
     (r#"{"type":"array","items":"int"}"#, r#"[1,"a"]"#, false),
@@ -512,15 +442,9 @@ const DEFAULTS_OF_TYPES_INSIDE: [(&str, &str, bool); 22] = [
     (r#"["R","null"]"#, r#"{"x":{"x":null}}"#, false),
 ];
 
-#[test]
-fn defaults_of_types_inside(rt: HostRuntime) -> Result<(), Fail> {
-    assert_defaults(&rt, rt.alloc(), &DEFAULTS_OF_TYPES_INSIDE)?;
-    Ok(())
-}
-
 // The field with the invalid default is named, also inside another type. Defaults that are
 // numbers with a fraction are no numbers of this profile.
-const NAMES_A_BAD_DEFAULT: [(&str, &str); 3] = [
+static NAMES_A_BAD_DEFAULT: [Row; 3] = [
     (
         r#"{"type":"record","name":"R","fields":[{"name":"a","type":"int","default":0},{"name":"b","type":"int","default":null}]}"#,
         "BadDefault b",
@@ -536,13 +460,50 @@ const NAMES_A_BAD_DEFAULT: [(&str, &str); 3] = [
 ];
 
 #[test]
-fn names_a_bad_default(rt: HostRuntime) -> Result<(), Fail> {
-    assert_answers(&rt, rt.alloc(), &NAMES_A_BAD_DEFAULT)?;
+fn texts_have_their_answers(rt: HostRuntime) -> Result<(), Fail> {
+    let tables: [&[Row]; 7] = [
+        &PRIMITIVE_TYPES,
+        &RECORDS,
+        &ENUMS_ARRAYS_MAPS_AND_FIXED,
+        &UNIONS,
+        &NAMES,
+        &JSON_TEXTS,
+        &NAMES_A_BAD_DEFAULT,
+    ];
+    for table in tables {
+        for (text, expected) in table {
+            let found = answer(rt.alloc(), text)?;
+            assert_eq!(rt; found.as_str(), *expected, "{text}");
+        }
+    }
+    Ok(())
+}
+
+// Whether a default is valid for a type: else the field is named that has it.
+fn is_default(alloc: Global, kind: &str, default: &str) -> Result<bool, Fail> {
+    let text = record_of(alloc, kind, default)?;
+    let schema = Schema::read(alloc, text.as_str())?;
+    match schema.check_defaults() {
+        Ok(()) => Ok(true),
+        Err(bad) if bad.field.as_str() == "x" => Ok(false),
+        Err(_) => Err("another field")?,
+    }
+}
+
+#[test]
+fn defaults_are_of_their_types(rt: HostRuntime) -> Result<(), Fail> {
+    let tables: [&[DefaultRow]; 2] = [&DEFAULTS_OF_PLAIN_TYPES, &DEFAULTS_OF_TYPES_INSIDE];
+    for table in tables {
+        for (kind, default, expected) in table {
+            let found = is_default(rt.alloc(), kind, default)?;
+            assert_eq!(rt; found, *expected, "{default} for {kind}");
+        }
+    }
     Ok(())
 }
 
 // No space, and the members of each object in byte order of their names.
-const NORMAL_TEXTS: [(&str, &str); 7] = [
+static NORMAL_TEXTS: [Row; 7] = [
     (r#" "int" "#, r#""int""#),
     (r#"{ "type" : "int" }"#, r#"{"type":"int"}"#),
     (
@@ -623,7 +584,7 @@ fn described(alloc: Global, schema: &Schema) -> Result<String, AllocError> {
 
 // A use is the node of its definition, and an alias without a dot takes the namespace of its type
 // (Avro 1.11, "Aliases").
-const NODES: [(&str, &str); 3] = [
+static NODES: [Row; 3] = [
     (
         r#"[{"type":"fixed","name":"n.F","size":1},"int"]"#,
         "unnamed named n.F unnamed ",
@@ -710,23 +671,42 @@ fn chained(alloc: Global, types: u32) -> Result<String, AllocError> {
     Ok(text)
 }
 
+// A text that is long, deep or wide, or has many types.
+#[derive(Clone, Copy)]
+enum Large {
+    Padded(usize),
+    Nested(u32),
+    Wide(u32),
+    Chained(u32),
+}
+
+fn text_of(alloc: Global, kind: Large) -> Result<String, AllocError> {
+    match kind {
+        Large::Padded(length) => padded(alloc, length),
+        Large::Nested(objects) => nested(alloc, objects),
+        Large::Wide(fields) => wide(alloc, fields),
+        Large::Chained(types) => chained(alloc, types),
+    }
+}
+
 // Texts as long, as deep and with as many nodes as the limits allow, one past each, and many types
 // that use one another.
+static LIMITS: [(Large, &str); 7] = [
+    (Large::Padded(1048576), "1"),
+    (Large::Padded(1048577), "TooLong"),
+    (Large::Nested(127), "1"),
+    (Large::Nested(128), "NotJson"),
+    (Large::Wide(7281), "65530"),
+    (Large::Wide(7282), "TooManyNodes"),
+    (Large::Chained(5000), "5001"),
+];
+
 #[test]
 fn limits(rt: HostRuntime) -> Result<(), Fail> {
-    let alloc = rt.alloc();
-    let rows = [
-        (padded(alloc, 1048576)?, "1"),
-        (padded(alloc, 1048577)?, "TooLong"),
-        (nested(alloc, 127)?, "1"),
-        (nested(alloc, 128)?, "NotJson"),
-        (wide(alloc, 7281)?, "65530"),
-        (wide(alloc, 7282)?, "TooManyNodes"),
-        (chained(alloc, 5000)?, "5001"),
-    ];
-    for (text, expected) in &rows {
-        let found = answer(alloc, text.as_str())?;
-        assert_eq!(rt; found.as_str(), *expected);
+    for (kind, expected) in LIMITS {
+        let text = text_of(rt.alloc(), kind)?;
+        let found = answer(rt.alloc(), text.as_str())?;
+        assert_eq!(rt; found.as_str(), expected);
     }
     Ok(())
 }
