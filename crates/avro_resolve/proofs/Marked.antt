@@ -1,6 +1,6 @@
 -- A type whose mark is another than a name's doesn't match a type of that name.
 use Rattle.std.proofs.Common.{◌≡◌, ◌<◌, ◌+◌, ℕ, add-one, drop-cons, drop, find, length, get_or, cond, List, [], ◌∷◌, Bool, true, false, ◌||◌, ◌&&◌, ◌==◌, Option, Some, None, slice_get, bytes_eq, refl, sym, ap, ◌∙◌}
-use Rattle.std.proofs.lemmas.Bool.{eq-eqb, or_parts, cond-true, cond-false}
+use Rattle.std.proofs.lemmas.Bool.{eq-eqb, or_parts, cond-false}
 use Rattle.std.proofs.lemmas.Slice.Eq.{bytes_eq-Decides}
 use Rattle.std.specs.List.{enumerate_from}
 use Rattle.avro_schema.specs.declared.node.FullName.{FullName}
@@ -64,6 +64,3 @@ module _ (p : NodeId → Bool) (bs : List NodeId) (k : ℕ) (d : NodeId) (inside
   -- a branch that doesn't match is passed over
   pub passed : p (get_or bs k d) ≡ false → find (λ b. p b.1) (enumerate_from k (drop k bs)) ≡ find (λ b. p b.1) (enumerate_from (k + 1) (drop (k + 1) bs))
   passed fails = from_here ∙ cond-false (p (get_or bs k d)) _ _ fails
-
-  pub taken : p (get_or bs k d) ≡ true → find (λ b. p b.1) (enumerate_from k (drop k bs)) ≡ Some (k, get_or bs k d)
-  taken holds = from_here ∙ cond-true (p (get_or bs k d)) _ _ holds
