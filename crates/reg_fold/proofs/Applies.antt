@@ -13,7 +13,7 @@ use Rattle.reg_records.specs.declared.value.Value.{Value}
 use Rattle.reg_records.specs.declared.value.Value.TheVariants as values
 use Rattle.reg_set.specs.LastRecords.{last}
 use Rattle.reg_set.specs.Records.{Records}
-use Rattle.reg_fold.specs.Entries.{entry_in, entry_of, entry_map}
+use Rattle.reg_fold.specs.Entries.{entry_in, entry_of, entry_map, normal_of}
 use Rattle.reg_entries.specs.EntryOrder.{Place, place_cmp}
 use Rattle.reg_fold.specs.Marks.{covers, is_marked}
 use Rattle.reg_fold.specs.Step.{EntriesAreOfLasts}
@@ -44,7 +44,7 @@ module _ (S T : Records) where
     where
       in_value : (v : Value) → entry_in T r.offset v ≡ entry_in S r.offset v
       in_value (values.Schema subject version id schema deleted) =
-          ap (λ b. Some (record { subject = subject; version = version; id = id; text = schema; offset = r.offset; soft = deleted || b })) (is_marked-same subject version r.offset (deletes subject))
+          ap (λ b. Some (record { subject = subject; version = version; id = id; text = schema; normal = normal_of schema; offset = r.offset; soft = deleted || b })) (is_marked-same subject version r.offset (deletes subject))
       in_value (values.Config level) = refl
       in_value (values.Mode mode) = refl
       in_value (values.DeleteSubject subject version) = refl

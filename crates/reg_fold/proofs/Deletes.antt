@@ -17,7 +17,7 @@ use Rattle.reg_records.specs.declared.value.Value.TheVariants as values
 use Rattle.reg_set.specs.LastRecords.{last}
 use Rattle.reg_set.specs.Join.{LastIsGreatest}
 use Rattle.reg_set.specs.Records.{Records}
-use Rattle.reg_fold.specs.Entries.{entry_in, entry_of, entry_map}
+use Rattle.reg_fold.specs.Entries.{entry_in, entry_of, entry_map, normal_of}
 use Rattle.reg_entries.specs.EntryOrder.{Place}
 use Rattle.reg_fold.specs.Marks.{is_marked}
 use Rattle.reg_fold.specs.Remarked.{is_covered_by, is_soft_after}
@@ -58,7 +58,7 @@ module _ (S T : Records) (of_S : EntriesAreOfLasts S) (of_T : EntriesAreOfLasts 
   of_value : (x : Record) (o : Option Value) → value_of x ≡ o → last S x.key ≡ Some x → IfSome o (named_by x.key) → option_and_then (entry_in T x.offset) o ≡ option_map remarked (option_and_then (entry_in S x.offset) o)
   of_value x None is lasts named = refl
   of_value x (Some (values.Schema s version id schema own)) is lasts named =
-      let given : Bool → Entry = λ b. record { subject = s; version = version; id = id; text = schema; offset = x.offset; soft = own || b } in
+      let given : Bool → Entry = λ b. record { subject = s; version = version; id = id; text = schema; normal = normal_of schema; offset = x.offset; soft = own || b } in
       let before : Entry = given (is_marked S s version x.offset) in
       let spot : Spot = (x.offset, (s, version)) in
       let says : contains spot_cmp deleted spot ≡ own =

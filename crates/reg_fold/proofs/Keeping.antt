@@ -1,5 +1,5 @@
 -- What a registry keeps, as a whole.
-use Rattle.std.proofs.Common.{◌≡◌, Bool, false, ◌||◌, ◌&&◌, List, [], ◌∷◌, refl, sym, ap, ◌∙◌}
+use Rattle.std.proofs.Common.{◌≡◌, Bool, false, ◌||◌, ◌&&◌, List, [], ◌∷◌, None, option_and_then, refl, sym, ap, ◌∙◌}
 use Rattle.std.proofs.lemmas.Bool.{false≢true}
 use Rattle.std.proofs.lemmas.Cmp.{tied_itself}
 use Rattle.std.specs.BTreeSet.{BTreeSet, IsEmpty, IsUnchanged}
@@ -17,11 +17,14 @@ use Rattle.reg_set.specs.RecordOrder.{age_cmp, record_cmp}
 use Rattle.reg_set.specs.Records.{Records, in_order, records_of}
 use Rattle.reg_fold.specs.Entries.{entries, entry_map, entry_of}
 use Rattle.reg_entries.specs.EntryOrder.{place_cmp}
+use Rattle.reg_fold.specs.InForce.{Scope, level_of, own_level}
 use Rattle.reg_fold.specs.Kept.{IsKept}
 use Rattle.reg_fold.specs.Opaque.{is_opaque}
+use Rattle.reg_fold.specs.Scopes.{AreOwn, kept_level}
 use Rattle.reg_fold.specs.Spots.{Spot, HasSpots, is_deleted, is_spot, spot_cmp}
 use Rattle.reg_entries.specs.declared.entry.Entry.{Entry}
 use Rattle.reg_fold.specs.declared.index.Index.{Index}
+use Rattle.reg_fold.specs.declared.levels.Levels.{Levels}
 use Rattle.reg_fold.proofs.Spotted.{spots-same}
 
 -- the entries that are kept are those of the last records
@@ -50,12 +53,21 @@ module _ (total : IsTotalOrder record_cmp) where
       ∙ sym (ap (λ rs. is_spot kind rs s) rs_are
       ∙ ap (λ found. option_map_or (λ r. kind r && eq_by_cmp spot_cmp (r.offset, s.1) s) (greatest age_cmp (filter (is_of (keys.Schema s.1.0 s.1.1)) found)) false) records_of-empty)
 
+  AreOwn-empty : (levels : Levels) (rs : Records) → rs ≡ set.empty → ((q : Scope) → kept_level levels q ≡ None) → AreOwn rs levels
+  unfolding own_level last
+  AreOwn-empty levels rs rs_are none q =
+      none q
+      ∙ sym (ap (λ rs. own_level rs q) rs_are
+      ∙ ap (λ found. option_and_then level_of (greatest age_cmp (filter (is_of (keys.Config q)) found))) records_of-empty)
+
   -- without a record nothing is kept
-  pub IsKept-empty : (index : Index) → index.last ≡ set.empty → index.entries ≡ finmap.empty → IsEmpty index.unread → IsEmpty index.deleted → IsKept index
-  IsKept-empty index last_is entries_are none_unread none_deleted = record {
+  pub IsKept-empty : (index : Index) → index.last ≡ set.empty → index.entries ≡ finmap.empty → IsEmpty index.unread → IsEmpty index.deleted
+      → ((q : Scope) → kept_level index.levels q ≡ None) → IsKept index
+  IsKept-empty index last_is entries_are none_unread none_deleted no_level = record {
     all_entries = entries_are ∙ sym (ap entry_map last_is ∙ entry_map-empty);
     all_unread = HasSpots-empty is_opaque index.unread index.last last_is none_unread;
     all_deleted = HasSpots-empty is_deleted index.deleted index.last last_is none_deleted;
+    all_levels = AreOwn-empty index.levels index.last last_is no_level;
   }
 
 -- copies of spots that are equal to them
@@ -66,9 +78,11 @@ spots-copied (x ∷ xs) [] h = absurd h
 spots-copied (x ∷ xs) (y ∷ ys) h = λ i. (h.0.0 i, (h.0.1.0 i, h.0.1.1 i)) ∷ spots-copied xs ys h.1 i
 
 -- what is kept of the same records and spots is kept
-pub IsKept-same : (old new : Index) → new.last ≡ old.last → new.entries ≡ old.entries → IsUnchanged old.unread new.unread → IsUnchanged old.deleted new.deleted → IsKept old → IsKept new
-IsKept-same old new last_is entries_are unread deleted kept = record {
+pub IsKept-same : (old new : Index) → new.last ≡ old.last → new.entries ≡ old.entries → IsUnchanged old.unread new.unread → IsUnchanged old.deleted new.deleted
+    → ((q : Scope) → kept_level new.levels q ≡ kept_level old.levels q) → IsKept old → IsKept new
+IsKept-same old new last_is entries_are unread deleted levels kept = record {
   all_entries = entries_are ∙ kept.all_entries ∙ sym (ap entry_map last_is);
   all_unread = spots-same is_opaque old.last new.last old.unread new.unread last_is unread kept.all_unread;
   all_deleted = spots-same is_deleted old.last new.last old.deleted new.deleted last_is deleted kept.all_deleted;
+  all_levels = λ q. levels q ∙ kept.all_levels q ∙ sym (ap (λ rs. own_level rs q) last_is);
 }

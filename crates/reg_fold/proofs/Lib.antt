@@ -4,6 +4,7 @@ mod Folding
 mod InOrder
 mod Keeping
 mod Least
+mod Leveled
 mod News
 mod OfLasts
 mod Placed

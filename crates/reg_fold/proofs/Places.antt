@@ -14,7 +14,9 @@ use Rattle.std.specs.declared.cmp.Ordering.TheVariants.{Less, Equal, Greater}
 use Rattle.serde_json.specs.Data.{Data}
 use Rattle.serde_json.specs.Read.{read}
 use Rattle.serde_json.specs.Find.{as_object}
-use Rattle.reg_records.specs.Json.{text_at, number_at, has_text_at, has_number_at}
+use Rattle.reg_levels.specs.Level.{is_level}
+use Rattle.reg_levels.specs.Texts.{is_schema}
+use Rattle.reg_records.specs.Json.{text_at, text_where, number_at, has_text_at, has_number_at}
 use Rattle.reg_records.specs.Value.{value_of, value_in, is_plain_avro, deleted_in}
 use Rattle.reg_records.specs.declared.key.Key.{Key}
 use Rattle.reg_records.specs.declared.key.Key.TheVariants as keys
@@ -56,14 +58,14 @@ cond_named key false o h = tt
 value_in-named : (key : Key) (d : Data) → IfSome (value_in key d) (named_by key)
 value_in-named (keys.Schema subject version) d =
     let of_deleted : ℕ → List ℕ → Option Value = λ id schema. option_map (λ deleted. values.Schema subject version id schema deleted) (deleted_in d) in
-    let of_schema : ℕ → Option Value = λ id. option_and_then (of_deleted id) (text_at (codes "schema") d) in
+    let of_schema : ℕ → Option Value = λ id. option_and_then (of_deleted id) (text_where is_schema (codes "schema") d) in
     let P : Value → Type 0 = named_by (keys.Schema subject version) in
     cond_named (keys.Schema subject version) (has_text_at (codes "subject") subject d && has_number_at (codes "version") version d && is_plain_avro d) (option_and_then of_schema (number_at (codes "id") d))
     (all_named (keys.Schema subject version) (number_at (codes "id") d) of_schema (λ id.
-    all_named (keys.Schema subject version) (text_at (codes "schema") d) (of_deleted id) (λ schema.
+    all_named (keys.Schema subject version) (text_where is_schema (codes "schema") d) (of_deleted id) (λ schema.
     elim (deleted_in d) as (λ o. IfSome (option_map (λ deleted. values.Schema subject version id schema deleted) o) P) [ None ↦ tt | Some deleted ↦ refl ])))
 value_in-named (keys.Config scope) d =
-    elim (text_at (codes "compatibilityLevel") d) as (λ o. IfSome (option_map (λ level. values.Config level) o) (named_by (keys.Config scope))) [ None ↦ tt | Some level ↦ tt ]
+    elim (text_where is_level (codes "compatibilityLevel") d) as (λ o. IfSome (option_map (λ level. values.Config level) o) (named_by (keys.Config scope))) [ None ↦ tt | Some level ↦ tt ]
 value_in-named (keys.Mode scope) d =
     elim (text_at (codes "mode") d) as (λ o. IfSome (option_map (λ mode. values.Mode mode) o) (named_by (keys.Mode scope))) [ None ↦ tt | Some mode ↦ tt ]
 value_in-named (keys.DeleteSubject subject) d =

@@ -11,7 +11,8 @@ use Rattle.std.specs.Prelude.{IfSome}
 use Rattle.std.specs.declared.cmp.Ordering.TheVariants.{Equal}
 use Rattle.serde_json.specs.Data.{Data}
 use Rattle.serde_json.specs.Read.{read}
-use Rattle.reg_records.specs.Json.{text_at, number_at, has_text_at, has_number_at}
+use Rattle.reg_levels.specs.Texts.{is_schema}
+use Rattle.reg_records.specs.Json.{text_where, number_at, has_text_at, has_number_at}
 use Rattle.reg_records.specs.Value.{value_of, value_in, is_plain_avro, deleted_in}
 use Rattle.reg_records.specs.declared.key.Key.TheVariants as keys
 use Rattle.reg_records.specs.declared.record.Record.{Record}
@@ -98,12 +99,12 @@ without_text r none = middle_false (is_version r.key) (is_some r.value) (is_none
     middle_false true true c h = absurd (false≢true (sym h))
     middle_false false b c h = refl
 
-abbrev is_schema : Value → Bool
-is_schema (values.Schema subject version id schema deleted) = true
-is_schema (values.Config level) = false
-is_schema (values.Mode mode) = false
-is_schema (values.DeleteSubject subject version) = false
-is_schema values.Noop = false
+abbrev is_version_value : Value → Bool
+is_version_value (values.Schema subject version id schema deleted) = true
+is_version_value (values.Config level) = false
+is_version_value (values.Mode mode) = false
+is_version_value (values.DeleteSubject subject version) = false
+is_version_value values.Noop = false
 
 all_some : {X : Type 0} (P : Value → Type 0) (o : Option X) (f : X → Option Value) → ((x : X) → IfSome (f x) P) → IfSome (option_and_then f o) P
 all_some P None f h = tt
@@ -114,19 +115,19 @@ cond_some P true o h = h
 cond_some P false o h = tt
 
 -- the value of a version is a schema's
-schema_shape : (subject : List ℕ) (version : ℕ) (d : Data) → IfSome (value_in (keys.Schema subject version) d) (λ v. is_schema v ≡ true)
+schema_shape : (subject : List ℕ) (version : ℕ) (d : Data) → IfSome (value_in (keys.Schema subject version) d) (λ v. is_version_value v ≡ true)
 schema_shape subject version d =
-    let P : Value → Type 0 = λ v. is_schema v ≡ true in
+    let P : Value → Type 0 = λ v. is_version_value v ≡ true in
     let of_deleted : ℕ → List ℕ → Option Value = λ id schema. option_map (λ deleted. values.Schema subject version id schema deleted) (deleted_in d) in
-    let of_schema : ℕ → Option Value = λ id. option_and_then (of_deleted id) (text_at (codes "schema") d) in
+    let of_schema : ℕ → Option Value = λ id. option_and_then (of_deleted id) (text_where is_schema (codes "schema") d) in
     cond_some P (has_text_at (codes "subject") subject d && has_number_at (codes "version") version d && is_plain_avro d) (option_and_then of_schema (number_at (codes "id") d))
     (all_some P (number_at (codes "id") d) of_schema (λ id.
-    all_some P (text_at (codes "schema") d) (of_deleted id) (λ schema.
+    all_some P (text_where is_schema (codes "schema") d) (of_deleted id) (λ schema.
     elim (deleted_in d) as (λ o. IfSome (option_map (λ deleted. values.Schema subject version id schema deleted) o) P) [ None ↦ tt | Some deleted ↦ refl ])))
 
-value_shape : (r : Record) (p : Place) → r.key ≡ keys.Schema p.0 p.1 → IfSome (value_of r) (λ v. is_schema v ≡ true)
+value_shape : (r : Record) (p : Place) → r.key ≡ keys.Schema p.0 p.1 → IfSome (value_of r) (λ v. is_version_value v ≡ true)
 value_shape r p of_key =
-    let P : Value → Type 0 = λ v. is_schema v ≡ true in
+    let P : Value → Type 0 = λ v. is_version_value v ≡ true in
     all_some P r.value (λ text. option_and_then (value_in r.key) (read text)) (λ text.
     all_some P (read text) (value_in r.key) (λ d. subst (λ k. IfSome (value_in k d) P) (sym of_key) (schema_shape p.0 p.1 d)))
 
@@ -136,7 +137,7 @@ unfolding entry_of is_opaque
 unreadable S r p of_key text gives =
     ap (λ k. is_version k && is_some r.value && is_none (value_of r)) of_key ∙ ap (λ b. b && is_none (value_of r)) text ∙ ap is_none no_value
   where
-    some_entry : (v : Value) → is_schema v ≡ true → entry_in S r.offset v ≡ None → ⊥
+    some_entry : (v : Value) → is_version_value v ≡ true → entry_in S r.offset v ≡ None → ⊥
     some_entry (values.Schema subject version id schema deleted) shape none = cc
     some_entry (values.Config level) shape none = false≢true shape
     some_entry (values.Mode mode) shape none = false≢true shape
@@ -145,7 +146,7 @@ unreadable S r p of_key text gives =
 
     no_value : value_of r ≡ None
     no_value =
-        elim (value_of r) as (λ o. IfSome o (λ v. is_schema v ≡ true) → option_and_then (entry_in S r.offset) o ≡ None → o ≡ None) [
+        elim (value_of r) as (λ o. IfSome o (λ v. is_version_value v ≡ true) → option_and_then (entry_in S r.offset) o ≡ None → o ≡ None) [
           | None ↦ λ _ _. refl
           | Some v ↦ λ shape none. absurd (some_entry v shape none)
         ] (value_shape r p of_key) gives

@@ -1,7 +1,9 @@
 -- The entries: the versions that can be read, where rs are the last records.
-use Rattle.std.specs.Prelude.{◌≡◌, ◌↔◌, ℕ, List, ◌||◌, Option, Some, None, option_and_then, fold}
+use Rattle.std.specs.Prelude.{◌≡◌, ◌↔◌, ℕ, List, [], ◌||◌, Option, Some, None, option_and_then, fold}
 use Rattle.std.specs.FinMap as finmap
 use Rattle.std.specs.List.{Contains, filter_map}
+use Rattle.std.specs.Option.{option_map_or}
+use Rattle.avro_schema.specs.Schema.{schema_of}
 use Rattle.reg_records.specs.Value.{value_of}
 use Rattle.reg_records.specs.declared.key.Key.{Key}
 use Rattle.reg_records.specs.declared.record.Record.{Record}
@@ -13,6 +15,10 @@ use Rattle.reg_entries.specs.EntryOrder.{place_cmp, place_of}
 use Rattle.reg_fold.specs.Marks.{is_marked}
 use Rattle.reg_entries.specs.declared.entry.Entry.{Entry}
 
+-- the normal text of the schema that a text means, as the text of each version's value does
+abbrev pub normal_of : List ℕ → List ℕ
+normal_of text = option_map_or (λ meaning. meaning.normal_text) (schema_of text) []
+
 -- a version's value gives its entry: soft where the value says deleted, or where its subject was soft-deleted later
 abbrev pub entry_in : Records → ℕ → Value → Option Entry
 entry_in rs offset (values.Schema subject version id schema deleted) = Some (record {
@@ -20,6 +26,7 @@ entry_in rs offset (values.Schema subject version id schema deleted) = Some (rec
   version = version;
   id = id;
   text = schema;
+  normal = normal_of schema;
   offset = offset;
   soft = deleted || is_marked rs subject version offset;
 })

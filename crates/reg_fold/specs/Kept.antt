@@ -2,6 +2,7 @@
 use Rattle.std.specs.Prelude.{◌≡◌}
 use Rattle.reg_fold.specs.Entries.{entry_map}
 use Rattle.reg_fold.specs.Opaque.{is_opaque}
+use Rattle.reg_fold.specs.Scopes.{AreOwn}
 use Rattle.reg_fold.specs.Spots.{HasSpots, is_deleted}
 use Rattle.reg_fold.specs.declared.index.Index.{Index}
 
@@ -9,3 +10,4 @@ pub record IsKept (index : Index) : Type 0 where
   pub all_entries : index.entries ≡ entry_map index.last
   pub all_unread : HasSpots is_opaque index.last index.unread
   pub all_deleted : HasSpots is_deleted index.last index.deleted
+  pub all_levels : AreOwn index.last index.levels

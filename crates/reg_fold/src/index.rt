@@ -5,19 +5,23 @@ ghost use Rattle.std.specs.FinSet as set;
 ghost use Rattle.reg_records.specs.declared.key.Key.TheVariants as keys;
 ghost use Rattle.reg_set.specs.LastRecords.{last, last_records, with_last};
 ghost use Rattle.reg_fold.specs.Entries.{AreOfLasts, entries, entry_of};
+ghost use Rattle.reg_fold.specs.InForce.{level_of};
 ghost use Rattle.reg_fold.specs.Opaque.{is_version, opaque};
 ghost use Rattle.reg_fold.specs.Remarked.{is_delete, is_soft_after};
+ghost use Rattle.reg_fold.specs.Scopes.{is_config};
 ghost use Rattle.reg_fold.specs.Spots.{is_deleted};
 ghost use Rattle.reg_fold.specs.Step.{EntriesAreOfLasts, IsStep};
 ghost use Rattle.reg_entries.specs.EntryOrder.{place_of};
 ghost use Rattle.reg_entries.specs.Marked.{MarksEach};
 ghost use Rattle.reg_entries.specs.Sought.{of_subject};
 
+use crate::levels::Levels;
 use crate::marks::marks_of;
-use crate::reading::{Reading, reading_of};
+use crate::reading::{Reading, level_of, reading_of};
 use crate::spots::{Spot, forget, forget_elsewhere, spot_of};
 use base_text::Text;
 use reg_entries::{Entries, Entry, Mark};
+use reg_levels::Level;
 use reg_records::{Key, Record, decode_value};
 use reg_set::{LastRecords, last_is_greatest, last_records_are_enough, records_are_ordered};
 use std::alloc::{AllocError, Global};
@@ -34,6 +38,8 @@ pub(crate) struct Index {
     pub(crate) unread: BTreeSet<Spot>,
     // Where the versions are whose own values say deleted.
     pub(crate) deleted: BTreeSet<Spot>,
+    // Those that scopes have of their own.
+    pub(crate) levels: Levels,
 }
 
 impl Clone for Index {
@@ -48,6 +54,7 @@ impl Clone for Index {
             entries: self.entries.clone()?,
             unread: self.unread.clone()?,
             deleted: self.deleted.clone()?,
+            levels: self.levels.clone()?,
         })
     }
 }
@@ -67,6 +74,7 @@ impl Index {
             entries: Entries::new(alloc),
             unread: BTreeSet::new(alloc),
             deleted: BTreeSet::new(alloc),
+            levels: Levels::new(alloc),
         }
     }
 
@@ -83,7 +91,8 @@ impl Index {
         match &given.key {
             Key::Schema { subject, version } => self.apply_version(given, subject, *version),
             Key::DeleteSubject(subject) => self.apply_delete(given, subject),
-            Key::Config(_) | Key::Mode(_) | Key::Noop => self.apply_other(given),
+            Key::Config(scope) => self.apply_config(given, scope),
+            Key::Mode(_) | Key::Noop => self.apply_other(given),
         }
     }
 
@@ -250,12 +259,66 @@ impl Index {
         marks_of(self.alloc, &self.deleted, &found, given, &value)
     }
 
+    /// Adds the record of a level that is news.
+    fn apply_config(&mut self, given: &Record, scope: &Option<Text>) -> Result<(), AllocError>
+        requires kept { IsKept self.old }
+        requires news { last_records (set.insert self.old.last given.now) ≢ self.old.last }
+        requires of_key { given.now.key ≡ keys.Config scope.now }
+        ensures kept { IsKept self.new }
+        ensures added { OnOk result (self.new.last ≡ last_records (set.insert self.old.last given.now)) }
+        ensures refused { OnErr result (self.new.last ≡ self.old.last) }
+    {
+        match level_of(self.alloc, given)? {
+            Some(level) => self.put_level(given, scope, level),
+            None => self.remove_level(given, scope),
+        }
+    }
+
+    /// Adds the record of a level that names one.
+    fn put_level(
+        &mut self,
+        given: &Record,
+        scope: &Option<Text>,
+        level: Level,
+    ) -> Result<(), AllocError>
+        requires kept { IsKept self.old }
+        requires news { last_records (set.insert self.old.last given.now) ≢ self.old.last }
+        requires of_key { given.now.key ≡ keys.Config scope.now }
+        requires names { level_of given.now ≡ Some level }
+        ensures kept { IsKept self.new }
+        ensures added { OnOk result (self.new.last ≡ last_records (set.insert self.old.last given.now)) }
+        ensures refused { OnErr result (self.new.last ≡ self.old.last) }
+    {
+        let before = put_last(&mut self.last, given)?;
+        if let Err(refused) = self.levels.put(scope, level) {
+            self.last.put_back(&given.key, before);
+            return Err(refused);
+        }
+        Ok(())
+    }
+
+    /// Adds the record of a level that names none.
+    fn remove_level(&mut self, given: &Record, scope: &Option<Text>) -> Result<(), AllocError>
+        requires kept { IsKept self.old }
+        requires news { last_records (set.insert self.old.last given.now) ≢ self.old.last }
+        requires of_key { given.now.key ≡ keys.Config scope.now }
+        requires names { level_of given.now ≡ None }
+        ensures kept { IsKept self.new }
+        ensures added { OnOk result (self.new.last ≡ last_records (set.insert self.old.last given.now)) }
+        ensures refused { OnErr result (self.new.last ≡ self.old.last) }
+    {
+        put_last(&mut self.last, given)?;
+        self.levels.remove(scope);
+        Ok(())
+    }
+
     /// Adds the record of another key that is news.
     fn apply_other(&mut self, given: &Record) -> Result<(), AllocError>
         requires kept { IsKept self.old }
         requires news { last_records (set.insert self.old.last given.now) ≢ self.old.last }
         requires no_version { is_version given.now.key ≡ false }
         requires no_delete { is_delete given.now.key ≡ false }
+        requires no_config { is_config given.now.key ≡ false }
         ensures kept { IsKept self.new }
         ensures added { OnOk result (self.new.last ≡ last_records (set.insert self.old.last given.now)) }
         ensures refused { OnErr result (self.new.last ≡ self.old.last) }

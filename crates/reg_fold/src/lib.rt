@@ -2,6 +2,7 @@
 #![tactic(auto)]
 
 mod index;
+mod levels;
 mod marks;
 mod reading;
 mod refusal;
@@ -9,5 +10,5 @@ mod registry;
 mod spots;
 
 pub use refusal::{Refusal, StoreFault};
-pub use reg_entries::Entry;
+pub use reg_entries::{Entry, two_schemas_is_least};
 pub use registry::Registry;

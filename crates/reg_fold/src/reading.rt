@@ -1,12 +1,16 @@
 // What a version's record says.
-ghost use Rattle.std.specs.Prelude.{◌≡◌, IfOk, false, option_map};
+ghost use Rattle.std.specs.Prelude.{◌≡◌, [], IfOk, false, option_map};
 ghost use Rattle.std.specs.Option.{option_map_or};
 ghost use Rattle.reg_fold.specs.Entries.{entry_of};
+ghost use Rattle.reg_fold.specs.InForce.{level_of};
 ghost use Rattle.reg_fold.specs.Spots.{is_deleted};
 
 use crate::marks::is_marked;
+use avro_schema::Schema;
+use base_text::Text;
 use reg_entries::Entry;
-use reg_records::{Record, Value, decode_value};
+use reg_levels::Level;
+use reg_records::{Decoded, Record, Value, decode, decode_value};
 use reg_set::LastRecords;
 use std::alloc::{AllocError, Global};
 
@@ -27,28 +31,51 @@ pub(crate) fn reading_of(
     ensures entry { IfOk result (λ found. option_map (λ reading. reading.entry) found ≡ entry_of last.now given.now) }
     ensures deleted { IfOk result (λ found. option_map_or (λ reading. reading.deleted) found false ≡ is_deleted given.now) }
 {
-    match decode_value(alloc, given)? {
-        Some(
-            Value::Schema {
-                subject,
-                version,
-                id,
-                schema,
-                deleted,
-            },
-        ) => {
+    let Some(Decoded { value, schema }) = decode(alloc, given)? else {
+        return Ok(None);
+    };
+    match value {
+        Value::Schema {
+            subject,
+            version,
+            id,
+            schema: text,
+            deleted,
+        } => {
             let soft = deleted || is_marked(alloc, last, &subject, version, given.offset)?;
             let entry = Entry {
                 subject,
                 version,
                 id,
-                text: schema,
+                text,
+                normal: normal_of(alloc, &schema)?,
                 offset: given.offset,
                 soft,
             };
             Ok(Some(Reading { entry, deleted }))
         }
-        Some(Value::Config(_) | Value::Mode(_) | Value::DeleteSubject { .. } | Value::Noop)
+        Value::Config(_) | Value::Mode(_) | Value::DeleteSubject { .. } | Value::Noop => Ok(None),
+    }
+}
+
+/// The normal text of a schema; without one no text.
+fn normal_of(alloc: Global, schema: &Option<Schema>) -> Result<Text, AllocError>
+    ensures { IfOk result (λ normal. normal ≡ option_map_or (λ meaning. meaning.normal_text) schema.now []) }
+{
+    match schema {
+        Some(schema) => schema.normal().clone(),
+        None => Ok(Text::from(String::new(alloc))),
+    }
+}
+
+/// The level that a record names, if it has a level's value.
+#[tactic(auto, unfolding(crate::specs::InForce::level_of))]
+pub(crate) fn level_of(alloc: Global, given: &Record) -> Result<Option<Level>, AllocError>
+    ensures { IfOk result (λ level. level ≡ level_of given.now) }
+{
+    match decode_value(alloc, given)? {
+        Some(Value::Config(name)) => Ok(Level::parse(name.as_str())),
+        Some(Value::Schema { .. } | Value::Mode(_) | Value::DeleteSubject { .. } | Value::Noop)
         | None => Ok(None),
     }
 }

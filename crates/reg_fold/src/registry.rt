@@ -1,5 +1,5 @@
 // The registry over the last records of a set.
-ghost use Rattle.std.specs.Prelude.{◌≡◌, IfOk, OnOk, OnErr, map};
+ghost use Rattle.std.specs.Prelude.{◌≡◌, IfOk, OnOk, OnErr, map, option_map};
 ghost use Rattle.std.specs.FinSet as set;
 ghost use Rattle.std.specs.Option.{option_copied};
 ghost use Rattle.reg_set.specs.Compaction.{IsCompactionOf};
@@ -7,12 +7,15 @@ ghost use Rattle.reg_set.specs.LastRecords.{last_records};
 ghost use Rattle.reg_set.specs.Records.{Records};
 ghost use Rattle.reg_fold.specs.Entries.{AreOfLasts, entries};
 ghost use Rattle.reg_entries.specs.EntryOrder.{IsInOrder};
+ghost use Rattle.reg_fold.specs.Closed.{id_of, is_closed, two_schemas};
+ghost use Rattle.reg_fold.specs.InForce.{level, own_level};
 ghost use Rattle.reg_fold.specs.Named.{named};
 ghost use Rattle.reg_fold.specs.Opaque.{opaque};
 ghost use Rattle.reg_fold.specs.Standing.{live, HasRisingVersions, greatest_id, greatest_version};
 
 use crate::index::Index;
 use reg_entries::Entry;
+use reg_levels::Level;
 use reg_records::Record;
 use reg_set::{
     LastRecords, RecordSet, last_records_are_enough, last_records_of_unions, records_are_ordered,
@@ -178,6 +181,48 @@ impl Registry {
         ensures { result ≡ greatest_version self.now subject.now }
     {
         self.index.entries.greatest_version(subject)
+    }
+
+    /// The least id of an entry of the schema with that normal text, soft ones too. The only error
+    /// is want of memory.
+    pub fn id_of(&self, normal: &str) -> Result<Option<u32>, AllocError>
+        ensures { IfOk result (λ id. id ≡ id_of self.now normal.now) }
+    {
+        self.index.entries.id_of(normal)
+    }
+
+    /// The least id that names two schemas, soft versions counted: that of two entries whose
+    /// normal texts differ.
+    pub fn two_schemas(&self) -> Option<u32>
+        ensures { result ≡ two_schemas self.now }
+    {
+        self.index.entries.two_schemas()
+    }
+
+    /// Whether the registry takes no commands: a version's record can't be read, or an id names two
+    /// schemas.
+    pub fn is_closed(&self) -> bool
+        ensures { result ≡ is_closed self.now }
+    {
+        self.opaque().is_some() || self.two_schemas().is_some()
+    }
+
+    /// The level in force for a subject, or for all subjects: the subject's own, else the one for
+    /// all, else `Backward`. Takes no memory.
+    pub fn level(&self, subject: Option<&str>) -> Level
+        ensures { result ≡ level self.now (option_map (λ s. s.now) subject.entry) }
+    {
+        match self.own_level(subject) {
+            Some(level) => level,
+            None => self.own_level(None).unwrap_or(Level::Backward),
+        }
+    }
+
+    /// The level that a subject has of its own, or the one for all subjects. Takes no memory.
+    pub fn own_level(&self, subject: Option<&str>) -> Option<Level>
+        ensures { result ≡ own_level self.now (option_map (λ s. s.now) subject.entry) }
+    {
+        self.index.levels.of(subject)
     }
 
     /// The least offset of a version's record that has a text and can't be read.

@@ -14,7 +14,8 @@ static ANSWERS: &str =
 1 K {"subject":"s","version":1,"id":1,"schema":"\"int\""};2 K null => 1 => missing
 2 K null;1 K {"subject":"s","version":1,"id":1,"schema":"\"int\""} => 1 => missing
 1 K null;2 K {"subject":"s","version":1,"id":1,"schema":"\"int\""} => 1 => {"schema":"\"int\""}
-1 K {"deleted":true,"schema":"\"é\"","id":7,"version":1,"other":[],"subject":"s","id":8} => 8 => {"schema":"\"é\""}
+1 K {"deleted":true,"schema":"{\"type\":\"int\",\"doc\":\"é\"}","id":7,"version":1,"other":[],"subject":"s","id":8} => 8 => {"schema":"{\"type\":\"int\",\"doc\":\"é\"}"}
+1 K {"subject":"s","version":1,"id":8,"schema":"\"é\""} => 8 => missing
 1 K {"subject":"s","version":1,"id":8,"schema":"\"int\""} => 08 => {"schema":"\"int\""}
 1 K {"subject":"s","version":1,"id":8,"schema":"\"int\""} => 8?a=/b => {"schema":"\"int\""}
 1 K {"subject":"s","version":1,"id":8,"schema":"\"int\""} => %38 => {"schema":"\"int\""}

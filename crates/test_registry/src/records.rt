@@ -117,11 +117,14 @@ version => {"subject":"s","version":1,"id":7.0,"schema":"\"int\""} => opaque
 version => {"subject":"t","version":1,"id":7,"schema":"\"int\""} => opaque
 version => {"subject":"s","version":2,"id":7,"schema":"\"int\""} => opaque
 version => {"subject":"s","version":1,"id":7,"schema":{}} => opaque
+version => {"subject":"s","version":1,"id":7,"schema":"x"} => opaque
+version => {"subject":"s","version":1,"id":7,"schema":"\"x\""} => opaque
 version => null => opaque
 version => null  => opaque
 version => x => opaque
 {"keytype":"CONFIG"} => {"x":1,"compatibilityLevel":"full"} => {"compatibilityLevel":"full"}
 {"keytype":"CONFIG"} => {"compatibilityLevel":null} => opaque
+{"keytype":"CONFIG"} => {"compatibilityLevel":"STRICT"} => opaque
 {"keytype":"MODE"} => {"mode":"READONLY_OVERRIDE"} => {"mode":"READONLY_OVERRIDE"}
 {"keytype":"MODE"} => ["mode"] => opaque
 {"keytype":"DELETE_SUBJECT","subject":"s"} => {"version":4,"subject":"s"} => {"subject":"s","version":4}

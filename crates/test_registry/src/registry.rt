@@ -1,4 +1,5 @@
 // Registries over small sets of records, and beside plain ones.
+mod levels;
 mod plain;
 mod side_by_side;
 
@@ -280,6 +281,41 @@ fn soft_entries_count(rt: HostRuntime) -> Result<(), Fail> {
     assert!(rt; registry.greatest_version("b") == Some(10));
     assert!(rt; registry.greatest_version("p").is_none());
     assert!(rt; registry.opaque() == Some(5));
+    Ok(())
+}
+
+#[test]
+fn an_id_may_name_two_schemas(rt: HostRuntime) -> Result<(), Fail> {
+    let alloc = rt.alloc();
+    let lines = [
+        Schema(1, 's', 1, 1, "int"),
+        Schema(2, 't', 1, 1, "long"),
+        Schema(3, 't', 2, 2, "int"),
+    ];
+    let registry = grown_in_order(alloc, &lines, 0)?;
+    assert!(rt; registry.two_schemas() == Some(1) && registry.is_closed());
+    assert!(rt; registry.id_of("\"int\"")? == Some(1));
+    assert!(rt; registry.id_of("int")?.is_none());
+    // Soft ones count, and removed ones don't.
+    let soft = grown_in_order(alloc, &[lines[0], lines[1], Delete(4, 's', 1)], 0)?;
+    assert!(rt; soft.two_schemas() == Some(1));
+    let removed = grown_in_order(
+        alloc,
+        &[lines[0], lines[1], Tombstone(4, 's', 1), lines[2]],
+        0,
+    )?;
+    assert!(rt; removed.two_schemas().is_none() && !removed.is_closed());
+    assert!(rt; removed.id_of("\"int\"")? == Some(2));
+    Ok(())
+}
+
+#[test]
+fn a_version_of_no_schema_is_opaque(rt: HostRuntime) -> Result<(), Fail> {
+    let alloc = rt.alloc();
+    let lines = [Schema(4, 's', 1, 1, "int"), Schema(6, 's', 2, 2, "x")];
+    let registry = grown_in_order(alloc, &lines, 0)?;
+    assert!(rt; registry.opaque() == Some(6) && registry.is_closed());
+    assert!(rt; versions(alloc, &registry)?.as_slice() == [1].as_slice());
     Ok(())
 }
 

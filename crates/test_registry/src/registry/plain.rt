@@ -1,4 +1,5 @@
 // A registry as a list of entries, each made by walks over all records.
+use avro_schema::Schema;
 use base_text::Text;
 use reg_fold::Entry;
 use reg_records::{Key, Record, Value, decode_value};
@@ -94,6 +95,30 @@ impl PlainRegistry {
         greatest
     }
 
+    pub(crate) fn id_of(&self, normal: &Text) -> Option<u32> {
+        let mut least: Option<u32> = None;
+        for entry in &self.entries {
+            if entry.normal == *normal && least.is_none_or(|id| entry.id < id) {
+                least = Some(entry.id);
+            }
+        }
+        least
+    }
+
+    pub(crate) fn two_schemas(&self) -> Option<u32> {
+        let mut least: Option<u32> = None;
+        for entry in &self.entries {
+            if self.is_doubled(entry) && least.is_none_or(|id| entry.id < id) {
+                least = Some(entry.id);
+            }
+        }
+        least
+    }
+
+    fn is_doubled(&self, entry: &Entry) -> bool {
+        self.entries.iter().any(|other| other.id == entry.id && other.normal != entry.normal)
+    }
+
     pub(crate) fn opaque(&self) -> Option<u64> {
         self.unread.iter().copied().min()
     }
@@ -147,10 +172,19 @@ fn entry_of(
         subject,
         version,
         id,
+        normal: normal_of(alloc, &schema)?,
         text: schema,
         offset: record.offset,
         soft,
     }))
+}
+
+/// The normal text of a schema's text.
+fn normal_of(alloc: Global, text: &Text) -> Result<Text, AllocError> {
+    match Schema::read_if_any(alloc, text.as_str())? {
+        Some(schema) => schema.normal().clone(),
+        None => Text::copy_of(alloc, ""),
+    }
 }
 
 /// Whether the last soft delete of a subject is of that version or a later one, and came after it.

@@ -91,8 +91,14 @@ fn are_alike(
         }
     }
     let found = registry.entries()?;
+    for entry in &found {
+        if registry.id_of(entry.normal.as_str())? != plain.id_of(&entry.normal) {
+            return Ok(false);
+        }
+    }
     Ok(
         found == plain.entries(alloc)?
+            && registry.two_schemas() == plain.two_schemas()
             && (0..=NUMBERS).all(|id| registry.by_id(id) == plain.by_id(id))
             && registry.greatest_id() == plain.greatest_id()
             && registry.opaque() == plain.opaque(),

@@ -7,7 +7,9 @@ use Rattle.reg_entries.specs.Sought.{of_subject}
 use Rattle.reg_entries.specs.declared.entry.Entry.{Entry}
 use Rattle.reg_fold.specs.Opaque.{is_opaque, is_version}
 use Rattle.reg_fold.specs.Remarked.{is_soft_after}
+use Rattle.reg_fold.specs.Scopes.{is_config}
 use Rattle.reg_fold.specs.Spots.{is_deleted}
+use Rattle.reg_fold.proofs.Leveled.{levels-other}
 use Rattle.reg_fold.proofs.Spotted.{spots-other}
 use Rattle.reg_fold.proofs.Steps.{entries-marked}
 use Rattle.reg_fold.proofs.index.Index.apply_delete.Goals as goal
@@ -29,4 +31,5 @@ returns-clause-kept c =
           (λ p. marked p ∙ ap (λ (m : finmap.FinMap place_cmp Entry). option_map (λ (e : Entry). cond (bytes_eq e.subject name) (with_soft (soft e) e) e) (finmap.get m p)) c.requires.kept.all_entries);
       all_unread = spots-other is_opaque old.last after r step no_version old.unread c.requires.kept.all_unread;
       all_deleted = spots-other is_deleted old.last after r step no_version old.deleted c.requires.kept.all_deleted;
+      all_levels = levels-other old.last after r step (ap is_config c.requires.of_key) old.levels c.requires.kept.all_levels;
     }

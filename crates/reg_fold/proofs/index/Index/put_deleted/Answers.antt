@@ -7,7 +7,9 @@ use Rattle.reg_entries.specs.EntryOrder.{place_cmp, place_of}
 use Rattle.reg_entries.specs.declared.entry.Entry.{Entry}
 use Rattle.reg_fold.specs.Entries.{entry_map}
 use Rattle.reg_fold.specs.Opaque.{is_opaque}
+use Rattle.reg_fold.specs.Scopes.{AreOwn, is_config}
 use Rattle.reg_fold.specs.Spots.{Forgets, HasSpots, elsewhere, is_deleted, spot_cmp}
+use Rattle.reg_fold.proofs.Leveled.{levels-other}
 use Rattle.reg_fold.proofs.Spotted.{readable, spots-forgotten, spots-put, spots-taken_back}
 use Rattle.reg_fold.proofs.Steps.{entries-put}
 use Rattle.reg_fold.proofs.index.Index.put_deleted.Goals as goal
@@ -30,6 +32,7 @@ returns-in-Ok-clause-kept c =
       all_deleted = spots-put is_deleted old.last after r last.step place c.requires.of_key c.in-Ok.before last.before old.deleted c.requires.kept.all_deleted
           c.requires.own c.insert.new.self c.forget_elsewhere.new.spots put
           (subst (λ o. Forgets (elsewhere o r.offset) c.insert.new.self c.forget_elsewhere.new.spots) c.spot_of-spot.ensures c.forget_elsewhere.ensures);
+      all_levels = levels-other old.last after r last.step (ap is_config c.requires.of_key) old.levels c.requires.kept.all_levels;
     }
 
 was_absent : (b : Bool) → not b ≡ true → b ≡ false
@@ -52,4 +55,5 @@ returns-then-is_new-clause-kept c =
       all_unread = subst (λ (rs : Records). HasSpots is_opaque rs old.unread) (sym stay.lasts_stay) c.requires.kept.all_unread;
       all_deleted = subst (λ (rs : Records). HasSpots is_deleted rs c.remove.new.self) (sym stay.lasts_stay)
           (spots-taken_back is_deleted old.last old.deleted c.insert.new.self c.remove.new.self (r.offset, place) c.requires.kept.all_deleted absent put c.remove.ensures.updates);
+      all_levels = subst (λ (rs : Records). AreOwn rs old.levels) (sym stay.lasts_stay) c.requires.kept.all_levels;
     }

@@ -1,0 +1,10 @@
+use Rattle.std.proofs.Common.{ap, ◌∙◌}
+use Rattle.reg_entries.specs.Sought as sought
+use Rattle.reg_fold.specs.Entries.{entries}
+use Rattle.reg_fold.proofs.Keeping.{values-kept}
+use Rattle.reg_fold.proofs.registry.Registry.two_schemas.Goals as goal
+
+pub returns : goal.returns
+returns c =
+    let all = values-kept c.self.inside.index c.self.invariant ∙ ap entries c.self.view_is in
+    c.two_schemas.ensures ∙ ap sought.two_schemas all

@@ -1,0 +1,36 @@
+-- The level in force. Below, rs are the last records, and a scope is a subject, or None for all subjects.
+use Rattle.std.specs.Prelude.{ℕ, List, Option, None, option_and_then, unwrap_or}
+use Rattle.std.specs.Option.{option_or}
+use Rattle.reg_levels.specs.Level.{level_named}
+use Rattle.reg_levels.specs.declared.level.Level.{Level}
+use Rattle.reg_levels.specs.declared.level.Level.TheVariants.{Backward}
+use Rattle.reg_records.specs.Value.{value_of}
+use Rattle.reg_records.specs.declared.key.Key.TheVariants as keys
+use Rattle.reg_records.specs.declared.value.Value.{Value}
+use Rattle.reg_records.specs.declared.value.Value.TheVariants as values
+use Rattle.reg_records.specs.declared.record.Record.{Record}
+use Rattle.reg_set.specs.LastRecords.{last}
+use Rattle.reg_set.specs.Records.{Records}
+
+abbrev pub Scope : Type 0
+Scope = Option (List ℕ)
+
+-- the level that a value names
+abbrev pub level_in : Value → Option Level
+level_in (values.Schema subject version id schema deleted) = None
+level_in (values.Config name) = level_named name
+level_in (values.Mode name) = None
+level_in (values.DeleteSubject subject version) = None
+level_in values.Noop = None
+
+-- the level that a record names
+unfoldable pub level_of : Record → Option Level
+level_of r = option_and_then level_in (value_of r)
+
+-- the level that a scope has of its own: that of its CONFIG key's last record
+unfoldable pub own_level : Records → Scope → Option Level
+own_level rs scope = option_and_then level_of (last rs (keys.Config scope))
+
+-- the level in force: the scope's own, else the one for all subjects, else BACKWARD
+abbrev pub level : Records → Scope → Level
+level rs scope = unwrap_or (option_or (own_level rs scope) (own_level rs None)) Backward
