@@ -13,8 +13,7 @@ invariant_of-result c =
     let kept = c.self.inside in
     let same = entries-copied _ entry_copy kept.entries.entries c.in_ok-clone.field-0.entries c.in_ok-clone.ensures.cases in
     let schemas = names-copied kept.schemas.keys c.in_ok-clone-4.field-0.keys c.in_ok-clone-4.ensures.cases in
-    let suspects = ids-copied kept.suspects.keys c.in_ok-clone-5.field-0.keys c.in_ok-clone-5.ensures.cases in
-    (
+    let suspects = ids-copied kept.suspects.keys c.in_ok-clone-5.field-0.keys c.in_ok-clone-5.ensures.cases in (
       IsIndexed-copied kept.entries c.in_ok-clone.field-0 kept.names c.in_ok-clone-2.field-0 kept.versions c.in_ok-clone-3.field-0 same
           (names-copied kept.names.keys c.in_ok-clone-2.field-0.keys c.in_ok-clone-2.ensures.cases)
           (λ s. versions-copied _ (λ a b h. search rules) s kept.versions.entries c.in_ok-clone-3.field-0.entries c.in_ok-clone-3.ensures.cases)
