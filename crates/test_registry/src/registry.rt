@@ -287,25 +287,33 @@ fn soft_entries_count(rt: HostRuntime) -> Result<(), Fail> {
 #[test]
 fn an_id_may_name_two_schemas(rt: HostRuntime) -> Result<(), Fail> {
     let alloc = rt.alloc();
-    let lines = [
-        Schema(1, 's', 1, 1, "int"),
-        Schema(2, 't', 1, 1, "long"),
-        Schema(3, 't', 2, 2, "int"),
+    let int = Schema(1, 's', 1, 1, "int");
+    let long = Schema(2, 't', 1, 1, "long");
+    let again = Schema(3, 't', 2, 2, "int");
+    // Lines, the least id of two schemas, the text that the id 1 names, and the least id of "int".
+    let rows: [(&[Line], Option<u32>, &str, Option<u32>); 4] = [
+        (&[int, long, again], Some(1), "\"long\"", Some(1)),
+        // Soft ones count, and removed ones don't.
+        (
+            &[int, long, Delete(4, 's', 1)],
+            Some(1),
+            "\"long\"",
+            Some(1),
+        ),
+        (
+            &[int, long, again, Tombstone(4, 's', 1)],
+            None,
+            "\"long\"",
+            Some(2),
+        ),
+        (&[int, again], None, "\"int\"", Some(1)),
     ];
-    let registry = grown_in_order(alloc, &lines, 0)?;
-    assert!(rt; registry.two_schemas() == Some(1) && registry.is_closed());
-    assert!(rt; registry.id_of("\"int\"")? == Some(1));
-    assert!(rt; registry.id_of("int")?.is_none());
-    // Soft ones count, and removed ones don't.
-    let soft = grown_in_order(alloc, &[lines[0], lines[1], Delete(4, 's', 1)], 0)?;
-    assert!(rt; soft.two_schemas() == Some(1));
-    let removed = grown_in_order(
-        alloc,
-        &[lines[0], lines[1], Tombstone(4, 's', 1), lines[2]],
-        0,
-    )?;
-    assert!(rt; removed.two_schemas().is_none() && !removed.is_closed());
-    assert!(rt; removed.id_of("\"int\"")? == Some(2));
+    for (lines, doubled, named, least) in rows {
+        let registry = grown_in_order(alloc, lines, 0)?;
+        assert!(rt; (registry.two_schemas(), registry.is_closed()) == (doubled, doubled.is_some()));
+        assert!(rt; registry.by_id(1).map(|entry| entry.text.as_str()) == Some(named));
+        assert!(rt; registry.id_of("\"int\"")? == least);
+    }
     Ok(())
 }
 
