@@ -4,11 +4,11 @@ ghost use Rattle.std.specs.FinMap as finmap;
 ghost use Rattle.std.specs.Option.{option_copied, option_map_or};
 ghost use Rattle.reg_entries.specs.EntryOrder.{Place, place_of, IsInOrder};
 ghost use Rattle.reg_entries.specs.Marked.{with_soft, marked, MarksEach};
-ghost use Rattle.reg_entries.specs.Sought.{of_subject, live_of, HasRisingVersions, named, greatest_id, greatest_version, id_of, shares_its_id, two_schemas};
+ghost use Rattle.reg_entries.specs.Sought.{of_subject, counting, latest, of_version, subjects, has_live, with_id, HasRisingVersions, named, greatest_id, greatest_version, id_of, shares_its_id, two_schemas};
 ghost use Rattle.reg_entries.specs.declared.entry.Entry.{Entry};
 
 use crate::entry::{Entry, Mark};
-use crate::lists::{keep_live, list_all, list_between, set_marks};
+use crate::lists::{any_live, keep_counting, list_all, list_between, set_marks};
 use crate::names::{
     At, Name, forget, greatest_with, leave_room, name_above, place_of, set_version, version_below,
     version_of,
@@ -159,15 +159,57 @@ impl Entries {
         Ok(found)
     }
 
-    /// The live entries of a subject, which are those that aren't soft, by version.
-    pub fn live_of(&self, subject: &str) -> Result<Vec<&Entry>, AllocError>
-        ensures all { IfOk result (λ found. map (λ e. e.now) found.items ≡ live_of (finmap.values self.now) subject.now) }
+    /// The entries of a subject that count, by version: the live ones, which are those that aren't
+    /// soft, and where `deleted` is true all. The only error is want of memory.
+    pub fn counting(&self, subject: &str, deleted: bool) -> Result<Vec<&Entry>, AllocError>
+        ensures all { IfOk result (λ found. map (λ e. e.now) found.items ≡ counting (finmap.values self.now) subject.now deleted) }
         ensures in_order { IfOk result (λ found. HasRisingVersions (map (λ e. e.now) found.items)) }
     {
         let _ = &self.entries;
         let mut found = self.of_subject(subject)?;
-        keep_live(&mut found);
+        keep_counting(&mut found, deleted);
         Ok(found)
+    }
+
+    /// Of a subject's entries that count the one of greatest version. The only error is want of
+    /// memory.
+    pub fn latest(&self, subject: &str, deleted: bool) -> Result<Option<&Entry>, AllocError>
+        ensures { IfOk result (λ found. option_copied found ≡ latest (finmap.values self.now) subject.now deleted) }
+    {
+        Err(AllocError)
+    }
+
+    /// Of a subject's entries that count the one of that version. The only error is want of memory.
+    pub fn of_version(
+        &self,
+        subject: &str,
+        version: u32,
+        deleted: bool,
+    ) -> Result<Option<&Entry>, AllocError>
+        ensures { IfOk result (λ found. option_copied found ≡ of_version (finmap.values self.now) subject.now version deleted) }
+    {
+        Err(AllocError)
+    }
+
+    /// The subjects with an entry that counts, by their bytes. The only error is want of memory.
+    pub fn subjects(&self, deleted: bool) -> Result<Vec<&str>, AllocError>
+        ensures { IfOk result (λ found. map (λ s. s.now) found.items ≡ subjects (finmap.values self.now) deleted) }
+    {
+        Err(AllocError)
+    }
+
+    /// Whether a subject, or any one, has a live entry. Takes no memory.
+    pub fn has_live(&self, subject: Option<&str>) -> bool
+        ensures { result ≡ has_live (finmap.values self.now) (option_map (λ s. s.now) subject.entry) }
+    {
+        any_live(&self.entries, subject)
+    }
+
+    /// The entries with an id, soft ones too, by place. The only error is want of memory.
+    pub fn with_id(&self, id: u32) -> Result<Vec<&Entry>, AllocError>
+        ensures { IfOk result (λ found. map (λ e. e.now) found.items ≡ with_id (finmap.values self.now) id) }
+    {
+        Err(AllocError)
     }
 
     /// The entry that an id names: of the entries with that id, soft ones too, the one of greatest

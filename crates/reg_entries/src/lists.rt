@@ -8,6 +8,7 @@ ghost use Rattle.std.specs.Ordering.{eq_by_cmp, is_gt};
 ghost use Rattle.reg_entries.specs.EntryOrder.{Place, place_cmp};
 ghost use Rattle.reg_entries.specs.Index.{entry_at, ArePlaced};
 ghost use Rattle.reg_entries.specs.Marked.{with_soft, marked};
+ghost use Rattle.reg_entries.specs.Sought.{counts, has_live, is_in_scope};
 
 use crate::entry::{Entry, Mark};
 use crate::names::At;
@@ -43,11 +44,36 @@ pub(crate) fn list_between<'a>(
     Ok(found)
 }
 
-/// Leaves those that aren't soft.
-pub(crate) fn keep_live(found: &mut Vec<&Entry>)
-    ensures { found.new.items ≡ filter (λ e. not e.now.soft) found.old.items }
+/// Leaves those that count.
+pub(crate) fn keep_counting(found: &mut Vec<&Entry>, deleted: bool)
+    ensures { found.new.items ≡ filter (λ e. counts deleted e.now) found.old.items }
 {
-    found.retain(|entry| !entry.soft);
+    found.retain(|entry| counts(entry, deleted));
+}
+
+/// Whether an entry counts: a live one does, and a soft one where `deleted` is true.
+pub(crate) fn counts(entry: &Entry, deleted: bool) -> bool
+    ensures { result ≡ counts deleted entry.now }
+{
+    deleted || !entry.soft
+}
+
+/// Whether one of them is live and in the scope: of that subject, or of any one.
+pub(crate) fn any_live(entries: &BTreeMap<At, Entry>, scope: Option<&str>) -> bool
+    ensures { result ≡ has_live (values entries.now) (option_map (λ s. s.now) scope.entry) }
+{
+    entries
+        .values()
+        .any(|entry| is_in_scope(entry, scope) && !entry.soft)
+}
+
+fn is_in_scope(entry: &Entry, scope: Option<&str>) -> bool
+    ensures { result ≡ is_in_scope (option_map (λ s. s.now) scope.entry) entry.now }
+{
+    match scope {
+        Some(subject) => entry.subject.as_str() == subject,
+        None => true,
+    }
 }
 
 /// Marks the entry at a place, if there is one.

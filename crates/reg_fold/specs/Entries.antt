@@ -1,5 +1,5 @@
 -- The entries: the versions that can be read, where rs are the last records.
-use Rattle.std.specs.Prelude.{◌≡◌, ◌↔◌, ℕ, List, [], ◌||◌, Option, Some, None, option_and_then, fold}
+use Rattle.std.specs.Prelude.{◌≡◌, ◌↔◌, ℕ, List, [], ◌||◌, Option, Some, None, option_and_then, option_map, fold}
 use Rattle.std.specs.FinMap as finmap
 use Rattle.std.specs.List.{Contains, filter_map}
 use Rattle.std.specs.Option.{option_map_or}
@@ -54,3 +54,7 @@ IsOfLast rs e = (key : Key) × (r : Record) × (last rs key ≡ Some r) × (entr
 -- an entry is there exactly where some last record gives it
 abbrev pub AreOfLasts : Records → List Entry → Type 0
 AreOfLasts rs es = (e : Entry) → Contains es e ↔ IsOfLast rs e
+
+-- each entry's text means a schema, whose normal text is the entry's
+abbrev pub EntriesAreRead : Type 0
+EntriesAreRead = (rs : Records) (e : Entry) → Contains (entries rs) e → option_map (λ meaning. meaning.normal_text) (schema_of e.text) ≡ Some e.normal

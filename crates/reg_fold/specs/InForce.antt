@@ -1,5 +1,5 @@
--- The level in force. Below, rs are the last records, and a scope is a subject, or None for all subjects.
-use Rattle.std.specs.Prelude.{ℕ, List, Option, None, option_and_then, unwrap_or}
+-- The level in force, and the modes that scopes have. Below, rs are the last records, and a scope is a subject, or None for all subjects.
+use Rattle.std.specs.Prelude.{ℕ, List, Option, Some, None, option_and_then, unwrap_or}
 use Rattle.std.specs.Option.{option_or}
 use Rattle.reg_levels.specs.Level.{level_named}
 use Rattle.reg_levels.specs.declared.level.Level.{Level}
@@ -34,3 +34,19 @@ own_level rs scope = option_and_then level_of (last rs (keys.Config scope))
 -- the level in force: the scope's own, else the one for all subjects, else BACKWARD
 abbrev pub level : Records → Scope → Level
 level rs scope = unwrap_or (option_or (own_level rs scope) (own_level rs None)) Backward
+
+-- the name of the mode that a value has, as its record has it
+abbrev pub mode_name_in : Value → Option (List ℕ)
+mode_name_in (values.Schema subject version id schema deleted) = None
+mode_name_in (values.Config name) = None
+mode_name_in (values.Mode name) = Some name
+mode_name_in (values.DeleteSubject subject version) = None
+mode_name_in values.Noop = None
+
+-- the name of the mode that a record has
+unfoldable pub mode_name_of : Record → Option (List ℕ)
+mode_name_of r = option_and_then mode_name_in (value_of r)
+
+-- the name of the mode that a scope has of its own: that of its MODE key's last record
+unfoldable pub own_mode_name : Records → Scope → Option (List ℕ)
+own_mode_name rs scope = option_and_then mode_name_of (last rs (keys.Mode scope))

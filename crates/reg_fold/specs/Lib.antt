@@ -4,9 +4,7 @@ pub use Rattle.reg_entries.specs.EntryOrder
 pub mod InForce
 pub mod Kept
 pub mod Marks
-pub mod Named
 pub mod Opaque
-pub mod Refusal
 pub mod Remarked
 pub mod Scopes
 pub mod Spots

@@ -2,13 +2,16 @@
 #![tactic(auto)]
 
 mod index;
+mod laws;
 mod levels;
 mod marks;
 mod reading;
-mod refusal;
 mod registry;
 mod spots;
+mod version_ref;
 
-pub use refusal::{Refusal, StoreFault};
+pub use laws::entries_are_read;
 pub use reg_entries::{Entry, two_schemas_is_least};
+pub use reg_refusals::{Reason, Refusal, StoreFault};
 pub use registry::Registry;
+pub use version_ref::VersionRef;

@@ -8,12 +8,13 @@ ghost use Rattle.reg_set.specs.Records.{Records};
 ghost use Rattle.reg_fold.specs.Entries.{AreOfLasts, entries};
 ghost use Rattle.reg_entries.specs.EntryOrder.{IsInOrder};
 ghost use Rattle.reg_fold.specs.Closed.{id_of, is_closed, two_schemas};
-ghost use Rattle.reg_fold.specs.InForce.{level, own_level};
-ghost use Rattle.reg_fold.specs.Named.{named};
+ghost use Rattle.reg_fold.specs.InForce.{level, own_level, own_mode_name};
 ghost use Rattle.reg_fold.specs.Opaque.{opaque};
-ghost use Rattle.reg_fold.specs.Standing.{live, HasRisingVersions, greatest_id, greatest_version};
+ghost use Rattle.reg_fold.specs.Standing.{live, named, greatest_id, greatest_version, version_in};
+ghost use Rattle.reg_entries.specs.Sought.{HasRisingVersions, counting, has_live, subjects, with_id};
 
 use crate::index::Index;
+use crate::version_ref::VersionRef;
 use reg_entries::Entry;
 use reg_levels::Level;
 use reg_records::Record;
@@ -157,7 +158,54 @@ impl Registry {
         ensures lasts { last_records self.now ≡ self.now }
     {
         self.index.last.is_compact();
-        self.index.entries.live_of(subject)
+        self.index.entries.counting(subject, false)
+    }
+
+    /// The entries of a subject that count, by version, each version once: the live ones, and where
+    /// `deleted` is true the soft ones too. The only error is want of memory.
+    pub fn counting(&self, subject: &str, deleted: bool) -> Result<Vec<&Entry>, AllocError>
+        ensures all { IfOk result (λ found. map (λ e. e.now) found.items ≡ counting (entries self.now) subject.now deleted) }
+        ensures in_order { IfOk result (λ found. HasRisingVersions (map (λ e. e.now) found.items)) }
+    {
+        self.index.entries.counting(subject, deleted)
+    }
+
+    /// Of the entries of a subject that count the one that is meant. The only error is want of
+    /// memory.
+    pub fn version(
+        &self,
+        subject: &str,
+        version: VersionRef,
+        deleted: bool,
+    ) -> Result<Option<&Entry>, AllocError>
+        ensures { IfOk result (λ found. option_copied found ≡ version_in (entries self.now) subject.now version deleted) }
+    {
+        match version {
+            VersionRef::Latest => self.index.entries.latest(subject, deleted),
+            VersionRef::Number(version) => self.index.entries.of_version(subject, version, deleted),
+        }
+    }
+
+    /// The subjects with an entry that counts, by their bytes. The only error is want of memory.
+    pub fn subjects(&self, deleted: bool) -> Result<Vec<&str>, AllocError>
+        ensures { IfOk result (λ found. map (λ s. s.now) found.items ≡ subjects (entries self.now) deleted) }
+    {
+        self.index.entries.subjects(deleted)
+    }
+
+    /// Whether a subject, or any one, has a live entry. Takes no memory.
+    pub fn has_live(&self, subject: Option<&str>) -> bool
+        ensures { result ≡ has_live (entries self.now) (option_map (λ s. s.now) subject.entry) }
+    {
+        self.index.entries.has_live(subject)
+    }
+
+    /// The entries with an id, soft ones too, by subject, by its bytes, and then by version. The
+    /// only error is want of memory.
+    pub fn with_id(&self, id: u32) -> Result<Vec<&Entry>, AllocError>
+        ensures { IfOk result (λ found. map (λ e. e.now) found.items ≡ with_id (entries self.now) id) }
+    {
+        self.index.entries.with_id(id)
     }
 
     /// The entry that an id names: of the entries with that id, soft ones too, the one of greatest
@@ -223,6 +271,14 @@ impl Registry {
         ensures { result ≡ own_level self.now (option_map (λ s. s.now) subject.entry) }
     {
         self.index.levels.of(subject)
+    }
+
+    /// The name of the mode that a subject has of its own, or of the one for all subjects, as its
+    /// record has it. Takes no memory.
+    pub fn own_mode_name(&self, subject: Option<&str>) -> Option<&str>
+        ensures { option_map (λ s. s.now) result ≡ own_mode_name self.now (option_map (λ s. s.now) subject.entry) }
+    {
+        self.index.modes.of(subject)
     }
 
     /// The least offset of a version's record that has a text and can't be read.

@@ -1,0 +1,25 @@
+-- The reasons of the codes that have several.
+use Rattle.std.specs.Prelude.{ℕ, List, codes}
+use Rattle.reg_refusals.specs.declared.reason.Reason.{Reason}
+use Rattle.reg_refusals.specs.declared.reason.Reason.TheVariants.{Readonly, IdNeedsImport, ImportNeedsId, IdNamesAnotherSchema, VersionIsOccupied, ScopeIsNotEmpty, InvalidId, VersionNeedsImport}
+use Rattle.reg_refusals.specs.declared.reason.StoreFault.{StoreFault}
+use Rattle.reg_refusals.specs.declared.reason.StoreFault.TheVariants.{Memory, OpaqueRecord, TwoSchemas, NumbersUsedUp, Unsettled}
+
+-- why an operation isn't permitted
+abbrev pub reason_text : Reason → List ℕ
+reason_text Readonly = codes "READONLY"
+reason_text IdNeedsImport = codes "id needs IMPORT"
+reason_text ImportNeedsId = codes "IMPORT needs id"
+reason_text IdNamesAnotherSchema = codes "id names another schema"
+reason_text VersionIsOccupied = codes "version is occupied"
+reason_text ScopeIsNotEmpty = codes "scope is not empty"
+reason_text InvalidId = codes "invalid id"
+reason_text VersionNeedsImport = codes "version needs IMPORT"
+
+-- what the registry lacked
+abbrev pub lack_text : StoreFault → List ℕ
+lack_text Memory = codes "memory"
+lack_text OpaqueRecord = codes "opaque record"
+lack_text TwoSchemas = codes "two schemas for one id"
+lack_text NumbersUsedUp = codes "numbers used up"
+lack_text Unsettled = codes "unsettled"

@@ -1,0 +1,72 @@
+// The reasons of the codes that have several.
+ghost use Rattle.std.specs.Prelude.{◌≡◌};
+ghost use Rattle.reg_refusals.specs.Reason.{lack_text, reason_text};
+
+/// Why an operation isn't permitted.
+#[derive(Clone, Copy, Debug, PartialEq, Eq)]
+pub enum Reason {
+    /// The mode in force is READONLY.
+    Readonly,
+    /// An id is given, and the mode in force isn't IMPORT.
+    IdNeedsImport,
+    /// The mode in force is IMPORT, and no id is given.
+    ImportNeedsId,
+    /// The id that is given names another schema.
+    IdNamesAnotherSchema,
+    /// The version that is given is live, with another id or schema.
+    VersionIsOccupied,
+    /// IMPORT is set without force, and the scope has a live version.
+    ScopeIsNotEmpty,
+    /// The id that is given is none.
+    InvalidId,
+    /// A version is given without an id.
+    VersionNeedsImport,
+}
+
+impl Reason {
+    /// The reason, as it ends the message.
+    pub fn as_str(self) -> &'static str
+        ensures { result.now ≡ reason_text self }
+    {
+        match self {
+            Reason::Readonly => "READONLY",
+            Reason::IdNeedsImport => "id needs IMPORT",
+            Reason::ImportNeedsId => "IMPORT needs id",
+            Reason::IdNamesAnotherSchema => "id names another schema",
+            Reason::VersionIsOccupied => "version is occupied",
+            Reason::ScopeIsNotEmpty => "scope is not empty",
+            Reason::InvalidId => "invalid id",
+            Reason::VersionNeedsImport => "version needs IMPORT",
+        }
+    }
+}
+
+/// What the registry lacked, or has too much of.
+#[derive(Clone, Copy, Debug, PartialEq, Eq)]
+pub enum StoreFault {
+    /// Memory was refused.
+    Memory,
+    /// A version's record can't be read, so the registry takes no commands.
+    OpaqueRecord,
+    /// An id names two schemas, so the registry takes no commands.
+    TwoSchemas,
+    /// The next offset, id or version would be past its limit.
+    NumbersUsedUp,
+    /// The records that were decided aren't published yet.
+    Unsettled,
+}
+
+impl StoreFault {
+    /// The fault, as it ends the message.
+    pub fn as_str(self) -> &'static str
+        ensures { result.now ≡ lack_text self }
+    {
+        match self {
+            StoreFault::Memory => "memory",
+            StoreFault::OpaqueRecord => "opaque record",
+            StoreFault::TwoSchemas => "two schemas for one id",
+            StoreFault::NumbersUsedUp => "numbers used up",
+            StoreFault::Unsettled => "unsettled",
+        }
+    }
+}

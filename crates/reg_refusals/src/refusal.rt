@@ -1,0 +1,176 @@
+// Why a request is refused.
+ghost use Rattle.std.specs.Prelude.{◌≡◌};
+ghost use Rattle.std.specs.Option.{option_copied};
+ghost use Rattle.reg_refusals.specs.Refusal.{code_of, status_of, reason_of, message_of};
+
+use crate::reason::{Reason, StoreFault};
+use std::error::Error;
+use std::fmt;
+
+/// Why a request is refused: its code, and the reason where a code has several.
+#[derive(Clone, Copy, Debug, PartialEq, Eq)]
+pub enum Refusal {
+    /// The request has a form that no registry answers.
+    BadRequest,
+    /// The registry has no such route.
+    NotFound,
+    /// No version of the subject counts.
+    SubjectNotFound,
+    /// The subject's version isn't there, or doesn't count.
+    VersionNotFound,
+    /// No entry has the id, or the schema.
+    SchemaNotFound,
+    /// All versions of the subject are soft-deleted already.
+    SubjectSoftDeleted,
+    /// A version of the subject isn't soft-deleted yet.
+    SubjectNotSoftDeleted,
+    /// The version is soft-deleted already.
+    VersionSoftDeleted,
+    /// The version isn't soft-deleted yet.
+    VersionNotSoftDeleted,
+    /// The subject has no level of its own.
+    SubjectHasNoLevel,
+    /// The subject has no mode of its own.
+    SubjectHasNoMode,
+    /// The text is no schema's, or a default of it is invalid.
+    InvalidSchema,
+    /// The version is none.
+    InvalidVersion,
+    /// The name is no level's.
+    InvalidLevel,
+    /// The name is no mode's.
+    InvalidMode,
+    /// The operation isn't permitted.
+    NotPermitted(Reason),
+    /// The registry's own fault.
+    Store(StoreFault),
+}
+
+impl Refusal {
+    /// The code that the answer's body names: an HTTP status of three digits (RFC 9110), or one with
+    /// two more digits, as the Schema Registry API has them.
+    pub fn code(&self) -> u32
+        ensures { result ≡ code_of self.now }
+    {
+        match self {
+            Refusal::BadRequest => 400,
+            Refusal::NotFound => 404,
+            Refusal::SubjectNotFound => 40401,
+            Refusal::VersionNotFound => 40402,
+            Refusal::SchemaNotFound => 40403,
+            Refusal::SubjectSoftDeleted => 40404,
+            Refusal::SubjectNotSoftDeleted => 40405,
+            Refusal::VersionSoftDeleted => 40406,
+            Refusal::VersionNotSoftDeleted => 40407,
+            Refusal::SubjectHasNoLevel => 40408,
+            Refusal::SubjectHasNoMode => 40409,
+            Refusal::InvalidSchema => 42201,
+            Refusal::InvalidVersion => 42202,
+            Refusal::InvalidLevel => 42203,
+            Refusal::InvalidMode => 42204,
+            Refusal::NotPermitted(_) => 42205,
+            Refusal::Store(_) => 50001,
+        }
+    }
+
+    /// The HTTP status (RFC 9110): the first three digits of the code.
+    pub fn status(&self) -> u16
+        ensures { result ≡ status_of self.now }
+    {
+        match self {
+            Refusal::BadRequest => 400,
+            Refusal::NotFound
+            | Refusal::SubjectNotFound
+            | Refusal::VersionNotFound
+            | Refusal::SchemaNotFound
+            | Refusal::SubjectSoftDeleted
+            | Refusal::SubjectNotSoftDeleted
+            | Refusal::VersionSoftDeleted
+            | Refusal::VersionNotSoftDeleted
+            | Refusal::SubjectHasNoLevel
+            | Refusal::SubjectHasNoMode => 404,
+            Refusal::InvalidSchema
+            | Refusal::InvalidVersion
+            | Refusal::InvalidLevel
+            | Refusal::InvalidMode
+            | Refusal::NotPermitted(_) => 422,
+            Refusal::Store(_) => 500,
+        }
+    }
+
+    /// Where the code has several reasons, this one: what the message has after its colon.
+    pub fn reason(&self) -> Option<&str>
+        ensures { option_copied result ≡ reason_of self.now }
+    {
+        match self {
+            Refusal::NotPermitted(reason) => Some(reason.as_str()),
+            Refusal::Store(fault) => Some(fault.as_str()),
+            _ => None,
+        }
+    }
+
+    /// The message that the answer's body has.
+    pub fn message(&self) -> &str
+        ensures { result.now ≡ message_of self.now }
+    {
+        match self {
+            Refusal::BadRequest => "Bad Request",
+            Refusal::NotFound => "Not Found",
+            Refusal::SubjectNotFound => "Subject not found",
+            Refusal::VersionNotFound => "Version not found",
+            Refusal::SchemaNotFound => "Schema not found",
+            Refusal::SubjectSoftDeleted => "Subject is soft-deleted",
+            Refusal::SubjectNotSoftDeleted => "Subject is not soft-deleted",
+            Refusal::VersionSoftDeleted => "Version is soft-deleted",
+            Refusal::VersionNotSoftDeleted => "Version is not soft-deleted",
+            Refusal::SubjectHasNoLevel => "Subject has no level",
+            Refusal::SubjectHasNoMode => "Subject has no mode",
+            Refusal::InvalidSchema => "Invalid Avro schema",
+            Refusal::InvalidVersion => "Invalid version",
+            Refusal::InvalidLevel => "Invalid compatibility level",
+            Refusal::InvalidMode => "Invalid mode",
+            Refusal::NotPermitted(reason) => not_permitted(*reason),
+            Refusal::Store(fault) => store_error(*fault),
+        }
+    }
+}
+
+fn not_permitted(reason: Reason) -> &'static str
+    ensures { result.now ≡ message_of (Refusal.NotPermitted reason) }
+{
+    match reason {
+        Reason::Readonly => "Operation not permitted: READONLY",
+        Reason::IdNeedsImport => "Operation not permitted: id needs IMPORT",
+        Reason::ImportNeedsId => "Operation not permitted: IMPORT needs id",
+        Reason::IdNamesAnotherSchema => "Operation not permitted: id names another schema",
+        Reason::VersionIsOccupied => "Operation not permitted: version is occupied",
+        Reason::ScopeIsNotEmpty => "Operation not permitted: scope is not empty",
+        Reason::InvalidId => "Operation not permitted: invalid id",
+        Reason::VersionNeedsImport => "Operation not permitted: version needs IMPORT",
+    }
+}
+
+fn store_error(fault: StoreFault) -> &'static str
+    ensures { result.now ≡ message_of (Refusal.Store fault) }
+{
+    match fault {
+        StoreFault::Memory => "Store error: memory",
+        StoreFault::OpaqueRecord => "Store error: opaque record",
+        StoreFault::TwoSchemas => "Store error: two schemas for one id",
+        StoreFault::NumbersUsedUp => "Store error: numbers used up",
+        StoreFault::Unsettled => "Store error: unsettled",
+    }
+}
+
+impl fmt::Display for Refusal {
+    ghost use Rattle.std.specs.Prelude.{Some};
+    ghost use Rattle.reg_refusals.specs.Refusal.{message_of};
+
+    ghost output = { λ refusal. Some (message_of refusal) };
+
+    fn fmt<W: fmt::Write>(&self, f: &mut fmt::Formatter<W>) -> fmt::Result {
+        write!(f, "{}", self.message())
+    }
+}
+
+impl Error for Refusal {}
