@@ -64,7 +64,7 @@ pub(crate) fn has_number_at(json: &Json, name: &str, number: u32) -> bool
 }
 
 /// The JSON string of a text, between its quotes (RFC 8259, section 7).
-pub(crate) fn quoted(alloc: Global, text: &str) -> Result<String, AllocError>
+pub fn quoted(alloc: Global, text: &str) -> Result<String, AllocError>
     ensures { IfOk result (λ written. string_bytes written ≡ quoted text.now) }
 {
     match serde_json::to_string(alloc, &text) {

@@ -1,0 +1,43 @@
+-- The query whether a schema may follow. Below, es are all entries.
+use Rattle.std.specs.Prelude.{◌≡◌, ℕ, List, [], ◌∷◌, Bool, false, Option, Some, None, Result, Ok, Err, map}
+use Rattle.avro_schema.specs.Defaults.{bad_defaults}
+use Rattle.avro_schema.specs.Schema.{Meaning}
+use Rattle.reg_levels.specs.declared.level.Level.{Level}
+use Rattle.reg_levels.specs.declared.verdict.LevelVerdict.{LevelVerdict}
+use Rattle.reg_levels.specs.Message.{message_of}
+use Rattle.reg_levels.specs.Texts.{VersionText, IsVerdictOfTexts}
+use Rattle.reg_entries.specs.Sought.{live_of}
+use Rattle.reg_entries.specs.declared.entry.Entry.{Entry}
+use Rattle.reg_refusals.specs.declared.refusal.Refusal.{Refusal}
+use Rattle.reg_refusals.specs.declared.refusal.Refusal.TheVariants.{InvalidSchema}
+use Rattle.reg_fold.specs.declared.version_ref.VersionRef.{VersionRef}
+use Rattle.reg_lookup.specs.declared.answered.Answer.{Answer}
+use Rattle.reg_lookup.specs.Bodies.{check_body, answer_with}
+use Rattle.reg_lookup.specs.BySchema.{read_schema}
+use Rattle.reg_lookup.specs.Found.{version_found, and_then, found_map}
+
+abbrev pub unless_bad : List (List ℕ) → Meaning → Result Meaning Refusal
+unless_bad [] schema = Ok schema
+unless_bad (field ∷ fields) schema = Err InvalidSchema
+
+-- what a text means, where its defaults are valid
+abbrev pub read_sound_schema : List ℕ → Result Meaning Refusal
+read_sound_schema text = and_then (λ schema. unless_bad (bad_defaults schema.nodes) schema) (read_schema text)
+
+abbrev pub version_text : Entry → VersionText
+version_text e = (e.version, e.text)
+
+-- the versions that it is checked against: the subject's live ones, or the one that is named, which has to be live
+abbrev pub olds_of : List Entry → List ℕ → Option VersionRef → Result (List VersionText) Refusal
+olds_of es subject None = Ok (map version_text (live_of es subject))
+olds_of es subject (Some which) = found_map (λ e. version_text e ∷ []) (version_found es subject which false)
+
+-- the versions, once the schema is read
+abbrev pub asked : List Entry → List ℕ → Option VersionRef → List ℕ → Result (List VersionText) Refusal
+asked es subject which text = and_then (λ schema. olds_of es subject which) (read_sound_schema text)
+
+-- the answer says the verdict of the pairs that the level requires of the text against the versions
+abbrev pub TellsVerdict : Level → List ℕ → Bool → Result (List VersionText) Refusal → Answer → Type 0
+TellsVerdict level text verbose (Err refusal) a = a ≡ answer_with (Err refusal)
+TellsVerdict level text verbose (Ok olds) a = (v : LevelVerdict) × IsVerdictOfTexts level text olds v
+    × (a ≡ answer_with (Ok (check_body verbose v.ok (message_of v))))

@@ -1,0 +1,9 @@
+pub mod Answers
+pub mod Bodies
+pub mod ById
+pub mod BySchema
+pub mod BySubject
+pub mod Checked
+pub mod Found
+pub mod Gives
+pub mod Settings

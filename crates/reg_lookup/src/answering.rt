@@ -1,0 +1,128 @@
+// The answer to a query.
+ghost use Rattle.std.specs.Prelude.{◌≡◌, IfOk, option_map};
+ghost use Rattle.reg_set.specs.Compaction.{IsCompactionOf};
+ghost use Rattle.reg_set.specs.LastRecords.{last_records};
+ghost use Rattle.reg_set.specs.Records.{Records};
+ghost use Rattle.reg_lookup.specs.Answers.{IsAnswer, IsAnswerOver, HaveOneAnswer};
+ghost use Rattle.reg_lookup.specs.Gives.{Tells};
+
+use crate::answered::Answer;
+use crate::bodies::refusal_body;
+use crate::by_id::{id_versions, schema_by_id};
+use crate::by_schema::lookup;
+use crate::by_subject::{subjects, version, version_schema, versions};
+use crate::checked::check_answer;
+use crate::error::LookupError;
+use crate::laws::compactions_answer_alike;
+use crate::query::Query;
+use crate::settings::{level_found, mode_found};
+use base_text::Text;
+use reg_fold::Registry;
+use reg_levels::level_verdicts_are_single;
+use std::alloc::{AllocError, Global};
+
+/// The answer to a query; a refusal is one too. The only error is want of memory.
+///
+/// A registry over a set of records answers as one over a compaction of that set does, to the byte.
+pub fn answer(alloc: Global, registry: &Registry, query: &Query) -> Result<Answer, AllocError>
+    ensures answered { IfOk result (IsAnswer registry.now query.now) }
+    ensures one_answer { HaveOneAnswer }
+    ensures compactions { IfOk result (λ a. (part whole : Records) → registry.now ≡ last_records whole
+        → IsCompactionOf part whole → IsAnswerOver part query.now a) }
+{
+    level_verdicts_are_single();
+    compactions_answer_alike();
+    answer_by_kind(alloc, registry, query)
+}
+
+fn answer_by_kind(alloc: Global, registry: &Registry, query: &Query) -> Result<Answer, AllocError>
+    ensures { IfOk result (IsAnswer registry.now query.now) }
+{
+    match query {
+        Query::SchemaById { id } => told(alloc, schema_by_id(alloc, registry, *id)),
+        Query::IdVersions { id, deleted } => {
+            told(alloc, id_versions(alloc, registry, *id, *deleted))
+        }
+        Query::Subjects { deleted } => Ok(Answer {
+            status: 200,
+            body: subjects(alloc, registry, *deleted)?,
+        }),
+        Query::Lookup {
+            subject,
+            text,
+            deleted,
+        } => told(
+            alloc,
+            lookup(alloc, registry, subject.as_str(), text.as_str(), *deleted),
+        ),
+        Query::Versions { subject, deleted } => {
+            told(alloc, versions(alloc, registry, subject.as_str(), *deleted))
+        }
+        Query::Version {
+            subject,
+            version: which,
+            deleted,
+        } => told(
+            alloc,
+            version(alloc, registry, subject.as_str(), *which, *deleted),
+        ),
+        Query::VersionSchema {
+            subject,
+            version: which,
+            deleted,
+        } => told(
+            alloc,
+            version_schema(registry, subject.as_str(), *which, *deleted),
+        ),
+        Query::Check {
+            subject,
+            version: which,
+            text,
+            verbose,
+        } => check_answer(
+            alloc,
+            registry,
+            subject.as_str(),
+            *which,
+            text.as_str(),
+            *verbose,
+        ),
+        Query::Level {
+            subject,
+            default_global,
+        } => told(
+            alloc,
+            level_found(alloc, registry, text_of(subject), *default_global),
+        ),
+        Query::Mode {
+            subject,
+            default_global,
+        } => told(
+            alloc,
+            mode_found(alloc, registry, text_of(subject), *default_global),
+        ),
+    }
+}
+
+fn text_of(subject: &Option<Text>) -> Option<&str>
+    ensures { option_map (λ s. s.now) result ≡ subject.now }
+{
+    match subject {
+        Some(subject) => Some(subject.as_str()),
+        None => None,
+    }
+}
+
+/// The answer that gives what was found, or says why nothing is given.
+fn told(alloc: Global, found: Result<Text, LookupError>) -> Result<Answer, AllocError>
+    ensures { IfOk result (Tells found) }
+{
+    match found {
+        Ok(body) => Ok(Answer { status: 200, body }),
+        Err(LookupError::Refused(refusal)) => Ok(Answer {
+            status: refusal.status(),
+            body: refusal_body(alloc, &refusal)?,
+        }),
+        Err(LookupError::OutOfMemory) => Err(AllocError),
+    }
+}

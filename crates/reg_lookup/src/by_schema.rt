@@ -1,0 +1,47 @@
+// The query by a schema.
+ghost use Rattle.std.specs.Prelude.{◌≡◌, IfOk, IfErr, Ok};
+ghost use Rattle.reg_fold.specs.Entries.{entries};
+ghost use Rattle.reg_lookup.specs.BySchema as spec;
+ghost use Rattle.reg_lookup.specs.Gives.{IsRefusalOf};
+
+use crate::bodies::entry_body;
+use crate::error::LookupError;
+use crate::found::counted;
+use avro_schema::Schema;
+use base_text::Text;
+use reg_fold::{Entry, Refusal, Registry};
+use std::alloc::Global;
+
+/// The greatest version of a subject with the schema of a text.
+pub(crate) fn lookup(
+    alloc: Global,
+    registry: &Registry,
+    subject: &str,
+    text: &str,
+    deleted: bool,
+) -> Result<Text, LookupError>
+    ensures found { IfOk result (λ body. spec.lookup (entries registry.now) subject.now text.now deleted ≡ Ok body) }
+    ensures refused { IfErr result (IsRefusalOf (spec.lookup (entries registry.now) subject.now text.now deleted)) }
+{
+    let Some(schema) = Schema::read_if_any(alloc, text)? else {
+        return Err(LookupError::Refused(Refusal::InvalidSchema));
+    };
+    let found = counted(registry, subject, deleted)?;
+    match latest_with(&found, schema.normal().as_str()) {
+        Some(entry) => Ok(entry_body(alloc, entry)?),
+        None => Err(LookupError::Refused(Refusal::SchemaNotFound)),
+    }
+}
+
+/// Of entries whose versions rise the greatest of a normal text.
+fn latest_with<'a>(entries: &[&'a Entry], normal: &str) -> Option<&'a Entry>
+    requires { HasRisingVersions (map (λ e. e.now) entries.now) }
+    ensures { option_copied result
+        ≡ reduce (ord_max (on (λ e. e.version) nat_cmp)) (filter (λ e. bytes_eq e.normal normal.now) (map (λ e. e.now) entries.now)) }
+{
+    entries
+        .iter()
+        .copied()
+        .rev()
+        .find(|entry| entry.normal.as_str() == normal)
+}

@@ -1,0 +1,66 @@
+// Queries by subject.
+ghost use Rattle.std.specs.Prelude.{◌≡◌, IfOk, IfErr, Ok};
+ghost use Rattle.reg_fold.specs.Entries.{entries};
+ghost use Rattle.reg_lookup.specs.BySubject as spec;
+ghost use Rattle.reg_lookup.specs.Gives.{IsRefusalOf};
+
+use crate::bodies::{entry_body, subjects_body, versions_body};
+use crate::error::LookupError;
+use crate::found::{counted, version_found};
+use base_text::Text;
+use reg_fold::{Registry, VersionRef};
+use std::alloc::{AllocError, Global};
+
+/// The list of a subject's versions that count.
+pub(crate) fn versions(
+    alloc: Global,
+    registry: &Registry,
+    subject: &str,
+    deleted: bool,
+) -> Result<Text, LookupError>
+    ensures found { IfOk result (λ body. spec.versions (entries registry.now) subject.now deleted ≡ Ok body) }
+    ensures refused { IfErr result (IsRefusalOf (spec.versions (entries registry.now) subject.now deleted)) }
+{
+    let found = counted(registry, subject, deleted)?;
+    Ok(versions_body(alloc, &found)?)
+}
+
+/// The list of the subjects with a version that counts. The only error is want of memory.
+pub(crate) fn subjects(
+    alloc: Global,
+    registry: &Registry,
+    deleted: bool,
+) -> Result<Text, AllocError>
+    ensures { IfOk result (λ body. body ≡ spec.subjects (entries registry.now) deleted) }
+{
+    subjects_body(alloc, &registry.subjects(deleted)?)
+}
+
+/// A version of a subject.
+pub(crate) fn version(
+    alloc: Global,
+    registry: &Registry,
+    subject: &str,
+    which: VersionRef,
+    deleted: bool,
+) -> Result<Text, LookupError>
+    ensures found { IfOk result (λ body. spec.version (entries registry.now) subject.now which deleted ≡ Ok body) }
+    ensures refused { IfErr result (IsRefusalOf (spec.version (entries registry.now) subject.now which deleted)) }
+{
+    let found = version_found(registry, subject, which, deleted)?;
+    Ok(entry_body(alloc, found)?)
+}
+
+/// The text of a version's schema.
+pub(crate) fn version_schema(
+    registry: &Registry,
+    subject: &str,
+    which: VersionRef,
+    deleted: bool,
+) -> Result<Text, LookupError>
+    ensures found { IfOk result (λ body. spec.version_schema (entries registry.now) subject.now which deleted ≡ Ok body) }
+    ensures refused { IfErr result (IsRefusalOf (spec.version_schema (entries registry.now) subject.now which deleted)) }
+{
+    let found = version_found(registry, subject, which, deleted)?;
+    Ok(found.text.clone()?)
+}

@@ -1,0 +1,45 @@
+// What is found among the entries, or why nothing is.
+ghost use Rattle.std.specs.Prelude.{◌≡◌, IfOk, IfErr, map, Ok};
+ghost use Rattle.reg_fold.specs.Entries.{entries};
+ghost use Rattle.reg_lookup.specs.Found as spec;
+ghost use Rattle.reg_lookup.specs.Gives.{IsRefusalOf};
+
+use crate::error::LookupError;
+use reg_fold::{Entry, Refusal, Registry, VersionRef};
+
+/// The entries of a subject that count, by version: the live ones, and where `deleted` is true all.
+/// Refused where none does.
+pub(crate) fn counted<'a>(
+    registry: &'a Registry,
+    subject: &str,
+    deleted: bool,
+) -> Result<Vec<&'a Entry>, LookupError>
+    ensures found { IfOk result (λ es. spec.counted (entries registry.now) subject.now deleted ≡ Ok (map (λ e. e.now) es.items)) }
+    ensures refused { IfErr result (IsRefusalOf (spec.counted (entries registry.now) subject.now deleted)) }
+{
+    let found = registry.counting(subject, deleted)?;
+    if found.is_empty() {
+        return Err(LookupError::Refused(Refusal::SubjectNotFound));
+    }
+    Ok(found)
+}
+
+/// The entry of a subject that is meant. Refused where none of the subject counts, and where that
+/// one doesn't. It costs a logarithm of the entries.
+pub(crate) fn version_found<'a>(
+    registry: &'a Registry,
+    subject: &str,
+    which: VersionRef,
+    deleted: bool,
+) -> Result<&'a Entry, LookupError>
+    ensures found { IfOk result (λ e. spec.version_found (entries registry.now) subject.now which deleted ≡ Ok e.now) }
+    ensures refused { IfErr result (IsRefusalOf (spec.version_found (entries registry.now) subject.now which deleted)) }
+{
+    if let Some(entry) = registry.version(subject, which, deleted)? {
+        return Ok(entry);
+    }
+    if registry.version(subject, VersionRef::Latest, deleted)?.is_none() {
+        return Err(LookupError::Refused(Refusal::SubjectNotFound));
+    }
+    Err(LookupError::Refused(Refusal::VersionNotFound))
+}

@@ -1,0 +1,20 @@
+//! Queries: what a registry answers.
+#![tactic(auto)]
+
+mod answered;
+mod answering;
+mod bodies;
+mod by_id;
+mod by_schema;
+mod by_subject;
+mod checked;
+mod error;
+mod found;
+mod laws;
+mod query;
+mod settings;
+
+pub use answered::Answer;
+pub use answering::answer;
+pub use laws::compactions_answer_alike;
+pub use query::Query;

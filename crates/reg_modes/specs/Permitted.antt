@@ -1,0 +1,40 @@
+-- What a mode permits: nothing is said, or why not.
+use Rattle.std.specs.Prelude.{ℕ, List, Bool, true, false, ◌&&◌, not, Option, Result, Ok, Err, if◌then◌else◌}
+use Rattle.reg_entries.specs.Sought.{has_live}
+use Rattle.reg_refusals.specs.declared.reason.Reason.{Reason}
+use Rattle.reg_refusals.specs.declared.reason.Reason.TheVariants as reasons
+use Rattle.reg_refusals.specs.declared.refusal.Refusal.{Refusal}
+use Rattle.reg_refusals.specs.declared.refusal.Refusal.TheVariants.{NotPermitted}
+use Rattle.reg_set.specs.Records.{Records}
+use Rattle.reg_fold.specs.Entries.{entries}
+use Rattle.reg_fold.specs.InForce.{Scope}
+use Rattle.reg_modes.specs.declared.mode.Mode.{Mode}
+use Rattle.reg_modes.specs.declared.mode.Mode.TheVariants.{Readwrite, Readonly, Import}
+
+abbrev pub Permit : Type 0
+Permit = Result (Unit {0}) Refusal
+
+abbrev pub granted : Permit
+granted = Ok tt
+
+abbrev pub denied : Reason → Permit
+denied reason = Err (NotPermitted reason)
+
+-- a registration, with an id or without one
+abbrev pub registering : Mode → Bool → Permit
+registering Readonly has_id = denied reasons.Readonly
+registering Readwrite true = denied reasons.IdNeedsImport
+registering Readwrite false = granted
+registering Import true = granted
+registering Import false = denied reasons.ImportNeedsId
+
+-- a delete, or a change of a level
+abbrev pub writing : Mode → Permit
+writing Readonly = denied reasons.Readonly
+writing Readwrite = granted
+writing Import = granted
+
+-- setting IMPORT: not over a live version of the scope, unless it is forced
+abbrev pub setting_import : Records → Scope → Bool → Permit
+setting_import rs scope force =
+    if not force && has_live (entries rs) scope then denied reasons.ScopeIsNotEmpty else granted
