@@ -1,0 +1,419 @@
+// What is answered, over small logs.
+use base_text::Text;
+use reg_fold::{Registry, VersionRef};
+use reg_lookup::{Answer, Query, answer};
+use reg_records::{Read, quoted, read_line};
+use std::alloc::{AllocError, Global};
+use std::test::Fail;
+
+// Logs by name. A line is a kind, an offset and what the kind has: `S` a subject, version, id and
+// schema, `N` a subject and version without a value, `P` one of another schema language, `D` a
+// subject and the greatest version of a soft delete, `C` and `M` a scope and the name of a level or
+// a mode, where `*` is all subjects and `-` no value.
+static LOGS: &str = r#"none => 
+kinds => S 1 s 1 1 "string";S 2 s 2 2 "int";C 3 * FULL;D 4 s 1;M 5 * READONLY
+kinds_turned => M 5 * READONLY;D 4 s 1;C 3 * FULL;S 2 s 2 2 "int";S 1 s 1 1 "string"
+kinds_twice => S 1 s 1 1 "string";S 1 s 1 1 "string";S 2 s 2 2 "int";S 2 s 2 2 "int";C 3 * FULL;C 3 * FULL;D 4 s 1;D 4 s 1;M 5 * READONLY;M 5 * READONLY
+tombstone => N 9 s 1;S 4 s 1 1 "string"
+marked => S 1 s 1 1 "string";S 2 s 2 2 "int";D 3 s 2;S 4 s 3 3 "long"
+written_again => S 1 s 1 1 "string";S 2 s 2 2 "int";D 3 s 2;S 4 s 3 3 "long";S 6 s 1 1 "string"
+two_deletes => S 1 s 1 1 "int";S 2 s 2 2 "long";S 3 s 3 3 "string";S 4 s 4 4 "bytes";D 10 s 4;D 20 s 1
+last_delete => S 1 s 1 1 "int";S 2 s 2 2 "long";S 3 s 3 3 "string";S 4 s 4 4 "bytes";D 20 s 1
+one_offset => S 1 s 1 1 "int";S 1 s 1 1 "long"
+one_offset_turned => S 1 s 1 1 "long";S 1 s 1 1 "int"
+node_int => S 1 s 1 1 {"type":"record","name":"Node","fields":[{"name":"v","type":"int"},{"name":"next","type":["null","Node"]}]}
+node_long => S 1 s 1 1 {"type":"record","name":"Node","fields":[{"name":"v","type":"long"},{"name":"next","type":["null","Node"]}]}
+deep_long => S 1 s 1 1 {"type":"record","name":"A","fields":[{"name":"next","type":["null",{"type":"record","name":"B","fields":[{"name":"back","type":["null","A"]},{"name":"v","type":"long"}]}]}]}
+b_record => S 1 s 1 1 {"type":"record","name":"b.R","fields":[]}
+unread => S 1 s 1 1 "string";P 2 p 1 3
+override => M 1 * READONLY_OVERRIDE
+enum => S 1 s 1 1 {"type":"enum","name":"E","symbols":["A","B"]}
+aliases => S 1 s 1 1 {"type":"record","name":"x.Old","fields":[{"name":"p","type":"int"}]}
+no_level => S 1 s 1 1 "int";C 9 * NONE
+many => S 1 s 1 1 "int";S 2 s 2 2 "long";S 3 s 4 4 "string";S 4 st 1 2 "long";S 5 t 1 2 "long";S 6 t 2 1 "int";D 7 t 9;S 8 u 1 5 "bytes";N 9 u 1;D 10 s 1
+settings => C 1 * FULL;M 2 * IMPORT;C 3 s none;M 4 s readwrite;C 5 t FORWARD;C 6 t -;M 7 t READONLY;M 8 t -
+names => S 1 z 1 1 "int";S 2 é 1 2 "long";S 3 a"b\c 1 3 "string";S 4 日本 1 4 "bytes";S 5 a/b 1 5 "float";S 6 Z 1 6 "double"
+levels => S 1 s 1 1 {"type":"record","name":"R","fields":[{"name":"a","type":"int"}]};S 2 s 2 2 {"type":"record","name":"R","fields":[]};S 3 s 3 3 {"type":"record","name":"R","fields":[{"name":"a","type":"long"}]};D 4 s 1
+shared_id => S 1 s 1 1 "int";S 2 t 1 1 "long"
+soft_greatest => S 1 s 2 2 "int";D 2 s 9;S 3 s 1 1 "string""#;
+
+// What the registry's formats show of reads: a log, a query, and the status and body that are
+// answered. A query is a kind, with a `+` where `deleted`, `verbose` or `default_global` is true,
+// and its arguments, where `-` is no version.
+static READS: &str = r#"none => subjects => 200 []
+kinds => versions s => 200 [2]
+kinds => level * => 200 {"compatibilityLevel":"FULL"}
+kinds => mode * => 200 {"mode":"READONLY"}
+kinds_turned => versions s => 200 [2]
+kinds_turned => level * => 200 {"compatibilityLevel":"FULL"}
+kinds_turned => mode * => 200 {"mode":"READONLY"}
+kinds_twice => versions s => 200 [2]
+kinds_twice => level * => 200 {"compatibilityLevel":"FULL"}
+kinds_twice => mode * => 200 {"mode":"READONLY"}
+tombstone => versions s => 404 {"error_code":40401,"message":"Subject not found"}
+marked => versions s => 200 [3]
+marked => versions+ s => 200 [1,2,3]
+marked => id 1 => 200 {"schema":"\"string\""}
+marked => id_versions 1 => 200 []
+marked => id_versions+ 1 => 200 [{"subject":"s","version":1}]
+written_again => versions s => 200 [1,3]
+two_deletes => versions s => 200 [2,3,4]
+last_delete => versions s => 200 [2,3,4]
+one_offset => id 1 => 200 {"schema":"\"long\""}
+one_offset_turned => id 1 => 200 {"schema":"\"long\""}
+node_int => check+ s 1 {"type":"record","name":"Node","fields":[{"name":"v","type":"long"},{"name":"next","type":["null","Node"]}]} => 200 {"is_compatible":true,"messages":[]}
+node_long => check+ s 1 {"type":"record","name":"Node","fields":[{"name":"v","type":"int"},{"name":"next","type":["null","Node"]}]} => 200 {"is_compatible":false,"messages":["version 1, BACKWARD, at /field:v: TYPE_MISMATCH"]}
+deep_long => check+ s 1 {"type":"record","name":"A","fields":[{"name":"next","type":["null",{"type":"record","name":"B","fields":[{"name":"back","type":["null","A"]},{"name":"v","type":"int"}]}]}]} => 200 {"is_compatible":false,"messages":["version 1, BACKWARD, at /field:next/writer:1/reader:1/field:v: TYPE_MISMATCH"]}
+b_record => check+ s 1 [{"type":"record","name":"a.R","fields":[{"name":"x","type":"int"}]},{"type":"record","name":"b.R","fields":[]}] => 200 {"is_compatible":false,"messages":["version 1, BACKWARD, at /reader:0: READER_FIELD_MISSING_DEFAULT_VALUE x"]}
+unread => subjects => 200 ["s"]
+unread => versions p => 404 {"error_code":40401,"message":"Subject not found"}
+override => mode * => 200 {"mode":"READONLY"}
+enum => check+ s 1 {"type":"enum","name":"E","symbols":["A"]} => 200 {"is_compatible":false,"messages":["version 1, BACKWARD, at /: MISSING_ENUM_SYMBOLS B"]}
+enum => check+ s 1 {"type":"enum","name":"E","symbols":["A"],"default":"A"} => 200 {"is_compatible":true,"messages":[]}
+aliases => check+ s 1 {"type":"record","name":"New","namespace":"x","aliases":["Old"],"fields":[{"name":"q","type":"int","aliases":["p"]}]} => 200 {"is_compatible":true,"messages":[]}
+no_level => check s 1 "long" => 200 {"is_compatible":true}
+no_level => check s 1 "string" => 200 {"is_compatible":true}
+none => check s - "int" => 200 {"is_compatible":true}
+none => check s 1 "int" => 404 {"error_code":40401,"message":"Subject not found"}"#;
+
+// Each query with each of its refusals, with and without soft versions; names that JSON escapes,
+// and names beyond ASCII in the order of their bytes.
+static QUERIES: &str = r#"many => id 2 => 200 {"schema":"\"long\""}
+many => id 1 => 200 {"schema":"\"int\""}
+many => id 3 => 404 {"error_code":40403,"message":"Schema not found"}
+many => id 5 => 404 {"error_code":40403,"message":"Schema not found"}
+shared_id => id 1 => 200 {"schema":"\"long\""}
+many => id_versions 2 => 200 [{"subject":"s","version":2},{"subject":"st","version":1}]
+many => id_versions+ 2 => 200 [{"subject":"s","version":2},{"subject":"st","version":1},{"subject":"t","version":1}]
+many => id_versions 1 => 200 []
+many => id_versions+ 1 => 200 [{"subject":"s","version":1},{"subject":"t","version":2}]
+many => id_versions 5 => 404 {"error_code":40403,"message":"Schema not found"}
+many => id_versions+ 5 => 404 {"error_code":40403,"message":"Schema not found"}
+many => subjects => 200 ["s","st"]
+many => subjects+ => 200 ["s","st","t"]
+many => versions s => 200 [2,4]
+many => versions+ s => 200 [1,2,4]
+many => versions t => 404 {"error_code":40401,"message":"Subject not found"}
+many => versions+ t => 200 [1,2]
+many => versions+ u => 404 {"error_code":40401,"message":"Subject not found"}
+many => versions+ v => 404 {"error_code":40401,"message":"Subject not found"}
+many => versions st => 200 [1]
+many => version s 2 => 200 {"subject":"s","version":2,"id":2,"schema":"\"long\""}
+many => version s latest => 200 {"subject":"s","version":4,"id":4,"schema":"\"string\""}
+many => version s 1 => 404 {"error_code":40402,"message":"Version not found"}
+many => version+ s 1 => 200 {"subject":"s","version":1,"id":1,"schema":"\"int\""}
+many => version s 3 => 404 {"error_code":40402,"message":"Version not found"}
+many => version+ s 3 => 404 {"error_code":40402,"message":"Version not found"}
+many => version t 1 => 404 {"error_code":40401,"message":"Subject not found"}
+many => version t latest => 404 {"error_code":40401,"message":"Subject not found"}
+many => version+ t latest => 200 {"subject":"t","version":2,"id":1,"schema":"\"int\""}
+many => version+ u 1 => 404 {"error_code":40401,"message":"Subject not found"}
+many => version v latest => 404 {"error_code":40401,"message":"Subject not found"}
+many => version s 2147483647 => 404 {"error_code":40402,"message":"Version not found"}
+many => schema s 2 => 200 "long"
+many => schema s latest => 200 "string"
+many => schema s 1 => 404 {"error_code":40402,"message":"Version not found"}
+many => schema+ s 1 => 200 "int"
+many => schema t latest => 404 {"error_code":40401,"message":"Subject not found"}
+many => schema+ t 9 => 404 {"error_code":40402,"message":"Version not found"}
+many => lookup s "long" => 200 {"subject":"s","version":2,"id":2,"schema":"\"long\""}
+many => lookup s  "long" => 200 {"subject":"s","version":2,"id":2,"schema":"\"long\""}
+many => lookup s "int" => 404 {"error_code":40403,"message":"Schema not found"}
+many => lookup+ s "int" => 200 {"subject":"s","version":1,"id":1,"schema":"\"int\""}
+many => lookup s {"type":"long"} => 404 {"error_code":40403,"message":"Schema not found"}
+many => lookup t "long" => 404 {"error_code":40401,"message":"Subject not found"}
+many => lookup+ t "long" => 200 {"subject":"t","version":1,"id":2,"schema":"\"long\""}
+many => lookup v "long" => 404 {"error_code":40401,"message":"Subject not found"}
+many => lookup v "Long" => 422 {"error_code":42201,"message":"Invalid Avro schema"}
+shared_id => lookup t "long" => 200 {"subject":"t","version":1,"id":1,"schema":"\"long\""}
+many => lookup s {"type":"record","name":"R","fields":[{"name":"x","type":"int","default":"no"}]} => 404 {"error_code":40403,"message":"Schema not found"}
+settings => level * => 200 {"compatibilityLevel":"FULL"}
+settings => level+ * => 200 {"compatibilityLevel":"FULL"}
+settings => level s => 200 {"compatibilityLevel":"NONE"}
+settings => level+ s => 200 {"compatibilityLevel":"NONE"}
+settings => level t => 404 {"error_code":40408,"message":"Subject has no level"}
+settings => level+ t => 200 {"compatibilityLevel":"FULL"}
+settings => mode * => 200 {"mode":"IMPORT"}
+settings => mode s => 200 {"mode":"READWRITE"}
+settings => mode+ s => 200 {"mode":"READWRITE"}
+settings => mode t => 404 {"error_code":40409,"message":"Subject has no mode"}
+settings => mode+ t => 200 {"mode":"IMPORT"}
+none => level * => 200 {"compatibilityLevel":"BACKWARD"}
+none => level s => 404 {"error_code":40408,"message":"Subject has no level"}
+none => level+ s => 200 {"compatibilityLevel":"BACKWARD"}
+none => mode * => 200 {"mode":"READWRITE"}
+none => mode+ s => 200 {"mode":"READWRITE"}
+none => id 1 => 404 {"error_code":40403,"message":"Schema not found"}
+none => subjects+ => 200 []
+names => subjects => 200 ["Z","a\"b\\c","a/b","z","é","日本"]
+names => id_versions 3 => 200 [{"subject":"a\"b\\c","version":1}]
+names => version a"b\c 1 => 200 {"subject":"a\"b\\c","version":1,"id":3,"schema":"\"string\""}
+names => versions a => 404 {"error_code":40401,"message":"Subject not found"}
+levels => versions s => 200 [2,3]
+levels => check s - {"type":"record","name":"R","fields":[{"name":"a","type":"double"}]} => 200 {"is_compatible":true}
+levels => check s 1 {"type":"record","name":"R","fields":[]} => 404 {"error_code":40402,"message":"Version not found"}
+levels => check s 9 {"type":"record","name":"R","fields":[]} => 404 {"error_code":40402,"message":"Version not found"}
+levels => check t 1 {"type":"record","name":"R","fields":[]} => 404 {"error_code":40401,"message":"Subject not found"}
+levels => check+ s - {"type":"record","name":"R","fields":[{"name":"a","type":"int"}]} => 200 {"is_compatible":false,"messages":["version 3, BACKWARD, at /field:a: TYPE_MISMATCH"]}
+levels => check s - {"type":"record","name":"R","fields":[{"name":"a","type":"int"}]} => 200 {"is_compatible":false}
+levels => check+ s 2 {"type":"record","name":"R","fields":[{"name":"a","type":"int"}]} => 200 {"is_compatible":false,"messages":["version 2, BACKWARD, at /: READER_FIELD_MISSING_DEFAULT_VALUE a"]}
+levels => check+ s latest {"type":"record","name":"R","fields":[{"name":"a","type":"int"}]} => 200 {"is_compatible":false,"messages":["version 3, BACKWARD, at /field:a: TYPE_MISMATCH"]}
+levels => check s - {"type":"record","name":"R","fields":[{"name":"a","type":"long","default":"no"}]} => 422 {"error_code":42201,"message":"Invalid Avro schema"}
+soft_greatest => version s latest => 200 {"subject":"s","version":1,"id":1,"schema":"\"string\""}
+soft_greatest => version+ s latest => 200 {"subject":"s","version":2,"id":2,"schema":"\"int\""}
+soft_greatest => check s - "bytes" => 200 {"is_compatible":true}
+soft_greatest => check s latest "bytes" => 200 {"is_compatible":true}
+soft_greatest => check s 2 "bytes" => 404 {"error_code":40402,"message":"Version not found"}
+levels => check t - x => 422 {"error_code":42201,"message":"Invalid Avro schema"}
+levels => check t 1 x => 422 {"error_code":42201,"message":"Invalid Avro schema"}
+levels => check t - "int" => 200 {"is_compatible":true}
+levels => check+ t - "int" => 200 {"is_compatible":true,"messages":[]}"#;
+
+fn scope_text(alloc: Global, word: &str) -> Result<String, AllocError> {
+    if word == "*" {
+        String::from_str(alloc, "null")
+    } else {
+        quoted(alloc, word)
+    }
+}
+
+// The key and the value of a setting, whose names in the formats are given.
+fn setting_line(alloc: Global, rest: &str, keytype: &str, member: &str) -> Result<String, Fail> {
+    let (scope, name) = rest.split_once(" ").ok_or("a scope")?;
+    let scope = scope_text(alloc, scope)?;
+    let key = format!(in alloc; "{{\"keytype\":\"{keytype}\",\"subject\":{scope},\"magic\":0}}")?;
+    if name == "-" {
+        return Ok(format!(in alloc; "{key}\tnull")?);
+    }
+    Ok(format!(in alloc; "{key}\t{{\"{member}\":\"{name}\"}}")?)
+}
+
+fn version_key(alloc: Global, subject: &str, version: &str) -> Result<String, AllocError> {
+    let subject = quoted(alloc, subject)?;
+    format!(in alloc; "{{\"keytype\":\"SCHEMA\",\"subject\":{subject},\"version\":{version},\"magic\":1}}")
+}
+
+fn schema_line(alloc: Global, rest: &str) -> Result<String, Fail> {
+    let (subject, rest) = rest.split_once(" ").ok_or("a subject")?;
+    let (version, rest) = rest.split_once(" ").ok_or("a version")?;
+    let (id, schema) = rest.split_once(" ").ok_or("an id")?;
+    let key = version_key(alloc, subject, version)?;
+    let name = quoted(alloc, subject)?;
+    let text = quoted(alloc, schema)?;
+    Ok(format!(in alloc;
+        "{key}\t{{\"subject\":{name},\"version\":{version},\"id\":{id},\"schema\":{text},\"deleted\":false}}"
+    )?)
+}
+
+fn foreign_schema_line(alloc: Global, rest: &str) -> Result<String, Fail> {
+    let (subject, rest) = rest.split_once(" ").ok_or("a subject")?;
+    let (version, id) = rest.split_once(" ").ok_or("a version")?;
+    let key = version_key(alloc, subject, version)?;
+    Ok(format!(in alloc;
+        "{key}\t{{\"subject\":\"{subject}\",\"version\":{version},\"id\":{id},\"schemaType\":\"PROTOBUF\",\"schema\":\"x\",\"deleted\":false}}"
+    )?)
+}
+
+fn tombstone_line(alloc: Global, rest: &str) -> Result<String, Fail> {
+    let (subject, version) = rest.split_once(" ").ok_or("a subject")?;
+    let key = version_key(alloc, subject, version)?;
+    Ok(format!(in alloc; "{key}\tnull")?)
+}
+
+fn delete_line(alloc: Global, rest: &str) -> Result<String, Fail> {
+    let (subject, version) = rest.split_once(" ").ok_or("a subject")?;
+    let name = quoted(alloc, subject)?;
+    Ok(format!(in alloc;
+        "{{\"keytype\":\"DELETE_SUBJECT\",\"subject\":{name},\"magic\":0}}\t{{\"subject\":{name},\"version\":{version}}}"
+    )?)
+}
+
+// The key and value of a line, with a TAB between them.
+fn key_and_value(alloc: Global, kind: &str, rest: &str) -> Result<String, Fail> {
+    match kind {
+        "S" => schema_line(alloc, rest),
+        "P" => foreign_schema_line(alloc, rest),
+        "N" => tombstone_line(alloc, rest),
+        "D" => delete_line(alloc, rest),
+        "C" => setting_line(alloc, rest, "CONFIG", "compatibilityLevel"),
+        "M" => setting_line(alloc, rest, "MODE", "mode"),
+        _ => Err(Fail::from("a kind")),
+    }
+}
+
+fn line_of(alloc: Global, line: &str) -> Result<String, Fail> {
+    let (kind, rest) = line.split_once(" ").ok_or("a kind")?;
+    let (offset, rest) = rest.split_once(" ").ok_or("an offset")?;
+    let fields = key_and_value(alloc, kind, rest)?;
+    Ok(format!(in alloc; "{offset}\t{fields}\n")?)
+}
+
+fn apply_line(alloc: Global, registry: &mut Registry, line: &str) -> Result<(), Fail> {
+    let text = line_of(alloc, line)?;
+    match read_line(alloc, text.as_bytes())? {
+        Read::Record(record) => Ok(registry.apply(&record)?),
+        Read::Foreign(_) => Err(Fail::from("a record")),
+    }
+}
+
+fn registry_of(alloc: Global, name: &str) -> Result<Registry, Fail> {
+    let mut registry = Registry::empty(alloc);
+    let (_, lines) = LOGS
+        .lines()
+        .filter_map(|log| log.split_once(" => "))
+        .find(|log| log.0 == name)
+        .ok_or("a log")?;
+    for line in lines.split(";").filter(|line| !line.is_empty()) {
+        apply_line(alloc, &mut registry, line)?;
+    }
+    Ok(registry)
+}
+
+fn scope_of(alloc: Global, word: &str) -> Result<Option<Text>, AllocError> {
+    if word == "*" {
+        Ok(None)
+    } else {
+        Ok(Some(Text::copy_of(alloc, word)?))
+    }
+}
+
+fn version_of(word: &str) -> Result<VersionRef, Fail> {
+    if word == "latest" {
+        Ok(VersionRef::Latest)
+    } else {
+        Ok(VersionRef::Number(word.parse::<u32>()?))
+    }
+}
+
+fn version_query(alloc: Global, kind: &str, rest: &str, deleted: bool) -> Result<Query, Fail> {
+    let (subject, word) = rest.split_once(" ").ok_or("a subject")?;
+    let version = version_of(word)?;
+    let subject = Text::copy_of(alloc, subject)?;
+    if kind == "version" {
+        Ok(Query::Version {
+            subject,
+            version,
+            deleted,
+        })
+    } else {
+        Ok(Query::VersionSchema {
+            subject,
+            version,
+            deleted,
+        })
+    }
+}
+
+fn lookup_query(alloc: Global, rest: &str, deleted: bool) -> Result<Query, Fail> {
+    let (subject, text) = rest.split_once(" ").ok_or("a subject")?;
+    Ok(Query::Lookup {
+        subject: Text::copy_of(alloc, subject)?,
+        text: Text::copy_of(alloc, text)?,
+        deleted,
+    })
+}
+
+fn check_query(alloc: Global, rest: &str, verbose: bool) -> Result<Query, Fail> {
+    let (subject, rest) = rest.split_once(" ").ok_or("a subject")?;
+    let (word, text) = rest.split_once(" ").ok_or("a version")?;
+    let version = if word == "-" {
+        None
+    } else {
+        Some(version_of(word)?)
+    };
+    Ok(Query::Check {
+        subject: Text::copy_of(alloc, subject)?,
+        version,
+        text: Text::copy_of(alloc, text)?,
+        verbose,
+    })
+}
+
+fn setting_query(
+    alloc: Global,
+    kind: &str,
+    word: &str,
+    default_global: bool,
+) -> Result<Query, AllocError> {
+    let subject = scope_of(alloc, word)?;
+    if kind == "level" {
+        Ok(Query::Level {
+            subject,
+            default_global,
+        })
+    } else {
+        Ok(Query::Mode {
+            subject,
+            default_global,
+        })
+    }
+}
+
+fn query_of(alloc: Global, kind: &str, switch: bool, rest: &str) -> Result<Query, Fail> {
+    match kind {
+        "id" => Ok(Query::SchemaById {
+            id: rest.parse::<u32>()?,
+        }),
+        "id_versions" => Ok(Query::IdVersions {
+            id: rest.parse::<u32>()?,
+            deleted: switch,
+        }),
+        "subjects" => Ok(Query::Subjects { deleted: switch }),
+        "versions" => Ok(Query::Versions {
+            subject: Text::copy_of(alloc, rest)?,
+            deleted: switch,
+        }),
+        "version" | "schema" => version_query(alloc, kind, rest, switch),
+        "lookup" => lookup_query(alloc, rest, switch),
+        "check" => check_query(alloc, rest, switch),
+        "level" | "mode" => Ok(setting_query(alloc, kind, rest, switch)?),
+        _ => Err(Fail::from("a query")),
+    }
+}
+
+// The words of a query: its kind, whether its switch is on, and its arguments.
+fn parts_of(query: &str) -> (&str, bool, &str) {
+    let (kind, rest) = query.split_once(" ").unwrap_or((query, ""));
+    match kind.strip_suffix("+") {
+        Some(kind) => (kind, true, rest),
+        None => (kind, false, rest),
+    }
+}
+
+fn text_of(alloc: Global, answer: &Answer) -> Result<String, AllocError> {
+    let body = answer.body.as_str();
+    let status = answer.status;
+    format!(in alloc; "{status} {body}")
+}
+
+// The status and body that are answered to a row's query.
+fn answered(alloc: Global, log: &str, query: &str) -> Result<String, Fail> {
+    let registry = registry_of(alloc, log)?;
+    let (kind, switch, rest) = parts_of(query);
+    let query = query_of(alloc, kind, switch, rest)?;
+    Ok(text_of(alloc, &answer(alloc, &registry, &query)?)?)
+}
+
+// The first row whose answer isn't the expected one.
+fn first_other(alloc: Global, rows: &'static str) -> Result<Option<&'static str>, Fail> {
+    for row in rows.lines() {
+        let (log, rest) = row.split_once(" => ").ok_or("a log")?;
+        let (query, expected) = rest.split_once(" => ").ok_or("a query")?;
+        if answered(alloc, log, query)?.as_str() != expected {
+            return Ok(Some(row));
+        }
+    }
+    Ok(None)
+}
+
+#[test]
+fn reads_are_answered(rt: HostRuntime) -> Result<(), Fail> {
+    assert_eq!(rt; first_other(rt.alloc(), READS)?, None);
+    Ok(())
+}
+
+#[test]
+fn each_query_is_answered_or_refused(rt: HostRuntime) -> Result<(), Fail> {
+    assert_eq!(rt; first_other(rt.alloc(), QUERIES)?, None);
+    Ok(())
+}

@@ -1,0 +1,5 @@
+//! Tests of what is answered to queries, over the public calls.
+#![tactic(auto)]
+
+#[cfg(test)]
+mod answers;
