@@ -18,8 +18,7 @@ use Rattle.reg_entries.specs.EntryOrder.{Place, place_cmp}
 use Rattle.reg_fold.specs.Marks.{covers, is_marked}
 use Rattle.reg_fold.specs.Step.{EntriesAreOfLasts}
 use Rattle.reg_entries.specs.declared.entry.Entry.{Entry}
-use Rattle.reg_fold.proofs.InOrder.{place_cmp-ties}
-use Rattle.reg_fold.proofs.Placed.{place_cmp-total}
+use Rattle.reg_fold.proofs.Placed.{place_cmp-ties, place_cmp-total}
 use Rattle.reg_fold.proofs.Places.{equal, subject_of, version_of}
 
 -- the map with that entry at a place, or none

@@ -9,6 +9,7 @@ use Rattle.std.specs.FinSet as set
 use Rattle.std.specs.List.{AllZip, filter, filter_map, fold, list_any}
 use Rattle.std.specs.Option.{option_map_or}
 use Rattle.std.specs.Ordering.{eq_by_cmp, is_eq}
+use Rattle.reg_records.specs.declared.key.Key.{Key}
 use Rattle.reg_records.specs.declared.key.Key.TheVariants as keys
 use Rattle.reg_records.specs.declared.record.Record.{Record}
 use Rattle.reg_set.specs.Greatest.{greatest}
@@ -17,14 +18,13 @@ use Rattle.reg_set.specs.RecordOrder.{age_cmp, record_cmp}
 use Rattle.reg_set.specs.Records.{Records, in_order, records_of}
 use Rattle.reg_fold.specs.Entries.{entries, entry_map, entry_of}
 use Rattle.reg_entries.specs.EntryOrder.{place_cmp}
-use Rattle.reg_fold.specs.InForce.{Scope, level_of, own_level}
+use Rattle.reg_fold.specs.InForce.{Scope, level_of, mode_name_of, own_level, own_mode_name}
 use Rattle.reg_fold.specs.Kept.{IsKept}
 use Rattle.reg_fold.specs.Opaque.{is_opaque}
-use Rattle.reg_fold.specs.Scopes.{AreOwn, kept_level}
+use Rattle.reg_fold.specs.Scopes.{kept_own}
 use Rattle.reg_fold.specs.Spots.{Spot, HasSpots, is_deleted, is_spot, spot_cmp}
 use Rattle.reg_entries.specs.declared.entry.Entry.{Entry}
 use Rattle.reg_fold.specs.declared.index.Index.{Index}
-use Rattle.reg_fold.specs.declared.levels.Levels.{Levels}
 use Rattle.reg_fold.proofs.Spotted.{spots-same}
 
 -- the entries that are kept are those of the last records
@@ -53,21 +53,27 @@ module _ (total : IsTotalOrder record_cmp) where
       ∙ sym (ap (λ rs. is_spot kind rs s) rs_are
       ∙ ap (λ found. option_map_or (λ r. kind r && eq_by_cmp spot_cmp (r.offset, s.1) s) (greatest age_cmp (filter (is_of (keys.Schema s.1.0 s.1.1)) found)) false) records_of-empty)
 
-  AreOwn-empty : (levels : Levels) (rs : Records) → rs ≡ set.empty → ((q : Scope) → kept_level levels q ≡ None) → AreOwn rs levels
-  unfolding own_level last
-  AreOwn-empty levels rs rs_are none q =
-      none q
-      ∙ sym (ap (λ rs. own_level rs q) rs_are
-      ∙ ap (λ found. option_and_then level_of (greatest age_cmp (filter (is_of (keys.Config q)) found))) records_of-empty)
+  last-empty : (key : Key) → last set.empty key ≡ None
+  unfolding last
+  last-empty key = ap (λ found. greatest age_cmp (filter (is_of key) found)) records_of-empty
+
+  own_level-empty : (rs : Records) → rs ≡ set.empty → (q : Scope) → own_level rs q ≡ None
+  unfolding own_level
+  own_level-empty rs rs_are q = ap (λ rs. own_level rs q) rs_are ∙ ap (option_and_then level_of) (last-empty (keys.Config q))
+
+  own_mode_name-empty : (rs : Records) → rs ≡ set.empty → (q : Scope) → own_mode_name rs q ≡ None
+  unfolding own_mode_name
+  own_mode_name-empty rs rs_are q = ap (λ rs. own_mode_name rs q) rs_are ∙ ap (option_and_then mode_name_of) (last-empty (keys.Mode q))
 
   -- without a record nothing is kept
   pub IsKept-empty : (index : Index) → index.last ≡ set.empty → index.entries ≡ finmap.empty → IsEmpty index.unread → IsEmpty index.deleted
-      → ((q : Scope) → kept_level index.levels q ≡ None) → IsKept index
-  IsKept-empty index last_is entries_are none_unread none_deleted no_level = record {
+      → ((q : Scope) → kept_own index.levels q ≡ None) → ((q : Scope) → kept_own index.modes q ≡ None) → IsKept index
+  IsKept-empty index last_is entries_are none_unread none_deleted no_level no_mode = record {
     all_entries = entries_are ∙ sym (ap entry_map last_is ∙ entry_map-empty);
     all_unread = HasSpots-empty is_opaque index.unread index.last last_is none_unread;
     all_deleted = HasSpots-empty is_deleted index.deleted index.last last_is none_deleted;
-    all_levels = AreOwn-empty index.levels index.last last_is no_level;
+    all_levels = λ q. no_level q ∙ sym (own_level-empty index.last last_is q);
+    all_modes = λ q. no_mode q ∙ sym (own_mode_name-empty index.last last_is q);
   }
 
 -- copies of spots that are equal to them
@@ -79,10 +85,11 @@ spots-copied (x ∷ xs) (y ∷ ys) h = λ i. (h.0.0 i, (h.0.1.0 i, h.0.1.1 i)) �
 
 -- what is kept of the same records and spots is kept
 pub IsKept-same : (old new : Index) → new.last ≡ old.last → new.entries ≡ old.entries → IsUnchanged old.unread new.unread → IsUnchanged old.deleted new.deleted
-    → ((q : Scope) → kept_level new.levels q ≡ kept_level old.levels q) → IsKept old → IsKept new
-IsKept-same old new last_is entries_are unread deleted levels kept = record {
+    → ((q : Scope) → kept_own new.levels q ≡ kept_own old.levels q) → ((q : Scope) → kept_own new.modes q ≡ kept_own old.modes q) → IsKept old → IsKept new
+IsKept-same old new last_is entries_are unread deleted levels modes kept = record {
   all_entries = entries_are ∙ kept.all_entries ∙ sym (ap entry_map last_is);
   all_unread = spots-same is_opaque old.last new.last old.unread new.unread last_is unread kept.all_unread;
   all_deleted = spots-same is_deleted old.last new.last old.deleted new.deleted last_is deleted kept.all_deleted;
   all_levels = λ q. levels q ∙ kept.all_levels q ∙ sym (ap (λ rs. own_level rs q) last_is);
+  all_modes = λ q. modes q ∙ kept.all_modes q ∙ sym (ap (λ rs. own_mode_name rs q) last_is);
 }

@@ -1,13 +1,13 @@
 mod Applies
 mod Deletes
 mod Folding
-mod InOrder
 mod Keeping
 mod Least
-mod Leveled
 mod News
 mod OfLasts
+mod Owned
 mod Placed
 mod Places
+mod Readable
 mod Spotted
 mod Steps

@@ -10,7 +10,8 @@ use Rattle.std.specs.FinSet.{IsAntisymmetric, contains, retain, contains-retain}
 use Rattle.std.specs.List.{Contains}
 use Rattle.std.specs.Option.{option_map_or, unwrap_or}
 use Rattle.std.specs.Ordering.{eq_by_cmp, is_eq, is_lt}
-use Rattle.std.specs.declared.cmp.Ordering.TheVariants.{Equal}
+use Rattle.std.specs.declared.cmp.Ordering.{Ordering}
+use Rattle.std.specs.declared.cmp.Ordering.TheVariants.{Less, Equal, Greater}
 use Rattle.reg_records.specs.declared.key.Key.TheVariants as keys
 use Rattle.reg_records.specs.declared.record.Record.{Record}
 use Rattle.reg_set.specs.Join.{LastIsGreatest, LastRecordsAreCompaction, LastRecordsOfCompaction}
@@ -21,9 +22,23 @@ use Rattle.reg_fold.specs.Entries.{AreOfLasts, IsOfLast, entries, entry_map, ent
 use Rattle.reg_entries.specs.EntryOrder.{Place, place_cmp, place_of}
 use Rattle.reg_fold.specs.Step.{EntriesAreOfLasts}
 use Rattle.reg_entries.specs.declared.entry.Entry.{Entry}
-use Rattle.reg_fold.proofs.InOrder.{ArePlaced, left_of, right_of, less, place_cmp-ties, entry_map-placed}
-use Rattle.reg_fold.proofs.Placed.{place_cmp-total}
+use Rattle.reg_fold.proofs.Placed.{ArePlaced, entry_map-placed, place_cmp-ties, place_cmp-total}
 use Rattle.reg_fold.proofs.Places.{entry_of-key, equal}
+
+-- where two tests hold, each of them does
+left_of : (a b : Bool) → T (a && b) → T a
+left_of true b h = tt
+left_of false b h = h
+
+right_of : (a b : Bool) → T (a && b) → T b
+right_of true b h = h
+right_of false b h = absurd h
+
+-- what passes the test for Less is Less
+less : (o : Ordering) → T (is_lt o) → o ≡ Less
+less Less h = refl
+less Equal h = absurd h
+less Greater h = absurd h
 
 -- the last records have no others
 pub last_records-last_records : LastRecordsAreCompaction → LastRecordsOfCompaction → (rs : Records) → last_records (last_records rs) ≡ last_records rs

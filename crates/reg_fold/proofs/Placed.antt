@@ -1,19 +1,20 @@
--- A loop that puts entries into a map, each at its place.
-use Rattle.std.proofs.Common.{◌≡◌, ℕ, ◌+◌, ◌<◌, List, [], ◌∷◌, ◌++◌, length, get_or, take, Option, Some, None, refl, sym, ap, ◌∙◌, arith}
+-- The entries of the last records, each kept at its own place.
+use Rattle.std.proofs.Common.{◌≡◌, ℕ, List, [], ◌∷◌, length, Option, Some, None, refl, sym, subst, ◌∙◌, arith}
 use Rattle.std.proofs.lemmas.Cmp.{nat_cmp_total, nat_list_cmp_total, on_total, then_total}
-use Rattle.std.proofs.lemmas.List.{take_more}
-use Rattle.std.proofs.lemmas.List.Elements.{filter_map-append}
-use Rattle.std.proofs.lemmas.List.Sums.{fold-append}
-use Rattle.std.specs.BTreeMap.{insert_entry}
 use Rattle.std.specs.Cmp.{IsTotalOrder}
+use Rattle.std.specs.Cmp.Lexicographic.{slice_cmp}
 use Rattle.std.specs.FinMap as finmap
+use Rattle.std.specs.FinMap.{nat_cmp-IsAntisymmetric, slice_cmp-IsAntisymmetric}
 use Rattle.std.specs.FinMap.Entries.{put, by_order}
-use Rattle.std.specs.List.{cons_option, filter_map, fold}
-use Rattle.std.specs.Option.{option_map_or}
-use Rattle.std.specs.Ordering.{match_ordering}
+use Rattle.std.specs.List.{AllByRecursion, cons_option, filter_map, fold}
+use Rattle.std.specs.Ordering.{nat_cmp, ordering_then}
+use Rattle.std.specs.declared.cmp.Ordering.{Ordering}
 use Rattle.std.specs.declared.cmp.Ordering.TheVariants.{Less, Equal, Greater}
+use Rattle.reg_records.specs.declared.record.Record.{Record}
+use Rattle.reg_set.specs.Records.{Records, records_of}
 use Rattle.reg_entries.specs.EntryOrder.{Place, place_cmp, place_of}
 use Rattle.reg_entries.specs.declared.entry.Entry.{Entry}
+use Rattle.reg_fold.specs.Entries.{entry_map, entry_of}
 use Rattle.reg_fold.specs.Spots.{spot_cmp}
 
 pub place_cmp-total : IsTotalOrder place_cmp
@@ -21,6 +22,20 @@ place_cmp-total = then_total (on_total (λ p. p.0) nat_list_cmp_total) (on_total
 
 pub spot_cmp-total : IsTotalOrder spot_cmp
 spot_cmp-total = then_total (on_total (λ s. s.0) nat_cmp_total) (on_total (λ s. s.1) place_cmp-total)
+
+-- two orders one after the other tie where both do
+pub then_ties : (a b : Ordering) → ordering_then a b ≡ Equal → (a ≡ Equal) × (b ≡ Equal)
+then_ties Less b e = absurd (cc)
+then_ties Equal b e = (refl, e)
+then_ties Greater b e = absurd (cc)
+
+-- places that tie are one place
+pub place_cmp-ties : (p q : Place) → place_cmp p q ≡ Equal → p ≡ q
+place_cmp-ties p q e =
+    let ties = then_ties (slice_cmp nat_cmp p.0 q.0) (nat_cmp p.1 q.1) e in
+    let subjects = slice_cmp-IsAntisymmetric nat_cmp-IsAntisymmetric p.0 q.0 ties.0 in
+    let versions = nat_cmp-IsAntisymmetric p.1 q.1 ties.1 in
+    λ i. (subjects i, versions i)
 
 -- the map with the entry at its place
 abbrev pub placed : finmap.FinMap place_cmp Entry → Entry → finmap.FinMap place_cmp Entry
@@ -30,39 +45,41 @@ no_length : {A : Type 0} (es : List A) → length es ≡ 0 → es ≡ []
 no_length [] e = refl
 no_length (x ∷ es) e = absurd (omega arith)
 
-pub entries-empty : finmap.entries (finmap.empty {K = Place} {X = Entry} {R = place_cmp}) ≡ []
+entries-empty : finmap.entries (finmap.empty {K = Place} {X = Entry} {R = place_cmp}) ≡ []
 entries-empty = no_length _ (sym (finmap.len-entries finmap.empty) ∙ finmap.len-empty place_cmp Entry)
 
-insert_entry-put : (es : List (Place × Entry)) (k : Place) (v : Entry) → insert_entry place_cmp es k v ≡ put place_cmp k v es
-insert_entry-put [] k v = refl
-insert_entry-put (e ∷ es) k v =
-    elim (place_cmp k e.0) as (λ o. match_ordering o ((k, v) ∷ e ∷ es) ((e.0, v) ∷ es) (e ∷ insert_entry place_cmp es k v)
-    ≡ by_order o ((k, v) ∷ e ∷ es) ((e.0, v) ∷ es) (e ∷ put place_cmp k v es)) [
-      | Less ↦ refl
-      | Equal ↦ refl
-      | Greater ↦ ap (λ rest. e ∷ rest) (insert_entry-put es k v)
-    ]
+-- what holds of each entry that a record gives, at its place, holds of each that is kept
+module _ (P : Place × Entry → Type 0) where
+  put-each : (e : Entry) (es : List (Place × Entry)) → P (place_of e, e) → AllByRecursion P es → AllByRecursion P (put place_cmp (place_of e) e es)
+  put-each e [] one all = (one, tt)
+  put-each e (f ∷ fs) one all =
+      elim (place_cmp (place_of e) f.0) as (λ o. place_cmp (place_of e) f.0 ≡ o → AllByRecursion P (by_order o ((place_of e, e) ∷ f ∷ fs) ((f.0, e) ∷ fs) (f ∷ put place_cmp (place_of e) e fs))) [
+        | Less ↦ λ _. (one, all)
+        | Equal ↦ λ tie. (subst (λ (p : Place). P (p, e)) (place_cmp-ties (place_of e) f.0 tie) one, all.1)
+        | Greater ↦ λ _. (all.0, put-each e fs one all.1)
+      ] refl
 
--- to insert into the entries of a map is to insert into the map
-pub insert_entry-entries : (m : finmap.FinMap place_cmp Entry) (es : List (Place × Entry)) (e : Entry) → es ≡ finmap.entries m → insert_entry place_cmp es (place_of e) e ≡ finmap.entries (finmap.insert m (place_of e) e)
-insert_entry-entries m es e same =
-    ap (λ es. insert_entry place_cmp es (place_of e) e) same
-    ∙ insert_entry-put (finmap.entries m) (place_of e) e
-    ∙ sym (finmap.entries-insert place_cmp-total m (place_of e) e)
+  fold-each : (es : List Entry) (m : finmap.FinMap place_cmp Entry) → AllByRecursion (λ e. P (place_of e, e)) es → AllByRecursion P (finmap.entries m) → AllByRecursion P (finmap.entries (fold placed m es))
+  fold-each [] m each all = all
+  fold-each (e ∷ es) m each all =
+      fold-each es (placed m e) each.1 (subst (AllByRecursion P) (sym (finmap.entries-insert place_cmp-total m (place_of e) e)) (put-each e (finmap.entries m) each.0 all))
 
-module _ {X Y Z : Type 0} (f : Z → Y → Z) (a : Z) (h : X → Option Y) (xs : List X) (i : ℕ) (x : X) (within : i < length xs) (at : x ≡ get_or xs i x) where
-  -- what the first i of the items gave
-  abbrev pub folded : ℕ → Z
-  folded n = fold f a (filter_map h (take n xs))
+  given-each : (h : Record → Option Entry) → ((r : Record) (e : Entry) → h r ≡ Some e → P (place_of e, e)) → (rs : List Record) → AllByRecursion (λ e. P (place_of e, e)) (filter_map h rs)
+  given-each h gives [] = tt
+  given-each h gives (r ∷ rs) =
+      elim (h r) as (λ o. h r ≡ o → AllByRecursion (λ e. P (place_of e, e)) (cons_option o (filter_map h rs))) [
+        | None ↦ λ _. given-each h gives rs
+        | Some e ↦ λ is. (gives r e is, given-each h gives rs)
+      ] refl
 
-  one_more : (z : Z) (o : Option Y) → fold f z (cons_option o []) ≡ option_map_or (f z) o z
-  one_more z None = refl
-  one_more z (Some y) = refl
+  pub entry_map-each : (rs : Records) → ((r : Record) (e : Entry) → entry_of rs r ≡ Some e → P (place_of e, e)) → AllByRecursion P (finmap.entries (entry_map rs))
+  unfolding entry_map
+  entry_map-each rs gives =
+      fold-each (filter_map (entry_of rs) (records_of rs)) finmap.empty (given-each (entry_of rs) gives (records_of rs)) (subst (AllByRecursion P) (sym entries-empty) tt)
 
-  pub folded_more : folded (i + 1) ≡ option_map_or (f (folded i)) (h x) (folded i)
-  folded_more =
-      let more = take_more xs i x within ∙ ap (λ y. take i xs ++ y ∷ []) (sym at) in
-      ap (λ ys. fold f a (filter_map h ys)) more
-      ∙ ap (fold f a) (filter_map-append h (take i xs) (x ∷ []))
-      ∙ fold-append f a (filter_map h (take i xs)) (filter_map h (x ∷ []))
-      ∙ one_more (folded i) (h x)
+-- each entry is kept at its own place
+abbrev pub ArePlaced : List (Place × Entry) → Type 0
+ArePlaced = AllByRecursion (λ kept. kept.0 ≡ place_of kept.1)
+
+pub entry_map-placed : (rs : Records) → ArePlaced (finmap.entries (entry_map rs))
+entry_map-placed rs = entry_map-each (λ kept. kept.0 ≡ place_of kept.1) rs (λ r e gives. refl)

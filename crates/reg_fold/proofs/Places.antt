@@ -31,8 +31,7 @@ use Rattle.reg_set.specs.Records.{placed as placed_record}
 use Rattle.reg_fold.specs.Entries.{entry_in, entry_of, entry_map}
 use Rattle.reg_entries.specs.EntryOrder.{Place, place_cmp, place_of}
 use Rattle.reg_entries.specs.declared.entry.Entry.{Entry}
-use Rattle.reg_fold.proofs.InOrder.{place_cmp-ties}
-use Rattle.reg_fold.proofs.Placed.{place_cmp-total, placed}
+use Rattle.reg_fold.proofs.Placed.{place_cmp-ties, place_cmp-total, placed}
 
 pub equal : (o : Ordering) → is_eq o ≡ true → o ≡ Equal
 equal Less h = absurd (false≢true h)

@@ -26,8 +26,7 @@ use Rattle.reg_fold.specs.Opaque.{is_opaque, is_version}
 use Rattle.reg_fold.specs.Step.{IsStep}
 use Rattle.reg_fold.specs.Spots.{Forgets, HasSpots, Spot, elsewhere, is_spot, spot_cmp, spot_of}
 use Rattle.reg_entries.specs.declared.entry.Entry.{Entry}
-use Rattle.reg_fold.proofs.InOrder.{place_cmp-ties, then_ties}
-use Rattle.reg_fold.proofs.Placed.{place_cmp-total}
+use Rattle.reg_fold.proofs.Placed.{place_cmp-ties, place_cmp-total, then_ties}
 use Rattle.reg_fold.proofs.Places.{equal, subject_of, version_of}
 use Rattle.reg_fold.proofs.Steps.{no_version}
 

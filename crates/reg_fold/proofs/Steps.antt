@@ -22,9 +22,8 @@ use Rattle.reg_entries.specs.Marked.{with_soft}
 use Rattle.reg_entries.specs.declared.entry.Entry.{Entry}
 use Rattle.reg_fold.proofs.Applies.{put_entry, after_version, after_other}
 use Rattle.reg_fold.proofs.Deletes.{after_own_delete}
-use Rattle.reg_fold.proofs.InOrder.{place_cmp-ties}
 use Rattle.reg_fold.proofs.OfLasts.{last_of_itself}
-use Rattle.reg_fold.proofs.Placed.{place_cmp-total}
+use Rattle.reg_fold.proofs.Placed.{place_cmp-ties, place_cmp-total}
 use Rattle.reg_fold.proofs.Places.{entry_at, entry_of-key, subject_of, version_of}
 
 pub entries_are_of_lasts : IsTotalOrder record_cmp → IsAntisymmetric record_cmp → LastIsGreatest → (S : Records) → last_records S ≡ S → EntriesAreOfLasts S

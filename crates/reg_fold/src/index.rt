@@ -5,19 +5,17 @@ ghost use Rattle.std.specs.FinSet as set;
 ghost use Rattle.reg_records.specs.declared.key.Key.TheVariants as keys;
 ghost use Rattle.reg_set.specs.LastRecords.{last, last_records, with_last};
 ghost use Rattle.reg_fold.specs.Entries.{AreOfLasts, entries, entry_of};
-ghost use Rattle.reg_fold.specs.InForce.{level_of};
-ghost use Rattle.reg_fold.specs.Opaque.{is_version, opaque};
-ghost use Rattle.reg_fold.specs.Remarked.{is_delete, is_soft_after};
-ghost use Rattle.reg_fold.specs.Scopes.{is_config};
+ghost use Rattle.reg_fold.specs.Opaque.{opaque};
+ghost use Rattle.reg_fold.specs.Remarked.{is_soft_after};
 ghost use Rattle.reg_fold.specs.Spots.{is_deleted};
 ghost use Rattle.reg_fold.specs.Step.{EntriesAreOfLasts, IsStep};
 ghost use Rattle.reg_entries.specs.EntryOrder.{place_of};
 ghost use Rattle.reg_entries.specs.Marked.{MarksEach};
 ghost use Rattle.reg_entries.specs.Sought.{of_subject};
 
-use crate::levels::Levels;
 use crate::marks::marks_of;
-use crate::reading::{Reading, level_of, reading_of};
+use crate::reading::{Reading, reading_of};
+use crate::scoped::Scoped;
 use crate::spots::{Spot, forget, forget_elsewhere, spot_of};
 use base_text::Text;
 use reg_entries::{Entries, Entry, Mark};
@@ -39,7 +37,9 @@ pub(crate) struct Index {
     // Where the versions are whose own values say deleted.
     pub(crate) deleted: BTreeSet<Spot>,
     // Those that scopes have of their own.
-    pub(crate) levels: Levels,
+    pub(crate) levels: Scoped<Level>,
+    // The names of those that scopes have of their own, as their records have them.
+    pub(crate) modes: Scoped<Text>,
 }
 
 impl Clone for Index {
@@ -55,6 +55,7 @@ impl Clone for Index {
             unread: self.unread.clone()?,
             deleted: self.deleted.clone()?,
             levels: self.levels.clone()?,
+            modes: self.modes.clone()?,
         })
     }
 }
@@ -74,7 +75,8 @@ impl Index {
             entries: Entries::new(alloc),
             unread: BTreeSet::new(alloc),
             deleted: BTreeSet::new(alloc),
-            levels: Levels::new(alloc),
+            levels: Scoped::new(alloc),
+            modes: Scoped::new(alloc),
         }
     }
 
@@ -92,7 +94,8 @@ impl Index {
             Key::Schema { subject, version } => self.apply_version(given, subject, *version),
             Key::DeleteSubject(subject) => self.apply_delete(given, subject),
             Key::Config(scope) => self.apply_config(given, scope),
-            Key::Mode(_) | Key::Noop => self.apply_other(given),
+            Key::Mode(scope) => self.apply_mode(given, scope),
+            Key::Noop => self.apply_noop(given),
         }
     }
 
@@ -259,66 +262,11 @@ impl Index {
         marks_of(self.alloc, &self.deleted, &found, given, &value)
     }
 
-    /// Adds the record of a level that is news.
-    fn apply_config(&mut self, given: &Record, scope: &Option<Text>) -> Result<(), AllocError>
+    /// Adds a record that says nothing and is news.
+    fn apply_noop(&mut self, given: &Record) -> Result<(), AllocError>
         requires kept { IsKept self.old }
         requires news { last_records (set.insert self.old.last given.now) ≢ self.old.last }
-        requires of_key { given.now.key ≡ keys.Config scope.now }
-        ensures kept { IsKept self.new }
-        ensures added { OnOk result (self.new.last ≡ last_records (set.insert self.old.last given.now)) }
-        ensures refused { OnErr result (self.new.last ≡ self.old.last) }
-    {
-        match level_of(self.alloc, given)? {
-            Some(level) => self.put_level(given, scope, level),
-            None => self.remove_level(given, scope),
-        }
-    }
-
-    /// Adds the record of a level that names one.
-    fn put_level(
-        &mut self,
-        given: &Record,
-        scope: &Option<Text>,
-        level: Level,
-    ) -> Result<(), AllocError>
-        requires kept { IsKept self.old }
-        requires news { last_records (set.insert self.old.last given.now) ≢ self.old.last }
-        requires of_key { given.now.key ≡ keys.Config scope.now }
-        requires names { level_of given.now ≡ Some level }
-        ensures kept { IsKept self.new }
-        ensures added { OnOk result (self.new.last ≡ last_records (set.insert self.old.last given.now)) }
-        ensures refused { OnErr result (self.new.last ≡ self.old.last) }
-    {
-        let before = put_last(&mut self.last, given)?;
-        if let Err(refused) = self.levels.put(scope, level) {
-            self.last.put_back(&given.key, before);
-            return Err(refused);
-        }
-        Ok(())
-    }
-
-    /// Adds the record of a level that names none.
-    fn remove_level(&mut self, given: &Record, scope: &Option<Text>) -> Result<(), AllocError>
-        requires kept { IsKept self.old }
-        requires news { last_records (set.insert self.old.last given.now) ≢ self.old.last }
-        requires of_key { given.now.key ≡ keys.Config scope.now }
-        requires names { level_of given.now ≡ None }
-        ensures kept { IsKept self.new }
-        ensures added { OnOk result (self.new.last ≡ last_records (set.insert self.old.last given.now)) }
-        ensures refused { OnErr result (self.new.last ≡ self.old.last) }
-    {
-        put_last(&mut self.last, given)?;
-        self.levels.remove(scope);
-        Ok(())
-    }
-
-    /// Adds the record of another key that is news.
-    fn apply_other(&mut self, given: &Record) -> Result<(), AllocError>
-        requires kept { IsKept self.old }
-        requires news { last_records (set.insert self.old.last given.now) ≢ self.old.last }
-        requires no_version { is_version given.now.key ≡ false }
-        requires no_delete { is_delete given.now.key ≡ false }
-        requires no_config { is_config given.now.key ≡ false }
+        requires of_key { given.now.key ≡ keys.Noop }
         ensures kept { IsKept self.new }
         ensures added { OnOk result (self.new.last ≡ last_records (set.insert self.old.last given.now)) }
         ensures refused { OnErr result (self.new.last ≡ self.old.last) }
@@ -375,7 +323,7 @@ fn put_with(
 }
 
 /// Makes a record that is news the last of its key, and gives the one before.
-fn put_last(lasts: &mut LastRecords, given: &Record) -> Result<Option<Record>, AllocError>
+pub(crate) fn put_last(lasts: &mut LastRecords, given: &Record) -> Result<Option<Record>, AllocError>
     requires { last_records (set.insert lasts.old given.now) ≢ lasts.old }
     ensures added { OnOk result (lasts.new ≡ last_records (set.insert lasts.old given.now)) }
     ensures step { OnOk result (IsStep lasts.old lasts.new given.now) }

@@ -3,10 +3,11 @@
 
 mod index;
 mod laws;
-mod levels;
 mod marks;
 mod reading;
 mod registry;
+mod scoped;
+mod settings;
 mod spots;
 mod version_ref;
 

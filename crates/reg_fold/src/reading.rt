@@ -2,7 +2,7 @@
 ghost use Rattle.std.specs.Prelude.{◌≡◌, [], IfOk, false, option_map};
 ghost use Rattle.std.specs.Option.{option_map_or};
 ghost use Rattle.reg_fold.specs.Entries.{entry_of};
-ghost use Rattle.reg_fold.specs.InForce.{level_of};
+ghost use Rattle.reg_fold.specs.InForce.{level_of, mode_name_of};
 ghost use Rattle.reg_fold.specs.Spots.{is_deleted};
 
 use crate::marks::is_marked;
@@ -76,6 +76,18 @@ pub(crate) fn level_of(alloc: Global, given: &Record) -> Result<Option<Level>, A
     match decode_value(alloc, given)? {
         Some(Value::Config(name)) => Ok(Level::parse(name.as_str())),
         Some(Value::Schema { .. } | Value::Mode(_) | Value::DeleteSubject { .. } | Value::Noop)
+        | None => Ok(None),
+    }
+}
+
+/// The name of the mode that a record has, if it has a mode's value.
+#[tactic(auto, unfolding(crate::specs::InForce::mode_name_of))]
+pub(crate) fn mode_name_of(alloc: Global, given: &Record) -> Result<Option<Text>, AllocError>
+    ensures { IfOk result (λ name. name ≡ mode_name_of given.now) }
+{
+    match decode_value(alloc, given)? {
+        Some(Value::Mode(name)) => Ok(Some(name)),
+        Some(Value::Schema { .. } | Value::Config(_) | Value::DeleteSubject { .. } | Value::Noop)
         | None => Ok(None),
     }
 }

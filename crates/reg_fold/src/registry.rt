@@ -15,6 +15,7 @@ ghost use Rattle.reg_entries.specs.Sought.{HasRisingVersions, counting, has_live
 
 use crate::index::Index;
 use crate::version_ref::VersionRef;
+use base_text::Text;
 use reg_entries::Entry;
 use reg_levels::Level;
 use reg_records::Record;
@@ -270,7 +271,7 @@ impl Registry {
     pub fn own_level(&self, subject: Option<&str>) -> Option<Level>
         ensures { result ≡ own_level self.now (option_map (λ s. s.now) subject.entry) }
     {
-        self.index.levels.of(subject)
+        self.index.levels.of(subject).copied()
     }
 
     /// The name of the mode that a subject has of its own, or of the one for all subjects, as its
@@ -278,7 +279,7 @@ impl Registry {
     pub fn own_mode_name(&self, subject: Option<&str>) -> Option<&str>
         ensures { option_map (λ s. s.now) result ≡ own_mode_name self.now (option_map (λ s. s.now) subject.entry) }
     {
-        self.index.modes.of(subject)
+        self.index.modes.of(subject).map(Text::as_str)
     }
 
     /// The least offset of a version's record that has a text and can't be read.

@@ -7,9 +7,8 @@ use Rattle.reg_entries.specs.Sought.{of_subject}
 use Rattle.reg_entries.specs.declared.entry.Entry.{Entry}
 use Rattle.reg_fold.specs.Opaque.{is_opaque, is_version}
 use Rattle.reg_fold.specs.Remarked.{is_soft_after}
-use Rattle.reg_fold.specs.Scopes.{is_config}
 use Rattle.reg_fold.specs.Spots.{is_deleted}
-use Rattle.reg_fold.proofs.Leveled.{levels-other}
+use Rattle.reg_fold.proofs.Owned.{is_config, is_mode, levels-stay, modes-stay}
 use Rattle.reg_fold.proofs.Spotted.{spots-other}
 use Rattle.reg_fold.proofs.Steps.{entries-marked}
 use Rattle.reg_fold.proofs.index.Index.apply_delete.Goals as goal
@@ -31,5 +30,6 @@ returns-clause-kept c =
           (λ p. marked p ∙ ap (λ (m : finmap.FinMap place_cmp Entry). option_map (λ (e : Entry). cond (bytes_eq e.subject name) (with_soft (soft e) e) e) (finmap.get m p)) c.requires.kept.all_entries);
       all_unread = spots-other is_opaque old.last after r step no_version old.unread c.requires.kept.all_unread;
       all_deleted = spots-other is_deleted old.last after r step no_version old.deleted c.requires.kept.all_deleted;
-      all_levels = levels-other old.last after r step (ap is_config c.requires.of_key) old.levels c.requires.kept.all_levels;
+      all_levels = levels-stay old.last after r step old.levels c.requires.kept.all_levels (ap is_config c.requires.of_key);
+      all_modes = modes-stay old.last after r step old.modes c.requires.kept.all_modes (ap is_mode c.requires.of_key);
     }

@@ -3,9 +3,8 @@ use Rattle.std.specs.FinMap as finmap
 use Rattle.reg_entries.specs.EntryOrder.{place_cmp}
 use Rattle.reg_entries.specs.declared.entry.Entry.{Entry}
 use Rattle.reg_fold.specs.Opaque.{is_opaque}
-use Rattle.reg_fold.specs.Scopes.{is_config}
 use Rattle.reg_fold.specs.Spots.{Forgets, is_deleted}
-use Rattle.reg_fold.proofs.Leveled.{levels-other}
+use Rattle.reg_fold.proofs.Owned.{is_config, is_mode, levels-stay, modes-stay}
 use Rattle.reg_fold.proofs.Spotted.{spots-forgotten, without_text}
 use Rattle.reg_fold.proofs.Steps.{entries-removed}
 use Rattle.reg_fold.proofs.index.Index.put_tombstone.Goals as goal
@@ -24,5 +23,6 @@ returns-clause-kept c =
           (subst (λ o. Forgets o old.unread c.forget.new.spots) c.spot_of-spot.ensures c.forget.ensures);
       all_deleted = spots-forgotten is_deleted old.last after r last.step place c.requires.of_key c.in_ok-before.before last.before old.deleted c.requires.kept.all_deleted c.requires.own c.forget-2.new.spots
           (subst (λ o. Forgets o old.deleted c.forget-2.new.spots) c.spot_of-spot.ensures c.forget-2.ensures);
-      all_levels = levels-other old.last after r last.step (ap is_config c.requires.of_key) old.levels c.requires.kept.all_levels;
+      all_levels = levels-stay old.last after r last.step old.levels c.requires.kept.all_levels (ap is_config c.requires.of_key);
+      all_modes = modes-stay old.last after r last.step old.modes c.requires.kept.all_modes (ap is_mode c.requires.of_key);
     }

@@ -1,0 +1,80 @@
+// The records of levels and modes, which scopes have of their own.
+ghost use Rattle.std.specs.Prelude.{◌≡◌, ◌≢◌, OnOk, OnErr};
+ghost use Rattle.std.specs.FinSet as set;
+ghost use Rattle.reg_records.specs.declared.key.Key.TheVariants as keys;
+ghost use Rattle.reg_set.specs.LastRecords.{last_records};
+ghost use Rattle.reg_fold.specs.InForce.{Scope};
+ghost use Rattle.reg_fold.specs.Scopes.{HasOwn, kept_own};
+ghost use Rattle.reg_fold.specs.Step.{IsStep};
+
+use crate::index::{Index, put_last};
+use crate::reading::{level_of, mode_name_of};
+use crate::scoped::Scoped;
+use base_text::Text;
+use reg_records::Record;
+use reg_set::LastRecords;
+use std::alloc::AllocError;
+
+impl Index {
+    ghost use Rattle.reg_fold.specs.Kept.{IsKept};
+
+    /// Adds the record of a level that is news.
+    pub(crate) fn apply_config(
+        &mut self,
+        given: &Record,
+        scope: &Option<Text>,
+    ) -> Result<(), AllocError>
+        requires kept { IsKept self.old }
+        requires news { last_records (set.insert self.old.last given.now) ≢ self.old.last }
+        requires of_key { given.now.key ≡ keys.Config scope.now }
+        ensures kept { IsKept self.new }
+        ensures added { OnOk result (self.new.last ≡ last_records (set.insert self.old.last given.now)) }
+        ensures refused { OnErr result (self.new.last ≡ self.old.last) }
+    {
+        let level = level_of(self.alloc, given)?;
+        put_own(&mut self.last, &mut self.levels, given, scope, level)?;
+        Ok(())
+    }
+
+    /// Adds the record of a mode that is news.
+    pub(crate) fn apply_mode(
+        &mut self,
+        given: &Record,
+        scope: &Option<Text>,
+    ) -> Result<(), AllocError>
+        requires kept { IsKept self.old }
+        requires news { last_records (set.insert self.old.last given.now) ≢ self.old.last }
+        requires of_key { given.now.key ≡ keys.Mode scope.now }
+        ensures kept { IsKept self.new }
+        ensures added { OnOk result (self.new.last ≡ last_records (set.insert self.old.last given.now)) }
+        ensures refused { OnErr result (self.new.last ≡ self.old.last) }
+    {
+        let name = mode_name_of(self.alloc, given)?;
+        put_own(&mut self.last, &mut self.modes, given, scope, name)?;
+        Ok(())
+    }
+}
+
+/// Makes a record that is news the last of its key, and gives the scope its own, or takes away what
+/// it has. The only error is want of memory; all is then as it was.
+fn put_own<T: Drop>(
+    lasts: &mut LastRecords,
+    owns: &mut Scoped<T>,
+    given: &Record,
+    scope: &Option<Text>,
+    own: Option<T>,
+) -> Result<(), AllocError>
+    requires { last_records (set.insert lasts.old given.now) ≢ lasts.old }
+    ensures added { OnOk result (lasts.new ≡ last_records (set.insert lasts.old given.now)) }
+    ensures step { OnOk result (IsStep lasts.old lasts.new given.now) }
+    ensures set { OnOk result (HasOwn owns.old owns.new scope.now own) }
+    ensures lasts_stay { OnErr result (lasts.new ≡ lasts.old) }
+    ensures owns_stay { OnErr result ((q : Scope) → kept_own owns.new q ≡ kept_own owns.old q) }
+{
+    let before = put_last(lasts, given)?;
+    if let Err(refused) = owns.set(scope, own) {
+        lasts.put_back(&given.key, before);
+        return Err(refused);
+    }
+    Ok(())
+}
