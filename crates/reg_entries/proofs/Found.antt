@@ -95,7 +95,7 @@ module _ (subject : List ℕ) (p : Entry → Bool) (of_subject : (e : Entry) →
         | false ↦ λ _. rest
       ] refl
 
-  rising : (es : List Entry) → IsInOrder es → IsStrictlySortedBy nat_cmp (map (λ e. e.version) (filter p es))
+  pub rising : (es : List Entry) → IsInOrder es → IsStrictlySortedBy nat_cmp (map (λ e. e.version) (filter p es))
   unfolding IsStrictlySortedBy
   rising [] h = tt
   rising (e ∷ es) h =

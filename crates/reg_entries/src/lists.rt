@@ -1,9 +1,10 @@
 // Entries in lists, and their marks.
-ghost use Rattle.std.specs.Prelude.{◌≡◌, false, IfOk, map, not, option_map, if◌then◌else◌};
+ghost use Rattle.std.specs.Prelude.{◌≡◌, false, IfOk, map, not, option_map, reverse, if◌then◌else◌};
 ghost use Rattle.std.specs.BTreeMap.{IsOrdered, values};
 ghost use Rattle.std.specs.BTreeMap.Range.{entries_between};
-ghost use Rattle.std.specs.List.{filter};
+ghost use Rattle.std.specs.List.{filter, find};
 ghost use Rattle.std.specs.Map.{values_of};
+ghost use Rattle.std.specs.Option.{option_copied};
 ghost use Rattle.std.specs.Ordering.{eq_by_cmp, is_gt};
 ghost use Rattle.reg_entries.specs.EntryOrder.{Place, place_cmp};
 ghost use Rattle.reg_entries.specs.Index.{entry_at, ArePlaced};
@@ -42,6 +43,24 @@ pub(crate) fn list_between<'a>(
         found.push(entry)?;
     }
     Ok(found)
+}
+
+/// The last entry that counts of those from one place to another. This goes back from the last one
+/// until one counts.
+pub(crate) fn last_counting<'a>(
+    entries: &'a BTreeMap<At, Entry>,
+    first: &At,
+    last: &At,
+    deleted: bool,
+) -> Option<&'a Entry>
+    requires { is_gt (place_cmp first.now last.now) ≡ false }
+    ensures { option_copied result ≡ find (counts deleted) (reverse (values_of (entries_between place_cmp (Bound.Included first.now) (Bound.Included last.now) entries.now.entries))) }
+{
+    entries
+        .range((Bound::Included(first), Bound::Included(last)))
+        .rev()
+        .map(|(_, entry)| entry)
+        .find(|entry| counts(entry, deleted))
 }
 
 /// Leaves those that count.
