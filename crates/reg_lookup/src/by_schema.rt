@@ -1,5 +1,9 @@
 // The query by a schema.
-ghost use Rattle.std.specs.Prelude.{◌≡◌, IfOk, IfErr, Ok};
+ghost use Rattle.std.specs.Prelude.{◌≡◌, IfOk, IfErr, Ok, bytes_eq, map};
+ghost use Rattle.std.specs.List.{filter, reduce};
+ghost use Rattle.std.specs.Option.{option_copied};
+ghost use Rattle.std.specs.Ordering.{nat_cmp, on, ord_max};
+ghost use Rattle.reg_entries.specs.Sought.{HasRisingVersions};
 ghost use Rattle.reg_fold.specs.Entries.{entries};
 ghost use Rattle.reg_lookup.specs.BySchema as spec;
 ghost use Rattle.reg_lookup.specs.Gives.{IsRefusalOf};
