@@ -149,7 +149,7 @@ module _ (test : ℕ → Bool) where
       ] refl h
 
 -- the names from the least of an id to the least of the next are those of the id
-abbrev of_id : ℕ → Name → Bool
+abbrev pub of_id : ℕ → Name → Bool
 of_id id k = range_contains name_cmp (Included (id, 0, ([], 0))) (Excluded (id + 1, 0, ([], 0))) k
 
 after_zero : (k : Name) → is_gt (ordering_then (nat_cmp 0 k.1) (place_cmp ([], 0) k.2)) ≡ false
@@ -180,7 +180,7 @@ forward id = ap (λ o. is_gt (ordering_then (ordering_then o (nat_cmp 0 0)) (pla
     next : (a : ℕ) → nat_cmp a (a + 1) ≡ Less
     next a = grind (arith, nat_tests)
 
-within_id : (k : Name) (id : ℕ) → k.0 ≡ id → of_id id k ≡ true
+pub within_id : (k : Name) (id : ℕ) → k.0 ≡ id → of_id id k ≡ true
 within_id k id same =
     both _ _
     (ap (λ o. is_le (by_rest k o)) (ap (nat_cmp id) same ∙ tied_itself nat_cmp_total id) ∙ up_to_it _ (after_zero k))
@@ -189,7 +189,7 @@ within_id k id same =
     above : (a b : ℕ) → a ≡ b → a < b + 1
     above a b h = omega (arith, h)
 
-id_within : (k : Name) (id : ℕ) → of_id id k ≡ true → k.0 ≡ id
+pub id_within : (k : Name) (id : ℕ) → of_id id k ≡ true → k.0 ≡ id
 id_within k id h = between id k.0 (from (nat_cmp id k.0) refl (first _ _ h)) (up_to (nat_cmp (id + 1) k.0) refl (second (is_le (by_rest k (nat_cmp id k.0))) _ h))
   where
     between : (a b : ℕ) → a ≤ b → b < a + 1 → b ≡ a
@@ -225,7 +225,7 @@ module _ (es : List Entry) where
 
 module _ (m : BTreeMap Place Entry) (names : BTreeSet Name) (ordered : IsOrdered place_cmp m) (placed : ArePlaced m) (names_are : AreNamed m names) where
   -- an entry at a place has its name in the set
-  has_its_name : (q : Place) (e : Entry) → entry_at m q ≡ Some e → contains name_cmp names (name_of e) ≡ true
+  pub has_its_name : (q : Place) (e : Entry) → entry_at m q ≡ Some e → contains name_cmp names (name_of e) ≡ true
   has_its_name q e found =
       names_are (name_of e) ∙ ap (λ o. option_map_or (λ f. eq_by_cmp name_cmp (name_of f) (name_of e)) o false) (ap (entry_at m) (own_place m placed q e found) ∙ found)
       ∙ ap is_eq (tied_itself name_cmp-total (name_of e))

@@ -12,7 +12,7 @@ use Rattle.reg_entries.proofs.Doubled.{all_in, apart, one_text, out_of_filter, r
 use Rattle.reg_entries.proofs.Listed.{by_bool}
 
 -- what is true of each item that is in the list
-all_from : {X : Type 0} (P : X → Type 0) (xs : List X) → ((x : X) → IsIn x xs → P x) → AllByRecursion P xs
+pub all_from : {X : Type 0} (P : X → Type 0) (xs : List X) → ((x : X) → IsIn x xs → P x) → AllByRecursion P xs
 all_from P [] h = tt
 all_from P (x ∷ xs) h = (h x (inl refl), all_from P xs (λ y i. h y (inr i)))
 

@@ -13,4 +13,5 @@ pub mod Doubled
 pub mod Least
 pub mod Marks
 pub mod Latest
+pub mod OfId
 pub mod Copies

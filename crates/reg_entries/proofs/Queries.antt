@@ -40,7 +40,7 @@ none_below_zero : (a : ℕ) → ¬ (nat_cmp a 0 ≡ Less)
 none_below_zero a h = absurd (grind (arith, nat_tests))
 
 -- what isn't before x is x, or comes after it
-turned : {X : Type 0} (cmp : X → X → Ordering) → IsTotalOrder cmp → (x y : X) → is_lt (cmp x y) ≡ false → (cmp y x ≡ Less) ⊎ (cmp x y ≡ Equal)
+pub turned : {X : Type 0} (cmp : X → X → Ordering) → IsTotalOrder cmp → (x y : X) → is_lt (cmp x y) ≡ false → (cmp y x ≡ Less) ⊎ (cmp x y ≡ Equal)
 turned cmp total x y h =
     elim (cmp x y) as (λ o. cmp x y ≡ o → is_lt o ≡ false → (cmp y x ≡ Less) ⊎ (cmp x y ≡ Equal)) [
       | Less ↦ λ is f. absurd (false≢true (sym f))

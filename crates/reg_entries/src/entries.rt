@@ -8,6 +8,7 @@ ghost use Rattle.reg_entries.specs.Sought.{of_subject, counting, latest, of_vers
 ghost use Rattle.reg_entries.specs.declared.entry.Entry.{Entry};
 
 use crate::entry::{Entry, Mark};
+use crate::ids::list_with_id;
 use crate::lists::{
     any_live, counts, keep_counting, last_counting, list_all, list_between, set_marks,
 };
@@ -215,10 +216,13 @@ impl Entries {
     }
 
     /// The entries with an id, soft ones too, by place. The only error is want of memory.
+    ///
+    /// It looks at these entries alone, by the names that the id has.
     pub fn with_id(&self, id: u32) -> Result<Vec<&Entry>, AllocError>
         ensures { IfOk result (λ found. map (λ e. e.now) found.items ≡ with_id (finmap.values self.now) id) }
     {
-        Err(AllocError)
+        let found = list_with_id(self.alloc, &self.entries, &self.names, id)?;
+        Ok(found)
     }
 
     /// The entry that an id names: of the entries with that id, soft ones too, the one of greatest

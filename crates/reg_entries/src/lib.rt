@@ -3,6 +3,7 @@
 
 mod entries;
 mod entry;
+mod ids;
 mod laws;
 mod lists;
 mod names;

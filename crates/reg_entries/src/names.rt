@@ -1,7 +1,8 @@
 // The names of entries, and the greatest versions of subjects: what is kept beside the entries.
 ghost use Rattle.std.specs.Prelude.{◌≡◌, ◌+◌, [], ◌⊎◌, ◌≤◌, ◌<◌, ◌^◌, ℕ, List, Some, false, cond, not, ◌&&◌, ◌||◌, ◌==◌, bytes_eq, IfOk, OnOk, OnErr, IsSome};
 ghost use Rattle.std.specs.BTreeMap.{IsOrdered, get_by_text};
-ghost use Rattle.std.specs.BTreeSet.{contains};
+ghost use Rattle.std.specs.BTreeSet as tree_set;
+ghost use Rattle.std.specs.BTreeSet.{contains, keys_between};
 ghost use Rattle.std.specs.Ordering.{eq_by_cmp};
 ghost use Rattle.reg_entries.specs.EntryOrder.{place_cmp, place_of};
 ghost use Rattle.reg_entries.specs.Index.{Name, name_of, name_cmp, kept_version, HasAt, ArePlaced, AreNamed, IsGreatestBelow};
@@ -9,7 +10,9 @@ ghost use Rattle.reg_entries.specs.Index.{Name, name_of, name_cmp, kept_version,
 use crate::entry::Entry;
 use base_text::Text;
 use std::alloc::{AllocError, Global};
+use std::collections::btree_set::Range;
 use std::collections::{BTreeMap, BTreeSet};
+use std::ops::Bound;
 
 /// A subject and a version.
 pub(crate) type At = (Text, u32);
@@ -34,11 +37,28 @@ pub(crate) fn name_of(entry: &Entry) -> Result<Name, AllocError>
     Ok((u64::from(entry.id), entry.offset, place_of(entry)?))
 }
 
+/// The least name of an id.
+fn first_name(alloc: Global, id: u32) -> Name
+    ensures { result ≡ (id, 0, ([], 0)) }
+{
+    (u64::from(id), 0, (Text::from(String::new(alloc)), 0))
+}
+
 /// The least name of the ids above that one.
 pub(crate) fn name_above(alloc: Global, id: u32) -> Name
     ensures { result ≡ (id + 1, 0, ([], 0)) }
 {
     (u64::from(id) + 1, 0, (Text::from(String::new(alloc)), 0))
+}
+
+/// The names of an id, in their order.
+pub(crate) fn names_of<'a>(alloc: Global, names: &'a BTreeSet<Name>, id: u32) -> Range<'a, Name>
+    ensures names { result ≡ keys_between name_cmp (Bound.Included (id, 0, ([], 0))) (Bound.Excluded (id + 1, 0, ([], 0))) names.now }
+    ensures ordered { tree_set.IsOrdered name_cmp names.now }
+{
+    let first = first_name(alloc, id);
+    let above = name_above(alloc, id);
+    names.range((Bound::Included(&first), Bound::Excluded(&above)))
 }
 
 /// Takes the name of an entry away.

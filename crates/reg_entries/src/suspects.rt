@@ -1,5 +1,5 @@
 // The ids that entries of different schemas may have.
-ghost use Rattle.std.specs.Prelude.{◌≡◌, [], ℕ, true, not, ◌&&◌, ◌==◌, bytes_eq, OnOk};
+ghost use Rattle.std.specs.Prelude.{◌≡◌, ℕ, true, not, ◌&&◌, ◌==◌, bytes_eq, OnOk};
 ghost use Rattle.std.specs.BTreeMap.{IsOrdered};
 ghost use Rattle.std.specs.BTreeSet.{contains};
 ghost use Rattle.std.specs.List.{list_any};
@@ -11,11 +11,10 @@ ghost use Rattle.reg_entries.specs.Index.{ArePlaced, AreNamed};
 ghost use Rattle.reg_entries.specs.Schemas.{is_other};
 
 use crate::entry::Entry;
-use crate::names::{At, Name, name_above};
+use crate::names::{At, Name, names_of};
 use base_text::Text;
 use std::alloc::{AllocError, Global};
 use std::collections::{BTreeMap, BTreeSet};
-use std::ops::Bound;
 
 /// Whether an entry, if there is one, has another normal text.
 pub(crate) fn is_other(found: Option<&Entry>, normal: &Text) -> bool
@@ -38,13 +37,6 @@ pub(crate) fn suspect(suspects: &mut BTreeSet<u32>, id: u32, asked: bool) -> Res
     Ok(())
 }
 
-/// The least name of an id.
-fn first_name(alloc: Global, id: u32) -> Name
-    ensures { result ≡ (id, 0, ([], 0)) }
-{
-    (u64::from(id), 0, (Text::from(String::new(alloc)), 0))
-}
-
 /// Whether an entry of an id has another normal text. This goes through the entries of the id.
 pub(crate) fn has_other(
     alloc: Global,
@@ -58,9 +50,5 @@ pub(crate) fn has_other(
     requires named { AreNamed entries.now names.now }
     ensures { result ≡ list_any (λ o. o.id == id && not (bytes_eq o.normal normal.now)) (values_of entries.now.entries) }
 {
-    let first = first_name(alloc, id);
-    let above = name_above(alloc, id);
-    names
-        .range((Bound::Included(&first), Bound::Excluded(&above)))
-        .any(|name| is_other(entries.get(&name.2), normal))
+    names_of(alloc, names, id).any(|name| is_other(entries.get(&name.2), normal))
 }

@@ -1,0 +1,47 @@
+// The entries of an id.
+ghost use Rattle.std.specs.Prelude.{◌≡◌, IfOk, map};
+ghost use Rattle.std.specs.BTreeMap.{IsOrdered};
+ghost use Rattle.std.specs.Map.{values_of};
+ghost use Rattle.std.specs.Ordering.{on};
+ghost use Rattle.reg_entries.specs.EntryOrder.{place_cmp, place_of};
+ghost use Rattle.reg_entries.specs.Index.{ArePlaced, AreNamed};
+ghost use Rattle.reg_entries.specs.Sought.{with_id};
+
+use crate::entry::Entry;
+use crate::names::{At, Name, names_of};
+use std::alloc::{AllocError, Global};
+use std::cmp::Ordering;
+use std::collections::{BTreeMap, BTreeSet};
+
+/// The entries with an id, by place. This goes through the names of the id, and sorts what they
+/// name.
+pub(crate) fn list_with_id<'a>(
+    alloc: Global,
+    entries: &'a BTreeMap<At, Entry>,
+    names: &BTreeSet<Name>,
+    id: u32,
+) -> Result<Vec<&'a Entry>, AllocError>
+    requires ordered { IsOrdered place_cmp entries.now }
+    requires placed { ArePlaced entries.now }
+    requires named { AreNamed entries.now names.now }
+    ensures { IfOk result (λ found. map (λ e. e.now) found.items ≡ with_id (values_of entries.now.entries) id) }
+{
+    let mut found = Vec::new(alloc);
+    for name in names_of(alloc, names, id) {
+        let Some(entry) = entries.get(&name.2) else {
+            continue;
+        };
+        found.push(entry)?;
+    }
+    found.sort_unstable_by(|one, other| by_place(one, other));
+    Ok(found)
+}
+
+/// How two entries stand by place.
+fn by_place(one: &Entry, other: &Entry) -> Ordering
+    ensures { result ≡ on place_of place_cmp one.now other.now }
+{
+    one.subject
+        .cmp(&other.subject)
+        .then(one.version.cmp(&other.version))
+}
