@@ -1,13 +1,12 @@
 // A verdict that is kept with what it was made of.
-ghost use Rattle.std.specs.Prelude.{◌≡◌, ◌↔◌, ℕ, List, None, true, IsTrue, IfOk, IfErr, OnOk, map};
-ghost use Rattle.reg_levels.specs.RequiredPairs.{HasRisingVersions, Version};
-ghost use Rattle.reg_levels.specs.Texts.{is_schema, versions_in};
-ghost use Rattle.reg_levels.specs.Judgement.{IsTrueVerdict, IsMadeOf, first_unread};
+ghost use Rattle.std.specs.Prelude.{◌≡◌, ◌↔◌, IsTrue, IfOk, IfErr, map};
+ghost use Rattle.reg_levels.specs.RequiredPairs.{HasRisingVersions};
+ghost use Rattle.reg_levels.specs.Judgement.{IsTrueVerdict, IsMadeOf};
 ghost use Rattle.reg_levels.specs.JudgedError.{IsJudgedRefusal};
 
-use crate::checking::check;
 use crate::judged_error::JudgedError;
 use crate::level::Level;
+use crate::texts::check_texts;
 use crate::verdict::LevelVerdict;
 use avro_schema::Schema;
 use base_text::{Listed, Text};
@@ -49,13 +48,11 @@ impl Judged {
         ensures made { IfOk result (λ j. IsMadeOf j level new_text.now (map (λ old. (old.0, old.1.now)) olds.now)) }
         ensures refused { IfErr result (IsJudgedRefusal new_text.now (map (λ old. (old.0, old.1.now)) olds.now)) }
     {
-        let new_text = Text::copy_of(alloc, new_text)?;
-        let olds = copy_of(alloc, olds)?;
-        let verdict = judge(alloc, level, new_text.as_str(), olds.as_slice())?;
+        let verdict = judge(alloc, level, new_text, olds)?;
         Ok(Judged {
             level,
-            new_text,
-            olds,
+            new_text: Text::copy_of(alloc, new_text)?,
+            olds: copy_of(alloc, olds)?,
             verdict,
         })
     }
@@ -83,49 +80,16 @@ fn judge(
     alloc: Global,
     level: Level,
     new_text: &str,
-    olds: &[(u32, Text)],
+    olds: &[(u32, &str)],
 ) -> Result<LevelVerdict, JudgedError>
     requires { HasRisingVersions olds.now }
-    ensures judged { IfOk result (IsTrueVerdict level new_text.now olds.now) }
-    ensures refused { IfErr result (IsJudgedRefusal new_text.now olds.now) }
+    ensures judged { IfOk result (IsTrueVerdict level new_text.now (map (λ old. (old.0, old.1.now)) olds.now)) }
+    ensures refused { IfErr result (IsJudgedRefusal new_text.now (map (λ old. (old.0, old.1.now)) olds.now)) }
 {
     let Some(new) = Schema::read_if_any(alloc, new_text)? else {
         return Err(JudgedError::NewText);
     };
-    let schemas = read_olds(alloc, olds)?;
-    let versions = versions_of(alloc, &schemas)?;
-    Ok(check(alloc, level, &new, &versions)?)
-}
-
-/// The schemas of the old texts, each with its version.
-fn read_olds(alloc: Global, olds: &[(u32, Text)]) -> Result<Vec<(u32, Schema)>, JudgedError>
-    ensures versions { IfOk result (λ schemas. map (λ old. (old.0, old.1.nodes)) schemas.items ≡ versions_in olds.now) }
-    ensures read { OnOk result (first_unread olds.now ≡ None) }
-    ensures refused { IfErr result (λ e. (new_text : List ℕ) → is_schema new_text ≡ true → IsJudgedRefusal new_text olds.now e) }
-{
-    let mut schemas = Vec::new(alloc);
-    for old in olds {
-        let Some(schema) = Schema::read_if_any(alloc, old.1.as_str())? else {
-            return Err(JudgedError::OldText(old.0));
-        };
-        schemas.push((old.0, schema))?;
-    }
-    Ok(schemas)
-}
-
-/// The same versions, with their schemas lent.
-fn versions_of<'a>(
-    alloc: Global,
-    schemas: &'a [(u32, Schema)],
-) -> Result<Vec<(u32, &'a Schema)>, AllocError>
-    ensures { IfOk result (λ versions. map {B = Version} (λ old. (old.0, old.1.now.nodes)) versions.items
-        ≡ map {B = Version} (λ old. (old.0, old.1.nodes)) schemas.now) }
-{
-    let mut versions = Vec::new(alloc);
-    for old in schemas {
-        versions.push((old.0, &old.1))?;
-    }
-    Ok(versions)
+    check_texts(alloc, level, &new, olds)
 }
 
 /// A copy of the versions and texts.

@@ -7,6 +7,7 @@ mod direction;
 mod judged;
 mod judged_error;
 mod level;
+mod texts;
 mod verdict;
 mod versions;
 
@@ -15,5 +16,6 @@ pub use direction::Direction;
 pub use judged::Judged;
 pub use judged_error::JudgedError;
 pub use level::Level;
+pub use texts::check_texts;
 pub use verdict::LevelVerdict;
 pub use versions::versions_rise;

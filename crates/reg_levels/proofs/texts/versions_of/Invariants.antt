@@ -1,6 +1,6 @@
 use Rattle.std.proofs.Common.{◌≡◌, take, map}
 use Rattle.reg_levels.specs.RequiredPairs.{Version}
-use Rattle.reg_levels.proofs.judged.versions_of.Given as goal
+use Rattle.reg_levels.proofs.texts.versions_of.Given as goal
 
 abbrev pub invariant-loop-old : goal.invariant-loop-old
 invariant-loop-old l =

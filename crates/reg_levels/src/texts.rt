@@ -1,0 +1,69 @@
+// Whether a new schema meets a level against old versions that are given by their texts.
+ghost use Rattle.std.specs.Prelude.{◌≡◌, ℕ, List, None, true, IfOk, IfErr, OnOk, map};
+ghost use Rattle.reg_levels.specs.RequiredPairs.{HasRisingVersions, Version};
+ghost use Rattle.reg_levels.specs.LevelVerdict.{IsLevelVerdict};
+ghost use Rattle.reg_levels.specs.Texts.{is_schema, versions_in};
+ghost use Rattle.reg_levels.specs.Judgement.{first_unread};
+ghost use Rattle.reg_levels.specs.JudgedError.{IsJudgedRefusal};
+
+use crate::checking::check;
+use crate::judged_error::JudgedError;
+use crate::level::Level;
+use crate::verdict::LevelVerdict;
+use avro_schema::Schema;
+use std::alloc::{AllocError, Global};
+
+/// Whether a new schema meets a level against the old versions, which stand by ascending version
+/// and are given by their texts.
+///
+/// Refused is the first old text that is no schema's, also one that the level doesn't look at. It
+/// is never the new one.
+pub fn check_texts(
+    alloc: Global,
+    level: Level,
+    new: &Schema,
+    olds: &[(u32, &str)],
+) -> Result<LevelVerdict, JudgedError>
+    requires { HasRisingVersions olds.now }
+    ensures verdict { IfOk result (IsLevelVerdict level new.now.nodes (versions_in (map (λ old. (old.0, old.1.now)) olds.now))) }
+    ensures read { OnOk result (first_unread (map (λ old. (old.0, old.1.now)) olds.now) ≡ None) }
+    ensures refused { IfErr result (λ e. (new_text : List ℕ) → is_schema new_text ≡ true
+        → IsJudgedRefusal new_text (map (λ old. (old.0, old.1.now)) olds.now) e) }
+{
+    let schemas = read_olds(alloc, olds)?;
+    let versions = versions_of(alloc, &schemas)?;
+    Ok(check(alloc, level, new, &versions)?)
+}
+
+/// The schemas of the old texts, each with its version.
+fn read_olds(alloc: Global, olds: &[(u32, &str)]) -> Result<Vec<(u32, Schema)>, JudgedError>
+    ensures versions { IfOk result (λ schemas. map (λ old. (old.0, old.1.nodes)) schemas.items
+        ≡ versions_in (map (λ old. (old.0, old.1.now)) olds.now)) }
+    ensures read { OnOk result (first_unread (map (λ old. (old.0, old.1.now)) olds.now) ≡ None) }
+    ensures refused { IfErr result (λ e. (new_text : List ℕ) → is_schema new_text ≡ true
+        → IsJudgedRefusal new_text (map (λ old. (old.0, old.1.now)) olds.now) e) }
+{
+    let mut schemas = Vec::new(alloc);
+    for old in olds {
+        let Some(schema) = Schema::read_if_any(alloc, old.1)? else {
+            return Err(JudgedError::OldText(old.0));
+        };
+        schemas.push((old.0, schema))?;
+    }
+    Ok(schemas)
+}
+
+/// The same versions, with their schemas lent.
+fn versions_of<'a>(
+    alloc: Global,
+    schemas: &'a [(u32, Schema)],
+) -> Result<Vec<(u32, &'a Schema)>, AllocError>
+    ensures { IfOk result (λ versions. map {B = Version} (λ old. (old.0, old.1.now.nodes)) versions.items
+        ≡ map {B = Version} (λ old. (old.0, old.1.nodes)) schemas.now) }
+{
+    let mut versions = Vec::new(alloc);
+    for old in schemas {
+        versions.push((old.0, &old.1))?;
+    }
+    Ok(versions)
+}
