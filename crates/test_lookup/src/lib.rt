@@ -1,5 +1,9 @@
-//! Tests of what is answered to queries, over the public calls.
+//! Tests of queries and modes over the public calls.
 #![tactic(auto)]
 
 #[cfg(test)]
 mod answers;
+#[cfg(test)]
+mod logs;
+#[cfg(test)]
+mod modes;
