@@ -1,38 +1,36 @@
 -- The last of a subject's entries that counts, and the one of a version.
 use Rattle.std.proofs.Common.{◌≡◌, ◌==◌, ℕ, Bool, true, false, cond, inl, inr, List, [], ◌∷◌, ◌++◌, length, map, reverse, Option, Some, None, refl, sym, ap, subst, ◌∙◌, arith}
-use Rattle.std.proofs.lemmas.Bool.{false≢true}
 use Rattle.std.proofs.lemmas.Cmp.{nat_cmp_total, on_total}
 use Rattle.std.proofs.lemmas.Iterator.{YieldsList}
 use Rattle.std.proofs.lemmas.Iterator.Consumers.{YieldsList-from_shown}
 use Rattle.std.proofs.lemmas.List.{map-append, reverse-append}
-use Rattle.std.proofs.lemmas.Option.{same_Some}
 use Rattle.std.proofs.lemmas.List.Folds.{find-append}
-use Rattle.std.proofs.lemmas.Slice.Eq.{bytes_eq-Decides}
 use Rattle.std.proofs.lemmas.List.Kept.{IsStrictlySortedBy-filter}
 use Rattle.std.proofs.lemmas.Map.Entries.{option_filter}
+use Rattle.std.proofs.lemmas.Option.{same_Some}
+use Rattle.std.proofs.lemmas.Slice.Eq.{bytes_eq-Decides}
 use Rattle.std.specs.BTreeMap.{BTreeMap, IsOrdered}
+use Rattle.std.specs.Bool.{then_some}
 use Rattle.std.specs.Cmp.{IsTotalOrder}
-use Rattle.std.specs.Map.{values_of}
 use Rattle.std.specs.Iterator.Adapters.{rev_source, rev_steps}
 use Rattle.std.specs.List.{filter, find, fold, reduce, AllByRecursion}
 use Rattle.std.specs.List.Sorted.{IsStrictlySortedBy}
+use Rattle.std.specs.Map.{values_of}
 use Rattle.std.specs.Map.Iter.{TakesLast}
 use Rattle.std.specs.Option.{option_copied, option_or}
 use Rattle.std.specs.Ordering.{is_lt, nat_cmp, on, ord_max, ordering_reverse}
-use Rattle.std.specs.declared.cmp.Ordering.{Ordering}
-use Rattle.std.specs.declared.cmp.Ordering.TheVariants.{Less}
-use Rattle.std.specs.Bool.{then_some}
 use Rattle.std.specs.Prelude.{bytes_eq, MatchOption}
+use Rattle.std.specs.declared.cmp.Ordering.TheVariants.{Less}
+use Rattle.std.specs.declared.cmp.Ordering.{Ordering}
 use Rattle.std.specs.declared.iter.Rev.{Rev}
-use denote.Ref.{Bor}
 use Rattle.reg_entries.specs.EntryOrder.{Place, place_cmp, place_of}
 use Rattle.reg_entries.specs.Index.{entry_at, ArePlaced}
 use Rattle.reg_entries.specs.Sought.{counts, latest, of_version}
 use Rattle.reg_entries.specs.declared.entry.Entry.{Entry}
 use Rattle.reg_entries.proofs.Chosen.{IsIn, all_filter, all_map, in_filter}
-use Rattle.reg_entries.proofs.Doubled.{all_in}
-use Rattle.reg_entries.proofs.Found.{all_found, at_places, between_is_subject, in_values, not_both, rising, values_in_order}
+use Rattle.reg_entries.proofs.Found.{all_found, at_places, in_values, not_both, rising, values_in_order}
 use Rattle.reg_entries.proofs.Listed.{by_bool, never, own_place}
+use denote.Ref.{Bor}
 
 reverse-more : {X : Type 0} (x : X) (xs : List X) → reverse (x ∷ xs) ≡ reverse xs ++ x ∷ []
 reverse-more x xs = reverse-append (x ∷ []) xs

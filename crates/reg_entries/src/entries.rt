@@ -10,7 +10,8 @@ ghost use Rattle.reg_entries.specs.declared.entry.Entry.{Entry};
 use crate::entry::{Entry, Mark};
 use crate::ids::list_with_id;
 use crate::lists::{
-    any_live, counts, keep_counting, last_counting, list_all, list_between, set_marks,
+    any_live, counts, keep_counting, last_counting, list_all, list_between, list_subjects,
+    set_marks,
 };
 use crate::names::{
     At, Name, forget, greatest_with, leave_room, name_above, place_of, set_version, version_below,
@@ -205,7 +206,8 @@ impl Entries {
     pub fn subjects(&self, deleted: bool) -> Result<Vec<&str>, AllocError>
         ensures { IfOk result (λ found. map (λ s. s.now) found.items ≡ subjects (finmap.values self.now) deleted) }
     {
-        Err(AllocError)
+        let found = list_subjects(self.alloc, &self.entries, deleted)?;
+        Ok(found)
     }
 
     /// Whether a subject, or any one, has a live entry. Takes no memory.

@@ -9,7 +9,7 @@ ghost use Rattle.std.specs.Ordering.{eq_by_cmp, is_gt};
 ghost use Rattle.reg_entries.specs.EntryOrder.{Place, place_cmp};
 ghost use Rattle.reg_entries.specs.Index.{entry_at, ArePlaced};
 ghost use Rattle.reg_entries.specs.Marked.{with_soft, marked};
-ghost use Rattle.reg_entries.specs.Sought.{counts, has_live, is_in_scope};
+ghost use Rattle.reg_entries.specs.Sought.{counts, subjects, has_live, is_in_scope};
 
 use crate::entry::{Entry, Mark};
 use crate::names::At;
@@ -26,6 +26,23 @@ pub(crate) fn list_all(
     ensures { IfOk result (λ found. map (λ e. e.now) found.items ≡ values entries.now) }
 {
     entries.values().collect(alloc)
+}
+
+/// The subjects with an entry that counts, by their bytes. This goes through all entries once.
+pub(crate) fn list_subjects(
+    alloc: Global,
+    entries: &BTreeMap<At, Entry>,
+    deleted: bool,
+) -> Result<Vec<&str>, AllocError>
+    ensures { IfOk result (λ found. map (λ s. s.now) found.items ≡ subjects (values entries.now) deleted) }
+{
+    let mut found: Vec<&str> = entries
+        .values()
+        .filter(|entry| counts(entry, deleted))
+        .map(|entry| entry.subject.as_str())
+        .collect(alloc)?;
+    found.dedup();
+    Ok(found)
 }
 
 /// The entries from one place to another, by place.
