@@ -27,7 +27,7 @@ use Rattle.reg_entries.specs.Marked.{with_soft}
 use Rattle.reg_entries.specs.declared.entry.Entry.{Entry}
 use Rattle.reg_fold.proofs.Applies.{is_marked-same}
 use Rattle.reg_fold.proofs.Placed.{spot_cmp-total}
-use Rattle.reg_fold.proofs.Places.{named_by, value_of-named}
+use Rattle.reg_fold.proofs.Values.{IsUnder, value_of-under}
 
 abbrev deleted_in_key : Key → List ℕ
 deleted_in_key (keys.Schema s v) = []
@@ -55,14 +55,14 @@ module _ (S T : Records) (of_S : EntriesAreOfLasts S) (of_T : EntriesAreOfLasts 
       is_marked-same S T s version offset (others (keys.DeleteSubject s) (λ h. apart (sym (ap deleted_in_key (sym of_key ∙ h)))))
 
   -- what a value gives with the record is what it gave without it, marked anew
-  of_value : (x : Record) (o : Option Value) → value_of x ≡ o → last S x.key ≡ Some x → IfSome o (named_by x.key) → option_and_then (entry_in T x.offset) o ≡ option_map remarked (option_and_then (entry_in S x.offset) o)
-  of_value x None is lasts named = refl
-  of_value x (Some (values.Schema s version id schema own)) is lasts named =
+  of_value : (x : Record) (o : Option Value) → value_of x ≡ o → last S x.key ≡ Some x → IfSome o (IsUnder x.key) → option_and_then (entry_in T x.offset) o ≡ option_map remarked (option_and_then (entry_in S x.offset) o)
+  of_value x None is lasts under = refl
+  of_value x (Some (values.Schema s version id schema own)) is lasts under =
       let given : Bool → Entry = λ b. record { subject = s; version = version; id = id; text = schema; normal = normal_of schema; offset = x.offset; soft = own || b } in
       let before : Entry = given (is_marked S s version x.offset) in
       let spot : Spot = (x.offset, (s, version)) in
       let says : contains spot_cmp deleted spot ≡ own =
-      has spot ∙ ap (λ o. option_map_or (λ q. is_deleted q && eq_by_cmp spot_cmp (q.offset, (s, version)) spot) o false) (ap (last S) (sym named) ∙ lasts)
+      has spot ∙ ap (λ o. option_map_or (λ q. is_deleted q && eq_by_cmp spot_cmp (q.offset, (s, version)) spot) o false) (ap (last S) (sym under.0) ∙ lasts)
       ∙ ap (λ o. option_map_or says_deleted o false && eq_by_cmp spot_cmp spot spot) is ∙ ap (λ o. own && is_eq o) (tied_itself spot_cmp-total spot) ∙ stays own in
       let soft : is_soft_after deleted r before ≡ (own || is_covered_by r version x.offset) = ap (λ b. b || is_covered_by r version x.offset) says in
       elim (bytes_eq s subject) as (λ b. bytes_eq s subject ≡ b → Some (given (is_marked T s version x.offset)) ≡ Some (cond b (with_soft (is_soft_after deleted r before) before) before)) [
@@ -73,10 +73,10 @@ module _ (S T : Records) (of_S : EntriesAreOfLasts S) (of_T : EntriesAreOfLasts 
       stays : (b : Bool) → (b && true) ≡ b
       stays true = refl
       stays false = refl
-  of_value x (Some (values.Config level)) is lasts named = refl
-  of_value x (Some (values.Mode mode)) is lasts named = refl
-  of_value x (Some (values.DeleteSubject s version)) is lasts named = refl
-  of_value x (Some values.Noop) is lasts named = refl
+  of_value x (Some (values.Config level)) is lasts under = refl
+  of_value x (Some (values.Mode mode)) is lasts under = refl
+  of_value x (Some (values.DeleteSubject s version)) is lasts under = refl
+  of_value x (Some values.Noop) is lasts under = refl
 
   -- the entries are those before, those of the subject marked anew
   pub after_own_delete : LastIsGreatest → (p : Place) → finmap.get (entry_map T) p ≡ option_map remarked (finmap.get (entry_map S) p)
@@ -86,6 +86,6 @@ module _ (S T : Records) (of_S : EntriesAreOfLasts S) (of_T : EntriesAreOfLasts 
       of_T p ∙ ap (option_and_then (entry_of T)) (others key (λ h. different subject p.0 p.1 (sym of_key ∙ h)))
       ∙ elim (last S key) as (λ o. last S key ≡ o → option_and_then (entry_of T) o ≡ option_map remarked (option_and_then (entry_of S) o)) [
         | None ↦ λ _. refl
-        | Some x ↦ λ e. of_value x (value_of x) refl (ap (last S) (((greatest S key x).0 e).is_of_key) ∙ e) (value_of-named x)
+        | Some x ↦ λ e. of_value x (value_of x) refl (ap (last S) (((greatest S key x).0 e).is_of_key) ∙ e) (value_of-under x)
       ] refl
       ∙ ap (option_map remarked) (sym (of_S p))

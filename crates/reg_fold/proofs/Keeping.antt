@@ -46,16 +46,15 @@ module _ (total : IsTotalOrder record_cmp) where
   unfolding entry_map
   entry_map-empty = ap (λ found. fold (λ m e. finmap.insert m (e.subject, e.version) e) finmap.empty (filter_map (entry_of set.empty) found)) records_of-empty
 
-  HasSpots-empty : (kind : Record → Bool) (spots : BTreeSet Spot) (rs : Records) → rs ≡ set.empty → IsEmpty spots → HasSpots kind rs spots
-  unfolding last
-  HasSpots-empty kind spots rs rs_are none s =
-      ap (list_any (λ k. is_eq (spot_cmp s k))) none
-      ∙ sym (ap (λ rs. is_spot kind rs s) rs_are
-      ∙ ap (λ found. option_map_or (λ r. kind r && eq_by_cmp spot_cmp (r.offset, s.1) s) (greatest age_cmp (filter (is_of (keys.Schema s.1.0 s.1.1)) found)) false) records_of-empty)
-
   last-empty : (key : Key) → last set.empty key ≡ None
   unfolding last
   last-empty key = ap (λ found. greatest age_cmp (filter (is_of key) found)) records_of-empty
+
+  HasSpots-empty : (kind : Record → Bool) (spots : BTreeSet Spot) (rs : Records) → rs ≡ set.empty → IsEmpty spots → HasSpots kind rs spots
+  HasSpots-empty kind spots rs rs_are none s =
+      ap (list_any (λ k. is_eq (spot_cmp s k))) none
+      ∙ sym (ap (λ rs. is_spot kind rs s) rs_are
+      ∙ ap (λ o. option_map_or (λ r. kind r && eq_by_cmp spot_cmp (r.offset, s.1) s) o false) (last-empty (keys.Schema s.1.0 s.1.1)))
 
   own_level-empty : (rs : Records) → rs ≡ set.empty → (q : Scope) → own_level rs q ≡ None
   unfolding own_level

@@ -11,3 +11,4 @@ mod Places
 mod Readable
 mod Spotted
 mod Steps
+mod Values

@@ -32,67 +32,29 @@ use Rattle.reg_fold.specs.Entries.{entry_in, entry_of, entry_map}
 use Rattle.reg_entries.specs.EntryOrder.{Place, place_cmp, place_of}
 use Rattle.reg_entries.specs.declared.entry.Entry.{Entry}
 use Rattle.reg_fold.proofs.Placed.{place_cmp-ties, place_cmp-total, placed}
+use Rattle.reg_fold.proofs.Values.{IsUnder, value_of-under}
 
 pub equal : (o : Ordering) → is_eq o ≡ true → o ≡ Equal
 equal Less h = absurd (false≢true h)
 equal Equal h = refl
 equal Greater h = absurd (false≢true h)
 
--- a version's value names its key
-abbrev pub named_by : Key → Value → Type 0
-named_by key (values.Schema subject version id schema deleted) = key ≡ keys.Schema subject version
-named_by key (values.Config level) = ⊤
-named_by key (values.Mode mode) = ⊤
-named_by key (values.DeleteSubject subject version) = ⊤
-named_by key values.Noop = ⊤
-
-all_named : (key : Key) {X : Type 0} (o : Option X) (f : X → Option Value) → ((x : X) → IfSome (f x) (named_by key)) → IfSome (option_and_then f o) (named_by key)
-all_named key None f h = tt
-all_named key (Some x) f h = h x
-
-cond_named : (key : Key) (b : Bool) (o : Option Value) → IfSome o (named_by key) → IfSome (cond b o None) (named_by key)
-cond_named key true o h = h
-cond_named key false o h = tt
-
-value_in-named : (key : Key) (d : Data) → IfSome (value_in key d) (named_by key)
-value_in-named (keys.Schema subject version) d =
-    let of_deleted : ℕ → List ℕ → Option Value = λ id schema. option_map (λ deleted. values.Schema subject version id schema deleted) (deleted_in d) in
-    let of_schema : ℕ → Option Value = λ id. option_and_then (of_deleted id) (text_where is_schema (codes "schema") d) in
-    let P : Value → Type 0 = named_by (keys.Schema subject version) in
-    cond_named (keys.Schema subject version) (has_text_at (codes "subject") subject d && has_number_at (codes "version") version d && is_plain_avro d) (option_and_then of_schema (number_at (codes "id") d))
-    (all_named (keys.Schema subject version) (number_at (codes "id") d) of_schema (λ id.
-    all_named (keys.Schema subject version) (text_where is_schema (codes "schema") d) (of_deleted id) (λ schema.
-    elim (deleted_in d) as (λ o. IfSome (option_map (λ deleted. values.Schema subject version id schema deleted) o) P) [ None ↦ tt | Some deleted ↦ refl ])))
-value_in-named (keys.Config scope) d =
-    elim (text_where is_level (codes "compatibilityLevel") d) as (λ o. IfSome (option_map (λ level. values.Config level) o) (named_by (keys.Config scope))) [ None ↦ tt | Some level ↦ tt ]
-value_in-named (keys.Mode scope) d =
-    elim (text_at (codes "mode") d) as (λ o. IfSome (option_map (λ mode. values.Mode mode) o) (named_by (keys.Mode scope))) [ None ↦ tt | Some mode ↦ tt ]
-value_in-named (keys.DeleteSubject subject) d =
-    cond_named (keys.DeleteSubject subject) (has_text_at (codes "subject") subject d) (option_map (λ version. values.DeleteSubject subject version) (number_at (codes "version") d))
-    (elim (number_at (codes "version") d) as (λ o. IfSome (option_map (λ version. values.DeleteSubject subject version) o) (named_by (keys.DeleteSubject subject))) [ None ↦ tt | Some version ↦ tt ])
-value_in-named keys.Noop d =
-    elim (as_object d) as (λ o. IfSome (option_map (λ _. values.Noop) o) (named_by keys.Noop)) [ None ↦ tt | Some found ↦ tt ]
-
-pub value_of-named : (r : Record) → IfSome (value_of r) (named_by r.key)
-value_of-named r =
-    all_named r.key r.value (λ text. option_and_then (value_in r.key) (read text)) (λ text. all_named r.key (read text) (value_in r.key) (value_in-named r.key))
-
 -- an entry stands at the place of its record's key
 pub entry_of-key : (rs : Records) (r : Record) (e : Entry) → entry_of rs r ≡ Some e → r.key ≡ keys.Schema e.subject e.version
 unfolding entry_of
 entry_of-key rs r e is =
-    elim (value_of r) as (λ o. IfSome o (named_by r.key) → option_and_then (entry_in rs r.offset) o ≡ Some e → r.key ≡ keys.Schema e.subject e.version) [
+    elim (value_of r) as (λ o. IfSome o (IsUnder r.key) → option_and_then (entry_in rs r.offset) o ≡ Some e → r.key ≡ keys.Schema e.subject e.version) [
       | None ↦ λ _ is. absurd (cc)
-      | Some v ↦ λ named is. of_value v named is
-    ] (value_of-named r) is
+      | Some v ↦ λ under is. of_value v under is
+    ] (value_of-under r) is
   where
-    of_value : (v : Value) → named_by r.key v → entry_in rs r.offset v ≡ Some e → r.key ≡ keys.Schema e.subject e.version
-    of_value (values.Schema subject version id schema deleted) named is =
-        named ∙ ap (λ o. keys.Schema (unwrap_or o e).subject (unwrap_or o e).version) is
-    of_value (values.Config level) named is = absurd (cc)
-    of_value (values.Mode mode) named is = absurd (cc)
-    of_value (values.DeleteSubject subject version) named is = absurd (cc)
-    of_value values.Noop named is = absurd (cc)
+    of_value : (v : Value) → IsUnder r.key v → entry_in rs r.offset v ≡ Some e → r.key ≡ keys.Schema e.subject e.version
+    of_value (values.Schema subject version id schema deleted) under is =
+        under.0 ∙ ap (λ o. keys.Schema (unwrap_or o e).subject (unwrap_or o e).version) is
+    of_value (values.Config level) under is = absurd (cc)
+    of_value (values.Mode mode) under is = absurd (cc)
+    of_value (values.DeleteSubject subject version) under is = absurd (cc)
+    of_value values.Noop under is = absurd (cc)
 
 abbrev pub subject_of : Key → List ℕ
 subject_of (keys.Schema subject version) = subject

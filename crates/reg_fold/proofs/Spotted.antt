@@ -29,6 +29,7 @@ use Rattle.reg_entries.specs.declared.entry.Entry.{Entry}
 use Rattle.reg_fold.proofs.Placed.{place_cmp-ties, place_cmp-total, then_ties}
 use Rattle.reg_fold.proofs.Places.{equal, subject_of, version_of}
 use Rattle.reg_fold.proofs.Steps.{no_version}
+use Rattle.reg_fold.proofs.Values.{IsUnder, value_of-under}
 
 pub spot_cmp-ties : (s t : Spot) → spot_cmp s t ≡ Equal → s ≡ t
 spot_cmp-ties s t e =
@@ -98,57 +99,28 @@ without_text r none = middle_false (is_version r.key) (is_some r.value) (is_none
     middle_false true true c h = absurd (false≢true (sym h))
     middle_false false b c h = refl
 
-abbrev is_version_value : Value → Bool
-is_version_value (values.Schema subject version id schema deleted) = true
-is_version_value (values.Config level) = false
-is_version_value (values.Mode mode) = false
-is_version_value (values.DeleteSubject subject version) = false
-is_version_value values.Noop = false
-
-all_some : {X : Type 0} (P : Value → Type 0) (o : Option X) (f : X → Option Value) → ((x : X) → IfSome (f x) P) → IfSome (option_and_then f o) P
-all_some P None f h = tt
-all_some P (Some x) f h = h x
-
-cond_some : (P : Value → Type 0) (b : Bool) (o : Option Value) → IfSome o P → IfSome (cond b o None) P
-cond_some P true o h = h
-cond_some P false o h = tt
-
--- the value of a version is a schema's
-schema_shape : (subject : List ℕ) (version : ℕ) (d : Data) → IfSome (value_in (keys.Schema subject version) d) (λ v. is_version_value v ≡ true)
-schema_shape subject version d =
-    let P : Value → Type 0 = λ v. is_version_value v ≡ true in
-    let of_deleted : ℕ → List ℕ → Option Value = λ id schema. option_map (λ deleted. values.Schema subject version id schema deleted) (deleted_in d) in
-    let of_schema : ℕ → Option Value = λ id. option_and_then (of_deleted id) (text_where is_schema (codes "schema") d) in
-    cond_some P (has_text_at (codes "subject") subject d && has_number_at (codes "version") version d && is_plain_avro d) (option_and_then of_schema (number_at (codes "id") d))
-    (all_some P (number_at (codes "id") d) of_schema (λ id.
-    all_some P (text_where is_schema (codes "schema") d) (of_deleted id) (λ schema.
-    elim (deleted_in d) as (λ o. IfSome (option_map (λ deleted. values.Schema subject version id schema deleted) o) P) [ None ↦ tt | Some deleted ↦ refl ])))
-
-value_shape : (r : Record) (p : Place) → r.key ≡ keys.Schema p.0 p.1 → IfSome (value_of r) (λ v. is_version_value v ≡ true)
-value_shape r p of_key =
-    let P : Value → Type 0 = λ v. is_version_value v ≡ true in
-    all_some P r.value (λ text. option_and_then (value_in r.key) (read text)) (λ text.
-    all_some P (read text) (value_in r.key) (λ d. subst (λ k. IfSome (value_in k d) P) (sym of_key) (schema_shape p.0 p.1 d)))
-
 -- a version's text that gives no entry is opaque
 pub unreadable : (S : Records) (r : Record) (p : Place) → r.key ≡ keys.Schema p.0 p.1 → is_some r.value ≡ true → entry_of S r ≡ None → is_opaque r ≡ true
 unfolding entry_of is_opaque
 unreadable S r p of_key text gives =
     ap (λ k. is_version k && is_some r.value && is_none (value_of r)) of_key ∙ ap (λ b. b && is_none (value_of r)) text ∙ ap is_none no_value
   where
-    some_entry : (v : Value) → is_version_value v ≡ true → entry_in S r.offset v ≡ None → ⊥
-    some_entry (values.Schema subject version id schema deleted) shape none = cc
-    some_entry (values.Config level) shape none = false≢true shape
-    some_entry (values.Mode mode) shape none = false≢true shape
-    some_entry (values.DeleteSubject subject version) shape none = false≢true shape
-    some_entry values.Noop shape none = false≢true shape
+    no_other : is_version r.key ≡ false → ⊥
+    no_other other = false≢true (sym other ∙ ap is_version of_key)
+
+    some_entry : (v : Value) → IsUnder r.key v → entry_in S r.offset v ≡ None → ⊥
+    some_entry (values.Schema subject version id schema deleted) under none = cc
+    some_entry (values.Config level) under none = no_other under
+    some_entry (values.Mode mode) under none = no_other under
+    some_entry (values.DeleteSubject subject version) under none = no_other under
+    some_entry values.Noop under none = no_other under
 
     no_value : value_of r ≡ None
     no_value =
-        elim (value_of r) as (λ o. IfSome o (λ v. is_version_value v ≡ true) → option_and_then (entry_in S r.offset) o ≡ None → o ≡ None) [
+        elim (value_of r) as (λ o. IfSome o (IsUnder r.key) → option_and_then (entry_in S r.offset) o ≡ None → o ≡ None) [
           | None ↦ λ _ _. refl
-          | Some v ↦ λ shape none. absurd (some_entry v shape none)
-        ] (value_shape r p of_key) gives
+          | Some v ↦ λ under none. absurd (some_entry v under none)
+        ] (value_of-under r) gives
 
 -- whether that is the spot, if there is one
 abbrev is_that : Option Spot → Spot → Bool

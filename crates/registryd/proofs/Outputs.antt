@@ -2,7 +2,7 @@
 use Rattle.std.proofs.Common.{◌≡◌, ◌<◌, ◌≤◌, ℕ, List, [], length, min, true, sym, ap, subst, ◌∙◌, arith, length-append, length-take}
 use Rattle.httparse.specs.Grammar.{RequestHead, ReadsRequest, print_request}
 use Rattle.httparse.proofs.GrammarLemmas.{request_unique}
-use Rattle.reg_fold.specs.declared.refusal.Refusal.TheVariants as refusals
+use Rattle.reg_refusals.specs.declared.refusal.Refusal.TheVariants as refusals
 use Rattle.reg_set.specs.Records.{Records}
 use Rattle.registryd.specs.Answer.{answer_to, refused, IsOutput}
 use Rattle.registryd.specs.Request.{head_bytes}

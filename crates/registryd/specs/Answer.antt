@@ -2,10 +2,10 @@
 use Rattle.std.specs.Prelude.{◌≡◌, ℕ, ◌<◌, List, [], length, Bool, true, false, option_and_then}
 use Rattle.std.specs.Option.{option_map_or}
 use Rattle.httparse.specs.Grammar.{RequestHead}
-use Rattle.reg_fold.specs.Named.{named}
-use Rattle.reg_fold.specs.Refusal.{code_of, message_of}
-use Rattle.reg_fold.specs.declared.refusal.Refusal.{Refusal}
-use Rattle.reg_fold.specs.declared.refusal.Refusal.TheVariants as refusals
+use Rattle.reg_fold.specs.Standing.{named}
+use Rattle.reg_refusals.specs.Refusal.{code_of, message_of}
+use Rattle.reg_refusals.specs.declared.refusal.Refusal.{Refusal}
+use Rattle.reg_refusals.specs.declared.refusal.Refusal.TheVariants as refusals
 use Rattle.reg_set.specs.Records.{Records}
 use Rattle.registryd.specs.Request.{asked_part_of, id_in, BeginsWithHead, HasNoHead}
 use Rattle.registryd.specs.Response.{schema_body, refusal_body, response_text}
@@ -17,7 +17,20 @@ use Rattle.registryd.specs.declared.response.Status.TheVariants as statuses
 abbrev pub status_for : Refusal → Status
 status_for refusals.BadRequest = statuses.BadRequest
 status_for refusals.NotFound = statuses.NotFound
+status_for refusals.SubjectNotFound = statuses.NotFound
+status_for refusals.VersionNotFound = statuses.NotFound
 status_for refusals.SchemaNotFound = statuses.NotFound
+status_for refusals.SubjectSoftDeleted = statuses.NotFound
+status_for refusals.SubjectNotSoftDeleted = statuses.NotFound
+status_for refusals.VersionSoftDeleted = statuses.NotFound
+status_for refusals.VersionNotSoftDeleted = statuses.NotFound
+status_for refusals.SubjectHasNoLevel = statuses.NotFound
+status_for refusals.SubjectHasNoMode = statuses.NotFound
+status_for refusals.InvalidSchema = statuses.UnprocessableContent
+status_for refusals.InvalidVersion = statuses.UnprocessableContent
+status_for refusals.InvalidLevel = statuses.UnprocessableContent
+status_for refusals.InvalidMode = statuses.UnprocessableContent
+status_for (refusals.NotPermitted reason) = statuses.UnprocessableContent
 status_for (refusals.Store fault) = statuses.InternalServerError
 
 -- the response of a refusal, after which the server closes the connection or not

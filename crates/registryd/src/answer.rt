@@ -1,14 +1,15 @@
 // The answer to the request at the front of some bytes.
 ghost use Rattle.std.specs.Prelude.{◌≡◌, List, ℕ, IfOk, take, string_bytes};
 ghost use Rattle.std.specs.Str.Parse.{digits_value};
-ghost use Rattle.reg_fold.specs.Refusal.{status_of};
+ghost use Rattle.reg_refusals.specs.Refusal.{status_of};
 ghost use Rattle.registryd.specs.Answer.{answer_to, schema_response, refused, status_for, IsOutput};
 ghost use Rattle.registryd.specs.Request.{head_bytes};
 ghost use Rattle.registryd.specs.Response.{status_text};
 
 use crate::request::{asked_part, head_of, id_in};
 use crate::response::{Response, Status, refusal_body, schema_body};
-use reg_fold::{Refusal, Registry};
+use reg_fold::Registry;
+use reg_refusals::Refusal;
 use std::alloc::{AllocError, Global};
 
 /// What is written for requests that begin with these bytes, of which there are as many as a head may
@@ -75,7 +76,21 @@ fn status_for(refusal: Refusal) -> Status
 {
     match refusal {
         Refusal::BadRequest => Status::BadRequest,
-        Refusal::NotFound | Refusal::SchemaNotFound => Status::NotFound,
+        Refusal::NotFound
+        | Refusal::SubjectNotFound
+        | Refusal::VersionNotFound
+        | Refusal::SchemaNotFound
+        | Refusal::SubjectSoftDeleted
+        | Refusal::SubjectNotSoftDeleted
+        | Refusal::VersionSoftDeleted
+        | Refusal::VersionNotSoftDeleted
+        | Refusal::SubjectHasNoLevel
+        | Refusal::SubjectHasNoMode => Status::NotFound,
+        Refusal::InvalidSchema
+        | Refusal::InvalidVersion
+        | Refusal::InvalidLevel
+        | Refusal::InvalidMode
+        | Refusal::NotPermitted(_) => Status::UnprocessableContent,
         Refusal::Store(_) => Status::InternalServerError,
     }
 }

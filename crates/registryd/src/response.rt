@@ -12,6 +12,7 @@ pub enum Status {
     Ok,
     BadRequest,
     NotFound,
+    UnprocessableContent,
     InternalServerError,
 }
 
@@ -52,6 +53,7 @@ impl Status {
             Status::Ok => "200 OK",
             Status::BadRequest => "400 Bad Request",
             Status::NotFound => "404 Not Found",
+            Status::UnprocessableContent => "422 Unprocessable Content",
             Status::InternalServerError => "500 Internal Server Error",
         }
     }

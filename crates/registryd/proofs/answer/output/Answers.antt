@@ -2,7 +2,7 @@ use Rattle.std.proofs.Common.{◌≡◌, ◌<◌, length, true, ap, ◌∙◌, a
 use Rattle.std.proofs.lemmas.Bool.{false≢true}
 use Rattle.std.proofs.lemmas.Bool.Decides.{nat_tests}
 use Rattle.std.proofs.lemmas.Result.{IfOk-weaker}
-use Rattle.reg_fold.specs.declared.refusal.Refusal.TheVariants as refusals
+use Rattle.reg_refusals.specs.declared.refusal.Refusal.TheVariants as refusals
 use Rattle.registryd.specs.Answer.{answer_to, refused}
 use Rattle.registryd.specs.Response.{response_text}
 use Rattle.registryd.proofs.Outputs.{IsOutput-nothing, IsOutput-malformed, IsOutput-answered}

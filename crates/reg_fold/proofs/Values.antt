@@ -1,0 +1,72 @@
+-- What the value of a record is under its key.
+use Rattle.std.proofs.Common.{◌≡◌, ℕ, Bool, true, false, cond, ◌&&◌, codes, List, option_map, Option, Some, None, option_and_then, refl, sym, ap, ◌∙◌}
+use Rattle.std.specs.Prelude.{IfSome}
+use Rattle.serde_json.specs.Data.{Data}
+use Rattle.serde_json.specs.Find.{as_object}
+use Rattle.serde_json.specs.Read.{read}
+use Rattle.reg_levels.specs.Level.{is_level}
+use Rattle.reg_levels.specs.Texts.{is_schema}
+use Rattle.reg_records.specs.Json.{text_at, text_where, number_at, has_text_at, has_number_at}
+use Rattle.reg_records.specs.Value.{value_of, value_in, is_plain_avro, deleted_in}
+use Rattle.reg_records.specs.declared.key.Key.{Key}
+use Rattle.reg_records.specs.declared.key.Key.TheVariants as keys
+use Rattle.reg_records.specs.declared.record.Record.{Record}
+use Rattle.reg_records.specs.declared.value.Value.{Value}
+use Rattle.reg_records.specs.declared.value.Value.TheVariants as values
+use Rattle.reg_fold.specs.Opaque.{is_version}
+
+-- a version's value names its key and has a schema's text, and a version's key has no other value
+abbrev pub IsUnder : Key → Value → Type 0
+IsUnder key (values.Schema subject version id schema deleted) = (key ≡ keys.Schema subject version) × (is_schema schema ≡ true)
+IsUnder key (values.Config level) = is_version key ≡ false
+IsUnder key (values.Mode mode) = is_version key ≡ false
+IsUnder key (values.DeleteSubject subject version) = is_version key ≡ false
+IsUnder key values.Noop = is_version key ≡ false
+
+module _ (P : Value → Type 0) where
+  each_some : {X : Type 0} (o : Option X) (f : X → Option Value) → ((x : X) → o ≡ Some x → IfSome (f x) P) → IfSome (option_and_then f o) P
+  each_some None f h = tt
+  each_some (Some x) f h = h x refl
+
+  mapped : {X : Type 0} (o : Option X) (f : X → Value) → ((x : X) → P (f x)) → IfSome (option_map f o) P
+  mapped None f h = tt
+  mapped (Some x) f h = h x
+
+  if_so : (b : Bool) (o : Option Value) → IfSome o P → IfSome (cond b o None) P
+  if_so true o h = h
+  if_so false o h = tt
+
+-- a text that is found with a test passes it
+passes : (test : List ℕ → Bool) (o : Option (List ℕ)) (text : List ℕ) → option_and_then (λ t. cond (test t) (Some t) None) o ≡ Some text → test text ≡ true
+passes test None text is = absurd (cc)
+passes test (Some t) text is =
+    elim (test t) as (λ b. test t ≡ b → cond b (Some t) None ≡ Some text → test text ≡ true) [
+      | true ↦ λ so same. ap test (sym (inside t text same)) ∙ so
+      | false ↦ λ _ none. absurd (cc)
+    ] refl is
+  where
+    inside : (a b : List ℕ) → Some a ≡ Some b → a ≡ b
+    inside a b same = cc
+
+value_in-under : (key : Key) (d : Data) → IfSome (value_in key d) (IsUnder key)
+value_in-under (keys.Schema subject version) d =
+    let P : Value → Type 0 = IsUnder (keys.Schema subject version) in
+    let of_deleted : ℕ → List ℕ → Option Value = λ id schema. option_map (λ deleted. values.Schema subject version id schema deleted) (deleted_in d) in
+    let of_schema : ℕ → Option Value = λ id. option_and_then (of_deleted id) (text_where is_schema (codes "schema") d) in
+    if_so P (has_text_at (codes "subject") subject d && has_number_at (codes "version") version d && is_plain_avro d) (option_and_then of_schema (number_at (codes "id") d))
+    (each_some P (number_at (codes "id") d) of_schema (λ id _.
+    each_some P (text_where is_schema (codes "schema") d) (of_deleted id) (λ schema is.
+    mapped P (deleted_in d) (λ deleted. values.Schema subject version id schema deleted) (λ deleted. (refl, passes is_schema (text_at (codes "schema") d) schema is)))))
+value_in-under (keys.Config scope) d =
+    mapped (IsUnder (keys.Config scope)) (text_where is_level (codes "compatibilityLevel") d) (λ level. values.Config level) (λ level. refl)
+value_in-under (keys.Mode scope) d = mapped (IsUnder (keys.Mode scope)) (text_at (codes "mode") d) (λ mode. values.Mode mode) (λ mode. refl)
+value_in-under (keys.DeleteSubject subject) d =
+    let P : Value → Type 0 = IsUnder (keys.DeleteSubject subject) in
+    if_so P (has_text_at (codes "subject") subject d) (option_map (λ version. values.DeleteSubject subject version) (number_at (codes "version") d))
+    (mapped P (number_at (codes "version") d) (λ version. values.DeleteSubject subject version) (λ version. refl))
+value_in-under keys.Noop d = mapped (IsUnder keys.Noop) (as_object d) (λ _. values.Noop) (λ _. refl)
+
+pub value_of-under : (r : Record) → IfSome (value_of r) (IsUnder r.key)
+value_of-under r =
+    let P : Value → Type 0 = IsUnder r.key in
+    each_some P r.value (λ text. option_and_then (value_in r.key) (read text)) (λ text _. each_some P (read text) (value_in r.key) (λ d _. value_in-under r.key d))
