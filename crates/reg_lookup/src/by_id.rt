@@ -13,11 +13,7 @@ use reg_fold::{Entry, Refusal, Registry};
 use std::alloc::Global;
 
 /// The schema that an id names.
-pub(crate) fn schema_by_id(
-    alloc: Global,
-    registry: &Registry,
-    id: u32,
-) -> Result<Text, LookupError>
+pub(crate) fn schema_by_id(alloc: Global, registry: &Registry, id: u32) -> Result<Text, LookupError>
     ensures found { IfOk result (λ body. spec.schema_by_id registry.now id ≡ Ok body) }
     ensures refused { IfErr result (IsRefusalOf (spec.schema_by_id registry.now id)) }
 {

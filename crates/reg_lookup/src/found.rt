@@ -38,7 +38,10 @@ pub(crate) fn version_found<'a>(
     if let Some(entry) = registry.version(subject, which, deleted)? {
         return Ok(entry);
     }
-    if registry.version(subject, VersionRef::Latest, deleted)?.is_none() {
+    if registry
+        .version(subject, VersionRef::Latest, deleted)?
+        .is_none()
+    {
         return Err(LookupError::Refused(Refusal::SubjectNotFound));
     }
     Err(LookupError::Refused(Refusal::VersionNotFound))

@@ -1,0 +1,16 @@
+-- Of the entries of an id those that count.
+use Rattle.std.proofs.Common.{◌≡◌, ◌==◌, ◌∙◌, List, [], ◌∷◌, ℕ, Bool, false, Bor, Ok, map, sym, ap, length}
+use Rattle.std.specs.List.{filter}
+use Rattle.reg_entries.specs.Sought.{counts}
+use Rattle.reg_entries.specs.declared.entry.Entry.{Entry}
+use Rattle.reg_entries.proofs.Found.{map_filter}
+use Rattle.reg_lookup.specs.Bodies.{list_body, place_data}
+use Rattle.reg_lookup.specs.ById.{places_among}
+
+-- the entries are behind references; some were found, and those that count were kept
+pub places_among-kept : (found kept : List (Bor Entry)) (deleted : Bool) (body : List ℕ) → (length found == 0) ≡ false → kept ≡ filter (λ e. counts deleted e.now) found
+    → body ≡ list_body place_data (map (λ e. e.now) kept) → places_among (map (λ e. e.now) found) deleted ≡ Ok body
+places_among-kept [] kept deleted body some kept_is body_is = absurd cc
+places_among-kept (x ∷ xs) kept deleted body some kept_is body_is =
+    let same = ap (map (λ e. e.now)) kept_is ∙ map_filter (λ e. e.now) (counts deleted) (x ∷ xs) in
+    sym (ap Ok (body_is ∙ ap (list_body place_data) same))
