@@ -189,6 +189,8 @@ impl Entries {
     }
 
     /// Of a subject's entries that count the one of that version. The only error is want of memory.
+    ///
+    /// It looks at one entry.
     pub fn of_version(
         &self,
         subject: &str,
@@ -203,6 +205,8 @@ impl Entries {
     }
 
     /// The subjects with an entry that counts, by their bytes. The only error is want of memory.
+    ///
+    /// It goes through all entries once.
     pub fn subjects(&self, deleted: bool) -> Result<Vec<&str>, AllocError>
         ensures { IfOk result (λ found. map (λ s. s.now) found.items ≡ subjects (finmap.values self.now) deleted) }
     {
@@ -219,7 +223,7 @@ impl Entries {
 
     /// The entries with an id, soft ones too, by place. The only error is want of memory.
     ///
-    /// It looks at these entries alone, by the names that the id has.
+    /// It looks at these entries alone, by the names that the id has, and sorts them.
     pub fn with_id(&self, id: u32) -> Result<Vec<&Entry>, AllocError>
         ensures { IfOk result (λ found. map (λ e. e.now) found.items ≡ with_id (finmap.values self.now) id) }
     {
