@@ -40,8 +40,8 @@ static NAMES: [(&str, Option<Mode>); 6] = [
     ("IMPORT ", None),
 ];
 
-fn refused(result: Result<(), Refusal>) -> Option<Reason> {
-    match result {
+fn refused(permit: Result<(), Refusal>) -> Option<Reason> {
+    match permit {
         Err(Refusal::NotPermitted(reason)) => Some(reason),
         _ => None,
     }
