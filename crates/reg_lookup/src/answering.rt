@@ -4,15 +4,12 @@ ghost use Rattle.reg_set.specs.Compaction.{IsCompactionOf};
 ghost use Rattle.reg_set.specs.LastRecords.{last_records};
 ghost use Rattle.reg_set.specs.Records.{Records};
 ghost use Rattle.reg_lookup.specs.Answers.{IsAnswer, IsAnswerOver, HaveOneAnswer};
-ghost use Rattle.reg_lookup.specs.Gives.{Tells};
 
-use crate::answered::Answer;
-use crate::bodies::refusal_body;
+use crate::answered::{Answer, told};
 use crate::by_id::{id_versions, schema_by_id};
 use crate::by_schema::lookup;
 use crate::by_subject::{subjects, version, version_schema, versions};
 use crate::checked::check_answer;
-use crate::error::LookupError;
 use crate::laws::compactions_answer_alike;
 use crate::query::Query;
 use crate::settings::{level_found, mode_found};
@@ -110,19 +107,5 @@ fn text_of(subject: &Option<Text>) -> Option<&str>
     match subject {
         Some(subject) => Some(subject.as_str()),
         None => None,
-    }
-}
-
-/// The answer that gives what was found, or says why nothing is given.
-fn told(alloc: Global, found: Result<Text, LookupError>) -> Result<Answer, AllocError>
-    ensures { IfOk result (Tells found) }
-{
-    match found {
-        Ok(body) => Ok(Answer { status: 200, body }),
-        Err(LookupError::Refused(refusal)) => Ok(Answer {
-            status: refusal.status(),
-            body: refusal_body(alloc, &refusal)?,
-        }),
-        Err(LookupError::OutOfMemory) => Err(AllocError),
     }
 }
