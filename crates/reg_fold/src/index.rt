@@ -323,7 +323,10 @@ fn put_with(
 }
 
 /// Makes a record that is news the last of its key, and gives the one before.
-pub(crate) fn put_last(lasts: &mut LastRecords, given: &Record) -> Result<Option<Record>, AllocError>
+pub(crate) fn put_last(
+    lasts: &mut LastRecords,
+    given: &Record,
+) -> Result<Option<Record>, AllocError>
     requires { last_records (set.insert lasts.old given.now) ≢ lasts.old }
     ensures added { OnOk result (lasts.new ≡ last_records (set.insert lasts.old given.now)) }
     ensures step { OnOk result (IsStep lasts.old lasts.new given.now) }

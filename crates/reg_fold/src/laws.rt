@@ -5,5 +5,4 @@ ghost use Rattle.reg_fold.specs.Entries.{EntriesAreRead};
 /// The text of each entry is a schema's, and the entry's normal text is that schema's.
 pub fn entries_are_read()
     ensures { EntriesAreRead }
-{
-}
+{}
