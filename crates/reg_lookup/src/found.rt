@@ -25,7 +25,7 @@ pub(crate) fn counted<'a>(
 }
 
 /// The entry of a subject that is meant. Refused where none of the subject counts, and where that
-/// one doesn't. It costs a logarithm of the entries.
+/// one doesn't. No list is made.
 pub(crate) fn version_found<'a>(
     registry: &'a Registry,
     subject: &str,
