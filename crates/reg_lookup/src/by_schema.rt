@@ -10,7 +10,6 @@ ghost use Rattle.reg_lookup.specs.Gives.{IsRefusalOf};
 
 use crate::bodies::entry_body;
 use crate::error::LookupError;
-use crate::found::counted;
 use avro_schema::Schema;
 use base_text::Text;
 use reg_fold::{Entry, Refusal, Registry};
@@ -30,9 +29,10 @@ pub(crate) fn lookup(
     let Some(schema) = Schema::read_if_any(alloc, text)? else {
         return Err(LookupError::Refused(Refusal::InvalidSchema));
     };
-    let found = counted(registry, subject, deleted)?;
+    let found = registry.counting(subject, deleted)?;
     match latest_with(&found, schema.normal().as_str()) {
         Some(entry) => Ok(entry_body(alloc, entry)?),
+        None if found.is_empty() => Err(LookupError::Refused(Refusal::SubjectNotFound)),
         None => Err(LookupError::Refused(Refusal::SchemaNotFound)),
     }
 }
@@ -45,7 +45,7 @@ fn latest_with<'a>(entries: &[&'a Entry], normal: &str) -> Option<&'a Entry>
 {
     entries
         .iter()
-        .copied()
         .rev()
+        .copied()
         .find(|entry| entry.normal.as_str() == normal)
 }

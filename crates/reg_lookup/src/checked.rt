@@ -1,12 +1,13 @@
 // The query whether a schema may follow.
-ghost use Rattle.std.specs.Prelude.{◌≡◌, List, ℕ, IfOk, IfErr, Ok, Some, map, option_map};
-ghost use Rattle.reg_levels.specs.Message.{message_of};
+ghost use Rattle.std.specs.Prelude.{◌≡◌, List, IfOk, IfErr, Ok, Some, map};
+ghost use Rattle.avro_schema.specs.Schema.{schema_of};
 ghost use Rattle.reg_levels.specs.RequiredPairs.{HasRisingVersions};
-ghost use Rattle.reg_levels.specs.Texts.{IsVerdictOfTexts, VersionText};
+ghost use Rattle.reg_levels.specs.Message.{message_of};
+ghost use Rattle.reg_levels.specs.Texts.{VersionText, IsVerdictOfTexts};
 ghost use Rattle.reg_fold.specs.Entries.{entries};
 ghost use Rattle.reg_fold.specs.InForce.{level};
-ghost use Rattle.reg_lookup.specs.Bodies as spec;
-ghost use Rattle.reg_lookup.specs.Checked.{asked, olds_of, read_sound_schema, TellsVerdict};
+ghost use Rattle.reg_lookup.specs.Bodies as bodies;
+ghost use Rattle.reg_lookup.specs.Checked.{asked, olds_of, read_sound_schema, version_text, TellsVerdict};
 ghost use Rattle.reg_lookup.specs.Gives.{IsRefusalOf};
 
 use crate::answered::{Answer, told};
@@ -16,10 +17,13 @@ use crate::found::version_found;
 use avro_schema::Schema;
 use base_text::Text;
 use reg_fold::{Entry, Refusal, Registry, VersionRef};
-use reg_levels::{LevelVerdict, check_texts};
+use reg_levels::{JudgedError, LevelVerdict, check_texts};
 use std::alloc::{AllocError, Global};
 
-/// Whether a schema is compatible with what is asked of a subject.
+/// Whether a schema is compatible with a subject's live versions, or with the one of them that is
+/// named, under the level in force for the subject. A schema that can't be read is refused first.
+///
+/// The only error is want of memory.
 pub(crate) fn check_answer(
     alloc: Global,
     registry: &Registry,
@@ -32,12 +36,15 @@ pub(crate) fn check_answer(
         (asked (entries registry.now) subject.now which text.now)) }
 {
     match verdict_asked(alloc, registry, subject, which, text) {
-        Ok(verdict) => told(alloc, Ok(verdict_body(alloc, verbose, &verdict)?)),
-        Err(refused) => told(alloc, Err(refused)),
+        Ok(verdict) => {
+            let body = verdict_body(alloc, verbose, &verdict)?;
+            told(alloc, Ok(body))
+        }
+        Err(error) => told(alloc, Err(error)),
     }
 }
 
-/// The verdict of the level in force on a text against what is asked of a subject.
+/// The verdict of a subject's level on a schema against the versions that are asked.
 fn verdict_asked(
     alloc: Global,
     registry: &Registry,
@@ -45,22 +52,27 @@ fn verdict_asked(
     which: Option<VersionRef>,
     text: &str,
 ) -> Result<LevelVerdict, LookupError>
-    ensures found { IfOk result (λ v. (olds : List VersionText) × (asked (entries registry.now) subject.now which text.now ≡ Ok olds)
+    ensures found { IfOk result (λ v. (olds : List VersionText)
+        × (asked (entries registry.now) subject.now which text.now ≡ Ok olds)
         × IsVerdictOfTexts (level registry.now (Some subject.now)) text.now olds v) }
     ensures refused { IfErr result (IsRefusalOf (asked (entries registry.now) subject.now which text.now)) }
 {
     let schema = sound_schema(alloc, text)?;
-    let olds = olds_of(alloc, registry, subject, which)?;
+    let olds = olds_asked(alloc, registry, subject, which)?;
     match check_texts(alloc, registry.level(Some(subject)), &schema, &olds) {
         Ok(verdict) => Ok(verdict),
-        // Never an old text: the text of each entry is a schema's.
-        Err(_) => Err(LookupError::OutOfMemory),
+        // Memory alone is wanting: the text of an entry is a schema's, since a version's record
+        // whose text is none makes no entry, and the new text is read above.
+        Err(JudgedError::NewText | JudgedError::OldText(_) | JudgedError::OutOfMemory) => {
+            Err(LookupError::OutOfMemory)
+        }
     }
 }
 
-/// The schema that a text means, whose defaults are valid.
+/// The schema of a text, where its defaults are valid.
 fn sound_schema(alloc: Global, text: &str) -> Result<Schema, LookupError>
     ensures found { IfOk result (λ schema. read_sound_schema text.now ≡ Ok schema) }
+    ensures means { IfOk result (λ schema. schema_of text.now ≡ Some schema) }
     ensures refused { IfErr result (IsRefusalOf (read_sound_schema text.now)) }
 {
     let Some(schema) = Schema::read_if_any(alloc, text)? else {
@@ -72,30 +84,32 @@ fn sound_schema(alloc: Global, text: &str) -> Result<Schema, LookupError>
     Ok(schema)
 }
 
-/// The versions that are asked about, with their texts: the live ones of a subject, or that one,
-/// which has to be live.
-fn olds_of<'a>(
+/// The versions that a schema is checked against, with their texts: a subject's live ones, or the
+/// one of them that is named.
+fn olds_asked<'a>(
     alloc: Global,
     registry: &'a Registry,
     subject: &str,
     which: Option<VersionRef>,
 ) -> Result<Vec<(u32, &'a str)>, LookupError>
-    ensures found { IfOk result (λ olds. olds_of (entries registry.now) subject.now which ≡ Ok (map (λ old. (old.0, old.1.now)) olds.items)) }
+    ensures found { IfOk result (λ olds. olds_of (entries registry.now) subject.now which
+        ≡ Ok (map (λ old. (old.0, old.1.now)) olds.items)) }
     ensures rising { IfOk result (λ olds. HasRisingVersions olds.items) }
     ensures refused { IfErr result (IsRefusalOf (olds_of (entries registry.now) subject.now which)) }
 {
     match which {
         None => Ok(texts_of(alloc, &registry.live(subject)?)?),
         Some(which) => {
-            let entry = version_found(registry, subject, which, false)?;
-            Ok(texts_of(alloc, &[entry])?)
+            let found = version_found(registry, subject, which, false)?;
+            Ok(texts_of(alloc, &[found])?)
         }
     }
 }
 
-/// The versions of those entries, with their texts.
+/// The versions of entries, each with its text.
 fn texts_of<'a>(alloc: Global, entries: &[&'a Entry]) -> Result<Vec<(u32, &'a str)>, AllocError>
-    ensures { IfOk result (λ olds. map (λ old. (old.0, old.1.now)) olds.items ≡ map (λ e. (e.now.version, e.now.text)) entries.now) }
+    ensures { IfOk result (λ olds. map {B = VersionText} (λ old. (old.0, old.1.now)) olds.items
+        ≡ map version_text (map (λ e. e.now) entries.now)) }
 {
     let mut olds = Vec::new(alloc);
     for entry in entries {
@@ -104,13 +118,9 @@ fn texts_of<'a>(alloc: Global, entries: &[&'a Entry]) -> Result<Vec<(u32, &'a st
     Ok(olds)
 }
 
-/// What is told of a verdict, with its message where messages are asked for.
-fn verdict_body(
-    alloc: Global,
-    verbose: bool,
-    verdict: &LevelVerdict,
-) -> Result<Text, AllocError>
-    ensures { IfOk result (λ body. body ≡ spec.check_body verbose verdict.now.ok (message_of verdict.now)) }
+/// What is told of a verdict; of a clash only where `verbose` is true.
+fn verdict_body(alloc: Global, verbose: bool, verdict: &LevelVerdict) -> Result<Text, AllocError>
+    ensures { IfOk result (λ body. body ≡ bodies.check_body verbose verdict.now.ok (message_of verdict.now)) }
 {
     let message = if verbose {
         verdict.message(alloc)?

@@ -6,11 +6,18 @@ use reg_fold::VersionRef;
 #[derive(Debug, Drop, PartialEq, Eq)]
 pub enum Query {
     /// The schema that an id names, soft-deleted or not.
-    SchemaById { id: u32 },
+    SchemaById {
+        id: u32,
+    },
     /// The versions that have an id.
-    IdVersions { id: u32, deleted: bool },
+    IdVersions {
+        id: u32,
+        deleted: bool,
+    },
     /// The subjects.
-    Subjects { deleted: bool },
+    Subjects {
+        deleted: bool,
+    },
     /// The greatest version of a subject with the schema of a text.
     Lookup {
         subject: Text,
@@ -18,7 +25,10 @@ pub enum Query {
         deleted: bool,
     },
     /// The versions of a subject.
-    Versions { subject: Text, deleted: bool },
+    Versions {
+        subject: Text,
+        deleted: bool,
+    },
     /// A version of a subject.
     Version {
         subject: Text,
