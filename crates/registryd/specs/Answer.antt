@@ -26,11 +26,11 @@ status_for refusals.VersionSoftDeleted = statuses.NotFound
 status_for refusals.VersionNotSoftDeleted = statuses.NotFound
 status_for refusals.SubjectHasNoLevel = statuses.NotFound
 status_for refusals.SubjectHasNoMode = statuses.NotFound
-status_for refusals.InvalidSchema = statuses.UnprocessableContent
-status_for refusals.InvalidVersion = statuses.UnprocessableContent
-status_for refusals.InvalidLevel = statuses.UnprocessableContent
-status_for refusals.InvalidMode = statuses.UnprocessableContent
-status_for (refusals.NotPermitted reason) = statuses.UnprocessableContent
+status_for refusals.InvalidSchema = statuses.UnprocessableEntity
+status_for refusals.InvalidVersion = statuses.UnprocessableEntity
+status_for refusals.InvalidLevel = statuses.UnprocessableEntity
+status_for refusals.InvalidMode = statuses.UnprocessableEntity
+status_for (refusals.NotPermitted reason) = statuses.UnprocessableEntity
 status_for (refusals.Store fault) = statuses.InternalServerError
 
 -- the response of a refusal, after which the server closes the connection or not

@@ -90,7 +90,7 @@ fn status_for(refusal: Refusal) -> Status
         | Refusal::InvalidVersion
         | Refusal::InvalidLevel
         | Refusal::InvalidMode
-        | Refusal::NotPermitted(_) => Status::UnprocessableContent,
+        | Refusal::NotPermitted(_) => Status::UnprocessableEntity,
         Refusal::Store(_) => Status::InternalServerError,
     }
 }

@@ -12,7 +12,7 @@ pub enum Status {
     Ok,
     BadRequest,
     NotFound,
-    UnprocessableContent,
+    UnprocessableEntity,
     InternalServerError,
 }
 
@@ -53,7 +53,7 @@ impl Status {
             Status::Ok => "200 OK",
             Status::BadRequest => "400 Bad Request",
             Status::NotFound => "404 Not Found",
-            Status::UnprocessableContent => "422 Unprocessable Content",
+            Status::UnprocessableEntity => "422 Unprocessable Entity",
             Status::InternalServerError => "500 Internal Server Error",
         }
     }

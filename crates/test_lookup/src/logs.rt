@@ -57,7 +57,9 @@ fn setting_line(alloc: Global, rest: &str, keytype: &str, member: &str) -> Resul
 
 fn version_key(alloc: Global, subject: &str, version: &str) -> Result<String, AllocError> {
     let subject = quoted(alloc, subject)?;
-    format!(in alloc; "{{\"keytype\":\"SCHEMA\",\"subject\":{subject},\"version\":{version},\"magic\":1}}")
+    format!(in alloc;
+        "{{\"keytype\":\"SCHEMA\",\"subject\":{subject},\"version\":{version},\"magic\":1}}"
+    )
 }
 
 fn schema_line(alloc: Global, rest: &str) -> Result<String, Fail> {

@@ -66,7 +66,11 @@ fn import_is_set_over_no_live_version(rt: HostRuntime) -> Result<(), Fail> {
         } else {
             Some(Reason::ScopeIsNotEmpty)
         };
-        assert_eq!(rt; refused(may_set_import(&registry, scope, force)), reason, "{log}");
+        assert_eq!(rt;
+            refused(may_set_import(&registry, scope, force)),
+            reason,
+            "{log}"
+        );
     }
     Ok(())
 }
