@@ -1,8 +1,9 @@
 -- Each refusal's code, the reason where a code has several, and the message that goes with them.
 use Rattle.std.specs.Prelude.{ℕ, List, ◌++◌, Option, Some, None, nat_lt, ◌/◌, codes, if◌then◌else◌}
 use Rattle.reg_refusals.specs.Reason.{reason_text, lack_text}
+use Rattle.reg_refusals.specs.declared.reason.StoreFault.TheVariants.{Memory}
 use Rattle.reg_refusals.specs.declared.refusal.Refusal.{Refusal}
-use Rattle.reg_refusals.specs.declared.refusal.Refusal.TheVariants.{BadRequest, NotFound, SubjectNotFound, VersionNotFound, SchemaNotFound, SubjectSoftDeleted, SubjectNotSoftDeleted, VersionSoftDeleted, VersionNotSoftDeleted, SubjectHasNoLevel, SubjectHasNoMode, InvalidSchema, InvalidVersion, InvalidLevel, InvalidMode, NotPermitted, Store}
+use Rattle.reg_refusals.specs.declared.refusal.Refusal.TheVariants.{BadRequest, NotFound, SubjectNotFound, VersionNotFound, SchemaNotFound, SubjectSoftDeleted, SubjectNotSoftDeleted, VersionSoftDeleted, VersionNotSoftDeleted, SubjectHasNoLevel, SubjectHasNoMode, Incompatible, InvalidSchema, InvalidVersion, InvalidLevel, InvalidMode, NotPermitted, Store}
 
 abbrev pub code_of : Refusal → ℕ
 code_of BadRequest = 400
@@ -16,6 +17,7 @@ code_of VersionSoftDeleted = 40406
 code_of VersionNotSoftDeleted = 40407
 code_of SubjectHasNoLevel = 40408
 code_of SubjectHasNoMode = 40409
+code_of (Incompatible message) = 409
 code_of InvalidSchema = 42201
 code_of InvalidVersion = 42202
 code_of InvalidLevel = 42203
@@ -40,6 +42,7 @@ reason_of VersionSoftDeleted = None
 reason_of VersionNotSoftDeleted = None
 reason_of SubjectHasNoLevel = None
 reason_of SubjectHasNoMode = None
+reason_of (Incompatible message) = None
 reason_of InvalidSchema = None
 reason_of InvalidVersion = None
 reason_of InvalidLevel = None
@@ -59,9 +62,14 @@ message_of VersionSoftDeleted = codes "Version is soft-deleted"
 message_of VersionNotSoftDeleted = codes "Version is not soft-deleted"
 message_of SubjectHasNoLevel = codes "Subject has no level"
 message_of SubjectHasNoMode = codes "Subject has no mode"
+message_of (Incompatible message) = message
 message_of InvalidSchema = codes "Invalid Avro schema"
 message_of InvalidVersion = codes "Invalid version"
 message_of InvalidLevel = codes "Invalid compatibility level"
 message_of InvalidMode = codes "Invalid mode"
 message_of (NotPermitted reason) = codes "Operation not permitted: " ++ reason_text reason
 message_of (Store fault) = codes "Store error: " ++ lack_text fault
+
+-- memory was refused
+abbrev pub no_memory : Refusal
+no_memory = Store Memory

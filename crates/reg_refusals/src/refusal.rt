@@ -4,11 +4,13 @@ ghost use Rattle.std.specs.Option.{option_copied};
 ghost use Rattle.reg_refusals.specs.Refusal.{code_of, status_of, reason_of, message_of};
 
 use crate::reason::{Reason, StoreFault};
+use base_text::Text;
+use std::alloc::{AllocError, AllocFailed};
 use std::error::Error;
 use std::fmt;
 
 /// Why a request is refused: its code, and the reason where a code has several.
-#[derive(Clone, Copy, Debug, PartialEq, Eq)]
+#[derive(Debug, Drop, PartialEq, Eq)]
 pub enum Refusal {
     /// The request has a form that no registry answers.
     BadRequest,
@@ -32,6 +34,8 @@ pub enum Refusal {
     SubjectHasNoLevel,
     /// The subject has no mode of its own.
     SubjectHasNoMode,
+    /// The schema doesn't meet the level in force; the whole message.
+    Incompatible(Text),
     /// The text is no schema's, or a default of it is invalid.
     InvalidSchema,
     /// The version is none.
@@ -64,6 +68,7 @@ impl Refusal {
             Refusal::VersionNotSoftDeleted => 40407,
             Refusal::SubjectHasNoLevel => 40408,
             Refusal::SubjectHasNoMode => 40409,
+            Refusal::Incompatible(_) => 409,
             Refusal::InvalidSchema => 42201,
             Refusal::InvalidVersion => 42202,
             Refusal::InvalidLevel => 42203,
@@ -89,6 +94,7 @@ impl Refusal {
             | Refusal::VersionNotSoftDeleted
             | Refusal::SubjectHasNoLevel
             | Refusal::SubjectHasNoMode => 404,
+            Refusal::Incompatible(_) => 409,
             Refusal::InvalidSchema
             | Refusal::InvalidVersion
             | Refusal::InvalidLevel
@@ -125,6 +131,7 @@ impl Refusal {
             Refusal::VersionNotSoftDeleted => "Version is not soft-deleted",
             Refusal::SubjectHasNoLevel => "Subject has no level",
             Refusal::SubjectHasNoMode => "Subject has no mode",
+            Refusal::Incompatible(message) => message.as_str(),
             Refusal::InvalidSchema => "Invalid Avro schema",
             Refusal::InvalidVersion => "Invalid version",
             Refusal::InvalidLevel => "Invalid compatibility level",
@@ -174,3 +181,52 @@ impl fmt::Display for Refusal {
 }
 
 impl Error for Refusal {}
+
+impl Clone for Refusal {
+    ghost is_clone = { λ refusal copy. copy ≡ refusal };
+
+    fn clone(&self) -> Result<Refusal, AllocError> {
+        Ok(match self {
+            Refusal::BadRequest => Refusal::BadRequest,
+            Refusal::NotFound => Refusal::NotFound,
+            Refusal::SubjectNotFound => Refusal::SubjectNotFound,
+            Refusal::VersionNotFound => Refusal::VersionNotFound,
+            Refusal::SchemaNotFound => Refusal::SchemaNotFound,
+            Refusal::SubjectSoftDeleted => Refusal::SubjectSoftDeleted,
+            Refusal::SubjectNotSoftDeleted => Refusal::SubjectNotSoftDeleted,
+            Refusal::VersionSoftDeleted => Refusal::VersionSoftDeleted,
+            Refusal::VersionNotSoftDeleted => Refusal::VersionNotSoftDeleted,
+            Refusal::SubjectHasNoLevel => Refusal::SubjectHasNoLevel,
+            Refusal::SubjectHasNoMode => Refusal::SubjectHasNoMode,
+            Refusal::Incompatible(message) => Refusal::Incompatible(message.clone()?),
+            Refusal::InvalidSchema => Refusal::InvalidSchema,
+            Refusal::InvalidVersion => Refusal::InvalidVersion,
+            Refusal::InvalidLevel => Refusal::InvalidLevel,
+            Refusal::InvalidMode => Refusal::InvalidMode,
+            Refusal::NotPermitted(reason) => Refusal::NotPermitted(*reason),
+            Refusal::Store(fault) => Refusal::Store(*fault),
+        })
+    }
+}
+
+impl From<AllocError> for Refusal {
+    ghost use Rattle.std.specs.Prelude.{◌≡◌};
+    ghost use Rattle.reg_refusals.specs.Refusal.{no_memory};
+
+    ghost from_gives = { λ _ refusal. refusal ≡ no_memory };
+
+    fn from(_error: AllocError) -> Refusal {
+        Refusal::Store(StoreFault::Memory)
+    }
+}
+
+impl<T: Drop> From<AllocFailed<T>> for Refusal {
+    ghost use Rattle.std.specs.Prelude.{◌≡◌};
+    ghost use Rattle.reg_refusals.specs.Refusal.{no_memory};
+
+    ghost from_gives = { λ _ refusal. refusal ≡ no_memory };
+
+    fn from(_error: AllocFailed<T>) -> Refusal {
+        Refusal::Store(StoreFault::Memory)
+    }
+}

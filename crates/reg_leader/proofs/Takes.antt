@@ -1,0 +1,45 @@
+-- From what the parts of a command come to, to its step.
+use Rattle.std.proofs.Common.{◌≡◌, ◌⊎◌, ℕ, List, [], Result, Ok, Err, refl, sym, ap, subst, inl, inr}
+use Rattle.reg_records.specs.declared.record.Record.{Record}
+use Rattle.reg_refusals.specs.declared.refusal.Refusal.{Refusal}
+use Rattle.reg_set.specs.Records.{Records}
+use Rattle.reg_leader.specs.Course.{Course, Refused, Does, IfMet, IsOutcome}
+use Rattle.reg_leader.specs.Deciding.{Follows}
+use Rattle.reg_leader.specs.Outcome.{Decides, Settles}
+use Rattle.reg_leader.specs.Step.{IsStep, course_of}
+use Rattle.reg_leader.specs.Taking.{IsDeed, IsRefusal, Takes}
+use Rattle.reg_leader.specs.declared.command.Command.{Command}
+use Rattle.reg_leader.specs.declared.decision.Decision.{Decision}
+use Rattle.reg_leader.specs.declared.deed.Deed.{Deed}
+use Rattle.reg_leader.specs.declared.reply.Reply.{Reply}
+use Rattle.reg_leader.specs.declared.reply.Reply.TheVariants as replies
+
+-- a course without a check
+pub takes_followed : (course : Course) (r : Result Deed Refusal) → Follows course r → Takes course r
+takes_followed course (Ok deed) h = subst (λ c. IsDeed c deed) (sym h) refl
+takes_followed course (Err refusal) (inl memory) = inl memory
+takes_followed course (Err refusal) (inr h) = inr (subst (λ c. IsRefusal c refusal) (sym h) refl)
+
+-- what a deed's records come to, its course does
+deed_outcome : (n : ℕ) (course : Course) (deed : Deed) (reply : Reply) (batch : List Record) → IsDeed course deed → IsOutcome n (Does deed.reply deed.writings.items) reply batch → IsOutcome n course reply batch
+deed_outcome n (Refused refusal) deed reply batch h settled = absurd h
+deed_outcome n (Does does ws) deed reply batch h settled = subst (λ c. IsOutcome n c reply batch) (sym h) settled
+deed_outcome n (IfMet level new olds rest) deed reply batch h settled = inl (h.0, deed_outcome n rest deed reply batch h.1 settled)
+
+refusal_outcome : (n : ℕ) (course : Course) (told : Refusal) → IsRefusal course told → IsOutcome n course (replies.Refused told) []
+refusal_outcome n (Refused refusal) told h = (ap replies.Refused (sym h), refl)
+refusal_outcome n (Does does ws) told h = absurd h
+refusal_outcome n (IfMet level new olds rest) told (inl h) = inl (h.0, refusal_outcome n rest told h.1)
+refusal_outcome n (IfMet level new olds rest) told (inr h) = inr (h.0, h.1, (ap replies.Refused (sym h.2), refl))
+
+module _ (rs : Records) (n : ℕ) (c : Command) where
+  pub steps_deed : (deed : Deed) → Takes (course_of rs n c) (Ok deed) → (r : Result Decision Refusal) → Settles n (Does deed.reply deed.writings.items) r → Decides rs n c r
+  unfolding IsStep
+  steps_deed deed h (Ok decision) settled = deed_outcome n (course_of rs n c) deed decision.reply decision.batch h settled
+  steps_deed deed h (Err refusal) (inl memory) = inl memory
+  steps_deed deed h (Err refusal) (inr settled) = inr (deed_outcome n (course_of rs n c) deed (replies.Refused refusal) [] h settled)
+
+  pub steps_refused : (refusal : Refusal) → Takes (course_of rs n c) (Err refusal) → Decides rs n c (Err refusal)
+  unfolding IsStep
+  steps_refused refusal (inl memory) = inl memory
+  steps_refused refusal (inr h) = inr (refusal_outcome n (course_of rs n c) refusal h)

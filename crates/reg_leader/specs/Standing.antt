@@ -1,0 +1,50 @@
+-- What commands ask of the entries. Below, rs are the last records.
+use Rattle.std.specs.Prelude.{ℕ, suc, List, Bool, true, false, ◌==◌, ◌&&◌, not, Option, Some, None, map, bytes_eq, unwrap_or}
+use Rattle.std.specs.List.{list_any, reduce}
+use Rattle.std.specs.Option.{option_map_or}
+use Rattle.std.specs.Ordering.{nat_cmp, on, ord_max}
+use Rattle.reg_entries.specs.Sought.{counting}
+use Rattle.reg_entries.specs.declared.entry.Entry.{Entry}
+use Rattle.reg_fold.specs.Closed.{id_of}
+use Rattle.reg_fold.specs.Entries.{entries}
+use Rattle.reg_fold.specs.Standing.{greatest_id, greatest_version, version_in}
+use Rattle.reg_fold.specs.declared.version_ref.VersionRef.{VersionRef}
+use Rattle.reg_fold.specs.declared.version_ref.VersionRef.TheVariants.{Latest, Number}
+use Rattle.reg_levels.specs.Texts.{VersionText}
+use Rattle.reg_set.specs.Records.{Records}
+
+-- whether an entry has the schema of that normal text; with that id
+abbrev pub has_schema : List ℕ → Entry → Bool
+has_schema normal e = bytes_eq e.normal normal
+
+abbrev pub is_of : ℕ → List ℕ → Entry → Bool
+is_of id normal e = (e.id == id) && has_schema normal e
+
+-- the entries of a subject, soft ones too
+abbrev pub standing : Records → List ℕ → List Entry
+standing rs subject = counting (entries rs) subject true
+
+-- of some entries the one of greatest version
+abbrev pub newest : List Entry → Option Entry
+newest es = reduce (ord_max (on (λ e. e.version) nat_cmp)) es
+
+-- the entry that a delete names: the latest is the greatest live one, and a number may name a soft one
+abbrev pub version_meant : Records → List ℕ → VersionRef → Option Entry
+version_meant rs subject Latest = version_in (entries rs) subject Latest false
+version_meant rs subject (Number version) = version_in (entries rs) subject (Number version) true
+
+-- the id of a schema that is registered: the least that an entry has it under, else one more than the greatest, or 1
+abbrev pub id_for : Records → List ℕ → ℕ
+id_for rs normal = unwrap_or (id_of rs normal) (option_map_or suc (greatest_id rs) 1)
+
+-- one more than the greatest version of the subject, soft ones too, or 1
+abbrev pub next_version : Records → List ℕ → ℕ
+next_version rs subject = option_map_or suc (greatest_version rs subject) 1
+
+-- whether an entry, soft ones too, has the id and another schema
+abbrev pub names_another : Records → ℕ → List ℕ → Bool
+names_another rs id normal = list_any (λ e. (e.id == id) && not (has_schema normal e)) (entries rs)
+
+-- the versions of some entries, with the texts that they hold
+abbrev pub texts_of : List Entry → List VersionText
+texts_of es = map (λ e. (e.version, e.text)) es

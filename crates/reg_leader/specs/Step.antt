@@ -1,0 +1,107 @@
+-- What each command replies and writes: its tests in their order, and what it does once none fails.
+-- Below, rs are the last records of the log and n is the next offset.
+use Rattle.std.specs.Prelude.{ℕ, List, [], ◌∷◌, Bool, true, false, Option, Some, None, map}
+use Rattle.std.specs.List.{filter, list_any}
+use Rattle.avro_schema.specs.Schema.{Meaning, schema_of}
+use Rattle.reg_entries.specs.declared.entry.Entry.{Entry}
+use Rattle.reg_fold.specs.Entries.{entries}
+use Rattle.reg_fold.specs.InForce.{Scope, level, own_level}
+use Rattle.reg_fold.specs.Standing.{live, greatest_version, version_in}
+use Rattle.reg_fold.specs.declared.version_ref.VersionRef.{VersionRef}
+use Rattle.reg_fold.specs.declared.version_ref.VersionRef.TheVariants.{Latest, Number}
+use Rattle.reg_levels.specs.declared.level.Level.{Level}
+use Rattle.reg_modes.specs.InForce.{mode, own_mode}
+use Rattle.reg_modes.specs.Permitted.{registering, writing}
+use Rattle.reg_modes.specs.declared.mode.Mode.{Mode}
+use Rattle.reg_records.specs.declared.record.Record.{Record}
+use Rattle.reg_refusals.specs.declared.reason.Reason.TheVariants as reasons
+use Rattle.reg_refusals.specs.declared.refusal.Refusal.{Refusal}
+use Rattle.reg_refusals.specs.declared.refusal.Refusal.TheVariants as refusals
+use Rattle.reg_set.specs.Records.{Records}
+use Rattle.reg_leader.specs.Course.{Course, Refused, Does, IfMet, IsOutcome, ◌▸◌, where_found, refuse_if, refuse_unless}
+use Rattle.reg_leader.specs.Standing.{has_schema, id_for, is_of, newest, next_version, standing, texts_of, version_meant}
+use Rattle.reg_leader.specs.Tests as test
+use Rattle.reg_leader.specs.Writings.{deleted_again, deleted_up_to, level_cleared, level_set, mode_cleared, mode_set, no_operation, removed, version_of}
+use Rattle.reg_leader.specs.declared.command.Command.{Command}
+use Rattle.reg_leader.specs.declared.command.Command.TheVariants as commands
+use Rattle.reg_leader.specs.declared.reply.Reply.{Reply}
+use Rattle.reg_leader.specs.declared.reply.Reply.TheVariants as replies
+
+-- what an entry's delete does: its version is replied
+abbrev pub delete_entry : Bool → Entry → Course
+delete_entry false e = refuse_if e.soft refusals.VersionSoftDeleted ▸ Does (replies.Version e.version) (deleted_again e ∷ [])
+delete_entry true e = refuse_unless e.soft refusals.VersionNotSoftDeleted ▸ Does (replies.Version e.version) (removed e ∷ [])
+
+-- the refusal where the version that is named isn't there
+abbrev pub no_version : VersionRef → Refusal
+no_version Latest = refusals.SubjectNotFound
+no_version (Number version) = refusals.VersionNotFound
+
+-- what a subject's delete does, where that is its greatest version
+abbrev pub delete_all : Records → List ℕ → Bool → ℕ → Course
+delete_all rs subject false greatest =
+    test.is_live rs subject
+    ▸ Does (replies.Versions (map (λ e. e.version) (live rs subject))) (deleted_up_to subject greatest ∷ [])
+delete_all rs subject true greatest =
+    test.is_not_live rs subject
+    ▸ Does (replies.Versions (map (λ e. e.version) (standing rs subject))) (map removed (standing rs subject))
+
+module _ (rs : Records) (n : ℕ) where
+  abbrev pub delete_version : List ℕ → VersionRef → Bool → Course
+  delete_version subject version permanent =
+      test.is_open rs
+      ▸ test.has_offset n
+      ▸ writing (mode rs (Some subject))
+      ▸ test.stands rs subject
+      ▸ where_found (version_meant rs subject version) (delete_entry permanent) (Refused (no_version version))
+
+  abbrev pub delete_subject : List ℕ → Bool → Course
+  delete_subject subject permanent =
+      test.is_open rs
+      ▸ test.has_offset n
+      ▸ writing (mode rs (Some subject))
+      ▸ where_found (greatest_version rs subject) (delete_all rs subject permanent) (Refused refusals.SubjectNotFound)
+
+  abbrev pub set_level : Scope → Level → Course
+  set_level scope level =
+      test.is_open rs
+      ▸ test.has_offset n
+      ▸ writing (mode rs scope)
+      ▸ Does (replies.Level level) (level_set scope level ∷ [])
+
+  abbrev pub clear_level : List ℕ → Course
+  clear_level subject =
+      test.is_open rs
+      ▸ test.has_offset n
+      ▸ writing (mode rs (Some subject))
+      ▸ where_found (own_level rs (Some subject)) (λ level. Does (replies.LevelRemoved level) (level_cleared subject ∷ [])) (Refused refusals.SubjectHasNoLevel)
+
+  abbrev pub set_mode : Scope → Mode → Bool → Course
+  set_mode scope mode force =
+      test.is_open rs
+      ▸ test.has_offset n
+      ▸ test.may_set_mode rs scope mode force
+      ▸ Does (replies.Mode mode) (mode_set scope mode ∷ [])
+
+  abbrev pub clear_mode : List ℕ → Course
+  clear_mode subject =
+      test.is_open rs
+      ▸ test.has_offset n
+      ▸ where_found (own_mode rs (Some subject)) (λ mode. Does (replies.ModeRemoved mode) (mode_cleared subject ∷ [])) (Refused refusals.SubjectHasNoMode)
+
+  abbrev pub no_op : Course
+  no_op = test.is_open rs ▸ test.has_offset n ▸ Does replies.Nothing (no_operation ∷ [])
+
+  -- what each command comes to
+  abbrev pub course_of : Command → Course
+  course_of (commands.DeleteVersion subject version permanent) = delete_version subject version permanent
+  course_of (commands.DeleteSubject subject permanent) = delete_subject subject permanent
+  course_of (commands.SetLevel scope level) = set_level scope level
+  course_of (commands.ClearLevel subject) = clear_level subject
+  course_of (commands.SetMode scope mode force) = set_mode scope mode force
+  course_of (commands.ClearMode subject) = clear_mode subject
+  course_of commands.Noop = no_op
+
+-- the command's reply and batch, at the offsets n, n + 1 and so on; a refusal has an empty batch
+unfoldable pub IsStep : Records → ℕ → Command → Reply → List Record → Type 0
+IsStep rs n command reply batch = IsOutcome n (course_of rs n command) reply batch

@@ -1,0 +1,36 @@
+// What a registry is told to do.
+use base_text::Text;
+use reg_fold::VersionRef;
+use reg_levels::Level;
+use reg_modes::Mode;
+
+/// A change that is asked for. Where a subject is optional, `None` is all subjects.
+#[derive(Debug, Drop)]
+pub enum Command {
+    /// Soft-deletes a version; `permanent` removes one that is soft-deleted.
+    DeleteVersion {
+        subject: Text,
+        version: VersionRef,
+        permanent: bool,
+    },
+    /// Soft-deletes all versions; `permanent` removes them once none is live.
+    DeleteSubject {
+        subject: Text,
+        permanent: bool,
+    },
+    SetLevel {
+        subject: Option<Text>,
+        level: Level,
+    },
+    /// Takes the subject's own level away.
+    ClearLevel(Text),
+    /// `force` sets IMPORT over live versions too.
+    SetMode {
+        subject: Option<Text>,
+        mode: Mode,
+        force: bool,
+    },
+    /// Takes the subject's own mode away.
+    ClearMode(Text),
+    Noop,
+}

@@ -1,0 +1,119 @@
+// Deciding commands.
+ghost use Rattle.std.specs.Prelude.{◌≡◌, ◌⊎◌, ◌+◌, suc, nat_le};
+ghost use Rattle.reg_records.specs.declared.limits.TheConstants.{OFFSET_LIMIT};
+ghost use Rattle.reg_leader.specs.Course.{Does};
+ghost use Rattle.reg_leader.specs.Outcome.{Decides, IsOutOfMemory, Settles};
+ghost use Rattle.reg_leader.specs.Step.{IsStep, course_of};
+ghost use Rattle.reg_leader.specs.Taking.{Takes};
+
+use crate::command::Command;
+use crate::deed::Deed;
+use crate::deletes::{delete_subject, delete_version};
+use crate::levels::{clear_level, no_op, set_level};
+use crate::modes::{clear_mode, set_mode};
+use crate::reply::Reply;
+use crate::writing::numbered;
+use base_text::Listed;
+use reg_fold::{Refusal, Registry, StoreFault};
+use reg_levels::Judged;
+use reg_records::{OFFSET_LIMIT, Record};
+use std::alloc::Global;
+
+/// What is replied to a command, and the records that it writes.
+#[derive(Debug, Drop)]
+pub struct Decision {
+    pub batch: Listed<Record>,
+    pub reply: Reply,
+}
+
+/// What a command replies and writes, from the offset `next` on. A judgement that is absent or
+/// doesn't fit is made anew. Where memory is refused, that is the reply, and nothing is written.
+pub fn decide(
+    alloc: Global,
+    registry: &Registry,
+    next: u64,
+    command: &Command,
+    judged: Option<&Judged>,
+) -> Decision
+    ensures { IsOutOfMemory result ⊎ IsStep registry.now next command.now result.reply result.batch }
+{
+    match decided(alloc, registry, next, command, judged) {
+        Ok(decision) => decision,
+        Err(refusal) => Decision {
+            batch: Listed::from(Vec::new(alloc)),
+            reply: Reply::Refused(refusal),
+        },
+    }
+}
+
+fn decided(
+    alloc: Global,
+    registry: &Registry,
+    next: u64,
+    command: &Command,
+    judged: Option<&Judged>,
+) -> Result<Decision, Refusal>
+    ensures { Decides registry.now next command.now result }
+{
+    match taken(alloc, registry, next, command, judged) {
+        Ok(deed) => settled(alloc, next, deed),
+        Err(refusal) => Err(refusal),
+    }
+}
+
+/// The deed of a command, or its refusal.
+#[tactic(auto, using(crate::proofs::Takes::takes_followed))]
+fn taken(
+    alloc: Global,
+    registry: &Registry,
+    next: u64,
+    command: &Command,
+    _judged: Option<&Judged>,
+) -> Result<Deed, Refusal>
+    ensures { Takes (course_of registry.now next command.now) result }
+{
+    match command {
+        Command::DeleteVersion {
+            subject,
+            version,
+            permanent,
+        } => delete_version(alloc, registry, next, subject, *version, *permanent),
+        Command::DeleteSubject { subject, permanent } => {
+            delete_subject(alloc, registry, next, subject, *permanent)
+        }
+        Command::SetLevel { subject, level } => set_level(alloc, registry, next, subject, *level),
+        Command::ClearLevel(subject) => clear_level(alloc, registry, next, subject),
+        Command::SetMode {
+            subject,
+            mode,
+            force,
+        } => set_mode(alloc, registry, next, subject, *mode, *force),
+        Command::ClearMode(subject) => clear_mode(alloc, registry, next, subject),
+        Command::Noop => no_op(alloc, registry, next),
+    }
+}
+
+/// What a deed comes to, unless an offset of its batch would pass the limit.
+fn settled(alloc: Global, next: u64, deed: Deed) -> Result<Decision, Refusal>
+    ensures { Settles next (Does deed.reply deed.writings.items) result }
+{
+    if !has_offsets(next, deed.writings.len()) {
+        return Err(Refusal::Store(StoreFault::NumbersUsedUp));
+    }
+    let Deed { reply, writings } = deed;
+    let batch = numbered(alloc, next, writings)?;
+    Ok(Decision {
+        batch: Listed::from(batch),
+        reply,
+    })
+}
+
+/// Whether so many records have offsets from the next one on.
+fn has_offsets(next: u64, count: usize) -> bool
+    ensures { result ≡ nat_le (next + count) (suc OFFSET_LIMIT) }
+{
+    match next.checked_add(count as u64) {
+        Some(end) => end <= OFFSET_LIMIT + 1,
+        None => false,
+    }
+}

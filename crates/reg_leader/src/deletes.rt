@@ -1,0 +1,151 @@
+// The commands that delete.
+ghost use Rattle.std.specs.Prelude.{◌≡◌, false, true, IfOk, map, option_copied};
+ghost use Rattle.reg_leader.specs.Deciding.{Follows};
+ghost use Rattle.reg_leader.specs.Standing.{version_meant};
+ghost use Rattle.reg_leader.specs.Step.{delete_all, delete_entry, delete_subject, delete_version, no_version};
+ghost use Rattle.reg_leader.specs.Writings.{removed};
+
+use crate::deed::Deed;
+use crate::reply::Reply;
+use crate::testing::{has_offset, is_live, is_not_live, is_open, stands};
+use crate::writing::Writing;
+use base_text::{Listed, Text};
+use reg_fold::{Entry, Refusal, Registry, VersionRef};
+use reg_modes::{may_write, mode_in_force};
+use std::alloc::{AllocError, Global};
+
+pub(crate) fn delete_version(
+    alloc: Global,
+    registry: &Registry,
+    next: u64,
+    subject: &Text,
+    version: VersionRef,
+    permanent: bool,
+) -> Result<Deed, Refusal>
+    ensures { Follows (delete_version registry.now next subject.now version permanent) result }
+{
+    is_open(registry)?;
+    has_offset(next)?;
+    may_write(mode_in_force(registry, Some(subject.as_str())))?;
+    stands(registry, subject)?;
+    match version_meant(registry, subject, version)? {
+        Some(entry) => delete_entry(alloc, entry, permanent),
+        None => Err(no_version(version)),
+    }
+}
+
+/// The entry that a delete names; the latest is the greatest live one.
+fn version_meant<'a>(
+    registry: &'a Registry,
+    subject: &Text,
+    version: VersionRef,
+) -> Result<Option<&'a Entry>, AllocError>
+    ensures { IfOk result (λ found. option_copied found ≡ version_meant registry.now subject.now version) }
+{
+    match version {
+        VersionRef::Latest => registry.version(subject.as_str(), version, false),
+        VersionRef::Number(_) => registry.version(subject.as_str(), version, true),
+    }
+}
+
+fn delete_entry(alloc: Global, entry: &Entry, permanent: bool) -> Result<Deed, Refusal>
+    ensures { Follows (delete_entry permanent entry.now) result }
+{
+    let writing = match (permanent, entry.soft) {
+        (false, true) => return Err(Refusal::VersionSoftDeleted),
+        (true, false) => return Err(Refusal::VersionNotSoftDeleted),
+        (false, false) => Writing::deleted_again(entry)?,
+        (true, true) => Writing::removed(entry)?,
+    };
+    Ok(Deed {
+        reply: Reply::Version(entry.version),
+        writings: vec![in alloc; writing]?,
+    })
+}
+
+/// The refusal where the version that is named isn't there.
+fn no_version(version: VersionRef) -> Refusal
+    ensures { result ≡ no_version version }
+{
+    match version {
+        VersionRef::Latest => Refusal::SubjectNotFound,
+        VersionRef::Number(_) => Refusal::VersionNotFound,
+    }
+}
+
+pub(crate) fn delete_subject(
+    alloc: Global,
+    registry: &Registry,
+    next: u64,
+    subject: &Text,
+    permanent: bool,
+) -> Result<Deed, Refusal>
+    ensures { Follows (delete_subject registry.now next subject.now permanent) result }
+{
+    is_open(registry)?;
+    has_offset(next)?;
+    may_write(mode_in_force(registry, Some(subject.as_str())))?;
+    let Some(greatest) = registry.greatest_version(subject.as_str()) else {
+        return Err(Refusal::SubjectNotFound);
+    };
+    if permanent {
+        remove_all(alloc, registry, subject, greatest)
+    } else {
+        delete_all(alloc, registry, subject, greatest)
+    }
+}
+
+/// Soft-deletes the subject's versions, up to the greatest.
+fn delete_all(
+    alloc: Global,
+    registry: &Registry,
+    subject: &Text,
+    greatest: u32,
+) -> Result<Deed, Refusal>
+    ensures { Follows (delete_all registry.now subject.now false greatest) result }
+{
+    is_live(registry, subject)?;
+    let versions = versions_of(alloc, &registry.live(subject.as_str())?)?;
+    let writing = Writing::deleted_up_to(subject, greatest)?;
+    Ok(Deed {
+        reply: Reply::Versions(Listed::from(versions)),
+        writings: vec![in alloc; writing]?,
+    })
+}
+
+/// Removes the subject's versions, each with a record of its own.
+fn remove_all(
+    alloc: Global,
+    registry: &Registry,
+    subject: &Text,
+    greatest: u32,
+) -> Result<Deed, Refusal>
+    ensures { Follows (delete_all registry.now subject.now true greatest) result }
+{
+    is_not_live(registry, subject)?;
+    let entries = registry.counting(subject.as_str(), true)?;
+    Ok(Deed {
+        reply: Reply::Versions(Listed::from(versions_of(alloc, &entries)?)),
+        writings: removed_all(alloc, &entries)?,
+    })
+}
+
+fn versions_of(alloc: Global, entries: &[&Entry]) -> Result<Vec<u32>, AllocError>
+    ensures { IfOk result (λ versions. versions.items ≡ map (λ e. e.version) (map (λ e. e.now) entries.now)) }
+{
+    let mut versions = Vec::new(alloc);
+    for entry in entries {
+        versions.push(entry.version)?;
+    }
+    Ok(versions)
+}
+
+fn removed_all(alloc: Global, entries: &[&Entry]) -> Result<Vec<Writing>, AllocError>
+    ensures { IfOk result (λ writings. writings.items ≡ map removed (map (λ e. e.now) entries.now)) }
+{
+    let mut writings = Vec::new(alloc);
+    for entry in entries {
+        writings.push(Writing::removed(entry)?)?;
+    }
+    Ok(writings)
+}

@@ -1,0 +1,53 @@
+// The commands on modes.
+ghost use Rattle.std.specs.Prelude.{◌≡◌};
+ghost use Rattle.reg_leader.specs.Deciding.{Follows};
+ghost use Rattle.reg_leader.specs.Step.{clear_mode, set_mode};
+
+use crate::deed::Deed;
+use crate::reply::Reply;
+use crate::testing::{has_offset, is_open, may_set_mode};
+use crate::writing::Writing;
+use base_text::Text;
+use reg_fold::{Refusal, Registry};
+use reg_modes::{Mode, own_mode};
+use std::alloc::Global;
+
+pub(crate) fn set_mode(
+    alloc: Global,
+    registry: &Registry,
+    next: u64,
+    scope: &Option<Text>,
+    mode: Mode,
+    force: bool,
+) -> Result<Deed, Refusal>
+    ensures { Follows (set_mode registry.now next scope.now mode force) result }
+{
+    is_open(registry)?;
+    has_offset(next)?;
+    may_set_mode(registry, scope, mode, force)?;
+    let writing = Writing::mode_set(alloc, scope, mode)?;
+    Ok(Deed {
+        reply: Reply::Mode(mode),
+        writings: vec![in alloc; writing]?,
+    })
+}
+
+pub(crate) fn clear_mode(
+    alloc: Global,
+    registry: &Registry,
+    next: u64,
+    subject: &Text,
+) -> Result<Deed, Refusal>
+    ensures { Follows (clear_mode registry.now next subject.now) result }
+{
+    is_open(registry)?;
+    has_offset(next)?;
+    let Some(mode) = own_mode(registry, Some(subject.as_str())) else {
+        return Err(Refusal::SubjectHasNoMode);
+    };
+    let writing = Writing::mode_cleared(subject)?;
+    Ok(Deed {
+        reply: Reply::ModeRemoved(mode),
+        writings: vec![in alloc; writing]?,
+    })
+}
