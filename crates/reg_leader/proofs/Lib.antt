@@ -1,2 +1,4 @@
 pub mod Courses
+pub mod Newest
 pub mod Takes
+pub mod Verdicts

@@ -1,13 +1,16 @@
 -- From what the parts of a command come to, to its step.
-use Rattle.std.proofs.Common.{◌≡◌, ◌⊎◌, ℕ, List, [], Result, Ok, Err, refl, sym, ap, subst, inl, inr}
+use Rattle.std.proofs.Common.{◌≡◌, ◌⊎◌, ℕ, List, [], Result, Ok, Err, refl, sym, ap, subst, ◌∙◌, inl, inr}
+use Rattle.reg_levels.specs.Texts.{TextsMeet, VersionText}
+use Rattle.reg_levels.specs.declared.level.Level.{Level}
 use Rattle.reg_records.specs.declared.record.Record.{Record}
+use Rattle.reg_refusals.specs.Refusal.{no_memory}
 use Rattle.reg_refusals.specs.declared.refusal.Refusal.{Refusal}
 use Rattle.reg_set.specs.Records.{Records}
 use Rattle.reg_leader.specs.Course.{Course, Refused, Does, IfMet, IsOutcome}
 use Rattle.reg_leader.specs.Deciding.{Follows}
 use Rattle.reg_leader.specs.Outcome.{Decides, Settles}
-use Rattle.reg_leader.specs.Step.{IsStep, course_of}
-use Rattle.reg_leader.specs.Taking.{IsDeed, IsRefusal, Takes}
+use Rattle.reg_leader.specs.Step.{IsStep, course_of, register}
+use Rattle.reg_leader.specs.Taking.{IsDeed, IsRefusal, Takes, before, if_met}
 use Rattle.reg_leader.specs.declared.command.Command.{Command}
 use Rattle.reg_leader.specs.declared.decision.Decision.{Decision}
 use Rattle.reg_leader.specs.declared.deed.Deed.{Deed}
@@ -19,6 +22,24 @@ pub takes_followed : (course : Course) (r : Result Deed Refusal) → Follows cou
 takes_followed course (Ok deed) h = subst (λ c. IsDeed c deed) (sym h) refl
 takes_followed course (Err refusal) (inl memory) = inl memory
 takes_followed course (Err refusal) (inr h) = inr (subst (λ c. IsRefusal c refusal) (sym h) refl)
+
+-- what follows where the level is met
+pub takes_met : (level : Level) (new : List ℕ) (olds : List VersionText) (rest : Course) (r : Result Deed Refusal) → TextsMeet level new olds → Follows rest r → Takes (IfMet level new olds rest) r
+takes_met level new olds rest (Ok deed) met h = (met, takes_followed rest (Ok deed) h)
+takes_met level new olds rest (Err refusal) met (inl memory) = inl memory
+takes_met level new olds rest (Err refusal) met (inr h) = inr (inl (met, subst (λ c. IsRefusal c refusal) (sym h) refl))
+
+-- a registration, by what is known before the check
+module _ (rs : Records) (n : ℕ) (subject text : List ℕ) where
+  pub takes_refused : (refusal : Refusal) → (refusal ≡ no_memory) ⊎ ((checked : List ℕ → Course) → before rs n subject text checked ≡ Refused refusal) → Takes (register rs n subject text) (Err refusal)
+  takes_refused refusal (inl memory) = inl memory
+  takes_refused refusal (inr refused) = inr (subst (λ c. IsRefusal c refusal) (sym (refused (if_met rs subject))) refl)
+
+  pub takes_live : (id : ℕ) (deed : Deed) → deed.reply ≡ replies.Id id → deed.writings.items ≡ [] → ((checked : List ℕ → Course) → before rs n subject text checked ≡ Does (replies.Id id) []) → Takes (register rs n subject text) (Ok deed)
+  takes_live id deed reply nothing live = takes_followed (register rs n subject text) (Ok deed) (live (if_met rs subject) ∙ (λ j. Does (sym reply j) (sym nothing j)))
+
+  pub takes_new : (normal : List ℕ) → ((checked : List ℕ → Course) → before rs n subject text checked ≡ checked normal) → (r : Result Deed Refusal) → Takes (if_met rs subject normal) r → Takes (register rs n subject text) r
+  takes_new normal new r h = subst (λ c. Takes c r) (sym (new (if_met rs subject))) h
 
 -- what a deed's records come to, its course does
 deed_outcome : (n : ℕ) (course : Course) (deed : Deed) (reply : Reply) (batch : List Record) → IsDeed course deed → IsOutcome n (Does deed.reply deed.writings.items) reply batch → IsOutcome n course reply batch

@@ -27,6 +27,17 @@ use Rattle.reg_leader.specs.declared.command.Command.TheVariants as commands
 use Rattle.reg_leader.specs.declared.reply.Reply.{Reply}
 use Rattle.reg_leader.specs.declared.reply.Reply.TheVariants as replies
 
+-- what follows for the schema that the text means, where it means one
+abbrev pub where_read : List ℕ → (Meaning → Course) → Course
+where_read text found = where_found (schema_of text) found (Refused refusals.InvalidSchema)
+
+-- a schema is written as that version, with that id
+abbrev pub writes : List ℕ → List ℕ → ℕ → ℕ → Course
+writes subject normal id version =
+    test.is_number id
+    ▸ test.is_number version
+    ▸ Does (replies.Id id) (version_of subject version id normal ∷ [])
+
 -- what an entry's delete does: its version is replied
 abbrev pub delete_entry : Bool → Entry → Course
 delete_entry false e = refuse_if e.soft refusals.VersionSoftDeleted ▸ Does (replies.Version e.version) (deleted_again e ∷ [])
@@ -47,6 +58,19 @@ delete_all rs subject true greatest =
     ▸ Does (replies.Versions (map (λ e. e.version) (standing rs subject))) (map removed (standing rs subject))
 
 module _ (rs : Records) (n : ℕ) where
+  -- the level is the one in force, and the old versions are the live ones
+  abbrev pub register : List ℕ → List ℕ → Course
+  register subject text =
+      where_read text (λ schema.
+      test.has_valid_defaults schema
+      ▸ test.is_open rs
+      ▸ test.has_offset n
+      ▸ registering (mode rs (Some subject)) false
+      ▸ where_found (newest (filter (has_schema schema.normal_text) (live rs subject))) (λ same. Does (replies.Id same.id) []) (
+      IfMet (level rs (Some subject)) schema.normal_text (texts_of (live rs subject)) (
+      writes subject schema.normal_text (id_for rs schema.normal_text) (next_version rs subject)
+      )))
+
   abbrev pub delete_version : List ℕ → VersionRef → Bool → Course
   delete_version subject version permanent =
       test.is_open rs
@@ -94,6 +118,7 @@ module _ (rs : Records) (n : ℕ) where
 
   -- what each command comes to
   abbrev pub course_of : Command → Course
+  course_of (commands.Register subject text) = register subject text
   course_of (commands.DeleteVersion subject version permanent) = delete_version subject version permanent
   course_of (commands.DeleteSubject subject permanent) = delete_subject subject permanent
   course_of (commands.SetLevel scope level) = set_level scope level

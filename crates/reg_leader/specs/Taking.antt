@@ -1,10 +1,23 @@
 -- Private: what the functions behind a decision come to for a command whose level may be checked. Any of them may be refused memory.
-use Rattle.std.specs.Prelude.{◌≡◌, ◌⊎◌, ℕ, List, Result, Ok, Err}
-use Rattle.reg_levels.specs.Texts.{TextsMeet}
+use Rattle.std.specs.Prelude.{◌≡◌, ◌⊎◌, ℕ, List, [], false, Option, Some, None, Result, Ok, Err}
+use Rattle.std.specs.List.{filter}
+use Rattle.reg_fold.specs.InForce.{level}
+use Rattle.reg_fold.specs.Standing.{live}
+use Rattle.reg_levels.specs.Texts.{TextsMeet, VersionText}
+use Rattle.reg_levels.specs.declared.level.Level.{Level}
+use Rattle.reg_modes.specs.InForce.{mode}
+use Rattle.reg_modes.specs.Permitted.{registering}
 use Rattle.reg_refusals.specs.Refusal.{no_memory}
 use Rattle.reg_refusals.specs.declared.refusal.Refusal.{Refusal}
-use Rattle.reg_leader.specs.Course.{Course, Refused, Does, IfMet, IsClash, incompatible}
+use Rattle.reg_set.specs.Records.{Records}
+use Rattle.reg_leader.specs.Course.{Course, Refused, Does, IfMet, IsClash, incompatible, ◌▸◌, where_found}
+use Rattle.reg_leader.specs.Standing.{has_schema, id_for, newest, next_version, texts_of}
+use Rattle.reg_leader.specs.Step.{where_read, writes}
+use Rattle.reg_leader.specs.Tests as test
 use Rattle.reg_leader.specs.declared.deed.Deed.{Deed}
+use Rattle.reg_leader.specs.declared.deed.Settled.{Settled}
+use Rattle.reg_leader.specs.declared.deed.Settled.TheVariants as found
+use Rattle.reg_leader.specs.declared.reply.Reply.TheVariants as replies
 
 -- the course leads to that deed
 abbrev pub IsDeed : Course → Deed → Type 0
@@ -23,3 +36,27 @@ IsRefusal (IfMet level new olds rest) told =
 abbrev pub Takes : Course → Result Deed Refusal → Type 0
 Takes course (Ok deed) = IsDeed course deed
 Takes course (Err refusal) = (refusal ≡ no_memory) ⊎ IsRefusal course refusal
+
+-- what a check of the level tells: nothing where it is met, else the message of the first clash
+abbrev pub IsReport : Level → List ℕ → List VersionText → Option (List ℕ) → Type 0
+IsReport level new olds None = TextsMeet level new olds
+IsReport level new olds (Some message) = IsClash level new olds message
+
+-- what follows for a schema that is to be registered and isn't live
+abbrev pub if_met : Records → List ℕ → List ℕ → Course
+if_met rs subject normal = IfMet (level rs (Some subject)) normal (texts_of (live rs subject)) (writes subject normal (id_for rs normal) (next_version rs subject))
+
+-- what comes before that
+abbrev pub before : Records → ℕ → List ℕ → List ℕ → (List ℕ → Course) → Course
+before rs n subject text checked =
+    where_read text (λ schema.
+    test.has_valid_defaults schema
+    ▸ test.is_open rs
+    ▸ test.has_offset n
+    ▸ registering (mode rs (Some subject)) false
+    ▸ where_found (newest (filter (has_schema schema.normal_text) (live rs subject))) (λ same. Does (replies.Id same.id) []) (checked schema.normal_text))
+
+abbrev pub IsBefore : Records → ℕ → List ℕ → List ℕ → Result Settled Refusal → Type 0
+IsBefore rs n subject text (Ok (found.Live id)) = (checked : List ℕ → Course) → before rs n subject text checked ≡ Does (replies.Id id) []
+IsBefore rs n subject text (Ok (found.New schema)) = (checked : List ℕ → Course) → before rs n subject text checked ≡ checked schema.normal_text
+IsBefore rs n subject text (Err refusal) = (refusal ≡ no_memory) ⊎ ((checked : List ℕ → Course) → before rs n subject text checked ≡ Refused refusal)

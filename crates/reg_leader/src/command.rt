@@ -7,6 +7,11 @@ use reg_modes::Mode;
 /// A change that is asked for. Where a subject is optional, `None` is all subjects.
 #[derive(Debug, Drop)]
 pub enum Command {
+    /// The text is a schema's.
+    Register {
+        subject: Text,
+        text: Text,
+    },
     /// Soft-deletes a version; `permanent` removes one that is soft-deleted.
     DeleteVersion {
         subject: Text,

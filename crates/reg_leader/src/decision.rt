@@ -11,6 +11,7 @@ use crate::deed::Deed;
 use crate::deletes::{delete_subject, delete_version};
 use crate::levels::{clear_level, no_op, set_level};
 use crate::modes::{clear_mode, set_mode};
+use crate::registering::register;
 use crate::reply::Reply;
 use crate::writing::numbered;
 use base_text::Listed;
@@ -68,11 +69,14 @@ fn taken(
     registry: &Registry,
     next: u64,
     command: &Command,
-    _judged: Option<&Judged>,
+    judged: Option<&Judged>,
 ) -> Result<Deed, Refusal>
     ensures { Takes (course_of registry.now next command.now) result }
 {
     match command {
+        Command::Register { subject, text } => {
+            register(alloc, registry, next, subject, text, judged)
+        }
         Command::DeleteVersion {
             subject,
             version,

@@ -5,9 +5,12 @@ mod command;
 mod decision;
 mod deed;
 mod deletes;
+mod judging;
 mod levels;
 mod modes;
+mod registering;
 mod reply;
+mod schemas;
 mod testing;
 mod writing;
 

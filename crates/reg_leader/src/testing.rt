@@ -1,11 +1,12 @@
 // The tests of commands, in the order of their definitions. None takes memory.
 ghost use Rattle.std.specs.Prelude.{◌≡◌, option_map};
+ghost use Rattle.reg_leader.specs.Deciding.{Finds};
 ghost use Rattle.reg_leader.specs.Tests as test;
 
 use base_text::Text;
 use reg_fold::{Refusal, Registry, StoreFault};
 use reg_modes::{Mode, may_set_import};
-use reg_records::OFFSET_LIMIT;
+use reg_records::{NUMBER_LIMIT, OFFSET_LIMIT};
 
 /// Whether the registry takes commands.
 pub(crate) fn is_open(registry: &Registry) -> Result<(), Refusal>
@@ -28,6 +29,16 @@ pub(crate) fn has_offset(next: u64) -> Result<(), Refusal>
         return Err(Refusal::Store(StoreFault::NumbersUsedUp));
     }
     Ok(())
+}
+
+/// The number, if it is a version's or an id's.
+pub(crate) fn is_number(number: u64) -> Result<u32, Refusal>
+    ensures { Finds (test.is_number number) (λ within. within ≡ number) result }
+{
+    if number < 1 || number > u64::from(NUMBER_LIMIT) {
+        return Err(Refusal::Store(StoreFault::NumbersUsedUp));
+    }
+    Ok(number as u32)
 }
 
 /// Whether the scope may be set to the mode.

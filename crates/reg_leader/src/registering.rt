@@ -1,0 +1,128 @@
+// Registrations without an id.
+ghost use Rattle.std.specs.Prelude.{◌≡◌, suc, IfOk};
+ghost use Rattle.std.specs.Option.{option_map_or};
+ghost use Rattle.reg_leader.specs.Deciding.{Follows};
+ghost use Rattle.reg_leader.specs.Standing.{id_for, next_version};
+ghost use Rattle.reg_leader.specs.Step.{register, writes};
+ghost use Rattle.reg_leader.specs.Taking.{IsBefore, Takes, if_met};
+
+use crate::deed::{Deed, Settled};
+use crate::judging::clash_of;
+use crate::reply::Reply;
+use crate::schemas::{has_valid_defaults, live_schema, read};
+use crate::testing::{has_offset, is_number, is_open};
+use crate::writing::Writing;
+use avro_schema::Schema;
+use base_text::Text;
+use reg_fold::{Refusal, Registry};
+use reg_levels::Judged;
+use reg_modes::{may_register, mode_in_force};
+use std::alloc::{AllocError, Global};
+
+pub(crate) fn register(
+    alloc: Global,
+    registry: &Registry,
+    next: u64,
+    subject: &Text,
+    text: &Text,
+    judged: Option<&Judged>,
+) -> Result<Deed, Refusal>
+    ensures { Takes (register registry.now next subject.now text.now) result }
+{
+    match unless_settled(alloc, registry, next, subject, text)? {
+        Settled::Live(id) => Ok(Deed {
+            reply: Reply::Id(id),
+            writings: Vec::new(alloc),
+        }),
+        Settled::New(schema) => register_new(alloc, registry, subject, &schema, judged),
+    }
+}
+
+/// The tests before the check of the level, and the id of a schema that is live already.
+fn unless_settled(
+    alloc: Global,
+    registry: &Registry,
+    next: u64,
+    subject: &Text,
+    text: &Text,
+) -> Result<Settled, Refusal>
+    ensures { IsBefore registry.now next subject.now text.now result }
+{
+    let schema = read(alloc, text)?;
+    has_valid_defaults(&schema)?;
+    is_open(registry)?;
+    has_offset(next)?;
+    may_register(mode_in_force(registry, Some(subject.as_str())), false)?;
+    let live = registry.live(subject.as_str())?;
+    match live_schema(&live, schema.normal().as_str()) {
+        Some(same) => Ok(Settled::Live(same.id)),
+        None => Ok(Settled::New(schema)),
+    }
+}
+
+/// Registers a schema that isn't live, if it meets the level in force.
+fn register_new(
+    alloc: Global,
+    registry: &Registry,
+    subject: &Text,
+    schema: &Schema,
+    judged: Option<&Judged>,
+) -> Result<Deed, Refusal>
+    ensures { Takes (if_met registry.now subject.now schema.now.normal_text) result }
+{
+    if let Some(message) = clash_of(alloc, registry, subject, schema, judged)? {
+        let told = message.as_str();
+        let whole = format!(in alloc; "Incompatible with {told}")?;
+        return Err(Refusal::Incompatible(Text::from(whole)));
+    }
+    let id = id_for(registry, schema.normal())?;
+    let version = next_version(registry, subject);
+    writes(alloc, subject, schema, id, version)
+}
+
+/// The id of a schema that is registered: the least that an entry has it under, else one more than
+/// the greatest, or 1. The only error is want of memory.
+fn id_for(registry: &Registry, normal: &Text) -> Result<u64, AllocError>
+    ensures { IfOk result (λ id. id ≡ id_for registry.now normal.now) }
+{
+    match registry.id_of(normal.as_str())? {
+        Some(id) => Ok(u64::from(id)),
+        None => Ok(after(registry.greatest_id())),
+    }
+}
+
+/// One more than the greatest version of the subject, soft ones too, or 1.
+pub(crate) fn next_version(registry: &Registry, subject: &Text) -> u64
+    ensures { result ≡ next_version registry.now subject.now }
+{
+    after(registry.greatest_version(subject.as_str()))
+}
+
+/// One more, or 1.
+fn after(greatest: Option<u32>) -> u64
+    ensures { result ≡ option_map_or suc greatest 1 }
+{
+    match greatest {
+        Some(number) => u64::from(number) + 1,
+        None => 1,
+    }
+}
+
+/// Writes a schema as that version, with that id.
+pub(crate) fn writes(
+    alloc: Global,
+    subject: &Text,
+    schema: &Schema,
+    id: u64,
+    version: u64,
+) -> Result<Deed, Refusal>
+    ensures { Follows (writes subject.now schema.now.normal_text id version) result }
+{
+    let id = is_number(id)?;
+    let version = is_number(version)?;
+    let writing = Writing::version_of(subject, version, id, schema.normal().clone()?)?;
+    Ok(Deed {
+        reply: Reply::Id(id),
+        writings: vec![in alloc; writing]?,
+    })
+}
