@@ -3,7 +3,7 @@ use reg_fold::Refusal;
 use std::alloc::AllocError;
 
 /// Why a part of a lookup gives nothing.
-#[derive(Debug)]
+#[derive(Debug, Drop)]
 pub(crate) enum LookupError {
     /// The query is refused.
     Refused(Refusal),

@@ -26,6 +26,7 @@ status_for refusals.VersionSoftDeleted = statuses.NotFound
 status_for refusals.VersionNotSoftDeleted = statuses.NotFound
 status_for refusals.SubjectHasNoLevel = statuses.NotFound
 status_for refusals.SubjectHasNoMode = statuses.NotFound
+status_for (refusals.Incompatible message) = statuses.Conflict
 status_for refusals.InvalidSchema = statuses.UnprocessableEntity
 status_for refusals.InvalidVersion = statuses.UnprocessableEntity
 status_for refusals.InvalidLevel = statuses.UnprocessableEntity

@@ -4,13 +4,14 @@ use Rattle.serde_json.specs.Data.{unsigned, number, string, object, member, no_m
 use Rattle.serde_json.specs.Written.{compact_text}
 use Rattle.registryd.specs.declared.response.Response.{Response}
 use Rattle.registryd.specs.declared.response.Status.{Status}
-use Rattle.registryd.specs.declared.response.Status.TheVariants.{Ok, BadRequest, NotFound, UnprocessableEntity, InternalServerError}
+use Rattle.registryd.specs.declared.response.Status.TheVariants.{Ok, BadRequest, NotFound, Conflict, UnprocessableEntity, InternalServerError}
 
 -- the code and the phrase of a status (RFC 9110)
 abbrev pub status_text : Status → List ℕ
 status_text Ok = codes "200 OK"
 status_text BadRequest = codes "400 Bad Request"
 status_text NotFound = codes "404 Not Found"
+status_text Conflict = codes "409 Conflict"
 status_text UnprocessableEntity = codes "422 Unprocessable Entity"
 status_text InternalServerError = codes "500 Internal Server Error"
 

@@ -63,16 +63,16 @@ fn refuse(alloc: Global, refusal: Refusal, closes: bool) -> Result<Response, All
     ensures { IfOk result (λ response. response ≡ refused refusal closes) }
 {
     Ok(Response {
-        status: status_for(refusal),
+        status: status_for(&refusal),
         closes,
         body: refusal_body(alloc, refusal.code(), refusal.message())?,
     })
 }
 
 /// The status of a refusal, whose number is the one that the refusal itself gives.
-fn status_for(refusal: Refusal) -> Status
-    ensures status { result ≡ status_for refusal }
-    ensures number { digits_value 10 (take 3 (status_text result)) ≡ status_of refusal }
+fn status_for(refusal: &Refusal) -> Status
+    ensures status { result ≡ status_for refusal.now }
+    ensures number { digits_value 10 (take 3 (status_text result)) ≡ status_of refusal.now }
 {
     match refusal {
         Refusal::BadRequest => Status::BadRequest,
@@ -86,6 +86,7 @@ fn status_for(refusal: Refusal) -> Status
         | Refusal::VersionNotSoftDeleted
         | Refusal::SubjectHasNoLevel
         | Refusal::SubjectHasNoMode => Status::NotFound,
+        Refusal::Incompatible(_) => Status::Conflict,
         Refusal::InvalidSchema
         | Refusal::InvalidVersion
         | Refusal::InvalidLevel

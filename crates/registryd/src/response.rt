@@ -12,6 +12,7 @@ pub enum Status {
     Ok,
     BadRequest,
     NotFound,
+    Conflict,
     UnprocessableEntity,
     InternalServerError,
 }
@@ -53,6 +54,7 @@ impl Status {
             Status::Ok => "200 OK",
             Status::BadRequest => "400 Bad Request",
             Status::NotFound => "404 Not Found",
+            Status::Conflict => "409 Conflict",
             Status::UnprocessableEntity => "422 Unprocessable Entity",
             Status::InternalServerError => "500 Internal Server Error",
         }
