@@ -1,5 +1,7 @@
+pub mod Adoption
 pub mod Course
 pub mod Deciding
+pub mod OneStep
 pub mod Outcome
 pub mod Standing
 pub mod Step

@@ -1,13 +1,13 @@
 -- What commands ask of the entries. Below, rs are the last records.
 use Rattle.std.specs.Prelude.{ℕ, suc, List, Bool, true, false, ◌==◌, ◌&&◌, not, Option, Some, None, map, bytes_eq, unwrap_or}
-use Rattle.std.specs.List.{list_any, reduce}
+use Rattle.std.specs.List.{reduce}
 use Rattle.std.specs.Option.{option_map_or}
 use Rattle.std.specs.Ordering.{nat_cmp, on, ord_max}
 use Rattle.reg_entries.specs.Sought.{counting}
 use Rattle.reg_entries.specs.declared.entry.Entry.{Entry}
 use Rattle.reg_fold.specs.Closed.{id_of}
 use Rattle.reg_fold.specs.Entries.{entries}
-use Rattle.reg_fold.specs.Standing.{greatest_id, greatest_version, version_in}
+use Rattle.reg_fold.specs.Standing.{greatest_id, greatest_version, named, version_in}
 use Rattle.reg_fold.specs.declared.version_ref.VersionRef.{VersionRef}
 use Rattle.reg_fold.specs.declared.version_ref.VersionRef.TheVariants.{Latest, Number}
 use Rattle.reg_levels.specs.Texts.{VersionText}
@@ -41,9 +41,9 @@ id_for rs normal = unwrap_or (id_of rs normal) (option_map_or suc (greatest_id r
 abbrev pub next_version : Records → List ℕ → ℕ
 next_version rs subject = option_map_or suc (greatest_version rs subject) 1
 
--- whether an entry, soft ones too, has the id and another schema
+-- whether the id names another schema: the entry that it names, which may be soft, has another one. In a registry that takes commands all entries of an id have one schema.
 abbrev pub names_another : Records → ℕ → List ℕ → Bool
-names_another rs id normal = list_any (λ e. (e.id == id) && not (has_schema normal e)) (entries rs)
+names_another rs id normal = option_map_or (λ e. not (has_schema normal e)) (named rs id) false
 
 -- the versions of some entries, with the texts that they hold
 abbrev pub texts_of : List Entry → List VersionText

@@ -1,7 +1,7 @@
 -- What each command replies and writes: its tests in their order, and what it does once none fails.
 -- Below, rs are the last records of the log and n is the next offset.
 use Rattle.std.specs.Prelude.{ℕ, List, [], ◌∷◌, Bool, true, false, Option, Some, None, map}
-use Rattle.std.specs.List.{filter, list_any}
+use Rattle.std.specs.List.{filter}
 use Rattle.avro_schema.specs.Schema.{Meaning, schema_of}
 use Rattle.reg_entries.specs.declared.entry.Entry.{Entry}
 use Rattle.reg_fold.specs.Entries.{entries}
@@ -38,6 +38,21 @@ writes subject normal id version =
     ▸ test.is_number version
     ▸ Does (replies.Id id) (version_of subject version id normal ∷ [])
 
+-- the entry that is live there is this schema with this id, or the version is occupied
+abbrev pub is_there : ℕ → List ℕ → Entry → Course
+is_there id normal e = refuse_unless (is_of id normal e) (refusals.NotPermitted reasons.VersionIsOccupied) ▸ Does (replies.Id id) []
+
+-- an import without a version, and with one
+abbrev pub import_as : Records → List ℕ → List ℕ → ℕ → Option ℕ → Course
+import_as rs subject normal id None =
+    where_found (newest (filter (is_of id normal) (live rs subject))) (λ same. Does (replies.Id id) []) (
+    writes subject normal id (next_version rs subject)
+    )
+import_as rs subject normal id (Some version) =
+    where_found (version_in (entries rs) subject (Number version) false) (is_there id normal) (
+    writes subject normal id version
+    )
+
 -- what an entry's delete does: its version is replied
 abbrev pub delete_entry : Bool → Entry → Course
 delete_entry false e = refuse_if e.soft refusals.VersionSoftDeleted ▸ Does (replies.Version e.version) (deleted_again e ∷ [])
@@ -70,6 +85,17 @@ module _ (rs : Records) (n : ℕ) where
       IfMet (level rs (Some subject)) schema.normal_text (texts_of (live rs subject)) (
       writes subject schema.normal_text (id_for rs schema.normal_text) (next_version rs subject)
       )))
+
+  -- defaults aren't looked at
+  abbrev pub import_register : List ℕ → List ℕ → ℕ → Option ℕ → Course
+  import_register subject text id version =
+      where_read text (λ schema.
+      test.is_open rs
+      ▸ test.has_offset n
+      ▸ registering (mode rs (Some subject)) true
+      ▸ test.names_no_other rs id schema.normal_text
+      ▸ import_as rs subject schema.normal_text id version
+      )
 
   abbrev pub delete_version : List ℕ → VersionRef → Bool → Course
   delete_version subject version permanent =
@@ -119,6 +145,7 @@ module _ (rs : Records) (n : ℕ) where
   -- what each command comes to
   abbrev pub course_of : Command → Course
   course_of (commands.Register subject text) = register subject text
+  course_of (commands.ImportRegister subject text id version) = import_register subject text id version
   course_of (commands.DeleteVersion subject version permanent) = delete_version subject version permanent
   course_of (commands.DeleteSubject subject permanent) = delete_subject subject permanent
   course_of (commands.SetLevel scope level) = set_level scope level

@@ -12,6 +12,13 @@ pub enum Command {
         subject: Text,
         text: Text,
     },
+    /// The id is the caller's, and so is the version, where one is given.
+    ImportRegister {
+        subject: Text,
+        text: Text,
+        id: u32,
+        version: Option<u32>,
+    },
     /// Soft-deletes a version; `permanent` removes one that is soft-deleted.
     DeleteVersion {
         subject: Text,

@@ -9,6 +9,7 @@ ghost use Rattle.reg_leader.specs.Taking.{Takes};
 use crate::command::Command;
 use crate::deed::Deed;
 use crate::deletes::{delete_subject, delete_version};
+use crate::importing::import_register;
 use crate::levels::{clear_level, no_op, set_level};
 use crate::modes::{clear_mode, set_mode};
 use crate::registering::register;
@@ -77,6 +78,12 @@ fn taken(
         Command::Register { subject, text } => {
             register(alloc, registry, next, subject, text, judged)
         }
+        Command::ImportRegister {
+            subject,
+            text,
+            id,
+            version,
+        } => import_register(alloc, registry, next, subject, text, *id, *version),
         Command::DeleteVersion {
             subject,
             version,

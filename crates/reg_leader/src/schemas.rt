@@ -41,6 +41,17 @@ pub(crate) fn live_schema<'a>(entries: &[&'a Entry], normal: &str) -> Option<&'a
     best
 }
 
+/// Of those entries with that id and that schema the one of greatest version.
+pub(crate) fn live_import<'a>(entries: &[&'a Entry], id: u32, normal: &str) -> Option<&'a Entry>
+    ensures { option_copied result ≡ newest (filter (is_of id normal.now) (map (λ e. e.now) entries.now)) }
+{
+    let mut best = None;
+    for entry in entries {
+        best = better(best, *entry, is_of(*entry, id, normal));
+    }
+    best
+}
+
 /// Of the best so far and an entry, if it counts, the one of greater version.
 fn better<'a>(best: Option<&'a Entry>, entry: &'a Entry, counts: bool) -> Option<&'a Entry>
     ensures { option_copied result ≡ better counts entry.now (option_copied best.entry) }

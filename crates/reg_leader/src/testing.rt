@@ -3,8 +3,9 @@ ghost use Rattle.std.specs.Prelude.{◌≡◌, option_map};
 ghost use Rattle.reg_leader.specs.Deciding.{Finds};
 ghost use Rattle.reg_leader.specs.Tests as test;
 
+use crate::schemas::has_schema;
 use base_text::Text;
-use reg_fold::{Refusal, Registry, StoreFault};
+use reg_fold::{Reason, Refusal, Registry, StoreFault};
 use reg_modes::{Mode, may_set_import};
 use reg_records::{NUMBER_LIMIT, OFFSET_LIMIT};
 
@@ -53,6 +54,18 @@ pub(crate) fn may_set_mode(
     match mode {
         Mode::Import => may_set_import(registry, subject_of(scope), force),
         Mode::Readwrite | Mode::Readonly => Ok(()),
+    }
+}
+
+/// Whether the id names no other schema.
+pub(crate) fn names_no_other(registry: &Registry, id: u32, normal: &Text) -> Result<(), Refusal>
+    ensures { result ≡ test.names_no_other registry.now id normal.now }
+{
+    match registry.by_id(id) {
+        Some(entry) if !has_schema(entry, normal.as_str()) => {
+            Err(Refusal::NotPermitted(Reason::IdNamesAnotherSchema))
+        }
+        _ => Ok(()),
     }
 }
 

@@ -14,19 +14,19 @@ use Rattle.reg_leader.proofs.judging.clash_of.Goals as goal
 pub judge-requires-clause-rising : goal.judge-requires-clause-rising
 judge-requires-clause-rising c =
     let same =
-        ap (map (λ old. old.0)) c.deref-2.ensures.value
-        ∙ c.in_ok-texts.ensures.versions
-        ∙ ap (λ es. map {A = Entry} (λ e. e.version) (map (λ e. e.now) es)) c.deref.ensures.value in
+    ap (map (λ old. old.0)) c.deref-2.ensures.value
+    ∙ c.in_ok-texts.ensures.versions
+    ∙ ap (λ es. map {A = Entry} (λ e. e.version) (map (λ e. e.now) es)) c.deref.ensures.value in
     subst IsStrictlyIncreasing (sym same) c.in_ok-live.ensures.in_order
 
 pub judge-requires-clause-read : goal.judge-requires-clause-read
 judge-requires-clause-read c =
     let rs = c.args.registry.now in
     let same =
-        ap (map {B = VersionText} (λ old. (old.0, old.1.now))) c.deref-2.ensures.value
-        ∙ c.in_ok-texts.ensures.texts
-        ∙ ap (λ es. texts_of (map (λ e. e.now) es)) c.deref.ensures.value
-        ∙ ap texts_of (c.in_ok-live.ensures.all ∙ ap (live rs) c.as_str-2.ensures) in
+    ap (map {B = VersionText} (λ old. (old.0, old.1.now))) c.deref-2.ensures.value
+    ∙ c.in_ok-texts.ensures.texts
+    ∙ ap (λ es. texts_of (map (λ e. e.now) es)) c.deref.ensures.value
+    ∙ ap texts_of (c.in_ok-live.ensures.all ∙ ap (live rs) c.as_str-2.ensures) in
     ap first_unread same ∙ live_are_read c.entries_are_read.ensures rs c.args.subject.now
 
 pub returns-then-fits : goal.returns-then-fits
@@ -34,10 +34,10 @@ returns-then-fits c =
     let rs = c.args.registry.now in
     let s = c.args.subject.now in
     let same =
-        ap (map {B = VersionText} (λ old. (old.0, old.1.now))) c.deref-in-Some.ensures.value
-        ∙ c.in_ok-texts.ensures.texts
-        ∙ ap (λ es. texts_of (map (λ e. e.now) es)) c.deref.ensures.value
-        ∙ ap texts_of (c.in_ok-live.ensures.all ∙ ap (live rs) c.as_str-2.ensures) in
+    ap (map {B = VersionText} (λ old. (old.0, old.1.now))) c.deref-in-Some.ensures.value
+    ∙ c.in_ok-texts.ensures.texts
+    ∙ ap (λ es. texts_of (map (λ e. e.now) es)) c.deref.ensures.value
+    ∙ ap texts_of (c.in_ok-live.ensures.all ∙ ap (live rs) c.as_str-2.ensures) in
     let made = c.fits.ensures.0 c.if-fits.true in
     let in_force = c.level-level.ensures ∙ ap (λ subject. level rs (Some subject)) c.as_str.ensures in
     let normal = c.as_str-in-Some.ensures ∙ c.normal.ensures.text in
@@ -50,10 +50,10 @@ returns c =
     let rs = c.args.registry.now in
     let s = c.args.subject.now in
     let same =
-        ap (map {B = VersionText} (λ old. (old.0, old.1.now))) c.deref-2.ensures.value
-        ∙ c.in_ok-texts.ensures.texts
-        ∙ ap (λ es. texts_of (map (λ e. e.now) es)) c.deref.ensures.value
-        ∙ ap texts_of (c.in_ok-live.ensures.all ∙ ap (live rs) c.as_str-2.ensures) in
+    ap (map {B = VersionText} (λ old. (old.0, old.1.now))) c.deref-2.ensures.value
+    ∙ c.in_ok-texts.ensures.texts
+    ∙ ap (λ es. texts_of (map (λ e. e.now) es)) c.deref.ensures.value
+    ∙ ap texts_of (c.in_ok-live.ensures.all ∙ ap (live rs) c.as_str-2.ensures) in
     let made = c.in_ok-judged.ensures in
     let in_force = c.level-level.ensures ∙ ap (λ subject. level rs (Some subject)) c.as_str.ensures in
     IfOk-weaker c.message-2.result _ _ (λ told is.

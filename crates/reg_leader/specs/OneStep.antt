@@ -1,0 +1,40 @@
+-- What is true of every single step. Below, rs are the last records and n is the next offset.
+use Rattle.std.specs.Prelude.{◌≡◌, ◌⊎◌, ℕ, suc, List, [], ◌∷◌, Bool, true, false, ◌&&◌, ◌==◌, Some}
+use Rattle.avro_schema.specs.Schema.{Meaning, schema_of}
+use Rattle.reg_fold.specs.InForce.{level}
+use Rattle.reg_fold.specs.Standing.{live}
+use Rattle.reg_levels.specs.Texts.{TextsMeet}
+use Rattle.reg_records.specs.Written.{written_value}
+use Rattle.reg_records.specs.declared.key.Key.TheVariants as keys
+use Rattle.reg_records.specs.declared.record.Record.{Record}
+use Rattle.reg_records.specs.declared.value.Value.TheVariants as values
+use Rattle.reg_set.specs.Records.{Records}
+use Rattle.reg_leader.specs.Standing.{texts_of}
+use Rattle.reg_leader.specs.Step.{IsStep}
+use Rattle.reg_leader.specs.declared.command.Command.{Command}
+use Rattle.reg_leader.specs.declared.command.Command.TheVariants as commands
+use Rattle.reg_leader.specs.declared.reply.Reply.{Reply}
+
+-- a command has one reply and one batch, whatever was judged before
+abbrev pub StepsAreSingle : Type 0
+StepsAreSingle = (rs : Records) (n : ℕ) (c : Command) (reply other : Reply) (batch others : List Record) → IsStep rs n c reply batch → IsStep rs n c other others
+    → (reply ≡ other) × (batch ≡ others)
+
+-- whether the records have the offsets n, n + 1 and so on
+abbrev pub goes_on : ℕ → List Record → Bool
+goes_on n [] = true
+goes_on n (r ∷ rs) = (r.offset == n) && goes_on (suc n) rs
+
+-- the batch is one version of the subject, with the schema of that text by its normal text, which meets the level in force against the live versions
+pub record RegistersWhatMeets (rs : Records) (n : ℕ) (subject text : List ℕ) (batch : List Record) : Type 0 where
+  pub schema : Meaning
+  pub is_read : schema_of text ≡ Some schema
+  pub version : ℕ
+  pub id : ℕ
+  pub one_record : batch ≡ record { offset = n; key = keys.Schema subject version; value = written_value (values.Schema subject version id schema.normal_text false) } ∷ []
+  pub meets : TextsMeet (level rs (Some subject)) schema.normal_text (texts_of (live rs subject))
+
+-- what is registered met the level, or nothing is written
+abbrev pub StepsMeetLevels : Type 0
+StepsMeetLevels = (rs : Records) (n : ℕ) (subject text : List ℕ) (reply : Reply) (batch : List Record) → IsStep rs n (commands.Register subject text) reply batch
+    → (batch ≡ []) ⊎ RegistersWhatMeets rs n subject text batch

@@ -1,0 +1,88 @@
+// Registrations with an id.
+ghost use Rattle.std.specs.Prelude.{None, Some};
+ghost use Rattle.reg_leader.specs.Deciding.{Follows};
+ghost use Rattle.reg_leader.specs.Step.{import_as, import_register, is_there};
+
+use crate::deed::Deed;
+use crate::registering::{next_version, writes};
+use crate::reply::Reply;
+use crate::schemas::{is_of, live_import, read};
+use crate::testing::{has_offset, is_open, names_no_other};
+use avro_schema::Schema;
+use base_text::Text;
+use reg_fold::{Entry, Reason, Refusal, Registry, VersionRef};
+use reg_modes::{may_register, mode_in_force};
+use std::alloc::Global;
+
+pub(crate) fn import_register(
+    alloc: Global,
+    registry: &Registry,
+    next: u64,
+    subject: &Text,
+    text: &Text,
+    id: u32,
+    version: Option<u32>,
+) -> Result<Deed, Refusal>
+    ensures { Follows (import_register registry.now next subject.now text.now id version) result }
+{
+    let schema = read(alloc, text)?;
+    is_open(registry)?;
+    has_offset(next)?;
+    may_register(mode_in_force(registry, Some(subject.as_str())), true)?;
+    names_no_other(registry, id, schema.normal())?;
+    match version {
+        Some(version) => import_at(alloc, registry, subject, &schema, id, version),
+        None => import_next(alloc, registry, subject, &schema, id),
+    }
+}
+
+/// Imports a schema as that version.
+fn import_at(
+    alloc: Global,
+    registry: &Registry,
+    subject: &Text,
+    schema: &Schema,
+    id: u32,
+    version: u32,
+) -> Result<Deed, Refusal>
+    ensures { Follows (import_as registry.now subject.now schema.now.normal_text id (Some version)) result }
+{
+    match registry.version(subject.as_str(), VersionRef::Number(version), false)? {
+        Some(entry) => is_there(alloc, entry, id, schema.normal()),
+        None => writes(alloc, subject, schema, u64::from(id), u64::from(version)),
+    }
+}
+
+/// The entry that is live there is this schema with this id, or the version is occupied.
+fn is_there(alloc: Global, entry: &Entry, id: u32, normal: &Text) -> Result<Deed, Refusal>
+    ensures { Follows (is_there id normal.now entry.now) result }
+{
+    if !is_of(entry, id, normal.as_str()) {
+        return Err(Refusal::NotPermitted(Reason::VersionIsOccupied));
+    }
+    Ok(Deed {
+        reply: Reply::Id(id),
+        writings: Vec::new(alloc),
+    })
+}
+
+/// Imports a schema as the next version, unless it is live with that id.
+fn import_next(
+    alloc: Global,
+    registry: &Registry,
+    subject: &Text,
+    schema: &Schema,
+    id: u32,
+) -> Result<Deed, Refusal>
+    ensures { Follows (import_as registry.now subject.now schema.now.normal_text id None) result }
+{
+    let live = registry.live(subject.as_str())?;
+    if live_import(&live, id, schema.normal().as_str()).is_some() {
+        return Ok(Deed {
+            reply: Reply::Id(id),
+            writings: Vec::new(alloc),
+        });
+    }
+    let version = next_version(registry, subject);
+    writes(alloc, subject, schema, u64::from(id), version)
+}
