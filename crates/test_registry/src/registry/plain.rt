@@ -1,206 +1,204 @@
-// A registry as a list of entries, each made by walks over all records.
-use avro_schema::Schema;
-use base_text::Text;
-use reg_fold::Entry;
-use reg_records::{Key, Record, Value, decode_value};
+// A registry as a list of entries, each made by walks over all lines.
+use crate::lines::Line;
 use std::alloc::{AllocError, Global};
+
+/// The subjects of lines, by their bytes.
+pub(crate) static SUBJECTS: [&str; 4] = ["", "s", "s!", "sé"];
+
+/// The names of schemas, by their bytes.
+pub(crate) static NAMES: [&str; 3] = ["int", "long", "string"];
+
+/// One more than the greatest id and the greatest version of lines, which have one digit each.
+pub(crate) const NUMBERS: u32 = 6;
+
+/// What a line says of a version, or of a soft delete, which has the version 0.
+#[derive(Clone, Copy)]
+pub(crate) struct Said {
+    pub offset: u64,
+    pub subject: &'static str,
+    pub version: u32,
+    pub has_value: bool,
+    /// Whether the value is the empty object.
+    pub is_empty: bool,
+    /// The id, or the last version that is deleted; 0 where the value can't be read.
+    pub number: u32,
+    pub name: &'static str,
+    pub soft: bool,
+}
+
+impl Said {
+    /// What tells which of two lines of a key is later: the offset, then the value's text.
+    fn age(self) -> (u64, bool, bool, u32, &'static str, bool) {
+        (
+            self.offset,
+            self.has_value,
+            self.is_empty,
+            self.number,
+            self.name,
+            self.soft,
+        )
+    }
+}
+
+fn reading_of(line: Line) -> Option<Said> {
+    let (offset, subject, version, number, name) = match line {
+        Line::Schema(offset, subject, version, id, name)
+        | Line::Deleted(offset, subject, version, id, name) => (offset, subject, version, id, name),
+        Line::Tombstone(offset, subject, version) | Line::Unreadable(offset, subject, version) => {
+            (offset, subject, version, 0, "")
+        }
+        Line::Delete(offset, subject, last) => (offset, subject, 0, last, ""),
+        Line::Undelete(offset, subject) => (offset, subject, 0, 0, ""),
+        Line::Level(..) | Line::NoLevel(..) => return None,
+    };
+    Some(Said {
+        offset,
+        subject,
+        version,
+        has_value: !matches!(line, Line::Tombstone(..) | Line::Undelete(..)),
+        is_empty: matches!(line, Line::Unreadable(..)),
+        number,
+        name,
+        soft: matches!(line, Line::Deleted(..)),
+    })
+}
+
+/// Of the lines of a key the one of greatest offset; at one offset that of greatest value.
+fn last(lines: &[Line], subject: &str, version: u32) -> Option<Said> {
+    let mut found: Option<Said> = None;
+    for line in lines {
+        let Some(said) = reading_of(*line) else {
+            continue
+        };
+        if said.subject != subject || said.version != version {
+            continue;
+        }
+        match found {
+            Some(best) if said.age() < best.age() => {}
+            _ => found = Some(said),
+        }
+    }
+    found
+}
+
+/// Whether the last soft delete of its subject is of that version or a later one, and came after it.
+fn is_marked(lines: &[Line], entry: Said) -> bool {
+    match last(lines, entry.subject, 0) {
+        Some(delete) => entry.version <= delete.number && entry.offset < delete.offset,
+        None => false,
+    }
+}
 
 #[derive(Drop)]
 pub(crate) struct PlainRegistry {
     /// By subject, then by version.
-    entries: Vec<Entry>,
-    /// The offsets of the versions that can't be read.
-    unread: Vec<u64>,
+    pub entries: Vec<Said>,
+    /// The least offset of a version that can't be read.
+    pub opaque: Option<u64>,
 }
 
 impl PlainRegistry {
-    /// The registry over some records.
-    pub(crate) fn of(alloc: Global, records: &[Record]) -> Result<PlainRegistry, AllocError> {
+    /// The registry over some lines.
+    pub(crate) fn of(alloc: Global, lines: &[Line]) -> Result<PlainRegistry, AllocError> {
         let mut registry = PlainRegistry {
             entries: Vec::new(alloc),
-            unread: Vec::new(alloc),
+            opaque: None,
         };
-        for (place, record) in records.iter().enumerate() {
-            if last(&records[..place], &record.key).is_none() {
-                registry.add(alloc, records, &record.key)?;
-            }
-        }
+        registry.fill(lines)?;
         Ok(registry)
     }
 
-    /// Adds what the last record of a key gives.
-    fn add(&mut self, alloc: Global, records: &[Record], key: &Key) -> Result<(), AllocError> {
-        let Some(record) = last(records, key) else {
-            return Ok(());
-        };
-        match entry_of(alloc, records, record)? {
-            Some(entry) => self.place(entry),
-            None if is_text_of_a_version(record) => Ok(self.unread.push(record.offset)?),
-            None => Ok(()),
-        }
-    }
-
-    fn place(&mut self, entry: Entry) -> Result<(), AllocError> {
-        let found = self
-            .entries
-            .iter()
-            .position(|other| is_later(other, &entry));
-        match found {
-            Some(place) => self.entries.insert(place, entry)?,
-            None => self.entries.push(entry)?,
+    fn fill(&mut self, lines: &[Line]) -> Result<(), AllocError> {
+        for subject in SUBJECTS {
+            for version in 1..NUMBERS {
+                if let Some(said) = last(lines, subject, version) {
+                    self.add(lines, said)?;
+                }
+            }
         }
         Ok(())
     }
 
-    pub(crate) fn entries(&self, alloc: Global) -> Result<Vec<&Entry>, AllocError> {
-        let mut found = Vec::new(alloc);
-        for entry in &self.entries {
-            found.push(entry)?;
+    /// Adds what the last line of a version gives.
+    fn add(&mut self, lines: &[Line], said: Said) -> Result<(), AllocError> {
+        if said.number > 0 {
+            let mut entry = said;
+            entry.soft = said.soft || is_marked(lines, said);
+            self.entries.push(entry)?;
+        } else if said.has_value {
+            self.add_opaque(said.offset);
         }
-        Ok(found)
+        Ok(())
     }
 
-    pub(crate) fn live(&self, alloc: Global, subject: &str) -> Result<Vec<&Entry>, AllocError> {
-        let mut found = Vec::new(alloc);
-        for entry in &self.entries {
-            if entry.subject.as_str() == subject && !entry.soft {
-                found.push(entry)?;
-            }
+    fn add_opaque(&mut self, offset: u64) {
+        match self.opaque {
+            Some(least) if least <= offset => {}
+            _ => self.opaque = Some(offset),
         }
-        Ok(found)
     }
 
     /// Of the entries with that id the one of greatest offset; at one offset the last in order.
-    pub(crate) fn by_id(&self, id: u32) -> Option<&Entry> {
-        let mut found: Option<&Entry> = None;
+    pub(crate) fn by_id(&self, id: u32) -> Option<&Said> {
+        let mut found: Option<&Said> = None;
         for entry in &self.entries {
-            if entry.id == id && found.is_none_or(|best| best.offset <= entry.offset) {
-                found = Some(entry);
+            match found {
+                _ if entry.number != id => {}
+                Some(best) if entry.offset < best.offset => {}
+                _ => found = Some(entry),
             }
         }
         found
     }
 
     pub(crate) fn greatest_id(&self) -> Option<u32> {
-        self.entries.iter().map(|entry| entry.id).max()
+        let mut greatest = None;
+        for entry in &self.entries {
+            greatest = greatest.max(Some(entry.number));
+        }
+        greatest
     }
 
     pub(crate) fn greatest_version(&self, subject: &str) -> Option<u32> {
         let mut greatest = None;
         for entry in &self.entries {
-            if entry.subject.as_str() == subject {
-                greatest = greatest.max(Some(entry.version));
+            if entry.subject == subject {
+                greatest = Some(entry.version);
             }
         }
         greatest
     }
 
-    pub(crate) fn id_of(&self, normal: &Text) -> Option<u32> {
-        let mut least: Option<u32> = None;
+    /// The least id of a schema.
+    pub(crate) fn id_of(&self, name: &str) -> Option<u32> {
+        let mut found: Option<u32> = None;
         for entry in &self.entries {
-            if entry.normal == *normal && least.is_none_or(|id| entry.id < id) {
-                least = Some(entry.id);
+            match found {
+                _ if entry.name != name => {}
+                Some(least) if least <= entry.number => {}
+                _ => found = Some(entry.number),
             }
         }
-        least
+        found
     }
 
     pub(crate) fn two_schemas(&self) -> Option<u32> {
-        let mut least: Option<u32> = None;
-        for entry in &self.entries {
-            if self.is_doubled(entry) && least.is_none_or(|id| entry.id < id) {
-                least = Some(entry.id);
+        for id in 1..NUMBERS {
+            if self.is_doubled(id) {
+                return Some(id);
             }
         }
-        least
+        None
     }
 
-    fn is_doubled(&self, entry: &Entry) -> bool {
-        self.entries.iter().any(|other| other.id == entry.id && other.normal != entry.normal)
-    }
-
-    pub(crate) fn opaque(&self) -> Option<u64> {
-        self.unread.iter().copied().min()
-    }
-}
-
-/// Of the records of a key the one of greatest offset; at one offset that of greatest value.
-fn last<'a>(records: &'a [Record], key: &Key) -> Option<&'a Record> {
-    let mut found: Option<&Record> = None;
-    for record in records {
-        if record.key == *key && found.is_none_or(|best| is_older(best, record)) {
-            found = Some(record);
+    fn is_doubled(&self, id: u32) -> bool {
+        for one in &self.entries {
+            for other in &self.entries {
+                if one.number == id && other.number == id && one.name != other.name {
+                    return true;
+                }
+            }
         }
+        false
     }
-    found
-}
-
-/// Whether a record is older than another of its key, or as old.
-fn is_older(one: &Record, other: &Record) -> bool {
-    (one.offset, &one.value) <= (other.offset, &other.value)
-}
-
-/// Whether an entry comes after another in their order.
-fn is_later(one: &Entry, other: &Entry) -> bool {
-    (one.subject.as_str(), one.version) > (other.subject.as_str(), other.version)
-}
-
-fn is_text_of_a_version(record: &Record) -> bool {
-    matches!(record.key, Key::Schema { .. }) && record.value.is_some()
-}
-
-/// The entry that a last record gives, if it gives one.
-fn entry_of(
-    alloc: Global,
-    records: &[Record],
-    record: &Record,
-) -> Result<Option<Entry>, AllocError> {
-    let Some(
-        Value::Schema {
-            subject,
-            version,
-            id,
-            schema,
-            deleted,
-        },
-    ) = decode_value(alloc, record)?
-    else {
-        return Ok(None);
-    };
-    let soft = deleted || is_marked(alloc, records, &subject, version, record.offset)?;
-    Ok(Some(Entry {
-        subject,
-        version,
-        id,
-        normal: normal_of(alloc, &schema)?,
-        text: schema,
-        offset: record.offset,
-        soft,
-    }))
-}
-
-/// The normal text of a schema's text.
-fn normal_of(alloc: Global, text: &Text) -> Result<Text, AllocError> {
-    match Schema::read_if_any(alloc, text.as_str())? {
-        Some(schema) => schema.normal().clone(),
-        None => Text::copy_of(alloc, ""),
-    }
-}
-
-/// Whether the last soft delete of a subject is of that version or a later one, and came after it.
-fn is_marked(
-    alloc: Global,
-    records: &[Record],
-    subject: &Text,
-    version: u32,
-    offset: u64,
-) -> Result<bool, AllocError> {
-    let Some(delete) = last(records, &Key::DeleteSubject(subject.clone()?)) else {
-        return Ok(false);
-    };
-    let greatest = match decode_value(alloc, delete)? {
-        Some(Value::DeleteSubject { version, .. }) => version,
-        _ => 0,
-    };
-    Ok(version <= greatest && offset < delete.offset)
 }

@@ -1,186 +1,190 @@
-// Registries beside plain ones, over records that are drawn.
-use super::plain::PlainRegistry;
+// Registries beside plain ones, over lines that are drawn.
+use super::plain::{NAMES, NUMBERS, PlainRegistry, SUBJECTS, Said};
+use super::{Wanted, Way, way_meets, ways_meet};
 use crate::draws::Draws;
-use base_text::Text;
-use reg_fold::Registry;
-use reg_records::{Key, Record};
-use reg_set::RecordSet;
+use crate::lines::{Line, records_of};
+use reg_fold::{Entry, Registry};
+use reg_records::{LogError, Record};
 use std::alloc::{AllocError, Global};
-use std::test::Fail;
 
-static SUBJECTS: [&str; 4] = ["", "s", "s!", "sé"];
-
-static PRIMITIVES: [&str; 3] = ["int", "long", "string"];
-
-// One more than the greatest id and the greatest version that are drawn.
-const NUMBERS: u32 = 6;
-
-fn one_of(draws: &mut Draws, words: &[&'static str]) -> &'static str {
+fn one_of(draws: &mut Draws, words: &'static [&'static str]) -> &'static str {
     let place = draws.below(words.len() as u64) as usize;
     words.get(place).copied().unwrap_or("")
 }
 
-/// A version mostly, or a soft delete.
-fn key(alloc: Global, draws: &mut Draws) -> Result<Key, AllocError> {
-    let subject = Text::copy_of(alloc, one_of(draws, &SUBJECTS))?;
-    Ok(match draws.below(10) {
-        0 => Key::Config(Some(subject)),
-        1 => Key::Mode(None),
-        2..=4 => Key::DeleteSubject(subject),
-        _ => Key::Schema {
-            subject,
-            version: draws.small(NUMBERS - 1).saturating_add(1),
-        },
-    })
-}
-
-/// A value that mostly can be read under the key: where the id is 0, or a number isn't the key's, it can't.
-fn value(alloc: Global, draws: &mut Draws, key: &Key) -> Result<String, AllocError> {
-    let number = draws.small(NUMBERS);
-    match key {
-        Key::Schema { subject, version } => {
-            let primitive = one_of(draws, &PRIMITIVES);
-            let deleted = draws.below(5) == 0;
-            let subject = subject.as_str();
-            format!(in alloc;
-                r#"{{"subject":"{subject}","version":{version},"id":{number},"schema":"\"{primitive}\"","deleted":{deleted}}}"#
-            )
-        }
-        Key::DeleteSubject(subject) => {
-            let subject = subject.as_str();
-            format!(in alloc; r#"{{"subject":"{subject}","version":{number}}}"#)
-        }
-        Key::Config(_) | Key::Mode(_) | Key::Noop => String::from_str(alloc, "{}"),
-    }
-}
-
-fn one(alloc: Global, draws: &mut Draws, offsets: u64) -> Result<Record, AllocError> {
+/// A line of a version mostly, or of a soft delete; where a number is 0, its value can't be read.
+fn line(draws: &mut Draws, offsets: u64) -> Line {
     let offset = draws.below(offsets);
-    let key = key(alloc, draws)?;
-    let value = if draws.below(6) == 0 {
-        None
-    } else {
-        Some(Text::from(value(alloc, draws, &key)?))
-    };
-    Ok(Record { offset, key, value })
-}
-
-/// Records with offsets below the limit.
-fn drawn(
-    alloc: Global,
-    draws: &mut Draws,
-    count: u64,
-    offsets: u64,
-) -> Result<Vec<Record>, AllocError> {
-    let mut records = Vec::new(alloc);
-    for _ in 0..count {
-        records.push(one(alloc, draws, offsets)?)?;
+    let subject = one_of(draws, &SUBJECTS);
+    let version = draws.small(NUMBERS - 1).saturating_add(1);
+    let number = draws.small(NUMBERS);
+    let name = one_of(draws, &NAMES);
+    match draws.below(16) {
+        0 => Line::Level(offset, "null", "FULL"),
+        1 => Line::NoLevel(offset, "null"),
+        2 => Line::Undelete(offset, subject),
+        3..=5 => Line::Delete(offset, subject, number),
+        6 | 7 => Line::Tombstone(offset, subject, version),
+        8 => Line::Unreadable(offset, subject, version),
+        9 | 10 => Line::Deleted(offset, subject, version, number, name),
+        _ => Line::Schema(offset, subject, version, number, name),
     }
-    Ok(records)
 }
 
-/// Whether both give the same answers to all that is asked of them.
-fn are_alike(
-    alloc: Global,
-    registry: &Registry,
-    plain: &PlainRegistry,
-) -> Result<bool, AllocError> {
+/// Lines with offsets below the limit.
+fn drawn(alloc: Global, draws: &mut Draws, list: List) -> Result<Vec<Line>, AllocError> {
+    let mut lines = Vec::new(alloc);
+    for _ in 0..list.lines {
+        lines.push(line(draws, list.offsets))?;
+    }
+    Ok(lines)
+}
+
+fn is_entry(found: &Entry, plain: &Said) -> bool {
+    found.subject.as_str() == plain.subject
+        && found.text.as_str().trim_matches('"') == plain.name
+        && (found.version, found.id, found.offset, found.soft)
+            == (plain.version, plain.number, plain.offset, plain.soft)
+}
+
+/// Whether those are the plain entries, or the live ones of a subject.
+fn are_entries(found: &[&Entry], plain: &PlainRegistry, of: Option<&str>) -> bool {
+    let mut left = found.iter();
+    for wanted in &plain.entries {
+        match (of, left.as_slice().first()) {
+            (Some(subject), _) if wanted.subject != subject || wanted.soft => {}
+            (_, Some(entry)) if is_entry(entry, wanted) => {
+                left.next();
+            }
+            _ => return false,
+        }
+    }
+    left.next().is_none()
+}
+
+fn is_named(registry: &Registry, plain: &PlainRegistry, id: u32) -> bool {
+    match (registry.by_id(id), plain.by_id(id)) {
+        (Some(entry), Some(wanted)) => is_entry(entry, wanted),
+        (None, None) => true,
+        _ => false,
+    }
+}
+
+fn have_ids(registry: &Registry, plain: &PlainRegistry) -> bool {
+    for id in 0..=NUMBERS {
+        if !is_named(registry, plain, id) {
+            return false;
+        }
+    }
+    registry.greatest_id() == plain.greatest_id()
+        && registry.two_schemas() == plain.two_schemas()
+        && registry.opaque() == plain.opaque
+}
+
+fn have_subjects(registry: &Registry, plain: &PlainRegistry) -> Result<bool, AllocError> {
     for subject in SUBJECTS {
-        if !have_alike(alloc, registry, plain, subject)? {
-            return Ok(false);
-        }
-    }
-    let found = registry.entries()?;
-    for entry in &found {
-        if registry.id_of(entry.normal.as_str())? != plain.id_of(&entry.normal) {
-            return Ok(false);
-        }
-    }
-    Ok(
-        found == plain.entries(alloc)?
-            && registry.two_schemas() == plain.two_schemas()
-            && (0..=NUMBERS).all(|id| registry.by_id(id) == plain.by_id(id))
-            && registry.greatest_id() == plain.greatest_id()
-            && registry.opaque() == plain.opaque(),
-    )
-}
-
-/// The same of a subject.
-fn have_alike(
-    alloc: Global,
-    registry: &Registry,
-    plain: &PlainRegistry,
-    subject: &str,
-) -> Result<bool, AllocError> {
-    let found = registry.live(subject)?;
-    Ok(
-        found == plain.live(alloc, subject)?
-            && registry.greatest_version(subject) == plain.greatest_version(subject),
-    )
-}
-
-/// Whether a registry is like a plain one over those records.
-fn is_like(alloc: Global, registry: &Registry, records: &[Record]) -> Result<bool, AllocError> {
-    are_alike(alloc, registry, &PlainRegistry::of(alloc, records)?)
-}
-
-/// The same after each record, taken one by one.
-fn grow_alike(alloc: Global, records: &[Record]) -> Result<bool, AllocError> {
-    let mut registry = Registry::empty(alloc);
-    for (before, record) in records.iter().enumerate() {
-        registry.apply(record)?;
-        if !is_like(alloc, &registry, &records[..=before])? {
+        if registry.greatest_version(subject) != plain.greatest_version(subject)
+            || !are_entries(&registry.live(subject)?, plain, Some(subject))
+        {
             return Ok(false);
         }
     }
     Ok(true)
 }
 
-/// The copy of a registry that took the records in two goes, the later ones first.
-fn filled(alloc: Global, records: &[Record]) -> Result<Registry, AllocError> {
-    let (front, back) = records.split_at(records.len() / 3);
-    let mut registry = Registry::empty(alloc);
-    registry.apply_all(back)?;
-    registry.apply_all(front)?;
-    registry.clone()
+fn have_schemas(registry: &Registry, plain: &PlainRegistry) -> Result<bool, AllocError> {
+    for normal in ["\"int\"", "\"long\"", "\"string\""] {
+        if registry.id_of(normal)? != plain.id_of(normal.trim_matches('"')) {
+            return Ok(false);
+        }
+    }
+    Ok(true)
 }
 
-/// Whether registries that took drawn records in these ways are all like a plain one.
-fn one_list_alike(
-    alloc: Global,
-    draws: &mut Draws,
-    count: u64,
-    offsets: u64,
-) -> Result<bool, AllocError> {
-    let records = drawn(alloc, draws, count, offsets)?;
+/// Whether a registry gives the same answers as a plain one to all that is asked.
+pub(crate) fn is_like(registry: &Registry, plain: &PlainRegistry) -> Result<bool, AllocError> {
     Ok(
-        grow_alike(alloc, &records)?
-            && is_like(alloc, &filled(alloc, &records)?, &records)?
-            && is_like(alloc, &read(alloc, &records)?, &records)?,
+        are_entries(&registry.entries()?, plain, None)
+            && have_ids(registry, plain)
+            && have_subjects(registry, plain)?
+            && have_schemas(registry, plain)?,
     )
 }
 
-fn read(alloc: Global, records: &[Record]) -> Result<Registry, AllocError> {
-    Registry::of_set(alloc, &RecordSet::of(alloc, records)?)
+/// Whether a registry that takes the first records one by one is like a plain one.
+fn front_alike(alloc: Global, records: &[Record], lines: &[Line]) -> Result<bool, AllocError> {
+    let plain = PlainRegistry::of(alloc, lines)?;
+    way_meets(alloc, records, Way::Grown, Wanted::Plain(&plain))
 }
 
-// How many lists of records are drawn, of how many records each, and below which offset.
-static LISTS: [(u64, u64, u64); 5] = [
-    (40, 6, 3),
-    (60, 12, 8),
-    (20, 12, 1_000),
-    (2, 40, 20),
-    (2, 40, 1_000_000),
+fn fronts_alike(alloc: Global, records: &[Record], lines: &[Line]) -> Result<bool, AllocError> {
+    for count in 0..records.len() {
+        let lines = lines.get(..count).unwrap_or(&[]);
+        if !front_alike(alloc, &records[..count], lines)? {
+            return Ok(false);
+        }
+    }
+    Ok(records.len() == lines.len())
+}
+
+fn are_alike(alloc: Global, records: &[Record], lines: &[Line]) -> Result<bool, AllocError> {
+    let plain = PlainRegistry::of(alloc, lines)?;
+    let ways = [Way::Read, Way::Grown, Way::Halved];
+    Ok(
+        fronts_alike(alloc, records, lines)?
+            && ways_meet(alloc, records, ways, Wanted::Plain(&plain))?,
+    )
+}
+
+fn one_list_alike(alloc: Global, draws: &mut Draws, list: List) -> Result<bool, LogError> {
+    let lines = drawn(alloc, draws, list)?;
+    let records = records_of(alloc, &lines)?;
+    Ok(are_alike(alloc, &records, &lines)?)
+}
+
+/// How many lists of lines are drawn, of how many lines each, and below which offset.
+#[derive(Clone, Copy)]
+struct List {
+    lists: u64,
+    lines: u64,
+    offsets: u64,
+}
+
+static LISTS: [List; 5] = [
+    List {
+        lists: 40,
+        lines: 6,
+        offsets: 3,
+    },
+    List {
+        lists: 60,
+        lines: 12,
+        offsets: 8,
+    },
+    List {
+        lists: 20,
+        lines: 12,
+        offsets: 1_000,
+    },
+    List {
+        lists: 2,
+        lines: 40,
+        offsets: 20,
+    },
+    List {
+        lists: 2,
+        lines: 40,
+        offsets: 1_000_000,
+    },
 ];
 
 #[test]
-fn drawn_records_give_the_same_registry(rt: HostRuntime) -> Result<(), Fail> {
-    let alloc = rt.alloc();
+fn drawn_lines_give_the_same_registry(rt: HostRuntime) {
     let mut draws = Draws::new(2027);
-    for (lists, count, offsets) in LISTS {
-        for _ in 0..lists {
-            assert!(rt; one_list_alike(alloc, &mut draws, count, offsets)?);
+    for list in LISTS {
+        for _ in 0..list.lists {
+            let is_alike = one_list_alike(rt.alloc(), &mut draws, list);
+            assert!(rt; matches!(is_alike, Ok(true)));
         }
     }
-    Ok(())
 }

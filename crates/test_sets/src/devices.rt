@@ -64,7 +64,7 @@ fn errors_are_handed_on_and_counted(rt: HostRuntime) {
             (Some(kind), 2 * fault),
             (Some(kind), 3 * fault),
         ];
-        assert_eq!(rt; answers(kind), expected);
+        assert!(rt; answers(kind) == expected);
     }
 }
 
@@ -120,7 +120,7 @@ fn an_interrupted_line_is_read_on_and_a_fault_is_told(rt: HostRuntime) {
             ErrorKind::Interrupted => (None, 0),
             _ => (Some(LogError::ReadFault { line: 2 }), 1),
         };
-        assert_eq!(rt; (told, reader.faults()), expected);
+        assert!(rt; (told, reader.faults()) == expected);
     }
 }
 
@@ -143,7 +143,7 @@ fn a_line_takes_its_reads_and_no_more(rt: HostRuntime) {
         Some(bad_tabs),
         0,
     );
-    assert_eq!(rt; told, expected);
+    assert!(rt; told == expected);
 }
 
 // The error of a log, and what is left of its text.
@@ -177,6 +177,6 @@ fn a_line_is_taken_before_its_fault_is_told(rt: HostRuntime) {
             line,
             fault: LogFault::Line(fault),
         });
-        assert_eq!(rt; left(rt.alloc(), text), (told, rest));
+        assert!(rt; left(rt.alloc(), text) == (told, rest));
     }
 }

@@ -1,0 +1,110 @@
+// What lines say, and how it is written again.
+mod rows;
+
+use crate::lines::{Line, log_of, records_of};
+use base_text::Text;
+use reg_records::{
+    Key, LogError, Record, decode_value, has_line, limits_are_as_written, lines_are_of_the_grammar,
+    write_line, written_keys_are_apart, written_values_have_lines, written_values_read_back,
+};
+use rows::{FOREIGN, ROWS, Row};
+use std::alloc::{AllocError, Global};
+
+fn is_value(alloc: Global, found: &Record, wanted: &str) -> Result<bool, AllocError> {
+    let Some(value) = decode_value(alloc, found)? else {
+        return Ok(wanted.is_empty());
+    };
+    Ok(match value.written(alloc)? {
+        Some(text) => text.as_str() == wanted,
+        None => wanted.is_empty(),
+    })
+}
+
+/// Whether the line that is written for a record is that one.
+fn is_written_again(alloc: Global, found: &Record, line: Line) -> Result<bool, AllocError> {
+    let wanted = log_of(alloc, &[line])?;
+    Ok(
+        has_line(found)
+            && matches!(write_line(alloc, found), Ok(text) if text.as_slice() == wanted.as_bytes()),
+    )
+}
+
+fn is_key(alloc: Global, found: &Record, wanted: &str) -> Result<bool, AllocError> {
+    Ok(found.key.written(alloc)?.as_str() == wanted)
+}
+
+fn is_said(alloc: Global, found: &Record, row: &Row) -> Result<bool, AllocError> {
+    if row.key == row.line.key && !is_written_again(alloc, found, row.line)? {
+        return Ok(false);
+    }
+    Ok(is_key(alloc, found, row.key)? && is_value(alloc, found, row.value)?)
+}
+
+fn holds(alloc: Global, row: &Row) -> Result<bool, LogError> {
+    let records = records_of(alloc, &[row.line])?;
+    match records.first() {
+        Some(found) => Ok(is_said(alloc, found, row)?),
+        None => Ok(false),
+    }
+}
+
+#[test]
+fn lines_say_what_their_texts_do(rt: HostRuntime) {
+    for row in &ROWS {
+        let holds = holds(rt.alloc(), row) == Ok(true);
+        assert!(rt; holds, "{} {}", row.line.key, row.value);
+    }
+}
+
+fn is_foreign(alloc: Global, key: &str) -> Result<bool, LogError> {
+    let line = Line {
+        offset: 7,
+        key,
+        value: None,
+    };
+    Ok(records_of(alloc, &[line])?.is_empty())
+}
+
+#[test]
+fn other_keys_are_foreign(rt: HostRuntime) {
+    for key in &FOREIGN {
+        assert!(rt; is_foreign(rt.alloc(), key) == Ok(true), "{key}");
+    }
+}
+
+/// Offsets, versions and values of records, and whether they have a line.
+static HAVE_LINES: [(u64, u32, &str, bool); 7] = [
+    (9_223_372_036_854_775_807, 2_147_483_647, "null ", true),
+    (9_223_372_036_854_775_808, 1, "x", false),
+    (1, 0, "x", false),
+    (1, 2_147_483_648, "x", false),
+    (1, 1, "null", false),
+    (1, 1, "a\tb", false),
+    (1, 1, "a\nb", false),
+];
+
+fn has_a_line(alloc: Global, offset: u64, version: u32, value: &str) -> Result<bool, AllocError> {
+    let value = Text::copy_of(alloc, value)?;
+    let subject = Text::copy_of(alloc, "s")?;
+    Ok(has_line(&Record {
+        offset,
+        key: Key::Schema { subject, version },
+        value: Some(value),
+    }))
+}
+
+#[test]
+fn some_records_have_no_line(rt: HostRuntime) {
+    for (offset, version, value, has) in &HAVE_LINES {
+        assert!(rt; has_a_line(rt.alloc(), *offset, *version, value) == Ok(*has));
+    }
+}
+
+#[test]
+fn the_laws_are_called() {
+    written_keys_are_apart();
+    lines_are_of_the_grammar();
+    written_values_read_back();
+    written_values_have_lines();
+    limits_are_as_written();
+}

@@ -1,0 +1,235 @@
+// Worked rows of the subject `s`.
+use crate::lines::Line;
+use reg_set::Taken;
+
+const FIRST: &str = r#"{"keytype":"SCHEMA","subject":"s","version":1,"magic":1}"#;
+
+const SECOND: &str = r#"{"keytype":"SCHEMA","subject":"s","version":2,"magic":1}"#;
+
+const NINTH: &str = r#"{"keytype":"SCHEMA","subject":"s","version":9,"magic":1}"#;
+
+const TENTH: &str = r#"{"keytype":"SCHEMA","subject":"s","version":10,"magic":1}"#;
+
+const DELETE: &str = r#"{"keytype":"DELETE_SUBJECT","subject":"s","magic":0}"#;
+
+const AN_INT: &str = r#"{"subject":"s","version":1,"id":1,"schema":"\"int\"","deleted":false}"#;
+
+const A_LONG: &str = r#"{"subject":"s","version":1,"id":1,"schema":"\"long\"","deleted":false}"#;
+
+const UP_TO_1: &str = r#"{"subject":"s","version":1}"#;
+
+const UP_TO_4: &str = r#"{"subject":"s","version":4}"#;
+
+const INT: Line = Line {
+    offset: 1,
+    key: FIRST,
+    value: Some(AN_INT),
+};
+
+const NONE: Line = Line {
+    offset: 1,
+    key: FIRST,
+    value: None,
+};
+
+const LONG: Line = Line {
+    offset: 1,
+    key: FIRST,
+    value: Some(A_LONG),
+};
+
+const OLD_INT: Line = Line {
+    offset: 2,
+    key: FIRST,
+    value: Some(AN_INT),
+};
+
+const MIDDLE_INT: Line = Line {
+    offset: 4,
+    key: FIRST,
+    value: Some(AN_INT),
+};
+
+const LATE_INT: Line = Line {
+    offset: 9,
+    key: FIRST,
+    value: Some(AN_INT),
+};
+
+const DELETED: Line = Line {
+    offset: 9,
+    key: FIRST,
+    value: None,
+};
+
+const TENTH_DELETED: Line = Line {
+    offset: 5,
+    key: TENTH,
+    value: None,
+};
+
+const NINTH_DELETED: Line = Line {
+    offset: 5,
+    key: NINTH,
+    value: None,
+};
+
+const ALL_DELETED: Line = Line {
+    offset: 5,
+    key: DELETE,
+    value: Some(UP_TO_4),
+};
+
+const OLDER_DELETE: Line = Line {
+    offset: 10,
+    key: DELETE,
+    value: Some(UP_TO_4),
+};
+
+const YOUNGER_DELETE: Line = Line {
+    offset: 20,
+    key: DELETE,
+    value: Some(UP_TO_1),
+};
+
+const SECOND_LONG: Line = Line {
+    offset: 6,
+    key: SECOND,
+    value: Some(A_LONG),
+};
+
+type Lines = &'static [Line<'static>];
+
+/// What a row shows, the lines that a set takes with what is said of each, those of a set that it is
+/// merged with, its records then in their order, and the last of each key.
+pub(crate) struct Row {
+    pub what: &'static str,
+    pub takes: &'static [(Line<'static>, Taken)],
+    pub merged: Lines,
+    pub records: Lines,
+    pub lasts: Lines,
+}
+
+pub(crate) static ROWS: [Row; 12] = [
+    Row {
+        what: "Taking is fresh, a repeat or older",
+        takes: &[
+            (MIDDLE_INT, Taken::Fresh),
+            (DELETED, Taken::Fresh),
+            (MIDDLE_INT, Taken::Repeat),
+            (OLD_INT, Taken::Older),
+        ],
+        merged: &[],
+        records: &[OLD_INT, MIDDLE_INT, DELETED],
+        lasts: &[DELETED],
+    },
+    Row {
+        what: "Records stand by offset, then by key, then no value before a text",
+        takes: &[
+            (NONE, Taken::Fresh),
+            (INT, Taken::Fresh),
+            (LONG, Taken::Fresh),
+        ],
+        merged: &[],
+        records: &[NONE, INT, LONG],
+        lasts: &[LONG],
+    },
+    Row {
+        what: "The same, the greatest first",
+        takes: &[
+            (LONG, Taken::Fresh),
+            (INT, Taken::Older),
+            (NONE, Taken::Older),
+        ],
+        merged: &[],
+        records: &[NONE, INT, LONG],
+        lasts: &[LONG],
+    },
+    Row {
+        what: "The same, the least last",
+        takes: &[
+            (INT, Taken::Fresh),
+            (LONG, Taken::Fresh),
+            (NONE, Taken::Older),
+        ],
+        merged: &[],
+        records: &[NONE, INT, LONG],
+        lasts: &[LONG],
+    },
+    Row {
+        what: "The same, the least in the middle",
+        takes: &[
+            (LONG, Taken::Fresh),
+            (NONE, Taken::Older),
+            (INT, Taken::Older),
+        ],
+        merged: &[],
+        records: &[NONE, INT, LONG],
+        lasts: &[LONG],
+    },
+    Row {
+        what: "Keys stand by their texts",
+        takes: &[
+            (ALL_DELETED, Taken::Fresh),
+            (TENTH_DELETED, Taken::Fresh),
+            (NINTH_DELETED, Taken::Fresh),
+        ],
+        merged: &[],
+        records: &[ALL_DELETED, TENTH_DELETED, NINTH_DELETED],
+        lasts: &[ALL_DELETED, TENTH_DELETED, NINTH_DELETED],
+    },
+    Row {
+        what: "The same, the greatest first",
+        takes: &[
+            (NINTH_DELETED, Taken::Fresh),
+            (TENTH_DELETED, Taken::Fresh),
+            (ALL_DELETED, Taken::Fresh),
+        ],
+        merged: &[],
+        records: &[ALL_DELETED, TENTH_DELETED, NINTH_DELETED],
+        lasts: &[ALL_DELETED, TENTH_DELETED, NINTH_DELETED],
+    },
+    Row {
+        what: "Offsets come first",
+        takes: &[
+            (LATE_INT, Taken::Fresh),
+            (LONG, Taken::Older),
+            (ALL_DELETED, Taken::Fresh),
+        ],
+        merged: &[],
+        records: &[LONG, ALL_DELETED, LATE_INT],
+        lasts: &[ALL_DELETED, LATE_INT],
+    },
+    Row {
+        what: "A later tombstone is last",
+        takes: &[
+            (DELETED, Taken::Fresh),
+            (INT, Taken::Older),
+            (LONG, Taken::Older),
+        ],
+        merged: &[],
+        records: &[INT, LONG, DELETED],
+        lasts: &[DELETED],
+    },
+    Row {
+        what: "The younger of two soft deletes is last",
+        takes: &[(OLDER_DELETE, Taken::Fresh), (YOUNGER_DELETE, Taken::Fresh)],
+        merged: &[],
+        records: &[OLDER_DELETE, YOUNGER_DELETE],
+        lasts: &[YOUNGER_DELETE],
+    },
+    Row {
+        what: "Sets merge",
+        takes: &[(MIDDLE_INT, Taken::Fresh), (SECOND_LONG, Taken::Fresh)],
+        merged: &[DELETED, MIDDLE_INT],
+        records: &[MIDDLE_INT, SECOND_LONG, DELETED],
+        lasts: &[SECOND_LONG, DELETED],
+    },
+    Row {
+        what: "Sets merge the other way round",
+        takes: &[(DELETED, Taken::Fresh), (MIDDLE_INT, Taken::Older)],
+        merged: &[MIDDLE_INT, SECOND_LONG],
+        records: &[MIDDLE_INT, SECOND_LONG, DELETED],
+        lasts: &[SECOND_LONG, DELETED],
+    },
+];
