@@ -1,0 +1,149 @@
+// How folds of logs alone end, and what the program says of it.
+use super::{ended, is_written};
+use crate::ended::{Command, Ended, command_of};
+use crate::fold::FoldError;
+use reg_records::{Device, LINE_LIMIT, LogFault};
+use std::alloc::{AllocError, Global};
+
+/// Logs without a request, and what is said of them: the text on standard error, the status, and how
+/// many bytes are written.
+static ENDS: [(&str, &str); 14] = [
+    ("", "0 0"),
+    ("\n", "0 0"),
+    ("7\t{\"keytype\":\"NOOP\"}\tnull\n", "0 0"),
+    (
+        "7\t{\"keytype\":\"CLEAR_SUBJECT\",\"subject\":\"s\",\"magic\":0}\t{\"subject\":\"s\"}\n",
+        "foreign 1\n0 0",
+    ),
+    (
+        "7\tno JSON\tnull\n8\t{\"keytype\":\"NOOP\"}\tnull\n9\t[]\t\n\n",
+        "foreign 2\n0 0",
+    ),
+    (
+        "7\tno JSON\tnull\n8\t{\"keytype\":\"NOOP\"}\tnull\n9\t[]\t\t\n",
+        "line 3: BadTabs\n2 0",
+    ),
+    (
+        "7\tno JSON\tnull\n8\t{\"keytype\":\"NOOP\"}\tnull\n9\t[]\t\t\n\n",
+        "line 3: BadTabs\n2 0",
+    ),
+    (
+        "07\t{\"keytype\":\"NOOP\"}\tnull\n\n",
+        "line 1: BadOffset\n2 0",
+    ),
+    (
+        "+7\t{\"keytype\":\"NOOP\"}\tnull\n\n",
+        "line 1: BadOffset\n2 0",
+    ),
+    ("7\t{\"keytype\":\"NOOP\"}\tnull", "line 1: Truncated\n2 0"),
+    ("7\t{\"keytype\":\"NOOP\"}\n\n", "line 1: BadTabs\n2 0"),
+    ("\r\n\n", "line 1: BadTabs\n2 0"),
+    (
+        "7\t{\"keytype\":\"NOOP\"}\tnull\r\nx\t{\"keytype\":\"NOOP\"}\tnull\n\n",
+        "line 2: BadOffset\n2 0",
+    ),
+    (
+        "9223372036854775808\t{\"keytype\":\"NOOP\"}\tnull\n\n",
+        "line 1: BadOffset\n2 0",
+    ),
+];
+
+fn told(alloc: Global, log: &str) -> Result<String, AllocError> {
+    let mut reader = Device::new(log.as_bytes());
+    let mut writer = Device::new(Vec::new(alloc));
+    let ended = ended(alloc, &mut reader, &mut writer);
+    format!(in alloc; "{ended}{} {}", ended.status(), writer.into_inner().len())
+}
+
+fn is_told(alloc: Global, log: &str, wanted: &str) -> bool {
+    matches!(told(alloc, log), Ok(told) if told.as_str() == wanted)
+}
+
+#[test]
+fn a_log_alone_writes_nothing_and_ends_by_its_first_fault(rt: HostRuntime) {
+    for (log, wanted) in &ENDS {
+        assert!(rt; is_told(rt.alloc(), log, wanted), "{log}");
+    }
+}
+
+/// The words of a command line, and whether they ask for a fold.
+static WORDS: [(&str, bool); 7] = [
+    ("registryd fold", true),
+    ("other fold", true),
+    ("registryd", false),
+    ("registryd Fold", false),
+    ("registryd fold fold", false),
+    ("registryd serve", false),
+    ("registryd serve 8081 1 1", false),
+];
+
+fn asks_for_a_fold(alloc: Global, line: &str) -> Result<bool, AllocError> {
+    let mut words = Vec::new(alloc);
+    for word in line.split(' ') {
+        words.push(String::from_str(alloc, word)?)?;
+    }
+    Ok(command_of(&words) == Command::Fold)
+}
+
+#[test]
+fn fold_alone_is_a_command(rt: HostRuntime) {
+    for (line, is_fold) in &WORDS {
+        assert!(rt; asks_for_a_fold(rt.alloc(), line) == Ok(*is_fold), "{line}");
+    }
+}
+
+/// How the program ends where no log says it, and the text on standard error with the status.
+static OTHER_ENDS: [(Ended, &str); 5] = [
+    (
+        Ended::Usage,
+        "usage: registryd fold | registryd serve PORT NODES WORKERS\n2",
+    ),
+    (Ended::Failed(FoldError::ReadFault), "ReadFault\n1"),
+    (Ended::Failed(FoldError::WriteFault), "WriteFault\n1"),
+    (Ended::Failed(FoldError::OutOfMemory), "OutOfMemory\n1"),
+    (
+        Ended::Failed(FoldError::Log {
+            line: 1_000_001,
+            fault: LogFault::TooManyLines,
+        }),
+        "line 1000001: TooManyLines\n2",
+    ),
+];
+
+fn is_said(alloc: Global, ended: Ended, wanted: &str) -> bool {
+    let said = format!(in alloc; "{ended}{}", ended.status());
+    matches!(said, Ok(said) if said.as_str() == wanted)
+}
+
+#[test]
+fn other_ends_are_said(rt: HostRuntime) {
+    for (ended, wanted) in &OTHER_ENDS {
+        assert!(rt; is_said(rt.alloc(), *ended, wanted), "{wanted}");
+    }
+}
+
+/// A log of one line that has that many bytes before its LF.
+fn log_of_one_line(alloc: Global, len: usize) -> Result<String, AllocError> {
+    let mut log = String::from_str(alloc, "7\t{\"keytype\":\"NOOP\"}\t")?;
+    for _ in log.len()..len {
+        log.push('x')?;
+    }
+    log.push_str("\n\n")?;
+    Ok(log)
+}
+
+fn is_taken(alloc: Global, len: usize) -> Result<bool, AllocError> {
+    let log = log_of_one_line(alloc, len)?;
+    Ok(is_written(alloc, log.as_str(), 0, ""))
+}
+
+fn is_too_long(alloc: Global, len: usize) -> Result<bool, AllocError> {
+    let log = log_of_one_line(alloc, len)?;
+    Ok(is_told(alloc, log.as_str(), "line 1: TooLong\n2 0"))
+}
+
+#[test]
+fn a_line_ends_at_its_limit(rt: HostRuntime) {
+    assert!(rt; is_taken(rt.alloc(), LINE_LIMIT) == Ok(true));
+    assert!(rt; is_too_long(rt.alloc(), LINE_LIMIT + 1) == Ok(true));
+}
