@@ -104,7 +104,8 @@ impl<'a> Both<'a> {
     fn put(&mut self, record: &Record, line: Line<'a>) -> Result<bool, AllocError> {
         let last = self.plain.last(line.key);
         if !self.lasts.is_news(record) {
-            return Ok(self.lasts.put(record)?.is_none());
+            let is_last = is_of_line(Some(record), last);
+            return Ok(self.lasts.put(record)?.is_none() && self.lasts.contains(record) == is_last);
         }
         let before = self.lasts.put(record)?;
         let is_told = is_of_line(before.as_ref(), last) && self.lasts.contains(record);
