@@ -15,7 +15,7 @@ use Rattle.reg_modes.specs.Permitted.{registering}
 use Rattle.reg_records.specs.declared.record.Record.{Record}
 use Rattle.reg_set.specs.Records.{Records}
 use Rattle.reg_leader.specs.Course.{Course, Refused, Does, IfMet, IsClash, IsOutcome, Writing, incompatible, numbered}
-use Rattle.reg_leader.specs.OneStep.{RegistersWhatMeets, StepsAreSingle, StepsMeetLevels, goes_on}
+use Rattle.reg_leader.specs.OneStep.{BatchesGoOn, RegistersWhatMeets, StepsAreSingle, StepsMeetLevels}
 use Rattle.reg_leader.specs.Standing.{has_schema, id_for, newest, next_version, texts_of}
 use Rattle.reg_leader.specs.Step.{IsStep, course_of, register, writes}
 use Rattle.reg_leader.specs.Tests as test
@@ -25,9 +25,9 @@ use Rattle.reg_leader.specs.declared.reply.Reply.{Reply}
 use Rattle.reg_leader.specs.declared.reply.Reply.TheVariants as replies
 use Rattle.reg_leader.proofs.Courses.{Of, of_then, of_found, outcome-goes_on, outcome-of}
 
-pub step-goes_on : (rs : Records) (n : ℕ) (c : Command) (reply : Reply) (batch : List Record) → IsStep rs n c reply batch → goes_on n batch ≡ true
+pub batches_go_on : BatchesGoOn
 unfolding IsStep
-step-goes_on rs n c reply batch step = outcome-goes_on n (course_of rs n c) reply batch step
+batches_go_on rs n c reply batch step = outcome-goes_on n (course_of rs n c) reply batch step
 
 -- where each pair is compatible nothing is told
 met_passes : (ps : List Required) → All IsCompatible ps → IsVerdictOn ps passed

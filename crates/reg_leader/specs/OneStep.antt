@@ -25,6 +25,10 @@ abbrev pub goes_on : ℕ → List Record → Bool
 goes_on n [] = true
 goes_on n (r ∷ rs) = (r.offset == n) && goes_on (suc n) rs
 
+-- what is written goes on at the next offset
+abbrev pub BatchesGoOn : Type 0
+BatchesGoOn = (rs : Records) (n : ℕ) (c : Command) (reply : Reply) (batch : List Record) → IsStep rs n c reply batch → goes_on n batch ≡ true
+
 -- the batch is one version of the subject, with the schema of that text by its normal text, which meets the level in force against the live versions
 pub record RegistersWhatMeets (rs : Records) (n : ℕ) (subject text : List ℕ) (batch : List Record) : Type 0 where
   pub schema : Meaning

@@ -20,5 +20,5 @@ mod writing;
 pub use adoption::{AdoptError, adopt};
 pub use command::Command;
 pub use decision::{Decision, decide};
-pub use laws::{steps_are_single, steps_meet_levels};
+pub use laws::{batches_go_on, steps_are_single, steps_meet_levels};
 pub use reply::Reply;
