@@ -7,12 +7,13 @@ mod side_by_side;
 use crate::lines::{Line, in_order, records_of};
 use answers::{Ask, answer};
 use plain::PlainRegistry;
-use reg_fold::{Refusal, Registry, StoreFault};
+use reg_fold::{Reason, Refusal, Registry, StoreFault};
 use reg_records::{LogError, Record};
 use reg_set::RecordSet;
 use rows::{ENTRIES, LEVELS, LIVE};
 use side_by_side::is_like;
 use std::alloc::{AllocError, Global};
+use std::test::Fail;
 
 /// What a row shows, the lines of a log, how many orders of them are tried, and what the registry
 /// answers in each.
@@ -153,59 +154,110 @@ fn the_last_records_give_the_answers(rt: HostRuntime) {
     }
 }
 
-/// A refusal, its code, status, reason and message.
-struct RefusalRow {
-    refusal: Refusal,
-    code: u32,
-    status: u16,
-    reason: &'static str,
-    message: &'static str,
-}
-
-static REFUSALS: [RefusalRow; 4] = [
-    RefusalRow {
-        refusal: Refusal::BadRequest,
-        code: 400,
-        status: 400,
-        reason: "",
-        message: "Bad Request",
-    },
-    RefusalRow {
-        refusal: Refusal::NotFound,
-        code: 404,
-        status: 404,
-        reason: "",
-        message: "Not Found",
-    },
-    RefusalRow {
-        refusal: Refusal::SchemaNotFound,
-        code: 40403,
-        status: 404,
-        reason: "",
-        message: "Schema not found",
-    },
-    RefusalRow {
-        refusal: Refusal::Store(StoreFault::Memory),
-        code: 50001,
-        status: 500,
-        reason: "memory",
-        message: "Store error: memory",
-    },
+/// Refusals, each with its code, status, reason, or `-` where its code has but one, and message.
+const REFUSALS: [(Refusal, &str); 28] = [
+    (Refusal::BadRequest, "400 400 - | Bad Request"),
+    (Refusal::NotFound, "404 404 - | Not Found"),
+    (Refusal::SubjectNotFound, "40401 404 - | Subject not found"),
+    (Refusal::VersionNotFound, "40402 404 - | Version not found"),
+    (Refusal::SchemaNotFound, "40403 404 - | Schema not found"),
+    (
+        Refusal::SubjectSoftDeleted,
+        "40404 404 - | Subject is soft-deleted",
+    ),
+    (
+        Refusal::SubjectNotSoftDeleted,
+        "40405 404 - | Subject is not soft-deleted",
+    ),
+    (
+        Refusal::VersionSoftDeleted,
+        "40406 404 - | Version is soft-deleted",
+    ),
+    (
+        Refusal::VersionNotSoftDeleted,
+        "40407 404 - | Version is not soft-deleted",
+    ),
+    (
+        Refusal::SubjectHasNoLevel,
+        "40408 404 - | Subject has no level",
+    ),
+    (
+        Refusal::SubjectHasNoMode,
+        "40409 404 - | Subject has no mode",
+    ),
+    (Refusal::InvalidSchema, "42201 422 - | Invalid Avro schema"),
+    (Refusal::InvalidVersion, "42202 422 - | Invalid version"),
+    (
+        Refusal::InvalidLevel,
+        "42203 422 - | Invalid compatibility level",
+    ),
+    (Refusal::InvalidMode, "42204 422 - | Invalid mode"),
+    (
+        Refusal::NotPermitted(Reason::Readonly),
+        "42205 422 READONLY | Operation not permitted: READONLY",
+    ),
+    (
+        Refusal::NotPermitted(Reason::IdNeedsImport),
+        "42205 422 id needs IMPORT | Operation not permitted: id needs IMPORT",
+    ),
+    (
+        Refusal::NotPermitted(Reason::ImportNeedsId),
+        "42205 422 IMPORT needs id | Operation not permitted: IMPORT needs id",
+    ),
+    (
+        Refusal::NotPermitted(Reason::IdNamesAnotherSchema),
+        "42205 422 id names another schema | Operation not permitted: id names another schema",
+    ),
+    (
+        Refusal::NotPermitted(Reason::VersionIsOccupied),
+        "42205 422 version is occupied | Operation not permitted: version is occupied",
+    ),
+    (
+        Refusal::NotPermitted(Reason::ScopeIsNotEmpty),
+        "42205 422 scope is not empty | Operation not permitted: scope is not empty",
+    ),
+    (
+        Refusal::NotPermitted(Reason::InvalidId),
+        "42205 422 invalid id | Operation not permitted: invalid id",
+    ),
+    (
+        Refusal::NotPermitted(Reason::VersionNeedsImport),
+        "42205 422 version needs IMPORT | Operation not permitted: version needs IMPORT",
+    ),
+    (
+        Refusal::Store(StoreFault::Memory),
+        "50001 500 memory | Store error: memory",
+    ),
+    (
+        Refusal::Store(StoreFault::OpaqueRecord),
+        "50001 500 opaque record | Store error: opaque record",
+    ),
+    (
+        Refusal::Store(StoreFault::TwoSchemas),
+        "50001 500 two schemas for one id | Store error: two schemas for one id",
+    ),
+    (
+        Refusal::Store(StoreFault::NumbersUsedUp),
+        "50001 500 numbers used up | Store error: numbers used up",
+    ),
+    (
+        Refusal::Store(StoreFault::Unsettled),
+        "50001 500 unsettled | Store error: unsettled",
+    ),
 ];
 
-fn is_refusal(alloc: Global, row: &RefusalRow) -> Result<bool, AllocError> {
-    let refusal = row.refusal;
-    Ok(
-        (refusal.code(), refusal.status()) == (row.code, row.status)
-            && refusal.reason().unwrap_or("") == row.reason
-            && refusal.message() == row.message
-            && refusal.to_string(alloc)?.as_str() == row.message,
-    )
+/// What a refusal says; its text is its message.
+fn said(alloc: Global, refusal: &Refusal) -> Result<String, AllocError> {
+    let (code, status) = (refusal.code(), refusal.status());
+    let reason = refusal.reason().unwrap_or("-");
+    format!(in alloc; "{code} {status} {reason} | {refusal}")
 }
 
 #[test]
-fn a_refusal_has_its_code_and_message(rt: HostRuntime) {
-    for row in &REFUSALS {
-        assert!(rt; is_refusal(rt.alloc(), row) == Ok(true), "{}", row.message);
+fn a_refusal_has_its_code_and_message(rt: HostRuntime) -> Result<(), Fail> {
+    for (refusal, expected) in &REFUSALS {
+        assert_eq!(rt; said(rt.alloc(), refusal)?.as_str(), *expected);
+        assert!(rt; expected.ends_with(refusal.message()));
     }
+    Ok(())
 }
