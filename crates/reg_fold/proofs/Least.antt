@@ -27,7 +27,7 @@ use Rattle.reg_fold.proofs.Placed.{spot_cmp-total}
 use Rattle.reg_fold.proofs.Places.{equal, inside}
 use Rattle.reg_fold.proofs.Spotted.{same_spot}
 
-abbrev Has : ℕ → List ℕ → Type 0
+abbrev pub Has : ℕ → List ℕ → Type 0
 Has m [] = ⊥
 Has m (n ∷ ns) = (n ≡ m) ⊎ Has m ns
 
@@ -48,7 +48,7 @@ reduce_least : (m : ℕ) (ns : List ℕ) → AllByRecursion (λ k. m ≤ k) ns �
 reduce_least m [] all has = absurd has
 reduce_least m (n ∷ ns) all has = ap Some (fold_least m n ns all.0 all.1 has)
 
-abbrev among : Record → List Record → Bool
+abbrev pub among : Record → List Record → Bool
 among r rs = list_any (eq_by_cmp record_cmp r) rs
 
 or_later : (a b : Bool) → b ≡ true → (a || b) ≡ true
@@ -101,7 +101,7 @@ module _ (total : IsTotalOrder record_cmp) (ties : IsAntisymmetric record_cmp) w
         | false ↦ λ _. rest
       ] refl
 
-  there : (rs : List Record) (w : Record) → among w rs ≡ true → is_opaque w ≡ true → Has w.offset (map (λ r. r.offset) (filter is_opaque rs))
+  pub there : (rs : List Record) (w : Record) → among w rs ≡ true → is_opaque w ≡ true → Has w.offset (map (λ r. r.offset) (filter is_opaque rs))
   there [] w h unread = false≢true h
   there (r ∷ rs) w h unread =
       elim (eq_by_cmp record_cmp w r) as (λ b. eq_by_cmp record_cmp w r ≡ b → (b || list_any (eq_by_cmp record_cmp w) rs) ≡ true → Has w.offset (map (λ r. r.offset) (filter is_opaque (r ∷ rs)))) [
@@ -118,7 +118,7 @@ module _ (total : IsTotalOrder record_cmp) (ties : IsAntisymmetric record_cmp) w
       ap_has : w ≡ r → Has w.offset (map (λ r. r.offset) (filter is_opaque (r ∷ rs)))
       ap_has same = subst (λ b. Has w.offset (map (λ r. r.offset) (cond b (r ∷ filter is_opaque rs) (filter is_opaque rs)))) (sym unread ∙ ap is_opaque same) (inl (ap (λ (q : Record). q.offset) (sym same)))
 
-  none_opaque : (rs : List Record) → ((r : Record) → among r rs ≡ true → is_opaque r ≡ true → ⊥) → filter is_opaque rs ≡ []
+  pub none_opaque : (rs : List Record) → ((r : Record) → among r rs ≡ true → is_opaque r ≡ true → ⊥) → filter is_opaque rs ≡ []
   none_opaque [] each = refl
   none_opaque (r ∷ rs) each =
       let rest = none_opaque rs (λ q h. each q (later_among q r rs h)) in

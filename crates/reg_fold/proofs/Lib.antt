@@ -10,5 +10,6 @@ mod Placed
 mod Places
 mod Readable
 mod Spotted
+mod Standing
 mod Steps
 mod Values

@@ -24,7 +24,7 @@ meaning_of : (o : Option Meaning) → is_some o ≡ true → option_map (λ mean
 meaning_of None is = absurd (false≢true is)
 meaning_of (Some meaning) is = refl
 
-inside : (a b : Entry) → Some a ≡ Some b → a ≡ b
+pub inside : (a b : Entry) → Some a ≡ Some b → a ≡ b
 inside a b same = cc
 
 -- the entry of a record is read
@@ -44,7 +44,7 @@ entry_of-read rs r e is =
     of_value values.Noop under is = absurd (cc)
 
 -- what holds of each entry that is kept holds of one among them
-of_kept : (P : Entry → Type 0) (es : List (Place × Entry)) → AllByRecursion (λ kept. P kept.1) es → (e : Entry) (k : ℕ) → k < length (map (λ kept. kept.1) es) → get_or (map (λ kept. kept.1) es) k e ≡ e → P e
+pub of_kept : (P : Entry → Type 0) (es : List (Place × Entry)) → AllByRecursion (λ kept. P kept.1) es → (e : Entry) (k : ℕ) → k < length (map (λ kept. kept.1) es) → get_or (map (λ kept. kept.1) es) k e ≡ e → P e
 of_kept P [] all e k within at = absurd (omega arith)
 of_kept P (f ∷ fs) all e zero within at = subst P at all.0
 of_kept P (f ∷ fs) all e (suc k) within at = of_kept P fs all.1 e k (omega arith) at

@@ -5,11 +5,13 @@ use Rattle.std.specs.List.{Contains, filter_map}
 use Rattle.std.specs.Option.{option_map_or}
 use Rattle.avro_schema.specs.Schema.{schema_of}
 use Rattle.reg_records.specs.Value.{value_of}
+use Rattle.reg_records.specs.Written.{IsVersionOrId}
 use Rattle.reg_records.specs.declared.key.Key.{Key}
+use Rattle.reg_records.specs.declared.key.Key.TheVariants as keys
 use Rattle.reg_records.specs.declared.record.Record.{Record}
 use Rattle.reg_records.specs.declared.value.Value.{Value}
 use Rattle.reg_records.specs.declared.value.Value.TheVariants as values
-use Rattle.reg_set.specs.LastRecords.{last}
+use Rattle.reg_set.specs.LastRecords.{last, last_records}
 use Rattle.reg_set.specs.Records.{Records, records_of}
 use Rattle.reg_entries.specs.EntryOrder.{place_cmp, place_of}
 use Rattle.reg_fold.specs.Marks.{is_marked}
@@ -58,3 +60,16 @@ AreOfLasts rs es = (e : Entry) → Contains es e ↔ IsOfLast rs e
 -- each entry's text means a schema, whose normal text is the entry's
 abbrev pub EntriesAreRead : Type 0
 EntriesAreRead = (rs : Records) (e : Entry) → Contains (entries rs) e → option_map (λ meaning. meaning.normal_text) (schema_of e.text) ≡ Some e.normal
+
+-- the entry of a record has the subject and the version of its key
+abbrev pub EntriesAreOfKeys : Type 0
+EntriesAreOfKeys = (rs : Records) (r : Record) (e : Entry) → entry_of rs r ≡ Some e → r.key ≡ keys.Schema e.subject e.version
+
+-- an entry stands exactly where the last record of its subject and version gives it
+abbrev pub EntriesAreOfPlaces : Type 0
+EntriesAreOfPlaces = (whole : Records) (e : Entry)
+    → Contains (entries (last_records whole)) e ↔ ((r : Record) × (last whole (keys.Schema e.subject e.version) ≡ Some r) × (entry_of (last_records whole) r ≡ Some e))
+
+-- the version and the id of each entry are within their limits
+abbrev pub EntriesAreInLimits : Type 0
+EntriesAreInLimits = (rs : Records) (e : Entry) → Contains (entries rs) e → IsVersionOrId e.version × IsVersionOrId e.id

@@ -1,8 +1,39 @@
-// The laws of entries. What is proved here costs nothing at run time: a function that needs a law
-// calls it.
-ghost use Rattle.reg_fold.specs.Entries.{EntriesAreRead};
+// The laws of entries and of opaque versions. What is proved here costs nothing at run time: a
+// function that needs a law calls it.
+ghost use Rattle.reg_fold.specs.Entries.{EntriesAreInLimits, EntriesAreOfKeys, EntriesAreOfPlaces, EntriesAreRead};
+ghost use Rattle.reg_fold.specs.Opaque.{NoneIsNoOpaqueLast};
+
+use reg_records::values_are_of_keys;
+use reg_set::{last_is_greatest, last_records_are_enough, records_are_ordered};
 
 /// The text of each entry is a schema's, and the entry's normal text is that schema's.
 pub fn entries_are_read()
     ensures { EntriesAreRead }
 {}
+
+/// The version and the id of each entry are within their limits.
+pub fn entries_are_in_limits()
+    ensures { EntriesAreInLimits }
+{
+    values_are_of_keys();
+}
+
+/// An entry stands exactly where the last record of its subject and version gives it, and has the
+/// subject and the version of its record's key.
+pub fn entries_are_of_places()
+    ensures keys { EntriesAreOfKeys }
+    ensures stand { EntriesAreOfPlaces }
+{
+    records_are_ordered();
+    last_is_greatest();
+    last_records_are_enough();
+}
+
+/// No version is opaque exactly where no key's last record is.
+pub fn none_is_no_opaque_last()
+    ensures { NoneIsNoOpaqueLast }
+{
+    records_are_ordered();
+    last_is_greatest();
+    last_records_are_enough();
+}

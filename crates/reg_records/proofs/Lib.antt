@@ -9,3 +9,4 @@ pub mod Grammar
 pub mod Shown
 pub mod WrittenLines
 pub mod Decoding
+pub mod OfKeys

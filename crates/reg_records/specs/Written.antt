@@ -1,5 +1,5 @@
 -- What is written for a key and a value, compact JSON with its members in this order, and for a record.
-use Rattle.std.specs.Prelude.{◌≡◌, ◌<◌, ◌≤◌, ◌^◌, ⊤, ℕ, List, [], ◌∷◌, ◌++◌, Bool, true, false, Option, Some, None, option_map, unwrap_or, bytes_eq, codes, decimal}
+use Rattle.std.specs.Prelude.{◌≡◌, ◌⊎◌, ◌<◌, ◌≤◌, ◌^◌, ⊤, ℕ, List, [], ◌∷◌, ◌++◌, Bool, true, false, Option, Some, None, option_map, unwrap_or, bytes_eq, codes, decimal}
 use Rattle.std.specs.Option.{ForSome}
 use Rattle.serde_json.specs.Data.{unsigned, Data, null, boolean, number, string, object, Members, no_members, member}
 use Rattle.serde_json.specs.Written.{compact_text}
@@ -11,6 +11,7 @@ use Rattle.reg_records.specs.declared.limits.TheConstants.{NUMBER_LIMIT, OFFSET_
 use Rattle.reg_records.specs.declared.record.Record.{Record}
 use Rattle.reg_records.specs.declared.value.Value.{Value}
 use Rattle.reg_records.specs.declared.value.Value.TheVariants as values
+use Rattle.reg_records.specs.Value.{value_of}
 use Rattle.reg_records.specs.Line.{is_tab, is_line_feed, is_free_of, line_of}
 
 -- a subject, or null for the global scope
@@ -110,6 +111,10 @@ IsValueOf key (values.Config level) = (scope : Option (List ℕ)) × (key ≡ Co
 IsValueOf key (values.Mode mode) = (scope : Option (List ℕ)) × (key ≡ Mode scope)
 IsValueOf key (values.DeleteSubject subject version) = (key ≡ DeleteSubject subject) × IsVersionOrId version
 IsValueOf key values.Noop = ⊥
+
+-- what is read under a key may stand under it: a version's value names the subject and the version of its key; only no operation has no text
+abbrev pub ValuesAreOfKeys : Type 0
+ValuesAreOfKeys = (r : Record) (v : Value) → value_of r ≡ Some v → IsValueOf r.key v ⊎ ((r.key ≡ Noop) × (v ≡ values.Noop))
 
 -- a text that can stand as the value of a line: no TAB, no LF, and not the text `null`
 abbrev pub IsValueField : List ℕ → Type 0

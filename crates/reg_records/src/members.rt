@@ -25,14 +25,14 @@ pub(crate) fn parse(alloc: Global, text: &str) -> Result<Option<Json>, AllocErro
 }
 
 /// The text of the member of that name, if it is a string.
-pub(crate) fn text_at<'a>(json: &'a Json, name: &str) -> Option<&'a str>
+pub fn text_at<'a>(json: &'a Json, name: &str) -> Option<&'a str>
     ensures { option_map (λ text. text.now) result ≡ text_at name.now (view json.now) }
 {
     json.get(name).and_then(Json::as_str)
 }
 
 /// The member of that name, if it is a whole number that a version or an id may be.
-pub(crate) fn number_at(json: &Json, name: &str) -> Option<u32>
+pub fn number_at(json: &Json, name: &str) -> Option<u32>
     ensures { result ≡ number_at name.now (view json.now) }
 {
     let number = json.get(name).and_then(Json::as_u64)?;

@@ -6,7 +6,7 @@ ghost use Rattle.serde_json.specs.View.{view};
 ghost use Rattle.reg_levels.specs.Level.{is_level};
 ghost use Rattle.reg_records.specs.Json.{text_where};
 ghost use Rattle.reg_records.specs.Value.{value_of, schema_in, with_schema, value_in, schema_value, config_value, mode_value, delete_subject_value, noop_value, is_plain_avro, is_absent_or, is_absent, is_avro_name, is_empty_list, deleted_in};
-ghost use Rattle.reg_records.specs.Written.{written_value, HasLine, IsInLimits, IsValueOf};
+ghost use Rattle.reg_records.specs.Written.{written_value, HasLine, IsInLimits, IsValueOf, ValuesAreOfKeys};
 ghost use Rattle.reg_records.specs.declared.key.Key.{Key};
 ghost use Rattle.reg_records.specs.declared.value.Value.{Value};
 
@@ -138,19 +138,35 @@ fn decode_schema(
     let Some(schema) = Schema::read_if_any(alloc, text)? else {
         return Ok(None);
     };
-    let Some(deleted) = deleted_in(json) else {
-        return Ok(None);
-    };
-    Ok(Some(Decoded {
-        value: Value::Schema {
-            subject: subject.clone()?,
-            version,
-            id,
-            schema: Text::copy_of(alloc, text)?,
-            deleted,
-        },
-        schema: Some(schema),
-    }))
+    match deleted_in(json) {
+        Some(deleted) => {
+            let value = version_value(alloc, subject, version, id, text, deleted)?;
+            Ok(Some(Decoded {
+                value,
+                schema: Some(schema),
+            }))
+        }
+        None => Ok(None),
+    }
+}
+
+fn version_value(
+    alloc: Global,
+    subject: &Text,
+    version: u32,
+    id: u32,
+    text: &str,
+    deleted: bool,
+) -> Result<Value, AllocError>
+    ensures { IfOk result (λ value. value ≡ Value.Schema subject.now version id text.now deleted) }
+{
+    Ok(Value::Schema {
+        subject: subject.clone()?,
+        version,
+        id,
+        schema: Text::copy_of(alloc, text)?,
+        deleted,
+    })
 }
 
 fn decode_config(alloc: Global, json: &Json) -> Result<Option<Decoded>, AllocError>
@@ -218,8 +234,9 @@ fn without_schema(value: Value) -> Decoded
     }
 }
 
-/// Whether the schema is an Avro schema that stands alone.
-fn is_plain_avro(json: &Json) -> bool
+/// Whether the members beside a schema's text leave it an Avro schema that stands alone: no other type,
+/// no references, no metadata, no rules.
+pub fn is_plain_avro(json: &Json) -> bool
     ensures { result ≡ is_plain_avro (view json.now) }
 {
     is_avro(json.get("schemaType"))
@@ -353,6 +370,12 @@ fn delete_subject_object(alloc: Global, subject: &str, version: u32) -> Result<S
 pub fn written_values_read_back()
     ensures { (offset : ℕ) (k : Key) (v : Value) → IsValueOf k v
         → value_of (record { offset = offset; key = k; value = written_value v }) ≡ Some v }
+{}
+
+/// What is read under a key is of that key, and its numbers are within their limits: it may be
+/// written there again, save that a NOOP has no text.
+pub fn values_are_of_keys()
+    ensures { ValuesAreOfKeys }
 {}
 
 /// A record whose value was written for its key has a line.

@@ -1,2 +1,3 @@
+pub mod Allow
 pub mod Reason
 pub mod Refusal

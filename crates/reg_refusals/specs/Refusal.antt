@@ -3,11 +3,16 @@ use Rattle.std.specs.Prelude.{ℕ, List, ◌++◌, Option, Some, None, nat_lt, �
 use Rattle.reg_refusals.specs.Reason.{reason_text, lack_text}
 use Rattle.reg_refusals.specs.declared.reason.StoreFault.TheVariants.{Memory}
 use Rattle.reg_refusals.specs.declared.refusal.Refusal.{Refusal}
-use Rattle.reg_refusals.specs.declared.refusal.Refusal.TheVariants.{BadRequest, NotFound, SubjectNotFound, VersionNotFound, SchemaNotFound, SubjectSoftDeleted, SubjectNotSoftDeleted, VersionSoftDeleted, VersionNotSoftDeleted, SubjectHasNoLevel, SubjectHasNoMode, Incompatible, InvalidSchema, InvalidVersion, InvalidLevel, InvalidMode, NotPermitted, Store}
+use Rattle.reg_refusals.specs.declared.refusal.Refusal.TheVariants.{BadRequest, NotFound, MethodNotAllowed, LengthRequired, PayloadTooLarge, UnsupportedMediaType, HeadTooLarge, SubjectNotFound, VersionNotFound, SchemaNotFound, SubjectSoftDeleted, SubjectNotSoftDeleted, VersionSoftDeleted, VersionNotSoftDeleted, SubjectHasNoLevel, SubjectHasNoMode, Incompatible, InvalidSchema, InvalidVersion, InvalidLevel, InvalidMode, NotPermitted, Store}
 
 abbrev pub code_of : Refusal → ℕ
 code_of BadRequest = 400
 code_of NotFound = 404
+code_of (MethodNotAllowed allow) = 405
+code_of LengthRequired = 411
+code_of PayloadTooLarge = 413
+code_of UnsupportedMediaType = 415
+code_of HeadTooLarge = 431
 code_of SubjectNotFound = 40401
 code_of VersionNotFound = 40402
 code_of SchemaNotFound = 40403
@@ -33,6 +38,11 @@ status_of refusal = if nat_lt (code_of refusal) 1000 then code_of refusal else c
 abbrev pub reason_of : Refusal → Option (List ℕ)
 reason_of BadRequest = None
 reason_of NotFound = None
+reason_of (MethodNotAllowed allow) = None
+reason_of LengthRequired = None
+reason_of PayloadTooLarge = None
+reason_of UnsupportedMediaType = None
+reason_of HeadTooLarge = None
 reason_of SubjectNotFound = None
 reason_of VersionNotFound = None
 reason_of SchemaNotFound = None
@@ -53,6 +63,11 @@ reason_of (Store fault) = Some (lack_text fault)
 abbrev pub message_of : Refusal → List ℕ
 message_of BadRequest = codes "Bad Request"
 message_of NotFound = codes "Not Found"
+message_of (MethodNotAllowed allow) = codes "Method Not Allowed"
+message_of LengthRequired = codes "Length Required"
+message_of PayloadTooLarge = codes "Payload Too Large"
+message_of UnsupportedMediaType = codes "Unsupported Media Type"
+message_of HeadTooLarge = codes "Request Header Fields Too Large"
 message_of SubjectNotFound = codes "Subject not found"
 message_of VersionNotFound = codes "Version not found"
 message_of SchemaNotFound = codes "Schema not found"

@@ -3,6 +3,7 @@ ghost use Rattle.std.specs.Prelude.{◌≡◌};
 ghost use Rattle.std.specs.Option.{option_copied};
 ghost use Rattle.reg_refusals.specs.Refusal.{code_of, status_of, reason_of, message_of};
 
+use crate::allow::Allow;
 use crate::reason::{Reason, StoreFault};
 use base_text::Text;
 use std::alloc::{AllocError, AllocFailed};
@@ -16,6 +17,16 @@ pub enum Refusal {
     BadRequest,
     /// The registry has no such route.
     NotFound,
+    /// The path doesn't offer the method, but these.
+    MethodNotAllowed(Allow),
+    /// A request with a body tells no length, or is sent in chunks.
+    LengthRequired,
+    /// The request's body is longer than the limit.
+    PayloadTooLarge,
+    /// The request's body has a type that isn't read.
+    UnsupportedMediaType,
+    /// The request's head is longer, or has more lines, than the limit.
+    HeadTooLarge,
     /// No version of the subject counts.
     SubjectNotFound,
     /// The subject's version isn't there, or doesn't count.
@@ -59,6 +70,11 @@ impl Refusal {
         match self {
             Refusal::BadRequest => 400,
             Refusal::NotFound => 404,
+            Refusal::MethodNotAllowed(_) => 405,
+            Refusal::LengthRequired => 411,
+            Refusal::PayloadTooLarge => 413,
+            Refusal::UnsupportedMediaType => 415,
+            Refusal::HeadTooLarge => 431,
             Refusal::SubjectNotFound => 40401,
             Refusal::VersionNotFound => 40402,
             Refusal::SchemaNotFound => 40403,
@@ -94,7 +110,12 @@ impl Refusal {
             | Refusal::VersionNotSoftDeleted
             | Refusal::SubjectHasNoLevel
             | Refusal::SubjectHasNoMode => 404,
+            Refusal::MethodNotAllowed(_) => 405,
             Refusal::Incompatible(_) => 409,
+            Refusal::LengthRequired => 411,
+            Refusal::PayloadTooLarge => 413,
+            Refusal::UnsupportedMediaType => 415,
+            Refusal::HeadTooLarge => 431,
             Refusal::InvalidSchema
             | Refusal::InvalidVersion
             | Refusal::InvalidLevel
@@ -122,6 +143,11 @@ impl Refusal {
         match self {
             Refusal::BadRequest => "Bad Request",
             Refusal::NotFound => "Not Found",
+            Refusal::MethodNotAllowed(_) => "Method Not Allowed",
+            Refusal::LengthRequired => "Length Required",
+            Refusal::PayloadTooLarge => "Payload Too Large",
+            Refusal::UnsupportedMediaType => "Unsupported Media Type",
+            Refusal::HeadTooLarge => "Request Header Fields Too Large",
             Refusal::SubjectNotFound => "Subject not found",
             Refusal::VersionNotFound => "Version not found",
             Refusal::SchemaNotFound => "Schema not found",
@@ -189,6 +215,11 @@ impl Clone for Refusal {
         Ok(match self {
             Refusal::BadRequest => Refusal::BadRequest,
             Refusal::NotFound => Refusal::NotFound,
+            Refusal::MethodNotAllowed(allow) => Refusal::MethodNotAllowed(*allow),
+            Refusal::LengthRequired => Refusal::LengthRequired,
+            Refusal::PayloadTooLarge => Refusal::PayloadTooLarge,
+            Refusal::UnsupportedMediaType => Refusal::UnsupportedMediaType,
+            Refusal::HeadTooLarge => Refusal::HeadTooLarge,
             Refusal::SubjectNotFound => Refusal::SubjectNotFound,
             Refusal::VersionNotFound => Refusal::VersionNotFound,
             Refusal::SchemaNotFound => Refusal::SchemaNotFound,

@@ -1,7 +1,7 @@
 -- A set and each of its compactions have the same last records.
-use Rattle.std.proofs.Common.{◌≡◌, Bool, true, false, ◌&&◌, ◌||◌, ⊎_elim, List, [], ◌∷◌, Some, None, IfSome, refl, sym, ap, subst, ◌∙◌}
+use Rattle.std.proofs.Common.{◌≡◌, Bool, true, false, not, ◌&&◌, ◌||◌, ⊎_elim, List, [], ◌∷◌, Some, None, IfSome, refl, sym, ap, subst, ◌∙◌}
 use Rattle.std.proofs.lemmas.Bool.{false≢true}
-use Rattle.std.specs.FinSet.{contains, empty, insert, union, contains-retain}
+use Rattle.std.specs.FinSet.{contains, difference, empty, insert, union, contains-difference, contains-retain}
 use Rattle.std.specs.List.{list_all, list_any}
 use Rattle.std.specs.Option.{option_map_or}
 use Rattle.std.specs.Ordering.{eq_by_cmp, is_eq}
@@ -12,7 +12,7 @@ use Rattle.reg_set.specs.RecordOrder.{record_cmp}
 use Rattle.reg_set.specs.Records.{Records, records_of}
 use Rattle.reg_set.specs.Compaction.{IsCompactionOf}
 use Rattle.reg_set.specs.LastRecords.{last, is_last, last_records}
-use Rattle.reg_set.specs.Join.{LastOfLastRecords, LastOfCompaction, CompactionsUnite, LastRecordsAreCompaction, LastRecordsOfCompaction, LastRecordsOfInsert, LastRecordsOfUnion}
+use Rattle.reg_set.specs.Join.{LastOfLastRecords, LastOfCompaction, CompactionsCompose, CompactionsUnite, DropsLeaveCompactions, EachIsItsOwnCompaction, LastRecordsAreCompaction, LastRecordsOfCompaction, LastRecordsOfInsert, LastRecordsOfUnion}
 use Rattle.reg_set.proofs.Orders.{record_cmp-total, record_cmp-ties}
 use Rattle.reg_set.proofs.InOrder.{both, first_of, second_of, contains-records_of}
 use Rattle.reg_set.proofs.Lasts.{equal, at_any, last-some, last-none, last-greatest, last-absent}
@@ -52,7 +52,7 @@ compaction_from C R part lasts = record {
   has_lasts = λ key. elim (last R key) as (λ o. last R key ≡ o → IfSome o (λ r. contains C r ≡ true)) [ None ↦ λ _. tt | Some r ↦ λ e. lasts key r e ] refl;
 }
 
-compaction_of_itself : (R : Records) → IsCompactionOf R R
+pub compaction_of_itself : EachIsItsOwnCompaction
 compaction_of_itself R = compaction_from R R (λ r h. h) (λ key r e. (last-some R key r e).is_in_set)
 
 pub last_of_compaction : LastOfCompaction
@@ -103,6 +103,38 @@ last_records_of_union R S =
 pub last_records_of_insert : LastRecordsOfInsert
 last_records_of_insert R r =
     ap last_records (insert-union (last_records R) r) ∙ last_records_of_union R (insert empty r) ∙ ap last_records (sym (insert-union R r))
+
+pub compactions_compose : CompactionsCompose
+compactions_compose B C R b c = compaction_from B R (λ r h. c.is_part r (b.is_part r h)) (λ key r e. lasts_in B C b key r (last_of_compaction C R c key ∙ e))
+
+-- what is dropped: none of it is left, and what isn't dropped is
+contains-dropped : (R D : Records) (r : Record) → contains (difference R D) r ≡ (contains R r && not (contains D r))
+contains-dropped R D r = contains-difference record_cmp-total R D r
+
+away : (a b : Bool) → (a && not b) ≡ true → b ≡ true → ⊥
+away true true h e = false≢true h
+away false b h e = false≢true h
+away true false h e = false≢true e
+
+kept : (a b : Bool) → a ≡ true → (b ≡ true → ⊥) → (a && not b) ≡ true
+kept true true e h = absurd (h refl)
+kept true false e h = refl
+kept false b e h = absurd (false≢true e)
+
+stays_false : (b : Bool) → (b ≡ true → ⊥) → b ≡ false
+stays_false true h = absurd (h refl)
+stays_false false h = refl
+
+pub drops_leave_compactions : DropsLeaveCompactions
+drops_leave_compactions R D = (
+  λ left r dropped. stays_false (is_last R r) (λ is. away (contains R r) (contains D r) (sym (contains-dropped R D r) ∙ lasts_in (difference R D) R left r.key r (is_last-last R r is)) dropped),
+  λ no_lasts. compaction_from (difference R D) R
+      (λ r h. first_of (contains R r) (not (contains D r)) (sym (contains-dropped R D r) ∙ h))
+      (λ key r e.
+      let fact = last-some R key r e in
+      let is : is_last R r ≡ true = last-is_last R r (ap (last R) fact.is_of_key ∙ e) in
+      contains-dropped R D r ∙ kept (contains R r) (contains D r) fact.is_in_set (λ dropped. false≢true (sym (no_lasts r dropped) ∙ is))),
+)
 
 -- what holds of each of a list, from what holds of each that is among it
 all_from : (p : Record → Bool) (xs : List Record) → ((q : Record) → list_any (eq_by_cmp record_cmp q) xs ≡ true → p q ≡ true) → list_all p xs ≡ true

@@ -1,12 +1,12 @@
 -- What merging and compacting keep: the laws that every order of arrival rests on.
-use Rattle.std.specs.Prelude.{◌≡◌, ◌↔◌, true, Option, Some, None}
-use Rattle.std.specs.FinSet.{contains, union, insert}
+use Rattle.std.specs.Prelude.{◌≡◌, ◌↔◌, true, false, Option, Some, None}
+use Rattle.std.specs.FinSet.{contains, difference, union, insert}
 use Rattle.std.specs.Option.{option_cmp}
 use Rattle.std.specs.Ordering.{ord_max}
 use Rattle.reg_records.specs.declared.key.Key.{Key}
 use Rattle.reg_records.specs.declared.record.Record.{Record}
 use Rattle.reg_set.specs.Compaction.{IsCompactionOf}
-use Rattle.reg_set.specs.LastRecords.{last, last_records, IsGreatestOf}
+use Rattle.reg_set.specs.LastRecords.{is_last, last, last_records, IsGreatestOf}
 use Rattle.reg_set.specs.RecordOrder.{age_cmp}
 use Rattle.reg_set.specs.Records.{Records}
 
@@ -44,6 +44,17 @@ LastOfCompaction = (C R : Records) → IsCompactionOf C R → (key : Key) → la
 
 abbrev pub CompactionsUnite : Type 0
 CompactionsUnite = (C R D S : Records) → IsCompactionOf C R → IsCompactionOf D S → IsCompactionOf (union C D) (union R S)
+
+abbrev pub EachIsItsOwnCompaction : Type 0
+EachIsItsOwnCompaction = (R : Records) → IsCompactionOf R R
+
+-- a compaction of a compaction is one of the whole
+abbrev pub CompactionsCompose : Type 0
+CompactionsCompose = (B C R : Records) → IsCompactionOf B C → IsCompactionOf C R → IsCompactionOf B R
+
+-- what is left without some records is a compaction exactly where none of them is a last one
+abbrev pub DropsLeaveCompactions : Type 0
+DropsLeaveCompactions = (R D : Records) → IsCompactionOf (difference R D) R ↔ ((r : Record) → contains D r ≡ true → is_last R r ≡ false)
 
 -- the last records are the least compaction, and those of each compaction
 abbrev pub LastRecordsAreCompaction : Type 0

@@ -8,7 +8,7 @@ ghost use Rattle.reg_records.specs.Written.{written_key, IsOf32Bits};
 ghost use Rattle.reg_records.specs.declared.key.Key.{Key};
 ghost use Rattle.std.specs.FinSet.{IsAntisymmetric};
 ghost use Rattle.reg_set.specs.RecordOrder.{age_cmp, key_cmp, record_cmp};
-ghost use Rattle.reg_set.specs.Join.{LastIsGreatest, NoLastIsNoRecord, LastOfLastRecords, MergingIsCommutative, MergingIsAssociative, MergingIsIdempotent, LastOfUnion, LastOfCompaction, CompactionsUnite, LastRecordsAreCompaction, LastRecordsOfCompaction, LastRecordsOfInsert, LastRecordsOfUnion};
+ghost use Rattle.reg_set.specs.Join.{LastIsGreatest, NoLastIsNoRecord, LastOfLastRecords, MergingIsCommutative, MergingIsAssociative, MergingIsIdempotent, LastOfUnion, LastOfCompaction, CompactionsUnite, EachIsItsOwnCompaction, CompactionsCompose, DropsLeaveCompactions, LastRecordsAreCompaction, LastRecordsOfCompaction, LastRecordsOfInsert, LastRecordsOfUnion};
 
 use reg_records::written_keys_are_apart;
 
@@ -53,4 +53,12 @@ pub fn last_records_of_unions()
     ensures union { CompactionsUnite }
     ensures last_records { LastRecordsOfUnion }
     ensures insert { LastRecordsOfInsert }
+{}
+
+/// A set is a compaction of itself, a compaction of a compaction is one of the whole, and what is
+/// left without some records is a compaction exactly where none of them is a last one.
+pub fn compactions_compose()
+    ensures itself { EachIsItsOwnCompaction }
+    ensures across { CompactionsCompose }
+    ensures drops { DropsLeaveCompactions }
 {}

@@ -10,7 +10,7 @@ mod turns;
 
 pub use last_records::LastRecords;
 pub use laws::{
-    last_is_greatest, last_records_are_enough, last_records_of_unions, merging_joins_sets,
-    records_are_ordered,
+    compactions_compose, last_is_greatest, last_records_are_enough, last_records_of_unions,
+    merging_joins_sets, records_are_ordered,
 };
 pub use record_set::{RecordSet, Taken, is_compaction_of};
