@@ -1,5 +1,10 @@
+pub mod Chosen
 pub mod Courses
-pub mod Newest
+pub mod Harmless
+pub mod Lines
+pub mod Names
+pub mod Opens
+pub mod Refused
+pub mod SoftDeletes
 pub mod Steps
 pub mod Takes
-pub mod Verdicts

@@ -14,20 +14,26 @@ use Rattle.reg_modes.specs.InForce.{mode}
 use Rattle.reg_modes.specs.Permitted.{registering}
 use Rattle.reg_records.specs.declared.record.Record.{Record}
 use Rattle.reg_set.specs.Records.{Records}
-use Rattle.reg_leader.specs.Course.{Course, Refused, Does, IfMet, IsClash, IsOutcome, Writing, incompatible, numbered}
-use Rattle.reg_leader.specs.OneStep.{BatchesGoOn, RegistersWhatMeets, StepsAreSingle, StepsMeetLevels}
-use Rattle.reg_leader.specs.Standing.{has_schema, id_for, newest, next_version, texts_of}
+use Rattle.reg_rules.specs.Report.{IsClash}
+use Rattle.reg_leader.specs.Course.{Course, Refused, Does, IfMet, IsOutcome, incompatible}
+use Rattle.reg_leader.specs.OneStep.{BatchesEndByTheLimit, BatchesGoOn, RegistersWhatMeets, StepsAreSingle, StepsMeetLevels}
+use Rattle.reg_rules.specs.Standing.{has_schema, id_for, newest, next_version, texts_of}
 use Rattle.reg_leader.specs.Step.{IsStep, course_of, register, writes}
-use Rattle.reg_leader.specs.Tests as test
-use Rattle.reg_leader.specs.Writings.{version_of}
+use Rattle.reg_rules.specs.Tests as test
+use Rattle.reg_rules.specs.Writings.{numbered, version_of}
+use Rattle.reg_rules.specs.declared.writing.Writing.{Writing}
 use Rattle.reg_leader.specs.declared.command.Command.{Command}
 use Rattle.reg_leader.specs.declared.reply.Reply.{Reply}
 use Rattle.reg_leader.specs.declared.reply.Reply.TheVariants as replies
-use Rattle.reg_leader.proofs.Courses.{Of, of_then, of_found, outcome-goes_on, outcome-of}
+use Rattle.reg_leader.proofs.Courses.{Of, of_then, of_found, outcome-ends, outcome-goes_on, outcome-of}
 
 pub batches_go_on : BatchesGoOn
 unfolding IsStep
 batches_go_on rs n c reply batch step = outcome-goes_on n (course_of rs n c) reply batch step
+
+pub batches_end_by_the_limit : BatchesEndByTheLimit
+unfolding IsStep
+batches_end_by_the_limit rs n c reply batch step = outcome-ends n (course_of rs n c) reply batch step
 
 -- where each pair is compatible nothing is told
 met_passes : (ps : List Required) → All IsCompatible ps → IsVerdictOn ps passed

@@ -1,11 +1,8 @@
 -- What a command comes to: the refusal of the first test that it fails, or a reply and what is written.
-use Rattle.std.specs.Prelude.{◌≡◌, ◌⊎◌, ℕ, suc, ◌+◌, ◌++◌, List, [], ◌∷◌, Bool, true, false, nat_le, length, codes, Option, Some, None, Result, Ok, Err, option_and_then}
-use Rattle.reg_levels.specs.Message.{message_of}
-use Rattle.reg_levels.specs.Texts.{VersionText, IsVerdictOfTexts, TextsMeet}
+use Rattle.std.specs.Prelude.{◌≡◌, ◌⊎◌, ℕ, suc, ◌+◌, ◌++◌, List, [], Bool, true, false, nat_le, length, codes, Option, Some, None, Ok, Err}
+use Rattle.reg_levels.specs.Texts.{VersionText, TextsMeet}
 use Rattle.reg_levels.specs.declared.level.Level.{Level}
-use Rattle.reg_levels.specs.declared.verdict.LevelVerdict.{LevelVerdict}
-use Rattle.reg_modes.specs.Permitted.{Permit, granted}
-use Rattle.reg_records.specs.Written.{written_value}
+use Rattle.reg_modes.specs.Permitted.{Permit}
 use Rattle.reg_records.specs.declared.limits.TheConstants.{OFFSET_LIMIT}
 use Rattle.reg_records.specs.declared.record.Record.{Record}
 use Rattle.reg_refusals.specs.declared.reason.StoreFault.TheVariants as faults
@@ -13,7 +10,9 @@ use Rattle.reg_refusals.specs.declared.refusal.Refusal.{Refusal}
 use Rattle.reg_refusals.specs.declared.refusal.Refusal.TheVariants as refusals
 use Rattle.reg_leader.specs.declared.reply.Reply.{Reply}
 use Rattle.reg_leader.specs.declared.reply.Reply.TheVariants as replies
-pub use Rattle.reg_leader.specs.declared.writing.Writing.{Writing}
+use Rattle.reg_rules.specs.Report.{IsClash}
+use Rattle.reg_rules.specs.Writings.{numbered}
+use Rattle.reg_rules.specs.declared.writing.Writing.{Writing}
 
 -- IfMet: where the schema of that text meets the level against the old versions, the rest follows
 pub data Course : Type 0 where
@@ -28,28 +27,10 @@ abbrev pub ◌▸◌ : Permit → Course → Course
 (Ok _) ▸ rest = rest
 (Err refusal) ▸ rest = Refused refusal
 
--- the refusal, unless the test passes
-abbrev pub refuse_unless : Bool → Refusal → Permit
-refuse_unless true refusal = granted
-refuse_unless false refusal = Err refusal
-
-abbrev pub refuse_if : Bool → Refusal → Permit
-refuse_if true refusal = Err refusal
-refuse_if false refusal = granted
-
 -- what is done with the thing that was found, or what else
 abbrev pub where_found : {A : Type 0} → Option A → (A → Course) → Course → Course
 where_found None found else = else
 where_found (Some x) found else = found x
-
--- its record, at that offset
-abbrev pub written_at : ℕ → Writing → Record
-written_at n w = record { offset = n; key = w.key; value = option_and_then written_value w.value }
-
--- records at the offsets n, n + 1 and so on
-abbrev pub numbered : ℕ → List Writing → List Record
-numbered n [] = []
-numbered n (w ∷ ws) = written_at n w ∷ numbered (suc n) ws
 
 -- the batch, unless an offset in it would pass the limit: the last test of every command
 abbrev pub if_offsets_last : Bool → Reply → List Record → Reply × List Record
@@ -59,10 +40,6 @@ if_offsets_last false reply batch = (replies.Refused (refusals.Store faults.Numb
 -- the reply is that refusal, and nothing is written
 abbrev pub IsRefused : Refusal → Reply → List Record → Type 0
 IsRefused refusal reply batch = (reply ≡ replies.Refused refusal) × (batch ≡ [])
-
--- the level isn't met, and that is the message of the first required pair that clashes
-abbrev pub IsClash : Level → List ℕ → List VersionText → List ℕ → Type 0
-IsClash level new olds message = (v : LevelVerdict) × IsVerdictOfTexts level new olds v × (message_of v ≡ Some message)
 
 abbrev pub incompatible : List ℕ → Refusal
 incompatible message = refusals.Incompatible (codes "Incompatible with " ++ message)

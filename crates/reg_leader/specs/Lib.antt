@@ -1,10 +1,10 @@
 pub mod Adoption
 pub mod Course
 pub mod Deciding
+pub mod Deletes
+pub mod Harmless
 pub mod OneStep
 pub mod Outcome
-pub mod Standing
+pub mod StayOpen
 pub mod Step
 pub mod Taking
-pub mod Tests
-pub mod Writings

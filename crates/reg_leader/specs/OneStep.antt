@@ -1,19 +1,27 @@
 -- What is true of every single step. Below, rs are the last records and n is the next offset.
-use Rattle.std.specs.Prelude.{◌≡◌, ◌⊎◌, ℕ, suc, List, [], ◌∷◌, Bool, true, false, ◌&&◌, ◌==◌, Some}
+use Rattle.std.specs.Prelude.{◌≡◌, ◌⊎◌, ℕ, suc, ◌+◌, ◌≤◌, length, List, [], ◌∷◌, All, Bool, true, false, ◌&&◌, ◌==◌, Some, None, is_some}
 use Rattle.avro_schema.specs.Schema.{Meaning, schema_of}
 use Rattle.reg_fold.specs.InForce.{level}
 use Rattle.reg_fold.specs.Standing.{live}
 use Rattle.reg_levels.specs.Texts.{TextsMeet}
-use Rattle.reg_records.specs.Written.{written_value}
+use Rattle.reg_records.specs.Value.{value_of}
+use Rattle.reg_records.specs.Written.{HasLine, written_value}
 use Rattle.reg_records.specs.declared.key.Key.TheVariants as keys
+use Rattle.reg_records.specs.declared.limits.TheConstants.{OFFSET_LIMIT}
 use Rattle.reg_records.specs.declared.record.Record.{Record}
 use Rattle.reg_records.specs.declared.value.Value.TheVariants as values
+use Rattle.reg_refusals.specs.declared.refusal.Refusal.{Refusal}
 use Rattle.reg_set.specs.Records.{Records}
-use Rattle.reg_leader.specs.Standing.{texts_of}
+use Rattle.reg_rules.specs.Standing.{texts_of}
 use Rattle.reg_leader.specs.Step.{IsStep}
 use Rattle.reg_leader.specs.declared.command.Command.{Command}
 use Rattle.reg_leader.specs.declared.command.Command.TheVariants as commands
 use Rattle.reg_leader.specs.declared.reply.Reply.{Reply}
+use Rattle.reg_leader.specs.declared.reply.Reply.TheVariants as replies
+
+-- a refusal writes nothing
+abbrev pub RefusalsWriteNothing : Type 0
+RefusalsWriteNothing = (rs : Records) (n : ℕ) (c : Command) (why : Refusal) (batch : List Record) → IsStep rs n c (replies.Refused why) batch → batch ≡ []
 
 -- a command has one reply and one batch, whatever was judged before
 abbrev pub StepsAreSingle : Type 0
@@ -28,6 +36,23 @@ goes_on n (r ∷ rs) = (r.offset == n) && goes_on (suc n) rs
 -- what is written goes on at the next offset
 abbrev pub BatchesGoOn : Type 0
 BatchesGoOn = (rs : Records) (n : ℕ) (c : Command) (reply : Reply) (batch : List Record) → IsStep rs n c reply batch → goes_on n batch ≡ true
+
+-- each record of a batch has a line, which reads back to the record unless it is too long to be written
+abbrev pub BatchesHaveLines : Type 0
+BatchesHaveLines = (rs : Records) (n : ℕ) (c : Command) (reply : Reply) (batch : List Record) → IsStep rs n c reply batch → All HasLine batch
+
+-- the record deletes its key, or its value is read
+abbrev pub IsReadable : Record → Type 0
+IsReadable r = (r.value ≡ None) ⊎ (is_some (value_of r) ≡ true)
+
+-- each record of a batch is readable
+abbrev pub BatchesAreRead : Type 0
+BatchesAreRead = (rs : Records) (n : ℕ) (c : Command) (reply : Reply) (batch : List Record) → IsStep rs n c reply batch → All IsReadable batch
+
+-- nothing is written, or all offsets of the batch are within the limit
+abbrev pub BatchesEndByTheLimit : Type 0
+BatchesEndByTheLimit = (rs : Records) (n : ℕ) (c : Command) (reply : Reply) (batch : List Record) → IsStep rs n c reply batch
+    → (batch ≡ []) ⊎ (n + length batch ≤ suc OFFSET_LIMIT)
 
 -- the batch is one version of the subject, with the schema of that text by its normal text, which meets the level in force against the live versions
 pub record RegistersWhatMeets (rs : Records) (n : ℕ) (subject text : List ℕ) (batch : List Record) : Type 0 where

@@ -18,10 +18,11 @@ use Rattle.reg_refusals.specs.declared.reason.Reason.TheVariants as reasons
 use Rattle.reg_refusals.specs.declared.refusal.Refusal.{Refusal}
 use Rattle.reg_refusals.specs.declared.refusal.Refusal.TheVariants as refusals
 use Rattle.reg_set.specs.Records.{Records}
-use Rattle.reg_leader.specs.Course.{Course, Refused, Does, IfMet, IsOutcome, ◌▸◌, where_found, refuse_if, refuse_unless}
-use Rattle.reg_leader.specs.Standing.{has_schema, id_for, is_of, newest, next_version, standing, texts_of, version_meant}
-use Rattle.reg_leader.specs.Tests as test
-use Rattle.reg_leader.specs.Writings.{deleted_again, deleted_up_to, level_cleared, level_set, mode_cleared, mode_set, no_operation, removed, version_of}
+use Rattle.reg_leader.specs.Course.{Course, Refused, Does, IfMet, IsOutcome, ◌▸◌, where_found}
+use Rattle.reg_rules.specs.Standing.{has_schema, id_for, is_of, newest, next_version, standing, texts_of, version_meant}
+use Rattle.reg_rules.specs.Tests as test
+use Rattle.reg_rules.specs.Tests.{refuse_if, refuse_unless}
+use Rattle.reg_rules.specs.Writings.{deleted_again, deleted_up_to, level_cleared, level_set, mode_cleared, mode_set, no_operation, removed, version_of}
 use Rattle.reg_leader.specs.declared.command.Command.{Command}
 use Rattle.reg_leader.specs.declared.command.Command.TheVariants as commands
 use Rattle.reg_leader.specs.declared.reply.Reply.{Reply}

@@ -3,17 +3,17 @@ use Rattle.std.specs.Prelude.{◌≡◌, ◌⊎◌, ℕ, List, [], false, Option
 use Rattle.std.specs.List.{filter}
 use Rattle.reg_fold.specs.InForce.{level}
 use Rattle.reg_fold.specs.Standing.{live}
-use Rattle.reg_levels.specs.Texts.{TextsMeet, VersionText}
-use Rattle.reg_levels.specs.declared.level.Level.{Level}
+use Rattle.reg_levels.specs.Texts.{TextsMeet}
 use Rattle.reg_modes.specs.InForce.{mode}
 use Rattle.reg_modes.specs.Permitted.{registering}
 use Rattle.reg_refusals.specs.Refusal.{no_memory}
 use Rattle.reg_refusals.specs.declared.refusal.Refusal.{Refusal}
 use Rattle.reg_set.specs.Records.{Records}
-use Rattle.reg_leader.specs.Course.{Course, Refused, Does, IfMet, IsClash, incompatible, ◌▸◌, where_found}
-use Rattle.reg_leader.specs.Standing.{has_schema, id_for, newest, next_version, texts_of}
+use Rattle.reg_rules.specs.Report.{IsClash}
+use Rattle.reg_leader.specs.Course.{Course, Refused, Does, IfMet, incompatible, ◌▸◌, where_found}
+use Rattle.reg_rules.specs.Standing.{has_schema, id_for, newest, next_version, texts_of}
 use Rattle.reg_leader.specs.Step.{where_read, writes}
-use Rattle.reg_leader.specs.Tests as test
+use Rattle.reg_rules.specs.Tests as test
 use Rattle.reg_leader.specs.declared.deed.Deed.{Deed}
 use Rattle.reg_leader.specs.declared.deed.Settled.{Settled}
 use Rattle.reg_leader.specs.declared.deed.Settled.TheVariants as found
@@ -36,11 +36,6 @@ IsRefusal (IfMet level new olds rest) told =
 abbrev pub Takes : Course → Result Deed Refusal → Type 0
 Takes course (Ok deed) = IsDeed course deed
 Takes course (Err refusal) = (refusal ≡ no_memory) ⊎ IsRefusal course refusal
-
--- what a check of the level tells: nothing where it is met, else the message of the first clash
-abbrev pub IsReport : Level → List ℕ → List VersionText → Option (List ℕ) → Type 0
-IsReport level new olds None = TextsMeet level new olds
-IsReport level new olds (Some message) = IsClash level new olds message
 
 -- what follows for a schema that is to be registered and isn't live
 abbrev pub if_met : Records → List ℕ → List ℕ → Course

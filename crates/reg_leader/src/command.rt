@@ -5,7 +5,7 @@ use reg_levels::Level;
 use reg_modes::Mode;
 
 /// A change that is asked for. Where a subject is optional, `None` is all subjects.
-#[derive(Debug, Drop)]
+#[derive(Debug, Drop, Clone)]
 pub enum Command {
     /// The text is a schema's.
     Register {

@@ -14,11 +14,11 @@ use crate::levels::{clear_level, no_op, set_level};
 use crate::modes::{clear_mode, set_mode};
 use crate::registering::register;
 use crate::reply::Reply;
-use crate::writing::numbered;
 use base_text::Listed;
 use reg_fold::{Refusal, Registry, StoreFault};
 use reg_levels::Judged;
 use reg_records::{OFFSET_LIMIT, Record};
+use reg_rules::numbered;
 use std::alloc::Global;
 
 /// What is replied to a command, and the records that it writes.

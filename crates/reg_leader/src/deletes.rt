@@ -1,17 +1,16 @@
 // The commands that delete.
 ghost use Rattle.std.specs.Prelude.{◌≡◌, false, true, IfOk, map, option_copied};
 ghost use Rattle.reg_leader.specs.Deciding.{Follows};
-ghost use Rattle.reg_leader.specs.Standing.{version_meant};
+ghost use Rattle.reg_rules.specs.Standing.{version_meant};
 ghost use Rattle.reg_leader.specs.Step.{delete_all, delete_entry, delete_subject, delete_version, no_version};
-ghost use Rattle.reg_leader.specs.Writings.{removed};
+ghost use Rattle.reg_rules.specs.Writings.{removed};
 
 use crate::deed::Deed;
 use crate::reply::Reply;
-use crate::testing::{has_offset, is_live, is_not_live, is_open, stands};
-use crate::writing::Writing;
 use base_text::{Listed, Text};
 use reg_fold::{Entry, Refusal, Registry, VersionRef};
 use reg_modes::{may_write, mode_in_force};
+use reg_rules::{Writing, has_offset, is_live, is_not_live, is_open, stands};
 use std::alloc::{AllocError, Global};
 
 pub(crate) fn delete_version(

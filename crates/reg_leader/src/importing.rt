@@ -6,12 +6,11 @@ ghost use Rattle.reg_leader.specs.Step.{import_as, import_register, is_there};
 use crate::deed::Deed;
 use crate::registering::{next_version, writes};
 use crate::reply::Reply;
-use crate::schemas::{is_of, live_import, read};
-use crate::testing::{has_offset, is_open, names_no_other};
 use avro_schema::Schema;
 use base_text::Text;
 use reg_fold::{Entry, Reason, Refusal, Registry, VersionRef};
 use reg_modes::{may_register, mode_in_force};
+use reg_rules::{has_offset, is_of, is_open, live_import, names_no_other, read_schema};
 use std::alloc::Global;
 
 pub(crate) fn import_register(
@@ -25,7 +24,7 @@ pub(crate) fn import_register(
 ) -> Result<Deed, Refusal>
     ensures { Follows (import_register registry.now next subject.now text.now id version) result }
 {
-    let schema = read(alloc, text)?;
+    let schema = read_schema(alloc, text)?;
     is_open(registry)?;
     has_offset(next)?;
     may_register(mode_in_force(registry, Some(subject.as_str())), true)?;

@@ -5,12 +5,11 @@ ghost use Rattle.reg_leader.specs.Step.{clear_level, no_op, set_level};
 
 use crate::deed::Deed;
 use crate::reply::Reply;
-use crate::testing::{has_offset, is_open, subject_of};
-use crate::writing::Writing;
 use base_text::Text;
 use reg_fold::{Refusal, Registry};
 use reg_levels::Level;
 use reg_modes::{may_write, mode_in_force};
+use reg_rules::{Writing, has_offset, is_open, subject_of};
 use std::alloc::Global;
 
 pub(crate) fn no_op(alloc: Global, registry: &Registry, next: u64) -> Result<Deed, Refusal>

@@ -7,18 +7,19 @@ mod decision;
 mod deed;
 mod deletes;
 mod importing;
-mod judging;
 mod laws;
 mod levels;
 mod modes;
 mod registering;
 mod reply;
-mod schemas;
-mod testing;
-mod writing;
+mod staying;
 
 pub use adoption::{AdoptError, adopt};
 pub use command::Command;
 pub use decision::{Decision, decide};
-pub use laws::{batches_go_on, steps_are_single, steps_meet_levels};
+pub use laws::{
+    batches_are_read, batches_end_by_the_limit, batches_go_on, batches_have_lines,
+    refusals_write_nothing, steps_are_single, steps_meet_levels,
+};
 pub use reply::Reply;
+pub use staying::{deletes_name_greatest, steps_are_harmless, steps_stay_open};

@@ -5,11 +5,10 @@ ghost use Rattle.reg_leader.specs.Step.{clear_mode, set_mode};
 
 use crate::deed::Deed;
 use crate::reply::Reply;
-use crate::testing::{has_offset, is_open, may_set_mode};
-use crate::writing::Writing;
 use base_text::Text;
 use reg_fold::{Refusal, Registry};
 use reg_modes::{Mode, own_mode};
+use reg_rules::{Writing, has_offset, is_open, may_set_mode};
 use std::alloc::Global;
 
 pub(crate) fn set_mode(

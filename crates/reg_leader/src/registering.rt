@@ -2,21 +2,20 @@
 ghost use Rattle.std.specs.Prelude.{◌≡◌, suc, IfOk};
 ghost use Rattle.std.specs.Option.{option_map_or};
 ghost use Rattle.reg_leader.specs.Deciding.{Follows};
-ghost use Rattle.reg_leader.specs.Standing.{id_for, next_version};
+ghost use Rattle.reg_rules.specs.Standing.{id_for, next_version};
 ghost use Rattle.reg_leader.specs.Step.{register, writes};
 ghost use Rattle.reg_leader.specs.Taking.{IsBefore, Takes, if_met};
 
 use crate::deed::{Deed, Settled};
-use crate::judging::clash_of;
 use crate::reply::Reply;
-use crate::schemas::{has_valid_defaults, live_schema, read};
-use crate::testing::{has_offset, is_number, is_open};
-use crate::writing::Writing;
 use avro_schema::Schema;
 use base_text::Text;
 use reg_fold::{Refusal, Registry};
 use reg_levels::Judged;
 use reg_modes::{may_register, mode_in_force};
+use reg_rules::{
+    Writing, clash_of, has_offset, has_valid_defaults, is_number, is_open, live_schema, read_schema,
+};
 use std::alloc::{AllocError, Global};
 
 pub(crate) fn register(
@@ -48,7 +47,7 @@ fn unless_settled(
 ) -> Result<Settled, Refusal>
     ensures { IsBefore registry.now next subject.now text.now result }
 {
-    let schema = read(alloc, text)?;
+    let schema = read_schema(alloc, text)?;
     has_valid_defaults(&schema)?;
     is_open(registry)?;
     has_offset(next)?;

@@ -1,0 +1,229 @@
+-- What commands write has lines, and is read.
+use Rattle.std.proofs.Common.{◌≡◌, ◌⊎◌, inl, inr, ℕ, suc, ◌+◌, ◌≤◌, max, Bool, true, false, ◌&&◌, nat_le, ◌==◌, List, [], ◌∷◌, length, map, bytes_eq, Option, Some, None, is_some, option_map, option_and_then, All, Contains, refl, sym, ap, subst, ◌∙◌, arith}
+use Rattle.std.proofs.lemmas.List.Elements.{All-nil, All-cons, All-head, All-tail, All-map, All-filter, All-weaker, All-contains_itself}
+use Rattle.std.proofs.lemmas.Bool.{false≢true}
+use Rattle.std.specs.List.{filter}
+use Rattle.std.specs.Ordering.{nat_cmp, on, ord_max}
+use Rattle.avro_schema.specs.Schema.{Meaning, schema_of}
+use Rattle.reg_entries.specs.Sought.{counting, counts, of_subject}
+use Rattle.reg_entries.specs.declared.entry.Entry.{Entry}
+use Rattle.reg_fold.specs.Entries.{EntriesAreInLimits, EntriesAreRead, entries}
+use Rattle.reg_fold.specs.InForce.{own_level}
+use Rattle.reg_fold.specs.Standing.{greatest_version, live, version_in}
+use Rattle.reg_fold.specs.declared.version_ref.VersionRef.{VersionRef}
+use Rattle.reg_fold.specs.declared.version_ref.VersionRef.TheVariants.{Latest, Number}
+use Rattle.reg_levels.specs.Level.{is_level, level_text}
+use Rattle.reg_levels.specs.Texts.{is_schema}
+use Rattle.reg_levels.specs.declared.level.Level.{Level}
+use Rattle.reg_levels.specs.declared.level.Level.TheVariants as levels
+use Rattle.reg_modes.specs.InForce.{mode, own_mode}
+use Rattle.reg_modes.specs.Permitted.{granted, registering, writing}
+use Rattle.reg_records.specs.Value.{value_of}
+use Rattle.reg_records.specs.Written.{HasLine, IsInLimits, IsValueOf, IsVersionOrId, written_value}
+use Rattle.reg_records.specs.declared.key.Key.{Key}
+use Rattle.reg_records.specs.declared.limits.TheConstants.{NUMBER_LIMIT, OFFSET_LIMIT}
+use Rattle.reg_records.specs.declared.record.Record.{Record}
+use Rattle.reg_records.specs.declared.value.Value.{Value}
+use Rattle.reg_refusals.specs.declared.reason.Reason.TheVariants as reasons
+use Rattle.reg_refusals.specs.declared.refusal.Refusal.{Refusal}
+use Rattle.reg_refusals.specs.declared.refusal.Refusal.TheVariants as refusals
+use Rattle.reg_rules.specs.Standing.{has_schema, id_for, is_of, newest, next_version, standing, version_meant}
+use Rattle.reg_rules.specs.Tests as test
+use Rattle.reg_rules.specs.Tests.{refuse_if, refuse_unless}
+use Rattle.reg_rules.specs.Writings.{numbered, removed, written_at}
+use Rattle.reg_rules.specs.declared.writing.Writing.{Writing}
+use Rattle.reg_set.specs.Records.{Records}
+use Rattle.reg_leader.specs.Course.{Course, ◌▸◌}
+use Rattle.reg_leader.specs.OneStep.{BatchesAreRead, BatchesHaveLines, IsReadable}
+use Rattle.reg_leader.specs.Step.{IsStep, course_of, delete_all, delete_entry, import_as, writes}
+use Rattle.reg_leader.specs.declared.command.Command.{Command}
+use Rattle.reg_leader.specs.declared.command.Command.TheVariants as commands
+use Rattle.reg_leader.specs.declared.reply.Reply.{Reply}
+use Rattle.reg_leader.proofs.Courses.{Of, of_then, of_passed, of_found, outcome-within}
+use Rattle.reg_leader.proofs.Chosen.{find_has, max-picks, ord_max-picks, reduce_has}
+
+-- reg_records' two laws
+abbrev pub ValuesHaveLines : Type 0
+ValuesHaveLines = (offset : ℕ) (k : Key) (v : Value) → offset ≤ OFFSET_LIMIT → IsInLimits k → IsValueOf k v → HasLine (record { offset = offset; key = k; value = written_value v })
+
+abbrev pub ValuesReadBack : Type 0
+ValuesReadBack = (offset : ℕ) (k : Key) (v : Value) → IsValueOf k v → value_of (record { offset = offset; key = k; value = written_value v }) ≡ Some v
+
+-- avro_schema's
+abbrev pub NormalTextsReadBack : Type 0
+NormalTextsReadBack = (text : List ℕ) (m : Meaning) → schema_of text ≡ Some m → schema_of m.normal_text ≡ Some m
+
+-- a key within its limits, and no value or one that may stand under it
+pub record IsSound (w : Writing) : Type 0 where
+  pub key_fits : IsInLimits w.key
+  pub value_fits : (w.value ≡ None) ⊎ ((v : Value) × (w.value ≡ Some v) × IsValueOf w.key v)
+
+abbrev pub AreSound : Reply → List Writing → Type 0
+AreSound reply ws = All IsSound ws
+
+one_sound : (w : Writing) → IsSound w → All IsSound (w ∷ [])
+one_sound w h = All-cons IsSound w [] h (All-nil IsSound)
+
+-- their records
+written-has_line : ValuesHaveLines → (n : ℕ) (w : Writing) → n ≤ OFFSET_LIMIT → IsSound w → HasLine (written_at n w)
+written-has_line lines n w within h =
+    elim (h.value_fits) [
+      | inl none ↦ subst (λ o. HasLine (record { offset = n; key = w.key; value = option_and_then written_value o })) (sym none)
+          (record { offset_fits = within; key_fits = h.key_fits; value_fits = λ x e. cc })
+      | inr some ↦ subst (λ o. HasLine (record { offset = n; key = w.key; value = option_and_then written_value o })) (sym some.1) (lines n w.key some.0 within h.key_fits some.2)
+    ]
+
+pub numbered-have_lines : ValuesHaveLines → (n : ℕ) (ws : List Writing) → nat_le (n + length ws) (suc OFFSET_LIMIT) ≡ true → All IsSound ws → All HasLine (numbered n ws)
+numbered-have_lines lines n [] within all = All-nil HasLine
+numbered-have_lines lines n (w ∷ ws) within all =
+    let first : n ≤ OFFSET_LIMIT = grind arith in
+    let rest : nat_le (suc n + length ws) (suc OFFSET_LIMIT) ≡ true = grind arith in
+    All-cons HasLine (written_at n w) (numbered (suc n) ws) (written-has_line lines n w first (All-head IsSound w ws all)) (numbered-have_lines lines (suc n) ws rest (All-tail IsSound w ws all))
+
+written-is_readable : ValuesReadBack → (n : ℕ) (w : Writing) → IsSound w → IsReadable (written_at n w)
+written-is_readable reads n w h =
+    elim (h.value_fits) [
+      | inl none ↦ inl (ap (option_and_then written_value) none)
+      | inr some ↦ inr (ap (λ o. is_some (value_of (record { offset = n; key = w.key; value = option_and_then written_value o }))) some.1 ∙ ap is_some (reads n w.key some.0 some.2))
+    ]
+
+pub numbered-are_readable : ValuesReadBack → (n : ℕ) (ws : List Writing) → All IsSound ws → All IsReadable (numbered n ws)
+numbered-are_readable reads n [] all = All-nil IsReadable
+numbered-are_readable reads n (w ∷ ws) all =
+    All-cons IsReadable (written_at n w) (numbered (suc n) ws) (written-is_readable reads n w (All-head IsSound w ws all)) (numbered-are_readable reads (suc n) ws (All-tail IsSound w ws all))
+
+-- a number that passes its test
+unless-true : (b : Bool) (r : Refusal) → refuse_unless b r ≡ granted → b ≡ true
+unless-true true r e = refl
+unless-true false r e = cc
+
+both_true : (a b : Bool) → (a && b) ≡ true → (a ≡ true) × (b ≡ true)
+both_true true b h = (refl, h)
+both_true false b h = absurd (false≢true h)
+
+at_most : (m n : ℕ) → nat_le m n ≡ true → m ≤ n
+at_most m n e = grind arith
+
+number-fits : (m : ℕ) → test.is_number m ≡ granted → IsVersionOrId m
+number-fits m e =
+    let parts = both_true _ _ (unless-true _ test.numbers_used_up e) in
+    (at_most 1 m parts.0, at_most m _ parts.1)
+
+levels-are_named : (level : Level) → is_level (level_text level) ≡ true
+levels-are_named levels.None = refl
+levels-are_named levels.Backward = refl
+levels-are_named levels.BackwardTransitive = refl
+levels-are_named levels.Forward = refl
+levels-are_named levels.ForwardTransitive = refl
+levels-are_named levels.Full = refl
+levels-are_named levels.FullTransitive = refl
+
+-- an entry's numbers are within their limits, and its text is a schema's
+abbrev pub IsWhole : Entry → Type 0
+IsWhole e = IsVersionOrId e.version × IsVersionOrId e.id × (is_schema e.text ≡ true)
+
+some_mapped : {A B : Type 0} (f : A → B) (o : Option A) (b : B) → option_map f o ≡ Some b → is_some o ≡ true
+some_mapped f None b e = cc
+some_mapped f (Some a) b e = refl
+
+entries_are_whole : EntriesAreInLimits → EntriesAreRead → (rs : Records) → All IsWhole (entries rs)
+entries_are_whole limits read rs =
+    let each : (e : Entry) → Contains (entries rs) e → IsWhole e = λ e there.
+    ((limits rs e there).0, (limits rs e there).1, some_mapped (λ (m : Meaning). m.normal_text) (schema_of e.text) e.normal (read rs e there)) in
+    All-weaker (Contains (entries rs)) IsWhole each (entries rs) (All-contains_itself (entries rs))
+
+module _ (rs : Records) (n : ℕ) (whole : All IsWhole (entries rs)) (again : NormalTextsReadBack) where
+  of_subject-whole : (subject : List ℕ) → All IsWhole (of_subject (entries rs) subject)
+  of_subject-whole subject = All-filter (λ e. bytes_eq e.subject subject) IsWhole (entries rs) whole
+
+  counting-whole : (subject : List ℕ) (deleted : Bool) → All IsWhole (counting (entries rs) subject deleted)
+  counting-whole subject deleted = All-filter (counts deleted) IsWhole (of_subject (entries rs) subject) (of_subject-whole subject)
+
+  meant-whole : (subject : List ℕ) (ref : VersionRef) (e : Entry) → version_meant rs subject ref ≡ Some e → IsWhole e
+  meant-whole subject Latest e is = reduce_has IsWhole (ord_max (on (λ e. e.version) nat_cmp)) (ord_max-picks (on (λ e. e.version) nat_cmp)) (live rs subject) e (counting-whole subject false) is
+  meant-whole subject (Number version) e is = find_has IsWhole (λ e. e.version == version) (standing rs subject) e (counting-whole subject true) is
+
+  greatest-fits : (subject : List ℕ) (greatest : ℕ) → greatest_version rs subject ≡ Some greatest → IsVersionOrId greatest
+  greatest-fits subject greatest is =
+      let es = of_subject (entries rs) subject in
+      let all = All-map IsVersionOrId (λ (e : Entry). e.version) es (All-weaker IsWhole (λ e. IsVersionOrId e.version) (λ e h. h.0) es (of_subject-whole subject)) in
+      reduce_has IsVersionOrId max max-picks (map (λ e. e.version) es) greatest all is
+
+  all_removed : (es : List Entry) → All IsWhole es → All IsSound (map removed es)
+  all_removed [] all = All-nil IsSound
+  all_removed (e ∷ es) all = All-cons IsSound (removed e) (map removed es) (record { key_fits = (All-head IsWhole e es all).0; value_fits = inl refl }) (all_removed es (All-tail IsWhole e es all))
+
+  writes-sound : (subject normal : List ℕ) (id version : ℕ) → is_schema normal ≡ true → Of AreSound (writes subject normal id version)
+  writes-sound subject normal id version known =
+      of_passed _ (test.is_number id) _ (λ i. of_passed _ (test.is_number version) _ (λ v.
+      one_sound _ (record { key_fits = number-fits version v; value_fits = inr (_, refl, (refl, number-fits version v, number-fits id i, known)) })))
+
+  import_as-sound : (subject normal : List ℕ) (id : ℕ) (version : Option ℕ) → is_schema normal ≡ true → Of AreSound (import_as rs subject normal id version)
+  import_as-sound subject normal id None known =
+      of_found _ (newest (filter (is_of id normal) (live rs subject))) _ _ (λ same _. All-nil IsSound) (λ _. writes-sound subject normal id (next_version rs subject) known)
+  import_as-sound subject normal id (Some version) known =
+      of_found _ (version_in (entries rs) subject (Number version) false) _ _
+      (λ e _. of_then _ (refuse_unless (is_of id normal e) (refusals.NotPermitted reasons.VersionIsOccupied)) _ (All-nil IsSound))
+      (λ _. writes-sound subject normal id version known)
+
+  delete_entry-sound : (permanent : Bool) (e : Entry) → IsWhole e → Of AreSound (delete_entry permanent e)
+  delete_entry-sound false e h =
+      of_then _ (refuse_if e.soft refusals.VersionSoftDeleted) _ (one_sound _ (record { key_fits = h.0; value_fits = inr (_, refl, (refl, h.0, h.1, h.2)) }))
+  delete_entry-sound true e h =
+      of_then _ (refuse_unless e.soft refusals.VersionNotSoftDeleted) _ (one_sound _ (record { key_fits = h.0; value_fits = inl refl }))
+
+  delete_all-sound : (subject : List ℕ) (permanent : Bool) (greatest : ℕ) → IsVersionOrId greatest → Of AreSound (delete_all rs subject permanent greatest)
+  delete_all-sound subject false greatest fits =
+      of_then _ (test.is_live rs subject) _ (one_sound _ (record { key_fits = tt; value_fits = inr (_, refl, (refl, fits)) }))
+  delete_all-sound subject true greatest fits = of_then _ (test.is_not_live rs subject) _ (all_removed (standing rs subject) (counting-whole subject true))
+
+  open-sound : (c : Course) → Of AreSound c → Of AreSound (test.is_open rs ▸ test.has_offset n ▸ c)
+  open-sound c h = of_then _ (test.is_open rs) _ (of_then _ (test.has_offset n) _ h)
+
+  -- a normal text is a schema's
+  known : (text : List ℕ) (schema : Meaning) → schema_of text ≡ Some schema → is_schema schema.normal_text ≡ true
+  known text schema is = ap is_some (again text schema is)
+
+  pub course-sound : (c : Command) → Of AreSound (course_of rs n c)
+  course-sound (commands.Register subject text) =
+      of_found _ (schema_of text) _ _ (λ schema is.
+      of_then _ (test.has_valid_defaults schema) _ (open-sound _ (
+      of_then _ (registering (mode rs (Some subject)) false) _ (
+      of_found _ (newest (filter (has_schema schema.normal_text) (live rs subject))) _ _ (λ same _. All-nil IsSound) (λ _ _.
+      writes-sound subject schema.normal_text (id_for rs schema.normal_text) (next_version rs subject) (known text schema is)))))) (λ _. tt)
+  course-sound (commands.ImportRegister subject text id version) =
+      of_found _ (schema_of text) _ _ (λ schema is. open-sound _ (
+      of_then _ (registering (mode rs (Some subject)) true) _ (
+      of_then _ (test.names_no_other rs id schema.normal_text) _ (import_as-sound subject schema.normal_text id version (known text schema is))))) (λ _. tt)
+  course-sound (commands.DeleteVersion subject version permanent) =
+      open-sound _ (of_then _ (writing (mode rs (Some subject))) _ (of_then _ (test.stands rs subject) _ (
+      of_found _ (version_meant rs subject version) _ _ (λ e is. delete_entry-sound permanent e (meant-whole subject version e is)) (λ _. tt))))
+  course-sound (commands.DeleteSubject subject permanent) =
+      open-sound _ (of_then _ (writing (mode rs (Some subject))) _ (
+      of_found _ (greatest_version rs subject) _ _ (λ greatest is. delete_all-sound subject permanent greatest (greatest-fits subject greatest is)) (λ _. tt)))
+  course-sound (commands.SetLevel scope level) =
+      open-sound _ (of_then _ (writing (mode rs scope)) _ (one_sound _ (record { key_fits = tt; value_fits = inr (_, refl, (scope, refl, levels-are_named level)) })))
+  course-sound (commands.ClearLevel subject) =
+      open-sound _ (of_then _ (writing (mode rs (Some subject))) _ (
+      of_found _ (own_level rs (Some subject)) _ _ (λ level _. one_sound _ (record { key_fits = tt; value_fits = inl refl })) (λ _. tt)))
+  course-sound (commands.SetMode scope mode force) =
+      open-sound _ (of_then _ (test.may_set_mode rs scope mode force) _ (one_sound _ (record { key_fits = tt; value_fits = inr (_, refl, (scope, refl)) })))
+  course-sound (commands.ClearMode subject) =
+      open-sound _ (of_found _ (own_mode rs (Some subject)) _ _ (λ mode _. one_sound _ (record { key_fits = tt; value_fits = inl refl })) (λ _. tt))
+  course-sound commands.Noop = open-sound _ (one_sound _ (record { key_fits = tt; value_fits = inl refl }))
+
+pub batches_have_lines : EntriesAreInLimits → EntriesAreRead → NormalTextsReadBack → ValuesHaveLines → BatchesHaveLines
+unfolding IsStep
+batches_have_lines limits read again lines rs n c reply batch step =
+    elim (outcome-within AreSound n (course_of rs n c) reply batch (course-sound rs n (entries_are_whole limits read rs) again c) step) [
+      | inl none ↦ subst (All HasLine) (sym none) (All-nil HasLine)
+      | inr some ↦ subst (All HasLine) (sym some.1) (numbered-have_lines lines n some.0 some.3 some.2)
+    ]
+
+pub batches_are_read : EntriesAreInLimits → EntriesAreRead → NormalTextsReadBack → ValuesReadBack → BatchesAreRead
+unfolding IsStep
+batches_are_read limits read again reads rs n c reply batch step =
+    elim (outcome-within AreSound n (course_of rs n c) reply batch (course-sound rs n (entries_are_whole limits read rs) again c) step) [
+      | inl none ↦ subst (All IsReadable) (sym none) (All-nil IsReadable)
+      | inr some ↦ subst (All IsReadable) (sym some.1) (numbered-are_readable reads n some.0 some.2)
+    ]

@@ -1,0 +1,90 @@
+-- A refusal writes nothing: no course does something and replies a refusal.
+use Rattle.std.proofs.Common.{◌≡◌, ◌⊎◌, ℕ, List, [], Bool, true, false, Option, Some, None, refl, ap, inl, inr, ◌∙◌}
+use Rattle.std.specs.List.{filter}
+use Rattle.avro_schema.specs.Schema.{schema_of}
+use Rattle.reg_entries.specs.declared.entry.Entry.{Entry}
+use Rattle.reg_fold.specs.Entries.{entries}
+use Rattle.reg_fold.specs.InForce.{own_level}
+use Rattle.reg_fold.specs.Standing.{greatest_version, live, version_in}
+use Rattle.reg_fold.specs.declared.version_ref.VersionRef.{VersionRef}
+use Rattle.reg_fold.specs.declared.version_ref.VersionRef.TheVariants.{Number}
+use Rattle.reg_modes.specs.InForce.{mode, own_mode}
+use Rattle.reg_modes.specs.Permitted.{registering, writing}
+use Rattle.reg_records.specs.declared.record.Record.{Record}
+use Rattle.reg_refusals.specs.declared.reason.Reason.TheVariants as reasons
+use Rattle.reg_refusals.specs.declared.refusal.Refusal.{Refusal}
+use Rattle.reg_refusals.specs.declared.refusal.Refusal.TheVariants as refusals
+use Rattle.reg_rules.specs.Standing.{has_schema, id_for, is_of, newest, next_version, version_meant}
+use Rattle.reg_rules.specs.Tests as test
+use Rattle.reg_rules.specs.Tests.{refuse_if, refuse_unless}
+use Rattle.reg_rules.specs.declared.writing.Writing.{Writing}
+use Rattle.reg_set.specs.Records.{Records}
+use Rattle.reg_leader.specs.Course.{Course, ◌▸◌}
+use Rattle.reg_leader.specs.OneStep.{RefusalsWriteNothing}
+use Rattle.reg_leader.specs.Step.{IsStep, course_of, delete_all, delete_entry, import_as, writes}
+use Rattle.reg_leader.specs.declared.command.Command.{Command}
+use Rattle.reg_leader.specs.declared.command.Command.TheVariants as commands
+use Rattle.reg_leader.specs.declared.reply.Reply.{Reply}
+use Rattle.reg_leader.specs.declared.reply.Reply.TheVariants as replies
+use Rattle.reg_leader.proofs.Courses.{Of, of_then, of_found, outcome-of}
+
+abbrev IsNoRefusal : Reply → List Writing → Type 0
+IsNoRefusal reply ws = (why : Refusal) → reply ≡ replies.Refused why → ⊥
+
+abbrev RepliesNone : Course → Type 0
+RepliesNone c = Of IsNoRefusal c
+
+module _ (rs : Records) (n : ℕ) where
+  writes-none : (subject normal : List ℕ) (id version : ℕ) → RepliesNone (writes subject normal id version)
+  writes-none subject normal id version = of_then _ (test.is_number id) _ (of_then _ (test.is_number version) _ (λ why e. cc))
+
+  import_as-none : (subject normal : List ℕ) (id : ℕ) (version : Option ℕ) → RepliesNone (import_as rs subject normal id version)
+  import_as-none subject normal id None =
+      of_found _ (newest (filter (is_of id normal) (live rs subject))) _ _ (λ same _ why e. cc) (λ _. writes-none subject normal id (next_version rs subject))
+  import_as-none subject normal id (Some version) =
+      of_found _ (version_in (entries rs) subject (Number version) false) _ _
+      (λ e _. of_then _ (refuse_unless (is_of id normal e) (refusals.NotPermitted reasons.VersionIsOccupied)) _ (λ why e. cc))
+      (λ _. writes-none subject normal id version)
+
+  delete_entry-none : (permanent : Bool) (e : Entry) → RepliesNone (delete_entry permanent e)
+  delete_entry-none false e = of_then _ (refuse_if e.soft refusals.VersionSoftDeleted) _ (λ why e. cc)
+  delete_entry-none true e = of_then _ (refuse_unless e.soft refusals.VersionNotSoftDeleted) _ (λ why e. cc)
+
+  delete_all-none : (subject : List ℕ) (permanent : Bool) (greatest : ℕ) → RepliesNone (delete_all rs subject permanent greatest)
+  delete_all-none subject false greatest = of_then _ (test.is_live rs subject) _ (λ why e. cc)
+  delete_all-none subject true greatest = of_then _ (test.is_not_live rs subject) _ (λ why e. cc)
+
+  open-none : (c : Course) → RepliesNone c → RepliesNone (test.is_open rs ▸ test.has_offset n ▸ c)
+  open-none c h = of_then _ (test.is_open rs) _ (of_then _ (test.has_offset n) _ h)
+
+  course-none : (c : Command) → RepliesNone (course_of rs n c)
+  course-none (commands.Register subject text) =
+      of_found _ (schema_of text) _ _ (λ schema _.
+      of_then _ (test.has_valid_defaults schema) _ (open-none _ (
+      of_then _ (registering (mode rs (Some subject)) false) _ (
+      of_found _ (newest (filter (has_schema schema.normal_text) (live rs subject))) _ _ (λ same _ why e. cc) (λ _ _.
+      writes-none subject schema.normal_text (id_for rs schema.normal_text) (next_version rs subject)))))) (λ _. tt)
+  course-none (commands.ImportRegister subject text id version) =
+      of_found _ (schema_of text) _ _ (λ schema _. open-none _ (
+      of_then _ (registering (mode rs (Some subject)) true) _ (
+      of_then _ (test.names_no_other rs id schema.normal_text) _ (import_as-none subject schema.normal_text id version)))) (λ _. tt)
+  course-none (commands.DeleteVersion subject version permanent) =
+      open-none _ (of_then _ (writing (mode rs (Some subject))) _ (of_then _ (test.stands rs subject) _ (
+      of_found _ (version_meant rs subject version) _ _ (λ e _. delete_entry-none permanent e) (λ _. tt))))
+  course-none (commands.DeleteSubject subject permanent) =
+      open-none _ (of_then _ (writing (mode rs (Some subject))) _ (
+      of_found _ (greatest_version rs subject) _ _ (λ greatest _. delete_all-none subject permanent greatest) (λ _. tt)))
+  course-none (commands.SetLevel scope level) = open-none _ (of_then _ (writing (mode rs scope)) _ (λ why e. cc))
+  course-none (commands.ClearLevel subject) =
+      open-none _ (of_then _ (writing (mode rs (Some subject))) _ (of_found _ (own_level rs (Some subject)) _ _ (λ level _ why e. cc) (λ _. tt)))
+  course-none (commands.SetMode scope mode force) = open-none _ (of_then _ (test.may_set_mode rs scope mode force) _ (λ why e. cc))
+  course-none (commands.ClearMode subject) = open-none _ (of_found _ (own_mode rs (Some subject)) _ _ (λ mode _ why e. cc) (λ _. tt))
+  course-none commands.Noop = open-none _ (λ why e. cc)
+
+pub refusals_write_nothing : RefusalsWriteNothing
+unfolding IsStep
+refusals_write_nothing rs n c why batch step =
+    elim (outcome-of IsNoRefusal n (course_of rs n c) (replies.Refused why) batch (course-none rs n c) step) [
+      | inl none ↦ none
+      | inr some ↦ absurd (some.2 why refl)
+    ]

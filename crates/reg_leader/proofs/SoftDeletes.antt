@@ -1,0 +1,133 @@
+-- What soft deletes of subjects name.
+use Rattle.std.proofs.Common.{◌≡◌, ◌⊎◌, inl, inr, ℕ, suc, max, bytes_eq, Bool, true, false, List, [], ◌∷◌, map, Option, Some, None, All, refl, sym, ap, subst, ◌∙◌}
+use Rattle.std.proofs.lemmas.List.Elements.{All-contains_itself, All-filter, All-from_recursion, All-map, All-nil, All-weaker}
+use Rattle.std.specs.List.{AllByRecursion, Contains, filter}
+use Rattle.avro_schema.specs.Schema.{schema_of}
+use Rattle.reg_entries.specs.Sought.{of_subject}
+use Rattle.reg_entries.specs.declared.entry.Entry.{Entry}
+use Rattle.reg_fold.specs.Entries.{EntriesAreInLimits, entries}
+use Rattle.reg_fold.specs.InForce.{own_level}
+use Rattle.reg_fold.specs.Standing.{greatest_version, live, version_in}
+use Rattle.reg_fold.specs.declared.version_ref.VersionRef.TheVariants.{Number}
+use Rattle.reg_modes.specs.InForce.{mode, own_mode}
+use Rattle.reg_modes.specs.Permitted.{registering, writing}
+use Rattle.reg_records.specs.Written.{IsVersionOrId}
+use Rattle.reg_records.specs.declared.record.Record.{Record}
+use Rattle.reg_refusals.specs.declared.reason.Reason.TheVariants as reasons
+use Rattle.reg_refusals.specs.declared.refusal.Refusal.TheVariants as refusals
+use Rattle.reg_rules.specs.Standing.{has_schema, id_for, is_of, newest, next_version, standing, version_meant}
+use Rattle.reg_rules.specs.Tests as test
+use Rattle.reg_rules.specs.Tests.{refuse_if, refuse_unless}
+use Rattle.reg_rules.specs.Writings.{deleted_up_to, numbered, removed}
+use Rattle.reg_rules.specs.declared.writing.Writing.{Writing}
+use Rattle.reg_set.specs.Records.{Records}
+use Rattle.reg_leader.specs.Course.{Course}
+use Rattle.reg_leader.specs.Deletes.{DeletesNameGreatest, is_delete}
+use Rattle.reg_leader.specs.Step.{IsStep, course_of, delete_all, delete_entry, import_as, writes}
+use Rattle.reg_leader.specs.declared.command.Command.{Command}
+use Rattle.reg_leader.specs.declared.command.Command.TheVariants as commands
+use Rattle.reg_leader.specs.declared.reply.Reply.{Reply}
+use Rattle.reg_leader.proofs.Chosen.{max-picks, reduce_has}
+use Rattle.reg_leader.proofs.Courses.{Of, of_found, of_then, outcome-of}
+
+abbrev NoDelete : Writing → Type 0
+NoDelete w = is_delete w.key ≡ false
+
+abbrev OneDelete : Records → List Writing → Type 0
+OneDelete rs ws = (subject : List ℕ) × (greatest : ℕ) × (ws ≡ deleted_up_to subject greatest ∷ []) × (greatest_version rs subject ≡ Some greatest)
+
+abbrev Deletes : Records → Reply → List Writing → Type 0
+Deletes rs reply ws = AllByRecursion NoDelete ws ⊎ OneDelete rs ws
+
+none_removed : (es : List Entry) → AllByRecursion NoDelete (map removed es)
+none_removed [] = tt
+none_removed (e ∷ es) = (refl, none_removed es)
+
+numbered-none : (n : ℕ) (ws : List Writing) → AllByRecursion NoDelete ws → AllByRecursion (λ r. is_delete r.key ≡ false) (numbered n ws)
+numbered-none n [] all = tt
+numbered-none n (w ∷ ws) all = (all.0, numbered-none (suc n) ws all.1)
+
+module _ (rs : Records) (n : ℕ) where
+  abbrev Names : Course → Type 0
+  Names c = Of (Deletes rs) c
+
+  writes-of : (subject normal : List ℕ) (id version : ℕ) → Names (writes subject normal id version)
+  writes-of subject normal id version = of_then _ (test.is_number id) _ (of_then _ (test.is_number version) _ (inl (refl, tt)))
+
+  import_as-of : (subject normal : List ℕ) (id : ℕ) (version : Option ℕ) → Names (import_as rs subject normal id version)
+  import_as-of subject normal id None =
+      of_found _ (newest (filter (is_of id normal) (live rs subject))) _ _ (λ same e. inl tt) (λ _. writes-of subject normal id (next_version rs subject))
+  import_as-of subject normal id (Some version) =
+      of_found _ (version_in (entries rs) subject (Number version) false) _ _ (λ e _.
+      of_then _ (refuse_unless (is_of id normal e) (refusals.NotPermitted reasons.VersionIsOccupied)) _ (inl tt)) (λ _.
+      writes-of subject normal id version)
+
+  delete_entry-of : (permanent : Bool) (e : Entry) → Names (delete_entry permanent e)
+  delete_entry-of false e = of_then _ (refuse_if e.soft refusals.VersionSoftDeleted) _ (inl (refl, tt))
+  delete_entry-of true e = of_then _ (refuse_unless e.soft refusals.VersionNotSoftDeleted) _ (inl (refl, tt))
+
+  delete_all-of : (subject : List ℕ) (permanent : Bool) (greatest : ℕ) → greatest_version rs subject ≡ Some greatest → Names (delete_all rs subject permanent greatest)
+  delete_all-of subject false greatest is = of_then _ (test.is_live rs subject) _ (inr (subject, greatest, refl, is))
+  delete_all-of subject true greatest is = of_then _ (test.is_not_live rs subject) _ (inl (none_removed (standing rs subject)))
+
+  course-names : (c : Command) → Names (course_of rs n c)
+  course-names (commands.Register subject text) =
+      of_found _ (schema_of text) _ _ (λ schema known.
+      of_then _ (test.has_valid_defaults schema) _ (
+      of_then _ (test.is_open rs) _ (
+      of_then _ (test.has_offset n) _ (
+      of_then _ (registering (mode rs (Some subject)) _) _ (
+      of_found _ (newest (filter (has_schema schema.normal_text) (live rs subject))) _ _ (λ same e. inl tt) (λ _ meets.
+      writes-of subject schema.normal_text (id_for rs schema.normal_text) (next_version rs subject))))))) (λ _. tt)
+  course-names (commands.ImportRegister subject text id version) =
+      of_found _ (schema_of text) _ _ (λ schema known.
+      of_then _ (test.is_open rs) _ (
+      of_then _ (test.has_offset n) _ (
+      of_then _ (registering (mode rs (Some subject)) _) _ (
+      of_then _ (test.names_no_other rs id schema.normal_text) _ (
+      import_as-of subject schema.normal_text id version))))) (λ _. tt)
+  course-names (commands.DeleteVersion subject version permanent) =
+      of_then _ (test.is_open rs) _ (
+      of_then _ (test.has_offset n) _ (
+      of_then _ (writing (mode rs (Some subject))) _ (
+      of_then _ (test.stands rs subject) _ (
+      of_found _ (version_meant rs subject version) _ _ (λ e _. delete_entry-of permanent e) (λ _. tt)))))
+  course-names (commands.DeleteSubject subject permanent) =
+      of_then _ (test.is_open rs) _ (
+      of_then _ (test.has_offset n) _ (
+      of_then _ (writing (mode rs (Some subject))) _ (
+      of_found _ (greatest_version rs subject) _ _ (λ greatest is. delete_all-of subject permanent greatest is) (λ _. tt))))
+  course-names (commands.SetLevel scope level) =
+      of_then _ (test.is_open rs) _ (of_then _ (test.has_offset n) _ (of_then _ (writing (mode rs scope)) _ (inl (refl, tt))))
+  course-names (commands.ClearLevel subject) =
+      of_then _ (test.is_open rs) _ (of_then _ (test.has_offset n) _ (of_then _ (writing (mode rs (Some subject))) _ (
+      of_found _ (own_level rs (Some subject)) _ _ (λ level _. inl (refl, tt)) (λ _. tt))))
+  course-names (commands.SetMode scope mode force) =
+      of_then _ (test.is_open rs) _ (of_then _ (test.has_offset n) _ (of_then _ (test.may_set_mode rs scope mode force) _ (inl (refl, tt))))
+  course-names (commands.ClearMode subject) =
+      of_then _ (test.is_open rs) _ (of_then _ (test.has_offset n) _ (
+      of_found _ (own_mode rs (Some subject)) _ _ (λ mode _. inl (refl, tt)) (λ _. tt)))
+  course-names commands.Noop = of_then _ (test.is_open rs) _ (of_then _ (test.has_offset n) _ (inl (refl, tt)))
+
+greatest-fits : EntriesAreInLimits → (rs : Records) (subject : List ℕ) (most : ℕ) → greatest_version rs subject ≡ Some most → IsVersionOrId most
+greatest-fits fits rs subject most is =
+    let each = All-weaker (Contains (entries rs)) (λ e. IsVersionOrId e.version) (λ e stands. (fits rs e stands).0) (entries rs) (All-contains_itself (entries rs)) in
+    let own = All-filter (λ e. bytes_eq e.subject subject) (λ e. IsVersionOrId e.version) (entries rs) each in
+    reduce_has IsVersionOrId max max-picks (map (λ e. e.version) (of_subject (entries rs) subject)) most (All-map IsVersionOrId (λ e. e.version) (of_subject (entries rs) subject) own) is
+
+pub deletes_name_greatest : EntriesAreInLimits → DeletesNameGreatest
+unfolding IsStep
+deletes_name_greatest fits rs n c reply batch step =
+    elim (outcome-of (Deletes rs) n (course_of rs n c) reply batch (course-names rs n c) step) [
+      | inl none ↦ inl (subst (All (λ (r : Record). is_delete r.key ≡ false)) (sym none) (All-nil (λ (r : Record). is_delete r.key ≡ false)))
+      | inr some ↦ elim (some.2) [
+        | inl nothing ↦ inl (subst (All (λ (r : Record). is_delete r.key ≡ false)) (sym some.1) (All-from_recursion _ (numbered n some.0) (numbered-none n some.0 nothing)))
+        | inr one ↦ inr (record {
+          subject = one.0;
+          greatest = one.1;
+          one_record = some.1 ∙ ap (numbered n) one.2;
+          is_greatest = one.3;
+          greatest_fits = greatest-fits fits rs one.0 one.1 one.3;
+        })
+      ]
+    ]

@@ -1,0 +1,32 @@
+-- A registry that isn't closed stays so.
+use Rattle.std.specs.Prelude.{◌≡◌, ℕ, List, false}
+use Rattle.std.specs.FinSet.{from_list, union}
+use Rattle.std.specs.List.{Contains}
+use Rattle.reg_entries.specs.declared.entry.Entry.{Entry}
+use Rattle.reg_fold.specs.Closed.{is_closed}
+use Rattle.reg_fold.specs.Entries.{entries}
+use Rattle.reg_records.specs.declared.record.Record.{Record}
+use Rattle.reg_set.specs.LastRecords.{last_records}
+use Rattle.reg_set.specs.RecordOrder.{record_cmp}
+use Rattle.reg_set.specs.Records.{Records}
+use Rattle.reg_leader.specs.Step.{IsStep}
+use Rattle.reg_leader.specs.declared.command.Command.{Command}
+use Rattle.reg_leader.specs.declared.reply.Reply.{Reply}
+
+-- any two entries of one id have one normal text
+abbrev pub IdsNameOneSchema : Records → Type 0
+IdsNameOneSchema rs = (e f : Entry) → Contains (entries rs) e → Contains (entries rs) f → e.id ≡ f.id → e.normal ≡ f.normal
+
+-- the last records once the batch has joined the log
+abbrev pub last_after : Records → List Record → Records
+last_after log batch = last_records (union log (from_list {R = record_cmp} batch))
+
+-- a registry that isn't closed stays so when a step's batch is applied, whatever the next offset is
+abbrev pub StepsStayOpen : Type 0
+StepsStayOpen = (log : Records) (n : ℕ) (c : Command) (reply : Reply) (batch : List Record)
+    → is_closed (last_records log) ≡ false → IsStep (last_records log) n c reply batch → is_closed (last_after log batch) ≡ false
+
+-- so an id names one schema after it
+abbrev pub StepsKeepIds : Type 0
+StepsKeepIds = (log : Records) (n : ℕ) (c : Command) (reply : Reply) (batch : List Record)
+    → is_closed (last_records log) ≡ false → IsStep (last_records log) n c reply batch → IdsNameOneSchema (last_after log batch)

@@ -1,0 +1,3 @@
+pub mod Newest
+pub mod Numbering
+pub mod Verdicts

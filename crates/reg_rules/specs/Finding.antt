@@ -1,0 +1,17 @@
+-- What the tests come to that find something.
+use Rattle.std.specs.Prelude.{◌≡◌, ◌⊎◌, ℕ, List, Some, None, Result, Ok, Err}
+use Rattle.avro_schema.specs.Schema.{Meaning, schema_of}
+use Rattle.reg_modes.specs.Permitted.{Permit, granted}
+use Rattle.reg_refusals.specs.Refusal.{no_memory}
+use Rattle.reg_refusals.specs.declared.refusal.Refusal.{Refusal}
+use Rattle.reg_refusals.specs.declared.refusal.Refusal.TheVariants.{InvalidSchema}
+
+-- a test, with what it finds where it passes
+abbrev pub Finds : {A : Type 0} → Permit → (A → Type 0) → Result A Refusal → Type 0
+Finds test Found (Ok found) = (test ≡ granted) × Found found
+Finds test Found (Err refusal) = test ≡ Err refusal
+
+-- the schema that the text means, if it means one; memory may be refused
+abbrev pub IsRead : List ℕ → Result Meaning Refusal → Type 0
+IsRead text (Ok schema) = schema_of text ≡ Some schema
+IsRead text (Err refusal) = (refusal ≡ no_memory) ⊎ ((schema_of text ≡ None) × (refusal ≡ InvalidSchema))

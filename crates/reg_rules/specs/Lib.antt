@@ -1,0 +1,6 @@
+pub mod Better
+pub mod Finding
+pub mod Report
+pub mod Standing
+pub mod Tests
+pub mod Writings

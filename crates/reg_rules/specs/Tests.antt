@@ -1,0 +1,76 @@
+-- The tests of commands, each with its refusal. Below, rs are the last records and n the next offset.
+use Rattle.std.specs.Prelude.{ℕ, List, [], ◌∷◌, Bool, true, false, nat_le, ◌&&◌, Option, Some, None, is_some, Err}
+use Rattle.avro_schema.specs.Defaults.{bad_defaults}
+use Rattle.avro_schema.specs.Schema.{Meaning}
+use Rattle.reg_entries.specs.Sought.{has_live}
+use Rattle.reg_fold.specs.Closed.{two_schemas}
+use Rattle.reg_fold.specs.Entries.{entries}
+use Rattle.reg_fold.specs.InForce.{Scope}
+use Rattle.reg_fold.specs.Opaque.{opaque}
+use Rattle.reg_fold.specs.Standing.{greatest_version}
+use Rattle.reg_modes.specs.Permitted.{Permit, denied, granted, setting_import}
+use Rattle.reg_modes.specs.declared.mode.Mode.{Mode}
+use Rattle.reg_modes.specs.declared.mode.Mode.TheVariants as modes
+use Rattle.reg_records.specs.declared.limits.TheConstants.{NUMBER_LIMIT, OFFSET_LIMIT}
+use Rattle.reg_refusals.specs.declared.reason.Reason.TheVariants as reasons
+use Rattle.reg_refusals.specs.declared.reason.StoreFault.TheVariants as faults
+use Rattle.reg_refusals.specs.declared.refusal.Refusal.{Refusal}
+use Rattle.reg_refusals.specs.declared.refusal.Refusal.TheVariants as refusals
+use Rattle.reg_set.specs.Records.{Records}
+use Rattle.reg_rules.specs.Standing.{names_another}
+
+-- the refusal, unless the test passes
+abbrev pub refuse_unless : Bool → Refusal → Permit
+refuse_unless true refusal = granted
+refuse_unless false refusal = Err refusal
+
+abbrev pub refuse_if : Bool → Refusal → Permit
+refuse_if true refusal = Err refusal
+refuse_if false refusal = granted
+
+abbrev pub numbers_used_up : Refusal
+numbers_used_up = refusals.Store faults.NumbersUsedUp
+
+abbrev pub if_none : List (List ℕ) → Permit
+if_none [] = granted
+if_none (field ∷ fields) = Err refusals.InvalidSchema
+
+-- the schema's defaults are valid
+abbrev pub has_valid_defaults : Meaning → Permit
+has_valid_defaults schema = if_none (bad_defaults schema.nodes)
+
+abbrev pub if_not_opaque : Bool → Permit → Permit
+if_not_opaque true else = Err (refusals.Store faults.OpaqueRecord)
+if_not_opaque false else = else
+
+-- the registry isn't closed; where it is for both causes, the opaque record is told
+abbrev pub is_open : Records → Permit
+is_open rs = if_not_opaque (is_some (opaque rs)) (refuse_if (is_some (two_schemas rs)) (refusals.Store faults.TwoSchemas))
+
+-- there is an offset left
+abbrev pub has_offset : ℕ → Permit
+has_offset n = refuse_unless (nat_le n OFFSET_LIMIT) numbers_used_up
+
+-- a version or an id is within its limits
+abbrev pub is_number : ℕ → Permit
+is_number number = refuse_unless (nat_le 1 number && nat_le number NUMBER_LIMIT) numbers_used_up
+
+-- the mode may be set: IMPORT not over a live version of the scope, unless it is forced
+abbrev pub may_set_mode : Records → Scope → Mode → Bool → Permit
+may_set_mode rs scope modes.Import force = setting_import rs scope force
+may_set_mode rs scope modes.Readonly force = granted
+may_set_mode rs scope modes.Readwrite force = granted
+
+-- the id names no other schema
+abbrev pub names_no_other : Records → ℕ → List ℕ → Permit
+names_no_other rs id normal = refuse_if (names_another rs id normal) (refusals.NotPermitted reasons.IdNamesAnotherSchema)
+
+-- the subject has an entry; a live one; no live one
+abbrev pub stands : Records → List ℕ → Permit
+stands rs subject = refuse_unless (is_some (greatest_version rs subject)) refusals.SubjectNotFound
+
+abbrev pub is_live : Records → List ℕ → Permit
+is_live rs subject = refuse_unless (has_live (entries rs) (Some subject)) refusals.SubjectSoftDeleted
+
+abbrev pub is_not_live : Records → List ℕ → Permit
+is_not_live rs subject = refuse_if (has_live (entries rs) (Some subject)) refusals.SubjectNotSoftDeleted

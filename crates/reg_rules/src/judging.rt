@@ -1,0 +1,85 @@
+// Whether a schema meets the level in force.
+ghost use Rattle.std.specs.Prelude.{◌≡◌, None, Some, IfOk, IfSome, map};
+ghost use Rattle.reg_entries.specs.declared.entry.Entry.{Entry};
+ghost use Rattle.reg_fold.specs.InForce.{level};
+ghost use Rattle.reg_fold.specs.Standing.{live};
+ghost use Rattle.reg_levels.specs.Judgement.{IsMadeOf, first_unread};
+ghost use Rattle.reg_levels.specs.RequiredPairs.{HasRisingVersions};
+ghost use Rattle.reg_levels.specs.Texts.{IsVerdictOfTexts};
+ghost use Rattle.reg_rules.specs.Standing.{texts_of};
+ghost use Rattle.reg_rules.specs.Report.{IsReport};
+
+use avro_schema::Schema;
+use base_text::Text;
+use reg_fold::{Entry, Registry, entries_are_read};
+use reg_levels::{Judged, JudgedError, Level, LevelVerdict, check_texts};
+use std::alloc::{AllocError, Global};
+
+/// The message of the first pair that clashes, by the judgement if it fits, else by a new one;
+/// `None` where the level is met. The only error is want of memory.
+pub fn clash_of(
+    alloc: Global,
+    registry: &Registry,
+    subject: &Text,
+    schema: &Schema,
+    judged: Option<&Judged>,
+) -> Result<Option<Text>, AllocError>
+    ensures { IfOk result (IsReport (level registry.now (Some subject.now)) schema.now.normal_text (texts_of (live registry.now subject.now))) }
+{
+    entries_are_read();
+    let level = registry.level(Some(subject.as_str()));
+    let live = registry.live(subject.as_str())?;
+    let texts = texts_of(alloc, &live)?;
+    if let Some(judged) = fitting(judged, level, schema.normal().as_str(), &texts) {
+        return judged.verdict().message(alloc);
+    }
+    let verdict = checked(alloc, level, schema, &texts)?;
+    verdict.message(alloc)
+}
+
+/// The judgement, if it was made of these.
+fn fitting<'a>(
+    judged: Option<&'a Judged>,
+    level: Level,
+    new_text: &str,
+    texts: &[(u32, &str)],
+) -> Option<&'a Judged>
+    ensures { IfSome result (λ j. IsMadeOf j.now level new_text.now (map (λ old. (old.0, old.1.now)) texts.now)) }
+{
+    match judged {
+        Some(judged) if judged.fits(level, new_text, texts) => Some(judged),
+        _ => None,
+    }
+}
+
+/// The verdict on a schema. The only error is want of memory.
+fn checked(
+    alloc: Global,
+    level: Level,
+    schema: &Schema,
+    texts: &[(u32, &str)],
+) -> Result<LevelVerdict, AllocError>
+    requires rising { HasRisingVersions texts.now }
+    requires read { first_unread (map (λ old. (old.0, old.1.now)) texts.now) ≡ None }
+    ensures { IfOk result (IsVerdictOfTexts level schema.now.normal_text (map (λ old. (old.0, old.1.now)) texts.now)) }
+{
+    // It ensures that the normal text means the schema.
+    schema.normal();
+    match check_texts(alloc, level, schema, texts) {
+        Ok(verdict) => Ok(verdict),
+        Err(JudgedError::OutOfMemory) => Err(AllocError),
+        Err(JudgedError::NewText | JudgedError::OldText(_)) => unreachable!(),
+    }
+}
+
+/// The versions of those entries, with the texts that they hold.
+fn texts_of<'a>(alloc: Global, entries: &[&'a Entry]) -> Result<Vec<(u32, &'a str)>, AllocError>
+    ensures texts { IfOk result (λ texts. map (λ old. (old.0, old.1.now)) texts.items ≡ texts_of (map (λ e. e.now) entries.now)) }
+    ensures versions { IfOk result (λ texts. map (λ old. old.0) texts.items ≡ map {A = Entry} (λ e. e.version) (map (λ e. e.now) entries.now)) }
+{
+    let mut texts = Vec::new(alloc);
+    for entry in entries {
+        texts.push((entry.version, entry.text.as_str()))?;
+    }
+    Ok(texts)
+}

@@ -1,0 +1,79 @@
+// What is asked of a schema that is to be registered.
+ghost use Rattle.std.specs.Prelude.{◌≡◌, map, option_copied, bytes_eq};
+ghost use Rattle.std.specs.List.{filter};
+ghost use Rattle.reg_rules.specs.Better.{better};
+ghost use Rattle.reg_rules.specs.Finding.{IsRead};
+ghost use Rattle.reg_rules.specs.Standing.{has_schema, is_of, newest};
+ghost use Rattle.reg_rules.specs.Tests as test;
+
+use avro_schema::Schema;
+use base_text::Text;
+use reg_fold::{Entry, Refusal};
+use std::alloc::Global;
+
+/// The schema of a text, if it has one.
+pub fn read_schema(alloc: Global, text: &Text) -> Result<Schema, Refusal>
+    ensures { IsRead text.now result }
+{
+    match Schema::read_if_any(alloc, text.as_str())? {
+        Some(schema) => Ok(schema),
+        None => Err(Refusal::InvalidSchema),
+    }
+}
+
+/// Whether the schema's defaults are valid. Takes no memory.
+pub fn has_valid_defaults(schema: &Schema) -> Result<(), Refusal>
+    ensures { result ≡ test.has_valid_defaults schema.now }
+{
+    match schema.check_defaults() {
+        Ok(()) => Ok(()),
+        Err(_) => Err(Refusal::InvalidSchema),
+    }
+}
+
+/// Of those entries with that schema the one of greatest version.
+pub fn live_schema<'a>(entries: &[&'a Entry], normal: &str) -> Option<&'a Entry>
+    ensures { option_copied result ≡ newest (filter (has_schema normal.now) (map (λ e. e.now) entries.now)) }
+{
+    let mut best = None;
+    for entry in entries {
+        best = better(best, *entry, has_schema(*entry, normal));
+    }
+    best
+}
+
+/// Of those entries with that id and that schema the one of greatest version.
+pub fn live_import<'a>(entries: &[&'a Entry], id: u32, normal: &str) -> Option<&'a Entry>
+    ensures { option_copied result ≡ newest (filter (is_of id normal.now) (map (λ e. e.now) entries.now)) }
+{
+    let mut best = None;
+    for entry in entries {
+        best = better(best, *entry, is_of(*entry, id, normal));
+    }
+    best
+}
+
+/// Of the best so far and an entry, if it counts, the one of greater version.
+fn better<'a>(best: Option<&'a Entry>, entry: &'a Entry, counts: bool) -> Option<&'a Entry>
+    ensures { option_copied result ≡ better counts entry.now (option_copied best.entry) }
+{
+    match best {
+        Some(found) if !counts || entry.version < found.version => best,
+        None if !counts => None,
+        _ => Some(entry),
+    }
+}
+
+/// Whether an entry has that schema.
+pub(crate) fn has_schema(entry: &Entry, normal: &str) -> bool
+    ensures { result ≡ has_schema normal.now entry.now }
+{
+    entry.normal.as_str() == normal
+}
+
+/// Whether an entry has that id and that schema.
+pub fn is_of(entry: &Entry, id: u32, normal: &str) -> bool
+    ensures { result ≡ is_of id normal.now entry.now }
+{
+    entry.id == id && has_schema(entry, normal)
+}

@@ -1,0 +1,110 @@
+// The tests of commands, in the order of their definitions. None takes memory.
+ghost use Rattle.std.specs.Prelude.{◌≡◌, option_map};
+ghost use Rattle.reg_rules.specs.Finding.{Finds};
+ghost use Rattle.reg_rules.specs.Tests as test;
+
+use crate::schemas::has_schema;
+use base_text::Text;
+use reg_fold::{Reason, Refusal, Registry, StoreFault};
+use reg_modes::{Mode, may_set_import};
+use reg_records::{NUMBER_LIMIT, OFFSET_LIMIT};
+
+/// Whether the registry takes commands.
+pub fn is_open(registry: &Registry) -> Result<(), Refusal>
+    ensures { result ≡ test.is_open registry.now }
+{
+    if registry.opaque().is_some() {
+        return Err(Refusal::Store(StoreFault::OpaqueRecord));
+    }
+    if registry.two_schemas().is_some() {
+        return Err(Refusal::Store(StoreFault::TwoSchemas));
+    }
+    Ok(())
+}
+
+/// Whether an offset is left.
+pub fn has_offset(next: u64) -> Result<(), Refusal>
+    ensures { result ≡ test.has_offset next }
+{
+    if next > OFFSET_LIMIT {
+        return Err(Refusal::Store(StoreFault::NumbersUsedUp));
+    }
+    Ok(())
+}
+
+/// The number, if it is a version's or an id's.
+pub fn is_number(number: u64) -> Result<u32, Refusal>
+    ensures { Finds (test.is_number number) (λ within. within ≡ number) result }
+{
+    if number < 1 || number > u64::from(NUMBER_LIMIT) {
+        return Err(Refusal::Store(StoreFault::NumbersUsedUp));
+    }
+    Ok(number as u32)
+}
+
+/// Whether the scope may be set to the mode.
+pub fn may_set_mode(
+    registry: &Registry,
+    scope: &Option<Text>,
+    mode: Mode,
+    force: bool,
+) -> Result<(), Refusal>
+    ensures { result ≡ test.may_set_mode registry.now scope.now mode force }
+{
+    match mode {
+        Mode::Import => may_set_import(registry, subject_of(scope), force),
+        Mode::Readwrite | Mode::Readonly => Ok(()),
+    }
+}
+
+/// Whether the id names no other schema.
+pub fn names_no_other(registry: &Registry, id: u32, normal: &Text) -> Result<(), Refusal>
+    ensures { result ≡ test.names_no_other registry.now id normal.now }
+{
+    match registry.by_id(id) {
+        Some(entry) if !has_schema(entry, normal.as_str()) => {
+            Err(Refusal::NotPermitted(Reason::IdNamesAnotherSchema))
+        }
+        _ => Ok(()),
+    }
+}
+
+/// Whether the subject has a version, soft ones too.
+pub fn stands(registry: &Registry, subject: &Text) -> Result<(), Refusal>
+    ensures { result ≡ test.stands registry.now subject.now }
+{
+    if registry.greatest_version(subject.as_str()).is_none() {
+        return Err(Refusal::SubjectNotFound);
+    }
+    Ok(())
+}
+
+/// Whether the subject has a live version.
+pub fn is_live(registry: &Registry, subject: &Text) -> Result<(), Refusal>
+    ensures { result ≡ test.is_live registry.now subject.now }
+{
+    if !registry.has_live(Some(subject.as_str())) {
+        return Err(Refusal::SubjectSoftDeleted);
+    }
+    Ok(())
+}
+
+/// Whether the subject has no live version.
+pub fn is_not_live(registry: &Registry, subject: &Text) -> Result<(), Refusal>
+    ensures { result ≡ test.is_not_live registry.now subject.now }
+{
+    if registry.has_live(Some(subject.as_str())) {
+        return Err(Refusal::SubjectNotSoftDeleted);
+    }
+    Ok(())
+}
+
+/// The subject of a scope, lent.
+pub fn subject_of(scope: &Option<Text>) -> Option<&str>
+    ensures { option_map (λ s. s.now) result ≡ scope.now }
+{
+    match scope {
+        Some(subject) => Some(subject.as_str()),
+        None => None,
+    }
+}
