@@ -10,12 +10,11 @@ use crate::by_id::{id_versions, schema_by_id};
 use crate::by_schema::lookup;
 use crate::by_subject::{subjects, version, version_schema, versions};
 use crate::checked::check_answer;
-use crate::laws::compactions_answer_alike;
+use crate::laws::{compactions_answer_alike, queries_have_one_answer};
 use crate::query::Query;
 use crate::settings::{level_found, mode_found};
 use base_text::Text;
 use reg_fold::Registry;
-use reg_levels::level_verdicts_are_single;
 use std::alloc::{AllocError, Global};
 
 /// The answer to a query; a refusal is one too. The only error is want of memory.
@@ -27,7 +26,7 @@ pub fn answer(alloc: Global, registry: &Registry, query: &Query) -> Result<Answe
     ensures compactions { IfOk result (λ a. (part whole : Records) → registry.now ≡ last_records whole
         → IsCompactionOf part whole → IsAnswerOver part query.now a) }
 {
-    level_verdicts_are_single();
+    queries_have_one_answer();
     compactions_answer_alike();
     answer_by_kind(alloc, registry, query)
 }

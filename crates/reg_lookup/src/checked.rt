@@ -98,7 +98,10 @@ fn olds_asked<'a>(
     ensures refused { IfErr result (IsRefusalOf (olds_of (entries registry.now) subject.now which)) }
 {
     match which {
-        None => Ok(texts_of(alloc, &registry.live(subject)?)?),
+        None => {
+            let live = registry.live(subject)?;
+            Ok(texts_of(alloc, &live)?)
+        }
         Some(which) => {
             let found = version_found(registry, subject, which, false)?;
             Ok(texts_of(alloc, &[found])?)

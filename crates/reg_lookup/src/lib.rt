@@ -16,5 +16,5 @@ mod settings;
 
 pub use answered::Answer;
 pub use answering::answer;
-pub use laws::compactions_answer_alike;
+pub use laws::{compactions_answer_alike, queries_have_one_answer};
 pub use query::Query;
