@@ -1,0 +1,85 @@
+-- What published items come to, and which lists of items are lawful.
+use Rattle.std.specs.Prelude.{◌≡◌, ◌≢◌, ℕ, suc, ◌+◌, ◌<◌, List, [], ◌∷◌, Bool, true, false, ◌&&◌, not, nat_le, length, fold}
+use Rattle.std.specs.FinSet.{contains, difference, from_list, union}
+use Rattle.std.specs.List.{list_all, flat_map}
+use Rattle.reg_records.specs.declared.limits.TheConstants.{OFFSET_LIMIT}
+use Rattle.reg_records.specs.declared.record.Record.{Record}
+use Rattle.reg_set.specs.LastRecords.{is_last, last_records}
+use Rattle.reg_set.specs.Records.{Records}
+use Rattle.reg_fold.specs.Closed.{is_closed}
+use Rattle.reg_leader.specs.OneStep.{goes_on}
+use Rattle.reg_leader.specs.Step.{IsStep}
+use Rattle.reg_leader.specs.declared.reply.Reply.{Reply}
+use Rattle.reg_topic.specs.declared.published.Commit.{Commit}
+use Rattle.reg_topic.specs.declared.published.Item.{Item}
+use Rattle.reg_topic.specs.declared.published.Item.TheVariants as items
+use Rattle.reg_topic.specs.declared.topic.Topic.{Topic}
+
+-- the registry over all that was published
+abbrev pub registry_of : Topic → Records
+registry_of t = last_records t.log
+
+-- whether the batch goes on at that offset, with none past the limit
+abbrev pub follows : ℕ → List Record → Bool
+follows n batch = goes_on n batch && nat_le (n + length batch) (suc OFFSET_LIMIT)
+
+-- the batch joins the log and the kept set; one that doesn't go on at the next offset changes nothing
+abbrev pub after_batch : Bool → Topic → List Record → Topic
+after_batch true t batch = record { log = union t.log (from_list batch); kept = union t.kept (from_list batch); next = t.next + length batch }
+after_batch false t batch = t
+
+-- whether each of the records is kept, and none is the last of its key
+abbrev pub may_drop : Records → List Record → Bool
+may_drop kept dropped = list_all (λ r. contains kept r && not (is_last kept r)) dropped
+
+-- what stays without the records
+abbrev pub without : Records → List Record → Records
+without kept dropped = difference kept (from_list dropped)
+
+-- the records leave the kept set; others than these change nothing
+abbrev pub after_drop : Bool → Topic → List Record → Topic
+after_drop true t dropped = record { log = t.log; kept = without t.kept dropped; next = t.next }
+after_drop false t dropped = t
+
+-- what a topic is after an item, lawful or not
+abbrev pub after_item : Topic → Item → Topic
+after_item t (items.Commit commit) = after_batch (follows t.next commit.batch) t commit.batch
+after_item t (items.Compaction dropped) = after_drop (may_drop t.kept dropped) t dropped
+
+-- after a list of items
+abbrev pub after_items : Topic → List Item → Topic
+after_items t is = fold after_item t is
+
+-- the topic that a base begins: its records are log and kept set
+abbrev pub topic_from : List Record → ℕ → Topic
+topic_from base next = record { log = from_list base; kept = from_list base; next = next }
+
+-- a base that is adopted: not closed, with all offsets below the next one
+pub record IsAdopted (base : Topic) : Type 0 where
+  pub not_closed : is_closed (registry_of base) ≡ false
+  pub ahead : (r : Record) → contains base.log r ≡ true → r.offset < base.next
+  pub whole : base.kept ≡ base.log
+
+-- the commit is what its command writes, from exactly this log, and isn't empty
+pub record MayCommit (t : Topic) (commit : Commit) : Type 0 where
+  pub reply : Reply
+  pub step : IsStep (registry_of t) t.next commit.command reply commit.batch
+  pub writes : commit.batch ≢ []
+
+abbrev pub MayFollow : Topic → Item → Type 0
+MayFollow t (items.Commit commit) = MayCommit t commit
+MayFollow t (items.Compaction dropped) = may_drop t.kept dropped ≡ true
+
+-- each item may follow on those before it
+abbrev pub IsLawful : Topic → List Item → Type 0
+IsLawful t [] = Unit {0}
+IsLawful t (i ∷ is) = MayFollow t i × IsLawful (after_item t i) is
+
+-- the records that an item published
+abbrev pub records_of_item : Item → List Record
+records_of_item (items.Commit commit) = commit.batch
+records_of_item (items.Compaction dropped) = []
+
+-- the records that the items published, in their order
+abbrev pub published_by : List Item → List Record
+published_by is = flat_map records_of_item is

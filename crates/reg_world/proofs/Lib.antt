@@ -1,0 +1,10 @@
+pub mod Answers
+pub mod Courses
+pub mod Ids
+pub mod Items
+pub mod Merging
+pub mod Refused
+pub mod Sound
+pub mod Stays
+pub mod Steps
+pub mod Unsettled

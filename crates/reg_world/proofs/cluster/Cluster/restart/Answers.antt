@@ -1,0 +1,19 @@
+use Rattle.std.proofs.Common.{◌≡◌, Some, None, slice_get, set, refl, ap, rules}
+use Rattle.reg_world.specs.State.{State, no_records}
+use Rattle.reg_world.specs.declared.event.Event.TheVariants as events
+use Rattle.reg_world.specs.declared.event.Outcome.TheVariants as outcomes
+use Rattle.reg_world.proofs.Steps.{a_node, allowed, no_node, node-done, not_allowed}
+use Rattle.reg_world.proofs.cluster.Cluster.restart.Goals as goal
+
+pub returns-in_default-clause-happens : goal.returns-in_default-clause-happens
+returns-in_default-clause-happens c =
+    let s = c.args.self.now in
+    let none : slice_get s.nodes c.args.node ≡ None = search rules in
+    not_allowed s s (events.Restart c.args.node) (no_node s c.args.node none) refl
+
+pub returns-clause-happens : goal.returns-clause-happens
+returns-clause-happens c =
+    let s = c.args.self.now in
+    let there : slice_get s.nodes c.args.node ≡ Some c.in-Some._found.now = search rules in
+    let written = ap (λ (w : State). record { base = w.base; items = w.items; unsettled = w.unsettled; nodes = set w.nodes c.args.node c.new.result }) c.self.view_is in
+    allowed s _ (events.Restart c.args.node) outcomes.Done (a_node s c.args.node c.in-Some._found.now there) (refl, node-done s _ (λ _. no_records) c.args.node c.in-Some._found.now c.new.result there c.new.ensures written)

@@ -1,0 +1,14 @@
+use Rattle.std.proofs.Common.{◌≡◌, ◌↔◌, false, IfOk, subst}
+use Rattle.std.proofs.lemmas.Result.{IfOk-weaker}
+use Rattle.reg_world.specs.Happens.{is_allowed}
+use Rattle.reg_world.specs.declared.event.Outcome.TheVariants as outcomes
+use Rattle.reg_world.proofs.Courses.{reached_after}
+use Rattle.reg_world.proofs.world.World.step.Goals as goal
+
+pub returns-clause-not_allowed : goal.returns-clause-not_allowed
+returns-clause-not_allowed c =
+    subst (λ s. IfOk c.step.result (λ o. (o ≡ outcomes.NotAllowed) ↔ (is_allowed s c.args.event.now ≡ false))) c.self.view_is
+    (IfOk-weaker c.step.result _ _ (λ o h. (c.events_are_refused_exactly.ensures c.self.inside.cluster c.step.new.self c.args.event.now o h).0) c.step.ensures.happens)
+
+pub invariant_of-self : goal.invariant_of-self
+invariant_of-self c = reached_after c.self.inside.cluster c.step.new.self c.args.event.now c.step.result c.step.ensures.happens c.step.ensures.refused c.self.invariant

@@ -1,0 +1,7 @@
+pub mod Core
+pub mod Happens
+pub mod Headline
+pub mod LowerLaws
+pub mod Runs
+pub mod State
+pub mod Threads

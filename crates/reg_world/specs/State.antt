@@ -1,0 +1,73 @@
+-- A topic with the items that were published, at most one commit that isn't settled, and the nodes.
+use Rattle.std.specs.Prelude.{ℕ, suc, zero, List, [], ◌∷◌, ◌++◌, Bool, Option, Some, None, is_some, slice_get, replicate}
+use Rattle.std.specs.FinSet.{empty, union}
+use Rattle.std.specs.Option.{option_map_or}
+use Rattle.reg_set.specs.LastRecords.{last_records}
+use Rattle.reg_set.specs.Records.{Records}
+use Rattle.reg_topic.specs.Topic.{after_items}
+use Rattle.reg_topic.specs.declared.published.Commit.{Commit}
+use Rattle.reg_topic.specs.declared.published.Item.{Item}
+use Rattle.reg_topic.specs.declared.published.Item.TheVariants as items
+use Rattle.reg_topic.specs.declared.topic.Topic.{Topic}
+use Rattle.reg_world.specs.declared.node.Node.{Node}
+
+-- what contracts see of a world
+pub record State : Type 0 where
+  pub base : Topic
+  pub items : List Item
+  pub unsettled : Option Commit
+  pub nodes : List Node
+
+-- what the published items come to
+abbrev pub topic_of : State → Topic
+topic_of s = after_items s.base s.items
+
+abbrev pub publish : State → Item → State
+publish s i = record { base = s.base; items = s.items ++ i ∷ []; unsettled = s.unsettled; nodes = s.nodes }
+
+-- the commit that isn't settled is published
+abbrev pub settle : Option Commit → State → State
+settle None s = s
+settle (Some commit) s = record { base = s.base; items = s.items ++ items.Commit commit ∷ []; unsettled = None; nodes = s.nodes }
+
+-- that commit, as an item
+abbrev pub settling : Option Commit → List Item
+settling None = []
+settling (Some commit) = items.Commit commit ∷ []
+
+abbrev pub settled : State → State
+settled s = settle s.unsettled s
+
+-- the commit stands unsettled
+abbrev pub leave_unsettled : State → Commit → State
+leave_unsettled s commit = record { base = s.base; items = s.items; unsettled = Some commit; nodes = s.nodes }
+
+-- Nodes.
+abbrev pub no_records : Node
+no_records = record { set = empty; took = empty }
+
+abbrev pub taking : Records → Node → Node
+taking more node = record { set = union node.set more; took = union node.took more }
+
+abbrev pub compacted : Node → Node
+compacted node = record { set = last_records node.set; took = node.took }
+
+abbrev pub has_node : State → ℕ → Bool
+has_node s i = is_some (slice_get s.nodes i)
+
+-- the records that a node has
+abbrev pub records_at : State → ℕ → Records
+records_at s i = option_map_or (λ node. node.set) (slice_get s.nodes i) empty
+
+-- the nodes with the i-th one changed
+abbrev pub changed : ℕ → (Node → Node) → List Node → List Node
+changed i f [] = []
+changed zero f (node ∷ nodes) = f node ∷ nodes
+changed (suc i) f (node ∷ nodes) = node ∷ changed i f nodes
+
+abbrev pub with_node : State → ℕ → (Node → Node) → State
+with_node s i f = record { base = s.base; items = s.items; unsettled = s.unsettled; nodes = changed i f s.nodes }
+
+-- the beginning: nothing was published, and no node has a record
+abbrev pub start : Topic → ℕ → State
+start base count = record { base = base; items = []; unsettled = None; nodes = replicate count no_records }

@@ -1,0 +1,17 @@
+//! A topic and the nodes that take from it, over any list of events.
+#![tactic(auto)]
+
+mod cluster;
+mod event;
+mod laws;
+mod node;
+mod world;
+
+pub use event::{Event, Fate, Outcome};
+pub use laws::{
+    events_are_refused_exactly, every_list_of_events_is_lawful, ids_name_one_schema, items_happen,
+    merging_answers_alike, nodes_answer_alike, registered_versions_meet_levels,
+    unsettled_comes_first,
+};
+pub use node::Node;
+pub use world::{RunError, World};

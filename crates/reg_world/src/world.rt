@@ -1,0 +1,154 @@
+// A world: what a list of events leads to.
+ghost use Rattle.std.specs.Prelude.{◌≡◌, ◌↔◌, ◌+◌, ◌++◌, ◌∷◌, [], false, IfOk, IfErr, OnErr, OnOk, length};
+ghost use Rattle.std.specs.FinSet.{from_list};
+ghost use Rattle.reg_set.specs.Compaction.{IsCompactionOf};
+ghost use Rattle.reg_set.specs.LastRecords.{last_records};
+ghost use Rattle.reg_fold.specs.Closed.{is_closed};
+ghost use Rattle.reg_leader.specs.Adoption.{IsAdoptRefusal};
+ghost use Rattle.reg_leader.specs.StayOpen.{IdsNameOneSchema};
+ghost use Rattle.reg_topic.specs.Topic.{registry_of, topic_from};
+ghost use Rattle.reg_world.specs.Core.{HasLawfulLog, HasNodes};
+ghost use Rattle.reg_world.specs.Happens.{Happens, is_allowed};
+ghost use Rattle.reg_world.specs.Headline.{GivesAnswersOfSets, MetLevels};
+ghost use Rattle.reg_world.specs.Runs.{IsStopped, Runs};
+ghost use Rattle.reg_world.specs.State.{start, topic_of};
+ghost use Rattle.reg_world.specs.declared.event.Outcome.TheVariants as Outcome;
+ghost use Rattle.reg_world.specs.declared.world.RunError.TheVariants as RunError;
+
+use crate::cluster::Cluster;
+use crate::event::{Event, Outcome};
+use crate::laws::{
+    events_are_refused_exactly, every_list_of_events_is_lawful, ids_name_one_schema,
+    nodes_answer_alike, registered_versions_meet_levels,
+};
+use reg_leader::{AdoptError, adopt};
+use reg_records::Log;
+use reg_set::records_are_ordered;
+use reg_topic::Topic;
+use std::alloc::{AllocError, Global};
+use std::error::Error;
+use std::fmt;
+use std::marker::Model;
+
+/// A topic with its nodes, after some list of events.
+#[derive(Debug, Drop)]
+pub struct World {
+    cluster: Cluster,
+}
+
+impl Model for World {
+    ghost use Rattle.std.specs.Prelude.{List};
+    ghost use Rattle.reg_world.specs.contracts.cluster.Cluster as clusters;
+    ghost use Rattle.reg_world.specs.Runs.{After};
+    ghost use Rattle.reg_world.specs.State.{State};
+    ghost use Rattle.reg_world.specs.declared.event.Event.{Event};
+
+    ghost Value = { State };
+
+    ghost coded = { clusters.the_row.coded };
+
+    ghost view = { λ w. w.cluster };
+
+    ghost invariant = { λ w. (events : List Event) × After events w.cluster };
+}
+
+/// Why a run of events ended early.
+#[derive(Clone, Copy, Debug, PartialEq, Eq)]
+pub enum RunError {
+    /// Memory was refused, after so many events.
+    OutOfMemory { done: usize },
+}
+
+impl fmt::Display for RunError {
+    ghost use Rattle.std.specs.Prelude.{Some, codes};
+
+    ghost output = { λ error. Some (codes "out of memory") };
+
+    fn fmt<W: fmt::Write>(&self, f: &mut fmt::Formatter<W>) -> fmt::Result {
+        write!(f, "out of memory")
+    }
+}
+
+impl Error for RunError {}
+
+impl World {
+    /// A world over a base, whose nodes have no record. A base that isn't adopted is refused.
+    pub fn start(alloc: Global, nodes: usize, base: &Log) -> Result<World, AdoptError>
+        ensures start { IfOk result (λ w. w ≡ start (topic_from base.now.records.items base.now.next) nodes) }
+        ensures adopted { OnOk result (is_closed (last_records (from_list base.now.records.items)) ≡ false) }
+        ensures refused { IfErr result (IsAdoptRefusal (last_records (from_list base.now.records.items))) }
+    {
+        records_are_ordered();
+        let topic = Topic::of_log(alloc, base)?;
+        adopt(alloc, &topic.log)?;
+        let cluster = Cluster::start(alloc, topic, nodes)?;
+        Ok(World { cluster })
+    }
+
+    /// Does what the event says, where it is allowed. The only error is want of memory; the world
+    /// is then as it was.
+    pub fn step(&mut self, event: &Event) -> Result<Outcome, AllocError>
+        ensures happens { IfOk result (λ outcome. Happens self.old event.now outcome self.new) }
+        ensures not_allowed { IfOk result (λ outcome. (outcome ≡ Outcome.NotAllowed)
+            ↔ (is_allowed self.old event.now ≡ false)) }
+        ensures refused { OnErr result (self.new ≡ self.old) }
+    {
+        events_are_refused_exactly();
+        self.cluster.step(event)
+    }
+
+    /// Does the events in turn. An error leaves the world where the events that were done lead.
+    ///
+    /// Wherever that is, the log is lawful, the kept set is a compaction of it, each node answers as
+    /// the set does of which it took a compaction, an id names one schema, and each registered
+    /// version met its level.
+    pub fn run(&mut self, events: &[Event]) -> Result<Vec<Outcome>, RunError>
+        ensures runs { IfOk result (λ outcomes. Runs self.old events.now outcomes.items self.new) }
+        ensures refused { IfErr result (λ error. IsStopped self.old events.now error self.new) }
+        ensures log { HasLawfulLog self.new }
+        ensures kept { IsCompactionOf (topic_of self.new).kept (topic_of self.new).log }
+        ensures nodes { HasNodes self.new }
+        ensures answers { GivesAnswersOfSets self.new }
+        ensures ids { IdsNameOneSchema (registry_of (topic_of self.new)) }
+        ensures levels { MetLevels self.new }
+    {
+        every_list_of_events_is_lawful();
+        nodes_answer_alike();
+        ids_name_one_schema();
+        registered_versions_meet_levels();
+        let outcomes = self.run_each(events);
+        let _ = &self.cluster;
+        outcomes
+    }
+
+    fn run_each(&mut self, events: &[Event]) -> Result<Vec<Outcome>, RunError>
+        ensures runs { IfOk result (λ outcomes. Runs self.old events.now outcomes.items self.new) }
+        ensures refused { IfErr result (λ error. IsStopped self.old events.now error self.new) }
+    {
+        let mut outcomes = Vec::new(self.cluster.allocator());
+        for event in events {
+            let Ok(outcome) = self.step(event) else {
+                return Err(RunError::OutOfMemory {
+                    done: outcomes.len(),
+                });
+            };
+            match keep(&mut outcomes, outcome) {
+                Ok(()) => {}
+                Err(error) => return Err(error),
+            }
+        }
+        Ok(outcomes)
+    }
+}
+
+/// Adds the outcome of an event that was done.
+fn keep(outcomes: &mut Vec<Outcome>, outcome: Outcome) -> Result<(), RunError>
+    ensures kept { OnOk result (outcomes.new.items ≡ outcomes.old.items ++ outcome ∷ []) }
+    ensures refused { IfErr result (λ error. error ≡ RunError.OutOfMemory (length outcomes.old.items + 1)) }
+{
+    let done = outcomes.len();
+    match outcomes.push(outcome) {
+        Ok(()) => Ok(()),
+        Err(_) => Err(RunError::OutOfMemory { done: done + 1 }),
+    }
+}
