@@ -1,0 +1,81 @@
+-- What the definitions give for some requests.
+use Rattle.std.proofs.Common.{◌≡◌, ◌∷◌, [], List, ℕ, true, false, Some, refl, codes}
+use Rattle.std.specs.Prelude.{Ok, Err}
+use Rattle.httparse.specs.Grammar.{trim_ows}
+use Rattle.std.specs.Str.{is_utf8, chars}
+use lib.Utf8.{encode}
+use Rattle.matchit.proofs.OnLiterals.{matchit_on_literals}
+use Rattle.form_urlencoded.proofs.OnLiterals.{form_urlencoded_on_literals}
+use Rattle.serde_json.proofs.OnLiterals.{serde_json_on_literals}
+use Rattle.reg_fold.specs.declared.version_ref.VersionRef.TheVariants as versions
+use Rattle.reg_leader.specs.declared.command.Command.TheVariants as commands
+use Rattle.reg_lookup.specs.declared.query.Query.TheVariants as queries
+use Rattle.reg_refusals.specs.declared.allow.Allow.TheVariants as allows
+use Rattle.reg_refusals.specs.declared.reason.Reason.TheVariants as reasons
+use Rattle.reg_refusals.specs.declared.refusal.Refusal.TheVariants as refusals
+use Rattle.reg_routes.specs.Router.{path_rows, route_of}
+use Rattle.reg_requests.specs.Asked.{asked_of}
+use Rattle.reg_requests.specs.Body.{body_of}
+use Rattle.reg_requests.specs.Fields.{told_length, asks_to_close, is_accepted}
+use Rattle.reg_requests.specs.declared.asked.Asked.TheVariants as asked
+use Rattle.reg_requests.specs.declared.request.Field.{Field}
+use Rattle.reg_requests.specs.declared.request.Request.{Request}
+
+-- fields
+field : List ℕ → List ℕ → Field
+field name value = record { name = name; value = value }
+
+two_lengths : told_length (field (codes "Content-Length") (codes "2") ∷ field (codes "content-length") (codes "2") ∷ []) ≡ Err refusals.BadRequest
+unfolding field
+two_lengths = refl
+
+a_length_past_the_limit : told_length (field (codes "Content-Length") (codes "1048577") ∷ []) ≡ Err refusals.PayloadTooLarge
+unfolding field
+a_length_past_the_limit = refl
+
+leading_zeros : told_length (field (codes "Content-Length") (codes "0000000000000000007") ∷ []) ≡ Ok (Some 7)
+unfolding field
+leading_zeros = refl
+
+closes_in_a_list : asks_to_close (field (codes "CONNECTION") (codes "keep-alive , Close") ∷ []) ≡ true
+unfolding field trim_ows
+closes_in_a_list = refl
+
+a_type_with_parameters : is_accepted (codes "Application/JSON ; charset=utf-8") ≡ true
+unfolding trim_ows
+a_type_with_parameters = refl
+
+an_empty_type : is_accepted [] ≡ false
+unfolding trim_ows
+an_empty_type = refl
+
+-- requests
+request : List ℕ → List ℕ → List ℕ → Request
+request method target body = record {
+  method = method;
+  target = target;
+  fields = record { name = codes "Content-Length"; value = codes "9" } ∷ [];
+  body = Some body;
+}
+
+a_query : asked_of (request (codes "GET") (codes "/subjects/a%2Fb/versions/latest") []) ≡ asked.Query (queries.Version (codes "a/b") versions.Latest false)
+unfolding asked_of request matchit_on_literals route_of path_rows form_urlencoded_on_literals is_utf8 chars encode
+a_query = refl
+
+a_wrong_version : asked_of (request (codes "GET") (codes "/subjects/s/versions/2147483648") []) ≡ asked.Refused refusals.InvalidVersion false
+unfolding asked_of request matchit_on_literals route_of path_rows form_urlencoded_on_literals is_utf8 chars encode
+a_wrong_version = refl
+
+a_wrong_method : asked_of (request (codes "PUT") (codes "/subjects") []) ≡ asked.Refused (refusals.MethodNotAllowed allows.Get) true
+unfolding asked_of request matchit_on_literals route_of path_rows is_utf8 chars encode
+a_wrong_method = refl
+
+a_registration : asked_of (request (codes "POST") (codes "/subjects/s/versions") (codes "{\"schema\":\"\\\"int\\\"\",\"id\":-1}"))
+    ≡ asked.Command (commands.Register (codes "s") (codes "\"int\""))
+unfolding asked_of request matchit_on_literals route_of path_rows form_urlencoded_on_literals is_utf8 chars encode serde_json_on_literals body_of
+a_registration = refl
+
+a_version_without_id : asked_of (request (codes "POST") (codes "/subjects/s/versions") (codes "{\"schema\":\"x\",\"version\":2}"))
+    ≡ asked.Refused (refusals.NotPermitted reasons.VersionNeedsImport) false
+unfolding asked_of request matchit_on_literals route_of path_rows form_urlencoded_on_literals is_utf8 chars encode serde_json_on_literals body_of
+a_version_without_id = refl

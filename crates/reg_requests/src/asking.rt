@@ -1,0 +1,239 @@
+// The tests of a request, in their order.
+ghost use Rattle.std.specs.Prelude.{◌≡◌, IfOk, option_map};
+ghost use Rattle.serde_json.specs.View.{view};
+ghost use Rattle.reg_requests.specs.Asked.{asked_of, asked_of_target, asked_of_route, asked_of_action, asked_of_parts, asked_of_texts, asked_of_body, asked_of_object, closing, named_version, names_version, object_in, open_refusal, takes_body};
+
+use crate::action::{Given, action_asks, version_of};
+use crate::asked::Asked;
+use crate::body;
+use crate::fields::{has_accepted_types, told_length};
+use crate::request::Request;
+use base_text::Text;
+use http::Method;
+use reg_fold::VersionRef;
+use reg_refusals::Refusal;
+use reg_routes::{Action, Paths, Route, is_path, path_of, query_of, text_part};
+use serde_json::Value;
+use std::alloc::{AllocError, Global};
+
+/// What a request asks, or the refusal of the first test that it fails.
+#[tactic(auto, unfolding(crate::specs::Asked::asked_of))]
+pub(crate) fn asked_of(alloc: Global, paths: &Paths, request: &Request) -> Result<Asked, AllocError>
+    ensures { IfOk result (λ asked. asked ≡ asked_of request.now) }
+{
+    match told_length(request.fields.as_slice()) {
+        Ok(told) => asked_of_target(alloc, paths, request, told),
+        Err(refusal) => Ok(closing(refusal)),
+    }
+}
+
+/// A refusal after which the server closes the connection.
+fn closing(refusal: Refusal) -> Asked
+    ensures { result ≡ closing refusal }
+{
+    Asked::Refused {
+        refusal,
+        closes: true,
+    }
+}
+
+/// A refusal after which the connection stays open.
+fn open_refusal(refusal: Refusal) -> Asked
+    ensures { result ≡ open_refusal refusal }
+{
+    Asked::Refused {
+        refusal,
+        closes: false,
+    }
+}
+
+/// The target is a path, and the registry has it.
+fn asked_of_target(
+    alloc: Global,
+    paths: &Paths,
+    request: &Request,
+    told: Option<u64>,
+) -> Result<Asked, AllocError>
+    ensures { IfOk result (λ asked. asked ≡ asked_of_target request.now told) }
+{
+    let target = request.target.as_str();
+    if !is_path(target) {
+        return Ok(closing(Refusal::BadRequest));
+    }
+    match paths.route_of(path_of(target)) {
+        Some(route) => asked_of_route(alloc, request, told, route),
+        None => Ok(closing(Refusal::NotFound)),
+    }
+}
+
+/// The path offers the method.
+fn asked_of_route(
+    alloc: Global,
+    request: &Request,
+    told: Option<u64>,
+    route: Route,
+) -> Result<Asked, AllocError>
+    ensures { IfOk result (λ asked. asked ≡ asked_of_route request.now told route) }
+{
+    match route.action(request.method.as_str()) {
+        Some(action) => asked_of_action(alloc, request, told, route, action),
+        None => Ok(closing(Refusal::MethodNotAllowed(route.allow()))),
+    }
+}
+
+/// Where the method takes a body, its length is told and its type is accepted.
+fn asked_of_action(
+    alloc: Global,
+    request: &Request,
+    told: Option<u64>,
+    route: Route,
+    action: Action,
+) -> Result<Asked, AllocError>
+    ensures { IfOk result (λ asked. asked ≡ asked_of_action request.now told route action) }
+{
+    if takes_body(&request.method) && told.is_none() {
+        return Ok(closing(Refusal::LengthRequired));
+    }
+    if takes_body(&request.method) && !has_accepted_types(request.fields.as_slice()) {
+        return Ok(closing(Refusal::UnsupportedMediaType));
+    }
+    asked_of_parts(alloc, request, route, action)
+}
+
+fn takes_body(method: &Method) -> bool
+    ensures { result ≡ takes_body method.now }
+{
+    *method == Method::POST || *method == Method::PUT
+}
+
+/// The parts of the path are UTF-8.
+fn asked_of_parts(
+    alloc: Global,
+    request: &Request,
+    route: Route,
+    action: Action,
+) -> Result<Asked, AllocError>
+    ensures { IfOk result (λ asked. asked ≡ asked_of_parts request.now route action) }
+{
+    let path = path_of(request.target.as_str());
+    match text_part(alloc, path, route.subject_place())? {
+        Ok(subject) => match text_part(alloc, path, route.number_place())? {
+            Ok(number) => asked_of_texts(alloc, request, route, action, &subject, &number),
+            Err(refusal) => Ok(closing(refusal)),
+        },
+        Err(refusal) => Ok(closing(refusal)),
+    }
+}
+
+/// The input doesn't end in the body.
+fn asked_of_texts(
+    alloc: Global,
+    request: &Request,
+    route: Route,
+    action: Action,
+    subject: &Option<Text>,
+    number: &Option<Text>,
+) -> Result<Asked, AllocError>
+    ensures { IfOk result (λ asked. asked ≡ asked_of_texts request.now route action subject.now number.now) }
+{
+    match &request.body {
+        Some(body) => {
+            asked_of_body(
+                alloc,
+                request,
+                route,
+                action,
+                subject,
+                number,
+                body.as_slice(),
+            )
+        }
+        None => Ok(closing(Refusal::BadRequest)),
+    }
+}
+
+/// The version is one, and the body is an object.
+fn asked_of_body(
+    alloc: Global,
+    request: &Request,
+    route: Route,
+    action: Action,
+    subject: &Option<Text>,
+    number: &Option<Text>,
+    body: &[u8],
+) -> Result<Asked, AllocError>
+    ensures { IfOk result (λ asked. asked ≡ asked_of_body request.now route action subject.now number.now body.now) }
+{
+    if names_version(route) && named_version(route, number).is_none() {
+        return Ok(open_refusal(Refusal::InvalidVersion));
+    }
+    match object_in(alloc, &request.method, body)? {
+        Some(object) => asked_of_object(alloc, request, route, action, subject, number, &object),
+        None => Ok(closing(Refusal::BadRequest)),
+    }
+}
+
+/// The JSON object that a body is, where the method takes one.
+fn object_in(alloc: Global, method: &Method, body: &[u8]) -> Result<Option<Value>, AllocError>
+    ensures { IfOk result (λ found. option_map view found ≡ object_in method.now body.now) }
+{
+    if takes_body(method) {
+        body::object_in(alloc, body)
+    } else {
+        Ok(Some(Value::Null))
+    }
+}
+
+fn names_version(route: Route) -> bool
+    ensures { result ≡ names_version route }
+{
+    match route {
+        Route::Version | Route::VersionSchema | Route::CheckOne => true,
+        _ => false,
+    }
+}
+
+/// The version that a path names, where its route has one.
+fn named_version(route: Route, number: &Option<Text>) -> Option<VersionRef>
+    ensures { result ≡ named_version route number.now }
+{
+    if !names_version(route) {
+        return None;
+    }
+    match number {
+        Some(text) => version_of(text.as_str()),
+        None => None,
+    }
+}
+
+/// What the members ask of the action, or their refusal.
+fn asked_of_object(
+    alloc: Global,
+    request: &Request,
+    route: Route,
+    action: Action,
+    subject: &Option<Text>,
+    number: &Option<Text>,
+    object: &Value,
+) -> Result<Asked, AllocError>
+    ensures { IfOk result (λ asked. asked ≡ asked_of_object request.now route action subject.now number.now (view object.now)) }
+{
+    let given = Given {
+        alloc,
+        subject: match subject {
+            Some(text) => Some(text.as_str()),
+            None => None,
+        },
+        id: match number {
+            Some(text) => text.as_str(),
+            None => "",
+        },
+        version: named_version(route, number),
+        query: query_of(request.target.as_str()),
+        object,
+    };
+    match action_asks(action, &given)? {
+        Ok(asked) => Ok(asked),
+        Err(refusal) => Ok(open_refusal(refusal)),
+    }
+}

@@ -1,0 +1,47 @@
+// A request, as it was read.
+ghost use Rattle.std.specs.Prelude.{◌≡◌, IfOk};
+ghost use Rattle.reg_requests.specs.Asked.{asked_of};
+
+use crate::asked::Asked;
+use crate::asking::asked_of;
+use base_text::{Listed, Text};
+use http::Method;
+use reg_routes::Paths;
+use std::alloc::{AllocError, Global};
+
+/// A request (RFC 9112) whose head could be read.
+#[derive(Debug, Drop)]
+pub struct Request {
+    pub method: Method,
+    /// As it was sent, with its escapes.
+    pub target: Text,
+    pub fields: Listed<Field>,
+    /// `None` where the input ended in it.
+    pub body: Option<Listed<u8>>,
+}
+
+/// A field of a request's head.
+#[derive(Debug, Drop)]
+pub struct Field {
+    pub name: Listed<u8>,
+    /// The value, without the white space round it.
+    pub value: Listed<u8>,
+}
+
+impl Request {
+    /// What the request asks, or why it is refused: the first test that it fails. The only error is
+    /// want of memory.
+    pub fn route(&self, alloc: Global) -> Result<Asked, AllocError>
+        ensures { IfOk result (λ asked. asked ≡ asked_of self.now) }
+    {
+        let paths = Paths::new(alloc)?;
+        self.route_by(alloc, &paths)
+    }
+
+    /// The same, by a router that was made before.
+    pub fn route_by(&self, alloc: Global, paths: &Paths) -> Result<Asked, AllocError>
+        ensures { IfOk result (λ asked. asked ≡ asked_of self.now) }
+    {
+        asked_of(alloc, paths, self)
+    }
+}

@@ -1,0 +1,24 @@
+use Rattle.std.proofs.Common.{refl}
+use Rattle.matchit.proofs.OnLiterals.{matchit_on_literals}
+use Rattle.reg_routes.specs.Router.{path_rows}
+use Rattle.reg_routes.proofs.paths.router_of_paths.Goals as goal
+
+pub returns : goal.returns
+unfolding matchit_on_literals path_rows
+returns c =
+    rw (
+      c.in_ok-insert-13.ensures.1,
+      c.in_ok-insert-12.ensures.1,
+      c.in_ok-insert-11.ensures.1,
+      c.in_ok-insert-10.ensures.1,
+      c.in_ok-insert-9.ensures.1,
+      c.in_ok-insert-8.ensures.1,
+      c.in_ok-insert-7.ensures.1,
+      c.in_ok-insert-6.ensures.1,
+      c.in_ok-insert-5.ensures.1,
+      c.in_ok-insert-4.ensures.1,
+      c.in_ok-insert-3.ensures.1,
+      c.in_ok-insert-2.ensures.1,
+      c.in_ok-insert.ensures.1,
+      c.new-router.ensures,
+    ) refl

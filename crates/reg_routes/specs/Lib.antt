@@ -1,0 +1,4 @@
+pub mod Query
+pub mod Router
+pub mod Routes
+pub mod Target

@@ -1,0 +1,55 @@
+// Requests out of rows.
+use base_text::{Listed, Text};
+use http::Method;
+use reg_requests::{Field, Request};
+use std::alloc::{AllocError, Global};
+use std::test::Fail;
+
+fn bytes_of(alloc: Global, bytes: &[u8]) -> Result<Listed<u8>, AllocError> {
+    Ok(Listed::from(Vec::from_slice(alloc, bytes)?))
+}
+
+/// The fields of a row, with ` & ` between two; `-` is none.
+pub fn fields_of(alloc: Global, row: &str) -> Result<Listed<Field>, Fail> {
+    let mut fields = Vec::new(alloc);
+    if row != "-" {
+        for field in row.split(" & ") {
+            let (name, value) = field.split_once(": ").ok_or("a field")?;
+            fields.push(Field {
+                name: bytes_of(alloc, name.as_bytes())?,
+                value: bytes_of(alloc, value.as_bytes())?,
+            })?;
+        }
+    }
+    Ok(Listed::from(fields))
+}
+
+static NO_TEXT: &[u8] = b"{\"a\":\"\xff\"}";
+
+// The body of a row: `(end)` where the input ends in it, `(not utf-8)` for bytes that are no text.
+fn body_of(alloc: Global, row: &str) -> Result<Option<Listed<u8>>, AllocError> {
+    if row == "(end)" {
+        return Ok(None);
+    }
+    let bytes = if row == "(not utf-8)" {
+        NO_TEXT
+    } else {
+        row.as_bytes()
+    };
+    Ok(Some(bytes_of(alloc, bytes)?))
+}
+
+/// The request of a row: its method, its target, and its body, where it has one.
+pub fn request_of(alloc: Global, fields: &str, row: &str) -> Result<Request, Fail> {
+    let (method, rest) = row.split_once(" ").ok_or("a method")?;
+    let (target, body) = rest.split_once(" ").unwrap_or((rest, ""));
+    let Ok(method) = Method::from_bytes(alloc, method.as_bytes()) else {
+        return Err(Fail::from("a method"));
+    };
+    Ok(Request {
+        method,
+        target: Text::copy_of(alloc, target)?,
+        fields: fields_of(alloc, fields)?,
+        body: body_of(alloc, body)?,
+    })
+}
