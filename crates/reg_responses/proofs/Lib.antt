@@ -1,0 +1,5 @@
+pub mod Examples
+pub mod HavePhrases
+pub mod Listing
+pub mod Phrases
+pub mod Written

@@ -1,0 +1,10 @@
+use Rattle.std.proofs.Common.{◌≡◌}
+use Rattle.std.specs.Io.KnownBytes.{Keeps}
+use Rattle.reg_records.specs.Device.{bytes_in, faults_of, interruptions_of}
+use Rattle.reg_responses.proofs.writing.flush.Given as goal
+
+-- each turn so far was interrupted
+abbrev pub invariant-loop-i : goal.invariant-loop-i
+invariant-loop-i g l =
+    Keeps (bytes_in g.W.Write.contents l.initial.writer) (bytes_in g.W.Write.contents l.writer)
+    × (faults_of l.writer ≡ faults_of l.initial.writer) × (interruptions_of l.writer ≡ l._i)

@@ -1,0 +1,5 @@
+pub mod Phrases
+pub mod Pieces
+pub mod Reply
+pub mod Response
+pub mod Writing

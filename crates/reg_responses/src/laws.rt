@@ -1,0 +1,9 @@
+// The laws of responses. What is proved here costs nothing at run time.
+ghost use Rattle.reg_responses.specs.Phrases.{AnswersHavePhrases, RefusalsHavePhrases, RepliesHavePhrases};
+
+/// The status of each response has a phrase (RFC 9110, section 15).
+pub fn statuses_have_phrases()
+    ensures refusals { RefusalsHavePhrases }
+    ensures replies { RepliesHavePhrases }
+    ensures answers { AnswersHavePhrases }
+{}

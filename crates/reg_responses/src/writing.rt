@@ -1,0 +1,163 @@
+// Writing texts and responses whole.
+ghost use Rattle.std.specs.Prelude.{◌≡◌, ◌<◌, ◌≤◌, [], ◌++◌, OnErr, IfOk, length, take};
+ghost use Rattle.std.specs.Io.KnownBytes.{Keeps};
+ghost use Rattle.reg_records.specs.Device.{bytes_in, faults_of, interruptions_of};
+ghost use Rattle.reg_responses.specs.Pieces.{pieces_text};
+ghost use Rattle.reg_responses.specs.Response.{head_text, phrase_of, response_text, allow_field, closing_field};
+ghost use Rattle.reg_responses.specs.Writing.{HasWritten, LosesWriter, Writes};
+
+use crate::limits::INTERRUPTION_LIMIT;
+use crate::pieces::{Piece, pieces_len, write_pieces};
+use http::StatusCode;
+use reg_records::Device;
+use reg_refusals::Allow;
+use std::io::{ErrorKind, Write};
+
+/// The writer failed, or was interrupted too often in a row.
+#[derive(Clone, Copy, Debug, PartialEq, Eq)]
+pub struct WriteFault;
+
+/// Writes a response whole, and flushes it. The writer's count of interruptions begins anew.
+#[tactic(auto, unfolding(crate::specs::Response::response_text))]
+pub(crate) fn write_response<W: Write>(
+    writer: &mut Device<W>,
+    status: u16,
+    allow: Option<Allow>,
+    closes: bool,
+    body: &[Piece<'_>],
+) -> Result<(), WriteFault>
+    requires few { length body.now ≤ 8 }
+    ensures { Writes W.contents writer.old writer.new (response_text status allow closes (pieces_text body.now)) result }
+{
+    writer.begin_count();
+    write_head(writer, status, allow, closes, pieces_len(body))?;
+    write_body(writer, body)
+}
+
+/// Writes the bytes whole, and flushes them. The writer's count of interruptions begins anew.
+pub(crate) fn write_whole<W: Write>(writer: &mut Device<W>, bytes: &[u8]) -> Result<(), WriteFault>
+    ensures { Writes W.contents writer.old writer.new bytes.now result }
+{
+    writer.begin_count();
+    write_bytes(writer, bytes)?;
+    flush(writer)
+}
+
+#[tactic(auto, unfolding(crate::specs::Response::head_text))]
+fn write_head<W: Write>(
+    writer: &mut Device<W>,
+    status: u16,
+    allow: Option<Allow>,
+    closes: bool,
+    len: u128,
+) -> Result<(), WriteFault>
+    requires { interruptions_of writer.old ≡ 0 }
+    ensures { Writes W.contents writer.old writer.new (head_text status allow closes len) result }
+{
+    let (allow_name, methods, allow_end) = allow_field(allow);
+    write_pieces(
+        writer,
+        &[
+            Piece::Text("HTTP/1.1 "),
+            Piece::Number(u128::from(status)),
+            Piece::Text(" "),
+            Piece::Text(phrase_of(status)),
+            Piece::Text(
+                "\r\nContent-Type: application/vnd.schemaregistry.v1+json\r\nContent-Length: ",
+            ),
+            Piece::Number(len),
+            Piece::Text("\r\n"),
+            Piece::Text(allow_name),
+            Piece::Text(methods),
+            Piece::Text(allow_end),
+            Piece::Text(closing_field(closes)),
+            Piece::Text("\r\n"),
+        ],
+    )
+}
+
+fn write_body<W: Write>(writer: &mut Device<W>, body: &[Piece<'_>]) -> Result<(), WriteFault>
+    requires { interruptions_of writer.old ≡ 0 }
+    ensures { Writes W.contents writer.old writer.new (pieces_text body.now) result }
+{
+    write_pieces(writer, body)?;
+    flush(writer)
+}
+
+pub(crate) fn write_bytes<W: Write>(writer: &mut Device<W>, bytes: &[u8]) -> Result<(), WriteFault>
+    requires { interruptions_of writer.old ≡ 0 }
+    ensures { Writes W.contents writer.old writer.new bytes.now result }
+{
+    let mut at = 0;
+    while at < bytes.len() {
+        at += write_some(writer, &bytes[at..])?;
+    }
+    Ok(())
+}
+
+/// Writes at least one of the bytes, and says how many.
+fn write_some<W: Write>(writer: &mut Device<W>, bytes: &[u8]) -> Result<usize, WriteFault>
+    requires some { 0 < length bytes.now }
+    requires interruptions { interruptions_of writer.old ≡ 0 }
+    ensures some { IfOk result (λ n. (0 < n) × (n ≤ length bytes.now)) }
+    ensures written { IfOk result (λ n. HasWritten W.contents writer.old writer.new (take n bytes.now)) }
+    ensures lost { OnErr result (LosesWriter writer.old writer.new
+        × Keeps (bytes_in W.contents writer.old) (bytes_in W.contents writer.new)) }
+{
+    for _i in 0..INTERRUPTION_LIMIT {
+        match writer.write(bytes) {
+            Ok(0) => return Err(WriteFault),
+            Ok(n) => return Ok(n),
+            Err(e) => {
+                if e.kind() != ErrorKind::Interrupted {
+                    return Err(WriteFault);
+                }
+            }
+        }
+    }
+    Err(WriteFault)
+}
+
+fn flush<W: Write>(writer: &mut Device<W>) -> Result<(), WriteFault>
+    requires { interruptions_of writer.old ≡ 0 }
+    ensures { Writes W.contents writer.old writer.new [] result }
+{
+    for _i in 0..INTERRUPTION_LIMIT {
+        match writer.flush() {
+            Ok(()) => return Ok(()),
+            Err(e) => {
+                if e.kind() != ErrorKind::Interrupted {
+                    return Err(WriteFault);
+                }
+            }
+        }
+    }
+    Err(WriteFault)
+}
+
+/// The phrase of a status (RFC 9110, section 15); empty for a number that no status has.
+#[tactic(auto, unfolding(crate::specs::Response::phrase_of))]
+fn phrase_of(status: u16) -> &'static str
+    ensures { result.now ≡ phrase_of status }
+{
+    match StatusCode::from_u16(status) {
+        Ok(code) => code.canonical_reason().unwrap_or(""),
+        Err(_) => "",
+    }
+}
+
+/// The field `Allow`, in three parts.
+fn allow_field(allow: Option<Allow>) -> (&'static str, &'static str, &'static str)
+    ensures { result.0.now ++ (result.1.now ++ result.2.now) ≡ allow_field allow }
+{
+    match allow {
+        None => ("", "", ""),
+        Some(allow) => ("Allow: ", allow.as_str(), "\r\n"),
+    }
+}
+
+fn closing_field(closes: bool) -> &'static str
+    ensures { result.now ≡ closing_field closes }
+{
+    if closes { "Connection: close\r\n" } else { "" }
+}
