@@ -1,0 +1,151 @@
+-- What was read and done is the response to the first request of a text.
+use Rattle.std.proofs.Common.{◌≡◌, ◌⊎◌, List, [], ℕ, Bool, true, false, Some, None, IfSome, refl, sym, ap, subst, inl, inr}
+use Rattle.std.specs.Prelude.{◌||◌, IsOk, Ok, Err, Option, Result}
+use Rattle.std.specs.Io.KnownBytes.{Appends}
+use Rattle.std.specs.declared.alloc.AllocError.{AllocError}
+use Rattle.httparse.specs.Grammar.{RequestHead}
+use Rattle.reg_leader.specs.declared.command.Command.{Command}
+use Rattle.reg_leader.specs.declared.reply.Reply.{Reply}
+use Rattle.reg_lookup.specs.declared.answered.Answer.{Answer}
+use Rattle.reg_lookup.specs.declared.query.Query.{Query}
+use Rattle.reg_refusals.specs.declared.refusal.Refusal.{Refusal}
+use Rattle.reg_requests.specs.Asked.{asked_of}
+use Rattle.reg_requests.specs.Fields.{told_length}
+use Rattle.reg_requests.specs.declared.asked.Asked.{Asked}
+use Rattle.reg_requests.specs.declared.asked.Asked.TheVariants as asked
+use Rattle.reg_requests.specs.declared.request.Request.{Request}
+use Rattle.reg_responses.specs.Response.{refusal_text}
+use Rattle.reg_responses.specs.Writing.{AppendsFront}
+use Rattle.reg_http.specs.Head.{front_of, head, IsHead}
+use Rattle.reg_http.specs.Reading.{GetsFrom, IsRefusedAt}
+use Rattle.reg_http.specs.Requests.{after_body, fields_of, request_of, wants_close}
+use Rattle.reg_http.specs.Serve.{AnswersFirst, AnswersFront, AnswersHead, Does, LacksMemory, left_if}
+use Rattle.reg_http.specs.ServeSteps.{Attends, Did, Steps, done_closes, done_text, next_if}
+use Rattle.reg_http.specs.declared.attending.Attended.TheVariants as attended
+use Rattle.reg_http.specs.declared.doing.Done.{Done}
+use Rattle.reg_http.specs.declared.doing.Done.TheVariants as dones
+use Rattle.reg_http.specs.declared.reading.Got.{Got}
+use Rattle.reg_http.specs.declared.reading.Got.TheVariants as gots
+
+or-true : (b : Bool) → (b || true) ≡ true
+or-true true = refl
+or-true false = refl
+
+-- a request whose length is refused is refused so
+asked-refused : (r : Request) (refusal : Refusal) → told_length r.fields ≡ Err refusal → asked_of r ≡ asked.Refused refusal true
+unfolding asked_of
+asked-refused r refusal told = rw told refl
+
+module _ {D : Type 0} (asks : D → Query → Result Answer AllocError → D → Type 0) (commands : D → Command → Reply → D → Type 0) where
+  -- what was done is the response to what was asked
+  did-answers : (old new : D) (h : RequestHead) (a : Asked) (done : Done) → IsOk (told_length (fields_of h)) → Did asks commands old a new done
+      → Does asks commands old a (wants_close h) (done_text (wants_close h) done) (done_closes (wants_close h) done) new
+      ⊎ LacksMemory asks commands old h (done_text (wants_close h) done) (done_closes (wants_close h) done) new
+  did-answers old new h a (dones.Answered answer) ok (query, is, did) =
+      inl (subst (λ b. Does asks commands old b (wants_close h) (done_text (wants_close h) (dones.Answered answer)) (wants_close h) new) (sym is)
+      (Ok answer, did, refl, refl))
+  did-answers old new h a (dones.Replied reply) ok (command, is, did) =
+      inl (subst (λ b. Does asks commands old b (wants_close h) (done_text (wants_close h) (dones.Replied reply)) (wants_close h) new) (sym is)
+      (reply, did, refl, refl))
+  did-answers old new h a (dones.Refused refusal ends) ok (is, same) =
+      inl (subst (λ b. Does asks commands old b (wants_close h) (refusal_text (wants_close h || ends) refusal) (wants_close h || ends) new) (sym is)
+      (same, refl, refl))
+  did-answers old new h a dones.NoMemory ok did = elim did [
+    | inl p ↦ inl (subst (λ b. Does asks commands old b (wants_close h) (done_text (wants_close h) dones.NoMemory) (wants_close h) new) (sym p.2)
+        (Err p.1, p.3, refl, refl))
+    | inr same ↦ inr (ok, refl, same, refl)
+  ]
+
+  -- the head at the front and what was done of its request
+  head-answers : (old new : D) (text bytes : List ℕ) (h : RequestHead) (after : List ℕ) (wants : Bool) (out : List ℕ) (left : Option (List ℕ))
+      → front_of text ≡ head bytes after → IsHead bytes h
+      → AnswersHead asks commands old h after out new left → AnswersFirst asks commands old (Some text) out new left
+  head-answers old new text bytes h after wants out left front is answers =
+      subst (λ f. AnswersFront asks commands old f out new left) (sym front) (inl (h, is, answers))
+
+  attends-request : (old new : D) (text : List ℕ) (left : Option (List ℕ)) (r : Request) (wants : Bool) (done : Done)
+      → GetsFrom text left (gots.Request r wants) → Did asks commands old (asked_of r) new done
+      → Attends asks commands old text left new (attended.Done done wants)
+  attends-request old new text left r wants done (bytes, h, after, (front, is, ok, rest), same, wanted) did =
+      let answers = did-answers old new h (asked_of (request_of h after)) done ok (subst (λ q. Did asks commands old (asked_of q) new done) same did) in (
+        after_body h after,
+        λ _. rest,
+        subst (λ w. AnswersFirst asks commands old (Some text) (done_text w done) new (left_if (done_closes w done) (after_body h after))) (sym wanted)
+            (head-answers old new text bytes h after wants (done_text (wants_close h) done) (left_if (done_closes (wants_close h) done) (after_body h after)) front is
+            (done_closes (wants_close h) done, refl, answers)),
+      )
+
+  attends-no_memory : (old : D) (text : List ℕ) (left : Option (List ℕ)) (wants : Bool)
+      → GetsFrom text left (gots.NoMemory wants) → Attends asks commands old text left old (attended.Done dones.NoMemory wants)
+  attends-no_memory old text left wants (bytes, h, after, (front, is, ok, rest), wanted) = (
+    after_body h after,
+    λ _. rest,
+    head-answers old old text bytes h after wants (done_text wants dones.NoMemory) (left_if wants (after_body h after)) front is
+        (wants, refl, inr (ok, wanted, refl, refl)),
+  )
+
+  attends-refused : (old : D) (text : List ℕ) (left : Option (List ℕ)) (refusal : Refusal)
+      → IsRefusedAt text refusal → Attends asks commands old text left old (attended.Done (dones.Refused refusal true) true)
+  attends-refused old text left refusal refused = elim refused [
+    | inl front ↦ ([], λ e. absurd (cc), subst (λ f. AnswersFront asks commands old f (refusal_text true refusal) old None) (sym front) (refl, refl, refl))
+    | inr p ↦ (
+      [],
+      λ e. absurd (cc),
+      subst (λ f. AnswersFront asks commands old f (refusal_text true refusal) old None) (sym p.2) (elim p.3 [
+        | inl q ↦ inr (q.0, (refl, ap (λ r. refusal_text true r) q.1, refl))
+        | inr q ↦ inl (
+          q.0,
+          q.1,
+          (
+            true,
+            refl,
+            inl (subst (λ a. Does asks commands old a (wants_close q.0) (refusal_text true refusal) true old)
+                (sym (asked-refused (request_of q.0 p.1) refusal q.2))
+                (refl, ap (λ c. refusal_text c refusal) (sym (or-true (wants_close q.0))), sym (or-true (wants_close q.0)))),
+          ),
+        )
+      ]),
+    )
+  ]
+
+  -- the same, where the text is known
+  pub attended-request : (old new : D) (input left : Option (List ℕ)) (got : Got) (r : Request) (wants : Bool) (done : Done) → got ≡ gots.Request r wants
+      → IfSome input (λ text. GetsFrom text left got) → Did asks commands old (asked_of r) new done
+      → IfSome input (λ text. Attends asks commands old text left new (attended.Done done wants))
+  attended-request old new None left got r wants done is gets did = tt
+  attended-request old new (Some text) left got r wants done is gets did =
+      attends-request old new text left r wants done (subst (λ g. GetsFrom text left g) is gets) did
+
+  pub attended-refused : (old : D) (input left : Option (List ℕ)) (got : Got) (refusal : Refusal) → got ≡ gots.Refused refusal
+      → IfSome input (λ text. GetsFrom text left got)
+      → IfSome input (λ text. Attends asks commands old text left old (attended.Done (dones.Refused refusal true) true))
+  attended-refused old None left got refusal is gets = tt
+  attended-refused old (Some text) left got refusal is gets = attends-refused old text left refusal (subst (λ g. GetsFrom text left g) is gets)
+
+  pub attended-no_memory : (old : D) (input left : Option (List ℕ)) (got : Got) (wants : Bool) → got ≡ gots.NoMemory wants
+      → IfSome input (λ text. GetsFrom text left got)
+      → IfSome input (λ text. Attends asks commands old text left old (attended.Done dones.NoMemory wants))
+  attended-no_memory old None left got wants is gets = tt
+  attended-no_memory old (Some text) left got wants is gets = attends-no_memory old text left wants (subst (λ g. GetsFrom text left g) is gets)
+
+  -- the response was written whole
+  steps-if : (old new : D) (text before_rest : List ℕ) (before after left : Option (List ℕ)) (out : List ℕ) (closes : Bool)
+      → (closes ≡ false → left ≡ Some before_rest) → AnswersFirst asks commands old (Some text) out new (left_if closes before_rest)
+      → Appends before after out → Steps asks commands old text before after left new (next_if closes)
+  steps-if old new text rest before after left out true goes first written = (out, first, written)
+  steps-if old new text rest before after left out false goes first written = (out, rest, goes refl, first, written)
+
+  pub steps-done : (old new : D) (input before after left : Option (List ℕ)) (done : Done) (wants : Bool)
+      → IfSome input (λ text. Attends asks commands old text left new (attended.Done done wants)) → Appends before after (done_text wants done)
+      → IfSome input (λ text. Steps asks commands old text before after left new (next_if (done_closes wants done)))
+  steps-done old new None before after left done wants done_as written = tt
+  steps-done old new (Some text) before after left done wants (rest, goes, first) written =
+      steps-if old new text rest before after left (done_text wants done) (done_closes wants done) goes first written
+
+  -- a front of the response was written
+  pub stops-done : (old new : D) (input before after left : Option (List ℕ)) (done : Done) (wants : Bool)
+      → IfSome input (λ text. Attends asks commands old text left new (attended.Done done wants)) → AppendsFront before after (done_text wants done)
+      → IfSome input (λ text. (out : List ℕ) × (rest : Option (List ℕ)) × AnswersFirst asks commands old (Some text) out new rest × AppendsFront before after out)
+  stops-done old new None before after left done wants done_as front = tt
+  stops-done old new (Some text) before after left done wants (rest, goes, first) front =
+      (done_text wants done, left_if (done_closes wants done) rest, first, front)

@@ -1,0 +1,67 @@
+// Reading the next request, and doing what it asks.
+ghost use Rattle.std.specs.Prelude.{◌≡◌, ◌≤◌, IfOk, IfSome, OnErr, OnOk};
+ghost use Rattle.reg_records.specs.Device.{bytes_in, faults_of, reads_of};
+ghost use Rattle.reg_http.specs.Serve.{TakesShort};
+ghost use Rattle.reg_http.specs.ServeSteps.{Attends};
+ghost use Rattle.reg_http.specs.Taking.{CountsReads, LosesReader};
+
+use crate::desk::Desk;
+use crate::doing::{Done, do_request};
+use crate::limits::REQUEST_READS;
+use crate::reading::{Got, read_request};
+use crate::taking::ReadFault;
+use reg_records::Device;
+use reg_requests::Paths;
+use std::alloc::Global;
+use std::io::Read;
+
+/// What became of the next request.
+#[derive(Debug, Drop)]
+pub(crate) enum Attended {
+    /// There was none.
+    Over,
+    /// It is done; the client wants the connection closed after it or not.
+    Done { done: Done, wants_close: bool },
+}
+
+/// Reads the next request, and does what it asks.
+pub(crate) fn attend<R: Read, D: Desk>(
+    alloc: Global,
+    paths: &mut Option<Paths>,
+    reader: &mut Device<R>,
+    desk: &mut D,
+) -> Result<Attended, ReadFault>
+    requires begun { reads_of reader.old ≤ REQUEST_READS }
+    ensures attended { IfOk result (λ a. IfSome (bytes_in R.remaining reader.old) (λ text.
+        Attends D.asks D.commands desk.old text (bytes_in R.remaining reader.new) desk.new a)) }
+    ensures faults { OnOk result (faults_of reader.new ≡ faults_of reader.old) }
+    ensures reads { CountsReads reader.old reader.new }
+    ensures lost { OnErr result (LosesReader reader.old reader.new) }
+    ensures short { OnErr result (IfSome (bytes_in R.remaining reader.old) (λ text. TakesShort text (bytes_in R.remaining reader.new))) }
+    ensures idle { OnErr result (desk.new ≡ desk.old) }
+{
+    match read_request(alloc, reader) {
+        Ok(Got::Over) => Ok(Attended::Over),
+        Ok(Got::Refused(refusal)) => Ok(Attended::Done {
+            done: Done::Refused {
+                refusal,
+                closes: true,
+            },
+            wants_close: true,
+        }),
+        Ok(
+            Got::Request {
+                request,
+                wants_close,
+            },
+        ) => Ok(Attended::Done {
+            done: do_request(alloc, paths, desk, &request),
+            wants_close,
+        }),
+        Ok(Got::NoMemory { wants_close }) => Ok(Attended::Done {
+            done: Done::NoMemory,
+            wants_close,
+        }),
+        Err(fault) => Err(fault),
+    }
+}

@@ -1,0 +1,89 @@
+// Doing what a request asks, and writing the response to it.
+ghost use Rattle.std.specs.Prelude.{◌≡◌, IfOk};
+ghost use Rattle.reg_requests.specs.Asked.{asked_of};
+ghost use Rattle.reg_responses.specs.Writing.{Writes};
+ghost use Rattle.reg_http.specs.ServeSteps.{Did, done_closes, done_text};
+
+use crate::desk::Desk;
+use reg_leader::Reply;
+use reg_lookup::Answer;
+use reg_records::Device;
+use reg_refusals::Refusal;
+use reg_requests::{Asked, Paths, Request};
+use reg_responses::{WriteFault, write_answer, write_no_memory, write_refusal, write_reply};
+use std::alloc::{AllocError, Global};
+use std::io::Write;
+
+/// What was done of a request.
+#[derive(Debug, Drop)]
+pub(crate) enum Done {
+    Answered(Answer),
+    Replied(Reply),
+    /// Whether the server closes the connection because of it.
+    Refused { refusal: Refusal, closes: bool },
+    /// Memory was refused.
+    NoMemory,
+}
+
+/// Does what the request asks.
+pub(crate) fn do_request<D: Desk>(
+    alloc: Global,
+    paths: &mut Option<Paths>,
+    desk: &mut D,
+    request: &Request,
+) -> Done
+    ensures { Did D.asks D.commands desk.old (asked_of request.now) desk.new result }
+{
+    match asked_by(alloc, paths, request) {
+        Ok(Asked::Query(query)) => match desk.ask(alloc, &query) {
+            Ok(answer) => Done::Answered(answer),
+            Err(_) => Done::NoMemory,
+        },
+        Ok(Asked::Command(command)) => Done::Replied(desk.command(&command)),
+        Ok(Asked::Refused { refusal, closes }) => Done::Refused { refusal, closes },
+        Err(_) => Done::NoMemory,
+    }
+}
+
+/// What the request asks, by paths that are made where there are none, and kept.
+fn asked_by(
+    alloc: Global,
+    paths: &mut Option<Paths>,
+    request: &Request,
+) -> Result<Asked, AllocError>
+    ensures { IfOk result (λ asked. asked ≡ asked_of request.now) }
+{
+    let kept = match paths.take() {
+        Some(kept) => kept,
+        None => Paths::new(alloc)?,
+    };
+    let asked = request.route_by(alloc, &kept);
+    *paths = Some(kept);
+    asked
+}
+
+/// Writes the response to what was done, where the client wants the connection closed or not.
+pub(crate) fn write_done<W: Write>(
+    writer: &mut Device<W>,
+    done: &Done,
+    wants_close: bool,
+) -> Result<(), WriteFault>
+    ensures { Writes W.contents writer.old writer.new (done_text wants_close done.now) result }
+{
+    match done {
+        Done::Answered(answer) => write_answer(writer, answer, wants_close),
+        Done::Replied(reply) => write_reply(writer, reply, wants_close),
+        Done::Refused { refusal, closes } => write_refusal(writer, refusal, wants_close || *closes),
+        Done::NoMemory => write_no_memory(writer, wants_close),
+    }
+}
+
+/// Whether the server closes the connection after that response.
+pub(crate) fn closes_after(done: &Done, wants_close: bool) -> bool
+    ensures { result ≡ done_closes wants_close done.now }
+{
+    match done {
+        Done::Refused { refusal: _, closes } => wants_close || *closes,
+        Done::Answered(_) | Done::Replied(_) | Done::NoMemory => wants_close,
+    }
+}

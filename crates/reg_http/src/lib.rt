@@ -1,0 +1,22 @@
+//! The HTTP front: requests as a reader gives them, answered one after the other at a desk.
+#![tactic(auto)]
+
+mod attending;
+mod body_reading;
+mod desk;
+mod doing;
+mod head;
+mod limits;
+mod parsing;
+mod reading;
+mod serving;
+mod spans;
+mod taking;
+
+pub use desk::Desk;
+pub use limits::{
+    HEAD_FIELDS, HEAD_LIMIT, HEAD_LINES, REQUEST_READS, REQUESTS_LIMIT, limits_are_as_written,
+};
+pub use reg_requests::{Asked, Request};
+pub use reg_responses::reply_answer;
+pub use serving::{ServeError, Served, serve};

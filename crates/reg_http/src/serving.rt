@@ -1,0 +1,143 @@
+// The responses to the requests that a reader gives.
+ghost use Rattle.std.specs.Prelude.{◌≡◌, ◌≤◌, ◌+◌, ◌*◌, ℕ, List, IfOk, IfErr, IfSome, OnOk};
+ghost use Rattle.std.specs.Io.KnownBytes.{Appends};
+ghost use Rattle.reg_records.specs.Device.{all_reads_of, bytes_in, faults_of, interruptions_of, reads_of};
+ghost use Rattle.reg_responses.specs.declared.limits.TheConstants.{INTERRUPTION_LIMIT};
+ghost use Rattle.reg_http.specs.Serve.{IsOutput, IsServeRefusal};
+ghost use Rattle.reg_http.specs.ServeSteps.{IsStepRefusal, Steps, next_if};
+
+use crate::attending::{Attended, attend};
+use crate::desk::Desk;
+use crate::doing::{closes_after, write_done};
+use crate::limits::{REQUEST_READS, REQUESTS_LIMIT};
+use reg_records::Device;
+use reg_requests::Paths;
+use std::alloc::Global;
+use std::io::{BufRead, Write};
+
+/// What a call of `serve` did.
+#[derive(Clone, Copy, Debug, PartialEq, Eq)]
+pub struct Served {
+    /// How many responses were written.
+    pub requests: u64,
+}
+
+/// Why a call of `serve` ended before its end.
+#[derive(Clone, Copy, Debug, PartialEq, Eq)]
+pub enum ServeError {
+    /// The reader failed, or was read as often as may be for one request. Each response before is
+    /// written whole.
+    ReadFault,
+    /// The writer failed, or was interrupted too often in a row. Each response before is written whole,
+    /// and a front of the last.
+    WriteFault,
+}
+
+/// Answers the requests that `reader` gives, one after the other, up to a response that closes the
+/// connection, the end of the input, or as many as one call may answer.
+///
+/// Where memory is refused the response says so, and the next request is answered. The reads are
+/// counted anew for each request, and the writer's interruptions for each response.
+pub fn serve<R: BufRead, W: Write, D: Desk>(
+    alloc: Global,
+    reader: &mut Device<R>,
+    writer: &mut Device<W>,
+    desk: &mut D,
+) -> Result<Served, ServeError>
+    ensures written { IfOk result (λ served. IfSome (bytes_in R.remaining reader.old) (λ text. (out : List ℕ)
+        × IsOutput D.asks D.commands desk.old text served.requests out desk.new
+        × Appends (bytes_in W.contents writer.old) (bytes_in W.contents writer.new) out)) }
+    ensures faults { OnOk result ((faults_of reader.new ≡ faults_of reader.old) × (faults_of writer.new ≡ faults_of writer.old)) }
+    ensures refused { IfErr result (λ e. IsServeRefusal D.asks D.commands reader.old reader.new writer.old writer.new
+        (bytes_in R.remaining reader.old) (bytes_in R.remaining reader.new)
+        (bytes_in W.contents writer.old) (bytes_in W.contents writer.new) desk.old desk.new e) }
+    ensures reads { (reads_of reader.new ≤ REQUEST_READS)
+        × (all_reads_of reader.new ≤ all_reads_of reader.old + REQUESTS_LIMIT * REQUEST_READS) }
+    ensures interruptions { interruptions_of writer.new ≤ INTERRUPTION_LIMIT }
+{
+    let mut paths = None;
+    writer.begin_count();
+    for requests in 0..REQUESTS_LIMIT {
+        match answer_next(alloc, &mut paths, reader, writer, desk) {
+            Ok(Next::More) => {}
+            Ok(Next::Closed) => {
+                return Ok(Served {
+                    requests: requests + 1,
+                });
+            }
+            Ok(Next::Over) => return Ok(Served { requests }),
+            Err(e) => return Err(e),
+        }
+    }
+    Ok(Served {
+        requests: REQUESTS_LIMIT,
+    })
+}
+
+/// What comes after a request.
+#[derive(Clone, Copy)]
+pub(crate) enum Next {
+    /// There was none.
+    Over,
+    /// It was answered, and the connection is closed.
+    Closed,
+    /// It was answered, and more may come.
+    More,
+}
+
+/// Answers the next request, if there is one. The count of reads begins anew.
+fn answer_next<R: BufRead, W: Write, D: Desk>(
+    alloc: Global,
+    paths: &mut Option<Paths>,
+    reader: &mut Device<R>,
+    writer: &mut Device<W>,
+    desk: &mut D,
+) -> Result<Next, ServeError>
+    requires few { interruptions_of writer.old ≤ INTERRUPTION_LIMIT }
+    ensures step { IfOk result (λ next. IfSome (bytes_in R.remaining reader.old) (λ text. Steps D.asks D.commands desk.old text
+        (bytes_in W.contents writer.old) (bytes_in W.contents writer.new) (bytes_in R.remaining reader.new) desk.new next)) }
+    ensures faults { OnOk result ((faults_of reader.new ≡ faults_of reader.old) × (faults_of writer.new ≡ faults_of writer.old)) }
+    ensures refused { IfErr result (λ e. IsStepRefusal D.asks D.commands reader.old reader.new writer.old writer.new
+        (bytes_in R.remaining reader.old) (bytes_in R.remaining reader.new)
+        (bytes_in W.contents writer.old) (bytes_in W.contents writer.new) desk.old desk.new e) }
+    ensures reads { (reads_of reader.new ≤ REQUEST_READS) × (all_reads_of reader.new ≤ all_reads_of reader.old + REQUEST_READS) }
+    ensures interruptions { interruptions_of writer.new ≤ INTERRUPTION_LIMIT }
+{
+    reader.begin_count();
+    answer_counted(alloc, paths, reader, writer, desk)
+}
+
+/// The same, where no read for the request is counted yet.
+fn answer_counted<R: BufRead, W: Write, D: Desk>(
+    alloc: Global,
+    paths: &mut Option<Paths>,
+    reader: &mut Device<R>,
+    writer: &mut Device<W>,
+    desk: &mut D,
+) -> Result<Next, ServeError>
+    requires begun { reads_of reader.old ≡ 0 }
+    requires few { interruptions_of writer.old ≤ INTERRUPTION_LIMIT }
+    ensures step { IfOk result (λ next. IfSome (bytes_in R.remaining reader.old) (λ text. Steps D.asks D.commands desk.old text
+        (bytes_in W.contents writer.old) (bytes_in W.contents writer.new) (bytes_in R.remaining reader.new) desk.new next)) }
+    ensures faults { OnOk result ((faults_of reader.new ≡ faults_of reader.old) × (faults_of writer.new ≡ faults_of writer.old)) }
+    ensures refused { IfErr result (λ e. IsStepRefusal D.asks D.commands reader.old reader.new writer.old writer.new
+        (bytes_in R.remaining reader.old) (bytes_in R.remaining reader.new)
+        (bytes_in W.contents writer.old) (bytes_in W.contents writer.new) desk.old desk.new e) }
+    ensures reads { (reads_of reader.new ≤ REQUEST_READS) × (all_reads_of reader.new ≤ all_reads_of reader.old + REQUEST_READS) }
+    ensures interruptions { interruptions_of writer.new ≤ INTERRUPTION_LIMIT }
+{
+    match attend(alloc, paths, reader, desk) {
+        Ok(Attended::Over) => Ok(Next::Over),
+        Ok(Attended::Done { done, wants_close }) => match write_done(writer, &done, wants_close) {
+            Ok(()) => Ok(next_if(closes_after(&done, wants_close))),
+            Err(_) => Err(ServeError::WriteFault),
+        },
+        Err(_) => Err(ServeError::ReadFault),
+    }
+}
+
+fn next_if(closes: bool) -> Next
+    ensures { result ≡ next_if closes }
+{
+    if closes { Next::Closed } else { Next::More }
+}
