@@ -1,50 +1,68 @@
--- What a fold writes and counts, by the log that it read and the head of what stands after it.
-use Rattle.std.proofs.Common.{◌≡◌, ℕ, zero, suc, List, length, min, refl, sym, ap, subst, ◌∙◌, arith, length-take, Option, None, Some, IfSome, nat_lt, if◌then◌else◌}
-use Rattle.std.specs.Prelude.{Ok}
-use Rattle.std.proofs.lemmas.Bool.{lt-ltb}
-use Rattle.std.specs.FinSet.{from_list}
-use Rattle.reg_records.specs.Log.{LogText, log_of, IsLogOf}
-use Rattle.reg_records.specs.declared.log.Log.{Log}
-use Rattle.reg_set.specs.LastRecords.{last_records}
-use Rattle.reg_set.specs.Records.{Records}
-use Rattle.registryd.specs.Answer.{IsOutput}
-use Rattle.registryd.specs.Fold.{IsOutputFor, CountsFold}
-use Rattle.registryd.specs.Request.{head_bytes}
-use Rattle.registryd.specs.declared.fold.Folded.{Folded}
-use Rattle.registryd.specs.declared.limits.TheConstants.{HEAD_LIMIT}
+-- What a fold writes, and why it ends, by its log and by how its requests were served.
+use Rattle.std.proofs.Common.{◌≡◌, ◌⊎◌, inl, inr, ℕ, List, Option, None, Some, IfSome, refl, sym, ap, subst, ◌∙◌}
+use Rattle.std.specs.Prelude.{Ok, count_by, option_map}
+use Rattle.std.specs.Io.KnownBytes.{Appends}
+use Rattle.std.specs.Result.{result_ok}
+use Rattle.reg_http.specs.Serve.{IsOutput, IsServeRefusal, StopsBetween, StopsIn}
+use Rattle.reg_http.specs.declared.limits.TheConstants.{REQUEST_READS}
+use Rattle.reg_http.specs.declared.serving.ServeError.{ServeError}
+use Rattle.reg_http.specs.declared.serving.ServeError.TheVariants as serving
+use Rattle.reg_records.specs.Device.{counted, faults_of, reads_of}
+use Rattle.reg_records.specs.Log.{LogText, is_foreign, log_of}
+use Rattle.reg_records.specs.declared.device.Device.{Device}
+use Rattle.registryd.specs.Desk.{desk_asks, desk_commands}
+use Rattle.registryd.specs.Fold.{EndsServing, Folds, IsDeskOver, IsOpened, ended_by, rest_of}
+use Rattle.registryd.specs.declared.desk.FoldDesk.{FoldDesk}
+use Rattle.registryd.specs.declared.fold.FoldError.{FoldError}
 
--- the log was read, and what stands after it is left
-abbrev pub HasRead : Option (List ℕ) → Option (List ℕ) → Log → Type 0
-HasRead input rest log = IfSome input (λ text. (found : LogText) × (log_of text ≡ Ok found) × IsLogOf found.reads log × (rest ≡ Some found.rest))
+served_after : (t : List ℕ) (log : LogText) (before written : Option (List ℕ)) (foreign requests : ℕ) (desk after : FoldDesk)
+    → log_of t ≡ Ok log → foreign ≡ count_by is_foreign log.reads → IsDeskOver log desk
+    → ((out : List ℕ) × IsOutput desk_asks desk_commands desk log.rest requests out after × Appends before written out)
+    → (out : List ℕ) × Folds t (record { foreign = foreign; requests = requests }) out × Appends before written out
+served_after t log before written foreign requests desk after reads counts over (out, outputs, appends) = (out, (log, reads, counts, desk, over, after, outputs), appends)
 
-abbrev pub IsHeadBytes : Option (List ℕ) → List ℕ → Type 0
-IsHeadBytes rest head = IfSome rest (λ text. head ≡ head_bytes text)
+pub served_written : (input left before written : Option (List ℕ)) (foreign requests : ℕ) (desk after : FoldDesk)
+    → IfSome input (λ t. IsOpened t left foreign desk)
+    → IfSome left (λ text. (out : List ℕ) × IsOutput desk_asks desk_commands desk text requests out after × Appends before written out)
+    → IfSome input (λ t. (out : List ℕ) × Folds t (record { foreign = foreign; requests = requests }) out × Appends before written out)
+served_written None left before written foreign requests desk after opened served = tt
+served_written (Some t) left before written foreign requests desk after (log, reads, counts, over, rest) served =
+    served_after t log before written foreign requests desk after reads counts over
+    (subst (λ l. IfSome l (λ text. (out : List ℕ) × IsOutput desk_asks desk_commands desk text requests out after × Appends before written out)) rest served)
 
-pub output_for : (input rest : Option (List ℕ)) (log : Log) (rs : Records) (head out : List ℕ) → HasRead input rest log
-    → rs ≡ last_records (from_list log.records.items) → IsHeadBytes rest head
-    → ((text : List ℕ) → head ≡ head_bytes text → IsOutput rs text out) → IfSome input (λ text. IsOutputFor text out)
-output_for None rest log rs head out read set is answers = tt
-output_for (Some text) rest log rs head out (found, reads, holds, left) set is answers =
-    let whole : head ≡ head_bytes found.rest = subst (λ r. IsHeadBytes r head) left is in
-    let same = set ∙ ap (λ items. last_records (from_list items)) holds.records in
-    (found, reads, subst (λ records. IsOutput records found.rest out) same (answers found.rest whole))
+-- what holds of what is left after the log holds of what stands after its empty line
+rest_if : (P : List ℕ → Type 0) (input left : Option (List ℕ)) (foreign : ℕ) (desk : FoldDesk) → IfSome input (λ t. IsOpened t left foreign desk) → IfSome left P → IfSome (rest_of input) P
+rest_if P None left foreign desk opened p = tt
+rest_if P (Some t) left foreign desk (log, reads, counts, over, rest) p =
+    subst (λ o. IfSome o P) (rest ∙ sym (ap (λ r. option_map (λ l. l.rest) (result_ok r)) reads)) p
 
--- as many bytes as a head may have are some where there are some
-limit_some : (n : ℕ) → nat_lt 0 (min HEAD_LIMIT n) ≡ nat_lt 0 n
-limit_some zero = refl
-limit_some (suc n) = lt-ltb 0 (min HEAD_LIMIT (suc n)) (omega arith) ∙ sym (lt-ltb 0 (suc n) (omega arith))
+over_if : (input left : Option (List ℕ)) (foreign : ℕ) (desk : FoldDesk) → IfSome input (λ t. IsOpened t left foreign desk)
+    → IfSome input (λ t. (log : LogText) × (log_of t ≡ Ok log) × IsDeskOver log desk)
+over_if None left foreign desk opened = tt
+over_if (Some t) left foreign desk (log, reads, counts, over, rest) = (log, reads, over)
 
--- a head is empty exactly where its text is
-head_some : (text head : List ℕ) → head ≡ head_bytes text → nat_lt 0 (length head) ≡ nat_lt 0 (length text)
-head_some text head is = ap (λ n. nat_lt 0 n) (ap length is ∙ length-take HEAD_LIMIT text) ∙ limit_some (length text)
+-- the reader of the requests has the faults of the log's
+moved : {R W : Type 0} (reader mid reader' : Device R) (writer writer' : Device W) (input left last before written : Option (List ℕ)) (foreign : ℕ) (desk after : FoldDesk) (e : ServeError)
+    → faults_of mid ≡ faults_of reader → IfSome input (λ t. IsOpened t left foreign desk)
+    → IsServeRefusal desk_asks desk_commands mid reader' writer writer' left last before written desk after e
+    → IsServeRefusal desk_asks desk_commands reader reader' writer writer' (rest_of input) last before written desk after e
+moved reader mid reader' writer writer' input left last before written foreign desk after serving.ReadFault same opened (loses, kept, stops) = (
+  subst (λ n. (faults_of reader' ≡ counted n) ⊎ ((faults_of reader' ≡ n) × (reads_of reader' ≡ REQUEST_READS))) same loses,
+  kept,
+  rest_if (λ text. StopsBetween desk_asks desk_commands desk text last before written after) input left foreign desk opened stops,
+)
+moved reader mid reader' writer writer' input left last before written foreign desk after serving.WriteFault same opened (loses, kept, stops) =
+    (loses, kept ∙ same, rest_if (λ text. StopsIn desk_asks desk_commands desk text before written after) input left foreign desk opened stops)
 
-pub counts_for : (input rest : Option (List ℕ)) (log : Log) (head : List ℕ) (folded : Folded) → HasRead input rest log → IsHeadBytes rest head
-    → folded.foreign ≡ log.foreign → folded.requests ≡ (if nat_lt 0 (length head) then 1 else 0) → IfSome input (λ text. CountsFold text folded)
-counts_for None rest log head folded read is same ones = tt
-counts_for (Some text) rest log head folded (found, reads, holds, left) is same ones =
-    let whole : head ≡ head_bytes found.rest = subst (λ r. IsHeadBytes r head) left is in
-    (found, reads, same ∙ holds.foreign, ones ∙ ap (λ b. if b then 1 else 0) (head_some found.rest head whole))
-
-pub both : (P Q : List ℕ → Type 0) (input : Option (List ℕ)) → IfSome input P → IfSome input Q → IfSome input (λ text. P text × Q text)
-both P Q None p q = tt
-both P Q (Some text) p q = (p, q)
+pub served_refused : {R W : Type 0} (reader mid reader' : Device R) (writer writer' : Device W) (input left last before written : Option (List ℕ)) (foreign : ℕ) (desk after : FoldDesk) (e : ServeError) (error : FoldError)
+    → faults_of mid ≡ faults_of reader → error ≡ ended_by e → IfSome input (λ t. IsOpened t left foreign desk)
+    → IsServeRefusal desk_asks desk_commands mid reader' writer writer' left last before written desk after e
+    → EndsServing reader reader' writer writer' input last before written error
+served_refused reader mid reader' writer writer' input left last before written foreign desk after e error same is opened refused = (
+  e,
+  is,
+  desk,
+  over_if input left foreign desk opened,
+  after,
+  moved reader mid reader' writer writer' input left last before written foreign desk after e same opened refused,
+)

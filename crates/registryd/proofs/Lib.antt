@@ -1,6 +1,2 @@
-mod Digits
 mod Folds
-mod HeadBytes
-mod Outputs
 mod Unions
-pub mod Written

@@ -1,44 +1,73 @@
--- What the fold of a log and a request does.
-use Rattle.std.specs.Prelude.{◌≡◌, ◌⊎◌, ℕ, List, Option, IfSome, Ok, Err, length, nat_lt, count_by, if◌then◌else◌}
+-- What the fold of a log and the requests after it does.
+use Rattle.std.specs.Prelude.{◌≡◌, ◌⊎◌, ℕ, List, Option, Some, IfSome, Result, Ok, Err, count_by, option_and_then, option_map}
+use Rattle.std.specs.Result.{result_ok}
 use Rattle.std.specs.FinSet.{from_list}
 use Rattle.std.specs.Io.KnownBytes.{Keeps}
+use Rattle.reg_http.specs.Serve.{IsOutput, IsServeRefusal}
+use Rattle.reg_http.specs.declared.serving.ServeError.{ServeError}
+use Rattle.reg_http.specs.declared.serving.ServeError.TheVariants as serving
 use Rattle.reg_records.specs.Device.{faults_of}
-use Rattle.reg_records.specs.Log.{LogText, LosesLine, log_of, records_in, is_foreign}
+use Rattle.reg_records.specs.Log.{LogText, LosesLine, log_of, next_after, records_in, is_foreign}
 use Rattle.reg_records.specs.declared.device.Device.{Device}
+use Rattle.reg_records.specs.declared.log.LogError.{LogError}
+use Rattle.reg_records.specs.declared.log.LogError.TheVariants as logs
+use Rattle.reg_records.specs.declared.log.LogFault.{LogFault}
 use Rattle.reg_set.specs.LastRecords.{last_records}
-use Rattle.reg_set.specs.Records.{Records}
-use Rattle.registryd.specs.Answer.{IsOutput}
-use Rattle.registryd.specs.Devices.{AppendsFront, LosesRequest, LosesWriter}
+use Rattle.registryd.specs.Desk.{desk_asks, desk_commands}
+use Rattle.registryd.specs.declared.desk.FoldDesk.{FoldDesk}
 use Rattle.registryd.specs.declared.fold.Folded.{Folded}
 use Rattle.registryd.specs.declared.fold.FoldError.{FoldError}
 use Rattle.registryd.specs.declared.fold.FoldError.TheVariants as errors
 
--- the last records of the set of records that a log has
-abbrev pub standing_records : LogText → Records
-standing_records log = last_records (from_list (records_in log.reads))
+-- the desk over a log: the last records of the set of its records, and the offset after its greatest
+pub record IsDeskOver (log : LogText) (desk : FoldDesk) : Type 0 where
+  pub registry : desk.registry ≡ last_records (from_list (records_in log.reads))
+  pub next : desk.next ≡ next_after log.reads
 
--- what is written for an input: the log is at its front, and its requests stand after the empty line
-abbrev pub IsOutputFor : List ℕ → List ℕ → Type 0
-IsOutputFor input out = (log : LogText) × (log_of input ≡ Ok log) × IsOutput (standing_records log) log.rest out
+-- what is written for an input: the log is at its front, its foreign lines are counted, and the requests after its empty line
+-- are answered, one after the other, at a desk over it
+abbrev pub Folds : List ℕ → Folded → List ℕ → Type 0
+Folds input folded out = (log : LogText) × (log_of input ≡ Ok log) × (folded.foreign ≡ count_by is_foreign log.reads)
+    × (desk : FoldDesk) × IsDeskOver log desk × (after : FoldDesk) × IsOutput desk_asks desk_commands desk log.rest folded.requests out after
 
--- how many lines are foreign, and how many responses were written
-abbrev pub CountsFold : List ℕ → Folded → Type 0
-CountsFold input folded = (log : LogText) × (log_of input ≡ Ok log)
-    × (folded.foreign ≡ count_by is_foreign log.reads) × (folded.requests ≡ (if nat_lt 0 (length log.rest) then 1 else 0))
+-- the log at the front of an input, its foreign lines, the desk over it, and what is left of the input
+abbrev pub IsOpened : List ℕ → Option (List ℕ) → ℕ → FoldDesk → Type 0
+IsOpened input left foreign desk = (log : LogText) × (log_of input ≡ Ok log) × (foreign ≡ count_by is_foreign log.reads)
+    × IsDeskOver log desk × (left ≡ Some log.rest)
 
--- why nothing was answered: a reader is lost in a line of the log, or in the request
-abbrev pub IsReadRefusal : {R : Type 0} → Device R → Device R → Option (List ℕ) → FoldError → Type 0
-IsReadRefusal reader reader' input (errors.Log line fault) =
+-- why no request was read: the log has a fault, the reader is lost in one of its lines, or there is no room
+abbrev pub IsLogRefused : {R : Type 0} → Device R → Device R → Option (List ℕ) → FoldError → Type 0
+IsLogRefused reader reader' input (errors.Log line fault) =
     (faults_of reader' ≡ faults_of reader) × IfSome input (λ text. log_of text ≡ Err (line, fault))
-IsReadRefusal reader reader' input errors.ReadFault = LosesLine reader reader' ⊎ LosesRequest reader reader'
-IsReadRefusal reader reader' input errors.WriteFault = ⊥
-IsReadRefusal reader reader' input errors.OutOfMemory = faults_of reader' ≡ faults_of reader
+IsLogRefused reader reader' input errors.ReadFault = LosesLine reader reader'
+IsLogRefused reader reader' input errors.WriteFault = ⊥
+IsLogRefused reader reader' input errors.OutOfMemory = faults_of reader' ≡ faults_of reader
 
--- why nothing more was done, what was written by then, and what the other device counted
+-- how a fold ends where serving its requests does
+abbrev pub ended_by : ServeError → FoldError
+ended_by serving.ReadFault = errors.ReadFault
+ended_by serving.WriteFault = errors.WriteFault
+
+-- what stands after the empty line of an input's log
+abbrev pub rest_of : Option (List ℕ) → Option (List ℕ)
+rest_of input = option_and_then (λ text. option_map (λ log. log.rest) (result_ok (log_of text))) input
+
+-- the log was read, and serving the requests after it ended so
+abbrev pub EndsServing : {R W : Type 0} → Device R → Device R → Device W → Device W
+    → Option (List ℕ) → Option (List ℕ) → Option (List ℕ) → Option (List ℕ) → FoldError → Type 0
+EndsServing reader reader' writer writer' input left old new error = (e : ServeError) × (error ≡ ended_by e)
+    × (desk : FoldDesk) × IfSome input (λ text. (log : LogText) × (log_of text ≡ Ok log) × IsDeskOver log desk)
+    × (after : FoldDesk) × IsServeRefusal desk_asks desk_commands reader reader' writer writer' (rest_of input) left old new desk after e
+
+-- why no more was done, what was written by then, and what the other device counted
 abbrev pub IsFoldRefusal : {R W : Type 0} → Device R → Device R → Device W → Device W
-    → Option (List ℕ) → Option (List ℕ) → Option (List ℕ) → FoldError → Type 0
-IsFoldRefusal reader reader' writer writer' input old new errors.WriteFault =
-    LosesWriter writer writer' × (faults_of reader' ≡ faults_of reader)
-    × IfSome input (λ text. (out : List ℕ) × IsOutputFor text out × AppendsFront old new out)
-IsFoldRefusal reader reader' writer writer' input old new refusal =
-    IsReadRefusal reader reader' input refusal × (faults_of writer' ≡ faults_of writer) × Keeps old new
+    → Option (List ℕ) → Option (List ℕ) → Option (List ℕ) → Option (List ℕ) → FoldError → Type 0
+IsFoldRefusal reader reader' writer writer' input left old new error =
+    (IsLogRefused reader reader' input error × (faults_of writer' ≡ faults_of writer) × Keeps old new)
+    ⊎ EndsServing reader reader' writer writer' input left old new error
+
+-- Private: what a log's refusal is to the fold.
+abbrev pub fold_error_of : LogError → FoldError
+fold_error_of (logs.Fault line fault) = errors.Log line fault
+fold_error_of (logs.ReadFault line) = errors.ReadFault
+fold_error_of logs.OutOfMemory = errors.OutOfMemory

@@ -1,7 +1,3 @@
-pub mod Answer
-pub mod Devices
+pub mod Desk
 pub mod Ended
 pub mod Fold
-pub mod Request
-pub mod Response
-pub mod Steps

@@ -1,17 +1,16 @@
-// The fold: a log, and a request that is answered from it.
-ghost use Rattle.std.specs.Prelude.{◌≡◌, ◌≤◌, List, ℕ, IfOk, IfErr, IfSome, OnOk, string_bytes, length, nat_lt, if◌then◌else◌};
+// The fold: a log, and the requests that are answered from it.
+ghost use Rattle.std.specs.Prelude.{◌≡◌, ◌≤◌, List, ℕ, IfOk, IfErr, IfSome, OnOk, count_by};
 ghost use Rattle.std.specs.FinSet as set;
 ghost use Rattle.std.specs.Io.KnownBytes.{Appends};
 ghost use Rattle.reg_records.specs.Device.{bytes_in, faults_of, interruptions_of, reads_of};
+ghost use Rattle.reg_http.specs.declared.limits.TheConstants.{REQUEST_READS};
+ghost use Rattle.reg_responses.specs.declared.limits.TheConstants.{INTERRUPTION_LIMIT};
 ghost use Rattle.reg_set.specs.LastRecords.{last_records};
-ghost use Rattle.registryd.specs.Fold.{IsOutputFor, CountsFold, IsReadRefusal, IsFoldRefusal};
-ghost use Rattle.registryd.specs.Steps.{fold_error_of};
+ghost use Rattle.registryd.specs.Fold.{Folds, IsFoldRefusal, IsLogRefused, IsOpened, fold_error_of, ended_by};
 
-use crate::answer::output;
-use crate::head::{HeadError, read_head_bytes};
-use crate::limits::{INTERRUPTION_LIMIT, REQUEST_READS};
-use crate::writing::write_whole;
+use crate::desk::FoldDesk;
 use reg_fold::Registry;
+use reg_http::{ServeError, serve};
 use reg_records::{Device, LINE_READS, LogError, LogFault, Record, read_log};
 use reg_set::records_are_ordered;
 use std::alloc::{AllocError, Global};
@@ -31,11 +30,12 @@ pub struct Folded {
 pub enum FoldError {
     /// The first line of the log that has a fault; lines count from 1. Nothing was written.
     Log { line: u64, fault: LogFault },
-    /// The reader failed, or was read too often for a line or for the request. Nothing was written.
+    /// The reader failed, or was read too often for a line or for a request. The responses to all
+    /// requests before were written.
     ReadFault,
-    /// The writer failed, or was interrupted too often in a row. A front of the response was written.
+    /// The writer failed, or was interrupted too often in a row. A front of a response was written.
     WriteFault,
-    /// Nothing was written.
+    /// The log didn't find room. Nothing was written.
     OutOfMemory,
 }
 
@@ -49,8 +49,8 @@ impl From<AllocError> for FoldError {
     }
 }
 
-/// Reads a log and answers the request after its empty line: `GET /schemas/ids/{id}` gives the text of
-/// the schema that the id names, and any other request is refused.
+/// Reads a log, and answers the requests after its empty line, one after the other, from the registry
+/// over its records; what a command writes counts for the requests after it.
 ///
 /// The log is read to its end before the first byte is written.
 pub fn fold<R: BufRead, W: Write>(
@@ -58,60 +58,52 @@ pub fn fold<R: BufRead, W: Write>(
     reader: &mut Device<R>,
     writer: &mut Device<W>,
 ) -> Result<Folded, FoldError>
-    ensures written { OnOk result (IfSome (bytes_in R.remaining reader.old) (λ input. (out : List ℕ)
-        × IsOutputFor input out × Appends (bytes_in W.contents writer.old) (bytes_in W.contents writer.new) out)) }
-    ensures counts { IfOk result (λ folded. IfSome (bytes_in R.remaining reader.old) (λ input. CountsFold input folded)) }
+    ensures written { IfOk result (λ folded. IfSome (bytes_in R.remaining reader.old) (λ input. (out : List ℕ)
+        × Folds input folded out × Appends (bytes_in W.contents writer.old) (bytes_in W.contents writer.new) out)) }
     ensures faults { OnOk result ((faults_of reader.new ≡ faults_of reader.old) × (faults_of writer.new ≡ faults_of writer.old)) }
     ensures bounds { OnOk result ((reads_of reader.new ≤ REQUEST_READS) × (interruptions_of writer.new ≤ INTERRUPTION_LIMIT)) }
     ensures reads { reads_of reader.new ≤ LINE_READS }
     ensures refused { IfErr result (IsFoldRefusal reader.old reader.new writer.old writer.new
-        (bytes_in R.remaining reader.old) (bytes_in W.contents writer.old) (bytes_in W.contents writer.new)) }
+        (bytes_in R.remaining reader.old) (bytes_in R.remaining reader.new)
+        (bytes_in W.contents writer.old) (bytes_in W.contents writer.new)) }
 {
-    let Answered { folded, out } = read_answer(alloc, reader)?;
-    if write_whole(writer, out.as_str().as_bytes()).is_err() {
-        return Err(FoldError::WriteFault);
+    let Opened { foreign, mut desk } = open(alloc, reader)?;
+    match serve(alloc, reader, writer, &mut desk) {
+        Ok(served) => Ok(Folded {
+            foreign,
+            requests: served.requests,
+        }),
+        Err(error) => Err(ended_by(error)),
     }
-    Ok(folded)
 }
 
-/// What is to be written, and what was counted.
-struct Answered {
-    folded: Folded,
-    out: String,
+/// What a log gives.
+struct Opened {
+    foreign: u64,
+    desk: FoldDesk,
 }
 
-/// Reads the log and the head of the request, and answers.
-fn read_answer<R: BufRead>(alloc: Global, reader: &mut Device<R>) -> Result<Answered, FoldError>
-    ensures answered { IfOk result (λ a. IfSome (bytes_in R.remaining reader.old) (λ input.
-        IsOutputFor input (string_bytes a.out) × CountsFold input a.folded)) }
+/// Reads the log, and opens a desk over its records.
+fn open<R: BufRead>(alloc: Global, reader: &mut Device<R>) -> Result<Opened, FoldError>
+    ensures opened { IfOk result (λ opened. IfSome (bytes_in R.remaining reader.old) (λ input.
+        IsOpened input (bytes_in R.remaining reader.new) opened.foreign opened.desk)) }
     ensures faults { OnOk result (faults_of reader.new ≡ faults_of reader.old) }
-    ensures bound { OnOk result (reads_of reader.new ≤ REQUEST_READS) }
     ensures reads { reads_of reader.new ≤ LINE_READS }
-    ensures refused { IfErr result (IsReadRefusal reader.old reader.new (bytes_in R.remaining reader.old)) }
+    ensures refused { IfErr result (IsLogRefused reader.old reader.new (bytes_in R.remaining reader.old)) }
 {
     let log = match read_log(alloc, reader) {
         Ok(log) => log,
         Err(e) => return Err(fold_error(e)),
     };
     let registry = registry_of(alloc, &log.records)?;
-    let head = match read_head_bytes(alloc, reader) {
-        Ok(head) => head,
-        Err(HeadError::ReadFault) => return Err(FoldError::ReadFault),
-        Err(HeadError::OutOfMemory) => return Err(FoldError::OutOfMemory),
-    };
-    let out = output(alloc, &registry, &head)?;
-    let folded = Folded {
+    Ok(Opened {
         foreign: log.foreign,
-        requests: request_count(&head),
-    };
-    Ok(Answered { folded, out })
-}
-
-/// How many requests are answered that begin with these bytes.
-fn request_count(bytes: &[u8]) -> u64
-    ensures { result ≡ (if nat_lt 0 (length bytes.now) then 1 else 0) }
-{
-    if bytes.is_empty() { 0 } else { 1 }
+        desk: FoldDesk {
+            alloc,
+            registry,
+            next: log.next,
+        },
+    })
 }
 
 fn fold_error(e: LogError) -> FoldError
@@ -121,6 +113,15 @@ fn fold_error(e: LogError) -> FoldError
         LogError::Fault { line, fault } => FoldError::Log { line, fault },
         LogError::ReadFault { line: _ } => FoldError::ReadFault,
         LogError::OutOfMemory => FoldError::OutOfMemory,
+    }
+}
+
+fn ended_by(e: ServeError) -> FoldError
+    ensures { result ≡ ended_by e }
+{
+    match e {
+        ServeError::ReadFault => FoldError::ReadFault,
+        ServeError::WriteFault => FoldError::WriteFault,
     }
 }
 

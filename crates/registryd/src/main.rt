@@ -1,19 +1,14 @@
 //! The program `registryd`: a registry of Avro schemas.
 //!
-//! `registryd fold` reads a log and the request after its empty line from its input, and writes the
-//! response to its output.
+//! `registryd fold` reads a log and the requests after its empty line from its input, and writes the
+//! responses to its output.
 #![tactic(auto)]
 
-mod answer;
+mod desk;
 mod ended;
 mod fold;
-mod head;
-mod limits;
-mod request;
-mod response;
 #[cfg(test)]
 mod tests;
-mod writing;
 
 use crate::ended::{Command, Ended, command_of};
 use crate::fold::fold;

@@ -1,13 +1,15 @@
-// Whole folds: a log, a request, and what is written.
+// Whole folds: a log, requests, and what is written.
 mod answers;
 mod ends;
+mod raw;
 mod readers;
+mod rows;
 mod writers;
 
 use crate::ended::Ended;
 use crate::fold::{Folded, fold};
 use reg_records::Device;
-use std::alloc::Global;
+use std::alloc::{AllocError, Global};
 use std::io::{BufRead, Write};
 
 static SHORT_LOG: &str = "1\t{\"keytype\":\"NOOP\"}\tnull\n\nGET /schemas/ids/1 HTTP/1.1\r\n\r\n";
@@ -27,6 +29,16 @@ fn is_written(alloc: Global, input: &str, requests: u64, wanted: &str) -> bool {
             requests,
         })
         && writer.into_inner().as_slice() == wanted.as_bytes()
+}
+
+/// What a fold of that input writes.
+fn written(alloc: Global, input: &str) -> Result<Vec<u8>, AllocError> {
+    let mut reader = Device::new(input.as_bytes());
+    let mut writer = Device::new(Vec::new(alloc));
+    match fold(alloc, &mut reader, &mut writer) {
+        Ok(_folded) => Ok(writer.into_inner()),
+        Err(_error) => Err(AllocError),
+    }
 }
 
 fn ended<R: BufRead, W: Write>(

@@ -1,4 +1,4 @@
-// The answers to requests, from logs of versions.
+// The schemas of ids, from logs of versions.
 use super::is_written;
 use std::alloc::{AllocError, Global};
 
@@ -188,62 +188,5 @@ fn an_id_is_answered_from_the_log(rt: HostRuntime) {
     for row in &ROWS {
         let is_answered = is_answered(rt.alloc(), row) == Ok(true);
         assert!(rt; is_answered, "{} {}", row.id, row.body);
-    }
-}
-
-const NOT_FOUND: &str = r#"{"error_code":404,"message":"Not Found"}"#;
-
-const BAD_REQUEST: &str = r#"{"error_code":400,"message":"Bad Request"}"#;
-
-/// Requests that aren't for an id, after an empty log, and the status and the body that are written.
-static REFUSED: [(&str, &str, &str); 9] = [
-    (
-        "\nGET /schemas/ids/1/schema HTTP/1.1\r\n\r\n",
-        "404 Not Found",
-        NOT_FOUND,
-    ),
-    (
-        "\nGET /schemas/ids/ HTTP/1.1\r\n\r\n",
-        "404 Not Found",
-        NOT_FOUND,
-    ),
-    (
-        "\nGET /schemas/ids?1 HTTP/1.1\r\n\r\n",
-        "404 Not Found",
-        NOT_FOUND,
-    ),
-    (
-        "\nGET /subjects HTTP/1.1\r\n\r\n",
-        "404 Not Found",
-        NOT_FOUND,
-    ),
-    (
-        "\nPOST /schemas/ids/1 HTTP/1.1\r\n\r\n",
-        "404 Not Found",
-        NOT_FOUND,
-    ),
-    (
-        "\nget /schemas/ids/1 HTTP/1.1\r\n\r\n",
-        "404 Not Found",
-        NOT_FOUND,
-    ),
-    (
-        "\nGET /schemas/ids/1 HTTP/1.1\r\nHost: a\r\n",
-        "400 Bad Request",
-        BAD_REQUEST,
-    ),
-    (
-        "\nGET /schemas/ids/1\r\n\r\n",
-        "400 Bad Request",
-        BAD_REQUEST,
-    ),
-    ("\nx", "400 Bad Request", BAD_REQUEST),
-];
-
-#[test]
-fn other_requests_are_refused(rt: HostRuntime) {
-    for (input, status, body) in &REFUSED {
-        let is_refused = is_response(rt.alloc(), input, status, "Connection: close\r\n", body);
-        assert!(rt; is_refused == Ok(true), "{input}");
     }
 }

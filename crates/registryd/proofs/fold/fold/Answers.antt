@@ -1,0 +1,19 @@
+use Rattle.std.proofs.Common.{inr}
+use Rattle.registryd.proofs.Folds.{served_refused, served_written}
+use Rattle.registryd.proofs.fold.fold.Goals as goal
+
+pub returns-in-Ok-clause-written : goal.returns-in-Ok-clause-written
+returns-in-Ok-clause-written g c =
+    let opened = c.in_ok-foreign.field-0 in
+    served_written (g.R.Read.remaining c.args.reader.now.inner) (g.R.Read.remaining c.open.new.reader.inner)
+    (g.W.Write.contents c.args.writer.now.inner) (g.W.Write.contents c.serve.new.writer.inner)
+    opened.foreign c.in-Ok.served.requests opened.desk c.serve.new.desk c.in_ok-foreign.ensures.opened c.in-Ok.ensures.written
+
+pub returns-clause-refused : goal.returns-clause-refused
+returns-clause-refused g c =
+    let opened = c.in_ok-foreign.field-0 in
+    inr (served_refused c.args.reader.now c.open.new.reader c.serve.new.reader c.args.writer.now c.serve.new.writer
+    (g.R.Read.remaining c.args.reader.now.inner) (g.R.Read.remaining c.open.new.reader.inner)
+    (g.R.Read.remaining c.serve.new.reader.inner) (g.W.Write.contents c.args.writer.now.inner) (g.W.Write.contents c.serve.new.writer.inner)
+    opened.foreign opened.desk c.serve.new.desk c.in-Err.error c.ended_by.result
+    c.in_ok-foreign.ensures.faults c.ended_by.ensures c.in_ok-foreign.ensures.opened c.in-Err.ensures.refused)
