@@ -8,19 +8,27 @@ use base_text::{Listed, Text};
 use plain::plain_verdict;
 use random::Random;
 use std::alloc::{AllocError, Global};
-use std::test::Fail;
 
 const COMPATIBLE: &str = "compatible";
 
+/// A copy of the verdict.
+fn resolved(alloc: Global, r: &Schema, w: &Schema) -> Result<Verdict, AllocError> {
+    resolve(alloc, r, w)?.clone()
+}
+
 /// The verdict as a text. A trail that is shown is one.
 fn verdict(alloc: Global, r: &Schema, w: &Schema) -> Result<String, AllocError> {
-    match resolve(alloc, r, w)?.clone()? {
+    match &resolved(alloc, r, w)? {
         Verdict::Compatible => String::from_str(alloc, COMPATIBLE),
-        Verdict::Clash(trail) if trail.check(r, w) => {
-            let kind = &trail.kind;
-            format!(in alloc; "{trail}: {kind}")
-        }
-        Verdict::Clash(_) => String::from_str(alloc, "no trail"),
+        Verdict::Clash(trail) => shown(alloc, trail, trail.check(r, w)),
+    }
+}
+
+fn shown(alloc: Global, trail: &Trail, is_trail: bool) -> Result<String, AllocError> {
+    if is_trail {
+        format!(in alloc; "{trail}: {}", trail.kind)
+    } else {
+        String::from_str(alloc, "no trail")
     }
 }
 
@@ -29,20 +37,35 @@ type Row = (&'static str, &'static str, &'static str);
 
 const DIFFER: &str = "the searches differ";
 
-/// The verdict as both searches have it, or that they differ.
-fn agreed_verdict(alloc: Global, reader: &str, writer: &str) -> Result<String, Fail> {
-    let r = Schema::read(alloc, reader)?;
-    let w = Schema::read(alloc, writer)?;
-    Ok(agreed(alloc, &r, &w)?)
+const NO_SCHEMA: &str = "no schema";
+
+/// The verdict of two texts' schemas as both searches have it, or that they differ.
+fn agreed_verdict(alloc: Global, reader: &str, writer: &str) -> Result<String, AllocError> {
+    match &Schema::read_if_any(alloc, reader)? {
+        Some(r) => verdict_against(alloc, r, writer),
+        None => String::from_str(alloc, NO_SCHEMA),
+    }
+}
+
+fn verdict_against(alloc: Global, r: &Schema, writer: &str) -> Result<String, AllocError> {
+    match &Schema::read_if_any(alloc, writer)? {
+        Some(w) => agreed(alloc, r, w),
+        None => String::from_str(alloc, NO_SCHEMA),
+    }
 }
 
 fn agreed(alloc: Global, r: &Schema, w: &Schema) -> Result<String, AllocError> {
     let found = verdict(alloc, r, w)?;
     let plain = plain_verdict(alloc, r, w)?;
     if found.as_str() == plain.as_str() {
-        return Ok(found);
+        Ok(found)
+    } else {
+        format!(in alloc; "{DIFFER}: {found}, {plain}")
     }
-    format!(in alloc; "{DIFFER}: {found}, {plain}")
+}
+
+fn is_verdict(alloc: Global, reader: &str, writer: &str, want: &str) -> Result<bool, AllocError> {
+    Ok(agreed_verdict(alloc, reader, writer)?.as_str() == want)
 }
 
 static RECORDS: [Row; 13] = [
@@ -303,15 +326,14 @@ static UNIONS: [Row; 17] = [
 ];
 
 #[test]
-fn resolves_by_the_table(rt: HostRuntime) -> Result<(), Fail> {
+fn resolves_by_the_table(rt: HostRuntime) {
     let tables: [&[Row]; 4] = [&RECORDS, &ALIASES, &OTHER_TYPES, &UNIONS];
     for table in tables {
         for (reader, writer, want) in table {
-            let found = agreed_verdict(rt.alloc(), reader, writer)?;
-            assert_eq!(rt; found.as_str(), *want, "{reader} against {writer}");
+            let is_right = is_verdict(rt.alloc(), reader, writer, want);
+            assert!(rt; is_right == Ok(true), "{reader} against {writer}");
         }
     }
-    Ok(())
 }
 
 static PRIMITIVES: [&str; 8] = [
@@ -338,31 +360,29 @@ static READ_BY: [(&str, &str); 8] = [
     (r#""string""#, "------++"),
 ];
 
-/// Which of the primitives read a writer's primitive.
-fn readers_of(alloc: Global, writer: &str) -> Result<String, Fail> {
-    let mut marks = String::new(alloc);
-    for reader in PRIMITIVES {
-        marks.push(mark_of(alloc, reader, writer)?)?;
+/// Whether those of the primitives read a writer's primitive.
+fn are_readers(alloc: Global, writer: &str, marks: &str) -> Result<bool, AllocError> {
+    for (reader, mark) in PRIMITIVES.iter().zip(marks.chars()) {
+        let want = if mark == '+' {
+            COMPATIBLE
+        } else {
+            "/: TYPE_MISMATCH"
+        };
+        if !is_verdict(alloc, reader, writer, want)? {
+            return Ok(false);
+        }
     }
-    Ok(marks)
-}
-
-fn mark_of(alloc: Global, reader: &str, writer: &str) -> Result<char, Fail> {
-    let found = agreed_verdict(alloc, reader, writer)?;
-    Ok(match found.as_str() {
-        COMPATIBLE => '+',
-        "/: TYPE_MISMATCH" => '-',
-        _ => '?',
-    })
+    Ok(true)
 }
 
 #[test]
-fn resolves_primitives(rt: HostRuntime) -> Result<(), Fail> {
-    for (writer, want) in &READ_BY {
-        let found = readers_of(rt.alloc(), writer)?;
-        assert_eq!(rt; found.as_str(), *want, "{writer}");
+fn resolves_primitives(rt: HostRuntime) {
+    for (writer, marks) in &READ_BY {
+        assert!(rt;
+            are_readers(rt.alloc(), writer, marks) == Ok(true),
+            "{writer}"
+        );
     }
-    Ok(())
 }
 
 static INTS: &str =
@@ -420,67 +440,74 @@ fn trail(alloc: Global, words: &str, types: bool) -> Result<Trail, AllocError> {
     Ok(Trail { hops, kind })
 }
 
-#[test]
-fn checks_trails(rt: HostRuntime) -> Result<(), Fail> {
-    let r = Schema::read(rt.alloc(), INTS)?;
-    let w = Schema::read(rt.alloc(), STRINGS)?;
-    for (words, types, want) in HOPS {
-        let trail = trail(rt.alloc(), words, types)?;
-        assert_eq!(rt; trail.check(&r, &w), want, "{words}");
-    }
-    Ok(())
+/// Whether the hops of those words are a trail of the two schemas.
+fn is_trail(alloc: Global, words: &str, types: bool) -> Result<bool, AllocError> {
+    let trail = trail(alloc, words, types)?;
+    let r = Schema::read_if_any(alloc, INTS)?;
+    let w = Schema::read_if_any(alloc, STRINGS)?;
+    Ok(matches!((&r, &w), (Some(r), Some(w)) if trail.check(r, w)))
 }
 
-/// Which of the reader's types match the writer's root.
-fn matched(alloc: Global, r: &Schema, w: &Schema) -> Result<Vec<bool>, AllocError> {
-    let mut found = Vec::new(alloc);
+#[test]
+fn checks_trails(rt: HostRuntime) {
+    for (words, types, want) in &HOPS {
+        assert!(rt; is_trail(rt.alloc(), words, *types) == Ok(*want), "{words}");
+    }
+}
+
+/// A union; its array and the array's items; its map and the map's values.
+const ARRAY_OR_MAP: &str = r#"[{"type":"array","items":"long"},{"type":"map","values":"long"}]"#;
+
+/// Whether each of those types of the reader's matches the writer's root, an array of ints.
+static MATCHES: [bool; 5] = [true, true, false, false, false];
+
+/// Whether the reader has those types, and these of them match the writer's root.
+fn are_matched(r: &Schema, w: &Schema, want: &[bool]) -> bool {
     for index in 0..r.node_count() {
-        found.push(matches(r, NodeId { index }, w, w.root()))?;
+        if want.get(index) != Some(&matches(r, NodeId { index }, w, w.root())) {
+            return false;
+        }
     }
-    Ok(found)
+    r.node_count() == want.len()
+}
+
+fn roots_match(alloc: Global) -> Result<bool, AllocError> {
+    let r = Schema::read_if_any(alloc, ARRAY_OR_MAP)?;
+    let w = Schema::read_if_any(alloc, r#"{"type":"array","items":"int"}"#)?;
+    Ok(matches!((&r, &w), (Some(r), Some(w)) if are_matched(r, w, &MATCHES)))
 }
 
 #[test]
-fn matches_types(rt: HostRuntime) -> Result<(), Fail> {
-    let r = Schema::read(
-        rt.alloc(),
-        r#"[{"type":"array","items":"long"},{"type":"map","values":"long"}]"#,
-    )?;
-    let w = Schema::read(rt.alloc(), r#"{"type":"array","items":"int"}"#)?;
-    assert!(rt; w.node_count() == 2);
-    // The union; the array and its items; the map and its values.
-    assert_eq!(rt;
-        matched(rt.alloc(), &r, &w)?.as_slice(),
-        [true, true, false, false, false].as_slice()
-    );
-    Ok(())
+fn matches_types(rt: HostRuntime) {
+    assert!(rt; roots_match(rt.alloc()) == Ok(true));
 }
 
 /// A record R0 whose fields are that many further records, each of which leads to the one before
 /// it and to R0.
-fn many_records(alloc: Global, many: u32, value: &str) -> Result<String, AllocError> {
-    let mut text = String::from_str(alloc, r#"{"type":"record","name":"R0","fields":["#)?;
-    for k in 0..many {
-        if k > 0 {
-            text.push_str(",")?;
-        }
-        text.push_str(record_after(alloc, k, value)?.as_str())?;
+fn write_many(text: &mut String, many: u32, value: &str) -> Result<(), AllocError> {
+    text.push_str(r#"{"type":"record","name":"R0","fields":["#)?;
+    let mut separator = "";
+    for before in 0..many {
+        text.push_str(separator)?;
+        write_record_after(text, before, value)?;
+        separator = ",";
     }
-    text.push_str("]}")?;
-    Ok(text)
+    text.push_str("]}")
 }
 
 /// The field of the record after that one.
-fn record_after(alloc: Global, before: u32, value: &str) -> Result<String, AllocError> {
+fn write_record_after(text: &mut String, before: u32, value: &str) -> Result<(), AllocError> {
     let name = u64::from(before) + 1;
-    format!(in alloc;
+    write!(
+        text,
         r#"{{"name":"f{name}","type":{{"type":"record","name":"R{name}","fields":[{{"name":"before","type":["null","R{before}"]}},{{"name":"first","type":["null","R0"]}},{{"name":"v","type":"{value}"}}]}}}}"#
     )
 }
 
-fn read_many(alloc: Global, value: &str) -> Result<Schema, Fail> {
-    let text = many_records(alloc, 499, value)?;
-    Ok(Schema::read(alloc, text.as_str())?)
+fn read_many(alloc: Global, value: &str) -> Result<Option<Schema>, AllocError> {
+    let mut text = String::new(alloc);
+    write_many(&mut text, 499, value)?;
+    Schema::read_if_any(alloc, text.as_str())
 }
 
 fn pairs_of(alloc: Global, r: &Schema, w: &Schema) -> Result<usize, AllocError> {
@@ -491,36 +518,53 @@ fn is_compatible(alloc: Global, r: &Schema, w: &Schema) -> Result<bool, AllocErr
     Ok(matches!(resolve(alloc, r, w)?, Verdict::Compatible))
 }
 
-#[test]
-fn resolves_many_records(rt: HostRuntime) -> Result<(), Fail> {
-    let ints = read_many(rt.alloc(), "int")?;
-    let longs = read_many(rt.alloc(), "long")?;
+fn many_hold(alloc: Global, longs: &Schema, ints: &Schema) -> Result<bool, AllocError> {
     // The first record, and of each other one itself, its value, and of its two unions the union,
     // it with either branch of the writer's, and the two nulls.
-    assert_eq!(rt; pairs_of(rt.alloc(), &longs, &ints)?, 4991);
-    assert!(rt; is_compatible(rt.alloc(), &longs, &ints)?);
-    assert!(rt; !is_compatible(rt.alloc(), &ints, &longs)?);
-    Ok(())
+    Ok(
+        pairs_of(alloc, longs, ints)? == 4991
+            && is_compatible(alloc, longs, ints)?
+            && !is_compatible(alloc, ints, longs)?,
+    )
+}
+
+fn are_many_resolved(alloc: Global) -> Result<bool, AllocError> {
+    let ints = read_many(alloc, "int")?;
+    let longs = read_many(alloc, "long")?;
+    match (&longs, &ints) {
+        (Some(longs), Some(ints)) => many_hold(alloc, longs, ints),
+        _ => Ok(false),
+    }
+}
+
+#[test]
+fn resolves_many_records(rt: HostRuntime) {
+    assert!(rt; are_many_resolved(rt.alloc()) == Ok(true));
 }
 
 /// What the searches say of a random pair.
-fn random_verdict(alloc: Global, random: &mut Random, fields: usize) -> Result<String, Fail> {
+fn random_verdict(alloc: Global, random: &mut Random, fields: usize) -> Result<String, AllocError> {
     let writer = random.writer(alloc, fields)?;
     let reader = random.reader(alloc, fields)?;
     agreed_verdict(alloc, reader.as_str(), writer.as_str())
+}
+
+/// Whether both searches say the same of a random pair, which are schemas.
+fn random_alike(alloc: Global, random: &mut Random, fields: usize) -> Result<bool, AllocError> {
+    let found = random_verdict(alloc, random, fields)?;
+    Ok(!found.as_str().starts_with(DIFFER) && found.as_str() != NO_SCHEMA)
 }
 
 /// How many pairs of records of how many fields are tried: prime numbers.
 static SIZES: [(usize, usize); 5] = [(200, 3), (200, 7), (60, 19), (20, 101), (10, 401)];
 
 #[test]
-fn resolves_as_the_plain_search(rt: HostRuntime) -> Result<(), Fail> {
+fn resolves_as_the_plain_search(rt: HostRuntime) {
     let mut random = Random::new(41);
     for (many, fields) in &SIZES {
-        for _ in 0..*many {
-            let found = random_verdict(rt.alloc(), &mut random, *fields)?;
-            assert!(rt; !found.as_str().starts_with(DIFFER), "{found}");
+        for pair in 0..*many {
+            let is_alike = random_alike(rt.alloc(), &mut random, *fields);
+            assert!(rt; is_alike == Ok(true), "pair {pair} of {fields} fields");
         }
     }
-    Ok(())
 }

@@ -1,34 +1,28 @@
 // What the rules of schemas say of texts: a number of nodes, or why a text is refused.
 use avro_schema::{FullName, Node, NodeId, Schema, SchemaError};
 use std::alloc::{AllocError, Global};
-use std::test::Fail;
 
 // A text, and its answer.
 type Row = (&'static str, &'static str);
 
 // The number of nodes, the field whose default is none, or the fault.
 fn answer(alloc: Global, text: &str) -> Result<String, AllocError> {
-    match Schema::read(alloc, text) {
-        Ok(schema) => answer_of(alloc, &schema),
-        Err(SchemaError::Unknown(name)) => {
-            let name = name.as_str();
-            format!(in alloc; "Unknown {name}")
-        }
+    match &Schema::read(alloc, text) {
+        Ok(schema) => answer_of(alloc, schema),
+        Err(SchemaError::Unknown(name)) => format!(in alloc; "Unknown {}", name.as_str()),
         Err(error) => format!(in alloc; "{error}"),
     }
 }
 
 fn answer_of(alloc: Global, schema: &Schema) -> Result<String, AllocError> {
     match schema.check_defaults() {
-        Ok(()) => {
-            let count = schema.node_count();
-            format!(in alloc; "{count}")
-        }
-        Err(bad) => {
-            let name = bad.field.as_str();
-            format!(in alloc; "BadDefault {name}")
-        }
+        Ok(()) => format!(in alloc; "{}", schema.node_count()),
+        Err(bad) => format!(in alloc; "BadDefault {}", bad.field.as_str()),
     }
+}
+
+fn is_answer(alloc: Global, text: &str, expected: &str) -> Result<bool, AllocError> {
+    Ok(answer(alloc, text)?.as_str() == expected)
 }
 
 // A type, a default, and whether it is one of that type.
@@ -460,7 +454,7 @@ static NAMES_A_BAD_DEFAULT: [Row; 3] = [
 ];
 
 #[test]
-fn texts_have_their_answers(rt: HostRuntime) -> Result<(), Fail> {
+fn texts_have_their_answers(rt: HostRuntime) {
     let tables: [&[Row]; 7] = [
         &PRIMITIVE_TYPES,
         &RECORDS,
@@ -472,34 +466,38 @@ fn texts_have_their_answers(rt: HostRuntime) -> Result<(), Fail> {
     ];
     for table in tables {
         for (text, expected) in table {
-            let found = answer(rt.alloc(), text)?;
-            assert_eq!(rt; found.as_str(), *expected, "{text}");
+            assert!(rt; is_answer(rt.alloc(), text, expected) == Ok(true), "{text}");
         }
     }
-    Ok(())
 }
 
-// Whether a default is valid for a type: else the field is named that has it.
-fn is_default(alloc: Global, kind: &str, default: &str) -> Result<bool, Fail> {
-    let text = record_of(alloc, kind, default)?;
-    let schema = Schema::read(alloc, text.as_str())?;
+// Whether the defaults of a schema are valid, or the field x has one that isn't.
+fn are_valid(schema: &Schema) -> Option<bool> {
     match schema.check_defaults() {
-        Ok(()) => Ok(true),
-        Err(bad) if bad.field.as_str() == "x" => Ok(false),
-        Err(_) => Err("another field")?,
+        Ok(()) => Some(true),
+        Err(bad) if bad.field.as_str() == "x" => Some(false),
+        Err(_) => None,
+    }
+}
+
+// Whether a default is valid for a type.
+fn is_default(alloc: Global, kind: &str, default: &str) -> Result<Option<bool>, AllocError> {
+    let text = record_of(alloc, kind, default)?;
+    match &Schema::read_if_any(alloc, text.as_str())? {
+        Some(schema) => Ok(are_valid(schema)),
+        None => Ok(None),
     }
 }
 
 #[test]
-fn defaults_are_of_their_types(rt: HostRuntime) -> Result<(), Fail> {
+fn defaults_are_of_their_types(rt: HostRuntime) {
     let tables: [&[DefaultRow]; 2] = [&DEFAULTS_OF_PLAIN_TYPES, &DEFAULTS_OF_TYPES_INSIDE];
     for table in tables {
         for (kind, default, expected) in table {
-            let found = is_default(rt.alloc(), kind, default)?;
-            assert_eq!(rt; found, *expected, "{default} for {kind}");
+            let found = is_default(rt.alloc(), kind, default);
+            assert!(rt; found == Ok(Some(*expected)), "{default} for {kind}");
         }
     }
-    Ok(())
 }
 
 // No space, and the members of each object in byte order of their names.
@@ -525,19 +523,28 @@ static NORMAL_TEXTS: [Row; 7] = [
     (r#"{"type":"int","type":"long"}"#, r#"{"type":"long"}"#),
 ];
 
-// The normal text of a text, read twice.
-fn normal_text(alloc: Global, text: &str) -> Result<String, SchemaError> {
-    let normal = Schema::read(alloc, text)?.normal_text()?;
-    Ok(Schema::read(alloc, normal.as_str())?.normal_text()?)
+// The normal text of a schema's text.
+fn normal_text(alloc: Global, text: &str) -> Result<String, AllocError> {
+    match &Schema::read_if_any(alloc, text)? {
+        Some(schema) => schema.normal_text(),
+        None => String::from_str(alloc, "no schema"),
+    }
+}
+
+// Whether the normal text of a text is that one, whose own normal text is the same.
+fn is_normal_text(alloc: Global, text: &str, expected: &str) -> Result<bool, AllocError> {
+    let normal = normal_text(alloc, text)?;
+    Ok(normal.as_str() == expected && normal_text(alloc, normal.as_str())?.as_str() == expected)
 }
 
 #[test]
-fn normal_texts(rt: HostRuntime) -> Result<(), Fail> {
+fn normal_texts(rt: HostRuntime) {
     for (text, expected) in &NORMAL_TEXTS {
-        let normal = normal_text(rt.alloc(), text)?;
-        assert_eq!(rt; normal.as_str(), *expected, "{text}");
+        assert!(rt;
+            is_normal_text(rt.alloc(), text, expected) == Ok(true),
+            "{text}"
+        );
     }
-    Ok(())
 }
 
 fn push_name(text: &mut String, name: &FullName) -> Result<(), AllocError> {
@@ -548,14 +555,12 @@ fn push_name(text: &mut String, name: &FullName) -> Result<(), AllocError> {
 }
 
 // A node's full name and aliases, and the fields of a record with their types.
-fn push_node(text: &mut String, alloc: Global, node: &Node) -> Result<(), AllocError> {
+fn push_node(text: &mut String, node: &Node) -> Result<(), AllocError> {
     match node {
         Node::Record { name, fields, .. } => {
             push_name(text, name)?;
             for field in fields.as_slice() {
-                let name = field.name.as_str();
-                let index = field.node.index;
-                text.push_str(format!(in alloc; "{name}:{index} ")?.as_str())?;
+                write!(text, "{}:{} ", field.name.as_str(), field.node.index)?;
             }
             Ok(())
         }
@@ -570,16 +575,27 @@ fn push_node(text: &mut String, alloc: Global, node: &Node) -> Result<(), AllocE
     }
 }
 
-fn described(alloc: Global, schema: &Schema) -> Result<String, AllocError> {
-    let mut text = String::new(alloc);
+fn push_nodes(text: &mut String, schema: &Schema) -> Result<(), AllocError> {
     for index in 0..schema.node_count() {
         let id = NodeId { index };
         if schema.name_of(id).is_some() {
             text.push_str("named ")?;
         }
-        push_node(&mut text, alloc, schema.node(id))?;
+        push_node(text, schema.node(id))?;
     }
-    Ok(text)
+    Ok(())
+}
+
+fn described(alloc: Global, text: &str) -> Result<String, AllocError> {
+    let mut nodes = String::new(alloc);
+    if let Some(schema) = &Schema::read_if_any(alloc, text)? {
+        push_nodes(&mut nodes, schema)?;
+    }
+    Ok(nodes)
+}
+
+fn is_described(alloc: Global, text: &str, expected: &str) -> Result<bool, AllocError> {
+    Ok(described(alloc, text)?.as_str() == expected)
 }
 
 // A use is the node of its definition, and an alias without a dot takes the namespace of its type
@@ -600,23 +616,28 @@ static NODES: [Row; 3] = [
 ];
 
 #[test]
-fn nodes(rt: HostRuntime) -> Result<(), Fail> {
+fn nodes(rt: HostRuntime) {
     for (text, expected) in &NODES {
-        let schema = Schema::read(rt.alloc(), text)?;
-        let found = described(rt.alloc(), &schema)?;
-        assert_eq!(rt; found.as_str(), *expected, "{text}");
+        assert!(rt;
+            is_described(rt.alloc(), text, expected) == Ok(true),
+            "{text}"
+        );
     }
-    Ok(())
+}
+
+fn is_schema(alloc: Global, text: &str) -> Result<bool, AllocError> {
+    Ok(Schema::read_if_any(alloc, text)?.is_some())
 }
 
 // Where a text is a schema's, and where it is none.
 #[test]
-fn reads_a_schema_if_there_is_one(rt: HostRuntime) -> Result<(), Fail> {
+fn reads_a_schema_if_there_is_one(rt: HostRuntime) {
     for (text, expected) in &PRIMITIVE_TYPES {
-        let found = Schema::read_if_any(rt.alloc(), text)?;
-        assert_eq!(rt; found.is_some(), *expected == "1", "{text}");
+        assert!(rt;
+            is_schema(rt.alloc(), text) == Ok(*expected == "1"),
+            "{text}"
+        );
     }
-    Ok(())
 }
 
 // A primitive's name, and spaces up to a length in bytes.
@@ -644,14 +665,13 @@ fn nested(alloc: Global, objects: u32) -> Result<String, AllocError> {
 // A record with so many fields, each a union of the eight primitives.
 fn wide(alloc: Global, fields: u32) -> Result<String, AllocError> {
     let mut text = String::from_str(alloc, r#"{"type":"record","name":"R","fields":["#)?;
+    let mut separator = "";
     for i in 0..fields {
-        if i > 0 {
-            text.push_str(",")?;
-        }
-        let field = format!(in alloc;
-            r#"{{"name":"f{i}","type":["null","boolean","int","long","float","double","bytes","string"]}}"#
+        write!(
+            text,
+            r#"{separator}{{"name":"f{i}","type":["null","boolean","int","long","float","double","bytes","string"]}}"#
         )?;
-        text.push_str(field.as_str())?;
+        separator = ",";
     }
     text.push_str("]}")?;
     Ok(text)
@@ -662,10 +682,10 @@ fn chained(alloc: Global, types: u32) -> Result<String, AllocError> {
     let mut text = String::from_str(alloc, r#"[{"type":"record","name":"n.R0","fields":[]}"#)?;
     for i in 1..types {
         let before = i - 1;
-        let record = format!(in alloc;
+        write!(
+            text,
             r#",{{"type":"record","name":"n.R{i}","fields":[{{"name":"f","type":"R{before}"}}]}}"#
         )?;
-        text.push_str(record.as_str())?;
     }
     text.push_str("]")?;
     Ok(text)
@@ -701,12 +721,17 @@ static LIMITS: [(Large, &str); 7] = [
     (Large::Chained(5000), "5001"),
 ];
 
+fn is_answered(alloc: Global, kind: Large, expected: &str) -> Result<bool, AllocError> {
+    let text = text_of(alloc, kind)?;
+    is_answer(alloc, text.as_str(), expected)
+}
+
 #[test]
-fn limits(rt: HostRuntime) -> Result<(), Fail> {
-    for (kind, expected) in LIMITS {
-        let text = text_of(rt.alloc(), kind)?;
-        let found = answer(rt.alloc(), text.as_str())?;
-        assert_eq!(rt; found.as_str(), expected);
+fn limits(rt: HostRuntime) {
+    for (kind, expected) in &LIMITS {
+        assert!(rt;
+            is_answered(rt.alloc(), *kind, expected) == Ok(true),
+            "{expected}"
+        );
     }
-    Ok(())
 }

@@ -1,28 +1,45 @@
 // Sets that a topic can begin with, and others.
-use crate::lines::record_of;
+use crate::logs::record_of;
 use reg_leader::{AdoptError, adopt};
 use reg_set::RecordSet;
 use std::alloc::Global;
 use std::test::Fail;
 
-// Records, and why they aren't adopted.
-static SETS: [(&str, Option<AdoptError>); 6] = [
+// Logs, and why their sets aren't adopted.
+static SETS: [(&str, Option<AdoptError>); 7] = [
     ("", None),
-    (r#"S 1 s 1 1 "string";S 2 t 1 1 "string""#, None),
     (
-        r#"S 1 s 1 1 "string";P 2 p 1 3"#,
+        r#"1|{"keytype":"SCHEMA","subject":"s","version":1,"magic":1}|{"subject":"s","version":1,"id":1,"schema":"\"string\"","deleted":false}
+2|{"keytype":"SCHEMA","subject":"t","version":1,"magic":1}|{"subject":"t","version":1,"id":1,"schema":"\"string\"","deleted":false}"#,
+        None,
+    ),
+    (
+        r#"1|{"keytype":"SCHEMA","subject":"s","version":1,"magic":1}|{"subject":"s","version":1,"id":1,"schema":"\"string\"","deleted":false}
+2|{"keytype":"SCHEMA","subject":"p","version":1,"magic":1}|{"subject":"p","version":1,"id":3,"schemaType":"PROTOBUF","schema":"x","deleted":false}"#,
         Some(AdoptError::Opaque(2)),
     ),
     (
-        r#"S 3 s 1 1 "int";S 4 t 1 1 "long""#,
+        r#"3|{"keytype":"SCHEMA","subject":"s","version":1,"magic":1}|{"subject":"s","version":1,"id":1,"schema":"\"int\"","deleted":false}
+4|{"keytype":"SCHEMA","subject":"t","version":1,"magic":1}|{"subject":"t","version":1,"id":1,"schema":"\"long\"","deleted":false}"#,
         Some(AdoptError::TwoSchemas(1)),
     ),
     (
-        r#"X 3 s 1 1 "int";X 4 t 1 1 "long";S 5 u 1 2 "int";S 6 u 2 2 "long""#,
+        r#"1|{"keytype":"SCHEMA","subject":"s","version":1,"magic":1}|{"subject":"s","version":1,"id":1,"schema":"\"string\"","deleted":false}
+2|{"keytype":"SCHEMA","subject":"p","version":1,"magic":1}|{"subject":"p","version":1,"id":3,"schemaType":"PROTOBUF","schema":"x","deleted":false}
+3|{"keytype":"SCHEMA","subject":"s","version":1,"magic":1}|{"subject":"s","version":1,"id":1,"schema":"\"int\"","deleted":false}
+4|{"keytype":"SCHEMA","subject":"t","version":1,"magic":1}|{"subject":"t","version":1,"id":1,"schema":"\"long\"","deleted":false}"#,
+        Some(AdoptError::Opaque(2)),
+    ),
+    (
+        r#"3|{"keytype":"SCHEMA","subject":"s","version":1,"magic":1}|{"subject":"s","version":1,"id":1,"schema":"\"int\"","deleted":true}
+4|{"keytype":"SCHEMA","subject":"t","version":1,"magic":1}|{"subject":"t","version":1,"id":1,"schema":"\"long\"","deleted":true}
+5|{"keytype":"SCHEMA","subject":"u","version":1,"magic":1}|{"subject":"u","version":1,"id":2,"schema":"\"int\"","deleted":false}
+6|{"keytype":"SCHEMA","subject":"u","version":2,"magic":1}|{"subject":"u","version":2,"id":2,"schema":"\"long\"","deleted":false}"#,
         Some(AdoptError::TwoSchemas(1)),
     ),
     (
-        r#"P 7 q 1 3;P 2 p 1 3;S 3 s 1 1 "int";S 4 t 1 1 "long""#,
+        r#"7|{"keytype":"SCHEMA","subject":"q","version":1,"magic":1}|{"subject":"q","version":1,"id":3,"schemaType":"PROTOBUF","schema":"x","deleted":false}
+2|{"keytype":"SCHEMA","subject":"p","version":1,"magic":1}|{"subject":"p","version":1,"id":3,"schemaType":"PROTOBUF","schema":"x","deleted":false}"#,
         Some(AdoptError::Opaque(2)),
     ),
 ];
@@ -30,7 +47,7 @@ static SETS: [(&str, Option<AdoptError>); 6] = [
 // Why the set of those records isn't adopted.
 fn refused(alloc: Global, lines: &str) -> Result<Option<AdoptError>, Fail> {
     let mut set = RecordSet::new(alloc);
-    for line in lines.split(";").filter(|line| !line.is_empty()) {
+    for line in lines.lines() {
         set.take(&record_of(alloc, line)?)?;
     }
     match adopt(alloc, &set) {

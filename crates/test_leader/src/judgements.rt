@@ -1,44 +1,75 @@
-// Judgements that are handed in, whether they fit or not.
-use crate::lines::registry_of;
-use base_text::Text;
-use reg_leader::{Command, Reply, decide};
+// Judgements that are handed in: reply and batch are those without one, whether it fits or not.
+use crate::commands::command_of;
+use crate::logs::registry_of;
+use crate::replies::told;
+use reg_leader::decide;
 use reg_levels::{Judged, Level};
 use std::alloc::Global;
 use std::test::Fail;
 
-static LOG: &str =
-    r#"S 1 s 1 1 {"type":"record","name":"R","fields":[{"name":"a","type":"int"}]};S 2 s 2 2 {"type":"record","name":"R","fields":[]}"#;
+// Two versions under BACKWARD, and under BACKWARD_TRANSITIVE; each with what a registration of NEW
+// comes to.
+static LOGS: [(&str, &str); 2] = [
+    (
+        r#"1|{"keytype":"SCHEMA","subject":"s","version":1,"magic":1}|{"subject":"s","version":1,"id":1,"schema":"{\"type\":\"record\",\"name\":\"R\",\"fields\":[{\"name\":\"a\",\"type\":\"int\"}]}","deleted":false}
+2|{"keytype":"SCHEMA","subject":"s","version":2,"magic":1}|{"subject":"s","version":2,"id":2,"schema":"{\"type\":\"record\",\"name\":\"R\",\"fields\":[]}","deleted":false}"#,
+        r#"{"id":3}
+4|{"keytype":"SCHEMA","subject":"s","version":3,"magic":1}|{"subject":"s","version":3,"id":3,"schema":"{\"fields\":[{\"default\":\"\",\"name\":\"a\",\"type\":\"string\"}],\"name\":\"R\",\"type\":\"record\"}","deleted":false}"#,
+    ),
+    (
+        r#"1|{"keytype":"SCHEMA","subject":"s","version":1,"magic":1}|{"subject":"s","version":1,"id":1,"schema":"{\"type\":\"record\",\"name\":\"R\",\"fields\":[{\"name\":\"a\",\"type\":\"int\"}]}","deleted":false}
+2|{"keytype":"SCHEMA","subject":"s","version":2,"magic":1}|{"subject":"s","version":2,"id":2,"schema":"{\"type\":\"record\",\"name\":\"R\",\"fields\":[]}","deleted":false}
+3|{"keytype":"CONFIG","subject":null,"magic":0}|{"compatibilityLevel":"BACKWARD_TRANSITIVE"}"#,
+        "409 Incompatible with version 1, BACKWARD, at /field:a: TYPE_MISMATCH",
+    ),
+];
 
-static FIRST: &str = r#"{"type":"record","name":"R","fields":[{"name":"a","type":"int"}]}"#;
+const FIRST: &str = r#"{"type":"record","name":"R","fields":[{"name":"a","type":"int"}]}"#;
 
-static SECOND: &str = r#"{"type":"record","name":"R","fields":[]}"#;
+const SECOND: &str = r#"{"type":"record","name":"R","fields":[]}"#;
 
-static NEW: &str =
+const NEW: &str =
     r#"{"fields":[{"default":"","name":"a","type":"string"}],"name":"R","type":"record"}"#;
 
-// The id that is replied to the registration of NEW, and how many records it writes.
-fn registered(alloc: Global, judged: Option<&Judged>) -> Result<Option<(u32, usize)>, Fail> {
-    let registry = registry_of(alloc, LOG)?;
-    let command = Command::Register {
-        subject: Text::copy_of(alloc, "s")?,
-        text: Text::copy_of(alloc, NEW)?,
-    };
-    let decision = decide(alloc, &registry, 3, &command, judged);
-    match decision.reply {
-        Reply::Id(id) => Ok(Some((id, decision.batch.as_slice().len()))),
-        _ => Ok(None),
+// The level and the old versions of judgements on NEW: the first was made before the second version
+// was there, and the last two fit one of the logs each.
+static JUDGEMENTS: [(Level, &[(u32, &str)]); 5] = [
+    (Level::Backward, &[(1, FIRST)]),
+    (Level::Backward, &[(2, SECOND)]),
+    (Level::None, &[(1, FIRST), (2, SECOND)]),
+    (Level::Backward, &[(1, FIRST), (2, SECOND)]),
+    (Level::BackwardTransitive, &[(1, FIRST), (2, SECOND)]),
+];
+
+// Whether that is what the registration of NEW comes to, with the judgement.
+fn comes_to(
+    alloc: Global,
+    log: &str,
+    expected: &str,
+    judged: Option<&Judged>,
+) -> Result<bool, Fail> {
+    let registry = registry_of(alloc, log)?;
+    let line = format!(in alloc; "register s {NEW}")?;
+    let command = command_of(alloc, line.as_str())?;
+    let decision = decide(alloc, &registry, 4, &command, judged);
+    Ok(told(alloc, &decision)?.as_slice() == expected.as_bytes())
+}
+
+// Whether no judgement changes what the registration comes to.
+fn is_the_same(alloc: Global, log: &str, expected: &str) -> Result<bool, Fail> {
+    for (level, olds) in &JUDGEMENTS {
+        let judged = Judged::make(alloc, *level, NEW, olds)?;
+        if !comes_to(alloc, log, expected, Some(&judged))? {
+            return Ok(false);
+        }
     }
+    comes_to(alloc, log, expected, None)
 }
 
 #[test]
 fn a_judgement_changes_nothing(rt: HostRuntime) -> Result<(), Fail> {
-    let alloc = rt.alloc();
-    // Made before the second version was there.
-    let stale = Judged::make(alloc, Level::Backward, NEW, &[(1, FIRST)])?;
-    assert!(rt; !stale.verdict().ok);
-    let fitting = Judged::make(alloc, Level::Backward, NEW, &[(1, FIRST), (2, SECOND)])?;
-    assert_eq!(rt; registered(alloc, None)?, Some((3, 1)));
-    assert_eq!(rt; registered(alloc, Some(&stale))?, Some((3, 1)));
-    assert_eq!(rt; registered(alloc, Some(&fitting))?, Some((3, 1)));
+    for (log, expected) in &LOGS {
+        assert!(rt; is_the_same(rt.alloc(), log, expected)?, "{expected}");
+    }
     Ok(())
 }

@@ -4,8 +4,14 @@
 #[cfg(test)]
 mod adoptions;
 #[cfg(test)]
+mod commands;
+#[cfg(test)]
 mod judgements;
 #[cfg(test)]
-mod lines;
+mod logs;
 #[cfg(test)]
-mod runs;
+mod replies;
+#[cfg(test)]
+mod sessions;
+#[cfg(test)]
+mod table;

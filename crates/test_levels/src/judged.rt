@@ -1,7 +1,6 @@
 // Judgements: what they fit, and what isn't judged.
 use reg_levels::{Judged, JudgedError, Level, versions_rise};
 use std::alloc::Global;
-use std::test::Fail;
 
 const INT: &str = r#""int""#;
 
@@ -36,13 +35,20 @@ static FITS: [(Level, &str, Olds, bool); 10] = [
     ),
 ];
 
+/// Whether that judgement fits these.
+fn fits(alloc: Global, level: Level, new_text: &str, olds: Olds) -> Result<bool, JudgedError> {
+    let judged = Judged::make(alloc, Level::Backward, LONG, &[(1, INT), (2, LONG)])?;
+    Ok(judged.fits(level, new_text, olds))
+}
+
 #[test]
-fn fits_what_it_was_made_of(rt: HostRuntime) -> Result<(), Fail> {
-    let judged = Judged::make(rt.alloc(), Level::Backward, LONG, &[(1, INT), (2, LONG)])?;
+fn fits_what_it_was_made_of(rt: HostRuntime) {
     for (place, (level, new_text, olds, want)) in FITS.iter().enumerate() {
-        assert_eq!(rt; judged.fits(*level, new_text, olds), *want, "{place}");
+        assert!(rt;
+            fits(rt.alloc(), *level, new_text, olds) == Ok(*want),
+            "{place}"
+        );
     }
-    Ok(())
 }
 
 /// A new text, old ones, and what is refused.
@@ -65,9 +71,8 @@ fn is_refused(alloc: Global, new_text: &str, olds: Olds, want: JudgedError) -> b
 }
 
 #[test]
-fn judges_no_other_texts(rt: HostRuntime) -> Result<(), Fail> {
+fn judges_no_other_texts(rt: HostRuntime) {
     for (new_text, olds, want) in &REFUSALS {
         assert!(rt; is_refused(rt.alloc(), new_text, olds, *want), "{new_text}");
     }
-    Ok(())
 }

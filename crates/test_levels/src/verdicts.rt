@@ -1,8 +1,7 @@
 // Which pairs each level asks for, and what is told of the first that clashes.
 use avro_schema::Schema;
-use reg_levels::{Judged, Level, LevelVerdict, check, versions_rise};
+use reg_levels::{Judged, JudgedError, Level, LevelVerdict, check, versions_rise};
 use std::alloc::{AllocError, Global};
-use std::test::Fail;
 
 static LEVELS: [Level; 7] = [
     Level::None,
@@ -218,24 +217,24 @@ static ROWS: [Row; 13] = [
     },
 ];
 
-/// What a verdict tells, by its fields and by its message.
-fn told(alloc: Global, verdict: &LevelVerdict) -> Result<String, AllocError> {
+/// Whether a verdict tells that, by its fields and by its message.
+fn is_told(alloc: Global, verdict: &LevelVerdict, want: &str) -> Result<bool, AllocError> {
     if verdict.ok {
-        let is_bare = verdict.version.is_none()
-            && verdict.direction.is_none()
-            && verdict.trail.is_none();
-        return String::from_str(alloc, if is_bare { OK } else { "ok with a pair" });
+        return Ok(want == OK && names_no_pair(verdict));
     }
-    match verdict.message(alloc)? {
-        Some(message) => Ok(String::from(message)),
-        None => String::from_str(alloc, "no message"),
-    }
+    Ok(matches!(&verdict.message(alloc)?, Some(message) if message.as_str() == want))
 }
 
-fn schemas(alloc: Global, olds: Olds) -> Result<Vec<Schema>, Fail> {
+fn names_no_pair(verdict: &LevelVerdict) -> bool {
+    verdict.version.is_none() && verdict.direction.is_none() && verdict.trail.is_none()
+}
+
+fn schemas(alloc: Global, olds: Olds) -> Result<Vec<Schema>, AllocError> {
     let mut schemas = Vec::new(alloc);
     for old in olds {
-        schemas.push(Schema::read(alloc, old.1)?)?;
+        if let Some(schema) = Schema::read_if_any(alloc, old.1)? {
+            schemas.push(schema)?;
+        }
     }
     Ok(schemas)
 }
@@ -252,39 +251,62 @@ fn versions<'a>(
     Ok(versions)
 }
 
-/// What a check of the schemas tells.
-fn checked(alloc: Global, level: Level, row: &Row) -> Result<String, Fail> {
-    let new = Schema::read(alloc, row.new)?;
-    let schemas = schemas(alloc, row.olds)?;
-    let versions = versions(alloc, row.olds, &schemas)?;
-    if !versions_rise(&versions) {
-        return Ok(String::from_str(alloc, "versions that don't rise")?);
+/// Whether a check of the schemas, which rise, tells that.
+fn is_checked(
+    alloc: Global,
+    level: Level,
+    new: &Schema,
+    olds: &[(u32, &Schema)],
+    want: &str,
+) -> Result<bool, AllocError> {
+    if !versions_rise(olds) {
+        return Ok(false);
     }
-    let verdict = check(alloc, level, &new, &versions)?;
-    Ok(told(alloc, &verdict.clone()?)?)
+    let verdict = check(alloc, level, new, olds)?;
+    is_told(alloc, &verdict.clone()?, want)
 }
 
-/// What a judgement of the texts tells, if it fits what it was made of.
-fn judged(alloc: Global, level: Level, row: &Row) -> Result<String, Fail> {
+/// Whether a check of the texts' schemas tells that.
+fn are_checked(
+    alloc: Global,
+    level: Level,
+    new: &Schema,
+    olds: Olds,
+    want: &str,
+) -> Result<bool, AllocError> {
+    let schemas = schemas(alloc, olds)?;
+    let versions = versions(alloc, olds, &schemas)?;
+    Ok(versions.len() == olds.len() && is_checked(alloc, level, new, &versions, want)?)
+}
+
+fn check_tells(alloc: Global, level: Level, row: &Row, want: &str) -> Result<bool, AllocError> {
+    match &Schema::read_if_any(alloc, row.new)? {
+        Some(new) => are_checked(alloc, level, new, row.olds, want),
+        None => Ok(false),
+    }
+}
+
+/// Whether a judgement of the texts tells that, and fits what it was made of.
+fn judgement_tells(
+    alloc: Global,
+    level: Level,
+    row: &Row,
+    want: &str,
+) -> Result<bool, JudgedError> {
     if !versions_rise(row.olds) {
-        return Ok(String::from_str(alloc, "versions that don't rise")?);
+        return Ok(false);
     }
     let judged = Judged::make(alloc, level, row.new, row.olds)?;
-    if !judged.fits(level, row.new, row.olds) {
-        return Ok(String::from_str(alloc, "no fit")?);
-    }
-    Ok(told(alloc, judged.verdict())?)
+    Ok(judged.fits(level, row.new, row.olds) && is_told(alloc, judged.verdict(), want)?)
 }
 
 #[test]
-fn tells_the_first_clash(rt: HostRuntime) -> Result<(), Fail> {
+fn tells_the_first_clash(rt: HostRuntime) {
     for row in &ROWS {
         for (level, want) in LEVELS.iter().zip(&row.want) {
-            let found = checked(rt.alloc(), *level, row)?;
-            let by_texts = judged(rt.alloc(), *level, row)?;
-            let is_right = found.as_str() == *want && by_texts.as_str() == *want;
-            assert!(rt; is_right, "{level}: {found}, {by_texts}, not {want}");
+            let is_right = check_tells(rt.alloc(), *level, row, want) == Ok(true)
+                && judgement_tells(rt.alloc(), *level, row, want) == Ok(true);
+            assert!(rt; is_right, "{level} of {}: {want}", row.new);
         }
     }
-    Ok(())
 }

@@ -1,8 +1,7 @@
 // Small logs, and the registries over them.
 use reg_fold::Registry;
-use reg_records::{Read, quoted, read_line};
+use reg_records::{Device, LogError, Record, read_log};
 use std::alloc::{AllocError, Global};
-use std::test::Fail;
 
 // Logs by name. A line is a kind, an offset and what the kind has: `S` a subject, version, id and
 // schema, `N` a subject and version without a value, `P` one of another schema language, `D` a
@@ -36,105 +35,171 @@ shared_id => S 1 s 1 1 "int";S 2 t 1 1 "long"
 only_soft => S 1 s 1 1 "int";D 2 s 1
 soft_greatest => S 1 s 2 2 "int";D 2 s 9;S 3 s 1 1 "string""#;
 
-fn scope_text(alloc: Global, word: &str) -> Result<String, AllocError> {
+/// What comes before the first space, and what comes after it.
+pub(crate) fn cut(text: &str) -> (&str, &str) {
+    text.split_once(" ").unwrap_or((text, ""))
+}
+
+/// A text as a string of JSON. It has no control character.
+fn write_text(out: &mut String, text: &str) -> Result<(), AllocError> {
+    out.push('"')?;
+    for letter in text.chars() {
+        if letter == '"' || letter == '\\' {
+            out.push('\\')?;
+        }
+        out.push(letter)?;
+    }
+    out.push('"')
+}
+
+fn write_scope(out: &mut String, word: &str) -> Result<(), AllocError> {
     if word == "*" {
-        String::from_str(alloc, "null")
+        out.push_str("null")
     } else {
-        quoted(alloc, word)
+        write_text(out, word)
     }
 }
 
-// The key and the value of a setting, whose names in the formats are given.
-fn setting_line(alloc: Global, rest: &str, keytype: &str, member: &str) -> Result<String, Fail> {
-    let (scope, name) = rest.split_once(" ").ok_or("a scope")?;
-    let scope = scope_text(alloc, scope)?;
-    let key = format!(in alloc; "{{\"keytype\":\"{keytype}\",\"subject\":{scope},\"magic\":0}}")?;
+/// The key and the value of a setting, whose names in the formats are given.
+fn write_setting(
+    out: &mut String,
+    rest: &str,
+    keytype: &str,
+    member: &str,
+) -> Result<(), AllocError> {
+    let (scope, name) = cut(rest);
+    write!(out, "{{\"keytype\":\"{keytype}\",\"subject\":")?;
+    write_scope(out, scope)?;
+    out.push_str(",\"magic\":0}\t")?;
     if name == "-" {
-        return Ok(format!(in alloc; "{key}\tnull")?);
+        out.push_str("null")
+    } else {
+        write!(out, "{{\"{member}\":\"{name}\"}}")
     }
-    Ok(format!(in alloc; "{key}\t{{\"{member}\":\"{name}\"}}")?)
 }
 
-fn version_key(alloc: Global, subject: &str, version: &str) -> Result<String, AllocError> {
-    let subject = quoted(alloc, subject)?;
-    format!(in alloc;
-        "{{\"keytype\":\"SCHEMA\",\"subject\":{subject},\"version\":{version},\"magic\":1}}"
-    )
+fn write_version_key(out: &mut String, subject: &str, version: &str) -> Result<(), AllocError> {
+    out.push_str("{\"keytype\":\"SCHEMA\",\"subject\":")?;
+    write_text(out, subject)?;
+    write!(out, ",\"version\":{version},\"magic\":1}}\t")
 }
 
-fn schema_line(alloc: Global, rest: &str) -> Result<String, Fail> {
-    let (subject, rest) = rest.split_once(" ").ok_or("a subject")?;
-    let (version, rest) = rest.split_once(" ").ok_or("a version")?;
-    let (id, schema) = rest.split_once(" ").ok_or("an id")?;
-    let key = version_key(alloc, subject, version)?;
-    let name = quoted(alloc, subject)?;
-    let text = quoted(alloc, schema)?;
-    Ok(format!(in alloc;
-        "{key}\t{{\"subject\":{name},\"version\":{version},\"id\":{id},\"schema\":{text},\"deleted\":false}}"
-    )?)
+/// A version's key, and its value up to its schema.
+fn write_version(
+    out: &mut String,
+    subject: &str,
+    version: &str,
+    id: &str,
+) -> Result<(), AllocError> {
+    write_version_key(out, subject, version)?;
+    out.push_str("{\"subject\":")?;
+    write_text(out, subject)?;
+    write!(out, ",\"version\":{version},\"id\":{id},")
 }
 
-fn foreign_schema_line(alloc: Global, rest: &str) -> Result<String, Fail> {
-    let (subject, rest) = rest.split_once(" ").ok_or("a subject")?;
-    let (version, id) = rest.split_once(" ").ok_or("a version")?;
-    let key = version_key(alloc, subject, version)?;
-    Ok(format!(in alloc;
-        "{key}\t{{\"subject\":\"{subject}\",\"version\":{version},\"id\":{id},\"schemaType\":\"PROTOBUF\",\"schema\":\"x\",\"deleted\":false}}"
-    )?)
+fn write_schema(out: &mut String, rest: &str) -> Result<(), AllocError> {
+    let (subject, rest) = cut(rest);
+    let (version, rest) = cut(rest);
+    let (id, schema) = cut(rest);
+    write_version(out, subject, version, id)?;
+    out.push_str("\"schema\":")?;
+    write_text(out, schema)?;
+    out.push_str(",\"deleted\":false}")
 }
 
-fn tombstone_line(alloc: Global, rest: &str) -> Result<String, Fail> {
-    let (subject, version) = rest.split_once(" ").ok_or("a subject")?;
-    let key = version_key(alloc, subject, version)?;
-    Ok(format!(in alloc; "{key}\tnull")?)
+fn write_foreign_schema(out: &mut String, rest: &str) -> Result<(), AllocError> {
+    let (subject, rest) = cut(rest);
+    let (version, id) = cut(rest);
+    write_version(out, subject, version, id)?;
+    out.push_str("\"schemaType\":\"PROTOBUF\",\"schema\":\"x\",\"deleted\":false}")
 }
 
-fn delete_line(alloc: Global, rest: &str) -> Result<String, Fail> {
-    let (subject, version) = rest.split_once(" ").ok_or("a subject")?;
-    let name = quoted(alloc, subject)?;
-    Ok(format!(in alloc;
-        "{{\"keytype\":\"DELETE_SUBJECT\",\"subject\":{name},\"magic\":0}}\t{{\"subject\":{name},\"version\":{version}}}"
-    )?)
+fn write_tombstone(out: &mut String, rest: &str) -> Result<(), AllocError> {
+    let (subject, version) = cut(rest);
+    write_version_key(out, subject, version)?;
+    out.push_str("null")
 }
 
-// The key and value of a line, with a TAB between them.
-fn key_and_value(alloc: Global, kind: &str, rest: &str) -> Result<String, Fail> {
+fn write_delete(out: &mut String, rest: &str) -> Result<(), AllocError> {
+    let (subject, version) = cut(rest);
+    out.push_str("{\"keytype\":\"DELETE_SUBJECT\",\"subject\":")?;
+    write_text(out, subject)?;
+    out.push_str(",\"magic\":0}\t{\"subject\":")?;
+    write_text(out, subject)?;
+    write!(out, ",\"version\":{version}}}")
+}
+
+/// The key and the value of a line, with a TAB between them. Of no kind there is none.
+fn write_fields(out: &mut String, kind: &str, rest: &str) -> Result<(), AllocError> {
     match kind {
-        "S" => schema_line(alloc, rest),
-        "P" => foreign_schema_line(alloc, rest),
-        "N" => tombstone_line(alloc, rest),
-        "D" => delete_line(alloc, rest),
-        "C" => setting_line(alloc, rest, "CONFIG", "compatibilityLevel"),
-        "M" => setting_line(alloc, rest, "MODE", "mode"),
-        _ => Err(Fail::from("a kind")),
+        "S" => write_schema(out, rest),
+        "P" => write_foreign_schema(out, rest),
+        "N" => write_tombstone(out, rest),
+        "D" => write_delete(out, rest),
+        "C" => write_setting(out, rest, "CONFIG", "compatibilityLevel"),
+        "M" => write_setting(out, rest, "MODE", "mode"),
+        _ => Ok(()),
     }
 }
 
-fn line_of(alloc: Global, line: &str) -> Result<String, Fail> {
-    let (kind, rest) = line.split_once(" ").ok_or("a kind")?;
-    let (offset, rest) = rest.split_once(" ").ok_or("an offset")?;
-    let fields = key_and_value(alloc, kind, rest)?;
-    Ok(format!(in alloc; "{offset}\t{fields}\n")?)
+fn write_line(out: &mut String, line: &str) -> Result<(), AllocError> {
+    let (kind, rest) = cut(line);
+    let (offset, rest) = cut(rest);
+    out.push_str(offset)?;
+    out.push('\t')?;
+    write_fields(out, kind, rest)?;
+    out.push('\n')
 }
 
-fn apply_line(alloc: Global, registry: &mut Registry, line: &str) -> Result<(), Fail> {
-    let text = line_of(alloc, line)?;
-    match read_line(alloc, text.as_bytes())? {
-        Read::Record(record) => Ok(registry.apply(&record)?),
-        Read::Foreign(_) => Err(Fail::from("a record")),
+/// The lines of a log; of no such log one that can't be read.
+fn lines_of(name: &str) -> &'static str {
+    for log in LOGS.lines() {
+        if let Some((found, lines)) = log.split_once(" => ") {
+            if found == name {
+                return lines;
+            }
+        }
     }
+    "no log"
 }
 
-/// The registry over the records of a log.
-pub(crate) fn registry_of(alloc: Global, name: &str) -> Result<Registry, Fail> {
+fn write_log(out: &mut String, lines: &str) -> Result<(), AllocError> {
+    if lines.is_empty() {
+        return Ok(());
+    }
+    for line in lines.split(";") {
+        write_line(out, line)?;
+    }
+    Ok(())
+}
+
+fn log_of(alloc: Global, name: &str) -> Result<String, AllocError> {
+    let mut log = String::new(alloc);
+    write_log(&mut log, lines_of(name))?;
+    Ok(log)
+}
+
+fn records_of(alloc: Global, name: &str) -> Result<Vec<Record>, LogError> {
+    let log = log_of(alloc, name)?;
+    let mut reader = Device::new(log.as_bytes());
+    Ok(read_log(alloc, &mut reader)?.records)
+}
+
+fn fill(registry: &mut Registry, records: &[Record]) -> Result<(), AllocError> {
+    for record in records {
+        registry.apply(record)?;
+    }
+    Ok(())
+}
+
+fn filled(alloc: Global, records: &[Record]) -> Result<Registry, AllocError> {
     let mut registry = Registry::empty(alloc);
-    let (_, lines) = LOGS
-        .lines()
-        .filter_map(|log| log.split_once(" => "))
-        .find(|log| log.0 == name)
-        .ok_or("a log")?;
-    for line in lines.split(";").filter(|line| !line.is_empty()) {
-        apply_line(alloc, &mut registry, line)?;
-    }
+    fill(&mut registry, records)?;
     Ok(registry)
+}
+
+/// The registry over the records of a log, which it takes one by one.
+pub(crate) fn registry_of(alloc: Global, name: &str) -> Result<Registry, LogError> {
+    let records = records_of(alloc, name)?;
+    Ok(filled(alloc, &records)?)
 }

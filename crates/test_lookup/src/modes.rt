@@ -2,7 +2,8 @@
 use crate::logs::registry_of;
 use reg_fold::{Reason, Refusal};
 use reg_modes::{Mode, may_register, may_set_import, may_write};
-use std::test::Fail;
+use reg_records::LogError;
+use std::alloc::Global;
 
 /// A mode, and why registrations without an id, with one, and other writes are refused.
 static PERMITS: [(Mode, Option<Reason>, Option<Reason>, Option<Reason>); 3] = [
@@ -48,37 +49,43 @@ fn refused(permit: Result<(), Refusal>) -> Option<Reason> {
 }
 
 #[test]
-fn modes_permit_or_say_why_not(rt: HostRuntime) -> Result<(), Fail> {
-    for (mode, register, import, write) in PERMITS {
-        assert_eq!(rt; refused(may_register(mode, false)), register);
-        assert_eq!(rt; refused(may_register(mode, true)), import);
-        assert_eq!(rt; refused(may_write(mode)), write);
+fn modes_permit_or_say_why_not(rt: HostRuntime) {
+    for (mode, register, import, write) in &PERMITS {
+        let found = (
+            refused(may_register(*mode, false)),
+            refused(may_register(*mode, true)),
+            refused(may_write(*mode)),
+        );
+        assert!(rt; found == (*register, *import, *write));
     }
-    Ok(())
+}
+
+fn import_refused(
+    alloc: Global,
+    log: &str,
+    scope: Option<&str>,
+    force: bool,
+) -> Result<Option<Reason>, LogError> {
+    let registry = registry_of(alloc, log)?;
+    Ok(refused(may_set_import(&registry, scope, force)))
 }
 
 #[test]
-fn import_is_set_over_no_live_version(rt: HostRuntime) -> Result<(), Fail> {
-    for (log, scope, force, permitted) in IMPORTS {
-        let registry = registry_of(rt.alloc(), log)?;
-        let reason = if permitted {
+fn import_is_set_over_no_live_version(rt: HostRuntime) {
+    for (log, scope, force, permitted) in &IMPORTS {
+        let reason = if *permitted {
             None
         } else {
             Some(Reason::ScopeIsNotEmpty)
         };
-        assert_eq!(rt;
-            refused(may_set_import(&registry, scope, force)),
-            reason,
-            "{log}"
-        );
+        let found = import_refused(rt.alloc(), log, *scope, *force);
+        assert!(rt; found == Ok(reason), "{log}");
     }
-    Ok(())
 }
 
 #[test]
-fn modes_have_their_names(rt: HostRuntime) -> Result<(), Fail> {
-    for (name, mode) in NAMES {
-        assert_eq!(rt; Mode::parse(name), mode, "{name}");
+fn modes_have_their_names(rt: HostRuntime) {
+    for (name, mode) in &NAMES {
+        assert!(rt; Mode::parse(name) == *mode, "{name}");
     }
-    Ok(())
 }

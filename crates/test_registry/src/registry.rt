@@ -7,13 +7,12 @@ mod side_by_side;
 use crate::lines::{Line, in_order, records_of};
 use answers::{Ask, answer};
 use plain::PlainRegistry;
-use reg_fold::{Reason, Refusal, Registry, StoreFault};
+use reg_fold::{Allow, Reason, Refusal, Registry, StoreFault};
 use reg_records::{LogError, Record};
 use reg_set::RecordSet;
 use rows::{ENTRIES, LEVELS, LIVE};
 use side_by_side::is_like;
 use std::alloc::{AllocError, Global};
-use std::test::Fail;
 
 /// What a row shows, the lines of a log, how many orders of them are tried, and what the registry
 /// answers in each.
@@ -49,9 +48,9 @@ fn grow(registry: &mut Registry, records: &[Record]) -> Result<(), AllocError> {
 }
 
 fn fill_in_halves(registry: &mut Registry, records: &[Record]) -> Result<(), AllocError> {
-    let (front, back) = records.split_at(records.len() / 3);
-    registry.apply_all(back)?;
-    registry.apply_all(front)
+    let third = records.len() / 3;
+    registry.apply_all(records.get(third..).unwrap_or(&[]))?;
+    registry.apply_all(records.get(..third).unwrap_or(&[]))
 }
 
 fn add(registry: &mut Registry, records: &[Record], way: Way) -> Result<(), AllocError> {
@@ -62,13 +61,22 @@ fn add(registry: &mut Registry, records: &[Record], way: Way) -> Result<(), Allo
     }
 }
 
-fn registry_of(alloc: Global, records: &[Record], way: Way) -> Result<Registry, AllocError> {
-    if let Way::Read = way {
-        return Registry::of_set(alloc, &RecordSet::of(alloc, records)?);
-    }
+fn added(alloc: Global, records: &[Record], way: Way) -> Result<Registry, AllocError> {
     let mut registry = Registry::empty(alloc);
     add(&mut registry, records, way)?;
     Ok(registry)
+}
+
+fn read(alloc: Global, records: &[Record]) -> Result<Registry, AllocError> {
+    let set = RecordSet::of(alloc, records)?;
+    Registry::of_set(alloc, &set)
+}
+
+fn registry_of(alloc: Global, records: &[Record], way: Way) -> Result<Registry, AllocError> {
+    match way {
+        Way::Read => read(alloc, records),
+        Way::Grown | Way::Filled | Way::Halved => added(alloc, records, way),
+    }
 }
 
 fn is_answered(
@@ -141,13 +149,10 @@ fn orders_hold(alloc: Global, row: &Row) -> Result<bool, LogError> {
     Ok(true)
 }
 
-fn tables() -> [&'static [Row]; 3] {
-    [&LIVE, &ENTRIES, &LEVELS]
-}
-
 #[test]
 fn the_last_records_give_the_answers(rt: HostRuntime) {
-    for rows in tables() {
+    let tables: [&[Row]; 3] = [&LIVE, &ENTRIES, &LEVELS];
+    for rows in tables {
         for row in rows {
             assert!(rt; orders_hold(rt.alloc(), row) == Ok(true), "{}", row.what);
         }
@@ -155,9 +160,23 @@ fn the_last_records_give_the_answers(rt: HostRuntime) {
 }
 
 /// Refusals, each with its code, status, reason, or `-` where its code has but one, and message.
-const REFUSALS: [(Refusal, &str); 28] = [
+const REFUSALS: [(Refusal, &str); 33] = [
     (Refusal::BadRequest, "400 400 - | Bad Request"),
     (Refusal::NotFound, "404 404 - | Not Found"),
+    (
+        Refusal::MethodNotAllowed(Allow::PostDelete),
+        "405 405 - | Method Not Allowed",
+    ),
+    (Refusal::LengthRequired, "411 411 - | Length Required"),
+    (Refusal::PayloadTooLarge, "413 413 - | Payload Too Large"),
+    (
+        Refusal::UnsupportedMediaType,
+        "415 415 - | Unsupported Media Type",
+    ),
+    (
+        Refusal::HeadTooLarge,
+        "431 431 - | Request Header Fields Too Large",
+    ),
     (Refusal::SubjectNotFound, "40401 404 - | Subject not found"),
     (Refusal::VersionNotFound, "40402 404 - | Version not found"),
     (Refusal::SchemaNotFound, "40403 404 - | Schema not found"),
@@ -246,18 +265,20 @@ const REFUSALS: [(Refusal, &str); 28] = [
     ),
 ];
 
-/// What a refusal says; its text is its message.
-fn said(alloc: Global, refusal: &Refusal) -> Result<String, AllocError> {
+/// Whether a refusal says that; its text is its message.
+fn says(alloc: Global, refusal: &Refusal, expected: &str) -> Result<bool, AllocError> {
     let (code, status) = (refusal.code(), refusal.status());
     let reason = refusal.reason().unwrap_or("-");
-    format!(in alloc; "{code} {status} {reason} | {refusal}")
+    let said = format!(in alloc; "{code} {status} {reason} | {refusal}")?;
+    Ok(said.as_str() == expected && expected.ends_with(refusal.message()))
 }
 
 #[test]
-fn a_refusal_has_its_code_and_message(rt: HostRuntime) -> Result<(), Fail> {
+fn a_refusal_has_its_code_and_message(rt: HostRuntime) {
     for (refusal, expected) in &REFUSALS {
-        assert_eq!(rt; said(rt.alloc(), refusal)?.as_str(), *expected);
-        assert!(rt; expected.ends_with(refusal.message()));
+        assert!(rt;
+            says(rt.alloc(), refusal, expected) == Ok(true),
+            "{expected}"
+        );
     }
-    Ok(())
 }

@@ -3,7 +3,7 @@ use reg_records::{Device, LINE_READS, LineError, LogError, LogFault, read_log};
 use std::alloc::Global;
 use std::io::{self, BufRead, ErrorKind, Read, Write};
 
-const KINDS: [ErrorKind; 12] = [
+static KINDS: [ErrorKind; 12] = [
     ErrorKind::Interrupted,
     ErrorKind::BrokenPipe,
     ErrorKind::TimedOut,
@@ -40,31 +40,33 @@ impl Write for Failing {
     }
 }
 
-// The kinds that a read, a write and a flush answer, and the faults after each.
-fn answers(kind: ErrorKind) -> [(Option<ErrorKind>, u64); 3] {
+fn kind_of<T: Drop>(answer: io::Result<T>) -> Option<ErrorKind> {
+    match answer {
+        Ok(_) => None,
+        Err(error) => Some(error.kind()),
+    }
+}
+
+// Whether a read, a write and a flush answer that kind, and the faults that are counted after each.
+fn are_handed_on(kind: ErrorKind, faults: (u64, u64, u64)) -> bool {
     let mut device = Device::new(Failing { kind });
-    let read = device.read(&mut [0u8; 4]).err().map(|e| e.kind());
+    let read = kind_of(device.read(&mut [0u8; 4]));
     let after_read = device.faults();
-    let write = device.write(b"abcd").err().map(|e| e.kind());
+    let write = kind_of(device.write(b"abcd"));
     let after_write = device.faults();
-    let flush = device.flush().err().map(|e| e.kind());
-    [
-        (read, after_read),
-        (write, after_write),
-        (flush, device.faults()),
-    ]
+    let flush = kind_of(device.flush());
+    (read, write, flush) == (Some(kind), Some(kind), Some(kind))
+        && (after_read, after_write, device.faults()) == faults
 }
 
 #[test]
 fn errors_are_handed_on_and_counted(rt: HostRuntime) {
-    for kind in KINDS {
-        let fault = u64::from(kind != ErrorKind::Interrupted);
-        let expected = [
-            (Some(kind), fault),
-            (Some(kind), 2 * fault),
-            (Some(kind), 3 * fault),
-        ];
-        assert!(rt; answers(kind) == expected);
+    for kind in &KINDS {
+        let faults = match kind {
+            ErrorKind::Interrupted => (0, 0, 0),
+            _ => (1, 2, 3),
+        };
+        assert!(rt; are_handed_on(*kind, faults));
     }
 }
 
@@ -111,72 +113,74 @@ fn broken_line(kind: ErrorKind, failures: u64) -> Device<Faltering<'static>> {
     })
 }
 
+/// How a reader's log ends.
+fn error_of<R: BufRead>(alloc: Global, reader: &mut Device<R>) -> Option<LogError> {
+    match read_log(alloc, reader) {
+        Ok(_log) => None,
+        Err(error) => Some(error),
+    }
+}
+
+/// Whether a line is read on where its reader is interrupted once, and else its fault is told.
+fn is_told_once(alloc: Global, kind: ErrorKind) -> bool {
+    let mut reader = broken_line(kind, 1);
+    let told = error_of(alloc, &mut reader);
+    let expected = match kind {
+        ErrorKind::Interrupted => (None, 0),
+        _ => (Some(LogError::ReadFault { line: 2 }), 1),
+    };
+    (told, reader.faults()) == expected
+}
+
 #[test]
 fn an_interrupted_line_is_read_on_and_a_fault_is_told(rt: HostRuntime) {
-    for kind in KINDS {
-        let mut reader = broken_line(kind, 1);
-        let told = read_log(rt.alloc(), &mut reader).err();
-        let expected = match kind {
-            ErrorKind::Interrupted => (None, 0),
-            _ => (Some(LogError::ReadFault { line: 2 }), 1),
-        };
-        assert!(rt; (told, reader.faults()) == expected);
+    for kind in &KINDS {
+        assert!(rt; is_told_once(rt.alloc(), *kind));
     }
+}
+
+/// Whether a line is given up at its last read, and what is left is read on: it begins with a line
+/// of one TAB, which comes in the last read that a line may take.
+fn takes_its_reads(alloc: Global) -> bool {
+    let mut reader = broken_line(ErrorKind::Interrupted, 2 * LINE_READS - 2);
+    let first = error_of(alloc, &mut reader);
+    let reads = reader.reads();
+    let again = error_of(alloc, &mut reader);
+    (first, reads) == (Some(LogError::ReadFault { line: 2 }), LINE_READS)
+        && (again, reader.faults()) == (fault_at(Some((1, LineError::BadTabs))), 0)
 }
 
 #[test]
 fn a_line_takes_its_reads_and_no_more(rt: HostRuntime) {
-    let alloc = rt.alloc();
-    let mut reader = broken_line(ErrorKind::Interrupted, 2 * LINE_READS - 2);
-    let first = read_log(alloc, &mut reader).err();
-    let reads = reader.reads();
-    // What is left begins with a line of one TAB, which comes in the last read that a line may take.
-    let again = read_log(alloc, &mut reader).err();
-    let bad_tabs = LogError::Fault {
-        line: 1,
-        fault: LogFault::Line(LineError::BadTabs),
-    };
-    let told = (first, reads, again, reader.faults());
-    let expected = (
-        Some(LogError::ReadFault { line: 2 }),
-        LINE_READS,
-        Some(bad_tabs),
-        0,
-    );
-    assert!(rt; told == expected);
+    assert!(rt; takes_its_reads(rt.alloc()));
 }
 
-// The error of a log, and what is left of its text.
-fn left(alloc: Global, text: &[u8]) -> (Option<LogError>, &[u8]) {
-    let mut reader = Device::new(text);
-    let told = read_log(alloc, &mut reader).err();
-    (told, reader.into_inner())
+/// Logs, the lines with their first faults, and what is left of their texts.
+static LEFT: [(&str, Option<(u64, LineError)>, &str); 4] = [
+    ("07\tk\tnull\n8\n", Some((1, LineError::BadOffset)), "8\n"),
+    ("7\tk\tnull\n8\n\n", Some((2, LineError::BadTabs)), "\n"),
+    ("7\tk\tnull\n8", Some((2, LineError::Truncated)), ""),
+    ("7\tk\tnull\n\n8\n", None, "8\n"),
+];
+
+fn fault_at(place: Option<(u64, LineError)>) -> Option<LogError> {
+    match place {
+        Some((line, fault)) => Some(LogError::Fault {
+            line,
+            fault: LogFault::Line(fault),
+        }),
+        None => None,
+    }
+}
+
+fn leaves(alloc: Global, text: &str, fault: Option<(u64, LineError)>, rest: &str) -> bool {
+    let mut reader = Device::new(text.as_bytes());
+    error_of(alloc, &mut reader) == fault_at(fault) && reader.into_inner() == rest.as_bytes()
 }
 
 #[test]
 fn a_line_is_taken_before_its_fault_is_told(rt: HostRuntime) {
-    for (text, fault, rest) in [
-        (
-            b"07\tk\tnull\n8\n".as_slice(),
-            Some((1, LineError::BadOffset)),
-            b"8\n".as_slice(),
-        ),
-        (
-            b"7\tk\tnull\n8\n\n".as_slice(),
-            Some((2, LineError::BadTabs)),
-            b"\n".as_slice(),
-        ),
-        (
-            b"7\tk\tnull\n8".as_slice(),
-            Some((2, LineError::Truncated)),
-            b"".as_slice(),
-        ),
-        (b"7\tk\tnull\n\n8\n".as_slice(), None, b"8\n".as_slice()),
-    ] {
-        let told = fault.map(|(line, fault)| LogError::Fault {
-            line,
-            fault: LogFault::Line(fault),
-        });
-        assert!(rt; left(rt.alloc(), text) == (told, rest));
+    for (text, fault, rest) in &LEFT {
+        assert!(rt; leaves(rt.alloc(), text, *fault, rest), "{text}");
     }
 }

@@ -4,20 +4,29 @@ mod rows;
 use crate::lines::{Line, log_of, records_of};
 use base_text::Text;
 use reg_records::{
-    Key, LogError, Record, decode_value, has_line, limits_are_as_written, lines_are_of_the_grammar,
-    write_line, written_keys_are_apart, written_values_have_lines, written_values_read_back,
+    Key, LogError, Record, Value, decode_value, has_line, limits_are_as_written,
+    lines_are_of_the_grammar, write_line, written_keys_are_apart, written_values_have_lines,
+    written_values_read_back,
 };
 use rows::{FOREIGN, ROWS, Row};
 use std::alloc::{AllocError, Global};
 
-fn is_value(alloc: Global, found: &Record, wanted: &str) -> Result<bool, AllocError> {
-    let Some(value) = decode_value(alloc, found)? else {
-        return Ok(wanted.is_empty());
-    };
-    Ok(match value.written(alloc)? {
+fn is_text(text: &Option<Text>, wanted: &str) -> bool {
+    match text {
         Some(text) => text.as_str() == wanted,
         None => wanted.is_empty(),
-    })
+    }
+}
+
+fn is_written_as(alloc: Global, value: &Value, wanted: &str) -> Result<bool, AllocError> {
+    Ok(is_text(&value.written(alloc)?, wanted))
+}
+
+fn is_value(alloc: Global, found: &Record, wanted: &str) -> Result<bool, AllocError> {
+    match &decode_value(alloc, found)? {
+        Some(value) => is_written_as(alloc, value, wanted),
+        None => Ok(wanted.is_empty()),
+    }
 }
 
 /// Whether the line that is written for a record is that one.
@@ -84,12 +93,11 @@ static HAVE_LINES: [(u64, u32, &str, bool); 7] = [
 ];
 
 fn has_a_line(alloc: Global, offset: u64, version: u32, value: &str) -> Result<bool, AllocError> {
-    let value = Text::copy_of(alloc, value)?;
     let subject = Text::copy_of(alloc, "s")?;
     Ok(has_line(&Record {
         offset,
         key: Key::Schema { subject, version },
-        value: Some(value),
+        value: Some(Text::copy_of(alloc, value)?),
     }))
 }
 

@@ -20,27 +20,73 @@ enum Outcome {
     Owes(Vec<Reached>),
 }
 
+/// The pairs that were reached, in their order.
+#[derive(Drop)]
+struct Search {
+    seen: BTreeSet<(usize, usize)>,
+    reached: Vec<Reached>,
+}
+
 /// The text of the verdict, and of the trail where there is one.
 pub fn plain_verdict(alloc: Global, r: &Schema, w: &Schema) -> Result<String, AllocError> {
-    let mut seen = BTreeSet::new(alloc);
-    let mut reached = Vec::new(alloc);
-    seen.insert((0, 0))?;
-    reached.push(Reached {
-        way: String::new(alloc),
-        reader: r.root(),
-        writer: w.root(),
-    })?;
+    let mut search = Search {
+        seen: BTreeSet::new(alloc),
+        reached: Vec::new(alloc),
+    };
+    search.reach(String::new(alloc), r.root(), w.root())?;
     for head in 0..r.node_count().saturating_mul(w.node_count()) {
-        let Some(next) = reached.get(head) else {
+        if head >= search.reached.len() {
             break;
-        };
-        let way = next.way.clone()?;
-        match outcome_of(alloc, r, next.reader, w, next.writer)? {
-            Outcome::Clash(kind) => return shown(alloc, &way, &kind),
-            Outcome::Owes(pairs) => add(alloc, &mut seen, &mut reached, &way, pairs)?,
+        }
+        if let Some(clash) = search.step(alloc, r, w, head)? {
+            return Ok(clash);
         }
     }
     String::from_str(alloc, "compatible")
+}
+
+impl Search {
+    /// Adds a pair if it wasn't reached before.
+    fn reach(&mut self, way: String, reader: NodeId, writer: NodeId) -> Result<(), AllocError> {
+        if self.seen.insert((reader.index, writer.index))? {
+            self.reached.push(Reached {
+                way,
+                reader,
+                writer,
+            })?;
+        }
+        Ok(())
+    }
+
+    /// Adds what that pair owes, or gives the text of its clash.
+    fn step(
+        &mut self,
+        alloc: Global,
+        r: &Schema,
+        w: &Schema,
+        head: usize,
+    ) -> Result<Option<String>, AllocError> {
+        let Some(next) = self.reached.get(head) else {
+            return Ok(None);
+        };
+        let way = next.way.clone()?;
+        match outcome_of(alloc, r, next.reader, w, next.writer)? {
+            Outcome::Clash(kind) => Ok(Some(shown(alloc, &way, &kind)?)),
+            Outcome::Owes(pairs) => {
+                self.add(alloc, &way, pairs)?;
+                Ok(None)
+            }
+        }
+    }
+
+    fn add(&mut self, alloc: Global, way: &String, pairs: Vec<Reached>) -> Result<(), AllocError> {
+        for pair in pairs {
+            let hop = &pair.way;
+            let way = format!(in alloc; "{way}/{hop}")?;
+            self.reach(way, pair.reader, pair.writer)?;
+        }
+        Ok(())
+    }
 }
 
 fn shown(alloc: Global, way: &String, kind: &String) -> Result<String, AllocError> {
@@ -48,28 +94,6 @@ fn shown(alloc: Global, way: &String, kind: &String) -> Result<String, AllocErro
         return format!(in alloc; "/: {kind}");
     }
     format!(in alloc; "{way}: {kind}")
-}
-
-/// Adds the pairs that weren't reached before.
-fn add(
-    alloc: Global,
-    seen: &mut BTreeSet<(usize, usize)>,
-    reached: &mut Vec<Reached>,
-    way: &String,
-    pairs: Vec<Reached>,
-) -> Result<(), AllocError> {
-    for pair in pairs {
-        if seen.insert((pair.reader.index, pair.writer.index))? {
-            let hop = &pair.way;
-            let way = format!(in alloc; "{way}/{hop}")?;
-            reached.push(Reached {
-                way,
-                reader: pair.reader,
-                writer: pair.writer,
-            })?;
-        }
-    }
-    Ok(())
 }
 
 /// The node of that id, if there is one.

@@ -94,8 +94,7 @@ impl Random {
         let mut text = self.head(alloc)?;
         for number in 0..fields {
             let of = self.type_at(number);
-            let field = format!(in alloc; ",{{\"name\":\"f{number}\",\"type\":{of}}}")?;
-            text.push_str(field.as_str())?;
+            write!(text, ",{{\"name\":\"f{number}\",\"type\":{of}}}")?;
         }
         text.push_str("]}")?;
         Ok(text)
@@ -109,30 +108,36 @@ impl Random {
         let step = self.below(many - 1).saturating_add(1);
         let mut number = self.below(many);
         for _ in 0..many {
-            let field = self.field(alloc, number)?;
-            text.push_str(field.as_str())?;
+            self.write_field(&mut text, number)?;
             number = number.saturating_add(step) % many;
         }
         text.push_str("]}")?;
         Ok(text)
     }
 
-    fn field(&mut self, alloc: Global, number: usize) -> Result<String, AllocError> {
+    fn write_field(&mut self, text: &mut String, number: usize) -> Result<(), AllocError> {
         let of = self.type_at(number);
         match self.shape() {
-            Shape::Same => { format!(in alloc; ",{{\"name\":\"f{number}\",\"type\":{of}}}") }
+            Shape::Same => write!(text, ",{{\"name\":\"f{number}\",\"type\":{of}}}"),
             Shape::WithDefault => {
-                format!(in alloc; ",{{\"name\":\"f{number}\",\"type\":{of},\"default\":0}}")
+                write!(
+                    text,
+                    ",{{\"name\":\"f{number}\",\"type\":{of},\"default\":0}}"
+                )
             }
             Shape::Renamed => {
-                format!(in alloc;
+                write!(
+                    text,
                     ",{{\"name\":\"g{number}\",\"aliases\":[\"z\",\"f{number}\"],\"type\":{of}}}"
                 )
             }
             Shape::Added => {
-                format!(in alloc; ",{{\"name\":\"h{number}\",\"type\":{of},\"default\":0}}")
+                write!(
+                    text,
+                    ",{{\"name\":\"h{number}\",\"type\":{of},\"default\":0}}"
+                )
             }
-            Shape::Dropped => Ok(String::new(alloc)),
+            Shape::Dropped => Ok(()),
         }
     }
 

@@ -109,7 +109,7 @@ impl PlainRegistry {
     }
 
     fn fill(&mut self, lines: &[Line]) -> Result<(), AllocError> {
-        for subject in SUBJECTS {
+        for subject in &SUBJECTS {
             for version in 1..NUMBERS {
                 if let Some(said) = last(lines, subject, version) {
                     self.add(lines, said)?;

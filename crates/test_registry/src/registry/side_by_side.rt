@@ -82,7 +82,7 @@ fn have_ids(registry: &Registry, plain: &PlainRegistry) -> bool {
 }
 
 fn have_subjects(registry: &Registry, plain: &PlainRegistry) -> Result<bool, AllocError> {
-    for subject in SUBJECTS {
+    for subject in &SUBJECTS {
         if registry.greatest_version(subject) != plain.greatest_version(subject)
             || !are_entries(&registry.live(subject)?, plain, Some(subject))
         {
@@ -92,9 +92,16 @@ fn have_subjects(registry: &Registry, plain: &PlainRegistry) -> Result<bool, All
     Ok(true)
 }
 
+/// The normal texts of the schemas, and their names.
+static NORMALS: [(&str, &str); 3] = [
+    ("\"int\"", "int"),
+    ("\"long\"", "long"),
+    ("\"string\"", "string"),
+];
+
 fn have_schemas(registry: &Registry, plain: &PlainRegistry) -> Result<bool, AllocError> {
-    for normal in ["\"int\"", "\"long\"", "\"string\""] {
-        if registry.id_of(normal)? != plain.id_of(normal.trim_matches('"')) {
+    for (normal, name) in &NORMALS {
+        if registry.id_of(normal)? != plain.id_of(name) {
             return Ok(false);
         }
     }
@@ -181,10 +188,10 @@ static LISTS: [List; 5] = [
 #[test]
 fn drawn_lines_give_the_same_registry(rt: HostRuntime) {
     let mut draws = Draws::new(2027);
-    for list in LISTS {
+    for list in &LISTS {
         for _ in 0..list.lists {
-            let is_alike = one_list_alike(rt.alloc(), &mut draws, list);
-            assert!(rt; matches!(is_alike, Ok(true)));
+            let is_alike = one_list_alike(rt.alloc(), &mut draws, *list);
+            assert!(rt; is_alike == Ok(true));
         }
     }
 }

@@ -1,0 +1,65 @@
+// What is replied and written, in words; lines have a `|` in the place of each TAB.
+use base_text::Listed;
+use reg_fold::Refusal;
+use reg_leader::{Decision, Reply};
+use reg_records::{Record, has_line, write_line};
+use std::alloc::{AllocError, Global};
+use std::test::Fail;
+
+fn versions_text(alloc: Global, versions: &Listed<u32>) -> Result<String, AllocError> {
+    let mut text = String::from_str(alloc, "[")?;
+    for version in versions.as_slice() {
+        if text.len() > 1 {
+            text.push(',')?;
+        }
+        text.push_str(format!(in alloc; "{version}")?.as_str())?;
+    }
+    text.push(']')?;
+    Ok(text)
+}
+
+fn refusal_text(alloc: Global, refusal: &Refusal) -> Result<String, AllocError> {
+    let code = refusal.code();
+    let message = refusal.message();
+    format!(in alloc; "{code} {message}")
+}
+
+pub fn reply_text(alloc: Global, reply: &Reply) -> Result<String, AllocError> {
+    match reply {
+        Reply::Id(id) => format!(in alloc; "{{\"id\":{id}}}"),
+        Reply::Version(version) => format!(in alloc; "{version}"),
+        Reply::Versions(versions) => versions_text(alloc, versions),
+        Reply::Level(level) => format!(in alloc; "level {level}"),
+        Reply::LevelRemoved(level) => format!(in alloc; "removed level {level}"),
+        Reply::Mode(mode) => format!(in alloc; "mode {mode}"),
+        Reply::ModeRemoved(mode) => format!(in alloc; "removed mode {mode}"),
+        Reply::Nothing => String::from_str(alloc, "nothing"),
+        Reply::Refused(refusal) => refusal_text(alloc, refusal),
+        Reply::Unsettled(offset) => format!(in alloc; "unsettled {offset}"),
+    }
+}
+
+fn push_line(alloc: Global, told: &mut Vec<u8>, record: &Record) -> Result<(), Fail> {
+    if !has_line(record) {
+        return Err(Fail::from("a line"));
+    }
+    let line = write_line(alloc, record)?;
+    told.push(b'\n')?;
+    for byte in line.as_slice() {
+        match *byte {
+            b'\n' => {}
+            b'\t' => told.push(b'|')?,
+            other => told.push(other)?,
+        }
+    }
+    Ok(())
+}
+
+// The reply, and below it the lines that are written.
+pub fn told(alloc: Global, decision: &Decision) -> Result<Vec<u8>, Fail> {
+    let mut told = reply_text(alloc, &decision.reply)?.into_bytes();
+    for record in decision.batch.as_slice() {
+        push_line(alloc, &mut told, record)?;
+    }
+    Ok(told)
+}
