@@ -51,7 +51,9 @@ impl Topic {
     pub fn may_drop(&self, dropped: &[Record]) -> bool
         ensures { result ≡ may_drop self.now.kept dropped.now }
     {
-        dropped.iter().all(|record| self.kept.contains(record) && !is_last(&self.kept, record))
+        dropped
+            .iter()
+            .all(|given| self.kept.contains(given) && !is_last(&self.kept, given))
     }
 
     /// Publishes a batch, as `publish` does a commit of it.
@@ -108,12 +110,12 @@ fn goes_on(next: u64, batch: &[Record]) -> bool
 }
 
 /// Whether the record is the last of its key.
-fn is_last(kept: &RecordSet, record: &Record) -> bool
-    ensures { result ≡ is_last kept.now record.now }
+fn is_last(kept: &RecordSet, given: &Record) -> bool
+    ensures { result ≡ is_last kept.now given.now }
 {
     records_are_ordered();
-    match kept.last(&record.key) {
-        Some(last) => *last == *record,
+    match kept.last(&given.key) {
+        Some(last) => *last == *given,
         None => false,
     }
 }
@@ -134,12 +136,12 @@ fn without(alloc: Global, kept: &RecordSet, dropped: &[Record]) -> Result<Record
 fn take_unless_gone(
     left: &mut RecordSet,
     gone: &RecordSet,
-    record: &Record,
+    given: &Record,
 ) -> Result<(), AllocError>
-    ensures { OnOk result (left.new ≡ (if contains gone.now record.now then left.old else insert left.old record.now)) }
+    ensures { OnOk result (left.new ≡ (if contains gone.now given.now then left.old else insert left.old given.now)) }
 {
-    if !gone.contains(record) {
-        left.take(record)?;
+    if !gone.contains(given) {
+        left.take(given)?;
     }
     Ok(())
 }

@@ -11,13 +11,13 @@ pub returns-in-Some : goal.returns-in-Some
 returns-in-Some c =
     let o = c.records_are_ordered.ensures in
     let s = c.args.kept.now in
-    let r = c.args.record.now in
+    let r = c.args.given.now in
     let is : last s r.key ≡ Some c.in-Some.last.now = search rules in
     c.eq.ensures ∙ eq-by_cmp o.all o.apart c.in-Some.last.now r ∙ ap (λ o. option_map_or (eq_by_cmp record_cmp r) o false) (sym is) ∙ sym (is_last-of s r)
 
 pub returns-in-None : goal.returns-in-None
 returns-in-None c =
     let s = c.args.kept.now in
-    let r = c.args.record.now in
+    let r = c.args.given.now in
     let is : last s r.key ≡ None = search rules in
     ap (λ o. option_map_or (eq_by_cmp record_cmp r) o false) (sym is) ∙ sym (is_last-of s r)
