@@ -14,14 +14,13 @@ use Rattle.std.specs.Ordering.{eq_by_cmp, is_eq, is_le}
 use Rattle.reg_records.specs.contracts.key.KeyOrd.TheImpl.Laws.{total-law}
 use Rattle.reg_records.specs.declared.key.Key.{Key}
 use Rattle.reg_records.specs.declared.record.Record.{Record}
-use Rattle.reg_set.specs.Index.{stored_cmp, last_at, IsByKey}
+use Rattle.reg_set.specs.Index.{last_at, IsByKey}
 use Rattle.reg_set.specs.LastRecords.{last, last_records}
-use Rattle.reg_set.specs.RecordOrder.{age_cmp, record_cmp}
+use Rattle.reg_set.specs.RecordOrder.{age_cmp, key_cmp, record_cmp}
 use Rattle.reg_set.specs.Records.{Records}
-use Rattle.reg_set.proofs.Indexed.{stored-ties}
 use Rattle.reg_set.proofs.Lasts.{equal, le_itself, last-greatest, last-absent}
 use Rattle.reg_set.proofs.OneEach.{compact_from}
-use Rattle.reg_set.proofs.Orders.{record_cmp-total, record_cmp-ties}
+use Rattle.reg_set.proofs.Orders.{key_cmp-ties, record_cmp-total, record_cmp-ties}
 use Rattle.reg_set.proofs.Unions.{same_answers}
 
 -- a value has a place
@@ -88,25 +87,25 @@ module _ (m : BTreeMap Key Record) (by_key : IsByKey m) where
   compact-set_of = compact_from (set_of m) (λ r h. last-set_of r.key ∙ found r h)
 
 -- a map after one change
-module _ (m n : BTreeMap Key Record) (by_key : IsByKey m) (ordered : IsOrdered stored_cmp n) (key : Key) (o : Option Record) (updates : Updates stored_cmp m n key o) (of_key : IfSome o (λ r. r.key ≡ key)) where
+module _ (m n : BTreeMap Key Record) (by_key : IsByKey m) (ordered : IsOrdered key_cmp n) (key : Key) (o : Option Record) (updates : Updates key_cmp m n key o) (of_key : IfSome o (λ r. r.key ≡ key)) where
   pub IsByKey-updated : IsByKey n
   IsByKey-updated = record {
     is_ordered = ordered;
     of_keys = λ q. subst (λ x. IfSome x (λ r. r.key ≡ q)) (sym (updates.0 q)) (
-        elim (is_eq (stored_cmp key q)) as (λ b. is_eq (stored_cmp key q) ≡ b → IfSome (cond b o (last_at m q)) (λ r. r.key ≡ q)) [
-          | true ↦ λ e. subst (λ k. IfSome o (λ r. r.key ≡ k)) (stored-ties key q (equal _ e)) of_key
+        elim (is_eq (key_cmp key q)) as (λ b. is_eq (key_cmp key q) ≡ b → IfSome (cond b o (last_at m q)) (λ r. r.key ≡ q)) [
+          | true ↦ λ e. subst (λ k. IfSome o (λ r. r.key ≡ k)) (key_cmp-ties key q (equal _ e)) of_key
           | false ↦ λ _. by_key.of_keys q
         ] refl);
   }
 
-  pub last-updated : (q : Key) → last (set_of n) q ≡ cond (is_eq (stored_cmp key q)) o (last (set_of m) q)
+  pub last-updated : (q : Key) → last (set_of n) q ≡ cond (is_eq (key_cmp key q)) o (last (set_of m) q)
   last-updated q =
-      last-set_of n IsByKey-updated q ∙ updates.0 q ∙ ap (cond (is_eq (stored_cmp key q)) o) (sym (last-set_of m by_key q))
+      last-set_of n IsByKey-updated q ∙ updates.0 q ∙ ap (cond (is_eq (key_cmp key q)) o) (sym (last-set_of m by_key q))
 
 pub IsByKey-unchanged : (m n : BTreeMap Key Record) → IsUnchanged m n → IsByKey m → IsByKey n
 IsByKey-unchanged m n same by_key = record {
-  is_ordered = subst (λ es. IsStrictlySortedBy stored_cmp (keys_of es)) (sym same) by_key.is_ordered;
-  of_keys = λ q. subst (λ es. IfSome (lookup (is_at (stored_cmp q)) es) (λ r. r.key ≡ q)) (sym same) (by_key.of_keys q);
+  is_ordered = subst (λ es. IsStrictlySortedBy key_cmp (keys_of es)) (sym same) by_key.is_ordered;
+  of_keys = λ q. subst (λ es. IfSome (lookup (is_at (key_cmp q)) es) (λ r. r.key ≡ q)) (sym same) (by_key.of_keys q);
 }
 
 keyed : (es : List (Key × Record)) → ((i : ℕ) (k : Key) (v : Record) → slice_get es i ≡ Some (k, v) → v.key ≡ k) → map (λ r. r.key) (values_of es) ≡ keys_of es
@@ -118,7 +117,7 @@ keys_now [] = refl
 keys_now (x ∷ xs) = ap (λ ks. x.now.key ∷ ks) (keys_now xs)
 
 -- its records, in the map's order, have keys that rise
-pub rising : (m : BTreeMap Key Record) (xs : List (Bor Record)) → IsByKey m → map (λ r. r.now) xs ≡ values m → IsStrictlySortedBy stored_cmp (map (λ r. r.now.key) xs)
+pub rising : (m : BTreeMap Key Record) (xs : List (Bor Record)) → IsByKey m → map (λ r. r.now) xs ≡ values m → IsStrictlySortedBy key_cmp (map (λ r. r.now.key) xs)
 rising m xs by_key all =
     let same = keyed m.entries (λ i k v h. subst (λ o. IfSome o (λ q. q.key ≡ k)) (btree_map_get_place total-law m i k v by_key.is_ordered h) (by_key.of_keys k)) in
-    subst (IsStrictlySortedBy stored_cmp) (sym (keys_now xs ∙ ap (map (λ r. r.key)) all ∙ same)) by_key.is_ordered
+    subst (IsStrictlySortedBy key_cmp) (sym (keys_now xs ∙ ap (map (λ r. r.key)) all ∙ same)) by_key.is_ordered

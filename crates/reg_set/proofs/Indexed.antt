@@ -6,33 +6,22 @@ use Rattle.std.specs.FinSet.{contains, empty, from_list, insert, contains-empty,
 use Rattle.std.specs.List.{filter, list_all, AllZip}
 use Rattle.std.specs.Option.{option_map_or}
 use Rattle.std.specs.Ordering.{is_eq, is_le, is_lt}
-use Rattle.std.specs.declared.cmp.Ordering.TheVariants.{Equal}
-use Rattle.reg_records.specs.contracts.key.KeyPartialEq.TheImpl as key_eq
 use Rattle.reg_records.specs.contracts.key.KeyClone.TheImpl as key_clone
 use Rattle.reg_records.specs.contracts.record.RecordClone.TheImpl as record_clone
-use Rattle.reg_records.specs.contracts.key.KeyOrd.TheImpl.Laws.{total-law, matches_eq-law}
 use Rattle.reg_records.specs.declared.key.Key.{Key}
 use Rattle.reg_records.specs.declared.record.Record.{Record}
-use Rattle.reg_set.specs.Index.{stored_cmp}
 use Rattle.reg_set.specs.Join.{later}
 use Rattle.reg_set.specs.LastRecords.{last, is_last, last_records}
-use Rattle.reg_set.specs.RecordOrder.{age_cmp, record_cmp}
+use Rattle.reg_set.specs.RecordOrder.{age_cmp, key_cmp, record_cmp}
 use Rattle.reg_set.specs.Records.{Records, is_in_order}
 use Rattle.reg_set.proofs.Compactions.{contains-last_records, last_records_of_insert}
 use Rattle.reg_set.proofs.InOrder.{both, first_of, second_of}
 use Rattle.reg_set.proofs.Lasts.{equal, le_itself, any_filter, last-greatest, last-absent}
-use Rattle.reg_set.proofs.Orders.{record_cmp-total, record_cmp-ties}
+use Rattle.reg_set.proofs.Orders.{key_cmp-total, key_cmp-ties, record_cmp-total, record_cmp-ties}
 use Rattle.reg_set.proofs.Unions.{in_insert, insert-itself, insert-union, last_of_union}
 
-key_eq-is : (a b : Key) → (key_eq.ghosts).eq a b ≡ true → a ≡ b
-key_eq-is a b e = search rules
-
--- keys that tie in the map's order are one key
-pub stored-ties : (a b : Key) → stored_cmp a b ≡ Equal → a ≡ b
-stored-ties a b e = key_eq-is a b (matches_eq-law a b ∙ ap is_eq e)
-
-pub stored-itself : (a b : Key) → a ≡ b → is_eq (stored_cmp a b) ≡ true
-stored-itself a b e = ap (λ k. is_eq (stored_cmp a k)) (sym e) ∙ ap is_eq (tied_itself total-law a)
+pub key_cmp-itself : (a b : Key) → a ≡ b → is_eq (key_cmp a b) ≡ true
+key_cmp-itself a b e = ap (λ k. is_eq (key_cmp a k)) (sym e) ∙ ap is_eq (tied_itself key_cmp-total a)
 
 -- copies are equal to what they are copies of
 pub key_copy : (a b : Key) → (key_clone.ghosts).is_clone a b → b ≡ a
@@ -76,18 +65,18 @@ module _ (S : Records) (r : Record) where
   last-fresh h = at_key ∙ later-fresh (last S r.key) r h
 
   -- the lasts of other keys stay
-  pub last-other : (key : Key) → is_eq (stored_cmp r.key key) ≡ false → last (insert S r) key ≡ last S key
+  pub last-other : (key : Key) → is_eq (key_cmp r.key key) ≡ false → last (insert S r) key ≡ last S key
   last-other key apart =
       let none : last (insert empty r) key ≡ None =
       last-absent (insert empty r) key (λ q inside same. ⊎_elim
-      (λ e. false≢true (sym apart ∙ stored-itself r.key key (sym (ap (λ x. x.key) e) ∙ same)))
+      (λ e. false≢true (sym apart ∙ key_cmp-itself r.key key (sym (ap (λ x. x.key) e) ∙ same)))
       (λ h. false≢true (sym (contains-empty record_cmp q) ∙ h)) (in_insert empty r q inside)) in
       ap (λ s. last s key) (insert-union S r) ∙ last_of_union S (insert empty r) key ∙ ap (later (last S key)) none ∙ later-none (last S key)
 
   pub last-older : is_later (last S r.key) r ≡ true → (key : Key) → last (insert S r) key ≡ last S key
   last-older h key =
-      elim (is_eq (stored_cmp r.key key)) as (λ b. is_eq (stored_cmp r.key key) ≡ b → last (insert S r) key ≡ last S key) [
-        | true ↦ λ e. subst (λ k. last (insert S r) k ≡ last S k) (stored-ties r.key key (equal _ e)) (at_key ∙ later-older (last S r.key) r h)
+      elim (is_eq (key_cmp r.key key)) as (λ b. is_eq (key_cmp r.key key) ≡ b → last (insert S r) key ≡ last S key) [
+        | true ↦ λ e. subst (λ k. last (insert S r) k ≡ last S k) (key_cmp-ties r.key key (equal _ e)) (at_key ∙ later-older (last S r.key) r h)
         | false ↦ λ e. last-other key e
       ] refl
 

@@ -9,16 +9,15 @@ use Rattle.std.specs.declared.cmp.Ordering.{Ordering}
 use Rattle.std.specs.declared.cmp.Ordering.TheVariants.{Less, Equal, Greater}
 use Rattle.reg_records.specs.declared.key.Key.{Key}
 use Rattle.reg_records.specs.declared.record.Record.{Record}
-use Rattle.reg_set.specs.Index.{stored_cmp}
 use Rattle.reg_set.specs.Join.{later}
 use Rattle.reg_set.specs.LastRecords.{is_of, last, last_records, with_last}
 use Rattle.reg_set.specs.RecordOrder.{age_cmp, key_cmp}
 use Rattle.reg_set.specs.Records.{Records}
 use Rattle.reg_set.proofs.Compactions.{contains-last_records, last_records-last, last-last_records, last_of_last_records, last_records_are_compaction, last_records_of_compaction}
-use Rattle.reg_set.proofs.Indexed.{is_later, last-fresh, last-other, stored-ties, stored-itself, at_key}
+use Rattle.reg_set.proofs.Indexed.{is_later, last-fresh, last-other, key_cmp-itself, at_key}
 use Rattle.reg_set.proofs.InOrder.{both, first_of, second_of}
 use Rattle.reg_set.proofs.Lasts.{equal, both_le, turn_lt, is_of-is, is_of-of, last-some, last-none, last-greatest, last-absent}
-use Rattle.reg_set.proofs.Orders.{age_cmp-total, age_cmp-of_one_key, key_cmp-total, record_cmp-ties}
+use Rattle.reg_set.proofs.Orders.{age_cmp-total, age_cmp-of_one_key, key_cmp-total, key_cmp-ties, record_cmp-ties}
 use Rattle.reg_set.proofs.Unions.{one_set, in_insert, insert-itself}
 
 -- where each record is the last of its key, the set is that of its last records
@@ -61,10 +60,10 @@ tie q r same first second =
 
 -- what adding a record does to the last ones
 module _ (S : Records) (r : Record) where
-  pub last-new : is_new (last S r.key) r ≡ true → (key : Key) → last (insert S r) key ≡ cond (is_eq (stored_cmp r.key key)) (Some r) (last S key)
+  pub last-new : is_new (last S r.key) r ≡ true → (key : Key) → last (insert S r) key ≡ cond (is_eq (key_cmp r.key key)) (Some r) (last S key)
   last-new h key =
-      elim (is_eq (stored_cmp r.key key)) as (λ b. is_eq (stored_cmp r.key key) ≡ b → last (insert S r) key ≡ cond b (Some r) (last S key)) [
-        | true ↦ λ e. ap (last (insert S r)) (sym (stored-ties r.key key (equal _ e))) ∙ last-fresh S r (new-not_later (last S r.key) r h)
+      elim (is_eq (key_cmp r.key key)) as (λ b. is_eq (key_cmp r.key key) ≡ b → last (insert S r) key ≡ cond b (Some r) (last S key)) [
+        | true ↦ λ e. ap (last (insert S r)) (sym (key_cmp-ties r.key key (equal _ e))) ∙ last-fresh S r (new-not_later (last S r.key) r h)
         | false ↦ λ e. last-other S r key e
       ] refl
 
@@ -82,8 +81,8 @@ module _ (S : Records) (r : Record) where
 
   pub last-old : is_new (last S r.key) r ≡ false → (key : Key) → last (insert S r) key ≡ last S key
   last-old h key =
-      elim (is_eq (stored_cmp r.key key)) as (λ b. is_eq (stored_cmp r.key key) ≡ b → last (insert S r) key ≡ last S key) [
-        | true ↦ λ e. subst (λ k. last (insert S r) k ≡ last S k) (stored-ties r.key key (equal _ e))
+      elim (is_eq (key_cmp r.key key)) as (λ b. is_eq (key_cmp r.key key) ≡ b → last (insert S r) key ≡ last S key) [
+        | true ↦ λ e. subst (λ k. last (insert S r) k ≡ last S k) (key_cmp-ties r.key key (equal _ e))
             (at_key S r ∙ later-by (last S r.key) h ∙ stays (last S r.key) refl h)
         | false ↦ λ e. last-other S r key e
       ] refl
@@ -133,23 +132,23 @@ module _ (S : Records) (key : Key) where
   last-others_none : last others key ≡ None
   last-others_none = last-absent others key (λ q inside same. apart_in_others q inside same)
 
-  apart_by : (q : Key) → is_eq (stored_cmp key q) ≡ false → q ≡ key → ⊥
-  apart_by q e same = false≢true (sym e ∙ stored-itself key q (sym same))
+  apart_by : (q : Key) → is_eq (key_cmp key q) ≡ false → q ≡ key → ⊥
+  apart_by q e same = false≢true (sym e ∙ key_cmp-itself key q (sym same))
 
   new_of_others : (r : Record) → r.key ≡ key → is_later (last others r.key) r ≡ false
   new_of_others r of_key = ap (λ o. is_later o r) (ap (last others) of_key ∙ last-others_none)
 
-  pub last-with_last : (o : Option Record) → IfSome o (λ r. r.key ≡ key) → (q : Key) → last (with_last S key o) q ≡ cond (is_eq (stored_cmp key q)) o (last S q)
+  pub last-with_last : (o : Option Record) → IfSome o (λ r. r.key ≡ key) → (q : Key) → last (with_last S key o) q ≡ cond (is_eq (key_cmp key q)) o (last S q)
   unfolding with_last
   last-with_last None of_key q =
-      elim (is_eq (stored_cmp key q)) as (λ b. is_eq (stored_cmp key q) ≡ b → last others q ≡ cond b None (last S q)) [
-        | true ↦ λ e. ap (last others) (sym (stored-ties key q (equal _ e))) ∙ last-others_none
+      elim (is_eq (key_cmp key q)) as (λ b. is_eq (key_cmp key q) ≡ b → last others q ≡ cond b None (last S q)) [
+        | true ↦ λ e. ap (last others) (sym (key_cmp-ties key q (equal _ e))) ∙ last-others_none
         | false ↦ λ e. last-others q (apart_by q e)
       ] refl
   last-with_last (Some r) of_key q =
-      elim (is_eq (stored_cmp key q)) as (λ b. is_eq (stored_cmp key q) ≡ b → last (insert others r) q ≡ cond b (Some r) (last S q)) [
-        | true ↦ λ e. ap (last (insert others r)) (sym (of_key ∙ stored-ties key q (equal _ e))) ∙ last-fresh others r (new_of_others r of_key)
-        | false ↦ λ e. last-other others r q (ap (λ k. is_eq (stored_cmp k q)) of_key ∙ e) ∙ last-others q (apart_by q e)
+      elim (is_eq (key_cmp key q)) as (λ b. is_eq (key_cmp key q) ≡ b → last (insert others r) q ≡ cond b (Some r) (last S q)) [
+        | true ↦ λ e. ap (last (insert others r)) (sym (of_key ∙ key_cmp-ties key q (equal _ e))) ∙ last-fresh others r (new_of_others r of_key)
+        | false ↦ λ e. last-other others r q (ap (λ k. is_eq (key_cmp k q)) of_key ∙ e) ∙ last-others q (apart_by q e)
       ] refl
 
   pub compact-with_last : last_records S ≡ S → (o : Option Record) → IfSome o (λ r. r.key ≡ key) → last_records (with_last S key o) ≡ with_last S key o
@@ -160,9 +159,9 @@ module _ (S : Records) (key : Key) where
       compact_from (insert others r) (λ q h. ⊎_elim
       (λ e. ap (λ x. last (insert others r) x.key) e ∙ last-fresh others r (new_of_others r of_key) ∙ ap Some (sym e))
       (λ there.
-      let apart : is_eq (stored_cmp r.key q.key) ≡ false =
-      elim (is_eq (stored_cmp r.key q.key)) as (λ b. is_eq (stored_cmp r.key q.key) ≡ b → b ≡ false) [
-        | true ↦ λ e. absurd (apart_in_others q there (sym (stored-ties r.key q.key (equal _ e)) ∙ of_key))
+      let apart : is_eq (key_cmp r.key q.key) ≡ false =
+      elim (is_eq (key_cmp r.key q.key)) as (λ b. is_eq (key_cmp r.key q.key) ≡ b → b ≡ false) [
+        | true ↦ λ e. absurd (apart_in_others q there (sym (key_cmp-ties r.key q.key (equal _ e)) ∙ of_key))
         | false ↦ λ _. refl
       ] refl in
       last-other others r q.key apart ∙ last-others q.key (apart_in_others q there) ∙ last_there S compact q (from_others q there))
@@ -186,10 +185,10 @@ there-inserted S r =
     ] refl)
 
 -- where S and T differ in the last record of one key alone, that of S makes T be S
-pub taken_back : (S T : Records) (key : Key) (o w : Option Record) → last_records S ≡ S → last_records T ≡ T → IfSome o (λ r. r.key ≡ key) → o ≡ last S key → ((q : Key) → last T q ≡ cond (is_eq (stored_cmp key q)) w (last S q)) → with_last T key o ≡ S
+pub taken_back : (S T : Records) (key : Key) (o w : Option Record) → last_records S ≡ S → last_records T ≡ T → IfSome o (λ r. r.key ≡ key) → o ≡ last S key → ((q : Key) → last T q ≡ cond (is_eq (key_cmp key q)) w (last S q)) → with_last T key o ≡ S
 taken_back S T key o w s t of_key before after =
     same_lasts (with_last T key o) S (compact-with_last T key t o of_key) s (λ q. last-with_last T key o of_key q
-    ∙ elim (is_eq (stored_cmp key q)) as (λ b. is_eq (stored_cmp key q) ≡ b → cond b o (last T q) ≡ last S q) [
-      | true ↦ λ e. before ∙ ap (last S) (stored-ties key q (equal _ e))
+    ∙ elim (is_eq (key_cmp key q)) as (λ b. is_eq (key_cmp key q) ≡ b → cond b o (last T q) ≡ last S q) [
+      | true ↦ λ e. before ∙ ap (last S) (key_cmp-ties key q (equal _ e))
       | false ↦ λ e. after q ∙ ap (λ b. cond b w (last S q)) e
     ] refl)

@@ -1,21 +1,19 @@
 -- Where a record stands among records in order.
-use Rattle.std.proofs.Common.{◌≡◌, ℕ, suc, zero, ◌+◌, ◌-◌, ◌<◌, ◌≤◌, Bool, true, false, ◌||◌, List, [], ◌∷◌, ◌++◌, length, get_or, take, drop, refl, sym, ap, ◌∙◌, add-one, length-drop, arith, rules}
+use Rattle.std.proofs.Common.{◌≡◌, ℕ, suc, zero, ◌+◌, ◌<◌, Bool, true, false, ◌||◌, List, [], ◌∷◌, ◌++◌, length, get_or, take, drop, refl, sym, ap, ◌∙◌, add-one, arith}
 use Rattle.std.proofs.lemmas.Bool.{false≢true}
 use Rattle.std.proofs.lemmas.Cmp.{tied_itself}
-use Rattle.std.proofs.lemmas.List.{take-append-drop, take_all, take_more, drop_more}
+use Rattle.std.proofs.lemmas.List.{take-append-drop, drop_more}
 use Rattle.std.proofs.lemmas.List.Folds.{list_any-append}
 use Rattle.std.specs.FinSet as set
 use Rattle.std.specs.FinSet.{from_list, contains-from_list, contains-insert, same_set}
-use Rattle.std.specs.Cmp.{nat_cmp_is}
-use Rattle.std.specs.List.{list_any, list_all, insert, AllWithin}
-use Rattle.std.specs.List.Sorted.{IsNonDecreasingBy}
-use Rattle.std.specs.Ordering.{eq_by_cmp, is_eq, is_lt, nat_cmp}
+use Rattle.std.specs.List.{list_any, list_all, insert}
+use Rattle.std.specs.Ordering.{eq_by_cmp, is_eq, is_lt}
 use Rattle.std.specs.declared.cmp.Ordering.{Ordering}
 use Rattle.std.specs.declared.cmp.Ordering.TheVariants.{Less, Equal, Greater}
 use Rattle.reg_records.specs.declared.record.Record.{Record}
 use Rattle.reg_set.specs.RecordOrder.{record_cmp}
 use Rattle.reg_set.specs.Records.{is_in_order}
-use Rattle.reg_set.proofs.Orders.{record_cmp-total, record_cmp-ties, record_cmp-by_offset}
+use Rattle.reg_set.proofs.Orders.{record_cmp-total, record_cmp-ties}
 use Rattle.reg_set.proofs.InOrder.{both, first_of, second_of, less, turned, before_all, none_of_later}
 
 neither_left : (a b : Bool) → (a || b) ≡ false → a ≡ false
@@ -146,73 +144,3 @@ none_before_from r [] i d ordered h one = absurd (omega arith)
 none_before_from r (x ∷ xs) zero d ordered h one =
     ap (λ b. b || list_any (is_before r) xs) one ∙ none_after r x xs (first_of _ _ ordered) one
 none_before_from r (x ∷ xs) (suc i) d ordered h one = none_before_from r xs i d (second_of _ _ ordered) (omega arith) one
-
--- what has an earlier offset comes before
-by_earlier : (r q : Record) → r.offset < q.offset → record_cmp r q ≡ Less
-by_earlier r q h =
-    let e : Less ≡ nat_cmp r.offset q.offset = nat_cmp_is r.offset q.offset Less h in
-    sym (record_cmp-by_offset r q (λ tie. let apart : Less ≡ Equal = e ∙ tie in absurd (cc))) ∙ sym e
-
--- offsets never fall among records in order
-not_later : (r q : Record) → record_cmp r q ≡ Less → r.offset ≤ q.offset
-not_later r q h =
-    let no : q.offset < r.offset → ⊥ = λ l. let apart : Less ≡ Greater = sym h ∙ turned q r Less (by_earlier q r l) in absurd (cc) in
-    omega (arith, no)
-
-pub offsets_rise : (rs : List Record) → is_in_order rs ≡ true → IsNonDecreasingBy (λ q. q.offset) rs
-offsets_rise [] ordered i j d h within = absurd (omega arith)
-offsets_rise (x ∷ xs) ordered zero zero d h within = omega arith
-offsets_rise (x ∷ xs) ordered zero (suc j) d h within = not_later x (get_or xs j d) (less _ (all_at _ xs j d (first_of _ _ ordered) (omega arith)))
-offsets_rise (x ∷ xs) ordered (suc i) zero d h within = absurd (omega arith)
-offsets_rise (x ∷ xs) ordered (suc i) (suc j) d h within = offsets_rise xs (second_of _ _ ordered) i j d (omega arith) (omega arith)
-
--- records of earlier offsets stand before r
-earlier_are_before : (r : Record) (rs : List Record) (n : ℕ) → n ≤ length rs → AllWithin (λ q. q.offset < r.offset) rs 0 n → list_all (is_before r) (take n rs) ≡ true
-earlier_are_before r [] n within earlier = search rules
-earlier_are_before r (x ∷ xs) zero within earlier = refl
-earlier_are_before r (x ∷ xs) (suc n) within earlier =
-    both (ap is_lt (by_earlier x r (earlier 0 x (omega arith) (omega arith)))) (earlier_are_before r xs n (omega arith) (λ k d l h. earlier (suc k) d (omega arith) (omega arith)))
-
--- the records from a place on, as a slice has them
-abbrev pub from_place : List Record → ℕ → List Record
-from_place rs n = take (length rs - n) (drop n rs)
-
--- a look at the records from a place on, before which all offsets are earlier
-module _ (r : Record) (rs : List Record) (n : ℕ) where
-  from_place-drop : from_place rs n ≡ drop n rs
-  from_place-drop = take_all _ _ (omega (arith, length-drop n rs))
-
-  pub from_place-in_order : is_in_order rs ≡ true → is_in_order (from_place rs n) ≡ true
-  from_place-in_order ordered = ap is_in_order from_place-drop ∙ rest_in_order r rs n ordered
-
-  pub any_past_earlier : n ≤ length rs → AllWithin (λ q. q.offset < r.offset) rs 0 n → list_any (is_same r) rs ≡ list_any (is_same r) (from_place rs n)
-  any_past_earlier within earlier =
-      any_from_place r rs n (earlier_are_before r rs n within earlier) ∙ ap (list_any (is_same r)) (sym from_place-drop)
-
-either_none : (a b : Bool) → a ≡ false → b ≡ false → (a || b) ≡ false
-either_none a b h k = ap (λ x. x || b) h ∙ k
-
--- a look at one record after another, of which none so far is r
-module _ (r q : Record) (rs : List Record) (n : ℕ) (within : n < length rs) (here : q ≡ get_or rs n q) where
-  any_in_parts : list_any (is_same r) rs ≡ (list_any (is_same r) (take n rs) || list_any (is_same r) (drop n rs))
-  any_in_parts = ap (list_any (is_same r)) (sym (take-append-drop n rs)) ∙ list_any-append (is_same r) (take n rs) (drop n rs)
-
-  from_here : drop n rs ≡ q ∷ drop (n + 1) rs
-  from_here = drop_more rs n q within ∙ ap (λ x. x ∷ drop (n + 1) rs) (sym here)
-
-  pub none_past : is_in_order rs ≡ true → list_any (is_same r) (take n rs) ≡ false → r.offset < q.offset → list_any (is_same r) rs ≡ false
-  none_past ordered none later =
-      let less_than : record_cmp r q ≡ Less = by_earlier r q later in
-      let not_before = none_before_from r rs n q ordered within (ap (λ x. is_lt (record_cmp x r)) (sym here) ∙ ap is_lt (turned r q Less less_than)) in
-      let apart : is_same r q ≡ false = ap is_eq less_than in
-      any_in_parts ∙ either_none _ _ none (any_at_place r rs n q within here ordered not_before ∙ apart)
-
-  pub found_here : is_same r q ≡ true → list_any (is_same r) rs ≡ true
-  found_here same =
-      let rest = ap (list_any (is_same r)) from_here ∙ ap (λ b. b || list_any (is_same r) (drop (n + 1) rs)) same in
-      any_in_parts ∙ elim (list_any (is_same r) (take n rs)) as (λ b. (b || list_any (is_same r) (drop n rs)) ≡ true) [ true ↦ refl | false ↦ rest ]
-
-  pub none_more : list_any (is_same r) (take n rs) ≡ false → is_same r q ≡ false → list_any (is_same r) (take (n + 1) rs) ≡ false
-  none_more none apart =
-      ap (list_any (is_same r)) (take_more rs n q within ∙ ap (λ x. take n rs ++ x ∷ []) (sym here))
-      ∙ list_any-append (is_same r) (take n rs) (q ∷ []) ∙ either_none _ _ none (ap (λ b. b || false) apart)

@@ -2,24 +2,19 @@
 use Rattle.std.specs.Prelude.{◌≡◌, List, Option, IfSome, IsTrue}
 use Rattle.std.specs.BTreeMap.{BTreeMap, IsOrdered, get}
 use Rattle.std.specs.FinSet.{from_list}
-use Rattle.std.specs.declared.cmp.Ordering.{Ordering}
-use Rattle.reg_records.specs.contracts.key.KeyOrd.TheImpl as keys
 use Rattle.reg_records.specs.declared.key.Key.{Key}
 use Rattle.reg_records.specs.declared.record.Record.{Record}
 use Rattle.reg_set.specs.LastRecords.{last_records}
+use Rattle.reg_set.specs.RecordOrder.{key_cmp}
 use Rattle.reg_set.specs.Records.{Records, is_in_order}
-
--- the order in which the keys of a map stand: by kind, then by fields
-abbrev pub stored_cmp : Key → Key → Ordering
-stored_cmp = (keys.ghosts).cmp
 
 -- the record that a map has at a key
 abbrev pub last_at : BTreeMap Key Record → Key → Option Record
-last_at lasts key = get stored_cmp lasts key
+last_at lasts key = get key_cmp lasts key
 
 -- a map in order, whose records are each of its key
 pub record IsByKey (m : BTreeMap Key Record) : Type 0 where
-  pub is_ordered : IsOrdered stored_cmp m
+  pub is_ordered : IsOrdered key_cmp m
   pub of_keys : (key : Key) → IfSome (last_at m key) (λ r. r.key ≡ key)
 
 -- the records rs are in order, and the lasts are theirs

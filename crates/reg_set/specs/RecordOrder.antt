@@ -4,7 +4,7 @@ use Rattle.std.specs.Cmp.Lexicographic.{slice_cmp}
 use Rattle.std.specs.Option.{option_cmp}
 use Rattle.std.specs.Ordering.{nat_cmp, on, then_cmp}
 use Rattle.std.specs.declared.cmp.Ordering.{Ordering}
-use Rattle.reg_records.specs.Written.{key_parts, written_key}
+use Rattle.reg_records.specs.contracts.key.KeyOrd.TheImpl as keys
 use Rattle.reg_records.specs.declared.key.Key.{Key}
 use Rattle.reg_records.specs.declared.record.Record.{Record}
 
@@ -12,10 +12,9 @@ use Rattle.reg_records.specs.declared.record.Record.{Record}
 unfoldable pub value_cmp : Option (List ℕ) → Option (List ℕ) → Ordering
 value_cmp = option_cmp (slice_cmp nat_cmp)
 
--- keys are ordered by the bytes of their written texts; only keys with versions of more than 32 bits,
--- which no program has, could share a text, and their parts tell them apart
-unfoldable pub key_cmp : Key → Key → Ordering
-key_cmp = then_cmp (on written_key (slice_cmp nat_cmp)) (on key_parts (slice_cmp nat_cmp))
+-- keys are ordered by kind, then by subject, by its bytes, and then by version, as the type's own order has them
+abbrev pub key_cmp : Key → Key → Ordering
+key_cmp = (keys.ghosts).cmp
 
 -- records of one key: by offset, then by value
 unfoldable pub age_cmp : Record → Record → Ordering

@@ -4,9 +4,9 @@ ghost use Rattle.std.specs.BTreeMap.{IsOrdered, IsUnchanged, Updates};
 ghost use Rattle.std.specs.FinSet as set;
 ghost use Rattle.std.specs.List.Sorted.{IsStrictlySortedBy};
 ghost use Rattle.std.specs.Ordering.{is_lt};
-ghost use Rattle.reg_set.specs.Index.{last_at, stored_cmp};
+ghost use Rattle.reg_set.specs.Index.{last_at};
 ghost use Rattle.reg_set.specs.LastRecords.{last, last_records, with_last};
-ghost use Rattle.reg_set.specs.RecordOrder.{age_cmp};
+ghost use Rattle.reg_set.specs.RecordOrder.{age_cmp, key_cmp};
 
 use crate::record_set::RecordSet;
 use reg_records::{Key, Record};
@@ -128,7 +128,7 @@ impl LastRecords {
         ensures all { IfOk result (λ found. self.now
             ≡ set.from_list (map (λ r. r.now) found.items)) }
         ensures one_a_key { IfOk result (λ found.
-            IsStrictlySortedBy stored_cmp (map (λ r. r.now.key) found.items)) }
+            IsStrictlySortedBy key_cmp (map (λ r. r.now.key) found.items)) }
     {
         let found: Vec<&Record> = self.by_key.values().collect(alloc)?;
         Ok(found)
@@ -147,9 +147,9 @@ fn insert_copy(
     by_key: &mut BTreeMap<Key, Record>,
     given: &Record,
 ) -> Result<Option<Record>, AllocError>
-    ensures put { OnOk result (Updates stored_cmp by_key.old by_key.new given.now.key (Some given.now)) }
+    ensures put { OnOk result (Updates key_cmp by_key.old by_key.new given.now.key (Some given.now)) }
     ensures before { IfOk result (λ before. before ≡ last_at by_key.old given.now.key) }
-    ensures in_order { OnOk result (IsOrdered stored_cmp by_key.new) }
+    ensures in_order { OnOk result (IsOrdered key_cmp by_key.new) }
     ensures refused { OnErr result (IsUnchanged by_key.old by_key.new) }
 {
     let key = given.key.clone()?;
@@ -160,8 +160,8 @@ fn insert_copy(
 /// Makes that the record of the key, which has one; `None` leaves it without one.
 fn replace(by_key: &mut BTreeMap<Key, Record>, key: &Key, given: Option<Record>)
     requires { IsSome (last_at by_key.old key.now) }
-    ensures replaced { Updates stored_cmp by_key.old by_key.new key.now given }
-    ensures in_order { IsOrdered stored_cmp by_key.new }
+    ensures replaced { Updates key_cmp by_key.old by_key.new key.now given }
+    ensures in_order { IsOrdered key_cmp by_key.new }
 {
     match given {
         Some(record) => {

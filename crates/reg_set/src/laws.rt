@@ -1,16 +1,9 @@
 // The laws of merging and compacting. What is proved here costs nothing at run time: a function
 // that needs a law calls it.
-ghost use Rattle.std.specs.Prelude.{◌≡◌};
 ghost use Rattle.std.specs.Cmp.{IsTotalOrder};
-ghost use Rattle.std.specs.Cmp.Lexicographic.{slice_cmp};
-ghost use Rattle.std.specs.Ordering.{nat_cmp};
-ghost use Rattle.reg_records.specs.Written.{written_key, IsOf32Bits};
-ghost use Rattle.reg_records.specs.declared.key.Key.{Key};
 ghost use Rattle.std.specs.FinSet.{IsAntisymmetric};
 ghost use Rattle.reg_set.specs.RecordOrder.{age_cmp, key_cmp, record_cmp};
 ghost use Rattle.reg_set.specs.Join.{LastIsGreatest, NoLastIsNoRecord, LastOfLastRecords, MergingIsCommutative, MergingIsAssociative, MergingIsIdempotent, LastOfUnion, LastOfCompaction, CompactionsUnite, EachIsItsOwnCompaction, CompactionsCompose, DropsLeaveCompactions, LastRecordsAreCompaction, LastRecordsOfCompaction, LastRecordsOfInsert, LastRecordsOfUnion};
-
-use reg_records::written_keys_are_apart;
 
 /// Records, and records of one key, are totally ordered, and only equal records tie.
 pub fn records_are_ordered()
@@ -19,11 +12,7 @@ pub fn records_are_ordered()
     ensures of_one_key { IsTotalOrder age_cmp }
     ensures keys { IsTotalOrder key_cmp }
     ensures keys_apart { IsAntisymmetric key_cmp }
-    ensures keys_by_text { (a b : Key) → IsOf32Bits a → IsOf32Bits b
-        → key_cmp a b ≡ slice_cmp nat_cmp (written_key a) (written_key b) }
-{
-    written_keys_are_apart();
-}
+{}
 
 /// The last record of a key is the greatest of its records.
 pub fn last_is_greatest()

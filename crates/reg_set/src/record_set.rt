@@ -12,7 +12,7 @@ ghost use Rattle.reg_set.specs.Records.{records_of, is_in_order};
 use crate::index::{keep_lasts, put};
 use crate::last_records::LastRecords;
 use crate::order::{count_before, is_among, stands_at};
-use crate::turns::{in_turn, of_both};
+use crate::turns::{of_both, put_in_turn};
 use reg_records::{Key, Record};
 use std::alloc::{AllocError, Global};
 use std::marker::Model;
@@ -34,7 +34,7 @@ pub enum Taken {
 /// The greatest is the last record of the key; a last record without a value deletes the key.
 #[derive(Debug, Drop)]
 pub struct RecordSet {
-    // In order: by offset, then by the key's written text, then by value. None stands twice.
+    // In order: by offset, then by key, then by value. None stands twice.
     records: Vec<Record>,
     // The last ones of those.
     lasts: LastRecords,
@@ -96,9 +96,8 @@ impl RecordSet {
             (taken ≡ Taken.Repeat) ↔ IsTrue (set.contains self.old given.now)) }
         ensures refused { OnErr result (self.new ≡ self.old) }
     {
-        let alloc = *self.records.allocator();
         let records: &[Record] = &self.records;
-        let place = count_before(alloc, records, given)?;
+        let place = count_before(records, given);
         if stands_at(records, place, given) {
             return Ok(Taken::Repeat);
         }
@@ -124,8 +123,8 @@ impl RecordSet {
         &self.lasts
     }
 
-    /// The records, by offset, then by the bytes of the key's written text, then no value before a
-    /// text, then by the text's bytes.
+    /// The records, by offset, then by key, then no value before a text, then by the text's bytes.
+    /// Keys are ordered by kind, then by subject, by its bytes, and then by version.
     pub fn records(&self) -> &[Record]
         ensures all { result.now ≡ records_of self.now }
         ensures in_order { IsTrue (is_in_order result.now) }
@@ -138,8 +137,7 @@ impl RecordSet {
     pub fn contains(&self, given: &Record) -> bool
         ensures { result ≡ set.contains self.now given.now }
     {
-        // By key first: `is_among` is slow where many records have one offset.
-        self.lasts.contains(given) || is_among(&self.records, given)
+        is_among(&self.records, given)
     }
 
     /// Adds the records of the other set. The only error is want of memory; the set is then as it
@@ -170,8 +168,9 @@ impl RecordSet {
 fn set_of(alloc: Global, records: Vec<&Record>) -> Result<RecordSet, AllocError>
     ensures { IfOk result (λ found. found ≡ set.from_list (map (λ r. r.now) records.entry.items)) }
 {
-    // In their order nearly every record comes after all before it, and is put at the end.
-    let records = in_turn(alloc, &records)?;
+    // In their order each record comes after all before it, and is put at the end.
+    let mut records = records;
+    put_in_turn(&mut records);
     let mut found = RecordSet::new(alloc);
     for record in &records {
         found.take(record)?;

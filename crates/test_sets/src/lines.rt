@@ -11,11 +11,6 @@ pub(crate) struct Line<'a> {
 }
 
 impl<'a> Line<'a> {
-    /// What the lines' records are ordered by.
-    pub(crate) fn place(self) -> (u64, &'a str, Option<&'a str>) {
-        (self.offset, self.key, self.value)
-    }
-
     /// What the records of one key are ordered by.
     pub(crate) fn age(self) -> (u64, Option<&'a str>) {
         (self.offset, self.value)

@@ -1,7 +1,19 @@
 // A set of records as the list of their lines in order, each of whose answers looks at all lines.
+use super::side_by_side::KEYS;
 use crate::lines::Line;
 use reg_set::Taken;
 use std::alloc::{AllocError, Global};
+
+/// By offset, then by key, then by value.
+type Place<'a> = (u64, (usize, usize, &'a str), Option<&'a str>);
+
+/// Keys stand in the order of the list, and before those others, which differ in their versions.
+fn place_of(line: Line) -> Place {
+    let listed = KEYS.iter().position(|key| *key == line.key);
+    let place = listed.unwrap_or(KEYS.len());
+    let key = (place, line.key.len(), line.key);
+    (line.offset, key, line.value)
+}
 
 #[derive(Drop)]
 pub(crate) struct PlainSet<'a> {
@@ -32,7 +44,7 @@ impl<'a> PlainSet<'a> {
         let mut lines = Vec::new(alloc);
         let mut is_placed = false;
         for line in &self.lines {
-            if !is_placed && given.place() < line.place() {
+            if !is_placed && place_of(given) < place_of(*line) {
                 lines.push(given)?;
                 is_placed = true;
             }
@@ -47,7 +59,7 @@ impl<'a> PlainSet<'a> {
 
     pub(crate) fn contains(&self, given: Line) -> bool {
         for line in &self.lines {
-            if line.place() == given.place() {
+            if place_of(*line) == place_of(given) {
                 return true;
             }
         }

@@ -7,9 +7,21 @@ use reg_records::{LogError, Record};
 use reg_set::{LastRecords, RecordSet, Taken, is_compaction_of};
 use std::alloc::{AllocError, Global};
 
-/// Keys, some of whose subjects share a beginning, and some have what JSON escapes.
-static KEYS: [&str; 24] = [
-    r#"{"keytype":"NOOP","magic":0}"#,
+/// Keys in their order, some of whose subjects share a beginning, and some have what JSON escapes.
+pub(super) static KEYS: [&str; 24] = [
+    r#"{"keytype":"SCHEMA","subject":"","version":1,"magic":1}"#,
+    r#"{"keytype":"SCHEMA","subject":"","version":10,"magic":1}"#,
+    r#"{"keytype":"SCHEMA","subject":"s","version":1,"magic":1}"#,
+    r#"{"keytype":"SCHEMA","subject":"s","version":9,"magic":1}"#,
+    r#"{"keytype":"SCHEMA","subject":"s","version":10,"magic":1}"#,
+    r#"{"keytype":"SCHEMA","subject":"s","version":100,"magic":1}"#,
+    r#"{"keytype":"SCHEMA","subject":"s","version":2147483647,"magic":1}"#,
+    r#"{"keytype":"SCHEMA","subject":"s\n","version":9,"magic":1}"#,
+    r#"{"keytype":"SCHEMA","subject":"s!","version":1,"magic":1}"#,
+    r#"{"keytype":"SCHEMA","subject":"s!","version":9,"magic":1}"#,
+    r#"{"keytype":"SCHEMA","subject":"s\"","version":100,"magic":1}"#,
+    r#"{"keytype":"SCHEMA","subject":"sé","version":1,"magic":1}"#,
+    r#"{"keytype":"SCHEMA","subject":"sé","version":10,"magic":1}"#,
     r#"{"keytype":"CONFIG","subject":null,"magic":0}"#,
     r#"{"keytype":"CONFIG","subject":"","magic":0}"#,
     r#"{"keytype":"CONFIG","subject":"s","magic":0}"#,
@@ -20,19 +32,7 @@ static KEYS: [&str; 24] = [
     r#"{"keytype":"DELETE_SUBJECT","subject":"","magic":0}"#,
     r#"{"keytype":"DELETE_SUBJECT","subject":"s","magic":0}"#,
     r#"{"keytype":"DELETE_SUBJECT","subject":"s\n","magic":0}"#,
-    r#"{"keytype":"SCHEMA","subject":"","version":1,"magic":1}"#,
-    r#"{"keytype":"SCHEMA","subject":"","version":10,"magic":1}"#,
-    r#"{"keytype":"SCHEMA","subject":"s","version":1,"magic":1}"#,
-    r#"{"keytype":"SCHEMA","subject":"s","version":9,"magic":1}"#,
-    r#"{"keytype":"SCHEMA","subject":"s","version":10,"magic":1}"#,
-    r#"{"keytype":"SCHEMA","subject":"s","version":100,"magic":1}"#,
-    r#"{"keytype":"SCHEMA","subject":"s","version":2147483647,"magic":1}"#,
-    r#"{"keytype":"SCHEMA","subject":"s!","version":1,"magic":1}"#,
-    r#"{"keytype":"SCHEMA","subject":"s!","version":9,"magic":1}"#,
-    r#"{"keytype":"SCHEMA","subject":"s\"","version":100,"magic":1}"#,
-    r#"{"keytype":"SCHEMA","subject":"s\n","version":9,"magic":1}"#,
-    r#"{"keytype":"SCHEMA","subject":"sé","version":1,"magic":1}"#,
-    r#"{"keytype":"SCHEMA","subject":"sé","version":10,"magic":1}"#,
+    r#"{"keytype":"NOOP","magic":0}"#,
 ];
 
 fn line(draws: &mut Draws, offsets: u64) -> Line<'static> {
@@ -246,7 +246,7 @@ fn keys(alloc: Global, last: u32) -> Result<Vec<String>, AllocError> {
     let mut keys = Vec::new(alloc);
     for version in 1..=last {
         keys.push(format!(in alloc;
-            r#"{{"keytype":"SCHEMA","subject":"s","version":{version},"magic":1}}"#
+            r#"{{"keytype":"SCHEMA","subject":"wide","version":{version},"magic":1}}"#
         )?)?;
     }
     Ok(keys)

@@ -1,7 +1,8 @@
 use Rattle.std.proofs.Common.{Some, ap, ◌∙◌, subst}
 use Rattle.std.specs.BTreeMap.{Updates}
 use Rattle.reg_records.specs.declared.key.Key.{Key}
-use Rattle.reg_set.specs.Index.{last_at, stored_cmp}
+use Rattle.reg_set.specs.Index.{last_at}
+use Rattle.reg_set.specs.RecordOrder.{key_cmp}
 use Rattle.reg_set.proofs.Indexed.{key_copy, record_copy}
 use Rattle.reg_set.proofs.last_records.insert_copy.Goals as goal
 
@@ -11,8 +12,8 @@ returns-clause-put c =
     let copy = record_copy _ _ c.in_ok-last.ensures.cases in
     let m = c.args.by_key.now in
     let n = c.insert.new.self in
-    let P : Key → Type 0 = λ k. Updates stored_cmp m n k (Some c.args.given.now) in
-    subst P key (subst (λ r. Updates stored_cmp m n c.in_ok-key.key (Some r)) copy c.in_ok-insert.ensures.updates)
+    let P : Key → Type 0 = λ k. Updates key_cmp m n k (Some c.args.given.now) in
+    subst P key (subst (λ r. Updates key_cmp m n c.in_ok-key.key (Some r)) copy c.in_ok-insert.ensures.updates)
 
 pub returns-clause-before : goal.returns-clause-before
 returns-clause-before c =

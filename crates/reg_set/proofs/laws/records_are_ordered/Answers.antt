@@ -1,4 +1,4 @@
-use Rattle.reg_set.proofs.Orders.{record_cmp-total, record_cmp-ties, age_cmp-total, key_cmp-total, key_cmp-ties, key_cmp-by_text}
+use Rattle.reg_set.proofs.Orders.{record_cmp-total, record_cmp-ties, age_cmp-total, key_cmp-total, key_cmp-ties}
 use Rattle.reg_set.proofs.laws.records_are_ordered.Goals as goal
 
 pub returns-clause-all : goal.returns-clause-all
@@ -15,6 +15,3 @@ returns-clause-keys c = key_cmp-total
 
 pub returns-clause-keys_apart : goal.returns-clause-keys_apart
 returns-clause-keys_apart c = key_cmp-ties
-
-pub returns-clause-keys_by_text : goal.returns-clause-keys_by_text
-returns-clause-keys_by_text c = key_cmp-by_text c.written_keys_are_apart.ensures

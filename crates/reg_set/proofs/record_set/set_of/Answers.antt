@@ -21,5 +21,4 @@ returns c =
     let xs = c.deref-record-items.result.now in
     c.loop-record.invariant
     ∙ ap (λ l. from_list (map (λ r. r.now) l)) (take_all c.loop-record.record-index xs (omega arith) ∙ c.deref-record-items.ensures.value)
-    ∙ sym (from_list-permuted _ _ (IsPermutation-map (λ r. r.now) _ _ c.in_ok-records.ensures))
-    ∙ ap (λ l. from_list (map (λ r. r.now) l)) c.deref.ensures.value
+    ∙ sym (from_list-permuted _ _ (IsPermutation-map (λ r. r.now) _ _ c.put_in_turn.ensures))

@@ -1,8 +1,8 @@
 use Rattle.std.proofs.Common.{◌≡◌, Some, IsSome, cond, false, true, refl, sym, ap, subst, ◌∙◌, rules}
 use Rattle.std.specs.FinSet as set
 use Rattle.std.specs.Ordering.{is_eq}
-use Rattle.reg_set.specs.Index.{stored_cmp}
 use Rattle.reg_set.specs.LastRecords.{last, last_records}
+use Rattle.reg_set.specs.RecordOrder.{key_cmp}
 use Rattle.reg_set.specs.Records.{Records}
 use Rattle.reg_set.proofs.ByKey.{set_of, last-set_of, compact-set_of, IsByKey-updated, last-updated}
 use Rattle.reg_set.proofs.Compactions.{last_of_last_records}
@@ -32,7 +32,7 @@ returns-clause-added c =
     let new = is_new-from_change S r compact (c.is_news.ensures.news (search rules)) in
     same_lasts (set_of n) (last_records (set.insert S r)) (compact-set_of n (invariant_of-self-2 c)) (compact_lasts (set.insert S r))
     (λ q. last-updated m n c.self.invariant c.in_ok-before.ensures.in_order r.key (Some r) c.in_ok-before.ensures.put refl q
-    ∙ ap (λ s. cond (is_eq (stored_cmp r.key q)) (Some r) (last s q)) c.self.view_is
+    ∙ ap (λ s. cond (is_eq (key_cmp r.key q)) (Some r) (last s q)) c.self.view_is
     ∙ sym (last_of_last_records (set.insert S r) q ∙ last-new S r new q))
 
 pub returns-clause-there : goal.returns-clause-there
@@ -57,7 +57,7 @@ returns-clause-taken_back c = λ changed.
     taken_back S (set_of n) r.key c.in_ok-before.before (Some r) compact (compact-set_of n (invariant_of-self-2 c)) (search rules)
     (returns-clause-before c changed)
     (λ q. last-updated m n c.self.invariant c.in_ok-before.ensures.in_order r.key (Some r) c.in_ok-before.ensures.put refl q
-    ∙ ap (λ s. cond (is_eq (stored_cmp r.key q)) (Some r) (last s q)) c.self.view_is)
+    ∙ ap (λ s. cond (is_eq (key_cmp r.key q)) (Some r) (last s q)) c.self.view_is)
 
 pub returns-clause-kept : goal.returns-clause-kept
 returns-clause-kept c = λ same.

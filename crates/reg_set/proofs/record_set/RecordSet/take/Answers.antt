@@ -56,14 +56,14 @@ pub invariant_of-self-then-not-is_news : goal.invariant_of-self-then-not-is_news
 invariant_of-self-then-not-is_news c =
     let r = c.args.given.now in
     let rs = c.self.inside.records.items in
-    let n = c.in_ok-place.place in
+    let n = c.count_before-place.result in
     let same = c.deref-records.ensures.value in
     let no : c.is_news.result ≡ false = search rules in
     let items : c.insert.new.self.items ≡ insert rs n r = c.in_ok-insert.ensures.items ∙ ap (insert rs n) (record_copy _ _ c.in_ok-clone.ensures.cases) in (
       ap is_in_order items
           ∙ insert_in_order r rs n c.self.invariant.0
-          (ap (λ xs. list_all (λ q. is_lt (record_cmp q r)) (take n xs)) (sym same) ∙ c.in_ok-place.ensures.before)
-          (ap (λ xs. list_any (λ q. is_lt (record_cmp q r)) (drop n xs)) (sym same) ∙ c.in_ok-place.ensures.not_before)
+          (ap (λ xs. list_all (λ q. is_lt (record_cmp q r)) (take n xs)) (sym same) ∙ c.count_before-place.ensures.before)
+          (ap (λ xs. list_any (λ q. is_lt (record_cmp q r)) (drop n xs)) (sym same) ∙ c.count_before-place.ensures.not_before)
           (ap (list_any (eq_by_cmp record_cmp r)) (sym same) ∙ sym c.stands_at.ensures ∙ c.if-stands_at.false),
       sym (c.is_news.ensures.no_news no) ∙ added-lasts (from_list rs) c.self.inside.lasts r c.self.invariant.1
           ∙ sym (ap (λ xs. last_records (from_list xs)) items ∙ ap last_records (from_list-insert r rs n)),
@@ -73,7 +73,7 @@ pub returns-then-not-is_news-clause-added : goal.returns-then-not-is_news-clause
 returns-then-not-is_news-clause-added c =
     let r = c.args.given.now in
     let rs = c.self.inside.records.items in
-    let n = c.in_ok-place.place in
+    let n = c.count_before-place.result in
     let items : c.insert.new.self.items ≡ insert rs n r = c.in_ok-insert.ensures.items ∙ ap (insert rs n) (record_copy _ _ c.in_ok-clone.ensures.cases) in
     ap from_list items ∙ from_list-insert r rs n ∙ ap (λ s. set.insert s r) c.self.view_is
 
@@ -97,13 +97,13 @@ pub invariant_of-self-2 : goal.invariant_of-self-2
 invariant_of-self-2 c =
     let r = c.args.given.now in
     let rs = c.self.inside.records.items in
-    let n = c.in_ok-place.place in
+    let n = c.count_before-place.result in
     let same = c.deref-records.ensures.value in
     let items : c.put.new.records.items ≡ insert rs n r = c.in_ok-put.ensures.records in (
       ap is_in_order items
           ∙ insert_in_order r rs n c.self.invariant.0
-          (ap (λ xs. list_all (λ q. is_lt (record_cmp q r)) (take n xs)) (sym same) ∙ c.in_ok-place.ensures.before)
-          (ap (λ xs. list_any (λ q. is_lt (record_cmp q r)) (drop n xs)) (sym same) ∙ c.in_ok-place.ensures.not_before)
+          (ap (λ xs. list_all (λ q. is_lt (record_cmp q r)) (take n xs)) (sym same) ∙ c.count_before-place.ensures.before)
+          (ap (λ xs. list_any (λ q. is_lt (record_cmp q r)) (drop n xs)) (sym same) ∙ c.count_before-place.ensures.not_before)
           (ap (list_any (eq_by_cmp record_cmp r)) (sym same) ∙ sym c.stands_at.ensures ∙ c.if-stands_at.false),
       c.in_ok-put.ensures.lasts ∙ added-lasts (from_list rs) c.self.inside.lasts r c.self.invariant.1
           ∙ sym (ap (λ xs. last_records (from_list xs)) items ∙ ap last_records (from_list-insert r rs n)),
@@ -113,7 +113,7 @@ pub returns-clause-added : goal.returns-clause-added
 returns-clause-added c =
     let r = c.args.given.now in
     let rs = c.self.inside.records.items in
-    ap from_list c.in_ok-put.ensures.records ∙ from_list-insert r rs c.in_ok-place.place ∙ ap (λ s. set.insert s r) c.self.view_is
+    ap from_list c.in_ok-put.ensures.records ∙ from_list-insert r rs c.count_before-place.result ∙ ap (λ s. set.insert s r) c.self.view_is
 
 pub returns-clause-fresh : goal.returns-clause-fresh
 returns-clause-fresh c =
