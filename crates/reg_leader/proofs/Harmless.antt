@@ -35,33 +35,10 @@ use Rattle.reg_leader.specs.Step.{IsStep, course_of, delete_all, delete_entry, d
 use Rattle.reg_leader.specs.declared.command.Command.{Command}
 use Rattle.reg_leader.specs.declared.command.Command.TheVariants as commands
 use Rattle.reg_leader.specs.declared.reply.Reply.{Reply}
+use Rattle.reg_leader.proofs.Below.{NormalTextsReadBack}
 use Rattle.reg_leader.proofs.Courses.{Of, of_found, of_passed, of_then, outcome-of}
 use Rattle.reg_leader.proofs.Names.{NamesOnly, meant-stands, named-only, new_id-only, one_schema}
-
--- What a test that passes tells.
-unless_passed : (b : Bool) (refusal : Refusal) → refuse_unless b refusal ≡ granted → b ≡ true
-unless_passed true refusal e = refl
-unless_passed false refusal e = absurd (cc)
-
-if_passed : (b : Bool) (refusal : Refusal) → refuse_if b refusal ≡ granted → b ≡ false
-if_passed true refusal e = absurd (cc)
-if_passed false refusal e = refl
-
-neither : (a b : Bool) (refusal : Refusal) → test.if_not_opaque a (refuse_if b refusal) ≡ granted → (a || b) ≡ false
-neither true b refusal e = absurd (cc)
-neither false b refusal e = if_passed b refusal e
-
-open_passed : (rs : Records) → test.is_open rs ≡ granted → is_closed rs ≡ false
-open_passed rs e = neither (is_some (opaque rs)) (is_some (two_schemas rs)) (refusals.Store faults.TwoSchemas) e
-
-both_true : (a b : Bool) → (a && b) ≡ true → (a ≡ true) × (b ≡ true)
-both_true true b h = (refl, h)
-both_true false b h = absurd (false≢true h)
-
-number_passed : (m : ℕ) → test.is_number m ≡ granted → IsVersionOrId m
-number_passed m e =
-    let within = both_true (nat_le 1 m) (nat_le m NUMBER_LIMIT) (unless_passed (nat_le 1 m && nat_le m NUMBER_LIMIT) test.numbers_used_up e) in
-    (leb-true 1 m within.0, leb-true m NUMBER_LIMIT within.1)
+use Rattle.reg_leader.proofs.Passed.{if_passed, number_passed, open_passed}
 
 -- Writings, as batches are in specs/Harmless.antt.
 abbrev QuietWriting : Writing → Type 0
@@ -115,7 +92,7 @@ meaning_of (Some schema) normal is = (schema, refl, inside schema.normal_text no
     inside : (a b : List ℕ) → Some a ≡ Some b → a ≡ b
     inside a b same = cc
 
-module _ (one : NoneIsOneTextEach) (read : EntriesAreRead) (fits : EntriesAreInLimits) (again : (text : List ℕ) (m : Meaning) → schema_of text ≡ Some m → schema_of m.normal_text ≡ Some m) (rs : Records) (n : ℕ) where
+module _ (one : NoneIsOneTextEach) (read : EntriesAreRead) (fits : EntriesAreInLimits) (again : NormalTextsReadBack) (rs : Records) (n : ℕ) where
   abbrev Harmless : Course → Type 0
   Harmless c = Of (AreHarmless rs) c
 
@@ -218,7 +195,7 @@ module _ (one : NoneIsOneTextEach) (read : EntriesAreRead) (fits : EntriesAreInL
       of_found _ (own_mode rs (Some subject)) _ _ (λ mode _. inl (inl refl, tt)) (λ _. tt)))
   course-harmless commands.Noop = of_then _ (test.is_open rs) _ (of_then _ (test.has_offset n) _ (inl (inl refl, tt)))
 
-pub steps_are_harmless : NoneIsOneTextEach → EntriesAreRead → EntriesAreInLimits → ((text : List ℕ) (m : Meaning) → schema_of text ≡ Some m → schema_of m.normal_text ≡ Some m) → StepsAreHarmless
+pub steps_are_harmless : NoneIsOneTextEach → EntriesAreRead → EntriesAreInLimits → NormalTextsReadBack → StepsAreHarmless
 unfolding IsStep
 steps_are_harmless one read fits again rs n c reply batch step =
     elim (outcome-of (AreHarmless rs) n (course_of rs n c) reply batch (course-harmless one read fits again rs n c) step) [

@@ -1,9 +1,12 @@
+pub mod Below
 pub mod Chosen
 pub mod Courses
+pub mod Greatest
 pub mod Harmless
 pub mod Lines
 pub mod Names
 pub mod Opens
+pub mod Passed
 pub mod Refused
 pub mod SoftDeletes
 pub mod Steps

@@ -39,19 +39,11 @@ use Rattle.reg_leader.specs.Step.{IsStep, course_of, delete_all, delete_entry, i
 use Rattle.reg_leader.specs.declared.command.Command.{Command}
 use Rattle.reg_leader.specs.declared.command.Command.TheVariants as commands
 use Rattle.reg_leader.specs.declared.reply.Reply.{Reply}
+use Rattle.reg_leader.proofs.Below.{NormalTextsReadBack, ValuesHaveLines, ValuesReadBack}
+use Rattle.reg_leader.proofs.Chosen.{find_has, ord_max-picks, reduce_has}
 use Rattle.reg_leader.proofs.Courses.{Of, of_then, of_passed, of_found, outcome-within}
-use Rattle.reg_leader.proofs.Chosen.{find_has, max-picks, ord_max-picks, reduce_has}
-
--- reg_records' two laws
-abbrev pub ValuesHaveLines : Type 0
-ValuesHaveLines = (offset : ℕ) (k : Key) (v : Value) → offset ≤ OFFSET_LIMIT → IsInLimits k → IsValueOf k v → HasLine (record { offset = offset; key = k; value = written_value v })
-
-abbrev pub ValuesReadBack : Type 0
-ValuesReadBack = (offset : ℕ) (k : Key) (v : Value) → IsValueOf k v → value_of (record { offset = offset; key = k; value = written_value v }) ≡ Some v
-
--- avro_schema's
-abbrev pub NormalTextsReadBack : Type 0
-NormalTextsReadBack = (text : List ℕ) (m : Meaning) → schema_of text ≡ Some m → schema_of m.normal_text ≡ Some m
+use Rattle.reg_leader.proofs.Greatest.{greatest-fits}
+use Rattle.reg_leader.proofs.Passed.{number_passed}
 
 -- a key within its limits, and no value or one that may stand under it
 pub record IsSound (w : Writing) : Type 0 where
@@ -92,23 +84,6 @@ numbered-are_readable reads n [] all = All-nil IsReadable
 numbered-are_readable reads n (w ∷ ws) all =
     All-cons IsReadable (written_at n w) (numbered (suc n) ws) (written-is_readable reads n w (All-head IsSound w ws all)) (numbered-are_readable reads (suc n) ws (All-tail IsSound w ws all))
 
--- a number that passes its test
-unless-true : (b : Bool) (r : Refusal) → refuse_unless b r ≡ granted → b ≡ true
-unless-true true r e = refl
-unless-true false r e = cc
-
-both_true : (a b : Bool) → (a && b) ≡ true → (a ≡ true) × (b ≡ true)
-both_true true b h = (refl, h)
-both_true false b h = absurd (false≢true h)
-
-at_most : (m n : ℕ) → nat_le m n ≡ true → m ≤ n
-at_most m n e = grind arith
-
-number-fits : (m : ℕ) → test.is_number m ≡ granted → IsVersionOrId m
-number-fits m e =
-    let parts = both_true _ _ (unless-true _ test.numbers_used_up e) in
-    (at_most 1 m parts.0, at_most m _ parts.1)
-
 levels-are_named : (level : Level) → is_level (level_text level) ≡ true
 levels-are_named levels.None = refl
 levels-are_named levels.Backward = refl
@@ -132,7 +107,7 @@ entries_are_whole limits read rs =
     ((limits rs e there).0, (limits rs e there).1, some_mapped (λ (m : Meaning). m.normal_text) (schema_of e.text) e.normal (read rs e there)) in
     All-weaker (Contains (entries rs)) IsWhole each (entries rs) (All-contains_itself (entries rs))
 
-module _ (rs : Records) (n : ℕ) (whole : All IsWhole (entries rs)) (again : NormalTextsReadBack) where
+module _ (limits : EntriesAreInLimits) (rs : Records) (n : ℕ) (whole : All IsWhole (entries rs)) (again : NormalTextsReadBack) where
   of_subject-whole : (subject : List ℕ) → All IsWhole (of_subject (entries rs) subject)
   of_subject-whole subject = All-filter (λ e. bytes_eq e.subject subject) IsWhole (entries rs) whole
 
@@ -143,12 +118,6 @@ module _ (rs : Records) (n : ℕ) (whole : All IsWhole (entries rs)) (again : No
   meant-whole subject Latest e is = reduce_has IsWhole (ord_max (on (λ e. e.version) nat_cmp)) (ord_max-picks (on (λ e. e.version) nat_cmp)) (live rs subject) e (counting-whole subject false) is
   meant-whole subject (Number version) e is = find_has IsWhole (λ e. e.version == version) (standing rs subject) e (counting-whole subject true) is
 
-  greatest-fits : (subject : List ℕ) (greatest : ℕ) → greatest_version rs subject ≡ Some greatest → IsVersionOrId greatest
-  greatest-fits subject greatest is =
-      let es = of_subject (entries rs) subject in
-      let all = All-map IsVersionOrId (λ (e : Entry). e.version) es (All-weaker IsWhole (λ e. IsVersionOrId e.version) (λ e h. h.0) es (of_subject-whole subject)) in
-      reduce_has IsVersionOrId max max-picks (map (λ e. e.version) es) greatest all is
-
   all_removed : (es : List Entry) → All IsWhole es → All IsSound (map removed es)
   all_removed [] all = All-nil IsSound
   all_removed (e ∷ es) all = All-cons IsSound (removed e) (map removed es) (record { key_fits = (All-head IsWhole e es all).0; value_fits = inl refl }) (all_removed es (All-tail IsWhole e es all))
@@ -156,7 +125,7 @@ module _ (rs : Records) (n : ℕ) (whole : All IsWhole (entries rs)) (again : No
   writes-sound : (subject normal : List ℕ) (id version : ℕ) → is_schema normal ≡ true → Of AreSound (writes subject normal id version)
   writes-sound subject normal id version known =
       of_passed _ (test.is_number id) _ (λ i. of_passed _ (test.is_number version) _ (λ v.
-      one_sound _ (record { key_fits = number-fits version v; value_fits = inr (_, refl, (refl, number-fits version v, number-fits id i, known)) })))
+      one_sound _ (record { key_fits = number_passed version v; value_fits = inr (_, refl, (refl, number_passed version v, number_passed id i, known)) })))
 
   import_as-sound : (subject normal : List ℕ) (id : ℕ) (version : Option ℕ) → is_schema normal ≡ true → Of AreSound (import_as rs subject normal id version)
   import_as-sound subject normal id None known =
@@ -200,7 +169,7 @@ module _ (rs : Records) (n : ℕ) (whole : All IsWhole (entries rs)) (again : No
       of_found _ (version_meant rs subject version) _ _ (λ e is. delete_entry-sound permanent e (meant-whole subject version e is)) (λ _. tt))))
   course-sound (commands.DeleteSubject subject permanent) =
       open-sound _ (of_then _ (writing (mode rs (Some subject))) _ (
-      of_found _ (greatest_version rs subject) _ _ (λ greatest is. delete_all-sound subject permanent greatest (greatest-fits subject greatest is)) (λ _. tt)))
+      of_found _ (greatest_version rs subject) _ _ (λ greatest is. delete_all-sound subject permanent greatest (greatest-fits limits rs subject greatest is)) (λ _. tt)))
   course-sound (commands.SetLevel scope level) =
       open-sound _ (of_then _ (writing (mode rs scope)) _ (one_sound _ (record { key_fits = tt; value_fits = inr (_, refl, (scope, refl, levels-are_named level)) })))
   course-sound (commands.ClearLevel subject) =
@@ -215,7 +184,7 @@ module _ (rs : Records) (n : ℕ) (whole : All IsWhole (entries rs)) (again : No
 pub batches_have_lines : EntriesAreInLimits → EntriesAreRead → NormalTextsReadBack → ValuesHaveLines → BatchesHaveLines
 unfolding IsStep
 batches_have_lines limits read again lines rs n c reply batch step =
-    elim (outcome-within AreSound n (course_of rs n c) reply batch (course-sound rs n (entries_are_whole limits read rs) again c) step) [
+    elim (outcome-within AreSound n (course_of rs n c) reply batch (course-sound limits rs n (entries_are_whole limits read rs) again c) step) [
       | inl none ↦ subst (All HasLine) (sym none) (All-nil HasLine)
       | inr some ↦ subst (All HasLine) (sym some.1) (numbered-have_lines lines n some.0 some.3 some.2)
     ]
@@ -223,7 +192,7 @@ batches_have_lines limits read again lines rs n c reply batch step =
 pub batches_are_read : EntriesAreInLimits → EntriesAreRead → NormalTextsReadBack → ValuesReadBack → BatchesAreRead
 unfolding IsStep
 batches_are_read limits read again reads rs n c reply batch step =
-    elim (outcome-within AreSound n (course_of rs n c) reply batch (course-sound rs n (entries_are_whole limits read rs) again c) step) [
+    elim (outcome-within AreSound n (course_of rs n c) reply batch (course-sound limits rs n (entries_are_whole limits read rs) again c) step) [
       | inl none ↦ subst (All IsReadable) (sym none) (All-nil IsReadable)
       | inr some ↦ subst (All IsReadable) (sym some.1) (numbered-are_readable reads n some.0 some.2)
     ]

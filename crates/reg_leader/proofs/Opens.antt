@@ -27,6 +27,7 @@ use Rattle.reg_set.specs.Records.{Records}
 use Rattle.serde_json.specs.Read.{read}
 use Rattle.reg_leader.specs.Harmless.{IsHarmless, IsOneVersion, IsQuiet}
 use Rattle.reg_leader.specs.StayOpen.{IdsNameOneSchema, last_after}
+use Rattle.reg_leader.proofs.Below.{ValuesReadBack}
 use Rattle.reg_leader.proofs.Names.{no_opaque, not_closed, one_schema}
 
 -- Quiet records.
@@ -99,11 +100,7 @@ value-opaque r v value = and-false (is_version r.key && is_some r.value) (is_non
 later_picks : (a b : Option Record) → (later a b ≡ a) ⊎ (later a b ≡ b)
 later_picks a b = elim (is_lt (option_cmp age_cmp b a)) as (λ c. (cond c a b ≡ a) ⊎ (cond c a b ≡ b)) [ true ↦ inl refl | false ↦ inr refl ]
 
--- a written value is read again
-abbrev pub ReadsBack : Type 0
-ReadsBack = (offset : ℕ) (k : Key) (v : Value) → IsValueOf k v → value_of (record { offset = offset; key = k; value = written_value v }) ≡ Some v
-
-module _ (order : IsTotalOrder record_cmp) (apart : IsAntisymmetric record_cmp) (greatest : LastIsGreatest) (of_union : LastOfUnion) (of_places : EntriesAreOfPlaces) (opaque_lasts : NoneIsNoOpaqueLast) (one : NoneIsOneTextEach) (again : ReadsBack) where
+module _ (order : IsTotalOrder record_cmp) (apart : IsAntisymmetric record_cmp) (greatest : LastIsGreatest) (of_union : LastOfUnion) (of_places : EntriesAreOfPlaces) (opaque_lasts : NoneIsNoOpaqueLast) (one : NoneIsOneTextEach) (again : ValuesReadBack) where
   -- a record of a list's set is in the list
   in_all : (P : Record → Type 0) (rs : List Record) (r : Record) → All P rs → list_any (eq_by_cmp record_cmp r) rs ≡ true → P r
   in_all P [] r all any = absurd (false≢true any)

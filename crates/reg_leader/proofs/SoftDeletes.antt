@@ -27,8 +27,8 @@ use Rattle.reg_leader.specs.Step.{IsStep, course_of, delete_all, delete_entry, i
 use Rattle.reg_leader.specs.declared.command.Command.{Command}
 use Rattle.reg_leader.specs.declared.command.Command.TheVariants as commands
 use Rattle.reg_leader.specs.declared.reply.Reply.{Reply}
-use Rattle.reg_leader.proofs.Chosen.{max-picks, reduce_has}
 use Rattle.reg_leader.proofs.Courses.{Of, of_found, of_then, outcome-of}
+use Rattle.reg_leader.proofs.Greatest.{greatest-fits}
 
 abbrev NoDelete : Writing → Type 0
 NoDelete w = is_delete w.key ≡ false
@@ -108,12 +108,6 @@ module _ (rs : Records) (n : ℕ) where
       of_then _ (test.is_open rs) _ (of_then _ (test.has_offset n) _ (
       of_found _ (own_mode rs (Some subject)) _ _ (λ mode _. inl (refl, tt)) (λ _. tt)))
   course-names commands.Noop = of_then _ (test.is_open rs) _ (of_then _ (test.has_offset n) _ (inl (refl, tt)))
-
-greatest-fits : EntriesAreInLimits → (rs : Records) (subject : List ℕ) (most : ℕ) → greatest_version rs subject ≡ Some most → IsVersionOrId most
-greatest-fits fits rs subject most is =
-    let each = All-weaker (Contains (entries rs)) (λ e. IsVersionOrId e.version) (λ e stands. (fits rs e stands).0) (entries rs) (All-contains_itself (entries rs)) in
-    let own = All-filter (λ e. bytes_eq e.subject subject) (λ e. IsVersionOrId e.version) (entries rs) each in
-    reduce_has IsVersionOrId max max-picks (map (λ e. e.version) (of_subject (entries rs) subject)) most (All-map IsVersionOrId (λ e. e.version) (of_subject (entries rs) subject) own) is
 
 pub deletes_name_greatest : EntriesAreInLimits → DeletesNameGreatest
 unfolding IsStep

@@ -1,3 +1,4 @@
+pub mod Needed
 pub mod Newest
 pub mod Numbering
 pub mod Verdicts

@@ -1,5 +1,6 @@
 pub mod Better
 pub mod Finding
+pub mod Needed
 pub mod Report
 pub mod Standing
 pub mod Tests

@@ -1,5 +1,5 @@
 -- What commands ask of the entries. Below, rs are the last records.
-use Rattle.std.specs.Prelude.{ℕ, suc, List, Bool, true, false, ◌==◌, ◌&&◌, not, Option, Some, None, map, bytes_eq, unwrap_or}
+use Rattle.std.specs.Prelude.{ℕ, suc, List, Bool, true, false, ◌==◌, ◌&&◌, not, Option, map, bytes_eq, unwrap_or}
 use Rattle.std.specs.List.{reduce}
 use Rattle.std.specs.Option.{option_map_or}
 use Rattle.std.specs.Ordering.{nat_cmp, on, ord_max}

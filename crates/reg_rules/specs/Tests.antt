@@ -1,5 +1,5 @@
 -- The tests of commands, each with its refusal. Below, rs are the last records and n the next offset.
-use Rattle.std.specs.Prelude.{ℕ, List, [], ◌∷◌, Bool, true, false, nat_le, ◌&&◌, Option, Some, None, is_some, Err}
+use Rattle.std.specs.Prelude.{ℕ, List, [], ◌∷◌, Bool, true, false, nat_le, ◌&&◌, Some, is_some, Err}
 use Rattle.avro_schema.specs.Defaults.{bad_defaults}
 use Rattle.avro_schema.specs.Schema.{Meaning}
 use Rattle.reg_entries.specs.Sought.{has_live}
@@ -8,7 +8,7 @@ use Rattle.reg_fold.specs.Entries.{entries}
 use Rattle.reg_fold.specs.InForce.{Scope}
 use Rattle.reg_fold.specs.Opaque.{opaque}
 use Rattle.reg_fold.specs.Standing.{greatest_version}
-use Rattle.reg_modes.specs.Permitted.{Permit, denied, granted, setting_import}
+use Rattle.reg_modes.specs.Permitted.{Permit, granted, setting_import}
 use Rattle.reg_modes.specs.declared.mode.Mode.{Mode}
 use Rattle.reg_modes.specs.declared.mode.Mode.TheVariants as modes
 use Rattle.reg_records.specs.declared.limits.TheConstants.{NUMBER_LIMIT, OFFSET_LIMIT}

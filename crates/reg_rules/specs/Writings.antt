@@ -1,5 +1,5 @@
 -- What commands write.
-use Rattle.std.specs.Prelude.{ℕ, suc, List, [], ◌∷◌, true, false, Option, Some, None, option_and_then}
+use Rattle.std.specs.Prelude.{ℕ, suc, List, [], ◌∷◌, true, false, Some, None, option_and_then}
 use Rattle.reg_levels.specs.Level.{level_text}
 use Rattle.reg_levels.specs.declared.level.Level.{Level}
 use Rattle.reg_modes.specs.Mode.{mode_text}

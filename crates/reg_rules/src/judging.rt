@@ -6,6 +6,7 @@ ghost use Rattle.reg_fold.specs.Standing.{live};
 ghost use Rattle.reg_levels.specs.Judgement.{IsMadeOf, first_unread};
 ghost use Rattle.reg_levels.specs.RequiredPairs.{HasRisingVersions};
 ghost use Rattle.reg_levels.specs.Texts.{IsVerdictOfTexts};
+ghost use Rattle.reg_rules.specs.Needed.{needed};
 ghost use Rattle.reg_rules.specs.Standing.{texts_of};
 ghost use Rattle.reg_rules.specs.Report.{IsReport};
 
@@ -33,7 +34,7 @@ pub fn clash_of(
     if let Some(judged) = fitting(judged, level, schema.normal().as_str(), &texts) {
         return judged.verdict().message(alloc);
     }
-    let verdict = checked(alloc, level, schema, &texts)?;
+    let verdict = checked(alloc, level, schema, needed(level, &texts))?;
     verdict.message(alloc)
 }
 
@@ -50,6 +51,19 @@ fn fitting<'a>(
         Some(judged) if judged.fits(level, new_text, texts) => Some(judged),
         _ => None,
     }
+}
+
+/// Of the old versions those that a check needs: all, the greatest, which stands last, or none where
+/// the level asks for no pair. No others are read.
+fn needed<'a, 'b>(level: Level, texts: &'a [(u32, &'b str)]) -> &'a [(u32, &'b str)]
+    ensures { result.now ≡ needed level texts.now }
+{
+    let first = match level {
+        Level::None => texts.len(),
+        Level::Backward | Level::Forward | Level::Full => texts.len().saturating_sub(1),
+        Level::BackwardTransitive | Level::ForwardTransitive | Level::FullTransitive => 0,
+    };
+    &texts[first..]
 }
 
 /// The verdict on a schema. The only error is want of memory.
