@@ -9,23 +9,25 @@ use Rattle.reg_leader.specs.declared.reply.Reply.{Reply}
 use Rattle.reg_lookup.specs.declared.answered.Answer.{Answer}
 use Rattle.reg_lookup.specs.declared.query.Query.{Query}
 use Rattle.reg_refusals.specs.declared.refusal.Refusal.{Refusal}
+use Rattle.reg_messages.specs.Fields.{told_length}
+use Rattle.reg_messages.specs.Head.{front_of, head, IsHead}
+use Rattle.reg_messages.specs.Messages.{after_body, body_after, fields_of, wants_close}
+use Rattle.reg_messages.specs.Reading.{GetsFrom, IsRefusedAt}
+use Rattle.reg_messages.specs.declared.field.Field.{Field}
+use Rattle.reg_messages.specs.declared.reading.Got.{Got}
+use Rattle.reg_messages.specs.declared.reading.Got.TheVariants as gots
 use Rattle.reg_requests.specs.Asked.{asked_of}
-use Rattle.reg_requests.specs.Fields.{told_length}
 use Rattle.reg_requests.specs.declared.asked.Asked.{Asked}
 use Rattle.reg_requests.specs.declared.asked.Asked.TheVariants as asked
 use Rattle.reg_requests.specs.declared.request.Request.{Request}
 use Rattle.reg_responses.specs.Response.{refusal_text}
 use Rattle.reg_responses.specs.Writing.{AppendsFront}
-use Rattle.reg_http.specs.Head.{front_of, head, IsHead}
-use Rattle.reg_http.specs.Reading.{GetsFrom, IsRefusedAt}
-use Rattle.reg_http.specs.Requests.{after_body, fields_of, request_of, wants_close}
+use Rattle.reg_http.specs.Requests.{request_of}
 use Rattle.reg_http.specs.Serve.{AnswersFirst, AnswersFront, AnswersHead, Does, LacksMemory, left_if}
 use Rattle.reg_http.specs.ServeSteps.{Attends, Did, Steps, done_closes, done_text, next_if}
 use Rattle.reg_http.specs.declared.attending.Attended.TheVariants as attended
 use Rattle.reg_http.specs.declared.doing.Done.{Done}
 use Rattle.reg_http.specs.declared.doing.Done.TheVariants as dones
-use Rattle.reg_http.specs.declared.reading.Got.{Got}
-use Rattle.reg_http.specs.declared.reading.Got.TheVariants as gots
 
 or-true : (b : Bool) → (b || true) ≡ true
 or-true true = refl
@@ -35,6 +37,11 @@ or-true false = refl
 asked-refused : (r : Request) (refusal : Refusal) → told_length r.fields ≡ Err refusal → asked_of r ≡ asked.Refused refusal true
 unfolding asked_of
 asked-refused r refusal told = rw told refl
+
+-- a request with the same parts
+same-request : (h : RequestHead) (after m t : List ℕ) (f : List Field) (b : Option (List ℕ)) → m ≡ h.method → t ≡ h.target → f ≡ fields_of h → b ≡ body_after h after
+    → ◌≡◌ {A = Request} record { method = m; target = t; fields = f; body = b } (request_of h after)
+same-request h after m t f b p q r s = rw (p, q, r, s) refl
 
 module _ {D : Type 0} (asks : D → Query → Result Answer AllocError → D → Type 0) (commands : D → Command → Reply → D → Type 0) where
   -- what was done is the response to what was asked
@@ -63,11 +70,12 @@ module _ {D : Type 0} (asks : D → Query → Result Answer AllocError → D →
   head-answers old new text bytes h after wants out left front is answers =
       subst (λ f. AnswersFront asks commands old f out new left) (sym front) (inl (h, is, answers))
 
-  attends-request : (old new : D) (text : List ℕ) (left : Option (List ℕ)) (r : Request) (wants : Bool) (done : Done)
-      → GetsFrom text left (gots.Request r wants) → Did asks commands old (asked_of r) new done
+  attends-request : (old new : D) (text : List ℕ) (left : Option (List ℕ)) (m t : List ℕ) (f : List Field) (b : Option (List ℕ)) (wants : Bool) (done : Done)
+      → GetsFrom text left (gots.Message m t f b wants) → Did asks commands old (asked_of (record { method = m; target = t; fields = f; body = b })) new done
       → Attends asks commands old text left new (attended.Done done wants)
-  attends-request old new text left r wants done (bytes, h, after, (front, is, ok, rest), same, wanted) did =
-      let answers = did-answers old new h (asked_of (request_of h after)) done ok (subst (λ q. Did asks commands old (asked_of q) new done) same did) in (
+  attends-request old new text left m t f b wants done (bytes, h, after, (front, is, ok, rest), (p, q, r, s), wanted) did =
+      let same = same-request h after m t f b p q r s in
+      let answers = did-answers old new h (asked_of (request_of h after)) done ok (subst (λ asking. Did asks commands old (asked_of asking) new done) same did) in (
         after_body h after,
         λ _. rest,
         subst (λ w. AnswersFirst asks commands old (Some text) (done_text w done) new (left_if (done_closes w done) (after_body h after))) (sym wanted)
@@ -109,12 +117,13 @@ module _ {D : Type 0} (asks : D → Query → Result Answer AllocError → D →
   ]
 
   -- the same, where the text is known
-  pub attended-request : (old new : D) (input left : Option (List ℕ)) (got : Got) (r : Request) (wants : Bool) (done : Done) → got ≡ gots.Request r wants
-      → IfSome input (λ text. GetsFrom text left got) → Did asks commands old (asked_of r) new done
+  pub attended-request : (old new : D) (input left : Option (List ℕ)) (got : Got) (m t : List ℕ) (f : List Field) (b : Option (List ℕ)) (wants : Bool) (done : Done)
+      → got ≡ gots.Message m t f b wants → IfSome input (λ text. GetsFrom text left got)
+      → Did asks commands old (asked_of (record { method = m; target = t; fields = f; body = b })) new done
       → IfSome input (λ text. Attends asks commands old text left new (attended.Done done wants))
-  attended-request old new None left got r wants done is gets did = tt
-  attended-request old new (Some text) left got r wants done is gets did =
-      attends-request old new text left r wants done (subst (λ g. GetsFrom text left g) is gets) did
+  attended-request old new None left got m t f b wants done is gets did = tt
+  attended-request old new (Some text) left got m t f b wants done is gets did =
+      attends-request old new text left m t f b wants done (subst (λ g. GetsFrom text left g) is gets) did
 
   pub attended-refused : (old : D) (input left : Option (List ℕ)) (got : Got) (refusal : Refusal) → got ≡ gots.Refused refusal
       → IfSome input (λ text. GetsFrom text left got)

@@ -11,9 +11,10 @@ use Rattle.reg_leader.specs.declared.command.Command.{Command}
 use Rattle.reg_leader.specs.declared.reply.Reply.{Reply}
 use Rattle.reg_records.specs.declared.device.Device.{Device}
 use Rattle.reg_lookup.specs.declared.query.Query.{Query}
+use Rattle.reg_messages.specs.Reading.{TakesShort}
+use Rattle.reg_messages.specs.Taking.{LosesReader}
 use Rattle.reg_responses.specs.Writing.{AppendsFront, LosesWriter}
-use Rattle.reg_http.specs.Serve.{all_of, Answers, AnswersFirst, IsOutput, IsServeRefusal, StopsBetween, StopsIn, TakesShort}
-use Rattle.reg_http.specs.Taking.{LosesReader}
+use Rattle.reg_http.specs.Serve.{all_of, Answers, AnswersFirst, IsOutput, IsServeRefusal, StopsBetween, StopsIn}
 use Rattle.reg_http.specs.ServeSteps.{HasAnswered, IsStepRefusal, Steps}
 use Rattle.reg_http.specs.declared.limits.TheConstants.{REQUESTS_LIMIT}
 use Rattle.reg_http.specs.declared.serving.Next.{Next}

@@ -1,7 +1,7 @@
 -- The responses to the requests of a text.
-use Rattle.std.specs.Prelude.{◌≡◌, ◌⊎◌, ◌≤◌, ◌<◌, ⊤, ℕ, List, [], ◌∷◌, ◌++◌, Bool, true, ◌||◌, length, Option, Some, None, IfSome, IsOk, Result, Ok, Err, if◌then◌else◌}
+use Rattle.std.specs.Prelude.{◌≡◌, ◌⊎◌, ◌≤◌, ⊤, ℕ, List, [], ◌∷◌, ◌++◌, Bool, true, ◌||◌, length, Option, Some, None, IfSome, IsOk, Result, Ok, Err, if◌then◌else◌}
 use Rattle.std.specs.List.{flat_map}
-use Rattle.std.specs.Io.KnownBytes.{Appends, Consumes}
+use Rattle.std.specs.Io.KnownBytes.{Appends}
 use Rattle.std.specs.declared.alloc.AllocError.{AllocError}
 use Rattle.httparse.specs.Grammar.{RequestHead}
 use Rattle.reg_leader.specs.declared.command.Command.{Command}
@@ -12,16 +12,18 @@ use Rattle.reg_records.specs.Device.{faults_of}
 use Rattle.reg_records.specs.declared.device.Device.{Device}
 use Rattle.reg_refusals.specs.declared.refusal.Refusal.{Refusal}
 use Rattle.reg_refusals.specs.declared.refusal.Refusal.TheVariants as refusals
+use Rattle.reg_messages.specs.Fields.{told_length}
+use Rattle.reg_messages.specs.Head.{Front, over, head, no_head, front_of, IsHead, IsNoHead}
+use Rattle.reg_messages.specs.Messages.{after_body, fields_of, wants_close}
+use Rattle.reg_messages.specs.Reading.{TakesShort}
+use Rattle.reg_messages.specs.Taking.{LosesReader}
 use Rattle.reg_requests.specs.Asked.{asked_of}
-use Rattle.reg_requests.specs.Fields.{body_length, told_length}
 use Rattle.reg_requests.specs.declared.asked.Asked.{Asked}
 use Rattle.reg_requests.specs.declared.asked.Asked.TheVariants as asked
 use Rattle.reg_responses.specs.Reply.{reply_answer}
 use Rattle.reg_responses.specs.Response.{answer_text, memory_text, refusal_text}
 use Rattle.reg_responses.specs.Writing.{LosesWriter}
-use Rattle.reg_http.specs.Head.{Front, over, head, no_head, front_of, IsHead, IsNoHead}
-use Rattle.reg_http.specs.Requests.{request_of, fields_of, after_body, wants_close}
-use Rattle.reg_http.specs.Taking.{LosesReader}
+use Rattle.reg_http.specs.Requests.{request_of}
 use Rattle.reg_http.specs.declared.limits.TheConstants.{REQUESTS_LIMIT}
 use Rattle.reg_http.specs.declared.serving.ServeError.{ServeError}
 use Rattle.reg_http.specs.declared.serving.ServeError.TheVariants as errors
@@ -29,16 +31,6 @@ use Rattle.reg_http.specs.declared.serving.ServeError.TheVariants as errors
 -- what is left to be read: none where the server closed the connection
 abbrev pub left_if : Bool → List ℕ → Option (List ℕ)
 left_if closes rest = if closes then None else Some rest
-
--- what stands at the front is short of a whole request: the end of its head or of its body isn't there yet
-abbrev pub IsShort : Front → Type 0
-IsShort over = ⊤
-IsShort (no_head refusal) = refusal ≡ refusals.BadRequest
-IsShort (head bytes after) = (h : RequestHead) × IsHead bytes h × (length after < body_length (fields_of h))
-
--- of the text that was there, the reader took bytes that are short of a whole request
-abbrev pub TakesShort : List ℕ → Option (List ℕ) → Type 0
-TakesShort text left = (part : List ℕ) × Consumes (Some text) left part × IsShort (front_of part)
 
 -- the response to a query, or that memory was refused
 abbrev pub query_text : Bool → Result Answer AllocError → List ℕ

@@ -8,14 +8,15 @@ use Rattle.reg_lookup.specs.declared.answered.Answer.{Answer}
 use Rattle.reg_lookup.specs.declared.query.Query.{Query}
 use Rattle.reg_records.specs.Device.{faults_of}
 use Rattle.reg_records.specs.declared.device.Device.{Device}
+use Rattle.reg_messages.specs.Head.{over, front_of}
+use Rattle.reg_messages.specs.Reading.{TakesShort}
+use Rattle.reg_messages.specs.Taking.{LosesReader}
 use Rattle.reg_requests.specs.declared.asked.Asked.{Asked}
 use Rattle.reg_requests.specs.declared.asked.Asked.TheVariants as asked
 use Rattle.reg_responses.specs.Reply.{reply_answer}
 use Rattle.reg_responses.specs.Response.{answer_text, memory_text, refusal_text}
 use Rattle.reg_responses.specs.Writing.{AppendsFront, LosesWriter}
-use Rattle.reg_http.specs.Head.{over, front_of}
-use Rattle.reg_http.specs.Serve.{all_of, left_if, Answers, AnswersFirst, TakesShort}
-use Rattle.reg_http.specs.Taking.{LosesReader}
+use Rattle.reg_http.specs.Serve.{all_of, left_if, Answers, AnswersFirst}
 use Rattle.reg_http.specs.declared.attending.Attended.{Attended}
 use Rattle.reg_http.specs.declared.attending.Attended.TheVariants as attended
 use Rattle.reg_http.specs.declared.doing.Done.{Done}

@@ -1,17 +1,16 @@
 // Reading the next request, and doing what it asks.
 ghost use Rattle.std.specs.Prelude.{◌≡◌, ◌≤◌, IfOk, IfSome, OnErr, OnOk};
 ghost use Rattle.reg_records.specs.Device.{bytes_in, faults_of, reads_of};
-ghost use Rattle.reg_http.specs.Serve.{TakesShort};
+ghost use Rattle.reg_messages.specs.Reading.{TakesShort};
+ghost use Rattle.reg_messages.specs.Taking.{CountsReads, LosesReader};
+ghost use Rattle.reg_messages.specs.declared.limits.TheConstants.{REQUEST_READS};
 ghost use Rattle.reg_http.specs.ServeSteps.{Attends};
-ghost use Rattle.reg_http.specs.Taking.{CountsReads, LosesReader};
 
 use crate::desk::Desk;
 use crate::doing::{Done, do_request};
-use crate::limits::REQUEST_READS;
-use crate::reading::{Got, read_request};
-use crate::taking::ReadFault;
+use reg_messages::{Got, ReadFault, read_message};
 use reg_records::Device;
-use reg_requests::Paths;
+use reg_requests::{Paths, Request};
 use std::alloc::Global;
 use std::io::Read;
 
@@ -40,7 +39,7 @@ pub(crate) fn attend<R: Read, D: Desk>(
     ensures short { OnErr result (IfSome (bytes_in R.remaining reader.old) (λ text. TakesShort text (bytes_in R.remaining reader.new))) }
     ensures idle { OnErr result (desk.new ≡ desk.old) }
 {
-    match read_request(alloc, reader) {
+    match read_message(alloc, reader) {
         Ok(Got::Over) => Ok(Attended::Over),
         Ok(Got::Refused(refusal)) => Ok(Attended::Done {
             done: Done::Refused {
@@ -50,14 +49,25 @@ pub(crate) fn attend<R: Read, D: Desk>(
             wants_close: true,
         }),
         Ok(
-            Got::Request {
-                request,
+            Got::Message {
+                method,
+                target,
+                fields,
+                body,
                 wants_close,
             },
-        ) => Ok(Attended::Done {
-            done: do_request(alloc, paths, desk, &request),
-            wants_close,
-        }),
+        ) => {
+            let request = Request {
+                method,
+                target,
+                fields,
+                body,
+            };
+            Ok(Attended::Done {
+                done: do_request(alloc, paths, desk, &request),
+                wants_close,
+            })
+        }
         Ok(Got::NoMemory { wants_close }) => Ok(Attended::Done {
             done: Done::NoMemory,
             wants_close,

@@ -2,21 +2,14 @@
 #![tactic(auto)]
 
 mod attending;
-mod body_reading;
 mod desk;
 mod doing;
-mod head;
 mod limits;
-mod parsing;
-mod reading;
 mod serving;
-mod spans;
-mod taking;
 
 pub use desk::Desk;
-pub use limits::{
-    HEAD_FIELDS, HEAD_LIMIT, HEAD_LINES, REQUEST_READS, REQUESTS_LIMIT, limits_are_as_written,
-};
+pub use limits::{REQUESTS_LIMIT, limits_are_as_written};
+pub use reg_messages::{HEAD_FIELDS, HEAD_LIMIT, HEAD_LINES, REQUEST_READS};
 pub use reg_requests::{Asked, Request};
 pub use reg_responses::reply_answer;
 pub use serving::{ServeError, Served, serve};

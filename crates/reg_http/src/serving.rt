@@ -2,6 +2,7 @@
 ghost use Rattle.std.specs.Prelude.{◌≡◌, ◌≤◌, ◌+◌, ◌*◌, ℕ, List, IfOk, IfErr, IfSome, OnOk};
 ghost use Rattle.std.specs.Io.KnownBytes.{Appends};
 ghost use Rattle.reg_records.specs.Device.{all_reads_of, bytes_in, faults_of, interruptions_of, reads_of};
+ghost use Rattle.reg_messages.specs.declared.limits.TheConstants.{REQUEST_READS};
 ghost use Rattle.reg_responses.specs.declared.limits.TheConstants.{INTERRUPTION_LIMIT};
 ghost use Rattle.reg_http.specs.Serve.{IsOutput, IsServeRefusal};
 ghost use Rattle.reg_http.specs.ServeSteps.{IsStepRefusal, Steps, next_if};
@@ -9,7 +10,7 @@ ghost use Rattle.reg_http.specs.ServeSteps.{IsStepRefusal, Steps, next_if};
 use crate::attending::{Attended, attend};
 use crate::desk::Desk;
 use crate::doing::{closes_after, write_done};
-use crate::limits::{REQUEST_READS, REQUESTS_LIMIT};
+use crate::limits::REQUESTS_LIMIT;
 use reg_records::Device;
 use reg_requests::Paths;
 use std::alloc::Global;

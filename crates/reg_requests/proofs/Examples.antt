@@ -1,8 +1,7 @@
 -- What the definitions give for some requests.
 use Rattle.std.proofs.Common.{◌≡◌, ◌∷◌, [], List, ℕ, true, false, Some, refl, codes}
-use Rattle.std.specs.Prelude.{Ok, Err}
-use Rattle.httparse.specs.Grammar.{trim_ows}
 use Rattle.std.specs.Str.{is_utf8, chars}
+use Rattle.httparse.specs.Grammar.{trim_ows}
 use lib.Utf8.{encode}
 use Rattle.matchit.proofs.OnLiterals.{matchit_on_literals}
 use Rattle.form_urlencoded.proofs.OnLiterals.{form_urlencoded_on_literals}
@@ -16,31 +15,11 @@ use Rattle.reg_refusals.specs.declared.refusal.Refusal.TheVariants as refusals
 use Rattle.reg_routes.specs.Router.{path_rows, route_of}
 use Rattle.reg_requests.specs.Asked.{asked_of}
 use Rattle.reg_requests.specs.Body.{body_of}
-use Rattle.reg_requests.specs.Fields.{told_length, asks_to_close, is_accepted}
 use Rattle.reg_requests.specs.declared.asked.Asked.TheVariants as asked
-use Rattle.reg_requests.specs.declared.request.Field.{Field}
+use Rattle.reg_requests.specs.Types.{is_accepted}
 use Rattle.reg_requests.specs.declared.request.Request.{Request}
 
--- fields
-field : List ℕ → List ℕ → Field
-field name value = record { name = name; value = value }
-
-two_lengths : told_length (field (codes "Content-Length") (codes "2") ∷ field (codes "content-length") (codes "2") ∷ []) ≡ Err refusals.BadRequest
-unfolding field
-two_lengths = refl
-
-a_length_past_the_limit : told_length (field (codes "Content-Length") (codes "1048577") ∷ []) ≡ Err refusals.PayloadTooLarge
-unfolding field
-a_length_past_the_limit = refl
-
-leading_zeros : told_length (field (codes "Content-Length") (codes "0000000000000000007") ∷ []) ≡ Ok (Some 7)
-unfolding field
-leading_zeros = refl
-
-closes_in_a_list : asks_to_close (field (codes "CONNECTION") (codes "keep-alive , Close") ∷ []) ≡ true
-unfolding field trim_ows
-closes_in_a_list = refl
-
+-- types
 a_type_with_parameters : is_accepted (codes "Application/JSON ; charset=utf-8") ≡ true
 unfolding trim_ows
 a_type_with_parameters = refl

@@ -3,11 +3,12 @@ use Rattle.std.specs.Prelude.{ℕ, List, Bool, true, false, ◌&&◌, ◌||◌, 
 use Rattle.std.specs.Option.{option_map_or}
 use Rattle.serde_json.specs.Data.{Data, null}
 use Rattle.reg_fold.specs.declared.version_ref.VersionRef.{VersionRef}
+use Rattle.reg_messages.specs.Fields.{told_length}
 use Rattle.reg_refusals.specs.declared.refusal.Refusal.{Refusal}
 use Rattle.reg_refusals.specs.declared.refusal.Refusal.TheVariants as refusals
 use Rattle.reg_requests.specs.Action.{Given, version_of, action_asks}
 use Rattle.reg_requests.specs.Body.{body_of}
-use Rattle.reg_requests.specs.Fields.{told_length, has_accepted_types}
+use Rattle.reg_requests.specs.Types.{has_accepted_types}
 use Rattle.reg_requests.specs.declared.asked.Asked.{Asked}
 use Rattle.reg_requests.specs.declared.asked.Asked.TheVariants as asked
 use Rattle.reg_requests.specs.declared.request.Request.{Request}

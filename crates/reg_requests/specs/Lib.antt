@@ -1,5 +1,5 @@
 pub mod Action
 pub mod Asked
 pub mod Body
-pub mod Fields
 pub mod Seen
+pub mod Types

@@ -1,17 +1,10 @@
 -- Private: what stands behind references, as the definitions have it.
-use Rattle.std.specs.Prelude.{ℕ, List, [], ◌∷◌, Option, Some, None, option_map, Result, Ok, Err}
+use Rattle.std.specs.Prelude.{ℕ, List, option_map, Result, Ok, Err}
 use Rattle.std.specs.Borrow.{Bor}
 use Rattle.serde_json.specs.View.{view}
 use Rattle.reg_refusals.specs.declared.refusal.Refusal.{Refusal}
 use Rattle.reg_requests.specs.Action as action
-use Rattle.reg_requests.specs.Fields.{values_of}
 use Rattle.reg_requests.specs.declared.action.Given.{Given}
-use Rattle.reg_requests.specs.declared.request.Field.{Field}
-
--- the values of the fields of that name: the first one's, and those in the fields after it
-abbrev pub values_found : List ℕ → Option (Bor (List ℕ) × Bor (List Field)) → List (List ℕ)
-values_found name None = []
-values_found name (Some (value, rest)) = value.now ∷ values_of name rest.now
 
 -- the text that was found, or its refusal
 abbrev pub seen_text : Result (Bor (List ℕ)) Refusal → Result (List ℕ) Refusal

@@ -5,11 +5,11 @@ ghost use Rattle.reg_requests.specs.Seen.{seen};
 
 use crate::asked::Asked;
 use crate::body::{Found, level_in, mode_in, registration_in, schema_in};
-use crate::digits::{digits_value, has_only_digits};
 use base_text::Text;
 use reg_fold::VersionRef;
 use reg_leader::Command;
 use reg_lookup::Query;
+use reg_messages::{digits_value, has_only_digits};
 use reg_records::NUMBER_LIMIT;
 use reg_refusals::Refusal;
 use reg_routes::{Action, has_switch};

@@ -6,11 +6,12 @@ ghost use Rattle.reg_requests.specs.Asked.{asked_of, asked_of_target, asked_of_r
 use crate::action::{Given, action_asks, version_of};
 use crate::asked::Asked;
 use crate::body;
-use crate::fields::{has_accepted_types, told_length};
 use crate::request::Request;
+use crate::types::has_accepted_types;
 use base_text::Text;
 use http::Method;
 use reg_fold::VersionRef;
+use reg_messages::told_length;
 use reg_refusals::Refusal;
 use reg_routes::{Action, Paths, Route, is_path, path_of, query_of, text_part};
 use serde_json::Value;

@@ -6,6 +6,7 @@ use crate::asked::Asked;
 use crate::asking::asked_of;
 use base_text::{Listed, Text};
 use http::Method;
+use reg_messages::Field;
 use reg_routes::Paths;
 use std::alloc::{AllocError, Global};
 
@@ -18,14 +19,6 @@ pub struct Request {
     pub fields: Listed<Field>,
     /// `None` where the input ended in it.
     pub body: Option<Listed<u8>>,
-}
-
-/// A field of a request's head.
-#[derive(Debug, Drop)]
-pub struct Field {
-    pub name: Listed<u8>,
-    /// The value, without the white space round it.
-    pub value: Listed<u8>,
 }
 
 impl Request {

@@ -4,7 +4,7 @@ use Rattle.std.specs.Prelude.{Ok, count_by, option_map}
 use Rattle.std.specs.Io.KnownBytes.{Appends}
 use Rattle.std.specs.Result.{result_ok}
 use Rattle.reg_http.specs.Serve.{IsOutput, IsServeRefusal, StopsBetween, StopsIn}
-use Rattle.reg_http.specs.declared.limits.TheConstants.{REQUEST_READS}
+use Rattle.reg_messages.specs.declared.limits.TheConstants.{REQUEST_READS}
 use Rattle.reg_http.specs.declared.serving.ServeError.{ServeError}
 use Rattle.reg_http.specs.declared.serving.ServeError.TheVariants as serving
 use Rattle.reg_records.specs.Device.{counted, faults_of, reads_of}

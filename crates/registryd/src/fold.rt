@@ -3,7 +3,7 @@ ghost use Rattle.std.specs.Prelude.{◌≡◌, ◌≤◌, List, ℕ, IfOk, IfErr
 ghost use Rattle.std.specs.FinSet as set;
 ghost use Rattle.std.specs.Io.KnownBytes.{Appends};
 ghost use Rattle.reg_records.specs.Device.{bytes_in, faults_of, interruptions_of, reads_of};
-ghost use Rattle.reg_http.specs.declared.limits.TheConstants.{REQUEST_READS};
+ghost use Rattle.reg_messages.specs.declared.limits.TheConstants.{REQUEST_READS};
 ghost use Rattle.reg_responses.specs.declared.limits.TheConstants.{INTERRUPTION_LIMIT};
 ghost use Rattle.reg_set.specs.LastRecords.{last_records};
 ghost use Rattle.registryd.specs.Fold.{Folds, IsFoldRefusal, IsLogRefused, IsOpened, fold_error_of, ended_by};

@@ -1,7 +1,7 @@
 // What the fields of a request tell.
 use crate::rows::fields_of;
+use reg_messages::{asks_to_close, limits_are_as_written, told_length};
 use reg_refusals::Refusal;
-use reg_requests::{asks_to_close, limits_are_as_written, told_length};
 use std::alloc::{AllocError, Global};
 use std::test::Fail;
 

@@ -1,8 +1,8 @@
 use Rattle.std.proofs.Common.{◌≡◌, ◌≤◌, ◌<◌, ◌+◌, ◌*◌}
 use Rattle.reg_records.specs.Device.{all_reads_of, bytes_in, faults_of, interruptions_of, reads_of}
+use Rattle.reg_messages.specs.declared.limits.TheConstants.{REQUEST_READS}
 use Rattle.reg_responses.specs.declared.limits.TheConstants.{INTERRUPTION_LIMIT}
 use Rattle.reg_http.specs.ServeSteps.{HasAnswered}
-use Rattle.reg_http.specs.declared.limits.TheConstants.{REQUEST_READS}
 use Rattle.reg_http.proofs.serving.serve.Given as goal
 
 -- the requests so far are answered, no fault was counted, and no more was read than may be

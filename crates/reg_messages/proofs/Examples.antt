@@ -1,0 +1,26 @@
+-- What the definitions give for some fields.
+use Rattle.std.proofs.Common.{◌≡◌, ◌∷◌, [], List, ℕ, true, Some, refl, codes}
+use Rattle.std.specs.Prelude.{Ok, Err}
+use Rattle.httparse.specs.Grammar.{trim_ows}
+use Rattle.reg_refusals.specs.declared.refusal.Refusal.TheVariants as refusals
+use Rattle.reg_messages.specs.Fields.{told_length, asks_to_close}
+use Rattle.reg_messages.specs.declared.field.Field.{Field}
+
+field : List ℕ → List ℕ → Field
+field name value = record { name = name; value = value }
+
+two_lengths : told_length (field (codes "Content-Length") (codes "2") ∷ field (codes "content-length") (codes "2") ∷ []) ≡ Err refusals.BadRequest
+unfolding field
+two_lengths = refl
+
+a_length_past_the_limit : told_length (field (codes "Content-Length") (codes "1048577") ∷ []) ≡ Err refusals.PayloadTooLarge
+unfolding field
+a_length_past_the_limit = refl
+
+leading_zeros : told_length (field (codes "Content-Length") (codes "0000000000000000007") ∷ []) ≡ Ok (Some 7)
+unfolding field
+leading_zeros = refl
+
+closes_in_a_list : asks_to_close (field (codes "CONNECTION") (codes "keep-alive , Close") ∷ []) ≡ true
+unfolding field trim_ows
+closes_in_a_list = refl

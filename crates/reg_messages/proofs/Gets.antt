@@ -1,0 +1,116 @@
+-- What is read of a message whose head was taken.
+use Rattle.std.proofs.Common.{◌≡◌, ◌<◌, ◌++◌, List, [], ℕ, Bool, true, false, Some, None, IfSome, refl, sym, ap, subst, ◌∙◌, arith, length, length-append, take, drop, inl, inr}
+use Rattle.std.specs.Prelude.{Err, IfOk, IsOk, Ok, OnErr, Option, Result, nat_le}
+use Rattle.std.specs.Io.KnownBytes.{Consumes}
+use Rattle.std.proofs.KnownBytes.{Consumes-trans}
+use Rattle.std.proofs.lemmas.List.{drop_all}
+use Rattle.std.proofs.Math.Seq.{drop-append_seam, take-append_seam}
+use Rattle.httparse.specs.Grammar.{RequestHead}
+use Rattle.reg_refusals.specs.declared.refusal.Refusal.TheVariants as refusals
+use Rattle.reg_messages.specs.Fields.{body_length, told_length}
+use Rattle.reg_messages.specs.BodyReading.{LosesBody, TakesAll, TakesBody}
+use Rattle.reg_messages.specs.Head.{front_of, IsHead, IsNoHead}
+use Rattle.reg_messages.specs.HeadReading.{IsTakenAs}
+use Rattle.reg_messages.specs.Reading.{GetsFrom, IsRefusedAt, IsShort, TakesShort}
+use Rattle.reg_messages.specs.ReadingSteps.{GetsAfter, GetsWith}
+use Rattle.reg_messages.specs.Messages.{after_body, body_after, body_in, fields_of, wants_close}
+use Rattle.reg_messages.specs.declared.body_reading.Body.TheVariants as bodies
+use Rattle.reg_messages.specs.declared.reading.Got.{Got}
+use Rattle.reg_messages.specs.declared.reading.Got.TheVariants as gots
+use Rattle.reg_messages.proofs.Fronts.{short-known}
+
+-- a message after its head
+pub gets-after : (start mid new : Option (List ℕ)) (taken bytes : List ℕ) (h : RequestHead) (got : Got) → Consumes start mid taken
+    → IsTakenAs taken bytes → IsHead bytes h → GetsAfter h mid new got → IfSome start (λ text. GetsFrom text new got)
+gets-after None mid new taken bytes h got took known is gets = tt
+gets-after (Some x) None new taken bytes h got took known is gets = absurd took
+gets-after (Some x) (Some y) new taken bytes h gots.Over took known is gets = absurd gets
+gets-after (Some x) (Some y) new taken bytes h (gots.Refused refusal) took known is told =
+    inr (bytes, y, ap front_of took ∙ known y, inr (h, is, told))
+gets-after (Some x) (Some y) new taken bytes h (gots.Message method target fields body wants) took known is (ok, wanted, (left, parts)) =
+    (bytes, h, y, (ap front_of took ∙ known y, is, ok, left), parts, wanted)
+gets-after (Some x) (Some y) new taken bytes h (gots.NoMemory wants) took known is (ok, wanted, left) =
+    (bytes, h, y, (ap front_of took ∙ known y, is, ok, left), wanted)
+
+-- bytes that are no head
+pub gets-none : (start mid : Option (List ℕ)) (taken bytes : List ℕ) → Consumes start mid taken
+    → IsTakenAs taken bytes → IsNoHead bytes → IfSome start (λ text. IsRefusedAt text refusals.BadRequest)
+gets-none None mid taken bytes took known none = tt
+gets-none (Some x) None taken bytes took known none = absurd took
+gets-none (Some x) (Some y) taken bytes took known none = inr (bytes, y, ap front_of took ∙ known y, inl (none, refl))
+
+-- a body that is cut is short of a message
+pub short-body : (start mid new : Option (List ℕ)) (taken bytes : List ℕ) (h : RequestHead) → Consumes start mid taken
+    → IsTakenAs taken bytes → IsHead bytes h → LosesBody mid new (body_length (fields_of h)) → IfSome start (λ text. TakesShort text new)
+short-body start mid new taken bytes h took known is (body, few, more) =
+    short-known start new (taken ++ body) (Consumes-trans start mid new taken body took more) (subst IsShort (sym (known body)) (h, is, few))
+
+-- what is left after as many bytes as were told
+left-whole : (len : ℕ) (bytes x y : List ℕ) → length bytes ≡ len → x ≡ bytes ++ y → Some y ≡ Some (drop len x)
+left-whole len bytes x y many is = sym (ap Some (ap (λ n. drop n x) (sym many) ∙ ap (λ t. drop (length bytes) t) is ∙ drop-append_seam bytes y))
+
+-- nothing is left where there are fewer
+left-short : (len : ℕ) (bytes x y : List ℕ) → length bytes < len → x ≡ bytes ++ y → y ≡ [] → Some y ≡ Some (drop len x)
+left-short len bytes x y few is ended =
+    ap Some (ended ∙ sym (drop_all len x (omega (arith, few, ap length is ∙ length-append bytes y, ap length ended))))
+
+left-of : (old new : Option (List ℕ)) (len : ℕ) (whole : Bool) → TakesAll old new len whole → IfSome old (λ after. new ≡ Some (drop len after))
+left-of None new len whole took = tt
+left-of (Some x) None len true (bytes, many, took) = absurd took
+left-of (Some x) (Some y) len true (bytes, many, took) = left-whole len bytes x y many took
+left-of (Some x) None len false (bytes, few, took, ended) = absurd took
+left-of (Some x) (Some y) len false (bytes, few, took, ended) = left-short len bytes x y few took ended
+
+-- the body is what was taken
+body-whole : (len : ℕ) (bytes x y : List ℕ) → length bytes ≡ len → x ≡ bytes ++ y → Some bytes ≡ body_in len x
+body-whole len bytes x y many is =
+    let within : nat_le len (length x) ≡ true = grind (arith, many, ap length is ∙ length-append bytes y) in
+    let front : take len x ≡ bytes = ap (λ n. take n x) (sym many) ∙ ap (λ t. take (length bytes) t) is ∙ take-append_seam bytes y in
+    rw (within, front) refl
+
+-- and none where there are fewer bytes
+body-short : (len : ℕ) (bytes x y : List ℕ) → length bytes < len → x ≡ bytes ++ y → y ≡ [] → None ≡ body_in len x
+body-short len bytes x y few is ended =
+    let beyond : nat_le len (length x) ≡ false = grind (arith, few, ap length is ∙ length-append bytes y, ap length ended) in
+    rw beyond refl
+
+-- a message with the body that was taken, or none where memory was refused
+gets-with : (h : RequestHead) (old new : Option (List ℕ)) (body : Option (List ℕ)) (wants : Bool) (got : Got) → IsOk (told_length (fields_of h))
+    → wants ≡ wants_close h → IfSome old (λ after. new ≡ Some (after_body h after)) → IfSome old (λ after. body ≡ body_after h after)
+    → GetsWith h body wants got → GetsAfter h old new got
+gets-with h old new body wants gots.Over ok wanted left is gets = absurd gets
+gets-with h old new body wants (gots.Refused refusal) ok wanted left is gets = absurd gets
+gets-with h None new body wants (gots.Message method target fields body' wants') ok wanted left is (parts, as_wanted) = (ok, as_wanted ∙ wanted, tt)
+gets-with h (Some x) new body wants (gots.Message method target fields body' wants') ok wanted left is ((m, t, f, b), as_wanted) =
+    (ok, as_wanted ∙ wanted, (left, (m, t, f, b ∙ is)))
+gets-with h None new body wants (gots.NoMemory wants') ok wanted left is as_wanted = (ok, as_wanted ∙ wanted, tt)
+gets-with h (Some x) new body wants (gots.NoMemory wants') ok wanted left is as_wanted = (ok, as_wanted ∙ wanted, left)
+
+pub gets-whole : (h : RequestHead) (old new : Option (List ℕ)) (bytes : List ℕ) (wants : Bool) (got : Got) → IsOk (told_length (fields_of h))
+    → wants ≡ wants_close h → TakesBody old new (body_length (fields_of h)) (bodies.Whole bytes) → GetsWith h (Some bytes) wants got → GetsAfter h old new got
+gets-whole h None new bytes wants got ok wanted took gets = gets-with h None new (Some bytes) wants got ok wanted tt tt gets
+gets-whole h (Some x) None bytes wants got ok wanted (many, took) gets = absurd took
+gets-whole h (Some x) (Some y) bytes wants got ok wanted (many, took) gets =
+    gets-with h (Some x) (Some y) (Some bytes) wants got ok wanted (left-whole (body_length (fields_of h)) bytes x y many took)
+    (body-whole (body_length (fields_of h)) bytes x y many took) gets
+
+pub gets-short : (h : RequestHead) (old new : Option (List ℕ)) (wants : Bool) (got : Got) → IsOk (told_length (fields_of h))
+    → wants ≡ wants_close h → TakesBody old new (body_length (fields_of h)) bodies.Short → GetsWith h None wants got → GetsAfter h old new got
+gets-short h None new wants got ok wanted took gets = gets-with h None new None wants got ok wanted tt tt gets
+gets-short h (Some x) None wants got ok wanted (bytes, few, took, ended) gets = absurd took
+gets-short h (Some x) (Some y) wants got ok wanted (bytes, few, took, ended) gets =
+    gets-with h (Some x) (Some y) None wants got ok wanted (left-short (body_length (fields_of h)) bytes x y few took ended)
+    (body-short (body_length (fields_of h)) bytes x y few took ended) gets
+
+pub gets-dropped : (h : RequestHead) (old new : Option (List ℕ)) (wants : Bool) → IsOk (told_length (fields_of h))
+    → wants ≡ wants_close h → TakesBody old new (body_length (fields_of h)) bodies.Dropped → GetsAfter h old new (gots.NoMemory wants)
+gets-dropped h old new wants ok wanted (whole, took) = (ok, wanted, left-of old new (body_length (fields_of h)) whole took)
+
+-- what follows from the outcome of a call
+pub IfOk-map : {A E : Type 0} {P Q : A → Type 0} (r : Result A E) → ((x : A) → P x → Q x) → IfOk r P → IfOk r Q
+IfOk-map (Ok x) f p = f x p
+IfOk-map (Err e) f p = tt
+
+pub OnErr-map : {A E P Q : Type 0} (r : Result A E) → (P → Q) → OnErr r P → OnErr r Q
+OnErr-map (Ok x) f p = tt
+OnErr-map (Err e) f p = f p

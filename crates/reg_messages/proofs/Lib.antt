@@ -1,0 +1,7 @@
+pub mod BodiesTaken
+mod Examples
+pub mod Fronts
+pub mod Gets
+pub mod Heads
+pub mod Numerals
+pub mod Places

@@ -1,0 +1,49 @@
+-- The places of the parts of a head.
+use Rattle.std.proofs.Common.{◌≡◌, ◌∷◌, [], List, ℕ, false, refl, ap, subst, sym, ◌∙◌, map}
+use Rattle.std.specs.Prelude.{IsOk, IsUtf8, None, Ok, Option, Some, unwrap_or, ◌==◌}
+use Rattle.http_header.specs.Token as token
+use Rattle.httparse.specs.Grammar as grammar
+use Rattle.httparse.specs.Spans.{header_bytes, name_and_value}
+use Rattle.httparse.specs.declared.spans.HeaderSpan.{HeaderSpan}
+use Rattle.reg_messages.specs.Fields.{asks_to_close, body_length, told_length}
+use Rattle.reg_messages.specs.declared.field.Field.{Field}
+use Rattle.reg_messages.specs.Messages.{field_of, fields_of, wants_close}
+use Rattle.reg_messages.specs.Places.{HasTexts, IsHeadAt, field_at}
+use Rattle.reg_messages.specs.declared.parsing.Head.{Head}
+
+field_from : List ℕ × List ℕ → Field
+field_from p = record { name = p.0; value = p.1 }
+
+-- the fields at the places of a head's fields
+pub fields-at : (bytes : List ℕ) (spans : List HeaderSpan) (fields : List grammar.Field) → map (header_bytes bytes) spans ≡ map name_and_value fields
+    → map (field_at bytes) spans ≡ map field_of fields
+unfolding field_from
+fields-at bytes [] [] same = refl
+fields-at bytes [] (f ∷ fields) same = absurd (cc)
+fields-at bytes (s ∷ spans) [] same = absurd (cc)
+fields-at bytes (s ∷ spans) (f ∷ fields) same =
+    let first : header_bytes bytes s ≡ name_and_value f = cc in
+    let rest : map (header_bytes bytes) spans ≡ map name_and_value fields = cc in
+    ap (λ x. x ∷ map (field_at bytes) spans) (ap field_from first) ∙ ap (λ xs. field_of f ∷ xs) (fields-at bytes spans fields rest)
+
+-- a client that speaks HTTP/1.1 wants what its fields say
+pub wants-field : (h : grammar.RequestHead) → (h.minor == 0) ≡ false → asks_to_close (fields_of h) ≡ wants_close h
+wants-field h later = rw later refl
+
+-- the two crates have one meaning of a token
+is-token : (bytes : List ℕ) → grammar.IsToken bytes → token.IsToken bytes
+unfolding grammar.is_token_byte token.is_token_byte
+is-token bytes is = is
+
+-- the method of a head is a token, and its target a text
+pub has-texts : (bytes : List ℕ) (found : Head) (h : grammar.RequestHead) → IsHeadAt bytes found h → HasTexts bytes found
+has-texts bytes found h at =
+    (subst token.IsToken (sym at.method) (is-token h.method at.reads.0.method), subst IsUtf8 (sym at.path) at.reads.0.target_text)
+
+-- a length that isn't refused is the body's
+pub told-body : (fields : List Field) (told : Option ℕ) → told_length fields ≡ Ok told → unwrap_or told 0 ≡ body_length fields
+told-body fields None is = rw is refl
+told-body fields (Some n) is = rw is refl
+
+pub told-ok : (fields : List Field) (told : Option ℕ) → told_length fields ≡ Ok told → IsOk (told_length fields)
+told-ok fields told is = rw is refl

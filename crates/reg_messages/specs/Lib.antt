@@ -1,0 +1,9 @@
+pub mod BodyReading
+pub mod Fields
+pub mod Head
+pub mod HeadReading
+pub mod Messages
+pub mod Places
+pub mod Reading
+pub mod ReadingSteps
+pub mod Taking

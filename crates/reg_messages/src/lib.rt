@@ -1,0 +1,23 @@
+//! Request messages of HTTP/1.1 (RFC 9112) as a reader gives them: a head, the length that its fields
+//! tell, and the body of that length.
+#![tactic(auto)]
+
+mod body_reading;
+mod digits;
+mod field;
+mod fields;
+mod head;
+mod limits;
+mod parsing;
+mod placed;
+mod reading;
+mod taking;
+
+pub use digits::{digits_value, has_only_digits};
+pub use field::{Field, Fields};
+pub use fields::{asks_to_close, find_value, told_length, trim_ows};
+pub use limits::{
+    BODY_LIMIT, HEAD_FIELDS, HEAD_LIMIT, HEAD_LINES, REQUEST_READS, limits_are_as_written,
+};
+pub use reading::{Got, read_message};
+pub use taking::ReadFault;

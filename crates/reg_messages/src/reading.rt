@@ -1,0 +1,186 @@
+// Reading a message: its head, and the body that its fields tell.
+ghost use Rattle.std.specs.Prelude.{◌≡◌, ◌≤◌, ℕ, List, Option, IfOk, IfSome, OnErr, OnOk, IsOk};
+ghost use Rattle.std.specs.Io.KnownBytes.{Consumes};
+ghost use Rattle.httparse.specs.Grammar.{RequestHead};
+ghost use Rattle.reg_records.specs.Device.{bytes_in, faults_of, reads_of};
+ghost use Rattle.reg_messages.specs.BodyReading.{LosesBody, TakesBody};
+ghost use Rattle.reg_messages.specs.Fields.{body_length, told_length};
+ghost use Rattle.reg_messages.specs.HeadReading.{IsTakenAs};
+ghost use Rattle.reg_messages.specs.Messages.{fields_of, wants_close};
+ghost use Rattle.reg_messages.specs.Places.{HasTexts, IsHeadAt, IsHeadWithin, fields_at};
+ghost use Rattle.reg_messages.specs.Reading.{GetsFrom, TakesShort};
+ghost use Rattle.reg_messages.specs.ReadingSteps.{GetsAfter, GetsWith};
+ghost use Rattle.reg_messages.specs.Taking.{CountsReads, LosesReader};
+
+use crate::body_reading::{Body, take_body};
+use crate::field::Field;
+use crate::fields::{asks_to_close, told_length};
+use crate::head::{Taken, take_front};
+use crate::limits::{HEAD_LIMIT, REQUEST_READS};
+use crate::parsing::{Head, head_in, method_in, target_in};
+use crate::placed::{PlacedFields, copied};
+use crate::taking::ReadFault;
+use base_text::{Listed, Text};
+use http::Method;
+use reg_records::Device;
+use reg_refusals::Refusal;
+use std::alloc::{AllocError, Global};
+use std::io::Read;
+
+/// What was read at the front of the input.
+#[derive(Debug, Drop)]
+pub enum Got {
+    /// No message is left.
+    Over,
+    /// What can't be followed by another message, and why.
+    Refused(Refusal),
+    /// The message of a request.
+    Message {
+        method: Method,
+        /// As it was sent, with its escapes.
+        target: Text,
+        fields: Listed<Field>,
+        /// `None` where the input ended in it.
+        body: Option<Listed<u8>>,
+        /// Whether the client wants the connection closed after it.
+        wants_close: bool,
+    },
+    /// A message for which memory was refused.
+    NoMemory {
+        wants_close: bool,
+    },
+}
+
+/// Reads the next message, and no byte more. Where memory for it is refused, its bytes are taken all
+/// the same, so that the next one is found.
+pub fn read_message<R: Read>(alloc: Global, reader: &mut Device<R>) -> Result<Got, ReadFault>
+    requires begun { reads_of reader.old ≤ REQUEST_READS }
+    ensures got { IfOk result (λ got. IfSome (bytes_in R.remaining reader.old) (λ text. GetsFrom text (bytes_in R.remaining reader.new) got)) }
+    ensures faults { OnOk result (faults_of reader.new ≡ faults_of reader.old) }
+    ensures reads { CountsReads reader.old reader.new }
+    ensures lost { OnErr result (LosesReader reader.old reader.new) }
+    ensures short { OnErr result (IfSome (bytes_in R.remaining reader.old) (λ text. TakesShort text (bytes_in R.remaining reader.new))) }
+{
+    let mut buffer = [0u8; HEAD_LIMIT];
+    match take_front(reader, &mut buffer) {
+        Ok(Taken::Over) => Ok(Got::Over),
+        Ok(Taken::NoHead(refusal)) => Ok(Got::Refused(refusal)),
+        Ok(Taken::Head(len)) => read_after_head(alloc, reader, &buffer[..len]),
+        Err(fault) => Err(fault),
+    }
+}
+
+/// Reads the rest of the message whose head these bytes are.
+fn read_after_head<R: Read>(
+    alloc: Global,
+    reader: &mut Device<R>,
+    bytes: &[u8],
+) -> Result<Got, ReadFault>
+    requires begun { reads_of reader.old ≤ REQUEST_READS }
+    ensures got { (start : Option (List ℕ)) (taken : List ℕ) → Consumes start (bytes_in R.remaining reader.old) taken → IsTakenAs taken bytes.now
+        → IfOk result (λ got. IfSome start (λ text. GetsFrom text (bytes_in R.remaining reader.new) got)) }
+    ensures faults { OnOk result (faults_of reader.new ≡ faults_of reader.old) }
+    ensures reads { CountsReads reader.old reader.new }
+    ensures lost { OnErr result (LosesReader reader.old reader.new) }
+    ensures short { (start : Option (List ℕ)) (taken : List ℕ) → Consumes start (bytes_in R.remaining reader.old) taken → IsTakenAs taken bytes.now
+        → OnErr result (IfSome start (λ text. TakesShort text (bytes_in R.remaining reader.new))) }
+{
+    match head_in(bytes) {
+        Some(head) => read_body(alloc, reader, bytes, &head),
+        None => Ok(Got::Refused(Refusal::BadRequest)),
+    }
+}
+
+/// Reads the body that the fields of the head tell.
+fn read_body<R: Read>(
+    alloc: Global,
+    reader: &mut Device<R>,
+    bytes: &[u8],
+    head: &Head,
+) -> Result<Got, ReadFault>
+    requires begun { reads_of reader.old ≤ REQUEST_READS }
+    requires within { IsHeadWithin bytes.now head.now }
+    requires texts { HasTexts bytes.now head.now }
+    ensures got { (h : RequestHead) → IsHeadAt bytes.now head.now h
+        → IfOk result (GetsAfter h (bytes_in R.remaining reader.old) (bytes_in R.remaining reader.new)) }
+    ensures faults { OnOk result (faults_of reader.new ≡ faults_of reader.old) }
+    ensures reads { CountsReads reader.old reader.new }
+    ensures lost { OnErr result (LosesReader reader.old reader.new) }
+    ensures short { (h : RequestHead) → IsHeadAt bytes.now head.now h
+        → OnErr result (LosesBody (bytes_in R.remaining reader.old) (bytes_in R.remaining reader.new) (body_length (fields_of h))) }
+{
+    match told_length(fields_in(bytes, head)) {
+        Ok(told) => {
+            let wants_close = wants_close(bytes, head);
+            match take_body(alloc, reader, told.unwrap_or(0) as usize) {
+                Ok(body) => Ok(got_of(alloc, bytes, head, body, wants_close)),
+                Err(fault) => Err(fault),
+            }
+        }
+        Err(refusal) => Ok(Got::Refused(refusal)),
+    }
+}
+
+/// The fields of a head, where they stand.
+fn fields_in<'h>(bytes: &'h [u8], head: &'h Head) -> PlacedFields<'h>
+    requires within { IsHeadWithin bytes.now head.now }
+    ensures { (h : RequestHead) → IsHeadAt bytes.now head.now h → fields_at result.bytes.now result.spans.now ≡ fields_of h }
+{
+    PlacedFields::of(bytes, &head.fields[..head.spans.headers])
+}
+
+/// Whether the client wants the connection closed: it speaks HTTP/1.0, or a field says so.
+fn wants_close(bytes: &[u8], head: &Head) -> bool
+    requires within { IsHeadWithin bytes.now head.now }
+    ensures { (h : RequestHead) → IsHeadAt bytes.now head.now h → result ≡ wants_close h }
+{
+    head.spans.version == 0 || asks_to_close(fields_in(bytes, head))
+}
+
+/// The message of a head and what stood where its body was told.
+fn got_of(alloc: Global, bytes: &[u8], head: &Head, body: Body, wants: bool) -> Got
+    requires within { IsHeadWithin bytes.now head.now }
+    requires texts { HasTexts bytes.now head.now }
+    ensures { (h : RequestHead) (old new : Option (List ℕ)) → IsHeadAt bytes.now head.now h
+        → IsOk (told_length (fields_of h)) → wants ≡ wants_close h
+        → TakesBody old new (body_length (fields_of h)) body → GetsAfter h old new result }
+{
+    match body {
+        Body::Whole(whole) => got_with(alloc, bytes, head, Some(whole), wants),
+        Body::Short => got_with(alloc, bytes, head, None, wants),
+        Body::Dropped => Got::NoMemory { wants_close: wants },
+    }
+}
+
+/// The message of a head and a body.
+fn got_with(alloc: Global, bytes: &[u8], head: &Head, body: Option<Listed<u8>>, wants: bool) -> Got
+    requires within { IsHeadWithin bytes.now head.now }
+    requires texts { HasTexts bytes.now head.now }
+    ensures { (h : RequestHead) → IsHeadAt bytes.now head.now h → GetsWith h body wants result }
+{
+    match message_in(alloc, bytes, head, body, wants) {
+        Ok(got) => got,
+        Err(_) => Got::NoMemory { wants_close: wants },
+    }
+}
+
+/// The same; the only error is want of memory.
+fn message_in(
+    alloc: Global,
+    bytes: &[u8],
+    head: &Head,
+    body: Option<Listed<u8>>,
+    wants: bool,
+) -> Result<Got, AllocError>
+    requires within { IsHeadWithin bytes.now head.now }
+    requires texts { HasTexts bytes.now head.now }
+    ensures { (h : RequestHead) → IsHeadAt bytes.now head.now h → IfOk result (GetsWith h body wants) }
+{
+    Ok(Got::Message {
+        method: method_in(alloc, head.spans.method.of(bytes))?,
+        target: target_in(alloc, head.spans.path.of(bytes))?,
+        fields: copied(alloc, fields_in(bytes, head))?,
+        body,
+        wants_close: wants,
+    })
+}

@@ -1,0 +1,41 @@
+// The types of bodies.
+ghost use Rattle.std.specs.Prelude.{◌≡◌};
+ghost use Rattle.std.specs.List.{before_first};
+ghost use Rattle.reg_requests.specs.Types.{has_accepted_types, is_accepted, is_semicolon};
+
+use reg_messages::{Field, find_value, trim_ows};
+
+/// Whether each Content-Type field has an accepted type.
+pub(crate) fn has_accepted_types(fields: &[Field]) -> bool
+    ensures { result ≡ has_accepted_types fields.now }
+{
+    let mut left = fields;
+    while let Some((value, rest)) = find_value(left, "content-type") {
+        if !is_accepted(value) {
+            return false;
+        }
+        left = rest;
+    }
+    true
+}
+
+/// Whether the type, without its parameters, is accepted.
+fn is_accepted(value: &[u8]) -> bool
+    ensures { result ≡ is_accepted value.now }
+{
+    let name = trim_ows(without_parameters(value));
+    name.eq_ignore_ascii_case(b"application/vnd.schemaregistry.v1+json")
+        || name.eq_ignore_ascii_case(b"application/vnd.schemaregistry+json")
+        || name.eq_ignore_ascii_case(b"application/json")
+        || name.eq_ignore_ascii_case(b"application/octet-stream")
+}
+
+/// What stands before the first semicolon.
+fn without_parameters(value: &[u8]) -> &[u8]
+    ensures { result.now ≡ before_first is_semicolon value.now }
+{
+    match value.iter().position(|b| *b == b';') {
+        Some(end) => &value[..end],
+        None => value,
+    }
+}
