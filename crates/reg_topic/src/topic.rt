@@ -51,9 +51,7 @@ impl Topic {
     pub fn may_drop(&self, dropped: &[Record]) -> bool
         ensures { result ≡ may_drop self.now.kept dropped.now }
     {
-        dropped
-            .iter()
-            .all(|given| self.kept.contains(given) && !is_last(&self.kept, given))
+        dropped.iter().all(|given| self.kept.contains(given) && !is_last(&self.kept, given))
     }
 
     /// Publishes a batch, as `publish` does a commit of it.

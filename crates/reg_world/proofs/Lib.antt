@@ -1,5 +1,11 @@
 pub mod Answers
 pub mod Courses
+pub mod EagerFolding
+pub mod EagerMaps
+pub mod EagerPlaces
+pub mod EagerRight
+pub mod EagerSteps
+pub mod EagerWorld
 pub mod Ids
 pub mod Items
 pub mod Merging
@@ -7,4 +13,5 @@ pub mod Refused
 pub mod Sound
 pub mod Stays
 pub mod Steps
+pub mod Tops
 pub mod Unsettled

@@ -1,4 +1,5 @@
 pub mod Core
+pub mod Eager
 pub mod Happens
 pub mod Headline
 pub mod LowerLaws

@@ -1,18 +1,23 @@
 // A topic with its nodes, and what each event does to them.
-ghost use Rattle.std.specs.Prelude.{◌≡◌, true, IfOk, OnOk, OnErr, option_copied, option_map, replicate, slice_get};
+ghost use Rattle.std.specs.Prelude.{◌≡◌, ◌⊎◌, ◌+◌, ◌++◌, ◌<◌, ◌≤◌, true, None, IfOk, OnOk, OnErr, option_copied, option_map, replicate, slice_get, vec_capacity, vec_len};
 ghost use Rattle.std.specs.List.{list_all};
 ghost use Rattle.std.specs.FinSet.{contains};
 ghost use Rattle.reg_refusals.specs.Refusal.{no_memory};
+ghost use Rattle.reg_leader.specs.Outcome.{IsOutOfMemory};
+ghost use Rattle.reg_leader.specs.Step.{IsStep};
 ghost use Rattle.reg_leader.specs.declared.reply.Reply.TheVariants as replies;
+ghost use Rattle.reg_topic.specs.Topic.{follows, may_drop, registry_of};
+ghost use Rattle.reg_topic.specs.declared.published.Item.TheVariants as published;
 ghost use Rattle.reg_world.specs.Happens.{Happens, told, with_batch};
 ghost use Rattle.reg_world.specs.State.{leave_unsettled, no_records, publish, settled, settling, start, topic_of};
 ghost use Rattle.reg_world.specs.declared.event.Event.TheVariants as events;
 
 use crate::event::{Event, Fate, Outcome};
+use crate::folding::{Decided, Folded};
 use crate::node::Node;
 use base_text::Listed;
 use reg_fold::{Refusal, Registry, StoreFault};
-use reg_leader::{Command, Decision, Reply, decide};
+use reg_leader::{Command, Decision, Reply, batches_end_by_the_limit, batches_go_on, decide};
 use reg_lookup::{Query, answer};
 use reg_records::Record;
 use reg_set::RecordSet;
@@ -25,21 +30,23 @@ use std::marker::Model;
 pub(crate) struct Cluster {
     base: Topic,
     items: Vec<Item>,
-    // What the items come to.
-    topic: Topic,
     unsettled: Option<Commit>,
     nodes: Vec<Node>,
+    // Over the items and the commit that isn't settled, which each later command settles first.
+    decided: Decided,
+    // Over some of the items.
+    folded: Folded,
 }
 
 impl Model for Cluster {
     ghost use Rattle.std.specs.Coded.{codes};
-    ghost use Rattle.std.specs.Prelude.{◌≡◌};
+    ghost use Rattle.std.specs.Prelude.{◌≡◌, ◌≤◌, ◌++◌, length, take};
     ghost use Rattle.reg_topic.specs.contracts.published.Commit as commits;
     ghost use Rattle.reg_topic.specs.contracts.published.Item as published;
     ghost use Rattle.reg_topic.specs.contracts.topic.Topic as topics;
-    ghost use Rattle.reg_topic.specs.Topic.{after_items};
+    ghost use Rattle.reg_topic.specs.Topic.{after_items, registry_of};
     ghost use Rattle.reg_world.specs.contracts.node.Node as node_rows;
-    ghost use Rattle.reg_world.specs.State.{State};
+    ghost use Rattle.reg_world.specs.State.{State, settling};
 
     ghost Value = { State };
 
@@ -47,28 +54,53 @@ impl Model for Cluster {
 
     ghost view = { λ w. record { base = w.base; items = w.items.items; unsettled = w.unsettled; nodes = w.nodes.items } };
 
-    ghost invariant = { λ w. w.topic ≡ after_items w.base w.items.items };
+    ghost invariant = { λ w. (w.folded.count ≤ length w.items.items)
+        × (w.folded.topic ≡ after_items w.base (take w.folded.count w.items.items))
+        × (w.decided.registry ≡ registry_of (after_items w.base (w.items.items ++ settling w.unsettled)))
+        × (w.decided.next ≡ (after_items w.base (w.items.items ++ settling w.unsettled)).next) };
 }
 
 impl Cluster {
-    /// Nothing was published after the base, and no node has a record.
-    pub(crate) fn start(alloc: Global, base: Topic, count: usize) -> Result<Cluster, AllocError>
+    /// Nothing was published after the base, and no node has a record. The registry is the base's.
+    pub(crate) fn start(
+        alloc: Global,
+        base: Topic,
+        registry: Registry,
+        count: usize,
+    ) -> Result<Cluster, AllocError>
+        requires { registry ≡ registry_of base }
         ensures { IfOk result (λ cluster. cluster ≡ start base count) }
     {
-        let topic = base.clone()?;
         let nodes = new_nodes(alloc, count)?;
+        let topic = base.clone()?;
+        let next = base.next;
         Ok(Cluster {
             base,
             items: Vec::new(alloc),
-            topic,
             unsettled: None,
             nodes,
+            decided: Decided { registry, next },
+            folded: Folded { topic, count: 0 },
         })
     }
 
     /// The allocator that it keeps.
     pub(crate) fn allocator(&self) -> Global {
         *self.items.allocator()
+    }
+
+    /// What the topic began with.
+    pub(crate) fn base(&self) -> &Topic
+        ensures { result.now ≡ self.now.base }
+    {
+        &self.base
+    }
+
+    /// What was published since, in its order.
+    pub(crate) fn items(&self) -> &[Item]
+        ensures { result.now ≡ self.now.items }
+    {
+        &self.items
     }
 
     /// Does what the event says, where it is allowed. The only error is want of memory; all is then
@@ -99,48 +131,60 @@ impl Cluster {
         let Some(_found) = self.node(node) else {
             return Ok(Outcome::NotAllowed);
         };
-        let alloc = *self.items.allocator();
-        let topic = self.settled_topic()?;
-        let registry = Registry::of_set(alloc, &topic.log)?;
-        let decision = decide(alloc, &registry, topic.next, command, None);
+        let decision = self.decision(command);
         if is_no_memory(&decision.reply) {
             return Err(AllocError);
         }
-        let reply = self.settle_with(topic, command, fate, decision)?;
+        let reply = self.settle_with(command, fate, decision)?;
         Ok(Outcome::Replied(reply))
+    }
+
+    /// What the command replies and writes, once what isn't settled is.
+    fn decision(&self, command: &Command) -> Decision
+        ensures { IsOutOfMemory result ⊎ IsStep (registry_of (topic_of (settled self.now))) (topic_of (settled self.now)).next command.now result.reply result.batch }
+    {
+        let alloc = *self.items.allocator();
+        decide(
+            alloc,
+            &self.decided.registry,
+            self.decided.next,
+            command,
+            None,
+        )
     }
 
     /// Settles what wasn't, and does with the batch what its fate says. The reply is the caller's.
     fn settle_with(
         &mut self,
-        topic: Topic,
         command: &Command,
         fate: Fate,
         decision: Decision,
     ) -> Result<Reply, AllocError>
-        requires { topic ≡ topic_of (settled self.old) }
+        requires { IsStep (registry_of (topic_of (settled self.old))) (topic_of (settled self.old)).next command.now decision.reply decision.batch }
         ensures told { IfOk result (λ reply. reply ≡ told fate decision.reply decision.batch) }
         ensures state { OnOk result (self.new ≡ with_batch (settled self.old) fate command.now decision.batch) }
         ensures refused { OnErr result (self.new ≡ self.old) }
     {
+        batches_go_on();
+        batches_end_by_the_limit();
         let Decision { batch, reply } = decision;
         let Some(first) = first_offset(&batch) else {
-            self.settle(topic)?;
+            self.settle()?;
             return Ok(reply);
         };
         let command = command.clone()?;
         let commit = Commit { command, batch };
         match fate {
             Fate::Published => {
-                self.publish(topic, Item::Commit(commit))?;
+                self.publish_commit(commit)?;
                 Ok(reply)
             }
             Fate::Unsettled => {
-                self.leave_unsettled(topic, commit)?;
+                self.leave_unsettled(commit)?;
                 Ok(Reply::Unsettled(first))
             }
             Fate::Lost => {
-                self.settle(topic)?;
+                self.settle()?;
                 Ok(Reply::Unsettled(first))
             }
         }
@@ -150,12 +194,11 @@ impl Cluster {
         ensures happens { IfOk result (λ outcome. Happens self.old (events.Compact dropped.now) outcome self.new) }
         ensures refused { OnErr result (self.new ≡ self.old) }
     {
-        let topic = self.settled_topic()?;
-        if !topic.may_drop(dropped.as_slice()) {
+        let may = self.may_drop(dropped.as_slice())?;
+        if !may {
             return Ok(Outcome::NotAllowed);
         }
-        let item = Item::Compaction(dropped.clone()?);
-        self.publish(topic, item)?;
+        self.publish_compaction(dropped.clone()?)?;
         Ok(Outcome::Done)
     }
 
@@ -163,12 +206,22 @@ impl Cluster {
         ensures happens { IfOk result (λ outcome. Happens self.old (events.Take node records.now) outcome self.new) }
         ensures refused { OnErr result (self.new ≡ self.old) }
     {
+        let are_kept = self.are_kept(records.as_slice())?;
+        if !are_kept {
+            return Ok(Outcome::NotAllowed);
+        }
+        self.take_kept(node, records)
+    }
+
+    /// Joins records that are kept to the node's.
+    fn take_kept(&mut self, node: usize, records: &Listed<Record>) -> Result<Outcome, AllocError>
+        requires { list_all (contains (topic_of self.old).kept) records.now ≡ true }
+        ensures happens { IfOk result (λ outcome. Happens self.old (events.Take node records.now) outcome self.new) }
+        ensures refused { OnErr result (self.new ≡ self.old) }
+    {
         let Some(taker) = self.node(node) else {
             return Ok(Outcome::NotAllowed);
         };
-        if !are_all_in(&self.topic.kept, records.as_slice()) {
-            return Ok(Outcome::NotAllowed);
-        }
         let more = RecordSet::of(*self.items.allocator(), records.as_slice())?;
         let taker = taker.taking(&more)?;
         self.nodes[node] = taker;
@@ -231,70 +284,96 @@ impl Cluster {
         self.nodes.get(node)
     }
 
-    /// What the items come to, with the commit that isn't settled after them.
-    fn settled_topic(&self) -> Result<Topic, AllocError>
-        ensures { IfOk result (λ topic. topic ≡ topic_of (settled self.now)) }
+    /// Whether the records may leave the kept set, once what isn't settled is.
+    fn may_drop(&mut self, dropped: &[Record]) -> Result<bool, AllocError>
+        ensures told { IfOk result (λ may. may ≡ may_drop (topic_of (settled self.old)).kept dropped.now) }
+        ensures same { self.new ≡ self.old }
     {
         lawful_items_follow();
-        let mut topic = self.topic.clone()?;
-        if let Some(commit) = &self.unsettled {
-            topic.publish_batch(*self.items.allocator(), commit.batch.as_slice())?;
+        let alloc = *self.items.allocator();
+        self.folded.catch_up(alloc, &self.items)?;
+        match &self.unsettled {
+            None => Ok(self.folded.topic.may_drop(dropped)),
+            Some(commit) => {
+                let mut topic = self.folded.topic.clone()?;
+                topic.publish_batch(alloc, commit.batch.as_slice())?;
+                Ok(topic.may_drop(dropped))
+            }
         }
-        Ok(topic)
     }
 
-    /// The commit that isn't settled, as an item.
-    fn settling(&self) -> Result<Vec<Item>, AllocError>
-        ensures { IfOk result (λ items. items.items ≡ settling self.now.unsettled) }
+    /// Whether the records are kept.
+    fn are_kept(&mut self, records: &[Record]) -> Result<bool, AllocError>
+        ensures told { IfOk result (λ are. are ≡ list_all (contains (topic_of self.old).kept) records.now) }
+        ensures same { self.new ≡ self.old }
     {
-        let mut items = Vec::new(*self.items.allocator());
-        if let Some(commit) = &self.unsettled {
-            items.push(Item::Commit(commit.clone()?))?;
-        }
-        Ok(items)
+        let alloc = *self.items.allocator();
+        self.folded.catch_up(alloc, &self.items)?;
+        Ok(are_all_in(&self.folded.topic.kept, records))
     }
 
     /// Publishes the commit that isn't settled.
-    fn settle(&mut self, topic: Topic) -> Result<(), AllocError>
-        requires { topic ≡ topic_of (settled self.old) }
+    fn settle(&mut self) -> Result<(), AllocError>
         ensures settled { OnOk result (self.new ≡ settled self.old) }
         ensures refused { OnErr result (self.new ≡ self.old) }
     {
-        let mut more = self.settling()?;
-        self.items.append(&mut more)?;
-        self.unsettled = None;
-        self.topic = topic;
+        self.items.reserve(1)?;
+        put_settling(&mut self.items, &mut self.unsettled);
         Ok(())
     }
 
     /// Publishes the commit that isn't settled, and then leaves the other one so.
-    fn leave_unsettled(&mut self, topic: Topic, commit: Commit) -> Result<(), AllocError>
-        requires { topic ≡ topic_of (settled self.old) }
+    fn leave_unsettled(&mut self, commit: Commit) -> Result<(), AllocError>
+        requires { follows (topic_of (settled self.old)).next commit.batch ≡ true }
         ensures left { OnOk result (self.new ≡ leave_unsettled (settled self.old) commit) }
         ensures refused { OnErr result (self.new ≡ self.old) }
     {
-        let mut more = self.settling()?;
-        self.items.append(&mut more)?;
+        lawful_items_follow();
+        self.items.reserve(1)?;
+        self.decided.add(commit.batch.as_slice())?;
+        put_settling(&mut self.items, &mut self.unsettled);
         self.unsettled = Some(commit);
-        self.topic = topic;
         Ok(())
     }
 
-    /// Publishes the commit that isn't settled, and then the item.
-    fn publish(&mut self, topic: Topic, item: Item) -> Result<(), AllocError>
-        requires { topic ≡ topic_of (settled self.old) }
-        ensures published { OnOk result (self.new ≡ publish (settled self.old) item) }
+    /// Publishes the commit that isn't settled, and then the other one.
+    fn publish_commit(&mut self, commit: Commit) -> Result<(), AllocError>
+        requires { follows (topic_of (settled self.old)).next commit.batch ≡ true }
+        ensures published { OnOk result (self.new ≡ publish (settled self.old) (published.Commit commit)) }
         ensures refused { OnErr result (self.new ≡ self.old) }
     {
         lawful_items_follow();
-        let mut topic = topic;
-        topic.publish(*self.items.allocator(), &item)?;
-        let mut more = self.settling()?;
-        more.push(item)?;
-        self.items.append(&mut more)?;
-        self.unsettled = None;
-        self.topic = topic;
+        self.items.reserve(2)?;
+        self.decided.add(commit.batch.as_slice())?;
+        put_settling(&mut self.items, &mut self.unsettled);
+        self.items.push_reserved(Item::Commit(commit));
         Ok(())
+    }
+
+    /// Publishes the commit that isn't settled, and then that the records leave the kept set. No
+    /// last record changes by it.
+    fn publish_compaction(&mut self, dropped: Listed<Record>) -> Result<(), AllocError>
+        ensures published { OnOk result (self.new ≡ publish (settled self.old) (published.Compaction dropped)) }
+        ensures refused { OnErr result (self.new ≡ self.old) }
+    {
+        lawful_items_follow();
+        self.items.reserve(2)?;
+        put_settling(&mut self.items, &mut self.unsettled);
+        self.items.push_reserved(Item::Compaction(dropped));
+        Ok(())
+    }
+}
+
+/// Moves the commit that isn't settled to the end of the items, where there is room for it.
+fn put_settling(items: &mut Vec<Item>, unsettled: &mut Option<Commit>)
+    requires { vec_len items.old < vec_capacity items.old }
+    ensures items { items.new.items ≡ items.old.items ++ settling unsettled.old }
+    ensures none { unsettled.new ≡ None }
+    ensures len { vec_len items.new ≤ vec_len items.old + 1 }
+    ensures capacity { vec_capacity items.new ≡ vec_capacity items.old }
+{
+    if let Some(commit) = unsettled.take() {
+        items.push_reserved(Item::Commit(commit));
     }
 }
 

@@ -1,16 +1,21 @@
 // What holds after every list of events. What is proved here costs nothing at run time: a function
 // that needs a law calls it.
 ghost use Rattle.reg_world.specs.Core.{KeptIsCompaction, LogIsLawful, NodesAreCompactions, RefusedExactly, UnsettledComesFirst};
+ghost use Rattle.reg_world.specs.Eager.{EagerFoldingIsRight};
 ghost use Rattle.reg_world.specs.Headline.{AnswersAreOfTheSet, Ids, Levels, Merging, SameAnswers};
 ghost use Rattle.reg_world.specs.LowerLaws.{LowerLaws};
 ghost use Rattle.reg_world.specs.Threads.{ItemsHappen};
 
-use reg_fold::two_schemas_is_least;
-use reg_leader::{steps_meet_levels, steps_stay_open};
+use reg_fold::{entries_are_of_places, two_schemas_is_least};
+use reg_leader::{
+    batches_end_by_the_limit, batches_go_on, deletes_name_greatest, steps_meet_levels,
+    steps_stay_open,
+};
 use reg_lookup::queries_have_one_answer;
+use reg_records::written_values_read_back;
 use reg_set::{
-    compactions_compose, last_records_are_enough, last_records_of_unions, merging_joins_sets,
-    records_are_ordered,
+    compactions_compose, last_is_greatest, last_records_are_enough, last_records_of_unions,
+    merging_joins_sets, records_are_ordered,
 };
 use reg_topic::{kept_sets_are_compactions, lawful_items_follow};
 
@@ -71,6 +76,22 @@ pub fn registered_versions_meet_levels()
 {
     lower_laws();
     steps_meet_levels();
+}
+
+/// Taken one after the other, the records of the log give the entries of the log, and of each
+/// compaction of it, with their soft marks.
+pub fn eager_folding_is_right()
+    ensures { EagerFoldingIsRight }
+{
+    batches_end_by_the_limit();
+    batches_go_on();
+    deletes_name_greatest();
+    entries_are_of_places();
+    every_list_of_events_is_lawful();
+    last_is_greatest();
+    last_records_are_enough();
+    records_are_ordered();
+    written_values_read_back();
 }
 
 /// Merging is commutative, associative and idempotent, and so are answers.

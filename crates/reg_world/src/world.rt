@@ -1,13 +1,18 @@
 // A world: what a list of events leads to.
-ghost use Rattle.std.specs.Prelude.{◌≡◌, ◌↔◌, ◌+◌, ◌++◌, ◌∷◌, [], false, IfOk, IfErr, OnErr, OnOk, length};
+ghost use Rattle.std.specs.Prelude.{◌≡◌, ◌↔◌, ◌+◌, ◌++◌, ◌∷◌, [], false, Some, IfOk, IfErr, OnErr, OnOk, length};
 ghost use Rattle.std.specs.FinSet.{from_list};
+ghost use Rattle.std.specs.List.{Contains};
 ghost use Rattle.reg_set.specs.Compaction.{IsCompactionOf};
 ghost use Rattle.reg_set.specs.LastRecords.{last_records};
+ghost use Rattle.reg_entries.specs.EntryOrder.{place_of};
+ghost use Rattle.reg_entries.specs.declared.entry.Entry.{Entry};
 ghost use Rattle.reg_fold.specs.Closed.{is_closed};
+ghost use Rattle.reg_fold.specs.Entries.{entries};
 ghost use Rattle.reg_leader.specs.Adoption.{IsAdoptRefusal};
 ghost use Rattle.reg_leader.specs.StayOpen.{IdsNameOneSchema};
 ghost use Rattle.reg_topic.specs.Topic.{registry_of, topic_from};
 ghost use Rattle.reg_world.specs.Core.{HasLawfulLog, HasNodes};
+ghost use Rattle.reg_world.specs.Eager.{IsFoldedEagerly, eager};
 ghost use Rattle.reg_world.specs.Happens.{Happens, is_allowed};
 ghost use Rattle.reg_world.specs.Headline.{GivesAnswersOfSets, MetLevels};
 ghost use Rattle.reg_world.specs.Runs.{IsStopped, Runs};
@@ -16,14 +21,16 @@ ghost use Rattle.reg_world.specs.declared.event.Outcome.TheVariants as Outcome;
 ghost use Rattle.reg_world.specs.declared.world.RunError.TheVariants as RunError;
 
 use crate::cluster::Cluster;
+use crate::eager::{fold_eagerly, listed};
 use crate::event::{Event, Outcome};
 use crate::laws::{
-    events_are_refused_exactly, every_list_of_events_is_lawful, ids_name_one_schema,
-    nodes_answer_alike, registered_versions_meet_levels,
+    eager_folding_is_right, events_are_refused_exactly, every_list_of_events_is_lawful,
+    ids_name_one_schema, nodes_answer_alike, registered_versions_meet_levels,
 };
+use reg_fold::{Entry, entries_are_of_places};
 use reg_leader::{AdoptError, adopt};
 use reg_records::Log;
-use reg_set::records_are_ordered;
+use reg_set::{compactions_compose, records_are_ordered};
 use reg_topic::Topic;
 use std::alloc::{AllocError, Global};
 use std::error::Error;
@@ -80,8 +87,8 @@ impl World {
     {
         records_are_ordered();
         let topic = Topic::of_log(alloc, base)?;
-        adopt(alloc, &topic.log)?;
-        let cluster = Cluster::start(alloc, topic, nodes)?;
+        let registry = adopt(alloc, &topic.log)?;
+        let cluster = Cluster::start(alloc, topic, registry, nodes)?;
         Ok(World { cluster })
     }
 
@@ -100,8 +107,8 @@ impl World {
     /// Does the events in turn. An error leaves the world where the events that were done lead.
     ///
     /// Wherever that is, the log is lawful, the kept set is a compaction of it, each node answers as
-    /// the set does of which it took a compaction, an id names one schema, and each registered
-    /// version met its level.
+    /// the set does of which it took a compaction, an id names one schema, each registered version
+    /// met its level, and the log's records, taken one after the other, give its entries.
     pub fn run(&mut self, events: &[Event]) -> Result<Vec<Outcome>, RunError>
         ensures runs { IfOk result (λ outcomes. Runs self.old events.now outcomes.items self.new) }
         ensures refused { IfErr result (λ error. IsStopped self.old events.now error self.new) }
@@ -111,14 +118,33 @@ impl World {
         ensures answers { GivesAnswersOfSets self.new }
         ensures ids { IdsNameOneSchema (registry_of (topic_of self.new)) }
         ensures levels { MetLevels self.new }
+        ensures eager { IsFoldedEagerly self.new }
     {
         every_list_of_events_is_lawful();
         nodes_answer_alike();
         ids_name_one_schema();
         registered_versions_meet_levels();
+        eager_folding_is_right();
         let outcomes = self.run_each(events);
         let _ = &self.cluster;
         outcomes
+    }
+
+    /// The entries of the log, by subject, by its bytes, and then by version. The log's records are
+    /// taken one after the other, each version's as it comes, and a soft delete marks what stands
+    /// then. The only error is want of memory.
+    ///
+    /// They are those of a registry over the log, which looks at last records alone.
+    pub fn eager_entries(&self) -> Result<Vec<Entry>, AllocError>
+        ensures eager { IfOk result (λ found. (e : Entry) → Contains found.items e ↔ (eager self.now (place_of e) ≡ Some e)) }
+        ensures right { IfOk result (λ found. found.items ≡ entries (registry_of (topic_of self.now))) }
+    {
+        eager_folding_is_right();
+        entries_are_of_places();
+        compactions_compose();
+        let alloc = self.cluster.allocator();
+        let standing = fold_eagerly(alloc, self.cluster.base(), self.cluster.items())?;
+        listed(alloc, &standing)
     }
 
     fn run_each(&mut self, events: &[Event]) -> Result<Vec<Outcome>, RunError>

@@ -1,9 +1,8 @@
-use Rattle.std.proofs.Common.{◌≡◌, inl, inr, Some, None, slice_get, refl, sym, ap, ◌∙◌, rules}
+use Rattle.std.proofs.Common.{◌≡◌, inl, inr, Some, None, slice_get, sym, ap, ◌∙◌, rules, refl}
 use Rattle.std.proofs.lemmas.Bool.{false≢true}
-use Rattle.reg_world.specs.State.{settled, topic_of}
 use Rattle.reg_world.specs.declared.event.Event.TheVariants as events
 use Rattle.reg_world.specs.declared.event.Outcome.TheVariants as outcomes
-use Rattle.reg_world.proofs.Steps.{a_node, allowed, no_node, not_allowed, steps-over}
+use Rattle.reg_world.proofs.Steps.{a_node, allowed, no_node, not_allowed}
 use Rattle.reg_world.proofs.cluster.Cluster.command.Goals as goal
 
 pub returns-in_default-clause-happens : goal.returns-in_default-clause-happens
@@ -16,13 +15,13 @@ pub returns-clause-happens : goal.returns-clause-happens
 returns-clause-happens c =
     let s = c.args.self.now in
     let there : slice_get s.nodes c.args.node ≡ Some c.in-Some._found.now = search rules in
-    let d = c.decide-decision.result in
-    elim c.decide-decision.ensures [
+    let d = c.decision-decision.result in
+    elim c.decision-decision.ensures [
       | inl memory ↦ absurd (false≢true (sym c.if-is_no_memory.false ∙ c.is_no_memory.ensures memory.0))
       | inr step ↦ allowed s _ (events.Command c.args.node c.args.command.now c.args.fate) (outcomes.Replied c.in_ok-reply.reply) (a_node s c.args.node _ there) (record {
         reply = d.reply;
         batch = d.batch;
-        step = steps-over c.in_ok-topic.topic (topic_of (settled s)) c.in_ok-registry.registry c.args.command.now d.reply d.batch c.in_ok-registry.ensures.lasts c.in_ok-topic.ensures step;
+        step = step;
         outcome = ap outcomes.Replied c.in_ok-reply.ensures.told;
         state = c.in_ok-reply.ensures.state;
       })

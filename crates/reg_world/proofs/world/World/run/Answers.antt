@@ -31,3 +31,8 @@ pub returns-clause-levels : goal.returns-clause-levels
 returns-clause-levels c =
     let led = c.self.invariant in
     c.registered_versions_meet_levels.ensures led.0 c.run_each-outcomes.new.self (subst (After led.0) c.self.view_is led.1)
+
+pub returns-clause-eager : goal.returns-clause-eager
+returns-clause-eager c =
+    let led = c.self.invariant in
+    c.eager_folding_is_right.ensures led.0 c.run_each-outcomes.new.self (subst (After led.0) c.self.view_is led.1)

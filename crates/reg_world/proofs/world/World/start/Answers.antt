@@ -10,5 +10,5 @@ pub invariant_of-result : goal.invariant_of-result
 invariant_of-result c =
     let o = c.records_are_ordered.ensures in
     let b = c.args.base.now in
-    let adopted = base-adopted o.all o.apart b.records.items b.next b.ahead (subst (λ (t : Topic). is_closed (registry_of t) ≡ false) c.in_ok-topic.ensures c.in_ok-adopt.ensures.takes_commands) in
+    let adopted = base-adopted o.all o.apart b.records.items b.next b.ahead (subst (λ (t : Topic). is_closed (registry_of t) ≡ false) c.in_ok-topic.ensures c.in_ok-registry.ensures.takes_commands) in
     subst IsReached (sym c.in_ok-cluster.ensures) (subst (λ (t : Topic). IsReached (start t c.args.nodes)) (sym c.in_ok-topic.ensures) (reached_at_start (topic_from b.records.items b.next) c.args.nodes adopted))

@@ -1,0 +1,227 @@
+// The entries of a log whose records are taken one after the other.
+ghost use Rattle.std.specs.Prelude.{◌≡◌, ◌||◌, [], IfOk, OnOk, map, nat_le, option_map};
+ghost use Rattle.std.specs.FinMap as finmap;
+ghost use Rattle.std.specs.List.{Contains};
+ghost use Rattle.std.specs.Option.{option_map_or};
+ghost use Rattle.reg_records.specs.declared.key.Key.TheVariants as keys;
+ghost use Rattle.reg_records.specs.declared.value.Value.TheVariants as values;
+ghost use Rattle.reg_set.specs.LastRecords.{last_records};
+ghost use Rattle.reg_entries.specs.EntryOrder.{Place, place_of};
+ghost use Rattle.reg_entries.specs.Marked.{MarksEach};
+ghost use Rattle.reg_entries.specs.Sought.{of_subject};
+ghost use Rattle.reg_entries.specs.declared.entry.Entry.{Entry};
+ghost use Rattle.reg_fold.specs.Entries.{entries};
+ghost use Rattle.reg_topic.specs.Topic.{records_of_item};
+ghost use Rattle.reg_world.specs.Eager.{after_key, after_records, eager_after, marked_by, marked_with, put_by, standing_at};
+
+use avro_schema::Schema;
+use base_text::Text;
+use reg_entries::{Entries, Entry, Mark};
+use reg_fold::{Registry, entries_are_of_places};
+use reg_records::{Decoded, Key, Record, Value, decode, decode_value, values_are_of_keys};
+use reg_set::RecordSet;
+use reg_topic::{Item, Topic};
+use std::alloc::{AllocError, Global};
+
+/// What stands after all that the items published, taken record by record, where the entries of the
+/// base stood before. The only error is want of memory.
+pub(crate) fn fold_eagerly(
+    alloc: Global,
+    base: &Topic,
+    items: &[Item],
+) -> Result<Entries, AllocError>
+    ensures { IfOk result (λ standing. (p : Place) → finmap.get standing p ≡ eager_after base.now items.now p) }
+{
+    let mut standing = entries_of(alloc, &base.log)?;
+    for item in items {
+        take_item(alloc, &mut standing, item)?;
+    }
+    Ok(standing)
+}
+
+/// A copy of each entry, by place. The only error is want of memory.
+pub(crate) fn listed(alloc: Global, standing: &Entries) -> Result<Vec<Entry>, AllocError>
+    ensures { IfOk result (λ found. found.items ≡ finmap.values standing.now) }
+{
+    let all = standing.all()?;
+    copies_of(alloc, &all)
+}
+
+fn copies_of(alloc: Global, entries: &[&Entry]) -> Result<Vec<Entry>, AllocError>
+    ensures { IfOk result (λ found. found.items ≡ map (λ e. e.now) entries.now) }
+{
+    let mut found = Vec::new(alloc);
+    for entry in entries {
+        found.push((*entry).clone()?)?;
+    }
+    Ok(found)
+}
+
+/// The entries of a set of records.
+fn entries_of(alloc: Global, log: &RecordSet) -> Result<Entries, AllocError>
+    ensures { IfOk result (λ standing. (p : Place) → finmap.get standing p ≡ standing_at p (entries (last_records log.now))) }
+{
+    entries_are_of_places();
+    let registry = Registry::of_set(alloc, log)?;
+    let found = registry.entries()?;
+    put_all(alloc, &found)
+}
+
+/// Each of some entries at its place, where no two of them have one place.
+fn put_all(alloc: Global, entries: &[&Entry]) -> Result<Entries, AllocError>
+    requires { (e f : Entry) → Contains (map (λ e. e.now) entries.now) e → Contains (map (λ e. e.now) entries.now) f → place_of e ≡ place_of f → e ≡ f }
+    ensures { IfOk result (λ standing. (p : Place) → finmap.get standing p ≡ standing_at p (map (λ e. e.now) entries.now)) }
+{
+    let mut standing = Entries::new(alloc);
+    for entry in entries {
+        standing.put((*entry).clone()?)?;
+    }
+    Ok(standing)
+}
+
+/// Takes the records that an item published, in their order.
+fn take_item(alloc: Global, standing: &mut Entries, item: &Item) -> Result<(), AllocError>
+    ensures { OnOk result ((p : Place) → finmap.get standing.new p ≡ after_records p (finmap.get standing.old p) (records_of_item item.now)) }
+{
+    match item {
+        Item::Commit(commit) => take_all(alloc, standing, commit.batch.as_slice()),
+        Item::Compaction(_) => Ok(()),
+    }
+}
+
+/// Takes the records in their order.
+fn take_all(alloc: Global, standing: &mut Entries, records: &[Record]) -> Result<(), AllocError>
+    ensures { OnOk result ((p : Place) → finmap.get standing.new p ≡ after_records p (finmap.get standing.old p) records.now) }
+{
+    for given in records {
+        take_one(alloc, standing, given)?;
+    }
+    Ok(())
+}
+
+fn take_one(alloc: Global, standing: &mut Entries, given: &Record) -> Result<(), AllocError>
+    ensures { OnOk result ((p : Place) → finmap.get standing.new p ≡ after_key given.now.key p (finmap.get standing.old p) given.now) }
+{
+    match &given.key {
+        Key::Schema { subject, version } => take_version(alloc, standing, given, subject, *version),
+        Key::DeleteSubject(_) => take_delete(alloc, standing, given),
+        Key::Config(_) | Key::Mode(_) | Key::Noop => Ok(()),
+    }
+}
+
+/// Takes a version's record: its entry stands at the place now, or nothing does.
+fn take_version(
+    alloc: Global,
+    standing: &mut Entries,
+    given: &Record,
+    subject: &Text,
+    version: u32,
+) -> Result<(), AllocError>
+    requires { given.now.key ≡ keys.Schema subject.now version }
+    ensures { OnOk result ((p : Place) → finmap.get standing.new p ≡ after_key (keys.Schema subject.now version) p (finmap.get standing.old p) given.now) }
+{
+    values_are_of_keys();
+    match put_by(alloc, given)? {
+        Some(entry) => standing.put(entry),
+        None => {
+            let place = (subject.clone()?, version);
+            standing.remove(&place);
+            Ok(())
+        }
+    }
+}
+
+/// The entry that a version's record puts at its place, if it puts one.
+fn put_by(alloc: Global, given: &Record) -> Result<Option<Entry>, AllocError>
+    ensures { IfOk result (λ found. found ≡ put_by given.now) }
+{
+    let Some(Decoded { value, schema }) = decode(alloc, given)? else {
+        return Ok(None);
+    };
+    match value {
+        Value::Schema {
+            subject,
+            version,
+            id,
+            schema: text,
+            deleted,
+        } => {
+            let normal = normal_of(alloc, &schema)?;
+            Ok(Some(Entry {
+                subject,
+                version,
+                id,
+                text,
+                normal,
+                offset: given.offset,
+                soft: deleted,
+            }))
+        }
+        Value::Config(_) | Value::Mode(_) | Value::DeleteSubject { .. } | Value::Noop => Ok(None),
+    }
+}
+
+/// The normal text of a schema; without one no text.
+fn normal_of(alloc: Global, schema: &Option<Schema>) -> Result<Text, AllocError>
+    ensures { IfOk result (λ normal. normal ≡ option_map_or (λ meaning. meaning.normal_text) schema.now []) }
+{
+    match schema {
+        Some(schema) => schema.normal().clone(),
+        None => Ok(Text::from(String::new(alloc))),
+    }
+}
+
+/// Takes the record of a soft delete: it marks what stands now.
+fn take_delete(alloc: Global, standing: &mut Entries, given: &Record) -> Result<(), AllocError>
+    ensures { OnOk result ((p : Place) → finmap.get standing.new p ≡ option_map (marked_by given.now) (finmap.get standing.old p)) }
+{
+    match decode_value(alloc, given)? {
+        Some(Value::DeleteSubject { subject, version }) => {
+            mark_up_to(alloc, standing, subject, version)
+        }
+        Some(Value::Schema { .. } | Value::Config(_) | Value::Mode(_) | Value::Noop) | None => {
+            Ok(())
+        }
+    }
+}
+
+/// Marks the entries of a subject up to a version.
+fn mark_up_to(
+    alloc: Global,
+    standing: &mut Entries,
+    subject: Text,
+    greatest: u32,
+) -> Result<(), AllocError>
+    ensures { OnOk result ((p : Place) → finmap.get standing.new p ≡ option_map (marked_with (values.DeleteSubject subject greatest)) (finmap.get standing.old p)) }
+{
+    let marks = marks_up_to(alloc, standing, &subject, greatest)?;
+    standing.mark(subject, &marks);
+    Ok(())
+}
+
+/// The marks of the entries of a subject, once it is soft-deleted up to a version.
+fn marks_up_to(
+    alloc: Global,
+    standing: &Entries,
+    subject: &Text,
+    greatest: u32,
+) -> Result<Vec<Mark>, AllocError>
+    ensures { IfOk result (λ marks. MarksEach (λ e. e.soft || nat_le e.version greatest) marks.items (of_subject (finmap.values standing.now) subject.now)) }
+{
+    let found = standing.of_subject(subject.as_str())?;
+    marks_of(alloc, &found, greatest)
+}
+
+/// The marks of some entries, once their subject is soft-deleted up to a version.
+fn marks_of(alloc: Global, entries: &[&Entry], greatest: u32) -> Result<Vec<Mark>, AllocError>
+    ensures { IfOk result (λ marks. MarksEach (λ e. e.soft || nat_le e.version greatest) marks.items (map (λ e. e.now) entries.now)) }
+{
+    let mut marks = Vec::new(alloc);
+    for entry in entries {
+        marks.push(Mark {
+            version: entry.version,
+            soft: entry.soft || entry.version <= greatest,
+        })?;
+    }
+    Ok(marks)
+}
