@@ -2,6 +2,8 @@
 mod answers;
 mod ends;
 mod raw;
+mod raw_rows;
+mod raw_table;
 mod readers;
 mod rows;
 mod writers;

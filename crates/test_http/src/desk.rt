@@ -1,0 +1,69 @@
+// A desk that notes what it is asked and told.
+ghost use Rattle.std.specs.Prelude.{⊤};
+
+use base_text::Text;
+use reg_http::Desk;
+use reg_leader::{Command, Reply};
+use reg_lookup::{Answer, Query};
+use std::alloc::{AllocError, Global};
+
+/// Answers each query with an empty list, and replies to each command with the number of what was
+/// noted. It has no memory for the schema of the id 13.
+#[derive(Debug, Drop)]
+pub struct NotingDesk {
+    pub notes: String,
+    pub count: u32,
+}
+
+impl NotingDesk {
+    pub fn new(alloc: Global) -> NotingDesk {
+        NotingDesk {
+            notes: String::new(alloc),
+            count: 0,
+        }
+    }
+
+    fn note(&mut self, kind: &str, what: &str) {
+        self.count = self.count.saturating_add(1);
+        if write!(self.notes, "{kind} {what};").is_err() {
+            self.count = 0;
+        }
+    }
+}
+
+impl Desk for NotingDesk {
+    ghost asks = { λ _ _ _ _. ⊤ };
+
+    ghost commands = { λ _ _ _ _. ⊤ };
+
+    fn ask(&mut self, alloc: Global, query: &Query) -> Result<Answer, AllocError> {
+        match query {
+            Query::Level {
+                subject: _,
+                default_global: _,
+            } => self.note("level", ""),
+            Query::SchemaById { id: 13 } => {
+                self.note("no memory", "");
+                return Err(AllocError);
+            }
+            _ => self.note("query", ""),
+        }
+        Ok(Answer {
+            status: 200,
+            body: Text::copy_of(alloc, "[]")?,
+        })
+    }
+
+    fn command(&mut self, command: &Command) -> Reply {
+        match command {
+            Command::Register { subject, text: _ } => self.note("register", subject.as_str()),
+            Command::DeleteSubject {
+                subject,
+                permanent: _,
+            } => self.note("delete", subject.as_str()),
+            Command::SetLevel { subject: _, level } => self.note("set", level.as_str()),
+            _ => self.note("command", ""),
+        }
+        Reply::Id(self.count)
+    }
+}

@@ -1,0 +1,67 @@
+// A world beside a plain one.
+use crate::events::event_of;
+use crate::outcomes::outcome_text;
+use crate::plain::{Plain, registry_of};
+use reg_records::Log;
+use reg_world::World;
+use std::alloc::{AllocError, Global};
+use std::test::Fail;
+
+/// A world and a plain one, to which the same happens.
+#[derive(Drop)]
+pub(crate) struct Both {
+    pub world: World,
+    pub plain: Plain,
+}
+
+impl Both {
+    pub(crate) fn start(alloc: Global, nodes: usize, base: &Log) -> Result<Both, Fail> {
+        let world = World::start(alloc, nodes, base)?;
+        let plain = Plain::start(alloc, base, nodes)?;
+        Ok(Both { world, plain })
+    }
+
+    /// What comes of the event of those words, where it is the same in both.
+    pub(crate) fn step(&mut self, alloc: Global, words: &str) -> Result<Option<String>, Fail> {
+        let event = event_of(alloc, words, &self.plain.written)?;
+        let expected = self.plain.step(alloc, &event)?;
+        let outcome = self.world.step(&event)?;
+        let found = outcome_text(alloc, &outcome)?;
+        if found.as_str() == expected.as_str() {
+            Ok(Some(found))
+        } else {
+            Ok(None)
+        }
+    }
+
+    /// Whether that comes of the event in both.
+    pub(crate) fn gives(
+        &mut self,
+        alloc: Global,
+        words: &str,
+        expected: &str,
+    ) -> Result<bool, Fail> {
+        match self.step(alloc, words)? {
+            Some(found) => Ok(found.as_str() == expected),
+            None => Ok(false),
+        }
+    }
+
+    /// Whether the same comes of the event in both.
+    pub(crate) fn agree(&mut self, alloc: Global, words: &str) -> Result<bool, Fail> {
+        Ok(self.step(alloc, words)?.is_some())
+    }
+
+    /// Whether the log, its records taken one after the other, has the entries of a registry over all
+    /// that was published.
+    pub(crate) fn have_same_entries(&self, alloc: Global) -> Result<bool, AllocError> {
+        let eager = self.world.eager_entries()?;
+        let registry = registry_of(alloc, &self.plain.log)?;
+        let entries = registry.entries()?;
+        let are_equal = eager
+            .iter()
+            .zip(&entries)
+            .all(|(found, expected)| *found == **expected);
+        Ok(are_equal && eager.len() == entries.len())
+    }
+}

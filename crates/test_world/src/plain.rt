@@ -1,0 +1,248 @@
+// A topic and its nodes as plain lists of records: what is published, what is kept, and all that each
+// node took. Answers and replies are those of registries over these lists.
+use crate::outcomes::{NOT_ALLOWED, answer_text, reply_text, unsettled_text};
+use base_text::Text;
+use reg_fold::Registry;
+use reg_leader::{Command, Decision, decide};
+use reg_lookup::{Query, answer};
+use reg_records::{Log, Record};
+use reg_world::{Event, Fate};
+use std::alloc::{AllocError, Global};
+
+#[derive(Drop)]
+pub(crate) struct Plain {
+    /// The base's records, and all that commands decided, lost ones too.
+    pub written: Vec<Record>,
+    pub log: Vec<Record>,
+    kept: Vec<Record>,
+    unsettled: Vec<Record>,
+    next: u64,
+    nodes: Vec<Vec<Record>>,
+}
+
+fn push_all(to: &mut Vec<Record>, from: &[Record]) -> Result<(), AllocError> {
+    for given in from {
+        to.push(given.clone()?)?;
+    }
+    Ok(())
+}
+
+/// Adds those that aren't there.
+fn join(to: &mut Vec<Record>, from: &[Record]) -> Result<(), AllocError> {
+    for given in from {
+        if !is_among(to, given) {
+            to.push(given.clone()?)?;
+        }
+    }
+    Ok(())
+}
+
+fn is_among(list: &[Record], given: &Record) -> bool {
+    list.iter().any(|found| *found == *given)
+}
+
+/// No value is before each text.
+fn is_greater(value: &Option<Text>, than: &Option<Text>) -> bool {
+    match (value, than) {
+        (Some(value), Some(than)) => *value > *than,
+        (Some(_), None) => true,
+        (None, _) => false,
+    }
+}
+
+/// Whether a record of the list has the same key and comes later: by its offset, then by its value.
+fn is_passed(list: &[Record], given: &Record) -> bool {
+    list.iter().any(|found| {
+        found.key == given.key
+            && (found.offset > given.offset
+                || (found.offset == given.offset && is_greater(&found.value, &given.value)))
+    })
+}
+
+pub(crate) fn registry_of(alloc: Global, records: &[Record]) -> Result<Registry, AllocError> {
+    let mut registry = Registry::empty(alloc);
+    for given in records {
+        registry.apply(given)?;
+    }
+    Ok(registry)
+}
+
+fn done(alloc: Global) -> Result<String, AllocError> {
+    String::from_str(alloc, "done")
+}
+
+fn not_allowed(alloc: Global) -> Result<String, AllocError> {
+    String::from_str(alloc, NOT_ALLOWED)
+}
+
+impl Plain {
+    pub(crate) fn start(alloc: Global, base: &Log, count: usize) -> Result<Plain, AllocError> {
+        let mut plain = Plain {
+            written: Vec::new(alloc),
+            log: Vec::new(alloc),
+            kept: Vec::new(alloc),
+            unsettled: Vec::new(alloc),
+            next: base.next,
+            nodes: Vec::new(alloc),
+        };
+        plain.begin(alloc, &base.records, count)?;
+        Ok(plain)
+    }
+
+    fn begin(&mut self, alloc: Global, base: &[Record], count: usize) -> Result<(), AllocError> {
+        push_all(&mut self.written, base)?;
+        push_all(&mut self.log, base)?;
+        push_all(&mut self.kept, base)?;
+        for _ in 0..count {
+            self.nodes.push(Vec::new(alloc))?;
+        }
+        Ok(())
+    }
+
+    /// Whether the record at that place of all that were written is kept.
+    pub(crate) fn is_kept(&self, place: usize) -> bool {
+        match self.written.get(place) {
+            Some(found) => is_among(&self.kept, found),
+            None => false,
+        }
+    }
+
+    /// What comes of an event, in words.
+    pub(crate) fn step(&mut self, alloc: Global, event: &Event) -> Result<String, AllocError> {
+        match event {
+            Event::Command {
+                node,
+                command,
+                fate,
+            } => self.command(alloc, *node, command, *fate),
+            Event::Compact(dropped) => self.compact(alloc, dropped.as_slice()),
+            Event::Take { node, records } => self.take(alloc, *node, records.as_slice()),
+            Event::CompactNode(node) => self.compact_node(alloc, *node),
+            Event::MergeFrom { node, other } => self.merge(alloc, *node, *other),
+            Event::Restart(node) => self.restart(alloc, *node),
+            Event::Lookup { node, query } => self.lookup(alloc, *node, query),
+        }
+    }
+
+    /// Publishes what isn't settled.
+    fn settle(&mut self) -> Result<(), AllocError> {
+        push_all(&mut self.log, &self.unsettled)?;
+        push_all(&mut self.kept, &self.unsettled)?;
+        self.next = self.next.saturating_add(self.unsettled.len() as u64);
+        self.unsettled.clear();
+        Ok(())
+    }
+
+    fn command(
+        &mut self,
+        alloc: Global,
+        node: usize,
+        command: &Command,
+        fate: Fate,
+    ) -> Result<String, AllocError> {
+        if node >= self.nodes.len() {
+            return not_allowed(alloc);
+        }
+        self.settle()?;
+        let registry = registry_of(alloc, &self.log)?;
+        let decision = decide(alloc, &registry, self.next, command, None);
+        self.end(alloc, &decision, fate)
+    }
+
+    /// What becomes of a batch, and what is replied.
+    fn end(
+        &mut self,
+        alloc: Global,
+        decision: &Decision,
+        fate: Fate,
+    ) -> Result<String, AllocError> {
+        let batch = decision.batch.as_slice();
+        let Some(first) = batch.first() else {
+            return reply_text(alloc, &decision.reply);
+        };
+        push_all(&mut self.written, batch)?;
+        self.stand(batch, fate)?;
+        match fate {
+            Fate::Published => reply_text(alloc, &decision.reply),
+            Fate::Unsettled | Fate::Lost => unsettled_text(alloc, first.offset),
+        }
+    }
+
+    fn stand(&mut self, batch: &[Record], fate: Fate) -> Result<(), AllocError> {
+        match fate {
+            Fate::Published => {
+                push_all(&mut self.unsettled, batch)?;
+                self.settle()
+            }
+            Fate::Unsettled => push_all(&mut self.unsettled, batch),
+            Fate::Lost => Ok(()),
+        }
+    }
+
+    fn may_drop(&self, given: &Record) -> bool {
+        let is_there = is_among(&self.kept, given) || is_among(&self.unsettled, given);
+        is_there && (is_passed(&self.kept, given) || is_passed(&self.unsettled, given))
+    }
+
+    fn compact(&mut self, alloc: Global, dropped: &[Record]) -> Result<String, AllocError> {
+        if dropped.iter().any(|given| !self.may_drop(given)) {
+            return not_allowed(alloc);
+        }
+        self.settle()?;
+        self.kept.retain(|found| !is_among(dropped, found));
+        done(alloc)
+    }
+
+    fn take(
+        &mut self,
+        alloc: Global,
+        node: usize,
+        records: &[Record],
+    ) -> Result<String, AllocError> {
+        let are_kept = records.iter().all(|given| is_among(&self.kept, given));
+        match self.nodes.get_mut(node) {
+            Some(list) if are_kept => join(list, records)?,
+            _ => return not_allowed(alloc),
+        }
+        done(alloc)
+    }
+
+    /// What the node took stays the same.
+    fn compact_node(&self, alloc: Global, node: usize) -> Result<String, AllocError> {
+        match self.nodes.get(node) {
+            Some(_) => done(alloc),
+            None => not_allowed(alloc),
+        }
+    }
+
+    fn merge(&mut self, alloc: Global, node: usize, other: usize) -> Result<String, AllocError> {
+        let mut more = Vec::new(alloc);
+        match self.nodes.get(other) {
+            Some(list) => push_all(&mut more, list)?,
+            None => return not_allowed(alloc),
+        }
+        match self.nodes.get_mut(node) {
+            Some(list) => join(list, &more)?,
+            None => return not_allowed(alloc),
+        }
+        done(alloc)
+    }
+
+    fn restart(&mut self, alloc: Global, node: usize) -> Result<String, AllocError> {
+        match self.nodes.get_mut(node) {
+            Some(list) => list.clear(),
+            None => return not_allowed(alloc),
+        }
+        done(alloc)
+    }
+
+    fn lookup(&self, alloc: Global, node: usize, query: &Query) -> Result<String, AllocError> {
+        match self.nodes.get(node) {
+            Some(list) => {
+                let registry = registry_of(alloc, list)?;
+                answer_text(alloc, &answer(alloc, &registry, query)?)
+            }
+            None => not_allowed(alloc),
+        }
+    }
+}
