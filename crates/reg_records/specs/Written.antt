@@ -42,16 +42,6 @@ key_data Noop = of_kind (codes "NOOP") (magic 0)
 unfoldable pub written_key : Key → List ℕ
 written_key k = compact_text (key_data k)
 
--- a key's kind, and its fields
-abbrev pub key_parts : Key → List ℕ
-key_parts (Schema subject version) = 0 ∷ version ∷ subject
-key_parts (Config None) = 1 ∷ []
-key_parts (Config (Some subject)) = 2 ∷ subject
-key_parts (Mode None) = 3 ∷ []
-key_parts (Mode (Some subject)) = 4 ∷ subject
-key_parts (DeleteSubject subject) = 5 ∷ subject
-key_parts Noop = 6 ∷ []
-
 -- the key's version is a number of 32 bits
 abbrev pub IsOf32Bits : Key → Type 0
 IsOf32Bits (Schema subject version) = version < 2 ^ 32
