@@ -22,28 +22,23 @@ impl Grid {
         }
     }
 
-    /// The word of a first number, of that number in their order.
-    fn word(&self, i: usize, word: usize) -> u64
-        ensures { result ≡ word_at self.now.words i word }
-    {
-        match self.words.get(&(i, word)) {
-            Some(bits) => *bits,
-            None => 0,
-        }
-    }
-
     /// Adds a pair, and says whether it is new.
     pub fn insert(&mut self, i: usize, j: usize) -> Result<bool, AllocError>
         ensures new { IfOk result (λ b. b ≡ not (in_grid self.old i j)) }
         ensures added { OnOk result ((k l : ℕ) → in_grid self.new k l ≡ (same_numbers i j k l || in_grid self.old k l)) }
     {
-        let bits = self.word(i, j / 64);
         let bit = j % 64;
-        if has_bit(bits, bit) {
-            return Ok(false);
+        match self.words.get_mut(&(i, j / 64)) {
+            Some(bits) => {
+                let new = !has_bit(*bits, bit);
+                *bits = with_bit(*bits, bit);
+                Ok(new)
+            }
+            None => {
+                self.words.insert((i, j / 64), with_bit(0, bit))?;
+                Ok(true)
+            }
         }
-        self.words.insert((i, j / 64), with_bit(bits, bit))?;
-        Ok(true)
     }
 }
 
