@@ -12,8 +12,8 @@ use Rattle.avro_schema.specs.declared.node.NodeId.{NodeId}
 use Rattle.avro_schema.specs.declared.node.Field.{Field}
 use Rattle.avro_schema.specs.declared.builder.Builder.{Builder}
 use Rattle.avro_schema.specs.Names.{all_distinct}
-use Rattle.serde_json.specs.View.{view, items_view}
-use Rattle.serde_json.specs.declared.value.Value.{Value}
+use Rattle.json_tree.specs.View.{view, items_view}
+use Rattle.json_tree.specs.declared.tree.Json.{Json}
 use Rattle.avro_schema.specs.Form.{form, forms, fields_of_items, field_heading_of, type_in, Form, Forms, Fields, FieldHeading, Heading, no_forms, and_form, and_field, no_fields, ill_fields, array_of, map_of, union_of, record_of}
 use Rattle.avro_schema.specs.Places.{count, Definition, defined}
 use Rattle.avro_schema.specs.Nodes.{field_list}
@@ -136,12 +136,12 @@ drop_past [] (suc i) h = refl
 drop_past (x ∷ xs) zero h = absurd (omega arith)
 drop_past (x ∷ xs) (suc i) h = drop_past xs i (omega arith)
 
-pub next_forms : (vs : List Value) (i : ℕ) (v : Value) → i < length vs → v ≡ get_or vs i v → forms (items_view (drop i vs)) ≡ and_form (form (view v)) (forms (items_view (drop (i + 1) vs)))
+pub next_forms : (vs : List Json) (i : ℕ) (v : Json) → i < length vs → v ≡ get_or vs i v → forms (items_view (drop i vs)) ≡ and_form (form (view v)) (forms (items_view (drop (i + 1) vs)))
 next_forms vs i v lt is =
     let one : suc i ≡ i + 1 = omega arith in
     ap forms (items_view-drop vs i v lt) ∙ ap (λ w. and_form (form (view w)) (forms (items_view (drop (suc i) vs)))) (sym is) ∙ ap (λ k. and_form (form (view v)) (forms (items_view (drop k vs)))) one
 
-pub next_fields : (vs : List Value) (i : ℕ) (v : Value) → i < length vs → v ≡ get_or vs i v
+pub next_fields : (vs : List Json) (i : ℕ) (v : Json) → i < length vs → v ≡ get_or vs i v
     → fields_of_items (items_view (drop i vs)) ≡ and_field (field_heading_of (view v)) (form_in (codes "type") (view v)) (fields_of_items (items_view (drop (i + 1) vs)))
 next_fields vs i v lt is =
     let one : suc i ≡ i + 1 = omega arith in
@@ -149,10 +149,10 @@ next_fields vs i v lt is =
     ∙ ap (λ k. and_field (field_heading_of (view v)) (type_in (view v)) (fields_of_items (items_view (drop k vs)))) one
     ∙ ap (λ f. and_field (field_heading_of (view v)) f (fields_of_items (items_view (drop (i + 1) vs)))) (type_in-get (view v))
 
-pub no_forms_left : (vs : List Value) (i : ℕ) → length vs ≤ i → forms (items_view (drop i vs)) ≡ no_forms
+pub no_forms_left : (vs : List Json) (i : ℕ) → length vs ≤ i → forms (items_view (drop i vs)) ≡ no_forms
 no_forms_left vs i h = ap (λ l. forms (items_view l)) (drop_past vs i h)
 
-pub no_fields_left : (vs : List Value) (i : ℕ) → length vs ≤ i → fields_of_items (items_view (drop i vs)) ≡ no_fields
+pub no_fields_left : (vs : List Json) (i : ℕ) → length vs ≤ i → fields_of_items (items_view (drop i vs)) ≡ no_fields
 no_fields_left vs i h = ap (λ l. fields_of_items (items_view l)) (drop_past vs i h)
 
 pub tests_read : (all rest more : Fields) (h : FieldHeading) (f : Form) (old now next : Builder) (ns : List ℕ) (gs : List Field) (g : Field) (ds : List Definition) → rest ≡ and_field h f more → FieldsAlong old ns all now rest gs ds → TestsAlong all rest → ReadsField now next ns h f g → TestsAlong all more

@@ -159,11 +159,6 @@ pub no_value : {A : Type 0} (o : Option A) → is_some o ≡ false → o ≡ Non
 no_value None e = refl
 no_value (Some x) e = cc
 
--- a use of a definition that opens at node i
-pub some_use : (o : Option Definition) (i : ℕ) → Some i ≡ option_map (λ d. d.node) o → (d : Definition) × (o ≡ Some d) × (i ≡ d.node)
-some_use None i e = cc
-some_use (Some d) i e = (d, refl, cc)
-
 -- the exit of a `?` that passes an error on
 pub exit_err : {T E : Type 0} (r : Result T E) (Q : E → Type 0) (x : E) → IsErrAnd r (λ y. y ≡ x) → Q x → IfErr r Q
 exit_err r Q x h q = let p = err_from_is_err_and r h in rw (p.1, p.2) q

@@ -1,32 +1,18 @@
 -- What `get` finds of an object, beside what a form reads of it.
-use Rattle.std.proofs.Common.{◌≡◌, ℕ, zero, suc, ◌<◌, ◌≤◌, List, [], ◌∷◌, length, get_or, drop, Bool, true, false, ◌||◌, Option, Some, None, option_and_then, Ordering, Less, Equal, Greater, is_eq, codes, nat_cmp, String, Global, string_bytes, refl, sym, ◌∙◌, ap, subst, arith, rules}
+use Rattle.std.proofs.Common.{◌≡◌, ℕ, zero, suc, ◌<◌, ◌≤◌, List, [], ◌∷◌, length, get_or, drop, Bool, true, false, ◌||◌, Option, Some, None, option_and_then, Ordering, Less, Equal, Greater, is_eq, codes, nat_cmp, refl, sym, ◌∙◌, ap, subst, arith}
 use Rattle.std.specs.Cmp.Lexicographic.{slice_cmp}
 use Rattle.std.specs.Ordering.{match_ordering}
 use Rattle.std.proofs.lemmas.Map.Text.{is_eq-slice_cmp}
 use Rattle.serde_json.specs.Data.{Data, null, boolean, number, string, array, object, Items, item, Members, no_members, member, depth, items_depth, members_depth}
 use Rattle.serde_json.specs.Find.{get, get_member, as_str, as_array}
-use Rattle.serde_json.specs.View.{view, items_view, number_view}
+use Rattle.json_tree.specs.View.{view, items_view}
 use Rattle.serde_json.specs.Written.{has_float, items_have_float, members_have_float}
-use Rattle.serde_json.specs.declared.value.Value.{Value, Null, Bool as BoolValue, Number as NumberValue, String as StringValue, the_lemmas}
-use Rattle.serde_json.specs.declared.number.Number.{Number}
+use Rattle.json_tree.specs.declared.tree.Json.{Json}
 use Rattle.avro_schema.specs.declared.word.TypeWord.{TypeWord}
 use Rattle.avro_schema.specs.declared.word.TypeWord.TheVariants as word
 use Rattle.avro_schema.specs.Form.{Form, Fields, ill_formed, form, form_at, fields_at, fields_in, type_in, type_word, string_at, object_of, object_of_word, record_of, array_of, map_of, heading_of}
+use Rattle.avro_schema.specs.Plain.{IsOrderly, ItemsAreOrderly, MembersAreOrderly, IsPlain}
 use Rattle.avro_schema.specs.Building.{form_or_ill, form_in, fields_or_ill, items_at, is_object}
-
--- ---- what a value is seen as
-
-pub view-Null : view Null ≡ null
-view-Null = search (rules, the_lemmas)
-
-pub view-Bool : (b : Bool) → view (BoolValue b) ≡ boolean b
-view-Bool b = search (rules, the_lemmas)
-
-pub view-Number : (n : Number) → view (NumberValue n) ≡ number (number_view n)
-view-Number n = search (rules, the_lemmas)
-
-pub view-String : (s : String Global) → view (StringValue s) ≡ string (string_bytes s)
-view-String s = search (rules, the_lemmas)
 
 -- ---- `form_at` goes by a test, `get_member` by an order
 
@@ -126,7 +112,7 @@ worded_type (number n) s w o is e = cc
 worded_type (string t) s w o is e = cc
 worded_type (array ds) s w o is e = cc
 
--- ---- a member nests less deep than its object, and has no float where it has none
+-- ---- a member nests less deep than its object, and is plain where that is
 
 abbrev AtMost : ℕ → Option Data → Type 0
 AtMost n None = Unit {0}
@@ -176,13 +162,37 @@ member_whole : (k : List ℕ) (ms : Members) → members_have_float ms ≡ false
 member_whole k no_members e = tt
 member_whole k (member l d ms) e = IsWhole-match_ordering (slice_cmp nat_cmp k l) (get_member k ms) (Some d) (member_whole k ms (or_right _ _ e)) (or_left _ _ e)
 
-pub get-whole : (k : List ℕ) (d e : Data) → get k d ≡ Some e → has_float d ≡ false → has_float e ≡ false
+get-whole : (k : List ℕ) (d e : Data) → get k d ≡ Some e → has_float d ≡ false → has_float e ≡ false
 get-whole k null e h w = cc
 get-whole k (boolean b) e h w = cc
 get-whole k (number n) e h w = cc
 get-whole k (string s) e h w = cc
 get-whole k (array ds) e h w = cc
 get-whole k (object ms) e h w = subst IsWhole h (member_whole k ms w)
+
+abbrev IsOrderlyIfAny : Option Data → Type 0
+IsOrderlyIfAny None = Unit {0}
+IsOrderlyIfAny (Some d) = IsOrderly d
+
+IsOrderlyIfAny-match_ordering : (o : Ordering) (a b : Option Data) → IsOrderlyIfAny a → IsOrderlyIfAny b → IsOrderlyIfAny (match_ordering o a b a)
+IsOrderlyIfAny-match_ordering Less a b p q = p
+IsOrderlyIfAny-match_ordering Equal a b p q = q
+IsOrderlyIfAny-match_ordering Greater a b p q = p
+
+member_orderly : (k : List ℕ) (ms : Members) → MembersAreOrderly ms → IsOrderlyIfAny (get_member k ms)
+member_orderly k no_members o = tt
+member_orderly k (member l d ms) o = IsOrderlyIfAny-match_ordering (slice_cmp nat_cmp k l) (get_member k ms) (Some d) (member_orderly k ms o.1) o.0
+
+get-orderly : (k : List ℕ) (d e : Data) → get k d ≡ Some e → IsOrderly d → IsOrderly e
+get-orderly k null e h o = cc
+get-orderly k (boolean b) e h o = cc
+get-orderly k (number n) e h o = cc
+get-orderly k (string s) e h o = cc
+get-orderly k (array ds) e h o = cc
+get-orderly k (object ms) e h o = subst IsOrderlyIfAny h (member_orderly k ms o.1)
+
+pub get-plain : (k : List ℕ) (d e : Data) → get k d ≡ Some e → IsPlain d → IsPlain e
+get-plain k d e h plain = (get-whole k d e h plain.0, get-orderly k d e h plain.1, omega (arith, plain.2, get-depth k d e h))
 
 as_array-is : (d : Data) (ds : Items) → as_array d ≡ Some ds → d ≡ array ds
 as_array-is (array es) ds h = ap array cc
@@ -200,25 +210,33 @@ items_found (Some d) ds h = ap Some (as_array-is d ds h)
 pub items_at-depth : (k : List ℕ) (d : Data) (ds : Items) → items_at k d ≡ Some ds → suc (items_depth ds) < depth d
 items_at-depth k d ds h = get-depth k d (array ds) (items_found (get k d) ds h)
 
-pub items_at-whole : (k : List ℕ) (d : Data) (ds : Items) → items_at k d ≡ Some ds → has_float d ≡ false → items_have_float ds ≡ false
-items_at-whole k d ds h w = get-whole k d (array ds) (items_found (get k d) ds h) w
+pub items_at-plain : (k : List ℕ) (d : Data) (ds : Items) → items_at k d ≡ Some ds → IsPlain d → IsPlain (array ds)
+items_at-plain k d ds h = get-plain k d (array ds) (items_found (get k d) ds h)
 
 -- ---- items by their places
 
-pub items_view-drop : (vs : List Value) (i : ℕ) (v : Value) → i < length vs → items_view (drop i vs) ≡ item (view (get_or vs i v)) (items_view (drop (suc i) vs))
+pub items_view-drop : (vs : List Json) (i : ℕ) (v : Json) → i < length vs → items_view (drop i vs) ≡ item (view (get_or vs i v)) (items_view (drop (suc i) vs))
 items_view-drop [] i v h = absurd (omega arith)
 items_view-drop (x ∷ vs) zero v h = refl
 items_view-drop (x ∷ vs) (suc i) v h = items_view-drop vs i v (omega arith)
 
-pub item-depth : (vs : List Value) (i : ℕ) (v : Value) → i < length vs → depth (view (get_or vs i v)) ≤ items_depth (items_view vs)
+pub item-depth : (vs : List Json) (i : ℕ) (v : Json) → i < length vs → depth (view (get_or vs i v)) ≤ items_depth (items_view vs)
 item-depth [] i v h = absurd (omega arith)
 item-depth (x ∷ vs) zero v h = omega arith
 item-depth (x ∷ vs) (suc i) v h = omega (arith, item-depth vs i v (omega arith))
 
-pub item-whole : (vs : List Value) (i : ℕ) (v : Value) → i < length vs → items_have_float (items_view vs) ≡ false → has_float (view (get_or vs i v)) ≡ false
+item-whole : (vs : List Json) (i : ℕ) (v : Json) → i < length vs → items_have_float (items_view vs) ≡ false → has_float (view (get_or vs i v)) ≡ false
 item-whole [] i v h w = absurd (omega arith)
 item-whole (x ∷ vs) zero v h w = or_left _ _ w
 item-whole (x ∷ vs) (suc i) v h w = item-whole vs i v (omega arith) (or_right _ _ w)
+
+item-orderly : (vs : List Json) (i : ℕ) (v : Json) → i < length vs → ItemsAreOrderly (items_view vs) → IsOrderly (view (get_or vs i v))
+item-orderly [] i v h o = absurd (omega arith)
+item-orderly (x ∷ vs) zero v h o = o.0
+item-orderly (x ∷ vs) (suc i) v h o = item-orderly vs i v (omega arith) o.1
+
+pub item-plain : (vs : List Json) (i : ℕ) (v : Json) → i < length vs → IsPlain (array (items_view vs)) → IsPlain (view (get_or vs i v))
+item-plain vs i v h plain = (item-whole vs i v h plain.0, item-orderly vs i v h plain.1, omega (arith, plain.2, item-depth vs i v h))
 
 -- ---- an object by what is found at its `type`
 
@@ -230,6 +248,3 @@ type_inside d e o h n = inner_type d o (ap (option_and_then as_str) (sym h) ∙ 
 
 pub type_text : (d e : Data) (s : List ℕ) (w : TypeWord) → is_object d ≡ true → Some e ≡ get (codes "type") d → Some s ≡ as_str e → w ≡ type_word s → form d ≡ worded w s d
 type_text d e s w o h n x = worded_type d s w o (ap (option_and_then as_str) (sym h) ∙ sym n) (sym x)
-
-pub view_is : (v w : Value) (d : Data) → v ≡ w → view w ≡ d → view v ≡ d
-view_is v w d e h = ap view e ∙ h

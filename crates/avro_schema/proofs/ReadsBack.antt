@@ -25,6 +25,7 @@ use Rattle.serde_json.specs.Written.{number_text, outline, items_outline, member
 use Rattle.serde_json.proofs.Nesting.{depth-read}
 use Rattle.serde_json.proofs.Numbers.{number_of-decimal, number_of-negative}
 use Rattle.serde_json.proofs.Texts.{print-outline}
+use Rattle.avro_schema.specs.Plain.{Fits, AreAbove, AreRising, IsOrderly, ItemsAreOrderly, MembersAreOrderly, IsPlain}
 use Rattle.avro_schema.proofs.Types.{and_parts}
 
 -- ---- what an option was made of
@@ -42,14 +43,6 @@ by_test true x o n e = inl (refl, cc)
 by_test false x o n e = inr e
 
 -- ---- members in order
-
-abbrev AreAbove : List ℕ → Members → Type 0
-AreAbove k no_members = Unit {0}
-AreAbove k (member l d ms) = (slice_cmp nat_cmp k l ≡ Less) × AreAbove k ms
-
-abbrev AreRising : Members → Type 0
-AreRising no_members = Unit {0}
-AreRising (member k d ms) = AreAbove k ms × AreRising ms
 
 by_ordering : (P : Members → Type 0) (o : Ordering) (x y z : Members) → P x → P y → P z → P (match_ordering o x y z)
 by_ordering P Less x y z a b c = a
@@ -79,90 +72,67 @@ AreRising-put k d (member m c ms) a = go (slice_cmp nat_cmp k m) refl (AreRising
 
 -- ---- what values that were read are
 
-abbrev IsStored : Num → Type 0
-IsStored (unsigned n) = n < 2 ^ 64
-IsStored (negative (pos n)) = ⊥
-IsStored (negative (negsuc n)) = n < 2 ^ 63
-IsStored (float x) = Unit {0}
+MembersAreOrderly-put : (k : List ℕ) (d : Data) (ms : Members) → IsOrderly d → MembersAreOrderly ms → MembersAreOrderly (put k d ms)
+MembersAreOrderly-put k d no_members here a = (here, tt)
+MembersAreOrderly-put k d (member m c ms) here a =
+    by_ordering MembersAreOrderly (slice_cmp nat_cmp k m) (member k d (member m c ms)) (member m d ms) (member m c (put k d ms)) (here, a) (here, a.1) (a.0, MembersAreOrderly-put k d ms here a.1)
 
-abbrev mutual
-  IsRead : Data → Type 0
-  IsRead null = Unit {0}
-  IsRead (boolean b) = Unit {0}
-  IsRead (number n) = IsStored n
-  IsRead (string s) = Unit {0}
-  IsRead (array ds) = AreRead ds
-  IsRead (object ms) = AreRising ms × MembersAreRead ms
+fits_negative : (n : ℕ) → 0 < n → n ≤ 2 ^ 63 → Fits (negative (neg_ℤ (pos n)))
+fits_negative zero some h = absurd (omega arith)
+fits_negative (suc n) some h = omega arith
 
-  AreRead : Items → Type 0
-  AreRead no_items = Unit {0}
-  AreRead (item d ds) = IsRead d × AreRead ds
-
-  MembersAreRead : Members → Type 0
-  MembersAreRead no_members = Unit {0}
-  MembersAreRead (member k d ms) = IsRead d × MembersAreRead ms
-
-MembersAreRead-put : (k : List ℕ) (d : Data) (ms : Members) → IsRead d → MembersAreRead ms → MembersAreRead (put k d ms)
-MembersAreRead-put k d no_members here a = (here, tt)
-MembersAreRead-put k d (member m c ms) here a =
-    by_ordering MembersAreRead (slice_cmp nat_cmp k m) (member k d (member m c ms)) (member m d ms) (member m c (put k d ms)) (here, a) (here, a.1) (a.0, MembersAreRead-put k d ms here a.1)
-
-stored_negative : (n : ℕ) → 0 < n → n ≤ 2 ^ 63 → IsStored (negative (neg_ℤ (pos n)))
-stored_negative zero some h = absurd (omega arith)
-stored_negative (suc n) some h = omega arith
-
-stored_float : (f : Bool) (x : Float) (n : Num) → cond f (Some (float x)) None ≡ Some n → IsStored n
-stored_float f x n e =
+fits_float : (f : Bool) (x : Float) (n : Num) → cond f (Some (float x)) None ≡ Some n → Fits n
+fits_float f x n e =
     elim (by_test f (float x) None n e) [
-      | inl whole ↦ subst IsStored whole.1 tt
+      | inl whole ↦ subst Fits whole.1 tt
       | inr never ↦ cc
     ]
 
-stored_unsigned : (i : Bool) (k : ℕ) (f : Bool) (x : Float) (n : Num) → cond (i && nat_lt k (2 ^ 64)) (Some (unsigned k)) (cond f (Some (float x)) None) ≡ Some n → IsStored n
-stored_unsigned i k f x n e =
+fits_unsigned : (i : Bool) (k : ℕ) (f : Bool) (x : Float) (n : Num) → cond (i && nat_lt k (2 ^ 64)) (Some (unsigned k)) (cond f (Some (float x)) None) ≡ Some n → Fits n
+fits_unsigned i k f x n e =
     elim (by_test (i && nat_lt k (2 ^ 64)) (unsigned k) (cond f (Some (float x)) None) n e) [
-      | inl whole ↦ subst IsStored whole.1 (ltb-true k (2 ^ 64) (and_parts i _ whole.0).1)
-      | inr rest ↦ stored_float f x n rest
+      | inl whole ↦ subst Fits whole.1 (ltb-true k (2 ^ 64) (and_parts i _ whole.0).1)
+      | inr rest ↦ fits_float f x n rest
     ]
 
-stored_signed : (i : Bool) (k : ℕ) (f : Bool) (x : Float) (n : Num) → cond (i && nat_lt 0 k && nat_le k (2 ^ 63)) (Some (negative (neg_ℤ (pos k)))) (cond f (Some (float x)) None) ≡ Some n → IsStored n
-stored_signed i k f x n e =
+fits_signed : (i : Bool) (k : ℕ) (f : Bool) (x : Float) (n : Num) → cond (i && nat_lt 0 k && nat_le k (2 ^ 63)) (Some (negative (neg_ℤ (pos k)))) (cond f (Some (float x)) None) ≡ Some n → Fits n
+fits_signed i k f x n e =
     elim (by_test (i && nat_lt 0 k && nat_le k (2 ^ 63)) (negative (neg_ℤ (pos k))) (cond f (Some (float x)) None) n e) [
       | inl whole ↦
           let both : (i && nat_lt 0 k ≡ true) × (nat_le k (2 ^ 63) ≡ true) = and_parts (i && nat_lt 0 k) _ whole.0 in
-          subst IsStored whole.1 (stored_negative k (ltb-true 0 k (and_parts i _ both.0).1) (leb-true k (2 ^ 63) both.1))
-      | inr rest ↦ stored_float f x n rest
+          subst Fits whole.1 (fits_negative k (ltb-true 0 k (and_parts i _ both.0).1) (leb-true k (2 ^ 63) both.1))
+      | inr rest ↦ fits_float f x n rest
     ]
 
-stored_by : (b : Bool) (p q : Parts) (n : Num) → cond b (number_from true p) (number_from false q) ≡ Some n → IsStored n
-stored_by true p q n e = let x : Float = nearest_float binary64 true p in stored_signed (is_integer p) (numeral_digits p) (float_is_finite x) x n e
-stored_by false p q n e = let x : Float = nearest_float binary64 false q in stored_unsigned (is_integer q) (numeral_digits q) (float_is_finite x) x n e
+fits_by : (b : Bool) (p q : Parts) (n : Num) → cond b (number_from true p) (number_from false q) ≡ Some n → Fits n
+fits_by true p q n e = let x : Float = nearest_float binary64 true p in fits_signed (is_integer p) (numeral_digits p) (float_is_finite x) x n e
+fits_by false p q n e = let x : Float = nearest_float binary64 false q in fits_unsigned (is_integer q) (numeral_digits q) (float_is_finite x) x n e
 
-stored : (s : List ℕ) (n : Num) → number_of s ≡ Some n → IsStored n
+fits : (s : List ℕ) (n : Num) → number_of s ≡ Some n → Fits n
 unfolding number_of
-stored s n e = stored_by (slice_index s 0 == minus) (scan_numeral (drop 1 s)) (scan_numeral s) n e
+fits s n e = fits_by (slice_index s 0 == minus) (scan_numeral (drop 1 s)) (scan_numeral s) n e
 
 mutual
-  read_value : (j : json.Json) (d : Data) → of_json j ≡ Some d → IsRead d
-  read_value json.null d e = let same : null ≡ d = cc in subst IsRead same tt
-  read_value (json.boolean b) d e = let same : boolean b ≡ d = cc in subst IsRead same tt
-  read_value (json.number s) d e = let n = map_some number (number_of s) d e in subst IsRead n.2 (stored s n.0 n.1)
-  read_value (json.string s) d e = let same : string s ≡ d = cc in subst IsRead same tt
-  read_value (json.array js) d e = let ds = map_some array (of_items js) d e in subst IsRead ds.2 (read_items js ds.0 ds.1)
-  read_value (json.object ms) d e = let ds = map_some object (of_members ms no_members) d e in subst IsRead ds.2 (read_members ms no_members ds.0 tt tt ds.1)
+  read_value : (j : json.Json) (d : Data) → of_json j ≡ Some d → IsOrderly d
+  read_value json.null d e = let same : null ≡ d = cc in subst IsOrderly same tt
+  read_value (json.boolean b) d e = let same : boolean b ≡ d = cc in subst IsOrderly same tt
+  read_value (json.number s) d e = let n = map_some number (number_of s) d e in subst IsOrderly n.2 (fits s n.0 n.1)
+  read_value (json.string s) d e = let same : string s ≡ d = cc in subst IsOrderly same tt
+  read_value (json.array js) d e = let ds = map_some array (of_items js) d e in subst IsOrderly ds.2 (read_items js ds.0 ds.1)
+  read_value (json.object ms) d e = let ds = map_some object (of_members ms no_members) d e in subst IsOrderly ds.2 (read_members ms no_members ds.0 tt tt ds.1)
 
-  read_items : (js : json.Items) (ds : Items) → of_items js ≡ Some ds → AreRead ds
-  read_items json.no_items ds e = let same : no_items ≡ ds = cc in subst AreRead same tt
+  read_items : (js : json.Items) (ds : Items) → of_items js ≡ Some ds → ItemsAreOrderly ds
+  read_items json.no_items ds e = let same : no_items ≡ ds = cc in subst ItemsAreOrderly same tt
   read_items (json.item j js) ds e =
       let first = then_some (λ d. option_map (item d) (of_items js)) (of_json j) ds e in
       let rest = map_some (item first.0) (of_items js) ds first.2 in
-      subst AreRead rest.2 (read_value j first.0 first.1, read_items js rest.0 rest.1)
+      subst ItemsAreOrderly rest.2 (read_value j first.0 first.1, read_items js rest.0 rest.1)
 
-  read_members : (ms : json.Members) (found ds : Members) → AreRising found → MembersAreRead found → of_members ms found ≡ Some ds → AreRising ds × MembersAreRead ds
-  read_members json.no_members found ds rising a e = let same : found ≡ ds = cc in (subst AreRising same rising, subst MembersAreRead same a)
+  read_members : (ms : json.Members) (found ds : Members) → AreRising found → MembersAreOrderly found → of_members ms found ≡ Some ds → AreRising ds × MembersAreOrderly ds
+  read_members json.no_members found ds rising a e = let same : found ≡ ds = cc in (subst AreRising same rising, subst MembersAreOrderly same a)
   read_members (json.member k j ms) found ds rising a e =
       let first = then_some (λ d. of_members ms (put k d found)) (of_json j) ds e in
-      read_members ms (put k first.0 found) ds (AreRising-put k first.0 found rising) (MembersAreRead-put k first.0 found (read_value j first.0 first.1) a) first.2
+      read_members ms (put k first.0 found) ds (AreRising-put k first.0 found rising) (MembersAreOrderly-put k first.0 found (read_value j first.0 first.1) a) first.2
 
 -- ---- what is written reads back
 
@@ -188,20 +158,20 @@ put_last (member l c done) k d ms a =
     let greater : slice_cmp nat_cmp k l ≡ Greater = nat_list_cmp_total.antisymm k l ∙ ap ordering_reverse (above_middle l done k d ms a.0) in
     rw greater (ap (member l c) (put_last done k d ms a.1))
 
-number_back : (n : Num) → IsStored n → is_float n ≡ false → number_of (number_text n) ≡ Some n
+number_back : (n : Num) → Fits n → is_float n ≡ false → number_of (number_text n) ≡ Some n
 number_back (unsigned n) h e = number_of-decimal n h
 number_back (negative (pos n)) h e = absurd h
 number_back (negative (negsuc n)) h e = number_of-negative n h
 number_back (float x) h e = cc
 
-number_printed : (n : Num) → IsStored n → is_float n ≡ false → IsNumber (number_text n)
+number_printed : (n : Num) → Fits n → is_float n ≡ false → IsNumber (number_text n)
 number_printed (unsigned n) h e = IsNumber-decimal n h
 number_printed (negative (pos n)) h e = absurd h
 number_printed (negative (negsuc n)) h e = IsNumber-signed_decimal (negsuc n) (omega arith)
 number_printed (float x) h e = cc
 
 mutual
-  value_back : (d : Data) → IsRead d → has_float d ≡ false → of_json (outline d) ≡ Some d
+  value_back : (d : Data) → IsOrderly d → has_float d ≡ false → of_json (outline d) ≡ Some d
   value_back null a e = refl
   value_back (boolean b) a e = refl
   value_back (number n) a e = ap (option_map number) (number_back n a e)
@@ -209,13 +179,13 @@ mutual
   value_back (array ds) a e = ap (option_map array) (items_back ds a e)
   value_back (object ms) a e = ap (option_map object) (members_back no_members ms a.0 a.1 e)
 
-  items_back : (ds : Items) → AreRead ds → items_have_float ds ≡ false → of_items (items_outline ds) ≡ Some ds
+  items_back : (ds : Items) → ItemsAreOrderly ds → items_have_float ds ≡ false → of_items (items_outline ds) ≡ Some ds
   items_back no_items a e = refl
   items_back (item d ds) a e =
       let both = or_parts (has_float d) _ e in
       ap (option_and_then (λ c. option_map (item c) (of_items (items_outline ds)))) (value_back d a.0 both.0) ∙ ap (option_map (item d)) (items_back ds a.1 both.1)
 
-  members_back : (done ms : Members) → AreRising (after done ms) → MembersAreRead ms → members_have_float ms ≡ false → of_members (members_outline ms) done ≡ Some (after done ms)
+  members_back : (done ms : Members) → AreRising (after done ms) → MembersAreOrderly ms → members_have_float ms ≡ false → of_members (members_outline ms) done ≡ Some (after done ms)
   members_back done no_members rising a e = ap Some (sym (after_none done))
   members_back done (member k d ms) rising a e =
       let both = or_parts (has_float d) _ e in
@@ -226,7 +196,7 @@ mutual
       ∙ ap Some (after_one done k d ms)
 
 mutual
-  numbers_printed : (d : Data) → IsRead d → has_float d ≡ false → HasNumbers (outline d)
+  numbers_printed : (d : Data) → IsOrderly d → has_float d ≡ false → HasNumbers (outline d)
   numbers_printed null a e = tt
   numbers_printed (boolean b) a e = tt
   numbers_printed (number n) a e = number_printed n a e
@@ -234,11 +204,11 @@ mutual
   numbers_printed (array ds) a e = items_printed ds a e
   numbers_printed (object ms) a e = members_printed ms a.1 e
 
-  items_printed : (ds : Items) → AreRead ds → items_have_float ds ≡ false → ItemsHaveNumbers (items_outline ds)
+  items_printed : (ds : Items) → ItemsAreOrderly ds → items_have_float ds ≡ false → ItemsHaveNumbers (items_outline ds)
   items_printed no_items a e = tt
   items_printed (item d ds) a e = let both = or_parts (has_float d) _ e in (numbers_printed d a.0 both.0, items_printed ds a.1 both.1)
 
-  members_printed : (ms : Members) → MembersAreRead ms → members_have_float ms ≡ false → MembersHaveNumbers (members_outline ms)
+  members_printed : (ms : Members) → MembersAreOrderly ms → members_have_float ms ≡ false → MembersHaveNumbers (members_outline ms)
   members_printed no_members a e = tt
   members_printed (member k d ms) a e = let both = or_parts (has_float d) _ e in (numbers_printed d a.0 both.0, members_printed ms a.1 both.1)
 
@@ -262,13 +232,18 @@ mutual
 abbrev whole : Option (json.Json × List Token) → Option Data
 whole o = option_and_then of_json (option_and_then (λ p. json.if_last p.0 p.1) o)
 
-read_data : (text : List ℕ) (d : Data) → read text ≡ Some d → IsRead d
+read_data : (text : List ℕ) (d : Data) → read text ≡ Some d → IsOrderly d
 read_data text d e = let j = then_some of_json (option_and_then (λ p. json.if_last p.0 p.1) (json.value max_depth (tokens text))) d e in read_value j.0 d j.2
 
-pub compact_text_reads_back : (text : List ℕ) (d : Data) → read text ≡ Some d → has_float d ≡ false → read (compact_text d) ≡ Some d
-compact_text_reads_back text d e none =
+-- what was read, with no float, is plain
+pub read_plain : (text : List ℕ) (d : Data) → read text ≡ Some d → has_float d ≡ false → IsPlain d
+read_plain text d e none = (none, read_data text d e, depth-read text d e)
+
+pub plain_reads_back : (d : Data) → IsPlain d → read (compact_text d) ≡ Some d
+plain_reads_back d plain =
     let j = outline d in
-    let a : IsRead d = read_data text d e in
-    let shallow : depth d ≤ max_depth = depth-read text d e in
-    let same : tokens (compact_text d) ≡ json_tokens j = ap tokens (sym (print-outline d)) ∙ tokens-print (json_tokens j) (ArePrintable-json_tokens j (numbers_printed d a none)) in
-    ap whole (ap (json.value max_depth) (same ∙ sym (append-nil _)) ∙ value-json_tokens j max_depth [] (omega (arith, depth-outline d))) ∙ value_back d a none
+    let same : tokens (compact_text d) ≡ json_tokens j = ap tokens (sym (print-outline d)) ∙ tokens-print (json_tokens j) (ArePrintable-json_tokens j (numbers_printed d plain.1 plain.0)) in
+    ap whole (ap (json.value max_depth) (same ∙ sym (append-nil _)) ∙ value-json_tokens j max_depth [] (omega (arith, plain.2, depth-outline d))) ∙ value_back d plain.1 plain.0
+
+pub compact_text_reads_back : (text : List ℕ) (d : Data) → read text ≡ Some d → has_float d ≡ false → read (compact_text d) ≡ Some d
+compact_text_reads_back text d e none = plain_reads_back d (read_plain text d e none)

@@ -1,5 +1,5 @@
 -- Texts, their last dot, and lists of distinct texts.
-use Rattle.std.proofs.Common.{◌≡◌, ◌≢◌, ℕ, zero, suc, ◌+◌, ◌-◌, ◌≤◌, ◌<◌, List, [], ◌∷◌, ◌++◌, length, get_or, take, drop, Bool, true, false, ◌&&◌, ◌||◌, not, Option, Some, None, MatchOption, bytes_eq, refl, sym, ◌∙◌, ap, arith, length-drop}
+use Rattle.std.proofs.Common.{◌≡◌, ◌≢◌, ℕ, zero, suc, ◌+◌, ◌-◌, ◌≤◌, ◌<◌, List, [], ◌∷◌, ◌++◌, length, get_or, take, drop, Bool, true, false, ◌&&◌, ◌||◌, not, Some, None, bytes_eq, refl, sym, ◌∙◌, ap, arith, length-drop}
 use Rattle.std.specs.List.{list_any, before_last, after_last, suffix_len}
 use Rattle.std.specs.Str.Pattern.{RFindsChar}
 use Rattle.std.proofs.lemmas.Bool.{false_from_ne_true, false≢true}
@@ -9,14 +9,10 @@ use Rattle.std.proofs.lemmas.List.Sums.{suffix_len_is}
 use Rattle.std.proofs.lemmas.List.Folds.{list_any-append}
 use Rattle.std.proofs.lemmas.Slice.Eq.{bytes_eq-Decides}
 use Rattle.std.proofs.lemmas.Str.Pattern.{NoCharPasses-char}
-use denote.Ref.{Bor}
 use Rattle.avro_schema.specs.Names.{is_dot, has_dot, all_distinct}
 
 pub other_text : (w s : List ℕ) → (s ≡ w → ⊥) → bytes_eq w s ≡ false
 other_text w s apart = false_from_ne_true (bytes_eq w s) (λ t. apart (sym ((bytes_eq-Decides w s).0 t)))
-
-pub same_text : (s : List ℕ) → bytes_eq s s ≡ true
-same_text s = (bytes_eq-Decides s s).1 refl
 
 either_way : (a b : Bool) → (a ≡ true → b ≡ true) → (b ≡ true → a ≡ true) → a ≡ b
 either_way true b p q = sym (p refl)
@@ -49,10 +45,6 @@ a_dot (x ∷ s) (suc i) h e = rw (a_dot s i (omega arith) e) (any_true (is_dot x
     any_true : (b : Bool) → b || true ≡ true
     any_true true = refl
     any_true false = refl
-
--- what `rsplit_once` gives at a dot
-abbrev pub IsSplitAtLast : List ℕ → Option (Bor (List ℕ) × Bor (List ℕ)) → Type 0
-IsSplitAtLast s r = MatchOption r (RFindsChar 46 s None) (λ x. (i : ℕ) × (j : ℕ) × RFindsChar 46 s (Some (i, j)) × (x.0.now ≡ take i s) × (x.1.now ≡ drop j s) × (i ≤ j) × (length x.0.now ≡ i) × (length x.1.now + j ≡ length s))
 
 pub unsplit : (s : List ℕ) → RFindsChar 46 s None → (after_last is_dot s ≡ s) × (has_dot s ≡ false)
 unsplit s none =

@@ -12,17 +12,16 @@ use Rattle.avro_schema.specs.declared.node.Node.{Node}
 use Rattle.avro_schema.specs.declared.node.Node.TheVariants as kind
 use Rattle.avro_schema.specs.declared.node.NodeId.{NodeId}
 use Rattle.avro_schema.specs.declared.node.Field.{Field}
-use Rattle.avro_schema.specs.declared.node.Primitive.{Primitive}
 use Rattle.avro_schema.specs.declared.builder.Builder.{Builder}
 use Rattle.avro_schema.specs.declared.symbols.Symbols.{Symbols}
 use Rattle.avro_schema.specs.Names.{full_text}
-use Rattle.avro_schema.specs.Form.{Heading, Form, Forms, Fields, plain, by_name, record_of, enum_of, fixed_of, array_of, map_of, union_of}
-use Rattle.avro_schema.specs.Places.{own_namespace, type_name, Place, place, places, places_of_forms, places_of_fields, Definition, definition_at, definitions, defined, defined_by, named}
-use Rattle.avro_schema.specs.Nodes.{node_at, node_id, definition_id, branches, field_list, type_aliases, size_of}
-use Rattle.avro_schema.specs.Faults.{unless, if_written, fits_union, kinds, faults_at, is_new, heading_faults, field_list_faults, fits_enum, are_written, is_formed, has_good_aliases, field_headings}
+use Rattle.avro_schema.specs.Form.{Heading, Form, Forms, Fields, record_of, enum_of, fixed_of, array_of, map_of, union_of}
+use Rattle.avro_schema.specs.Places.{own_namespace, type_name, Place, place, places, places_of_forms, places_of_fields, Definition, definition_at, definitions, defined, defined_by}
+use Rattle.avro_schema.specs.Nodes.{node_at, node_id, branches, field_list, type_aliases, size_of}
+use Rattle.avro_schema.specs.Faults.{if_written, fits_union, kinds, faults_at, is_new, heading_faults, field_list_faults, fits_enum, are_written, is_formed, has_good_aliases, field_headings}
 use Rattle.avro_schema.specs.Building.{Before, nodes_of, opened, HasMet, Reads, IsTypeRead, AreBranchesRead, AreFieldsRead, are_formed, has_distinct_names, HasNames, HasSymbols, HasSize}
 use Rattle.avro_schema.proofs.Later.{From, defined-later, definitions_of_fields-from}
-use Rattle.avro_schema.proofs.Reading.{unless-nil, nil-append, to, from_to, closes, opens_one, opens_none}
+use Rattle.avro_schema.proofs.Reading.{unless-nil, nil-append, to, from_to, closes, opens_one}
 
 pub and_parts : (a b : Bool) → a && b ≡ true → (a ≡ true) × (b ≡ true)
 and_parts true b h = (refl, h)
@@ -48,18 +47,6 @@ IsReadAt n ds ns f a b i = Reads ds (places ns n f) a b × (i ≡ node_id (ds ++
 
 abbrev pub at_node : ℕ → NodeId
 at_node n = record { index = n }
-
-same_list : (ds : List Definition) → ds ≡ ds ++ []
-same_list ds = sym (append-nil ds)
-
-pub read_plain : (ds : List Definition) (ns : List ℕ) (p : Primitive) (a b : Builder) → nodes_of b ≡ nodes_of a ++ kind.Primitive p ∷ [] → HasMet b ds → IsTypeRead ds ns (plain p) a b (at_node (opened a))
-read_plain ds ns p a b opens met = (from_to ds ds _ a b (same_list ds) (opens_one ds (place ns (opened a) (plain p)) (kind.Primitive p) a b opens met refl refl), refl)
-
-pub read_use : (ds : List Definition) (ns s : List ℕ) (d : Definition) (a : Builder) → HasMet a ds → named ds (opened a) ns s ≡ Some d → IsTypeRead ds ns (by_name s) a a (at_node d.node)
-read_use ds ns s d a met is = (
-  from_to ds ds _ a a (same_list ds) (opens_none ds (place ns (opened a) (by_name s)) a met refl (ap (λ o. unless (is_some o) (fault.Unknown s)) is)),
-  rw (append-nil ds) (ap definition_id (sym is)),
-)
 
 -- the parts of a type, and then the node that is written
 close_with : (ds : List Definition) (ns : List ℕ) (f : Form) (ps : List Place) (x y : Node) (a a1 b c : Builder) → definition_at (place ns (opened a) f) ≡ None

@@ -17,9 +17,6 @@ use Rattle.avro_schema.specs.Building.{nodes_of, opened, HasMet, Reads, ReadsTyp
 use Rattle.avro_schema.proofs.Reading.{left, right, alone, unless-nil, nil-append, opened-type}
 use Rattle.avro_schema.specs.declared.limits.TheConstants.{LONGEST_TEXT, MOST_NODES}
 
-pub too_long : (text : List ℕ) → nat_le (length text) LONGEST_TEXT ≡ false → IsRefusalBy (faults text) fault.TooLong
-too_long text e = left _ _ fault.TooLong (alone _ fault.TooLong e)
-
 pub not_json : (text : List ℕ) → read text ≡ None → IsRefusalBy (faults text) fault.NotJson
 not_json text e = right _ _ fault.NotJson (subst (λ o. IsRefusalBy (json_faults o) fault.NotJson) (sym e) (λ _. (0, omega arith, refl)))
 

@@ -6,5 +6,6 @@ pub mod Faults
 pub mod Schema
 pub mod Defaults
 pub mod Sound
+pub mod Plain
 pub mod Building
 pub mod JsonCode

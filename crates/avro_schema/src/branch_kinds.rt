@@ -1,6 +1,6 @@
 // The kind of a union's branch, before it is read.
 ghost use Rattle.std.specs.Prelude.{◌≡◌, ◌≢◌, true, ℕ, List, IfOk, IfErr};
-ghost use Rattle.serde_json.specs.View.{view};
+ghost use Rattle.json_tree.specs.View.{view};
 ghost use Rattle.avro_schema.specs.declared.error.SchemaError.TheVariants as fault;
 ghost use Rattle.avro_schema.specs.Form.{form, form_of_name, heading_of};
 ghost use Rattle.avro_schema.specs.Places.{Definition, defined_by};
@@ -13,7 +13,7 @@ use crate::members::string_at;
 use crate::names::{full_text, primitive_named};
 use crate::word::TypeWord;
 use base_text::Text;
-use serde_json::Value;
+use json_tree::Json;
 use std::alloc::{AllocError, Global};
 
 impl Builder {
@@ -25,7 +25,7 @@ impl Builder {
         &self,
         alloc: Global,
         kinds: &mut Kinds,
-        value: &Value,
+        value: &Json<'_>,
         namespace: &str,
     ) -> Result<(), SchemaError>
         ensures ok { IfOk result (λ _. (ks : List Kind) → HoldsKinds kinds.old ks
@@ -42,14 +42,14 @@ impl Builder {
 
     /// What a union may have once, of a type that isn't read yet.
     #[cycle(kind)]
-    fn kind_of(&self, alloc: Global, value: &Value, namespace: &str) -> Result<Kind, AllocError>
+    fn kind_of(&self, alloc: Global, value: &Json<'_>, namespace: &str) -> Result<Kind, AllocError>
         ensures { IfOk result (λ k. (ds : List Definition) → HasMet self.now ds
             → k ≡ kind_in_union ds namespace.now (opened self.now) (form (view value.now))) }
     {
         match value {
-            Value::String(name) => self.kind_of_name(alloc, name.as_str(), namespace),
-            Value::Array(_) => Ok(Kind::Union),
-            Value::Object(_) => self.kind_of_object(alloc, value, namespace),
+            Json::String(name) => self.kind_of_name(alloc, name, namespace),
+            Json::Array(_) => Ok(Kind::Union),
+            Json::Object(_) => self.kind_of_object(alloc, value, namespace),
             _ => Ok(Kind::Unknown),
         }
     }
@@ -58,7 +58,7 @@ impl Builder {
     fn kind_of_object(
         &self,
         alloc: Global,
-        value: &Value,
+        value: &Json<'_>,
         namespace: &str,
     ) -> Result<Kind, AllocError>
         requires { is_object (view value.now) ≡ true }
@@ -97,7 +97,7 @@ impl Builder {
 }
 
 /// The kind of a type with a name of its own.
-fn kind_of_named(alloc: Global, value: &Value, enclosing: &str) -> Result<Kind, AllocError>
+fn kind_of_named(alloc: Global, value: &Json<'_>, enclosing: &str) -> Result<Kind, AllocError>
     ensures { IfOk result (λ k. (n : ℕ) → k ≡ kind_named (defined_by enclosing.now n (heading_of (view value.now)))) }
 {
     let Some(name) = string_at(value, "name") else {

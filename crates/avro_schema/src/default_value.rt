@@ -1,9 +1,12 @@
 // The default of a field.
 ghost use Rattle.std.specs.Prelude.{◌≡◌, IfOk};
 ghost use Rattle.serde_json.specs.View.{view};
+ghost use Rattle.json_tree.specs.View.{view as tree_view};
+ghost use Rattle.avro_schema.specs.Plain.{IsPlain};
 
+use json_tree::Json;
 use serde_json::Value;
-use std::alloc::AllocError;
+use std::alloc::{AllocError, Global};
 use std::marker::Model;
 
 /// A field's default as it is written, which contracts see as JSON data.
@@ -26,11 +29,12 @@ impl Model for DefaultValue {
 
 impl DefaultValue {
     /// A copy of a JSON value. The only error is want of memory.
-    pub(crate) fn copy_of(json: &Value) -> Result<DefaultValue, AllocError>
-        ensures { IfOk result (λ default. default ≡ view json.now) }
+    pub(crate) fn copy_of(alloc: Global, json: &Json<'_>) -> Result<DefaultValue, AllocError>
+        requires { IsPlain (tree_view json.now) }
+        ensures { IfOk result (λ default. default ≡ tree_view json.now) }
     {
         Ok(DefaultValue {
-            json: json.clone()?,
+            json: json.to_value(alloc)?,
         })
     }
 

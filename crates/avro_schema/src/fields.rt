@@ -1,20 +1,21 @@
 // Fields of records, their types apart.
 ghost use Rattle.std.specs.Prelude.{◌≡◌, IfOk, IfErr, MatchOption, true, false, map, option_map, codes, bytes_eq};
 ghost use Rattle.std.specs.List.{list_all};
-ghost use Rattle.serde_json.specs.View.{view, items_view};
+ghost use Rattle.json_tree.specs.View.{view, items_view};
 ghost use Rattle.serde_json.specs.Find.{get};
 ghost use Rattle.avro_schema.specs.Names as spec;
 ghost use Rattle.avro_schema.specs.Form.{field_heading_of};
 ghost use Rattle.avro_schema.specs.Faults.{unless};
 ghost use Rattle.avro_schema.specs.Schema.{IsRefusalBy};
+ghost use Rattle.avro_schema.specs.Plain.{IsPlain};
 ghost use Rattle.avro_schema.specs.Building.{HasFieldNames, field_faults, items_at};
 
 use crate::members::{aliases_of, string_at};
 use crate::names::is_name;
 use crate::{DefaultValue, Field, NodeId, SchemaError};
 use base_text::{Listed, Text};
+use json_tree::Json;
 use named_list::NamedList;
-use serde_json::Value;
 use std::alloc::{AllocError, Global};
 
 /// What a field is written with, its type apart.
@@ -45,14 +46,15 @@ impl FieldNames {
 }
 
 /// The array that a record writes as its fields.
-pub(crate) fn field_items(value: &Value) -> Option<&Vec<Value>>
+pub(crate) fn field_items<'v, 'a>(value: &'v Json<'a>) -> Option<&'v Vec<Json<'a>>>
     ensures { option_map (λ v. items_view v.now.items) result ≡ items_at (codes "fields") (view value.now) }
 {
-    value.get("fields").and_then(Value::as_array)
+    value.get("fields").and_then(Json::as_array)
 }
 
 /// Reads what a field is written with, its type apart.
-pub(crate) fn read_field_names(alloc: Global, value: &Value) -> Result<FieldNames, SchemaError>
+pub(crate) fn read_field_names(alloc: Global, value: &Json<'_>) -> Result<FieldNames, SchemaError>
+    requires { IsPlain (view value.now) }
     ensures ok { IfOk result (HasFieldNames (field_heading_of (view value.now))) }
     ensures err { IfErr result (IsRefusalBy (field_faults (field_heading_of (view value.now)))) }
 {
@@ -69,7 +71,7 @@ pub(crate) fn read_field_names(alloc: Global, value: &Value) -> Result<FieldName
         return Err(SchemaError::BadName);
     }
     let name = Text::copy_of(alloc, name)?;
-    let default = default_of(value)?;
+    let default = default_of(alloc, value)?;
     Ok(FieldNames {
         name,
         aliases,
@@ -78,11 +80,12 @@ pub(crate) fn read_field_names(alloc: Global, value: &Value) -> Result<FieldName
 }
 
 /// A field's default, where it has one.
-fn default_of(value: &Value) -> Result<Option<DefaultValue>, AllocError>
+fn default_of(alloc: Global, value: &Json<'_>) -> Result<Option<DefaultValue>, AllocError>
+    requires { IsPlain (view value.now) }
     ensures { IfOk result (λ o. o ≡ get (codes "default") (view value.now)) }
 {
     match value.get("default") {
-        Some(member) => Ok(Some(DefaultValue::copy_of(member)?)),
+        Some(member) => Ok(Some(DefaultValue::copy_of(alloc, member)?)),
         None => Ok(None),
     }
 }

@@ -1,7 +1,7 @@
 // The names of a type.
 ghost use Rattle.std.specs.Prelude.{◌≡◌, IfOk, IfErr, map};
 ghost use Rattle.std.specs.List.{list_all};
-ghost use Rattle.serde_json.specs.View.{view};
+ghost use Rattle.json_tree.specs.View.{view};
 ghost use Rattle.avro_schema.specs.Form.{heading_of};
 ghost use Rattle.avro_schema.specs.Faults.{written_faults};
 ghost use Rattle.avro_schema.specs.Names as spec;
@@ -12,7 +12,7 @@ use crate::members::{aliases_of, string_at};
 use crate::names::{full_name, full_text, is_full_name, is_type_name};
 use crate::{FullName, SchemaError};
 use base_text::Text;
-use serde_json::Value;
+use json_tree::Json;
 use std::alloc::{AllocError, Global};
 
 /// The names of a type: its full name, also as a text, and its aliases.
@@ -26,7 +26,7 @@ pub(crate) struct TypeNames {
 /// Reads the names of a type that an object writes, inside a type of the namespace `enclosing`.
 pub(crate) fn read_type_names(
     alloc: Global,
-    value: &Value,
+    value: &Json<'_>,
     enclosing: &str,
 ) -> Result<TypeNames, SchemaError>
     ensures ok { IfOk result (HasNames enclosing.now (heading_of (view value.now))) }

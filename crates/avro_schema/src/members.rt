@@ -1,22 +1,22 @@
 // Members of an object that are texts.
 ghost use Rattle.std.specs.Prelude.{◌≡◌, IfOk, option_map};
-ghost use Rattle.serde_json.specs.View.{view, items_view, members_view};
+ghost use Rattle.json_tree.specs.View.{view, items_view, members_view};
 ghost use Rattle.serde_json.specs.Written as written;
 ghost use Rattle.avro_schema.specs.Form as spec;
 
 use base_text::Text;
-use serde_json::{Map, Value};
+use json_tree::Json;
 use std::alloc::{AllocError, Global};
 
 /// The text that a member is.
-pub(crate) fn string_at<'v>(value: &'v Value, name: &str) -> Option<&'v str>
+pub(crate) fn string_at<'a>(value: &Json<'a>, name: &str) -> Option<&'a str>
     ensures { option_map (λ s. s.now) result ≡ spec.string_at name.now (view value.now) }
 {
-    value.get(name).and_then(Value::as_str)
+    value.get(name).and_then(Json::as_str)
 }
 
 /// The texts of an array of strings, or None where the value is none.
-pub(crate) fn strings_in(alloc: Global, value: &Value) -> Result<Option<Vec<Text>>, AllocError>
+pub(crate) fn strings_in(alloc: Global, value: &Json<'_>) -> Result<Option<Vec<Text>>, AllocError>
     ensures { IfOk result (λ o. option_map (λ v. v.items) o ≡ spec.strings_in (view value.now)) }
 {
     let Some(items) = value.as_array() else {
@@ -33,7 +33,7 @@ pub(crate) fn strings_in(alloc: Global, value: &Value) -> Result<Option<Vec<Text
 }
 
 /// The aliases that an object writes, none where the member is absent.
-pub(crate) fn aliases_of(alloc: Global, value: &Value) -> Result<Option<Vec<Text>>, AllocError>
+pub(crate) fn aliases_of(alloc: Global, value: &Json<'_>) -> Result<Option<Vec<Text>>, AllocError>
     ensures { IfOk result (λ o. option_map (λ v. v.items) o ≡ spec.aliases_of (view value.now)) }
 {
     match value.get("aliases") {
@@ -44,19 +44,19 @@ pub(crate) fn aliases_of(alloc: Global, value: &Value) -> Result<Option<Vec<Text
 
 /// Whether a number somewhere in a value is no whole number of 64 bits.
 #[cycle(has_float)]
-pub(crate) fn has_float(value: &Value) -> bool
+pub(crate) fn has_float(value: &Json<'_>) -> bool
     ensures { result ≡ written.has_float (view value.now) }
 {
     match value {
-        Value::Number(number) => number.is_f64(),
-        Value::Array(items) => items_have_float(items),
-        Value::Object(members) => members_have_float(members),
+        Json::Number(number) => number.is_f64(),
+        Json::Array(items) => items_have_float(items),
+        Json::Object(members) => members_have_float(members),
         _ => false,
     }
 }
 
 #[cycle(has_float)]
-fn items_have_float(items: &Vec<Value>) -> bool
+fn items_have_float(items: &Vec<Json<'_>>) -> bool
     ensures { result ≡ written.items_have_float (items_view items.now.items) }
 {
     for item in items {
@@ -68,10 +68,10 @@ fn items_have_float(items: &Vec<Value>) -> bool
 }
 
 #[cycle(has_float)]
-fn members_have_float(members: &Map<String, Value>) -> bool
-    ensures { result ≡ written.members_have_float (members_view members.now.entries) }
+fn members_have_float(members: &Vec<(&str, Json<'_>)>) -> bool
+    ensures { result ≡ written.members_have_float (members_view members.now.items) }
 {
-    for (_, member) in members.iter() {
+    for (_, member) in members {
         if has_float(member) {
             return true;
         }

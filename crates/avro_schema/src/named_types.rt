@@ -1,6 +1,6 @@
 // Reading types with names, but for the fields of records.
 ghost use Rattle.std.specs.Prelude.{◌≡◌, ◌<◌, map, bytes_eq, IfOk, IfErr};
-ghost use Rattle.serde_json.specs.View.{view};
+ghost use Rattle.json_tree.specs.View.{view};
 ghost use Rattle.avro_schema.specs.declared.error.SchemaError.TheVariants as fault;
 ghost use Rattle.avro_schema.specs.Form.{form_of_name, heading_of};
 ghost use Rattle.avro_schema.specs.Names.{all_distinct};
@@ -14,7 +14,7 @@ use crate::names::primitive_named;
 use crate::symbols::{Symbols, read_size, read_symbols};
 use crate::{Field, FullName, Node, NodeId, Primitive, SchemaError};
 use base_text::{Listed, Text};
-use serde_json::Value;
+use json_tree::Json;
 use std::alloc::Global;
 
 /// A record that is open, its fields not read yet.
@@ -52,7 +52,7 @@ impl Builder {
     pub(crate) fn open_record(
         &mut self,
         alloc: Global,
-        value: &Value,
+        value: &Json<'_>,
         namespace: &str,
     ) -> Result<OpenRecord, SchemaError>
         ensures ok { IfOk result (OpensRecord self.old self.new namespace.now (heading_of (view value.now))) }
@@ -100,7 +100,7 @@ impl Builder {
     pub(crate) fn read_enum(
         &mut self,
         alloc: Global,
-        value: &Value,
+        value: &Json<'_>,
         namespace: &str,
     ) -> Result<NodeId, SchemaError>
         ensures ok { IfOk result (ReadsType self.old self.new namespace.now (enum_in (view value.now))) }
@@ -125,7 +125,7 @@ impl Builder {
     pub(crate) fn read_fixed(
         &mut self,
         alloc: Global,
-        value: &Value,
+        value: &Json<'_>,
         namespace: &str,
     ) -> Result<NodeId, SchemaError>
         ensures ok { IfOk result (ReadsType self.old self.new namespace.now (fixed_in (view value.now))) }

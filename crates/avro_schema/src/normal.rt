@@ -2,18 +2,18 @@
 // of their names.
 ghost use Rattle.std.specs.Prelude.{◌≡◌, ◌≤◌, Some, false, length, IfOk};
 ghost use Rattle.serde_json.specs.Read.{read};
-ghost use Rattle.serde_json.specs.View.{view};
+ghost use Rattle.json_tree.specs.View.{view};
 ghost use Rattle.serde_json.specs.Written.{compact_text, has_float};
 ghost use Rattle.avro_schema.specs.Schema.{schema_of};
 
 use crate::limits::LONGEST_TEXT;
 use base_text::Text;
 use compact_length::compact_texts_are_no_longer;
-use serde_json::Value;
+use json_tree::Json;
 use std::alloc::{AllocError, Global};
 
 /// The normal text of a schema that was read from `text`. The only error is want of memory.
-pub(crate) fn normal_of(alloc: Global, text: &str, value: &Value) -> Result<Text, AllocError>
+pub(crate) fn normal_of(alloc: Global, text: &str, value: &Json<'_>) -> Result<Text, AllocError>
     requires of_text { read text.now ≡ Some (view value.now) }
     requires within { length text.now ≤ LONGEST_TEXT }
     requires whole { has_float (view value.now) ≡ false }
@@ -21,5 +21,5 @@ pub(crate) fn normal_of(alloc: Global, text: &str, value: &Value) -> Result<Text
     ensures same { IfOk result (λ normal. schema_of normal ≡ schema_of text.now) }
 {
     compact_texts_are_no_longer();
-    Ok(Text::from(value.to_string(alloc)?))
+    Ok(Text::from(value.to_text(alloc, text.len())?))
 }

@@ -1,7 +1,8 @@
 // Reading a schema's JSON into nodes, in one pass.
-ghost use Rattle.std.specs.Prelude.{◌≡◌, true, false, codes, IfOk, IfErr};
-ghost use Rattle.serde_json.specs.View.{view, items_view};
-ghost use Rattle.serde_json.specs.Written.{has_float as spec_has_float, items_have_float as spec_items_have_float};
+ghost use Rattle.std.specs.Prelude.{◌≡◌, true, codes, IfOk, IfErr};
+ghost use Rattle.json_tree.specs.View.{view, items_view};
+ghost use Rattle.serde_json.specs.Data.{array};
+ghost use Rattle.avro_schema.specs.Plain.{IsPlain};
 
 use crate::builder::Builder;
 use crate::fields::{field_items, read_field_names};
@@ -10,7 +11,7 @@ use crate::members::string_at;
 use crate::word::TypeWord;
 use crate::{Field, Node, NodeId, SchemaError};
 use base_text::Listed;
-use serde_json::Value;
+use json_tree::Json;
 use std::alloc::Global;
 
 impl Builder {
@@ -22,17 +23,17 @@ impl Builder {
     pub(crate) fn read_type(
         &mut self,
         alloc: Global,
-        value: &Value,
+        value: &Json<'_>,
         namespace: &str,
     ) -> Result<NodeId, SchemaError>
-        requires { spec_has_float (view value.now) ≡ false }
+        requires { IsPlain (view value.now) }
         ensures ok { IfOk result (ReadsType self.old self.new namespace.now (form (view value.now))) }
         ensures err { IfErr result (RefusesType self.old namespace.now (form (view value.now))) }
     {
         match value {
-            Value::String(name) => self.read_name(alloc, name.as_str(), namespace),
-            Value::Array(items) => self.read_union(alloc, items, namespace),
-            Value::Object(_) => self.read_object(alloc, value, namespace),
+            Json::String(name) => self.read_name(alloc, name, namespace),
+            Json::Array(items) => self.read_union(alloc, items, namespace),
+            Json::Object(_) => self.read_object(alloc, value, namespace),
             _ => Err(SchemaError::BadForm),
         }
     }
@@ -41,11 +42,11 @@ impl Builder {
     fn read_object(
         &mut self,
         alloc: Global,
-        value: &Value,
+        value: &Json<'_>,
         namespace: &str,
     ) -> Result<NodeId, SchemaError>
         requires object { is_object (view value.now) ≡ true }
-        requires whole { spec_has_float (view value.now) ≡ false }
+        requires plain { IsPlain (view value.now) }
         ensures ok { IfOk result (ReadsType self.old self.new namespace.now (form (view value.now))) }
         ensures err { IfErr result (RefusesType self.old namespace.now (form (view value.now))) }
     {
@@ -68,11 +69,11 @@ impl Builder {
     fn read_member(
         &mut self,
         alloc: Global,
-        value: &Value,
+        value: &Json<'_>,
         name: &str,
         namespace: &str,
     ) -> Result<NodeId, SchemaError>
-        requires { spec_has_float (view value.now) ≡ false }
+        requires { IsPlain (view value.now) }
         ensures ok { IfOk result (ReadsType self.old self.new namespace.now (form_in name.now (view value.now))) }
         ensures err { IfErr result (RefusesType self.old namespace.now (form_in name.now (view value.now))) }
     {
@@ -86,10 +87,10 @@ impl Builder {
     fn read_array(
         &mut self,
         alloc: Global,
-        value: &Value,
+        value: &Json<'_>,
         namespace: &str,
     ) -> Result<NodeId, SchemaError>
-        requires { spec_has_float (view value.now) ≡ false }
+        requires { IsPlain (view value.now) }
         ensures ok { IfOk result (ReadsType self.old self.new namespace.now (array_in (view value.now))) }
         ensures err { IfErr result (RefusesType self.old namespace.now (array_in (view value.now))) }
     {
@@ -103,10 +104,10 @@ impl Builder {
     fn read_map(
         &mut self,
         alloc: Global,
-        value: &Value,
+        value: &Json<'_>,
         namespace: &str,
     ) -> Result<NodeId, SchemaError>
-        requires { spec_has_float (view value.now) ≡ false }
+        requires { IsPlain (view value.now) }
         ensures ok { IfOk result (ReadsType self.old self.new namespace.now (map_in (view value.now))) }
         ensures err { IfErr result (RefusesType self.old namespace.now (map_in (view value.now))) }
     {
@@ -120,10 +121,10 @@ impl Builder {
     fn read_union(
         &mut self,
         alloc: Global,
-        items: &Vec<Value>,
+        items: &Vec<Json<'_>>,
         namespace: &str,
     ) -> Result<NodeId, SchemaError>
-        requires { spec_items_have_float (items_view items.now.items) ≡ false }
+        requires { IsPlain (array (items_view items.now.items)) }
         ensures ok { IfOk result (ReadsType self.old self.new namespace.now (union_of (forms (items_view items.now.items)))) }
         ensures err { IfErr result (RefusesType self.old namespace.now (union_of (forms (items_view items.now.items)))) }
     {
@@ -137,10 +138,10 @@ impl Builder {
     fn read_branches(
         &mut self,
         alloc: Global,
-        items: &Vec<Value>,
+        items: &Vec<Json<'_>>,
         namespace: &str,
     ) -> Result<Vec<NodeId>, SchemaError>
-        requires { spec_items_have_float (items_view items.now.items) ≡ false }
+        requires { IsPlain (array (items_view items.now.items)) }
         ensures ok { IfOk result (λ v. ReadsBranches self.old self.new namespace.now (forms (items_view items.now.items)) v.items) }
         ensures err { IfErr result (RefusesBranches self.old namespace.now (forms (items_view items.now.items))) }
     {
@@ -158,10 +159,10 @@ impl Builder {
     fn read_record(
         &mut self,
         alloc: Global,
-        value: &Value,
+        value: &Json<'_>,
         namespace: &str,
     ) -> Result<NodeId, SchemaError>
-        requires { spec_has_float (view value.now) ≡ false }
+        requires { IsPlain (view value.now) }
         ensures ok { IfOk result (ReadsType self.old self.new namespace.now (record_in (view value.now))) }
         ensures err { IfErr result (RefusesType self.old namespace.now (record_in (view value.now))) }
     {
@@ -177,10 +178,10 @@ impl Builder {
     fn read_fields(
         &mut self,
         alloc: Global,
-        items: &Vec<Value>,
+        items: &Vec<Json<'_>>,
         namespace: &str,
     ) -> Result<Vec<Field>, SchemaError>
-        requires { spec_items_have_float (items_view items.now.items) ≡ false }
+        requires { IsPlain (array (items_view items.now.items)) }
         ensures ok { IfOk result (λ v. ReadsFields self.old self.new namespace.now (fields_of_items (items_view items.now.items)) v.items) }
         ensures err { IfErr result (RefusesFields self.old namespace.now (fields_of_items (items_view items.now.items))) }
     {
@@ -196,10 +197,10 @@ impl Builder {
     fn read_field(
         &mut self,
         alloc: Global,
-        value: &Value,
+        value: &Json<'_>,
         namespace: &str,
     ) -> Result<Field, SchemaError>
-        requires { spec_has_float (view value.now) ≡ false }
+        requires { IsPlain (view value.now) }
         ensures ok { IfOk result (ReadsField self.old self.new namespace.now (field_heading_of (view value.now)) (form_in (codes "type") (view value.now))) }
         ensures err { IfErr result (RefusesField self.old namespace.now (field_heading_of (view value.now)) (form_in (codes "type") (view value.now))) }
     {

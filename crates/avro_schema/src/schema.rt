@@ -1,8 +1,7 @@
 // A schema: the list of its nodes, the root first.
-ghost use Rattle.std.specs.Prelude.{◌≡◌, ◌≢◌, ◌<◌, ◌≤◌, length, slice_get, Some, None, All, IfOk, IfErr, option_copied, string_bytes};
-ghost use Rattle.serde_json.specs.Data.{depth};
+ghost use Rattle.std.specs.Prelude.{◌≡◌, ◌≢◌, ◌<◌, length, slice_get, Some, None, All, IfOk, IfErr, option_copied, string_bytes};
 ghost use Rattle.serde_json.specs.Read.{read as json_of};
-ghost use Rattle.serde_json.specs.View.{view};
+ghost use Rattle.json_tree.specs.View.{view};
 
 use crate::builder::Builder;
 use crate::laws::schemas_are_sound;
@@ -11,7 +10,8 @@ use crate::members::has_float;
 use crate::normal::normal_of;
 use crate::{FullName, Node, NodeId, SchemaError};
 use base_text::Text;
-use serde_json::Value;
+use json::Scratch;
+use json_tree::{Json, JsonError};
 use std::alloc::{AllocError, Global};
 use std::marker::Model;
 
@@ -55,7 +55,8 @@ impl Schema {
         if text.len() > LONGEST_TEXT {
             return Err(SchemaError::TooLong);
         }
-        let value = read_json(alloc, text)?;
+        let mut scratch = Scratch::new(alloc);
+        let value = read_json(alloc, text, &mut scratch)?;
         if has_float(&value) {
             return Err(SchemaError::FloatNumber);
         }
@@ -153,13 +154,17 @@ impl Schema {
 }
 
 /// Reads a JSON text.
-fn read_json(alloc: Global, text: &str) -> Result<Value, SchemaError>
+fn read_json<'a>(
+    alloc: Global,
+    text: &'a str,
+    scratch: &'a mut Scratch,
+) -> Result<Json<'a>, SchemaError>
     ensures ok { IfOk result (λ v. json_of text.now ≡ Some (view v)) }
     ensures err { IfErr result (λ e. e ≢ SchemaError.OutOfMemory → (e ≡ SchemaError.NotJson) × (json_of text.now ≡ None)) }
 {
-    match Value::from_str(alloc, text) {
+    match Json::read(alloc, text, scratch) {
         Ok(value) => Ok(value),
-        Err(error) if error.is_memory() => Err(SchemaError::OutOfMemory),
-        Err(_) => Err(SchemaError::NotJson),
+        Err(JsonError::NotJson) => Err(SchemaError::NotJson),
+        Err(JsonError::OutOfMemory) => Err(SchemaError::OutOfMemory),
     }
 }

@@ -1,6 +1,6 @@
 // Symbols of enums, and sizes of fixed types.
 ghost use Rattle.std.specs.Prelude.{◌≡◌, IfOk, IfErr, MatchOption, true, false, codes, bytes_eq};
-ghost use Rattle.serde_json.specs.View.{view};
+ghost use Rattle.json_tree.specs.View.{view};
 ghost use Rattle.serde_json.specs.Find.{get, as_str};
 ghost use Rattle.avro_schema.specs.Names.{all_distinct, has_text};
 ghost use Rattle.avro_schema.specs.Form.{strings_at};
@@ -13,8 +13,8 @@ use crate::fields::are_names;
 use crate::limits::GREATEST_SIZE;
 use crate::members::strings_in;
 use base_text::Text;
+use json_tree::Json;
 use named_list::NamedList;
-use serde_json::Value;
 use std::alloc::{AllocError, Global};
 
 /// The symbols of an enum, and its default.
@@ -25,7 +25,7 @@ pub(crate) struct Symbols {
 }
 
 /// Reads an enum's symbols and its default.
-pub(crate) fn read_symbols(alloc: Global, value: &Value) -> Result<Symbols, SchemaError>
+pub(crate) fn read_symbols(alloc: Global, value: &Json<'_>) -> Result<Symbols, SchemaError>
     ensures ok { IfOk result (HasSymbols (strings_at (codes "symbols") (view value.now)) (get (codes "default") (view value.now))) }
     ensures err { IfErr result (IsRefusalBy (symbols_faults (strings_at (codes "symbols") (view value.now)) (get (codes "default") (view value.now)))) }
 {
@@ -61,7 +61,7 @@ fn distinct_symbols(
 }
 
 /// Reads an enum's default, which is one of its symbols.
-fn read_symbol(alloc: Global, value: &Value, symbols: &[Text]) -> Result<Text, SchemaError>
+fn read_symbol(alloc: Global, value: &Json<'_>, symbols: &[Text]) -> Result<Text, SchemaError>
     ensures ok { IfOk result (λ t. (as_str (view value.now) ≡ Some t) × (is_symbol symbols.now (view value.now) ≡ true)) }
     ensures err { IfErr result (IsRefusalBy (unless (is_symbol symbols.now (view value.now)) SchemaError.BadEnum)) }
 {
@@ -82,11 +82,11 @@ fn has_symbol(symbols: &[Text], symbol: &Text) -> bool
 }
 
 /// Reads the size of a fixed type.
-pub(crate) fn read_size(value: &Value) -> Result<u32, SchemaError>
+pub(crate) fn read_size(value: &Json<'_>) -> Result<u32, SchemaError>
     ensures ok { IfOk result (HasSize (number_at (codes "size") (view value.now))) }
     ensures err { IfErr result (IsRefusalBy (size_faults (number_at (codes "size") (view value.now)))) }
 {
-    let Some(number) = value.get("size").and_then(Value::as_number) else {
+    let Some(Json::Number(number)) = value.get("size") else {
         return Err(SchemaError::BadForm);
     };
     match number.as_u64() {

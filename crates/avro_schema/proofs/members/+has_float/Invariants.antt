@@ -1,5 +1,5 @@
 use Rattle.std.proofs.Common.{◌≡◌, drop}
-use Rattle.serde_json.specs.View.{items_view, members_view}
+use Rattle.json_tree.specs.View.{items_view, members_view}
 use Rattle.serde_json.specs.Written.{items_have_float, members_have_float}
 use Rattle.avro_schema.proofs.members.+has_float.Given as goal
 
@@ -7,4 +7,4 @@ abbrev pub invariant-items_have_float-loop-item : goal.invariant-items_have_floa
 invariant-items_have_float-loop-item l = items_have_float (items_view l.item-items) ≡ items_have_float (items_view (drop l.item-index l.item-items))
 
 abbrev pub invariant-members_have_float-loop-member : goal.invariant-members_have_float-loop-member
-invariant-members_have_float-loop-member l = members_have_float (members_view l.members.entries) ≡ members_have_float (members_view l.member-iterator)
+invariant-members_have_float-loop-member l = members_have_float (members_view l.member-items) ≡ members_have_float (members_view (drop l.member-index l.member-items))

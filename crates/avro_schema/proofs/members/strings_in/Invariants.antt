@@ -1,5 +1,5 @@
 use Rattle.std.proofs.Common.{◌≡◌, ◌++◌, drop, option_map}
-use Rattle.serde_json.specs.View.{items_view}
+use Rattle.json_tree.specs.View.{items_view}
 use Rattle.avro_schema.specs.Form.{strings}
 use Rattle.avro_schema.proofs.members.strings_in.Given as goal
 

@@ -1,6 +1,6 @@
 use Rattle.std.proofs.Common.{◌<◌, sym, ap, arith, codes}
 use Rattle.serde_json.specs.Data.{depth}
-use Rattle.serde_json.specs.View.{view}
+use Rattle.json_tree.specs.View.{view}
 use Rattle.avro_schema.specs.declared.word.TypeWord.TheVariants as word
 use Rattle.avro_schema.specs.Form.{form, form_of_name, heading_of}
 use Rattle.avro_schema.specs.Faults.{kind_in_union}

@@ -1,6 +1,6 @@
 use Rattle.std.proofs.Common.{◌*◌, ◌+◌}
 use Rattle.serde_json.specs.Data.{depth}
-use Rattle.serde_json.specs.View.{view}
+use Rattle.json_tree.specs.View.{view}
 use Rattle.avro_schema.proofs.builder.Builder.+kind.Given as goal
 
 abbrev pub decreases-kind_of : goal.decreases-kind_of

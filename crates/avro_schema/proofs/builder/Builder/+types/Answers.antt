@@ -1,11 +1,11 @@
 use Rattle.std.proofs.Common.{◌≡◌, ◌≤◌, ◌<◌, ◌∙◌, ◌+◌, ◌++◌, ◌∷◌, [], ℕ, suc, List, length, drop, get_or, map, true, bytes_eq, refl, sym, ap, subst, arith, codes}
 use Rattle.std.proofs.lemmas.Result.{IfOk-weaker, IfErr-weaker}
 use Rattle.serde_json.specs.Data.{depth, items_depth}
-use Rattle.serde_json.specs.View.{view, items_view}
-use Rattle.serde_json.specs.Written.{has_float}
+use Rattle.json_tree.specs.View.{view, items_view}
 use Rattle.avro_schema.specs.declared.error.SchemaError.TheVariants as fault
 use Rattle.avro_schema.specs.declared.word.TypeWord.TheVariants as word
 use Rattle.avro_schema.specs.Form.{Fields, ill_fields, union_of, form, forms, form_of_name, fields_of_items, field_heading_of, heading_of, record_of}
+use Rattle.avro_schema.specs.Plain.{IsPlain}
 use Rattle.avro_schema.specs.Schema.{IsRefusalBy}
 use Rattle.avro_schema.specs.Names.{all_distinct}
 use Rattle.avro_schema.specs.Faults.{unless, field_list_faults}
@@ -15,7 +15,7 @@ use Rattle.avro_schema.proofs.Types.{opened-more, definition_of}
 use Rattle.avro_schema.proofs.Refused.{refused_open, refused_ill_formed, refused_array, refused_map, refused_union, refused_list, refused_no_fields, refused_same_names, refused_fields}
 use Rattle.avro_schema.proofs.Lookups.{exit_err}
 use Rattle.avro_schema.proofs.KindLemmas.{fits_more}
-use Rattle.avro_schema.proofs.ObjectForms.{get-depth, get-whole, items_at-depth, items_at-whole, item-depth, item-whole, inner_type, worded_type}
+use Rattle.avro_schema.proofs.ObjectForms.{get-depth, get-plain, items_at-depth, items_at-plain, item-depth, item-plain, inner_type, worded_type}
 use Rattle.avro_schema.proofs.Answering.{type_ok, type_err, still_there, array_read, map_read, union_read, record_read, defined_at, tested_names, branches_next, branches_no, branches_twice, branches_done, fields_next, fields_no, fields_done, tests_read, next_forms, next_fields, no_forms_left, no_fields_left}
 use Rattle.avro_schema.proofs.Along.{BranchesAlong, FieldsAlong, branches_start, fields_start, tests_start}
 use Rattle.avro_schema.proofs.builder.Builder.+types.Goals as goal
@@ -90,7 +90,7 @@ read_member-read_type-requires t c =
     let d = view c.args.value.now in
     let e = view c.in-Some.member.now in
     let h : depth e < depth d = get-depth c.args.name.now d e (sym c.in-Some.ensures) in
-    (omega arith, get-whole c.args.name.now d e (sym c.in-Some.ensures) c.requires.1.1)
+    (omega arith, get-plain c.args.name.now d e (sym c.in-Some.ensures) c.requires.1.1)
 
 pub read_object-returns-in_default-clause-ok : goal.read_object-returns-in_default-clause-ok
 read_object-returns-in_default-clause-ok t c =
@@ -190,7 +190,7 @@ read_record-read_fields-requires t c =
     let d = view c.args.value.now in
     let ds = items_view c.in-Some.items.now.items in
     let h : suc (items_depth ds) < depth d = items_at-depth (codes "fields") d ds (sym c.in-Some.ensures) in
-    (omega arith, items_at-whole (codes "fields") d ds (sym c.in-Some.ensures) c.requires.1.1)
+    (omega arith, items_at-plain (codes "fields") d ds (sym c.in-Some.ensures) c.requires.1.1)
 
 pub read_record-returns-in_err-fields-clause-err : goal.read_record-returns-in_err-fields-clause-err
 read_record-returns-in_err-fields-clause-err t c =
@@ -238,7 +238,7 @@ read_branches-read_type-requires t c =
     let lt : i < length vs = omega (arith, ap length c.deref-item-items.ensures.value) in
     let is : c.item-item.result ≡ get_or vs i c.item-item.result = c.item-item.is ∙ ap (λ l. get_or l i c.item-item.result) c.deref-item-items.ensures.value in
     let h : depth (view c.item-item.result) ≤ items_depth (items_view vs) = subst (λ v. depth (view v) ≤ items_depth (items_view vs)) (sym is) (item-depth vs i c.item-item.result lt) in
-    (omega arith, ap (λ v. has_float (view v)) is ∙ item-whole vs i c.item-item.result lt c.requires.1.1)
+    (omega arith, subst (λ v. IsPlain (view v)) (sym is) (item-plain vs i c.item-item.result lt c.requires.1.1))
 
 pub read_fields-read_field-requires : goal.read_fields-read_field-requires
 read_fields-read_field-requires t c =
@@ -247,7 +247,7 @@ read_fields-read_field-requires t c =
     let lt : i < length vs = omega (arith, ap length c.deref-item-items.ensures.value) in
     let is : c.item-item.result ≡ get_or vs i c.item-item.result = c.item-item.is ∙ ap (λ l. get_or l i c.item-item.result) c.deref-item-items.ensures.value in
     let h : depth (view c.item-item.result) ≤ items_depth (items_view vs) = subst (λ v. depth (view v) ≤ items_depth (items_view vs)) (sym is) (item-depth vs i c.item-item.result lt) in
-    (omega arith, ap (λ v. has_float (view v)) is ∙ item-whole vs i c.item-item.result lt c.requires.1.1)
+    (omega arith, subst (λ v. IsPlain (view v)) (sym is) (item-plain vs i c.item-item.result lt c.requires.1.1))
 
 pub read_branches-loop-item-init : goal.read_branches-loop-item-init
 read_branches-loop-item-init t c =

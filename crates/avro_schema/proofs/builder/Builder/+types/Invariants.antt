@@ -1,6 +1,6 @@
 use Rattle.std.proofs.Common.{◌≡◌, ◌≤◌, ◌*◌, ◌+◌, List, drop, true}
 use Rattle.serde_json.specs.Data.{depth, items_depth}
-use Rattle.serde_json.specs.View.{view, items_view}
+use Rattle.json_tree.specs.View.{view, items_view}
 use Rattle.avro_schema.specs.declared.kinds.Kind.{Kind}
 use Rattle.avro_schema.specs.Form.{forms, fields_of_items}
 use Rattle.avro_schema.specs.Places.{Definition}

@@ -1,4 +1,4 @@
-use Rattle.serde_json.specs.View.{view}
+use Rattle.json_tree.specs.View.{view}
 use Rattle.avro_schema.specs.Form.{heading_of}
 use Rattle.avro_schema.specs.Building.{opened, record_in, written_fields, RefusesType}
 use Rattle.avro_schema.proofs.Refused.{refused_names_record, refused_opening_record}

@@ -1,11 +1,18 @@
 use Rattle.std.proofs.Common.{◌≡◌, ◌∙◌, sym, length, nat_le, true, false}
-use Rattle.serde_json.specs.View.{view}
+use Rattle.json_tree.specs.View.{view}
 use Rattle.serde_json.specs.Written.{has_float}
 use Rattle.avro_schema.specs.Schema.{IsRefusalBy, faults}
 use Rattle.avro_schema.proofs.Lookups.{exit_err}
-use Rattle.avro_schema.proofs.WholeLemmas.{refused_whole, read_whole, le-true}
+use Rattle.avro_schema.proofs.WholeLemmas.{is_float, refused_whole, read_whole, le-true}
+use Rattle.avro_schema.proofs.ReadsBack.{read_plain}
 use Rattle.avro_schema.proofs.schema.Schema.read.Goals as goal
 use Rattle.avro_schema.specs.declared.limits.TheConstants.{LONGEST_TEXT}
+
+pub returns-then-has_float-clause-err : goal.returns-then-has_float-clause-err
+returns-then-has_float-clause-err c = is_float c.args.text.now (view c.in_ok-value.value) c.in_ok-value.ensures.ok (sym c.if-has_float.ensures)
+
+pub read_type-requires : goal.read_type-requires
+read_type-requires c = read_plain c.args.text.now (view c.in_ok-value.value) c.in_ok-value.ensures.ok (sym c.if-has_float.ensures)
 
 pub returns-in_err-read_type-clause-err : goal.returns-in_err-read_type-clause-err
 returns-in_err-read_type-clause-err c =
