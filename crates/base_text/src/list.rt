@@ -57,18 +57,3 @@ impl<T: Clone> Clone for Listed<T> {
         })
     }
 }
-
-#[cfg(test)]
-mod tests {
-    use super::*;
-    use std::test::Fail;
-
-    #[test]
-    fn gives_its_vector_back(rt: HostRuntime) -> Result<(), Fail> {
-        let listed = Listed::from(vec![in rt.alloc(); 3, 1, 2]?);
-        assert_eq!(rt; listed.as_slice(), [3, 1, 2].as_slice());
-        assert_eq!(rt; listed.clone()?.as_slice(), [3, 1, 2].as_slice());
-        assert_eq!(rt; Vec::from(listed).as_slice(), [3, 1, 2].as_slice());
-        Ok(())
-    }
-}

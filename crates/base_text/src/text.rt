@@ -106,20 +106,3 @@ impl Ord for Text {
         self.as_str().cmp(other.as_str())
     }
 }
-
-#[cfg(test)]
-mod tests {
-    use super::*;
-    use std::test::Fail;
-
-    #[test]
-    fn is_compared_by_its_bytes(rt: HostRuntime) -> Result<(), Fail> {
-        let small = Text::copy_of(rt.alloc(), "Z")?;
-        let large = Text::from(String::from_str(rt.alloc(), "a")?);
-        assert!(rt; small < large);
-        let again = large.clone()?;
-        assert!(rt; again == large);
-        assert_eq!(rt; String::from(again).as_str(), "a");
-        Ok(())
-    }
-}

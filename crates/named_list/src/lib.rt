@@ -9,6 +9,3 @@ mod slots;
 
 pub use list::NamedList;
 pub use named::Named;
-
-#[cfg(test)]
-mod tests;

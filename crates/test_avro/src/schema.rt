@@ -501,7 +501,7 @@ fn defaults_are_of_their_types(rt: HostRuntime) {
 }
 
 // No space, and the members of each object in byte order of their names.
-static NORMAL_TEXTS: [Row; 7] = [
+static NORMAL_TEXTS: [Row; 12] = [
     (r#" "int" "#, r#""int""#),
     (r#"{ "type" : "int" }"#, r#"{"type":"int"}"#),
     (
@@ -521,6 +521,28 @@ static NORMAL_TEXTS: [Row; 7] = [
         "{\"doc\":\"A/é\\n\\u0001\",\"type\":\"int\"}",
     ),
     (r#"{"type":"int","type":"long"}"#, r#"{"type":"long"}"#),
+    (
+        r#"{"\u0062":1,"type":"int","b":2,"doc":"\ud83d\ude00","a":0}"#,
+        r#"{"a":0,"b":2,"doc":"😀","type":"int"}"#,
+    ),
+    (
+        r#"{"type":"int","most":18446744073709551615,"least":-9223372036854775808}"#,
+        r#"{"least":-9223372036854775808,"most":18446744073709551615,"type":"int"}"#,
+    ),
+    // Many members, which fall, some of which come again.
+    (
+        r#"{"type":"int","t":1,"s":2,"r":3,"q":4,"p":5,"o":6,"n":7,"m":8,"l":9,"k":10,"j":11,"i":12,"h":13,"g":14,"f":15,"e":16,"d":17,"c":18,"s":19,"b":20,"d":21,"a":22}"#,
+        r#"{"a":22,"b":20,"c":18,"d":21,"e":16,"f":15,"g":14,"h":13,"i":12,"j":11,"k":10,"l":9,"m":8,"n":7,"o":6,"p":5,"q":4,"r":3,"s":19,"t":1,"type":"int"}"#,
+    ),
+    // Many that rise, and then some that don't.
+    (
+        r#"{"a":1,"b":2,"c":3,"d":4,"e":5,"f":6,"g":7,"h":8,"i":9,"j":10,"k":11,"l":12,"m":13,"n":14,"o":15,"p":16,"q":17,"type":"int","z":18,"z":19,"b":[20],"aa":21}"#,
+        r#"{"a":1,"aa":21,"b":[20],"c":3,"d":4,"e":5,"f":6,"g":7,"h":8,"i":9,"j":10,"k":11,"l":12,"m":13,"n":14,"o":15,"p":16,"q":17,"type":"int","z":19}"#,
+    ),
+    (
+        r#"{"type":"record","name":"R","fields":[{"type":"int","name":"a","default":{"y":[1,{"c":2,"b":3}],"x":null}}]}"#,
+        r#"{"fields":[{"default":{"x":null,"y":[1,{"b":3,"c":2}]},"name":"a","type":"int"}],"name":"R","type":"record"}"#,
+    ),
 ];
 
 // The normal text of a schema's text.

@@ -1,6 +1,6 @@
-// Lists of either length, at texts and at a struct with a name.
-use crate::{Named, NamedList};
+// Lists of either length, whose items are found by name, at texts and at a struct with a name.
 use base_text::Text;
+use named_list::{Named, NamedList};
 use std::alloc::{AllocError, Global};
 use std::test::Fail;
 

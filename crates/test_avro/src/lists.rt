@@ -1,0 +1,23 @@
+// Texts and lists that contracts see as plain ones.
+use base_text::{Listed, Text};
+use std::test::Fail;
+
+#[test]
+fn a_list_gives_its_vector_back(rt: HostRuntime) -> Result<(), Fail> {
+    let listed = Listed::from(vec![in rt.alloc(); 3, 1, 2]?);
+    assert_eq!(rt; listed.as_slice(), [3, 1, 2].as_slice());
+    assert_eq!(rt; listed.clone()?.as_slice(), [3, 1, 2].as_slice());
+    assert_eq!(rt; Vec::from(listed).as_slice(), [3, 1, 2].as_slice());
+    Ok(())
+}
+
+#[test]
+fn a_text_is_compared_by_its_bytes(rt: HostRuntime) -> Result<(), Fail> {
+    let small = Text::copy_of(rt.alloc(), "Z")?;
+    let large = Text::from(String::from_str(rt.alloc(), "a")?);
+    assert!(rt; small < large);
+    let again = large.clone()?;
+    assert!(rt; again == large);
+    assert_eq!(rt; String::from(again).as_str(), "a");
+    Ok(())
+}
