@@ -172,9 +172,6 @@ pub record IsOnTrail (r w : List Node) (hs : List Hop) (p : Pair) (rest : List H
   pub within : IsWithin r w p
   pub leads : clash_after r w roots hs ≡ clash_after r w p rest
 
-pub on_trail_first : (r w : List Node) → IsSound r → IsSound w → (hs : List Hop) → IsOnTrail r w hs roots hs
-on_trail_first r w s t hs = record { within = record { reader = s.has_root; writer = t.has_root }; leads = refl }
-
 pub on_trail_next : (r w : List Node) → IsSound r → IsSound w → (hs : List Hop) (p q : Pair) (h : Hop) (rest : List Hop) → IsOnTrail r w hs p (h ∷ rest) → Some q ≡ pair_by (obligations r w p) h → IsOnTrail r w hs q rest
 on_trail_next r w s t hs p q h rest now e = record { within = within_next (owed_by (obligations r w p) h) refl (sym e); leads = now.leads ∙ ap (option_and_then (λ x. clash_after r w x rest)) (sym e) }
   where

@@ -1,5 +1,5 @@
 -- What the search keeps, step by step.
-use Rattle.std.proofs.Common.{◌≡◌, ℕ, ◌<◌, List, [], ◌∷◌, ◌++◌, length, Bool, true, false, not, ◌||◌, eqb, Option, Some, None, option_and_then, get_or, append_assoc, append-nil, slice_get, refl, sym, ◌∙◌, ap, subst}
+use Rattle.std.proofs.Common.{◌≡◌, ℕ, ◌<◌, List, [], ◌∷◌, ◌++◌, length, Bool, true, false, ◌||◌, eqb, Some, None, option_and_then, get_or, append_assoc, append-nil, slice_get, refl, sym, ◌∙◌, ap, subst}
 use Rattle.std.proofs.lemmas.Bool.{eqb-true}
 use Rattle.std.proofs.lemmas.List.Folds.{list_any-append}
 use Rattle.std.proofs.lemmas.Option.{slice_get_read}
@@ -44,18 +44,6 @@ agrees_added seen new es e agrees added fair = record {
   fair = fair;
 }
 
-pub agrees_still : (seen new : Seen) (es : List Entry) (e : Entry) → AgreesWith seen es → is_seen seen e.pair ≡ true
-    → ((p : Pair) → is_seen new p ≡ (same_pair e.pair p || is_seen seen p)) → IsFair new
-    → AgreesWith new es
-agrees_still seen new es e agrees there added fair = record { same = still; fair = fair }
-  where
-    go : (p : Pair) (b : Bool) → same_pair e.pair p ≡ b → is_seen new p ≡ is_reached es p
-    go p true same = added p ∙ ap (λ b. b || is_seen seen p) same ∙ sym there ∙ ap (is_seen seen) (same_pair-≡ e.pair p same) ∙ agrees.same p
-    go p false same = added p ∙ ap (λ b. b || is_seen seen p) same ∙ agrees.same p
-
-    still : (p : Pair) → is_seen new p ≡ is_reached es p
-    still p = go p (same_pair e.pair p) refl
-
 -- ---- the way back
 
 module _ (r w : List Node) (es : List Entry) (s : Step) (e : Entry) (at : slice_get es s.place ≡ Some e) where
@@ -99,11 +87,3 @@ clashes_when (Owes os) c e = cc
 pub owes_when : (o : Outcome) → None ≡ clash_in o → o ≡ Owes (owed_in o)
 owes_when (Clashes d) e = cc
 owes_when (Owes os) e = refl
-
-pub not_false : (b : Bool) → false ≡ not b → b ≡ true
-not_false true e = refl
-not_false false e = cc
-
-pub not_some : {A : Type 0} (o : Option A) → ((x : A) → o ≡ Some x → ⊥) → o ≡ None
-not_some None h = refl
-not_some (Some x) h = absurd (h x refl)

@@ -160,14 +160,6 @@ get_replicate zero i o e = cc
 get_replicate (suc n) zero o e = cc
 get_replicate (suc n) (suc i) o e = get_replicate n i o e
 
-pub none_joined : (n : ℕ) (firsts : List (Option ℕ)) → firsts ≡ replicate n None → (others : ℕ → ℕ → Bool) → ((i j : ℕ) → others i j ≡ false) → (i j : ℕ) → are_joined firsts others i j ≡ false
-none_joined n firsts is others none i j = go (slice_get firsts i) (ap (λ l. slice_get l i) (sym is))
-  where
-    go : (o : Option (Option ℕ)) → slice_get (replicate n None) i ≡ o → is_beside (others i j) j o ≡ false
-    go None e = none i j
-    go (Some None) e = refl
-    go (Some (Some first)) e = let no : Some first ≡ None = get_replicate n i (Some first) e in cc
-
 -- ---- pairs by the bits of words
 
 abbrev pair_cmp : ℕ × ℕ → ℕ × ℕ → Ordering

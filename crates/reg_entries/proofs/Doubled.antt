@@ -209,9 +209,6 @@ id_within k id h = between id k.0 (from (nat_cmp id k.0) refl (first _ _ h)) (up
 pub key_in : {K : Type 0} (cmp : K → K → Ordering) → ((a b : K) → cmp a b ≡ Equal → a ≡ b) → (s : BTreeSet K) (k : K) → contains cmp s k ≡ true → IsIn k s.keys
 key_in cmp ties s k h = let found = any_found (is_at (cmp k)) s.keys h in subst (λ x. IsIn x s.keys) (sym (ties k found.0 (equal _ found.1.1))) found.1.0
 
-at_least : (a b : ℕ) → is_gt (nat_cmp a b) ≡ false → a ≤ b
-at_least a b h = grind (arith, nat_tests)
-
 module _ (es : List Entry) where
   -- an entry that shares its id does so with another
   pub shared : (e : Entry) → shares_its_id es e ≡ true → (o : Entry) × (IsIn o es × (o.id ≡ e.id) × ¬ (o.normal ≡ e.normal))

@@ -67,9 +67,6 @@ had e s h = ((bytes_eq-Decides e.normal s.0).0 (second _ _ h), number e.id s.1 (
 pub has_own : (e : Entry) → has_it (Some e) (schema_of e) ≡ true
 has_own e = both _ _ (itself e.id e.id refl) ((bytes_eq-Decides e.normal e.normal).1 refl)
 
-pub none_has : (s : Schema) → has_it None s ≡ false
-none_has s = refl
-
 -- the schema of an entry at the place of s, which has the text and the id of s, is s
 pub schema_here : (e : Entry) (s : Schema) → place_of e ≡ s.2 → has_it (Some e) s ≡ true → schema_of e ≡ s
 schema_here e s place h = let k = had e s h in λ i. (k.0 i, k.1 i, place i)

@@ -44,9 +44,6 @@ less Greater h = absurd h
 pub last_records-last_records : LastRecordsAreCompaction → LastRecordsOfCompaction → (rs : Records) → last_records (last_records rs) ≡ last_records rs
 last_records-last_records compaction same rs = same (last_records rs) rs (compaction rs)
 
-pub one_of_last_records : LastRecordsAreCompaction → LastRecordsOfCompaction → (rs all : Records) → rs ≡ last_records all → last_records rs ≡ rs
-one_of_last_records compaction same rs all is = ap last_records is ∙ last_records-last_records compaction same all ∙ sym is
-
 -- no record is the last of no key
 pub last_records-empty : IsTotalOrder record_cmp → IsAntisymmetric record_cmp → last_records set.empty ≡ set.empty
 unfolding last_records

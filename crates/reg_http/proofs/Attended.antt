@@ -1,7 +1,6 @@
 -- What was read and done is the response to the first request of a text.
 use Rattle.std.proofs.Common.{◌≡◌, ◌⊎◌, List, [], ℕ, Bool, true, false, Some, None, IfSome, refl, sym, ap, subst, inl, inr}
 use Rattle.std.specs.Prelude.{◌||◌, IsOk, Ok, Err, Option, Result}
-use Rattle.std.specs.Io.KnownBytes.{Appends}
 use Rattle.std.specs.declared.alloc.AllocError.{AllocError}
 use Rattle.httparse.specs.Grammar.{RequestHead}
 use Rattle.reg_leader.specs.declared.command.Command.{Command}
@@ -21,10 +20,9 @@ use Rattle.reg_requests.specs.declared.asked.Asked.{Asked}
 use Rattle.reg_requests.specs.declared.asked.Asked.TheVariants as asked
 use Rattle.reg_requests.specs.declared.request.Request.{Request}
 use Rattle.reg_responses.specs.Response.{refusal_text}
-use Rattle.reg_responses.specs.Writing.{AppendsFront}
 use Rattle.reg_http.specs.Requests.{request_of}
 use Rattle.reg_http.specs.Serve.{AnswersFirst, AnswersFront, AnswersHead, Does, LacksMemory, left_if}
-use Rattle.reg_http.specs.ServeSteps.{Attends, Did, Steps, done_closes, done_text, next_if}
+use Rattle.reg_http.specs.ServeSteps.{Attends, Did, done_closes, done_text}
 use Rattle.reg_http.specs.declared.attending.Attended.TheVariants as attended
 use Rattle.reg_http.specs.declared.doing.Done.{Done}
 use Rattle.reg_http.specs.declared.doing.Done.TheVariants as dones
@@ -136,25 +134,3 @@ module _ {D : Type 0} (asks : D → Query → Result Answer AllocError → D →
       → IfSome input (λ text. Attends asks commands old text left old (attended.Done dones.NoMemory wants))
   attended-no_memory old None left got wants is gets = tt
   attended-no_memory old (Some text) left got wants is gets = attends-no_memory old text left wants (subst (λ g. GetsFrom text left g) is gets)
-
-  -- the response was written whole
-  steps-if : (old new : D) (text before_rest : List ℕ) (before after left : Option (List ℕ)) (out : List ℕ) (closes : Bool)
-      → (closes ≡ false → left ≡ Some before_rest) → AnswersFirst asks commands old (Some text) out new (left_if closes before_rest)
-      → Appends before after out → Steps asks commands old text before after left new (next_if closes)
-  steps-if old new text rest before after left out true goes first written = (out, first, written)
-  steps-if old new text rest before after left out false goes first written = (out, rest, goes refl, first, written)
-
-  pub steps-done : (old new : D) (input before after left : Option (List ℕ)) (done : Done) (wants : Bool)
-      → IfSome input (λ text. Attends asks commands old text left new (attended.Done done wants)) → Appends before after (done_text wants done)
-      → IfSome input (λ text. Steps asks commands old text before after left new (next_if (done_closes wants done)))
-  steps-done old new None before after left done wants done_as written = tt
-  steps-done old new (Some text) before after left done wants (rest, goes, first) written =
-      steps-if old new text rest before after left (done_text wants done) (done_closes wants done) goes first written
-
-  -- a front of the response was written
-  pub stops-done : (old new : D) (input before after left : Option (List ℕ)) (done : Done) (wants : Bool)
-      → IfSome input (λ text. Attends asks commands old text left new (attended.Done done wants)) → AppendsFront before after (done_text wants done)
-      → IfSome input (λ text. (out : List ℕ) × (rest : Option (List ℕ)) × AnswersFirst asks commands old (Some text) out new rest × AppendsFront before after out)
-  stops-done old new None before after left done wants done_as front = tt
-  stops-done old new (Some text) before after left done wants (rest, goes, first) front =
-      (done_text wants done, left_if (done_closes wants done) rest, first, front)

@@ -104,14 +104,6 @@ module _ {D : Type 0} (asks : D → Query → Result Answer AllocError → D →
         subst (Appends before after) (sym (all_of-more outs out)) (Appends-trans before middle after (all_of outs) out written appends),
       )
 
-  -- what is written once as many requests are answered as may be
-  pub IsOutput-full : (old new : D) (input before after left : Option (List ℕ)) (count : ℕ) → count ≡ REQUESTS_LIMIT
-      → HasAnswered asks commands old input count before after left new
-      → IfSome input (λ text. (out : List ℕ) × IsOutput asks commands old text count out new × Appends before after out)
-  IsOutput-full old new None before after left count full done = tt
-  IsOutput-full old new (Some text) before after left count full (outs, here, is, answers, counted, written) =
-      (all_of outs, (outs, Some here, answers, inr full, counted, omega (arith, full), refl), written)
-
   pub StopsBetween-of : (old mid new : D) (input before middle after left rest : Option (List ℕ)) (count : ℕ)
       → HasAnswered asks commands old input count before middle left mid → IfSome left (λ text. TakesShort text rest) → new ≡ mid → Keeps middle after
       → IfSome input (λ text. StopsBetween asks commands old text rest before after new)

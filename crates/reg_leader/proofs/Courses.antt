@@ -1,11 +1,11 @@
 -- What holds of all that a course may do.
-use Rattle.std.proofs.Common.{◌≡◌, ◌⊎◌, ℕ, suc, ◌+◌, ◌≤◌, true, false, ◌&&◌, Bool, nat_le, length, List, [], ◌∷◌, Option, Some, None, Ok, Err, refl, sym, ap, subst, ◌∙◌, inl, inr, eq-eqb, ◌++◌, arith}
+use Rattle.std.proofs.Common.{◌≡◌, ◌⊎◌, ℕ, suc, ◌+◌, ◌≤◌, true, false, ◌&&◌, Bool, nat_le, length, List, [], ◌∷◌, Option, Some, None, Ok, Err, refl, sym, ap, subst, ◌∙◌, inl, inr, eq-eqb}
 use Rattle.std.proofs.lemmas.Bool.{leb-true}
 use Rattle.reg_levels.specs.Texts.{TextsMeet}
 use Rattle.reg_modes.specs.Permitted.{Permit, granted}
 use Rattle.reg_records.specs.declared.limits.TheConstants.{OFFSET_LIMIT}
 use Rattle.reg_records.specs.declared.record.Record.{Record}
-use Rattle.reg_rules.specs.Writings.{numbered, written_at}
+use Rattle.reg_rules.specs.Writings.{numbered}
 use Rattle.reg_rules.specs.declared.writing.Writing.{Writing}
 use Rattle.reg_leader.specs.Course.{Course, Refused, Does, IfMet, IsOutcome, ◌▸◌, where_found, if_offsets_last}
 use Rattle.reg_leader.specs.OneStep.{goes_on}

@@ -1,27 +1,24 @@
 -- Whatever a command writes is harmless.
-use Rattle.std.proofs.Common.{◌≡◌, ◌⊎◌, inl, inr, ℕ, suc, Bool, true, false, ◌&&◌, ◌||◌, nat_le, is_some, List, [], ◌∷◌, map, Option, Some, None, All, Contains, option_and_then, option_map, refl, sym, ap, subst, ◌∙◌}
-use Rattle.std.proofs.lemmas.Bool.{false≢true, leb-true}
+use Rattle.std.proofs.Common.{◌≡◌, ◌⊎◌, inl, inr, ℕ, suc, Bool, true, false, List, [], ◌∷◌, map, Option, Some, None, All, Contains, option_and_then, option_map, refl, sym, ap, subst, ◌∙◌}
 use Rattle.std.proofs.lemmas.List.Elements.{All-from_recursion, All-nil}
 use Rattle.std.specs.List.{AllByRecursion, filter}
 use Rattle.avro_schema.specs.Schema.{Meaning, schema_of}
 use Rattle.reg_entries.specs.TwoSchemas.{NoneIsOneTextEach}
 use Rattle.reg_entries.specs.declared.entry.Entry.{Entry}
-use Rattle.reg_fold.specs.Closed.{is_closed, two_schemas}
+use Rattle.reg_fold.specs.Closed.{is_closed}
 use Rattle.reg_fold.specs.Entries.{EntriesAreInLimits, EntriesAreRead, entries}
 use Rattle.reg_fold.specs.InForce.{own_level}
-use Rattle.reg_fold.specs.Opaque.{is_version, opaque}
+use Rattle.reg_fold.specs.Opaque.{is_version}
 use Rattle.reg_fold.specs.Standing.{greatest_version, live, version_in}
 use Rattle.reg_fold.specs.declared.version_ref.VersionRef.{VersionRef}
 use Rattle.reg_fold.specs.declared.version_ref.VersionRef.TheVariants.{Number}
 use Rattle.reg_modes.specs.InForce.{mode, own_mode}
-use Rattle.reg_modes.specs.Permitted.{granted, registering, writing}
+use Rattle.reg_modes.specs.Permitted.{registering, writing}
 use Rattle.reg_records.specs.Written.{IsVersionOrId, written_value}
 use Rattle.reg_records.specs.declared.key.Key.TheVariants as keys
-use Rattle.reg_records.specs.declared.limits.TheConstants.{NUMBER_LIMIT}
 use Rattle.reg_records.specs.declared.value.Value.TheVariants as values
 use Rattle.reg_refusals.specs.declared.reason.Reason.TheVariants as reasons
 use Rattle.reg_refusals.specs.declared.reason.StoreFault.TheVariants as faults
-use Rattle.reg_refusals.specs.declared.refusal.Refusal.{Refusal}
 use Rattle.reg_refusals.specs.declared.refusal.Refusal.TheVariants as refusals
 use Rattle.reg_rules.specs.Standing.{has_schema, id_for, is_of, names_another, newest, next_version, standing, version_meant}
 use Rattle.reg_rules.specs.Tests as test

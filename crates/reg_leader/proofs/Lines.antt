@@ -1,7 +1,6 @@
 -- What commands write has lines, and is read.
-use Rattle.std.proofs.Common.{◌≡◌, ◌⊎◌, inl, inr, ℕ, suc, ◌+◌, ◌≤◌, max, Bool, true, false, ◌&&◌, nat_le, ◌==◌, List, [], ◌∷◌, length, map, bytes_eq, Option, Some, None, is_some, option_map, option_and_then, All, Contains, refl, sym, ap, subst, ◌∙◌, arith}
-use Rattle.std.proofs.lemmas.List.Elements.{All-nil, All-cons, All-head, All-tail, All-map, All-filter, All-weaker, All-contains_itself}
-use Rattle.std.proofs.lemmas.Bool.{false≢true}
+use Rattle.std.proofs.Common.{◌≡◌, ◌⊎◌, inl, inr, ℕ, suc, ◌+◌, ◌≤◌, Bool, true, false, nat_le, ◌==◌, List, [], ◌∷◌, length, map, bytes_eq, Option, Some, None, is_some, option_map, option_and_then, All, Contains, refl, sym, ap, subst, ◌∙◌, arith}
+use Rattle.std.proofs.lemmas.List.Elements.{All-nil, All-cons, All-head, All-tail, All-filter, All-weaker, All-contains_itself}
 use Rattle.std.specs.List.{filter}
 use Rattle.std.specs.Ordering.{nat_cmp, on, ord_max}
 use Rattle.avro_schema.specs.Schema.{Meaning, schema_of}
@@ -17,15 +16,12 @@ use Rattle.reg_levels.specs.Texts.{is_schema}
 use Rattle.reg_levels.specs.declared.level.Level.{Level}
 use Rattle.reg_levels.specs.declared.level.Level.TheVariants as levels
 use Rattle.reg_modes.specs.InForce.{mode, own_mode}
-use Rattle.reg_modes.specs.Permitted.{granted, registering, writing}
+use Rattle.reg_modes.specs.Permitted.{registering, writing}
 use Rattle.reg_records.specs.Value.{value_of}
 use Rattle.reg_records.specs.Written.{HasLine, IsInLimits, IsValueOf, IsVersionOrId, written_value}
-use Rattle.reg_records.specs.declared.key.Key.{Key}
-use Rattle.reg_records.specs.declared.limits.TheConstants.{NUMBER_LIMIT, OFFSET_LIMIT}
-use Rattle.reg_records.specs.declared.record.Record.{Record}
+use Rattle.reg_records.specs.declared.limits.TheConstants.{OFFSET_LIMIT}
 use Rattle.reg_records.specs.declared.value.Value.{Value}
 use Rattle.reg_refusals.specs.declared.reason.Reason.TheVariants as reasons
-use Rattle.reg_refusals.specs.declared.refusal.Refusal.{Refusal}
 use Rattle.reg_refusals.specs.declared.refusal.Refusal.TheVariants as refusals
 use Rattle.reg_rules.specs.Standing.{has_schema, id_for, is_of, newest, next_version, standing, version_meant}
 use Rattle.reg_rules.specs.Tests as test

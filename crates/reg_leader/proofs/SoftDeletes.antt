@@ -1,9 +1,8 @@
 -- What soft deletes of subjects name.
-use Rattle.std.proofs.Common.{◌≡◌, ◌⊎◌, inl, inr, ℕ, suc, max, bytes_eq, Bool, true, false, List, [], ◌∷◌, map, Option, Some, None, All, refl, sym, ap, subst, ◌∙◌}
-use Rattle.std.proofs.lemmas.List.Elements.{All-contains_itself, All-filter, All-from_recursion, All-map, All-nil, All-weaker}
-use Rattle.std.specs.List.{AllByRecursion, Contains, filter}
+use Rattle.std.proofs.Common.{◌≡◌, ◌⊎◌, inl, inr, ℕ, suc, Bool, true, false, List, [], ◌∷◌, map, Option, Some, None, All, refl, sym, ap, subst, ◌∙◌}
+use Rattle.std.proofs.lemmas.List.Elements.{All-from_recursion, All-nil}
+use Rattle.std.specs.List.{AllByRecursion, filter}
 use Rattle.avro_schema.specs.Schema.{schema_of}
-use Rattle.reg_entries.specs.Sought.{of_subject}
 use Rattle.reg_entries.specs.declared.entry.Entry.{Entry}
 use Rattle.reg_fold.specs.Entries.{EntriesAreInLimits, entries}
 use Rattle.reg_fold.specs.InForce.{own_level}
@@ -11,7 +10,6 @@ use Rattle.reg_fold.specs.Standing.{greatest_version, live, version_in}
 use Rattle.reg_fold.specs.declared.version_ref.VersionRef.TheVariants.{Number}
 use Rattle.reg_modes.specs.InForce.{mode, own_mode}
 use Rattle.reg_modes.specs.Permitted.{registering, writing}
-use Rattle.reg_records.specs.Written.{IsVersionOrId}
 use Rattle.reg_records.specs.declared.record.Record.{Record}
 use Rattle.reg_refusals.specs.declared.reason.Reason.TheVariants as reasons
 use Rattle.reg_refusals.specs.declared.refusal.Refusal.TheVariants as refusals

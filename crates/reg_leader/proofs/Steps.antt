@@ -1,5 +1,5 @@
 -- What is true of every single step.
-use Rattle.std.proofs.Common.{◌≡◌, ◌⊎◌, ℕ, List, [], ◌∷◌, Option, Some, None, true, All, refl, sym, ap, ◌∙◌, inl, inr}
+use Rattle.std.proofs.Common.{◌≡◌, ◌⊎◌, ℕ, List, [], ◌∷◌, Some, None, true, All, refl, sym, ap, ◌∙◌, inl, inr}
 use Rattle.std.specs.List.{filter}
 use Rattle.std.proofs.lemmas.List.Elements.{All-head, All-tail}
 use Rattle.avro_schema.specs.Schema.{Meaning, schema_of}
@@ -22,7 +22,6 @@ use Rattle.reg_leader.specs.Step.{IsStep, course_of, register, writes}
 use Rattle.reg_rules.specs.Tests as test
 use Rattle.reg_rules.specs.Writings.{numbered, version_of}
 use Rattle.reg_rules.specs.declared.writing.Writing.{Writing}
-use Rattle.reg_leader.specs.declared.command.Command.{Command}
 use Rattle.reg_leader.specs.declared.reply.Reply.{Reply}
 use Rattle.reg_leader.specs.declared.reply.Reply.TheVariants as replies
 use Rattle.reg_leader.proofs.Courses.{Of, of_then, of_found, outcome-ends, outcome-goes_on, outcome-of}

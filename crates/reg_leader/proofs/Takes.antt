@@ -1,7 +1,5 @@
 -- From what the parts of a command come to, to its step.
 use Rattle.std.proofs.Common.{◌≡◌, ◌⊎◌, ℕ, List, [], Result, Ok, Err, refl, sym, ap, subst, ◌∙◌, inl, inr}
-use Rattle.reg_levels.specs.Texts.{TextsMeet, VersionText}
-use Rattle.reg_levels.specs.declared.level.Level.{Level}
 use Rattle.reg_records.specs.declared.record.Record.{Record}
 use Rattle.reg_refusals.specs.Refusal.{no_memory}
 use Rattle.reg_refusals.specs.declared.refusal.Refusal.{Refusal}
@@ -22,12 +20,6 @@ pub takes_followed : (course : Course) (r : Result Deed Refusal) → Follows cou
 takes_followed course (Ok deed) h = subst (λ c. IsDeed c deed) (sym h) refl
 takes_followed course (Err refusal) (inl memory) = inl memory
 takes_followed course (Err refusal) (inr h) = inr (subst (λ c. IsRefusal c refusal) (sym h) refl)
-
--- what follows where the level is met
-pub takes_met : (level : Level) (new : List ℕ) (olds : List VersionText) (rest : Course) (r : Result Deed Refusal) → TextsMeet level new olds → Follows rest r → Takes (IfMet level new olds rest) r
-takes_met level new olds rest (Ok deed) met h = (met, takes_followed rest (Ok deed) h)
-takes_met level new olds rest (Err refusal) met (inl memory) = inl memory
-takes_met level new olds rest (Err refusal) met (inr h) = inr (inl (met, subst (λ c. IsRefusal c refusal) (sym h) refl))
 
 -- a registration, by what is known before the check
 module _ (rs : Records) (n : ℕ) (subject text : List ℕ) where

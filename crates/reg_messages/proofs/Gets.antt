@@ -1,5 +1,5 @@
 -- What is read of a message whose head was taken.
-use Rattle.std.proofs.Common.{◌≡◌, ◌<◌, ◌++◌, List, [], ℕ, Bool, true, false, Some, None, IfSome, refl, sym, ap, subst, ◌∙◌, arith, length, length-append, take, drop, inl, inr}
+use Rattle.std.proofs.Common.{◌≡◌, ◌<◌, ◌++◌, List, [], ℕ, Bool, true, false, Some, None, IfSome, refl, sym, ap, subst, ◌∙◌, arith, length, length-append, take, drop, inr}
 use Rattle.std.specs.Prelude.{Err, IfOk, IsOk, Ok, OnErr, Option, Result, nat_le}
 use Rattle.std.specs.Io.KnownBytes.{Consumes}
 use Rattle.std.proofs.KnownBytes.{Consumes-trans}
@@ -9,9 +9,9 @@ use Rattle.httparse.specs.Grammar.{RequestHead}
 use Rattle.reg_refusals.specs.declared.refusal.Refusal.TheVariants as refusals
 use Rattle.reg_messages.specs.Fields.{body_length, told_length}
 use Rattle.reg_messages.specs.BodyReading.{LosesBody, TakesAll, TakesBody}
-use Rattle.reg_messages.specs.Head.{front_of, IsHead, IsNoHead}
+use Rattle.reg_messages.specs.Head.{front_of, IsHead}
 use Rattle.reg_messages.specs.HeadReading.{IsTakenAs}
-use Rattle.reg_messages.specs.Reading.{GetsFrom, IsRefusedAt, IsShort, TakesShort}
+use Rattle.reg_messages.specs.Reading.{GetsFrom, IsShort, TakesShort}
 use Rattle.reg_messages.specs.ReadingSteps.{GetsAfter, GetsWith}
 use Rattle.reg_messages.specs.Messages.{after_body, body_after, body_in, fields_of, wants_close}
 use Rattle.reg_messages.specs.declared.body_reading.Body.TheVariants as bodies
@@ -31,13 +31,6 @@ gets-after (Some x) (Some y) new taken bytes h (gots.Message method target field
     (bytes, h, y, (ap front_of took ∙ known y, is, ok, left), parts, wanted)
 gets-after (Some x) (Some y) new taken bytes h (gots.NoMemory wants) took known is (ok, wanted, left) =
     (bytes, h, y, (ap front_of took ∙ known y, is, ok, left), wanted)
-
--- bytes that are no head
-pub gets-none : (start mid : Option (List ℕ)) (taken bytes : List ℕ) → Consumes start mid taken
-    → IsTakenAs taken bytes → IsNoHead bytes → IfSome start (λ text. IsRefusedAt text refusals.BadRequest)
-gets-none None mid taken bytes took known none = tt
-gets-none (Some x) None taken bytes took known none = absurd took
-gets-none (Some x) (Some y) taken bytes took known none = inr (bytes, y, ap front_of took ∙ known y, inl (none, refl))
 
 -- a body that is cut is short of a message
 pub short-body : (start mid new : Option (List ℕ)) (taken bytes : List ℕ) (h : RequestHead) → Consumes start mid taken

@@ -3,10 +3,6 @@ use Rattle.std.proofs.Common.{◌≡◌, Option, Some, None, option_map, IfSome,
 use Rattle.reg_records.specs.declared.value.Value.{Value}
 use Rattle.reg_records.specs.Value.{schema_in, with_schema}
 
-pub value-with_schema : (o : Option Value) → option_map (λ d. d.value) (option_map with_schema o) ≡ o
-value-with_schema None = refl
-value-with_schema (Some v) = refl
-
 pub schema-with_schema : (o : Option Value) → IfSome (option_map with_schema o) (λ d. d.schema ≡ schema_in d.value)
 schema-with_schema None = tt
 schema-with_schema (Some v) = refl

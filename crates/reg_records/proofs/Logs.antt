@@ -6,7 +6,7 @@ use Rattle.std.specs.List.{slice_split, onto_first, join_with_byte}
 use Rattle.std.specs.Io.KnownBytes.{Consumes, IsAtEnd}
 use Rattle.std.proofs.lemmas.List.Splits.{slice_split_at, slice_split_none, join_with_byte-slice_split}
 use Rattle.std.proofs.KnownBytes.{Consumes-trans}
-use Rattle.std.proofs.lemmas.List.Sums.{position_or_len_is, sum_by-append, count_by-le-length}
+use Rattle.std.proofs.lemmas.List.Sums.{position_or_len_is, sum_by-append}
 use Rattle.std.proofs.lemmas.List.Elements.{filter_map-append}
 use Rattle.std.proofs.lemmas.Bool.Decides.{nat_tests}
 use Rattle.reg_records.proofs.Lines.{Consumes-ended, length-of_nonempty}
@@ -144,14 +144,6 @@ map_log-with_reads reads read (Err fault) = refl
 abbrev pub GoesOn : Option (List ℕ) → Option (List ℕ) → List Read → ℕ → Type 0
 GoesOn old now reads n = IfSome old (λ text. IfSome now (λ rest. log_of text ≡ map_log (with_reads reads) (log_from n (parts rest))))
 
-pub GoesOn-none : (old : Option (List ℕ)) → GoesOn old old [] 1
-GoesOn-none None = tt
-GoesOn-none (Some text) = nothing (log_of text)
-  where
-    nothing : (more : Result LogText (ℕ × LogFault)) → more ≡ map_log (with_reads []) more
-    nothing (Ok log) = refl
-    nothing (Err fault) = refl
-
 pub GoesOn-more : (old mid new : Option (List ℕ)) (reads : List Read) (read : Read) (n : ℕ) (taken : List ℕ) → GoesOn old mid reads n
     → Consumes old mid taken
     → IfSome mid (λ text. IfSome new (λ rest. log_from n (parts text) ≡ map_log (with_read read) (log_from (suc n) (parts rest))))
@@ -179,9 +171,6 @@ IsLogOf-more old reads read new is adds = record {
   foreign = adds.foreign ∙ omega (arith, is.foreign, sum_by-append (λ r. cond (is_foreign r) 1 0) reads (read ∷ []));
   next = adds.next ∙ ap (λ n. max n (suc (offset_in read))) is.next ∙ sym (next_after-append reads read);
 }
-
-pub foreign-le : (log : Log) (reads : List Read) → IsLogOf reads log → log.foreign ≤ length reads
-foreign-le log reads is = omega (arith, is.foreign, count_by-le-length is_foreign reads)
 
 OnSome-end : (old now new : Option (List ℕ)) (taken : List ℕ) → Consumes old now taken → OnSome now (IsAtEnd new) → OnSome old (IsAtEnd new)
 OnSome-end None now new taken took end = tt

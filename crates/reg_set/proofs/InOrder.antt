@@ -2,7 +2,7 @@
 use Rattle.std.proofs.Common.{◌≡◌, Bool, true, false, ◌&&◌, ◌||◌, List, [], ◌∷◌, refl, sym, ap, ◌∙◌}
 use Rattle.std.proofs.lemmas.Bool.{false≢true}
 use Rattle.std.proofs.lemmas.Cmp.{alike_right, tied_itself}
-use Rattle.std.specs.FinSet.{contains, from_list, items, contains-items, contains-from_list, same_set}
+use Rattle.std.specs.FinSet.{contains, from_list, items, contains-items, contains-from_list}
 use Rattle.std.specs.List.{list_any, list_all}
 use Rattle.std.specs.Ordering.{eq_by_cmp, is_eq, is_lt, match_ordering, ordering_reverse}
 use Rattle.std.specs.declared.cmp.Ordering.{Ordering}
@@ -136,6 +136,3 @@ one_order (x ∷ xs) (y ∷ ys) a b each =
 pub records_of-from_list : (rs : List Record) → is_in_order rs ≡ true → records_of (from_list rs) ≡ rs
 records_of-from_list rs h =
     one_order (records_of (from_list rs)) rs (is_in_order-records_of (from_list rs)) h (λ q. sym (contains-records_of (from_list rs) q) ∙ contains-from_list record_cmp-total rs q)
-
-pub from_list-records_of : (s : Records) → from_list (records_of s) ≡ s
-from_list-records_of s = same_set record_cmp-total record_cmp-ties _ _ (λ q. contains-from_list record_cmp-total (records_of s) q ∙ sym (contains-records_of s q))

@@ -1,5 +1,5 @@
 -- The last records, beside the records in order.
-use Rattle.std.proofs.Common.{◌≡◌, Bool, true, false, cond, ◌&&◌, ⊎_elim, List, [], ◌∷◌, Option, Some, None, refl, sym, ap, subst, ◌∙◌, rules}
+use Rattle.std.proofs.Common.{◌≡◌, Bool, true, false, cond, ◌&&◌, ⊎_elim, List, [], ◌∷◌, Option, Some, None, refl, sym, ap, ◌∙◌, rules}
 use Rattle.std.proofs.lemmas.Bool.{false≢true}
 use Rattle.std.proofs.lemmas.Cmp.{tied_itself}
 use Rattle.std.specs.FinSet.{contains, empty, from_list, insert, contains-empty, contains-from_list, same_set}
@@ -17,7 +17,7 @@ use Rattle.reg_set.specs.Records.{Records, is_in_order}
 use Rattle.reg_set.proofs.Compactions.{contains-last_records, last_records_of_insert}
 use Rattle.reg_set.proofs.InOrder.{both, first_of, second_of}
 use Rattle.reg_set.proofs.Lasts.{equal, le_itself, any_filter, last-greatest, last-absent}
-use Rattle.reg_set.proofs.Orders.{key_cmp-total, key_cmp-ties, record_cmp-total, record_cmp-ties}
+use Rattle.reg_set.proofs.Orders.{key_cmp-total, record_cmp-total, record_cmp-ties}
 use Rattle.reg_set.proofs.Unions.{in_insert, insert-itself, insert-union, last_of_union}
 
 pub key_cmp-itself : (a b : Key) → a ≡ b → is_eq (key_cmp a b) ≡ true
@@ -48,10 +48,6 @@ later-none (Some x) = refl
 abbrev pub is_later : Option Record → Record → Bool
 is_later o r = option_map_or (λ last. is_lt (age_cmp r last)) o false
 
-later-older : (o : Option Record) (r : Record) → is_later o r ≡ true → later o (Some r) ≡ o
-later-older None r h = absurd (false≢true h)
-later-older (Some q) r h = ap (λ b. cond b (Some q) (Some r)) h
-
 later-fresh : (o : Option Record) (r : Record) → is_later o r ≡ false → later o (Some r) ≡ Some r
 later-fresh None r h = refl
 later-fresh (Some q) r h = ap (λ b. cond b (Some q) (Some r)) h
@@ -72,13 +68,6 @@ module _ (S : Records) (r : Record) where
       (λ e. false≢true (sym apart ∙ key_cmp-itself r.key key (sym (ap (λ x. x.key) e) ∙ same)))
       (λ h. false≢true (sym (contains-empty record_cmp q) ∙ h)) (in_insert empty r q inside)) in
       ap (λ s. last s key) (insert-union S r) ∙ last_of_union S (insert empty r) key ∙ ap (later (last S key)) none ∙ later-none (last S key)
-
-  pub last-older : is_later (last S r.key) r ≡ true → (key : Key) → last (insert S r) key ≡ last S key
-  last-older h key =
-      elim (is_eq (key_cmp r.key key)) as (λ b. is_eq (key_cmp r.key key) ≡ b → last (insert S r) key ≡ last S key) [
-        | true ↦ λ e. subst (λ k. last (insert S r) k ≡ last S k) (key_cmp-ties r.key key (equal _ e)) (at_key ∙ later-older (last S r.key) r h)
-        | false ↦ λ e. last-other key e
-      ] refl
 
 -- copies of entries that are equal to them
 pub zipped : (C : Key → Key → Type 0) (D : Record → Record → Type 0) → ((a b : Key) → C a b → b ≡ a) → ((a b : Record) → D a b → b ≡ a) → (xs ys : List (Key × Record)) → AllZip (λ p q. C p.0 q.0 × D p.1 q.1) xs ys → ys ≡ xs

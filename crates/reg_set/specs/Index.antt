@@ -1,4 +1,4 @@
--- What sets of records keep: the last record of each key, in a map by key.
+-- Private: what sets of records keep, the last record of each key, in a map by key.
 use Rattle.std.specs.Prelude.{◌≡◌, List, Option, IfSome, IsTrue}
 use Rattle.std.specs.BTreeMap.{BTreeMap, IsOrdered, get}
 use Rattle.std.specs.FinSet.{from_list}

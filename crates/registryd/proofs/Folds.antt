@@ -1,5 +1,5 @@
 -- What a fold writes, and why it ends, by its log and by how its requests were served.
-use Rattle.std.proofs.Common.{◌≡◌, ◌⊎◌, inl, inr, ℕ, List, Option, None, Some, IfSome, refl, sym, ap, subst, ◌∙◌}
+use Rattle.std.proofs.Common.{◌≡◌, ◌⊎◌, ℕ, List, Option, None, Some, IfSome, sym, ap, subst, ◌∙◌}
 use Rattle.std.specs.Prelude.{Ok, count_by, option_map}
 use Rattle.std.specs.Io.KnownBytes.{Appends}
 use Rattle.std.specs.Result.{result_ok}

@@ -1,7 +1,7 @@
-use Rattle.std.proofs.Common.{[], ◌++◌, refl}
+use Rattle.std.proofs.Common.{[], refl}
 use Rattle.std.proofs.lemmas.Result.{err_from_is_err_and}
 use Rattle.reg_responses.specs.Pieces.{pieces_text}
-use Rattle.reg_responses.specs.Response.{head_text, response_text}
+use Rattle.reg_responses.specs.Response.{response_text}
 use Rattle.reg_responses.proofs.Written.{HasFront-then, HasWritten-begun, Writes-then}
 use Rattle.reg_responses.proofs.writing.write_response.Goals as goal
 
