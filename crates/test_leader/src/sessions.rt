@@ -6,7 +6,7 @@ use crate::commands::command_of;
 use crate::logs::registry_of;
 use crate::replies::told;
 use reg_fold::Registry;
-use reg_leader::decide;
+use reg_leader::{Decision, decide};
 use std::alloc::Global;
 use std::test::Fail;
 
@@ -377,27 +377,73 @@ mode READONLY
 import s 9 9 "int"
 42205 Operation not permitted: READONLY"#;
 
+fn decision_on(
+    alloc: Global,
+    registry: &Registry,
+    next: u64,
+    head: &str,
+) -> Result<Decision, Fail> {
+    let command = command_of(alloc, head)?;
+    Ok(decide(alloc, registry, next, &command, None))
+}
+
+fn is_told(alloc: Global, decision: &Decision, lines: &str) -> Result<bool, Fail> {
+    Ok(told(alloc, decision)?.as_slice() == lines.as_bytes())
+}
+
+// The next offset after a command, where the lines are what is replied and written.
+fn after_command(
+    alloc: Global,
+    registry: &mut Registry,
+    next: u64,
+    head: &str,
+    lines: &str,
+) -> Result<Option<u64>, Fail> {
+    let decision = decision_on(alloc, registry, next, head)?;
+    if !is_told(alloc, &decision, lines)? {
+        return Ok(None);
+    }
+    let batch = decision.batch.as_slice();
+    registry.apply_all(batch)?;
+    Ok(Some(next.saturating_add(batch.len() as u64)))
+}
+
+fn after(
+    alloc: Global,
+    registry: &mut Registry,
+    next: u64,
+    paragraph: &str,
+) -> Result<Option<u64>, Fail> {
+    let (head, lines) = paragraph.split_once("\n").unwrap_or((paragraph, ""));
+    match head.strip_prefix("log before ") {
+        Some(offset) => {
+            *registry = registry_of(alloc, lines)?;
+            Ok(Some(offset.parse::<u64>()?))
+        }
+        None => after_command(alloc, registry, next, head, lines),
+    }
+}
+
+// The registry is lent, so that none has to be dropped on the way.
+fn first_other_on(
+    alloc: Global,
+    registry: &mut Registry,
+    session: &'static str,
+) -> Result<Option<&'static str>, Fail> {
+    let mut next = 0;
+    for paragraph in session.split("\n\n") {
+        match after(alloc, registry, next, paragraph)? {
+            Some(offset) => next = offset,
+            None => return Ok(Some(paragraph)),
+        }
+    }
+    Ok(None)
+}
+
 // The first paragraph that isn't what is replied and written.
 fn first_other(alloc: Global, session: &'static str) -> Result<Option<&'static str>, Fail> {
     let mut registry = Registry::empty(alloc);
-    let mut next = 0u64;
-    for paragraph in session.split("\n\n") {
-        let (head, lines) = paragraph.split_once("\n").unwrap_or((paragraph, ""));
-        if let Some(offset) = head.strip_prefix("log before ") {
-            registry = registry_of(alloc, lines)?;
-            next = offset.parse::<u64>()?;
-            continue;
-        }
-        let command = command_of(alloc, head)?;
-        let decision = decide(alloc, &registry, next, &command, None);
-        if told(alloc, &decision)?.as_slice() != lines.as_bytes() {
-            return Ok(Some(paragraph));
-        }
-        let batch = decision.batch.as_slice();
-        registry.apply_all(batch)?;
-        next = next.saturating_add(batch.len() as u64);
-    }
-    Ok(None)
+    first_other_on(alloc, &mut registry, session)
 }
 
 #[test]

@@ -2,6 +2,7 @@
 use crate::events::event_of;
 use crate::outcomes::outcome_text;
 use crate::plain::{Plain, registry_of};
+use reg_fold::{Entry, Registry};
 use reg_records::Log;
 use reg_world::World;
 use std::alloc::{AllocError, Global};
@@ -55,13 +56,21 @@ impl Both {
     /// Whether the log, its records taken one after the other, has the entries of a registry over all
     /// that was published.
     pub(crate) fn have_same_entries(&self, alloc: Global) -> Result<bool, AllocError> {
-        let eager = self.world.eager_entries()?;
         let registry = registry_of(alloc, &self.plain.log)?;
-        let entries = registry.entries()?;
-        let are_equal = eager
-            .iter()
-            .zip(&entries)
-            .all(|(found, expected)| *found == **expected);
-        Ok(are_equal && eager.len() == entries.len())
+        has_entries(&registry, &self.world)
     }
+}
+
+fn has_entries(registry: &Registry, world: &World) -> Result<bool, AllocError> {
+    let eager = world.eager_entries()?;
+    let entries = registry.entries()?;
+    Ok(are_equal(&eager, &entries))
+}
+
+fn are_equal(found: &[Entry], expected: &[&Entry]) -> bool {
+    found.len() == expected.len()
+        && found
+            .iter()
+            .zip(expected)
+            .all(|(one, other)| *one == **other)
 }

@@ -2,6 +2,7 @@
 use crate::events::event_of;
 use crate::records::log_of;
 use reg_fold::Entry;
+use reg_records::Record;
 use reg_world::World;
 use std::alloc::{AllocError, Global};
 use std::test::Fail;
@@ -91,30 +92,49 @@ fn write_entry(out: &mut String, entry: &Entry) -> Result<(), AllocError> {
     write!(out, " {}\n", entry.text.as_str())
 }
 
+fn write_entries(out: &mut String, entries: &[Entry]) -> Result<(), AllocError> {
+    for entry in entries {
+        write_entry(out, entry)?;
+    }
+    Ok(())
+}
+
 fn entries_text(alloc: Global, world: &World) -> Result<String, AllocError> {
     let entries = world.eager_entries()?;
     let mut text = String::new(alloc);
-    for entry in &entries {
-        write_entry(&mut text, entry)?;
-    }
+    write_entries(&mut text, &entries)?;
     Ok(text)
 }
 
-fn world_after(alloc: Global, row: &Row) -> Result<World, Fail> {
+fn step(alloc: Global, world: &mut World, known: &[Record], words: &str) -> Result<(), Fail> {
+    let event = event_of(alloc, words, known)?;
+    world.step(&event)?;
+    Ok(())
+}
+
+/// The entries after those events. The world is lent, so that none has to be dropped on the way.
+fn text_after(
+    alloc: Global,
+    world: &mut World,
+    known: &[Record],
+    events: &str,
+) -> Result<String, Fail> {
+    for words in events.lines() {
+        step(alloc, world, known, words)?;
+    }
+    Ok(entries_text(alloc, world)?)
+}
+
+fn row_text(alloc: Global, row: &Row) -> Result<String, Fail> {
     let base = log_of(alloc, row.base)?;
     let mut world = World::start(alloc, 1, &base)?;
-    for words in row.events.lines() {
-        let event = event_of(alloc, words, &base.records)?;
-        world.step(&event)?;
-    }
-    Ok(world)
+    text_after(alloc, &mut world, &base.records, row.events)
 }
 
 #[test]
 fn a_log_has_its_entries(rt: HostRuntime) -> Result<(), Fail> {
     for row in &ROWS {
-        let world = world_after(rt.alloc(), row)?;
-        let text = entries_text(rt.alloc(), &world)?;
+        let text = row_text(rt.alloc(), row)?;
         assert_eq!(rt; text.as_str(), row.entries, "{}", row.base);
     }
     Ok(())

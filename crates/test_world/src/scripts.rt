@@ -281,12 +281,20 @@ fn goes(
     words: &str,
     expected: &str,
 ) -> Result<bool, Fail> {
-    let event = event_of(alloc, words, known)?;
-    let outcome = world.step(&event)?;
+    let outcome = outcome_of(alloc, world, known, words)?;
     Ok(outcome_text(alloc, &outcome)?.as_str() == expected)
 }
 
-/// The first line with another outcome.
+fn outcome_of(
+    alloc: Global,
+    world: &mut World,
+    known: &[Record],
+    words: &str,
+) -> Result<Outcome, Fail> {
+    let event = event_of(alloc, words, known)?;
+    Ok(world.step(&event)?)
+}
+
 fn first_other_step(
     alloc: Global,
     script: &Script,
@@ -294,12 +302,23 @@ fn first_other_step(
 ) -> Result<Option<&'static str>, Fail> {
     let known = known_records(alloc, script)?;
     let mut world = world_of(alloc, script.nodes, script.base)?;
-    for line in script.lines.lines() {
+    first_other_line(alloc, &mut world, &known, script.lines, with_refused)
+}
+
+/// The first line with another outcome. The world is lent, so that none has to be dropped on the way.
+fn first_other_line(
+    alloc: Global,
+    world: &mut World,
+    known: &[Record],
+    lines: &'static str,
+    with_refused: bool,
+) -> Result<Option<&'static str>, Fail> {
+    for line in lines.lines() {
         let Some((words, expected)) = line.split_once(" => ") else {
             continue;
         };
         let is_left_out = expected == NOT_ALLOWED && !with_refused;
-        if !is_left_out && !goes(alloc, &mut world, &known, words, expected)? {
+        if !is_left_out && !goes(alloc, world, known, words, expected)? {
             return Ok(Some(line));
         }
     }
@@ -320,7 +339,11 @@ fn events_of(alloc: Global, script: &Script) -> Result<Vec<Event>, Fail> {
 fn outcomes_of(alloc: Global, script: &Script) -> Result<Vec<Outcome>, Fail> {
     let events = events_of(alloc, script)?;
     let mut world = world_of(alloc, script.nodes, script.base)?;
-    Ok(world.run(&events)?)
+    run_all(&mut world, &events)
+}
+
+fn run_all(world: &mut World, events: &[Event]) -> Result<Vec<Outcome>, Fail> {
+    Ok(world.run(events)?)
 }
 
 fn is_told(alloc: Global, outcome: Option<&Outcome>, expected: &str) -> Result<bool, Fail> {
