@@ -1,10 +1,36 @@
 // The paths of the registry, as a router has them.
-ghost use Rattle.std.specs.Prelude.{◌≡◌, IfOk};
-ghost use Rattle.reg_routes.specs.Router.{path_rows, route_of};
+ghost use Rattle.std.specs.Prelude.{◌≡◌, [], IfOk, OnOk, fold, map};
+ghost use Rattle.reg_routes.specs.Router.{path_rows, route_of, with_path};
 
 use crate::route::Route;
 use matchit::{InsertError, Router};
 use std::alloc::{AllocError, Global};
+
+/// Each path with its route, in the order in which they are added.
+const PATHS: [(&str, Route); 13] = [
+    ("/schemas/ids/{id}", Route::SchemaById),
+    ("/schemas/ids/{id}/versions", Route::IdVersions),
+    ("/subjects", Route::Subjects),
+    ("/subjects/{subject}", Route::Subject),
+    ("/subjects/{subject}/versions", Route::Versions),
+    ("/subjects/{subject}/versions/{version}", Route::Version),
+    (
+        "/subjects/{subject}/versions/{version}/schema",
+        Route::VersionSchema,
+    ),
+    (
+        "/compatibility/subjects/{subject}/versions",
+        Route::CheckAll,
+    ),
+    (
+        "/compatibility/subjects/{subject}/versions/{version}",
+        Route::CheckOne,
+    ),
+    ("/config", Route::Level),
+    ("/config/{subject}", Route::SubjectLevel),
+    ("/mode", Route::Mode),
+    ("/mode/{subject}", Route::SubjectMode),
+];
 
 /// A router of all paths of the registry.
 #[derive(Drop)]
@@ -34,31 +60,28 @@ impl Paths {
     }
 }
 
+/// A router of all paths.
+#[tactic(auto, unfolding(crate::specs::Router::path_rows))]
 fn router_of_paths(alloc: Global) -> Result<Router<Route>, InsertError>
     ensures { IfOk result (λ router. router ≡ path_rows) }
 {
+    router_of(alloc, &PATHS)
+}
+
+/// A router of these paths, added in turn.
+fn router_of(alloc: Global, paths: &[(&str, Route)]) -> Result<Router<Route>, InsertError>
+    ensures { IfOk result (λ router. router ≡ fold with_path [] (map (λ path. (path.0.now, path.1)) paths.now)) }
+{
     let mut router = Router::new(alloc);
-    router.insert("/schemas/ids/{id}", Route::SchemaById)?;
-    router.insert("/schemas/ids/{id}/versions", Route::IdVersions)?;
-    router.insert("/subjects", Route::Subjects)?;
-    router.insert("/subjects/{subject}", Route::Subject)?;
-    router.insert("/subjects/{subject}/versions", Route::Versions)?;
-    router.insert("/subjects/{subject}/versions/{version}", Route::Version)?;
-    router.insert(
-        "/subjects/{subject}/versions/{version}/schema",
-        Route::VersionSchema,
-    )?;
-    router.insert(
-        "/compatibility/subjects/{subject}/versions",
-        Route::CheckAll,
-    )?;
-    router.insert(
-        "/compatibility/subjects/{subject}/versions/{version}",
-        Route::CheckOne,
-    )?;
-    router.insert("/config", Route::Level)?;
-    router.insert("/config/{subject}", Route::SubjectLevel)?;
-    router.insert("/mode", Route::Mode)?;
-    router.insert("/mode/{subject}", Route::SubjectMode)?;
+    for (path, route) in paths {
+        add(&mut router, path, *route)?;
+    }
     Ok(router)
+}
+
+/// Adds a path with its route.
+fn add(router: &mut Router<Route>, path: &str, route: Route) -> Result<(), InsertError>
+    ensures { OnOk result (router.new ≡ with_path router.old (path.now, route)) }
+{
+    router.insert(path, route)
 }
