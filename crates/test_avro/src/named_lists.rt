@@ -55,40 +55,56 @@ const LONG: &[&str] = &[
     "mass", "id", "to", "From", "zone", "a", "é", "ab", "b", "_x", "time", "",
 ];
 
+// The names of a list, a name, and its answer.
+static ROWS: [(&[&str], &str, &str); 16] = [
+    (&[], "a", "none of 0"),
+    (&["a"], "a", "a at 0 of 1"),
+    (&["a"], "", "none of 1"),
+    (&["b", "a", "c"], "b", "b at 0 of 3"),
+    (&["b", "a", "c"], "c", "c at 2 of 3"),
+    (&["b", "a", "c"], "ab", "none of 3"),
+    (&["b", "a", "c", "a"], "c", "no list"),
+    (LONG, "mass", "mass at 0 of 12"),
+    (LONG, "From", "From at 3 of 12"),
+    (LONG, "é", "é at 6 of 12"),
+    (LONG, "", " at 11 of 12"),
+    (LONG, "from", "none of 12"),
+    (LONG, "êa", "none of 12"),
+    (LONG, "aa", "none of 12"),
+    (
+        &["a", "b", "c", "d", "e", "f", "g", "h", "i", "a"],
+        "i",
+        "no list",
+    ),
+    (
+        &["a", "b", "c", "d", "e", "f", "g", "h", "A", "B"],
+        "A",
+        "A at 8 of 10",
+    ),
+];
+
+fn answer_of_texts(alloc: Global, names: &[&str], name: &str) -> Result<String, AllocError> {
+    answer(alloc, texts(alloc, names)?, name)
+}
+
+fn answer_of_members(alloc: Global, names: &[&str], name: &str) -> Result<String, AllocError> {
+    answer(alloc, members(alloc, names)?, name)
+}
+
 #[test]
 fn items_are_found_by_their_names(rt: HostRuntime) -> Result<(), Fail> {
-    let alloc = rt.alloc();
-    let rows: [(&[&str], &str, &str); 16] = [
-        (&[], "a", "none of 0"),
-        (&["a"], "a", "a at 0 of 1"),
-        (&["a"], "", "none of 1"),
-        (&["b", "a", "c"], "b", "b at 0 of 3"),
-        (&["b", "a", "c"], "c", "c at 2 of 3"),
-        (&["b", "a", "c"], "ab", "none of 3"),
-        (&["b", "a", "c", "a"], "c", "no list"),
-        (LONG, "mass", "mass at 0 of 12"),
-        (LONG, "From", "From at 3 of 12"),
-        (LONG, "é", "é at 6 of 12"),
-        (LONG, "", " at 11 of 12"),
-        (LONG, "from", "none of 12"),
-        (LONG, "êa", "none of 12"),
-        (LONG, "aa", "none of 12"),
-        (
-            &["a", "b", "c", "d", "e", "f", "g", "h", "i", "a"],
-            "i",
-            "no list",
-        ),
-        (
-            &["a", "b", "c", "d", "e", "f", "g", "h", "A", "B"],
-            "A",
-            "A at 8 of 10",
-        ),
-    ];
-    for (names, name, expected) in rows {
-        let found = answer(alloc, texts(alloc, names)?, name)?;
-        assert_eq!(rt; found.as_str(), expected, "{name}");
-        let found = answer(alloc, members(alloc, names)?, name)?;
-        assert_eq!(rt; found.as_str(), expected, "{name}");
+    for (names, name, expected) in &ROWS {
+        let found = answer_of_texts(rt.alloc(), names, name)?;
+        assert_eq!(rt; found.as_str(), *expected, "{name}");
+    }
+    Ok(())
+}
+
+#[test]
+fn members_are_found_by_their_names(rt: HostRuntime) -> Result<(), Fail> {
+    for (names, name, expected) in &ROWS {
+        let found = answer_of_members(rt.alloc(), names, name)?;
+        assert_eq!(rt; found.as_str(), *expected, "{name}");
     }
     Ok(())
 }
