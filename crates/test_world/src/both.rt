@@ -1,10 +1,11 @@
 // A world beside a plain one.
 use crate::events::event_of;
-use crate::outcomes::outcome_text;
 use crate::plain::{Plain, registry_of};
+use crate::records::log_of;
+use crate::worlds::{step_text, world_over};
 use reg_fold::{Entry, Registry};
 use reg_records::Log;
-use reg_world::World;
+use reg_world::{Event, World};
 use std::alloc::{AllocError, Global};
 use std::test::Fail;
 
@@ -17,17 +18,26 @@ pub(crate) struct Both {
 
 impl Both {
     pub(crate) fn start(alloc: Global, nodes: usize, base: &Log) -> Result<Both, Fail> {
-        let world = World::start(alloc, nodes, base)?;
         let plain = Plain::start(alloc, base, nodes)?;
+        let world = world_over(alloc, nodes, base)?;
         Ok(Both { world, plain })
+    }
+
+    /// Over the records among the lines of a script.
+    pub(crate) fn over(alloc: Global, nodes: usize, script: &str) -> Result<Both, Fail> {
+        let base = log_of(alloc, script)?;
+        Both::start(alloc, nodes, &base)
     }
 
     /// What comes of the event of those words, where it is the same in both.
     pub(crate) fn step(&mut self, alloc: Global, words: &str) -> Result<Option<String>, Fail> {
         let event = event_of(alloc, words, &self.plain.written)?;
-        let expected = self.plain.step(alloc, &event)?;
-        let outcome = self.world.step(&event)?;
-        let found = outcome_text(alloc, &outcome)?;
+        Ok(self.outcome(alloc, &event)?)
+    }
+
+    fn outcome(&mut self, alloc: Global, event: &Event) -> Result<Option<String>, AllocError> {
+        let expected = self.plain.step(alloc, event)?;
+        let found = step_text(alloc, &mut self.world, event)?;
         if found.as_str() == expected.as_str() {
             Ok(Some(found))
         } else {

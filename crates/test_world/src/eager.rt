@@ -1,8 +1,7 @@
 // The entries of a world's log, its records taken one after the other.
-use crate::events::event_of;
 use crate::records::log_of;
+use crate::worlds::{outcome_of, world_of};
 use reg_fold::Entry;
-use reg_records::Record;
 use reg_world::World;
 use std::alloc::{AllocError, Global};
 use std::test::Fail;
@@ -106,29 +105,23 @@ fn entries_text(alloc: Global, world: &World) -> Result<String, AllocError> {
     Ok(text)
 }
 
-fn step(alloc: Global, world: &mut World, known: &[Record], words: &str) -> Result<(), Fail> {
-    let event = event_of(alloc, words, known)?;
-    world.step(&event)?;
+fn steps(alloc: Global, world: &mut World, row: &Row) -> Result<(), Fail> {
+    let base = log_of(alloc, row.base)?;
+    for words in row.events.lines() {
+        outcome_of(alloc, world, &base.records, words)?;
+    }
     Ok(())
 }
 
-/// The entries after those events. The world is lent, so that none has to be dropped on the way.
-fn text_after(
-    alloc: Global,
-    world: &mut World,
-    known: &[Record],
-    events: &str,
-) -> Result<String, Fail> {
-    for words in events.lines() {
-        step(alloc, world, known, words)?;
-    }
+/// The entries after the row's events. The world is lent, so that none has to be dropped on the way.
+fn text_after(alloc: Global, world: &mut World, row: &Row) -> Result<String, Fail> {
+    steps(alloc, world, row)?;
     Ok(entries_text(alloc, world)?)
 }
 
 fn row_text(alloc: Global, row: &Row) -> Result<String, Fail> {
-    let base = log_of(alloc, row.base)?;
-    let mut world = World::start(alloc, 1, &base)?;
-    text_after(alloc, &mut world, &base.records, row.events)
+    let mut world = world_of(alloc, 1, row.base)?;
+    text_after(alloc, &mut world, row)
 }
 
 #[test]

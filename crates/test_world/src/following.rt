@@ -1,6 +1,5 @@
 // Three nodes that take what is kept after each event of a list, each in its own way.
 use crate::both::Both;
-use crate::records::log_of;
 use std::alloc::{AllocError, Global};
 use std::test::Fail;
 
@@ -155,15 +154,19 @@ fn goes(alloc: Global, both: &mut Both, line: &str, turn: usize) -> Result<bool,
     )
 }
 
-fn first_other(alloc: Global) -> Result<Option<&'static str>, Fail> {
-    let base = log_of(alloc, "")?;
-    let mut both = Both::start(alloc, 3, &base)?;
+/// The first event that has another outcome, or after which the nodes do otherwise.
+fn first_other_in(alloc: Global, both: &mut Both) -> Result<Option<&'static str>, Fail> {
     for (turn, line) in EVENTS.lines().enumerate() {
-        if !goes(alloc, &mut both, line, turn)? {
+        if !goes(alloc, both, line, turn)? {
             return Ok(Some(line));
         }
     }
     Ok(None)
+}
+
+fn first_other(alloc: Global) -> Result<Option<&'static str>, Fail> {
+    let mut both = Both::over(alloc, 3, "")?;
+    first_other_in(alloc, &mut both)
 }
 
 #[test]

@@ -25,3 +25,5 @@ mod records;
 mod scripts;
 #[cfg(test)]
 mod words;
+#[cfg(test)]
+mod worlds;

@@ -67,6 +67,11 @@ pub(crate) fn registry_of(alloc: Global, records: &[Record]) -> Result<Registry,
     Ok(registry)
 }
 
+fn answer_over(alloc: Global, registry: &Registry, query: &Query) -> Result<String, AllocError> {
+    let found = answer(alloc, registry, query)?;
+    answer_text(alloc, &found)
+}
+
 fn done(alloc: Global) -> Result<String, AllocError> {
     String::from_str(alloc, "done")
 }
@@ -144,9 +149,13 @@ impl Plain {
             return not_allowed(alloc);
         }
         self.settle()?;
-        let registry = registry_of(alloc, &self.log)?;
-        let decision = decide(alloc, &registry, self.next, command, None);
+        let decision = self.decision(alloc, command)?;
         self.end(alloc, &decision, fate)
+    }
+
+    fn decision(&self, alloc: Global, command: &Command) -> Result<Decision, AllocError> {
+        let registry = registry_of(alloc, &self.log)?;
+        Ok(decide(alloc, &registry, self.next, command, None))
     }
 
     /// What becomes of a batch, and what is replied.
@@ -240,7 +249,7 @@ impl Plain {
         match self.nodes.get(node) {
             Some(list) => {
                 let registry = registry_of(alloc, list)?;
-                answer_text(alloc, &answer(alloc, &registry, query)?)
+                answer_over(alloc, &registry, query)
             }
             None => not_allowed(alloc),
         }

@@ -187,15 +187,19 @@ fn started(alloc: Global, draws: &mut Draws) -> Result<Both, Fail> {
             return Both::start(alloc, 3, &log);
         }
     }
-    Both::start(alloc, 3, &log_of(alloc, "")?)
+    Both::over(alloc, 3, "")
+}
+
+fn other_in_list(alloc: Global, list: u64) -> Result<Option<String>, Fail> {
+    let mut draws = Draws::new(list);
+    let mut both = started(alloc, &mut draws)?;
+    other_event(alloc, &mut draws, &mut both, 40)
 }
 
 #[test]
 fn worlds_do_as_plain_ones(rt: HostRuntime) -> Result<(), Fail> {
     for list in 0..26 {
-        let mut draws = Draws::new(list);
-        let mut both = started(rt.alloc(), &mut draws)?;
-        let other = other_event(rt.alloc(), &mut draws, &mut both, 40)?;
+        let other = other_in_list(rt.alloc(), list)?;
         assert_eq!(rt; other, None, "list {list}");
     }
     Ok(())

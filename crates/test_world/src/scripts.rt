@@ -2,9 +2,10 @@
 use crate::events::event_of;
 use crate::outcomes::{NOT_ALLOWED, outcome_text};
 use crate::records::log_of;
+use crate::worlds::{outcome_of, world_of, world_over};
 use reg_leader::AdoptError;
-use reg_records::Record;
-use reg_world::{Event, Outcome, World};
+use reg_records::{Log, Record};
+use reg_world::{Event, Outcome, RunError, World};
 use std::alloc::Global;
 use std::test::Fail;
 
@@ -269,11 +270,6 @@ fn known_records(alloc: Global, script: &Script) -> Result<Vec<Record>, Fail> {
     Ok(known)
 }
 
-fn world_of(alloc: Global, nodes: usize, base: &str) -> Result<World, Fail> {
-    let base = log_of(alloc, base)?;
-    Ok(World::start(alloc, nodes, &base)?)
-}
-
 fn goes(
     alloc: Global,
     world: &mut World,
@@ -281,31 +277,20 @@ fn goes(
     words: &str,
     expected: &str,
 ) -> Result<bool, Fail> {
-    let outcome = outcome_of(alloc, world, known, words)?;
-    Ok(outcome_text(alloc, &outcome)?.as_str() == expected)
-}
-
-fn outcome_of(
-    alloc: Global,
-    world: &mut World,
-    known: &[Record],
-    words: &str,
-) -> Result<Outcome, Fail> {
-    let event = event_of(alloc, words, known)?;
-    Ok(world.step(&event)?)
+    Ok(outcome_of(alloc, world, known, words)?.as_str() == expected)
 }
 
 fn first_other_step(
     alloc: Global,
+    world: &mut World,
     script: &Script,
     with_refused: bool,
 ) -> Result<Option<&'static str>, Fail> {
     let known = known_records(alloc, script)?;
-    let mut world = world_of(alloc, script.nodes, script.base)?;
-    first_other_line(alloc, &mut world, &known, script.lines, with_refused)
+    first_other_line(alloc, world, &known, script.lines, with_refused)
 }
 
-/// The first line with another outcome. The world is lent, so that none has to be dropped on the way.
+/// The first line with another outcome.
 fn first_other_line(
     alloc: Global,
     world: &mut World,
@@ -336,14 +321,13 @@ fn events_of(alloc: Global, script: &Script) -> Result<Vec<Event>, Fail> {
     Ok(events)
 }
 
-fn outcomes_of(alloc: Global, script: &Script) -> Result<Vec<Outcome>, Fail> {
+fn outcomes_of(alloc: Global, world: &mut World, script: &Script) -> Result<Vec<Outcome>, Fail> {
     let events = events_of(alloc, script)?;
-    let mut world = world_of(alloc, script.nodes, script.base)?;
-    run_all(&mut world, &events)
+    Ok(run_all(world, &events)?)
 }
 
-fn run_all(world: &mut World, events: &[Event]) -> Result<Vec<Outcome>, Fail> {
-    Ok(world.run(events)?)
+fn run_all(world: &mut World, events: &[Event]) -> Result<Vec<Outcome>, RunError> {
+    world.run(events)
 }
 
 fn is_told(alloc: Global, outcome: Option<&Outcome>, expected: &str) -> Result<bool, Fail> {
@@ -353,8 +337,12 @@ fn is_told(alloc: Global, outcome: Option<&Outcome>, expected: &str) -> Result<b
     }
 }
 
-fn first_other_of_run(alloc: Global, script: &Script) -> Result<Option<&'static str>, Fail> {
-    let outcomes = outcomes_of(alloc, script)?;
+fn first_other_of_run(
+    alloc: Global,
+    world: &mut World,
+    script: &Script,
+) -> Result<Option<&'static str>, Fail> {
+    let outcomes = outcomes_of(alloc, world, script)?;
     let mut left = outcomes.iter();
     for line in script.lines.lines() {
         if let Some((_, expected)) = line.split_once(" => ") {
@@ -366,12 +354,23 @@ fn first_other_of_run(alloc: Global, script: &Script) -> Result<Option<&'static 
     Ok(None)
 }
 
-fn first_other(alloc: Global, script: &Script, way: Way) -> Result<Option<&'static str>, Fail> {
+/// The world is lent, so that none has to be dropped on the way.
+fn first_other_in(
+    alloc: Global,
+    world: &mut World,
+    script: &Script,
+    way: Way,
+) -> Result<Option<&'static str>, Fail> {
     match way {
-        Way::InSteps => first_other_step(alloc, script, true),
-        Way::AtOnce => first_other_of_run(alloc, script),
-        Way::WithoutRefused => first_other_step(alloc, script, false),
+        Way::InSteps => first_other_step(alloc, world, script, true),
+        Way::AtOnce => first_other_of_run(alloc, world, script),
+        Way::WithoutRefused => first_other_step(alloc, world, script, false),
     }
+}
+
+fn first_other(alloc: Global, script: &Script, way: Way) -> Result<Option<&'static str>, Fail> {
+    let mut world = world_of(alloc, script.nodes, script.base)?;
+    first_other_in(alloc, &mut world, script, way)
 }
 
 #[test]
@@ -403,10 +402,11 @@ static BASES: [(&str, Option<AdoptError>); 6] = [
 
 fn refusal_of(alloc: Global, base: &str) -> Result<Option<AdoptError>, Fail> {
     let base = log_of(alloc, base)?;
-    match World::start(alloc, 1, &base) {
-        Ok(_) => Ok(None),
-        Err(error) => Ok(Some(error)),
-    }
+    Ok(refusal_over(alloc, &base))
+}
+
+fn refusal_over(alloc: Global, base: &Log) -> Option<AdoptError> {
+    world_over(alloc, 1, base).err()
 }
 
 #[test]
