@@ -4,14 +4,7 @@
 //! responses to its output.
 #![tactic(auto)]
 
-mod desk;
-mod ended;
-mod fold;
-#[cfg(test)]
-mod tests;
-
-use crate::ended::{Command, Ended, command_of};
-use crate::fold::fold;
+use reg_program::{Command, Ended, command_of, fold};
 use reg_records::Device;
 use std::env;
 use std::io::{self, BufReader, BufWriter};

@@ -1,5 +1,5 @@
 // Readers that fail, or are interrupted.
-use super::{SHORT_LOG, WHOLE, ended};
+use crate::folds::{SHORT_LOG, WHOLE, ended};
 use reg_records::Device;
 use std::alloc::Global;
 use std::io::{self, BufRead, ErrorKind, Read};

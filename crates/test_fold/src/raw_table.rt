@@ -4,8 +4,8 @@
 // `|` stands for CR LF, `^` and a letter for one byte, and `<3*text>` for a text three times. A response
 // is its code and its message, body or methods, after `close` where the client asks to close; or it is
 // given byte for byte.
-use super::raw_rows::{FIELDS, HEADS, LONGEST, ORDERS, ROUTES, TARGETS};
-use crate::fold::{Folded, fold};
+use crate::raw_rows::{FIELDS, HEADS, LONGEST, ORDERS, ROUTES, TARGETS};
+use reg_program::{Folded, fold};
 use reg_records::Device;
 use std::alloc::{AllocError, Global};
 use std::io::{self, BufRead, Read};

@@ -1,7 +1,7 @@
 // The desk of a fold: one registry, and the offset that comes next.
 ghost use Rattle.std.specs.Prelude.{◌≡◌, ◌⊎◌, ◌≤◌, ◌+◌, suc, [], length, OnOk, OnErr};
 ghost use Rattle.reg_records.specs.declared.limits.TheConstants.{OFFSET_LIMIT};
-ghost use Rattle.registryd.specs.Desk.{with_batch};
+ghost use Rattle.reg_program.specs.Desk.{with_batch};
 
 use reg_fold::{Refusal, Registry, StoreFault};
 use reg_http::Desk;
@@ -36,7 +36,7 @@ impl FoldDesk {
 }
 
 impl Desk for FoldDesk {
-    ghost use Rattle.registryd.specs.Desk.{desk_asks, desk_commands};
+    ghost use Rattle.reg_program.specs.Desk.{desk_asks, desk_commands};
 
     ghost asks = { desk_asks };
 

@@ -1,27 +1,18 @@
 // Whole folds: a log, requests, and what is written.
-mod answers;
-mod ends;
-mod raw;
-mod raw_rows;
-mod raw_table;
-mod readers;
-mod rows;
-mod writers;
-
-use crate::ended::Ended;
-use crate::fold::{Folded, fold};
+use reg_program::{Ended, Folded, fold};
 use reg_records::Device;
 use std::alloc::{AllocError, Global};
 use std::io::{BufRead, Write};
 
-static SHORT_LOG: &str = "1\t{\"keytype\":\"NOOP\"}\tnull\n\nGET /schemas/ids/1 HTTP/1.1\r\n\r\n";
+pub(crate) static SHORT_LOG: &str =
+    "1\t{\"keytype\":\"NOOP\"}\tnull\n\nGET /schemas/ids/1 HTTP/1.1\r\n\r\n";
 
 /// What a fold of the short log writes.
-static WHOLE: &str =
+pub(crate) static WHOLE: &str =
     "HTTP/1.1 404 Not Found\r\nContent-Type: application/vnd.schemaregistry.v1+json\r\nContent-Length: 49\r\n\r\n{\"error_code\":40403,\"message\":\"Schema not found\"}";
 
 /// Whether a fold of that input, whose lines are all known, counts so many responses and writes that.
-fn is_written(alloc: Global, input: &str, requests: u64, wanted: &str) -> bool {
+pub(crate) fn is_written(alloc: Global, input: &str, requests: u64, wanted: &str) -> bool {
     let mut reader = Device::new(input.as_bytes());
     let mut writer = Device::new(Vec::new(alloc));
     let folded = fold(alloc, &mut reader, &mut writer);
@@ -34,7 +25,7 @@ fn is_written(alloc: Global, input: &str, requests: u64, wanted: &str) -> bool {
 }
 
 /// What a fold of that input writes.
-fn written(alloc: Global, input: &str) -> Result<Vec<u8>, AllocError> {
+pub(crate) fn written(alloc: Global, input: &str) -> Result<Vec<u8>, AllocError> {
     let mut reader = Device::new(input.as_bytes());
     let mut writer = Device::new(Vec::new(alloc));
     match fold(alloc, &mut reader, &mut writer) {
@@ -43,7 +34,7 @@ fn written(alloc: Global, input: &str) -> Result<Vec<u8>, AllocError> {
     }
 }
 
-fn ended<R: BufRead, W: Write>(
+pub(crate) fn ended<R: BufRead, W: Write>(
     alloc: Global,
     reader: &mut Device<R>,
     writer: &mut Device<W>,

@@ -1,5 +1,5 @@
 // Whole inputs and whole outputs, byte for byte.
-use super::written;
+use crate::folds::written;
 use std::alloc::Global;
 
 static RAW: [(&str, &str); 14] = [

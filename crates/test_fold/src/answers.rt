@@ -1,5 +1,5 @@
 // The schemas of ids, from logs of versions.
-use super::is_written;
+use crate::folds::is_written;
 use std::alloc::{AllocError, Global};
 
 /// The key of the first version of the subject s.

@@ -1,5 +1,5 @@
 // Worked runs: the lines of a log, requests after it, and what each of them is answered.
-use super::written;
+use crate::folds::written;
 use std::alloc::{AllocError, Global};
 
 /// The keys of versions.

@@ -1,6 +1,6 @@
 use Rattle.std.proofs.Common.{inr}
-use Rattle.registryd.proofs.Folds.{served_refused, served_written}
-use Rattle.registryd.proofs.fold.fold.Goals as goal
+use Rattle.reg_program.proofs.Folds.{served_refused, served_written}
+use Rattle.reg_program.proofs.folding.fold.Goals as goal
 
 pub returns-in-Ok-clause-written : goal.returns-in-Ok-clause-written
 returns-in-Ok-clause-written g c =

@@ -1,5 +1,5 @@
 // Writers that are full, fail, or are interrupted.
-use super::{SHORT_LOG, WHOLE, ended};
+use crate::folds::{SHORT_LOG, WHOLE, ended};
 use reg_records::Device;
 use std::alloc::Global;
 use std::io::{self, ErrorKind, Write};

@@ -10,10 +10,10 @@ use Rattle.reg_http.specs.declared.serving.ServeError.TheVariants as serving
 use Rattle.reg_records.specs.Device.{counted, faults_of, reads_of}
 use Rattle.reg_records.specs.Log.{LogText, is_foreign, log_of}
 use Rattle.reg_records.specs.declared.device.Device.{Device}
-use Rattle.registryd.specs.Desk.{desk_asks, desk_commands}
-use Rattle.registryd.specs.Fold.{EndsServing, Folds, IsDeskOver, IsOpened, ended_by, rest_of}
-use Rattle.registryd.specs.declared.desk.FoldDesk.{FoldDesk}
-use Rattle.registryd.specs.declared.fold.FoldError.{FoldError}
+use Rattle.reg_program.specs.Desk.{desk_asks, desk_commands}
+use Rattle.reg_program.specs.Fold.{EndsServing, Folds, IsDeskOver, IsOpened, ended_by, rest_of}
+use Rattle.reg_program.specs.declared.desk.FoldDesk.{FoldDesk}
+use Rattle.reg_program.specs.declared.folding.FoldError.{FoldError}
 
 served_after : (t : List ℕ) (log : LogText) (before written : Option (List ℕ)) (foreign requests : ℕ) (desk after : FoldDesk)
     → log_of t ≡ Ok log → foreign ≡ count_by is_foreign log.reads → IsDeskOver log desk

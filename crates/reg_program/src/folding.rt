@@ -6,7 +6,7 @@ ghost use Rattle.reg_records.specs.Device.{bytes_in, faults_of, interruptions_of
 ghost use Rattle.reg_messages.specs.declared.limits.TheConstants.{REQUEST_READS};
 ghost use Rattle.reg_responses.specs.declared.limits.TheConstants.{INTERRUPTION_LIMIT};
 ghost use Rattle.reg_set.specs.LastRecords.{last_records};
-ghost use Rattle.registryd.specs.Fold.{Folds, IsFoldRefusal, IsLogRefused, IsOpened, fold_error_of, ended_by};
+ghost use Rattle.reg_program.specs.Fold.{Folds, IsFoldRefusal, IsLogRefused, IsOpened, fold_error_of, ended_by};
 
 use crate::desk::FoldDesk;
 use reg_fold::Registry;
@@ -40,7 +40,7 @@ pub enum FoldError {
 }
 
 impl From<AllocError> for FoldError {
-    ghost use Rattle.registryd.specs.declared.fold.FoldError.TheVariants.{OutOfMemory};
+    ghost use Rattle.reg_program.specs.declared.folding.FoldError.TheVariants.{OutOfMemory};
 
     ghost from_gives = { λ _ e. e ≡ OutOfMemory };
 

@@ -1,12 +1,12 @@
 -- What the words of the command line ask for, and how the program ends.
 use Rattle.std.specs.Prelude.{ℕ, ◌∷◌, [], List, ◌++◌, codes, decimal, bytes_eq, nat_lt, if◌then◌else◌}
 use Rattle.reg_records.specs.Errors.{at_line, log_fault_name}
-use Rattle.registryd.specs.declared.ended.Command.{Command}
-use Rattle.registryd.specs.declared.ended.Command.TheVariants as commands
-use Rattle.registryd.specs.declared.ended.Ended.{Ended}
-use Rattle.registryd.specs.declared.ended.Ended.TheVariants as ends
-use Rattle.registryd.specs.declared.fold.FoldError.{FoldError}
-use Rattle.registryd.specs.declared.fold.FoldError.TheVariants as errors
+use Rattle.reg_program.specs.declared.ended.Command.{Command}
+use Rattle.reg_program.specs.declared.ended.Command.TheVariants as commands
+use Rattle.reg_program.specs.declared.ended.Ended.{Ended}
+use Rattle.reg_program.specs.declared.ended.Ended.TheVariants as ends
+use Rattle.reg_program.specs.declared.folding.FoldError.{FoldError}
+use Rattle.reg_program.specs.declared.folding.FoldError.TheVariants as errors
 
 -- `fold` alone after the program's name is a fold
 abbrev pub command_of : List (List ℕ) → Command

@@ -1,5 +1,5 @@
 -- What the fold of a log and the requests after it does.
-use Rattle.std.specs.Prelude.{◌≡◌, ◌⊎◌, ℕ, List, Option, Some, IfSome, Result, Ok, Err, count_by, option_and_then, option_map}
+use Rattle.std.specs.Prelude.{◌≡◌, ◌⊎◌, ℕ, List, Option, Some, IfSome, Ok, Err, count_by, option_and_then, option_map}
 use Rattle.std.specs.Result.{result_ok}
 use Rattle.std.specs.FinSet.{from_list}
 use Rattle.std.specs.Io.KnownBytes.{Keeps}
@@ -11,13 +11,12 @@ use Rattle.reg_records.specs.Log.{LogText, LosesLine, log_of, next_after, record
 use Rattle.reg_records.specs.declared.device.Device.{Device}
 use Rattle.reg_records.specs.declared.log.LogError.{LogError}
 use Rattle.reg_records.specs.declared.log.LogError.TheVariants as logs
-use Rattle.reg_records.specs.declared.log.LogFault.{LogFault}
 use Rattle.reg_set.specs.LastRecords.{last_records}
-use Rattle.registryd.specs.Desk.{desk_asks, desk_commands}
-use Rattle.registryd.specs.declared.desk.FoldDesk.{FoldDesk}
-use Rattle.registryd.specs.declared.fold.Folded.{Folded}
-use Rattle.registryd.specs.declared.fold.FoldError.{FoldError}
-use Rattle.registryd.specs.declared.fold.FoldError.TheVariants as errors
+use Rattle.reg_program.specs.Desk.{desk_asks, desk_commands}
+use Rattle.reg_program.specs.declared.desk.FoldDesk.{FoldDesk}
+use Rattle.reg_program.specs.declared.folding.Folded.{Folded}
+use Rattle.reg_program.specs.declared.folding.FoldError.{FoldError}
+use Rattle.reg_program.specs.declared.folding.FoldError.TheVariants as errors
 
 -- the desk over a log: the last records of the set of its records, and the offset after its greatest
 pub record IsDeskOver (log : LogText) (desk : FoldDesk) : Type 0 where

@@ -1,7 +1,6 @@
 // How folds of logs alone end, and what the program says of it.
-use super::{ended, is_written};
-use crate::ended::{Command, Ended, command_of};
-use crate::fold::FoldError;
+use crate::folds::{ended, is_written};
+use reg_program::{Command, Ended, FoldError, command_of};
 use reg_records::{Device, LINE_LIMIT, LogFault};
 use std::alloc::{AllocError, Global};
 

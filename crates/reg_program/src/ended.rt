@@ -1,8 +1,8 @@
 // What the words of the command line ask for, and how the program ends.
 ghost use Rattle.std.specs.Prelude.{◌≡◌, Some, map, string_bytes};
-ghost use Rattle.registryd.specs.Ended.{command_of, error_text, errors_written, exit_status};
+ghost use Rattle.reg_program.specs.Ended.{command_of, error_text, errors_written, exit_status};
 
-use crate::fold::{FoldError, Folded};
+use crate::folding::{FoldError, Folded};
 use std::error::Error;
 use std::fmt;
 

@@ -2,8 +2,8 @@ use Rattle.std.proofs.Common.{ap, ◌∙◌}
 use Rattle.std.specs.FinSet.{from_list, union}
 use Rattle.reg_set.specs.LastRecords.{last_records}
 use Rattle.reg_set.specs.RecordOrder.{record_cmp}
-use Rattle.registryd.proofs.Unions.{union-empty}
-use Rattle.registryd.proofs.fold.registry_of.Goals as goal
+use Rattle.reg_program.proofs.Unions.{union-empty}
+use Rattle.reg_program.proofs.folding.registry_of.Goals as goal
 
 pub returns : goal.returns
 returns c =

@@ -1,5 +1,5 @@
 -- What the desk of a fold answers and replies.
-use Rattle.std.specs.Prelude.{◌≡◌, ◌⊎◌, ℕ, ◌+◌, List, [], ◌∷◌, length, IfOk, Result}
+use Rattle.std.specs.Prelude.{◌≡◌, ◌⊎◌, ◌+◌, List, [], ◌∷◌, length, IfOk, Result}
 use Rattle.std.specs.FinSet.{from_list, union}
 use Rattle.std.specs.declared.alloc.AllocError.{AllocError}
 use Rattle.reg_leader.specs.Step.{IsStep}
@@ -12,7 +12,7 @@ use Rattle.reg_lookup.specs.declared.query.Query.{Query}
 use Rattle.reg_records.specs.declared.record.Record.{Record}
 use Rattle.reg_refusals.specs.Refusal.{no_memory}
 use Rattle.reg_set.specs.LastRecords.{last_records}
-use Rattle.registryd.specs.declared.desk.FoldDesk.{FoldDesk}
+use Rattle.reg_program.specs.declared.desk.FoldDesk.{FoldDesk}
 
 -- a query is answered from the registry, or memory was refused, and the desk stays as it was
 abbrev pub desk_asks : FoldDesk → Query → Result Answer AllocError → FoldDesk → Type 0
