@@ -25,7 +25,8 @@ use Rattle.serde_json.specs.Written.{number_text, outline, items_outline, member
 use Rattle.serde_json.proofs.Nesting.{depth-read}
 use Rattle.serde_json.proofs.Numbers.{number_of-decimal, number_of-negative}
 use Rattle.serde_json.proofs.Texts.{print-outline}
-use Rattle.avro_schema.specs.Plain.{Fits, AreAbove, AreRising, IsOrderly, ItemsAreOrderly, MembersAreOrderly, IsPlain}
+use Rattle.json_tree.specs.Members.{IsBelow, IsInOrder}
+use Rattle.avro_schema.specs.Plain.{Fits, IsOrderly, ItemsAreOrderly, MembersAreOrderly, IsPlain}
 use Rattle.avro_schema.proofs.Types.{and_parts}
 
 -- ---- what an option was made of
@@ -49,26 +50,26 @@ by_ordering P Less x y z a b c = a
 by_ordering P Equal x y z a b c = b
 by_ordering P Greater x y z a b c = c
 
-AreAbove-trans : (k l : List ℕ) (ms : Members) → slice_cmp nat_cmp k l ≡ Less → AreAbove l ms → AreAbove k ms
-AreAbove-trans k l no_members e a = tt
-AreAbove-trans k l (member m d ms) e a = (nat_list_cmp_total.trans k l m e a.0, AreAbove-trans k l ms e a.1)
+IsBelow-trans : (k l : List ℕ) (ms : Members) → slice_cmp nat_cmp k l ≡ Less → IsBelow l ms → IsBelow k ms
+IsBelow-trans k l no_members e a = tt
+IsBelow-trans k l (member m d ms) e a = (nat_list_cmp_total.trans k l m e a.0, IsBelow-trans k l ms e a.1)
 
-AreAbove-put : (l k : List ℕ) (d : Data) (ms : Members) → slice_cmp nat_cmp l k ≡ Less → AreAbove l ms → AreAbove l (put k d ms)
-AreAbove-put l k d no_members e a = (e, tt)
-AreAbove-put l k d (member m c ms) e a =
-    by_ordering (AreAbove l) (slice_cmp nat_cmp k m) (member k d (member m c ms)) (member m d ms) (member m c (put k d ms)) (e, a) a (a.0, AreAbove-put l k d ms e a.1)
+IsBelow-put : (l k : List ℕ) (d : Data) (ms : Members) → slice_cmp nat_cmp l k ≡ Less → IsBelow l ms → IsBelow l (put k d ms)
+IsBelow-put l k d no_members e a = (e, tt)
+IsBelow-put l k d (member m c ms) e a =
+    by_ordering (IsBelow l) (slice_cmp nat_cmp k m) (member k d (member m c ms)) (member m d ms) (member m c (put k d ms)) (e, a) a (a.0, IsBelow-put l k d ms e a.1)
 
 turned : (k l : List ℕ) → slice_cmp nat_cmp k l ≡ Greater → slice_cmp nat_cmp l k ≡ Less
 turned k l e = nat_list_cmp_total.antisymm l k ∙ ap ordering_reverse e
 
-AreRising-put : (k : List ℕ) (d : Data) (ms : Members) → AreRising ms → AreRising (put k d ms)
-AreRising-put k d no_members a = (tt, tt)
-AreRising-put k d (member m c ms) a = go (slice_cmp nat_cmp k m) refl (AreRising-put k d ms a.1)
+IsInOrder-put : (k : List ℕ) (d : Data) (ms : Members) → IsInOrder ms → IsInOrder (put k d ms)
+IsInOrder-put k d no_members a = (tt, tt)
+IsInOrder-put k d (member m c ms) a = go (slice_cmp nat_cmp k m) refl (IsInOrder-put k d ms a.1)
   where
-    go : (o : Ordering) → slice_cmp nat_cmp k m ≡ o → AreRising (put k d ms) → AreRising (match_ordering o (member k d (member m c ms)) (member m d ms) (member m c (put k d ms)))
-    go Less e rest = ((e, AreAbove-trans k m ms e a.0), a)
+    go : (o : Ordering) → slice_cmp nat_cmp k m ≡ o → IsInOrder (put k d ms) → IsInOrder (match_ordering o (member k d (member m c ms)) (member m d ms) (member m c (put k d ms)))
+    go Less e rest = ((e, IsBelow-trans k m ms e a.0), a)
     go Equal e rest = a
-    go Greater e rest = (AreAbove-put m k d ms (turned k m e) a.0, rest)
+    go Greater e rest = (IsBelow-put m k d ms (turned k m e) a.0, rest)
 
 -- ---- what values that were read are
 
@@ -128,11 +129,11 @@ mutual
       let rest = map_some (item first.0) (of_items js) ds first.2 in
       subst ItemsAreOrderly rest.2 (read_value j first.0 first.1, read_items js rest.0 rest.1)
 
-  read_members : (ms : json.Members) (found ds : Members) → AreRising found → MembersAreOrderly found → of_members ms found ≡ Some ds → AreRising ds × MembersAreOrderly ds
-  read_members json.no_members found ds rising a e = let same : found ≡ ds = cc in (subst AreRising same rising, subst MembersAreOrderly same a)
+  read_members : (ms : json.Members) (found ds : Members) → IsInOrder found → MembersAreOrderly found → of_members ms found ≡ Some ds → IsInOrder ds × MembersAreOrderly ds
+  read_members json.no_members found ds rising a e = let same : found ≡ ds = cc in (subst IsInOrder same rising, subst MembersAreOrderly same a)
   read_members (json.member k j ms) found ds rising a e =
       let first = then_some (λ d. of_members ms (put k d found)) (of_json j) ds e in
-      read_members ms (put k first.0 found) ds (AreRising-put k first.0 found rising) (MembersAreOrderly-put k first.0 found (read_value j first.0 first.1) a) first.2
+      read_members ms (put k first.0 found) ds (IsInOrder-put k first.0 found rising) (MembersAreOrderly-put k first.0 found (read_value j first.0 first.1) a) first.2
 
 -- ---- what is written reads back
 
@@ -148,11 +149,11 @@ after_one : (done : Members) (k : List ℕ) (d : Data) (ms : Members) → after 
 after_one no_members k d ms = refl
 after_one (member l c done) k d ms = ap (member l c) (after_one done k d ms)
 
-above_middle : (l : List ℕ) (done : Members) (k : List ℕ) (d : Data) (ms : Members) → AreAbove l (after done (member k d ms)) → slice_cmp nat_cmp l k ≡ Less
+above_middle : (l : List ℕ) (done : Members) (k : List ℕ) (d : Data) (ms : Members) → IsBelow l (after done (member k d ms)) → slice_cmp nat_cmp l k ≡ Less
 above_middle l no_members k d ms a = a.0
 above_middle l (member m c done) k d ms a = above_middle l done k d ms a.1
 
-put_last : (done : Members) (k : List ℕ) (d : Data) (ms : Members) → AreRising (after done (member k d ms)) → put k d done ≡ after done (member k d no_members)
+put_last : (done : Members) (k : List ℕ) (d : Data) (ms : Members) → IsInOrder (after done (member k d ms)) → put k d done ≡ after done (member k d no_members)
 put_last no_members k d ms a = refl
 put_last (member l c done) k d ms a =
     let greater : slice_cmp nat_cmp k l ≡ Greater = nat_list_cmp_total.antisymm k l ∙ ap ordering_reverse (above_middle l done k d ms a.0) in
@@ -185,14 +186,14 @@ mutual
       let both = or_parts (has_float d) _ e in
       ap (option_and_then (λ c. option_map (item c) (of_items (items_outline ds)))) (value_back d a.0 both.0) ∙ ap (option_map (item d)) (items_back ds a.1 both.1)
 
-  members_back : (done ms : Members) → AreRising (after done ms) → MembersAreOrderly ms → members_have_float ms ≡ false → of_members (members_outline ms) done ≡ Some (after done ms)
+  members_back : (done ms : Members) → IsInOrder (after done ms) → MembersAreOrderly ms → members_have_float ms ≡ false → of_members (members_outline ms) done ≡ Some (after done ms)
   members_back done no_members rising a e = ap Some (sym (after_none done))
   members_back done (member k d ms) rising a e =
       let both = or_parts (has_float d) _ e in
       let next = after done (member k d no_members) in
       ap (option_and_then (λ c. of_members (members_outline ms) (put k c done))) (value_back d a.0 both.0)
       ∙ ap (of_members (members_outline ms)) (put_last done k d ms rising)
-      ∙ members_back next ms (subst AreRising (sym (after_one done k d ms)) rising) a.1 both.1
+      ∙ members_back next ms (subst IsInOrder (sym (after_one done k d ms)) rising) a.1 both.1
       ∙ ap Some (after_one done k d ms)
 
 mutual

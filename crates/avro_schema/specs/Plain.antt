@@ -1,11 +1,9 @@
 -- Private: what JSON values that were read from a text are, where no number in them is a float.
-use Rattle.std.specs.Prelude.{◌≡◌, ◌<◌, ◌≤◌, ◌^◌, ℕ, List, pos, negsuc, false}
-use Rattle.std.specs.Ordering.{nat_cmp}
-use Rattle.std.specs.declared.cmp.Ordering.TheVariants.{Less}
-use Rattle.std.specs.Cmp.Lexicographic.{slice_cmp}
+use Rattle.std.specs.Prelude.{◌≡◌, ◌<◌, ◌≤◌, ◌^◌, pos, negsuc, false}
 use Rattle.serde_json.specs.Data.{Num, unsigned, negative, float, Data, null, boolean, number, string, array, object, Items, no_items, item, Members, no_members, member, depth}
 use Rattle.serde_json.specs.Read.{max_depth}
 use Rattle.serde_json.specs.Written.{has_float}
+use Rattle.json_tree.specs.Members.{IsInOrder}
 
 -- an integer fits 64 bits, and one that is held as negative is so
 abbrev pub Fits : Num → Type 0
@@ -13,15 +11,6 @@ Fits (unsigned n) = n < 2 ^ 64
 Fits (negative (pos n)) = ⊥
 Fits (negative (negsuc n)) = n < 2 ^ 63
 Fits (float x) = Unit {0}
-
--- each name comes after k
-abbrev pub AreAbove : List ℕ → Members → Type 0
-AreAbove k no_members = Unit {0}
-AreAbove k (member l d ms) = (slice_cmp nat_cmp k l ≡ Less) × AreAbove k ms
-
-abbrev pub AreRising : Members → Type 0
-AreRising no_members = Unit {0}
-AreRising (member k d ms) = AreAbove k ms × AreRising ms
 
 -- at each depth the names of an object's members rise, and numbers fit
 abbrev mutual
@@ -31,7 +20,7 @@ abbrev mutual
   IsOrderly (number n) = Fits n
   IsOrderly (string s) = Unit {0}
   IsOrderly (array ds) = ItemsAreOrderly ds
-  IsOrderly (object ms) = AreRising ms × MembersAreOrderly ms
+  IsOrderly (object ms) = IsInOrder ms × MembersAreOrderly ms
 
   pub ItemsAreOrderly : Items → Type 0
   ItemsAreOrderly no_items = Unit {0}

@@ -5,7 +5,7 @@
 -- Nodes.antt the node of each place, with the uses looked up among the definitions;
 -- Faults.antt what is wrong at each place.
 -- A text means a schema exactly where its list of faults is empty. Names.antt says what names are, Defaults.antt which defaults are valid, Sound.antt what holds of the nodes of every schema.
-use Rattle.std.specs.Prelude.{◌≢◌, ℕ, List, [], ◌∷◌, ◌++◌, length, Bool, true, false, not, nat_le, Option, Some, None, option_and_then, Contains, codes}
+use Rattle.std.specs.Prelude.{◌≢◌, ℕ, List, [], ◌∷◌, ◌++◌, length, Bool, true, false, not, nat_le, Option, Some, None, option_and_then, is_some, Contains, codes}
 use Rattle.serde_json.specs.Data.{Data}
 use Rattle.serde_json.specs.Read.{read}
 use Rattle.serde_json.specs.Written.{has_float, compact_text}
@@ -64,3 +64,7 @@ if_none_stands (e ∷ es) x = None
 -- what a text means, where no fault stands in it
 abbrev pub schema_of : List ℕ → Option Meaning
 schema_of text = option_and_then (λ d. if_none_stands (faults text) (record { nodes = nodes (form d); normal_text = compact_text d })) (read text)
+
+-- whether a text means a schema
+abbrev pub is_schema : List ℕ → Bool
+is_schema text = is_some (schema_of text)

@@ -16,7 +16,7 @@ use Rattle.std.specs.declared.result.Result.{Result}
 use Rattle.std.specs.declared.result.Result.TheVariants.{Ok, Err}
 use Rattle.reg_entries.specs.EntryOrder.{Place, place_cmp, place_of}
 use Rattle.reg_entries.specs.Index.{entry_at, HasAt, IsAt, ArePlaced}
-use Rattle.reg_entries.specs.Schemas.{Schema, schema_of, schema_cmp, is_schema, is_that, AreListed}
+use Rattle.reg_entries.specs.Schemas.{Schema, schema_of, schema_cmp, is_held, is_that, AreListed}
 use Rattle.reg_entries.specs.declared.entry.Entry.{Entry}
 use Rattle.reg_entries.proofs.Places.{place_cmp-total, place_cmp-ties, then_ties, equal, same_place}
 
@@ -97,21 +97,21 @@ gone false = refl
 
 module _ (m : BTreeMap Place Entry) (before after : BTreeSet Schema) (k : Schema) where
   -- a schema that no entry has is taken away
-  pub settled_away : is_schema m k ≡ false → ((s : Schema) → contains schema_cmp after s ≡ cond (eq_by_cmp schema_cmp k s) false (contains schema_cmp before s))
-      → (s : Schema) → contains schema_cmp after s ≡ (contains schema_cmp before s && (not (eq_by_cmp schema_cmp k s) || is_schema m s))
+  pub settled_away : is_held m k ≡ false → ((s : Schema) → contains schema_cmp after s ≡ cond (eq_by_cmp schema_cmp k s) false (contains schema_cmp before s))
+      → (s : Schema) → contains schema_cmp after s ≡ (contains schema_cmp before s && (not (eq_by_cmp schema_cmp k s) || is_held m s))
   settled_away isnt goes s =
       goes s ∙ by_bool (eq_by_cmp schema_cmp k s)
       (λ h. ap (λ b. cond b false (contains schema_cmp before s)) h
-      ∙ sym (ap (λ b. contains schema_cmp before s && (not b || is_schema m s)) h ∙ ap (λ b. contains schema_cmp before s && b) (ap (is_schema m) (sym (same_schema k s h)) ∙ isnt) ∙ gone (contains schema_cmp before s)))
+      ∙ sym (ap (λ b. contains schema_cmp before s && (not b || is_held m s)) h ∙ ap (λ b. contains schema_cmp before s && b) (ap (is_held m) (sym (same_schema k s h)) ∙ isnt) ∙ gone (contains schema_cmp before s)))
       (λ h. ap (λ b. cond b false (contains schema_cmp before s)) h
-      ∙ sym (ap (λ b. contains schema_cmp before s && (not b || is_schema m s)) h ∙ as_it_is (contains schema_cmp before s)))
+      ∙ sym (ap (λ b. contains schema_cmp before s && (not b || is_held m s)) h ∙ as_it_is (contains schema_cmp before s)))
 
   -- and one that an entry has stays
-  pub settled_stays : is_schema m k ≡ true → (s : Schema) → contains schema_cmp before s ≡ (contains schema_cmp before s && (not (eq_by_cmp schema_cmp k s) || is_schema m s))
+  pub settled_stays : is_held m k ≡ true → (s : Schema) → contains schema_cmp before s ≡ (contains schema_cmp before s && (not (eq_by_cmp schema_cmp k s) || is_held m s))
   settled_stays is s =
       by_bool (eq_by_cmp schema_cmp k s)
-      (λ h. sym (ap (λ b. contains schema_cmp before s && (not b || is_schema m s)) h ∙ ap (λ b. contains schema_cmp before s && b) (ap (is_schema m) (sym (same_schema k s h)) ∙ is) ∙ as_it_is (contains schema_cmp before s)))
-      (λ h. sym (ap (λ b. contains schema_cmp before s && (not b || is_schema m s)) h ∙ as_it_is (contains schema_cmp before s)))
+      (λ h. sym (ap (λ b. contains schema_cmp before s && (not b || is_held m s)) h ∙ ap (λ b. contains schema_cmp before s && b) (ap (is_held m) (sym (same_schema k s h)) ∙ is) ∙ as_it_is (contains schema_cmp before s)))
+      (λ h. sym (ap (λ b. contains schema_cmp before s && (not b || is_held m s)) h ∙ as_it_is (contains schema_cmp before s)))
 
 -- where a write that may be refused leaves all else
 pub else_same : (m n : BTreeMap Place Entry) (p : Place) (o : Option Entry) → HasAt m n p o ⊎ (n.entries ≡ m.entries) → (q : Place) → eq_by_cmp place_cmp p q ≡ false → entry_at n q ≡ entry_at m q
@@ -135,14 +135,14 @@ pub listed_settled : (m n : BTreeMap Place Entry) (before added one two : BTreeS
     → (entry_at n (place_of e) ≡ Some e) ⊎ (entry_at n (place_of e) ≡ entry_at m (place_of e))
     → old ≡ option_map schema_of (entry_at m (place_of e))
     → ((s : Schema) → contains schema_cmp added s ≡ cond (eq_by_cmp schema_cmp (schema_of e) s) true (contains schema_cmp before s))
-    → ((s : Schema) → contains schema_cmp one s ≡ (contains schema_cmp added s && (not (eq_by_cmp schema_cmp (schema_of e) s) || is_schema n s)))
-    → ((s : Schema) → contains schema_cmp two s ≡ (contains schema_cmp one s && (not (is_that old s) || is_schema n s)))
+    → ((s : Schema) → contains schema_cmp one s ≡ (contains schema_cmp added s && (not (eq_by_cmp schema_cmp (schema_of e) s) || is_held n s)))
+    → ((s : Schema) → contains schema_cmp two s ≡ (contains schema_cmp one s && (not (is_that old s) || is_held n s)))
     → AreListed n two
 listed_settled m n before added one two e old placed listed else here old_is adds settles ends s =
-    by_bool (is_schema n s) is_one is_none
+    by_bool (is_held n s) is_one is_none
   where
     -- what n has at the place of s, where s isn't the schema of e, m has too
-    same_entry : eq_by_cmp schema_cmp (schema_of e) s ≡ false → is_schema n s ≡ true → is_schema m s ≡ true
+    same_entry : eq_by_cmp schema_cmp (schema_of e) s ≡ false → is_held n s ≡ true → is_held m s ≡ true
     same_entry apart is =
         by_bool (eq_by_cmp place_cmp (place_of e) s.2)
         (λ h. let place : place_of e ≡ s.2 = same_place _ _ h in at_place place (either place here))
@@ -152,11 +152,11 @@ listed_settled m n before added one two e old placed listed else here old_is add
         either place (inl h) = inl (sym (ap (entry_at n) place) ∙ h)
         either place (inr h) = inr (sym (ap (entry_at n) place) ∙ h ∙ ap (entry_at m) place)
 
-        at_place : place_of e ≡ s.2 → (entry_at n s.2 ≡ Some e) ⊎ (entry_at n s.2 ≡ entry_at m s.2) → is_schema m s ≡ true
+        at_place : place_of e ≡ s.2 → (entry_at n s.2 ≡ Some e) ⊎ (entry_at n s.2 ≡ entry_at m s.2) → is_held m s ≡ true
         at_place place (inl h) = absurd (never _ (one_schema (schema_of e) s (schema_here e s place (sym (ap (λ o. has_it o s) h) ∙ is))) apart)
         at_place place (inr h) = sym (ap (λ o. has_it o s) h) ∙ is
 
-    is_one : is_schema n s ≡ true → contains schema_cmp two s ≡ is_schema n s
+    is_one : is_held n s ≡ true → contains schema_cmp two s ≡ is_held n s
     is_one is =
         ends s ∙ ap (λ b. contains schema_cmp one s && (not (is_that old s) || b)) is ∙ kept (contains schema_cmp one s) (not (is_that old s))
         ∙ settles s ∙ ap (λ b. contains schema_cmp added s && (not (eq_by_cmp schema_cmp (schema_of e) s) || b)) is ∙ kept (contains schema_cmp added s) (not (eq_by_cmp schema_cmp (schema_of e) s))
@@ -165,7 +165,7 @@ listed_settled m n before added one two e old placed listed else here old_is add
         (λ h. ap (λ b. cond b true (contains schema_cmp before s)) h ∙ listed s ∙ same_entry h is ∙ sym is)
 
     -- the schema that m has and n has not is the old one
-    was_old : is_schema n s ≡ false → is_schema m s ≡ true → is_that old s ≡ true
+    was_old : is_held n s ≡ false → is_held m s ≡ true → is_that old s ≡ true
     was_old isnt is =
         by_bool (eq_by_cmp place_cmp (place_of e) s.2)
         (λ h. let place : place_of e ≡ s.2 = same_place _ _ h in
@@ -176,20 +176,20 @@ listed_settled m n before added one two e old placed listed else here old_is add
         found None at h = absurd (false≢true h)
         found (Some f) at h = one_schema (schema_of f) s (schema_here f s (own_place m placed s.2 f at) h)
 
-    is_none : is_schema n s ≡ false → contains schema_cmp two s ≡ is_schema n s
+    is_none : is_held n s ≡ false → contains schema_cmp two s ≡ is_held n s
     is_none isnt =
         ends s ∙ by_bool (eq_by_cmp schema_cmp (schema_of e) s) of_new of_other ∙ sym isnt
       where
-        of_new : eq_by_cmp schema_cmp (schema_of e) s ≡ true → (contains schema_cmp one s && (not (is_that old s) || is_schema n s)) ≡ false
+        of_new : eq_by_cmp schema_cmp (schema_of e) s ≡ true → (contains schema_cmp one s && (not (is_that old s) || is_held n s)) ≡ false
         of_new h =
-            ap (λ b. b && (not (is_that old s) || is_schema n s))
-            (settles s ∙ ap (λ b. contains schema_cmp added s && (not b || is_schema n s)) h ∙ ap (λ b. contains schema_cmp added s && b) isnt ∙ gone (contains schema_cmp added s))
+            ap (λ b. b && (not (is_that old s) || is_held n s))
+            (settles s ∙ ap (λ b. contains schema_cmp added s && (not b || is_held n s)) h ∙ ap (λ b. contains schema_cmp added s && b) isnt ∙ gone (contains schema_cmp added s))
 
-        of_other : eq_by_cmp schema_cmp (schema_of e) s ≡ false → (contains schema_cmp one s && (not (is_that old s) || is_schema n s)) ≡ false
+        of_other : eq_by_cmp schema_cmp (schema_of e) s ≡ false → (contains schema_cmp one s && (not (is_that old s) || is_held n s)) ≡ false
         of_other h =
-            by_bool (is_schema m s)
-            (λ is. ap (λ b. contains schema_cmp one s && (not b || is_schema n s)) (was_old isnt is) ∙ ap (λ b. contains schema_cmp one s && b) isnt ∙ gone (contains schema_cmp one s))
-            (λ isnt_m. ap (λ b. b && (not (is_that old s) || is_schema n s)) (settles s ∙ ap (λ b. b && (not (eq_by_cmp schema_cmp (schema_of e) s) || is_schema n s)) (adds s ∙ ap (λ b. cond b true (contains schema_cmp before s)) h ∙ listed s ∙ isnt_m)))
+            by_bool (is_held m s)
+            (λ is. ap (λ b. contains schema_cmp one s && (not b || is_held n s)) (was_old isnt is) ∙ ap (λ b. contains schema_cmp one s && b) isnt ∙ gone (contains schema_cmp one s))
+            (λ isnt_m. ap (λ b. b && (not (is_that old s) || is_held n s)) (settles s ∙ ap (λ b. b && (not (eq_by_cmp schema_cmp (schema_of e) s) || is_held n s)) (adds s ∙ ap (λ b. cond b true (contains schema_cmp before s)) h ∙ listed s ∙ isnt_m)))
 
 -- where the entry at a place goes, and its schema
 pub listed_gone : (m n : BTreeMap Place Entry) (before after : BTreeSet Schema) (p : Place) (e : Entry)
@@ -202,20 +202,20 @@ listed_gone m n before after p e placed listed at was goes s =
     own : place_of e ≡ p
     own = own_place m placed p e was
 
-    none : eq_by_cmp place_cmp p s.2 ≡ true → is_schema n s ≡ false
+    none : eq_by_cmp place_cmp p s.2 ≡ true → is_held n s ≡ false
     none h = ap (λ o. has_it o s) (at s.2 ∙ ap (λ b. cond b None (entry_at m s.2)) h)
 
-    this : eq_by_cmp schema_cmp (schema_of e) s ≡ true → contains schema_cmp after s ≡ is_schema n s
+    this : eq_by_cmp schema_cmp (schema_of e) s ≡ true → contains schema_cmp after s ≡ is_held n s
     this h =
         let place : p ≡ s.2 = sym own ∙ ap (λ (t : Schema). t.2) (same_schema (schema_of e) s h) in
         goes s ∙ ap (λ b. cond b false (contains schema_cmp before s)) h
         ∙ sym (none (ap (λ q. eq_by_cmp place_cmp p q) (sym place) ∙ ap is_eq (tied_itself place_cmp-total p)))
 
-    other : eq_by_cmp schema_cmp (schema_of e) s ≡ false → contains schema_cmp after s ≡ is_schema n s
+    other : eq_by_cmp schema_cmp (schema_of e) s ≡ false → contains schema_cmp after s ≡ is_held n s
     other h =
         goes s ∙ ap (λ b. cond b false (contains schema_cmp before s)) h ∙ listed s
         ∙ by_bool (eq_by_cmp place_cmp p s.2)
-        (λ k. by_bool (is_schema m s)
+        (λ k. by_bool (is_held m s)
         (λ is. let place : place_of e ≡ s.2 = own ∙ same_place p s.2 k in
         let found : entry_at m s.2 ≡ Some e = sym (ap (entry_at m) (same_place p s.2 k)) ∙ was in
         absurd (never _ (one_schema (schema_of e) s (schema_here e s place (sym (ap (λ o. has_it o s) found) ∙ is))) h))

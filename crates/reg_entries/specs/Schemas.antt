@@ -26,12 +26,12 @@ abbrev pub is_that : Option Schema → Schema → Bool
 is_that o s = option_map_or (λ t. eq_by_cmp schema_cmp t s) o false
 
 -- whether the entry at the place of s has its text and its id
-abbrev pub is_schema : BTreeMap Place Entry → Schema → Bool
-is_schema m s = option_map_or (λ e. e.id == s.1 && bytes_eq e.normal s.0) (entry_at m s.2) false
+abbrev pub is_held : BTreeMap Place Entry → Schema → Bool
+is_held m s = option_map_or (λ e. e.id == s.1 && bytes_eq e.normal s.0) (entry_at m s.2) false
 
 -- the schemas are those of the entries
 abbrev pub AreListed : BTreeMap Place Entry → BTreeSet Schema → Type 0
-AreListed m schemas = (s : Schema) → contains schema_cmp schemas s ≡ is_schema m s
+AreListed m schemas = (s : Schema) → contains schema_cmp schemas s ≡ is_held m s
 
 -- whether that entry, if there is one, has another normal text
 abbrev pub is_other : Option Entry → List ℕ → Bool

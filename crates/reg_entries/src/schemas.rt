@@ -5,7 +5,7 @@ ghost use Rattle.std.specs.BTreeSet.{contains};
 ghost use Rattle.std.specs.Ordering.{eq_by_cmp};
 ghost use Rattle.reg_entries.specs.EntryOrder.{Place, place_cmp, place_of};
 ghost use Rattle.reg_entries.specs.Index.{entry_at, HasAt, ArePlaced, AreNamed};
-ghost use Rattle.reg_entries.specs.Schemas.{Schema, schema_of, schema_cmp, is_schema, is_that, AreListed};
+ghost use Rattle.reg_entries.specs.Schemas.{Schema, schema_of, schema_cmp, is_held, is_that, AreListed};
 
 use crate::entry::Entry;
 use crate::names::{At, Name, place_of, write};
@@ -47,7 +47,7 @@ fn schema_at(entries: &BTreeMap<At, Entry>, place: &At) -> Result<Option<Schema>
 
 /// Whether the entry at a schema's place has that schema.
 fn has_schema(entries: &BTreeMap<At, Entry>, schema: &Schema) -> bool
-    ensures { result ≡ is_schema entries.now schema.now }
+    ensures { result ≡ is_held entries.now schema.now }
 {
     match entries.get(&schema.2) {
         Some(entry) => entry.id == schema.1 && entry.normal == schema.0,
@@ -112,7 +112,7 @@ pub(crate) fn write_all(
 
 /// Takes a schema away unless the entry at its place has it.
 fn settle(schemas: &mut BTreeSet<Schema>, entries: &BTreeMap<At, Entry>, schema: &Schema)
-    ensures { (s : Schema) → contains schema_cmp schemas.new s ≡ (contains schema_cmp schemas.old s && (not (eq_by_cmp schema_cmp schema.now s) || is_schema entries.now s)) }
+    ensures { (s : Schema) → contains schema_cmp schemas.new s ≡ (contains schema_cmp schemas.old s && (not (eq_by_cmp schema_cmp schema.now s) || is_held entries.now s)) }
 {
     if !has_schema(entries, schema) {
         schemas.remove(schema);
@@ -125,7 +125,7 @@ fn settle_any(
     entries: &BTreeMap<At, Entry>,
     schema: &Option<Schema>,
 )
-    ensures { (s : Schema) → contains schema_cmp schemas.new s ≡ (contains schema_cmp schemas.old s && (not (is_that schema.now s) || is_schema entries.now s)) }
+    ensures { (s : Schema) → contains schema_cmp schemas.new s ≡ (contains schema_cmp schemas.old s && (not (is_that schema.now s) || is_held entries.now s)) }
 {
     if let Some(schema) = schema {
         settle(schemas, entries, schema);

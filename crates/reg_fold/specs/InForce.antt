@@ -1,9 +1,9 @@
 -- The level in force, and the modes that scopes have. Below, rs are the last records, and a scope is a subject, or None for all subjects.
 use Rattle.std.specs.Prelude.{ℕ, List, Option, Some, None, option_and_then, unwrap_or}
 use Rattle.std.specs.Option.{option_or}
-use Rattle.reg_levels.specs.Level.{level_named}
-use Rattle.reg_levels.specs.declared.level.Level.{Level}
-use Rattle.reg_levels.specs.declared.level.Level.TheVariants.{Backward}
+use Rattle.reg_level_names.specs.Level.{level_named}
+use Rattle.reg_level_names.specs.declared.level.Level.{Level}
+use Rattle.reg_level_names.specs.declared.level.Level.TheVariants.{Backward}
 use Rattle.reg_records.specs.Value.{value_of}
 use Rattle.reg_records.specs.declared.key.Key.TheVariants as keys
 use Rattle.reg_records.specs.declared.value.Value.{Value}

@@ -19,7 +19,7 @@ use crate::scoped::Scoped;
 use crate::spots::{Spot, forget, forget_elsewhere, spot_of};
 use base_text::Text;
 use reg_entries::{Entries, Entry, Mark};
-use reg_levels::Level;
+use reg_level_names::Level;
 use reg_records::{Key, Record, decode_value};
 use reg_set::{LastRecords, last_is_greatest, last_records_are_enough, records_are_ordered};
 use std::alloc::{AllocError, Global};

@@ -9,7 +9,7 @@ use crate::marks::is_marked;
 use avro_schema::Schema;
 use base_text::Text;
 use reg_entries::Entry;
-use reg_levels::Level;
+use reg_level_names::Level;
 use reg_records::{Decoded, Record, Value, decode, decode_value};
 use reg_set::LastRecords;
 use std::alloc::{AllocError, Global};

@@ -17,7 +17,7 @@ use crate::index::Index;
 use crate::version_ref::VersionRef;
 use base_text::Text;
 use reg_entries::Entry;
-use reg_levels::Level;
+use reg_level_names::Level;
 use reg_records::Record;
 use reg_set::{
     LastRecords, RecordSet, last_records_are_enough, last_records_of_unions, records_are_ordered,

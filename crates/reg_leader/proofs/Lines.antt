@@ -3,7 +3,7 @@ use Rattle.std.proofs.Common.{◌≡◌, ◌⊎◌, inl, inr, ℕ, suc, ◌+◌,
 use Rattle.std.proofs.lemmas.List.Elements.{All-nil, All-cons, All-head, All-tail, All-filter, All-weaker, All-contains_itself}
 use Rattle.std.specs.List.{filter}
 use Rattle.std.specs.Ordering.{nat_cmp, on, ord_max}
-use Rattle.avro_schema.specs.Schema.{Meaning, schema_of}
+use Rattle.avro_schema.specs.Schema.{Meaning, schema_of, is_schema}
 use Rattle.reg_entries.specs.Sought.{counting, counts, of_subject}
 use Rattle.reg_entries.specs.declared.entry.Entry.{Entry}
 use Rattle.reg_fold.specs.Entries.{EntriesAreInLimits, EntriesAreRead, entries}
@@ -11,10 +11,9 @@ use Rattle.reg_fold.specs.InForce.{own_level}
 use Rattle.reg_fold.specs.Standing.{greatest_version, live, version_in}
 use Rattle.reg_fold.specs.declared.version_ref.VersionRef.{VersionRef}
 use Rattle.reg_fold.specs.declared.version_ref.VersionRef.TheVariants.{Latest, Number}
-use Rattle.reg_levels.specs.Level.{is_level, level_text}
-use Rattle.reg_levels.specs.Texts.{is_schema}
-use Rattle.reg_levels.specs.declared.level.Level.{Level}
-use Rattle.reg_levels.specs.declared.level.Level.TheVariants as levels
+use Rattle.reg_level_names.specs.Level.{is_level, level_text}
+use Rattle.reg_level_names.specs.declared.level.Level.{Level}
+use Rattle.reg_level_names.specs.declared.level.Level.TheVariants as levels
 use Rattle.reg_modes.specs.InForce.{mode, own_mode}
 use Rattle.reg_modes.specs.Permitted.{registering, writing}
 use Rattle.reg_records.specs.Value.{value_of}

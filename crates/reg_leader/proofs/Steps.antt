@@ -5,11 +5,11 @@ use Rattle.std.proofs.lemmas.List.Elements.{All-head, All-tail}
 use Rattle.avro_schema.specs.Schema.{Meaning, schema_of}
 use Rattle.reg_fold.specs.InForce.{level}
 use Rattle.reg_fold.specs.Standing.{live}
+use Rattle.reg_level_names.specs.declared.level.Level.{Level}
 use Rattle.reg_levels.specs.LevelVerdict.{HaveOneLevelVerdict, IsCompatible, IsVerdictOn, passed}
 use Rattle.reg_levels.specs.Message.{message_of}
 use Rattle.reg_levels.specs.RequiredPairs.{Required, required_pairs}
 use Rattle.reg_levels.specs.Texts.{TextsMeet, VersionText, nodes_in, versions_in}
-use Rattle.reg_levels.specs.declared.level.Level.{Level}
 use Rattle.reg_modes.specs.InForce.{mode}
 use Rattle.reg_modes.specs.Permitted.{registering}
 use Rattle.reg_records.specs.declared.record.Record.{Record}

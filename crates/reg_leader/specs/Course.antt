@@ -1,7 +1,7 @@
 -- What a command comes to: the refusal of the first test that it fails, or a reply and what is written.
 use Rattle.std.specs.Prelude.{◌≡◌, ◌⊎◌, ℕ, suc, ◌+◌, ◌++◌, List, [], Bool, true, false, nat_le, length, codes, Option, Some, None, Ok, Err}
+use Rattle.reg_level_names.specs.declared.level.Level.{Level}
 use Rattle.reg_levels.specs.Texts.{VersionText, TextsMeet}
-use Rattle.reg_levels.specs.declared.level.Level.{Level}
 use Rattle.reg_modes.specs.Permitted.{Permit}
 use Rattle.reg_records.specs.declared.limits.TheConstants.{OFFSET_LIMIT}
 use Rattle.reg_records.specs.declared.record.Record.{Record}

@@ -9,7 +9,7 @@ use Rattle.reg_fold.specs.InForce.{Scope, level, own_level}
 use Rattle.reg_fold.specs.Standing.{live, greatest_version, version_in}
 use Rattle.reg_fold.specs.declared.version_ref.VersionRef.{VersionRef}
 use Rattle.reg_fold.specs.declared.version_ref.VersionRef.TheVariants.{Latest, Number}
-use Rattle.reg_levels.specs.declared.level.Level.{Level}
+use Rattle.reg_level_names.specs.declared.level.Level.{Level}
 use Rattle.reg_modes.specs.InForce.{mode, own_mode}
 use Rattle.reg_modes.specs.Permitted.{registering, writing}
 use Rattle.reg_modes.specs.declared.mode.Mode.{Mode}

@@ -1,7 +1,7 @@
 // What a registry is told to do.
 use base_text::Text;
 use reg_fold::VersionRef;
-use reg_levels::Level;
+use reg_level_names::Level;
 use reg_modes::Mode;
 
 /// A change that is asked for. Where a subject is optional, `None` is all subjects.

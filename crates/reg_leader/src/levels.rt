@@ -7,7 +7,7 @@ use crate::deed::Deed;
 use crate::reply::Reply;
 use base_text::Text;
 use reg_fold::{Refusal, Registry};
-use reg_levels::Level;
+use reg_level_names::Level;
 use reg_modes::{may_write, mode_in_force};
 use reg_rules::{Writing, has_offset, is_open, subject_of};
 use std::alloc::Global;

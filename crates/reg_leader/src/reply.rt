@@ -1,7 +1,7 @@
 // What is replied to a command.
 use base_text::Listed;
 use reg_fold::Refusal;
-use reg_levels::Level;
+use reg_level_names::Level;
 use reg_modes::Mode;
 
 #[derive(Debug, Drop)]

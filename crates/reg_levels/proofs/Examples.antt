@@ -6,10 +6,10 @@ use Rattle.avro_resolve.specs.declared.trail.Hop.TheVariants as hop
 use Rattle.avro_resolve.specs.declared.trail.ClashKind.TheVariants as clash
 use Rattle.avro_resolve.specs.declared.trail.Trail.{Trail}
 use Rattle.avro_resolve.specs.Trails.{trail_along, IsShown, AreCompatible, ComesFirst}
-use Rattle.reg_levels.specs.declared.level.Level.TheVariants as levels
+use Rattle.reg_level_names.specs.declared.level.Level.TheVariants as levels
+use Rattle.reg_level_names.specs.Level.{level_text, level_named, all_levels}
 use Rattle.reg_levels.specs.declared.direction.Direction.{Direction}
 use Rattle.reg_levels.specs.declared.direction.Direction.TheVariants.{Backward, Forward}
-use Rattle.reg_levels.specs.Level.{level_text, level_named, all_levels}
 use Rattle.reg_levels.specs.RequiredPairs.{Required, required_pairs}
 use Rattle.reg_levels.specs.LevelVerdict.{passed}
 use Rattle.reg_levels.specs.Message.{message_of}

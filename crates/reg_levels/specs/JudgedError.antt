@@ -1,6 +1,7 @@
 -- Why nothing was judged.
 use Rattle.std.specs.Prelude.{◌≡◌, ⊤, ℕ, List, true, false, Some, codes}
-use Rattle.reg_levels.specs.Texts.{VersionText, is_schema}
+use Rattle.avro_schema.specs.Schema.{is_schema}
+use Rattle.reg_levels.specs.Texts.{VersionText}
 use Rattle.reg_levels.specs.Judgement.{first_unread}
 use Rattle.reg_levels.specs.declared.judged_error.JudgedError.{JudgedError}
 use Rattle.reg_levels.specs.declared.judged_error.JudgedError.TheVariants.{NewText, OldText, OutOfMemory}

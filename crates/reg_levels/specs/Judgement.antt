@@ -1,10 +1,11 @@
 -- A verdict, and what it was made of.
 use Rattle.std.specs.Prelude.{◌≡◌, ℕ, List, Option, None, true, not, option_map}
 use Rattle.std.specs.List.{find}
-use Rattle.reg_levels.specs.declared.level.Level.{Level}
+use Rattle.avro_schema.specs.Schema.{is_schema}
+use Rattle.reg_level_names.specs.declared.level.Level.{Level}
 use Rattle.reg_levels.specs.declared.verdict.LevelVerdict.{LevelVerdict}
 use Rattle.reg_levels.specs.RequiredPairs.{HasRisingVersions}
-use Rattle.reg_levels.specs.Texts.{VersionText, is_schema, IsVerdictOfTexts}
+use Rattle.reg_levels.specs.Texts.{VersionText, IsVerdictOfTexts}
 
 pub record Judgement : Type 0 where
   pub level : Level

@@ -1,4 +1,3 @@
-pub mod Level
 pub mod RequiredPairs
 pub mod LevelVerdict
 pub mod Message

@@ -2,8 +2,8 @@
 use Rattle.std.specs.Prelude.{ℕ, ◌-◌, List, [], ◌∷◌, length, map, reverse, drop, flat_map, Bool, true, false, if◌then◌else◌}
 use Rattle.std.specs.List.Sorted.{IsStrictlyIncreasing}
 use Rattle.avro_schema.specs.declared.node.Node.{Node}
-use Rattle.reg_levels.specs.declared.level.Level.{Level}
-use Rattle.reg_levels.specs.declared.level.Level.TheVariants as levels
+use Rattle.reg_level_names.specs.declared.level.Level.{Level}
+use Rattle.reg_level_names.specs.declared.level.Level.TheVariants as levels
 use Rattle.reg_levels.specs.declared.direction.Direction.{Direction}
 use Rattle.reg_levels.specs.declared.direction.Direction.TheVariants.{Backward, Forward}
 

@@ -1,16 +1,12 @@
 -- Schemas that are given by their texts.
-use Rattle.std.specs.Prelude.{ℕ, List, [], map, Bool, is_some}
+use Rattle.std.specs.Prelude.{ℕ, List, [], map}
 use Rattle.std.specs.Option.{option_map_or}
 use Rattle.avro_schema.specs.declared.node.Node.{Node}
 use Rattle.avro_schema.specs.Schema.{schema_of}
-use Rattle.reg_levels.specs.declared.level.Level.{Level}
+use Rattle.reg_level_names.specs.declared.level.Level.{Level}
 use Rattle.reg_levels.specs.declared.verdict.LevelVerdict.{LevelVerdict}
 use Rattle.reg_levels.specs.RequiredPairs.{Version}
 use Rattle.reg_levels.specs.LevelVerdict.{IsLevelVerdict, Meets}
-
--- whether a text is a schema's
-abbrev pub is_schema : List ℕ → Bool
-is_schema text = is_some (schema_of text)
 
 -- the nodes of the schema that a text means; none where it means none
 abbrev pub nodes_in : List ℕ → List Node

@@ -4,10 +4,10 @@ ghost use Rattle.reg_levels.specs.RequiredPairs as pairs;
 ghost use Rattle.reg_levels.specs.LevelVerdict.{IsVerdictOn, IsLevelVerdict, IsOkWhereMet, HaveOneLevelVerdict};
 
 use crate::direction::Direction;
-use crate::level::Level;
 use crate::verdict::LevelVerdict;
 use avro_resolve::{Verdict, resolve, schemas_have_one_verdict};
 use avro_schema::Schema;
+use reg_level_names::Level;
 use std::alloc::{AllocError, Global};
 
 /// Whether a new schema meets a level against the old versions, which stand by ascending version.

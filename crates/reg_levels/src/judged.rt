@@ -5,11 +5,11 @@ ghost use Rattle.reg_levels.specs.Judgement.{IsTrueVerdict, IsMadeOf};
 ghost use Rattle.reg_levels.specs.JudgedError.{IsJudgedRefusal};
 
 use crate::judged_error::JudgedError;
-use crate::level::Level;
 use crate::texts::check_texts;
 use crate::verdict::LevelVerdict;
 use avro_schema::Schema;
 use base_text::{Listed, Text};
+use reg_level_names::Level;
 use std::alloc::{AllocError, Global};
 use std::marker::Model;
 

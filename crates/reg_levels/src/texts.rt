@@ -1,16 +1,17 @@
 // Whether a new schema meets a level against old versions that are given by their texts.
 ghost use Rattle.std.specs.Prelude.{◌≡◌, ℕ, List, None, true, IfOk, IfErr, OnOk, map};
+ghost use Rattle.avro_schema.specs.Schema.{is_schema};
 ghost use Rattle.reg_levels.specs.RequiredPairs.{HasRisingVersions, Version};
 ghost use Rattle.reg_levels.specs.LevelVerdict.{IsLevelVerdict};
-ghost use Rattle.reg_levels.specs.Texts.{is_schema, versions_in};
+ghost use Rattle.reg_levels.specs.Texts.{versions_in};
 ghost use Rattle.reg_levels.specs.Judgement.{first_unread};
 ghost use Rattle.reg_levels.specs.JudgedError.{IsJudgedRefusal};
 
 use crate::checking::check;
 use crate::judged_error::JudgedError;
-use crate::level::Level;
 use crate::verdict::LevelVerdict;
 use avro_schema::Schema;
+use reg_level_names::Level;
 use std::alloc::{AllocError, Global};
 
 /// Whether a new schema meets a level against the old versions, which stand by ascending version

@@ -5,7 +5,7 @@ use Rattle.std.specs.List.Sorted.{IsStrictlyIncreasing}
 use Rattle.std.specs.Option.{option_map_or}
 use Rattle.std.specs.Prelude.{Option}
 use Rattle.avro_schema.specs.Schema.{Meaning, schema_of}
-use Rattle.reg_levels.specs.declared.level.Level.{Level}
+use Rattle.reg_level_names.specs.declared.level.Level.{Level}
 use Rattle.reg_levels.specs.declared.verdict.LevelVerdict.{LevelVerdict}
 use Rattle.reg_levels.specs.LevelVerdict.{IsLevelVerdict}
 use Rattle.reg_levels.specs.RequiredPairs as pairs

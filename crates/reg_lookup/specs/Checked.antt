@@ -2,7 +2,7 @@
 use Rattle.std.specs.Prelude.{◌≡◌, ℕ, List, [], ◌∷◌, Bool, false, Option, Some, None, Result, Ok, Err, map}
 use Rattle.avro_schema.specs.Defaults.{bad_defaults}
 use Rattle.avro_schema.specs.Schema.{Meaning}
-use Rattle.reg_levels.specs.declared.level.Level.{Level}
+use Rattle.reg_level_names.specs.declared.level.Level.{Level}
 use Rattle.reg_levels.specs.declared.verdict.LevelVerdict.{LevelVerdict}
 use Rattle.reg_levels.specs.Message.{message_of}
 use Rattle.reg_levels.specs.Texts.{VersionText, IsVerdictOfTexts}

@@ -2,8 +2,8 @@
 use Rattle.std.specs.Prelude.{ℕ, List, Bool, true, false, Option, Some, None, Result, Ok, Err}
 use Rattle.std.specs.Option.{ok_or}
 use Rattle.reg_set.specs.Records.{Records}
-use Rattle.reg_levels.specs.Level.{level_text}
-use Rattle.reg_levels.specs.declared.level.Level.{Level}
+use Rattle.reg_level_names.specs.Level.{level_text}
+use Rattle.reg_level_names.specs.declared.level.Level.{Level}
 use Rattle.reg_fold.specs.InForce.{Scope, own_level, level}
 use Rattle.reg_refusals.specs.declared.refusal.Refusal.{Refusal}
 use Rattle.reg_refusals.specs.declared.refusal.Refusal.TheVariants.{SubjectHasNoLevel, SubjectHasNoMode}

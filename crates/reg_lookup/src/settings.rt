@@ -7,7 +7,7 @@ use crate::bodies::{level_body, mode_body};
 use crate::error::LookupError;
 use base_text::Text;
 use reg_fold::{Refusal, Registry};
-use reg_levels::Level;
+use reg_level_names::Level;
 use reg_modes::{Mode, mode_in_force, own_mode};
 use std::alloc::Global;
 

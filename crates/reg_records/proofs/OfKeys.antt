@@ -6,8 +6,8 @@ use Rattle.std.specs.Prelude.{IfSome}
 use Rattle.serde_json.specs.Data.{Data}
 use Rattle.serde_json.specs.Find.{as_number, as_object, as_u64, get}
 use Rattle.serde_json.specs.Read.{read}
-use Rattle.reg_levels.specs.Level.{is_level}
-use Rattle.reg_levels.specs.Texts.{is_schema}
+use Rattle.avro_schema.specs.Schema.{is_schema}
+use Rattle.reg_level_names.specs.Level.{is_level}
 use Rattle.reg_records.specs.Json.{has_number_at, has_text_at, number_at, text_at, text_where}
 use Rattle.reg_records.specs.Value.{deleted_in, is_plain_avro, value_in, value_of}
 use Rattle.reg_records.specs.Written.{IsValueOf, IsVersionOrId, ValuesAreOfKeys}

@@ -7,8 +7,8 @@ use Rattle.json.proofs.Printed.Decimals.{IsNumber-decimal}
 use Rattle.serde_json.specs.Read.{read}
 use Rattle.serde_json.specs.Written.{compact_text}
 use Rattle.serde_json.proofs.Numbers.{number_of-decimal}
-use Rattle.reg_levels.specs.Level.{is_level}
-use Rattle.reg_levels.specs.Texts.{is_schema}
+use Rattle.avro_schema.specs.Schema.{is_schema}
+use Rattle.reg_level_names.specs.Level.{is_level}
 use Rattle.reg_records.specs.declared.key.Key.{Key}
 use Rattle.reg_records.specs.declared.key.Key.TheVariants.{Schema, Config, Mode, DeleteSubject}
 use Rattle.reg_records.specs.declared.value.Value.{Value}

@@ -4,9 +4,8 @@ use Rattle.std.specs.Option.{option_map_or}
 use Rattle.serde_json.specs.Data.{Data, Items, no_items, item}
 use Rattle.serde_json.specs.Find.{get, as_bool, as_str, as_array, as_object}
 use Rattle.serde_json.specs.Read.{read}
-use Rattle.avro_schema.specs.Schema.{Meaning, schema_of}
-use Rattle.reg_levels.specs.Level.{is_level}
-use Rattle.reg_levels.specs.Texts.{is_schema}
+use Rattle.avro_schema.specs.Schema.{Meaning, schema_of, is_schema}
+use Rattle.reg_level_names.specs.Level.{is_level}
 use Rattle.reg_records.specs.Json.{is_null, text_at, text_where, number_at, has_text_at, has_number_at}
 use Rattle.reg_records.specs.declared.key.Key.{Key}
 use Rattle.reg_records.specs.declared.key.Key.TheVariants as keys

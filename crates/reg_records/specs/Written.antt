@@ -3,8 +3,8 @@ use Rattle.std.specs.Prelude.{◌≡◌, ◌⊎◌, ◌<◌, ◌≤◌, ◌^◌,
 use Rattle.std.specs.Option.{ForSome}
 use Rattle.serde_json.specs.Data.{unsigned, Data, null, boolean, number, string, object, Members, no_members, member}
 use Rattle.serde_json.specs.Written.{compact_text}
-use Rattle.reg_levels.specs.Level.{is_level}
-use Rattle.reg_levels.specs.Texts.{is_schema}
+use Rattle.avro_schema.specs.Schema.{is_schema}
+use Rattle.reg_level_names.specs.Level.{is_level}
 use Rattle.reg_records.specs.declared.key.Key.{Key}
 use Rattle.reg_records.specs.declared.key.Key.TheVariants.{Schema, Config, Mode, DeleteSubject, Noop}
 use Rattle.reg_records.specs.declared.limits.TheConstants.{NUMBER_LIMIT, OFFSET_LIMIT}

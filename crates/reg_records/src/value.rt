@@ -3,7 +3,7 @@ ghost use Rattle.std.specs.Prelude.{◌≡◌, ◌++◌, ◌≤◌, ℕ, IfOk, I
 ghost use Rattle.serde_json.specs.Data.{boolean};
 ghost use Rattle.serde_json.specs.Written.{compact_text};
 ghost use Rattle.serde_json.specs.View.{view};
-ghost use Rattle.reg_levels.specs.Level.{is_level};
+ghost use Rattle.reg_level_names.specs.Level.{is_level};
 ghost use Rattle.reg_records.specs.Json.{text_where};
 ghost use Rattle.reg_records.specs.Value.{value_of, schema_in, with_schema, value_in, schema_value, config_value, mode_value, delete_subject_value, noop_value, is_plain_avro, is_absent_or, is_absent, is_avro_name, is_empty_list, deleted_in};
 ghost use Rattle.reg_records.specs.Written.{written_value, HasLine, IsInLimits, IsValueOf, ValuesAreOfKeys};
@@ -16,7 +16,7 @@ use crate::members::{has_number_at, has_text_at, number_at, parse, quoted, text_
 use crate::record::Record;
 use avro_schema::Schema;
 use base_text::Text;
-use reg_levels::Level;
+use reg_level_names::Level;
 use serde_json::Value as Json;
 use std::alloc::{AllocError, Global};
 

@@ -7,8 +7,8 @@ use Rattle.serde_json.specs.Find.{get, as_number, as_object}
 use Rattle.serde_json.specs.Read.{read}
 use Rattle.reg_leader.specs.declared.command.Command.{Command}
 use Rattle.reg_leader.specs.declared.command.Command.TheVariants as commands
-use Rattle.reg_levels.specs.Level.{level_named}
-use Rattle.reg_levels.specs.declared.level.Level.{Level}
+use Rattle.reg_level_names.specs.Level.{level_named}
+use Rattle.reg_level_names.specs.declared.level.Level.{Level}
 use Rattle.reg_modes.specs.Mode.{mode_named}
 use Rattle.reg_modes.specs.declared.mode.Mode.{Mode}
 use Rattle.reg_records.specs.Json.{is_null, text_at, number_at}

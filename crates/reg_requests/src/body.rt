@@ -6,7 +6,7 @@ ghost use Rattle.reg_requests.specs.Seen.{seen_text};
 
 use base_text::Text;
 use reg_leader::Command;
-use reg_levels::Level;
+use reg_level_names::Level;
 use reg_modes::Mode;
 use reg_records::{is_plain_avro, number_at, text_at};
 use reg_refusals::{Reason, Refusal};

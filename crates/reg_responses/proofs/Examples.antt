@@ -3,7 +3,7 @@ use Rattle.std.proofs.Common.{◌≡◌, ◌∷◌, [], true, false, refl, codes
 use Rattle.std.specs.Fmt.{digits}
 use Rattle.serde_json.proofs.OnLiterals.{serde_json_on_literals}
 use Rattle.reg_leader.specs.declared.reply.Reply.TheVariants as replies
-use Rattle.reg_levels.specs.declared.level.Level.TheVariants as levels
+use Rattle.reg_level_names.specs.declared.level.Level.TheVariants as levels
 use Rattle.reg_modes.specs.declared.mode.Mode.TheVariants as modes
 use Rattle.reg_refusals.specs.declared.allow.Allow.TheVariants as allows
 use Rattle.reg_refusals.specs.declared.reason.Reason.TheVariants as reasons

@@ -2,9 +2,9 @@
 use Rattle.std.proofs.Common.{◌≡◌, ℕ, List, refl, subst, sym}
 use Rattle.std.specs.Prelude.{Bool, Some, Result, Ok, Err}
 use Rattle.reg_leader.specs.declared.reply.Reply.TheVariants as replies
+use Rattle.reg_level_names.specs.declared.level.Level.{Level}
 use Rattle.reg_levels.specs.Message.{message_of}
 use Rattle.reg_levels.specs.Texts.{VersionText}
-use Rattle.reg_levels.specs.declared.level.Level.{Level}
 use Rattle.reg_lookup.specs.Bodies.{answer_with, check_body}
 use Rattle.reg_lookup.specs.ById.{schema_by_id, id_versions}
 use Rattle.reg_lookup.specs.BySchema.{lookup}

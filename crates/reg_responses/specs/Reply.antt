@@ -4,7 +4,7 @@ use Rattle.serde_json.specs.Data.{string, object, member, no_members}
 use Rattle.serde_json.specs.Written.{compact_text}
 use Rattle.reg_leader.specs.declared.reply.Reply.{Reply}
 use Rattle.reg_leader.specs.declared.reply.Reply.TheVariants as replies
-use Rattle.reg_levels.specs.Level.{level_text}
+use Rattle.reg_level_names.specs.Level.{level_text}
 use Rattle.reg_lookup.specs.Bodies.{answer_with, level_body, list_body, mode_body, number_data}
 use Rattle.reg_lookup.specs.declared.answered.Answer.{Answer}
 use Rattle.reg_modes.specs.Mode.{mode_text}

@@ -40,7 +40,7 @@ pub struct Paths {
 }
 
 impl Paths {
-    /// The only error is want of memory.
+    /// Whatever keeps the router from being made is reported as want of memory.
     pub fn new(alloc: Global) -> Result<Paths, AllocError> {
         match router_of_paths(alloc) {
             Ok(router) => Ok(Paths { router }),

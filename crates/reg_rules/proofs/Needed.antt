@@ -3,12 +3,13 @@ use Rattle.std.proofs.Common.{◌≡◌, ℕ, zero, suc, ◌+◌, ◌-◌, ◌<�
 use Rattle.std.proofs.lemmas.List.{drop-drop, drop-map, length-drop, length-map}
 use Rattle.std.specs.List.{find, slice_index}
 use Rattle.std.specs.List.Sorted.{IsStrictlyIncreasing}
+use Rattle.avro_schema.specs.Schema.{is_schema}
+use Rattle.reg_level_names.specs.declared.level.Level.{Level}
+use Rattle.reg_level_names.specs.declared.level.Level.TheVariants as levels
 use Rattle.reg_levels.specs.Judgement.{first_unread}
 use Rattle.reg_levels.specs.LevelVerdict.{IsVerdictOn}
 use Rattle.reg_levels.specs.RequiredPairs.{HasRisingVersions, Version, looked_at, required_of, required_pairs}
-use Rattle.reg_levels.specs.Texts.{IsVerdictOfTexts, VersionText, is_schema, nodes_in, versions_in}
-use Rattle.reg_levels.specs.declared.level.Level.{Level}
-use Rattle.reg_levels.specs.declared.level.Level.TheVariants as levels
+use Rattle.reg_levels.specs.Texts.{IsVerdictOfTexts, VersionText, nodes_in, versions_in}
 use Rattle.reg_levels.specs.declared.verdict.LevelVerdict.{LevelVerdict}
 use Rattle.reg_rules.specs.Needed.{needed, passed_over}
 

@@ -1,7 +1,7 @@
 -- Private: the old versions that a check is handed.
 use Rattle.std.specs.Prelude.{ℕ, ◌-◌, List, length, drop}
-use Rattle.reg_levels.specs.declared.level.Level.{Level}
-use Rattle.reg_levels.specs.declared.level.Level.TheVariants as levels
+use Rattle.reg_level_names.specs.declared.level.Level.{Level}
+use Rattle.reg_level_names.specs.declared.level.Level.TheVariants as levels
 
 -- how many of so many old versions a level doesn't look at, which are the first ones
 abbrev pub passed_over : Level → ℕ → ℕ

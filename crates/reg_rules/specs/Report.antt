@@ -1,8 +1,8 @@
 -- What a check of the level tells.
 use Rattle.std.specs.Prelude.{◌≡◌, ℕ, List, Option, Some, None}
+use Rattle.reg_level_names.specs.declared.level.Level.{Level}
 use Rattle.reg_levels.specs.Message.{message_of}
 use Rattle.reg_levels.specs.Texts.{VersionText, IsVerdictOfTexts, TextsMeet}
-use Rattle.reg_levels.specs.declared.level.Level.{Level}
 use Rattle.reg_levels.specs.declared.verdict.LevelVerdict.{LevelVerdict}
 
 -- the level isn't met, and that is the message of the first required pair that clashes

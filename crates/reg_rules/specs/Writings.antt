@@ -1,7 +1,7 @@
 -- What commands write.
 use Rattle.std.specs.Prelude.{ℕ, suc, List, [], ◌∷◌, true, false, Some, None, option_and_then}
-use Rattle.reg_levels.specs.Level.{level_text}
-use Rattle.reg_levels.specs.declared.level.Level.{Level}
+use Rattle.reg_level_names.specs.Level.{level_text}
+use Rattle.reg_level_names.specs.declared.level.Level.{Level}
 use Rattle.reg_modes.specs.Mode.{mode_text}
 use Rattle.reg_modes.specs.declared.mode.Mode.{Mode}
 use Rattle.reg_records.specs.Written.{written_value}

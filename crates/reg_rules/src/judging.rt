@@ -13,7 +13,8 @@ ghost use Rattle.reg_rules.specs.Report.{IsReport};
 use avro_schema::Schema;
 use base_text::Text;
 use reg_fold::{Entry, Registry, entries_are_read};
-use reg_levels::{Judged, JudgedError, Level, LevelVerdict, check_texts};
+use reg_level_names::Level;
+use reg_levels::{Judged, JudgedError, LevelVerdict, check_texts};
 use std::alloc::{AllocError, Global};
 
 /// The message of the first pair that clashes, by the judgement if it fits, else by a new one;

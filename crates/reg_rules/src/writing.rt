@@ -6,7 +6,7 @@ ghost use Rattle.reg_rules.specs.Writings.{deleted_again, deleted_up_to, level_c
 
 use base_text::Text;
 use reg_fold::Entry;
-use reg_levels::Level;
+use reg_level_names::Level;
 use reg_modes::Mode;
 use reg_records::{Key, Record, Value};
 use std::alloc::{AllocError, Global};

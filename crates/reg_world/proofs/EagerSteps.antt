@@ -19,7 +19,7 @@ use Rattle.reg_entries.specs.declared.entry.Entry.{Entry}
 use Rattle.reg_fold.specs.Entries.{entry_of}
 use Rattle.reg_fold.specs.Entries as of_lasts
 use Rattle.reg_fold.specs.Marks.{covers, is_marked}
-use Rattle.reg_world.specs.Eager.{after_key, entry_in, marked_by, marked_with, put_by}
+use Rattle.reg_world.specs.Eager.{after_key, entry_as_written, marked_by, marked_with, put_by}
 use Rattle.reg_world.proofs.EagerPlaces.{at_itself, same_place, there}
 use Rattle.reg_world.proofs.Tops.{IsAbove, LastLaws, other_last, top_last}
 
@@ -41,9 +41,9 @@ seen log p = option_and_then (λ x. option_map (remarked log) (put_by x)) (last 
 
 -- an entry has the offset of its record
 at_offset : (x : Record) (e : Entry) → put_by x ≡ Some e → e.offset ≡ x.offset
-at_offset x e is = elim (value_of x) as (λ o. option_and_then (entry_in x.offset) o ≡ Some e → e.offset ≡ x.offset) [ None ↦ λ h. absurd (cc) | Some v ↦ of_value v ] is
+at_offset x e is = elim (value_of x) as (λ o. option_and_then (entry_as_written x.offset) o ≡ Some e → e.offset ≡ x.offset) [ None ↦ λ h. absurd (cc) | Some v ↦ of_value v ] is
   where
-    of_value : (v : Value) → entry_in x.offset v ≡ Some e → e.offset ≡ x.offset
+    of_value : (v : Value) → entry_as_written x.offset v ≡ Some e → e.offset ≡ x.offset
     of_value (values.Schema subject version id schema deleted) h = ap (λ o. (unwrap_or o e).offset) (sym h)
     of_value (values.Config level) h = absurd (cc)
     of_value (values.Mode mode) h = absurd (cc)
@@ -81,7 +81,7 @@ IsFit log (keys.Mode scope) r = Unit {0}
 IsFit log keys.Noop r = Unit {0}
 
 module _ (l : LastLaws) where
-  gives : (log : Records) (offset : ℕ) (v : Value) → of_lasts.entry_in (last_records log) offset v ≡ option_map (remarked log) (entry_in offset v)
+  gives : (log : Records) (offset : ℕ) (v : Value) → of_lasts.entry_in (last_records log) offset v ≡ option_map (remarked log) (entry_as_written offset v)
   unfolding is_marked
   gives log offset (values.Schema subject version id schema deleted) =
       ap (λ o. Some (record { subject = subject; version = version; id = id; text = schema; normal = of_lasts.normal_of schema; offset = offset; soft = deleted || mark o version offset })) (l.lasts log (keys.DeleteSubject subject))
@@ -92,7 +92,7 @@ module _ (l : LastLaws) where
 
   given : (log : Records) (x : Record) → entry_of (last_records log) x ≡ option_map (remarked log) (put_by x)
   unfolding entry_of
-  given log x = elim (value_of x) as (λ o. option_and_then (of_lasts.entry_in (last_records log) x.offset) o ≡ option_map (remarked log) (option_and_then (entry_in x.offset) o)) [ None ↦ refl | Some v ↦ gives log x.offset v ]
+  given log x = elim (value_of x) as (λ o. option_and_then (of_lasts.entry_in (last_records log) x.offset) o ≡ option_map (remarked log) (option_and_then (entry_as_written x.offset) o)) [ None ↦ refl | Some v ↦ gives log x.offset v ]
 
   pub there_seen : (log : Records) (p : Place) → there log p ≡ seen log p
   there_seen log p = elim (last log (keys.Schema p.0 p.1)) as (λ o. option_and_then (entry_of (last_records log)) o ≡ option_and_then (λ x. option_map (remarked log) (put_by x)) o) [ None ↦ refl | Some x ↦ given log x ]

@@ -23,8 +23,8 @@ use Rattle.reg_world.specs.State.{State, topic_of}
 use Rattle.reg_world.specs.declared.event.Event.{Event}
 
 -- the entry that a version's value is, soft where the value itself says deleted
-abbrev pub entry_in : ℕ → Value → Option Entry
-entry_in offset (values.Schema subject version id schema deleted) = Some (record {
+abbrev pub entry_as_written : ℕ → Value → Option Entry
+entry_as_written offset (values.Schema subject version id schema deleted) = Some (record {
   subject = subject;
   version = version;
   id = id;
@@ -33,14 +33,14 @@ entry_in offset (values.Schema subject version id schema deleted) = Some (record
   offset = offset;
   soft = deleted;
 })
-entry_in offset (values.Config level) = None
-entry_in offset (values.Mode mode) = None
-entry_in offset (values.DeleteSubject subject version) = None
-entry_in offset values.Noop = None
+entry_as_written offset (values.Config level) = None
+entry_as_written offset (values.Mode mode) = None
+entry_as_written offset (values.DeleteSubject subject version) = None
+entry_as_written offset values.Noop = None
 
 -- what a record puts at the place of its version: an entry, and nothing where it has no value that can be read
 abbrev pub put_by : Record → Option Entry
-put_by r = option_and_then (entry_in r.offset) (value_of r)
+put_by r = option_and_then (entry_as_written r.offset) (value_of r)
 
 -- a soft delete with that value marks an entry of its subject, up to the version that it names
 abbrev pub marked_with : Value → Entry → Entry

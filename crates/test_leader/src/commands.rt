@@ -3,7 +3,7 @@
 use base_text::Text;
 use reg_fold::VersionRef;
 use reg_leader::Command;
-use reg_levels::Level;
+use reg_level_names::Level;
 use reg_modes::Mode;
 use std::alloc::{AllocError, Global};
 use std::test::Fail;

@@ -3,7 +3,8 @@ use crate::commands::command_of;
 use crate::logs::registry_of;
 use crate::replies::told;
 use reg_leader::decide;
-use reg_levels::{Judged, Level};
+use reg_level_names::Level;
+use reg_levels::Judged;
 use std::alloc::Global;
 use std::test::Fail;
 

@@ -1,5 +1,6 @@
 // Judgements: what they fit, and what isn't judged.
-use reg_levels::{Judged, JudgedError, Level, versions_rise};
+use reg_level_names::Level;
+use reg_levels::{Judged, JudgedError, versions_rise};
 use std::alloc::Global;
 
 const INT: &str = r#""int""#;

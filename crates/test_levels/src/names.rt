@@ -1,5 +1,6 @@
 // The levels and their names.
-use reg_levels::{Direction, Level};
+use reg_level_names::Level;
+use reg_levels::Direction;
 use std::alloc::{AllocError, Global};
 
 /// Texts, each with the name of the level that it gives; nothing where it gives none.

@@ -1,6 +1,7 @@
 // Which pairs each level asks for, and what is told of the first that clashes.
 use avro_schema::Schema;
-use reg_levels::{Judged, JudgedError, Level, LevelVerdict, check, versions_rise};
+use reg_level_names::Level;
+use reg_levels::{Judged, JudgedError, LevelVerdict, check, versions_rise};
 use std::alloc::{AllocError, Global};
 
 static LEVELS: [Level; 7] = [

@@ -18,6 +18,8 @@ pub(crate) enum Line {
     /// The level of a scope, which is the JSON text of a subject or null.
     Level(u64, &'static str, &'static str),
     NoLevel(u64, &'static str),
+    /// No operation.
+    Noop(u64),
 }
 
 /// The front of a version's line, up to its value.
@@ -57,6 +59,7 @@ fn write_key(out: &mut String, line: Line) -> Result<(), AllocError> {
                 "{offset}\t{{\"keytype\":\"CONFIG\",\"subject\":{scope}}}\t"
             )
         }
+        Line::Noop(offset) => { write!(out, "{offset}\t{{\"keytype\":\"NOOP\",\"magic\":0}}\t") }
     }
 }
 
@@ -82,7 +85,7 @@ fn write_value(out: &mut String, line: Line) -> Result<(), AllocError> {
         Line::Deleted(_, subject, version, id, name) => {
             write_schema(out, (subject, version), id, name, true)
         }
-        Line::Tombstone(_, _, _) | Line::Undelete(_, _) | Line::NoLevel(_, _) => {
+        Line::Tombstone(..) | Line::Undelete(..) | Line::NoLevel(..) | Line::Noop(_) => {
             write!(out, "null\n")
         }
         Line::Unreadable(_, _, _) => write!(out, "{{}}\n"),

@@ -1,6 +1,6 @@
 // What is told, whether the connection is closed, and the whole response, with `|` for CR LF.
 use reg_leader::Reply;
-use reg_levels::Level;
+use reg_level_names::Level;
 use reg_modes::Mode;
 use reg_refusals::{Allow, Reason, Refusal, StoreFault};
 

@@ -3,7 +3,7 @@
 use crate::records::cut;
 use crate::words::{parts_of, schema_of, scope_of, text_of, version_of};
 use reg_leader::Command;
-use reg_levels::Level;
+use reg_level_names::Level;
 use reg_modes::Mode;
 use std::alloc::{AllocError, Global};
 

@@ -49,7 +49,7 @@ fn reading_of(line: Line) -> Option<Said> {
         }
         Line::Delete(offset, subject, last) => (offset, subject, 0, last, ""),
         Line::Undelete(offset, subject) => (offset, subject, 0, 0, ""),
-        Line::Level(..) | Line::NoLevel(..) => return None,
+        Line::Level(..) | Line::NoLevel(..) | Line::Noop(_) => return None,
     };
     Some(Said {
         offset,

@@ -4,7 +4,7 @@ use super::answers::Ask::{
     GreatestId, GreatestVersion, IdOf, InForce, IsClosed, Live, Named, Opaque, TwoSchemas, Versions,
 };
 use crate::lines::Line::{
-    Delete, Deleted, Level, NoLevel, Schema, Tombstone, Undelete, Unreadable,
+    Delete, Deleted, Level, NoLevel, Noop, Schema, Tombstone, Undelete, Unreadable,
 };
 
 const INT: &str = "\"int\"";
@@ -17,7 +17,7 @@ const ALL: &str = "null";
 const S: &str = "\"s\"";
 
 /// Which versions of a subject are live.
-pub(crate) static LIVE: [Row; 10] = [
+pub(crate) static LIVE: [Row; 11] = [
     Row {
         what: "A tombstone deletes older records, also where it comes before them",
         lines: &[Tombstone(9, "s", 1), Schema(4, "s", 1, 1, "string")],
@@ -103,6 +103,12 @@ pub(crate) static LIVE: [Row; 10] = [
     Row {
         what: "Of two records at one offset the one with the greater text is last",
         lines: &[Tombstone(1, "s", 1), Schema(1, "s", 1, 1, "int")],
+        orders: 2,
+        answers: &[(Live("s"), " 1")],
+    },
+    Row {
+        what: "A record is taken after a younger one of no operation",
+        lines: &[Noop(9), Schema(1, "s", 1, 1, "int")],
         orders: 2,
         answers: &[(Live("s"), " 1")],
     },
