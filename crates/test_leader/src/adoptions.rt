@@ -44,16 +44,18 @@ static SETS: [(&str, Option<AdoptError>); 7] = [
     ),
 ];
 
-// Why the set of those records isn't adopted.
-fn refused(alloc: Global, lines: &str) -> Result<Option<AdoptError>, Fail> {
-    let mut set = RecordSet::new(alloc);
+fn take_all(alloc: Global, set: &mut RecordSet, lines: &str) -> Result<(), Fail> {
     for line in lines.lines() {
         set.take(&record_of(alloc, line)?)?;
     }
-    match adopt(alloc, &set) {
-        Ok(_) => Ok(None),
-        Err(error) => Ok(Some(error)),
-    }
+    Ok(())
+}
+
+// Why the set of those records isn't adopted.
+fn refused(alloc: Global, lines: &str) -> Result<Option<AdoptError>, Fail> {
+    let mut set = RecordSet::new(alloc);
+    take_all(alloc, &mut set, lines)?;
+    Ok(adopt(alloc, &set).err())
 }
 
 #[test]

@@ -1,10 +1,11 @@
 // Judgements that are handed in: reply and batch are those without one, whether it fits or not.
 use crate::commands::command_of;
 use crate::logs::registry_of;
-use crate::replies::told;
-use reg_leader::decide;
+use crate::replies::is_told;
+use reg_fold::Registry;
+use reg_leader::{Command, decide};
 use reg_level_names::Level;
-use reg_levels::Judged;
+use reg_levels::{Judged, versions_rise};
 use std::alloc::Global;
 use std::test::Fail;
 
@@ -42,29 +43,54 @@ static JUDGEMENTS: [(Level, &[(u32, &str)]); 5] = [
     (Level::BackwardTransitive, &[(1, FIRST), (2, SECOND)]),
 ];
 
-// Whether that is what the registration of NEW comes to, with the judgement.
+// Whether the registration comes to that, with the judgement.
 fn comes_to(
     alloc: Global,
-    log: &str,
-    expected: &str,
+    registry: &Registry,
+    registration: &Command,
     judged: Option<&Judged>,
+    expected: &str,
 ) -> Result<bool, Fail> {
-    let registry = registry_of(alloc, log)?;
-    let line = format!(in alloc; "register s {NEW}")?;
-    let command = command_of(alloc, line.as_str())?;
-    let decision = decide(alloc, &registry, 4, &command, judged);
-    Ok(told(alloc, &decision)?.as_slice() == expected.as_bytes())
+    let decision = decide(alloc, registry, 4, registration, judged);
+    is_told(alloc, &decision, expected)
 }
 
-// Whether no judgement changes what the registration comes to.
-fn is_the_same(alloc: Global, log: &str, expected: &str) -> Result<bool, Fail> {
+// The same with the judgement on NEW against those old versions.
+fn judged_comes_to(
+    alloc: Global,
+    registry: &Registry,
+    registration: &Command,
+    level: Level,
+    olds: &[(u32, &str)],
+    expected: &str,
+) -> Result<bool, Fail> {
+    if !versions_rise(olds) {
+        return Ok(false);
+    }
+    let judged = Judged::make(alloc, level, NEW, olds)?;
+    comes_to(alloc, registry, registration, Some(&judged), expected)
+}
+
+fn all_come_to(
+    alloc: Global,
+    registry: &Registry,
+    registration: &Command,
+    expected: &str,
+) -> Result<bool, Fail> {
     for (level, olds) in &JUDGEMENTS {
-        let judged = Judged::make(alloc, *level, NEW, olds)?;
-        if !comes_to(alloc, log, expected, Some(&judged))? {
+        if !judged_comes_to(alloc, registry, registration, *level, olds, expected)? {
             return Ok(false);
         }
     }
-    comes_to(alloc, log, expected, None)
+    comes_to(alloc, registry, registration, None, expected)
+}
+
+// Whether no judgement changes what the registration of NEW comes to.
+fn is_the_same(alloc: Global, log: &str, expected: &str) -> Result<bool, Fail> {
+    let registry = registry_of(alloc, log)?;
+    let line = format!(in alloc; "register s {NEW}")?;
+    let registration = command_of(alloc, line.as_str())?;
+    all_come_to(alloc, &registry, &registration, expected)
 }
 
 #[test]

@@ -13,10 +13,15 @@ pub fn record_of(alloc: Global, line: &str) -> Result<Record, Fail> {
     }
 }
 
-pub fn registry_of(alloc: Global, lines: &str) -> Result<Registry, Fail> {
-    let mut registry = Registry::empty(alloc);
+fn apply_all(alloc: Global, registry: &mut Registry, lines: &str) -> Result<(), Fail> {
     for line in lines.lines() {
         registry.apply(&record_of(alloc, line)?)?;
     }
+    Ok(())
+}
+
+pub fn registry_of(alloc: Global, lines: &str) -> Result<Registry, Fail> {
+    let mut registry = Registry::empty(alloc);
+    apply_all(alloc, &mut registry, lines)?;
     Ok(registry)
 }

@@ -56,10 +56,15 @@ fn push_line(alloc: Global, told: &mut Vec<u8>, record: &Record) -> Result<(), F
 }
 
 // The reply, and below it the lines that are written.
-pub fn told(alloc: Global, decision: &Decision) -> Result<Vec<u8>, Fail> {
+fn told(alloc: Global, decision: &Decision) -> Result<Vec<u8>, Fail> {
     let mut told = reply_text(alloc, &decision.reply)?.into_bytes();
     for record in decision.batch.as_slice() {
         push_line(alloc, &mut told, record)?;
     }
     Ok(told)
+}
+
+// Whether these lines are the reply and, below it, those that are written.
+pub fn is_told(alloc: Global, decision: &Decision, lines: &str) -> Result<bool, Fail> {
+    Ok(told(alloc, decision)?.as_slice() == lines.as_bytes())
 }

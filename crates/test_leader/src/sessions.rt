@@ -4,7 +4,7 @@
 // in a log, but for a `|` in the place of each TAB.
 use crate::commands::command_of;
 use crate::logs::registry_of;
-use crate::replies::told;
+use crate::replies::is_told;
 use reg_fold::Registry;
 use reg_leader::{Decision, decide};
 use std::alloc::Global;
@@ -385,10 +385,6 @@ fn decision_on(
 ) -> Result<Decision, Fail> {
     let command = command_of(alloc, head)?;
     Ok(decide(alloc, registry, next, &command, None))
-}
-
-fn is_told(alloc: Global, decision: &Decision, lines: &str) -> Result<bool, Fail> {
-    Ok(told(alloc, decision)?.as_slice() == lines.as_bytes())
 }
 
 // The next offset after a command, where the lines are what is replied and written.

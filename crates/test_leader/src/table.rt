@@ -161,16 +161,24 @@ fn is_replied(alloc: Global, registry: &Registry, line: &str, reply: &str) -> Re
     Ok(reply_text(alloc, &decision.reply)?.as_str() == reply)
 }
 
-// The first row with another reply.
-fn first_other(alloc: Global, log: &str, rows: &'static str) -> Result<Option<&'static str>, Fail> {
-    let registry = registry_of(alloc, log)?;
+// The first row with another reply, on that registry.
+fn first_other_on(
+    alloc: Global,
+    registry: &Registry,
+    rows: &'static str,
+) -> Result<Option<&'static str>, Fail> {
     for row in rows.lines() {
         let (command, reply) = row.split_once(" => ").ok_or("a reply")?;
-        if !is_replied(alloc, &registry, command, reply)? {
+        if !is_replied(alloc, registry, command, reply)? {
             return Ok(Some(row));
         }
     }
     Ok(None)
+}
+
+fn first_other(alloc: Global, log: &str, rows: &'static str) -> Result<Option<&'static str>, Fail> {
+    let registry = registry_of(alloc, log)?;
+    first_other_on(alloc, &registry, rows)
 }
 
 #[test]

@@ -1,7 +1,7 @@
 // What requests ask.
 use crate::rows::request_of;
 use crate::shown::shown;
-use reg_requests::Paths;
+use reg_requests::{Asked, Paths, Request};
 use std::alloc::Global;
 use std::test::Fail;
 
@@ -225,72 +225,100 @@ PUT /mode {} => 42204 Invalid mode
 PUT /mode {"mode":"READONLY_OVERRIDE"} => 42204 Invalid mode
 PUT /mode/s?force=true {"mode":1} => 42204 Invalid mode"#;
 
-// The words of what a request asks.
-fn asked_text(alloc: Global, paths: &Paths, fields: &str, row: &str) -> Result<String, Fail> {
-    let request = request_of(alloc, fields, row)?;
+fn is_shown(alloc: Global, asked: &Asked, expected: &str) -> Result<bool, Fail> {
+    Ok(shown(alloc, asked)?.as_str() == expected)
+}
+
+// Whether those are the words of what a request asks.
+fn asks(alloc: Global, paths: &Paths, request: &Request, expected: &str) -> Result<bool, Fail> {
     let asked = request.route_by(alloc, paths)?;
-    Ok(shown(alloc, &asked)?)
+    is_shown(alloc, &asked, expected)
 }
 
-// The first row that asks for something else; each request tells a length.
-fn first_other(alloc: Global, rows: &'static str) -> Result<Option<&'static str>, Fail> {
-    let paths = Paths::new(alloc)?;
-    for row in rows.lines() {
-        let (request, expected) = row.split_once(" => ").ok_or("a request")?;
-        if asked_text(alloc, &paths, "Content-Length: 7", request)?.as_str() != expected {
-            return Ok(Some(row));
-        }
+fn row_asks(
+    alloc: Global,
+    paths: &Paths,
+    fields: &str,
+    row: &str,
+    expected: &str,
+) -> Result<bool, Fail> {
+    let request = request_of(alloc, fields, row)?;
+    asks(alloc, paths, &request, expected)
+}
+
+// The fields of a row, which stand before its request, or a length where rows have none, and the rest.
+fn fields_before(row: &str, by_fields: bool) -> Result<(&str, &str), Fail> {
+    if by_fields {
+        Ok(row.split_once(" => ").ok_or("fields")?)
+    } else {
+        Ok(("Content-Length: 7", row))
     }
-    Ok(None)
 }
 
-// The first row that asks for something else, where the fields stand before the request.
-fn first_other_by_fields(alloc: Global, rows: &'static str) -> Result<Option<&'static str>, Fail> {
-    let paths = Paths::new(alloc)?;
+fn first_other_by(
+    alloc: Global,
+    paths: &Paths,
+    rows: &'static str,
+    by_fields: bool,
+) -> Result<Option<&'static str>, Fail> {
     for row in rows.lines() {
-        let (fields, rest) = row.split_once(" => ").ok_or("fields")?;
+        let (fields, rest) = fields_before(row, by_fields)?;
         let (request, expected) = rest.split_once(" => ").ok_or("a request")?;
-        if asked_text(alloc, &paths, fields, request)?.as_str() != expected {
+        if !row_asks(alloc, paths, fields, request, expected)? {
             return Ok(Some(row));
         }
     }
     Ok(None)
+}
+
+// The first row that asks for something else.
+fn first_other(
+    alloc: Global,
+    rows: &'static str,
+    by_fields: bool,
+) -> Result<Option<&'static str>, Fail> {
+    let paths = Paths::new(alloc)?;
+    first_other_by(alloc, &paths, rows, by_fields)
 }
 
 #[test]
 fn each_route_asks(rt: HostRuntime) -> Result<(), Fail> {
-    assert_eq!(rt; first_other(rt.alloc(), ROUTES)?, None);
+    assert_eq!(rt; first_other(rt.alloc(), ROUTES, false)?, None);
     Ok(())
 }
 
 #[test]
 fn the_first_failed_test_is_told(rt: HostRuntime) -> Result<(), Fail> {
-    assert_eq!(rt; first_other_by_fields(rt.alloc(), TESTS)?, None);
+    assert_eq!(rt; first_other(rt.alloc(), TESTS, true)?, None);
     Ok(())
 }
 
 #[test]
 fn types_are_accepted_or_refused(rt: HostRuntime) -> Result<(), Fail> {
-    assert_eq!(rt; first_other_by_fields(rt.alloc(), TYPES)?, None);
+    assert_eq!(rt; first_other(rt.alloc(), TYPES, true)?, None);
     Ok(())
 }
 
 #[test]
 fn targets_are_read(rt: HostRuntime) -> Result<(), Fail> {
-    assert_eq!(rt; first_other(rt.alloc(), TARGETS)?, None);
+    assert_eq!(rt; first_other(rt.alloc(), TARGETS, false)?, None);
     Ok(())
 }
 
 #[test]
 fn bodies_are_read(rt: HostRuntime) -> Result<(), Fail> {
-    assert_eq!(rt; first_other(rt.alloc(), BODIES)?, None);
+    assert_eq!(rt; first_other(rt.alloc(), BODIES, false)?, None);
     Ok(())
+}
+
+fn asks_alone(alloc: Global, request: &Request, expected: &str) -> Result<bool, Fail> {
+    let asked = request.route(alloc)?;
+    is_shown(alloc, &asked, expected)
 }
 
 #[test]
 fn a_request_is_routed_alone(rt: HostRuntime) -> Result<(), Fail> {
     let request = request_of(rt.alloc(), "-", "GET /config")?;
-    let asked = request.route(rt.alloc())?;
-    assert_eq!(rt; shown(rt.alloc(), &asked)?.as_str(), "level *");
+    assert!(rt; asks_alone(rt.alloc(), &request, "level *")?);
     Ok(())
 }

@@ -9,17 +9,26 @@ fn bytes_of(alloc: Global, bytes: &[u8]) -> Result<Listed<u8>, AllocError> {
     Ok(Listed::from(Vec::from_slice(alloc, bytes)?))
 }
 
+fn field_of(alloc: Global, row: &str) -> Result<Field, Fail> {
+    let (name, value) = row.split_once(": ").ok_or("a field")?;
+    Ok(Field {
+        name: bytes_of(alloc, name.as_bytes())?,
+        value: bytes_of(alloc, value.as_bytes())?,
+    })
+}
+
+fn push_fields(alloc: Global, fields: &mut Vec<Field>, row: &str) -> Result<(), Fail> {
+    for field in row.split(" & ") {
+        fields.push(field_of(alloc, field)?)?;
+    }
+    Ok(())
+}
+
 /// The fields of a row, with ` & ` between two; `-` is none.
 pub fn fields_of(alloc: Global, row: &str) -> Result<Listed<Field>, Fail> {
     let mut fields = Vec::new(alloc);
     if row != "-" {
-        for field in row.split(" & ") {
-            let (name, value) = field.split_once(": ").ok_or("a field")?;
-            fields.push(Field {
-                name: bytes_of(alloc, name.as_bytes())?,
-                value: bytes_of(alloc, value.as_bytes())?,
-            })?;
-        }
+        push_fields(alloc, &mut fields, row)?;
     }
     Ok(Listed::from(fields))
 }
@@ -39,15 +48,19 @@ fn body_of(alloc: Global, row: &str) -> Result<Option<Listed<u8>>, AllocError> {
     Ok(Some(bytes_of(alloc, bytes)?))
 }
 
+fn method_of(alloc: Global, word: &str) -> Result<Method, Fail> {
+    match Method::from_bytes(alloc, word.as_bytes()) {
+        Ok(method) => Ok(method),
+        Err(_) => Err(Fail::from("a method")),
+    }
+}
+
 /// The request of a row: its method, its target, and its body, where it has one.
 pub fn request_of(alloc: Global, fields: &str, row: &str) -> Result<Request, Fail> {
     let (method, rest) = row.split_once(" ").ok_or("a method")?;
     let (target, body) = rest.split_once(" ").unwrap_or((rest, ""));
-    let Ok(method) = Method::from_bytes(alloc, method.as_bytes()) else {
-        return Err(Fail::from("a method"));
-    };
     Ok(Request {
-        method,
+        method: method_of(alloc, method)?,
         target: Text::copy_of(alloc, target)?,
         fields: fields_of(alloc, fields)?,
         body: body_of(alloc, body)?,

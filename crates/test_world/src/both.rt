@@ -32,10 +32,10 @@ impl Both {
     /// What comes of the event of those words, where it is the same in both.
     pub(crate) fn step(&mut self, alloc: Global, words: &str) -> Result<Option<String>, Fail> {
         let event = event_of(alloc, words, &self.plain.written)?;
-        Ok(self.outcome(alloc, &event)?)
+        self.outcome(alloc, &event)
     }
 
-    fn outcome(&mut self, alloc: Global, event: &Event) -> Result<Option<String>, AllocError> {
+    fn outcome(&mut self, alloc: Global, event: &Event) -> Result<Option<String>, Fail> {
         let expected = self.plain.step(alloc, event)?;
         let found = step_text(alloc, &mut self.world, event)?;
         if found.as_str() == expected.as_str() {

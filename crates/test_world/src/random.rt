@@ -3,6 +3,7 @@ use crate::both::Both;
 use crate::draws::Draws;
 use crate::plain::registry_of;
 use crate::records::log_of;
+use reg_records::Log;
 use std::alloc::{AllocError, Global};
 use std::test::Fail;
 
@@ -178,12 +179,18 @@ fn other_event(
     Ok(None)
 }
 
+/// Whether a registry over the log takes commands.
+fn is_open(alloc: Global, log: &Log) -> Result<bool, AllocError> {
+    let registry = registry_of(alloc, &log.records)?;
+    Ok(!registry.is_closed())
+}
+
 /// A world and a plain one over the first base that is drawn and isn't closed.
 fn started(alloc: Global, draws: &mut Draws) -> Result<Both, Fail> {
     for _ in 0..20 {
         let base = drawn_base(alloc, draws)?;
         let log = log_of(alloc, base.as_str())?;
-        if !registry_of(alloc, &log.records)?.is_closed() {
+        if is_open(alloc, &log)? {
             return Both::start(alloc, 3, &log);
         }
     }

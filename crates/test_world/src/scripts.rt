@@ -310,14 +310,24 @@ fn first_other_line(
     Ok(None)
 }
 
+fn push_events(
+    alloc: Global,
+    events: &mut Vec<Event>,
+    known: &[Record],
+    lines: &str,
+) -> Result<(), Fail> {
+    for line in lines.lines() {
+        if let Some((words, _)) = line.split_once(" => ") {
+            events.push(event_of(alloc, words, known)?)?;
+        }
+    }
+    Ok(())
+}
+
 fn events_of(alloc: Global, script: &Script) -> Result<Vec<Event>, Fail> {
     let known = known_records(alloc, script)?;
     let mut events = Vec::new(alloc);
-    for line in script.lines.lines() {
-        if let Some((words, _)) = line.split_once(" => ") {
-            events.push(event_of(alloc, words, &known)?)?;
-        }
-    }
+    push_events(alloc, &mut events, &known, script.lines)?;
     Ok(events)
 }
 
@@ -337,14 +347,14 @@ fn is_told(alloc: Global, outcome: Option<&Outcome>, expected: &str) -> Result<b
     }
 }
 
-fn first_other_of_run(
+/// The first line with another outcome than the next of those.
+fn first_other_outcome(
     alloc: Global,
-    world: &mut World,
-    script: &Script,
+    outcomes: &[Outcome],
+    lines: &'static str,
 ) -> Result<Option<&'static str>, Fail> {
-    let outcomes = outcomes_of(alloc, world, script)?;
     let mut left = outcomes.iter();
-    for line in script.lines.lines() {
+    for line in lines.lines() {
         if let Some((_, expected)) = line.split_once(" => ") {
             if !is_told(alloc, left.next(), expected)? {
                 return Ok(Some(line));
@@ -352,6 +362,15 @@ fn first_other_of_run(
         }
     }
     Ok(None)
+}
+
+fn first_other_of_run(
+    alloc: Global,
+    world: &mut World,
+    script: &Script,
+) -> Result<Option<&'static str>, Fail> {
+    let outcomes = outcomes_of(alloc, world, script)?;
+    first_other_outcome(alloc, &outcomes, script.lines)
 }
 
 /// The world is lent, so that none has to be dropped on the way.

@@ -4,8 +4,8 @@ use crate::outcomes::outcome_text;
 use crate::records::log_of;
 use reg_leader::AdoptError;
 use reg_records::{Log, Record};
-use reg_world::{Event, World};
-use std::alloc::{AllocError, Global};
+use reg_world::{Event, Outcome, World};
+use std::alloc::Global;
 use std::test::Fail;
 
 pub(crate) fn world_over(alloc: Global, nodes: usize, base: &Log) -> Result<World, AdoptError> {
@@ -19,13 +19,13 @@ pub(crate) fn world_of(alloc: Global, nodes: usize, script: &str) -> Result<Worl
 }
 
 /// What comes of an event, in words.
-pub(crate) fn step_text(
-    alloc: Global,
-    world: &mut World,
-    event: &Event,
-) -> Result<String, AllocError> {
+pub(crate) fn step_text(alloc: Global, world: &mut World, event: &Event) -> Result<String, Fail> {
     let outcome = world.step(event)?;
-    outcome_text(alloc, &outcome)
+    words_of(alloc, &outcome)
+}
+
+fn words_of(alloc: Global, outcome: &Outcome) -> Result<String, Fail> {
+    Ok(outcome_text(alloc, outcome)?)
 }
 
 /// What comes of the event of those words, in words.
@@ -36,5 +36,5 @@ pub(crate) fn outcome_of(
     words: &str,
 ) -> Result<String, Fail> {
     let event = event_of(alloc, words, known)?;
-    Ok(step_text(alloc, world, &event)?)
+    step_text(alloc, world, &event)
 }
