@@ -8,7 +8,7 @@ use reg_records::{
     lines_are_of_the_grammar, write_line, written_keys_are_apart, written_values_have_lines,
     written_values_read_back,
 };
-use rows::{FOREIGN, ROWS, Row};
+use rows::{AS_WRITTEN, FOREIGN, OTHER_KEYS, OTHER_VALUES};
 use std::alloc::{AllocError, Global};
 
 fn is_text(text: &Option<Text>, wanted: &str) -> bool {
@@ -42,14 +42,47 @@ fn is_key(alloc: Global, found: &Record, wanted: &str) -> Result<bool, AllocErro
     Ok(found.key.written(alloc)?.as_str() == wanted)
 }
 
-fn is_said(alloc: Global, found: &Record, row: &Row) -> Result<bool, AllocError> {
+/// A line, how its key is written, and how what its value says is, or nothing.
+#[derive(Clone, Copy)]
+struct Row<'a> {
+    line: Line<'a>,
+    key: &'a str,
+    value: &'a str,
+}
+
+fn line_of(text: &str) -> Option<Line> {
+    let (key, value) = text.split_once("|")?;
+    let value = match value {
+        "null" => None,
+        "null␠" => Some("null "),
+        _ => Some(value),
+    };
+    Some(Line {
+        offset: 7,
+        key,
+        value,
+    })
+}
+
+fn row_of(text: &str) -> Option<Row> {
+    let (line, written) = text.split_once("\n")?;
+    let (key, value) = written.split_once("\n")?;
+    let line = line_of(line)?;
+    Some(Row {
+        line,
+        key: if key == "=" { line.key } else { key },
+        value: if value == "nothing" { "" } else { value },
+    })
+}
+
+fn is_said(alloc: Global, found: &Record, row: Row) -> Result<bool, AllocError> {
     if row.key == row.line.key && !is_written_again(alloc, found, row.line)? {
         return Ok(false);
     }
     Ok(is_key(alloc, found, row.key)? && is_value(alloc, found, row.value)?)
 }
 
-fn holds(alloc: Global, row: &Row) -> Result<bool, LogError> {
+fn holds(alloc: Global, row: Row) -> Result<bool, LogError> {
     let records = records_of(alloc, &[row.line])?;
     match records.first() {
         Some(found) => Ok(is_said(alloc, found, row)?),
@@ -57,11 +90,19 @@ fn holds(alloc: Global, row: &Row) -> Result<bool, LogError> {
     }
 }
 
+fn text_holds(alloc: Global, text: &str) -> Result<bool, LogError> {
+    match row_of(text) {
+        Some(row) => holds(alloc, row),
+        None => Ok(false),
+    }
+}
+
 #[test]
 fn lines_say_what_their_texts_do(rt: HostRuntime) {
-    for row in &ROWS {
-        let holds = holds(rt.alloc(), row) == Ok(true);
-        assert!(rt; holds, "{} {}", row.line.key, row.value);
+    for rows in [AS_WRITTEN, OTHER_KEYS, OTHER_VALUES] {
+        for text in rows.split("\n\n") {
+            assert!(rt; text_holds(rt.alloc(), text) == Ok(true), "{text}");
+        }
     }
 }
 
