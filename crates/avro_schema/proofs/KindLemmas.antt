@@ -10,7 +10,7 @@ use Rattle.avro_schema.specs.contracts.node.PrimitivePartialEq.TheImpl.Laws.{law
 use Rattle.avro_schema.specs.Names.{primitive_named, all_distinct}
 use Rattle.avro_schema.specs.declared.builder.Builder.{Builder}
 use Rattle.avro_schema.specs.Form.{Heading, Form, plain, by_name, form_of_name}
-use Rattle.avro_schema.specs.Places.{Definition, named, defined_by}
+use Rattle.avro_schema.specs.Places.{Definition, definition_used, defined_by}
 use Rattle.avro_schema.specs.Faults.{kind_in_union, kind_named, same_primitive, same_kind, is_union_kind, fits_union}
 use Rattle.avro_schema.specs.Building.{may_stand, HasMet, opened}
 use Rattle.avro_schema.proofs.TextLemmas.{bytes_eq-sym, all_distinct-middle, all_distinct-push}
@@ -32,7 +32,7 @@ find-passes t (y ∷ xs) x e = passes_first t y x (t y) (find t xs) refl (find-p
 pub kind_primitive : (ds : List Definition) (ns : List ℕ) (n : ℕ) (s : List ℕ) (p : Primitive) → Some p ≡ primitive_named s → kind.Primitive p ≡ kind_in_union ds ns n (form_of_name s)
 kind_primitive ds ns n s p e = ap (kind_in_union ds ns n) (sym (form_plain s p e))
 
-pub kind_use : (ds : List Definition) (ns : List ℕ) (n : ℕ) (s : List ℕ) → None ≡ primitive_named s → kind_in_union ds ns n (form_of_name s) ≡ kind_named (named ds n ns s)
+pub kind_use : (ds : List Definition) (ns : List ℕ) (n : ℕ) (s : List ℕ) → None ≡ primitive_named s → kind_in_union ds ns n (form_of_name s) ≡ kind_named (definition_used ds n ns s)
 kind_use ds ns n s e = ap (kind_in_union ds ns n) (form_use s e)
 
 -- ---- the kinds that were added

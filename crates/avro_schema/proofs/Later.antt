@@ -10,7 +10,7 @@ use Rattle.avro_schema.specs.declared.node.Node.TheVariants as kind
 use Rattle.avro_schema.specs.declared.error.SchemaError.TheVariants as fault
 use Rattle.avro_schema.specs.Names.{joined, full_text}
 use Rattle.avro_schema.specs.Form.{Heading, Form, plain, by_name, record_of, enum_of, array_of, map_of, union_of, fixed_of, ill_formed, Forms, no_forms, and_form, Fields, no_fields, ill_fields, and_field}
-use Rattle.avro_schema.specs.Places.{count, forms_count, fields_count, own_namespace, Place, place, places, type_name, places_in, places_of_forms, places_of_fields, Definition, definition_at, definitions, defined, defined_by, named}
+use Rattle.avro_schema.specs.Places.{count, forms_count, fields_count, own_namespace, Place, place, places, type_name, places_in, places_of_forms, places_of_fields, Definition, definition_at, definitions, defined, defined_by, definition_used}
 use Rattle.avro_schema.specs.Nodes.{type_aliases, field_at, node_id, branches, field_list, node_of, node_at}
 use Rattle.avro_schema.specs.Faults.{unless, fits_union, kind_in_union, kinds, is_new, heading_faults, field_list_faults, symbols_faults, size_faults, faults_of, faults_at}
 
@@ -43,7 +43,7 @@ is_new-written ds es ns n h None p = refl
 is_new-written ds es ns n h (Some s) p = simp (defined-later ds es n (full_text (own_namespace ns h) s) p)
 
 module _ (ds es : List Definition) where
-  pub named-later : (n : ℕ) (ns s : List ℕ) → From n es → named (ds ++ es) n ns s ≡ named ds n ns s
+  pub named-later : (n : ℕ) (ns s : List ℕ) → From n es → definition_used (ds ++ es) n ns s ≡ definition_used ds n ns s
   named-later n ns s p = simp (defined-later ds es n (joined ns s) p, defined-later ds es n s p)
 
   pub node_id-later : (ns : List ℕ) (n : ℕ) (f : Form) → From n es → node_id (ds ++ es) ns n f ≡ node_id ds ns n f

@@ -9,7 +9,7 @@ use Rattle.avro_schema.specs.declared.node.Node.TheVariants as kind
 use Rattle.avro_schema.specs.declared.node.NodeId.{NodeId}
 use Rattle.avro_schema.specs.Names.{all_distinct}
 use Rattle.avro_schema.specs.Form.{Heading, Form, plain, by_name, record_of, enum_of, array_of, map_of, union_of, fixed_of, ill_formed, Forms, no_forms, and_form, Fields, no_fields, ill_fields, and_field}
-use Rattle.avro_schema.specs.Places.{count, forms_count, fields_count, Place, places, places_of_forms, places_of_fields, type_name, Definition, named}
+use Rattle.avro_schema.specs.Places.{count, forms_count, fields_count, Place, places, places_of_forms, places_of_fields, type_name, Definition, definition_used}
 use Rattle.avro_schema.specs.Nodes.{node_id, definition_id, branches, field_list, node_of, node_at}
 use Rattle.avro_schema.specs.Faults.{unless, faults_of, faults_at, is_union_kind, same_kind, fits_union, kind_in_union, kinds, fits_fields, field_list_faults, heading_faults, are_written, is_formed, field_headings}
 use Rattle.avro_schema.specs.Sound.{inner, fields_of_node, parts_of_node, IsNoUnion, HaveDistinctNames}
@@ -95,19 +95,19 @@ named_no_union None h bs e = cc
 abbrev pub IsDefinedAt : List Node → ℕ → Type 0
 IsDefinedAt all k = (k < length all) × HasName (slice_get all k)
 
-module _ (ds : List Definition) (all : List Node) (known : (ns s : List ℕ) (n : ℕ) (d : Definition) → named ds n ns s ≡ Some d → IsDefinedAt all d.node) where
+module _ (ds : List Definition) (all : List Node) (known : (ns s : List ℕ) (n : ℕ) (d : Definition) → definition_used ds n ns s ≡ Some d → IsDefinedAt all d.node) where
   -- what a use names, where it names a definition
-  used : (ns s : List ℕ) (n : ℕ) (o : Option Definition) → named ds n ns s ≡ o → unless (is_some o) (fault.Unknown s) ≡ [] → IsPart all n (definition_id o)
+  used : (ns s : List ℕ) (n : ℕ) (o : Option Definition) → definition_used ds n ns s ≡ o → unless (is_some o) (fault.Unknown s) ≡ [] → IsPart all n (definition_id o)
   used ns s n None is e = cc
   used ns s n (Some d) is e = let at = known ns s n d is in (at.0, inr (named_leaf (slice_get all d.node) at.1))
 
-  used_no_union : (ns s : List ℕ) (n : ℕ) (o : Option Definition) → named ds n ns s ≡ o → unless (is_some o) (fault.Unknown s) ≡ [] → IsNoUnion (slice_get all (definition_id o).index)
+  used_no_union : (ns s : List ℕ) (n : ℕ) (o : Option Definition) → definition_used ds n ns s ≡ o → unless (is_some o) (fault.Unknown s) ≡ [] → IsNoUnion (slice_get all (definition_id o).index)
   used_no_union ns s n None is e = cc
   used_no_union ns s n (Some d) is e = named_no_union (slice_get all d.node) (known ns s n d is).1
 
   -- the node of a type that is not at fault
   part_of : (ns : List ℕ) (n : ℕ) (f : Form) → faults_of ds ns n f ≡ [] → n + count f ≤ length all → IsPart all n (node_id ds ns n f)
-  part_of ns n (by_name s) e le = used ns s n (named ds n ns s) refl e
+  part_of ns n (by_name s) e le = used ns s n (definition_used ds n ns s) refl e
   part_of ns n ill_formed e le = cc
   part_of ns n _ e le = (omega arith, inl (omega arith))
 
@@ -118,7 +118,7 @@ module _ (ds : List Definition) (all : List Node) (known : (ns s : List ℕ) (n 
   -- a branch that is no union
   branch_no_union : (ns : List ℕ) (n : ℕ) (f : Form) → faults_of ds ns n f ≡ [] → ((x : Node) → node_of ds ns n f ≡ Some x → slice_get all n ≡ Some x) → is_union_kind (kind_in_union ds ns n f) ≡ false → IsNoUnion (slice_get all (node_id ds ns n f).index)
   branch_no_union ns n (plain p) e at apart = written_no_union n _ at (λ bs f. cc)
-  branch_no_union ns n (by_name s) e at apart = used_no_union ns s n (named ds n ns s) refl e
+  branch_no_union ns n (by_name s) e at apart = used_no_union ns s n (definition_used ds n ns s) refl e
   branch_no_union ns n (record_of h fs) e at apart = written_no_union n _ at (λ bs f. cc)
   branch_no_union ns n (enum_of h ss d) e at apart = written_no_union n _ at (λ bs f. cc)
   branch_no_union ns n (fixed_of h s) e at apart = written_no_union n _ at (λ bs f. cc)

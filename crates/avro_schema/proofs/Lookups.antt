@@ -12,7 +12,7 @@ use Rattle.std.proofs.lemmas.Bool.Decides.{nat_tests}
 use Rattle.avro_schema.specs.declared.node.Node.{Node}
 use Rattle.avro_schema.specs.declared.builder.Builder.{Builder}
 use Rattle.avro_schema.specs.Names.{has_dot, joined}
-use Rattle.avro_schema.specs.Places.{Definition, defined, named}
+use Rattle.avro_schema.specs.Places.{Definition, defined, definition_used}
 use Rattle.avro_schema.specs.Building.{Before, nodes_of, opened, node_named, HasMet}
 use Rattle.avro_schema.proofs.KindLemmas.{find-passes}
 use Rattle.avro_schema.proofs.Types.{found-at, opened-more}
@@ -95,7 +95,7 @@ or_some : {A : Type 0} (o p : Option A) → is_some o ≡ true → option_or o p
 or_some None p e = cc
 or_some (Some x) p e = refl
 
-pub named_dotted : (ds : List Definition) (n : ℕ) (ns s : List ℕ) → has_dot s ≡ true → named ds n ns s ≡ defined ds n s
+pub named_dotted : (ds : List Definition) (n : ℕ) (ns s : List ℕ) → has_dot s ≡ true → definition_used ds n ns s ≡ defined ds n s
 named_dotted ds n ns s e = ap (λ b. cond b (defined ds n s) (option_or (defined ds n (joined ns s)) (defined ds n s))) e
 
 or_itself : {A : Type 0} (o : Option A) → option_or o o ≡ o
@@ -109,13 +109,13 @@ no_flag : (b : Bool) → b ≡ false → (b || false) ≡ true → ⊥
 no_flag true e h = cc
 no_flag false e h = cc
 
-by_dot : (ds : List Definition) (n : ℕ) (ns s : List ℕ) (b : Bool) → has_dot s ≡ b → ((length ns == 0) || b) ≡ true → named ds n ns s ≡ defined ds n s
+by_dot : (ds : List Definition) (n : ℕ) (ns s : List ℕ) (b : Bool) → has_dot s ≡ b → ((length ns == 0) || b) ≡ true → definition_used ds n ns s ≡ defined ds n s
 by_dot ds n ns s true e h = named_dotted ds n ns s e
 by_dot ds n [] s false e h = ap (λ b. cond b (defined ds n s) (option_or (defined ds n s) (defined ds n s))) e ∙ or_itself (defined ds n s)
 by_dot ds n (x ∷ ns) s false e h = absurd (no_flag _ (not_empty (length ns)) h)
 
 -- a text that is its own full name
-pub named_whole : (ds : List Definition) (n : ℕ) (ns s : List ℕ) → ((length ns == 0) || has_dot s) ≡ true → named ds n ns s ≡ defined ds n s
+pub named_whole : (ds : List Definition) (n : ℕ) (ns s : List ℕ) → ((length ns == 0) || has_dot s) ≡ true → definition_used ds n ns s ≡ defined ds n s
 named_whole ds n ns s h = by_dot ds n ns s (has_dot s) refl h
 
 or_right : (a b : Bool) → (a || b) ≡ false → b ≡ false
@@ -123,7 +123,7 @@ or_right true b h = cc
 or_right false b h = h
 
 -- another is looked for in the namespace that applies, and then by itself
-pub named_joined : (ds : List Definition) (n : ℕ) (ns s full : List ℕ) → ((length ns == 0) || has_dot s) ≡ false → full ≡ joined ns s → named ds n ns s ≡ option_or (defined ds n full) (defined ds n s)
+pub named_joined : (ds : List Definition) (n : ℕ) (ns s full : List ℕ) → ((length ns == 0) || has_dot s) ≡ false → full ≡ joined ns s → definition_used ds n ns s ≡ option_or (defined ds n full) (defined ds n s)
 named_joined ds n ns s full h is =
     ap (λ b. cond b (defined ds n s) (option_or (defined ds n (joined ns s)) (defined ds n s))) (or_right _ _ h) ∙ ap (λ t. option_or (defined ds n t) (defined ds n s)) (sym is)
 

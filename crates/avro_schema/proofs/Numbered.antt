@@ -6,7 +6,7 @@ use Rattle.avro_schema.specs.declared.node.FullName.{FullName}
 use Rattle.avro_schema.specs.declared.node.Node.{Node}
 use Rattle.avro_schema.specs.Names.{has_dot, joined}
 use Rattle.avro_schema.specs.Form.{Heading, Form, plain, by_name, record_of, enum_of, array_of, map_of, union_of, fixed_of, ill_formed, Forms, no_forms, and_form, Fields, no_fields, ill_fields, and_field}
-use Rattle.avro_schema.specs.Places.{count, Place, place, places, places_of_forms, places_of_fields, type_name, Definition, definitions, defined_by, defined, named}
+use Rattle.avro_schema.specs.Places.{count, Place, place, places, places_of_forms, places_of_fields, type_name, Definition, definitions, defined_by, defined, definition_used}
 use Rattle.avro_schema.specs.Nodes.{node_of, node_at, name_in}
 use Rattle.avro_schema.proofs.Later.{count-type}
 
@@ -153,7 +153,7 @@ found_by false o None d e = inl e
 found_by false o (Some x) d e = inr e
 
 -- the node of a definition that is used stands among the nodes
-pub named_at : (ns : List ℕ) (n : ℕ) (ps : List Place) (d : Definition) (s : List ℕ) → Numbered (definitions ps) 0 ps → named (definitions ps) n ns s ≡ Some d → IsNamedAt (filter_map (node_at (definitions ps)) ps) 0 d.node
+pub named_at : (ns : List ℕ) (n : ℕ) (ps : List Place) (d : Definition) (s : List ℕ) → Numbered (definitions ps) 0 ps → definition_used (definitions ps) n ns s ≡ Some d → IsNamedAt (filter_map (node_at (definitions ps)) ps) 0 d.node
 named_at ns n ps d s a e =
     let ds = definitions ps in
     elim (found_by (has_dot s) (defined ds n s) (defined ds n (joined ns s)) d e) [

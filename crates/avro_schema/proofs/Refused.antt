@@ -9,7 +9,7 @@ use Rattle.avro_schema.specs.declared.error.SchemaError.TheVariants as fault
 use Rattle.avro_schema.specs.declared.heading.TypeNames.{TypeNames}
 use Rattle.avro_schema.specs.declared.node.FullName.{FullName}
 use Rattle.avro_schema.specs.Form.{Heading, Form, Forms, Fields, by_name, record_of, enum_of, fixed_of, array_of, map_of, union_of, ill_formed, ill_fields}
-use Rattle.avro_schema.specs.Places.{count, forms_count, fields_count, type_name, places_of_fields, Definition, definitions, defined, named}
+use Rattle.avro_schema.specs.Places.{count, forms_count, fields_count, type_name, places_of_fields, Definition, definitions, defined, definition_used}
 use Rattle.avro_schema.specs.Faults.{unless, are_written, is_formed, has_good_aliases, field_headings, fits_fields, faults_at, is_new, heading_faults, written_faults, symbols_faults, size_faults, field_list_faults}
 use Rattle.avro_schema.specs.Schema.{IsRefusalBy}
 use Rattle.avro_schema.specs.Building.{too_many, type_faults, branches_faults, fields_faults, has_distinct_names, HasNames}
@@ -20,10 +20,10 @@ use Rattle.avro_schema.proofs.Types.{definition_of, defined_by-names, is_new-nam
 pub refused_open : (ds : List Definition) (ns : List ℕ) (f : Form) (n : ℕ) (e : SchemaError) → 1 ≤ count f → IsRefusalBy (too_many (n + 1)) e → IsRefusalBy (type_faults ds ns f n) e
 refused_open ds ns f n e one = weaken _ _ e (in_count (n + 1) (n + count f) _ e (omega arith))
 
-pub refused_use : (ds : List Definition) (ns s : List ℕ) (n : ℕ) → named ds n ns s ≡ None → IsRefusalBy (type_faults ds ns (by_name s) n) (fault.Unknown s)
+pub refused_use : (ds : List Definition) (ns s : List ℕ) (n : ℕ) → definition_used ds n ns s ≡ None → IsRefusalBy (type_faults ds ns (by_name s) n) (fault.Unknown s)
 refused_use ds ns s n none =
-    let same : named (ds ++ []) n ns s ≡ None = ap (λ l. named l n ns s) (append-nil ds) ∙ none in
-    weaken _ _ _ (in_own (n + 0) (unless (is_some (named (ds ++ []) n ns s)) (fault.Unknown s)) [] _) (alone _ (fault.Unknown s) (ap is_some same))
+    let same : definition_used (ds ++ []) n ns s ≡ None = ap (λ l. definition_used l n ns s) (append-nil ds) ∙ none in
+    weaken _ _ _ (in_own (n + 0) (unless (is_some (definition_used (ds ++ []) n ns s)) (fault.Unknown s)) [] _) (alone _ (fault.Unknown s) (ap is_some same))
 
 pub refused_ill_formed : (ds : List Definition) (ns : List ℕ) (n : ℕ) → IsRefusalBy (type_faults ds ns ill_formed n) fault.BadForm
 refused_ill_formed ds ns n = weaken (fault.BadForm ∷ []) (type_faults ds ns ill_formed n) fault.BadForm (in_own (n + 0) (fault.BadForm ∷ []) [] _) (λ _. (0, omega arith, refl))

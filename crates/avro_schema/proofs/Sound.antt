@@ -11,7 +11,7 @@ use Rattle.avro_schema.specs.declared.node.Node.TheVariants as kind
 use Rattle.avro_schema.specs.declared.node.NodeId.{NodeId}
 use Rattle.avro_schema.specs.Names.{has_dot}
 use Rattle.avro_schema.specs.Form.{Form, form, by_name, ill_formed}
-use Rattle.avro_schema.specs.Places.{count, places, Definition, definitions, named}
+use Rattle.avro_schema.specs.Places.{count, places, Definition, definitions, definition_used}
 use Rattle.avro_schema.specs.Nodes.{nodes}
 use Rattle.avro_schema.specs.Faults.{unless, form_faults}
 use Rattle.avro_schema.specs.Schema.{Meaning, data_faults, json_faults, if_none_stands, schema_of}
@@ -37,7 +37,7 @@ not_used s (Some d) is e = cc
 
 -- a whole schema that is not at fault writes a type out
 has_one : (f : Form) → form_faults f ≡ [] → 1 ≤ count f
-has_one (by_name s) e = absurd (not_used s (named [] 0 [] s) (none_before (has_dot s) None refl) (nil-left _ _ e))
+has_one (by_name s) e = absurd (not_used s (definition_used [] 0 [] s) (none_before (has_dot s) None refl) (nil-left _ _ e))
 has_one ill_formed e = cc
 has_one _ e = omega arith
 

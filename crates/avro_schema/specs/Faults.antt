@@ -13,7 +13,7 @@ use Rattle.avro_schema.specs.declared.node.Primitive.{Primitive}
 use Rattle.avro_schema.specs.contracts.node.Primitive.{the_type}
 use Rattle.avro_schema.specs.Names.{is_name, is_full_name, is_type_name, full_text, all_distinct, has_text}
 use Rattle.avro_schema.specs.Form.{Heading, FieldHeading, Form, plain, by_name, record_of, enum_of, array_of, map_of, union_of, fixed_of, ill_formed, Forms, no_forms, and_form, Fields, no_fields, ill_fields, and_field}
-use Rattle.avro_schema.specs.Places.{count, own_namespace, Place, places, Definition, definitions, defined, defined_by, named}
+use Rattle.avro_schema.specs.Places.{count, own_namespace, Place, places, Definition, definitions, defined, defined_by, definition_used}
 use Rattle.avro_schema.specs.declared.limits.TheConstants.{GREATEST_SIZE}
 
 abbrev pub unless : Bool → SchemaError → List SchemaError
@@ -108,7 +108,7 @@ written_faults h = unless (is_some h.name && is_some h.aliases) fault.BadForm ++
 module _ (ds : List Definition) where
   abbrev pub kind_in_union : List ℕ → ℕ → Form → Kind
   kind_in_union ns n (plain p) = kind.Primitive p
-  kind_in_union ns n (by_name s) = kind_named (named ds n ns s)
+  kind_in_union ns n (by_name s) = kind_named (definition_used ds n ns s)
   kind_in_union ns n (record_of h fs) = kind_named (defined_by ns n h)
   kind_in_union ns n (enum_of h ss d) = kind_named (defined_by ns n h)
   kind_in_union ns n (fixed_of h s) = kind_named (defined_by ns n h)
@@ -131,7 +131,7 @@ module _ (ds : List Definition) where
   -- what is wrong with a type, those inside it apart
   abbrev pub faults_of : List ℕ → ℕ → Form → List SchemaError
   faults_of ns n (plain p) = []
-  faults_of ns n (by_name s) = unless (is_some (named ds n ns s)) (fault.Unknown s)
+  faults_of ns n (by_name s) = unless (is_some (definition_used ds n ns s)) (fault.Unknown s)
   faults_of ns n (record_of h fs) = heading_faults ns n h ++ field_list_faults fs
   faults_of ns n (enum_of h ss d) = heading_faults ns n h ++ symbols_faults ss d
   faults_of ns n (fixed_of h s) = heading_faults ns n h ++ size_faults s

@@ -9,7 +9,7 @@ use Rattle.avro_schema.specs.declared.node.Node.{Node}
 use Rattle.avro_schema.specs.declared.node.Node.TheVariants as kind
 use Rattle.avro_schema.specs.Names.{full_name}
 use Rattle.avro_schema.specs.Form.{Heading, FieldHeading, Form, plain, by_name, record_of, enum_of, array_of, map_of, union_of, fixed_of, ill_formed, Forms, no_forms, and_form, Fields, and_field}
-use Rattle.avro_schema.specs.Places.{count, type_name, Place, places, Definition, definitions, named}
+use Rattle.avro_schema.specs.Places.{count, type_name, Place, places, Definition, definitions, definition_used}
 
 -- an alias without a dot takes the namespace of its type
 abbrev pub type_aliases : FullName → Heading → List FullName
@@ -28,7 +28,7 @@ definition_id (Some d) = record { index = d.node }
 module _ (ds : List Definition) where
   -- The node of a type: a name's is its definition's, and another type's is the next that opens.
   abbrev pub node_id : List ℕ → ℕ → Form → NodeId
-  node_id ns n (by_name s) = definition_id (named ds n ns s)
+  node_id ns n (by_name s) = definition_id (definition_used ds n ns s)
   node_id ns n _ = record { index = n }
 
   abbrev pub branches : List ℕ → ℕ → Forms → List NodeId

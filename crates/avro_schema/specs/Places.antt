@@ -96,5 +96,5 @@ abbrev pub defined : List Definition → ℕ → List ℕ → Option Definition
 defined ds n s = find (λ d. nat_lt d.node n && bytes_eq d.name s) ds
 
 -- What a use names: a text with a dot is a full name; another is looked for in the namespace that applies, and then in the null namespace.
-abbrev pub named : List Definition → ℕ → List ℕ → List ℕ → Option Definition
-named ds n ns s = if has_dot s then defined ds n s else option_or (defined ds n (joined ns s)) (defined ds n s)
+abbrev pub definition_used : List Definition → ℕ → List ℕ → List ℕ → Option Definition
+definition_used ds n ns s = if has_dot s then defined ds n s else option_or (defined ds n (joined ns s)) (defined ds n s)

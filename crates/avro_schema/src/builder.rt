@@ -18,7 +18,7 @@ impl Builder {
     ghost use Rattle.avro_schema.specs.declared.error.SchemaError.TheVariants as fault;
     ghost use Rattle.avro_schema.specs.declared.node.Node.TheVariants as kind;
     ghost use Rattle.avro_schema.specs.declared.node.Primitive.TheVariants as simple;
-    ghost use Rattle.avro_schema.specs.Places.{Definition, named, defined};
+    ghost use Rattle.avro_schema.specs.Places.{Definition, definition_used, defined};
     ghost use Rattle.avro_schema.specs.Faults.{unless};
     ghost use Rattle.avro_schema.specs.Schema.{IsRefusalBy};
     ghost use Rattle.avro_schema.specs.Building.{HasMet, definition_of, opened, nodes_of, too_many};
@@ -102,7 +102,7 @@ impl Builder {
         namespace: &str,
     ) -> Result<Option<(&str, usize)>, AllocError>
         ensures { IfOk result (λ o. (ds : List Definition) → HasMet self.now ds
-            → option_map definition_of o ≡ named ds (opened self.now) namespace.now name.now) }
+            → option_map definition_of o ≡ definition_used ds (opened self.now) namespace.now name.now) }
     {
         if is_whole(namespace, name) {
             return Ok(self.defined(name));

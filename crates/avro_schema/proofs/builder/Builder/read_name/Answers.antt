@@ -1,6 +1,6 @@
 use Rattle.std.proofs.Common.{◌≡◌, ◌∙◌, sym, ap, option_map, subst, None, List, ℕ, arith}
 use Rattle.avro_schema.specs.Form.{Form, plain, by_name, form_of_name}
-use Rattle.avro_schema.specs.Places.{named}
+use Rattle.avro_schema.specs.Places.{definition_used}
 use Rattle.avro_schema.specs.declared.error.SchemaError.TheVariants as fault
 use Rattle.avro_schema.specs.Schema.{IsRefusalBy}
 use Rattle.avro_schema.specs.Building.{definition_of, opened, type_faults, RefusesType}
@@ -23,7 +23,7 @@ returns-in_ok-copy_of-in-None-clause-err c = λ ds met.
     let s = c.args.name.now in
     let r = c.args.self.now in
     let ns = c.args.namespace.now in
-    let none : named ds (opened r) ns s ≡ None = sym (c.in_ok-index-2.ensures ds met) ∙ ap (option_map definition_of) c.in-None.is in
+    let none : definition_used ds (opened r) ns s ≡ None = sym (c.in_ok-index-2.ensures ds met) ∙ ap (option_map definition_of) c.in-None.is in
     let refused : IsRefusalBy (type_faults ds ns (by_name s) (opened r)) (fault.Unknown s) = refused_use ds ns s (opened r) none in
     let formed : IsRefusalBy (type_faults ds ns (form_of_name s) (opened r)) (fault.Unknown s) = subst (λ (f : Form). IsRefusalBy (type_faults ds ns f (opened r)) (fault.Unknown s)) (sym (form_use s c.in_default.ensures)) refused in
     subst (λ (t : List ℕ). IsRefusalBy (type_faults ds ns (form_of_name s) (opened r)) (fault.Unknown t)) (sym c.in_ok-copy_of-in-None.ensures) formed
