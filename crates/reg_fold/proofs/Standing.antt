@@ -5,8 +5,9 @@ use Rattle.std.specs.Cmp.{IsTotalOrder}
 use Rattle.std.specs.FinMap as finmap
 use Rattle.std.specs.FinSet.{IsAntisymmetric, contains}
 use Rattle.std.specs.List.{filter, reduce}
-use Rattle.reg_records.specs.Value.{value_of}
-use Rattle.reg_records.specs.Written.{IsValueOf, IsVersionOrId, ValuesAreOfKeys}
+use Rattle.reg_values.specs.Value.{value_of}
+use Rattle.reg_records.specs.Written.{IsVersionOrId}
+use Rattle.reg_values.specs.OfKey.{IsValueOf, ValuesAreOfKeys}
 use Rattle.reg_records.specs.declared.key.Key.{Key}
 use Rattle.reg_records.specs.declared.key.Key.TheVariants as keys
 use Rattle.reg_records.specs.declared.record.Record.{Record}

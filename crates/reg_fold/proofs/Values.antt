@@ -7,7 +7,7 @@ use Rattle.serde_json.specs.Read.{read}
 use Rattle.avro_schema.specs.Schema.{is_schema}
 use Rattle.reg_level_names.specs.Level.{is_level}
 use Rattle.reg_records.specs.Json.{text_at, text_where, number_at, has_text_at, has_number_at}
-use Rattle.reg_records.specs.Value.{value_of, value_in, is_plain_avro, deleted_in}
+use Rattle.reg_values.specs.Value.{value_of, value_in, is_plain_avro, deleted_in}
 use Rattle.reg_records.specs.declared.key.Key.{Key}
 use Rattle.reg_records.specs.declared.key.Key.TheVariants as keys
 use Rattle.reg_records.specs.declared.record.Record.{Record}

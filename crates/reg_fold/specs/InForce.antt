@@ -4,7 +4,7 @@ use Rattle.std.specs.Option.{option_or}
 use Rattle.reg_level_names.specs.Level.{level_named}
 use Rattle.reg_level_names.specs.declared.level.Level.{Level}
 use Rattle.reg_level_names.specs.declared.level.Level.TheVariants.{Backward}
-use Rattle.reg_records.specs.Value.{value_of}
+use Rattle.reg_values.specs.Value.{value_of}
 use Rattle.reg_records.specs.declared.key.Key.TheVariants as keys
 use Rattle.reg_records.specs.declared.value.Value.{Value}
 use Rattle.reg_records.specs.declared.value.Value.TheVariants as values

@@ -1,7 +1,7 @@
 -- What the last soft delete of a subject marks. Below, rs are the last records.
 use Rattle.std.specs.Prelude.{ℕ, List, Bool, false, ◌&&◌, nat_le, nat_lt}
 use Rattle.std.specs.Option.{option_map_or}
-use Rattle.reg_records.specs.Value.{value_of}
+use Rattle.reg_values.specs.Value.{value_of}
 use Rattle.reg_records.specs.declared.key.Key.TheVariants as keys
 use Rattle.reg_records.specs.declared.value.Value.{Value}
 use Rattle.reg_records.specs.declared.value.Value.TheVariants as values

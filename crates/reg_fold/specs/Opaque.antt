@@ -1,7 +1,7 @@
 -- Opaque versions: records of SCHEMA keys whose text can't be read as a value. Below, rs are the last records.
 use Rattle.std.specs.Prelude.{◌≡◌, ◌↔◌, ℕ, min, Bool, true, false, ◌&&◌, Option, Some, None, is_some, is_none, map}
 use Rattle.std.specs.List.{filter, reduce}
-use Rattle.reg_records.specs.Value.{value_of}
+use Rattle.reg_values.specs.Value.{value_of}
 use Rattle.reg_records.specs.declared.key.Key.{Key}
 use Rattle.reg_records.specs.declared.key.Key.TheVariants as keys
 use Rattle.reg_records.specs.declared.record.Record.{Record}

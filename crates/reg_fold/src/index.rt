@@ -20,8 +20,9 @@ use crate::spots::{Spot, forget, forget_elsewhere, spot_of};
 use base_text::Text;
 use reg_entries::{Entries, Entry, Mark};
 use reg_level_names::Level;
-use reg_records::{Key, Record, decode_value};
+use reg_records::{Key, Record};
 use reg_set::{LastRecords, last_is_greatest, last_records_are_enough, records_are_ordered};
+use reg_values::decode_value;
 use std::alloc::{AllocError, Global};
 use std::collections::BTreeSet;
 

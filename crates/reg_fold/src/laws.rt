@@ -3,8 +3,8 @@
 ghost use Rattle.reg_fold.specs.Entries.{EntriesAreInLimits, EntriesAreOfKeys, EntriesAreOfPlaces, EntriesAreRead};
 ghost use Rattle.reg_fold.specs.Opaque.{NoneIsNoOpaqueLast};
 
-use reg_records::values_are_of_keys;
 use reg_set::{last_is_greatest, last_records_are_enough, records_are_ordered};
+use reg_values::values_are_of_keys;
 
 /// The text of each entry is a schema's, and the entry's normal text is that schema's.
 pub fn entries_are_read()

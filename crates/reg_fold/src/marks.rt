@@ -1,7 +1,7 @@
 // What the last soft delete of a subject marks.
 ghost use Rattle.std.specs.Prelude.{◌≡◌, IfOk, false, map};
 ghost use Rattle.std.specs.Option.{option_map_or};
-ghost use Rattle.reg_records.specs.Value.{value_of};
+ghost use Rattle.reg_values.specs.Value.{value_of};
 ghost use Rattle.reg_fold.specs.Marks.{covers, is_marked};
 ghost use Rattle.reg_fold.specs.Remarked.{is_soft_after};
 ghost use Rattle.reg_entries.specs.Marked.{MarksEach};
@@ -9,8 +9,9 @@ ghost use Rattle.reg_entries.specs.Marked.{MarksEach};
 use crate::spots::Spot;
 use base_text::Text;
 use reg_entries::{Entry, Mark};
-use reg_records::{Key, Record, Value, decode_value};
+use reg_records::{Key, Record, Value};
 use reg_set::LastRecords;
+use reg_values::decode_value;
 use std::alloc::{AllocError, Global};
 use std::collections::BTreeSet;
 

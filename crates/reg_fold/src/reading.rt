@@ -10,8 +10,9 @@ use avro_schema::Schema;
 use base_text::Text;
 use reg_entries::Entry;
 use reg_level_names::Level;
-use reg_records::{Decoded, Record, Value, decode, decode_value};
+use reg_records::{Record, Value};
 use reg_set::LastRecords;
+use reg_values::{Decoded, decode, decode_value};
 use std::alloc::{AllocError, Global};
 
 /// The entry of a version, and whether its own value says deleted.

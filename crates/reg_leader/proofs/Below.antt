@@ -1,8 +1,9 @@
 -- The laws of the crates below that lemmas here are given.
 use Rattle.std.proofs.Common.{◌≡◌, ℕ, ◌≤◌, List, Some}
 use Rattle.avro_schema.specs.Schema.{Meaning, schema_of}
-use Rattle.reg_records.specs.Value.{value_of}
-use Rattle.reg_records.specs.Written.{HasLine, IsInLimits, IsValueOf, written_value}
+use Rattle.reg_values.specs.Value.{value_of}
+use Rattle.reg_records.specs.Written.{HasLine, IsInLimits, written_value}
+use Rattle.reg_values.specs.OfKey.{IsValueOf}
 use Rattle.reg_records.specs.declared.key.Key.{Key}
 use Rattle.reg_records.specs.declared.limits.TheConstants.{OFFSET_LIMIT}
 use Rattle.reg_records.specs.declared.value.Value.{Value}

@@ -16,8 +16,9 @@ use Rattle.reg_level_names.specs.declared.level.Level.{Level}
 use Rattle.reg_level_names.specs.declared.level.Level.TheVariants as levels
 use Rattle.reg_modes.specs.InForce.{mode, own_mode}
 use Rattle.reg_modes.specs.Permitted.{registering, writing}
-use Rattle.reg_records.specs.Value.{value_of}
-use Rattle.reg_records.specs.Written.{HasLine, IsInLimits, IsValueOf, IsVersionOrId, written_value}
+use Rattle.reg_values.specs.Value.{value_of}
+use Rattle.reg_records.specs.Written.{HasLine, IsInLimits, IsVersionOrId, written_value}
+use Rattle.reg_values.specs.OfKey.{IsValueOf}
 use Rattle.reg_records.specs.declared.limits.TheConstants.{OFFSET_LIMIT}
 use Rattle.reg_records.specs.declared.value.Value.{Value}
 use Rattle.reg_refusals.specs.declared.reason.Reason.TheVariants as reasons

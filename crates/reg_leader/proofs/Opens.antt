@@ -13,7 +13,7 @@ use Rattle.reg_entries.specs.declared.entry.Entry.{Entry}
 use Rattle.reg_fold.specs.Closed.{is_closed}
 use Rattle.reg_fold.specs.Entries.{EntriesAreOfPlaces, entries, entry_in, entry_of, normal_of}
 use Rattle.reg_fold.specs.Opaque.{NoneIsNoOpaqueLast, is_opaque, is_version}
-use Rattle.reg_records.specs.Value.{value_in, value_of}
+use Rattle.reg_values.specs.Value.{value_in, value_of}
 use Rattle.reg_records.specs.Written.{written_value}
 use Rattle.reg_records.specs.declared.key.Key.{Key}
 use Rattle.reg_records.specs.declared.key.Key.TheVariants as keys

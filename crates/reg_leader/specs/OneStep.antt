@@ -4,7 +4,7 @@ use Rattle.avro_schema.specs.Schema.{Meaning, schema_of}
 use Rattle.reg_fold.specs.InForce.{level}
 use Rattle.reg_fold.specs.Standing.{live}
 use Rattle.reg_levels.specs.Texts.{TextsMeet}
-use Rattle.reg_records.specs.Value.{value_of}
+use Rattle.reg_values.specs.Value.{value_of}
 use Rattle.reg_records.specs.Written.{HasLine, written_value}
 use Rattle.reg_records.specs.declared.key.Key.TheVariants as keys
 use Rattle.reg_records.specs.declared.limits.TheConstants.{OFFSET_LIMIT}

@@ -1,5 +1,5 @@
 -- What a decision comes to. It may be refused memory.
-use Rattle.std.specs.Prelude.{◌≡◌, ◌⊎◌, ℕ, List, [], Result, Ok, Err}
+use Rattle.std.specs.Prelude.{◌≡◌, ◌⊎◌, ℕ, [], Result, Ok, Err}
 use Rattle.reg_set.specs.Records.{Records}
 use Rattle.reg_leader.specs.Course.{Course, IsOutcome}
 use Rattle.reg_refusals.specs.Refusal.{no_memory}

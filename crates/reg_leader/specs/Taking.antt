@@ -1,5 +1,5 @@
 -- Private: what the functions behind a decision come to for a command whose level may be checked. Any of them may be refused memory.
-use Rattle.std.specs.Prelude.{◌≡◌, ◌⊎◌, ℕ, List, [], false, Option, Some, None, Result, Ok, Err}
+use Rattle.std.specs.Prelude.{◌≡◌, ◌⊎◌, ℕ, List, [], false, Some, Result, Ok, Err}
 use Rattle.std.specs.List.{filter}
 use Rattle.reg_fold.specs.InForce.{level}
 use Rattle.reg_fold.specs.Standing.{live}

@@ -5,7 +5,7 @@ ghost use Rattle.reg_leader.specs.OneStep.{BatchesAreRead, BatchesEndByTheLimit,
 use avro_schema::normal_texts_read_back;
 use reg_fold::{entries_are_in_limits, entries_are_read};
 use reg_levels::level_verdicts_are_single;
-use reg_records::{written_values_have_lines, written_values_read_back};
+use reg_values::{written_values_have_lines, written_values_read_back};
 
 /// A refusal writes nothing.
 pub fn refusals_write_nothing()

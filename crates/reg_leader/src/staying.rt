@@ -9,8 +9,8 @@ use reg_fold::{
     entries_are_in_limits, entries_are_of_places, entries_are_read, none_is_no_opaque_last,
     two_schemas_is_least,
 };
-use reg_records::written_values_read_back;
 use reg_set::{last_is_greatest, merging_joins_sets, records_are_ordered};
+use reg_values::written_values_read_back;
 
 /// What a command writes is one version whose id names no other schema, or no version with a value.
 pub fn steps_are_harmless()

@@ -1,5 +1,5 @@
 -- Queries for levels and modes. Below, rs are the last records.
-use Rattle.std.specs.Prelude.{ℕ, List, Bool, true, false, Option, Some, None, Result, Ok, Err}
+use Rattle.std.specs.Prelude.{ℕ, List, Bool, true, false, Option, Some, None, Result}
 use Rattle.std.specs.Option.{ok_or}
 use Rattle.reg_set.specs.Records.{Records}
 use Rattle.reg_level_names.specs.Level.{level_text}

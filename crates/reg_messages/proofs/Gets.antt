@@ -6,7 +6,6 @@ use Rattle.std.proofs.KnownBytes.{Consumes-trans}
 use Rattle.std.proofs.lemmas.List.{drop_all}
 use Rattle.std.proofs.Math.Seq.{drop-append_seam, take-append_seam}
 use Rattle.httparse.specs.Grammar.{RequestHead}
-use Rattle.reg_refusals.specs.declared.refusal.Refusal.TheVariants as refusals
 use Rattle.reg_messages.specs.Fields.{body_length, told_length}
 use Rattle.reg_messages.specs.BodyReading.{LosesBody, TakesAll, TakesBody}
 use Rattle.reg_messages.specs.Head.{front_of, IsHead}

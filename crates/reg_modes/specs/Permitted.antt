@@ -1,5 +1,5 @@
 -- What a mode permits: nothing is said, or why not.
-use Rattle.std.specs.Prelude.{ℕ, List, Bool, true, false, ◌&&◌, not, Option, Result, Ok, Err, if◌then◌else◌}
+use Rattle.std.specs.Prelude.{Bool, true, false, ◌&&◌, not, Result, Ok, Err, if◌then◌else◌}
 use Rattle.reg_entries.specs.Sought.{has_live}
 use Rattle.reg_refusals.specs.declared.reason.Reason.{Reason}
 use Rattle.reg_refusals.specs.declared.reason.Reason.TheVariants as reasons

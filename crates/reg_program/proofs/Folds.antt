@@ -11,7 +11,8 @@ use Rattle.reg_records.specs.Device.{counted, faults_of, reads_of}
 use Rattle.reg_records.specs.Log.{LogText, is_foreign, log_of}
 use Rattle.reg_records.specs.declared.device.Device.{Device}
 use Rattle.reg_program.specs.Desk.{desk_asks, desk_commands}
-use Rattle.reg_program.specs.Fold.{EndsServing, Folds, IsDeskOver, IsOpened, ended_by, rest_of}
+use Rattle.reg_program.specs.Fold.{EndsServing, Folds, IsDeskOver, ended_by, rest_of}
+use Rattle.reg_program.specs.Opening.{IsOpened}
 use Rattle.reg_program.specs.declared.desk.FoldDesk.{FoldDesk}
 use Rattle.reg_program.specs.declared.folding.FoldError.{FoldError}
 

@@ -1,5 +1,5 @@
 -- What the fold of a log and the requests after it does.
-use Rattle.std.specs.Prelude.{◌≡◌, ◌⊎◌, ℕ, List, Option, Some, IfSome, Ok, Err, count_by, option_and_then, option_map}
+use Rattle.std.specs.Prelude.{◌≡◌, ◌⊎◌, ℕ, List, Option, IfSome, Ok, Err, count_by, option_and_then, option_map}
 use Rattle.std.specs.Result.{result_ok}
 use Rattle.std.specs.FinSet.{from_list}
 use Rattle.std.specs.Io.KnownBytes.{Keeps}
@@ -9,8 +9,6 @@ use Rattle.reg_http.specs.declared.serving.ServeError.TheVariants as serving
 use Rattle.reg_records.specs.Device.{faults_of}
 use Rattle.reg_records.specs.Log.{LogText, LosesLine, log_of, next_after, records_in, is_foreign}
 use Rattle.reg_records.specs.declared.device.Device.{Device}
-use Rattle.reg_records.specs.declared.log.LogError.{LogError}
-use Rattle.reg_records.specs.declared.log.LogError.TheVariants as logs
 use Rattle.reg_set.specs.LastRecords.{last_records}
 use Rattle.reg_program.specs.Desk.{desk_asks, desk_commands}
 use Rattle.reg_program.specs.declared.desk.FoldDesk.{FoldDesk}
@@ -28,11 +26,6 @@ pub record IsDeskOver (log : LogText) (desk : FoldDesk) : Type 0 where
 abbrev pub Folds : List ℕ → Folded → List ℕ → Type 0
 Folds input folded out = (log : LogText) × (log_of input ≡ Ok log) × (folded.foreign ≡ count_by is_foreign log.reads)
     × (desk : FoldDesk) × IsDeskOver log desk × (after : FoldDesk) × IsOutput desk_asks desk_commands desk log.rest folded.requests out after
-
--- the log at the front of an input, its foreign lines, the desk over it, and what is left of the input
-abbrev pub IsOpened : List ℕ → Option (List ℕ) → ℕ → FoldDesk → Type 0
-IsOpened input left foreign desk = (log : LogText) × (log_of input ≡ Ok log) × (foreign ≡ count_by is_foreign log.reads)
-    × IsDeskOver log desk × (left ≡ Some log.rest)
 
 -- why no request was read: the log has a fault, the reader is lost in one of its lines, or there is no room
 abbrev pub IsLogRefused : {R : Type 0} → Device R → Device R → Option (List ℕ) → FoldError → Type 0
@@ -64,9 +57,3 @@ abbrev pub IsFoldRefusal : {R W : Type 0} → Device R → Device R → Device W
 IsFoldRefusal reader reader' writer writer' input left old new error =
     (IsLogRefused reader reader' input error × (faults_of writer' ≡ faults_of writer) × Keeps old new)
     ⊎ EndsServing reader reader' writer writer' input left old new error
-
--- Private: what a log's refusal is to the fold.
-abbrev pub fold_error_of : LogError → FoldError
-fold_error_of (logs.Fault line fault) = errors.Log line fault
-fold_error_of (logs.ReadFault line) = errors.ReadFault
-fold_error_of logs.OutOfMemory = errors.OutOfMemory

@@ -1,3 +1,4 @@
 pub mod Desk
 pub mod Ended
 pub mod Fold
+pub mod Opening

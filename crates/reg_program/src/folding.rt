@@ -6,7 +6,8 @@ ghost use Rattle.reg_records.specs.Device.{bytes_in, faults_of, interruptions_of
 ghost use Rattle.reg_messages.specs.declared.limits.TheConstants.{REQUEST_READS};
 ghost use Rattle.reg_responses.specs.declared.limits.TheConstants.{INTERRUPTION_LIMIT};
 ghost use Rattle.reg_set.specs.LastRecords.{last_records};
-ghost use Rattle.reg_program.specs.Fold.{Folds, IsFoldRefusal, IsLogRefused, IsOpened, fold_error_of, ended_by};
+ghost use Rattle.reg_program.specs.Fold.{Folds, IsFoldRefusal, IsLogRefused, ended_by};
+ghost use Rattle.reg_program.specs.Opening.{IsOpened, fold_error_of};
 
 use crate::desk::FoldDesk;
 use reg_fold::Registry;

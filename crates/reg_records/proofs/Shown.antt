@@ -9,7 +9,7 @@ use Rattle.reg_records.specs.declared.key.Key.TheVariants.{Schema, Config, Mode,
 use Rattle.reg_records.specs.declared.value.Value.{Value}
 use Rattle.reg_records.specs.declared.value.Value.TheVariants as values
 use Rattle.reg_records.specs.declared.limits.TheConstants.{OFFSET_LIMIT}
-use Rattle.reg_records.specs.Written.{key_data, written_key, written_value, schema_data, config_data, mode_data, delete_subject_data, IsInLimits, IsValueOf, IsValueField, HasLine}
+use Rattle.reg_records.specs.Written.{key_data, written_key, written_value, schema_data, config_data, mode_data, delete_subject_data, IsInLimits, HasNumbersInLimits, IsValueField, HasLine}
 use Rattle.reg_records.proofs.Controls.{are_shown, are_shown-append, are_shown-quoted, are_shown-decimal, is_free_of-are_shown}
 
 -- the texts of the members' values hold none
@@ -63,20 +63,20 @@ object_field d h text e =
     subst IsValueField same
     (is_free_of-are_shown 9 (omega arith) (compact_text d) shown, is_free_of-are_shown 10 (omega arith) (compact_text d) shown, begins_apart d h)
 
--- the value that is written under a key can stand as the value of a line
-field_of_value : (k : Key) (v : Value) → IsValueOf k v → ForSome (written_value v) IsValueField
+-- the text that is written for a value can stand as the value of a line
+field_of_value : (v : Value) → HasNumbersInLimits v → ForSome (written_value v) IsValueField
 unfolding written_value
-field_of_value k (values.Schema subject version id schema true) h =
+field_of_value (values.Schema subject version id schema true) h =
     object_field (schema_data subject version id schema true)
-    (are_shown-quoted subject, (are_shown-decimal version (omega (arith, h.1.1)), (are_shown-decimal id (omega (arith, h.2.1)), (are_shown-quoted schema, (refl, tt)))))
-field_of_value k (values.Schema subject version id schema false) h =
+    (are_shown-quoted subject, (are_shown-decimal version (omega (arith, h.0.1)), (are_shown-decimal id (omega (arith, h.1.1)), (are_shown-quoted schema, (refl, tt)))))
+field_of_value (values.Schema subject version id schema false) h =
     object_field (schema_data subject version id schema false)
-    (are_shown-quoted subject, (are_shown-decimal version (omega (arith, h.1.1)), (are_shown-decimal id (omega (arith, h.2.1)), (are_shown-quoted schema, (refl, tt)))))
-field_of_value k (values.Config level) h = object_field (config_data level) (are_shown-quoted level, tt)
-field_of_value k (values.Mode mode) h = object_field (mode_data mode) (are_shown-quoted mode, tt)
-field_of_value k (values.DeleteSubject subject version) h =
-    object_field (delete_subject_data subject version) (are_shown-quoted subject, (are_shown-decimal version (omega (arith, h.1.1)), tt))
-field_of_value k values.Noop h = absurd h
+    (are_shown-quoted subject, (are_shown-decimal version (omega (arith, h.0.1)), (are_shown-decimal id (omega (arith, h.1.1)), (are_shown-quoted schema, (refl, tt)))))
+field_of_value (values.Config level) h = object_field (config_data level) (are_shown-quoted level, tt)
+field_of_value (values.Mode mode) h = object_field (mode_data mode) (are_shown-quoted mode, tt)
+field_of_value (values.DeleteSubject subject version) h =
+    object_field (delete_subject_data subject version) (are_shown-quoted subject, (are_shown-decimal version (omega (arith, h.1)), tt))
+field_of_value values.Noop h = λ text none. absurd (cc)
 
-pub HasLine-written_value : (offset : ℕ) (k : Key) (v : Value) → offset ≤ OFFSET_LIMIT → IsInLimits k → IsValueOf k v → HasLine (record { offset = offset; key = k; value = written_value v })
-HasLine-written_value offset k v fits key h = record { offset_fits = fits; key_fits = key; value_fits = field_of_value k v h }
+pub HasLine-written_value : (offset : ℕ) (k : Key) (v : Value) → offset ≤ OFFSET_LIMIT → IsInLimits k → HasNumbersInLimits v → HasLine (record { offset = offset; key = k; value = written_value v })
+HasLine-written_value offset k v fits key h = record { offset_fits = fits; key_fits = key; value_fits = field_of_value v h }

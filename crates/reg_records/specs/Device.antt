@@ -1,5 +1,5 @@
 -- What a device counts, and the bytes of the reader or the writer in it.
-use Rattle.std.specs.Prelude.{◌≡◌, ◌≢◌, ◌⊎◌, ℕ, suc, ◌+◌, ◌-◌, ◌^◌, ◌<◌, min, List, length, Option, Result, MatchResult}
+use Rattle.std.specs.Prelude.{◌≡◌, ◌≢◌, ℕ, suc, ◌+◌, ◌-◌, ◌^◌, ◌<◌, min, List, length, Option, Result, MatchResult}
 use Rattle.std.specs.IoError.{error_kind}
 use Rattle.std.specs.declared.io.Error.{Error}
 use Rattle.std.specs.declared.io.ErrorKind.TheVariants.{Interrupted}
@@ -40,10 +40,6 @@ interruptions_of d = d.interruptions
 -- the bytes of the reader or the writer in it, where they are known
 abbrev pub bytes_in : {T : Type 0} → (T → Option (List ℕ)) → Device T → Option (List ℕ)
 bytes_in bytes d = bytes d.inner
-
--- a fault was counted, or the count stood at its last value
-abbrev pub HasFaulted : {T : Type 0} → Device T → Device T → Type 0
-HasFaulted old new = (faults_of old < faults_of new) ⊎ (faults_of new ≡ LAST_COUNT)
 
 -- the count rose where the answer was a fault, and there alone; an interruption is none
 abbrev pub CountsFault : {T A : Type 0} → Device T → Device T → Result A Error → Type 0

@@ -6,5 +6,4 @@ pub mod Line
 pub mod Log
 pub mod LogSteps
 pub mod Pieces
-pub mod Value
 pub mod Written

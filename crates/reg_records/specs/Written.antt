@@ -1,17 +1,14 @@
 -- What is written for a key and a value, compact JSON with its members in this order, and for a record.
-use Rattle.std.specs.Prelude.{◌≡◌, ◌⊎◌, ◌<◌, ◌≤◌, ◌^◌, ⊤, ℕ, List, [], ◌∷◌, ◌++◌, Bool, true, false, Option, Some, None, option_map, unwrap_or, bytes_eq, codes, decimal}
+use Rattle.std.specs.Prelude.{◌≡◌, ◌<◌, ◌≤◌, ◌^◌, ⊤, ℕ, List, [], ◌∷◌, ◌++◌, Bool, true, false, Option, Some, None, option_map, unwrap_or, bytes_eq, codes, decimal}
 use Rattle.std.specs.Option.{ForSome}
 use Rattle.serde_json.specs.Data.{unsigned, Data, null, boolean, number, string, object, Members, no_members, member}
 use Rattle.serde_json.specs.Written.{compact_text}
-use Rattle.avro_schema.specs.Schema.{is_schema}
-use Rattle.reg_level_names.specs.Level.{is_level}
 use Rattle.reg_records.specs.declared.key.Key.{Key}
 use Rattle.reg_records.specs.declared.key.Key.TheVariants.{Schema, Config, Mode, DeleteSubject, Noop}
 use Rattle.reg_records.specs.declared.limits.TheConstants.{NUMBER_LIMIT, OFFSET_LIMIT}
 use Rattle.reg_records.specs.declared.record.Record.{Record}
 use Rattle.reg_records.specs.declared.value.Value.{Value}
 use Rattle.reg_records.specs.declared.value.Value.TheVariants as values
-use Rattle.reg_records.specs.Value.{value_of}
 use Rattle.reg_records.specs.Line.{is_tab, is_line_feed, is_free_of, line_of}
 
 -- a subject, or null for the global scope
@@ -93,18 +90,13 @@ value_data values.Noop = None
 unfoldable pub written_value : Value → Option (List ℕ)
 written_value v = option_map compact_text (value_data v)
 
--- the value may stand under the key, and has a text
-abbrev pub IsValueOf : Key → Value → Type 0
-IsValueOf key (values.Schema subject version id schema deleted) =
-    (key ≡ Schema subject version) × IsVersionOrId version × IsVersionOrId id × (is_schema schema ≡ true)
-IsValueOf key (values.Config level) = (scope : Option (List ℕ)) × (key ≡ Config scope) × (is_level level ≡ true)
-IsValueOf key (values.Mode mode) = (scope : Option (List ℕ)) × (key ≡ Mode scope)
-IsValueOf key (values.DeleteSubject subject version) = (key ≡ DeleteSubject subject) × IsVersionOrId version
-IsValueOf key values.Noop = ⊥
-
--- what is read under a key may stand under it: a version's value names the subject and the version of its key; only no operation has no text
-abbrev pub ValuesAreOfKeys : Type 0
-ValuesAreOfKeys = (r : Record) (v : Value) → value_of r ≡ Some v → IsValueOf r.key v ⊎ ((r.key ≡ Noop) × (v ≡ values.Noop))
+-- the value's numbers are within their limits
+abbrev pub HasNumbersInLimits : Value → Type 0
+HasNumbersInLimits (values.Schema subject version id schema deleted) = IsVersionOrId version × IsVersionOrId id
+HasNumbersInLimits (values.Config level) = ⊤
+HasNumbersInLimits (values.Mode mode) = ⊤
+HasNumbersInLimits (values.DeleteSubject subject version) = IsVersionOrId version
+HasNumbersInLimits values.Noop = ⊤
 
 -- a text that can stand as the value of a line: no TAB, no LF, and not the text `null`
 abbrev pub IsValueField : List ℕ → Type 0

@@ -22,10 +22,9 @@ pub use limits::{
 pub use line::{LineError, ReadLineError, lines_are_of_the_grammar, read_line};
 pub use log::{Log, LogError, LogFault};
 pub use log_reader::read_log;
-pub use members::{number_at, quoted, text_at};
-pub use record::{Read, Record};
-pub use value::{
-    Decoded, Value, decode, decode_value, is_plain_avro, values_are_of_keys,
-    written_values_have_lines, written_values_read_back,
+pub use members::{
+    compact_texts_read_back, has_number_at, has_text_at, number_at, parse, quoted, text_at,
 };
+pub use record::{Read, Record};
+pub use value::{Value, values_have_lines};
 pub use write::{WriteLineError, has_line, write_line};

@@ -1,8 +1,11 @@
 // What the members of a JSON object say, and strings as JSON writes them.
-ghost use Rattle.std.specs.Prelude.{◌≡◌, IfOk, option_map, string_bytes};
+ghost use Rattle.std.specs.Prelude.{◌≡◌, ◌≤◌, IfOk, option_map, string_bytes};
 ghost use Rattle.json.specs.Print.{quoted};
-ghost use Rattle.serde_json.specs.Read.{read};
+ghost use Rattle.json.specs.Tree.{depth, HasNumbers};
+ghost use Rattle.serde_json.specs.Data.{Data};
+ghost use Rattle.serde_json.specs.Read.{read, of_json, max_depth};
 ghost use Rattle.serde_json.specs.View.{view};
+ghost use Rattle.serde_json.specs.Written.{compact_text, outline};
 ghost use Rattle.reg_records.specs.Json.{text_at, number_at, has_text_at, has_number_at};
 
 use crate::limits::NUMBER_LIMIT;
@@ -10,7 +13,7 @@ use serde_json::Value as Json;
 use std::alloc::{AllocError, Global};
 
 /// The JSON value that a text is; `None` where it is none.
-pub(crate) fn parse(alloc: Global, text: &str) -> Result<Option<Json>, AllocError>
+pub fn parse(alloc: Global, text: &str) -> Result<Option<Json>, AllocError>
     ensures { IfOk result (λ found. option_map view found ≡ read text.now) }
 {
     match Json::from_str(alloc, text) {
@@ -44,7 +47,7 @@ pub fn number_at(json: &Json, name: &str) -> Option<u32>
 }
 
 /// Whether the member of that name is that string.
-pub(crate) fn has_text_at(json: &Json, name: &str, text: &str) -> bool
+pub fn has_text_at(json: &Json, name: &str, text: &str) -> bool
     ensures { result ≡ has_text_at name.now text.now (view json.now) }
 {
     match text_at(json, name) {
@@ -54,7 +57,7 @@ pub(crate) fn has_text_at(json: &Json, name: &str, text: &str) -> bool
 }
 
 /// Whether the member of that name is that number.
-pub(crate) fn has_number_at(json: &Json, name: &str, number: u32) -> bool
+pub fn has_number_at(json: &Json, name: &str, number: u32) -> bool
     ensures { result ≡ has_number_at name.now number (view json.now) }
 {
     match number_at(json, name) {
@@ -72,3 +75,8 @@ pub fn quoted(alloc: Global, text: &str) -> Result<String, AllocError>
         Err(_) => Err(AllocError),
     }
 }
+
+/// Data that is written without spaces is read again, as its outline has it.
+pub fn compact_texts_read_back()
+    ensures { (d : Data) → HasNumbers (outline d) → depth (outline d) ≤ max_depth → read (compact_text d) ≡ of_json (outline d) }
+{}

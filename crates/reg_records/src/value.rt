@@ -1,23 +1,14 @@
-// The values of records.
-ghost use Rattle.std.specs.Prelude.{◌≡◌, ◌++◌, ◌≤◌, ℕ, IfOk, IfSome, Some, None, codes, decimal, option_map, string_bytes};
+// The values of records, and the texts that are written for them.
+ghost use Rattle.std.specs.Prelude.{◌≡◌, ◌++◌, ◌≤◌, ℕ, IfOk, Some, codes, decimal, string_bytes};
 ghost use Rattle.serde_json.specs.Data.{boolean};
 ghost use Rattle.serde_json.specs.Written.{compact_text};
-ghost use Rattle.serde_json.specs.View.{view};
-ghost use Rattle.reg_level_names.specs.Level.{is_level};
-ghost use Rattle.reg_records.specs.Json.{text_where};
-ghost use Rattle.reg_records.specs.Value.{value_of, schema_in, with_schema, value_in, schema_value, config_value, mode_value, delete_subject_value, noop_value, is_plain_avro, is_absent_or, is_absent, is_avro_name, is_empty_list, deleted_in};
-ghost use Rattle.reg_records.specs.Written.{written_value, HasLine, IsInLimits, IsValueOf, ValuesAreOfKeys};
+ghost use Rattle.reg_records.specs.Written.{written_value, HasLine, HasNumbersInLimits, IsInLimits};
 ghost use Rattle.reg_records.specs.declared.key.Key.{Key};
 ghost use Rattle.reg_records.specs.declared.value.Value.{Value};
 
-use crate::key::Key;
 use crate::limits::OFFSET_LIMIT;
-use crate::members::{has_number_at, has_text_at, number_at, parse, quoted, text_at};
-use crate::record::Record;
-use avro_schema::Schema;
+use crate::members::quoted;
 use base_text::Text;
-use reg_level_names::Level;
-use serde_json::Value as Json;
 use std::alloc::{AllocError, Global};
 
 /// What a record's value says of its key.
@@ -46,13 +37,6 @@ pub enum Value {
     Noop,
 }
 
-/// A value and, where it is a version's, the schema that its text means.
-#[derive(Drop)]
-pub struct Decoded {
-    pub value: Value,
-    pub schema: Option<Schema>,
-}
-
 impl Value {
     /// The JSON text that is written for the value, without spaces and with its members in a fixed
     /// order; `None` for no operation, which is written without a value. The only error is want of
@@ -76,217 +60,6 @@ impl Value {
             Value::Noop => return Ok(None),
         };
         Ok(Some(text))
-    }
-}
-
-/// The value that a record's text gives; `None` for a record without text, and for one whose text
-/// can't be read as a value of its key. The only error is want of memory.
-pub fn decode_value(alloc: Global, given: &Record) -> Result<Option<Value>, AllocError>
-    ensures { IfOk result (λ value. value ≡ value_of given.now) }
-{
-    match decode(alloc, given)? {
-        Some(Decoded { value, .. }) => Ok(Some(value)),
-        None => Ok(None),
-    }
-}
-
-/// The same, with the schema of a version, so that its text is read only once.
-pub fn decode(alloc: Global, given: &Record) -> Result<Option<Decoded>, AllocError>
-    ensures value { IfOk result (λ found. option_map (λ d. d.value) found ≡ value_of given.now) }
-    ensures schema { IfOk result (λ found. IfSome found (λ d. d.schema ≡ schema_in d.value)) }
-{
-    let Some(text) = &given.value else {
-        return Ok(None);
-    };
-    match parse(alloc, text.as_str())? {
-        Some(json) => decode_in(alloc, &given.key, &json),
-        None => Ok(None),
-    }
-}
-
-fn decode_in(alloc: Global, key: &Key, json: &Json) -> Result<Option<Decoded>, AllocError>
-    ensures { IfOk result (λ found. found ≡ option_map with_schema (value_in key.now (view json.now))) }
-{
-    match key {
-        Key::Schema { subject, version } => decode_schema(alloc, subject, *version, json),
-        Key::Config(_) => decode_config(alloc, json),
-        Key::Mode(_) => decode_mode(alloc, json),
-        Key::DeleteSubject(subject) => decode_delete_subject(subject, json),
-        Key::Noop => Ok(decode_noop(json)),
-    }
-}
-
-fn decode_schema(
-    alloc: Global,
-    subject: &Text,
-    version: u32,
-    json: &Json,
-) -> Result<Option<Decoded>, AllocError>
-    ensures { IfOk result (λ found. found ≡ option_map with_schema (schema_value subject.now version (view json.now))) }
-{
-    let is_about_key = has_text_at(json, "subject", subject.as_str())
-        && has_number_at(json, "version", version);
-    if !is_about_key || !is_plain_avro(json) {
-        return Ok(None);
-    }
-    let Some(id) = number_at(json, "id") else {
-        return Ok(None);
-    };
-    let Some(text) = text_at(json, "schema") else {
-        return Ok(None);
-    };
-    let Some(schema) = Schema::read_if_any(alloc, text)? else {
-        return Ok(None);
-    };
-    match deleted_in(json) {
-        Some(deleted) => {
-            let value = version_value(alloc, subject, version, id, text, deleted)?;
-            Ok(Some(Decoded {
-                value,
-                schema: Some(schema),
-            }))
-        }
-        None => Ok(None),
-    }
-}
-
-fn version_value(
-    alloc: Global,
-    subject: &Text,
-    version: u32,
-    id: u32,
-    text: &str,
-    deleted: bool,
-) -> Result<Value, AllocError>
-    ensures { IfOk result (λ value. value ≡ Value.Schema subject.now version id text.now deleted) }
-{
-    Ok(Value::Schema {
-        subject: subject.clone()?,
-        version,
-        id,
-        schema: Text::copy_of(alloc, text)?,
-        deleted,
-    })
-}
-
-fn decode_config(alloc: Global, json: &Json) -> Result<Option<Decoded>, AllocError>
-    ensures { IfOk result (λ found. found ≡ option_map with_schema (config_value (view json.now))) }
-{
-    match level_at(json) {
-        Some(level) => Ok(Some(without_schema(Value::Config(Text::copy_of(alloc, level)?)))),
-        None => Ok(None),
-    }
-}
-
-/// The name of a level, whatever the case of its letters.
-fn level_at(json: &Json) -> Option<&str>
-    ensures { option_map (λ text. text.now) result ≡ text_where is_level (codes "compatibilityLevel") (view json.now) }
-{
-    let text = text_at(json, "compatibilityLevel")?;
-    if Level::parse(text).is_some() {
-        Some(text)
-    } else {
-        None
-    }
-}
-
-fn decode_mode(alloc: Global, json: &Json) -> Result<Option<Decoded>, AllocError>
-    ensures { IfOk result (λ found. found ≡ option_map with_schema (mode_value (view json.now))) }
-{
-    match text_at(json, "mode") {
-        Some(mode) => Ok(Some(without_schema(Value::Mode(Text::copy_of(alloc, mode)?)))),
-        None => Ok(None),
-    }
-}
-
-fn decode_delete_subject(subject: &Text, json: &Json) -> Result<Option<Decoded>, AllocError>
-    ensures { IfOk result (λ found. found ≡ option_map with_schema (delete_subject_value subject.now (view json.now))) }
-{
-    if !has_text_at(json, "subject", subject.as_str()) {
-        return Ok(None);
-    }
-    match number_at(json, "version") {
-        Some(version) => Ok(Some(without_schema(Value::DeleteSubject {
-            subject: subject.clone()?,
-            version,
-        }))),
-        None => Ok(None),
-    }
-}
-
-fn decode_noop(json: &Json) -> Option<Decoded>
-    ensures { result ≡ option_map with_schema (noop_value (view json.now)) }
-{
-    match json.as_object() {
-        Some(_) => Some(without_schema(Value::Noop)),
-        None => None,
-    }
-}
-
-/// A value that is no version's.
-fn without_schema(value: Value) -> Decoded
-    requires { schema_in value ≡ None }
-    ensures { result ≡ with_schema value }
-{
-    Decoded {
-        value,
-        schema: None,
-    }
-}
-
-/// Whether the members beside a schema's text leave it an Avro schema that stands alone: no other type,
-/// no references, no metadata, no rules.
-pub fn is_plain_avro(json: &Json) -> bool
-    ensures { result ≡ is_plain_avro (view json.now) }
-{
-    is_avro(json.get("schemaType"))
-        && has_no_items(json.get("references"))
-        && is_absent(json.get("metadata"))
-        && is_absent(json.get("ruleSet"))
-}
-
-fn is_absent(member: Option<&Json>) -> bool
-    ensures { result ≡ is_absent (option_map (λ json. view json.now) member.entry) }
-{
-    match member {
-        Some(json) => json.is_null(),
-        None => true,
-    }
-}
-
-fn is_avro(member: Option<&Json>) -> bool
-    ensures { result ≡ is_absent_or is_avro_name (option_map (λ json. view json.now) member.entry) }
-{
-    match member {
-        Some(json) => json.is_null() || json.as_str() == Some("AVRO"),
-        None => true,
-    }
-}
-
-fn has_no_items(member: Option<&Json>) -> bool
-    ensures { result ≡ is_absent_or is_empty_list (option_map (λ json. view json.now) member.entry) }
-{
-    match member {
-        Some(json) => json.is_null() || is_empty_list(json),
-        None => true,
-    }
-}
-
-fn is_empty_list(json: &Json) -> bool
-    ensures { result ≡ is_empty_list (view json.now) }
-{
-    match json.as_array() {
-        Some(items) => items.is_empty(),
-        None => false,
-    }
-}
-
-fn deleted_in(json: &Json) -> Option<bool>
-    ensures { result ≡ deleted_in (view json.now) }
-{
-    match json.get("deleted") {
-        Some(mark) if !mark.is_null() => mark.as_bool(),
-        _ => Some(false),
     }
 }
 
@@ -366,20 +139,8 @@ fn delete_subject_object(alloc: Global, subject: &str, version: u32) -> Result<S
     format!(in alloc; "{{\"subject\":{subject},\"version\":{version}}}")
 }
 
-/// A written value is read again, under its key.
-pub fn written_values_read_back()
-    ensures { (offset : ℕ) (k : Key) (v : Value) → IsValueOf k v
-        → value_of (record { offset = offset; key = k; value = written_value v }) ≡ Some v }
-{}
-
-/// What is read under a key is of that key, and its numbers are within their limits: it may be
-/// written there again, save that a NOOP has no text.
-pub fn values_are_of_keys()
-    ensures { ValuesAreOfKeys }
-{}
-
-/// A record whose value was written for its key has a line.
-pub fn written_values_have_lines()
-    ensures { (offset : ℕ) (k : Key) (v : Value) → offset ≤ OFFSET_LIMIT → IsInLimits k → IsValueOf k v
+/// A record whose value was written has a line, where its numbers are within their limits.
+pub fn values_have_lines()
+    ensures { (offset : ℕ) (k : Key) (v : Value) → offset ≤ OFFSET_LIMIT → IsInLimits k → HasNumbersInLimits v
         → HasLine (record { offset = offset; key = k; value = written_value v }) }
 {}

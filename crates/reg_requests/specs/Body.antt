@@ -12,7 +12,7 @@ use Rattle.reg_level_names.specs.declared.level.Level.{Level}
 use Rattle.reg_modes.specs.Mode.{mode_named}
 use Rattle.reg_modes.specs.declared.mode.Mode.{Mode}
 use Rattle.reg_records.specs.Json.{is_null, text_at, number_at}
-use Rattle.reg_records.specs.Value.{is_plain_avro}
+use Rattle.reg_values.specs.Value.{is_plain_avro}
 use Rattle.reg_refusals.specs.declared.reason.Reason.TheVariants as reasons
 use Rattle.reg_refusals.specs.declared.refusal.Refusal.{Refusal}
 use Rattle.reg_refusals.specs.declared.refusal.Refusal.TheVariants as refusals

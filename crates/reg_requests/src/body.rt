@@ -8,8 +8,9 @@ use base_text::Text;
 use reg_leader::Command;
 use reg_level_names::Level;
 use reg_modes::Mode;
-use reg_records::{is_plain_avro, number_at, text_at};
+use reg_records::{number_at, text_at};
 use reg_refusals::{Reason, Refusal};
+use reg_values::is_plain_avro;
 use serde_json::Value;
 use std::alloc::{AllocError, Global};
 

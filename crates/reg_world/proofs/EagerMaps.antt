@@ -11,8 +11,8 @@ use Rattle.std.specs.List.{AllByRecursion, filter_map, flat_map, fold}
 use Rattle.std.specs.Option.{option_or, unwrap_or}
 use Rattle.std.specs.Ordering.{eq_by_cmp}
 use Rattle.std.specs.declared.cmp.Ordering.TheVariants.{Less, Equal, Greater}
-use Rattle.reg_records.specs.Value.{value_of}
-use Rattle.reg_records.specs.Written.{ValuesAreOfKeys}
+use Rattle.reg_values.specs.Value.{value_of}
+use Rattle.reg_values.specs.OfKey.{ValuesAreOfKeys}
 use Rattle.reg_records.specs.declared.key.Key.TheVariants as keys
 use Rattle.reg_records.specs.declared.record.Record.{Record}
 use Rattle.reg_records.specs.declared.value.Value.{Value}

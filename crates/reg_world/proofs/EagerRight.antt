@@ -1,5 +1,5 @@
 -- Taken one after the other, the records of a log give the log's entries.
-use Rattle.std.proofs.Common.{◌≡◌, ◌≢◌, ◌⊎◌, inl, inr, ℕ, suc, ◌+◌, ◌<◌, ◌≤◌, Bool, true, false, cond, ◌&&◌, ◌==◌, max, nat_le, fold, length, List, [], ◌∷◌, ◌++◌, All, map, Option, Some, None, Contains, bytes_eq, refl, sym, ap, subst, ◌∙◌, arith, eqb-true}
+use Rattle.std.proofs.Common.{◌≡◌, ◌≢◌, ◌⊎◌, inl, inr, ℕ, suc, ◌+◌, ◌<◌, ◌≤◌, Bool, true, false, cond, ◌&&◌, ◌==◌, max, nat_le, fold, length, List, [], ◌∷◌, ◌++◌, All, map, Option, Some, Contains, bytes_eq, refl, sym, ap, subst, ◌∙◌, arith, eqb-true}
 use Rattle.std.proofs.lemmas.Bool.{false≢true, le-leb}
 use Rattle.std.proofs.lemmas.List.Concat.{flat_map-cons}
 use Rattle.std.proofs.lemmas.List.Elements.{All-head, All-tail}
@@ -8,15 +8,15 @@ use Rattle.std.proofs.lemmas.Slice.Eq.{bytes_eq-Decides}
 use Rattle.std.specs.FinSet.{contains, from_list, insert, contains-from_list, contains-insert, contains-union}
 use Rattle.std.specs.List.{filter, list_any, reduce}
 use Rattle.std.specs.Ordering.{eq_by_cmp}
-use Rattle.reg_records.specs.Value.{value_of}
-use Rattle.reg_records.specs.Written.{IsValueOf, written_value}
+use Rattle.reg_values.specs.Value.{value_of}
+use Rattle.reg_records.specs.Written.{written_value}
+use Rattle.reg_values.specs.OfKey.{IsValueOf}
 use Rattle.reg_records.specs.declared.key.Key.{Key}
 use Rattle.reg_records.specs.declared.key.Key.TheVariants as keys
 use Rattle.reg_records.specs.declared.limits.TheConstants.{OFFSET_LIMIT}
 use Rattle.reg_records.specs.declared.record.Record.{Record}
 use Rattle.reg_records.specs.declared.value.Value.{Value}
 use Rattle.reg_records.specs.declared.value.Value.TheVariants as values
-use Rattle.reg_set.specs.Compaction.{IsCompactionOf}
 use Rattle.reg_set.specs.Join.{LastRecordsOfCompaction}
 use Rattle.reg_set.specs.LastRecords.{last_records}
 use Rattle.reg_set.specs.RecordOrder.{record_cmp}
@@ -33,7 +33,7 @@ use Rattle.reg_topic.specs.declared.published.Item.{Item}
 use Rattle.reg_topic.specs.declared.published.Item.TheVariants as items
 use Rattle.reg_topic.specs.declared.topic.Topic.{Topic}
 use Rattle.reg_world.specs.Core.{LogIsLawful}
-use Rattle.reg_world.specs.Eager.{EagerFoldingIsRight, IsFoldedEagerly, after_key, after_records, eager, standing_at}
+use Rattle.reg_world.specs.Eager.{EagerFoldingIsRight, after_key, after_records, standing_at}
 use Rattle.reg_world.specs.State.{topic_of}
 use Rattle.reg_world.proofs.EagerFolding.{Fits, all_records}
 use Rattle.reg_world.proofs.EagerPlaces.{at_place, first_or_rest, found-some, head, tail}

@@ -1,9 +1,8 @@
 -- What an event does, and what settling does.
 use Rattle.std.proofs.Common.{◌≡◌, ℕ, suc, zero, Bool, true, false, ◌&&◌, List, [], ◌∷◌, Some, None, MatchBool, is_some, slice_get, set, refl, sym, ap, subst, ◌∙◌}
-use Rattle.reg_leader.specs.declared.reply.Reply.TheVariants as replies
 use Rattle.reg_topic.specs.declared.published.Item.TheVariants as items
 use Rattle.reg_world.specs.Happens.{Does, Happens, is_allowed}
-use Rattle.reg_world.specs.State.{State, changed, has_node, settling, with_node}
+use Rattle.reg_world.specs.State.{State, changed, has_node, with_node}
 use Rattle.reg_world.specs.declared.event.Event.{Event}
 use Rattle.reg_world.specs.declared.event.Outcome.{Outcome}
 use Rattle.reg_world.specs.declared.event.Outcome.TheVariants as outcomes

@@ -18,9 +18,10 @@ use avro_schema::Schema;
 use base_text::Text;
 use reg_entries::{Entries, Entry, Mark};
 use reg_fold::{Registry, entries_are_of_places};
-use reg_records::{Decoded, Key, Record, Value, decode, decode_value, values_are_of_keys};
+use reg_records::{Key, Record, Value};
 use reg_set::RecordSet;
 use reg_topic::{Item, Topic};
+use reg_values::{Decoded, decode, decode_value, values_are_of_keys};
 use std::alloc::{AllocError, Global};
 
 /// What stands after all that the items published, taken record by record, where the entries of the

@@ -12,12 +12,12 @@ use reg_leader::{
     steps_stay_open,
 };
 use reg_lookup::queries_have_one_answer;
-use reg_records::written_values_read_back;
 use reg_set::{
     compactions_compose, last_is_greatest, last_records_are_enough, last_records_of_unions,
     merging_joins_sets, records_are_ordered,
 };
 use reg_topic::{kept_sets_are_compactions, lawful_items_follow};
+use reg_values::written_values_read_back;
 
 /// The laws of the crates below.
 fn lower_laws()

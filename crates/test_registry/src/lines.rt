@@ -35,13 +35,6 @@ fn write_version(
     )
 }
 
-fn write_delete(out: &mut String, offset: u64, subject: &str) -> Result<(), AllocError> {
-    write!(
-        out,
-        "{offset}\t{{\"keytype\":\"DELETE_SUBJECT\",\"subject\":\"{subject}\"}}\t"
-    )
-}
-
 fn write_key(out: &mut String, line: Line) -> Result<(), AllocError> {
     match line {
         Line::Schema(offset, subject, version, _, _)
@@ -51,7 +44,10 @@ fn write_key(out: &mut String, line: Line) -> Result<(), AllocError> {
             write_version(out, offset, subject, version)
         }
         Line::Delete(offset, subject, _) | Line::Undelete(offset, subject) => {
-            write_delete(out, offset, subject)
+            write!(
+                out,
+                "{offset}\t{{\"keytype\":\"DELETE_SUBJECT\",\"subject\":\"{subject}\"}}\t"
+            )
         }
         Line::Level(offset, scope, _) | Line::NoLevel(offset, scope) => {
             write!(

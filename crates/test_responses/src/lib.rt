@@ -1,6 +1,8 @@
-//! Tests of the texts of responses, over the public calls.
+//! Tests of refusals and of the texts of responses, over the public calls.
 #![tactic(auto)]
 
+#[cfg(test)]
+mod refusals;
 #[cfg(test)]
 mod rows;
 #[cfg(test)]

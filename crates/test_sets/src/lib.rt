@@ -10,6 +10,4 @@ mod faults;
 #[cfg(test)]
 mod lines;
 #[cfg(test)]
-mod records;
-#[cfg(test)]
 mod sets;

@@ -25,15 +25,10 @@ fn write_log(out: &mut String, lines: &[Line]) -> Result<(), AllocError> {
     Ok(())
 }
 
-pub(crate) fn log_of(alloc: Global, lines: &[Line]) -> Result<String, AllocError> {
-    let mut log = String::new(alloc);
-    write_log(&mut log, lines)?;
-    Ok(log)
-}
-
 /// The records of some lines, as the library reads them.
 pub(crate) fn records_of(alloc: Global, lines: &[Line]) -> Result<Vec<Record>, LogError> {
-    let log = log_of(alloc, lines)?;
+    let mut log = String::new(alloc);
+    write_log(&mut log, lines)?;
     let mut reader = Device::new(log.as_bytes());
     Ok(read_log(alloc, &mut reader)?.records)
 }

@@ -3,8 +3,8 @@ use Rattle.std.proofs.lemmas.Bool.Decides.{nat_tests}
 use Rattle.serde_json.specs.declared.value.Value.{Value}
 use Rattle.std.specs.Prelude.{nat_eq}
 use Rattle.serde_json.specs.View.{items_view}
-use Rattle.reg_records.specs.Value.{has_no_item}
-use Rattle.reg_records.proofs.value.is_empty_list.Goals as goal
+use Rattle.reg_values.specs.Value.{has_no_item}
+use Rattle.reg_values.proofs.decoding.is_empty_list.Goals as goal
 
 has_no_item-view : (items : List Value) → has_no_item (items_view items) ≡ nat_eq (length items) 0
 has_no_item-view [] = refl

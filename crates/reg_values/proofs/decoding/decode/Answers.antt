@@ -1,9 +1,9 @@
 use Rattle.std.proofs.Common.{◌≡◌, Option, IfSome, subst, sym}
 use Rattle.std.proofs.lemmas.Result.{IfOk-weaker}
-use Rattle.reg_records.specs.declared.value.Decoded.{Decoded}
-use Rattle.reg_records.specs.Value.{schema_in}
-use Rattle.reg_records.proofs.Decoding.{schema-with_schema}
-use Rattle.reg_records.proofs.value.decode.Goals as goal
+use Rattle.reg_values.specs.declared.decoding.Decoded.{Decoded}
+use Rattle.reg_values.specs.Value.{schema_in}
+use Rattle.reg_values.proofs.WithSchema.{schema-with_schema}
+use Rattle.reg_values.proofs.decoding.decode.Goals as goal
 
 pub returns-in-Some-2-clause-schema : goal.returns-in-Some-2-clause-schema
 returns-in-Some-2-clause-schema c =

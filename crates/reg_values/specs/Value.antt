@@ -9,7 +9,6 @@ use Rattle.reg_level_names.specs.Level.{is_level}
 use Rattle.reg_records.specs.Json.{is_null, text_at, text_where, number_at, has_text_at, has_number_at}
 use Rattle.reg_records.specs.declared.key.Key.{Key}
 use Rattle.reg_records.specs.declared.key.Key.TheVariants as keys
-use Rattle.reg_records.specs.declared.value.Decoded.{Decoded}
 use Rattle.reg_records.specs.declared.value.Value.{Value}
 use Rattle.reg_records.specs.declared.value.Value.TheVariants as values
 use Rattle.reg_records.specs.declared.record.Record.{Record}
@@ -93,7 +92,3 @@ schema_in (values.Config level) = None
 schema_in (values.Mode mode) = None
 schema_in (values.DeleteSubject subject version) = None
 schema_in values.Noop = None
-
--- a value with its schema
-abbrev pub with_schema : Value → Decoded
-with_schema v = record { value = v; schema = schema_in v }

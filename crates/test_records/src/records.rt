@@ -1,15 +1,32 @@
 // What lines say, and how it is written again.
 mod rows;
 
-use crate::lines::{Line, log_of, records_of};
 use base_text::Text;
 use reg_records::{
-    Key, LogError, Record, Value, decode_value, has_line, limits_are_as_written,
-    lines_are_of_the_grammar, write_line, written_keys_are_apart, written_values_have_lines,
-    written_values_read_back,
+    Device, Key, LogError, Record, Value, has_line, limits_are_as_written,
+    lines_are_of_the_grammar, read_log, write_line, written_keys_are_apart,
 };
+use reg_values::{decode_value, written_values_have_lines, written_values_read_back};
 use rows::{AS_WRITTEN, FOREIGN, OTHER_KEYS, OTHER_VALUES};
 use std::alloc::{AllocError, Global};
+
+/// A line's key and value, as the line has them.
+#[derive(Clone, Copy)]
+struct Line<'a> {
+    key: &'a str,
+    value: &'a str,
+}
+
+fn log_of(alloc: Global, line: Line) -> Result<String, AllocError> {
+    format!(in alloc; "7\t{}\t{}\n", line.key, line.value)
+}
+
+/// The records of the log of one line, as the library reads them.
+fn records_of(alloc: Global, line: Line) -> Result<Vec<Record>, LogError> {
+    let log = log_of(alloc, line)?;
+    let mut reader = Device::new(log.as_bytes());
+    Ok(read_log(alloc, &mut reader)?.records)
+}
 
 fn is_text(text: &Option<Text>, wanted: &str) -> bool {
     match text {
@@ -31,7 +48,7 @@ fn is_value(alloc: Global, found: &Record, wanted: &str) -> Result<bool, AllocEr
 
 /// Whether the line that is written for a record is that one.
 fn is_written_again(alloc: Global, found: &Record, line: Line) -> Result<bool, AllocError> {
-    let wanted = log_of(alloc, &[line])?;
+    let wanted = log_of(alloc, line)?;
     Ok(
         has_line(found)
             && matches!(write_line(alloc, found), Ok(text) if text.as_slice() == wanted.as_bytes()),
@@ -52,16 +69,8 @@ struct Row<'a> {
 
 fn line_of(text: &str) -> Option<Line> {
     let (key, value) = text.split_once("|")?;
-    let value = match value {
-        "null" => None,
-        "null␠" => Some("null "),
-        _ => Some(value),
-    };
-    Some(Line {
-        offset: 7,
-        key,
-        value,
-    })
+    let value = if value == "null␠" { "null " } else { value };
+    Some(Line { key, value })
 }
 
 fn row_of(text: &str) -> Option<Row> {
@@ -83,7 +92,7 @@ fn is_said(alloc: Global, found: &Record, row: Row) -> Result<bool, AllocError> 
 }
 
 fn holds(alloc: Global, row: Row) -> Result<bool, LogError> {
-    let records = records_of(alloc, &[row.line])?;
+    let records = records_of(alloc, row.line)?;
     match records.first() {
         Some(found) => Ok(is_said(alloc, found, row)?),
         None => Ok(false),
@@ -107,12 +116,8 @@ fn lines_say_what_their_texts_do(rt: HostRuntime) {
 }
 
 fn is_foreign(alloc: Global, key: &str) -> Result<bool, LogError> {
-    let line = Line {
-        offset: 7,
-        key,
-        value: None,
-    };
-    Ok(records_of(alloc, &[line])?.is_empty())
+    let line = Line { key, value: "null" };
+    Ok(records_of(alloc, line)?.is_empty())
 }
 
 #[test]

@@ -9,8 +9,9 @@ use Rattle.serde_json.specs.Read.{read}
 use Rattle.avro_schema.specs.Schema.{is_schema}
 use Rattle.reg_level_names.specs.Level.{is_level}
 use Rattle.reg_records.specs.Json.{has_number_at, has_text_at, number_at, text_at, text_where}
-use Rattle.reg_records.specs.Value.{deleted_in, is_plain_avro, value_in, value_of}
-use Rattle.reg_records.specs.Written.{IsValueOf, IsVersionOrId, ValuesAreOfKeys}
+use Rattle.reg_values.specs.Value.{deleted_in, is_plain_avro, value_in, value_of}
+use Rattle.reg_records.specs.Written.{IsVersionOrId, HasNumbersInLimits}
+use Rattle.reg_values.specs.OfKey.{IsValueOf, ValuesAreOfKeys}
 use Rattle.reg_records.specs.declared.key.Key.{Key}
 use Rattle.reg_records.specs.declared.key.Key.TheVariants as keys
 use Rattle.reg_records.specs.declared.limits.TheConstants.{NUMBER_LIMIT}
@@ -94,3 +95,11 @@ value_of-of r =
 
 pub values_are_of_keys : ValuesAreOfKeys
 values_are_of_keys r v is = subst (λ o. IfSome o (IsOf r.key)) is (value_of-of r)
+
+-- a value that may stand under a key has its numbers within their limits
+pub has_numbers_in_limits : (key : Key) (v : Value) → IsValueOf key v → HasNumbersInLimits v
+has_numbers_in_limits key (values.Schema subject version id schema deleted) h = (h.1, h.2)
+has_numbers_in_limits key (values.Config level) h = tt
+has_numbers_in_limits key (values.Mode mode) h = tt
+has_numbers_in_limits key (values.DeleteSubject subject version) h = h.1
+has_numbers_in_limits key values.Noop h = absurd h

@@ -1,5 +1,0 @@
-use Rattle.reg_records.proofs.OfKeys.{values_are_of_keys}
-use Rattle.reg_records.proofs.value.values_are_of_keys.Goals as goal
-
-pub returns : goal.returns
-returns c = values_are_of_keys

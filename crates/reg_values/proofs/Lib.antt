@@ -1,0 +1,3 @@
+pub mod WithSchema
+pub mod OfKeys
+pub mod ReadsBack
