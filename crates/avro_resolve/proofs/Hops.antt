@@ -1,5 +1,5 @@
 -- Where hops lead: what the obligations of a pair say of one hop, and that a trail is what its hops lead to.
-use Rattle.std.proofs.Common.{◌≡◌, ◌≢◌, ◌↔◌, IsTrue, length, drop, get_or, add-one, drop-cons, ℕ, zero, suc, ◌+◌, ◌<◌, List, [], ◌∷◌, Bool, true, false, Option, Some, None, option_map, option_and_then, filter_map, map, slice_get, cond, eqb, refl, sym, ◌∙◌, ap, subst, arith}
+use Rattle.std.proofs.Common.{◌≡◌, ◌≢◌, ◌↔◌, IsTrue, is_some, find, filter, length, drop, get_or, add-one, drop-cons, ℕ, zero, suc, ◌+◌, ◌<◌, List, [], ◌∷◌, Bool, true, false, Option, Some, None, option_map, option_and_then, filter_map, map, slice_get, cond, eqb, refl, sym, ◌∙◌, ap, subst, arith}
 use Rattle.std.specs.List.{enumerate_from, cons_option}
 use Rattle.std.proofs.lemmas.Bool.{eqb-true, eq-eqb}
 use Rattle.std.proofs.lemmas.Slice.Eq.{bytes_eq-Decides}
@@ -13,8 +13,8 @@ use Rattle.avro_resolve.specs.declared.trail.ClashKind.{ClashKind}
 use Rattle.avro_resolve.specs.declared.trail.Trail.{Trail}
 use Rattle.avro_resolve.specs.declared.obligations.Pair.{Pair}
 use Rattle.avro_resolve.specs.declared.obligations.Obligation.{Obligation}
-use Rattle.avro_resolve.specs.Pairing.{partner}
-use Rattle.avro_resolve.specs.Table.{pair, to_writer_branch, to_writer_branches, to_field, to_partner, owed_in, clash_of, obligations}
+use Rattle.avro_resolve.specs.Pairing.{partner, lacks_value}
+use Rattle.avro_resolve.specs.Table.{pair, to_writer_branch, to_writer_branches, to_field, to_partner, unless_lacking, to_fields, owed_in, clash_of, obligations}
 use Rattle.avro_resolve.specs.Trails.{end_at, after_hop, roots, trail_from, IsTrail, HopsNameOne}
 use Rattle.avro_resolve.specs.Follow.{same_hop, owed_by, pair_by}
 use Rattle.avro_resolve.proofs.Rows.{IsWithin, obligations_within, hops_name_one}
@@ -63,6 +63,43 @@ other_than_field gs (f ∷ fs) h other = skip_field h f (partner gs f) _ other �
 
 pub of_no_field : (gs fs : List Field) (h : Hop) → ((x : List ℕ) → h ≡ hop.Field x → ⊥) → None ≡ pair_by (filter_map (to_partner gs) fs) h
 of_no_field gs fs h other = sym (ap (option_map (λ (o : Obligation). o.pair)) (other_than_field gs fs h other))
+
+-- ---- the hops of obligations, by their numbers
+
+-- the hop of the obligation of that number
+abbrev pub hop_in : List Obligation → ℕ → Option Hop
+hop_in os k = option_map (λ o. o.hop) (slice_get os k)
+
+pub hop_below : (os : List Obligation) (k : ℕ) → k < length os → hop_in os k ≡ None → ⊥
+hop_below [] k h e = omega arith
+hop_below (o ∷ os) zero h e = cc
+hop_below (o ∷ os) (suc k) h e = hop_below os k (omega arith) e
+
+branch_hop : (i : NodeId) (n : ℕ) (bs : List NodeId) (k : ℕ) → k < length (map (to_writer_branch i) (enumerate_from n bs)) → hop_in (map (to_writer_branch i) (enumerate_from n bs)) k ≡ Some (hop.Writer (n + k))
+branch_hop i n [] k h = absurd (omega arith)
+branch_hop i n (b ∷ bs) zero h = ap (λ m. Some (hop.Writer m)) (let e : n ≡ n + 0 = omega arith in e)
+branch_hop i n (b ∷ bs) (suc k) h = branch_hop i (n + 1) bs k (omega arith) ∙ ap (λ m. Some (hop.Writer m)) (let e : n + 1 + k ≡ n + suc k = omega arith in e)
+
+pub hop_of_branch : (i : NodeId) (bs : List NodeId) (k : ℕ) → k < length (owed_in (to_writer_branches i bs)) → hop_in (owed_in (to_writer_branches i bs)) k ≡ Some (hop.Writer k)
+hop_of_branch i bs k h = branch_hop i 0 bs k h ∙ ap (λ m. Some (hop.Writer m)) (let e : 0 + k ≡ k = omega arith in e)
+
+hop_of_paired : (gs fs : List Field) (k : ℕ) → hop_in (filter_map (to_partner gs) fs) k ≡ option_map (λ f. hop.Field f.name) (slice_get (filter (λ f. is_some (partner gs f)) fs) k)
+hop_of_paired gs [] k = refl
+hop_of_paired gs (f ∷ fs) k = go (partner gs f) k (hop_of_paired gs fs)
+  where
+    go : (p : Option Field) (k : ℕ) → ((k : ℕ) → hop_in (filter_map (to_partner gs) fs) k ≡ option_map (λ f. hop.Field f.name) (slice_get (filter (λ f. is_some (partner gs f)) fs) k))
+        → hop_in (cons_option (option_map (to_field f) p) (filter_map (to_partner gs) fs)) k ≡ option_map (λ f. hop.Field f.name) (slice_get (cond (is_some p) (f ∷ filter (λ f. is_some (partner gs f)) fs) (filter (λ f. is_some (partner gs f)) fs)) k)
+    go None k rest = rest k
+    go (Some g) zero rest = refl
+    go (Some g) (suc k) rest = rest k
+
+-- where there is an obligation, no field lacks a value
+none_lacks : (o : Option Field) (os : List Obligation) (k : ℕ) → k < length (owed_in (unless_lacking o os)) → owed_in (unless_lacking o os) ≡ os
+none_lacks None os k h = refl
+none_lacks (Some f) os k h = absurd (omega arith)
+
+pub hop_of_field : (gs fs : List Field) (k : ℕ) → k < length (owed_in (to_fields fs gs)) → hop_in (owed_in (to_fields fs gs)) k ≡ option_map (λ f. hop.Field f.name) (slice_get (filter (λ f. is_some (partner gs f)) fs) k)
+hop_of_field gs fs k h = ap (λ os. hop_in os k) (none_lacks (find (lacks_value gs) fs) (filter_map (to_partner gs) fs) k h) ∙ hop_of_paired gs fs k
 
 -- ---- one hop names one obligation
 

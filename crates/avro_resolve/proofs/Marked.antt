@@ -1,7 +1,9 @@
 -- A type whose mark is another than a name's doesn't match a type of that name.
-use Rattle.std.proofs.Common.{◌≡◌, ◌<◌, ◌+◌, ℕ, add-one, drop-cons, drop, find, length, get_or, cond, List, [], ◌∷◌, Bool, true, false, ◌||◌, ◌&&◌, ◌==◌, Option, Some, None, slice_get, bytes_eq, refl, sym, ap, ◌∙◌}
+use Rattle.std.proofs.Common.{◌≡◌, ◌<◌, ◌+◌, ◌++◌, ℕ, add-one, drop-cons, drop, take, map, find, length, get_or, cond, List, [], ◌∷◌, Bool, true, false, ◌||◌, ◌&&◌, ◌==◌, Option, Some, None, slice_get, bytes_eq, refl, sym, ap, ◌∙◌}
 use Rattle.std.proofs.lemmas.Bool.{eq-eqb, or_parts, cond-false}
 use Rattle.std.proofs.lemmas.Slice.Eq.{bytes_eq-Decides}
+use Rattle.std.proofs.lemmas.List.{map-append}
+use Rattle.std.proofs.Math.Seq.{take-suc}
 use Rattle.std.specs.List.{enumerate_from}
 use Rattle.avro_schema.specs.declared.node.FullName.{FullName}
 use Rattle.avro_schema.specs.declared.node.NodeId.{NodeId}
@@ -64,3 +66,17 @@ module _ (p : NodeId → Bool) (bs : List NodeId) (k : ℕ) (d : NodeId) (inside
   -- a branch that doesn't match is passed over
   pub passed : p (get_or bs k d) ≡ false → find (λ b. p b.1) (enumerate_from k (drop k bs)) ≡ find (λ b. p b.1) (enumerate_from (k + 1) (drop (k + 1) bs))
   passed fails = from_here ∙ cond-false (p (get_or bs k d)) _ _ fails
+
+  -- and one that does is found
+  pub found : p (get_or bs k d) ≡ true → find (λ b. p b.1) (enumerate_from k (drop k bs)) ≡ Some (k, get_or bs k d)
+  found holds = from_here ∙ ap (λ b. cond b (Some (k, get_or bs k d)) (find (λ (c : ℕ × NodeId). p c.1) (enumerate_from (k + 1) (drop (k + 1) bs)))) holds
+
+-- the marks of the branches up to one, and its own
+pub marks_more : (r : List Node) (bs : List NodeId) (i : ℕ) (d : NodeId) (n : Node) (ms : List ℕ) (m : ℕ) (more : List ℕ) → i < length bs → slice_get r (get_or bs i d).index ≡ Some n → m ≡ mark_of_node (Some n) → ms ≡ map (mark_at r) (take i bs) → more ≡ ms ++ m ∷ [] → more ≡ map (mark_at r) (take (i + 1) bs)
+marks_more r bs i d n ms m more inside at is now longer =
+    let mark : m ≡ mark_at r (get_or bs i d) = is ∙ ap mark_of_node (sym at) in
+    longer
+    ∙ ap (λ l. l ++ m ∷ []) now
+    ∙ ap (λ k. map (mark_at r) (take i bs) ++ k ∷ []) mark
+    ∙ sym (map-append (mark_at r) (take i bs) (get_or bs i d ∷ []))
+    ∙ ap (map (mark_at r)) (sym (take-suc bs i d inside) ∙ ap (λ k. take k bs) (sym (add-one i)))

@@ -1,12 +1,16 @@
 -- Private: what the rows of the table stand for.
 use Rattle.std.specs.Prelude.{[], ◌∷◌}
 use Rattle.avro_schema.specs.Sound.{HaveDistinctNames}
+use Rattle.avro_resolve.specs.declared.trail.Hop.{Hop}
+use Rattle.avro_resolve.specs.declared.trail.Hop.TheVariants as hop
 use Rattle.avro_resolve.specs.declared.trail.ClashKind.{ClashKind}
 use Rattle.avro_resolve.specs.declared.trail.ClashKind.TheVariants as clash
 use Rattle.avro_resolve.specs.declared.obligations.Outcome.{Outcome}
 use Rattle.avro_resolve.specs.declared.obligations.Outcome.TheVariants.{Clashes, Owes}
 use Rattle.avro_resolve.specs.declared.table.Cause.{Cause}
 use Rattle.avro_resolve.specs.declared.table.Cause.TheVariants as cause
+use Rattle.avro_resolve.specs.declared.table.Part.{Part}
+use Rattle.avro_resolve.specs.declared.table.Part.TheVariants as part
 use Rattle.avro_resolve.specs.declared.table.Row.{Row}
 use Rattle.avro_resolve.specs.declared.table.Row.TheVariants.{Clash, WriterBranches, One, Fields, Nothing}
 use Rattle.avro_resolve.specs.Table.{to_writer_branches, to_fields}
@@ -19,10 +23,15 @@ clash_of_cause (cause.UnknownSymbol s) = clash.MissingEnumSymbols s.now
 clash_of_cause cause.FixedSizeMismatch = clash.FixedSizeMismatch
 clash_of_cause cause.TypeMismatch = clash.TypeMismatch
 
+abbrev pub hop_into : Part → Hop
+hop_into part.Items = hop.Items
+hop_into part.Values = hop.Values
+hop_into (part.Branch k) = hop.Reader k
+
 abbrev pub outcome_of : Row → Outcome
 outcome_of (Clash c) = Clashes (clash_of_cause c)
 outcome_of (WriterBranches i bs) = to_writer_branches i bs.now
-outcome_of (One h p) = Owes (record { hop = h; pair = p } ∷ [])
+outcome_of (One a p) = Owes (record { hop = hop_into a; pair = p } ∷ [])
 outcome_of (Fields fs gs) = to_fields fs.now gs.now
 outcome_of Nothing = Owes []
 

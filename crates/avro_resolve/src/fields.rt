@@ -1,5 +1,5 @@
 // Which fields of two records are paired.
-ghost use Rattle.std.specs.Prelude.{◌≡◌, true, find, map, slice_get, option_copied, bytes_eq, Some, IfSome};
+ghost use Rattle.std.specs.Prelude.{◌≡◌, true, find, filter, map, slice_get, option_copied, is_some, bytes_eq, Some, IfSome};
 ghost use Rattle.avro_schema.specs.Sound.{HaveDistinctNames};
 ghost use Rattle.avro_schema.specs.Defaults.{field_named as spec_field_named};
 ghost use Rattle.avro_resolve.specs.Pairing as spec;
@@ -97,7 +97,30 @@ fn named_at<'a>(writer: &'a [Field], field: &Field, k: usize) -> Option<&'a Fiel
 pub fn first_lacking<'a>(reader: &'a [Field], writer: &NamedList<Field>) -> Option<&'a Field>
     ensures { option_copied result ≡ find (spec.lacks_value writer.now) reader.now }
 {
-    reader
-        .iter()
-        .find(|f| partner(writer, f).is_none() && f.default.is_none())
+    for f in reader {
+        if partner(writer, f).is_none() && f.default.is_none() {
+            return Some(f);
+        }
+    }
+    None
+}
+
+/// The field of that number among those of the reader's that are paired.
+pub fn paired_at<'a>(
+    reader: &'a [Field],
+    writer: &NamedList<Field>,
+    number: usize,
+) -> Option<&'a Field>
+    ensures { option_copied result ≡ slice_get (filter (λ f. is_some (spec.partner writer.now f)) reader.now) number }
+{
+    let mut left = number;
+    for f in reader {
+        if partner(writer, f).is_some() {
+            if left == 0 {
+                return Some(f);
+            }
+            left -= 1;
+        }
+    }
+    None
 }

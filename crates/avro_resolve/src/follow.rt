@@ -2,12 +2,12 @@
 ghost use Rattle.std.specs.Prelude.{◌≡◌, ◌<◌, ◌↔◌, IsTrue, Some, length, filter_map, slice_get, [], ◌∷◌};
 ghost use Rattle.avro_resolve.specs.Table as spec;
 ghost use Rattle.avro_resolve.specs.Follow.{pair_by, same_hop};
-ghost use Rattle.avro_resolve.specs.Row.{clash_of_cause};
+ghost use Rattle.avro_resolve.specs.Row.{clash_of_cause, hop_into};
 ghost use Rattle.avro_resolve.specs.Trails.{IsTrail, HopsNameOne};
 
 use crate::fields::{first_lacking, partner};
 use crate::obligations::Pair;
-use crate::table::{Cause, Row, row_at};
+use crate::table::{Cause, Part, Row, row_at};
 use crate::trail::{ClashKind, Hop, Trail};
 use avro_schema::{Field, NodeId, Schema};
 use named_list::NamedList;
@@ -45,17 +45,28 @@ fn follow(r: &Schema, w: &Schema, pair: Pair, hop: &Hop) -> Option<Pair>
     match row_at(r, w, pair) {
         Row::Clash(_) => None,
         Row::WriterBranches(i, branches) => writer_branch(i, branches, hop),
-        Row::One(only, next) => only_pair(&only, next, hop),
+        Row::One(part, next) => only_pair(part, next, hop),
         Row::Fields(reader, writer) => paired_field(reader, writer, hop),
         Row::Nothing => None,
     }
 }
 
 /// The one pair that is owed, if this is its hop.
-fn only_pair(only: &Hop, next: Pair, hop: &Hop) -> Option<Pair>
-    ensures { result ≡ pair_by (record { hop = only.now; pair = next } ∷ []) hop.now }
+fn only_pair(part: Part, next: Pair, hop: &Hop) -> Option<Pair>
+    ensures { result ≡ pair_by (record { hop = hop_into part; pair = next } ∷ []) hop.now }
 {
-    if hop.is_same(only) { Some(next) } else { None }
+    if is_into(part, hop) { Some(next) } else { None }
+}
+
+/// Whether a hop leads into this part.
+fn is_into(part: Part, hop: &Hop) -> bool
+    ensures { result ≡ same_hop hop.now (hop_into part) }
+{
+    match part {
+        Part::Items => matches!(hop, Hop::Items),
+        Part::Values => matches!(hop, Hop::Values),
+        Part::Branch(k) => matches!(hop, Hop::Reader(l) if *l == k),
+    }
 }
 
 /// The pair of the reader's type and the writer's branch that a hop names.
@@ -148,20 +159,5 @@ fn is_of_kind(cause: &Cause<'_>, kind: &ClashKind) -> bool
         }
         Cause::FixedSizeMismatch => matches!(kind, ClashKind::FixedSizeMismatch),
         Cause::TypeMismatch => matches!(kind, ClashKind::TypeMismatch),
-    }
-}
-
-impl Hop {
-    /// Whether two hops are the same.
-    fn is_same(&self, other: &Hop) -> bool
-        ensures { result ≡ same_hop self.now other.now }
-    {
-        match self {
-            Hop::Field(name) => matches!(other, Hop::Field(field) if *name == *field),
-            Hop::Items => matches!(other, Hop::Items),
-            Hop::Values => matches!(other, Hop::Values),
-            Hop::Writer(k) => matches!(other, Hop::Writer(l) if *k == *l),
-            Hop::Reader(k) => matches!(other, Hop::Reader(l) if *k == *l),
-        }
     }
 }

@@ -153,9 +153,9 @@ pub fn first_marked(
     ensures { result ≡ first_matching_branch r.now.nodes w.now.nodes branches.now j }
 {
     let wanted = mark_of(&name.name);
-    for (k, mark) in marks.iter().enumerate() {
-        if may_match(*mark, wanted) && matches(r, branches[k], w, j) {
-            return Some((k, branches[k]));
+    for (k, b) in branches.iter().enumerate() {
+        if may_match(marks[k], wanted) && matches(r, *b, w, j) {
+            return Some((k, *b));
         }
     }
     None

@@ -17,7 +17,12 @@ pub fn names_match(reader: &FullName, aliases: &[FullName], writer: &FullName) -
 fn is_among(name: &FullName, names: &[FullName]) -> bool
     ensures { result ≡ list_any (same_name name.now) names.now }
 {
-    names.iter().any(|other| is_same_name(name, other))
+    for other in names {
+        if is_same_name(name, other) {
+            return true;
+        }
+    }
+    false
 }
 
 /// Whether two full names are the same.

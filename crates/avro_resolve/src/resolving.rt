@@ -1,9 +1,11 @@
 // Whether two schemas resolve.
-ghost use Rattle.std.specs.Prelude.{◌≡◌, ◌≤◌, ◌*◌, length, IfOk};
+ghost use Rattle.std.specs.Prelude.{◌≡◌, ◌≤◌, ◌*◌, [], length, IfOk};
+ghost use Rattle.avro_schema.specs.Sound.{IsSound};
+ghost use Rattle.avro_resolve.specs.Marks.{AreMade};
+ghost use Rattle.avro_resolve.specs.Search.{AgreesWith};
 
 use crate::marks::Marks;
 use crate::search::Search;
-use crate::table::{are_matching_primitives, row_by_marks};
 use crate::trail::Trail;
 use avro_schema::Schema;
 use std::alloc::{AllocError, Global};
@@ -55,22 +57,35 @@ pub fn resolve_counted(alloc: Global, r: &Schema, w: &Schema) -> Result<Counted,
     ensures verdict { IfOk result (λ c. IsVerdict r.now.nodes w.now.nodes c.verdict) }
     ensures pairs { IfOk result (λ c. c.pairs ≤ length r.now.nodes * length w.now.nodes) }
 {
-    let mut search = Search::start(alloc, r, w)?;
+    let mut search = Search::none(alloc, r.node_count(), w.node_count())?;
     let mut marks = Marks::none(Some(alloc));
+    resolve_by(alloc, r, w, &mut search, &mut marks)
+}
+
+/// Resolves by a search that has reached no pair.
+fn resolve_by(
+    alloc: Global,
+    r: &Schema,
+    w: &Schema,
+    search: &mut Search,
+    marks: &mut Marks,
+) -> Result<Counted, AllocError>
+    requires reader { IsSound r.now.nodes }
+    requires writer { IsSound w.now.nodes }
+    requires none { search.old.entries.items ≡ [] }
+    requires agrees { AgreesWith search.old.seen [] }
+    requires made { AreMade r.now.nodes marks.old.made }
+    ensures verdict { IfOk result (λ c. IsVerdict r.now.nodes w.now.nodes c.verdict) }
+    ensures pairs { IfOk result (λ c. c.pairs ≤ length r.now.nodes * length w.now.nodes) }
+{
+    search.reach_roots(r, w)?;
     let mut head = 0;
     'heads: while head < search.entries.len() {
         let pair = search.entries[head].pair;
-        if are_matching_primitives(r, w, pair) {
-            head += 1;
-            continue;
-        }
-        let row = row_by_marks(r, w, pair, &mut marks);
-        if let Some(cause) = search.expand(head, row)? {
-            let kind = cause.kind()?;
-            let hops = search.hops_to(alloc, r, w, head)?;
-            let verdict = Verdict::Clash(Trail { hops, kind });
+        if let Some(cause) = search.look_up(r, w, head, pair, marks)? {
+            let trail = search.trail_to(alloc, r, w, head, cause)?;
             return Ok(Counted {
-                verdict,
+                verdict: Verdict::Clash(trail),
                 pairs: head + 1,
             });
         }

@@ -1,16 +1,18 @@
 // The search for a clash, breadth first over pairs of types.
 ghost use Rattle.std.specs.Prelude.{◌≡◌, ◌<◌, [], ◌∷◌, true, None, length, reverse, vec_len, slice_get, filter_map, map, option_map, Some, bytes_eq, IfOk, OnOk};
 ghost use Rattle.std.specs.List.{enumerate_from};
+ghost use Rattle.avro_resolve.specs.Marks.{AreMade};
 ghost use Rattle.avro_resolve.specs.Table as spec;
 ghost use Rattle.avro_resolve.specs.Row.{clash_of_cause, outcome_of, HasDistinct};
-ghost use Rattle.avro_schema.specs.Sound.{HaveDistinctNames, IsSound};
+ghost use Rattle.avro_schema.specs.Sound.{HaveDistinctNames};
 ghost use Rattle.avro_resolve.specs.Trails.{roots};
 
-use crate::fields::partner_near;
-use crate::obligations::{Pair, owed};
+use crate::fields::{paired_at, partner_near};
+use crate::marks::Marks;
+use crate::obligations::Pair;
 use crate::seen::Seen;
-use crate::table::{Cause, Row};
-use crate::trail::Hop;
+use crate::table::{Cause, Row, are_matching_primitives, row_at, row_by_marks};
+use crate::trail::{Hop, Trail};
 use avro_schema::{Field, NodeId, Schema};
 use base_text::Listed;
 use named_list::NamedList;
@@ -43,25 +45,28 @@ pub struct Search {
 impl Search {
     ghost use Rattle.avro_resolve.specs.Search.{AgreesWith, with_entry, entry_from, expanded, hop_numbered, IsWayBack, LeadsBack};
 
-    /// A search that has reached the pair of roots.
-    pub fn start(alloc: Global, r: &Schema, w: &Schema) -> Result<Search, AllocError>
-        ensures first { IfOk result (λ s. s.entries.items ≡ record { pair = roots; from = None } ∷ []) }
-        ensures agrees { IfOk result (λ s. AgreesWith s.seen s.entries.items) }
-        ensures reader { IsSound r.now.nodes }
-        ensures writer { IsSound w.now.nodes }
+    /// A search that has reached no pair, of schemas of so many types.
+    pub fn none(alloc: Global, readers: usize, writers: usize) -> Result<Search, AllocError>
+        ensures none { IfOk result (λ s. s.entries.items ≡ []) }
+        ensures agrees { IfOk result (λ s. AgreesWith s.seen []) }
+    {
+        let entries = Vec::with_capacity(alloc, readers.min(SOON_REACHED))?;
+        let seen = Seen::none(alloc, readers, writers)?;
+        Ok(Search { entries, seen })
+    }
+
+    /// Reaches the pair of roots, before all others.
+    pub fn reach_roots(&mut self, r: &Schema, w: &Schema) -> Result<(), AllocError>
+        requires none { self.old.entries.items ≡ [] }
+        requires agrees { AgreesWith self.old.seen [] }
+        ensures first { OnOk result (self.new.entries.items ≡ record { pair = roots; from = None } ∷ []) }
+        ensures agrees { OnOk result (AgreesWith self.new.seen self.new.entries.items) }
     {
         let pair = Pair {
             reader: r.root(),
             writer: w.root(),
         };
-        let readers = r.node_count();
-        let writers = w.node_count();
-        let mut search = Search {
-            entries: Vec::with_capacity(alloc, readers.min(SOON_REACHED))?,
-            seen: Seen::none(alloc, readers, writers)?,
-        };
-        search.reach(Entry { pair, from: None })?;
-        Ok(search)
+        self.reach(Entry { pair, from: None })
     }
 
     /// Adds an entry, unless its pair was reached before.
@@ -76,12 +81,33 @@ impl Search {
         Ok(())
     }
 
-    /// Adds what the pair at a place owes, or says why it clashes.
-    pub fn expand<'a>(
+    /// Looks up the pair at a place: adds what it owes, or says why it clashes.
+    pub fn look_up<'a>(
         &mut self,
+        r: &'a Schema,
+        w: &'a Schema,
         place: usize,
-        row: Row<'a>,
+        pair: Pair,
+        marks: &mut Marks,
     ) -> Result<Option<Cause<'a>>, AllocError>
+        requires reader { pair.reader.index < length r.now.nodes }
+        requires writer { pair.writer.index < length w.now.nodes }
+        requires agrees { AgreesWith self.old.seen self.old.entries.items }
+        requires made { AreMade r.now.nodes marks.old.made }
+        ensures clash { IfOk result (λ cause. option_map clash_of_cause cause ≡ spec.clash_of r.now.nodes w.now.nodes pair) }
+        ensures entries { OnOk result (self.new.entries.items ≡ expanded place 0 (spec.obligations r.now.nodes w.now.nodes pair) self.old.entries.items) }
+        ensures agrees { IfOk result (λ cause. cause ≡ None → AgreesWith self.new.seen self.new.entries.items) }
+        ensures made { AreMade r.now.nodes marks.new.made }
+    {
+        if are_matching_primitives(r, w, pair) {
+            return Ok(None);
+        }
+        let row = row_by_marks(r, w, pair, marks);
+        self.expand(place, row)
+    }
+
+    /// Adds what the pair at a place owes, by its row, or says why it clashes.
+    fn expand<'a>(&mut self, place: usize, row: Row<'a>) -> Result<Option<Cause<'a>>, AllocError>
         requires distinct { HasDistinct row }
         requires agrees { AgreesWith self.old.seen self.old.entries.items }
         ensures clash { IfOk result (λ cause. option_map clash_of_cause cause ≡ spec.clash_in (outcome_of row.entry)) }
@@ -89,13 +115,18 @@ impl Search {
         ensures agrees { IfOk result (λ cause. cause ≡ None → AgreesWith self.new.seen self.new.entries.items) }
     {
         match row {
-            Row::Clash(cause) => return Ok(Some(cause)),
-            Row::WriterBranches(i, branches) => self.reach_branches(place, i, branches)?,
-            Row::One(_, pair) => self.reach(reached(pair, place, 0))?,
-            Row::Fields(reader, writer) => return self.reach_fields(place, reader, writer),
-            Row::Nothing => {}
+            Row::Clash(cause) => Ok(Some(cause)),
+            Row::WriterBranches(i, branches) => {
+                self.reach_branches(place, i, branches)?;
+                Ok(None)
+            }
+            Row::One(_, pair) => {
+                self.reach(reached(pair, place, 0))?;
+                Ok(None)
+            }
+            Row::Fields(reader, writer) => self.reach_fields(place, reader, writer),
+            Row::Nothing => Ok(None),
         }
-        Ok(None)
     }
 
     /// Adds the reader's type with each branch of the writer's union.
@@ -154,8 +185,27 @@ impl Search {
         Ok(None)
     }
 
+    /// The trail to the pair at a place, which clashes for this cause.
+    pub fn trail_to(
+        &self,
+        alloc: Global,
+        r: &Schema,
+        w: &Schema,
+        place: usize,
+        cause: Cause<'_>,
+    ) -> Result<Trail, AllocError>
+        requires within { place < vec_len self.now.entries }
+        requires back { LeadsBack r.now.nodes w.now.nodes self.now.entries.items }
+        ensures hops { IfOk result (λ trail. IsWayBack r.now.nodes w.now.nodes self.now.entries.items place (reverse trail.hops)) }
+        ensures kind { IfOk result (λ trail. trail.kind ≡ clash_of_cause cause.entry) }
+    {
+        let kind = cause.kind()?;
+        let hops = self.hops_to(alloc, r, w, place)?;
+        Ok(Trail { hops, kind })
+    }
+
     /// The hops from the roots to the pair at a place.
-    pub fn hops_to(
+    fn hops_to(
         &self,
         alloc: Global,
         r: &Schema,
@@ -170,7 +220,7 @@ impl Search {
         let mut at = place;
         'back: while let Some(step) = self.entries[at].from {
             let parent = self.entries[step.place].pair;
-            hops.push(hop_of(alloc, r, w, parent, step.number)?)?;
+            hops.push(hop_of(r, w, parent, step.number)?)?;
             at = step.place;
         }
         hops.reverse();
@@ -189,18 +239,27 @@ fn reached(pair: Pair, place: usize, number: usize) -> Entry
 }
 
 /// The hop of a pair's obligation of that number.
-fn hop_of(
-    alloc: Global,
-    r: &Schema,
-    w: &Schema,
-    pair: Pair,
-    number: usize,
-) -> Result<Hop, AllocError>
+fn hop_of(r: &Schema, w: &Schema, pair: Pair, number: usize) -> Result<Hop, AllocError>
     requires reader { pair.reader.index < length r.now.nodes }
     requires writer { pair.writer.index < length w.now.nodes }
     requires numbered { number < length (spec.obligations r.now.nodes w.now.nodes pair) }
     ensures { IfOk result (λ h. option_map (λ o. o.hop) (slice_get (spec.obligations r.now.nodes w.now.nodes pair) number) ≡ Some h) }
 {
-    let obligations = owed(alloc, r, w, pair)?;
-    obligations[number].hop.clone()
+    match row_at(r, w, pair) {
+        Row::WriterBranches(_, _) => Ok(Hop::Writer(number)),
+        Row::One(part, _) => Ok(part.hop()),
+        Row::Fields(reader, writer) => field_hop(reader, writer, number),
+        Row::Clash(_) | Row::Nothing => unreachable!(),
+    }
+}
+
+/// The hop into the field of that number among those that are paired.
+fn field_hop(reader: &[Field], writer: &NamedList<Field>, number: usize) -> Result<Hop, AllocError>
+    requires { number < length (spec.owed_in (spec.to_fields reader.now writer.now)) }
+    ensures { IfOk result (λ h. option_map (λ o. o.hop) (slice_get (spec.owed_in (spec.to_fields reader.now writer.now)) number) ≡ Some h) }
+{
+    match paired_at(reader, writer, number) {
+        Some(f) => Ok(Hop::Field(f.name.clone()?)),
+        None => unreachable!(),
+    }
 }

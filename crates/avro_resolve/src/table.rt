@@ -6,7 +6,7 @@ ghost use Rattle.avro_resolve.specs.declared.obligations.Outcome.TheVariants as 
 ghost use Rattle.avro_resolve.specs.Marks.{AreMade, branches_in};
 ghost use Rattle.avro_resolve.specs.Table as spec;
 ghost use Rattle.avro_schema.specs.Sound.{HaveDistinctNames, fields_of_node};
-ghost use Rattle.avro_resolve.specs.Row.{clash_of_cause, outcome_of, HasDistinct};
+ghost use Rattle.avro_resolve.specs.Row.{clash_of_cause, hop_into, outcome_of, HasDistinct};
 
 use crate::marks::{Marks, first_marked};
 use crate::matching::matches;
@@ -19,7 +19,7 @@ use named_list::NamedList;
 use std::alloc::AllocError;
 
 /// Why a pair clashes, with the name that it is about.
-#[derive(Drop)]
+#[derive(Clone, Copy)]
 pub enum Cause<'a> {
     MissingUnionBranch,
     NameMismatch,
@@ -47,14 +47,36 @@ impl Cause<'_> {
     }
 }
 
+/// What of a pair has to resolve alone.
+#[derive(Clone, Copy)]
+pub enum Part {
+    Items,
+    Values,
+    /// The branch of the reader's union of that number.
+    Branch(usize),
+}
+
+impl Part {
+    /// The hop into it.
+    pub fn hop(self) -> Hop
+        ensures { result ≡ hop_into self }
+    {
+        match self {
+            Part::Items => Hop::Items,
+            Part::Values => Hop::Values,
+            Part::Branch(k) => Hop::Reader(k),
+        }
+    }
+}
+
 /// What a pair comes to, by what it takes from the schemas.
-#[derive(Drop)]
+#[derive(Clone, Copy)]
 pub enum Row<'a> {
     Clash(Cause<'a>),
     /// The reader's type with each branch of the writer's union.
     WriterBranches(NodeId, &'a [NodeId]),
-    /// One obligation, whose hop takes no memory.
-    One(Hop, Pair),
+    /// One obligation.
+    One(Part, Pair),
     /// The reader's fields and the writer's, of two records whose names match.
     Fields(&'a [Field], &'a NamedList<Field>),
     Nothing,
@@ -120,11 +142,11 @@ fn plain_row<'a>(reader: &'a Node, writer: &'a Node) -> Row<'a>
 {
     match reader {
         Node::Array(a) => match writer {
-            Node::Array(b) => one_row(Hop::Items, *a, *b),
+            Node::Array(b) => one_row(Part::Items, *a, *b),
             _ => Row::Clash(Cause::TypeMismatch),
         },
         Node::Map(a) => match writer {
-            Node::Map(b) => one_row(Hop::Values, *a, *b),
+            Node::Map(b) => one_row(Part::Values, *a, *b),
             _ => Row::Clash(Cause::TypeMismatch),
         },
         Node::Record {
@@ -155,11 +177,11 @@ fn plain_row<'a>(reader: &'a Node, writer: &'a Node) -> Row<'a>
 }
 
 /// One obligation.
-fn one_row<'a>(hop: Hop, reader: NodeId, writer: NodeId) -> Row<'a>
-    ensures row { outcome_of result ≡ spec.to_part hop reader writer }
+fn one_row<'a>(part: Part, reader: NodeId, writer: NodeId) -> Row<'a>
+    ensures row { outcome_of result ≡ spec.to_part (hop_into part) reader writer }
     ensures distinct { HasDistinct result }
 {
-    Row::One(hop, Pair { reader, writer })
+    Row::One(part, Pair { reader, writer })
 }
 
 fn record_row<'a>(
@@ -267,7 +289,7 @@ fn branch_row<'a>(
 {
     match first_by_marks(r, i, branches, w, j, marks) {
         Some((k, b)) => Row::One(
-            Hop::Reader(k),
+            Part::Branch(k),
             Pair {
                 reader: b,
                 writer: j,

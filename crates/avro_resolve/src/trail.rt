@@ -97,8 +97,8 @@ impl fmt::Display for Hop {
     fn fmt<W: fmt::Write>(&self, f: &mut fmt::Formatter<W>) -> fmt::Result {
         match self {
             Hop::Field(name) => write!(f, "field:{}", name.as_str()),
-            Hop::Items => write!(f, "items"),
-            Hop::Values => write!(f, "values"),
+            Hop::Items => f.write_str("items"),
+            Hop::Values => f.write_str("values"),
             Hop::Writer(k) => write!(f, "writer:{k}"),
             Hop::Reader(k) => write!(f, "reader:{k}"),
         }
@@ -113,16 +113,16 @@ impl fmt::Display for ClashKind {
 
     fn fmt<W: fmt::Write>(&self, f: &mut fmt::Formatter<W>) -> fmt::Result {
         match self {
-            ClashKind::MissingUnionBranch => write!(f, "MISSING_UNION_BRANCH"),
-            ClashKind::NameMismatch => write!(f, "NAME_MISMATCH"),
+            ClashKind::MissingUnionBranch => f.write_str("MISSING_UNION_BRANCH"),
+            ClashKind::NameMismatch => f.write_str("NAME_MISMATCH"),
             ClashKind::ReaderFieldMissingDefaultValue(name) => {
                 write!(f, "READER_FIELD_MISSING_DEFAULT_VALUE {}", name.as_str())
             }
             ClashKind::MissingEnumSymbols(symbol) => {
                 write!(f, "MISSING_ENUM_SYMBOLS {}", symbol.as_str())
             }
-            ClashKind::FixedSizeMismatch => write!(f, "FIXED_SIZE_MISMATCH"),
-            ClashKind::TypeMismatch => write!(f, "TYPE_MISMATCH"),
+            ClashKind::FixedSizeMismatch => f.write_str("FIXED_SIZE_MISMATCH"),
+            ClashKind::TypeMismatch => f.write_str("TYPE_MISMATCH"),
         }
     }
 }
@@ -137,7 +137,7 @@ impl fmt::Display for Trail {
     fn fmt<W: fmt::Write>(&self, f: &mut fmt::Formatter<W>) -> fmt::Result {
         let hops = self.hops.as_slice();
         if hops.is_empty() {
-            return write!(f, "/");
+            return f.write_str("/");
         }
         for hop in hops {
             write!(f, "/{hop}")?;

@@ -1,6 +1,7 @@
 -- What the builder's functions return, from what they call.
-use Rattle.std.proofs.Common.{◌≡◌, ℕ, zero, suc, drop, get_or, codes, ◌+◌, ◌≤◌, ◌<◌, List, [], ◌∷◌, ◌++◌, length, set, Bool, true, false, ◌&&◌, map, bytes_eq, None, Result, IfOk, refl, sym, ◌∙◌, ap, subst, arith, length-set, string_bytes}
+use Rattle.std.proofs.Common.{◌≡◌, ℕ, zero, suc, drop, get_or, codes, ◌+◌, ◌≤◌, ◌<◌, List, [], ◌∷◌, ◌++◌, length, set, Bool, true, false, ◌&&◌, map, bytes_eq, None, Result, IfOk, refl, sym, ◌∙◌, ap, subst, arith, length-set, string_bytes, option_map, option_and_then, Some}
 use Rattle.std.specs.Result.{IfErr}
+use Rattle.serde_json.specs.Find.{as_str}
 use Rattle.avro_schema.specs.declared.error.SchemaError.{SchemaError}
 use Rattle.avro_schema.specs.declared.error.SchemaError.TheVariants as fault
 use Rattle.avro_schema.specs.declared.heading.TypeNames.{TypeNames}
@@ -14,7 +15,7 @@ use Rattle.avro_schema.specs.declared.builder.Builder.{Builder}
 use Rattle.avro_schema.specs.Names.{all_distinct}
 use Rattle.json_tree.specs.View.{view, items_view}
 use Rattle.json_tree.specs.declared.tree.Json.{Json}
-use Rattle.avro_schema.specs.Form.{form, forms, fields_of_items, field_heading_of, type_in, Form, Forms, Fields, FieldHeading, Heading, no_forms, and_form, and_field, no_fields, ill_fields, array_of, map_of, union_of, record_of}
+use Rattle.avro_schema.specs.Form.{form, forms, fields_of_items, field_heading_of, type_in, Form, Forms, Fields, FieldHeading, Heading, no_forms, and_form, and_field, no_fields, ill_fields, array_of, map_of, union_of, record_of, strings}
 use Rattle.avro_schema.specs.Places.{count, Definition, defined}
 use Rattle.avro_schema.specs.Nodes.{field_list}
 use Rattle.avro_schema.specs.Faults.{kind_in_union, fits_union, field_headings, field_name, is_formed, has_good_aliases}
@@ -148,6 +149,17 @@ next_fields vs i v lt is =
     ap fields_of_items (items_view-drop vs i v lt) ∙ ap (λ w. and_field (field_heading_of (view w)) (type_in (view w)) (fields_of_items (items_view (drop (suc i) vs)))) (sym is)
     ∙ ap (λ k. and_field (field_heading_of (view v)) (type_in (view v)) (fields_of_items (items_view (drop k vs)))) one
     ∙ ap (λ f. and_field (field_heading_of (view v)) f (fields_of_items (items_view (drop (i + 1) vs)))) (type_in-get (view v))
+
+pub next_strings : (vs : List Json) (i : ℕ) (v : Json) → i < length vs → v ≡ get_or vs i v
+    → strings (items_view (drop i vs)) ≡ option_and_then (λ s. option_map (λ ss. s ∷ ss) (strings (items_view (drop (i + 1) vs)))) (as_str (view v))
+next_strings vs i v lt is =
+    let one : suc i ≡ i + 1 = omega arith in
+    ap strings (items_view-drop vs i v lt)
+    ∙ ap (λ w. option_and_then (λ s. option_map (λ ss. s ∷ ss) (strings (items_view (drop (suc i) vs)))) (as_str (view w))) (sym is)
+    ∙ ap (λ k. option_and_then (λ s. option_map (λ ss. s ∷ ss) (strings (items_view (drop k vs)))) (as_str (view v))) one
+
+pub no_strings_left : (vs : List Json) (i : ℕ) → length vs ≤ i → strings (items_view (drop i vs)) ≡ Some []
+no_strings_left vs i h = ap (λ l. strings (items_view l)) (drop_past vs i h)
 
 pub no_forms_left : (vs : List Json) (i : ℕ) → length vs ≤ i → forms (items_view (drop i vs)) ≡ no_forms
 no_forms_left vs i h = ap (λ l. forms (items_view l)) (drop_past vs i h)

@@ -1,5 +1,5 @@
 -- Which faults stand where a kind of type is refused.
-use Rattle.std.proofs.Common.{◌≡◌, inl, inr, ℕ, ◌+◌, ◌≤◌, List, [], ◌∷◌, ◌++◌, Bool, true, false, ◌&&◌, Option, Some, None, is_some, is_none, Contains, refl, sym, ◌∙◌, ap, subst, arith, string_bytes}
+use Rattle.std.proofs.Common.{◌≡◌, inl, inr, ℕ, ◌+◌, ◌≤◌, List, [], ◌∷◌, ◌++◌, Bool, true, false, ◌&&◌, Option, Some, None, is_some, is_none, Contains, refl, sym, ◌∙◌, ap, subst, arith, string_bytes, unwrap_or}
 use Rattle.std.specs.List.{cons_option, flat_map, list_all}
 use Rattle.std.proofs.lemmas.List.{append-nil}
 use Rattle.std.proofs.lemmas.List.Elements.{Contains-append_left, Contains-append_right, Contains-append_cases}
@@ -8,13 +8,14 @@ use Rattle.avro_schema.specs.declared.error.SchemaError.{SchemaError}
 use Rattle.avro_schema.specs.declared.error.SchemaError.TheVariants as fault
 use Rattle.avro_schema.specs.declared.heading.TypeNames.{TypeNames}
 use Rattle.avro_schema.specs.declared.node.FullName.{FullName}
-use Rattle.avro_schema.specs.Form.{Heading, Form, Forms, Fields, by_name, record_of, enum_of, fixed_of, array_of, map_of, union_of, ill_formed, ill_fields}
+use Rattle.avro_schema.specs.Form.{Heading, Form, Forms, Fields, by_name, record_of, enum_of, fixed_of, array_of, map_of, union_of, ill_formed, ill_fields, FieldHeading}
+use Rattle.avro_schema.specs.Names.{is_name, is_type_name, is_full_name}
 use Rattle.avro_schema.specs.Places.{count, forms_count, fields_count, type_name, places_of_fields, Definition, definitions, defined, definition_used}
-use Rattle.avro_schema.specs.Faults.{unless, are_written, is_formed, has_good_aliases, field_headings, fits_fields, faults_at, is_new, heading_faults, written_faults, symbols_faults, size_faults, field_list_faults}
+use Rattle.avro_schema.specs.Faults.{unless, are_written, is_formed, has_good_aliases, field_headings, fits_fields, faults_at, is_new, heading_faults, written_faults, symbols_faults, size_faults, field_list_faults, fits_symbols, fits_enum, is_symbol, if_written, field_name}
 use Rattle.avro_schema.specs.Schema.{IsRefusalBy}
-use Rattle.avro_schema.specs.Building.{too_many, type_faults, branches_faults, fields_faults, has_distinct_names, HasNames}
+use Rattle.avro_schema.specs.Building.{too_many, type_faults, branches_faults, fields_faults, has_distinct_names, HasNames, field_faults}
 use Rattle.avro_schema.proofs.Later.{From, defined-later, definitions_of_fields-from}
-use Rattle.avro_schema.proofs.Reading.{weaken, left, alone, in_parts, in_own, in_count}
+use Rattle.avro_schema.proofs.Reading.{weaken, left, alone, in_parts, in_own, in_count, right, unless_too}
 use Rattle.avro_schema.proofs.Types.{definition_of, defined_by-names, is_new-names, defined_first}
 
 pub refused_open : (ds : List Definition) (ns : List ℕ) (f : Form) (n : ℕ) (e : SchemaError) → 1 ≤ count f → IsRefusalBy (too_many (n + 1)) e → IsRefusalBy (type_faults ds ns f n) e
@@ -129,3 +130,48 @@ refused_fields ds ns h r fs n m e has is refused =
       | inr k ↦ in_parts (n + 1 + fields_count fs) _ (heading_faults _ ns n h ++ field_list_faults fs) _ e (omega arith) k
     ] in
     weaken _ _ e (λ c. subst (λ es. Contains (all es) e) (defined_first ds d (definitions ps) _ (defined_by-names ns h r n has)) (lifted c)) t
+
+-- ---- what is written, by itself
+
+and_left : (a b : Bool) → a && b ≡ true → a ≡ true
+and_left true b e = refl
+and_left false b e = cc
+
+and_right : (a b : Bool) → a && b ≡ true → b ≡ true
+and_right true b e = e
+and_right false b e = cc
+
+pub refused_nameless : (h : Heading) → None ≡ h.name → IsRefusalBy (written_faults h) fault.BadForm
+refused_nameless h e = left _ _ _ (alone (is_some h.name && is_some h.aliases) fault.BadForm (ap (λ o. is_some o && is_some h.aliases) (sym e)))
+
+pub refused_no_aliases : (h : Heading) → h.aliases ≡ None → IsRefusalBy (written_faults h) fault.BadForm
+refused_no_aliases h e = left _ _ _ (alone (is_some h.name && is_some h.aliases) fault.BadForm (and_false (is_some h.name) (is_some h.aliases) (ap is_some e)))
+
+pub refused_names : (h : Heading) (s : List ℕ) (more : List (List ℕ)) → Some s ≡ h.name → h.aliases ≡ Some more → is_type_name s && list_all is_full_name more ≡ false → IsRefusalBy (written_faults h) fault.BadName
+refused_names h s more name aliases bad =
+    let tests : if_written is_type_name h.name && if_written (list_all is_full_name) h.aliases ≡ false =
+    ap (λ o. if_written is_type_name o && if_written (list_all is_full_name) h.aliases) (sym name) ∙ ap (λ o. is_type_name s && if_written (list_all is_full_name) o) aliases ∙ bad in
+    right (unless (is_some h.name && is_some h.aliases) fault.BadForm) _ _ (alone (if_written is_type_name h.name && if_written (list_all is_full_name) h.aliases) fault.BadName tests)
+
+pub refused_no_symbols : (ss : Option (List (List ℕ))) (d : Option Data) → ss ≡ None → IsRefusalBy (symbols_faults ss d) fault.BadForm
+refused_no_symbols ss d e = left _ _ _ (alone (is_some ss) fault.BadForm (ap is_some e))
+
+pub refused_symbol_list : (ss : List (List ℕ)) (d : Option Data) (e : SchemaError) → IsRefusalBy (unless (fits_symbols ss) fault.BadEnum) e → IsRefusalBy (symbols_faults (Some ss) d) e
+refused_symbol_list ss d e = unless_too (fits_symbols ss) (fits_enum d ss) fault.BadEnum e (and_left (fits_symbols ss) _)
+
+pub refused_default : (ss : List (List ℕ)) (d : Option Data) (e : SchemaError) → IsRefusalBy (unless (if_written (is_symbol ss) d) fault.BadEnum) e → IsRefusalBy (symbols_faults (Some ss) d) e
+refused_default ss d e = unless_too (if_written (is_symbol ss) d) (fits_enum d ss) fault.BadEnum e (and_right (fits_symbols ss) _)
+
+pub refused_no_field_name : (h : FieldHeading) → None ≡ h.name → IsRefusalBy (field_faults h) fault.BadForm
+refused_no_field_name h e = left _ _ _ (alone (is_formed h) fault.BadForm (ap (λ o. is_name (unwrap_or o []) && is_some h.aliases) (sym e)))
+
+pub refused_field_name : (h : FieldHeading) (s : List ℕ) → Some s ≡ h.name → is_name s ≡ false → IsRefusalBy (field_faults h) fault.BadForm
+refused_field_name h s name bad =
+    let tests : is_formed h ≡ false = ap (λ o. is_name (unwrap_or o []) && is_some h.aliases) (sym name) ∙ ap (λ b. b && is_some h.aliases) bad in
+    left _ _ _ (alone (is_formed h) fault.BadForm tests)
+
+pub refused_no_field_aliases : (h : FieldHeading) → h.aliases ≡ None → IsRefusalBy (field_faults h) fault.BadForm
+refused_no_field_aliases h e = left _ _ _ (alone (is_formed h) fault.BadForm (and_false (is_name (field_name h)) (is_some h.aliases) (ap is_some e)))
+
+pub refused_field_aliases : (h : FieldHeading) (more : List (List ℕ)) → h.aliases ≡ Some more → list_all is_name more ≡ false → IsRefusalBy (field_faults h) fault.BadName
+refused_field_aliases h more aliases bad = right (unless (is_formed h) fault.BadForm) _ _ (alone (has_good_aliases h) fault.BadName (ap (if_written (list_all is_name)) aliases ∙ bad))

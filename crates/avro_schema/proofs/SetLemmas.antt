@@ -9,7 +9,6 @@ use Rattle.std.proofs.lemmas.Map.Text.{is_eq-slice_cmp}
 use Rattle.avro_schema.specs.declared.kinds.Kind.{Kind}
 use Rattle.avro_schema.specs.declared.kinds.Kind.TheVariants as kind
 use Rattle.avro_schema.specs.declared.kinds.Kinds.{Kinds}
-use Rattle.avro_schema.specs.declared.node.Primitive.{Primitive}
 use Rattle.avro_schema.specs.Faults.{same_primitive, same_kind}
 use Rattle.avro_schema.specs.Building.{HoldsKinds, may_stand}
 use Rattle.avro_schema.proofs.TextLemmas.{bytes_eq-sym}

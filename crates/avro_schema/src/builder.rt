@@ -6,6 +6,7 @@ use crate::names::{is_whole, joined};
 use crate::{Node, Primitive, SchemaError};
 use std::alloc::{AllocError, Global};
 use std::collections::BTreeMap;
+use std::mem;
 
 /// The types that were read so far, and the nodes of those that have a name, by full name.
 #[derive(Drop)]
@@ -42,6 +43,7 @@ impl Builder {
     {
         let index = self.nodes.len();
         if index >= MOST_NODES {
+            drop(node);
             return Err(SchemaError::TooManyNodes);
         }
         self.nodes.push(node)?;
@@ -63,7 +65,8 @@ impl Builder {
         ensures nodes { nodes_of self.new ≡ set (nodes_of self.old) index node }
         ensures names { self.new.names ≡ self.old.names }
     {
-        self.nodes[index] = node;
+        let open = mem::replace(&mut self.nodes[index], node);
+        drop(open);
     }
 
     /// Opens the next node, and defines a full name as it.
@@ -75,6 +78,7 @@ impl Builder {
             → IsRefusalBy (unless (is_none (defined ds (opened self.old) (string_bytes name))) fault.Redefined ++ too_many (opened self.old + 1)) e) }
     {
         if self.names.contains_key(name.as_str()) {
+            drop(node);
             return Err(SchemaError::Redefined);
         }
         let index = self.open(node)?;

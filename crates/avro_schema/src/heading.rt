@@ -1,5 +1,5 @@
 // The names of a type.
-ghost use Rattle.std.specs.Prelude.{◌≡◌, IfOk, IfErr, map};
+ghost use Rattle.std.specs.Prelude.{◌≡◌, ◌&&◌, IfOk, IfErr, map};
 ghost use Rattle.std.specs.List.{list_all};
 ghost use Rattle.json_tree.specs.View.{view};
 ghost use Rattle.avro_schema.specs.Form.{heading_of};
@@ -38,7 +38,7 @@ pub(crate) fn read_type_names(
     let Some(aliases) = aliases_of(alloc, value)? else {
         return Err(SchemaError::BadForm);
     };
-    if !is_type_name(name) || !are_full_names(aliases.as_slice()) {
+    if !may_name(name, aliases.as_slice()) {
         return Err(SchemaError::BadName);
     }
     let namespace = string_at(value, "namespace").unwrap_or(enclosing);
@@ -50,6 +50,13 @@ pub(crate) fn read_type_names(
         name,
         aliases,
     })
+}
+
+/// Whether a type may have a name and aliases.
+fn may_name(name: &str, aliases: &[Text]) -> bool
+    ensures { result ≡ (spec.is_type_name name.now && list_all spec.is_full_name aliases.now) }
+{
+    is_type_name(name) && are_full_names(aliases)
 }
 
 fn are_full_names(texts: &[Text]) -> bool

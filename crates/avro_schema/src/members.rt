@@ -16,7 +16,7 @@ pub(crate) fn string_at<'a>(value: &Json<'a>, name: &str) -> Option<&'a str>
 }
 
 /// The texts of an array of strings, or None where the value is none.
-pub(crate) fn strings_in(alloc: Global, value: &Json<'_>) -> Result<Option<Vec<Text>>, AllocError>
+fn strings_in(alloc: Global, value: &Json<'_>) -> Result<Option<Vec<Text>>, AllocError>
     ensures { IfOk result (λ o. option_map (λ v. v.items) o ≡ spec.strings_in (view value.now)) }
 {
     let Some(items) = value.as_array() else {
@@ -30,6 +30,20 @@ pub(crate) fn strings_in(alloc: Global, value: &Json<'_>) -> Result<Option<Vec<T
         texts.push(Text::copy_of(alloc, text)?)?;
     }
     Ok(Some(texts))
+}
+
+/// The texts of the array of strings that a member is, or None where it is none.
+pub(crate) fn strings_at(
+    alloc: Global,
+    value: &Json<'_>,
+    name: &str,
+) -> Result<Option<Vec<Text>>, AllocError>
+    ensures { IfOk result (λ o. option_map (λ v. v.items) o ≡ spec.strings_at name.now (view value.now)) }
+{
+    match value.get(name) {
+        Some(member) => strings_in(alloc, member),
+        None => Ok(None),
+    }
 }
 
 /// The aliases that an object writes, none where the member is absent.

@@ -1,5 +1,5 @@
 // A schema: the list of its nodes, the root first.
-ghost use Rattle.std.specs.Prelude.{◌≡◌, ◌≢◌, ◌<◌, length, slice_get, Some, None, All, IfOk, IfErr, option_copied, string_bytes};
+ghost use Rattle.std.specs.Prelude.{◌≡◌, ◌≢◌, ◌<◌, ◌≤◌, length, slice_get, Some, None, All, IfOk, IfErr, option_copied, string_bytes};
 ghost use Rattle.serde_json.specs.Read.{read as json_of};
 ghost use Rattle.json_tree.specs.View.{view};
 
@@ -57,12 +57,22 @@ impl Schema {
         }
         let mut scratch = Scratch::new(alloc);
         let value = read_json(alloc, text, &mut scratch)?;
-        if has_float(&value) {
+        Schema::of_json(alloc, text, &value)
+    }
+
+    /// The schema that a JSON value writes, which is that of `text`.
+    fn of_json(alloc: Global, text: &str, value: &Json<'_>) -> Result<Schema, SchemaError>
+        requires of_text { json_of text.now ≡ Some (view value.now) }
+        requires within { length text.now ≤ LONGEST_TEXT }
+        ensures ok { IfOk result (λ s. schema_of text.now ≡ Some s) }
+        ensures err { IfErr result (IsRefusalBy (faults text.now)) }
+    {
+        if has_float(value) {
             return Err(SchemaError::FloatNumber);
         }
         let mut builder = Builder::new(alloc);
-        builder.read_type(alloc, &value, "")?;
-        let normal = normal_of(alloc, text, &value)?;
+        builder.read_type(alloc, value, "")?;
+        let normal = normal_of(alloc, text, value)?;
         Ok(Schema {
             nodes: builder.nodes,
             normal,

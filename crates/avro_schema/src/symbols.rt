@@ -1,17 +1,17 @@
 // Symbols of enums, and sizes of fixed types.
-ghost use Rattle.std.specs.Prelude.{◌≡◌, IfOk, IfErr, MatchOption, true, false, codes, bytes_eq};
+ghost use Rattle.std.specs.Prelude.{◌≡◌, IfOk, IfErr, MatchOption, true, false, codes, bytes_eq, option_and_then};
 ghost use Rattle.json_tree.specs.View.{view};
 ghost use Rattle.serde_json.specs.Find.{get, as_str};
 ghost use Rattle.avro_schema.specs.Names.{all_distinct, has_text};
 ghost use Rattle.avro_schema.specs.Form.{strings_at};
-ghost use Rattle.avro_schema.specs.Faults.{symbols_faults, size_faults, is_symbol, unless};
+ghost use Rattle.avro_schema.specs.Faults.{symbols_faults, size_faults, fits_symbols, if_written, is_symbol, unless};
 ghost use Rattle.avro_schema.specs.Schema.{IsRefusalBy};
 ghost use Rattle.avro_schema.specs.Building.{HasSymbols, HasSize, number_at};
 
 use crate::SchemaError;
 use crate::fields::are_names;
 use crate::limits::GREATEST_SIZE;
-use crate::members::strings_in;
+use crate::members::strings_at;
 use base_text::Text;
 use json_tree::Json;
 use named_list::NamedList;
@@ -29,23 +29,42 @@ pub(crate) fn read_symbols(alloc: Global, value: &Json<'_>) -> Result<Symbols, S
     ensures ok { IfOk result (HasSymbols (strings_at (codes "symbols") (view value.now)) (get (codes "default") (view value.now))) }
     ensures err { IfErr result (IsRefusalBy (symbols_faults (strings_at (codes "symbols") (view value.now)) (get (codes "default") (view value.now)))) }
 {
-    let Some(member) = value.get("symbols") else {
+    let Some(written) = strings_at(alloc, value, "symbols")? else {
         return Err(SchemaError::BadForm);
     };
-    let Some(symbols) = strings_in(alloc, member)? else {
-        return Err(SchemaError::BadForm);
-    };
-    if !are_names(symbols.as_slice()) {
+    let symbols = symbol_list(alloc, written)?;
+    let default = default_symbol(alloc, value, symbols.as_slice())?;
+    Ok(Symbols { symbols, default })
+}
+
+/// The symbols that an enum writes, which are distinct names.
+fn symbol_list(alloc: Global, written: Vec<Text>) -> Result<NamedList<Text>, SchemaError>
+    ensures ok { IfOk result (λ list. (list ≡ written.items) × (fits_symbols written.items ≡ true)) }
+    ensures err { IfErr result (IsRefusalBy (unless (fits_symbols written.items) SchemaError.BadEnum)) }
+{
+    if !are_names(written.as_slice()) {
         return Err(SchemaError::BadEnum);
     }
-    let Some(symbols) = distinct_symbols(alloc, symbols)? else {
-        return Err(SchemaError::BadEnum);
-    };
-    let default = match value.get("default") {
-        Some(member) => Some(read_symbol(alloc, member, symbols.as_slice())?),
-        None => None,
-    };
-    Ok(Symbols { symbols, default })
+    match distinct_symbols(alloc, written)? {
+        Some(symbols) => Ok(symbols),
+        None => Err(SchemaError::BadEnum),
+    }
+}
+
+/// Reads an enum's default, where it has one.
+fn default_symbol(
+    alloc: Global,
+    value: &Json<'_>,
+    symbols: &[Text],
+) -> Result<Option<Text>, SchemaError>
+    ensures ok { IfOk result (λ o. (option_and_then as_str (get (codes "default") (view value.now)) ≡ o)
+        × (if_written (is_symbol symbols.now) (get (codes "default") (view value.now)) ≡ true)) }
+    ensures err { IfErr result (IsRefusalBy (unless (if_written (is_symbol symbols.now) (get (codes "default") (view value.now))) SchemaError.BadEnum)) }
+{
+    match value.get("default") {
+        Some(member) => Ok(Some(read_symbol(alloc, member, symbols)?)),
+        None => Ok(None),
+    }
 }
 
 /// The symbols, unless two of them are the same.

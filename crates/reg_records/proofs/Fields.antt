@@ -1,9 +1,9 @@
 -- The fields of a line stand between its TABs.
-use Rattle.std.proofs.Common.{◌≡◌, ℕ, suc, ◌+◌, ◌<◌, Bool, true, false, cond, not, ◌&&◌, List, [], ◌∷◌, ◌++◌, length, take, drop, Some, inl, inr, refl, ap, ◌∙◌, subst, arith, length-append}
+use Rattle.std.proofs.Common.{◌≡◌, ℕ, suc, ◌+◌, ◌<◌, Bool, true, false, cond, not, ◌&&◌, List, [], ◌∷◌, ◌++◌, length, take, drop, Some, inl, inr, refl, sym, ap, ◌∙◌, ◌==◌, subst, arith, length-append}
 use Rattle.std.specs.Prelude.{count_by}
 use Rattle.std.specs.List.{position_or_len, before_first, after_first}
 use Rattle.std.proofs.Math.Seq.{take-append_seam, drop-append-add}
-use Rattle.std.proofs.lemmas.Bool.{and_parts, not_from_true, lt-ltb, cases_lt, eqb-true}
+use Rattle.std.proofs.lemmas.Bool.{and_parts, not_from_true, lt-ltb, cases_lt, eqb-true, false≢true, ne_eqb}
 use Rattle.std.proofs.lemmas.List.Sums.{sum_by-cons, prefix_len-le-length, split_at_first, passes_at_first}
 use Rattle.std.proofs.lemmas.List.Folds.{list_all-append}
 use Rattle.reg_records.specs.Line.{is_tab, is_line_feed, is_free_of, line_of, first_line, offset_field, key_field, value_field}
@@ -120,3 +120,23 @@ has_fields line two =
       key_has_no_tab = is_free_of-before_first is_tab rest;
       value_has_no_tab = is_free_of-none is_tab (value_field line) zero;
     }
+
+-- ---- how many TABs a line has, by where its first ones stand
+
+pub no_tab : (line : List ℕ) → position_or_len is_tab line ≡ length line → (count_by is_tab line == 2) ≡ false
+no_tab line none = ap (λ n. n == 2) (count_by-none is_tab line none)
+
+pub one_tab : (line : List ℕ) → position_or_len is_tab line < length line → position_or_len is_tab (after_first is_tab line) ≡ length (after_first is_tab line)
+    → (count_by is_tab line == 2) ≡ false
+one_tab line first none = ap (λ n. n == 2) (count_by-after_first is_tab line first ∙ ap suc (count_by-none is_tab (after_first is_tab line) none))
+
+module _ (line : List ℕ) (first : position_or_len is_tab line < length line)
+    (second : position_or_len is_tab (after_first is_tab line) < length (after_first is_tab line)) where
+  two_and_more : count_by is_tab line ≡ suc (suc (count_by is_tab (value_field line)))
+  two_and_more = count_by-after_first is_tab line first ∙ ap suc (count_by-after_first is_tab (after_first is_tab line) second)
+
+  pub two_tabs : is_free_of is_tab (value_field line) ≡ true → (count_by is_tab line == 2) ≡ true
+  two_tabs free = ap (λ n. n == 2) (two_and_more ∙ ap (λ n. suc (suc n)) (count_by-free is_tab (value_field line) free))
+
+  pub more_tabs : is_free_of is_tab (value_field line) ≡ false → (count_by is_tab line == 2) ≡ false
+  more_tabs not_free = ne_eqb _ 2 (λ two. false≢true (sym not_free ∙ is_free_of-none is_tab (value_field line) (omega (arith, two, two_and_more))))

@@ -96,10 +96,10 @@ impl<T> Device<T> {
     /// Counts an error of a write or a flush.
     fn count_write_error(&mut self, kind: ErrorKind)
         ensures inner { inner_of self.new ≡ inner_of self.old }
-        ensures fault { kind ≢ ErrorKind.Interrupted
-            → (faults_of self.new ≡ counted (faults_of self.old)) × (interruptions_of self.new ≡ 0) }
-        ensures interruption { kind ≡ ErrorKind.Interrupted
-            → (faults_of self.new ≡ faults_of self.old) × (interruptions_of self.new ≡ counted (interruptions_of self.old)) }
+        ensures fault { kind ≢ ErrorKind.Interrupted → faults_of self.new ≡ counted (faults_of self.old) }
+        ensures anew { kind ≢ ErrorKind.Interrupted → interruptions_of self.new ≡ 0 }
+        ensures no_fault { kind ≡ ErrorKind.Interrupted → faults_of self.new ≡ faults_of self.old }
+        ensures interruption { kind ≡ ErrorKind.Interrupted → interruptions_of self.new ≡ counted (interruptions_of self.old) }
     {
         if is_fault(kind) {
             self.faults = one_more(self.faults);

@@ -1,9 +1,9 @@
 // The keys of records.
-ghost use Rattle.std.specs.Prelude.{◌≡◌, ◌↔◌, ◌++◌, IfOk, IsTrue, codes, decimal, string_bytes};
+ghost use Rattle.std.specs.Prelude.{◌≡◌, ◌↔◌, ◌++◌, IfOk, IsTrue, codes, option_copied, string_bytes};
 ghost use Rattle.serde_json.specs.Written.{compact_text};
 ghost use Rattle.serde_json.specs.View.{view};
 ghost use Rattle.reg_records.specs.declared.key.Key.{Key};
-ghost use Rattle.reg_records.specs.Key.{key_of, key_in, schema_key, config_key, mode_key, delete_subject_key, scope_in};
+ghost use Rattle.reg_records.specs.Key.{key_of, key_in, key_of_kind, schema_key, config_key, mode_key, delete_subject_key, scope_in};
 ghost use Rattle.reg_records.specs.Written.{written_key, scope_data, IsInLimits, IsOf32Bits};
 
 use crate::limits::NUMBER_LIMIT;
@@ -35,9 +35,9 @@ impl Key {
     {
         match self {
             Key::Schema { subject, version } => schema_key_text(alloc, subject, *version),
-            Key::Config(scope) => config_key_text(alloc, scope),
-            Key::Mode(scope) => mode_key_text(alloc, scope),
-            Key::DeleteSubject(subject) => delete_subject_key_text(alloc, subject),
+            Key::Config(scope) => scope_key_text(alloc, "CONFIG", scope.as_ref()),
+            Key::Mode(scope) => scope_key_text(alloc, "MODE", scope.as_ref()),
+            Key::DeleteSubject(subject) => scope_key_text(alloc, "DELETE_SUBJECT", Some(subject)),
             Key::Noop => Text::copy_of(alloc, "{\"keytype\":\"NOOP\",\"magic\":0}"),
         }
     }
@@ -67,11 +67,21 @@ fn key_in(alloc: Global, json: &Json) -> Result<Option<Key>, AllocError>
     ensures { IfOk result (λ key. key ≡ key_in (view json.now)) }
 {
     match text_at(json, "keytype") {
-        Some("SCHEMA") => schema_key(alloc, json),
-        Some("CONFIG") => config_key(alloc, json),
-        Some("MODE") => mode_key(alloc, json),
-        Some("DELETE_SUBJECT") => delete_subject_key(alloc, json),
-        Some("NOOP") => Ok(Some(Key::Noop)),
+        Some(kind) => key_of_kind(alloc, kind, json),
+        None => Ok(None),
+    }
+}
+
+/// The key of that kind; the other members don't count.
+fn key_of_kind(alloc: Global, kind: &str, json: &Json) -> Result<Option<Key>, AllocError>
+    ensures { IfOk result (λ key. key ≡ key_of_kind kind.now (view json.now)) }
+{
+    match kind {
+        "SCHEMA" => schema_key(alloc, json),
+        "CONFIG" => config_key(alloc, json),
+        "MODE" => mode_key(alloc, json),
+        "DELETE_SUBJECT" => delete_subject_key(alloc, json),
+        "NOOP" => Ok(Some(Key::Noop)),
         _ => Ok(None),
     }
 }
@@ -139,49 +149,25 @@ fn schema_key_text(alloc: Global, subject: &Text, version: u32) -> Result<Text, 
     ensures { IfOk result (λ text. text ≡ written_key (Key.Schema subject.now version)) }
 {
     let subject = quoted(alloc, subject.as_str())?;
-    Ok(Text::from(schema_key_object(alloc, subject.as_str(), version)?))
-}
-
-/// The object of a version's key, whose subject is written already.
-fn schema_key_object(alloc: Global, subject: &str, version: u32) -> Result<String, AllocError>
-    ensures { IfOk result (λ text. string_bytes text
-        ≡ codes "{\"keytype\":\"SCHEMA\",\"subject\":" ++ subject.now ++ codes ",\"version\":" ++ decimal version
-        ++ codes ",\"magic\":1}") }
-{
-    format!(in alloc;
-        "{{\"keytype\":\"SCHEMA\",\"subject\":{subject},\"version\":{version},\"magic\":1}}"
-    )
-}
-
-fn config_key_text(alloc: Global, scope: &Option<Text>) -> Result<Text, AllocError>
-    ensures { IfOk result (λ text. text ≡ written_key (Key.Config scope.now)) }
-{
-    let subject = scope_text(alloc, scope)?;
-    let text = format!(in alloc; "{{\"keytype\":\"CONFIG\",\"subject\":{subject},\"magic\":0}}")?;
-    Ok(Text::from(text))
-}
-
-fn mode_key_text(alloc: Global, scope: &Option<Text>) -> Result<Text, AllocError>
-    ensures { IfOk result (λ text. text ≡ written_key (Key.Mode scope.now)) }
-{
-    let subject = scope_text(alloc, scope)?;
-    let text = format!(in alloc; "{{\"keytype\":\"MODE\",\"subject\":{subject},\"magic\":0}}")?;
-    Ok(Text::from(text))
-}
-
-fn delete_subject_key_text(alloc: Global, subject: &Text) -> Result<Text, AllocError>
-    ensures { IfOk result (λ text. text ≡ written_key (Key.DeleteSubject subject.now)) }
-{
-    let subject = quoted(alloc, subject.as_str())?;
     let text = format!(in alloc;
-        "{{\"keytype\":\"DELETE_SUBJECT\",\"subject\":{subject},\"magic\":0}}"
+        "{{\"keytype\":\"SCHEMA\",\"subject\":{subject},\"version\":{version},\"magic\":1}}"
     )?;
     Ok(Text::from(text))
 }
 
+/// The key of that kind, which has no member of its own beside its subject.
+fn scope_key_text(alloc: Global, kind: &str, scope: Option<&Text>) -> Result<Text, AllocError>
+    ensures { IfOk result (λ text. text ≡ codes "{\"keytype\":\"" ++ kind.now
+        ++ codes "\",\"subject\":" ++ compact_text (scope_data (option_copied scope.entry)) ++ codes ",\"magic\":0}") }
+{
+    let subject = scope_text(alloc, scope)?;
+    let text = format!(in alloc; "{{\"keytype\":\"{kind}\",\"subject\":{subject},\"magic\":0}}")?;
+    Ok(Text::from(text))
+}
+
 /// The JSON text of a scope: its subject, or `null` for the global one.
-fn scope_text(alloc: Global, scope: &Option<Text>) -> Result<String, AllocError>
-    ensures { IfOk result (λ text. string_bytes text ≡ compact_text (scope_data scope.now)) }
+fn scope_text(alloc: Global, scope: Option<&Text>) -> Result<String, AllocError>
+    ensures { IfOk result (λ text. string_bytes text ≡ compact_text (scope_data (option_copied scope.entry))) }
 {
     match scope {
         Some(subject) => quoted(alloc, subject.as_str()),

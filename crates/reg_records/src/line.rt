@@ -1,10 +1,10 @@
 // Lines of a topic: `offset TAB key TAB value LF`.
-ghost use Rattle.std.specs.Prelude.{◌≡◌, ◌≤◌, ◌==◌, ℕ, List, true, false, IfOk, IfErr, IfSome, Ok, Err, MatchOption, position, count_by};
+ghost use Rattle.std.specs.Prelude.{◌≡◌, ◌≤◌, ◌==◌, ℕ, List, true, false, IfOk, IfErr, IfSome, Ok, Err, MatchOption, MatchResult, position, count_by};
 ghost use Rattle.std.specs.Char.{is_ascii_digit};
 ghost use Rattle.std.specs.List.{list_all};
 ghost use Rattle.std.specs.Str.{is_utf8};
 ghost use Rattle.reg_records.specs.Log.{offset_in};
-ghost use Rattle.reg_records.specs.Line.{is_line_feed, is_tab, is_decimal, offset_of, offset_field, key_field, value_field, read_at, reading, reading_at_front, IsFaultOf, Spells};
+ghost use Rattle.reg_records.specs.Line.{is_line_feed, is_tab, is_free_of, is_decimal, offset_of, offset_field, key_field, value_field, read_at, reading, reading_at_front, IsFaultOf, Spells};
 ghost use Rattle.reg_records.specs.declared.record.Read.{Read};
 
 use crate::key::key_of;
@@ -61,7 +61,7 @@ impl fmt::Display for LineError {
     ghost output = { λ e. Some (line_error_name e) };
 
     fn fmt<W: fmt::Write>(&self, f: &mut fmt::Formatter<W>) -> fmt::Result {
-        write!(f, "{}", self.name())
+        f.write_str(self.name())
     }
 }
 
@@ -74,10 +74,10 @@ impl fmt::Display for ReadLineError {
     ghost output = { λ e. Some (read_line_error_text e) };
 
     fn fmt<W: fmt::Write>(&self, f: &mut fmt::Formatter<W>) -> fmt::Result {
-        match self {
-            ReadLineError::Line(e) => write!(f, "{e}"),
-            ReadLineError::OutOfMemory => write!(f, "out of memory"),
-        }
+        f.write_str(match self {
+            ReadLineError::Line(e) => e.name(),
+            ReadLineError::OutOfMemory => "out of memory",
+        })
     }
 }
 
@@ -132,19 +132,31 @@ pub(crate) fn read_whole_line(alloc: Global, line: &[u8]) -> Result<Read, ReadLi
     ensures at_once { (fault : LineError) → reading line.now ≡ Err fault → result ≡ Err (ReadLineError.Line fault) }
     ensures within { IfOk result (λ read. offset_in read ≤ OFFSET_LIMIT) }
 {
+    match parts_of(line) {
+        Ok((offset, key, value)) => Ok(read_at(alloc, offset, key, value)?),
+        Err(fault) => Err(ReadLineError::Line(fault)),
+    }
+}
+
+/// The offset, the key and the value of a line without its LF.
+fn parts_of(line: &[u8]) -> Result<(u64, &str, &str), LineError>
+    ensures parts { MatchResult result
+        (λ parts. reading line.now ≡ Ok (read_at parts.0 parts.1.now parts.2.now)) (λ fault. reading line.now ≡ Err fault) }
+    ensures within { IfOk result (λ parts. parts.0 ≤ OFFSET_LIMIT) }
+{
     if line.len() > LINE_LIMIT {
-        return Err(ReadLineError::Line(LineError::TooLong));
+        return Err(LineError::TooLong);
     }
     let Some(text) = text_of(line) else {
-        return Err(ReadLineError::Line(LineError::BadUtf8));
+        return Err(LineError::BadUtf8);
     };
     let Some((offset, key, value)) = fields_of(text) else {
-        return Err(ReadLineError::Line(LineError::BadTabs));
+        return Err(LineError::BadTabs);
     };
-    let Some(offset) = offset_of(offset) else {
-        return Err(ReadLineError::Line(LineError::BadOffset));
-    };
-    Ok(read_at(alloc, offset, key, value)?)
+    match offset_of(offset) {
+        Some(offset) => Ok((offset, key, value)),
+        None => Err(LineError::BadOffset),
+    }
 }
 
 /// The text that the bytes are, if they are UTF-8.
@@ -164,18 +176,20 @@ fn fields_of(text: &str) -> Option<(&str, &str, &str)>
         (λ fields. ((count_by is_tab text.now == 2) ≡ true) × (fields.0.now ≡ offset_field text.now)
         × (fields.1.now ≡ key_field text.now) × (fields.2.now ≡ value_field text.now)) }
 {
-    if tab_count(text.as_bytes()) != 2 {
-        return None;
-    }
     let (offset, rest) = text.split_once('\t')?;
     let (key, value) = rest.split_once('\t')?;
-    Some((offset, key, value))
+    if is_free_of(value.as_bytes(), b'\t') {
+        Some((offset, key, value))
+    } else {
+        None
+    }
 }
 
-fn tab_count(line: &[u8]) -> usize
-    ensures { result ≡ count_by is_tab line.now }
+/// Whether none of the bytes is that one.
+pub(crate) fn is_free_of(bytes: &[u8], byte: u8) -> bool
+    ensures { result ≡ is_free_of (λ b. b == byte) bytes.now }
 {
-    line.iter().filter(|b| **b == b'\t').count()
+    !bytes.contains(&byte)
 }
 
 /// The offset that a field spells, within the limit.

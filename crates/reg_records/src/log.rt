@@ -60,7 +60,7 @@ impl fmt::Display for LogFault {
     ghost output = { λ e. Some (log_fault_name e) };
 
     fn fmt<W: fmt::Write>(&self, f: &mut fmt::Formatter<W>) -> fmt::Result {
-        write!(f, "{}", self.name())
+        f.write_str(self.name())
     }
 }
 
@@ -76,7 +76,7 @@ impl fmt::Display for LogError {
         match self {
             LogError::Fault { line, fault } => write!(f, "line {line}: {fault}"),
             LogError::ReadFault { line } => write!(f, "line {line}: ReadFault"),
-            LogError::OutOfMemory => write!(f, "out of memory"),
+            LogError::OutOfMemory => f.write_str("out of memory"),
         }
     }
 }

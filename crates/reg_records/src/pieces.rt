@@ -38,8 +38,7 @@ impl LineBuffer {
             self.bytes.clear();
             return Ok(());
         }
-        self.bytes.extend_from_slice(piece)?;
-        Ok(())
+        self.bytes.extend_from_slice(piece)
     }
 
     /// The bytes of the line; `None` where they are more than a line may have.
@@ -88,15 +87,15 @@ pub(crate) fn take_piece<R: BufRead>(
     if available.is_empty() {
         return Ok(Piece::NoMore);
     }
-    match line_len(available) {
+    let end = line_len(available);
+    let len = end.unwrap_or(available.len());
+    line.add(&available[..len])?;
+    match end {
         Some(end) => {
-            line.add(&available[..end])?;
             reader.consume(end + 1);
             Ok(Piece::Ended)
         }
         None => {
-            let len = available.len();
-            line.add(available)?;
             reader.consume(len);
             Ok(Piece::More)
         }

@@ -1,5 +1,6 @@
 // The values of records, and the texts that are written for them.
 ghost use Rattle.std.specs.Prelude.{◌≡◌, ◌++◌, ◌≤◌, ℕ, IfOk, Some, codes, decimal, string_bytes};
+ghost use Rattle.json.specs.Print.{quoted};
 ghost use Rattle.serde_json.specs.Data.{boolean};
 ghost use Rattle.serde_json.specs.Written.{compact_text};
 ghost use Rattle.reg_records.specs.Written.{written_value, HasLine, HasNumbersInLimits, IsInLimits};
@@ -52,8 +53,8 @@ impl Value {
                 schema,
                 deleted,
             } => schema_value_text(alloc, subject, *version, *id, schema, *deleted)?,
-            Value::Config(level) => config_value_text(alloc, level)?,
-            Value::Mode(mode) => mode_value_text(alloc, mode)?,
+            Value::Config(level) => member_text(alloc, "compatibilityLevel", level)?,
+            Value::Mode(mode) => member_text(alloc, "mode", mode)?,
             Value::DeleteSubject { subject, version } => {
                 delete_subject_value_text(alloc, subject, *version)?
             }
@@ -104,20 +105,13 @@ fn schema_value_object(
     )
 }
 
-fn config_value_text(alloc: Global, level: &Text) -> Result<Text, AllocError>
-    ensures { IfOk result (λ text. Some text ≡ written_value (Value.Config level.now)) }
+/// The object whose only member is that text.
+fn member_text(alloc: Global, name: &str, text: &Text) -> Result<Text, AllocError>
+    ensures { IfOk result (λ object. object ≡ codes "{\"" ++ name.now ++ codes "\":" ++ quoted text.now ++ codes "}") }
 {
-    let level = quoted(alloc, level.as_str())?;
-    let text = format!(in alloc; "{{\"compatibilityLevel\":{level}}}")?;
-    Ok(Text::from(text))
-}
-
-fn mode_value_text(alloc: Global, mode: &Text) -> Result<Text, AllocError>
-    ensures { IfOk result (λ text. Some text ≡ written_value (Value.Mode mode.now)) }
-{
-    let mode = quoted(alloc, mode.as_str())?;
-    let text = format!(in alloc; "{{\"mode\":{mode}}}")?;
-    Ok(Text::from(text))
+    let text = quoted(alloc, text.as_str())?;
+    let object = format!(in alloc; "{{\"{name}\":{text}}}")?;
+    Ok(Text::from(object))
 }
 
 fn delete_subject_value_text(
@@ -128,15 +122,8 @@ fn delete_subject_value_text(
     ensures { IfOk result (λ text. Some text ≡ written_value (Value.DeleteSubject subject.now version)) }
 {
     let subject = quoted(alloc, subject.as_str())?;
-    Ok(Text::from(delete_subject_object(alloc, subject.as_str(), version)?))
-}
-
-/// The object of a soft delete, whose subject is written already.
-fn delete_subject_object(alloc: Global, subject: &str, version: u32) -> Result<String, AllocError>
-    ensures { IfOk result (λ text. string_bytes text
-        ≡ codes "{\"subject\":" ++ subject.now ++ codes ",\"version\":" ++ decimal version ++ codes "}") }
-{
-    format!(in alloc; "{{\"subject\":{subject},\"version\":{version}}}")
+    let text = format!(in alloc; "{{\"subject\":{subject},\"version\":{version}}}")?;
+    Ok(Text::from(text))
 }
 
 /// A record whose value was written has a line, where its numbers are within their limits.

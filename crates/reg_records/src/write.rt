@@ -1,12 +1,12 @@
 // Written lines of a topic: `offset TAB key TAB value LF`.
-ghost use Rattle.std.specs.Prelude.{◌≡◌, ◌↔◌, ◌==◌, ◌++◌, ◌<◌, ◌≤◌, ℕ, List, Ok, IfOk, OnOk, IsErrOf, IsTrue, codes, decimal, length, string_bytes, unwrap_or};
+ghost use Rattle.std.specs.Prelude.{◌≡◌, ◌↔◌, ◌++◌, ◌<◌, ◌≤◌, ℕ, List, Ok, IfOk, OnOk, IsErrOf, IsTrue, codes, decimal, length, string_bytes, unwrap_or};
 ghost use Rattle.reg_records.specs.declared.record.Read.TheVariants as reads;
 ghost use Rattle.std.specs.Option.{ForSome};
-ghost use Rattle.reg_records.specs.Line.{is_free_of, line_of, reading_at_front};
+ghost use Rattle.reg_records.specs.Line.{line_of, reading_at_front};
 ghost use Rattle.reg_records.specs.Written.{HasLine, IsValueField, line_text, written_line};
 
 use crate::limits::{LINE_LIMIT, OFFSET_LIMIT};
-use crate::line::LineError;
+use crate::line::{LineError, is_free_of};
 use crate::record::Record;
 use base_text::Text;
 use std::alloc::{AllocError, Global};
@@ -28,10 +28,10 @@ impl fmt::Display for WriteLineError {
     ghost output = { λ e. Some (write_line_error_text e) };
 
     fn fmt<W: fmt::Write>(&self, f: &mut fmt::Formatter<W>) -> fmt::Result {
-        match self {
-            WriteLineError::TooLong => write!(f, "{}", LineError::TooLong.name()),
-            WriteLineError::OutOfMemory => write!(f, "out of memory"),
-        }
+        f.write_str(match self {
+            WriteLineError::TooLong => LineError::TooLong.name(),
+            WriteLineError::OutOfMemory => "out of memory",
+        })
     }
 }
 
@@ -111,10 +111,4 @@ fn is_value_field(text: &str) -> bool
 {
     let bytes = text.as_bytes();
     is_free_of(bytes, b'\t') && is_free_of(bytes, b'\n') && text != "null"
-}
-
-fn is_free_of(bytes: &[u8], byte: u8) -> bool
-    ensures { result ≡ is_free_of (λ b. b == byte) bytes.now }
-{
-    bytes.iter().all(|b| *b != byte)
 }

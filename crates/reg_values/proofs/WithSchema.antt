@@ -1,9 +1,69 @@
 -- A value and its schema.
-use Rattle.std.proofs.Common.{◌≡◌, Option, Some, None, option_map, IfSome, refl}
+use Rattle.std.proofs.Common.{◌≡◌, ◌∙◌, ℕ, Bool, true, false, ◌&&◌, List, Option, Some, None, option_and_then, option_map, is_some, codes, IfOk, IfSome, Result, refl, ap, sym, subst, if◌then◌else◌}
+use Rattle.std.specs.declared.alloc.AllocError.{AllocError}
+use Rattle.std.proofs.lemmas.Result.{IfOk-weaker}
+use Rattle.serde_json.specs.Data.{Data}
+use Rattle.serde_json.specs.Read.{read}
+use Rattle.serde_json.specs.View.{view}
+use Rattle.serde_json.specs.declared.value.Value.{Value as Json}
+use Rattle.avro_schema.specs.Schema.{Meaning, is_schema, schema_of}
+use Rattle.reg_records.specs.Json.{has_number_at, has_text_at, number_at, text_at}
+use Rattle.reg_values.specs.declared.decoding.Decoded.{Decoded}
 use Rattle.reg_records.specs.declared.value.Value.{Value}
-use Rattle.reg_values.specs.Value.{schema_in}
+use Rattle.reg_records.specs.declared.value.Value.TheVariants.{Schema}
+use Rattle.reg_records.specs.declared.record.Record.{Record}
+use Rattle.reg_values.specs.Value.{value_in, value_of, deleted_in, is_plain_avro, schema_in, schema_value}
 use Rattle.reg_values.specs.WithSchema.{with_schema}
 
-pub schema-with_schema : (o : Option Value) → IfSome (option_map with_schema o) (λ d. d.schema ≡ schema_in d.value)
+schema-with_schema : (o : Option Value) → IfSome (option_map with_schema o) (λ d. d.schema ≡ schema_in d.value)
 schema-with_schema None = tt
 schema-with_schema (Some v) = refl
+
+value-with_schema : (o : Option Value) → option_map (λ d. d.value) (option_map with_schema o) ≡ o
+value-with_schema None = refl
+value-with_schema (Some v) = refl
+
+-- what is decoded has the value that was found
+pub value_in-decoded : (decoded : Result (Option Decoded) AllocError) (found value : Option Value) → IfOk decoded (λ d. d ≡ option_map with_schema found) → found ≡ value
+    → IfOk decoded (λ d. option_map (λ e. e.value) d ≡ value)
+value_in-decoded decoded found value is same = IfOk-weaker decoded _ _ (λ d e. ap (option_map (λ x. x.value)) e ∙ value-with_schema found ∙ same) is
+
+-- and the schema of that value
+pub schema_in-decoded : (decoded : Result (Option Decoded) AllocError) (found : Option Value) → IfOk decoded (λ d. d ≡ option_map with_schema found)
+    → IfOk decoded (λ d. IfSome d (λ e. e.schema ≡ schema_in e.value))
+schema_in-decoded decoded found is = IfOk-weaker decoded _ _ (λ d e. subst (λ (o : Option Decoded). IfSome o (λ x. x.schema ≡ schema_in x.value)) (sym e) (schema-with_schema found)) is
+
+-- the value of a record whose text is a JSON value
+pub value_of-read : (r : Record) (text : List ℕ) (found : Option Json) (json : Json) → r.value ≡ Some text → option_map view found ≡ read text → found ≡ Some json
+    → value_in r.key (view json) ≡ value_of r
+value_of-read r text found json valued is_read is =
+    sym (ap (option_and_then (λ t. option_and_then (value_in r.key) (read t))) valued ∙ ap (option_and_then (value_in r.key)) (sym is_read ∙ ap (option_map view) is))
+
+module _ (subject : List ℕ) (version : ℕ) (d : Data) (id : ℕ) (text : List ℕ)
+    (about : (has_text_at (codes "subject") subject d && has_number_at (codes "version") version d) ≡ true) (plain : is_plain_avro d ≡ true)
+    (numbered : number_at (codes "id") d ≡ Some id) (written : text_at (codes "schema") d ≡ Some text) where
+  -- the members of a version leave its text to be read and its mark to be looked at
+  schema_value-members : schema_value subject version d
+      ≡ option_and_then (λ schema. option_map (λ deleted. Schema subject version id schema deleted) (deleted_in d)) (if is_schema text then Some text else None)
+  schema_value-members = rw (about, plain, numbered, written) refl
+
+  pub schema_value-marked : (deleted : Bool) → deleted_in d ≡ Some deleted
+      → option_map with_schema (schema_value subject version d) ≡ option_map (λ meaning. record { value = Schema subject version id text deleted; schema = Some meaning }) (schema_of text)
+  schema_value-marked deleted marked =
+      ap (option_map with_schema) (schema_value-members ∙ ap (λ mark. option_and_then (λ schema. option_map (λ deleted. Schema subject version id schema deleted) mark) (if is_schema text then Some text else None)) marked)
+      ∙ elim (schema_of text) as (λ m. schema_of text ≡ m
+      → option_map with_schema (option_and_then (λ schema. Some (Schema subject version id schema deleted)) (if is_some m then Some text else None))
+      ≡ option_map (λ meaning. record { value = Schema subject version id text deleted; schema = Some meaning }) m) [
+        | None ↦ λ _. refl
+        | Some meaning ↦ λ is.
+            let decoded : Option Meaning → Option Decoded = λ found. Some (record { value = Schema subject version id text deleted; schema = found }) in
+            ap decoded is
+      ] refl
+
+  pub schema_value-unmarked : deleted_in d ≡ None → None ≡ option_map with_schema (schema_value subject version d)
+  schema_value-unmarked marked =
+      sym (ap (option_map with_schema) (schema_value-members ∙ ap (λ mark. option_and_then (λ schema. option_map (λ deleted. Schema subject version id schema deleted) mark) (if is_schema text then Some text else None)) marked)
+      ∙ elim (is_schema text) as (λ b. option_map with_schema (option_and_then (λ schema. None) (if b then Some text else None)) ≡ None) [
+        | true ↦ refl
+        | false ↦ refl
+      ])

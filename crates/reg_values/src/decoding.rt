@@ -1,8 +1,9 @@
 // What the values of records mean.
-ghost use Rattle.std.specs.Prelude.{◌≡◌, ◌≤◌, ℕ, IfOk, IfSome, Some, None, codes, option_map};
+ghost use Rattle.std.specs.Prelude.{◌≡◌, ◌≤◌, ◌&&◌, ℕ, IfOk, IfSome, Some, None, codes, option_map};
 ghost use Rattle.serde_json.specs.View.{view};
+ghost use Rattle.avro_schema.specs.Schema.{schema_of};
 ghost use Rattle.reg_level_names.specs.Level.{is_level};
-ghost use Rattle.reg_records.specs.Json.{text_where};
+ghost use Rattle.reg_records.specs.Json.{text_where, has_text_at, has_number_at};
 ghost use Rattle.reg_records.specs.Written.{written_value, HasLine, IsInLimits};
 ghost use Rattle.reg_records.specs.declared.key.Key.{Key};
 ghost use Rattle.reg_records.specs.declared.value.Value.{Value};
@@ -27,15 +28,20 @@ pub struct Decoded {
     pub schema: Option<Schema>,
 }
 
+impl Decoded {
+    fn into_value(self) -> Value
+        ensures { result ≡ self.value }
+    {
+        self.value
+    }
+}
+
 /// The value that a record's text gives; `None` for a record without text, and for one whose text
 /// can't be read as a value of its key. The only error is want of memory.
 pub fn decode_value(alloc: Global, given: &Record) -> Result<Option<Value>, AllocError>
     ensures { IfOk result (λ value. value ≡ value_of given.now) }
 {
-    match decode(alloc, given)? {
-        Some(Decoded { value, .. }) => Ok(Some(value)),
-        None => Ok(None),
-    }
+    Ok(decode(alloc, given)?.map(Decoded::into_value))
 }
 
 /// The same, with the schema of a version, so that its text is read only once.
@@ -72,9 +78,7 @@ fn decode_schema(
 ) -> Result<Option<Decoded>, AllocError>
     ensures { IfOk result (λ found. found ≡ option_map with_schema (schema_value subject.now version (view json.now))) }
 {
-    let is_about_key = has_text_at(json, "subject", subject.as_str())
-        && has_number_at(json, "version", version);
-    if !is_about_key || !is_plain_avro(json) {
+    if !is_about_version(json, subject, version) || !is_plain_avro(json) {
         return Ok(None);
     }
     let Some(id) = number_at(json, "id") else {
@@ -83,11 +87,32 @@ fn decode_schema(
     let Some(text) = text_at(json, "schema") else {
         return Ok(None);
     };
-    let Some(schema) = Schema::read_if_any(alloc, text)? else {
+    let Some(deleted) = deleted_in(json) else {
         return Ok(None);
     };
-    match deleted_in(json) {
-        Some(deleted) => {
+    decode_version(alloc, subject, version, id, text, deleted)
+}
+
+/// Whether the members name that version of the subject.
+fn is_about_version(json: &Json, subject: &Text, version: u32) -> bool
+    ensures { result ≡ (has_text_at (codes "subject") subject.now (view json.now) && has_number_at (codes "version") version (view json.now)) }
+{
+    has_text_at(json, "subject", subject.as_str()) && has_number_at(json, "version", version)
+}
+
+/// A version's value and schema; `None` where its text is no schema.
+fn decode_version(
+    alloc: Global,
+    subject: &Text,
+    version: u32,
+    id: u32,
+    text: &str,
+    deleted: bool,
+) -> Result<Option<Decoded>, AllocError>
+    ensures { IfOk result (λ found. found ≡ option_map (λ meaning. record { value = Value.Schema subject.now version id text.now deleted; schema = Some meaning }) (schema_of text.now)) }
+{
+    match Schema::read_if_any(alloc, text)? {
+        Some(schema) => {
             let value = version_value(alloc, subject, version, id, text, deleted)?;
             Ok(Some(Decoded {
                 value,

@@ -41,3 +41,18 @@ pub kind_of_object-returns-in-Other : goal.kind_of_object-returns-in-Other
 kind_of_object-returns-in-Other t c =
     let e = type_text (view c.args.value.now) (view c.in-Some.member.now) c.in-Some-as_str.name.now word.Other c.requires.1.1 c.in-Some.ensures c.in-Some-as_str.ensures c.in-Other.ensures in
     kind_as c.kind_of_name.result c.args.self.now c.args.namespace.now (form_of_name c.in-Some-as_str.name.now) (form (view c.args.value.now)) e c.kind_of_name.ensures
+
+pub kind_of_object-returns-in-Array : goal.kind_of_object-returns-in-Array
+kind_of_object-returns-in-Array t c = λ ds met.
+    ap (kind_in_union ds c.args.namespace.now (opened c.args.self.now))
+    (sym (type_text (view c.args.value.now) (view c.in-Some.member.now) c.in-Some-as_str.name.now word.Array c.requires.1.1 c.in-Some.ensures c.in-Some-as_str.ensures c.in-Array.ensures))
+
+pub kind_of_object-returns-in-Map : goal.kind_of_object-returns-in-Map
+kind_of_object-returns-in-Map t c = λ ds met.
+    ap (kind_in_union ds c.args.namespace.now (opened c.args.self.now))
+    (sym (type_text (view c.args.value.now) (view c.in-Some.member.now) c.in-Some-as_str.name.now word.Map c.requires.1.1 c.in-Some.ensures c.in-Some-as_str.ensures c.in-Map.ensures))
+
+pub kind_of_object-returns-in-Error : goal.kind_of_object-returns-in-Error
+kind_of_object-returns-in-Error t c = λ ds met.
+    ap (kind_in_union ds c.args.namespace.now (opened c.args.self.now))
+    (sym (type_text (view c.args.value.now) (view c.in-Some.member.now) c.in-Some-as_str.name.now word.Error c.requires.1.1 c.in-Some.ensures c.in-Some-as_str.ensures c.in-Error.ensures))

@@ -380,3 +380,27 @@ read_record-returns-clause-err t c =
     let read = reads.1 (ds ++ definition_of r (opened a) ∷ []) (defined_at b ds r _ _ o.place (o.met ds met).0) in
     let tests = tested_names _ r.name.namespace given b c.read_fields.new.self _ _ read refl in
     refused_list ds c.args.namespace.now (heading_of d) (written_fields d) (opened a) e (subst (λ (hs : Fields). IsRefusalBy (field_list_faults hs) e) (sym fs) (refused_same_names given _ e tests refused))) c.close_record.ensures.err
+
+pub read_array-read_member-requires : goal.read_array-read_member-requires
+read_array-read_member-requires t c = (omega arith, c.requires.1.1)
+
+pub read_map-read_member-requires : goal.read_map-read_member-requires
+read_map-read_member-requires t c = (omega arith, c.requires.1.1)
+
+pub read_union-read_branches-requires : goal.read_union-read_branches-requires
+read_union-read_branches-requires t c = (omega arith, c.requires.1.1)
+
+pub read_field-read_member-requires : goal.read_field-read_member-requires
+read_field-read_member-requires t c = (omega arith, c.requires.1.1)
+
+pub read_object-read_member-requires : goal.read_object-read_member-requires
+read_object-read_member-requires t c = (omega arith, c.requires.1.1.1)
+
+pub read_object-read_array-requires : goal.read_object-read_array-requires
+read_object-read_array-requires t c = (omega arith, c.requires.1.1.1)
+
+pub read_object-read_map-requires : goal.read_object-read_map-requires
+read_object-read_map-requires t c = (omega arith, c.requires.1.1.1)
+
+pub read_object-read_record-requires : goal.read_object-read_record-requires
+read_object-read_record-requires t c = (omega arith, c.requires.1.1.1)

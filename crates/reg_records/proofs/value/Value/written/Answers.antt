@@ -1,6 +1,25 @@
-use Rattle.std.proofs.Common.{rules}
+use Rattle.std.proofs.Common.{◌≡◌, ◌∙◌, ◌++◌, ℕ, List, Some, codes, ap, rules, append_assoc}
+use Rattle.json.specs.Print.{escape_byte, quoted}
+use Rattle.reg_records.specs.declared.value.Value.TheVariants.{Config, Mode}
 use Rattle.reg_records.specs.Written.{written_value}
+use Rattle.reg_records.proofs.value.Value.written.Goals.{in-Schema+in_ok-text-in-Schema, in-Config+in_ok-text-in-Config, in-Mode+in_ok-text-in-Mode, in-DeleteSubject+in_ok-text-in-DeleteSubject}
 use Rattle.reg_records.proofs.value.Value.written.Goals as goal
+
+config_text : (level : List ℕ) → Some (codes "{\"" ++ codes "compatibilityLevel" ++ codes "\":" ++ quoted level ++ codes "}") ≡ written_value (Config level)
+unfolding written_value escape_byte
+config_text level = simp append_assoc
+
+mode_text : (mode : List ℕ) → Some (codes "{\"" ++ codes "mode" ++ codes "\":" ++ quoted mode ++ codes "}") ≡ written_value (Mode mode)
+unfolding written_value escape_byte
+mode_text mode = simp append_assoc
+
+pub returns : goal.returns
+returns c = elim c.match-self.branch [
+  | in-Schema+in_ok-text-in-Schema w ↦ rw w.in-Schema.is (ap Some w.text-is ∙ w.in_ok-text-in-Schema.ensures)
+  | in-Config+in_ok-text-in-Config w ↦ rw w.in-Config.is (ap Some (w.text-is ∙ w.in_ok-text-in-Config.ensures) ∙ config_text _)
+  | in-Mode+in_ok-text-in-Mode w ↦ rw w.in-Mode.is (ap Some (w.text-is ∙ w.in_ok-text-in-Mode.ensures) ∙ mode_text _)
+  | in-DeleteSubject+in_ok-text-in-DeleteSubject w ↦ rw w.in-DeleteSubject.is (ap Some w.text-is ∙ w.in_ok-text-in-DeleteSubject.ensures)
+]
 
 pub returns-in-Noop : goal.returns-in-Noop
 unfolding written_value

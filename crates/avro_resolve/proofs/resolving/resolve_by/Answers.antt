@@ -1,0 +1,66 @@
+use Rattle.std.proofs.Common.{◌≡◌, ◌∙◌, sym, ap, subst, length, reverse, option_map, arith}
+use Rattle.std.proofs.lemmas.Option.{slice_get_read}
+use Rattle.avro_resolve.specs.Row.{clash_of_cause}
+use Rattle.avro_resolve.specs.Search.{expanded, IsWayBack, LeadsBack}
+use Rattle.avro_resolve.specs.Table.{outcome, owed_in, obligations}
+use Rattle.avro_resolve.specs.declared.obligations.Outcome.TheVariants.{Clashes}
+use Rattle.avro_resolve.proofs.BreadthFirst.{leads_back, searched_first, searched_within, searched_clash, searched_next, searched_few, searched_all, length-expanded}
+use Rattle.avro_resolve.proofs.Searching.{clashes_when, owes_when}
+use Rattle.avro_resolve.proofs.resolving.resolve_by.Goals as goal
+
+pub heads-init : goal.heads-init
+heads-init c =
+    (c.in_ok-reach_roots.ensures.agrees, searched_first c.args.r.now.nodes c.args.w.now.nodes c.requires.reader c.requires.writer c.reach_roots.new.self.entries.items c.in_ok-reach_roots.ensures.first, omega arith, c.requires.made)
+
+pub look_up-requires-clause-reader : goal.look_up-requires-clause-reader
+look_up-requires-clause-reader c =
+    let at = slice_get_read c.heads.search.entries.items _ c.heads.head c.index.result.now c.heads.search.entries.ok.0 (omega (arith, c.heads-test.true, c.len.ensures)) c.index.ensures in
+    (searched_within _ _ _ _ c.heads.invariant.1 c.index.result.now at).reader
+
+pub look_up-requires-clause-writer : goal.look_up-requires-clause-writer
+look_up-requires-clause-writer c =
+    let at = slice_get_read c.heads.search.entries.items _ c.heads.head c.index.result.now c.heads.search.entries.ok.0 (omega (arith, c.heads-test.true, c.len.ensures)) c.index.ensures in
+    (searched_within _ _ _ _ c.heads.invariant.1 c.index.result.now at).writer
+
+pub trail_to-requires-clause-within : goal.trail_to-requires-clause-within
+trail_to-requires-clause-within c =
+    let entries = c.in_ok-cause.ensures.entries in
+    omega (arith, c.heads-test.true, c.len.ensures, c.heads.search.entries.ok.0, c.look_up.new.self.entries.ok.0, ap length entries, length-expanded c.heads.head 0 (obligations c.args.r.now.nodes c.args.w.now.nodes c.index.result.now.pair) c.heads.search.entries.items)
+
+pub trail_to-requires-clause-back : goal.trail_to-requires-clause-back
+trail_to-requires-clause-back c =
+    let clash = clashes_when (outcome c.args.r.now.nodes c.args.w.now.nodes c.index.result.now.pair) (clash_of_cause c.in-Some.cause) (ap (option_map clash_of_cause) (sym c.in-Some.is) ∙ c.in_ok-cause.ensures.clash) in
+    let same = c.in_ok-cause.ensures.entries ∙ ap (λ o. expanded c.heads.head 0 (owed_in o) c.heads.search.entries.items) clash in
+    subst (LeadsBack c.args.r.now.nodes c.args.w.now.nodes) (sym same) (leads_back _ _ _ _ c.heads.invariant.1)
+
+pub returns-in-Some-clause-verdict : goal.returns-in-Some-clause-verdict
+returns-in-Some-clause-verdict c =
+    let at = slice_get_read c.heads.search.entries.items _ c.heads.head c.index.result.now c.heads.search.entries.ok.0 (omega (arith, c.heads-test.true, c.len.ensures)) c.index.ensures in
+    let clash = clashes_when (outcome c.args.r.now.nodes c.args.w.now.nodes c.index.result.now.pair) (clash_of_cause c.in-Some.cause) (ap (option_map clash_of_cause) (sym c.in-Some.is) ∙ c.in_ok-cause.ensures.clash) in
+    let same = c.in_ok-cause.ensures.entries ∙ ap (λ o. expanded c.heads.head 0 (owed_in o) c.heads.search.entries.items) clash in
+    searched_clash _ _ _ _ c.heads.invariant.1 c.index.result.now c.in_ok-trail.trail.kind c.in_ok-trail.trail.hops at (clash ∙ ap Clashes (sym c.in_ok-trail.ensures.kind)) (subst (λ es. IsWayBack c.args.r.now.nodes c.args.w.now.nodes es c.heads.head (reverse c.in_ok-trail.trail.hops)) same c.in_ok-trail.ensures.hops)
+
+pub returns-in-Some-clause-pairs : goal.returns-in-Some-clause-pairs
+returns-in-Some-clause-pairs c =
+    omega (arith, c.heads-test.true, c.len.ensures, c.heads.search.entries.ok.0, searched_few _ _ _ _ c.heads.invariant.1)
+
+pub heads-smaller : goal.heads-smaller
+heads-smaller c =
+    omega (arith, c.heads-test.true, c.len.ensures, c.heads.search.entries.ok.0, searched_few _ _ _ _ c.heads.invariant.1)
+
+pub heads-preserved : goal.heads-preserved
+heads-preserved c =
+    let at = slice_get_read c.heads.search.entries.items _ c.heads.head c.index.result.now c.heads.search.entries.ok.0 (omega (arith, c.heads-test.true, c.len.ensures)) c.index.ensures in
+    let owed = obligations c.args.r.now.nodes c.args.w.now.nodes c.index.result.now.pair in
+    let next = searched_next _ _ _ _ c.heads.invariant.1 c.requires.reader c.requires.writer c.index.result.now owed at (owes_when (outcome c.args.r.now.nodes c.args.w.now.nodes c.index.result.now.pair) (ap (option_map clash_of_cause) (sym c.in_default.is) ∙ c.in_ok-cause.ensures.clash)) in
+    let entries = c.in_ok-cause.ensures.entries in
+    (c.in_ok-cause.ensures.agrees c.in_default.is, rw entries next, omega (arith, c.heads-test.true, c.len.ensures, c.heads.search.entries.ok.0, c.look_up.new.self.entries.ok.0, ap length entries, length-expanded c.heads.head 0 owed c.heads.search.entries.items), c.look_up.ensures.made)
+
+pub returns-clause-verdict : goal.returns-clause-verdict
+returns-clause-verdict c =
+    let all : c.heads.head ≡ length c.heads.search.entries.items = omega (arith, c.heads-test.false, c.len.ensures, c.heads.search.entries.ok.0, c.heads.invariant.2) in
+    searched_all _ _ _ _ c.heads.invariant.1 all
+
+pub returns-clause-pairs : goal.returns-clause-pairs
+returns-clause-pairs c =
+    omega (arith, c.heads.search.entries.ok.0, c.heads.invariant.2, searched_few _ _ _ _ c.heads.invariant.1)
