@@ -1,5 +1,5 @@
 -- Why a search breadth first finds the trail that is shown.
-use Rattle.std.proofs.Common.{◌≡◌, ℕ, zero, suc, ◌+◌, ◌*◌, ◌/◌, ◌%◌, ◌<◌, ◌≤◌, List, [], ◌∷◌, ◌++◌, length, map, reverse, Bool, true, false, ◌||◌, ◌&&◌, eqb, ◌⊎◌, inl, inr, Option, Some, None, IsSome, option_map, option_and_then, slice_get, refl, sym, ◌∙◌, ap, subst, arith, append_assoc, append-nil, length-append}
+use Rattle.std.proofs.Common.{◌≡◌, ℕ, zero, suc, ◌+◌, ◌*◌, ◌/◌, ◌%◌, ◌<◌, ◌≤◌, List, [], ◌∷◌, ◌++◌, length, map, reverse, Bool, true, false, ◌||◌, ◌&&◌, eqb, ◌⊎◌, inl, inr, Option, Some, None, Ok, Err, IsSome, option_map, option_and_then, slice_get, refl, sym, ◌∙◌, ap, subst, arith, append_assoc, append-nil, length-append}
 use Rattle.std.specs.List.{list_any, IsDistinct}
 use Rattle.std.proofs.lemmas.Bool.{eqb-true, eq-eqb}
 use Rattle.std.proofs.lemmas.Cmp.{nat_eq_equiv}
@@ -18,13 +18,15 @@ use Rattle.avro_resolve.specs.declared.obligations.Obligation.{Obligation}
 use Rattle.avro_resolve.specs.declared.search.Step.{Step}
 use Rattle.avro_resolve.specs.declared.search.Entry.{Entry}
 use Rattle.avro_schema.specs.Sound.{IsSound}
-use Rattle.avro_resolve.specs.declared.obligations.Outcome.TheVariants.{Clashes, Owes}
-use Rattle.avro_resolve.specs.Table.{outcome, clash_in, owed_in, clash_of, obligations}
-use Rattle.avro_resolve.specs.Trails.{end_at, after_hop, roots, trail_from, trail_along, ComesFirst, AreCompatible, IsShown}
+use Rattle.avro_resolve.specs.Table.{outcome, clash_of, obligations}
+use Rattle.std.specs.Result.{result_err}
+use Rattle.avro_resolve.proofs.Rows.{owed_in}
+use Rattle.avro_resolve.specs.Trails.{roots, trail_from, trail_along, ComesFirst, AreCompatible, IsShown}
 use Rattle.avro_resolve.specs.Seen.{same_pair}
 use Rattle.avro_resolve.specs.Search.{is_reached, unless_reached, with_entry, entry_from, expanded, from_at, hop_numbered, hop_at, IsStep, IsWayBack, LeadsBack}
 use Rattle.avro_resolve.proofs.Order.{ComesFirst_refl, ComesFirst_trans, ComesFirst-append, ComesFirst-longer, Before, Before-weaker, Before-children, Before-siblings, Before_trans, Before-root}
 use Rattle.avro_resolve.proofs.Rows.{IsWithin, obligations_within}
+use Rattle.avro_resolve.proofs.Hops.{end_at, after_hop}
 use Rattle.avro_resolve.proofs.Searching.{same_pair-≡}
 
 -- a pair that was reached, and the obligations' numbers that led to it
@@ -611,18 +613,18 @@ module _ (r w : List Node) (es : List Entry) (n : ℕ) (k : IsSearched r w es n)
   searched_within e at = let (g, at_g, is) = there e at in subst (λ (x : Entry). IsWithin r w x.pair) is (k.search.reach.within n g at_g)
 
   -- it clashes
-  pub searched_clash : (e : Entry) (c : ClashKind) (hops : List Hop) → slice_get es n ≡ Some e → outcome r w e.pair ≡ Clashes c → IsWayBack r w es n (reverse hops) → IsShown r w (record { hops = hops; kind = c })
+  pub searched_clash : (e : Entry) (c : ClashKind) (hops : List Hop) → slice_get es n ≡ Some e → outcome r w e.pair ≡ Err c → IsWayBack r w es n (reverse hops) → IsShown r w (record { hops = hops; kind = c })
   searched_clash e c hops at is way =
       let (g, at_g, same) = there e at in
-      shows r w k.reached n g c hops k.search at_g (ap (λ (x : Entry). clash_of r w x.pair) same ∙ ap clash_in is) (subst (λ l. IsWayBack r w l n (reverse hops)) k.entries way)
+      shows r w k.reached n g c hops k.search at_g (ap (λ (x : Entry). clash_of r w x.pair) same ∙ ap result_err is) (subst (λ l. IsWayBack r w l n (reverse hops)) k.entries way)
 
   -- it doesn't
-  pub searched_next : IsSound r → IsSound w → (e : Entry) (os : List Obligation) → slice_get es n ≡ Some e → outcome r w e.pair ≡ Owes os → IsSearched r w (expanded n 0 os es) (n + 1)
+  pub searched_next : IsSound r → IsSound w → (e : Entry) (os : List Obligation) → slice_get es n ≡ Some e → outcome r w e.pair ≡ Ok os → IsSearched r w (expanded n 0 os es) (n + 1)
   searched_next s t e os at is =
       let (g, at_g, same) = there e at in
-      let of_g : outcome r w g.entry.pair ≡ Owes os = ap (λ (x : Entry). outcome r w x.pair) same ∙ is in
+      let of_g : outcome r w g.entry.pair ≡ Ok os = ap (λ (x : Entry). outcome r w x.pair) same ∙ is in
       let inside = k.search.reach.within n g at_g in
-      let (hs, entries, search) = expands r w n g (obligations_within r w s t g.entry.pair inside) k.reached k.search at_g (ap clash_in of_g) in
+      let (hs, entries, search) = expands r w n g (obligations_within r w s t g.entry.pair inside) k.reached k.search at_g (ap result_err of_g) in
       record {
         reached = hs;
         entries = sym (entries ∙ ap (λ l. expanded n 0 l (entries_of k.reached)) (ap owed_in of_g) ∙ ap (expanded n 0 os) (sym k.entries));

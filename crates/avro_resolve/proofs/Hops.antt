@@ -1,6 +1,7 @@
 -- Where hops lead: what the obligations of a pair say of one hop, and that a trail is what its hops lead to.
-use Rattle.std.proofs.Common.{◌≡◌, ◌≢◌, ◌↔◌, IsTrue, is_some, find, filter, length, drop, get_or, add-one, drop-cons, ℕ, zero, suc, ◌+◌, ◌<◌, List, [], ◌∷◌, Bool, true, false, Option, Some, None, option_map, option_and_then, filter_map, map, slice_get, cond, eqb, refl, sym, ◌∙◌, ap, subst, arith}
+use Rattle.std.proofs.Common.{◌≡◌, ◌≢◌, ◌↔◌, IsTrue, is_some, find, filter, length, drop, get_or, add-one, drop-cons, ℕ, zero, suc, ◌+◌, ◌<◌, List, [], ◌∷◌, Bool, true, false, Option, Some, None, Result, Ok, Err, option_map, option_and_then, filter_map, map, slice_get, cond, eqb, refl, sym, ◌∙◌, ap, subst, arith}
 use Rattle.std.specs.List.{enumerate_from, cons_option}
+use Rattle.std.specs.Option.{option_map_or}
 use Rattle.std.proofs.lemmas.Bool.{eqb-true, eq-eqb}
 use Rattle.std.proofs.lemmas.Slice.Eq.{bytes_eq-Decides}
 use Rattle.avro_schema.specs.declared.node.NodeId.{NodeId}
@@ -10,14 +11,16 @@ use Rattle.avro_schema.specs.Sound.{IsSound}
 use Rattle.avro_resolve.specs.declared.trail.Hop.{Hop}
 use Rattle.avro_resolve.specs.declared.trail.Hop.TheVariants as hop
 use Rattle.avro_resolve.specs.declared.trail.ClashKind.{ClashKind}
+use Rattle.avro_resolve.specs.declared.trail.ClashKind.TheVariants as clash
 use Rattle.avro_resolve.specs.declared.trail.Trail.{Trail}
 use Rattle.avro_resolve.specs.declared.obligations.Pair.{Pair}
 use Rattle.avro_resolve.specs.declared.obligations.Obligation.{Obligation}
 use Rattle.avro_resolve.specs.Pairing.{partner, lacks_value}
-use Rattle.avro_resolve.specs.Table.{pair, to_writer_branch, to_writer_branches, to_field, to_partner, unless_lacking, to_fields, owed_in, clash_of, obligations}
-use Rattle.avro_resolve.specs.Trails.{end_at, after_hop, roots, trail_from, IsTrail, HopsNameOne}
+use Rattle.avro_resolve.specs.Table.{to_fields, clash_of, obligations}
+use Rattle.avro_resolve.proofs.Rows.{owed_in}
+use Rattle.avro_resolve.specs.Trails.{roots, trail_from, IsTrail, HopsNameOne}
 use Rattle.avro_resolve.specs.Follow.{same_hop, owed_by, pair_by}
-use Rattle.avro_resolve.proofs.Rows.{IsWithin, obligations_within, hops_name_one}
+use Rattle.avro_resolve.proofs.Rows.{to_writer_branch, to_writer_branches, to_field, to_partner, IsWithin, obligations_within, hops_name_one}
 
 -- ---- a writer's branches
 
@@ -25,7 +28,7 @@ differ : (a b : ℕ) (t : Bool) → eqb a b ≡ t → a ≢ b → eqb a b ≡ fa
 differ a b true e h = absurd (h (eqb-true a b e))
 differ a b false e h = e
 
-numbered : (i : NodeId) (n : ℕ) (bs : List NodeId) (k : ℕ) → pair_by (map (to_writer_branch i) (enumerate_from n bs)) (hop.Writer (n + k)) ≡ option_map (λ b. pair i b) (slice_get bs k)
+numbered : (i : NodeId) (n : ℕ) (bs : List NodeId) (k : ℕ) → pair_by (map (to_writer_branch i) (enumerate_from n bs)) (hop.Writer (n + k)) ≡ option_map (λ b. record { reader = i; writer = b }) (slice_get bs k)
 numbered i n [] k = refl
 numbered i n (b ∷ bs) zero = ap (λ t. option_map (λ (o : Obligation). o.pair) (cond t (Some (to_writer_branch i (n, b))) (owed_by (map (to_writer_branch i) (enumerate_from (n + 1) bs)) (hop.Writer (n + 0))))) (eq-eqb (n + 0) n (omega arith))
 numbered i n (b ∷ bs) (suc k) =
@@ -33,8 +36,8 @@ numbered i n (b ∷ bs) (suc k) =
     ∙ ap (λ m. pair_by (map (to_writer_branch i) (enumerate_from (n + 1) bs)) (hop.Writer m)) (let e : n + suc k ≡ n + 1 + k = omega arith in e)
     ∙ numbered i (n + 1) bs k
 
-pub of_branch : (i : NodeId) (bs : List NodeId) (k : ℕ) → pair_by (owed_in (to_writer_branches i bs)) (hop.Writer k) ≡ option_map (λ b. pair i b) (slice_get bs k)
-of_branch i bs k = ap (λ m. pair_by (owed_in (to_writer_branches i bs)) (hop.Writer m)) (let e : k ≡ 0 + k = omega arith in e) ∙ numbered i 0 bs k
+pub of_branch : (i : NodeId) (bs : List NodeId) (k : ℕ) → pair_by (to_writer_branches i bs) (hop.Writer k) ≡ option_map (λ b. record { reader = i; writer = b }) (slice_get bs k)
+of_branch i bs k = ap (λ m. pair_by (to_writer_branches i bs) (hop.Writer m)) (let e : k ≡ 0 + k = omega arith in e) ∙ numbered i 0 bs k
 
 no_writer : (h : Hop) (n : ℕ) → ((x : ℕ) → h ≡ hop.Writer x → ⊥) → same_hop h (hop.Writer n) ≡ false
 no_writer (hop.Writer k) n other = absurd (other k refl)
@@ -44,7 +47,7 @@ other_than_branch : (i : NodeId) (n : ℕ) (bs : List NodeId) (h : Hop) → ((x 
 other_than_branch i n [] h other = refl
 other_than_branch i n (b ∷ bs) h other = ap (λ t. cond t (Some (to_writer_branch i (n, b))) (owed_by (map (to_writer_branch i) (enumerate_from (n + 1) bs)) h)) (no_writer h n other) ∙ other_than_branch i (n + 1) bs h other
 
-pub of_no_branch : (i : NodeId) (bs : List NodeId) (h : Hop) → ((x : ℕ) → h ≡ hop.Writer x → ⊥) → None ≡ pair_by (owed_in (to_writer_branches i bs)) h
+pub of_no_branch : (i : NodeId) (bs : List NodeId) (h : Hop) → ((x : ℕ) → h ≡ hop.Writer x → ⊥) → None ≡ pair_by (to_writer_branches i bs) h
 of_no_branch i bs h other = sym (ap (option_map (λ (o : Obligation). o.pair)) (other_than_branch i 0 bs h other))
 
 -- ---- a reader's fields
@@ -80,7 +83,7 @@ branch_hop i n [] k h = absurd (omega arith)
 branch_hop i n (b ∷ bs) zero h = ap (λ m. Some (hop.Writer m)) (let e : n ≡ n + 0 = omega arith in e)
 branch_hop i n (b ∷ bs) (suc k) h = branch_hop i (n + 1) bs k (omega arith) ∙ ap (λ m. Some (hop.Writer m)) (let e : n + 1 + k ≡ n + suc k = omega arith in e)
 
-pub hop_of_branch : (i : NodeId) (bs : List NodeId) (k : ℕ) → k < length (owed_in (to_writer_branches i bs)) → hop_in (owed_in (to_writer_branches i bs)) k ≡ Some (hop.Writer k)
+pub hop_of_branch : (i : NodeId) (bs : List NodeId) (k : ℕ) → k < length (to_writer_branches i bs) → hop_in (to_writer_branches i bs) k ≡ Some (hop.Writer k)
 hop_of_branch i bs k h = branch_hop i 0 bs k h ∙ ap (λ m. Some (hop.Writer m)) (let e : 0 + k ≡ k = omega arith in e)
 
 hop_of_paired : (gs fs : List Field) (k : ℕ) → hop_in (filter_map (to_partner gs) fs) k ≡ option_map (λ f. hop.Field f.name) (slice_get (filter (λ f. is_some (partner gs f)) fs) k)
@@ -94,7 +97,10 @@ hop_of_paired gs (f ∷ fs) k = go (partner gs f) k (hop_of_paired gs fs)
     go (Some g) (suc k) rest = rest k
 
 -- where there is an obligation, no field lacks a value
-none_lacks : (o : Option Field) (os : List Obligation) (k : ℕ) → k < length (owed_in (unless_lacking o os)) → owed_in (unless_lacking o os) ≡ os
+abbrev pub unless_lacking : Option Field → Result (List Obligation) ClashKind → Result (List Obligation) ClashKind
+unless_lacking f o = option_map_or (λ g. Err (clash.ReaderFieldMissingDefaultValue g.name)) f o
+
+none_lacks : (o : Option Field) (os : List Obligation) (k : ℕ) → k < length (owed_in (unless_lacking o (Ok os))) → owed_in (unless_lacking o (Ok os)) ≡ os
 none_lacks None os k h = refl
 none_lacks (Some f) os k h = absurd (omega arith)
 
@@ -152,6 +158,12 @@ module _ (r w : List Node) (once : HopsNameOne r w) where
       ap (option_map (λ (y : Obligation). y.pair)) is ∙ ap (λ (y : Obligation). Some y.pair) (sym three)
 
 -- ---- hops in a row
+
+abbrev pub end_at : ClashKind → Trail
+end_at c = record { hops = []; kind = c }
+
+abbrev pub after_hop : Hop → Trail → Trail
+after_hop h t = record t { hops = h ∷ t.hops }
 
 module _ (r w : List Node) where
   -- the clash at the end of these hops

@@ -4,15 +4,18 @@ use Rattle.std.specs.List.{list_any}
 use Rattle.std.proofs.lemmas.Slice.Eq.{bytes_eq-Decides}
 use Rattle.std.proofs.lemmas.Bool.{eq-eqb}
 use Rattle.avro_schema.specs.declared.node.FullName.{FullName}
+use denote.Enum.Bare.{true_same}
 use Rattle.avro_schema.specs.declared.node.Primitive.{Primitive}
+use Rattle.avro_schema.specs.contracts.node.Primitive.{the_type}
 use Rattle.avro_schema.specs.declared.node.NodeId.{NodeId}
 use Rattle.avro_schema.specs.declared.node.Node.{Node}
 use Rattle.avro_schema.specs.declared.node.Node.TheVariants as kind
 use Rattle.avro_schema.specs.Sound.{IsSound, inner, parts_of_node}
-use Rattle.avro_schema.specs.Names.{primitive_text, same_name}
+use Rattle.avro_schema.specs.Names.{same_name}
+use Rattle.avro_schema.specs.Faults.{same_primitive}
 use Rattle.avro_resolve.proofs.Sound.{part_below}
 use Rattle.avro_resolve.specs.Inward.{inner_types}
-use Rattle.avro_resolve.specs.Match.{both, nodes_match, matches_within, matches, names_match, same_primitive, promotions, primitives_match, IsByCases, EachMatchesItself}
+use Rattle.avro_resolve.specs.Match.{both, nodes_match, matches_within, matches, names_match, promotions, primitives_match, IsByCases, EachMatchesItself}
 
 -- a is what the array or the map is of
 abbrev pub IsOf : NodeId → Option Node → Type 0
@@ -67,7 +70,7 @@ names_itself : (n : FullName) (al : List FullName) → names_match n al n ≡ tr
 names_itself n al = ap (λ b. b || list_any (same_name n) al) (bytes_itself n.name)
 
 primitive_itself : (p : Primitive) → primitives_match p p ≡ true
-primitive_itself p = ap (λ b. b || list_any (same_primitive p) (promotions p)) (bytes_itself (primitive_text p))
+primitive_itself p = ap (λ b. b || list_any (same_primitive p) (promotions p)) (true_same the_type p p refl)
 
 node_itself : (p : NodeId → NodeId → Bool) (m : Option Node) → is_some m ≡ true → ((a : NodeId) → IsOf a m → p a a ≡ true) → both (nodes_match p) m m ≡ true
 node_itself p None some h = cc

@@ -1,8 +1,7 @@
 -- A field that is found anywhere is the one of its name, where names are distinct; and what the place of a name says.
-use Rattle.std.proofs.Common.{◌≡◌, ℕ, zero, suc, ◌<◌, ◌≤◌, inl, inr, List, [], ◌∷◌, length, Bool, true, false, ◌||◌, nat_lt, cond, Some, None, is_some, find, position, slice_get, bytes_eq, refl, sym, ◌∙◌, ap, arith}
+use Rattle.std.proofs.Common.{◌≡◌, ℕ, zero, suc, ◌<◌, ◌≤◌, inl, inr, List, [], ◌∷◌, length, Bool, true, false, ◌||◌, nat_lt, cond, Some, None, is_some, find, filter_map, position, slice_get, bytes_eq, refl, sym, ◌∙◌, ap, arith}
 use Rattle.std.specs.Cmp.Lexicographic.{nat_list_eq_equiv}
-use Rattle.std.specs.List.{list_any, position_or_len}
-use Rattle.std.specs.Option.{option_or}
+use Rattle.std.specs.List.{cons_option, list_any, position_or_len}
 use Rattle.std.proofs.lemmas.Bool.{ltb-true, ltb-false}
 use Rattle.std.proofs.lemmas.List.Folds.{find_at, list_any_at, list_any_none}
 use Rattle.std.proofs.lemmas.List.Sums.{passes_at_first, fails_before_first}
@@ -12,7 +11,7 @@ use Rattle.avro_schema.specs.declared.node.Field.{Field}
 use Rattle.avro_schema.specs.Names.{has_text}
 use Rattle.avro_schema.specs.Sound.{HaveDistinctNames}
 use Rattle.avro_schema.specs.Defaults.{field_named}
-use Rattle.avro_resolve.specs.Pairing.{first_field, partner}
+use Rattle.avro_resolve.specs.Pairing.{partner}
 
 HaveDistinctNames-rest : (f : Field) (fs : List Field) → HaveDistinctNames (f ∷ fs) → HaveDistinctNames fs
 HaveDistinctNames-rest f fs distinct a b g h at_a at_b same = let more : suc a ≡ suc b = distinct (suc a) (suc b) g h at_a at_b same in cc
@@ -34,7 +33,7 @@ named_at (f ∷ fs) distinct (suc k) g s at same = go (bytes_eq f.name s) refl (
 
 -- it is the partner of a field of that name
 pub partner_at : (fs : List Field) (f : Field) → HaveDistinctNames fs → (k : ℕ) (g : Field) → slice_get fs k ≡ Some g → bytes_eq g.name f.name ≡ true → Some g ≡ partner fs f
-partner_at fs f distinct k g at same = sym (ap (λ o. option_or o (first_field fs f.aliases)) (named_at fs distinct k g f.name at ((bytes_eq-Decides g.name f.name).0 same)))
+partner_at fs f distinct k g at same = sym (ap (λ o. slice_get (cons_option o (filter_map (field_named fs) f.aliases)) 0) (named_at fs distinct k g f.name at ((bytes_eq-Decides g.name f.name).0 same)))
 
 -- a text at a place is one of the texts
 pub text_at : (ts : List (List ℕ)) (k : ℕ) (t s : List ℕ) → slice_get ts k ≡ Some t → bytes_eq s t ≡ true → true ≡ has_text ts s
@@ -82,13 +81,13 @@ pub partner_of_place : (fs : List Field) (f : Field) (k : ℕ) → position (λ 
 partner_of_place fs f k e =
     let (inside, there) = found_at (λ (g : Field). bytes_eq g.name f.name) fs k e in
     elim ((slice_get_cases fs k).1) [
-      | inl here ↦ here.2 ∙ ap (λ o. option_or o (first_field fs f.aliases)) (sym here.2 ∙ there)
+      | inl here ↦ here.2 ∙ ap (λ o. slice_get (cons_option o (filter_map (field_named fs) f.aliases)) 0) (sym here.2 ∙ there)
       | inr past ↦ absurd (omega (arith, past.0, inside))
     ]
 
 -- where there is none, it is that of the first alias with one
-pub partner_of_aliases : (fs : List Field) (f : Field) → position (λ g. bytes_eq g.name f.name) fs ≡ None → first_field fs f.aliases ≡ partner fs f
-partner_of_aliases fs f e = sym (ap (λ o. option_or o (first_field fs f.aliases)) (found_nowhere (λ (g : Field). bytes_eq g.name f.name) fs e))
+pub partner_of_aliases : (fs : List Field) (f : Field) → position (λ g. bytes_eq g.name f.name) fs ≡ None → slice_get (filter_map (field_named fs) f.aliases) 0 ≡ partner fs f
+partner_of_aliases fs f e = sym (ap (λ o. slice_get (cons_option o (filter_map (field_named fs) f.aliases)) 0) (found_nowhere (λ (g : Field). bytes_eq g.name f.name) fs e))
 
 -- a text is one of the texts exactly where it has a place among them
 pub known_text : (ts : List (List ℕ)) (s : List ℕ) → is_some (position (λ t. bytes_eq t s) ts) ≡ has_text ts s

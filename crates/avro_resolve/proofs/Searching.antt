@@ -1,5 +1,5 @@
 -- What the search keeps, step by step.
-use Rattle.std.proofs.Common.{◌≡◌, ℕ, ◌+◌, ◌<◌, ◌≤◌, List, [], ◌∷◌, ◌++◌, length, take, drop, drop-cons, add-one, map, find, filter_map, Bool, true, false, ◌&&◌, ◌||◌, cond, eqb, arith, not, Option, Some, None, is_some, is_none, option_map, option_and_then, get_or, append_assoc, append-nil, slice_get, refl, sym, ◌∙◌, ap, subst}
+use Rattle.std.proofs.Common.{◌≡◌, ℕ, ◌+◌, ◌<◌, ◌≤◌, List, [], ◌∷◌, ◌++◌, length, take, drop, drop-cons, add-one, map, find, filter_map, Bool, true, false, ◌&&◌, ◌||◌, cond, eqb, arith, not, Option, Some, None, Result, Ok, Err, is_some, is_none, option_map, option_and_then, get_or, append_assoc, append-nil, slice_get, refl, sym, ◌∙◌, ap, subst}
 use Rattle.std.proofs.lemmas.Bool.{eqb-true}
 use Rattle.std.specs.List.{cons_option, enumerate_from}
 use Rattle.std.proofs.lemmas.List.{take_all, take-append-le, length-take}
@@ -7,13 +7,16 @@ use Rattle.std.proofs.lemmas.List.Folds.{list_any-append}
 use Rattle.std.proofs.lemmas.Option.{slice_get_read}
 use Rattle.avro_resolve.specs.declared.trail.Hop.{Hop}
 use Rattle.avro_resolve.proofs.Sound.{and_left, and_right}
+use Rattle.avro_resolve.proofs.Rows.{to_writer_branch, to_field, to_partner}
+use Rattle.avro_resolve.proofs.Hops.{unless_lacking}
 use Rattle.avro_resolve.specs.declared.obligations.Pair.{Pair}
+use Rattle.avro_resolve.specs.declared.obligations.Obligation.{Obligation}
 use Rattle.avro_resolve.specs.declared.trail.ClashKind.{ClashKind}
-use Rattle.avro_resolve.specs.declared.obligations.Outcome.{Outcome}
-use Rattle.avro_resolve.specs.declared.obligations.Outcome.TheVariants.{Clashes, Owes}
 use Rattle.avro_resolve.specs.declared.trail.ClashKind.TheVariants as clash
 use Rattle.avro_resolve.specs.Pairing.{partner, lacks_value}
-use Rattle.avro_resolve.specs.Table.{to_writer_branch, to_field, to_partner, unless_lacking, to_fields, clash_in, owed_in, obligations}
+use Rattle.avro_resolve.specs.Table.{to_fields, obligations}
+use Rattle.std.specs.Result.{result_err}
+use Rattle.avro_resolve.proofs.Rows.{owed_in}
 use Rattle.avro_resolve.specs.declared.search.Step.{Step}
 use Rattle.avro_resolve.specs.declared.search.Entry.{Entry}
 use Rattle.avro_resolve.specs.Seen.{same_pair, is_seen, IsFair}
@@ -102,13 +105,13 @@ module _ (gs fs : List Field) (place : ℕ) (start : List Entry) (i number : ℕ
   }
 
   -- it has neither
-  pub added_lacking : None ≡ partner gs f → true ≡ is_none f.default → to_fields fs gs ≡ Clashes (clash.ReaderFieldMissingDefaultValue f.name)
+  pub added_lacking : None ≡ partner gs f → true ≡ is_none f.default → to_fields fs gs ≡ Err (clash.ReaderFieldMissingDefaultValue f.name)
   added_lacking has lacks =
-      ap (λ o. unless_lacking o (filter_map (to_partner gs) fs))
+      ap (λ o. unless_lacking o (Ok (filter_map (to_partner gs) fs)))
       (now.none_lacks ∙ ap (find (lacks_value gs)) at ∙ ap (λ o. cond (is_none o && is_none f.default) (Some f) (find (lacks_value gs) (drop (i + 1) fs))) (sym has) ∙ ap (λ b. cond b (Some f) (find (lacks_value gs) (drop (i + 1) fs))) (sym lacks))
 
-pub added_all : (gs fs : List Field) (place : ℕ) (start : List Entry) (i number : ℕ) (es : List Entry) → AreAdded gs fs place start i number es → drop i fs ≡ [] → to_fields fs gs ≡ Owes (filter_map (to_partner gs) fs)
-added_all gs fs place start i number es now none = ap (λ o. unless_lacking o (filter_map (to_partner gs) fs)) (now.none_lacks ∙ ap (find (lacks_value gs)) none)
+pub added_all : (gs fs : List Field) (place : ℕ) (start : List Entry) (i number : ℕ) (es : List Entry) → AreAdded gs fs place start i number es → drop i fs ≡ [] → to_fields fs gs ≡ Ok (filter_map (to_partner gs) fs)
+added_all gs fs place start i number es now none = ap (λ o. unless_lacking o (Ok (filter_map (to_partner gs) fs))) (now.none_lacks ∙ ap (find (lacks_value gs)) none)
 
 pub entries_all : (gs fs : List Field) (place : ℕ) (start : List Entry) (i number : ℕ) (es : List Entry) → AreAdded gs fs place start i number es → drop i fs ≡ [] → es ≡ expanded place 0 (owed_in (to_fields fs gs)) start
 entries_all gs fs place start i number es now none =
@@ -169,10 +172,10 @@ module _ (r w : List Node) where
   way_whole es place at hops now none = subst (IsWayBack r w es place) (append-nil hops) (now [] none)
 
 -- what a row comes to, by its clash
-pub clashes_when : (o : Outcome) (c : ClashKind) → Some c ≡ clash_in o → o ≡ Clashes c
-clashes_when (Clashes d) c e = let one : c ≡ d = cc in ap Clashes (sym one)
-clashes_when (Owes os) c e = cc
+pub clashes_when : (o : Result (List Obligation) ClashKind) (c : ClashKind) → Some c ≡ result_err o → o ≡ Err c
+clashes_when (Err d) c e = let one : c ≡ d = cc in ap Err (sym one)
+clashes_when (Ok os) c e = cc
 
-pub owes_when : (o : Outcome) → None ≡ clash_in o → o ≡ Owes (owed_in o)
-owes_when (Clashes d) e = cc
-owes_when (Owes os) e = refl
+pub owes_when : (o : Result (List Obligation) ClashKind) → None ≡ result_err o → o ≡ Ok (owed_in o)
+owes_when (Err d) e = cc
+owes_when (Ok os) e = refl

@@ -6,8 +6,9 @@ use Rattle.avro_resolve.specs.declared.resolving.Verdict.TheVariants.{Compatible
 use Rattle.avro_resolve.specs.declared.obligations.Pair.{Pair}
 use Rattle.avro_resolve.specs.declared.obligations.Obligation.{Obligation}
 use Rattle.avro_resolve.specs.Table.{clash_of, obligations}
-use Rattle.avro_resolve.specs.Trails.{end_at, after_hop, trail_from, trail_along, AreCompatibleAt, AreCompatibleByObligations, IsShown}
+use Rattle.avro_resolve.specs.Trails.{trail_from, trail_along, AreCompatibleAt, AreCompatibleByObligations, IsShown}
 use Rattle.avro_resolve.specs.Verdict.{HaveOneVerdict}
+use Rattle.avro_resolve.proofs.Hops.{end_at, after_hop}
 use Rattle.avro_resolve.proofs.Order.{ComesFirst_both}
 
 some_is : {A : Type 0} (o : Option A) (x : A) → o ≡ Some x → IsSome o

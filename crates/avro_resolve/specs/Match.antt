@@ -7,14 +7,12 @@ use Rattle.avro_schema.specs.declared.node.Primitive.{Primitive}
 use Rattle.avro_schema.specs.declared.node.Primitive.TheVariants as simple
 use Rattle.avro_schema.specs.declared.node.Node.{Node}
 use Rattle.avro_schema.specs.declared.node.Node.TheVariants as kind
-use Rattle.avro_schema.specs.Names.{primitive_text, same_name}
+use Rattle.avro_schema.specs.Names.{same_name}
+use Rattle.avro_schema.specs.Faults.{same_primitive}
 
 -- the last parts are equal, or the writer's full name is among the reader's aliases
 abbrev pub names_match : FullName → List FullName → FullName → Bool
 names_match reader aliases writer = bytes_eq reader.name writer.name || list_any (same_name writer) aliases
-
-abbrev pub same_primitive : Primitive → Primitive → Bool
-same_primitive p q = bytes_eq (primitive_text p) (primitive_text q)
 
 -- what a writer's primitive is promoted to
 abbrev pub promotions : Primitive → List Primitive

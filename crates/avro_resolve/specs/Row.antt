@@ -1,19 +1,19 @@
 -- Private: what the rows of the table stand for.
-use Rattle.std.specs.Prelude.{[], ◌∷◌}
+use Rattle.std.specs.Prelude.{List, [], ◌∷◌, map, Result, Ok, Err}
+use Rattle.std.specs.List.{enumerate_from}
 use Rattle.avro_schema.specs.Sound.{HaveDistinctNames}
 use Rattle.avro_resolve.specs.declared.trail.Hop.{Hop}
 use Rattle.avro_resolve.specs.declared.trail.Hop.TheVariants as hop
 use Rattle.avro_resolve.specs.declared.trail.ClashKind.{ClashKind}
 use Rattle.avro_resolve.specs.declared.trail.ClashKind.TheVariants as clash
-use Rattle.avro_resolve.specs.declared.obligations.Outcome.{Outcome}
-use Rattle.avro_resolve.specs.declared.obligations.Outcome.TheVariants.{Clashes, Owes}
+use Rattle.avro_resolve.specs.declared.obligations.Obligation.{Obligation}
 use Rattle.avro_resolve.specs.declared.table.Cause.{Cause}
 use Rattle.avro_resolve.specs.declared.table.Cause.TheVariants as cause
 use Rattle.avro_resolve.specs.declared.table.Part.{Part}
 use Rattle.avro_resolve.specs.declared.table.Part.TheVariants as part
 use Rattle.avro_resolve.specs.declared.table.Row.{Row}
 use Rattle.avro_resolve.specs.declared.table.Row.TheVariants.{Clash, WriterBranches, One, Fields, Nothing}
-use Rattle.avro_resolve.specs.Table.{to_writer_branches, to_fields}
+use Rattle.avro_resolve.specs.Table.{obligation, to_fields}
 
 abbrev pub clash_of_cause : Cause → ClashKind
 clash_of_cause cause.MissingUnionBranch = clash.MissingUnionBranch
@@ -28,12 +28,12 @@ hop_into part.Items = hop.Items
 hop_into part.Values = hop.Values
 hop_into (part.Branch k) = hop.Reader k
 
-abbrev pub outcome_of : Row → Outcome
-outcome_of (Clash c) = Clashes (clash_of_cause c)
-outcome_of (WriterBranches i bs) = to_writer_branches i bs.now
-outcome_of (One a p) = Owes (record { hop = hop_into a; pair = p } ∷ [])
+abbrev pub outcome_of : Row → Result (List Obligation) ClashKind
+outcome_of (Clash c) = Err (clash_of_cause c)
+outcome_of (WriterBranches i bs) = Ok (map (λ b. obligation (hop.Writer b.0) i b.1) (enumerate_from 0 bs.now))
+outcome_of (One a p) = Ok (record { hop = hop_into a; pair = p } ∷ [])
 outcome_of (Fields fs gs) = to_fields fs.now gs.now
-outcome_of Nothing = Owes []
+outcome_of Nothing = Ok []
 
 -- no two of the writer's fields have one name
 abbrev pub HasDistinct : Row → Type 0

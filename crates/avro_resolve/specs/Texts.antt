@@ -12,13 +12,10 @@ hop_text hop.Values = codes "values"
 hop_text (hop.Writer k) = codes "writer:" ++ decimal k
 hop_text (hop.Reader k) = codes "reader:" ++ decimal k
 
-abbrev pub after_slash : Hop → List ℕ
-after_slash h = codes "/" ++ hop_text h
-
 -- a `/` and the hop for each hop, and `/` where there is none
 abbrev pub trail_text : List Hop → List ℕ
 trail_text [] = codes "/"
-trail_text (h ∷ hs) = flat_map after_slash (h ∷ hs)
+trail_text (h ∷ hs) = flat_map (λ k. codes "/" ++ hop_text k) (h ∷ hs)
 
 abbrev pub clash_text : ClashKind → List ℕ
 clash_text clash.MissingUnionBranch = codes "MISSING_UNION_BRANCH"

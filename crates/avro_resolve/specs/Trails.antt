@@ -1,29 +1,22 @@
 -- Trails from the pair of roots to a clash, and the one that is shown.
 use Rattle.std.specs.Prelude.{◌≡◌, ◌<◌, ◌↔◌, ℕ, List, [], ◌∷◌, length, ◌⊎◌, Option, Some, None, IsSome, option_map, option_and_then, slice_get}
 use Rattle.avro_schema.specs.declared.node.Node.{Node}
-use Rattle.avro_resolve.specs.declared.trail.Hop.{Hop}
-use Rattle.avro_resolve.specs.declared.trail.ClashKind.{ClashKind}
 use Rattle.avro_resolve.specs.declared.trail.Trail.{Trail}
 use Rattle.avro_resolve.specs.declared.obligations.Pair.{Pair}
 use Rattle.avro_resolve.specs.declared.obligations.Obligation.{Obligation}
-use Rattle.avro_resolve.specs.Table.{pair, clash_of, obligations}
-
-abbrev pub end_at : ClashKind → Trail
-end_at c = record { hops = []; kind = c }
-
-abbrev pub after_hop : Hop → Trail → Trail
-after_hop h t = record { hops = h ∷ t.hops; kind = t.kind }
+use Rattle.avro_resolve.specs.Table.{clash_of, obligations}
 
 -- the pair of the two schemas as wholes
 abbrev pub roots : Pair
-roots = pair (record { index = 0 }) (record { index = 0 })
+roots = record { reader = record { index = 0 }; writer = record { index = 0 } }
 
 -- A list of pairs, each an obligation of the one before, is given by the obligations' numbers.
 module _ (r w : List Node) where
   -- the trail from a pair along the obligations of these numbers, if a clash is at their end
   abbrev pub trail_from : Pair → List ℕ → Option Trail
-  trail_from p [] = option_map end_at (clash_of r w p)
-  trail_from p (k ∷ ks) = option_and_then (λ o. option_map (after_hop o.hop) (trail_from o.pair ks)) (slice_get (obligations r w p) k)
+  trail_from p [] = option_map (λ c. record { hops = []; kind = c }) (clash_of r w p)
+  trail_from p (k ∷ ks) =
+      option_and_then (λ o. option_map (λ (t : Trail). record t { hops = o.hop ∷ t.hops }) (trail_from o.pair ks)) (slice_get (obligations r w p) k)
 
   abbrev pub trail_along : List ℕ → Option Trail
   trail_along ks = trail_from roots ks

@@ -1,5 +1,5 @@
 // Which fields of two records are paired.
-ghost use Rattle.std.specs.Prelude.{◌≡◌, true, find, filter, map, slice_get, option_copied, is_some, bytes_eq, Some, IfSome};
+ghost use Rattle.std.specs.Prelude.{◌≡◌, true, find, filter, filter_map, map, slice_get, option_copied, is_some, bytes_eq, Some, IfSome};
 ghost use Rattle.avro_schema.specs.Sound.{HaveDistinctNames};
 ghost use Rattle.avro_schema.specs.Defaults.{field_named as spec_field_named};
 ghost use Rattle.avro_resolve.specs.Pairing as spec;
@@ -17,7 +17,7 @@ fn field_named<'a>(fields: &'a NamedList<Field>, name: &Text) -> Option<&'a Fiel
 
 /// The field that the first of the names with one has.
 fn first_field<'a>(fields: &'a NamedList<Field>, names: &[Text]) -> Option<&'a Field>
-    ensures { option_copied result ≡ spec.first_field fields.now names.now }
+    ensures { option_copied result ≡ slice_get (filter_map (spec_field_named fields.now) names.now) 0 }
 {
     for name in names {
         let found = field_named(fields, name);

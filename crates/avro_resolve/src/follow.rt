@@ -1,5 +1,9 @@
 // Where a hop leads, and whether a trail leads to a clash. Nothing here takes memory.
-ghost use Rattle.std.specs.Prelude.{◌≡◌, ◌<◌, ◌↔◌, IsTrue, Some, length, filter_map, slice_get, [], ◌∷◌};
+ghost use Rattle.std.specs.Prelude.{◌≡◌, ◌<◌, ◌↔◌, IsTrue, Some, length, map, option_map, filter_map, slice_get, [], ◌∷◌};
+ghost use Rattle.std.specs.List.{enumerate_from};
+ghost use Rattle.std.specs.Result.{result_err, result_unwrap_or};
+ghost use Rattle.avro_resolve.specs.declared.trail.Hop.TheVariants as hops;
+ghost use Rattle.avro_resolve.specs.Pairing as pairing;
 ghost use Rattle.avro_resolve.specs.Table as spec;
 ghost use Rattle.avro_resolve.specs.Follow.{pair_by, same_hop};
 ghost use Rattle.avro_resolve.specs.Row.{clash_of_cause, hop_into};
@@ -71,7 +75,7 @@ fn is_into(part: Part, hop: &Hop) -> bool
 
 /// The pair of the reader's type and the writer's branch that a hop names.
 fn writer_branch(i: NodeId, branches: &[NodeId], hop: &Hop) -> Option<Pair>
-    ensures { result ≡ pair_by (spec.owed_in (spec.to_writer_branches i branches.now)) hop.now }
+    ensures { result ≡ pair_by (map (λ b. spec.obligation (hops.Writer b.0) i b.1) (enumerate_from 0 branches.now)) hop.now }
 {
     match hop {
         Hop::Writer(k) => match branch_at(branches, *k) {
@@ -94,7 +98,7 @@ fn branch_at(branches: &[NodeId], k: usize) -> Option<NodeId>
 
 /// The pair of the field that a hop names and its partner, unless a field lacks a value.
 fn paired_field(reader: &[Field], writer: &NamedList<Field>, hop: &Hop) -> Option<Pair>
-    ensures { result ≡ pair_by (spec.owed_in (spec.to_fields reader.now writer.now)) hop.now }
+    ensures { result ≡ pair_by (result_unwrap_or (spec.to_fields reader.now writer.now) []) hop.now }
 {
     if first_lacking(reader, writer).is_some() {
         return None;
@@ -104,7 +108,9 @@ fn paired_field(reader: &[Field], writer: &NamedList<Field>, hop: &Hop) -> Optio
 
 /// The pair of the field that a hop names and its partner.
 fn field_pair(reader: &[Field], writer: &NamedList<Field>, hop: &Hop) -> Option<Pair>
-    ensures { result ≡ pair_by (filter_map (spec.to_partner writer.now) reader.now) hop.now }
+    ensures { result ≡ pair_by
+        (filter_map (λ f. option_map (λ g. spec.obligation (hops.Field f.name) f.node g.node) (pairing.partner writer.now f)) reader.now)
+        hop.now }
 {
     let Hop::Field(name) = hop else {
         return None;
@@ -137,7 +143,7 @@ fn clashes_so(r: &Schema, w: &Schema, pair: Pair, kind: &ClashKind) -> bool
 
 /// Whether two records whose names match clash in this way.
 fn lacks_so(reader: &[Field], writer: &NamedList<Field>, kind: &ClashKind) -> bool
-    ensures { IsTrue result ↔ (spec.clash_in (spec.to_fields reader.now writer.now) ≡ Some kind.now) }
+    ensures { IsTrue result ↔ (result_err (spec.to_fields reader.now writer.now) ≡ Some kind.now) }
 {
     match first_lacking(reader, writer) {
         Some(f) => is_of_kind(&Cause::LackingField(&f.name), kind),

@@ -1,9 +1,10 @@
 // Marks of the branches of a union, by which those that can't match a name are passed over.
-ghost use Rattle.std.specs.Prelude.{◌≡◌, ◌<◌, List, Some, All, length, map, slice_get, IfOk, IfSome};
+ghost use Rattle.std.specs.Prelude.{◌≡◌, ◌<◌, List, Some, All, length, map, find, slice_get, IfOk, IfSome};
+ghost use Rattle.std.specs.List.{enumerate_from};
 ghost use Rattle.avro_schema.specs.declared.node.Node.{Node as SpecNode};
 ghost use Rattle.avro_schema.specs.Nodes.{name_in};
 ghost use Rattle.avro_resolve.specs.Marks as spec;
-ghost use Rattle.avro_resolve.specs.Table.{first_matching_branch};
+ghost use Rattle.avro_resolve.specs.Match as matching;
 
 use crate::matching::matches;
 use avro_schema::{FullName, Node, NodeId, Schema};
@@ -150,7 +151,7 @@ pub fn first_marked(
     requires writer { j.index < length w.now.nodes }
     requires marks { marks.now ≡ map (spec.mark_at r.now.nodes) branches.now }
     requires named { name_in (slice_get w.now.nodes j.index) ≡ Some name.now }
-    ensures { result ≡ first_matching_branch r.now.nodes w.now.nodes branches.now j }
+    ensures { result ≡ find (λ b. matching.matches r.now.nodes w.now.nodes b.1 j) (enumerate_from 0 branches.now) }
 {
     let wanted = mark_of(&name.name);
     for (k, b) in branches.iter().enumerate() {

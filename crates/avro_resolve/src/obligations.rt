@@ -1,8 +1,7 @@
 // The pairs of types that have to resolve for another pair to do so, as contracts speak of them.
 
-use crate::trail::{ClashKind, Hop};
+use crate::trail::Hop;
 use avro_schema::NodeId;
-use base_text::Listed;
 
 /// A reader's type and a writer's type.
 #[derive(Clone, Copy)]
@@ -16,11 +15,4 @@ pub struct Pair {
 pub struct Obligation {
     pub hop: Hop,
     pub pair: Pair,
-}
-
-/// A pair either clashes, or has obligations, perhaps none.
-#[derive(Drop)]
-pub enum Outcome {
-    Clashes(ClashKind),
-    Owes(Listed<Obligation>),
 }

@@ -1,6 +1,8 @@
 // The search for a clash, breadth first over pairs of types.
 ghost use Rattle.std.specs.Prelude.{◌≡◌, ◌<◌, [], ◌∷◌, true, None, length, reverse, vec_len, slice_get, filter_map, map, option_map, Some, bytes_eq, IfOk, OnOk};
 ghost use Rattle.std.specs.List.{enumerate_from};
+ghost use Rattle.std.specs.Result.{result_err, result_unwrap_or};
+ghost use Rattle.avro_resolve.specs.declared.trail.Hop.TheVariants as hop;
 ghost use Rattle.avro_resolve.specs.Marks.{AreMade};
 ghost use Rattle.avro_resolve.specs.Table as spec;
 ghost use Rattle.avro_resolve.specs.Row.{clash_of_cause, outcome_of, HasDistinct};
@@ -110,8 +112,8 @@ impl Search {
     fn expand<'a>(&mut self, place: usize, row: Row<'a>) -> Result<Option<Cause<'a>>, AllocError>
         requires distinct { HasDistinct row }
         requires agrees { AgreesWith self.old.seen self.old.entries.items }
-        ensures clash { IfOk result (λ cause. option_map clash_of_cause cause ≡ spec.clash_in (outcome_of row.entry)) }
-        ensures entries { OnOk result (self.new.entries.items ≡ expanded place 0 (spec.owed_in (outcome_of row.entry)) self.old.entries.items) }
+        ensures clash { IfOk result (λ cause. option_map clash_of_cause cause ≡ result_err (outcome_of row.entry)) }
+        ensures entries { OnOk result (self.new.entries.items ≡ expanded place 0 (result_unwrap_or (outcome_of row.entry) []) self.old.entries.items) }
         ensures agrees { IfOk result (λ cause. cause ≡ None → AgreesWith self.new.seen self.new.entries.items) }
     {
         match row {
@@ -137,7 +139,7 @@ impl Search {
         branches: &[NodeId],
     ) -> Result<(), AllocError>
         requires { AgreesWith self.old.seen self.old.entries.items }
-        ensures entries { OnOk result (self.new.entries.items ≡ expanded place 0 (spec.owed_in (spec.to_writer_branches i branches.now)) self.old.entries.items) }
+        ensures entries { OnOk result (self.new.entries.items ≡ expanded place 0 (map (λ b. spec.obligation (hop.Writer b.0) i b.1) (enumerate_from 0 branches.now)) self.old.entries.items) }
         ensures agrees { OnOk result (AgreesWith self.new.seen self.new.entries.items) }
     {
         for (k, b) in branches.iter().enumerate() {
@@ -160,8 +162,8 @@ impl Search {
     ) -> Result<Option<Cause<'a>>, AllocError>
         requires distinct { HaveDistinctNames writer.now }
         requires agrees { AgreesWith self.old.seen self.old.entries.items }
-        ensures clash { IfOk result (λ cause. option_map clash_of_cause cause ≡ spec.clash_in (spec.to_fields reader.now writer.now)) }
-        ensures entries { OnOk result (self.new.entries.items ≡ expanded place 0 (spec.owed_in (spec.to_fields reader.now writer.now)) self.old.entries.items) }
+        ensures clash { IfOk result (λ cause. option_map clash_of_cause cause ≡ result_err (spec.to_fields reader.now writer.now)) }
+        ensures entries { OnOk result (self.new.entries.items ≡ expanded place 0 (result_unwrap_or (spec.to_fields reader.now writer.now) []) self.old.entries.items) }
         ensures agrees { IfOk result (λ cause. cause ≡ None → AgreesWith self.new.seen self.new.entries.items) }
     {
         let before = self.entries.len();
@@ -255,8 +257,8 @@ fn hop_of(r: &Schema, w: &Schema, pair: Pair, number: usize) -> Result<Hop, Allo
 
 /// The hop into the field of that number among those that are paired.
 fn field_hop(reader: &[Field], writer: &NamedList<Field>, number: usize) -> Result<Hop, AllocError>
-    requires { number < length (spec.owed_in (spec.to_fields reader.now writer.now)) }
-    ensures { IfOk result (λ h. option_map (λ o. o.hop) (slice_get (spec.owed_in (spec.to_fields reader.now writer.now)) number) ≡ Some h) }
+    requires { number < length (result_unwrap_or (spec.to_fields reader.now writer.now) []) }
+    ensures { IfOk result (λ h. option_map (λ o. o.hop) (slice_get (result_unwrap_or (spec.to_fields reader.now writer.now) []) number) ≡ Some h) }
 {
     match paired_at(reader, writer, number) {
         Some(f) => Ok(Hop::Field(f.name.clone()?)),

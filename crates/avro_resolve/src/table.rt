@@ -1,9 +1,10 @@
 // The table: the row that a pair of types falls under, with what it takes from the schemas.
-ghost use Rattle.std.specs.Prelude.{◌≡◌, ◌<◌, ℕ, List, [], Option, IsTrue, true, is_some, All, length, map, not, find, slice_get, bytes_eq, option_copied, IfOk};
+ghost use Rattle.std.specs.Prelude.{◌≡◌, ◌<◌, ℕ, List, [], ◌∷◌, Option, IsTrue, true, is_some, All, length, map, not, find, slice_get, bytes_eq, option_copied, Ok, IfOk};
+ghost use Rattle.std.specs.List.{enumerate_from};
 ghost use Rattle.avro_schema.specs.declared.node.Node.TheVariants as kind;
 ghost use Rattle.avro_schema.specs.Names.{has_text};
-ghost use Rattle.avro_resolve.specs.declared.obligations.Outcome.TheVariants as outcome;
 ghost use Rattle.avro_resolve.specs.Marks.{AreMade, branches_in};
+ghost use Rattle.avro_resolve.specs.Match as matching;
 ghost use Rattle.avro_resolve.specs.Table as spec;
 ghost use Rattle.avro_schema.specs.Sound.{HaveDistinctNames, fields_of_node};
 ghost use Rattle.avro_resolve.specs.Row.{clash_of_cause, hop_into, outcome_of, HasDistinct};
@@ -86,7 +87,7 @@ pub enum Row<'a> {
 pub fn are_matching_primitives(r: &Schema, w: &Schema, pair: Pair) -> bool
     requires reader { pair.reader.index < length r.now.nodes }
     requires writer { pair.writer.index < length w.now.nodes }
-    ensures { IsTrue result → spec.outcome r.now.nodes w.now.nodes pair ≡ outcome.Owes [] }
+    ensures { IsTrue result → spec.outcome r.now.nodes w.now.nodes pair ≡ Ok [] }
 {
     match r.node(pair.reader) {
         Node::Primitive(p) => match w.node(pair.writer) {
@@ -178,7 +179,7 @@ fn plain_row<'a>(reader: &'a Node, writer: &'a Node) -> Row<'a>
 
 /// One obligation.
 fn one_row<'a>(part: Part, reader: NodeId, writer: NodeId) -> Row<'a>
-    ensures row { outcome_of result ≡ spec.to_part (hop_into part) reader writer }
+    ensures row { outcome_of result ≡ Ok (spec.obligation (hop_into part) reader writer ∷ []) }
     ensures distinct { HasDistinct result }
 {
     Row::One(part, Pair { reader, writer })
@@ -283,7 +284,7 @@ fn branch_row<'a>(
     requires writer { j.index < length w.now.nodes }
     requires branches { branches.now ≡ branches_in (slice_get r.now.nodes i.index) }
     requires made { AreMade r.now.nodes marks.old.made }
-    ensures row { outcome_of result ≡ spec.to_reader_branch j (spec.first_matching_branch r.now.nodes w.now.nodes branches.now j) }
+    ensures row { outcome_of result ≡ spec.to_reader_branch j (find (λ b. matching.matches r.now.nodes w.now.nodes b.1 j) (enumerate_from 0 branches.now)) }
     ensures distinct { HasDistinct result }
     ensures made { AreMade r.now.nodes marks.new.made }
 {
@@ -312,7 +313,7 @@ fn first_by_marks(
     requires writer { j.index < length w.now.nodes }
     requires branches { branches.now ≡ branches_in (slice_get r.now.nodes i.index) }
     requires made { AreMade r.now.nodes marks.old.made }
-    ensures first { result ≡ spec.first_matching_branch r.now.nodes w.now.nodes branches.now j }
+    ensures first { result ≡ find (λ b. matching.matches r.now.nodes w.now.nodes b.1 j) (enumerate_from 0 branches.now) }
     ensures made { AreMade r.now.nodes marks.new.made }
 {
     let Some(name) = w.name_of(j) else {
@@ -334,7 +335,7 @@ fn first_matching_branch(
 ) -> Option<(usize, NodeId)>
     requires reader { All (λ b. b.index < length r.now.nodes) branches.now }
     requires writer { j.index < length w.now.nodes }
-    ensures { result ≡ spec.first_matching_branch r.now.nodes w.now.nodes branches.now j }
+    ensures { result ≡ find (λ b. matching.matches r.now.nodes w.now.nodes b.1 j) (enumerate_from 0 branches.now) }
 {
     for (k, b) in branches.iter().enumerate() {
         if matches(r, *b, w, j) {

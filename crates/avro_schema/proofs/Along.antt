@@ -9,10 +9,11 @@ use Rattle.avro_schema.specs.declared.kinds.Kind.{Kind}
 use Rattle.avro_schema.specs.declared.node.NodeId.{NodeId}
 use Rattle.avro_schema.specs.declared.node.Field.{Field}
 use Rattle.avro_schema.specs.declared.builder.Builder.{Builder}
+use Rattle.avro_schema.specs.Names.{is_name}
 use Rattle.avro_schema.specs.Form.{Form, Forms, no_forms, and_form, Fields, no_fields, and_field, FieldHeading}
 use Rattle.avro_schema.specs.Places.{count, forms_count, fields_count, places, places_of_forms, places_of_fields, Definition, definitions}
 use Rattle.avro_schema.specs.Nodes.{node_id, branches, field_list, field_at}
-use Rattle.avro_schema.specs.Faults.{unless, kind_in_union, kinds, fits_union, fits_fields, field_headings, is_formed, has_good_aliases, are_written, field_name, field_list_faults}
+use Rattle.avro_schema.specs.Faults.{unless, kind_in_union, kinds, fits_union, fits_fields, field_headings, is_formed, if_written, are_written, field_name, field_list_faults}
 use Rattle.avro_schema.specs.Schema.{IsRefusalBy}
 use Rattle.avro_schema.specs.Building.{opened, HasMet, Reads, faults_in, type_faults, branches_faults, fields_faults, field_faults, are_formed, has_distinct_names, IsTypeRead, IsFieldRead, AreBranchesRead, AreFieldsRead}
 use Rattle.avro_schema.proofs.Later.{From, From-weaker, SameAlong-type, node_id-later, kind_of-later, definitions_of_forms-from, definitions_of_fields-from}
@@ -182,7 +183,7 @@ pub record FieldsAlong (old : Builder) (ns : List ℕ) (all : Fields) (now : Bui
 pub record TestsAlong (all rest : Fields) : Type 0 where
   pub formed : are_formed rest ≡ true → are_formed all ≡ true
   pub fits : fits_fields all ≡ true → fits_fields rest ≡ true
-  pub aliases : list_all has_good_aliases (field_headings all) ≡ true → list_all has_good_aliases (field_headings rest) ≡ true
+  pub aliases : list_all (λ h. if_written (list_all is_name) h.aliases) (field_headings all) ≡ true → list_all (λ h. if_written (list_all is_name) h.aliases) (field_headings rest) ≡ true
 
 pub fields_start : (old : Builder) (ns : List ℕ) (all : Fields) (ds : List Definition) → HasMet old ds → FieldsAlong old ns all old all [] ds
 fields_start old ns all ds met = record { met_now = ds; met = met; reads = λ new hs r. r; refuses = λ e c. c }
@@ -211,9 +212,9 @@ second : (p b : Bool) → p && b ≡ true → b ≡ true
 second true b x = x
 second false b x = cc
 
-pub tests_step : (all : Fields) (h : FieldHeading) (f : Form) (rest : Fields) → TestsAlong all (and_field h f rest) → is_formed h && has_good_aliases h ≡ true → TestsAlong all rest
+pub tests_step : (all : Fields) (h : FieldHeading) (f : Form) (rest : Fields) → TestsAlong all (and_field h f rest) → is_formed h && if_written (list_all is_name) h.aliases ≡ true → TestsAlong all rest
 tests_step all h f rest along good = record {
-  formed = λ t. along.formed (three (are_written rest) (list_all is_formed (field_headings rest)) (list_all has_good_aliases (field_headings rest)) (is_formed h) (has_good_aliases h) t good);
+  formed = λ t. along.formed (three (are_written rest) (list_all is_formed (field_headings rest)) (list_all (λ h. if_written (list_all is_name) h.aliases) (field_headings rest)) (is_formed h) (if_written (list_all is_name) h.aliases) t good);
   fits = λ t. less (are_written rest) (list_all is_formed (field_headings rest)) (has_distinct_names rest) (is_formed h) _ (along.fits t);
   aliases = λ t. second _ _ (along.aliases t);
 }
@@ -246,9 +247,9 @@ fits_first false r d false q x = cc
 -- a field's own faults are the list's
 own_faults : (all : Fields) (h : FieldHeading) (f : Form) (rest : Fields) (e : SchemaError) → TestsAlong all (and_field h f rest) → IsRefusalBy (field_faults h) e → IsRefusalBy (field_list_faults all) e
 own_faults all h f rest e tests r = λ n.
-    elim (Contains-append_cases (unless (is_formed h) fault.BadForm) (unless (has_good_aliases h) fault.BadName) e (r n)) [
+    elim (Contains-append_cases (unless (is_formed h) fault.BadForm) (unless (if_written (list_all is_name) h.aliases) fault.BadName) e (r n)) [
       | inl k ↦ left _ _ e (unless_too (is_formed h) (fits_fields all) fault.BadForm e (λ t. fits_first (are_written rest) (list_all is_formed (field_headings rest)) (has_distinct_names rest) (is_formed h) (not (list_any (bytes_eq (field_name h)) (map field_name (field_headings rest)))) (tests.fits t)) (λ _. k)) n
-      | inr k ↦ right _ _ e (unless_too (has_good_aliases h) _ fault.BadName e (λ t. (and_parts (has_good_aliases h) (list_all has_good_aliases (field_headings rest)) (tests.aliases t)).0) (λ _. k)) n
+      | inr k ↦ right _ _ e (unless_too (if_written (list_all is_name) h.aliases) _ fault.BadName e (λ t. (and_parts (if_written (list_all is_name) h.aliases) (list_all (λ h. if_written (list_all is_name) h.aliases) (field_headings rest)) (tests.aliases t)).0) (λ _. k)) n
     ]
 
 pub fields_refused : (old : Builder) (ns : List ℕ) (all : Fields) (now : Builder) (h : FieldHeading) (f : Form) (rest : Fields) (gs : List Field) (ds : List Definition) (e : SchemaError)

@@ -1,5 +1,6 @@
 -- What the builder's functions return, from what they call.
 use Rattle.std.proofs.Common.{◌≡◌, ℕ, zero, suc, drop, get_or, codes, ◌+◌, ◌≤◌, ◌<◌, List, [], ◌∷◌, ◌++◌, length, set, Bool, true, false, ◌&&◌, map, bytes_eq, None, Result, IfOk, refl, sym, ◌∙◌, ap, subst, arith, length-set, string_bytes, option_map, option_and_then, Some}
+use Rattle.std.specs.List.{list_all}
 use Rattle.std.specs.Result.{IfErr}
 use Rattle.serde_json.specs.Find.{as_str}
 use Rattle.avro_schema.specs.declared.error.SchemaError.{SchemaError}
@@ -12,13 +13,13 @@ use Rattle.avro_schema.specs.declared.node.Node.TheVariants as kind
 use Rattle.avro_schema.specs.declared.node.NodeId.{NodeId}
 use Rattle.avro_schema.specs.declared.node.Field.{Field}
 use Rattle.avro_schema.specs.declared.builder.Builder.{Builder}
-use Rattle.avro_schema.specs.Names.{all_distinct}
+use Rattle.avro_schema.specs.Names.{all_distinct, is_name}
 use Rattle.json_tree.specs.View.{view, items_view}
 use Rattle.json_tree.specs.declared.tree.Json.{Json}
 use Rattle.avro_schema.specs.Form.{form, forms, fields_of_items, field_heading_of, type_in, Form, Forms, Fields, FieldHeading, Heading, no_forms, and_form, and_field, no_fields, ill_fields, array_of, map_of, union_of, record_of, strings}
 use Rattle.avro_schema.specs.Places.{count, Definition, defined}
 use Rattle.avro_schema.specs.Nodes.{field_list}
-use Rattle.avro_schema.specs.Faults.{kind_in_union, fits_union, field_headings, field_name, is_formed, has_good_aliases}
+use Rattle.avro_schema.specs.Faults.{kind_in_union, fits_union, field_headings, field_name, is_formed, if_written}
 use Rattle.avro_schema.specs.Schema.{IsRefusalBy}
 use Rattle.avro_schema.specs.Building.{nodes_of, opened, HasMet, IsTypeRead, AreBranchesRead, AreFieldsRead, branches_faults, fields_faults, ReadsType, RefusesType, ReadsBranches, ReadsFields, ReadsField, RefusesField, has_distinct_names, HasNames, may_stand, form_in}
 use Rattle.avro_schema.proofs.Reading.{left, alone}
@@ -126,7 +127,7 @@ fields_no old now ns all rest more h f gs ds e s along tests refused =
 pub fields_done : (old now : Builder) (ns : List ℕ) (all rest : Fields) (gs : List Field) (ds : List Definition) → rest ≡ no_fields → FieldsAlong old ns all now rest gs ds → TestsAlong all rest → AreFieldsRead ds ns all old now gs
 fields_done old now ns all rest gs ds e along tests = fields_end old ns all now gs ds (subst (λ (fs : Fields). FieldsAlong old ns all now fs gs ds) e along) (subst (TestsAlong all) e tests)
 
-pub tests_next : (all rest more : Fields) (h : FieldHeading) (f : Form) → rest ≡ and_field h f more → TestsAlong all rest → is_formed h && has_good_aliases h ≡ true → TestsAlong all more
+pub tests_next : (all rest more : Fields) (h : FieldHeading) (f : Form) → rest ≡ and_field h f more → TestsAlong all rest → is_formed h && if_written (list_all is_name) h.aliases ≡ true → TestsAlong all more
 tests_next all rest more h f e tests good = tests_step all h f more (subst (TestsAlong all) e tests) good
 
 -- ---- the items that are left

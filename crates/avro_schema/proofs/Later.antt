@@ -1,5 +1,5 @@
 -- Definitions that open later change nothing of what stands before them, so one pass finds the same nodes and the same faults.
-use Rattle.std.proofs.Common.{◌≡◌, ℕ, suc, length-append, ◌+◌, ◌≤◌, List, [], ◌∷◌, ◌++◌, length, ◌&&◌, cond, Option, Some, None, refl, sym, ◌∙◌, ap, arith, filter_map, bytes_eq}
+use Rattle.std.proofs.Common.{◌≡◌, ℕ, suc, length-append, ◌+◌, ◌≤◌, List, [], ◌∷◌, ◌++◌, length, ◌&&◌, cond, Option, Some, None, is_none, option_and_then, refl, sym, ◌∙◌, ap, arith, filter_map, bytes_eq}
 use Rattle.std.specs.Option.{option_or}
 use Rattle.std.specs.List.{cons_option, flat_map}
 use Rattle.std.proofs.lemmas.Bool.{le-ltb}
@@ -10,9 +10,9 @@ use Rattle.avro_schema.specs.declared.node.Node.TheVariants as kind
 use Rattle.avro_schema.specs.declared.error.SchemaError.TheVariants as fault
 use Rattle.avro_schema.specs.Names.{joined, full_text}
 use Rattle.avro_schema.specs.Form.{Heading, Form, plain, by_name, record_of, enum_of, array_of, map_of, union_of, fixed_of, ill_formed, Forms, no_forms, and_form, Fields, no_fields, ill_fields, and_field}
-use Rattle.avro_schema.specs.Places.{count, forms_count, fields_count, own_namespace, Place, place, places, type_name, places_in, places_of_forms, places_of_fields, Definition, definition_at, definitions, defined, defined_by, definition_used}
+use Rattle.avro_schema.specs.Places.{count, forms_count, fields_count, own_namespace, Place, place, places, type_name, places_in, places_of_forms, places_of_fields, Definition, heading_in, definitions, defined, defined_by, definition_used}
 use Rattle.avro_schema.specs.Nodes.{type_aliases, field_at, node_id, branches, field_list, node_of, node_at}
-use Rattle.avro_schema.specs.Faults.{unless, fits_union, kind_in_union, kinds, is_new, heading_faults, field_list_faults, symbols_faults, size_faults, faults_of, faults_at}
+use Rattle.avro_schema.specs.Faults.{unless, fits_union, kind_in_union, kinds, if_written, heading_faults, field_list_faults, symbols_faults, size_faults, faults_of, faults_at}
 
 -- each of the definitions opens at node n or after it
 abbrev pub From : ℕ → List Definition → Type 0
@@ -38,9 +38,9 @@ or_none (Some x) = refl
 pub defined-later : (ds es : List Definition) (n : ℕ) (s : List ℕ) → From n es → defined (ds ++ es) n s ≡ defined ds n s
 defined-later ds es n s p = find-append _ ds es ∙ ap (option_or (defined ds n s)) (defined-from n s es p) ∙ or_none (defined ds n s)
 
-is_new-written : (ds es : List Definition) (ns : List ℕ) (n : ℕ) (h : Heading) (o : Option (List ℕ)) → From n es → is_new (ds ++ es) ns n (record h { name = o }) ≡ is_new ds ns n (record h { name = o })
-is_new-written ds es ns n h None p = refl
-is_new-written ds es ns n h (Some s) p = simp (defined-later ds es n (full_text (own_namespace ns h) s) p)
+new-written : (ds es : List Definition) (ns : List ℕ) (n : ℕ) (h : Heading) (o : Option (List ℕ)) → From n es → if_written (λ s. is_none (defined (ds ++ es) n (full_text (own_namespace ns h) s))) o ≡ if_written (λ s. is_none (defined ds n (full_text (own_namespace ns h) s))) o
+new-written ds es ns n h None p = refl
+new-written ds es ns n h (Some s) p = simp (defined-later ds es n (full_text (own_namespace ns h) s) p)
 
 module _ (ds es : List Definition) where
   pub named-later : (n : ℕ) (ns s : List ℕ) → From n es → definition_used (ds ++ es) n ns s ≡ definition_used ds n ns s
@@ -96,7 +96,7 @@ module _ (ds es : List Definition) where
   node_of-later ns n ill_formed p = refl
 
   heading_faults-later : (ns : List ℕ) (n : ℕ) (h : Heading) → From n es → heading_faults (ds ++ es) ns n h ≡ heading_faults ds ns n h
-  heading_faults-later ns n h p = simp (is_new-written ds es ns n h h.name p)
+  heading_faults-later ns n h p = simp (new-written ds es ns n h h.name p)
 
   pub faults_of-later : (ns : List ℕ) (n : ℕ) (f : Form) → From (n + count f) es → faults_of (ds ++ es) ns n f ≡ faults_of ds ns n f
   faults_of-later ns n (plain k) p = refl
@@ -189,7 +189,7 @@ definition-from ns n m (fixed_of h d) ps p q = defined_by-from ns n m h h.name (
 definition-from ns n m _ ps p q = q
 
 parts-from : (ns : List ℕ) (n m : ℕ) (f : Form) (ps : List Place) → m ≤ n → From m (definitions (places_in ns n f)) → From m (definitions ps) → From m (definitions (place ns n f ∷ places_in ns n f ++ ps))
-parts-from ns n m f ps p q r = definition-from ns n m f (places_in ns n f ++ ps) p (rw (filter_map-append definition_at (places_in ns n f) ps) (From-append m _ _ q r))
+parts-from ns n m f ps p q r = definition-from ns n m f (places_in ns n f ++ ps) p (rw (filter_map-append (λ (p : Place). option_and_then (defined_by p.namespace p.before) (heading_in p.type)) (places_in ns n f) ps) (From-append m _ _ q r))
 
 mutual
   pub definitions_in-from : (ns : List ℕ) (n m : ℕ) (f : Form) → m ≤ n + 1 → From m (definitions (places_in ns n f))

@@ -1,6 +1,7 @@
 -- Where the nodes of a schema lead to.
-use Rattle.std.proofs.Common.{◌≡◌, inl, inr, ◌⊎◌, ℕ, zero, suc, ◌+◌, ◌<◌, ◌≤◌, List, [], ◌∷◌, ◌++◌, length, map, true, false, ◌&&◌, All, filter_map, slice_get, Option, Some, None, is_some, bytes_eq, refl, sym, ◌∙◌, ap, subst, arith}
+use Rattle.std.proofs.Common.{◌≡◌, ◌≢◌, inl, inr, ◌⊎◌, ℕ, zero, suc, ◌+◌, ◌<◌, ◌≤◌, List, [], ◌∷◌, ◌++◌, length, map, true, false, ◌&&◌, All, filter_map, slice_get, Option, Some, None, is_some, bytes_eq, refl, sym, ◌∙◌, ap, subst, arith}
 use Rattle.std.specs.List.{flat_map, list_all, list_any}
+use Rattle.std.specs.Option.{option_map_or}
 use Rattle.std.proofs.lemmas.List.Elements.{filter_map-append, All-nil, All-cons}
 use Rattle.std.proofs.lemmas.List.Concat.{flat_map-append}
 use Rattle.avro_schema.specs.declared.error.SchemaError.TheVariants as fault
@@ -10,9 +11,9 @@ use Rattle.avro_schema.specs.declared.node.NodeId.{NodeId}
 use Rattle.avro_schema.specs.Names.{all_distinct}
 use Rattle.avro_schema.specs.Form.{Heading, Form, plain, by_name, record_of, enum_of, array_of, map_of, union_of, fixed_of, ill_formed, Forms, no_forms, and_form, Fields, no_fields, ill_fields, and_field}
 use Rattle.avro_schema.specs.Places.{count, forms_count, fields_count, Place, places, places_of_forms, places_of_fields, type_name, Definition, definition_used}
-use Rattle.avro_schema.specs.Nodes.{node_id, definition_id, branches, field_list, node_of, node_at}
+use Rattle.avro_schema.specs.Nodes.{node_id, branches, field_list, node_of, node_at}
 use Rattle.avro_schema.specs.Faults.{unless, faults_of, faults_at, is_union_kind, same_kind, fits_union, kind_in_union, kinds, fits_fields, field_list_faults, heading_faults, are_written, is_formed, field_headings}
-use Rattle.avro_schema.specs.Sound.{inner, fields_of_node, parts_of_node, IsNoUnion, HaveDistinctNames}
+use Rattle.avro_schema.specs.Sound.{inner, fields_of_node, parts_of_node, HaveDistinctNames}
 use Rattle.avro_schema.proofs.Later.{count-type}
 use Rattle.avro_schema.proofs.Numbered.{HasName, Stands, stands_front, stands_rest}
 use Rattle.avro_schema.proofs.Reading.{nil-left, nil-right, nil-unless}
@@ -27,6 +28,9 @@ IsPart all n i = (i.index < length all) × ((n ≤ i.index) ⊎ (inner (slice_ge
 
 abbrev pub AreBelow : List Node → List NodeId → Type 0
 AreBelow all is = All (λ (i : NodeId). i.index < length all) is
+
+abbrev pub IsNoUnion : Option Node → Type 0
+IsNoUnion o = (bs : List NodeId) → o ≢ Some (kind.Union bs)
 
 abbrev pub AreNoUnions : List Node → List NodeId → Type 0
 AreNoUnions all is = All (λ (i : NodeId). IsNoUnion (slice_get all i.index)) is
@@ -97,11 +101,11 @@ IsDefinedAt all k = (k < length all) × HasName (slice_get all k)
 
 module _ (ds : List Definition) (all : List Node) (known : (ns s : List ℕ) (n : ℕ) (d : Definition) → definition_used ds n ns s ≡ Some d → IsDefinedAt all d.node) where
   -- what a use names, where it names a definition
-  used : (ns s : List ℕ) (n : ℕ) (o : Option Definition) → definition_used ds n ns s ≡ o → unless (is_some o) (fault.Unknown s) ≡ [] → IsPart all n (definition_id o)
+  used : (ns s : List ℕ) (n : ℕ) (o : Option Definition) → definition_used ds n ns s ≡ o → unless (is_some o) (fault.Unknown s) ≡ [] → IsPart all n (record { index = option_map_or (λ d. d.node) o 0 })
   used ns s n None is e = cc
   used ns s n (Some d) is e = let at = known ns s n d is in (at.0, inr (named_leaf (slice_get all d.node) at.1))
 
-  used_no_union : (ns s : List ℕ) (n : ℕ) (o : Option Definition) → definition_used ds n ns s ≡ o → unless (is_some o) (fault.Unknown s) ≡ [] → IsNoUnion (slice_get all (definition_id o).index)
+  used_no_union : (ns s : List ℕ) (n : ℕ) (o : Option Definition) → definition_used ds n ns s ≡ o → unless (is_some o) (fault.Unknown s) ≡ [] → IsNoUnion (slice_get all (option_map_or (λ d. d.node) o 0))
   used_no_union ns s n None is e = cc
   used_no_union ns s n (Some d) is e = named_no_union (slice_get all d.node) (known ns s n d is).1
 

@@ -7,7 +7,6 @@ pub mod Refused
 pub mod Along
 pub mod ObjectForms
 pub mod TextLemmas
-pub mod NameLemmas
 pub mod Lookups
 mod ListedOnce
 pub mod KindLemmas

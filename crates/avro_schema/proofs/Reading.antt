@@ -1,5 +1,5 @@
 -- What the builder holds after one type and then another, and which faults stand.
-use Rattle.std.proofs.Common.{◌≡◌, inl, inr, ℕ, ◌+◌, ◌≤◌, List, [], ◌∷◌, ◌++◌, length, set, Bool, true, false, nat_le, Some, None, Contains, refl, sym, ◌∙◌, ap, subst, arith, filter_map, append_assoc, length-append, length-set}
+use Rattle.std.proofs.Common.{◌≡◌, inl, inr, ℕ, ◌+◌, ◌≤◌, List, [], ◌∷◌, ◌++◌, length, set, Bool, true, false, nat_le, Some, None, option_and_then, Contains, refl, sym, ◌∙◌, ap, subst, arith, filter_map, append_assoc, length-append, length-set}
 use Rattle.std.specs.List.{cons_option, flat_map}
 use Rattle.std.proofs.lemmas.List.{append-nil}
 use Rattle.std.proofs.lemmas.List.Elements.{filter_map-append, Contains-append_left, Contains-append_right, Contains-append_cases}
@@ -10,7 +10,7 @@ use Rattle.avro_schema.specs.declared.error.SchemaError.TheVariants as fault
 use Rattle.avro_schema.specs.declared.node.Node.{Node}
 use Rattle.avro_schema.specs.declared.builder.Builder.{Builder}
 use Rattle.avro_schema.specs.Form.{Form}
-use Rattle.avro_schema.specs.Places.{count, Place, places, Definition, definition_at, definitions}
+use Rattle.avro_schema.specs.Places.{count, Place, places, Definition, heading_in, defined_by, definitions}
 use Rattle.avro_schema.specs.Nodes.{node_at}
 use Rattle.avro_schema.specs.Faults.{unless, faults_at}
 use Rattle.avro_schema.specs.Schema.{IsRefusalBy}
@@ -76,7 +76,7 @@ nil-right (x ∷ xs) ys h = cc
 -- ---- one after another
 
 pub definitions-append : (ds : List Definition) (ps qs : List Place) → (ds ++ definitions ps) ++ definitions qs ≡ ds ++ definitions (ps ++ qs)
-definitions-append ds ps qs = append_assoc ds (definitions ps) (definitions qs) ∙ ap (λ l. ds ++ l) (sym (filter_map-append definition_at ps qs))
+definitions-append ds ps qs = append_assoc ds (definitions ps) (definitions qs) ∙ ap (λ l. ds ++ l) (sym (filter_map-append (λ (p : Place). option_and_then (defined_by p.namespace p.before) (heading_in p.type)) ps qs))
 
 -- from a to b the types at these places were read, where the definitions are es in all
 pub record ReadsTo (es : List Definition) (ps : List Place) (a b : Builder) : Type 0 where

@@ -1,22 +1,24 @@
 -- Which faults stand where a kind of type is refused.
-use Rattle.std.proofs.Common.{◌≡◌, inl, inr, ℕ, ◌+◌, ◌≤◌, List, [], ◌∷◌, ◌++◌, Bool, true, false, ◌&&◌, Option, Some, None, is_some, is_none, Contains, refl, sym, ◌∙◌, ap, subst, arith, string_bytes, unwrap_or}
+use Rattle.std.proofs.Common.{◌≡◌, inl, inr, ℕ, ◌+◌, ◌≤◌, List, [], ◌∷◌, ◌++◌, Bool, true, false, ◌&&◌, Option, Some, None, is_some, is_none, Contains, refl, sym, ◌∙◌, ap, subst, arith, string_bytes, unwrap_or, bytes_eq}
 use Rattle.std.specs.List.{cons_option, flat_map, list_all}
 use Rattle.std.proofs.lemmas.List.{append-nil}
 use Rattle.std.proofs.lemmas.List.Elements.{Contains-append_left, Contains-append_right, Contains-append_cases}
+use Rattle.std.specs.Option.{option_map_or}
 use Rattle.serde_json.specs.Data.{Num, Data}
+use Rattle.serde_json.specs.Find.{as_str}
 use Rattle.avro_schema.specs.declared.error.SchemaError.{SchemaError}
 use Rattle.avro_schema.specs.declared.error.SchemaError.TheVariants as fault
 use Rattle.avro_schema.specs.declared.heading.TypeNames.{TypeNames}
 use Rattle.avro_schema.specs.declared.node.FullName.{FullName}
 use Rattle.avro_schema.specs.Form.{Heading, Form, Forms, Fields, by_name, record_of, enum_of, fixed_of, array_of, map_of, union_of, ill_formed, ill_fields, FieldHeading}
-use Rattle.avro_schema.specs.Names.{is_name, is_type_name, is_full_name}
-use Rattle.avro_schema.specs.Places.{count, forms_count, fields_count, type_name, places_of_fields, Definition, definitions, defined, definition_used}
-use Rattle.avro_schema.specs.Faults.{unless, are_written, is_formed, has_good_aliases, field_headings, fits_fields, faults_at, is_new, heading_faults, written_faults, symbols_faults, size_faults, field_list_faults, fits_symbols, fits_enum, is_symbol, if_written, field_name}
+use Rattle.avro_schema.specs.Names.{is_name, is_type_name, is_full_name, full_text, all_distinct, has_text}
+use Rattle.avro_schema.specs.Places.{count, forms_count, fields_count, own_namespace, type_name, places_of_fields, Definition, definitions, defined, definition_used}
+use Rattle.avro_schema.specs.Faults.{unless, are_written, is_formed, field_headings, fits_fields, faults_at, heading_faults, written_faults, symbols_faults, size_faults, field_list_faults, fits_enum, if_written, field_name}
 use Rattle.avro_schema.specs.Schema.{IsRefusalBy}
 use Rattle.avro_schema.specs.Building.{too_many, type_faults, branches_faults, fields_faults, has_distinct_names, HasNames, field_faults}
 use Rattle.avro_schema.proofs.Later.{From, defined-later, definitions_of_fields-from}
 use Rattle.avro_schema.proofs.Reading.{weaken, left, alone, in_parts, in_own, in_count, right, unless_too}
-use Rattle.avro_schema.proofs.Types.{definition_of, defined_by-names, is_new-names, defined_first}
+use Rattle.avro_schema.proofs.Types.{definition_of, defined_by-names, new-names, defined_first}
 
 pub refused_open : (ds : List Definition) (ns : List ℕ) (f : Form) (n : ℕ) (e : SchemaError) → 1 ≤ count f → IsRefusalBy (too_many (n + 1)) e → IsRefusalBy (type_faults ds ns f n) e
 refused_open ds ns f n e one = weaken _ _ e (in_count (n + 1) (n + count f) _ e (omega arith))
@@ -77,7 +79,7 @@ refused_size ds ns h s n e = weaken _ _ e (λ c. in_own (n + 1) (heading_faults 
 in_opening : (ds later : List Definition) (ns : List ℕ) (h : Heading) (r : TypeNames) (n m : ℕ) (more fs : List SchemaError) (e : SchemaError) → HasNames ns h r → From n later → n + 1 ≤ m
     → Contains (unless (is_none (defined ds n (string_bytes r.text))) fault.Redefined ++ too_many (n + 1)) e → Contains (too_many m ++ ((heading_faults (ds ++ later) ns n h ++ more) ++ fs)) e
 in_opening ds later ns h r n m more fs e has from le c =
-    let same : is_new (ds ++ later) ns n h ≡ is_none (defined ds n (string_bytes r.text)) = is_new-names (ds ++ later) ns h r n has ∙ ap is_none (defined-later ds later n (string_bytes r.text) from) in
+    let same : if_written (λ s. is_none (defined (ds ++ later) n (full_text (own_namespace ns h) s))) h.name ≡ is_none (defined ds n (string_bytes r.text)) = new-names (ds ++ later) ns h r n has ∙ ap is_none (defined-later ds later n (string_bytes r.text) from) in
     elim (Contains-append_cases (unless (is_none (defined ds n (string_bytes r.text))) fault.Redefined) (too_many (n + 1)) e c) [
       | inl k ↦ in_own m (heading_faults (ds ++ later) ns n h ++ more) fs e (Contains-append_left (heading_faults (ds ++ later) ns n h) more e
           (Contains-append_right (written_faults h) _ e (subst (λ b. Contains (unless b fault.Redefined) e) (sym same) k)))
@@ -115,7 +117,7 @@ pub refused_same_names : (fs : Fields) (distinct : Bool) (e : SchemaError) → h
 refused_same_names fs true e tests refused = λ h. let one = refused h in absurd (omega (arith, one.1))
 refused_same_names fs false e tests refused =
     let unfit : fits_fields fs ≡ false = and_false (are_written fs && list_all is_formed (field_headings fs)) (has_distinct_names fs) tests in
-    left (unless (fits_fields fs) fault.BadForm) (unless (list_all has_good_aliases (field_headings fs)) fault.BadName) e (subst (λ (b : Bool). IsRefusalBy (unless b fault.BadForm) e) (sym unfit) refused)
+    left (unless (fits_fields fs) fault.BadForm) (unless (list_all (λ h. if_written (list_all is_name) h.aliases) (field_headings fs)) fault.BadName) e (subst (λ (b : Bool). IsRefusalBy (unless b fault.BadForm) e) (sym unfit) refused)
 
 pub refused_fields : (ds : List Definition) (ns : List ℕ) (h : Heading) (r : TypeNames) (fs : Fields) (n m : ℕ) (e : SchemaError) → HasNames ns h r → m ≡ n + 1 → IsRefusalBy (fields_faults (ds ++ definition_of r n ∷ []) r.name.namespace fs m) e → IsRefusalBy (type_faults ds ns (record_of h fs) n) e
 refused_fields ds ns h r fs n m e has is refused =
@@ -156,11 +158,11 @@ refused_names h s more name aliases bad =
 pub refused_no_symbols : (ss : Option (List (List ℕ))) (d : Option Data) → ss ≡ None → IsRefusalBy (symbols_faults ss d) fault.BadForm
 refused_no_symbols ss d e = left _ _ _ (alone (is_some ss) fault.BadForm (ap is_some e))
 
-pub refused_symbol_list : (ss : List (List ℕ)) (d : Option Data) (e : SchemaError) → IsRefusalBy (unless (fits_symbols ss) fault.BadEnum) e → IsRefusalBy (symbols_faults (Some ss) d) e
-refused_symbol_list ss d e = unless_too (fits_symbols ss) (fits_enum d ss) fault.BadEnum e (and_left (fits_symbols ss) _)
+pub refused_symbol_list : (ss : List (List ℕ)) (d : Option Data) (e : SchemaError) → IsRefusalBy (unless (list_all is_name ss && all_distinct bytes_eq ss) fault.BadEnum) e → IsRefusalBy (symbols_faults (Some ss) d) e
+refused_symbol_list ss d e = unless_too (list_all is_name ss && all_distinct bytes_eq ss) (fits_enum d ss) fault.BadEnum e (and_left (list_all is_name ss && all_distinct bytes_eq ss) _)
 
-pub refused_default : (ss : List (List ℕ)) (d : Option Data) (e : SchemaError) → IsRefusalBy (unless (if_written (is_symbol ss) d) fault.BadEnum) e → IsRefusalBy (symbols_faults (Some ss) d) e
-refused_default ss d e = unless_too (if_written (is_symbol ss) d) (fits_enum d ss) fault.BadEnum e (and_right (fits_symbols ss) _)
+pub refused_default : (ss : List (List ℕ)) (d : Option Data) (e : SchemaError) → IsRefusalBy (unless (if_written (λ e. option_map_or (has_text ss) (as_str e) false) d) fault.BadEnum) e → IsRefusalBy (symbols_faults (Some ss) d) e
+refused_default ss d e = unless_too (if_written (λ e. option_map_or (has_text ss) (as_str e) false) d) (fits_enum d ss) fault.BadEnum e (and_right (list_all is_name ss && all_distinct bytes_eq ss) _)
 
 pub refused_no_field_name : (h : FieldHeading) → None ≡ h.name → IsRefusalBy (field_faults h) fault.BadForm
 refused_no_field_name h e = left _ _ _ (alone (is_formed h) fault.BadForm (ap (λ o. is_name (unwrap_or o []) && is_some h.aliases) (sym e)))
@@ -174,4 +176,4 @@ pub refused_no_field_aliases : (h : FieldHeading) → h.aliases ≡ None → IsR
 refused_no_field_aliases h e = left _ _ _ (alone (is_formed h) fault.BadForm (and_false (is_name (field_name h)) (is_some h.aliases) (ap is_some e)))
 
 pub refused_field_aliases : (h : FieldHeading) (more : List (List ℕ)) → h.aliases ≡ Some more → list_all is_name more ≡ false → IsRefusalBy (field_faults h) fault.BadName
-refused_field_aliases h more aliases bad = right (unless (is_formed h) fault.BadForm) _ _ (alone (has_good_aliases h) fault.BadName (ap (if_written (list_all is_name)) aliases ∙ bad))
+refused_field_aliases h more aliases bad = right (unless (is_formed h) fault.BadForm) _ _ (alone (if_written (list_all is_name) h.aliases) fault.BadName (ap (if_written (list_all is_name)) aliases ∙ bad))

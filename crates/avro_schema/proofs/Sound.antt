@@ -1,6 +1,6 @@
 -- What holds of the nodes of every schema that was read.
-use Rattle.std.proofs.Common.{◌≡◌, ℕ, ◌<◌, ◌≤◌, ◌⊎◌, List, [], ◌∷◌, ◌++◌, length, Bool, true, false, cond, not, nat_le, Option, Some, None, is_some, option_and_then, slice_get, refl, ap, subst, arith, zero-add}
-use Rattle.std.specs.Option.{option_or}
+use Rattle.std.proofs.Common.{◌≡◌, ℕ, ◌<◌, ◌≤◌, ◌⊎◌, List, [], ◌∷◌, ◌++◌, length, Bool, true, false, cond, not, nat_le, Option, Some, None, is_some, option_map, slice_get, refl, ap, subst, arith, zero-add}
+use Rattle.std.specs.Option.{option_or, option_map_or}
 use Rattle.serde_json.specs.Data.{Data}
 use Rattle.serde_json.specs.Read.{read}
 use Rattle.serde_json.specs.Written.{has_float, compact_text}
@@ -14,7 +14,7 @@ use Rattle.avro_schema.specs.Form.{Form, form, by_name, ill_formed}
 use Rattle.avro_schema.specs.Places.{count, places, Definition, definitions, definition_used}
 use Rattle.avro_schema.specs.Nodes.{nodes}
 use Rattle.avro_schema.specs.Faults.{unless, form_faults}
-use Rattle.avro_schema.specs.Schema.{Meaning, data_faults, json_faults, if_none_stands, schema_of}
+use Rattle.avro_schema.specs.Schema.{Meaning, data_faults, schema_of}
 use Rattle.avro_schema.specs.Sound.{inner, IsSound}
 use Rattle.avro_schema.proofs.Later.{count-type}
 use Rattle.avro_schema.proofs.Numbered.{Numbered-type, IsNamedAt, named_at, Stands, numbered_stand}
@@ -83,18 +83,19 @@ sound_form f e = record {
 }
 
 -- where something is given, no fault stands
-pub none_stood : {A : Type 0} (es : List SchemaError) (x y : A) → if_none_stands es x ≡ Some y → (es ≡ []) × (x ≡ y)
-none_stood [] x y e = (refl, cc)
-none_stood (z ∷ es) x y e = cc
+pub none_stood : {A : Type 0} (es : List SchemaError) (o : Option A) (y : A) → elim es [ [] ↦ o | x ∷ xs ↦ None ] ≡ Some y → (es ≡ []) × (o ≡ Some y)
+none_stood [] o y e = (refl, e)
+none_stood (z ∷ es) o y e = cc
 
 -- the nodes of what a JSON value means
-sound_data : (es : List SchemaError) (o : Option Data) (m : Meaning) → option_and_then (λ d. if_none_stands (es ++ json_faults o) (record { nodes = nodes (form d); normal_text = compact_text d })) o ≡ Some m → IsSound m.nodes
-sound_data es None m e = cc
+sound_data : (es : List SchemaError) (o : Option Data) (m : Meaning) → elim (es ++ option_map_or data_faults o (fault.NotJson ∷ [])) [ [] ↦ option_map (λ d. record { nodes = nodes (form d); normal_text = compact_text d }) o | x ∷ xs ↦ None ] ≡ Some m → IsSound m.nodes
+sound_data es None m e = let stood = none_stood (es ++ fault.NotJson ∷ []) None m e in cc
 sound_data es (Some d) m e =
     let means : Meaning = record { nodes = nodes (form d); normal_text = compact_text d } in
-    let stood : (es ++ data_faults d ≡ []) × (means ≡ m) = none_stood (es ++ data_faults d) means m e in
+    let stood : (es ++ data_faults d ≡ []) × (Some means ≡ Some m) = none_stood (es ++ data_faults d) (Some means) m e in
+    let same : means ≡ m = let is = stood.1 in cc in
     let none : form_faults (form d) ≡ [] = nil-right (unless (not (has_float d)) fault.FloatNumber ++ unless (nat_le (count (form d)) MOST_NODES) fault.TooManyNodes) _ (nil-right es (data_faults d) stood.0) in
-    subst (λ (k : Meaning). IsSound k.nodes) stood.1 (sound_form (form d) none)
+    subst (λ (k : Meaning). IsSound k.nodes) same (sound_form (form d) none)
 
 -- the nodes of each schema that is read from a text
 pub sound_text : (text : List ℕ) (m : Meaning) → schema_of text ≡ Some m → IsSound m.nodes

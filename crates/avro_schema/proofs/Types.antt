@@ -5,7 +5,7 @@ use Rattle.std.specs.BTreeMap.{get_by_text}
 use Rattle.std.proofs.lemmas.Bool.{lt-ltb}
 use Rattle.std.proofs.lemmas.List.{append-nil}
 use Rattle.serde_json.specs.Data.{Num, Data}
-use Rattle.serde_json.specs.Find.{as_str}
+use Rattle.serde_json.specs.Find.{as_str, as_u64}
 use Rattle.avro_schema.specs.declared.error.SchemaError.TheVariants as fault
 use Rattle.avro_schema.specs.declared.heading.TypeNames.{TypeNames}
 use Rattle.avro_schema.specs.declared.node.Node.{Node}
@@ -14,11 +14,11 @@ use Rattle.avro_schema.specs.declared.node.NodeId.{NodeId}
 use Rattle.avro_schema.specs.declared.node.Field.{Field}
 use Rattle.avro_schema.specs.declared.builder.Builder.{Builder}
 use Rattle.avro_schema.specs.declared.symbols.Symbols.{Symbols}
-use Rattle.avro_schema.specs.Names.{full_text}
+use Rattle.avro_schema.specs.Names.{full_text, is_name}
 use Rattle.avro_schema.specs.Form.{Heading, Form, Forms, Fields, record_of, enum_of, fixed_of, array_of, map_of, union_of}
-use Rattle.avro_schema.specs.Places.{own_namespace, type_name, Place, place, places, places_of_forms, places_of_fields, Definition, definition_at, definitions, defined, defined_by}
-use Rattle.avro_schema.specs.Nodes.{node_at, node_id, branches, field_list, type_aliases, size_of}
-use Rattle.avro_schema.specs.Faults.{if_written, fits_union, kinds, faults_at, is_new, heading_faults, field_list_faults, fits_enum, are_written, is_formed, has_good_aliases, field_headings}
+use Rattle.avro_schema.specs.Places.{own_namespace, type_name, Place, place, places, places_of_forms, places_of_fields, Definition, heading_in, definitions, defined, defined_by}
+use Rattle.avro_schema.specs.Nodes.{node_at, node_id, branches, field_list, type_aliases}
+use Rattle.avro_schema.specs.Faults.{if_written, fits_union, kinds, faults_at, heading_faults, field_list_faults, fits_enum, are_written, is_formed, field_headings}
 use Rattle.avro_schema.specs.Building.{Before, nodes_of, opened, HasMet, Reads, IsTypeRead, AreBranchesRead, AreFieldsRead, are_formed, has_distinct_names, HasNames, HasSymbols, HasSize}
 use Rattle.avro_schema.proofs.Later.{From, defined-later, definitions_of_fields-from}
 use Rattle.avro_schema.proofs.Reading.{unless-nil, nil-append, to, from_to, closes, opens_one}
@@ -49,7 +49,7 @@ abbrev pub at_node : ℕ → NodeId
 at_node n = record { index = n }
 
 -- the parts of a type, and then the node that is written
-close_with : (ds : List Definition) (ns : List ℕ) (f : Form) (ps : List Place) (x y : Node) (a a1 b c : Builder) → definition_at (place ns (opened a) f) ≡ None
+close_with : (ds : List Definition) (ns : List ℕ) (f : Form) (ps : List Place) (x y : Node) (a a1 b c : Builder) → option_and_then (defined_by ns (opened a)) (heading_in f) ≡ None
     → nodes_of a1 ≡ nodes_of a ++ y ∷ [] → Reads ds ps a1 b → nodes_of c ≡ set (nodes_of b) (opened a) x → c.names ≡ b.names
     → node_at (ds ++ definitions ps) (place ns (opened a) f) ≡ Some x → faults_at (ds ++ definitions ps) (place ns (opened a) f) ≡ [] → Reads ds (place ns (opened a) f ∷ ps) a c
 close_with ds ns f ps x y a a1 b c none opens r writes keeps is good =
@@ -99,19 +99,19 @@ definition_of r n = record { name = string_bytes r.text; node = n }
 pub defined_by-names : (ns : List ℕ) (h : Heading) (r : TypeNames) (n : ℕ) → HasNames ns h r → defined_by ns n h ≡ Some (definition_of r n)
 defined_by-names ns h r n has = named_as (full_text (own_namespace ns h)) (λ s. record { name = s; node = n }) h.name (string_bytes r.text) has.text
 
-pub is_new-names : (ds : List Definition) (ns : List ℕ) (h : Heading) (r : TypeNames) (n : ℕ) → HasNames ns h r → is_new ds ns n h ≡ is_none (defined ds n (string_bytes r.text))
-is_new-names ds ns h r n has = tested_as (full_text (own_namespace ns h)) (λ s. is_none (defined ds n s)) h.name (string_bytes r.text) has.text
+pub new-names : (ds : List Definition) (ns : List ℕ) (h : Heading) (r : TypeNames) (n : ℕ) → HasNames ns h r → if_written (λ s. is_none (defined ds n (full_text (own_namespace ns h) s))) h.name ≡ is_none (defined ds n (string_bytes r.text))
+new-names ds ns h r n has = tested_as (full_text (own_namespace ns h)) (λ s. is_none (defined ds n s)) h.name (string_bytes r.text) has.text
 
 -- a heading whose name is new, whatever opens from here on
 good_heading : (ds es : List Definition) (ns : List ℕ) (h : Heading) (r : TypeNames) (n : ℕ) → HasNames ns h r → defined ds n (string_bytes r.text) ≡ None → From n es → heading_faults (ds ++ es) ns n h ≡ []
 good_heading ds es ns h r n has new later =
-    nil-append _ _ has.none_stands (unless-nil _ fault.Redefined (is_new-names (ds ++ es) ns h r n has ∙ ap is_none (defined-later ds es n (string_bytes r.text) later ∙ new)))
+    nil-append _ _ has.none_stands (unless-nil _ fault.Redefined (new-names (ds ++ es) ns h r n has ∙ ap is_none (defined-later ds es n (string_bytes r.text) later ∙ new)))
 
 -- its definition goes before those of its parts
 pub defined_first : (ds : List Definition) (d : Definition) (es : List Definition) (o : Option Definition) → o ≡ Some d → (ds ++ d ∷ []) ++ es ≡ ds ++ cons_option o es
 defined_first ds d es o e = append_assoc ds (d ∷ []) es ∙ ap (λ p. ds ++ cons_option p es) (sym e)
 
-pub read_leaf : (ds : List Definition) (ns : List ℕ) (h : Heading) (r : TypeNames) (f : Form) (x : Node) (a b : Builder) → HasNames ns h r → definition_at (place ns (opened a) f) ≡ defined_by ns (opened a) h
+pub read_leaf : (ds : List Definition) (ns : List ℕ) (h : Heading) (r : TypeNames) (f : Form) (x : Node) (a b : Builder) → HasNames ns h r → option_and_then (defined_by ns (opened a)) (heading_in f) ≡ defined_by ns (opened a) h
     → nodes_of b ≡ nodes_of a ++ x ∷ [] → HasMet b (ds ++ definition_of r (opened a) ∷ []) → node_at (ds ++ definition_of r (opened a) ∷ []) (place ns (opened a) f) ≡ Some x
     → faults_at (ds ++ definition_of r (opened a) ∷ []) (place ns (opened a) f) ≡ [] → Reads ds (place ns (opened a) f ∷ []) a b
 read_leaf ds ns h r f x a b has defines opens met is good =
@@ -140,8 +140,8 @@ read_fixed ds ns h r s size a b has sized opens met new =
     let good : faults_at (ds ++ definition_of r (opened a) ∷ []) (place ns (opened a) (fixed_of h s)) ≡ [] =
     nil-append _ _ (good_heading ds (definition_of r (opened a) ∷ []) ns h r (opened a) has new (omega arith, tt)) sized.none_stands in
     let is : node_at (ds ++ definition_of r (opened a) ∷ []) (place ns (opened a) (fixed_of h s)) ≡ Some (kind.Fixed r.name r.aliases.items size) =
-    ap (λ m. Some (kind.Fixed m (type_aliases m h) (size_of s))) (sym has.name)
-    ∙ ap (λ al. Some (kind.Fixed r.name al (size_of s))) (sym has.aliases)
+    ap (λ m. Some (kind.Fixed m (type_aliases m h) (unwrap_or (option_and_then as_u64 s) 0))) (sym has.name)
+    ∙ ap (λ al. Some (kind.Fixed r.name al (unwrap_or (option_and_then as_u64 s) 0))) (sym has.aliases)
     ∙ ap (λ n. Some (kind.Fixed r.name r.aliases.items n)) sized.size in
     (read_leaf ds ns h r (fixed_of h s) _ a b has refl opens met is good, refl)
 
@@ -152,7 +152,7 @@ AreFieldsReadAt n ds ns fs a b gs =
 
 good_fields : (fs : Fields) → are_formed fs ≡ true → has_distinct_names fs ≡ true → field_list_faults fs ≡ []
 good_fields fs p q =
-    let both = and_parts (are_written fs && list_all is_formed (field_headings fs)) (list_all has_good_aliases (field_headings fs)) p in
+    let both = and_parts (are_written fs && list_all is_formed (field_headings fs)) (list_all (λ h. if_written (list_all is_name) h.aliases) (field_headings fs)) p in
     nil-append _ _ (unless-nil _ fault.BadForm (and_true _ _ both.0 q)) (unless-nil _ fault.BadName both.1)
 
 pub read_record : (ds : List Definition) (ns : List ℕ) (h : Heading) (r : TypeNames) (fs : Fields) (y : Node) (gs : List Field) (a a1 b c : Builder) → HasNames ns h r

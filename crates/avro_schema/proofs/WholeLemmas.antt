@@ -1,6 +1,7 @@
 -- A whole text.
-use Rattle.std.proofs.Common.{◌≡◌, inl, inr, ℕ, ◌+◌, ◌≤◌, List, [], ◌∷◌, ◌++◌, length, true, false, not, nat_le, Some, None, option_and_then, Contains, refl, sym, ◌∙◌, ap, subst, arith, zero-add}
+use Rattle.std.proofs.Common.{◌≡◌, inl, inr, ℕ, ◌+◌, ◌≤◌, List, [], ◌∷◌, ◌++◌, length, true, false, not, nat_le, Option, Some, None, option_map, Contains, refl, sym, ◌∙◌, ap, subst, arith, zero-add}
 use Rattle.std.proofs.lemmas.List.Elements.{Contains-append_left, Contains-append_right, Contains-append_cases}
+use Rattle.std.specs.Option.{option_map_or}
 use Rattle.serde_json.specs.Data.{Data}
 use Rattle.serde_json.specs.Read.{read}
 use Rattle.serde_json.specs.Written.{has_float, compact_text}
@@ -12,16 +13,16 @@ use Rattle.avro_schema.specs.Form.{Form, form}
 use Rattle.avro_schema.specs.Places.{count, places}
 use Rattle.avro_schema.specs.Nodes.{nodes}
 use Rattle.avro_schema.specs.Faults.{unless, form_faults}
-use Rattle.avro_schema.specs.Schema.{IsRefusalBy, data_faults, json_faults, faults, if_none_stands, schema_of}
+use Rattle.avro_schema.specs.Schema.{IsRefusalBy, data_faults, faults, schema_of}
 use Rattle.avro_schema.specs.Building.{nodes_of, opened, HasMet, Reads, ReadsType, RefusesType, type_faults}
 use Rattle.avro_schema.proofs.Reading.{left, right, alone, unless-nil, nil-append, opened-type}
 use Rattle.avro_schema.specs.declared.limits.TheConstants.{LONGEST_TEXT, MOST_NODES}
 
 pub not_json : (text : List ℕ) → read text ≡ None → IsRefusalBy (faults text) fault.NotJson
-not_json text e = right _ _ fault.NotJson (subst (λ o. IsRefusalBy (json_faults o) fault.NotJson) (sym e) (λ _. (0, omega arith, refl)))
+not_json text e = right _ _ fault.NotJson (subst (λ o. IsRefusalBy (option_map_or data_faults o (fault.NotJson ∷ [])) fault.NotJson) (sym e) (λ _. (0, omega arith, refl)))
 
 in_data : (text : List ℕ) (d : Data) (e : SchemaError) → read text ≡ Some d → IsRefusalBy (data_faults d) e → IsRefusalBy (faults text) e
-in_data text d e is h = right _ _ e (subst (λ o. IsRefusalBy (json_faults o) e) (sym is) h)
+in_data text d e is h = right _ _ e (subst (λ o. IsRefusalBy (option_map_or data_faults o (fault.NotJson ∷ [])) e) (sym is) h)
 
 pub is_float : (text : List ℕ) (d : Data) → read text ≡ Some d → has_float d ≡ true → IsRefusalBy (faults text) fault.FloatNumber
 is_float text d is e = in_data text d fault.FloatNumber is (left _ _ _ (left _ _ _ (alone _ fault.FloatNumber (ap not e))))
@@ -43,9 +44,9 @@ le-true m n h = grind arith
 at_zero : (f : Form) (a b : Builder) → nodes_of a ≡ [] → Reads [] (places [] (opened a) f) a b → Reads [] (places [] 0 f) a b
 at_zero f a b none r = subst (λ n. Reads [] (places [] n f) a b) (ap length none) r
 
-pub given : {A : Type 0} (es : List SchemaError) (x : A) → es ≡ [] → if_none_stands es x ≡ Some x
-given [] x e = refl
-given (y ∷ es) x e = cc
+pub given : {A : Type 0} (es : List SchemaError) (o : Option A) → es ≡ [] → elim es [ [] ↦ o | x ∷ xs ↦ None ] ≡ o
+given [] o e = refl
+given (y ∷ es) o e = cc
 
 -- the whole type was read
 pub read_whole : (text : List ℕ) (d : Data) (a b : Builder) (i : NodeId) (normal : List ℕ) → nat_le (length text) LONGEST_TEXT ≡ true → read text ≡ Some d → has_float d ≡ false → nodes_of a ≡ [] → HasMet a [] → ReadsType a b [] (form d) i → normal ≡ compact_text d
@@ -56,8 +57,8 @@ read_whole text d a b i normal short is whole none met reads written =
     let number : opened b ≡ opened a + count (form d) = opened-type [] [] 0 (form d) a b r in
     let few : count (form d) ≤ MOST_NODES = omega (arith, r.met.small) in
     let none_in_data : data_faults d ≡ [] = nil-append _ _ (nil-append _ _ (unless-nil _ fault.FloatNumber (ap not whole)) (unless-nil _ fault.TooManyNodes (le-true _ _ few))) r.none_stands in
-    let none_stands : faults text ≡ [] = nil-append _ _ (unless-nil _ fault.TooLong short) (ap json_faults is ∙ none_in_data) in
-    ap (option_and_then (λ e. if_none_stands (faults text) (record { nodes = nodes (form e); normal_text = compact_text e }))) is
-    ∙ given (faults text) (record { nodes = nodes (form d); normal_text = compact_text d }) none_stands
+    let none_stands : faults text ≡ [] = nil-append _ _ (unless-nil _ fault.TooLong short) (ap (λ o. option_map_or data_faults o (fault.NotJson ∷ [])) is ∙ none_in_data) in
+    given (faults text) (option_map (λ e. record { nodes = nodes (form e); normal_text = compact_text e }) (read text)) none_stands
+    ∙ ap (option_map (λ e. record { nodes = nodes (form e); normal_text = compact_text e })) is
     ∙ ap (λ l. Some (record { nodes = l; normal_text = compact_text d })) (sym made)
     ∙ ap (λ t. Some (record { nodes = nodes_of b; normal_text = t })) (sym written)

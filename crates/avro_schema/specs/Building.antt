@@ -1,5 +1,5 @@
 -- Private: what the builder holds before and after each type that it reads.
-use Rattle.std.specs.Prelude.{◌≡◌, ◌<◌, ◌≤◌, ℕ, ◌+◌, List, [], ◌∷◌, ◌++◌, length, Bool, true, false, not, ◌&&◌, nat_le, Option, Some, None, is_some, option_map, option_and_then, codes, find, filter_map, flat_map, map, set, bytes_eq, String, string_bytes}
+use Rattle.std.specs.Prelude.{◌≡◌, ◌<◌, ◌≤◌, ℕ, ◌+◌, List, [], ◌∷◌, ◌++◌, length, Bool, true, false, not, ◌&&◌, nat_le, Option, Some, None, is_some, option_map, option_and_then, unwrap_or, codes, find, filter_map, flat_map, map, set, bytes_eq, String, string_bytes}
 use Rattle.std.specs.Global.{Global}
 use Rattle.std.specs.List.{list_any, list_all}
 use denote.Ref.{Bor}
@@ -23,12 +23,12 @@ use Rattle.avro_schema.specs.declared.node.Primitive.{Primitive}
 use Rattle.avro_schema.specs.declared.builder.Builder.{Builder}
 use Rattle.avro_schema.specs.declared.symbols.Symbols.{Symbols}
 use Rattle.serde_json.specs.Data.{Num, Data, Items}
-use Rattle.serde_json.specs.Find.{get, as_str, as_array, as_object, as_number}
-use Rattle.avro_schema.specs.Names.{full_text, all_distinct}
-use Rattle.avro_schema.specs.Form.{Heading, FieldHeading, Form, Forms, Fields, record_of, enum_of, fixed_of, array_of, map_of, ill_formed, ill_fields, form, fields_of_items, heading_of, strings_at}
+use Rattle.serde_json.specs.Find.{get, as_str, as_array, as_object, as_number, as_u64}
+use Rattle.avro_schema.specs.Names.{full_text, all_distinct, is_name}
+use Rattle.avro_schema.specs.Form.{Heading, FieldHeading, Form, Forms, Fields, record_of, enum_of, fixed_of, array_of, map_of, ill_formed, ill_fields, form, fields_of_items, heading_of, strings_in}
 use Rattle.avro_schema.specs.Places.{count, forms_count, fields_count, own_namespace, type_name, Place, places, places_of_forms, places_of_fields, Definition, definitions, defined}
-use Rattle.avro_schema.specs.Nodes.{type_aliases, field_at, size_of, node_id, branches, field_list, node_at}
-use Rattle.avro_schema.specs.Faults.{unless, is_union_kind, same_primitive, same_kind, fits_union, fits_enum, kinds, written_faults, size_faults, field_list_faults, faults_at, kind_in_union, field_headings, field_name, is_formed, has_good_aliases, are_written}
+use Rattle.avro_schema.specs.Nodes.{type_aliases, field_at, node_id, branches, field_list, node_at}
+use Rattle.avro_schema.specs.Faults.{unless, is_union_kind, same_primitive, same_kind, fits_union, fits_enum, kinds, written_faults, size_faults, field_list_faults, faults_at, kind_in_union, field_headings, field_name, is_formed, if_written, are_written}
 use Rattle.avro_schema.specs.Schema.{IsRefusalBy}
 use Rattle.avro_schema.specs.declared.limits.TheConstants.{MOST_NODES}
 
@@ -112,7 +112,7 @@ branches_faults ds ns fs n =
 
 -- each field by itself is as it should be
 abbrev pub are_formed : Fields → Bool
-are_formed fs = are_written fs && list_all is_formed (field_headings fs) && list_all has_good_aliases (field_headings fs)
+are_formed fs = are_written fs && list_all is_formed (field_headings fs) && list_all (λ h. if_written (list_all is_name) h.aliases) (field_headings fs)
 
 abbrev pub AreFieldsRead : List Definition → List ℕ → Fields → Builder → Builder → List Field → Type 0
 AreFieldsRead ds ns fs old new gs =
@@ -127,12 +127,12 @@ has_distinct_names fs = all_distinct bytes_eq (map field_name (field_headings fs
 
 -- what is wrong with a field's heading
 abbrev pub field_faults : FieldHeading → List SchemaError
-field_faults h = unless (is_formed h) fault.BadForm ++ unless (has_good_aliases h) fault.BadName
+field_faults h = unless (is_formed h) fault.BadForm ++ unless (if_written (list_all is_name) h.aliases) fault.BadName
 
 abbrev pub IsFieldRead : List Definition → List ℕ → FieldHeading → Form → Builder → Builder → Field → Type 0
 IsFieldRead ds ns h f old new g =
     let ps = places ns (opened old) f in
-    Reads ds ps old new × (g ≡ field_at h (node_id (ds ++ definitions ps) ns (opened old) f)) × (is_formed h && has_good_aliases h ≡ true)
+    Reads ds ps old new × (g ≡ field_at h (node_id (ds ++ definitions ps) ns (opened old) f)) × (is_formed h && if_written (list_all is_name) h.aliases ≡ true)
 
 -- ---- the same whatever was met before; no node is lost
 
@@ -190,7 +190,7 @@ abbrev pub record_in : Data → Form
 record_in d = record_of (heading_of d) (written_fields d)
 
 abbrev pub enum_in : Data → Form
-enum_in d = enum_of (heading_of d) (strings_at (codes "symbols") d) (get (codes "default") d)
+enum_in d = enum_of (heading_of d) (option_and_then strings_in (get (codes "symbols") d)) (get (codes "default") d)
 
 abbrev pub fixed_in : Data → Form
 fixed_in d = fixed_of (heading_of d) (number_at (codes "size") d)
@@ -202,7 +202,7 @@ abbrev pub map_in : Data → Form
 map_in d = map_of (form_in (codes "values") d)
 
 pub record HasFieldNames (h : FieldHeading) (r : FieldNames) : Type 0 where
-  pub fits : is_formed h && has_good_aliases h ≡ true
+  pub fits : is_formed h && if_written (list_all is_name) h.aliases ≡ true
   pub name : h.name ≡ Some r.name
   pub aliases : h.aliases ≡ Some r.aliases.items
   pub default : h.default ≡ r.default
@@ -213,7 +213,7 @@ pub record HasSymbols (ss : Option (List (List ℕ))) (d : Option Data) (r : Sym
   pub fits : fits_enum d r.symbols ≡ true
 
 pub record HasSize (n : Option Num) (bytes : ℕ) : Type 0 where
-  pub size : size_of n ≡ bytes
+  pub size : unwrap_or (option_and_then as_u64 n) 0 ≡ bytes
   pub none_stands : size_faults n ≡ []
 
 -- ---- records in two steps

@@ -1,5 +1,5 @@
 -- Which defaults are values of their fields' types (Avro 1.11, "Records").
-use Rattle.std.specs.Prelude.{ℕ, ℤ, ◌^◌, ◌-◌, List, [], ◌∷◌, Bool, true, false, ◌&&◌, ◌||◌, not, pos, negsuc, int_le, Option, Some, None, is_some, option_and_then, find, filter, map, flat_map, slice_get, bytes_eq}
+use Rattle.std.specs.Prelude.{ℕ, ◌^◌, ◌-◌, List, [], ◌∷◌, Bool, true, false, ◌&&◌, ◌||◌, not, pos, negsuc, int_le, Option, Some, None, is_some, option_and_then, find, filter, map, flat_map, slice_get, bytes_eq}
 use Rattle.std.specs.List.{list_all}
 use Rattle.std.specs.Option.{option_map_or}
 use Rattle.serde_json.specs.Data.{Num, Data, null, boolean, number, string, array, object, Items, no_items, item, Members, no_members, member}
@@ -14,20 +14,9 @@ use Rattle.avro_schema.specs.Sound.{fields_of_node}
 
 -- ---- whole numbers
 
-abbrev pub least_int : ℤ
-least_int = negsuc (2 ^ 31 - 1)
-
-abbrev pub greatest_int : ℤ
-greatest_int = pos (2 ^ 31 - 1)
-
-abbrev pub least_long : ℤ
-least_long = negsuc (2 ^ 63 - 1)
-
-abbrev pub greatest_long : ℤ
-greatest_long = pos (2 ^ 63 - 1)
-
-abbrev pub is_within : ℤ → ℤ → Num → Bool
-is_within least greatest n = option_map_or (λ z. int_le least z && int_le z greatest) (as_integer n) false
+-- a whole number of that many bits and a sign
+abbrev pub fits_bits : ℕ → Num → Bool
+fits_bits bits n = option_map_or (λ z. int_le (negsuc (2 ^ bits - 1)) z && int_le z (pos (2 ^ bits - 1))) (as_integer n) false
 
 -- ---- which JSON values a type takes
 
@@ -43,8 +32,8 @@ pub data Shape : Type 0 where
 abbrev pub primitive_takes : Shape → Primitive → Bool
 primitive_takes a_null simple.Null = true
 primitive_takes a_truth_value simple.Boolean = true
-primitive_takes (a_number n) simple.Int = is_within least_int greatest_int n
-primitive_takes (a_number n) simple.Long = is_within least_long greatest_long n
+primitive_takes (a_number n) simple.Int = fits_bits 31 n
+primitive_takes (a_number n) simple.Long = fits_bits 63 n
 primitive_takes (a_number n) simple.Float = not (is_float n)
 primitive_takes (a_number n) simple.Double = not (is_float n)
 primitive_takes a_string simple.String = true
@@ -106,10 +95,6 @@ module _ (nodes : List Node) where
   abbrev pub has_good_default : Field → Bool
   has_good_default f = elim (f.default) [ None ↦ true | Some d ↦ default_fits f.node d ]
 
-  -- the names of the fields whose default is invalid
-  abbrev pub bad_fields : List Field → List (List ℕ)
-  bad_fields fs = map (λ f. f.name) (filter (λ f. not (has_good_default f)) fs)
-
--- the same of all fields of a schema
+-- the names of the fields whose default is invalid
 abbrev pub bad_defaults : List Node → List (List ℕ)
-bad_defaults nodes = bad_fields nodes (flat_map fields_of_node nodes)
+bad_defaults nodes = map (λ f. f.name) (filter (λ f. not (has_good_default nodes f)) (flat_map fields_of_node nodes))

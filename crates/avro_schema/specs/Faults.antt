@@ -1,5 +1,5 @@
 -- What is wrong with a schema. Each rule is stated with the fault that stands where it is broken.
-use Rattle.std.specs.Prelude.{ℕ, ◌+◌, List, [], ◌∷◌, ◌++◌, map, Bool, true, false, ◌&&◌, not, nat_le, Option, is_some, is_none, unwrap_or, flat_map, bytes_eq}
+use Rattle.std.specs.Prelude.{ℕ, ◌+◌, List, [], ◌∷◌, ◌++◌, map, Bool, true, false, ◌&&◌, not, nat_le, if◌then◌else◌, Option, is_some, is_none, unwrap_or, flat_map, bytes_eq}
 use Rattle.std.specs.List.{list_any, list_all}
 use Rattle.std.specs.Option.{option_map_or}
 use denote.Enum.Bare.{sameb}
@@ -17,8 +17,7 @@ use Rattle.avro_schema.specs.Places.{count, own_namespace, Place, places, Defini
 use Rattle.avro_schema.specs.declared.limits.TheConstants.{GREATEST_SIZE}
 
 abbrev pub unless : Bool → SchemaError → List SchemaError
-unless true e = []
-unless false e = e ∷ []
+unless holds e = if holds then [] else e ∷ []
 
 -- a test of what is written, passed where it is missing
 abbrev pub if_written : {A : Type 0} → (A → Bool) → Option A → Bool
@@ -51,26 +50,17 @@ kind_named o = option_map_or (λ d. kind.Named d.name) o kind.Unknown
 
 -- ---- enums and fixed (Avro 1.11, "Enums", "Fixed")
 
--- the symbols are distinct names
-abbrev pub fits_symbols : List (List ℕ) → Bool
-fits_symbols ss = list_all is_name ss && all_distinct bytes_eq ss
-
--- a default is one of the symbols
-abbrev pub is_symbol : List (List ℕ) → Data → Bool
-is_symbol ss d = option_map_or (has_text ss) (as_str d) false
-
+-- the symbols are distinct names, and a default is one of them
 abbrev pub fits_enum : Option Data → List (List ℕ) → Bool
-fits_enum d ss = fits_symbols ss && if_written (is_symbol ss) d
-
--- a whole number up to the limit
-abbrev pub fits_size : Num → Bool
-fits_size n = option_map_or (λ k. nat_le k GREATEST_SIZE) (as_u64 n) false
+fits_enum d ss = list_all is_name ss && all_distinct bytes_eq ss && if_written (λ e. option_map_or (has_text ss) (as_str e) false) d
 
 abbrev pub symbols_faults : Option (List (List ℕ)) → Option Data → List SchemaError
 symbols_faults ss d = unless (is_some ss) fault.BadForm ++ unless (if_written (fits_enum d) ss) fault.BadEnum
 
+-- a size is a whole number up to the limit
 abbrev pub size_faults : Option Num → List SchemaError
-size_faults n = unless (is_some n) fault.BadForm ++ unless (if_written fits_size n) fault.BadFixed
+size_faults n = unless (is_some n) fault.BadForm
+    ++ unless (if_written (λ m. option_map_or (λ k. nat_le k GREATEST_SIZE) (as_u64 m) false) n) fault.BadFixed
 
 -- ---- records (Avro 1.11, "Records")
 
@@ -93,17 +83,16 @@ is_formed h = is_name (field_name h) && is_some h.aliases
 abbrev pub fits_fields : Fields → Bool
 fits_fields fs = are_written fs && list_all is_formed (field_headings fs) && all_distinct bytes_eq (map field_name (field_headings fs))
 
-abbrev pub has_good_aliases : FieldHeading → Bool
-has_good_aliases h = if_written (list_all is_name) h.aliases
-
 abbrev pub field_list_faults : Fields → List SchemaError
-field_list_faults fs = unless (fits_fields fs) fault.BadForm ++ unless (list_all has_good_aliases (field_headings fs)) fault.BadName
+field_list_faults fs = unless (fits_fields fs) fault.BadForm
+    ++ unless (list_all (λ h. if_written (list_all is_name) h.aliases) (field_headings fs)) fault.BadName
 
 -- ---- types
 
 -- a named type has a name, and its names are names
 abbrev pub written_faults : Heading → List SchemaError
-written_faults h = unless (is_some h.name && is_some h.aliases) fault.BadForm ++ unless (if_written is_type_name h.name && if_written (list_all is_full_name) h.aliases) fault.BadName
+written_faults h = unless (is_some h.name && is_some h.aliases) fault.BadForm
+    ++ unless (if_written is_type_name h.name && if_written (list_all is_full_name) h.aliases) fault.BadName
 
 module _ (ds : List Definition) where
   abbrev pub kind_in_union : List ℕ → ℕ → Form → Kind
@@ -121,12 +110,10 @@ module _ (ds : List Definition) where
   kinds ns n no_forms = []
   kinds ns n (and_form f fs) = kind_in_union ns n f ∷ kinds ns (n + count f) fs
 
-  -- no definition of that name opens before node n
-  abbrev pub is_new : List ℕ → ℕ → Heading → Bool
-  is_new ns n h = if_written (λ s. is_none (defined ds n (full_text (own_namespace ns h) s))) h.name
-
+  -- nor does a definition of that name open before node n
   abbrev pub heading_faults : List ℕ → ℕ → Heading → List SchemaError
-  heading_faults ns n h = written_faults h ++ unless (is_new ns n h) fault.Redefined
+  heading_faults ns n h = written_faults h
+      ++ unless (if_written (λ s. is_none (defined ds n (full_text (own_namespace ns h) s))) h.name) fault.Redefined
 
   -- what is wrong with a type, those inside it apart
   abbrev pub faults_of : List ℕ → ℕ → Form → List SchemaError

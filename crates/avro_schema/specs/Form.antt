@@ -54,9 +54,6 @@ string_at k d = option_and_then as_str (get k d)
 abbrev pub strings_in : Data → Option (List (List ℕ))
 strings_in d = option_and_then strings (as_array d)
 
-abbrev pub strings_at : List ℕ → Data → Option (List (List ℕ))
-strings_at k d = option_and_then strings_in (get k d)
-
 -- none are written where the member is absent
 abbrev pub aliases_of : Data → Option (List (List ℕ))
 aliases_of d = elim (get (codes "aliases") d) [ None ↦ Some [] | Some e ↦ strings_in e ]
@@ -85,7 +82,7 @@ form_of_name s = elim (primitive_named s) [ None ↦ by_name s | Some p ↦ plai
 -- an object d whose `type` is the text s, where `type_at` and `fields_at` read the member of a name
 abbrev pub object_of_word : TypeWord → List ℕ → Data → (List ℕ → Form) → (List ℕ → Fields) → Form
 object_of_word Record s d type_at fields_at = record_of (heading_of d) (fields_at (codes "fields"))
-object_of_word Enum s d type_at fields_at = enum_of (heading_of d) (strings_at (codes "symbols") d) (get (codes "default") d)
+object_of_word Enum s d type_at fields_at = enum_of (heading_of d) (option_and_then strings_in (get (codes "symbols") d)) (get (codes "default") d)
 object_of_word Fixed s d type_at fields_at = fixed_of (heading_of d) (option_and_then as_number (get (codes "size") d))
 object_of_word Array s d type_at fields_at = array_of (type_at (codes "items"))
 object_of_word Map s d type_at fields_at = map_of (type_at (codes "values"))

@@ -1,15 +1,13 @@
 -- Names, namespaces and full names (Avro 1.11, "Names").
-use Rattle.std.specs.Prelude.{ℕ, List, [], ◌∷◌, ◌++◌, Bool, true, false, ◌&&◌, ◌||◌, ◌==◌, nat_le, if◌then◌else◌, Option, find, is_none, codes, bytes_eq}
-use Rattle.std.specs.List.{list_any, list_all, before_last, after_last}
+use Rattle.std.specs.Prelude.{ℕ, List, [], ◌∷◌, ◌++◌, length, Bool, false, ◌&&◌, ◌||◌, ◌==◌, if◌then◌else◌, Option, find, is_none, codes, bytes_eq}
+use Rattle.std.specs.Char.{is_ascii_alphabetic, is_ascii_alphanumeric}
+use Rattle.std.specs.List.{list_any, list_all, slice_split, before_last, after_last}
 pub use Rattle.named_list.specs.Distinct.{all_distinct}
 use Rattle.avro_schema.specs.declared.node.FullName.{FullName}
 use Rattle.avro_schema.specs.declared.node.Primitive.{Primitive}
 use Rattle.avro_schema.specs.declared.node.Primitive.TheVariants.{Null, Boolean, Int, Long, Float, Double, Bytes, String}
 
 -- ---- primitive names (Avro 1.11, "Primitive Types")
-
-abbrev pub primitives : List Primitive
-primitives = Null ∷ Boolean ∷ Int ∷ Long ∷ Float ∷ Double ∷ Bytes ∷ String ∷ []
 
 abbrev pub primitive_text : Primitive → List ℕ
 primitive_text Null = codes "null"
@@ -22,23 +20,14 @@ primitive_text Bytes = codes "bytes"
 primitive_text String = codes "string"
 
 abbrev pub primitive_named : List ℕ → Option Primitive
-primitive_named s = find (λ p. bytes_eq (primitive_text p) s) primitives
+primitive_named s = find (λ p. bytes_eq (primitive_text p) s) (Null ∷ Boolean ∷ Int ∷ Long ∷ Float ∷ Double ∷ Bytes ∷ String ∷ [])
 
 -- ---- names
 
-abbrev pub is_between : ℕ → ℕ → ℕ → Bool
-is_between low high x = nat_le low x && nat_le x high
-
--- A letter or `_`, and after the first also a digit.
-abbrev pub begins_name : ℕ → Bool
-begins_name x = is_between 65 90 x || is_between 97 122 x || (x == 95)
-
-abbrev pub goes_on_name : ℕ → Bool
-goes_on_name x = begins_name x || is_between 48 57 x
-
+-- a letter or `_`, and then letters, digits and `_`
 abbrev pub is_name : List ℕ → Bool
 is_name [] = false
-is_name (x ∷ xs) = begins_name x && list_all goes_on_name xs
+is_name (x ∷ xs) = (is_ascii_alphabetic x || (x == 95)) && list_all (λ y. is_ascii_alphanumeric y || (y == 95)) xs
 
 abbrev pub is_dot : ℕ → Bool
 is_dot x = x == 46
@@ -47,14 +36,8 @@ abbrev pub has_dot : List ℕ → Bool
 has_dot s = list_any is_dot s
 
 -- each part between dots is a name
-abbrev mutual
-  pub is_full_name : List ℕ → Bool
-  is_full_name [] = false
-  is_full_name (x ∷ xs) = begins_name x && goes_on_full_name xs
-
-  pub goes_on_full_name : List ℕ → Bool
-  goes_on_full_name [] = true
-  goes_on_full_name (x ∷ xs) = elim (is_dot x) [ true ↦ is_full_name xs | false ↦ goes_on_name x && goes_on_full_name xs ]
+abbrev pub is_full_name : List ℕ → Bool
+is_full_name s = list_all is_name (slice_split is_dot s)
 
 -- the name of a type: each part is a name, and the last one no primitive's
 abbrev pub is_type_name : List ℕ → Bool
@@ -68,8 +51,7 @@ full_name namespace s = record { namespace = (if has_dot s then before_last is_d
 
 -- a name behind a namespace, with a dot between them unless it is the null namespace
 abbrev pub joined : List ℕ → List ℕ → List ℕ
-joined [] s = s
-joined (x ∷ xs) s = (x ∷ xs) ++ 46 ∷ s
+joined namespace s = if length namespace == 0 then s else namespace ++ 46 ∷ s
 
 -- the full name as a text: one with a dot stays as it is written
 abbrev pub full_text : List ℕ → List ℕ → List ℕ

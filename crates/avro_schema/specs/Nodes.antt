@@ -1,6 +1,6 @@
 -- The nodes of a schema: one for each type that is written out (Avro 1.11, "Complex Types").
 use Rattle.std.specs.Prelude.{ℕ, ◌+◌, List, [], ◌∷◌, map, Option, Some, None, option_and_then, unwrap_or, filter_map}
-use Rattle.serde_json.specs.Data.{Num}
+use Rattle.std.specs.Option.{option_map_or}
 use Rattle.serde_json.specs.Find.{as_str, as_u64}
 use Rattle.avro_schema.specs.declared.node.FullName.{FullName}
 use Rattle.avro_schema.specs.declared.node.NodeId.{NodeId}
@@ -15,20 +15,13 @@ use Rattle.avro_schema.specs.Places.{count, type_name, Place, places, Definition
 abbrev pub type_aliases : FullName → Heading → List FullName
 type_aliases n h = map (full_name n.namespace) (unwrap_or h.aliases [])
 
-abbrev pub size_of : Option Num → ℕ
-size_of n = unwrap_or (option_and_then as_u64 n) 0
-
 abbrev pub field_at : FieldHeading → NodeId → Field
 field_at h i = record { name = unwrap_or h.name []; aliases = unwrap_or h.aliases []; default = h.default; node = i }
-
-abbrev pub definition_id : Option Definition → NodeId
-definition_id None = record { index = 0 }
-definition_id (Some d) = record { index = d.node }
 
 module _ (ds : List Definition) where
   -- The node of a type: a name's is its definition's, and another type's is the next that opens.
   abbrev pub node_id : List ℕ → ℕ → Form → NodeId
-  node_id ns n (by_name s) = definition_id (definition_used ds n ns s)
+  node_id ns n (by_name s) = record { index = option_map_or (λ d. d.node) (definition_used ds n ns s) 0 }
   node_id ns n _ = record { index = n }
 
   abbrev pub branches : List ℕ → ℕ → Forms → List NodeId
@@ -44,7 +37,7 @@ module _ (ds : List Definition) where
   node_of ns n (by_name s) = None
   node_of ns n (record_of h fs) = let m = type_name ns h in Some (kind.Record m (type_aliases m h) (field_list m.namespace (n + 1) fs))
   node_of ns n (enum_of h ss d) = let m = type_name ns h in Some (kind.Enum m (type_aliases m h) (unwrap_or ss []) (option_and_then as_str d))
-  node_of ns n (fixed_of h s) = let m = type_name ns h in Some (kind.Fixed m (type_aliases m h) (size_of s))
+  node_of ns n (fixed_of h s) = let m = type_name ns h in Some (kind.Fixed m (type_aliases m h) (unwrap_or (option_and_then as_u64 s) 0))
   node_of ns n (array_of f) = Some (kind.Array (node_id ns (n + 1) f))
   node_of ns n (map_of f) = Some (kind.Map (node_id ns (n + 1) f))
   node_of ns n (union_of fs) = Some (kind.Union (branches ns (n + 1) fs))

@@ -85,11 +85,8 @@ heading_in _ = None
 abbrev pub defined_by : List ℕ → ℕ → Heading → Option Definition
 defined_by ns n h = option_map (λ s. record { name = full_text (own_namespace ns h) s; node = n }) h.name
 
-abbrev pub definition_at : Place → Option Definition
-definition_at p = option_and_then (defined_by p.namespace p.before) (heading_in p.type)
-
 abbrev pub definitions : List Place → List Definition
-definitions ps = filter_map definition_at ps
+definitions ps = filter_map (λ p. option_and_then (defined_by p.namespace p.before) (heading_in p.type)) ps
 
 -- the definition of a full name that opens before node n
 abbrev pub defined : List Definition → ℕ → List ℕ → Option Definition

@@ -5,7 +5,8 @@
 -- Nodes.antt the node of each place, with the uses looked up among the definitions;
 -- Faults.antt what is wrong at each place.
 -- A text means a schema exactly where its list of faults is empty. Names.antt says what names are, Defaults.antt which defaults are valid, Sound.antt what holds of the nodes of every schema.
-use Rattle.std.specs.Prelude.{◌≢◌, ℕ, List, [], ◌∷◌, ◌++◌, length, Bool, true, false, not, nat_le, Option, Some, None, option_and_then, is_some, Contains, codes}
+use Rattle.std.specs.Prelude.{◌≢◌, ℕ, List, [], ◌∷◌, ◌++◌, length, Bool, true, false, not, nat_le, Option, None, option_map, is_some, Contains, codes}
+use Rattle.std.specs.Option.{option_map_or}
 use Rattle.serde_json.specs.Data.{Data}
 use Rattle.serde_json.specs.Read.{read}
 use Rattle.serde_json.specs.Written.{has_float, compact_text}
@@ -49,21 +50,16 @@ pub record Meaning : Type 0 where
 abbrev pub data_faults : Data → List SchemaError
 data_faults d = unless (not (has_float d)) fault.FloatNumber ++ unless (nat_le (count (form d)) MOST_NODES) fault.TooManyNodes ++ form_faults (form d)
 
-abbrev pub json_faults : Option Data → List SchemaError
-json_faults None = fault.NotJson ∷ []
-json_faults (Some d) = data_faults d
-
 -- the faults of a text
 abbrev pub faults : List ℕ → List SchemaError
-faults text = unless (nat_le (length text) LONGEST_TEXT) fault.TooLong ++ json_faults (read text)
-
-abbrev pub if_none_stands : {A : Type 0} → List SchemaError → A → Option A
-if_none_stands [] x = Some x
-if_none_stands (e ∷ es) x = None
+faults text = unless (nat_le (length text) LONGEST_TEXT) fault.TooLong ++ option_map_or data_faults (read text) (fault.NotJson ∷ [])
 
 -- what a text means, where no fault stands in it
 abbrev pub schema_of : List ℕ → Option Meaning
-schema_of text = option_and_then (λ d. if_none_stands (faults text) (record { nodes = nodes (form d); normal_text = compact_text d })) (read text)
+schema_of text = elim (faults text) [
+  | [] ↦ option_map (λ d. record { nodes = nodes (form d); normal_text = compact_text d }) (read text)
+  | e ∷ es ↦ None
+]
 
 -- whether a text means a schema
 abbrev pub is_schema : List ℕ → Bool

@@ -23,9 +23,6 @@ inner (Some (kind.Array i)) = Some i
 inner (Some (kind.Map i)) = Some i
 inner _ = None
 
-abbrev pub IsNoUnion : Option Node → Type 0
-IsNoUnion o = (bs : List NodeId) → o ≢ Some (kind.Union bs)
-
 -- no two of the fields have one name
 abbrev pub HaveDistinctNames : List Field → Type 0
 HaveDistinctNames fs = (a b : ℕ) (f g : Field) → slice_get fs a ≡ Some f → slice_get fs b ≡ Some g → f.name ≡ g.name → a ≡ b
@@ -38,4 +35,5 @@ pub record IsSound (ns : List Node) : Type 0 where
   pub leads_on : (i : ℕ) (j : NodeId) → inner (slice_get ns i) ≡ Some j → (i < j.index) ⊎ (inner (slice_get ns j.index) ≡ None)
   pub distinct_fields : (i : ℕ) (n : Node) → slice_get ns i ≡ Some n → HaveDistinctNames (fields_of_node n)
   -- no branch of a union is a union
-  pub flat_unions : (i : ℕ) (bs : List NodeId) → slice_get ns i ≡ Some (kind.Union bs) → All (λ b. IsNoUnion (slice_get ns b.index)) bs
+  pub flat_unions : (i : ℕ) (bs : List NodeId) → slice_get ns i ≡ Some (kind.Union bs)
+      → All (λ b. (cs : List NodeId) → slice_get ns b.index ≢ Some (kind.Union cs)) bs

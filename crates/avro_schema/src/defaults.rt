@@ -1,6 +1,7 @@
 // Which defaults are values of their fields' types (Avro 1.11, "Records").
-ghost use Rattle.std.specs.Prelude.{◌≡◌, [], IfErr, OnOk, Contains, option_copied, is_some};
-ghost use Rattle.serde_json.specs.Find.{get_member};
+ghost use Rattle.std.specs.Prelude.{◌≡◌, ◌&&◌, [], false, not, int_le, map, filter, IfErr, OnOk, Contains, option_copied, is_some};
+ghost use Rattle.std.specs.Option.{option_map_or};
+ghost use Rattle.serde_json.specs.Find.{get_member, as_integer};
 ghost use Rattle.serde_json.specs.View.{view, number_view, items_view, members_view};
 ghost use Rattle.avro_schema.specs.Defaults as spec;
 
@@ -35,8 +36,8 @@ impl Schema {
 
 /// Tests the defaults of a record's fields.
 fn check_fields<'s>(nodes: &[Node], fields: &'s [Field]) -> Result<(), BadDefault<'s>>
-    ensures ok { OnOk result (spec.bad_fields nodes.now fields.now ≡ []) }
-    ensures bad { IfErr result (λ bad. Contains (spec.bad_fields nodes.now fields.now) bad.field.now) }
+    ensures ok { OnOk result (map (λ f. f.name) (filter (λ f. not (spec.has_good_default nodes.now f)) fields.now) ≡ []) }
+    ensures bad { IfErr result (λ bad. Contains (map (λ f. f.name) (filter (λ f. not (spec.has_good_default nodes.now f)) fields.now)) bad.field.now) }
 {
     for field in fields {
         if !has_good_default(nodes, field) {
@@ -206,7 +207,7 @@ fn is_number_of(number: &Number, primitive: Primitive) -> bool
 }
 
 fn is_within(number: &Number, least: i64, greatest: i64) -> bool
-    ensures { result ≡ spec.is_within least greatest (number_view number.now) }
+    ensures { result ≡ option_map_or (λ z. int_le least z && int_le z greatest) (as_integer (number_view number.now)) false }
 {
     match number.as_i64() {
         Some(n) => least <= n && n <= greatest,

@@ -1,6 +1,7 @@
 // Members of an object that are texts.
-ghost use Rattle.std.specs.Prelude.{◌≡◌, IfOk, option_map};
+ghost use Rattle.std.specs.Prelude.{◌≡◌, IfOk, option_map, option_and_then};
 ghost use Rattle.json_tree.specs.View.{view, items_view, members_view};
+ghost use Rattle.serde_json.specs.Find.{get};
 ghost use Rattle.serde_json.specs.Written as written;
 ghost use Rattle.avro_schema.specs.Form as spec;
 
@@ -38,7 +39,7 @@ pub(crate) fn strings_at(
     value: &Json<'_>,
     name: &str,
 ) -> Result<Option<Vec<Text>>, AllocError>
-    ensures { IfOk result (λ o. option_map (λ v. v.items) o ≡ spec.strings_at name.now (view value.now)) }
+    ensures { IfOk result (λ o. option_map (λ v. v.items) o ≡ option_and_then spec.strings_in (get name.now (view value.now))) }
 {
     match value.get(name) {
         Some(member) => strings_in(alloc, member),

@@ -1,5 +1,6 @@
 // Names and full names (Avro 1.11, "Names").
 ghost use Rattle.std.specs.Prelude.{◌≡◌, ◌==◌, ◌||◌, length, IfOk, string_bytes};
+ghost use Rattle.std.specs.Char.{is_ascii_alphabetic, is_ascii_alphanumeric};
 ghost use Rattle.std.specs.List.{after_last, list_all};
 ghost use Rattle.avro_schema.specs.Names as spec;
 
@@ -25,15 +26,15 @@ pub(crate) fn primitive_named(text: &str) -> Option<Primitive>
 }
 
 fn begins_name(byte: u8) -> bool
-    ensures { result ≡ spec.begins_name byte }
+    ensures { result ≡ (is_ascii_alphabetic byte || (byte == 95)) }
 {
-    matches!(byte, b'A'..=b'Z' | b'a'..=b'z' | b'_')
+    byte.is_ascii_alphabetic() || byte == b'_'
 }
 
 fn goes_on_name(byte: u8) -> bool
-    ensures { result ≡ spec.goes_on_name byte }
+    ensures { result ≡ (is_ascii_alphanumeric byte || (byte == 95)) }
 {
-    begins_name(byte) || matches!(byte, b'0'..=b'9')
+    byte.is_ascii_alphanumeric() || byte == b'_'
 }
 
 /// Whether a text is a name.
@@ -47,7 +48,7 @@ pub(crate) fn is_name(text: &str) -> bool
 }
 
 fn all_go_on(bytes: &[u8]) -> bool
-    ensures { result ≡ list_all spec.goes_on_name bytes.now }
+    ensures { result ≡ list_all (λ x. is_ascii_alphanumeric x || (x == 95)) bytes.now }
 {
     bytes.iter().all(|byte| goes_on_name(*byte))
 }
@@ -56,20 +57,7 @@ fn all_go_on(bytes: &[u8]) -> bool
 pub(crate) fn is_full_name(text: &str) -> bool
     ensures { result ≡ spec.is_full_name text.now }
 {
-    let mut begins = true;
-    for byte in text.as_bytes() {
-        if begins {
-            if !begins_name(*byte) {
-                return false;
-            }
-            begins = false;
-        } else if *byte == b'.' {
-            begins = true;
-        } else if !goes_on_name(*byte) {
-            return false;
-        }
-    }
-    !begins
+    text.split('.').all(is_name)
 }
 
 /// Whether a text may name a type.

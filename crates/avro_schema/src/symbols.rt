@@ -1,10 +1,12 @@
 // Symbols of enums, and sizes of fixed types.
-ghost use Rattle.std.specs.Prelude.{◌≡◌, IfOk, IfErr, MatchOption, true, false, codes, bytes_eq, option_and_then};
+ghost use Rattle.std.specs.Prelude.{◌≡◌, ◌&&◌, IfOk, IfErr, MatchOption, true, false, codes, bytes_eq, option_and_then};
+ghost use Rattle.std.specs.List.{list_all};
+ghost use Rattle.std.specs.Option.{option_map_or};
 ghost use Rattle.json_tree.specs.View.{view};
 ghost use Rattle.serde_json.specs.Find.{get, as_str};
-ghost use Rattle.avro_schema.specs.Names.{all_distinct, has_text};
-ghost use Rattle.avro_schema.specs.Form.{strings_at};
-ghost use Rattle.avro_schema.specs.Faults.{symbols_faults, size_faults, fits_symbols, if_written, is_symbol, unless};
+ghost use Rattle.avro_schema.specs.Names.{is_name, all_distinct, has_text};
+ghost use Rattle.avro_schema.specs.Form.{strings_in};
+ghost use Rattle.avro_schema.specs.Faults.{symbols_faults, size_faults, if_written, unless};
 ghost use Rattle.avro_schema.specs.Schema.{IsRefusalBy};
 ghost use Rattle.avro_schema.specs.Building.{HasSymbols, HasSize, number_at};
 
@@ -26,8 +28,8 @@ pub(crate) struct Symbols {
 
 /// Reads an enum's symbols and its default.
 pub(crate) fn read_symbols(alloc: Global, value: &Json<'_>) -> Result<Symbols, SchemaError>
-    ensures ok { IfOk result (HasSymbols (strings_at (codes "symbols") (view value.now)) (get (codes "default") (view value.now))) }
-    ensures err { IfErr result (IsRefusalBy (symbols_faults (strings_at (codes "symbols") (view value.now)) (get (codes "default") (view value.now)))) }
+    ensures ok { IfOk result (HasSymbols (option_and_then strings_in (get (codes "symbols") (view value.now))) (get (codes "default") (view value.now))) }
+    ensures err { IfErr result (IsRefusalBy (symbols_faults (option_and_then strings_in (get (codes "symbols") (view value.now))) (get (codes "default") (view value.now)))) }
 {
     let Some(written) = strings_at(alloc, value, "symbols")? else {
         return Err(SchemaError::BadForm);
@@ -39,8 +41,8 @@ pub(crate) fn read_symbols(alloc: Global, value: &Json<'_>) -> Result<Symbols, S
 
 /// The symbols that an enum writes, which are distinct names.
 fn symbol_list(alloc: Global, written: Vec<Text>) -> Result<NamedList<Text>, SchemaError>
-    ensures ok { IfOk result (λ list. (list ≡ written.items) × (fits_symbols written.items ≡ true)) }
-    ensures err { IfErr result (IsRefusalBy (unless (fits_symbols written.items) SchemaError.BadEnum)) }
+    ensures ok { IfOk result (λ list. (list ≡ written.items) × (list_all is_name written.items && all_distinct bytes_eq written.items ≡ true)) }
+    ensures err { IfErr result (IsRefusalBy (unless (list_all is_name written.items && all_distinct bytes_eq written.items) SchemaError.BadEnum)) }
 {
     if !are_names(written.as_slice()) {
         return Err(SchemaError::BadEnum);
@@ -58,8 +60,8 @@ fn default_symbol(
     symbols: &[Text],
 ) -> Result<Option<Text>, SchemaError>
     ensures ok { IfOk result (λ o. (option_and_then as_str (get (codes "default") (view value.now)) ≡ o)
-        × (if_written (is_symbol symbols.now) (get (codes "default") (view value.now)) ≡ true)) }
-    ensures err { IfErr result (IsRefusalBy (unless (if_written (is_symbol symbols.now) (get (codes "default") (view value.now))) SchemaError.BadEnum)) }
+        × (if_written (λ e. option_map_or (has_text symbols.now) (as_str e) false) (get (codes "default") (view value.now)) ≡ true)) }
+    ensures err { IfErr result (IsRefusalBy (unless (if_written (λ e. option_map_or (has_text symbols.now) (as_str e) false) (get (codes "default") (view value.now))) SchemaError.BadEnum)) }
 {
     match value.get("default") {
         Some(member) => Ok(Some(read_symbol(alloc, member, symbols)?)),
@@ -81,8 +83,8 @@ fn distinct_symbols(
 
 /// Reads an enum's default, which is one of its symbols.
 fn read_symbol(alloc: Global, value: &Json<'_>, symbols: &[Text]) -> Result<Text, SchemaError>
-    ensures ok { IfOk result (λ t. (as_str (view value.now) ≡ Some t) × (is_symbol symbols.now (view value.now) ≡ true)) }
-    ensures err { IfErr result (IsRefusalBy (unless (is_symbol symbols.now (view value.now)) SchemaError.BadEnum)) }
+    ensures ok { IfOk result (λ t. (as_str (view value.now) ≡ Some t) × (option_map_or (has_text symbols.now) (as_str (view value.now)) false ≡ true)) }
+    ensures err { IfErr result (IsRefusalBy (unless (option_map_or (has_text symbols.now) (as_str (view value.now)) false) SchemaError.BadEnum)) }
 {
     let Some(text) = value.as_str() else {
         return Err(SchemaError::BadEnum);

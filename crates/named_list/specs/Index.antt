@@ -1,4 +1,4 @@
--- The places of names, in the order of the names.
+-- Private: the places of names, in the order of the names.
 use Rattle.std.specs.Prelude.{◌≡◌, ℕ, ◌<◌, List, [], length, map, slice_index_or}
 use Rattle.std.specs.Borrow.{Bor}
 use Rattle.std.specs.Cmp.Lexicographic.{slice_cmp}

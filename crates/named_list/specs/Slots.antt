@@ -1,4 +1,4 @@
--- Slots, in which the place of a name is looked for first.
+-- Private: slots, in which the place of a name is looked for first.
 use Rattle.std.specs.Prelude.{ℕ, ◌+◌, ◌*◌, ◌%◌, ◌^◌, ◌<◌, List, [], ◌∷◌, length, slice_index_or}
 use Rattle.std.specs.List.{All}
 

@@ -6,13 +6,12 @@ use Rattle.std.specs.BTreeSet.{BTreeSet, IsEmpty, IsUnchanged}
 use Rattle.std.specs.Cmp.{IsTotalOrder}
 use Rattle.std.specs.FinMap as finmap
 use Rattle.std.specs.FinSet as set
-use Rattle.std.specs.List.{AllZip, filter, filter_map, fold, list_any}
+use Rattle.std.specs.List.{AllZip, filter, filter_map, fold, list_any, reduce}
 use Rattle.std.specs.Option.{option_map_or}
-use Rattle.std.specs.Ordering.{eq_by_cmp, is_eq}
+use Rattle.std.specs.Ordering.{eq_by_cmp, is_eq, ord_max}
 use Rattle.reg_records.specs.declared.key.Key.{Key}
 use Rattle.reg_records.specs.declared.key.Key.TheVariants as keys
 use Rattle.reg_records.specs.declared.record.Record.{Record}
-use Rattle.reg_set.specs.Greatest.{greatest}
 use Rattle.reg_set.specs.LastRecords.{is_of, last}
 use Rattle.reg_set.specs.RecordOrder.{age_cmp, record_cmp}
 use Rattle.reg_set.specs.Records.{Records, in_order, records_of}
@@ -48,7 +47,7 @@ module _ (total : IsTotalOrder record_cmp) where
 
   last-empty : (key : Key) → last set.empty key ≡ None
   unfolding last
-  last-empty key = ap (λ found. greatest age_cmp (filter (is_of key) found)) records_of-empty
+  last-empty key = ap (λ found. reduce (ord_max age_cmp) (filter (is_of key) found)) records_of-empty
 
   HasSpots-empty : (kind : Record → Bool) (spots : BTreeSet Spot) (rs : Records) → rs ≡ set.empty → IsEmpty spots → HasSpots kind rs spots
   HasSpots-empty kind spots rs rs_are none s =

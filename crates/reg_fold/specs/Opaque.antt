@@ -1,19 +1,15 @@
 -- Opaque versions: records of SCHEMA keys whose text can't be read as a value. Below, rs are the last records.
-use Rattle.std.specs.Prelude.{◌≡◌, ◌↔◌, ℕ, min, Bool, true, false, ◌&&◌, Option, Some, None, is_some, is_none, map}
+use Rattle.std.specs.Prelude.{◌≡◌, ◌↔◌, ℕ, min, Bool, false, ◌&&◌, Option, Some, None, is_some, is_none, map}
 use Rattle.std.specs.List.{filter, reduce}
 use Rattle.reg_values.specs.Value.{value_of}
 use Rattle.reg_records.specs.declared.key.Key.{Key}
-use Rattle.reg_records.specs.declared.key.Key.TheVariants as keys
 use Rattle.reg_records.specs.declared.record.Record.{Record}
+use Rattle.reg_records.specs.Key.{key_version}
 use Rattle.reg_set.specs.LastRecords.{last, last_records}
 use Rattle.reg_set.specs.Records.{Records, records_of}
 
 abbrev pub is_version : Key → Bool
-is_version (keys.Schema subject version) = true
-is_version (keys.Config scope) = false
-is_version (keys.Mode scope) = false
-is_version (keys.DeleteSubject subject) = false
-is_version keys.Noop = false
+is_version key = is_some (key_version key)
 
 -- whether the record has a text for a version, and it can't be read
 unfoldable pub is_opaque : Record → Bool

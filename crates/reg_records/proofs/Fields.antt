@@ -1,13 +1,28 @@
 -- The fields of a line stand between its TABs.
-use Rattle.std.proofs.Common.{◌≡◌, ℕ, suc, ◌+◌, ◌<◌, Bool, true, false, cond, not, ◌&&◌, List, [], ◌∷◌, ◌++◌, length, take, drop, Some, inl, inr, refl, sym, ap, ◌∙◌, ◌==◌, subst, arith, length-append}
-use Rattle.std.specs.Prelude.{count_by}
-use Rattle.std.specs.List.{position_or_len, before_first, after_first}
-use Rattle.std.proofs.Math.Seq.{take-append_seam, drop-append-add}
-use Rattle.std.proofs.lemmas.Bool.{and_parts, not_from_true, lt-ltb, cases_lt, eqb-true, false≢true, ne_eqb}
-use Rattle.std.proofs.lemmas.List.Sums.{sum_by-cons, prefix_len-le-length, split_at_first, passes_at_first}
+use Rattle.std.proofs.Common.{◌≡◌, ℕ, suc, ◌+◌, ◌<◌, Bool, true, false, cond, not, ◌&&◌, List, [], ◌∷◌, ◌++◌, length, take, Some, inl, inr, refl, sym, ap, ◌∙◌, ◌==◌, subst, arith, length-append}
+use Rattle.std.specs.Prelude.{All, Err, count_by, position}
+use Rattle.std.specs.List.{position_or_len, before_first, after_first, slice_split}
+use Rattle.std.proofs.lemmas.Bool.{and_parts, not_from_true, lt-ltb, cases_lt, eqb-true, eqb-false, false≢true, ne_eqb}
+use Rattle.std.proofs.lemmas.List.Sums.{AllPass-from_list_all, sum_by-cons, prefix_len-le-length, split_at_first, passes_at_first}
+use Rattle.std.proofs.lemmas.List.Splits.{slice_split_at, slice_split_none, length-slice_split}
 use Rattle.std.proofs.lemmas.List.Folds.{list_all-append}
-use Rattle.reg_records.specs.Line.{is_tab, is_line_feed, is_free_of, line_of, first_line, offset_field, key_field, value_field}
+use Rattle.reg_records.specs.declared.line.LineError.TheVariants.{BadTabs}
+use Rattle.reg_records.specs.Line.{is_tab, is_line_feed, is_free_of, line_of, reading_of}
 use Rattle.reg_records.proofs.Tabs.{count_by-none, count_by-after_first}
+
+not_true-false : (b : Bool) → not b ≡ true → b ≡ false
+not_true-false true e = absurd cc
+not_true-false false e = refl
+
+-- the three fields of a line: before, between and after its two TABs
+abbrev pub offset_field : List ℕ → List ℕ
+offset_field line = before_first is_tab line
+
+abbrev pub key_field : List ℕ → List ℕ
+key_field line = before_first is_tab (after_first is_tab line)
+
+abbrev pub value_field : List ℕ → List ℕ
+value_field line = after_first is_tab (after_first is_tab line)
 
 module _ (p : ℕ → Bool) where
   -- where none passes, the first that passes is past the end
@@ -24,16 +39,8 @@ module _ (p : ℕ → Bool) where
       let parts = and_parts (not (p x)) _ h in
       rw parts.0 (omega (arith, position_or_len-seam xs t ys parts.1 e))
 
-  pub before_first-seam : (xs : List ℕ) (t : ℕ) (ys : List ℕ) → is_free_of p xs ≡ true → p t ≡ true → before_first p (xs ++ t ∷ ys) ≡ xs
-  before_first-seam xs t ys h e = ap (λ n. take n (xs ++ t ∷ ys)) (position_or_len-seam xs t ys h e) ∙ take-append_seam xs (t ∷ ys)
-
-  pub after_first-seam : (xs : List ℕ) (t : ℕ) (ys : List ℕ) → is_free_of p xs ≡ true → p t ≡ true → after_first p (xs ++ t ∷ ys) ≡ ys
-  after_first-seam xs t ys h e = ap (λ n. drop (n + 1) (xs ++ t ∷ ys)) (position_or_len-seam xs t ys h e) ∙ drop-append-add xs (t ∷ ys) 1
-
-  pub count_by-seam : (xs : List ℕ) (t : ℕ) (ys : List ℕ) → is_free_of p xs ≡ true → p t ≡ true → count_by p (xs ++ t ∷ ys) ≡ suc (count_by p ys)
-  count_by-seam xs t ys h e =
-      count_by-after_first p (xs ++ t ∷ ys) (omega (arith, position_or_len-seam xs t ys h e, length-append xs (t ∷ ys)))
-      ∙ ap (λ zs. suc (count_by p zs)) (after_first-seam xs t ys h e)
+  All-free : (xs : List ℕ) → is_free_of p xs ≡ true → All (λ x. p x ≡ false) xs
+  All-free xs h = λ k d below. not_true-false _ (AllPass-from_list_all (λ b. not (p b)) xs h k d below)
 
   pub count_by-free : (xs : List ℕ) → is_free_of p xs ≡ true → count_by p xs ≡ 0
   count_by-free xs h = count_by-none p xs (position_or_len-none xs h)
@@ -42,30 +49,18 @@ module _ (p : ℕ → Bool) where
   is_free_of-append xs ys h k = list_all-append (λ b. not (p b)) xs ys ∙ rw (h, k)
 
 module _ (offset key value : List ℕ) (o : is_free_of is_tab offset ≡ true) (k : is_free_of is_tab key ≡ true) where
-  rest_of_line : after_first is_tab (line_of offset key value) ≡ key ++ 9 ∷ value
-  rest_of_line = after_first-seam is_tab offset 9 (key ++ 9 ∷ value) o refl
+  pub slice_split-line_of : is_free_of is_tab value ≡ true → slice_split is_tab (line_of offset key value) ≡ offset ∷ key ∷ value ∷ []
+  slice_split-line_of v =
+      slice_split_at is_tab offset 9 (key ++ 9 ∷ value) (All-free is_tab offset o) refl
+      ∙ ap (λ fields. offset ∷ fields) (slice_split_at is_tab key 9 value (All-free is_tab key k) refl)
+      ∙ ap (λ fields. offset ∷ key ∷ fields) (slice_split_none is_tab value (All-free is_tab value v))
 
-  pub offset_field-line_of : offset_field (line_of offset key value) ≡ offset
-  offset_field-line_of = before_first-seam is_tab offset 9 (key ++ 9 ∷ value) o refl
-
-  pub key_field-line_of : key_field (line_of offset key value) ≡ key
-  key_field-line_of = ap (before_first is_tab) rest_of_line ∙ before_first-seam is_tab key 9 value k refl
-
-  pub value_field-line_of : value_field (line_of offset key value) ≡ value
-  value_field-line_of = ap (after_first is_tab) rest_of_line ∙ after_first-seam is_tab key 9 value k refl
-
-  pub count_by-line_of : is_free_of is_tab value ≡ true → count_by is_tab (line_of offset key value) ≡ 2
-  count_by-line_of v =
-      let first = count_by-seam is_tab offset 9 (key ++ 9 ∷ value) o refl in
-      let second = count_by-seam is_tab key 9 value k refl in
-      omega (arith, first, second, count_by-free is_tab value v)
-
--- what stands before the first LF
-pub first_line-seam : (line rest : List ℕ) → is_free_of is_line_feed line ≡ true → first_line (line ++ 10 ∷ rest) ≡ Some line
-first_line-seam line rest h =
+-- where the first LF is
+pub position-seam : (line rest : List ℕ) → is_free_of is_line_feed line ≡ true → position is_line_feed (line ++ 10 ∷ rest) ≡ Some (length line)
+position-seam line rest h =
     let at = position_or_len-seam is_line_feed line 10 rest h refl in
     let within : position_or_len is_line_feed (line ++ 10 ∷ rest) < length (line ++ 10 ∷ rest) = omega (arith, at, length-append line (10 ∷ rest)) in
-    rw (lt-ltb _ _ within) (ap Some (before_first-seam is_line_feed line 10 rest h refl))
+    rw (lt-ltb _ _ within) (ap Some at)
 
 -- ---- a line that has two TABs is made of its fields
 
@@ -120,6 +115,25 @@ has_fields line two =
       key_has_no_tab = is_free_of-before_first is_tab rest;
       value_has_no_tab = is_free_of-none is_tab (value_field line) zero;
     }
+
+-- the parts of a line that has two TABs are its fields
+pub slice_split-fields : (line : List ℕ) → (count_by is_tab line == 2) ≡ true → slice_split is_tab line ≡ offset_field line ∷ key_field line ∷ value_field line ∷ []
+slice_split-fields line two =
+    let parts = has_fields line (eqb-true _ 2 two) in
+    ap (slice_split is_tab) parts.fields
+    ∙ slice_split-line_of (offset_field line) (key_field line) (value_field line) (is_free_of-before_first is_tab line) parts.key_has_no_tab parts.value_has_no_tab
+
+-- as many parts as no line has say nothing
+reading_of-other : (parts : List (List ℕ)) → (length parts == 3) ≡ false → reading_of parts ≡ Err BadTabs
+reading_of-other [] e = refl
+reading_of-other (a ∷ []) e = refl
+reading_of-other (a ∷ b ∷ []) e = refl
+reading_of-other (a ∷ b ∷ c ∷ []) e = absurd (false≢true (sym e))
+reading_of-other (a ∷ b ∷ c ∷ d ∷ more) e = refl
+
+pub reading_of-bad_tabs : (line : List ℕ) → (count_by is_tab line == 2) ≡ false → reading_of (slice_split is_tab line) ≡ Err BadTabs
+reading_of-bad_tabs line bad =
+    reading_of-other (slice_split is_tab line) (ne_eqb _ 3 (λ three. eqb-false (count_by is_tab line) 2 bad (omega (arith, three, length-slice_split is_tab line))))
 
 -- ---- how many TABs a line has, by where its first ones stand
 

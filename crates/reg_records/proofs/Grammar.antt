@@ -2,18 +2,18 @@
 use Rattle.std.proofs.Common.{◌≡◌, ℕ, zero, suc, ◌≤◌, ◌<◌, ◌^◌, ◌==◌, Bool, true, false, cond, not, ◌&&◌, List, length, get_or, nat_lt, decimal, Option, Some, None, Result, Ok, Err, refl, sym, ap, ◌∙◌, arith, rules, eq-eqb}
 use Rattle.std.specs.Option.{option_map_or}
 use Rattle.std.specs.Char.{is_ascii_digit}
-use Rattle.std.specs.List.{list_all}
+use Rattle.std.specs.List.{list_all, slice_split}
 use Rattle.std.specs.Prelude.{count_by}
 use Rattle.std.specs.Str.Parse.{digits_value}
 use Rattle.std.proofs.lemmas.Bool.{and_parts, and_from, and_right, not_from_false, ne_eqb, eqb-true, eqb-false, le-leb, leb-true, le-ltb, ltb-false}
 use Rattle.std.proofs.lemmas.Fmt.{decimal_digit, decimal_nonempty, first_decimal, digits_decimal, digits_value-decimal, decimal-digits_value}
 use Rattle.std.proofs.lemmas.Str.Parse.{IsNumeralModel, numerals_by_value}
 use Rattle.reg_records.specs.declared.line.LineError.{LineError}
-use Rattle.reg_records.specs.declared.line.LineError.TheVariants.{BadOffset}
+use Rattle.reg_records.specs.declared.line.LineError.TheVariants.{BadOffset, BadTabs}
 use Rattle.reg_records.specs.declared.limits.TheConstants.{OFFSET_LIMIT, LINE_LIMIT}
 use Rattle.reg_records.specs.declared.record.Read.{Read}
-use Rattle.reg_records.specs.Line.{is_tab, is_decimal, offset_of, offset_field, key_field, value_field, read_at, reading, line_of, IsLine, Spells}
-use Rattle.reg_records.proofs.Fields.{offset_field-line_of, key_field-line_of, value_field-line_of, count_by-line_of, has_fields}
+use Rattle.reg_records.specs.Line.{is_tab, is_decimal, offset_of, read_at, reading_of, reading, line_of, IsLine, Spells}
+use Rattle.reg_records.proofs.Fields.{offset_field, key_field, value_field, slice_split-line_of, slice_split-fields, reading_of-bad_tabs, has_fields}
 use Rattle.reg_records.proofs.Controls.{are_shown-decimal, is_free_of-are_shown}
 
 own : IsNumeralModel (λ ds. list_all is_ascii_digit ds ≡ true) (digits_value 10)
@@ -73,13 +73,11 @@ decimal-offset_of field n h =
 pub reading-IsLine : (line : List ℕ) (offset : ℕ) (key value : List ℕ) → IsLine line offset key value → reading line ≡ Ok (read_at offset key value)
 reading-IsLine line offset key value h =
     let shown = is_free_of-are_shown 9 (omega arith) (decimal offset) (are_shown-decimal offset (omega (arith, h.offset_fits))) in
-    let first = ap offset_field h.fields ∙ offset_field-line_of (decimal offset) key value shown h.key_has_no_tab in
-    let second = ap key_field h.fields ∙ key_field-line_of (decimal offset) key value shown h.key_has_no_tab in
-    let third = ap value_field h.fields ∙ value_field-line_of (decimal offset) key value shown h.key_has_no_tab in
-    let two = ap (count_by is_tab) h.fields ∙ count_by-line_of (decimal offset) key value shown h.key_has_no_tab h.value_has_no_tab in
-    let found = ap offset_of first ∙ offset_of-decimal offset h.offset_fits in
+    let parts = ap (slice_split is_tab) h.fields ∙ slice_split-line_of (decimal offset) key value shown h.key_has_no_tab h.value_has_no_tab in
+    let found = offset_of-decimal offset h.offset_fits in
     let short = le-ltb LINE_LIMIT (length line) h.fits in
-    rw (short, h.utf8, two, found, second, third)
+    let whole : reading line ≡ reading_of (slice_split is_tab line) = rw (short, h.utf8) refl in
+    whole ∙ ap reading_of parts ∙ ap (λ n. option_map_or (λ offset. Ok (read_at offset key value)) n (Err BadOffset)) found
 
 if_read : (b : Bool) (fault : LineError) (next : Result Read LineError) (read : Read) → cond b (Err fault) next ≡ Ok read → (b ≡ false) × (next ≡ Ok read)
 if_read true fault next read e = absurd cc
@@ -93,13 +91,20 @@ not_not-true : (b : Bool) → not b ≡ false → b ≡ true
 not_not-true true e = refl
 not_not-true false e = absurd cc
 
+two_tabs : (line : List ℕ) (read : Read) → reading_of (slice_split is_tab line) ≡ Ok read → (count_by is_tab line == 2) ≡ true
+two_tabs line read h =
+    elim (count_by is_tab line == 2) as (λ b. (count_by is_tab line == 2) ≡ b → b ≡ true) [
+      | true ↦ λ _. refl
+      | false ↦ λ bad. let both : Err BadTabs ≡ Ok read = sym (reading_of-bad_tabs line bad) ∙ h in absurd cc
+    ] refl
+
 pub Spells-reading : (line : List ℕ) (read : Read) → reading line ≡ Ok read → Spells line read
 Spells-reading line read h =
     let fits = if_read _ _ _ read h in
     let text = if_read _ _ _ read fits.1 in
-    let tabs = if_read _ _ _ read text.1 in
-    let end = with_offset _ _ read tabs.1 in
-    let parts = has_fields line (eqb-true _ 2 (not_not-true _ tabs.0)) in
+    let two = two_tabs line read text.1 in
+    let end = with_offset _ _ read (ap reading_of (sym (slice_split-fields line two)) ∙ text.1) in
+    let parts = has_fields line (eqb-true _ 2 two) in
     let offset = decimal-offset_of (offset_field line) end.0 end.1 in (
       end.0,
       key_field line,

@@ -1,19 +1,21 @@
 -- What a line is to the log that it begins.
-use Rattle.std.proofs.Common.{◌≡◌, ◌<◌, ◌≤◌, ◌+◌, ℕ, suc, cond, true, false, List, [], ◌∷◌, ◌++◌, length, None, Some, IfSome, OnSome, inl, inr, Result, Ok, Err, refl, sym, ap, ◌∙◌, arith, append_assoc, append-nil, nat_lt}
+use Rattle.std.proofs.Common.{◌≡◌, ◌<◌, ◌≤◌, ◌+◌, ◌==◌, ℕ, suc, Bool, cond, true, false, List, [], ◌∷◌, ◌++◌, length, None, Some, IfSome, OnSome, inl, inr, Result, Ok, Err, refl, sym, ap, ◌∙◌, arith, append_assoc, append-nil, nat_lt}
 use Rattle.std.specs.Prelude.{Option, IsTrue, count_by, max}
 use Rattle.std.specs.Option.{option_to_list}
+use Rattle.std.specs.Result.{result_map_both}
 use Rattle.std.specs.List.{slice_split, onto_first, join_with_byte}
 use Rattle.std.specs.Io.KnownBytes.{Consumes, IsAtEnd}
 use Rattle.std.proofs.lemmas.List.Splits.{slice_split_at, slice_split_none, join_with_byte-slice_split}
 use Rattle.std.proofs.KnownBytes.{Consumes-trans}
-use Rattle.std.proofs.lemmas.List.Sums.{position_or_len_is, sum_by-append}
+use Rattle.std.proofs.lemmas.List.Sums.{fold-append, position_or_len_is, sum_by-append}
 use Rattle.std.proofs.lemmas.List.Elements.{filter_map-append}
+use Rattle.std.proofs.lemmas.Bool.{ne_eqb}
 use Rattle.std.proofs.lemmas.Bool.Decides.{nat_tests}
 use Rattle.reg_records.proofs.Lines.{Consumes-ended, length-of_nonempty}
 use Rattle.reg_records.proofs.Tabs.{count_by-none}
 use Rattle.reg_records.specs.Device.{all_reads_of, counted_by, faults_of}
 use Rattle.reg_records.specs.Line.{is_line_feed, reading}
-use Rattle.reg_records.specs.Log.{LogText, log_from, log_of, map_log, with_read, line_then, fault_at, is_empty_line, record_in, records_in, is_foreign, offset_in, next_after, IsLogOf, IsLogRefusal, LosesLine, TakesLastLine}
+use Rattle.reg_records.specs.Log.{LogText, log_from, log_of, line_then, record_in, records_in, is_foreign, offset_in, next_after, IsLogOf, IsLogRefusal, LosesLine, TakesLastLine}
 use Rattle.reg_records.specs.LogSteps.{AddsRead, IsStepRefusal, IsLineRefusal}
 use Rattle.reg_records.specs.declared.device.Device.{Device}
 use Rattle.reg_records.specs.declared.log.Log.{Log}
@@ -21,11 +23,21 @@ use Rattle.reg_records.specs.declared.log.LogError.{LogError}
 use Rattle.reg_records.specs.declared.log.LogError.TheVariants as errors
 use Rattle.reg_records.specs.Pieces.{HasNoLineFeed}
 use Rattle.reg_records.specs.declared.limits.TheConstants.{LOG_LINES}
+use Rattle.reg_records.specs.declared.line.LineError.{LineError}
 use Rattle.reg_records.specs.declared.line.LineError.TheVariants.{Truncated}
 use Rattle.reg_records.specs.declared.log.LogFault.{LogFault}
-use Rattle.reg_records.specs.declared.log.LogFault.TheVariants.{TooManyLines}
+use Rattle.reg_records.specs.declared.log.LogFault.TheVariants.{Line, TooManyLines}
 use Rattle.reg_records.specs.declared.record.Read.{Read}
 use Rattle.reg_records.specs.declared.record.Read.TheVariants as kinds
+
+abbrev pub is_empty_line : List ℕ → Bool
+is_empty_line line = length line == 0
+
+abbrev pub with_read : Read → LogText → LogText
+with_read read log = record log { reads = read ∷ log.reads }
+
+abbrev pub map_log : (LogText → LogText) → Result LogText (ℕ × LogFault) → Result LogText (ℕ × LogFault)
+map_log f more = result_map_both f (λ fault. fault) more
 
 abbrev pub parts : List ℕ → List (List ℕ)
 parts text = slice_split is_line_feed text
@@ -39,17 +51,24 @@ first_part (b ∷ text) =
       | false ↦ let (first, more, e) = first_part text in (b ∷ first, more, ap (onto_first b) e)
     ]
 
+-- a log has only so many lines
+abbrev pub in_limit : Bool → ℕ → Result LogText (ℕ × LogFault) → Result LogText (ℕ × LogFault)
+in_limit past n more = cond past (Err (n, TooManyLines)) more
+
 -- a line, and the text after its LF
 abbrev pub from_line : ℕ → List ℕ → List ℕ → Result LogText (ℕ × LogFault)
-from_line n line text = cond (is_empty_line line) (Ok (record { reads = []; rest = text })) (line_then n (reading line) (log_from (suc n) (parts text)))
+from_line n line text = cond (is_empty_line line) (Ok (record { reads = []; rest = text })) (in_limit (nat_lt LOG_LINES n) n (line_then n (reading line) (log_from (suc n) (parts text))))
 
 log_from-parts : (n : ℕ) (line text : List ℕ) → log_from n (line ∷ parts text) ≡ from_line n line text
 log_from-parts n line text =
     let (first, more, e) = first_part text in
     let joined : join_with_byte 10 (first ∷ more) ≡ text = ap (join_with_byte 10) (sym e) ∙ join_with_byte-slice_split 10 text in
+    let some = ne_eqb (length (first ∷ more)) 0 (λ none. omega arith) in
     ap (λ lines. log_from n (line ∷ lines)) e
-    ∙ ap (λ rest. cond (is_empty_line line) (Ok (record { reads = []; rest = rest })) (line_then n (reading line) (log_from (suc n) (first ∷ more)))) joined
-    ∙ ap (λ lines. cond (is_empty_line line) (Ok (record { reads = []; rest = text })) (line_then n (reading line) (log_from (suc n) lines))) (sym e)
+    ∙ ap (λ b. cond (is_empty_line line) (Ok (record { reads = []; rest = join_with_byte 10 (first ∷ more) }))
+    (in_limit (nat_lt LOG_LINES n) n (line_then n (cond b (Err Truncated) (reading line)) (log_from (suc n) (first ∷ more))))) some
+    ∙ ap (λ rest. cond (is_empty_line line) (Ok (record { reads = []; rest = rest })) (in_limit (nat_lt LOG_LINES n) n (line_then n (reading line) (log_from (suc n) (first ∷ more))))) joined
+    ∙ ap (λ lines. cond (is_empty_line line) (Ok (record { reads = []; rest = text })) (in_limit (nat_lt LOG_LINES n) n (line_then n (reading line) (log_from (suc n) lines)))) (sym e)
 
 -- the log of a text that begins with a line and its LF
 log_from-line : (n : ℕ) (text line rest : List ℕ) → HasNoLineFeed line → text ≡ (line ++ 10 ∷ []) ++ rest → log_from n (parts text) ≡ from_line n line rest
@@ -66,9 +85,9 @@ log_from-read n (Some text) None line read none taken some says within = absurd 
 log_from-read n (Some text) (Some rest) line read none taken some says within =
     let few : nat_lt LOG_LINES n ≡ false = grind (arith, nat_tests) in
     log_from-line n text line rest none taken
-    ∙ ap (λ b. cond b (Ok (record { reads = []; rest = rest })) (line_then n (reading line) (log_from (suc n) (parts rest)))) some
+    ∙ ap (λ b. cond b (Ok (record { reads = []; rest = rest })) (in_limit (nat_lt LOG_LINES n) n (line_then n (reading line) (log_from (suc n) (parts rest))))) some
+    ∙ ap (λ past. in_limit past n (line_then n (reading line) (log_from (suc n) (parts rest)))) few
     ∙ ap (λ r. line_then n r (log_from (suc n) (parts rest))) says
-    ∙ ap (λ b. cond b (Err (n, TooManyLines)) (map_log (with_read read) (log_from (suc n) (parts rest)))) few
 
 pub log_from-ended : (n : ℕ) (old new : Option (List ℕ)) (line : List ℕ)
     → HasNoLineFeed line → Consumes old new (line ++ 10 ∷ []) → is_empty_line line ≡ true
@@ -78,34 +97,39 @@ log_from-ended n (Some text) None line none taken ended = absurd taken
 log_from-ended n (Some text) (Some rest) line none taken ended = (
   rest,
   log_from-line n text line rest none taken
-      ∙ ap (λ b. cond b (Ok (record { reads = []; rest = rest })) (line_then n (reading line) (log_from (suc n) (parts rest)))) ended,
+      ∙ ap (λ b. cond b (Ok (record { reads = []; rest = rest })) (in_limit (nat_lt LOG_LINES n) n (line_then n (reading line) (log_from (suc n) (parts rest))))) ended,
   refl,
 )
 
 pub log_from-refused : (n : ℕ) (old new : Option (List ℕ)) (line : List ℕ) (fault : LogFault)
     → HasNoLineFeed line → Consumes old new (line ++ 10 ∷ []) → is_empty_line line ≡ false
-    → ((more : Result LogText (ℕ × LogFault)) → line_then n (reading line) more ≡ Err (n, fault))
+    → ((more : Result LogText (ℕ × LogFault)) → in_limit (nat_lt LOG_LINES n) n (line_then n (reading line) more) ≡ Err (n, fault))
     → IfSome old (λ text. log_from n (parts text) ≡ Err (n, fault))
 log_from-refused n None new line fault none taken some refused = tt
 log_from-refused n (Some text) None line fault none taken some refused = absurd taken
 log_from-refused n (Some text) (Some rest) line fault none taken some refused =
     log_from-line n text line rest none taken
-    ∙ ap (λ b. cond b (Ok (record { reads = []; rest = rest })) (line_then n (reading line) (log_from (suc n) (parts rest)))) some
+    ∙ ap (λ b. cond b (Ok (record { reads = []; rest = rest })) (in_limit (nat_lt LOG_LINES n) n (line_then n (reading line) (log_from (suc n) (parts rest))))) some
     ∙ refused (log_from (suc n) (parts rest))
 
 is_empty_line-some : (line : List ℕ) → 0 < length line → is_empty_line line ≡ false
 is_empty_line-some line some = grind (arith, nat_tests)
 
+fault_told : (n : ℕ) (fault : LineError) (past : Bool) → in_limit past n (Err (n, Line fault)) ≡ Err (n, cond past TooManyLines (Line fault))
+fault_told n fault true = refl
+fault_told n fault false = refl
+
 pub log_from-unended : (n : ℕ) (old new : Option (List ℕ)) (line : List ℕ)
     → HasNoLineFeed line → 0 < length line → Consumes old new line → OnSome old (IsAtEnd new)
-    → IfSome old (λ text. log_from n (parts text) ≡ Err (n, fault_at n Truncated))
+    → IfSome old (λ text. log_from n (parts text) ≡ Err (n, cond (nat_lt LOG_LINES n) TooManyLines (Line Truncated)))
 log_from-unended n None new line none some taken end = tt
 log_from-unended n (Some text) None line none some taken end = absurd taken
 log_from-unended n (Some text) (Some rest) line none some taken end =
     let whole : text ≡ line = taken ∙ ap (λ r. line ++ r) end ∙ append-nil line in
     ap (λ t. log_from n (parts t)) whole
     ∙ ap (log_from n) (slice_split_none is_line_feed line none)
-    ∙ ap (λ b. cond b (Ok (record { reads = []; rest = [] })) (Err (n, fault_at n Truncated))) (is_empty_line-some line some)
+    ∙ ap (λ b. cond b (Ok (record { reads = []; rest = [] })) (in_limit (nat_lt LOG_LINES n) n (Err (n, Line Truncated)))) (is_empty_line-some line some)
+    ∙ fault_told n Truncated (nat_lt LOG_LINES n)
 
 -- ---- how many LFs were taken
 
@@ -162,8 +186,7 @@ records_in-append reads read = filter_map-append record_in reads (read ∷ []) �
     last_record (kinds.Foreign offset) = refl
 
 next_after-append : (reads : List Read) (read : Read) → next_after (reads ++ read ∷ []) ≡ max (next_after reads) (suc (offset_in read))
-next_after-append [] read = omega arith
-next_after-append (r ∷ reads) read = omega (arith, next_after-append reads read)
+next_after-append reads read = fold-append (λ next r. max next (suc (offset_in r))) 0 reads (read ∷ [])
 
 pub IsLogOf-more : (old : Log) (reads : List Read) (read : Read) (new : Log) → IsLogOf reads old → AddsRead old read new → IsLogOf (reads ++ read ∷ []) new
 IsLogOf-more old reads read new is adds = record {

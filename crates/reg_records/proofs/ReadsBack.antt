@@ -17,7 +17,7 @@ use Rattle.serde_json.proofs.Numbers.{number_of-decimal}
 use Rattle.reg_records.specs.declared.key.Key.{Key}
 use Rattle.reg_records.specs.declared.key.Key.TheVariants.{Schema, Config, Mode, DeleteSubject, Noop}
 use Rattle.reg_records.specs.Json.{text_at}
-use Rattle.reg_records.specs.Key.{config_key, mode_key, delete_subject_key, key_in, key_of}
+use Rattle.reg_records.specs.Key.{scope_in, key_of_kind, key_of}
 use Rattle.reg_records.specs.Written.{key_data, written_key, IsOf32Bits, IsInLimits}
 
 -- the compact text of a value reads as what its outline is
@@ -50,6 +50,10 @@ pub read-written_key : (k : Key) → IsOf32Bits k → read (written_key k) ≡ o
 unfolding written_key
 read-written_key k h = read-compact_text (key_data k) (HasNumbers-key_data k h) (shallow_key k)
 
+-- the key that a JSON value is
+abbrev key_in : Data → Option Key
+key_in d = option_and_then (λ kind. key_of_kind kind d) (text_at (codes "keytype") d)
+
 -- the key that members give, whatever number its version is
 abbrev any_schema_key : Data → Option Key
 any_schema_key d =
@@ -59,9 +63,9 @@ any_schema_key d =
 abbrev any_key_of_kind : List ℕ → Data → Option Key
 any_key_of_kind kind d =
     cond (bytes_eq kind (codes "SCHEMA")) (any_schema_key d)
-    (cond (bytes_eq kind (codes "CONFIG")) (config_key d)
-    (cond (bytes_eq kind (codes "MODE")) (mode_key d)
-    (cond (bytes_eq kind (codes "DELETE_SUBJECT")) (delete_subject_key d) (Some Noop))))
+    (cond (bytes_eq kind (codes "CONFIG")) (option_map Config (scope_in d))
+    (cond (bytes_eq kind (codes "MODE")) (option_map Mode (scope_in d))
+    (cond (bytes_eq kind (codes "DELETE_SUBJECT")) (option_map DeleteSubject (text_at (codes "subject") d)) (Some Noop))))
 
 abbrev any_key : Option Data → Option Key
 any_key o = option_and_then (λ d. option_and_then (λ kind. any_key_of_kind kind d) (text_at (codes "keytype") d)) o

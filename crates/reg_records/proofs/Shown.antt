@@ -1,15 +1,15 @@
 -- What is written for a key or a value holds no control character.
-use Rattle.std.proofs.Common.{◌≡◌, ℕ, ◌≤◌, Bool, true, false, Some, None, bytes_eq, codes, refl, subst, arith}
+use Rattle.std.proofs.Common.{◌≡◌, ℕ, ◌≤◌, Bool, true, false, Some, None, bytes_eq, codes, unwrap_or, refl, subst, arith}
 use Rattle.std.specs.Option.{ForSome}
 use Rattle.json.specs.Print.{quoted}
-use Rattle.serde_json.specs.Data.{Data, object, Members, no_members, member}
+use Rattle.serde_json.specs.Data.{Data, null, object, Members, no_members, member}
 use Rattle.serde_json.specs.Written.{comma_if, compact_text, members_text}
 use Rattle.reg_records.specs.declared.key.Key.{Key}
 use Rattle.reg_records.specs.declared.key.Key.TheVariants.{Schema, Config, Mode, DeleteSubject, Noop}
 use Rattle.reg_records.specs.declared.value.Value.{Value}
 use Rattle.reg_records.specs.declared.value.Value.TheVariants as values
 use Rattle.reg_records.specs.declared.limits.TheConstants.{OFFSET_LIMIT}
-use Rattle.reg_records.specs.Written.{key_data, written_key, written_value, schema_data, config_data, mode_data, delete_subject_data, IsInLimits, HasNumbersInLimits, IsValueField, HasLine}
+use Rattle.reg_records.specs.Written.{key_data, written_key, value_data, written_value, IsInLimits, HasNumbersInLimits, IsValueField, HasLine}
 use Rattle.reg_records.proofs.Controls.{are_shown, are_shown-append, are_shown-quoted, are_shown-decimal, is_free_of-are_shown}
 
 -- the texts of the members' values hold none
@@ -63,19 +63,22 @@ object_field d h text e =
     subst IsValueField same
     (is_free_of-are_shown 9 (omega arith) (compact_text d) shown, is_free_of-are_shown 10 (omega arith) (compact_text d) shown, begins_apart d h)
 
+abbrev data_of : Value → Data
+data_of v = unwrap_or (value_data v) null
+
 -- the text that is written for a value can stand as the value of a line
 field_of_value : (v : Value) → HasNumbersInLimits v → ForSome (written_value v) IsValueField
 unfolding written_value
 field_of_value (values.Schema subject version id schema true) h =
-    object_field (schema_data subject version id schema true)
+    object_field (data_of (values.Schema subject version id schema true))
     (are_shown-quoted subject, (are_shown-decimal version (omega (arith, h.0.1)), (are_shown-decimal id (omega (arith, h.1.1)), (are_shown-quoted schema, (refl, tt)))))
 field_of_value (values.Schema subject version id schema false) h =
-    object_field (schema_data subject version id schema false)
+    object_field (data_of (values.Schema subject version id schema false))
     (are_shown-quoted subject, (are_shown-decimal version (omega (arith, h.0.1)), (are_shown-decimal id (omega (arith, h.1.1)), (are_shown-quoted schema, (refl, tt)))))
-field_of_value (values.Config level) h = object_field (config_data level) (are_shown-quoted level, tt)
-field_of_value (values.Mode mode) h = object_field (mode_data mode) (are_shown-quoted mode, tt)
+field_of_value (values.Config level) h = object_field (data_of (values.Config level)) (are_shown-quoted level, tt)
+field_of_value (values.Mode mode) h = object_field (data_of (values.Mode mode)) (are_shown-quoted mode, tt)
 field_of_value (values.DeleteSubject subject version) h =
-    object_field (delete_subject_data subject version) (are_shown-quoted subject, (are_shown-decimal version (omega (arith, h.1)), tt))
+    object_field (data_of (values.DeleteSubject subject version)) (are_shown-quoted subject, (are_shown-decimal version (omega (arith, h.1)), tt))
 field_of_value values.Noop h = λ text none. absurd (cc)
 
 pub HasLine-written_value : (offset : ℕ) (k : Key) (v : Value) → offset ≤ OFFSET_LIMIT → IsInLimits k → HasNumbersInLimits v → HasLine (record { offset = offset; key = k; value = written_value v })

@@ -1,21 +1,17 @@
 -- What a device counts, and the bytes of the reader or the writer in it.
-use Rattle.std.specs.Prelude.{◌≡◌, ◌≢◌, ℕ, suc, ◌+◌, ◌-◌, ◌^◌, ◌<◌, min, List, length, Option, Result, MatchResult}
+use Rattle.std.specs.Prelude.{◌≡◌, ◌≢◌, ℕ, suc, ◌+◌, ◌-◌, ◌^◌, ◌<◌, min, List, length, Option, Result, Ok, Err, MatchResult}
 use Rattle.std.specs.IoError.{error_kind}
 use Rattle.std.specs.declared.io.Error.{Error}
 use Rattle.std.specs.declared.io.ErrorKind.TheVariants.{Interrupted}
 use Rattle.reg_records.specs.declared.device.Device.{Device}
 
--- the greatest count
-abbrev pub LAST_COUNT : ℕ
-LAST_COUNT = 2 ^ 64 - 1
-
 -- one more, up to the greatest count
 abbrev pub counted : ℕ → ℕ
-counted n = min (suc n) LAST_COUNT
+counted n = min (suc n) (2 ^ 64 - 1)
 
 -- so many more, up to the greatest count
 abbrev pub counted_by : ℕ → ℕ → ℕ
-counted_by more n = min (n + more) LAST_COUNT
+counted_by more n = min (n + more) (2 ^ 64 - 1)
 
 -- the reader or the writer in it
 abbrev pub inner_of : {T : Type 0} → Device T → T
@@ -48,11 +44,10 @@ CountsFault old new answer = MatchResult answer (λ _. new.faults ≡ old.faults
 
 -- an interruption of a write or a flush is counted, and any other answer begins the count anew
 abbrev pub CountsInterruption : {T A : Type 0} → Device T → Device T → Result A Error → Type 0
-CountsInterruption old new answer = MatchResult answer (λ _. interruptions_of new ≡ 0)
-    (λ e. (error_kind e ≡ Interrupted → interruptions_of new ≡ counted (interruptions_of old)) × (error_kind e ≢ Interrupted → interruptions_of new ≡ 0))
+CountsInterruption old new answer = MatchResult answer (λ _. new.interruptions ≡ 0)
+    (λ e. (error_kind e ≡ Interrupted → new.interruptions ≡ counted old.interruptions) × (error_kind e ≢ Interrupted → new.interruptions ≡ 0))
 
 -- the count of faults after a write, where taking no byte of a piece that has some is a fault too
 abbrev pub CountsWrite : {T : Type 0} → Device T → Device T → List ℕ → Result ℕ Error → Type 0
-CountsWrite old new piece answer = MatchResult answer
-    (λ n. (n ≡ 0 → 0 < length piece → new.faults ≡ counted old.faults) × ((n ≡ 0 → length piece ≡ 0) → new.faults ≡ old.faults))
-    (λ e. (error_kind e ≡ Interrupted → new.faults ≡ old.faults) × (error_kind e ≢ Interrupted → new.faults ≡ counted old.faults))
+CountsWrite old new piece (Ok n) = (n ≡ 0 → 0 < length piece → new.faults ≡ counted old.faults) × ((n ≡ 0 → length piece ≡ 0) → new.faults ≡ old.faults)
+CountsWrite old new piece (Err e) = CountsFault {A = ℕ} old new (Err e)

@@ -23,8 +23,7 @@ within_number_limit n = if nat_le 1 n && nat_le n NUMBER_LIMIT then Some n else 
 
 -- the number of the member of that name, if it is a whole number that a version or an id may be
 abbrev pub number_at : List ℕ → Data → Option ℕ
-number_at name d =
-    option_and_then within_number_limit (option_and_then as_u64 (option_and_then as_number (get name d)))
+number_at name d = option_and_then within_number_limit (option_and_then as_u64 (option_and_then as_number (get name d)))
 
 -- the member of that name is that string
 abbrev pub has_text_at : List ℕ → List ℕ → Data → Bool

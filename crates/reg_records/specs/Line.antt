@@ -1,7 +1,7 @@
 -- A line is `offset TAB key TAB value`, in UTF-8, before its LF.
-use Rattle.std.specs.Prelude.{◌≡◌, ◌≤◌, ⊤, ℕ, List, ◌∷◌, ◌++◌, Bool, true, ◌&&◌, ◌==◌, not, nat_lt, nat_le, length, take, slice_index, bytes_eq, codes, decimal, count_by, position, Option, Some, None, option_map, Result, Ok, Err, if◌then◌else◌}
+use Rattle.std.specs.Prelude.{◌≡◌, ◌≤◌, ⊤, ℕ, List, [], ◌∷◌, ◌++◌, Bool, true, ◌&&◌, ◌==◌, not, nat_lt, nat_le, length, take, slice_index, bytes_eq, codes, decimal, position, Option, Some, None, Result, Ok, Err, if◌then◌else◌}
 use Rattle.std.specs.Char.{is_ascii_digit}
-use Rattle.std.specs.List.{before_first, after_first, list_all}
+use Rattle.std.specs.List.{list_all, slice_split}
 use Rattle.std.specs.Option.{option_map_or}
 use Rattle.std.specs.Str.{is_utf8}
 use Rattle.std.specs.Str.Parse.{digits_value}
@@ -20,10 +20,6 @@ is_line_feed b = b == 10
 abbrev pub is_tab : ℕ → Bool
 is_tab b = b == 9
 
--- the bytes before the first LF, where there is one
-abbrev pub first_line : List ℕ → Option (List ℕ)
-first_line bytes = option_map (λ n. take n bytes) (position is_line_feed bytes)
-
 -- decimal digits without a leading zero, but for `0` itself
 abbrev pub is_decimal : List ℕ → Bool
 is_decimal field = not (length field == 0) && not (nat_lt 1 (length field) && (slice_index field 0 == 48)) && list_all is_ascii_digit field
@@ -32,36 +28,24 @@ is_decimal field = not (length field == 0) && not (nat_lt 1 (length field) && (s
 abbrev pub offset_of : List ℕ → Option ℕ
 offset_of field = if is_decimal field && nat_le (digits_value 10 field) OFFSET_LIMIT then Some (digits_value 10 field) else None
 
--- the three fields of a line: before, between and after its two TABs
-abbrev pub offset_field : List ℕ → List ℕ
-offset_field line = before_first is_tab line
-
-abbrev pub key_field : List ℕ → List ℕ
-key_field line = before_first is_tab (after_first is_tab line)
-
-abbrev pub value_field : List ℕ → List ℕ
-value_field line = after_first is_tab (after_first is_tab line)
-
--- the value that a field is: `null`, those four bytes alone, is none
-abbrev pub value_text : List ℕ → Option (List ℕ)
-value_text field = if bytes_eq field (codes "null") then None else Some field
-
--- a line whose key is none that is known here is foreign
+-- a line whose key is none that is known here is foreign; the value `null`, those four bytes alone, is none
 abbrev pub read_at : ℕ → List ℕ → List ℕ → Read
-read_at offset key value =
-    option_map_or (λ found. reads.Record (record { offset = offset; key = found; value = value_text value })) (key_of key) (reads.Foreign offset)
+read_at offset key value = let text : Option (List ℕ) = if bytes_eq value (codes "null") then None else Some value in
+    option_map_or (λ found. reads.Record (record { offset = offset; key = found; value = text })) (key_of key) (reads.Foreign offset)
+
+-- what the fields of a line say, which are parted by TABs: an offset, a key and a value
+abbrev pub reading_of : List (List ℕ) → Result Read LineError
+reading_of (offset ∷ key ∷ value ∷ []) = option_map_or (λ n. Ok (read_at n key value)) (offset_of offset) (Err BadOffset)
+reading_of fields = Err BadTabs
 
 -- what a line says, or the first fault that it has
 abbrev pub reading : List ℕ → Result Read LineError
-reading line =
-    if nat_lt LINE_LIMIT (length line) then Err TooLong
-    else (if not (is_utf8 line) then Err BadUtf8
-    else (if not (count_by is_tab line == 2) then Err BadTabs
-    else option_map_or (λ offset. Ok (read_at offset (key_field line) (value_field line))) (offset_of (offset_field line)) (Err BadOffset)))
+reading line = if nat_lt LINE_LIMIT (length line) then Err TooLong
+    else (if not (is_utf8 line) then Err BadUtf8 else reading_of (slice_split is_tab line))
 
 -- what the line at the front of the bytes says; bytes without LF are no whole line
 abbrev pub reading_at_front : List ℕ → Result Read LineError
-reading_at_front bytes = option_map_or reading (first_line bytes) (Err Truncated)
+reading_at_front bytes = option_map_or (λ n. reading (take n bytes)) (position is_line_feed bytes) (Err Truncated)
 
 -- no byte of the text passes the test
 abbrev pub is_free_of : (ℕ → Bool) → List ℕ → Bool

@@ -1,6 +1,7 @@
 -- A log is the lines of a text up to an empty line or the end of the text.
-use Rattle.std.specs.Prelude.{◌≡◌, ◌⊎◌, ℕ, suc, ◌+◌, ◌≤◌, max, List, [], ◌∷◌, ◌++◌, Bool, true, false, ◌==◌, nat_lt, length, count_by, Option, Some, None, IfSome, OnSome, Result, Ok, Err, if◌then◌else◌}
+use Rattle.std.specs.Prelude.{◌≡◌, ◌⊎◌, ℕ, suc, ◌+◌, ◌≤◌, max, List, [], ◌∷◌, ◌++◌, Bool, ◌==◌, nat_lt, length, count_by, fold, Option, Some, None, is_none, IfSome, OnSome, Result, Ok, Err, if◌then◌else◌}
 use Rattle.std.specs.List.{filter_map, join_with_byte, slice_split}
+use Rattle.std.specs.Result.{result_map_both}
 use Rattle.std.specs.Io.KnownBytes.{Consumes, IsAtEnd}
 use Rattle.reg_records.specs.Device.{all_reads_of, counted, counted_by, faults_of, reads_of}
 use Rattle.reg_records.specs.Line.{is_line_feed, reading}
@@ -17,36 +18,22 @@ use Rattle.reg_records.specs.declared.record.Record.{Record}
 use Rattle.reg_records.specs.declared.record.Read.{Read}
 use Rattle.reg_records.specs.declared.record.Read.TheVariants as reads
 
-abbrev pub is_empty_line : List ℕ → Bool
-is_empty_line line = length line == 0
-
 -- what the lines of a log say, in their order, and the bytes after its empty line
 pub record LogText : Type 0 where
   pub reads : List Read
   pub rest : List ℕ
 
-abbrev pub with_read : Read → LogText → LogText
-with_read read log = record { reads = read ∷ log.reads; rest = log.rest }
-
-abbrev pub map_log : (LogText → LogText) → Result LogText (ℕ × LogFault) → Result LogText (ℕ × LogFault)
-map_log f (Ok log) = Ok (f log)
-map_log f (Err fault) = Err fault
-
--- the fault of a line, unless the log has more lines than it may
-abbrev pub fault_at : ℕ → LineError → LogFault
-fault_at number fault = if nat_lt LOG_LINES number then faults.TooManyLines else faults.Line fault
-
 -- what a line says, before what the lines after it say; the first fault is told with its line's number
 abbrev pub line_then : ℕ → Result Read LineError → Result LogText (ℕ × LogFault) → Result LogText (ℕ × LogFault)
-line_then number (Err fault) more = Err (number, fault_at number fault)
-line_then number (Ok read) more = if nat_lt LOG_LINES number then Err (number, faults.TooManyLines) else map_log (with_read read) more
+line_then number (Err fault) more = Err (number, faults.Line fault)
+line_then number (Ok read) more = result_map_both (λ (log : LogText). record log { reads = read ∷ log.reads }) (λ fault. fault) more
 
--- the log that begins with the line of that number
+-- the log that begins with the line of that number; a line past the most that a log has is one too many, whatever it says, and the last line has no LF
 abbrev pub log_from : ℕ → List (List ℕ) → Result LogText (ℕ × LogFault)
 log_from number [] = Ok (record { reads = []; rest = [] })
-log_from number (last ∷ []) = if is_empty_line last then Ok (record { reads = []; rest = [] }) else Err (number, fault_at number Truncated)
-log_from number (line ∷ next ∷ lines) = if is_empty_line line then Ok (record { reads = []; rest = join_with_byte 10 (next ∷ lines) })
-    else line_then number (reading line) (log_from (suc number) (next ∷ lines))
+log_from number (line ∷ lines) = if length line == 0 then Ok (record { reads = []; rest = join_with_byte 10 lines })
+    else (if nat_lt LOG_LINES number then Err (number, faults.TooManyLines)
+    else line_then number (if length lines == 0 then Err Truncated else reading line) (log_from (suc number) lines))
 
 -- the log at the front of a text, whose lines are what stands before, between and after its LFs, or the number of its first line that has a fault, and the fault
 abbrev pub log_of : List ℕ → Result LogText (ℕ × LogFault)
@@ -57,8 +44,7 @@ record_in (reads.Record r) = Some r
 record_in (reads.Foreign offset) = None
 
 abbrev pub is_foreign : Read → Bool
-is_foreign (reads.Record r) = false
-is_foreign (reads.Foreign offset) = true
+is_foreign read = is_none (record_in read)
 
 abbrev pub offset_in : Read → ℕ
 offset_in (reads.Record r) = r.offset
@@ -70,8 +56,7 @@ records_in read = filter_map record_in read
 
 -- one more than the greatest offset, or 0
 abbrev pub next_after : List Read → ℕ
-next_after [] = 0
-next_after (r ∷ rs) = max (suc (offset_in r)) (next_after rs)
+next_after read = fold (λ next r. max next (suc (offset_in r))) 0 read
 
 -- the log holds what its lines say
 pub record IsLogOf (read : List Read) (log : Log) : Type 0 where

@@ -1,17 +1,19 @@
 -- Private: what one line adds to a log.
-use Rattle.std.specs.Prelude.{◌≡◌, ⊤, ℕ, suc, ◌+◌, ◌≤◌, max, List, [], ◌++◌, Bool, true, false, Option, Some, IfSome, Result, Ok, Err, count_by, if◌then◌else◌}
+use Rattle.std.specs.Prelude.{◌≡◌, ⊤, ℕ, suc, ◌+◌, ◌≤◌, max, List, [], ◌∷◌, ◌++◌, Bool, true, false, Option, Some, IfSome, Result, Ok, Err, count_by, nat_lt, if◌then◌else◌}
 use Rattle.std.specs.Option.{option_to_list}
 use Rattle.std.specs.List.{slice_split}
+use Rattle.std.specs.Result.{result_map_both}
 use Rattle.std.specs.Io.KnownBytes.{Consumes}
 use Rattle.reg_records.specs.Device.{faults_of}
 use Rattle.reg_records.specs.Line.{is_line_feed, reading}
-use Rattle.reg_records.specs.Log.{LogText, log_from, map_log, with_read, line_then, record_in, is_foreign, offset_in, TakesLastLine}
+use Rattle.reg_records.specs.Log.{LogText, log_from, line_then, record_in, is_foreign, offset_in, TakesLastLine}
 use Rattle.reg_records.specs.Pieces.{HasNoLineFeed, LeavesLine}
 use Rattle.reg_records.specs.declared.device.Device.{Device}
 use Rattle.reg_records.specs.declared.limits.TheConstants.{LOG_LINES}
 use Rattle.reg_records.specs.declared.log.Log.{Log}
 use Rattle.reg_records.specs.declared.log.LogError.{LogError}
 use Rattle.reg_records.specs.declared.log.LogFault.{LogFault}
+use Rattle.reg_records.specs.declared.log.LogFault.TheVariants.{TooManyLines}
 use Rattle.reg_records.specs.declared.log.LogError.TheVariants as errors
 use Rattle.reg_records.specs.declared.record.Read.{Read}
 
@@ -27,7 +29,8 @@ StepsLog number old new before after true =
     (number ≤ LOG_LINES) × (read : Read) × AddsRead before read after
     × ((taken : List ℕ) × Consumes old new taken × (count_by is_line_feed taken ≡ 1))
     × IfSome old (λ text. IfSome new (λ rest. log_from number (slice_split is_line_feed text)
-    ≡ map_log (with_read read) (log_from (suc number) (slice_split is_line_feed rest))))
+    ≡ result_map_both (λ (log : LogText). record log { reads = read ∷ log.reads }) (λ fault. fault)
+    (log_from (suc number) (slice_split is_line_feed rest))))
 StepsLog number old new before after false =
     (after ≡ before) × IfSome old (λ text. (rest : List ℕ)
     × (log_from number (slice_split is_line_feed text) ≡ Ok (record { reads = []; rest = rest })) × (new ≡ Some rest))
@@ -43,6 +46,7 @@ IsStepRefusal number before after old new errors.OutOfMemory = faults_of after �
 
 -- why a line that was taken whole says nothing
 abbrev pub IsLineRefusal : ℕ → List ℕ → LogError → Type 0
-IsLineRefusal number bytes (errors.Fault line fault) = (line ≡ number) × ((more : Result LogText (ℕ × LogFault)) → line_then number (reading bytes) more ≡ Err (number, fault))
+IsLineRefusal number bytes (errors.Fault line fault) = (line ≡ number) × ((more : Result LogText (ℕ × LogFault))
+    → (if nat_lt LOG_LINES number then Err (number, TooManyLines) else line_then number (reading bytes) more) ≡ Err (number, fault))
 IsLineRefusal number bytes (errors.ReadFault line) = ⊥
 IsLineRefusal number bytes errors.OutOfMemory = ⊤

@@ -1,6 +1,6 @@
 -- What is written for a key and a value, compact JSON with its members in this order, and for a record.
-use Rattle.std.specs.Prelude.{◌≡◌, ◌<◌, ◌≤◌, ◌^◌, ⊤, ℕ, List, [], ◌∷◌, ◌++◌, Bool, true, false, Option, Some, None, option_map, unwrap_or, bytes_eq, codes, decimal}
-use Rattle.std.specs.Option.{ForSome}
+use Rattle.std.specs.Prelude.{◌≡◌, ◌<◌, ◌≤◌, ◌^◌, ⊤, ℕ, List, true, false, Option, Some, None, IfSome, option_map, unwrap_or, bytes_eq, codes, decimal}
+use Rattle.std.specs.Option.{ForSome, option_map_or}
 use Rattle.serde_json.specs.Data.{unsigned, Data, null, boolean, number, string, object, Members, no_members, member}
 use Rattle.serde_json.specs.Written.{compact_text}
 use Rattle.reg_records.specs.declared.key.Key.{Key}
@@ -9,30 +9,23 @@ use Rattle.reg_records.specs.declared.limits.TheConstants.{NUMBER_LIMIT, OFFSET_
 use Rattle.reg_records.specs.declared.record.Record.{Record}
 use Rattle.reg_records.specs.declared.value.Value.{Value}
 use Rattle.reg_records.specs.declared.value.Value.TheVariants as values
+use Rattle.reg_records.specs.Key.{key_version}
 use Rattle.reg_records.specs.Line.{is_tab, is_line_feed, is_free_of, line_of}
-
--- a subject, or null for the global scope
-abbrev pub scope_data : Option (List ℕ) → Data
-scope_data None = null
-scope_data (Some subject) = string subject
 
 -- the version of the keys' own format
 abbrev pub magic : ℕ → Members
 magic n = member (codes "magic") (number (unsigned n)) no_members
 
-abbrev pub subject_and : Data → Members → Members
-subject_and subject rest = member (codes "subject") subject rest
-
 abbrev pub of_kind : List ℕ → Members → Data
 of_kind kind rest = object (member (codes "keytype") (string kind) rest)
 
--- the object that is written for a key
+-- the object that is written for a key; the global scope is null
 abbrev pub key_data : Key → Data
 key_data (Schema subject version) =
-    of_kind (codes "SCHEMA") (subject_and (string subject) (member (codes "version") (number (unsigned version)) (magic 1)))
-key_data (Config scope) = of_kind (codes "CONFIG") (subject_and (scope_data scope) (magic 0))
-key_data (Mode scope) = of_kind (codes "MODE") (subject_and (scope_data scope) (magic 0))
-key_data (DeleteSubject subject) = of_kind (codes "DELETE_SUBJECT") (subject_and (string subject) (magic 0))
+    of_kind (codes "SCHEMA") (member (codes "subject") (string subject) (member (codes "version") (number (unsigned version)) (magic 1)))
+key_data (Config scope) = of_kind (codes "CONFIG") (member (codes "subject") (option_map_or string scope null) (magic 0))
+key_data (Mode scope) = of_kind (codes "MODE") (member (codes "subject") (option_map_or string scope null) (magic 0))
+key_data (DeleteSubject subject) = of_kind (codes "DELETE_SUBJECT") (member (codes "subject") (string subject) (magic 0))
 key_data Noop = of_kind (codes "NOOP") (magic 0)
 
 -- its text
@@ -41,11 +34,7 @@ written_key k = compact_text (key_data k)
 
 -- the key's version is a number of 32 bits
 abbrev pub IsOf32Bits : Key → Type 0
-IsOf32Bits (Schema subject version) = version < 2 ^ 32
-IsOf32Bits (Config scope) = ⊤
-IsOf32Bits (Mode scope) = ⊤
-IsOf32Bits (DeleteSubject subject) = ⊤
-IsOf32Bits Noop = ⊤
+IsOf32Bits k = IfSome (key_version k) (λ version. version < 2 ^ 32)
 
 -- a version or an id, from 1 to its limit
 abbrev pub IsVersionOrId : ℕ → Type 0
@@ -53,37 +42,17 @@ IsVersionOrId n = (1 ≤ n) × (n ≤ NUMBER_LIMIT)
 
 -- the key's version is within its limits
 abbrev pub IsInLimits : Key → Type 0
-IsInLimits (Schema subject version) = IsVersionOrId version
-IsInLimits (Config scope) = ⊤
-IsInLimits (Mode scope) = ⊤
-IsInLimits (DeleteSubject subject) = ⊤
-IsInLimits Noop = ⊤
-
--- the object that is written for a version
-abbrev pub schema_data : List ℕ → ℕ → ℕ → List ℕ → Bool → Data
-schema_data subject version id schema deleted =
-    object (member (codes "subject") (string subject) (member (codes "version") (number (unsigned version))
-    (member (codes "id") (number (unsigned id)) (member (codes "schema") (string schema)
-    (member (codes "deleted") (boolean deleted) no_members)))))
-
--- the object that is written for a level, and for a mode
-abbrev pub config_data : List ℕ → Data
-config_data level = object (member (codes "compatibilityLevel") (string level) no_members)
-
-abbrev pub mode_data : List ℕ → Data
-mode_data mode = object (member (codes "mode") (string mode) no_members)
-
--- the object that is written for a soft delete
-abbrev pub delete_subject_data : List ℕ → ℕ → Data
-delete_subject_data subject version =
-    object (member (codes "subject") (string subject) (member (codes "version") (number (unsigned version)) no_members))
+IsInLimits k = IfSome (key_version k) IsVersionOrId
 
 -- the object that is written for a value; none for no operation
 abbrev pub value_data : Value → Option Data
-value_data (values.Schema subject version id schema deleted) = Some (schema_data subject version id schema deleted)
-value_data (values.Config level) = Some (config_data level)
-value_data (values.Mode mode) = Some (mode_data mode)
-value_data (values.DeleteSubject subject version) = Some (delete_subject_data subject version)
+value_data (values.Schema subject version id schema deleted) = Some (object (member (codes "subject") (string subject)
+    (member (codes "version") (number (unsigned version)) (member (codes "id") (number (unsigned id))
+    (member (codes "schema") (string schema) (member (codes "deleted") (boolean deleted) no_members))))))
+value_data (values.Config level) = Some (object (member (codes "compatibilityLevel") (string level) no_members))
+value_data (values.Mode mode) = Some (object (member (codes "mode") (string mode) no_members))
+value_data (values.DeleteSubject subject version) =
+    Some (object (member (codes "subject") (string subject) (member (codes "version") (number (unsigned version)) no_members)))
 value_data values.Noop = None
 
 -- its text
@@ -111,7 +80,3 @@ pub record HasLine (r : Record) : Type 0 where
 -- the line of a record, without its LF
 abbrev pub line_text : Record → List ℕ
 line_text r = line_of (decimal r.offset) (written_key r.key) (unwrap_or r.value (codes "null"))
-
--- with its LF
-abbrev pub written_line : Record → List ℕ
-written_line r = line_text r ++ 10 ∷ []

@@ -1,10 +1,13 @@
 // The keys of records.
-ghost use Rattle.std.specs.Prelude.{◌≡◌, ◌↔◌, ◌++◌, IfOk, IsTrue, codes, option_copied, string_bytes};
+ghost use Rattle.std.specs.Prelude.{◌≡◌, ◌↔◌, ◌++◌, IfOk, IsTrue, codes, option_and_then, option_copied, option_map, string_bytes};
+ghost use Rattle.std.specs.Option.{option_map_or};
+ghost use Rattle.serde_json.specs.Data.{null, string};
 ghost use Rattle.serde_json.specs.Written.{compact_text};
 ghost use Rattle.serde_json.specs.View.{view};
 ghost use Rattle.reg_records.specs.declared.key.Key.{Key};
-ghost use Rattle.reg_records.specs.Key.{key_of, key_in, key_of_kind, schema_key, config_key, mode_key, delete_subject_key, scope_in};
-ghost use Rattle.reg_records.specs.Written.{written_key, scope_data, IsInLimits, IsOf32Bits};
+ghost use Rattle.reg_records.specs.Json.{text_at};
+ghost use Rattle.reg_records.specs.Key.{key_of, key_of_kind, schema_key, scope_in};
+ghost use Rattle.reg_records.specs.Written.{written_key, IsInLimits, IsOf32Bits};
 
 use crate::limits::NUMBER_LIMIT;
 use crate::members::{number_at, parse, quoted, text_at};
@@ -64,7 +67,7 @@ pub(crate) fn key_of(alloc: Global, text: &str) -> Result<Option<Key>, AllocErro
 }
 
 fn key_in(alloc: Global, json: &Json) -> Result<Option<Key>, AllocError>
-    ensures { IfOk result (λ key. key ≡ key_in (view json.now)) }
+    ensures { IfOk result (λ key. key ≡ option_and_then (λ kind. key_of_kind kind (view json.now)) (text_at (codes "keytype") (view json.now))) }
 {
     match text_at(json, "keytype") {
         Some(kind) => key_of_kind(alloc, kind, json),
@@ -102,7 +105,7 @@ fn schema_key(alloc: Global, json: &Json) -> Result<Option<Key>, AllocError>
 }
 
 fn config_key(alloc: Global, json: &Json) -> Result<Option<Key>, AllocError>
-    ensures { IfOk result (λ key. key ≡ config_key (view json.now)) }
+    ensures { IfOk result (λ key. key ≡ option_map Key.Config (scope_in (view json.now))) }
 {
     match scope_in(alloc, json)? {
         Some(scope) => Ok(Some(Key::Config(scope))),
@@ -111,7 +114,7 @@ fn config_key(alloc: Global, json: &Json) -> Result<Option<Key>, AllocError>
 }
 
 fn mode_key(alloc: Global, json: &Json) -> Result<Option<Key>, AllocError>
-    ensures { IfOk result (λ key. key ≡ mode_key (view json.now)) }
+    ensures { IfOk result (λ key. key ≡ option_map Key.Mode (scope_in (view json.now))) }
 {
     match scope_in(alloc, json)? {
         Some(scope) => Ok(Some(Key::Mode(scope))),
@@ -120,7 +123,7 @@ fn mode_key(alloc: Global, json: &Json) -> Result<Option<Key>, AllocError>
 }
 
 fn delete_subject_key(alloc: Global, json: &Json) -> Result<Option<Key>, AllocError>
-    ensures { IfOk result (λ key. key ≡ delete_subject_key (view json.now)) }
+    ensures { IfOk result (λ key. key ≡ option_map Key.DeleteSubject (text_at (codes "subject") (view json.now))) }
 {
     match text_at(json, "subject") {
         Some(subject) => Ok(Some(Key::DeleteSubject(Text::copy_of(alloc, subject)?))),
@@ -158,7 +161,7 @@ fn schema_key_text(alloc: Global, subject: &Text, version: u32) -> Result<Text, 
 /// The key of that kind, which has no member of its own beside its subject.
 fn scope_key_text(alloc: Global, kind: &str, scope: Option<&Text>) -> Result<Text, AllocError>
     ensures { IfOk result (λ text. text ≡ codes "{\"keytype\":\"" ++ kind.now
-        ++ codes "\",\"subject\":" ++ compact_text (scope_data (option_copied scope.entry)) ++ codes ",\"magic\":0}") }
+        ++ codes "\",\"subject\":" ++ compact_text (option_map_or string (option_copied scope.entry) null) ++ codes ",\"magic\":0}") }
 {
     let subject = scope_text(alloc, scope)?;
     let text = format!(in alloc; "{{\"keytype\":\"{kind}\",\"subject\":{subject},\"magic\":0}}")?;
@@ -167,7 +170,7 @@ fn scope_key_text(alloc: Global, kind: &str, scope: Option<&Text>) -> Result<Tex
 
 /// The JSON text of a scope: its subject, or `null` for the global one.
 fn scope_text(alloc: Global, scope: Option<&Text>) -> Result<String, AllocError>
-    ensures { IfOk result (λ text. string_bytes text ≡ compact_text (scope_data (option_copied scope.entry))) }
+    ensures { IfOk result (λ text. string_bytes text ≡ compact_text (option_map_or string (option_copied scope.entry) null)) }
 {
     match scope {
         Some(subject) => quoted(alloc, subject.as_str()),

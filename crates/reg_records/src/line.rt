@@ -1,10 +1,10 @@
 // Lines of a topic: `offset TAB key TAB value LF`.
-ghost use Rattle.std.specs.Prelude.{◌≡◌, ◌≤◌, ◌==◌, ℕ, List, true, false, IfOk, IfErr, IfSome, Ok, Err, MatchOption, MatchResult, position, count_by};
+ghost use Rattle.std.specs.Prelude.{◌≡◌, ◌≤◌, ◌==◌, ℕ, List, [], ◌∷◌, true, false, IfOk, IfErr, IfSome, Ok, Err, MatchOption, MatchResult, position};
 ghost use Rattle.std.specs.Char.{is_ascii_digit};
-ghost use Rattle.std.specs.List.{list_all};
+ghost use Rattle.std.specs.List.{list_all, slice_split};
 ghost use Rattle.std.specs.Str.{is_utf8};
 ghost use Rattle.reg_records.specs.Log.{offset_in};
-ghost use Rattle.reg_records.specs.Line.{is_line_feed, is_tab, is_free_of, is_decimal, offset_of, offset_field, key_field, value_field, read_at, reading, reading_at_front, IsFaultOf, Spells};
+ghost use Rattle.reg_records.specs.Line.{is_line_feed, is_tab, is_free_of, is_decimal, offset_of, read_at, reading_of, reading, reading_at_front, IsFaultOf, Spells};
 ghost use Rattle.reg_records.specs.declared.record.Read.{Read};
 
 use crate::key::key_of;
@@ -172,9 +172,8 @@ fn text_of(line: &[u8]) -> Option<&str>
 
 /// The three fields of a line that has exactly two TABs.
 fn fields_of(text: &str) -> Option<(&str, &str, &str)>
-    ensures { MatchOption result ((count_by is_tab text.now == 2) ≡ false)
-        (λ fields. ((count_by is_tab text.now == 2) ≡ true) × (fields.0.now ≡ offset_field text.now)
-        × (fields.1.now ≡ key_field text.now) × (fields.2.now ≡ value_field text.now)) }
+    ensures { MatchOption result (reading_of (slice_split is_tab text.now) ≡ Err LineError.BadTabs)
+        (λ fields. slice_split is_tab text.now ≡ fields.0.now ∷ fields.1.now ∷ fields.2.now ∷ []) }
 {
     let (offset, rest) = text.split_once('\t')?;
     let (key, value) = rest.split_once('\t')?;

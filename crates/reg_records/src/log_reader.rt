@@ -1,8 +1,8 @@
 // Reading a log line by line.
-ghost use Rattle.std.specs.Prelude.{◌≡◌, ◌<◌, ◌≤◌, ◌+◌, ℕ, List, IfOk, IfErr, OnOk, IfSome, Some, Ok};
+ghost use Rattle.std.specs.Prelude.{◌≡◌, ◌<◌, ◌≤◌, ◌+◌, ℕ, List, IfOk, IfErr, OnOk, IfSome, Some, Ok, nat_lt, if◌then◌else◌};
 ghost use Rattle.reg_records.specs.Device.{all_reads_of, bytes_in, counted_by, faults_of, reads_of};
 ghost use Rattle.reg_records.specs.Line.{IsFaultOf, reading};
-ghost use Rattle.reg_records.specs.Log.{LogText, log_of, IsLogOf, IsLogRefusal, fault_at, offset_in};
+ghost use Rattle.reg_records.specs.Log.{LogText, log_of, IsLogOf, IsLogRefusal, offset_in};
 ghost use Rattle.reg_records.specs.LogSteps.{StepsLog, IsStepRefusal, IsLineRefusal};
 ghost use Rattle.reg_records.specs.Pieces.{Holds};
 
@@ -100,7 +100,7 @@ fn read_taken(alloc: Global, line: &LineBuffer) -> Result<Read, ReadLineError>
 
 /// The fault of a line, unless the log has more lines than it may.
 fn fault_at(number: u64, fault: LineError) -> LogError
-    ensures { result ≡ LogError.Fault number (fault_at number fault) }
+    ensures { result ≡ LogError.Fault number (if nat_lt LOG_LINES number then LogFault.TooManyLines else LogFault.Line fault) }
 {
     let fault = if number > LOG_LINES {
         LogFault::TooManyLines

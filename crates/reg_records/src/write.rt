@@ -1,9 +1,9 @@
 // Written lines of a topic: `offset TAB key TAB value LF`.
-ghost use Rattle.std.specs.Prelude.{◌≡◌, ◌↔◌, ◌++◌, ◌<◌, ◌≤◌, ℕ, List, Ok, IfOk, OnOk, IsErrOf, IsTrue, codes, decimal, length, string_bytes, unwrap_or};
+ghost use Rattle.std.specs.Prelude.{◌≡◌, ◌↔◌, ◌++◌, ◌<◌, ◌≤◌, ℕ, List, [], ◌∷◌, Ok, IfOk, OnOk, IsErrOf, IsTrue, codes, decimal, length, string_bytes, unwrap_or};
 ghost use Rattle.reg_records.specs.declared.record.Read.TheVariants as reads;
 ghost use Rattle.std.specs.Option.{ForSome};
 ghost use Rattle.reg_records.specs.Line.{line_of, reading_at_front};
-ghost use Rattle.reg_records.specs.Written.{HasLine, IsValueField, line_text, written_line};
+ghost use Rattle.reg_records.specs.Written.{HasLine, IsValueField, line_text};
 
 use crate::limits::{LINE_LIMIT, OFFSET_LIMIT};
 use crate::line::{LineError, is_free_of};
@@ -60,7 +60,7 @@ pub fn has_line(given: &Record) -> bool
 /// The key is JSON (RFC 8259) without spaces, its members in a fixed order; no value is `null`.
 pub fn write_line(alloc: Global, given: &Record) -> Result<Vec<u8>, WriteLineError>
     requires { HasLine given.now }
-    ensures line { IfOk result (λ line. line.items ≡ written_line given.now) }
+    ensures line { IfOk result (λ line. line.items ≡ line_text given.now ++ 10 ∷ []) }
     ensures reads_back { IfOk result
         (λ line. (rest : List ℕ) → reading_at_front (line.items ++ rest) ≡ Ok (reads.Record given.now)) }
     ensures within { OnOk result (length (line_text given.now) ≤ LINE_LIMIT) }

@@ -3,14 +3,13 @@ use Rattle.std.proofs.Common.{◌≡◌, Bool, true, false, cond, ◌&&◌, ◌|
 use Rattle.std.proofs.lemmas.Bool.{false≢true}
 use Rattle.std.proofs.lemmas.Cmp.{tied_itself, upto}
 use Rattle.std.specs.FinSet.{contains}
-use Rattle.std.specs.List.{list_any, list_all, filter, fold}
+use Rattle.std.specs.List.{list_any, list_all, filter, fold, reduce}
 use Rattle.std.specs.Option.{unwrap_or}
 use Rattle.std.specs.Ordering.{eq_by_cmp, is_eq, is_gt, is_le, is_lt, ord_max, ordering_reverse}
 use Rattle.std.specs.declared.cmp.Ordering.{Ordering}
 use Rattle.std.specs.declared.cmp.Ordering.TheVariants.{Less, Equal, Greater}
 use Rattle.reg_records.specs.declared.key.Key.{Key}
 use Rattle.reg_records.specs.declared.record.Record.{Record}
-use Rattle.reg_set.specs.Greatest.{greatest}
 use Rattle.reg_set.specs.LastRecords.{is_of, last, IsGreatestOf}
 use Rattle.reg_set.specs.RecordOrder.{age_cmp, key_cmp, record_cmp}
 use Rattle.reg_set.specs.Records.{Records, records_of}
@@ -131,7 +130,7 @@ most-among a (x ∷ xs) =
     ] (most-among (ord_max age_cmp a x) xs)
 
 -- the greatest of a list is among it, and each of the list is at most that one
-greatest-some : (xs : List Record) (r : Record) → greatest age_cmp xs ≡ Some r → (list_any (eq_by_cmp record_cmp r) xs ≡ true) × (list_all (λ q. is_le (age_cmp q r)) xs ≡ true)
+greatest-some : (xs : List Record) (r : Record) → reduce (ord_max age_cmp) xs ≡ Some r → (list_any (eq_by_cmp record_cmp r) xs ≡ true) × (list_all (λ q. is_le (age_cmp q r)) xs ≡ true)
 greatest-some [] r e = absurd (cc)
 greatest-some (x ∷ xs) r e =
     let same : most x xs ≡ r = ap (λ o. unwrap_or o r) e in (
@@ -139,7 +138,7 @@ greatest-some (x ∷ xs) r e =
       subst (λ m. list_all (λ q. is_le (age_cmp q m)) (x ∷ xs) ≡ true) same (both (most-first x xs) (most-others x xs)),
     )
 
-greatest-none : (xs : List Record) → greatest age_cmp xs ≡ None → xs ≡ []
+greatest-none : (xs : List Record) → reduce (ord_max age_cmp) xs ≡ None → xs ≡ []
 greatest-none [] e = refl
 greatest-none (x ∷ xs) e = absurd (cc)
 

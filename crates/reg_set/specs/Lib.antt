@@ -1,5 +1,4 @@
 pub mod Compaction
-pub mod Greatest
 pub mod Index
 pub mod Join
 pub mod LastRecords

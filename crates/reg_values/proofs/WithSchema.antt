@@ -9,10 +9,11 @@ use Rattle.serde_json.specs.declared.value.Value.{Value as Json}
 use Rattle.avro_schema.specs.Schema.{Meaning, is_schema, schema_of}
 use Rattle.reg_records.specs.Json.{has_number_at, has_text_at, number_at, text_at}
 use Rattle.reg_values.specs.declared.decoding.Decoded.{Decoded}
+use Rattle.reg_records.specs.declared.key.Key.TheVariants as keys
 use Rattle.reg_records.specs.declared.value.Value.{Value}
 use Rattle.reg_records.specs.declared.value.Value.TheVariants.{Schema}
 use Rattle.reg_records.specs.declared.record.Record.{Record}
-use Rattle.reg_values.specs.Value.{value_in, value_of, deleted_in, is_plain_avro, schema_in, schema_value}
+use Rattle.reg_values.specs.Value.{value_in, value_of, deleted_in, is_plain_avro, schema_in}
 use Rattle.reg_values.specs.WithSchema.{with_schema}
 
 schema-with_schema : (o : Option Value) → IfSome (option_map with_schema o) (λ d. d.schema ≡ schema_in d.value)
@@ -43,12 +44,12 @@ module _ (subject : List ℕ) (version : ℕ) (d : Data) (id : ℕ) (text : List
     (about : (has_text_at (codes "subject") subject d && has_number_at (codes "version") version d) ≡ true) (plain : is_plain_avro d ≡ true)
     (numbered : number_at (codes "id") d ≡ Some id) (written : text_at (codes "schema") d ≡ Some text) where
   -- the members of a version leave its text to be read and its mark to be looked at
-  schema_value-members : schema_value subject version d
+  schema_value-members : value_in (keys.Schema subject version) d
       ≡ option_and_then (λ schema. option_map (λ deleted. Schema subject version id schema deleted) (deleted_in d)) (if is_schema text then Some text else None)
   schema_value-members = rw (about, plain, numbered, written) refl
 
   pub schema_value-marked : (deleted : Bool) → deleted_in d ≡ Some deleted
-      → option_map with_schema (schema_value subject version d) ≡ option_map (λ meaning. record { value = Schema subject version id text deleted; schema = Some meaning }) (schema_of text)
+      → option_map with_schema (value_in (keys.Schema subject version) d) ≡ option_map (λ meaning. record { value = Schema subject version id text deleted; schema = Some meaning }) (schema_of text)
   schema_value-marked deleted marked =
       ap (option_map with_schema) (schema_value-members ∙ ap (λ mark. option_and_then (λ schema. option_map (λ deleted. Schema subject version id schema deleted) mark) (if is_schema text then Some text else None)) marked)
       ∙ elim (schema_of text) as (λ m. schema_of text ≡ m
@@ -60,7 +61,7 @@ module _ (subject : List ℕ) (version : ℕ) (d : Data) (id : ℕ) (text : List
             ap decoded is
       ] refl
 
-  pub schema_value-unmarked : deleted_in d ≡ None → None ≡ option_map with_schema (schema_value subject version d)
+  pub schema_value-unmarked : deleted_in d ≡ None → None ≡ option_map with_schema (value_in (keys.Schema subject version) d)
   schema_value-unmarked marked =
       sym (ap (option_map with_schema) (schema_value-members ∙ ap (λ mark. option_and_then (λ schema. option_map (λ deleted. Schema subject version id schema deleted) mark) (if is_schema text then Some text else None)) marked)
       ∙ elim (is_schema text) as (λ b. option_map with_schema (option_and_then (λ schema. None) (if b then Some text else None)) ≡ None) [

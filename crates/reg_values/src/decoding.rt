@@ -1,14 +1,15 @@
 // What the values of records mean.
-ghost use Rattle.std.specs.Prelude.{◌≡◌, ◌≤◌, ◌&&◌, ℕ, IfOk, IfSome, Some, None, codes, option_map};
+ghost use Rattle.std.specs.Prelude.{◌≡◌, ◌≤◌, ◌&&◌, ℕ, true, IfOk, IfSome, Some, None, codes, option_map};
+ghost use Rattle.std.specs.Option.{option_map_or};
 ghost use Rattle.serde_json.specs.View.{view};
 ghost use Rattle.avro_schema.specs.Schema.{schema_of};
 ghost use Rattle.reg_level_names.specs.Level.{is_level};
-ghost use Rattle.reg_records.specs.Json.{text_where, has_text_at, has_number_at};
+ghost use Rattle.reg_records.specs.Json.{is_null, text_at, text_where, has_text_at, has_number_at};
 ghost use Rattle.reg_records.specs.Written.{written_value, HasLine, IsInLimits};
 ghost use Rattle.reg_records.specs.declared.key.Key.{Key};
 ghost use Rattle.reg_records.specs.declared.value.Value.{Value};
 ghost use Rattle.reg_values.specs.OfKey.{IsValueOf, ValuesAreOfKeys};
-ghost use Rattle.reg_values.specs.Value.{value_of, schema_in, value_in, schema_value, config_value, mode_value, delete_subject_value, noop_value, is_plain_avro, is_absent_or, is_absent, is_avro_name, is_empty_list, deleted_in};
+ghost use Rattle.reg_values.specs.Value.{value_of, schema_in, value_in, is_plain_avro, is_absent_or, is_avro_name, is_empty_list, deleted_in};
 ghost use Rattle.reg_values.specs.WithSchema.{with_schema};
 
 use avro_schema::Schema;
@@ -76,7 +77,7 @@ fn decode_schema(
     version: u32,
     json: &Json,
 ) -> Result<Option<Decoded>, AllocError>
-    ensures { IfOk result (λ found. found ≡ option_map with_schema (schema_value subject.now version (view json.now))) }
+    ensures { IfOk result (λ found. found ≡ option_map with_schema (value_in (Key.Schema subject.now version) (view json.now))) }
 {
     if !is_about_version(json, subject, version) || !is_plain_avro(json) {
         return Ok(None);
@@ -143,7 +144,7 @@ fn version_value(
 }
 
 fn decode_config(alloc: Global, json: &Json) -> Result<Option<Decoded>, AllocError>
-    ensures { IfOk result (λ found. found ≡ option_map with_schema (config_value (view json.now))) }
+    ensures { IfOk result (λ found. found ≡ option_map with_schema (option_map Value.Config (text_where is_level (codes "compatibilityLevel") (view json.now)))) }
 {
     match level_at(json) {
         Some(level) => Ok(Some(without_schema(Value::Config(Text::copy_of(alloc, level)?)))),
@@ -164,7 +165,7 @@ fn level_at(json: &Json) -> Option<&str>
 }
 
 fn decode_mode(alloc: Global, json: &Json) -> Result<Option<Decoded>, AllocError>
-    ensures { IfOk result (λ found. found ≡ option_map with_schema (mode_value (view json.now))) }
+    ensures { IfOk result (λ found. found ≡ option_map with_schema (option_map Value.Mode (text_at (codes "mode") (view json.now)))) }
 {
     match text_at(json, "mode") {
         Some(mode) => Ok(Some(without_schema(Value::Mode(Text::copy_of(alloc, mode)?)))),
@@ -173,7 +174,7 @@ fn decode_mode(alloc: Global, json: &Json) -> Result<Option<Decoded>, AllocError
 }
 
 fn decode_delete_subject(subject: &Text, json: &Json) -> Result<Option<Decoded>, AllocError>
-    ensures { IfOk result (λ found. found ≡ option_map with_schema (delete_subject_value subject.now (view json.now))) }
+    ensures { IfOk result (λ found. found ≡ option_map with_schema (value_in (Key.DeleteSubject subject.now) (view json.now))) }
 {
     if !has_text_at(json, "subject", subject.as_str()) {
         return Ok(None);
@@ -188,7 +189,7 @@ fn decode_delete_subject(subject: &Text, json: &Json) -> Result<Option<Decoded>,
 }
 
 fn decode_noop(json: &Json) -> Option<Decoded>
-    ensures { result ≡ option_map with_schema (noop_value (view json.now)) }
+    ensures { result ≡ option_map with_schema (value_in Key.Noop (view json.now)) }
 {
     match json.as_object() {
         Some(_) => Some(without_schema(Value::Noop)),
@@ -219,7 +220,7 @@ pub fn is_plain_avro(json: &Json) -> bool
 }
 
 fn is_absent(member: Option<&Json>) -> bool
-    ensures { result ≡ is_absent (option_map (λ json. view json.now) member.entry) }
+    ensures { result ≡ option_map_or is_null (option_map (λ json. view json.now) member.entry) true }
 {
     match member {
         Some(json) => json.is_null(),

@@ -1,6 +1,6 @@
 use Rattle.std.proofs.Common.{ap, sym, ◌∙◌}
-use Rattle.std.specs.List.{slice_get}
-use Rattle.avro_resolve.specs.Pairing.{first_field}
+use Rattle.std.specs.List.{filter_map, slice_get}
+use Rattle.avro_schema.specs.Defaults.{field_named}
 use Rattle.avro_resolve.proofs.Named.{partner_of_place, partner_of_aliases}
 use Rattle.avro_resolve.proofs.fields.partner_near.Goals as goal
 
@@ -11,5 +11,5 @@ returns-in-Some-place c =
 
 pub returns-in-None : goal.returns-in-None
 returns-in-None c =
-    c.first_field.ensures ∙ ap (λ ns. first_field c.args.writer.now ns) c.as_slice-in-None.ensures
+    c.first_field.ensures ∙ ap (λ ns. slice_get (filter_map (field_named c.args.writer.now) ns) 0) c.as_slice-in-None.ensures
     ∙ partner_of_aliases c.args.writer.now c.args.field.now (sym c.place.ensures ∙ c.in-None.is)

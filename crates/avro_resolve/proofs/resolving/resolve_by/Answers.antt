@@ -1,9 +1,9 @@
-use Rattle.std.proofs.Common.{◌≡◌, ◌∙◌, sym, ap, subst, length, reverse, option_map, arith}
+use Rattle.std.proofs.Common.{◌≡◌, ◌∙◌, sym, ap, subst, length, reverse, option_map, Err, arith}
 use Rattle.std.proofs.lemmas.Option.{slice_get_read}
 use Rattle.avro_resolve.specs.Row.{clash_of_cause}
 use Rattle.avro_resolve.specs.Search.{expanded, IsWayBack, LeadsBack}
-use Rattle.avro_resolve.specs.Table.{outcome, owed_in, obligations}
-use Rattle.avro_resolve.specs.declared.obligations.Outcome.TheVariants.{Clashes}
+use Rattle.avro_resolve.specs.Table.{outcome, obligations}
+use Rattle.avro_resolve.proofs.Rows.{owed_in}
 use Rattle.avro_resolve.proofs.BreadthFirst.{leads_back, searched_first, searched_within, searched_clash, searched_next, searched_few, searched_all, length-expanded}
 use Rattle.avro_resolve.proofs.Searching.{clashes_when, owes_when}
 use Rattle.avro_resolve.proofs.resolving.resolve_by.Goals as goal
@@ -38,7 +38,7 @@ returns-in-Some-clause-verdict c =
     let at = slice_get_read c.heads.search.entries.items _ c.heads.head c.index.result.now c.heads.search.entries.ok.0 (omega (arith, c.heads-test.true, c.len.ensures)) c.index.ensures in
     let clash = clashes_when (outcome c.args.r.now.nodes c.args.w.now.nodes c.index.result.now.pair) (clash_of_cause c.in-Some.cause) (ap (option_map clash_of_cause) (sym c.in-Some.is) ∙ c.in_ok-cause.ensures.clash) in
     let same = c.in_ok-cause.ensures.entries ∙ ap (λ o. expanded c.heads.head 0 (owed_in o) c.heads.search.entries.items) clash in
-    searched_clash _ _ _ _ c.heads.invariant.1 c.index.result.now c.in_ok-trail.trail.kind c.in_ok-trail.trail.hops at (clash ∙ ap Clashes (sym c.in_ok-trail.ensures.kind)) (subst (λ es. IsWayBack c.args.r.now.nodes c.args.w.now.nodes es c.heads.head (reverse c.in_ok-trail.trail.hops)) same c.in_ok-trail.ensures.hops)
+    searched_clash _ _ _ _ c.heads.invariant.1 c.index.result.now c.in_ok-trail.trail.kind c.in_ok-trail.trail.hops at (clash ∙ ap Err (sym c.in_ok-trail.ensures.kind)) (subst (λ es. IsWayBack c.args.r.now.nodes c.args.w.now.nodes es c.heads.head (reverse c.in_ok-trail.trail.hops)) same c.in_ok-trail.ensures.hops)
 
 pub returns-in-Some-clause-pairs : goal.returns-in-Some-clause-pairs
 returns-in-Some-clause-pairs c =

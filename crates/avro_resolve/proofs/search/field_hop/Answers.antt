@@ -1,5 +1,6 @@
 use Rattle.std.proofs.Common.{◌∙◌, Some, ap, sym, option_map, option_copied}
-use Rattle.avro_resolve.specs.Table.{to_fields, owed_in}
+use Rattle.avro_resolve.specs.Table.{to_fields}
+use Rattle.avro_resolve.proofs.Rows.{owed_in}
 use Rattle.avro_resolve.specs.declared.trail.Hop.TheVariants as hop
 use Rattle.avro_resolve.proofs.Hops.{hop_below, hop_of_field}
 use Rattle.avro_resolve.proofs.search.field_hop.Goals as goal

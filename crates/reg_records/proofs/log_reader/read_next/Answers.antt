@@ -1,7 +1,6 @@
 use Rattle.std.proofs.Common.{◌≡◌, [], ◌∷◌, ◌++◌, refl, inr, ap, arith, true}
 use Rattle.std.proofs.lemmas.Result.{err_from_is_err_and}
-use Rattle.reg_records.specs.Log.{is_empty_line}
-use Rattle.reg_records.proofs.Logs.{log_from-read, log_from-ended, log_from-unended, line_feeds-line, IsStepRefusal-line, is_empty_line-unless}
+use Rattle.reg_records.proofs.Logs.{is_empty_line, log_from-read, log_from-ended, log_from-unended, line_feeds-line, IsStepRefusal-line, is_empty_line-unless}
 use Rattle.reg_records.proofs.log_reader.read_next.Goals as goal
 
 pub returns-in-Unended-clause-refused : goal.returns-in-Unended-clause-refused

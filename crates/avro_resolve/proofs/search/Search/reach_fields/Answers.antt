@@ -1,7 +1,8 @@
 use Rattle.std.proofs.Common.{◌≡◌, ◌∙◌, length, take, arith, ap, sym, option_copied}
 use Rattle.std.proofs.lemmas.List.{drop_all}
 use Rattle.avro_resolve.specs.Search.{with_entry, expanded}
-use Rattle.avro_resolve.specs.Table.{clash_in, owed_in}
+use Rattle.std.specs.Result.{result_err}
+use Rattle.avro_resolve.proofs.Rows.{owed_in}
 use Rattle.avro_resolve.proofs.Hops.{drop_at}
 use Rattle.avro_resolve.proofs.Searching.{none_if, added_first, added_pair, added_none, added_lacking, added_all, entries_all}
 use Rattle.avro_resolve.proofs.search.Search.reach_fields.Goals as goal
@@ -17,7 +18,7 @@ pub returns-then-is_none-clause-clash : goal.returns-then-is_none-clause-clash
 returns-then-is_none-clause-clash c =
     let at = drop_at c.args.reader.now c.loop-f.f-index c.f-item.result c.loop-f-test.true c.f-item.is in
     let has = ap option_copied (sym c.in_default.is) ∙ c.partner_near-next.ensures in
-    ap clash_in (sym (added_lacking _ _ _ _ _ _ _ c.loop-f.invariant.1 c.f-item.result at has (sym c.if-is_none.true ∙ none_if _ _ c.is_none.ensures)))
+    ap result_err (sym (added_lacking _ _ _ _ _ _ _ c.loop-f.invariant.1 c.f-item.result at has (sym c.if-is_none.true ∙ none_if _ _ c.is_none.ensures)))
 
 pub returns-then-is_none-clause-entries : goal.returns-then-is_none-clause-entries
 returns-then-is_none-clause-entries c =
@@ -40,7 +41,7 @@ loop-f-preserved c =
     ]
 
 pub returns-clause-clash : goal.returns-clause-clash
-returns-clause-clash c = ap clash_in (sym (added_all _ _ _ _ _ _ _ c.loop-f.invariant.1 (drop_all c.loop-f.f-index c.args.reader.now c.loop-f-test.false)))
+returns-clause-clash c = ap result_err (sym (added_all _ _ _ _ _ _ _ c.loop-f.invariant.1 (drop_all c.loop-f.f-index c.args.reader.now c.loop-f-test.false)))
 
 pub returns-clause-entries : goal.returns-clause-entries
 returns-clause-entries c = entries_all _ _ _ _ _ _ _ c.loop-f.invariant.1 (drop_all c.loop-f.f-index c.args.reader.now c.loop-f-test.false)

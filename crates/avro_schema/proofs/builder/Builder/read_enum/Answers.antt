@@ -1,8 +1,8 @@
-use Rattle.std.proofs.Common.{◌≡◌, ◌∙◌, ◌++◌, ◌∷◌, [], ℕ, sym, ap, subst, arith, codes, string_bytes}
+use Rattle.std.proofs.Common.{◌≡◌, ◌∙◌, ◌++◌, ◌∷◌, [], ℕ, sym, ap, subst, option_and_then, arith, codes, string_bytes}
 use Rattle.serde_json.specs.Find.{get}
 use Rattle.json_tree.specs.View.{view}
 use Rattle.avro_schema.specs.declared.node.Node.TheVariants as kind
-use Rattle.avro_schema.specs.Form.{heading_of, strings_at}
+use Rattle.avro_schema.specs.Form.{heading_of, strings_in}
 use Rattle.avro_schema.specs.Places.{defined}
 use Rattle.avro_schema.specs.Building.{opened, nodes_of, enum_in, RefusesType, IsTypeRead}
 use Rattle.avro_schema.proofs.Types.{read_enum, opened-more}
@@ -15,19 +15,19 @@ pub returns-in_err-text-clause-err : goal.returns-in_err-text-clause-err
 returns-in_err-text-clause-err c =
     let d = view c.args.value.now in
     exit_err c.from_residual.result (RefusesType c.args.self.now c.args.namespace.now (enum_in d)) c.in_err-text.field-0.0 c.from_residual.ensures.1
-    (λ ds met. refused_names_enum ds c.args.namespace.now (heading_of d) (strings_at (codes "symbols") d) (get (codes "default") d) (opened c.args.self.now) _ c.in_err-text.ensures.err)
+    (λ ds met. refused_names_enum ds c.args.namespace.now (heading_of d) (option_and_then strings_in (get (codes "symbols") d)) (get (codes "default") d) (opened c.args.self.now) _ c.in_err-text.ensures.err)
 
 pub returns-in_err-symbols-clause-err : goal.returns-in_err-symbols-clause-err
 returns-in_err-symbols-clause-err c =
     let d = view c.args.value.now in
     exit_err c.from_residual-in_err-symbols.result (RefusesType c.args.self.now c.args.namespace.now (enum_in d)) c.in_err-symbols.field-0.0 c.from_residual-in_err-symbols.ensures.1
-    (λ ds met. refused_symbols ds c.args.namespace.now (heading_of d) (strings_at (codes "symbols") d) (get (codes "default") d) (opened c.args.self.now) _ c.in_err-symbols.ensures.err)
+    (λ ds met. refused_symbols ds c.args.namespace.now (heading_of d) (option_and_then strings_in (get (codes "symbols") d)) (get (codes "default") d) (opened c.args.self.now) _ c.in_err-symbols.ensures.err)
 
 pub returns-in_err-index-clause-err : goal.returns-in_err-index-clause-err
 returns-in_err-index-clause-err c =
     let d = view c.args.value.now in
     exit_err c.from_residual-in_err-index.result (RefusesType c.args.self.now c.args.namespace.now (enum_in d)) c.in_err-index.field-0.0 c.from_residual-in_err-index.ensures.1
-    (λ ds met. refused_opening_enum ds c.args.namespace.now (heading_of d) c.in_ok-text.field-0 (strings_at (codes "symbols") d) (get (codes "default") d) (opened c.args.self.now) _ c.in_ok-text.ensures.ok (c.in_err-index.ensures.err ds met))
+    (λ ds met. refused_opening_enum ds c.args.namespace.now (heading_of d) c.in_ok-text.field-0 (option_and_then strings_in (get (codes "symbols") d)) (get (codes "default") d) (opened c.args.self.now) _ c.in_ok-text.ensures.ok (c.in_err-index.ensures.err ds met))
 
 pub returns-clause-ok : goal.returns-clause-ok
 returns-clause-ok c =
@@ -43,5 +43,5 @@ returns-clause-ok c =
       λ ds met.
           let now = c.in_ok-index.ensures.met ds met in
           subst (λ (k : ℕ). IsTypeRead ds c.args.namespace.now (enum_in d) a b (record { index = k })) (sym is)
-          (read_enum ds c.args.namespace.now (heading_of d) r (strings_at (codes "symbols") d) (get (codes "default") d) v a b c.in_ok-text.ensures.ok c.in_ok-symbols.ensures.ok opens (defined_at b ds r _ _ is now.0) (ap (λ k. defined ds k (string_bytes r.text)) (sym is) ∙ now.1)),
+          (read_enum ds c.args.namespace.now (heading_of d) r (option_and_then strings_in (get (codes "symbols") d)) (get (codes "default") d) v a b c.in_ok-text.ensures.ok c.in_ok-symbols.ensures.ok opens (defined_at b ds r _ _ is now.0) (ap (λ k. defined ds k (string_bytes r.text)) (sym is) ∙ now.1)),
     )

@@ -2,13 +2,15 @@ use Rattle.std.proofs.Common.{◌≡◌, ◌∙◌, ◌++◌, ℕ, List, Option,
 use Rattle.std.proofs.lemmas.Result.{IfOk-weaker}
 use Rattle.std.specs.Fmt.{digits}
 use Rattle.json.specs.Print.{escape_byte}
+use Rattle.std.specs.Option.{option_map_or}
+use Rattle.serde_json.specs.Data.{null, string}
 use Rattle.serde_json.specs.Written.{compact_text}
 use Rattle.reg_records.specs.declared.key.Key.TheVariants.{Config, Mode, DeleteSubject}
-use Rattle.reg_records.specs.Written.{scope_data, written_key}
+use Rattle.reg_records.specs.Written.{written_key}
 use Rattle.reg_records.proofs.key.Key.written.Goals as goal
 
 abbrev text_of : List ℕ → Option (List ℕ) → List ℕ
-text_of kind scope = codes "{\"keytype\":\"" ++ kind ++ codes "\",\"subject\":" ++ compact_text (scope_data scope) ++ codes ",\"magic\":0}"
+text_of kind scope = codes "{\"keytype\":\"" ++ kind ++ codes "\",\"subject\":" ++ compact_text (option_map_or string scope null) ++ codes ",\"magic\":0}"
 
 config_text : (scope : Option (List ℕ)) → text_of (codes "CONFIG") scope ≡ written_key (Config scope)
 unfolding written_key escape_byte digits
