@@ -3,7 +3,7 @@ ghost use Rattle.std.specs.Prelude.{◌≡◌, IfOk, OnOk, OnErr, map, option_ma
 ghost use Rattle.std.specs.FinSet as set;
 ghost use Rattle.std.specs.Option.{option_copied};
 ghost use Rattle.reg_set.specs.Compaction.{IsCompactionOf};
-ghost use Rattle.reg_set.specs.LastRecords.{last_records};
+ghost use Rattle.reg_set.specs.LastRecords.{last, last_records};
 ghost use Rattle.reg_set.specs.Records.{Records};
 ghost use Rattle.reg_fold.specs.Entries.{AreOfLasts, entries};
 ghost use Rattle.reg_entries.specs.EntryOrder.{IsInOrder};
@@ -18,7 +18,7 @@ use crate::version_ref::VersionRef;
 use base_text::Text;
 use reg_entries::Entry;
 use reg_level_names::Level;
-use reg_records::Record;
+use reg_records::{Key, Record};
 use reg_set::{
     LastRecords, RecordSet, last_records_are_enough, last_records_of_unions, records_are_ordered,
 };
@@ -137,6 +137,20 @@ impl Registry {
             self.apply(record)?;
         }
         Ok(())
+    }
+
+    /// The last record of the key. Takes no memory.
+    pub fn last(&self, key: &Key) -> Option<&Record>
+        ensures { option_map (λ found. found.now) result ≡ last self.now key.now }
+    {
+        self.index.last.last(key)
+    }
+
+    /// Whether the record is the last of its key. Takes no memory.
+    pub fn contains(&self, given: &Record) -> bool
+        ensures { result ≡ set.contains self.now given.now }
+    {
+        self.index.last.contains(given)
     }
 
     /// The entries, by subject, by its bytes, and then by version, each version of a subject once.

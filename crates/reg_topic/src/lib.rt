@@ -10,4 +10,4 @@ pub use laws::{
     log_is_what_was_published,
 };
 pub use published::{Commit, Item};
-pub use topic::Topic;
+pub use topic::{Topic, follows};

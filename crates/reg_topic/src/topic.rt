@@ -83,7 +83,7 @@ impl Topic {
 }
 
 /// Whether the batch goes on at that offset, with none past the limit.
-fn follows(next: u64, batch: &[Record]) -> bool
+pub fn follows(next: u64, batch: &[Record]) -> bool
     ensures { result ≡ follows next batch.now }
 {
     match next.checked_add(batch.len() as u64) {

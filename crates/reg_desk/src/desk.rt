@@ -1,0 +1,170 @@
+// A node's desk, of which each worker has one for all its connections.
+ghost use Rattle.std.specs.Prelude.{◌≡◌, true, false, None, option_map};
+ghost use Rattle.reg_desk.specs.Desk.{IsFresh, front_of};
+
+use crate::catching::catch_up;
+use crate::gate::{Gate, pass_gate};
+use crate::submitting::submit;
+use crate::wake::Wake;
+use reg_feed::{Copies, FeedName, Seen};
+use reg_http::Desk;
+use reg_leader::{Command, Reply};
+use reg_lookup::{Answer, Query};
+use reg_node::{Follower, Take, Taken, View};
+use reg_pen::{Keep, Pass, Pen, Submitted};
+use reg_shared::Shared;
+use reg_topic::Item;
+use std::alloc::{AllocError, Global};
+use std::marker::Model;
+use std::sync::atomic::AtomicU64;
+use std::sync::{Mutex, Wait};
+
+/// A node's desk. A command goes to the pen, once; the other nodes are woken; then the node's follower
+/// learns, pulls and publishes, and the view learns, before the reply is given. Queries are answered
+/// from the view.
+///
+/// Contracts see the topic's front of the last command, the view's front, the count of submits, and
+/// whether nothing after the last submit was refused.
+#[derive(Drop)]
+pub struct NodeDesk<
+    'a,
+    N: FeedName<Item, Shared>,
+    S: Copies<Item, Shared, N>,
+    K: Keep + Drop,
+    M: FeedName<Take, Taken>,
+    U: Copies<Take, Taken, M>,
+    R: Wait + Drop,
+    G: Gate,
+    W: Wake,
+> {
+    rt: &'a R,
+    pen: &'a Mutex<Pen<N, S, K, R>>,
+    follower: &'a Mutex<Follower<N, S, M, U, R>>,
+    gate: &'a G,
+    wake: &'a W,
+    calls: &'a AtomicU64,
+    pass: Pass<N>,
+    view: View<M, U>,
+    seen: Option<Seen<Item, Shared, N>>,
+    fresh: bool,
+}
+
+impl<
+    'a,
+    N: FeedName<Item, Shared>,
+    S: Copies<Item, Shared, N>,
+    K: Keep + Drop,
+    M: FeedName<Take, Taken>,
+    U: Copies<Take, Taken, M>,
+    R: Wait + Drop,
+    G: Gate,
+    W: Wake,
+> Model for NodeDesk<'a, N, S, K, M, U, R, G, W> {
+    ghost use Rattle.std.specs.Prelude.{◌≡◌, true};
+    ghost use Rattle.reg_desk.specs.Desk.{IsFresh, Known, front_of};
+
+    ghost Value = { Known };
+
+    ghost view = { λ d. record { seen = d.seen; view = d.view; submits = d.pass.submits; fresh = d.fresh } };
+
+    ghost invariant = { λ d. d.fresh ≡ true → IsFresh N.first (front_of d.seen) d.view };
+}
+
+impl<
+    'a,
+    N: FeedName<Item, Shared>,
+    S: Copies<Item, Shared, N>,
+    K: Keep + Drop,
+    M: FeedName<Take, Taken>,
+    U: Copies<Take, Taken, M>,
+    R: Wait + Drop,
+    G: Gate,
+    W: Wake,
+> NodeDesk<'a, N, S, K, M, U, R, G, W> {
+    /// A desk that has done no command.
+    pub fn new(
+        rt: &'a R,
+        pen: &'a Mutex<Pen<N, S, K, R>>,
+        follower: &'a Mutex<Follower<N, S, M, U, R>>,
+        gate: &'a G,
+        wake: &'a W,
+        calls: &'a AtomicU64,
+        pass: Pass<N>,
+        view: View<M, U>,
+    ) -> NodeDesk<'a, N, S, K, M, U, R, G, W>
+        ensures { result ≡ record { seen = None; view = view; submits = pass.submits; fresh = false } }
+    {
+        NodeDesk {
+            rt,
+            pen,
+            follower,
+            gate,
+            wake,
+            calls,
+            pass,
+            view,
+            seen: None,
+            fresh: false,
+        }
+    }
+
+    /// The topic's front of the last command.
+    pub fn seen(&self) -> Option<&Seen<Item, Shared, N>>
+        ensures { option_map (λ s. s.now) result ≡ self.now.seen }
+    {
+        self.seen.as_ref()
+    }
+
+    /// Whether nothing after the last submit was refused.
+    pub fn fresh(&self) -> bool
+        ensures fresh { result ≡ self.now.fresh }
+        ensures shown { result ≡ true → IsFresh N.first (front_of self.now.seen) self.now.view }
+    {
+        self.fresh
+    }
+
+    /// How many submits its pass was lent to.
+    pub fn submits(&self) -> u64
+        ensures { result ≡ self.now.submits }
+    {
+        self.pass.submits()
+    }
+}
+
+impl<
+    'a,
+    N: FeedName<Item, Shared>,
+    S: Copies<Item, Shared, N>,
+    K: Keep + Drop,
+    M: FeedName<Take, Taken>,
+    U: Copies<Take, Taken, M>,
+    R: Wait + Drop,
+    G: Gate,
+    W: Wake,
+> Desk for NodeDesk<'a, N, S, K, M, U, R, G, W> {
+    ghost use Rattle.reg_desk.specs.Desk.{DeskAsks, DeskCommands};
+
+    ghost asks = { DeskAsks };
+
+    ghost commands = { DeskCommands K.keeps N.first };
+
+    fn ask(&mut self, alloc: Global, query: &Query) -> Result<Answer, AllocError> {
+        pass_gate(self.gate, self.calls);
+        self.view.lookup(alloc, query)
+    }
+
+    fn command(&mut self, command: &Command) -> Reply {
+        pass_gate(self.gate, self.calls);
+        let Submitted { reply, seen } = submit(
+            self.rt,
+            self.pen,
+            &mut self.pass,
+            &self.seen,
+            command,
+        );
+        self.wake.topic_grew();
+        self.fresh = catch_up(self.rt, self.follower, &mut self.view, &seen);
+        self.seen = Some(seen);
+        reply
+    }
+}

@@ -1,0 +1,6 @@
+// What is told that the topic may have grown.
+
+/// Called after each command, so that what follows the topic on other nodes pulls soon.
+pub trait Wake {
+    fn topic_grew(&self);
+}

@@ -1,0 +1,30 @@
+// What a feed's writer needs of its two copies. `Stored` is the one type that has it: a struct with
+// type parameters can't name a type whose `impl Absorb` has them too, so the writer has a parameter
+// in its place.
+ghost use Rattle.std.specs.Prelude.{◌≡◌, List, fold};
+ghost use Rattle.reg_feed.specs.Growing.{grown};
+
+use crate::fold::Fold;
+use crate::seen::FeedName;
+use crate::stored::{Op, Stored};
+use left_right::Absorb;
+
+/// A copy of a feed's list with the value that it folds to.
+pub trait Copies<T: Drop, V: Fold<T> + Drop, N: FeedName<T, V>>: Absorb<Op<T, V, N>> + Drop {
+    ghost list: { Self → List T };
+
+    fn stored(&self) -> &Stored<T, V, N>
+        ensures { result.now ≡ list self.now };
+
+    ghost grows: { (x y : Self) (fronts : List (List T)) → Self.state y ≡ fold Self.applied (Self.state x) fronts → list y ≡ fold grown (list x) fronts };
+}
+
+impl<T: Drop, V: Fold<T> + Drop, N: FeedName<T, V>> Copies<T, V, N> for Stored<T, V, N> {
+    ghost list = { λ s. s };
+
+    fn stored(&self) -> &Stored<T, V, N> {
+        self
+    }
+
+    ghost grows = { λ x y fronts is. is };
+}

@@ -1,0 +1,5 @@
+pub mod Caught
+pub mod Drawn
+pub mod Lasts
+pub mod Members
+pub mod Prefixes

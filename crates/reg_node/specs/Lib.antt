@@ -1,0 +1,2 @@
+pub mod Caught
+pub mod Takes

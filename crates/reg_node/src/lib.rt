@@ -1,0 +1,12 @@
+//! A node: its follower, which takes from the topic, and the views that answer.
+#![tactic(auto)]
+
+mod follower;
+mod laws;
+mod take;
+mod view;
+
+pub use follower::Follower;
+pub use laws::takes_fold_to_last_records;
+pub use take::{Take, Taken};
+pub use view::View;

@@ -1,0 +1,3 @@
+pub mod Keep
+pub mod Pen
+pub mod Pending

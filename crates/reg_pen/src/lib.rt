@@ -1,0 +1,10 @@
+//! The topic's pen: commands come one after the other, and each batch is lent to a keep and then published.
+#![tactic(auto)]
+
+mod keep;
+mod pass;
+mod pen;
+
+pub use keep::{Keep, Kept, Lack, MemoryAlone};
+pub use pass::Pass;
+pub use pen::{Opened, Pen, Submitted, open};

@@ -1,0 +1,407 @@
+// The owner of the topic's writer. It stands in a `Mutex`.
+ghost use Rattle.std.specs.Prelude.{◌≡◌, ◌≢◌, ◌⊎◌, ◌+◌, ◌<◌, ◌≤◌, ◌^◌, ◌++◌, ◌∷◌, [], false, IfErr, IfOk, MatchBool, None, OnErr, OnOk, Some, map, option_to_list, replicate, true};
+ghost use Rattle.std.specs.FinSet.{from_list};
+ghost use Rattle.reg_set.specs.LastRecords.{last_records};
+ghost use Rattle.reg_leader.specs.Adoption.{IsAdoptRefusal};
+ghost use mathlib.Core.List.{IsPrefix};
+ghost use Rattle.reg_leader.specs.Outcome.{IsOutOfMemory};
+ghost use Rattle.reg_topic.specs.Topic.{MayCommit, MayFollow, topic_from};
+ghost use Rattle.reg_shared.specs.Held.{base_of, held_of, topic_at};
+ghost use Rattle.reg_pen.specs.Pen.{Acts, Compacts, Follows, IsAhead, IsBehind, IsNoMemory, IsStepAfter, LeavesCompaction, LeavesLasts, Submits, StillPends, batches, counted, settled};
+ghost use Rattle.reg_pen.specs.Pending.{IsClear, IsFirst, IsPending, batches_in, is_lost, reply_of};
+ghost use Rattle.reg_pen.specs.declared.keep.Kept.{Kept};
+
+use crate::keep::{Keep, Kept};
+use crate::pass::Pass;
+use base_text::Listed;
+use reg_feed::{Copies, FeedName, FeedReader, FeedWriter, NoPlace, Seen, Stored, Unnamed, feed};
+use reg_fold::{Refusal, StoreFault};
+use reg_leader::{AdoptError, Command, Decision, Reply, decide};
+use reg_levels::Judged;
+use reg_records::{Log, Record};
+use reg_set::records_are_ordered;
+use reg_shared::{Shared, kept_gives_registry, published_lists_fold};
+use reg_topic::{Commit, Item, lawful_items_follow};
+use std::alloc::{AllocError, Global};
+use std::marker::Model;
+use std::sync::Wait;
+
+/// What isn't published yet.
+#[derive(Clone, Copy, Debug, PartialEq, Eq)]
+pub enum Pending {
+    Nothing,
+    /// A batch, whose first record has that offset.
+    Batch(u64),
+    /// A batch that the keep lost. It is never published.
+    Lost(u64),
+    Compaction,
+}
+
+/// A reply, and the published list after it.
+#[derive(Drop)]
+pub struct Submitted<N: FeedName<Item, Shared>> {
+    pub reply: Reply,
+    pub seen: Seen<Item, Shared, N>,
+}
+
+/// The topic's writer, with its keep. The published list is lawful, and at most one item is pending,
+/// which may follow on it.
+#[derive(Drop)]
+pub struct Pen<
+    N: FeedName<Item, Shared>,
+    S: Copies<Item, Shared, N>,
+    K: Keep + Drop,
+    R: Wait + Drop,
+> {
+    alloc: Global,
+    // In a `Box`, since a struct that holds a `FeedWriter` itself gets no generated drop.
+    writer: Box<FeedWriter<Item, Shared, N, S, R>>,
+    keep: K,
+    // The pending item, if the writer doesn't have it yet.
+    held: Option<Item>,
+    pending: Pending,
+    // How many batches were published.
+    committed: u64,
+}
+
+impl<N: FeedName<Item, Shared>, S: Copies<Item, Shared, N>, K: Keep + Drop, R: Wait + Drop> Model
+    for Pen<N, S, K, R> {
+    ghost use Rattle.std.specs.Prelude.{◌≡◌, ◌++◌, option_to_list};
+    ghost use Rattle.reg_shared.specs.Held.{base_of};
+    ghost use Rattle.reg_pen.specs.Pen.{IsPen, PenState, batches};
+    ghost use Rattle.reg_pen.specs.Pending.{IsPending, is_lost};
+
+    ghost Value = { PenState K };
+
+    ghost view = { λ p. record { published = p.writer.value.0; pending = p.writer.value.1 ++ option_to_list p.held; lost = is_lost p.pending; keep = p.keep } };
+
+    ghost invariant = { λ p. IsPen (base_of N.first) p.writer.value.0 (p.writer.value.1 ++ option_to_list p.held) × IsPending p.pending (p.writer.value.1 ++ option_to_list p.held) × (p.committed ≡ batches p.writer.value.0) };
+}
+
+/// A pen with the passes to submit to it.
+#[derive(Drop)]
+pub struct Opened<
+    N: FeedName<Item, Shared>,
+    S: Copies<Item, Shared, N>,
+    K: Keep + Drop,
+    R: Wait + Drop,
+> {
+    pub pen: Pen<N, S, K, R>,
+    pub passes: Vec<Pass<N>>,
+}
+
+/// Opens a pen over a log, which has to be adopted, with that keep, so many passes and places for so
+/// many readers. The log isn't lent to the keep.
+#[tactic(auto, using(crate::proofs::Adopted::is_adopted))]
+pub fn open<N: FeedName<Item, Shared>, K: Keep + Drop, R: Wait + Drop>(
+    rt: R,
+    alloc: Global,
+    list: Unnamed<Item>,
+    base: &Log,
+    keep: K,
+    passes: u32,
+    readers: usize,
+) -> Result<Opened<N, Stored<Item, Shared, N>, K, R>, AdoptError>
+    requires name { (list.reached.book ≡ N.book) × (N.first ≡ held_of (topic_from base.now.records.items base.now.next)) }
+    requires readers { (0 < readers) × (readers < 2 ^ 32) }
+    ensures begun { IfOk result (λ opened. opened.pen ≡ record { published = []; pending = []; lost = false; keep = keep }) }
+    ensures passes { IfOk result (λ opened. map (λ p. p.submits) opened.passes.items ≡ replicate passes 0) }
+    ensures refused { IfErr result (IsAdoptRefusal (last_records (from_list base.now.records.items))) }
+{
+    records_are_ordered();
+    let shared = Shared::adopt(alloc, base)?;
+    let writer = feed::<Item, Shared, N, R>(rt, alloc, list, shared, readers)?;
+    let Ok(writer) = Box::new(alloc, writer) else {
+        return Err(AdoptError::OutOfMemory);
+    };
+    let pen = Pen {
+        alloc,
+        writer,
+        keep,
+        held: None,
+        pending: Pending::Nothing,
+        committed: 0,
+    };
+    let passes = new_passes(alloc, passes)?;
+    Ok(Opened { pen, passes })
+}
+
+fn new_passes<N>(alloc: Global, count: u32) -> Result<Vec<Pass<N>>, AllocError>
+    ensures { IfOk result (λ passes. map (λ p. p.submits) passes.items ≡ replicate count 0) }
+{
+    let mut passes = Vec::new(alloc);
+    for _pass in 0..count {
+        passes.push(Pass::new())?;
+    }
+    Ok(passes)
+}
+
+impl<N: FeedName<Item, Shared>, S: Copies<Item, Shared, N>, K: Keep + Drop, R: Wait + Drop> Pen<
+    N,
+    S,
+    K,
+    R,
+> {
+    /// Does a command, or refuses it. A pending item is settled first; where that is refused again, or
+    /// where the keep lost it, nothing changes. `since` is the caller's last front.
+    #[tactic(auto, using(crate::proofs::Prefixes::since_still))]
+    pub fn submit(
+        &mut self,
+        pass: &mut Pass<N>,
+        since: Option<&Seen<Item, Shared, N>>,
+        command: &Command,
+        judged: Option<&Judged>,
+    ) -> Submitted<N>
+        ensures submits { Submits K.keeps (base_of N.first) since.entry self.old command.now result.reply self.new }
+        ensures seen { result.seen ≡ self.new.published }
+        ensures since { IsNoMemory result.reply ⊎ IsBehind since.entry self.new.published }
+        ensures grows { IsPrefix self.old.published self.new.published }
+        ensures counted { pass.new.submits ≡ counted pass.old.submits }
+    {
+        pass.count();
+        if !self.has(since) {
+            return Submitted {
+                reply: no_memory(),
+                seen: self.writer.tell(),
+            };
+        }
+        let reply = self.settle_and_act(command, judged);
+        Submitted {
+            reply,
+            seen: self.writer.tell(),
+        }
+    }
+
+    /// How many batches were published. Takes no memory.
+    pub fn batches(&self) -> u64
+        ensures { result ≡ batches self.now.published }
+    {
+        self.committed
+    }
+
+    /// Publishes what is pending, and then a compaction that leaves the last records alone, which isn't
+    /// lent to the keep. It is refused where the keep lost a batch, with nothing changed, and where
+    /// memory is; at most what was pending is then published, and the compaction may be pending.
+    #[tactic(auto, using(crate::proofs::Prefixes::grown, crate::proofs::Prefixes::prefix_self, crate::proofs::Prefixes::prefix_trans))]
+    pub fn compact(&mut self) -> Result<(), AllocError>
+        ensures compacted { OnOk result (Compacts (base_of N.first) self.old self.new) }
+        ensures refused { OnErr result (LeavesCompaction (base_of N.first) self.old self.new) }
+        ensures grows { IsPrefix self.old.published self.new.published }
+    {
+        if !self.settle() {
+            return Err(AllocError);
+        }
+        self.drop_superseded()
+    }
+
+    /// A reader of the topic's list that has seen nothing, from which a node's follower takes. It may
+    /// be refused at any call.
+    pub fn reader(&mut self) -> Result<FeedReader<Item, Shared, N, S>, NoPlace>
+        ensures new { IfOk result (λ r. r ≡ []) }
+        ensures same { self.new ≡ self.old }
+    {
+        self.writer.reader()
+    }
+
+    /// Publishes a compaction, where nothing is pending.
+    #[tactic(auto, using(crate::proofs::Prefixes::grown, crate::proofs::Prefixes::prefix_self))]
+    fn drop_superseded(&mut self) -> Result<(), AllocError>
+        requires { IsClear self.old }
+        ensures compacted { OnOk result (Compacts (base_of N.first) self.old self.new) }
+        ensures refused { OnErr result (LeavesCompaction (base_of N.first) self.old self.new) }
+        ensures grows { IsPrefix self.old.published self.new.published }
+    {
+        let dropped = self.superseded()?;
+        self.hold(Item::Compaction(Listed::from(dropped)), Pending::Compaction);
+        if !self.settle() {
+            return Err(AllocError);
+        }
+        Ok(())
+    }
+
+    /// The kept records that aren't the last of their keys.
+    fn superseded(&self) -> Result<Vec<Record>, AllocError>
+        ensures { IfOk result (λ found. LeavesLasts (topic_at N.first self.now.published) found.items) }
+    {
+        published_lists_fold();
+        self.writer.value().superseded()
+    }
+
+    /// Whether the published list begins with the front. If not, the front is longer.
+    fn has(&self, since: Option<&Seen<Item, Shared, N>>) -> bool
+        ensures { MatchBool result (IsBehind since.entry self.now.published) (IsAhead since.entry self.now.published) }
+    {
+        match since {
+            Some(since) => since.begins(&self.writer.tell()),
+            None => true,
+        }
+    }
+
+    /// Settles what is pending, and then does a command.
+    #[tactic(auto, using(crate::proofs::Acting::still_pends, crate::proofs::Prefixes::grown, crate::proofs::Prefixes::prefix_self, crate::proofs::Prefixes::prefix_trans))]
+    fn settle_and_act(&mut self, command: &Command, judged: Option<&Judged>) -> Reply
+        ensures acts { (StillPends self.old.pending result × (self.new ≡ self.old)) ⊎ ((self.old.lost ≡ false) × Acts K.keeps (base_of N.first) (settled self.old) command.now result self.new) }
+        ensures grows { IsPrefix self.old.published self.new.published }
+    {
+        if !self.settle() {
+            return waiting(self.pending);
+        }
+        self.act(command, judged)
+    }
+
+    /// Publishes what is pending. `false` where memory is refused, or where the keep lost it; the pen
+    /// is then as it was.
+    fn settle(&mut self) -> bool
+        ensures { MatchBool result ((self.old.lost ≡ false) × (self.new ≡ settled self.old)) ((self.new ≡ self.old) × (self.old.pending ≢ [])) }
+    {
+        lawful_items_follow();
+        if self.pending == Pending::Nothing {
+            return true;
+        }
+        if is_lost(self.pending) {
+            return false;
+        }
+        if !hand_over(&mut self.writer, &mut self.held) {
+            return false;
+        }
+        if self.writer.publish().is_err() {
+            return false;
+        }
+        self.committed = with_batch(self.committed, self.pending, self.writer.tell().len());
+        self.pending = Pending::Nothing;
+        true
+    }
+
+    /// Makes an item pending. Takes no memory.
+    fn hold(&mut self, item: Item, pending: Pending)
+        requires clear { IsClear self.old }
+        requires follows { MayFollow (topic_at N.first self.old.published) item }
+        requires pending { IsPending pending (item ∷ []) }
+        ensures { self.new ≡ record self.old { pending = item ∷ []; lost = is_lost pending } }
+    {
+        self.held = Some(item);
+        self.pending = pending;
+    }
+
+    /// What the command replies and writes, from the published log.
+    fn decision(&self, command: &Command, judged: Option<&Judged>) -> Decision
+        ensures { IsOutOfMemory result ⊎ IsStepAfter (base_of N.first) self.now.published command.now result.reply result.batch }
+    {
+        published_lists_fold();
+        kept_gives_registry();
+        let shared = self.writer.value();
+        decide(
+            self.alloc,
+            shared.registry(),
+            shared.next(),
+            command,
+            judged,
+        )
+    }
+
+    /// Does a command, where nothing is pending.
+    #[tactic(auto, using(crate::proofs::Acting::may_commit, crate::proofs::Acting::lends, crate::proofs::Acting::nothing_written, crate::proofs::Prefixes::prefix_self))]
+    fn act(&mut self, command: &Command, judged: Option<&Judged>) -> Reply
+        requires { IsClear self.old }
+        ensures acts { Acts K.keeps (base_of N.first) self.old command.now result self.new }
+        ensures grows { IsPrefix self.old.published self.new.published }
+    {
+        let Decision { batch, reply } = self.decision(command, judged);
+        let Some(first) = first_offset(&batch) else {
+            return reply;
+        };
+        // After the batch is lent nothing may be refused memory until it is held.
+        let Ok(command) = command.clone() else {
+            return no_memory();
+        };
+        self.lend(Commit { command, batch }, first, reply)
+    }
+
+    /// Lends a batch to the keep, and publishes it where it is taken.
+    #[tactic(auto, using(crate::proofs::Prefixes::grown, crate::proofs::Prefixes::prefix_self))]
+    fn lend(&mut self, commit: Commit, first: u64, reply: Reply) -> Reply
+        requires clear { IsClear self.old }
+        requires may { MayCommit (topic_at N.first self.old.published) commit }
+        requires first { IsFirst commit.batch (Some first) }
+        ensures lent { (kept : Kept) × (keep : K) × K.keeps self.old.keep commit.batch kept keep × Follows kept (Item.Commit commit ∷ []) reply (Reply.Unsettled first) (record self.old { keep = keep }) result self.new }
+        ensures grows { IsPrefix self.old.published self.new.published }
+    {
+        match self.keep.keep(commit.batch.as_slice()) {
+            Kept::Declined(lack) => Reply::Refused(Refusal::Store(lack.fault())),
+            Kept::Lost => {
+                self.hold(Item::Commit(commit), Pending::Lost(first));
+                Reply::Unsettled(first)
+            }
+            Kept::Taken => {
+                self.hold(Item::Commit(commit), Pending::Batch(first));
+                if !self.settle() {
+                    return Reply::Unsettled(first);
+                }
+                reply
+            }
+        }
+    }
+}
+
+/// Brings the held item to the writer, if there is one. `false` where memory is refused; all is then
+/// as it was.
+fn hand_over<N: FeedName<Item, Shared>, S: Copies<Item, Shared, N>, R: Wait + Drop>(
+    writer: &mut FeedWriter<Item, Shared, N, S, R>,
+    held: &mut Option<Item>,
+) -> bool
+    ensures published { writer.new.0 ≡ writer.old.0 }
+    ensures pending { writer.new.1 ++ option_to_list held.new ≡ writer.old.1 ++ option_to_list held.old }
+    ensures handed { result ≡ true → held.new ≡ None }
+{
+    let Some(item) = held.take() else {
+        return true;
+    };
+    if let Err(item) = writer.append(item) {
+        *held = Some(item);
+        return false;
+    }
+    true
+}
+
+fn is_lost(pending: Pending) -> bool
+    ensures { result ≡ is_lost pending }
+{
+    match pending {
+        Pending::Lost(_) => true,
+        Pending::Nothing | Pending::Batch(_) | Pending::Compaction => false,
+    }
+}
+
+/// The reply where what is pending is refused again, or is lost.
+fn waiting(pending: Pending) -> Reply
+    ensures { result ≡ reply_of pending }
+{
+    match pending {
+        Pending::Batch(first) | Pending::Lost(first) => Reply::Unsettled(first),
+        Pending::Nothing | Pending::Compaction => no_memory(),
+    }
+}
+
+/// A count of batches, with the one that was pending, where a list has so many items.
+fn with_batch(count: u64, pending: Pending, items: u64) -> u64
+    requires { count + batches_in pending ≤ items }
+    ensures { result ≡ count + batches_in pending }
+{
+    match pending {
+        Pending::Batch(_) | Pending::Lost(_) => count + 1,
+        Pending::Nothing | Pending::Compaction => count,
+    }
+}
+
+/// The offset of the first record.
+fn first_offset(batch: &Listed<Record>) -> Option<u64>
+    ensures { IsFirst batch.now result }
+{
+    batch.as_slice().first().map(|record| record.offset)
+}
+
+fn no_memory() -> Reply
+    ensures { IsNoMemory result }
+{
+    Reply::Refused(Refusal::Store(StoreFault::Memory))
+}

@@ -1,0 +1,97 @@
+-- Members of sets that lists of records make.
+use Rattle.std.proofs.Common.{◌≡◌, ℕ, ◌<◌, Bool, true, false, ◌&&◌, ◌||◌, not, cond, List, [], ◌∷◌, ◌++◌, refl, sym, ap, subst, ◌∙◌, All}
+use Rattle.std.proofs.lemmas.Bool.{false≢true}
+use Rattle.std.proofs.lemmas.List.Elements.{All-head, All-tail}
+use Rattle.std.proofs.lemmas.List.Folds.{list_any-append}
+use Rattle.std.proofs.lemmas.Map.Views.{any-filter_same}
+use Rattle.std.specs.Cmp.{IsTotalOrder}
+use Rattle.std.specs.FinSet.{contains, from_list, union, IsAntisymmetric, contains-from_list, contains-retain, contains-union, same_set}
+use Rattle.std.specs.List.{AllByRecursion, filter, list_any}
+use Rattle.std.proofs.lemmas.Cmp.{tied_itself}
+use Rattle.std.specs.Ordering.{eq_by_cmp, is_eq}
+use Rattle.reg_records.specs.contracts.record.RecordPartialEq.TheImpl as equality
+use Rattle.reg_records.specs.declared.record.Record.{Record}
+use Rattle.reg_set.specs.LastRecords.{is_last, last_records}
+use Rattle.reg_set.specs.RecordOrder.{record_cmp}
+use Rattle.reg_set.specs.Records.{Records}
+use Rattle.reg_topic.specs.Topic.{may_drop}
+use Rattle.reg_shared.proofs.Equality.{eq-by_cmp, equal}
+
+and_swap : (a b : Bool) → (a && b) ≡ (b && a)
+and_swap true true = refl
+and_swap true false = refl
+and_swap false true = refl
+and_swap false false = refl
+
+pub both : {a b : Bool} → a ≡ true → b ≡ true → (a && b) ≡ true
+both {b = b} e f = ap (λ a. a && b) e ∙ f
+
+pub right : (a b : Bool) → b ≡ true → (a || b) ≡ true
+right true b e = refl
+right false b e = e
+
+any_same : {A : Type 0} (p q : A → Bool) → ((x : A) → p x ≡ q x) → (xs : List A) → list_any p xs ≡ list_any q xs
+any_same p q same [] = refl
+any_same p q same (x ∷ xs) = ap (λ b. b || list_any p xs) (same x) ∙ ap (λ b. q x || b) (any_same p q same xs)
+
+pub all_members : (P : Record → Type 0) (rs : List Record) → ((q : Record) → list_any (eq_by_cmp record_cmp q) rs ≡ true → P q) → ((q : Record) → eq_by_cmp record_cmp q q ≡ true) → AllByRecursion P rs
+all_members P [] h itself = tt
+all_members P (r ∷ rs) h itself = (h r (ap (λ b. b || list_any (eq_by_cmp record_cmp r) rs) (itself r)), all_members P rs (λ q any. h q (right (eq_by_cmp record_cmp q r) _ any)) itself)
+
+module _ (order : IsTotalOrder record_cmp) (apart : IsAntisymmetric record_cmp) where
+  pub in_list : (rs : List Record) (q : Record) → contains (from_list {R = record_cmp} rs) q ≡ list_any (eq_by_cmp record_cmp q) rs
+  in_list rs q = contains-from_list order rs q
+
+  pub itself : (q : Record) → eq_by_cmp record_cmp q q ≡ true
+  itself q = ap is_eq (tied_itself order q)
+
+  among : (next : ℕ) (rs : List Record) → All (λ r. r.offset < next) rs → (q : Record) → list_any (eq_by_cmp record_cmp q) rs ≡ true → q.offset < next
+  among next [] all q any = absurd (false≢true any)
+  among next (r ∷ rs) all q any =
+      elim (eq_by_cmp record_cmp q r) as (λ b. eq_by_cmp record_cmp q r ≡ b → (b || list_any (eq_by_cmp record_cmp q) rs) ≡ true → q.offset < next) [
+        | true ↦ λ e _. subst (λ (x : Record). x.offset < next) (sym (equal order apart q r e)) (All-head (λ x. x.offset < next) r rs all)
+        | false ↦ λ _ rest. among next rs (All-tail (λ x. x.offset < next) r rs all) q rest
+      ] refl any
+
+  -- what lies below an offset does so in whatever order
+  pub below_members : (next : ℕ) (base rs : List Record) → All (λ r. r.offset < next) base → from_list {R = record_cmp} base ≡ from_list rs → AllByRecursion (λ r. r.offset < next) rs
+  below_members next base rs all same =
+      all_members (λ r. r.offset < next) rs (λ q any. among next base all q (sym (in_list base q) ∙ (ap (λ s. contains s q) same ∙ (in_list rs q ∙ any)))) itself
+
+  pub filtered : (p : Record → Bool) (rs : List Record) (q : Record) → contains (from_list {R = record_cmp} (filter p rs)) q ≡ (contains (from_list {R = record_cmp} rs) q && p q)
+  filtered p rs q =
+      in_list (filter p rs) q
+      ∙ any-filter_same (eq_by_cmp record_cmp q) p (p q) (λ k e. ap p (sym (equal order apart q k e))) rs
+      ∙ and_swap (p q) (list_any (eq_by_cmp record_cmp q) rs)
+      ∙ ap (λ b. b && p q) (sym (in_list rs q))
+
+  pub joined : (rs qs : List Record) → from_list {R = record_cmp} (rs ++ qs) ≡ union (from_list rs) (from_list qs)
+  joined rs qs = same_set order apart (from_list (rs ++ qs)) (union (from_list rs) (from_list qs)) (λ q.
+      in_list (rs ++ qs) q ∙ list_any-append (eq_by_cmp record_cmp q) rs qs
+      ∙ ap (λ b. b || list_any (eq_by_cmp record_cmp q) qs) (sym (in_list rs q)) ∙ ap (λ b. contains (from_list {R = record_cmp} rs) q || b) (sym (in_list qs q))
+      ∙ sym (contains-union order (from_list rs) (from_list qs) q))
+
+  -- a record is among the last ones where it is in the set and the last of its key
+  pub in_lasts : (s : Records) (q : Record) → contains (last_records s) q ≡ (contains s q && is_last s q)
+  unfolding last_records
+  in_lasts s q = contains-retain s (is_last s) q (λ x e. ap (is_last s) (sym (apart q x e)))
+
+  not_last : (s : Records) (r : Record) → contains s r ≡ true → not (contains (last_records s) r) ≡ not (is_last s r)
+  not_last s r here = ap not (in_lasts s r ∙ ap (λ b. b && is_last s r) here)
+
+  -- the records of a set that aren't the last of their keys
+  pub superseded_go : (s : Records) (rs : List Record) → ((q : Record) → list_any (eq_by_cmp record_cmp q) rs ≡ true → contains s q ≡ true)
+      → may_drop s (filter (λ r. not (contains (last_records s) r)) rs) ≡ true
+  superseded_go s [] within = refl
+  superseded_go s (r ∷ rs) within =
+      let p : Record → Bool = λ r. not (contains (last_records s) r) in
+      let here : contains s r ≡ true = within r (ap (λ b. b || list_any (eq_by_cmp record_cmp r) rs) (itself r)) in
+      let rest = superseded_go s rs (λ q any. within q (right (eq_by_cmp record_cmp q r) _ any)) in
+      elim (p r) as (λ b. p r ≡ b → may_drop s (cond b (r ∷ filter p rs) (filter p rs)) ≡ true) [
+        | true ↦ λ e. both (both here (sym (not_last s r here) ∙ e)) rest
+        | false ↦ λ _. rest
+      ] refl
+
+  -- what a search by `==` finds
+  pub stands : (rs : List Record) (r : Record) → list_any (λ q. (equality.ghosts).eq q r) rs ≡ contains (from_list {R = record_cmp} rs) r
+  stands rs r = any_same (λ q. (equality.ghosts).eq q r) (eq_by_cmp record_cmp r) (λ q. eq-by_cmp order apart q r) rs ∙ sym (in_list rs r)

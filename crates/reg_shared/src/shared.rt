@@ -1,0 +1,217 @@
+// What the topic's list folds to.
+ghost use Rattle.std.specs.Prelude.{◌≡◌, ◌<◌, true, false, IfErr, IfOk, OnErr, OnOk};
+ghost use Rattle.std.specs.FinSet.{from_list};
+ghost use Rattle.std.specs.List.{AllByRecursion};
+ghost use Rattle.reg_fold.specs.Closed.{is_closed};
+ghost use Rattle.reg_set.specs.LastRecords.{last_records};
+ghost use Rattle.reg_leader.specs.Adoption.{IsAdoptRefusal};
+ghost use Rattle.reg_topic.specs.Topic.{follows, may_drop, topic_from, without};
+ghost use Rattle.reg_shared.specs.Held.{IsSince, held_after_batch, held_after_drop, held_of};
+
+use crate::kept::{
+    are_none, copy_kept, copy_older, drop_all, grow, keep_lasts, may_drop, push_all, since,
+};
+use reg_feed::{FeedName, Fold};
+use reg_fold::Registry;
+use reg_leader::{AdoptError, adopt};
+use reg_records::{Log, Record};
+use reg_set::{
+    RecordSet, last_is_greatest, last_records_are_enough, merging_joins_sets, records_are_ordered,
+};
+use reg_topic::{Item, allowed_drops_leave_compactions, follows};
+use std::alloc::{AllocError, Global};
+use std::marker::{Brand, Model};
+
+/// How many dropped records there may be among those by offset, at least, before they go.
+const DROPPED: usize = 64;
+
+/// The kept set of a topic and its next offset, with the registry over the last records. A commit
+/// and a compaction cost what they hold. Contracts see the kept set and the next offset.
+#[derive(Drop)]
+pub struct Shared {
+    // Held, since taking in an item is given none.
+    alloc: Global,
+    registry: Registry,
+    // The kept records that aren't the last of their keys are among these; others are last ones.
+    older: Vec<Record>,
+    // All kept records, by offset, among some that were dropped.
+    by_offset: Vec<Record>,
+    // How many were dropped since only kept ones stood there.
+    dropped: usize,
+    next: u64,
+}
+
+impl Model for Shared {
+    ghost use Rattle.reg_shared.specs.Held.{Held, held_code};
+    ghost use Rattle.reg_shared.specs.Kept.{IsShared, kept_of};
+
+    ghost Value = { Held };
+
+    ghost coded = { held_code };
+
+    ghost view = { λ s. record { kept = kept_of s.registry s.older.items; next = s.next } };
+
+    ghost invariant = { λ s. IsShared s.registry s.older.items s.by_offset.items s.next };
+}
+
+impl Shared {
+    /// What is held of the topic that begins with a log, unless it takes no commands.
+    pub fn adopt(alloc: Global, base: &Log) -> Result<Shared, AdoptError>
+        ensures held { IfOk result (λ shared. shared ≡ held_of (topic_from base.now.records.items base.now.next)) }
+        ensures takes_commands { OnOk result (is_closed (last_records (from_list base.now.records.items)) ≡ false) }
+        ensures refused { IfErr result (IsAdoptRefusal (last_records (from_list base.now.records.items))) }
+    {
+        records_are_ordered();
+        last_records_are_enough();
+        let log = RecordSet::of(alloc, &base.records)?;
+        let registry = adopt(alloc, &log)?;
+        let records = log.records();
+        let older = copy_older(alloc, &registry, records)?;
+        let mut by_offset = Vec::new(alloc);
+        push_all(&mut by_offset, records)?;
+        Ok(Shared {
+            alloc,
+            registry,
+            older,
+            by_offset,
+            dropped: 0,
+            next: base.next,
+        })
+    }
+
+    /// The registry over the last records.
+    pub fn registry(&self) -> &Registry
+        ensures { result.now ≡ last_records self.now.kept }
+    {
+        &self.registry
+    }
+
+    /// The offset of the next record.
+    pub fn next(&self) -> u64
+        ensures { result ≡ self.now.next }
+    {
+        self.next
+    }
+
+    /// Copies of the kept records at or above an offset. The only error is want of memory.
+    pub fn since(&self, from: u64) -> Result<Vec<Record>, AllocError>
+        ensures all { IfOk result (λ found. IsSince self.now.kept from found.items) }
+        ensures below { IfOk result (λ found. AllByRecursion (λ r. r.offset < self.now.next) found.items) }
+    {
+        records_are_ordered();
+        let later = since(&self.by_offset, from);
+        let found = copy_kept(self.alloc, &self.registry, &self.older, later)?;
+        Ok(found)
+    }
+
+    /// The kept records that aren't the last of their keys: those that a compaction drops. The only
+    /// error is want of memory.
+    pub fn superseded(&self) -> Result<Vec<Record>, AllocError>
+        ensures may_go { IfOk result (λ found. may_drop self.now.kept found.items ≡ true) }
+        ensures lasts_stay { IfOk result (λ found. without self.now.kept found.items ≡ last_records self.now.kept) }
+    {
+        records_are_ordered();
+        let found = copy_older(self.alloc, &self.registry, &self.older)?;
+        Ok(found)
+    }
+
+    /// Takes in a batch. The only error is want of memory; all is then as it was.
+    fn take_batch(&mut self, batch: &[Record]) -> Result<(), AllocError>
+        ensures taken { OnOk result (self.new ≡ held_after_batch (follows self.old.next batch.now) self.old batch.now) }
+        ensures refused { OnErr result (self.new ≡ self.old) }
+    {
+        records_are_ordered();
+        last_is_greatest();
+        last_records_are_enough();
+        merging_joins_sets();
+        if !follows(self.next, batch) {
+            return Ok(());
+        }
+        grow(
+            self.alloc,
+            &mut self.registry,
+            &mut self.older,
+            &mut self.by_offset,
+            batch,
+        )?;
+        self.next += batch.len() as u64;
+        Ok(())
+    }
+
+    /// Drops the records. The only error is want of memory; all is then as it was.
+    fn drop_records(&mut self, dropped: &[Record]) -> Result<(), AllocError>
+        ensures dropped { OnOk result (self.new ≡ held_after_drop (may_drop self.old.kept dropped.now) self.old dropped.now) }
+        ensures refused { OnErr result (self.new ≡ self.old) }
+    {
+        records_are_ordered();
+        allowed_drops_leave_compactions();
+        last_records_are_enough();
+        let older = RecordSet::of(self.alloc, &self.older)?;
+        let gone = RecordSet::of(self.alloc, dropped)?;
+        if !may_drop(&self.registry, &older, dropped) {
+            return Ok(());
+        }
+        drop_all(&self.registry, &mut self.older, &gone);
+        self.dropped = self.dropped.saturating_add(dropped.len());
+        Ok(())
+    }
+
+    /// Leaves the kept records alone among those by offset, where half of them were dropped. So each
+    /// record that is dropped pays for one that is looked at.
+    fn trim(&mut self)
+        ensures { self.new ≡ self.old }
+    {
+        records_are_ordered();
+        let few = self.dropped <= DROPPED || self.dropped <= self.by_offset.len() / 2;
+        if few || !are_none(&self.older) {
+            return;
+        }
+        keep_lasts(&self.registry, &mut self.by_offset);
+        self.dropped = 0;
+    }
+}
+
+impl Fold<Item> for Shared {
+    ghost use Rattle.reg_shared.specs.Held.{held_after};
+
+    ghost applied = { held_after };
+
+    fn take_item(&mut self, item: &Item) -> Result<(), AllocError> {
+        match item {
+            Item::Commit(commit) => self.take_batch(commit.batch.as_slice()),
+            Item::Compaction(dropped) => {
+                self.drop_records(dropped.as_slice())?;
+                self.trim();
+                Ok(())
+            }
+        }
+    }
+}
+
+/// The topic's feed. A program that makes one picks both at its call.
+impl FeedName<Item, Shared> for Brand {
+    ghost use Rattle.std.specs.FinSet.{empty};
+
+    ghost book = { record { number = 0; log_name = 0; cells_name = 0 } };
+
+    ghost first = { record { kept = empty; next = 0 } };
+}
+
+impl Clone for Shared {
+    ghost is_clone = { λ shared copy. copy ≡ shared };
+
+    fn clone(&self) -> Result<Shared, AllocError> {
+        let mut older = Vec::new(self.alloc);
+        push_all(&mut older, &self.older)?;
+        let mut by_offset = Vec::new(self.alloc);
+        push_all(&mut by_offset, &self.by_offset)?;
+        Ok(Shared {
+            alloc: self.alloc,
+            registry: self.registry.clone()?,
+            older,
+            by_offset,
+            dropped: self.dropped,
+            next: self.next,
+        })
+    }
+}
