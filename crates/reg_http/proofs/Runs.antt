@@ -1,6 +1,6 @@
 -- The responses to the first requests of a text, and one more.
-use Rattle.std.proofs.Common.{◌≡◌, ◌≤◌, ◌<◌, ◌+◌, ℕ, List, [], ◌∷◌, ◌++◌, refl, sym, ap, subst, ◌∙◌, inl, inr, arith, append-nil, length-append, IfSome, Some, None}
-use Rattle.std.specs.Prelude.{Option, Result}
+use Rattle.std.proofs.Common.{◌≡◌, ◌≤◌, ◌<◌, ◌+◌, ℕ, List, [], ◌∷◌, ◌++◌, refl, sym, ap, subst, ◌∙◌, inl, inr, arith, append-nil, length-append, IfSome, Some, None, true, false}
+use Rattle.std.specs.Prelude.{Bool, Option, Result}
 use Rattle.std.specs.Io.KnownBytes.{Appends, Keeps}
 use Rattle.std.specs.declared.alloc.AllocError.{AllocError}
 use Rattle.std.proofs.KnownBytes.{Appends-nil, Appends-trans, Appends-kept}
@@ -14,7 +14,7 @@ use Rattle.reg_lookup.specs.declared.query.Query.{Query}
 use Rattle.reg_messages.specs.Reading.{TakesShort}
 use Rattle.reg_messages.specs.Taking.{LosesReader}
 use Rattle.reg_responses.specs.Writing.{AppendsFront, LosesWriter}
-use Rattle.reg_http.specs.Serve.{all_of, Answers, AnswersFirst, IsOutput, IsServeRefusal, StopsBetween, StopsIn}
+use Rattle.reg_http.specs.Serve.{all_of, Answers, AnswersFirst, IsOutput, IsPart, IsServeRefusal, StopsBetween, StopsIn}
 use Rattle.reg_http.specs.ServeSteps.{HasAnswered, IsStepRefusal, Steps}
 use Rattle.reg_http.specs.declared.limits.TheConstants.{REQUESTS_LIMIT}
 use Rattle.reg_http.specs.declared.serving.Next.{Next}
@@ -76,33 +76,64 @@ module _ {D : Type 0} (asks : D → Query → Result Answer AllocError → D →
       )
 
   -- what is written once no request is left
-  pub IsOutput-over : (old mid new : D) (input before middle after left rest : Option (List ℕ)) (count : ℕ) → count ≤ REQUESTS_LIMIT
+  pub IsPart-over : (old mid new : D) (input before middle after left rest : Option (List ℕ)) (count : ℕ) → count ≤ REQUESTS_LIMIT
       → HasAnswered asks commands old input count before middle left mid
       → (next : Next) → next ≡ nexts.Over → IfSome left (λ text. Steps asks commands mid text middle after rest new next)
-      → IfSome input (λ text. (out : List ℕ) × IsOutput asks commands old text count out new × Appends before after out)
-  IsOutput-over old mid new None before middle after left rest count few done next ended step = tt
-  IsOutput-over old mid new (Some text) before middle after left rest count few (outs, here, is, answers, counted, written) next ended step =
+      → IfSome input (λ text. IsPart asks commands old text count false before after rest new)
+  IsPart-over old mid new None before middle after left rest count few done next ended step = tt
+  IsPart-over old mid new (Some text) before middle after left rest count few (outs, here, is, answers, counted, written) next ended step =
       let (none, same, kept) = subst (λ l. IfSome l (λ t. Steps asks commands mid t middle after rest new nexts.Over)) is
       (step_of mid new middle after left rest next nexts.Over ended step) in (
-        all_of outs,
-        (outs, Some here, subst (λ d. Answers asks commands old (Some text) outs d (Some here)) (sym same) answers, inl none, counted, few, refl),
+        outs,
+        Some here,
+        subst (λ d. Answers asks commands old (Some text) outs d (Some here)) (sym same) answers,
+        none,
+        counted,
+        few,
         Appends-kept before middle after (all_of outs) written kept,
       )
 
   -- what is written once a response closed the connection
-  pub IsOutput-closed : (old mid new : D) (input before middle after left rest : Option (List ℕ)) (count : ℕ) → count < REQUESTS_LIMIT
+  pub IsPart-closed : (old mid new : D) (input before middle after left rest : Option (List ℕ)) (count : ℕ) → count < REQUESTS_LIMIT
       → HasAnswered asks commands old input count before middle left mid
       → (next : Next) → next ≡ nexts.Closed → IfSome left (λ text. Steps asks commands mid text middle after rest new next)
-      → IfSome input (λ text. (out : List ℕ) × IsOutput asks commands old text (count + 1) out new × Appends before after out)
-  IsOutput-closed old mid new None before middle after left rest count few done next closed step = tt
-  IsOutput-closed old mid new (Some text) before middle after left rest count few (outs, here, is, answers, counted, written) next closed step =
+      → IfSome input (λ text. IsPart asks commands old text (count + 1) false before after rest new)
+  IsPart-closed old mid new None before middle after left rest count few done next closed step = tt
+  IsPart-closed old mid new (Some text) before middle after left rest count few (outs, here, is, answers, counted, written) next closed step =
       let (out, first, appends) = subst (λ l. IfSome l (λ t. Steps asks commands mid t middle after rest new nexts.Closed)) is
       (step_of mid new middle after left rest next nexts.Closed closed step) in
       let whole = Answers-more old mid new (Some text) (Some here) None outs out answers first in (
-        all_of (outs ++ out ∷ []),
-        (outs ++ out ∷ [], None, whole, inl tt, ap (λ n. n + 1) counted ∙ sym (length-append outs (out ∷ [])), omega (arith, few), refl),
+        outs ++ out ∷ [],
+        None,
+        whole,
+        tt,
+        ap (λ n. n + 1) counted ∙ sym (length-append outs (out ∷ [])),
+        omega (arith, few),
         subst (Appends before after) (sym (all_of-more outs out)) (Appends-trans before middle after (all_of outs) out written appends),
       )
+
+  -- what is written once as many are answered as may be
+  pub IsPart-full : (old new : D) (input before after left : Option (List ℕ)) (count : ℕ) → count ≡ REQUESTS_LIMIT
+      → HasAnswered asks commands old input count before after left new
+      → IfSome input (λ text. IsPart asks commands old text REQUESTS_LIMIT true before after left new)
+  IsPart-full old new None before after left count full done = tt
+  IsPart-full old new (Some text) before after left count full (outs, here, is, answers, counted, written) =
+      (outs, Some here, answers, (here, refl, is, refl), sym full ∙ counted, omega arith, written)
+
+  -- a part is an output
+  pub IsOutput-part : (old new : D) (text : List ℕ) (count : ℕ) (goes : Bool) (before after left : Option (List ℕ))
+      → IsPart asks commands old text count goes before after left new
+      → (out : List ℕ) × IsOutput asks commands old text count out new × Appends before after out
+  IsOutput-part old new text count true before after left (outs, rest, answers, goes, counted, few, written) =
+      (all_of outs, (outs, rest, answers, inr goes.3, counted, few, refl), written)
+  IsOutput-part old new text count false before after left (outs, rest, answers, none, counted, few, written) =
+      (all_of outs, (outs, rest, answers, inl none, counted, few, refl), written)
+
+  pub IsOutput-of : (old new : D) (input before after left : Option (List ℕ)) (count : ℕ) (goes : Bool)
+      → IfSome input (λ text. IsPart asks commands old text count goes before after left new)
+      → IfSome input (λ text. (out : List ℕ) × IsOutput asks commands old text count out new × Appends before after out)
+  IsOutput-of old new None before after left count goes part = tt
+  IsOutput-of old new (Some text) before after left count goes part = IsOutput-part old new text count goes before after left part
 
   pub StopsBetween-of : (old mid new : D) (input before middle after left rest : Option (List ℕ)) (count : ℕ)
       → HasAnswered asks commands old input count before middle left mid → IfSome left (λ text. TakesShort text rest) → new ≡ mid → Keeps middle after

@@ -1,5 +1,5 @@
 -- The responses to the requests of a text.
-use Rattle.std.specs.Prelude.{◌≡◌, ◌⊎◌, ◌≤◌, ⊤, ℕ, List, [], ◌∷◌, ◌++◌, Bool, true, ◌||◌, length, Option, Some, None, IfSome, IsOk, Result, Ok, Err, if◌then◌else◌}
+use Rattle.std.specs.Prelude.{◌≡◌, ◌⊎◌, ◌≤◌, ⊤, ℕ, List, [], ◌∷◌, ◌++◌, Bool, true, false, ◌||◌, length, Option, Some, None, IfSome, IsOk, Result, Ok, Err, if◌then◌else◌}
 use Rattle.std.specs.List.{flat_map}
 use Rattle.std.specs.Io.KnownBytes.{Appends}
 use Rattle.std.specs.declared.alloc.AllocError.{AllocError}
@@ -94,6 +94,17 @@ module _ {D : Type 0} (asks : D → Query → Result Answer AllocError → D →
   IsOutput old text count out new =
       (outs : List (List ℕ)) × (left : Option (List ℕ)) × Answers old (Some text) outs new left
       × (IsOver left ⊎ (count ≡ REQUESTS_LIMIT)) × (count ≡ length outs) × (count ≤ REQUESTS_LIMIT) × (out ≡ all_of outs)
+
+  -- the connection goes on, after as many requests as one call may answer, and the reader has what is left; else no request is left
+  abbrev pub GoesOn : Bool → Option (List ℕ) → Option (List ℕ) → ℕ → Type 0
+  GoesOn true rest left count = (here : List ℕ) × (rest ≡ Some here) × (left ≡ Some here) × (count ≡ REQUESTS_LIMIT)
+  GoesOn false rest left count = IsOver rest
+
+  -- so many responses, to the first requests of a text, were written, and the connection goes on after them or not
+  abbrev pub IsPart : D → List ℕ → ℕ → Bool → Option (List ℕ) → Option (List ℕ) → Option (List ℕ) → D → Type 0
+  IsPart old text count goes before after left new =
+      (outs : List (List ℕ)) × (rest : Option (List ℕ)) × Answers old (Some text) outs new rest
+      × GoesOn goes rest left count × (count ≡ length outs) × (count ≤ REQUESTS_LIMIT) × Appends before after (all_of outs)
 
   -- what was written of the responses before a fault: those of the first requests whole, and a front of the next one's,
   -- whose request may be done at the desk

@@ -12,4 +12,4 @@ pub use limits::{REQUESTS_LIMIT, limits_are_as_written};
 pub use reg_messages::{HEAD_FIELDS, HEAD_LIMIT, HEAD_LINES, REQUEST_READS};
 pub use reg_requests::{Asked, Request};
 pub use reg_responses::reply_answer;
-pub use serving::{ServeError, Served, serve};
+pub use serving::{ServeError, Served, ServedPart, serve, serve_part};

@@ -4,7 +4,7 @@ ghost use Rattle.std.specs.Io.KnownBytes.{Appends};
 ghost use Rattle.reg_records.specs.Device.{all_reads_of, bytes_in, faults_of, interruptions_of, reads_of};
 ghost use Rattle.reg_messages.specs.declared.limits.TheConstants.{REQUEST_READS};
 ghost use Rattle.reg_responses.specs.declared.limits.TheConstants.{INTERRUPTION_LIMIT};
-ghost use Rattle.reg_http.specs.Serve.{IsOutput, IsServeRefusal};
+ghost use Rattle.reg_http.specs.Serve.{IsOutput, IsPart, IsServeRefusal};
 ghost use Rattle.reg_http.specs.ServeSteps.{IsStepRefusal, Steps, next_if};
 
 use crate::attending::{Attended, attend};
@@ -56,22 +56,67 @@ pub fn serve<R: BufRead, W: Write, D: Desk>(
         × (all_reads_of reader.new ≤ all_reads_of reader.old + REQUESTS_LIMIT * REQUEST_READS) }
     ensures interruptions { interruptions_of writer.new ≤ INTERRUPTION_LIMIT }
 {
+    match serve_part(alloc, reader, writer, desk) {
+        Ok(part) => Ok(Served {
+            requests: part.requests,
+        }),
+        Err(e) => Err(e),
+    }
+}
+
+/// What a call of `serve_part` did.
+#[derive(Clone, Copy, Debug, PartialEq, Eq)]
+pub struct ServedPart {
+    /// How many responses were written.
+    pub requests: u64,
+    /// Whether another call is to go on with the connection: as many requests were answered as one call
+    /// may answer, and the last response doesn't close it. Else it is over: a response closes it, or its
+    /// input has ended.
+    pub goes_on: bool,
+}
+
+/// Answers requests as `serve` does, and says whether the connection goes on after them. Where it does,
+/// the reader stands at the next request.
+pub fn serve_part<R: BufRead, W: Write, D: Desk>(
+    alloc: Global,
+    reader: &mut Device<R>,
+    writer: &mut Device<W>,
+    desk: &mut D,
+) -> Result<ServedPart, ServeError>
+    ensures written { IfOk result (λ part. IfSome (bytes_in R.remaining reader.old) (λ text.
+        IsPart D.asks D.commands desk.old text part.requests part.goes_on
+        (bytes_in W.contents writer.old) (bytes_in W.contents writer.new) (bytes_in R.remaining reader.new) desk.new)) }
+    ensures faults { OnOk result ((faults_of reader.new ≡ faults_of reader.old) × (faults_of writer.new ≡ faults_of writer.old)) }
+    ensures refused { IfErr result (λ e. IsServeRefusal D.asks D.commands reader.old reader.new writer.old writer.new
+        (bytes_in R.remaining reader.old) (bytes_in R.remaining reader.new)
+        (bytes_in W.contents writer.old) (bytes_in W.contents writer.new) desk.old desk.new e) }
+    ensures reads { (reads_of reader.new ≤ REQUEST_READS)
+        × (all_reads_of reader.new ≤ all_reads_of reader.old + REQUESTS_LIMIT * REQUEST_READS) }
+    ensures interruptions { interruptions_of writer.new ≤ INTERRUPTION_LIMIT }
+{
     let mut paths = None;
     writer.begin_count();
     for requests in 0..REQUESTS_LIMIT {
         match answer_next(alloc, &mut paths, reader, writer, desk) {
             Ok(Next::More) => {}
             Ok(Next::Closed) => {
-                return Ok(Served {
+                return Ok(ServedPart {
                     requests: requests + 1,
+                    goes_on: false,
                 });
             }
-            Ok(Next::Over) => return Ok(Served { requests }),
+            Ok(Next::Over) => {
+                return Ok(ServedPart {
+                    requests,
+                    goes_on: false,
+                });
+            }
             Err(e) => return Err(e),
         }
     }
-    Ok(Served {
+    Ok(ServedPart {
         requests: REQUESTS_LIMIT,
+        goes_on: true,
     })
 }
 

@@ -1,0 +1,39 @@
+use Rattle.std.proofs.Common.{ap, refl, ◌∙◌, arith}
+use Rattle.reg_http.proofs.Runs.{IsPart-full, HasAnswered-begun, HasAnswered-more, IsPart-over, IsPart-closed, IsServeRefusal-step}
+use Rattle.reg_http.proofs.serving.serve_part.Goals as goal
+
+pub loop-requests-init : goal.loop-requests-init
+loop-requests-init g c = (HasAnswered-begun g.D.Desk.asks g.D.Desk.commands _ _ _ _ (ap g.W.Write.contents c.begin_count.ensures.inner), refl, c.begin_count.ensures.faults, (λ some. absurd (omega (arith, some)), omega arith, omega arith))
+
+pub loop-requests-preserved : goal.loop-requests-preserved
+loop-requests-preserved g c =
+    let (done, reads, writes, bounds) = c.loop-requests.invariant in
+    let now = c.in-Ok-More in (
+      HasAnswered-more g.D.Desk.asks g.D.Desk.commands c.args.desk.now c.loop-requests.desk c.answer_next.new.desk
+          _ _ _ _ _ _ c.loop-requests.requests done now.field-0 now.field-0-is now.ensures.step,
+      now.ensures.faults.0 ∙ reads,
+      now.ensures.faults.1 ∙ writes,
+      (λ _. omega arith, omega arith, omega arith),
+    )
+
+pub returns-in-Ok-Closed-clause-written : goal.returns-in-Ok-Closed-clause-written
+returns-in-Ok-Closed-clause-written g c =
+    let now = c.in-Ok-Closed in
+    IsPart-closed g.D.Desk.asks g.D.Desk.commands c.args.desk.now c.loop-requests.desk c.answer_next.new.desk _ _ _ _ _ _
+    c.loop-requests.requests c.loop-requests-test.true c.loop-requests.invariant.0 now.field-0 now.field-0-is now.ensures.step
+
+pub returns-in-Ok-Over-clause-written : goal.returns-in-Ok-Over-clause-written
+returns-in-Ok-Over-clause-written g c =
+    let now = c.in-Ok-Over in
+    IsPart-over g.D.Desk.asks g.D.Desk.commands c.args.desk.now c.loop-requests.desk c.answer_next.new.desk _ _ _ _ _ _
+    c.loop-requests.requests (omega (arith, c.loop-requests-test.true)) c.loop-requests.invariant.0 now.field-0 now.field-0-is now.ensures.step
+
+pub returns-in-Err-clause-refused : goal.returns-in-Err-clause-refused
+returns-in-Err-clause-refused g c =
+    let (done, reads, writes, bounds) = c.loop-requests.invariant in
+    IsServeRefusal-step g.D.Desk.asks g.D.Desk.commands c.args.reader.now c.loop-requests.reader c.answer_next.new.reader
+    c.args.writer.now c.loop-requests.writer c.answer_next.new.writer c.args.desk.now c.loop-requests.desk c.answer_next.new.desk _ _ _ _ _ _
+    c.loop-requests.requests c.in-Err.e reads writes done c.in-Err.ensures.refused
+
+pub returns-clause-written : goal.returns-clause-written
+returns-clause-written g c = IsPart-full g.D.Desk.asks g.D.Desk.commands _ _ _ _ _ _ _ (omega (arith, c.loop-requests-test.false)) c.loop-requests.invariant.0
