@@ -1,17 +1,10 @@
--- What the words of the command line ask for, and how the program ends.
-use Rattle.std.specs.Prelude.{ℕ, ◌∷◌, [], List, ◌++◌, codes, decimal, bytes_eq, nat_lt, if◌then◌else◌}
+-- How the program ends.
+use Rattle.std.specs.Prelude.{ℕ, [], List, ◌++◌, codes, decimal, nat_lt, if◌then◌else◌}
 use Rattle.reg_records.specs.Errors.{at_line, log_fault_name}
-use Rattle.reg_program.specs.declared.ended.Command.{Command}
-use Rattle.reg_program.specs.declared.ended.Command.TheVariants as commands
 use Rattle.reg_program.specs.declared.ended.Ended.{Ended}
 use Rattle.reg_program.specs.declared.ended.Ended.TheVariants as ends
 use Rattle.reg_program.specs.declared.folding.FoldError.{FoldError}
 use Rattle.reg_program.specs.declared.folding.FoldError.TheVariants as errors
-
--- `fold` alone after the program's name is a fold
-abbrev pub command_of : List (List ℕ) → Command
-command_of (name ∷ word ∷ []) = if bytes_eq word (codes "fold") then commands.Fold else commands.Usage
-command_of words = commands.Usage
 
 -- what is said of a fold that failed
 abbrev pub error_text : FoldError → List ℕ

@@ -2,3 +2,4 @@ pub mod Desk
 pub mod Ended
 pub mod Fold
 pub mod Opening
+pub mod Words

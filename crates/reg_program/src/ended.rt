@@ -1,34 +1,10 @@
-// What the words of the command line ask for, and how the program ends.
-ghost use Rattle.std.specs.Prelude.{◌≡◌, Some, map, string_bytes};
-ghost use Rattle.reg_program.specs.Ended.{command_of, error_text, errors_written, exit_status};
+// How the program ends.
+ghost use Rattle.std.specs.Prelude.{◌≡◌, Some};
+ghost use Rattle.reg_program.specs.Ended.{error_text, errors_written, exit_status};
 
 use crate::folding::{FoldError, Folded};
 use std::error::Error;
 use std::fmt;
-
-/// What the words of the command line ask for.
-#[derive(Clone, Copy, Debug, PartialEq, Eq)]
-pub enum Command {
-    Fold,
-    /// The words are no command: how to use the program is to be said.
-    Usage,
-}
-
-/// What the words ask for, of which the first is the program's name.
-pub fn command_of(words: &[String]) -> Command
-    ensures { result ≡ command_of (map string_bytes words.now) }
-{
-    match words {
-        [_, word] => {
-            if word.as_str() == "fold" {
-                Command::Fold
-            } else {
-                Command::Usage
-            }
-        }
-        _ => Command::Usage,
-    }
-}
 
 /// How the program ends. It is shown as the text that goes to standard error.
 #[derive(Clone, Copy, Debug)]

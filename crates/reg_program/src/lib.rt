@@ -5,6 +5,8 @@
 mod desk;
 mod ended;
 mod folding;
+mod words;
 
-pub use ended::{Command, Ended, command_of};
+pub use ended::Ended;
 pub use folding::{FoldError, Folded, fold};
+pub use words::{Command, command_of};

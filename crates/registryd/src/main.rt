@@ -1,9 +1,13 @@
 //! The program `registryd`: a registry of Avro schemas.
 //!
 //! `registryd fold` reads a log and the requests after its empty line from its input, and writes the
-//! responses to its output.
+//! responses to its output. `registryd serve PORT NODES WORKERS` listens, and serves an empty topic
+//! until it is stopped.
 #![tactic(auto)]
 
+mod serving;
+
+use crate::serving::serve;
 use reg_program::{Command, Ended, command_of, fold};
 use reg_records::Device;
 use std::env;
@@ -22,6 +26,24 @@ fn main(rt: HostRuntime) -> io::Result<ExitCode> {
                 Ok(folded) => Ended::Folded(folded),
                 Err(error) => Ended::Failed(error),
             }
+        }
+        Command::Serve {
+            port,
+            nodes,
+            workers,
+        } => {
+            let ready = || {
+                for k in 0..nodes {
+                    let port = port.saturating_add(k);
+                    let _told = println!(rt; "listening {port}");
+                }
+                true
+            };
+            if let Err(fault) = serve(&rt, alloc, port, nodes, workers, ready) {
+                eprintln!(rt; "{fault}")?;
+                return Ok(ExitCode::from(1));
+            }
+            return Ok(ExitCode::SUCCESS);
         }
     };
     eprint!(rt; "{ended}")?;

@@ -65,29 +65,70 @@ fn a_log_alone_writes_nothing_and_ends_by_its_first_fault(rt: HostRuntime) {
     }
 }
 
-/// The words of a command line, and whether they ask for a fold.
-static WORDS: [(&str, bool); 7] = [
-    ("registryd fold", true),
-    ("other fold", true),
-    ("registryd", false),
-    ("registryd Fold", false),
-    ("registryd fold fold", false),
-    ("registryd serve", false),
-    ("registryd serve 8081 1 1", false),
+/// The words of a command line, and what they ask for.
+static WORDS: [(&str, Command); 20] = [
+    ("registryd fold", Command::Fold),
+    ("other fold", Command::Fold),
+    ("registryd", Command::Usage),
+    ("registryd Fold", Command::Usage),
+    ("registryd fold fold", Command::Usage),
+    ("registryd serve", Command::Usage),
+    (
+        "registryd serve 8081 1 1",
+        Command::Serve {
+            port: 8_081,
+            nodes: 1,
+            workers: 1,
+        },
+    ),
+    (
+        "registryd serve 1 3 16",
+        Command::Serve {
+            port: 1,
+            nodes: 3,
+            workers: 16,
+        },
+    ),
+    (
+        "registryd serve 65535 1 1",
+        Command::Serve {
+            port: 65_535,
+            nodes: 1,
+            workers: 1,
+        },
+    ),
+    (
+        "registryd serve 65533 3 1",
+        Command::Serve {
+            port: 65_533,
+            nodes: 3,
+            workers: 1,
+        },
+    ),
+    ("registryd serve 65534 3 1", Command::Usage),
+    ("registryd serve 65536 1 1", Command::Usage),
+    ("registryd serve 0 1 1", Command::Usage),
+    ("registryd serve 08081 1 1", Command::Usage),
+    ("registryd serve +8081 1 1", Command::Usage),
+    ("registryd serve 8081 0 1", Command::Usage),
+    ("registryd serve 8081 4 1", Command::Usage),
+    ("registryd serve 8081 1 0", Command::Usage),
+    ("registryd serve 8081 1 17", Command::Usage),
+    ("registryd serve 8081 1", Command::Usage),
 ];
 
-fn asks_for_a_fold(alloc: Global, line: &str) -> Result<bool, AllocError> {
+fn asked(alloc: Global, line: &str) -> Result<Command, AllocError> {
     let mut words = Vec::new(alloc);
     for word in line.split(' ') {
         words.push(String::from_str(alloc, word)?)?;
     }
-    Ok(command_of(&words) == Command::Fold)
+    Ok(command_of(&words))
 }
 
 #[test]
-fn fold_alone_is_a_command(rt: HostRuntime) {
-    for (line, is_fold) in &WORDS {
-        assert!(rt; asks_for_a_fold(rt.alloc(), line) == Ok(*is_fold), "{line}");
+fn words_are_commands(rt: HostRuntime) {
+    for (line, command) in &WORDS {
+        assert!(rt; asked(rt.alloc(), line) == Ok(*command), "{line}");
     }
 }
 

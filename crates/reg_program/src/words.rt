@@ -1,0 +1,94 @@
+// What the words of the command line ask for.
+ghost use Rattle.std.specs.Prelude.{◌≡◌, ◌≤◌, ◌&&◌, map, nat_le, string_bytes};
+ghost use Rattle.reg_program.specs.Words.{command_of, is_plain, number_in, serving};
+
+use reg_messages::{digits_value, has_only_digits};
+
+/// The least and the greatest port, number of nodes, and number of workers of a node.
+const PORTS: (u64, u64) = (1, 65_535);
+
+const NODES: (u64, u64) = (1, 3);
+
+const WORKERS: (u64, u64) = (1, 16);
+
+/// What the words of the command line ask for.
+#[derive(Clone, Copy, Debug, PartialEq, Eq)]
+pub enum Command {
+    Fold,
+    /// So many nodes are to serve, each by so many workers: node k, from 0, at that port plus k.
+    Serve { port: u64, nodes: u64, workers: u64 },
+    /// The words are no command: how to use the program is to be said.
+    Usage,
+}
+
+/// What the words ask for, of which the first is the program's name.
+pub fn command_of(words: &[String]) -> Command
+    ensures { result ≡ command_of (map string_bytes words.now) }
+{
+    match words {
+        [_, word] => {
+            if word.as_str() == "fold" {
+                Command::Fold
+            } else {
+                Command::Usage
+            }
+        }
+        [_, word, port, nodes, workers] => {
+            if word.as_str() == "serve" {
+                serving(
+                    number_in(PORTS, port.as_bytes()),
+                    number_in(NODES, nodes.as_bytes()),
+                    number_in(WORKERS, workers.as_bytes()),
+                )
+            } else {
+                Command::Usage
+            }
+        }
+        _ => Command::Usage,
+    }
+}
+
+/// Serves, where all three are numbers within their limits, and each node has a port.
+fn serving(port: Option<u64>, nodes: Option<u64>, workers: Option<u64>) -> Command
+    ensures { result ≡ serving port nodes workers }
+{
+    match (port, nodes, workers) {
+        (Some(port), Some(nodes), Some(workers)) => {
+            if port.saturating_add(nodes) <= PORTS.1 + 1 {
+                Command::Serve {
+                    port,
+                    nodes,
+                    workers,
+                }
+            } else {
+                Command::Usage
+            }
+        }
+        _ => Command::Usage,
+    }
+}
+
+/// The number that a word spells, where that is within the limits.
+fn number_in(limits: (u64, u64), word: &[u8]) -> Option<u64>
+    ensures { result ≡ number_in limits word.now }
+{
+    if !is_plain(word) {
+        return None;
+    }
+    let number = digits_value(word);
+    if limits.0 <= number && number <= limits.1 {
+        Some(number)
+    } else {
+        None
+    }
+}
+
+/// Whether a word is one to five decimal digits, of which the first isn't 0.
+fn is_plain(word: &[u8]) -> bool
+    ensures { result ≡ is_plain word.now }
+{
+    match word.first() {
+        Some(first) => *first != b'0' && word.len() <= 5 && has_only_digits(word),
+        None => false,
+    }
+}

@@ -1,0 +1,43 @@
+// What all nodes share.
+use crate::running::Serving;
+use reg_desk::Wake;
+use reg_serve::Latch;
+use std::alloc::Global;
+use std::net::TcpListener;
+use std::sync::atomic::AtomicU64;
+use std::thread::Parker;
+
+/// What all nodes share.
+#[derive(Drop)]
+pub(crate) struct Common<'a, R, G> {
+    pub(crate) rt: &'a R,
+    pub(crate) alloc: Global,
+    /// One a node.
+    pub(crate) listeners: &'a [TcpListener],
+    /// What wakes a node's follower; one a node.
+    pub(crate) grown: &'a [Parker],
+    pub(crate) latch: &'a Latch,
+    pub(crate) gate: &'a G,
+    /// How many calls of desks there were.
+    pub(crate) calls: &'a AtomicU64,
+    /// The workers of a node.
+    pub(crate) workers: u32,
+    pub(crate) serving: Serving,
+}
+
+/// Wakes the followers of the other nodes.
+#[derive(Drop)]
+pub(crate) struct Others<'a> {
+    pub(crate) grown: &'a [Parker],
+    pub(crate) own: usize,
+}
+
+impl Wake for Others<'_> {
+    fn topic_grew(&self) {
+        for (place, grown) in self.grown.iter().enumerate() {
+            if place != self.own {
+                grown.unpark();
+            }
+        }
+    }
+}

@@ -1,0 +1,56 @@
+// Why nodes can't be started.
+use reg_feed::NoPlace;
+use reg_leader::AdoptError;
+use reg_records::LogError;
+use reg_serve::StartError;
+use std::alloc::{AllocError, AllocFailed};
+use thiserror::Error;
+
+/// Why nodes can't be started. It is shown as its name.
+#[derive(Clone, Copy, Debug, PartialEq, Eq, Error)]
+pub enum StartFault {
+    /// Memory or a thread was refused.
+    #[error("OutOfMemory")]
+    OutOfMemory,
+    /// A list has no place for another reader.
+    #[error("NoPlace")]
+    NoPlace,
+}
+
+impl From<AllocError> for StartFault {
+    fn from(_refused: AllocError) -> StartFault {
+        StartFault::OutOfMemory
+    }
+}
+
+impl<T: Drop> From<AllocFailed<T>> for StartFault {
+    fn from(_refused: AllocFailed<T>) -> StartFault {
+        StartFault::OutOfMemory
+    }
+}
+
+impl From<NoPlace> for StartFault {
+    fn from(_none: NoPlace) -> StartFault {
+        StartFault::NoPlace
+    }
+}
+
+impl From<StartError> for StartFault {
+    fn from(_refused: StartError) -> StartFault {
+        StartFault::OutOfMemory
+    }
+}
+
+/// An empty log is refused for want of memory alone.
+impl From<AdoptError> for StartFault {
+    fn from(_refused: AdoptError) -> StartFault {
+        StartFault::OutOfMemory
+    }
+}
+
+/// An empty log is refused for want of memory alone.
+impl From<LogError> for StartFault {
+    fn from(_refused: LogError) -> StartFault {
+        StartFault::OutOfMemory
+    }
+}

@@ -1,0 +1,44 @@
+// A node's follower, for the thread that follows the topic.
+use reg_feed::{Copies, FeedName};
+use reg_node::{Follower, Take, Taken};
+use reg_serve::Follow;
+use reg_shared::Shared;
+use reg_topic::Item;
+use std::sync::{Mutex, Wait};
+use std::thread::Parker;
+
+/// A node's follower, with what wakes its thread.
+#[derive(Drop)]
+pub(crate) struct Following<
+    'a,
+    N: FeedName<Item, Shared>,
+    S: Copies<Item, Shared, N>,
+    M: FeedName<Take, Taken>,
+    U: Copies<Take, Taken, M>,
+    R: Wait + Drop,
+> {
+    pub(crate) rt: &'a R,
+    pub(crate) follower: &'a Mutex<Follower<N, S, M, U, R>>,
+    pub(crate) grown: &'a Parker,
+}
+
+impl<
+    'a,
+    N: FeedName<Item, Shared>,
+    S: Copies<Item, Shared, N>,
+    M: FeedName<Take, Taken>,
+    U: Copies<Take, Taken, M>,
+    R: Wait + Drop,
+> Follow for Following<'a, N, S, M, U, R> {
+    fn follow(&self) {
+        let mut follower = self.follower.lock(self.rt);
+        // What is refused now is tried again at the next call.
+        if follower.pull().is_ok() {
+            let _told = follower.publish();
+        }
+    }
+
+    fn grown(&self) -> &Parker {
+        self.grown
+    }
+}

@@ -1,0 +1,298 @@
+// Nodes that are made: their followers stand here while their threads run.
+use crate::common::{Common, Others};
+use crate::error::StartFault;
+use crate::following::Following;
+use crate::running::{serve_one, serve_three, serve_two};
+use crate::seats::{Parts, make_desks};
+use reg_desk::Gate;
+use reg_feed::{Copies, FeedName};
+use reg_node::{Take, Taken};
+use reg_pen::{MemoryAlone, Pass, Pen};
+use reg_serve::Node;
+use reg_shared::Shared;
+use reg_topic::Item;
+use std::sync::{Mutex, Wait};
+use std::thread::Threads;
+use std::time::Clock;
+
+/// Makes the desks of one node, and serves by it.
+pub(crate) fn hold_one<
+    'x,
+    N: FeedName<Item, Shared> + Send + Sync,
+    S: Copies<Item, Shared, N> + Send + Sync,
+    L: FeedName<Take, Taken> + Send + Sync,
+    T: Copies<Take, Taken, L> + Send + Sync,
+    R: Threads + Wait + Clock + Sync + Send + Copy + Drop,
+    G: Gate + Sync,
+    F: FnOnce() -> bool,
+>(
+    common: &'x Common<'x, R, G>,
+    pen: &'x Mutex<Pen<N, S, MemoryAlone, R>>,
+    passes: Vec<Pass<N>>,
+    first: Parts<N, S, L, T, R>,
+    ready: F,
+) -> Result<(), StartFault>
+    requires { F.IsAlwaysCallable ready }
+{
+    let mut passes = passes;
+    let alloc = common.alloc;
+    let rt = common.rt;
+    let gate = common.gate;
+    let calls = common.calls;
+    let grown = common.grown;
+    let listeners = common.listeners;
+    let Parts {
+        follower: first_follower,
+        views: first_views,
+    } = first;
+    let first_follower = Mutex::new(first_follower);
+    let first_others = Others { grown, own: 0 };
+    let first_desks = make_desks(
+        rt,
+        alloc,
+        pen,
+        &mut passes,
+        &first_follower,
+        gate,
+        &first_others,
+        calls,
+        first_views,
+    )?;
+    let first_following = Following {
+        rt,
+        follower: &first_follower,
+        grown: grown.get(0).ok_or(StartFault::NoPlace)?,
+    };
+    let first_node = Node::new(
+        listeners.get(0).ok_or(StartFault::NoPlace)?,
+        first_following,
+    );
+    serve_one(
+        rt,
+        alloc,
+        common.latch,
+        common.serving,
+        &first_node,
+        first_desks,
+        ready,
+    )
+}
+
+/// Makes the desks of two nodes, and serves by them.
+pub(crate) fn hold_two<
+    'x,
+    N: FeedName<Item, Shared> + Send + Sync,
+    S: Copies<Item, Shared, N> + Send + Sync,
+    L: FeedName<Take, Taken> + Send + Sync,
+    T: Copies<Take, Taken, L> + Send + Sync,
+    M: FeedName<Take, Taken> + Send + Sync,
+    U: Copies<Take, Taken, M> + Send + Sync,
+    R: Threads + Wait + Clock + Sync + Send + Copy + Drop,
+    G: Gate + Sync,
+    F: FnOnce() -> bool,
+>(
+    common: &'x Common<'x, R, G>,
+    pen: &'x Mutex<Pen<N, S, MemoryAlone, R>>,
+    passes: Vec<Pass<N>>,
+    first: Parts<N, S, L, T, R>,
+    second: Parts<N, S, M, U, R>,
+    ready: F,
+) -> Result<(), StartFault>
+    requires { F.IsAlwaysCallable ready }
+{
+    let mut passes = passes;
+    let alloc = common.alloc;
+    let rt = common.rt;
+    let gate = common.gate;
+    let calls = common.calls;
+    let grown = common.grown;
+    let listeners = common.listeners;
+    let Parts {
+        follower: first_follower,
+        views: first_views,
+    } = first;
+    let first_follower = Mutex::new(first_follower);
+    let first_others = Others { grown, own: 0 };
+    let first_desks = make_desks(
+        rt,
+        alloc,
+        pen,
+        &mut passes,
+        &first_follower,
+        gate,
+        &first_others,
+        calls,
+        first_views,
+    )?;
+    let first_following = Following {
+        rt,
+        follower: &first_follower,
+        grown: grown.get(0).ok_or(StartFault::NoPlace)?,
+    };
+    let first_node = Node::new(
+        listeners.get(0).ok_or(StartFault::NoPlace)?,
+        first_following,
+    );
+    let Parts {
+        follower: second_follower,
+        views: second_views,
+    } = second;
+    let second_follower = Mutex::new(second_follower);
+    let second_others = Others { grown, own: 1 };
+    let second_desks = make_desks(
+        rt,
+        alloc,
+        pen,
+        &mut passes,
+        &second_follower,
+        gate,
+        &second_others,
+        calls,
+        second_views,
+    )?;
+    let second_following = Following {
+        rt,
+        follower: &second_follower,
+        grown: grown.get(1).ok_or(StartFault::NoPlace)?,
+    };
+    let second_node = Node::new(
+        listeners.get(1).ok_or(StartFault::NoPlace)?,
+        second_following,
+    );
+    serve_two(
+        rt,
+        alloc,
+        common.latch,
+        common.serving,
+        &first_node,
+        first_desks,
+        &second_node,
+        second_desks,
+        ready,
+    )
+}
+
+/// Makes the desks of three nodes, and serves by them.
+pub(crate) fn hold_three<
+    'x,
+    N: FeedName<Item, Shared> + Send + Sync,
+    S: Copies<Item, Shared, N> + Send + Sync,
+    L: FeedName<Take, Taken> + Send + Sync,
+    T: Copies<Take, Taken, L> + Send + Sync,
+    M: FeedName<Take, Taken> + Send + Sync,
+    U: Copies<Take, Taken, M> + Send + Sync,
+    O: FeedName<Take, Taken> + Send + Sync,
+    V: Copies<Take, Taken, O> + Send + Sync,
+    R: Threads + Wait + Clock + Sync + Send + Copy + Drop,
+    G: Gate + Sync,
+    F: FnOnce() -> bool,
+>(
+    common: &'x Common<'x, R, G>,
+    pen: &'x Mutex<Pen<N, S, MemoryAlone, R>>,
+    passes: Vec<Pass<N>>,
+    first: Parts<N, S, L, T, R>,
+    second: Parts<N, S, M, U, R>,
+    third: Parts<N, S, O, V, R>,
+    ready: F,
+) -> Result<(), StartFault>
+    requires { F.IsAlwaysCallable ready }
+{
+    let mut passes = passes;
+    let alloc = common.alloc;
+    let rt = common.rt;
+    let gate = common.gate;
+    let calls = common.calls;
+    let grown = common.grown;
+    let listeners = common.listeners;
+    let Parts {
+        follower: first_follower,
+        views: first_views,
+    } = first;
+    let first_follower = Mutex::new(first_follower);
+    let first_others = Others { grown, own: 0 };
+    let first_desks = make_desks(
+        rt,
+        alloc,
+        pen,
+        &mut passes,
+        &first_follower,
+        gate,
+        &first_others,
+        calls,
+        first_views,
+    )?;
+    let first_following = Following {
+        rt,
+        follower: &first_follower,
+        grown: grown.get(0).ok_or(StartFault::NoPlace)?,
+    };
+    let first_node = Node::new(
+        listeners.get(0).ok_or(StartFault::NoPlace)?,
+        first_following,
+    );
+    let Parts {
+        follower: second_follower,
+        views: second_views,
+    } = second;
+    let second_follower = Mutex::new(second_follower);
+    let second_others = Others { grown, own: 1 };
+    let second_desks = make_desks(
+        rt,
+        alloc,
+        pen,
+        &mut passes,
+        &second_follower,
+        gate,
+        &second_others,
+        calls,
+        second_views,
+    )?;
+    let second_following = Following {
+        rt,
+        follower: &second_follower,
+        grown: grown.get(1).ok_or(StartFault::NoPlace)?,
+    };
+    let second_node = Node::new(
+        listeners.get(1).ok_or(StartFault::NoPlace)?,
+        second_following,
+    );
+    let Parts {
+        follower: third_follower,
+        views: third_views,
+    } = third;
+    let third_follower = Mutex::new(third_follower);
+    let third_others = Others { grown, own: 2 };
+    let third_desks = make_desks(
+        rt,
+        alloc,
+        pen,
+        &mut passes,
+        &third_follower,
+        gate,
+        &third_others,
+        calls,
+        third_views,
+    )?;
+    let third_following = Following {
+        rt,
+        follower: &third_follower,
+        grown: grown.get(2).ok_or(StartFault::NoPlace)?,
+    };
+    let third_node = Node::new(
+        listeners.get(2).ok_or(StartFault::NoPlace)?,
+        third_following,
+    );
+    serve_three(
+        rt,
+        alloc,
+        common.latch,
+        common.serving,
+        &first_node,
+        first_desks,
+        &second_node,
+        second_desks,
+        &third_node,
+        third_desks,
+        ready,
+    )
+}

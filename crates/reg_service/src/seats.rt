@@ -1,0 +1,100 @@
+// What the nodes have of the topic, and what one of them is made of.
+ghost use Rattle.std.specs.Prelude.{◌≡◌};
+ghost use Rattle.std.specs.FinSet.{empty};
+
+use crate::common::Common;
+use crate::error::StartFault;
+use reg_desk::{Gate, NodeDesk, Wake};
+use reg_feed::{Copies, FeedName, FeedReader, Stored, Unnamed, feed};
+use reg_node::{Follower, Take, Taken, View};
+use reg_pen::{MemoryAlone, Pass, Pen};
+use reg_shared::Shared;
+use reg_topic::Item;
+use std::alloc::Global;
+use std::sync::atomic::AtomicU64;
+use std::sync::{Mutex, Wait};
+
+/// What nodes that aren't made yet have of the topic.
+#[derive(Drop)]
+pub(crate) struct Seats<N: FeedName<Item, Shared>, S: Copies<Item, Shared, N>> {
+    /// One a worker.
+    pub(crate) passes: Vec<Pass<N>>,
+    /// One a node.
+    pub(crate) readers: Vec<FeedReader<Item, Shared, N, S>>,
+}
+
+/// A node's follower, and a view for each worker.
+#[derive(Drop)]
+pub(crate) struct Parts<
+    N: FeedName<Item, Shared>,
+    S: Copies<Item, Shared, N>,
+    M: FeedName<Take, Taken>,
+    U: Copies<Take, Taken, M>,
+    R: Wait + Drop,
+> {
+    pub(crate) follower: Follower<N, S, M, U, R>,
+    pub(crate) views: Vec<View<M, U>>,
+}
+
+/// Makes a node's feed, its follower and its views.
+pub(crate) fn make_parts<
+    N: FeedName<Item, Shared>,
+    S: Copies<Item, Shared, N>,
+    M: FeedName<Take, Taken>,
+    R: Wait + Copy + Drop,
+    G,
+>(
+    common: &Common<'_, R, G>,
+    seats: &mut Seats<N, S>,
+    list: Unnamed<Take>,
+) -> Result<Parts<N, S, M, Stored<Take, Taken, M>, R>, StartFault>
+    requires { (list.reached.book ≡ M.book) × (M.first ≡ empty) }
+{
+    let alloc = common.alloc;
+    let topic = seats.readers.pop().ok_or(StartFault::NoPlace)?;
+    let workers = common.workers.max(1);
+    let out = feed::<Take, Taken, M, R>(
+        *common.rt,
+        alloc,
+        list,
+        Taken::new(alloc),
+        workers as usize,
+    )?;
+    let mut follower = Follower::new(topic, Box::new(alloc, out)?);
+    let mut views = Vec::new(alloc);
+    for _worker in 0..workers {
+        views.push(follower.view()?)?;
+    }
+    Ok(Parts { follower, views })
+}
+
+/// A desk of a node for each view.
+pub(crate) fn make_desks<
+    'a,
+    N: FeedName<Item, Shared>,
+    S: Copies<Item, Shared, N>,
+    M: FeedName<Take, Taken>,
+    U: Copies<Take, Taken, M>,
+    R: Wait + Drop,
+    G: Gate,
+    W: Wake,
+>(
+    rt: &'a R,
+    alloc: Global,
+    pen: &'a Mutex<Pen<N, S, MemoryAlone, R>>,
+    passes: &mut Vec<Pass<N>>,
+    follower: &'a Mutex<Follower<N, S, M, U, R>>,
+    gate: &'a G,
+    wake: &'a W,
+    calls: &'a AtomicU64,
+    views: Vec<View<M, U>>,
+) -> Result<Vec<NodeDesk<'a, N, S, MemoryAlone, M, U, R, G, W>>, StartFault> {
+    let mut desks = Vec::new(alloc);
+    for view in views {
+        let Some(pass) = passes.pop() else {
+            return Err(StartFault::NoPlace);
+        };
+        desks.push(NodeDesk::new(rt, pen, follower, gate, wake, calls, pass, view))?;
+    }
+    Ok(desks)
+}

@@ -1,0 +1,153 @@
+// Calls that are held by a gate until others are answered.
+use crate::asking::{ask, body, listen, send, use_up};
+use reg_desk::Gate;
+use reg_service::serve_nodes;
+use std::alloc::{AllocError, Global};
+use std::io;
+use std::net::{Net, SocketAddr, TcpListener, TcpStream};
+use std::sync::Wait;
+use std::sync::atomic::{AtomicU64, Ordering};
+use std::test::Fail;
+use std::thread::{self, Threads};
+use std::time::{Clock, Duration};
+
+/// The most turns that a call is held, each a sleep of one millisecond.
+const TURNS: u64 = 10_000;
+
+/// Holds the first call until it is let go.
+#[derive(Drop)]
+struct Holding<'a, R: Clock> {
+    rt: &'a R,
+    is_held: AtomicU64,
+    is_let_go: AtomicU64,
+    turns: AtomicU64,
+}
+
+impl<'a, R: Clock> Holding<'a, R> {
+    fn new(rt: &'a R) -> Holding<'a, R> {
+        Holding {
+            rt,
+            is_held: AtomicU64::new(0),
+            is_let_go: AtomicU64::new(0),
+            turns: AtomicU64::new(TURNS),
+        }
+    }
+}
+
+/// Sleeps until the flag is set, and says after how many turns.
+fn await_flag<R: Clock>(rt: &R, flag: &AtomicU64) -> u64 {
+    for turn in 0..TURNS {
+        if flag.load(Ordering::SeqCst) == 1 {
+            return turn;
+        }
+        thread::sleep(rt, Duration::from_millis(1));
+    }
+    TURNS
+}
+
+impl<R: Clock> Gate for Holding<'_, R> {
+    fn before_answer(&self, call: u64) {
+        if call == 1 {
+            self.is_held.store(1, Ordering::SeqCst);
+            self.turns
+                .store(await_flag(self.rt, &self.is_let_go), Ordering::SeqCst);
+        }
+    }
+}
+
+/// Asks for what is held at one address, and once it is held for the subjects at another; lets it go once
+/// these are told. Gives the bodies of both.
+fn ask_both<R: Clock + Net<Stream = TcpStream>>(
+    alloc: Global,
+    rt: &R,
+    gate: &Holding<'_, R>,
+    addresses: &[SocketAddr; 2],
+    request: &str,
+) -> io::Result<(String, String)> {
+    let held = send(rt, addresses[0], request)?;
+    await_flag(rt, &gate.is_held);
+    let subjects = ask(alloc, rt, addresses[1], SUBJECTS);
+    gate.is_let_go.store(1, Ordering::SeqCst);
+    let later = body(alloc, held)?;
+    Ok((later, subjects?))
+}
+
+/// What `ask_both` gives while nodes serve, each with so many workers.
+fn serve<R: Threads + Wait + Clock + Net<Stream = TcpStream> + Sync>(
+    alloc: Global,
+    rt: &R,
+    gate: &Holding<'_, R>,
+    listeners: &[TcpListener],
+    workers: u32,
+    addresses: &[SocketAddr; 2],
+    request: &str,
+) -> io::Result<(String, String)> {
+    thread::scope(
+        thread::scope_env(),
+        rt,
+        |scope| -> io::Result<(String, String)> {
+            let _server = scope.spawn(move || serve_nodes(
+                rt,
+                alloc,
+                listeners,
+                workers,
+                Some(1),
+                gate,
+                || true,
+            ));
+            let bodies = ask_both(alloc, rt, gate, addresses, request);
+            use_up(rt, addresses, 2);
+            bodies
+        },
+    )
+}
+
+/// For how many turns the first call is held, and the bodies of its response and of the other one. It is
+/// asked at the first node, the other at the last one.
+fn hold<R: Threads + Wait + Clock + Net<Listener = TcpListener, Stream = TcpStream> + Sync>(
+    alloc: Global,
+    rt: &R,
+    nodes: u32,
+    workers: u32,
+    request: &str,
+) -> io::Result<(u64, String, String)> {
+    let mut listeners = Vec::new(alloc);
+    for _node in 0..nodes {
+        listeners.push(listen(rt)?)?;
+    }
+    let addresses = [
+        listeners.first().ok_or(AllocError)?.local_addr()?,
+        listeners.last().ok_or(AllocError)?.local_addr()?,
+    ];
+    let gate = Holding::new(rt);
+    let (held, other) = serve(alloc, rt, &gate, &listeners, workers, &addresses, request)?;
+    Ok((gate.turns.load(Ordering::SeqCst), held, other))
+}
+
+const LEVEL: &str = "GET /config HTTP/1.1\r\nHost: a\r\nConnection: close\r\n\r\n";
+
+const SUBJECTS: &str = "GET /subjects HTTP/1.1\r\nHost: a\r\nConnection: close\r\n\r\n";
+
+const SET_LEVEL: &str =
+    "PUT /config HTTP/1.1\r\nHost: a\r\nConnection: close\r\nContent-Length: 24\r\n\r\n{\"compatibility\":\"FULL\"}";
+
+/// How many nodes there are and how many workers each has, the call that is held, and the body of its
+/// response.
+static HELD: [(u32, u32, &str, &str); 3] = [
+    (1, 2, LEVEL, "{\"compatibilityLevel\":\"BACKWARD\"}"),
+    (1, 2, SET_LEVEL, "{\"compatibility\":\"FULL\"}"),
+    (2, 1, LEVEL, "{\"compatibilityLevel\":\"BACKWARD\"}"),
+];
+
+#[test]
+fn a_held_call_holds_no_other(rt: HostRuntime) -> Result<(), Fail> {
+    for (nodes, workers, held, wanted) in &HELD {
+        let (turns, first, second) = hold(rt.alloc(), &rt, *nodes, *workers, held)?;
+        assert_eq!(rt;
+            (turns < TURNS, first.as_str(), second.as_str()),
+            (true, *wanted, "[]"),
+            "{nodes} nodes, {held}"
+        );
+    }
+    Ok(())
+}

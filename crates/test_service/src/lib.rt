@@ -1,0 +1,11 @@
+//! Tests of nodes that serve over sockets.
+#![tactic(auto)]
+
+#[cfg(test)]
+mod asking;
+#[cfg(test)]
+mod crowd;
+#[cfg(test)]
+mod holding;
+#[cfg(test)]
+mod rows;
