@@ -1,7 +1,5 @@
-use Rattle.std.proofs.Common.{◌+◌, ◌*◌, ap, arith, inl, inr, subst}
+use Rattle.std.proofs.Common.{◌+◌, ◌*◌, arith, inl}
 use Rattle.reg_http.specs.declared.limits.TheConstants.{REQUESTS_LIMIT}
-use Rattle.reg_serve.specs.declared.conversing.TheConstants.{CALLS_LIMIT}
-use Rattle.reg_serve.specs.Conversing.{Replied}
 use Rattle.reg_serve.proofs.Talks.{is_off, is_on, Replied-begun, Replied-more, Replied-over}
 use Rattle.reg_serve.proofs.conversing.converse.Goals as goal
 
