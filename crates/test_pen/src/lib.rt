@@ -1,0 +1,5 @@
+//! Tests of a pen and its keep.
+#![tactic(auto)]
+
+#[cfg(test)]
+mod keeping;
