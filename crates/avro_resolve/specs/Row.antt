@@ -1,4 +1,4 @@
--- Private: what the rows of the table stand for.
+-- What the rows of the table stand for.
 use Rattle.std.specs.Prelude.{List, [], ◌∷◌, map, Result, Ok, Err}
 use Rattle.std.specs.List.{enumerate_from}
 use Rattle.avro_schema.specs.Sound.{HaveDistinctNames}

@@ -17,7 +17,10 @@ mod seen;
 mod table;
 mod trail;
 
+pub use fields::{first_lacking, partner};
 pub use laws::{obligations_are_compatible, schemas_have_one_verdict};
 pub use matching::matches;
+pub use obligations::Pair;
 pub use resolving::{Counted, Verdict, resolve, resolve_counted};
+pub use table::{Cause, Part, Row, row_at};
 pub use trail::{ClashKind, Hop, Trail};
