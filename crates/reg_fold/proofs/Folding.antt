@@ -46,6 +46,9 @@ module _ (total : IsTotalOrder record_cmp) (ties : IsAntisymmetric record_cmp) w
   union-more S xs i r within at =
       sym (union-insert S (set.from_list (take i xs)) r) ∙ ap (set.union S) (list-more xs i r within at)
 
+  pub union-push : (S : Records) (xs : List Record) (r : Record) → set.insert (set.union S (set.from_list xs)) r ≡ set.union S (set.from_list (xs ++ r ∷ []))
+  union-push S xs r = sym (union-insert S (set.from_list xs) r) ∙ ap (set.union S) (sym (set.from_list_push total ties xs r))
+
   pub lent-more : (xs : List (Bor Record)) (i : ℕ) (r : Bor Record) → i < length xs → r ≡ get_or xs i r → with_one (of_list (map (λ (x : Bor Record). x.now) (take i xs))) r.now ≡ of_list (map (λ (x : Bor Record). x.now) (take (i + 1) xs))
   lent-more xs i r within at =
       sym (set.from_list_push total ties (map (λ (x : Bor Record). x.now) (take i xs)) r.now)

@@ -1,6 +1,7 @@
 mod Applies
 mod Deletes
 mod Folding
+mod Found
 mod Keeping
 mod Least
 mod News
@@ -12,4 +13,5 @@ mod Readable
 mod Spotted
 mod Standing
 mod Steps
+mod Tombstones
 mod Values

@@ -10,3 +10,4 @@ pub mod Scopes
 pub mod Spots
 pub mod Standing
 pub mod Step
+pub mod Tombstones

@@ -1,5 +1,5 @@
 -- What commands and queries ask of the entries. Below, rs are the last records.
-use Rattle.std.specs.Prelude.{ℕ, List, Bool, Option}
+use Rattle.std.specs.Prelude.{◌≡◌, ℕ, List, Bool, Contains, Option, Some}
 use Rattle.reg_entries.specs.Sought as sought
 use Rattle.reg_entries.specs.declared.entry.Entry.{Entry}
 use Rattle.reg_set.specs.Records.{Records}
@@ -27,3 +27,7 @@ greatest_version rs subject = sought.greatest_version (entries rs) subject
 abbrev pub version_in : List Entry → List ℕ → VersionRef → Bool → Option Entry
 version_in es subject Latest deleted = sought.latest es subject deleted
 version_in es subject (Number version) deleted = sought.of_version es subject version deleted
+
+-- the entry that is found of a subject is one of the entries
+abbrev pub FoundEntriesStand : Type 0
+FoundEntriesStand = (es : List Entry) (subject : List ℕ) (which : VersionRef) (deleted : Bool) (e : Entry) → version_in es subject which deleted ≡ Some e → Contains es e

@@ -5,10 +5,11 @@ ghost use Rattle.std.specs.FinSet as set;
 ghost use Rattle.reg_records.specs.declared.key.Key.TheVariants as keys;
 ghost use Rattle.reg_set.specs.LastRecords.{last, last_records, with_last};
 ghost use Rattle.reg_fold.specs.Entries.{AreOfLasts, entries, entry_of};
-ghost use Rattle.reg_fold.specs.Opaque.{opaque};
+ghost use Rattle.reg_fold.specs.Opaque.{is_version, opaque};
 ghost use Rattle.reg_fold.specs.Remarked.{is_soft_after};
 ghost use Rattle.reg_fold.specs.Spots.{is_deleted};
 ghost use Rattle.reg_fold.specs.Step.{EntriesAreOfLasts, IsStep};
+ghost use Rattle.reg_fold.specs.Tombstones.{is_tombstone};
 ghost use Rattle.reg_entries.specs.EntryOrder.{place_of};
 ghost use Rattle.reg_entries.specs.Marked.{MarksEach};
 ghost use Rattle.reg_entries.specs.Sought.{of_subject};
@@ -210,6 +211,35 @@ impl Index {
         Ok(())
     }
 
+    /// Adds a version's record without a value, whose key has a record. It takes no memory.
+    pub(crate) fn bury(&mut self, given: Record)
+        requires kept { IsKept self.old }
+        requires tombstone { is_tombstone self.old.last given ≡ true }
+        ensures kept { IsKept self.new }
+        ensures added { self.new.last ≡ last_records (set.insert self.old.last given) }
+    {
+        if self.last.is_news(&given) {
+            self.bury_news(given);
+        }
+    }
+
+    /// Adds one that is news.
+    fn bury_news(&mut self, given: Record)
+        requires kept { IsKept self.old }
+        requires news { last_records (set.insert self.old.last given) ≢ self.old.last }
+        requires tombstone { is_tombstone self.old.last given ≡ true }
+        ensures kept { IsKept self.new }
+        ensures added { self.new.last ≡ last_records (set.insert self.old.last given) }
+    {
+        let before = put_over(&mut self.last, given);
+        let offset = before.offset;
+        let place = place_in(before.key);
+        self.entries.remove(&place);
+        let spot = Some((offset, place));
+        forget(&mut self.unread, &spot);
+        forget(&mut self.deleted, &spot);
+    }
+
     /// Adds a version's record that has a text and can't be read.
     fn put_unread(&mut self, given: &Record, place: (Text, u32)) -> Result<(), AllocError>
         requires kept { IsKept self.old }
@@ -346,6 +376,38 @@ pub(crate) fn put_last(
     lasts.is_compact();
     entries_are_of_lasts(lasts);
     Ok(before)
+}
+
+/// Makes a record that is news the last of its key, which has one, and gives that one. It takes no
+/// memory.
+fn put_over(lasts: &mut LastRecords, given: Record) -> Record
+    requires news { last_records (set.insert lasts.old given) ≢ lasts.old }
+    requires there { IsSome (last lasts.old given.key) }
+    ensures added { lasts.new ≡ last_records (set.insert lasts.old given) }
+    ensures step { IsStep lasts.old lasts.new given }
+    ensures of_key { result.key ≡ given.key }
+    ensures before { last lasts.old given.key ≡ Some result }
+{
+    records_are_ordered();
+    last_is_greatest();
+    last_records_are_enough();
+    lasts.is_compact();
+    entries_are_of_lasts(lasts);
+    let before = lasts.put_over(given);
+    lasts.is_compact();
+    entries_are_of_lasts(lasts);
+    before
+}
+
+/// The subject and the version of a version's key.
+fn place_in(key: Key) -> (Text, u32)
+    requires { is_version key ≡ true }
+    ensures { key ≡ keys.Schema result.0 result.1 }
+{
+    match key {
+        Key::Schema { subject, version } => (subject, version),
+        Key::Config(_) | Key::Mode(_) | Key::DeleteSubject(_) | Key::Noop => unreachable!(),
+    }
 }
 
 /// That the entry at a place is the one that the last record of its key gives.

@@ -2,6 +2,7 @@
 // function that needs a law calls it.
 ghost use Rattle.reg_fold.specs.Entries.{EntriesAreInLimits, EntriesAreOfKeys, EntriesAreOfPlaces, EntriesAreRead};
 ghost use Rattle.reg_fold.specs.Opaque.{NoneIsNoOpaqueLast};
+ghost use Rattle.reg_fold.specs.Standing.{FoundEntriesStand};
 
 use reg_set::{last_is_greatest, last_records_are_enough, records_are_ordered};
 use reg_values::values_are_of_keys;
@@ -9,6 +10,11 @@ use reg_values::values_are_of_keys;
 /// The text of each entry is a schema's, and the entry's normal text is that schema's.
 pub fn entries_are_read()
     ensures { EntriesAreRead }
+{}
+
+/// The entry that is found of a subject is one of the entries.
+pub fn found_entries_stand()
+    ensures { FoundEntriesStand }
 {}
 
 /// The version and the id of each entry are within their limits.

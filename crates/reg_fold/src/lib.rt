@@ -12,7 +12,8 @@ mod spots;
 mod version_ref;
 
 pub use laws::{
-    entries_are_in_limits, entries_are_of_places, entries_are_read, none_is_no_opaque_last,
+    entries_are_in_limits, entries_are_of_places, entries_are_read, found_entries_stand,
+    none_is_no_opaque_last,
 };
 pub use reg_entries::{Entry, two_schemas_is_least};
 pub use reg_refusals::{Allow, Reason, Refusal, StoreFault};

@@ -1,6 +1,7 @@
 // The registry over the last records of a set.
-ghost use Rattle.std.specs.Prelude.{◌≡◌, IfOk, OnOk, OnErr, map, option_map};
+ghost use Rattle.std.specs.Prelude.{◌≡◌, [], ◌∷◌, true, IfOk, OnOk, OnErr, map, option_map};
 ghost use Rattle.std.specs.FinSet as set;
+ghost use Rattle.std.specs.List.{list_all};
 ghost use Rattle.std.specs.Option.{option_copied};
 ghost use Rattle.reg_set.specs.Compaction.{IsCompactionOf};
 ghost use Rattle.reg_set.specs.LastRecords.{last, last_records};
@@ -10,6 +11,7 @@ ghost use Rattle.reg_entries.specs.EntryOrder.{IsInOrder};
 ghost use Rattle.reg_fold.specs.Closed.{id_of, is_closed, two_schemas};
 ghost use Rattle.reg_fold.specs.InForce.{level, own_level, own_mode_name};
 ghost use Rattle.reg_fold.specs.Opaque.{opaque};
+ghost use Rattle.reg_fold.specs.Tombstones.{is_tombstone};
 ghost use Rattle.reg_fold.specs.Standing.{live, named, greatest_id, greatest_version, version_in};
 ghost use Rattle.reg_entries.specs.Sought.{HasRisingVersions, counting, has_live, subjects, with_id};
 
@@ -20,7 +22,8 @@ use reg_entries::Entry;
 use reg_level_names::Level;
 use reg_records::{Key, Record};
 use reg_set::{
-    LastRecords, RecordSet, last_records_are_enough, last_records_of_unions, records_are_ordered,
+    LastRecords, RecordSet, last_is_greatest, last_records_are_enough, last_records_of_unions,
+    records_are_ordered,
 };
 use std::alloc::{AllocError, Global};
 use std::marker::Model;
@@ -107,6 +110,10 @@ impl Registry {
 
     /// Adds all records or none, in any order of arrival. The only error is want of memory; the
     /// registry is then as it was.
+    ///
+    /// It costs what the records cost where all but the first are tombstones of versions that have a
+    /// record, as a delete writes them. Of any other two records or more it costs a copy of the
+    /// registry, to which they are added.
     pub fn apply_all(&mut self, records: &[Record]) -> Result<(), AllocError>
         ensures added { OnOk result (self.new
             ≡ last_records (set.union self.old (set.from_list records.now))) }
@@ -115,11 +122,94 @@ impl Registry {
         ensures refused { OnErr result (self.new ≡ self.old) }
     {
         last_records_of_unions();
-        records_are_ordered();
-        // One record is added or refused as a whole, without a copy.
-        if records.len() == 1 {
-            return self.apply(&records[0]);
+        match records {
+            [] => self.apply_none(),
+            [first, others @ ..] => {
+                if self.are_tombstones(others) {
+                    self.apply_before(first, others)
+                } else {
+                    self.apply_to_copy(records)
+                }
+            }
         }
+    }
+
+    /// Adds no record.
+    fn apply_none(&self) -> Result<(), AllocError>
+        ensures { self.now ≡ last_records (set.union self.now (set.from_list [])) }
+    {
+        records_are_ordered();
+        self.index.last.is_compact();
+        Ok(())
+    }
+
+    /// Whether each of the records can be added without memory.
+    fn are_tombstones(&self, records: &[Record]) -> bool
+        ensures { result ≡ list_all (is_tombstone self.now) records.now }
+    {
+        records.iter().all(|given| self.is_tombstone(given))
+    }
+
+    /// Whether it is a version's record without a value, whose key has a record.
+    fn is_tombstone(&self, given: &Record) -> bool
+        ensures { result ≡ is_tombstone self.now given.now }
+    {
+        matches!(given.key, Key::Schema { .. })
+            && given.value.is_none()
+            && self.last(&given.key).is_some()
+    }
+
+    /// Adds a record, and then tombstones, or none of them. The only error is want of memory; the
+    /// registry is then as it was.
+    fn apply_before(&mut self, first: &Record, tombstones: &[Record]) -> Result<(), AllocError>
+        requires { list_all (is_tombstone self.old) tombstones.now ≡ true }
+        ensures added { OnOk result (self.new
+            ≡ last_records (set.union self.old (set.from_list (first.now ∷ tombstones.now)))) }
+        ensures refused { OnErr result (self.new ≡ self.old) }
+    {
+        records_are_ordered();
+        last_is_greatest();
+        last_records_are_enough();
+        last_records_of_unions();
+        let copies = copies_of(self.index.alloc, tombstones)?;
+        self.apply(first)?;
+        self.bury_all(copies);
+        Ok(())
+    }
+
+    /// Adds tombstones. It takes no memory.
+    fn bury_all(&mut self, tombstones: Vec<Record>)
+        requires { list_all (is_tombstone self.old) tombstones.items ≡ true }
+        ensures { self.new ≡ last_records (set.union self.old (set.from_list tombstones.items)) }
+    {
+        records_are_ordered();
+        self.index.last.is_compact();
+        for tombstone in tombstones {
+            self.bury(tombstone);
+        }
+    }
+
+    /// Adds a tombstone. It takes no memory, and what was one still is one.
+    fn bury(&mut self, tombstone: Record)
+        requires { is_tombstone self.old tombstone ≡ true }
+        ensures added { self.new ≡ last_records (set.insert self.old tombstone) }
+        ensures whole { (whole : Records) → self.old ≡ last_records whole
+            → self.new ≡ last_records (set.insert whole tombstone) }
+        ensures others { (other : Record) → is_tombstone self.old other ≡ true → is_tombstone self.new other ≡ true }
+    {
+        records_are_ordered();
+        last_is_greatest();
+        last_records_are_enough();
+        last_records_of_unions();
+        self.index.bury(tombstone);
+    }
+
+    /// Adds all records or none. The only error is want of memory; the registry is then as it was.
+    fn apply_to_copy(&mut self, records: &[Record]) -> Result<(), AllocError>
+        ensures added { OnOk result (self.new
+            ≡ last_records (set.union self.old (set.from_list records.now))) }
+        ensures refused { OnErr result (self.new ≡ self.old) }
+    {
         let mut next = self.clone()?;
         next.apply_each(records)?;
         *self = next;
@@ -302,4 +392,11 @@ impl Registry {
     {
         self.index.opaque()
     }
+}
+
+/// Copies of the records. The only error is want of memory.
+fn copies_of(alloc: Global, records: &[Record]) -> Result<Vec<Record>, AllocError>
+    ensures { IfOk result (λ copies. copies.items ≡ records.now) }
+{
+    records.to_vec(alloc)
 }

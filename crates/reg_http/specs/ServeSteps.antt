@@ -1,4 +1,4 @@
--- Private: what one step of a server does, and where it stands between two steps.
+-- What one step of a server does, and where it stands between two steps.
 use Rattle.std.specs.Prelude.{◌≡◌, ◌⊎◌, ⊤, ℕ, List, Bool, false, ◌||◌, length, Option, Some, None, IfSome, Result, Ok, Err, if◌then◌else◌}
 use Rattle.std.specs.Io.KnownBytes.{Appends, Keeps}
 use Rattle.std.specs.declared.alloc.AllocError.{AllocError}

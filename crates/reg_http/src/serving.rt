@@ -121,8 +121,8 @@ pub fn serve_part<R: BufRead, W: Write, D: Desk>(
 }
 
 /// What comes after a request.
-#[derive(Clone, Copy)]
-pub(crate) enum Next {
+#[derive(Clone, Copy, Debug, PartialEq, Eq)]
+pub enum Next {
     /// There was none.
     Over,
     /// It was answered, and the connection is closed.
@@ -131,8 +131,9 @@ pub(crate) enum Next {
     More,
 }
 
-/// Answers the next request, if there is one. The count of reads begins anew.
-fn answer_next<R: BufRead, W: Write, D: Desk>(
+/// Answers the next request, if there is one. The count of reads begins anew. The registry's paths are
+/// made at the first request, and are to be handed on to the next call.
+pub fn answer_next<R: BufRead, W: Write, D: Desk>(
     alloc: Global,
     paths: &mut Option<Paths>,
     reader: &mut Device<R>,

@@ -1,5 +1,5 @@
 -- The pairs of schemas that a level requires to be compatible. Old versions stand by ascending version.
-use Rattle.std.specs.Prelude.{ℕ, ◌-◌, List, [], ◌∷◌, length, map, reverse, drop, flat_map, Bool, true, false, if◌then◌else◌}
+use Rattle.std.specs.Prelude.{ℕ, ◌-◌, List, [], ◌∷◌, length, map, reverse, drop, flat_map}
 use Rattle.std.specs.List.Sorted.{IsStrictlyIncreasing}
 use Rattle.avro_schema.specs.declared.node.Node.{Node}
 use Rattle.reg_level_names.specs.declared.level.Level.{Level}
@@ -17,12 +17,15 @@ directions levels.ForwardTransitive = Forward ∷ []
 directions levels.Full = Backward ∷ Forward ∷ []
 directions levels.FullTransitive = Backward ∷ Forward ∷ []
 
--- whether a level looks at all old versions, and not at the greatest alone
-abbrev pub looks_at_all : Level → Bool
-looks_at_all levels.BackwardTransitive = true
-looks_at_all levels.ForwardTransitive = true
-looks_at_all levels.FullTransitive = true
-looks_at_all level = false
+-- how many of so many old versions a level doesn't look at, which are the first ones: all, all but the greatest, or none
+abbrev pub passed_over : Level → ℕ → ℕ
+passed_over levels.None count = count
+passed_over levels.Backward count = count - 1
+passed_over levels.BackwardTransitive count = 0
+passed_over levels.Forward count = count - 1
+passed_over levels.ForwardTransitive count = 0
+passed_over levels.Full count = count - 1
+passed_over levels.FullTransitive count = 0
 
 -- a version, and the nodes of its schema
 abbrev pub Version : Type 0
@@ -32,9 +35,9 @@ Version = ℕ × List Node
 abbrev pub HasRisingVersions : {X : Type 0} → List (ℕ × X) → Type 0
 HasRisingVersions olds = IsStrictlyIncreasing (map (λ old. old.0) olds)
 
--- the old versions that a level looks at: all, or the greatest, which stands last
+-- the old versions that a level looks at; the greatest one stands last
 abbrev pub looked_at : {X : Type 0} → Level → List X → List X
-looked_at level olds = if looks_at_all level then olds else drop (length olds - 1) olds
+looked_at level olds = drop (passed_over level (length olds)) olds
 
 -- a pair that is required, and the version and direction that it is required for
 pub record Required : Type 0 where

@@ -51,24 +51,16 @@ fn check_each(
     Ok(LevelVerdict::passed())
 }
 
-/// The old versions that a level looks at: all, or the greatest, which stands last.
-fn looked_at<'a, 'b>(level: Level, olds: &'a [(u32, &'b Schema)]) -> &'a [(u32, &'b Schema)]
+/// The old versions that a level looks at: none, the greatest, which stands last, or all.
+pub(crate) fn looked_at<T>(level: Level, olds: &[T]) -> &[T]
     ensures { result.now ≡ pairs.looked_at level olds.now }
 {
-    if looks_at_all(level) || olds.is_empty() {
-        olds
-    } else {
-        &olds[olds.len() - 1..]
-    }
-}
-
-fn looks_at_all(level: Level) -> bool
-    ensures { result ≡ pairs.looks_at_all level }
-{
-    match level {
-        Level::BackwardTransitive | Level::ForwardTransitive | Level::FullTransitive => true,
-        Level::None | Level::Backward | Level::Forward | Level::Full => false,
-    }
+    let first = match level {
+        Level::None => olds.len(),
+        Level::Backward | Level::Forward | Level::Full => olds.len().saturating_sub(1),
+        Level::BackwardTransitive | Level::ForwardTransitive | Level::FullTransitive => 0,
+    };
+    &olds[first..]
 }
 
 /// Whether a new schema meets a level against one version.

@@ -14,6 +14,6 @@ pub use checking::{check, level_verdicts_are_single};
 pub use direction::Direction;
 pub use judged::Judged;
 pub use judged_error::JudgedError;
-pub use texts::check_texts;
+pub use texts::{check_read_texts, check_texts};
 pub use verdict::LevelVerdict;
 pub use versions::versions_rise;

@@ -7,7 +7,7 @@ ghost use Rattle.reg_levels.specs.Texts.{versions_in};
 ghost use Rattle.reg_levels.specs.Judgement.{first_unread};
 ghost use Rattle.reg_levels.specs.JudgedError.{IsJudgedRefusal};
 
-use crate::checking::check;
+use crate::checking::{check, looked_at};
 use crate::judged_error::JudgedError;
 use crate::verdict::LevelVerdict;
 use avro_schema::Schema;
@@ -34,6 +34,41 @@ pub fn check_texts(
     let schemas = read_olds(alloc, olds)?;
     let versions = versions_of(alloc, &schemas)?;
     Ok(check(alloc, level, new, &versions)?)
+}
+
+/// The same, where each old text is known to be a schema's: those alone are read of which the level
+/// looks at the versions. The only error is want of memory.
+pub fn check_read_texts(
+    alloc: Global,
+    level: Level,
+    new: &Schema,
+    olds: &[(u32, &str)],
+) -> Result<LevelVerdict, AllocError>
+    requires rising { HasRisingVersions olds.now }
+    requires read { first_unread (map (λ old. (old.0, old.1.now)) olds.now) ≡ None }
+    ensures { IfOk result (IsLevelVerdict level new.now.nodes (versions_in (map (λ old. (old.0, old.1.now)) olds.now))) }
+{
+    check_each_read(alloc, level, new, looked_at(level, olds))
+}
+
+/// The same, where each of the old texts is read.
+fn check_each_read(
+    alloc: Global,
+    level: Level,
+    new: &Schema,
+    olds: &[(u32, &str)],
+) -> Result<LevelVerdict, AllocError>
+    requires rising { HasRisingVersions olds.now }
+    requires read { first_unread (map (λ old. (old.0, old.1.now)) olds.now) ≡ None }
+    ensures { IfOk result (IsLevelVerdict level new.now.nodes (versions_in (map (λ old. (old.0, old.1.now)) olds.now))) }
+{
+    // It ensures that a text means the new schema.
+    new.normal();
+    match check_texts(alloc, level, new, olds) {
+        Ok(verdict) => Ok(verdict),
+        Err(JudgedError::OutOfMemory) => Err(AllocError),
+        Err(JudgedError::NewText | JudgedError::OldText(_)) => unreachable!(),
+    }
 }
 
 /// The schemas of the old texts, each with its version.

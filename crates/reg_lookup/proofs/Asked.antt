@@ -1,23 +1,30 @@
 -- What a schema is checked against.
-use Rattle.std.proofs.Common.{◌≡◌, ◌<◌, ℕ, [], ◌∷◌, List, Bor, true, Some, Ok, Err, IfErr, Result, map, refl, sym, ap, subst, ◌∙◌, arith}
+use Rattle.std.proofs.Common.{◌≡◌, ◌<◌, ℕ, [], ◌∷◌, List, Bor, true, false, not, cond, is_some, All, None, Some, Ok, Err, IfErr, Result, map, option_map, bytes_eq, refl, sym, ap, subst, ◌∙◌, arith}
 use Rattle.std.proofs.lemmas.Bool.{false≢true}
+use Rattle.std.proofs.lemmas.List.Elements.{All-cons, All-contains_itself, All-filter, All-head, All-nil, All-tail, All-weaker}
 use Rattle.std.proofs.lemmas.Simd.{map-map}
+use Rattle.std.specs.List.{find}
 use Rattle.std.specs.List.Sorted.{IsStrictlyIncreasing}
 use Rattle.std.specs.Option.{ok_or, option_map_or}
 use Rattle.std.specs.Prelude.{Contains, Option, is_err}
 use Rattle.avro_schema.specs.Defaults.{bad_defaults}
-use Rattle.avro_schema.specs.Schema.{Meaning, schema_of}
+use Rattle.avro_schema.specs.Schema.{Meaning, is_schema, schema_of}
 use Rattle.reg_level_names.specs.declared.level.Level.{Level}
 use Rattle.reg_levels.specs.declared.verdict.LevelVerdict.{LevelVerdict}
+use Rattle.reg_levels.specs.Judgement.{first_unread}
 use Rattle.reg_levels.specs.LevelVerdict.{IsLevelVerdict}
 use Rattle.reg_levels.specs.RequiredPairs as pairs
 use Rattle.reg_levels.specs.Texts.{VersionText, versions_in, IsVerdictOfTexts}
 use Rattle.reg_entries.specs.Sought as sought
 use Rattle.reg_entries.specs.declared.entry.Entry.{Entry}
+use Rattle.reg_set.specs.Records.{Records}
+use Rattle.reg_fold.specs.Entries.{EntriesAreRead, entries}
+use Rattle.reg_fold.specs.Standing.{FoundEntriesStand, version_in}
 use Rattle.reg_fold.specs.declared.version_ref.VersionRef.{VersionRef}
 use Rattle.reg_lookup.specs.Checked.{asked, olds_of, read_sound_schema, unless_bad, version_text}
-use Rattle.reg_lookup.specs.Found.{and_then}
-use Rattle.reg_refusals.specs.declared.refusal.Refusal.TheVariants.{InvalidSchema}
+use Rattle.reg_lookup.specs.Found.{and_then, counted, version_found}
+use Rattle.reg_refusals.specs.declared.refusal.Refusal.{Refusal}
+use Rattle.reg_refusals.specs.declared.refusal.Refusal.TheVariants.{InvalidSchema, VersionNotFound}
 
 -- texts of entries whose versions rise
 pub texts_rise : (olds : List (ℕ × Bor (List ℕ))) (es : List Entry) → map {B = VersionText} (λ old. (old.0, old.1.now)) olds ≡ map version_text es
@@ -52,3 +59,36 @@ verdict_of_text l k text m xs ys v at means same is =
     subst (λ j. IsVerdictOfTexts j text ys v) at
     (subst (λ nodes. IsLevelVerdict l nodes (versions_in ys) v) (ap (λ o. option_map_or (λ s. s.nodes) o []) (sym means))
     (subst (λ zs. IsLevelVerdict l m.nodes (versions_in zs) v) same is))
+
+abbrev HasSchema : Entry → Type 0
+HasSchema e = is_schema e.text ≡ true
+
+some_mapped : {A B : Type 0} (f : A → B) (o : Option A) (b : B) → option_map f o ≡ Some b → is_some o ≡ true
+some_mapped f None b e = cc
+some_mapped f (Some a) b e = refl
+
+none_unread : (es : List Entry) → All HasSchema es → first_unread (map version_text es) ≡ None
+none_unread [] all = refl
+none_unread (e ∷ es) all =
+    ap (λ b. option_map (λ old. old.0) (cond (not b) (Some (e.version, e.text)) (find (λ old. not (is_schema old.1)) (map version_text es)))) (All-head HasSchema e es all)
+    ∙ none_unread es (All-tail HasSchema e es all)
+
+module _ (read : EntriesAreRead) (rs : Records) where
+  has_schema : (e : Entry) → Contains (entries rs) e → HasSchema e
+  has_schema e there = some_mapped (λ (m : Meaning). m.normal_text) (schema_of e.text) e.normal (read rs e there)
+
+  -- the text of each live entry is a schema's
+  pub live_are_read : (subject : List ℕ) → first_unread (map version_text (sought.live_of (entries rs) subject)) ≡ None
+  live_are_read subject =
+      let all = All-weaker (Contains (entries rs)) HasSchema has_schema (entries rs) (All-contains_itself (entries rs)) in
+      none_unread (sought.live_of (entries rs) subject) (All-filter (sought.counts false) HasSchema (sought.of_subject (entries rs) subject) (All-filter (λ e. bytes_eq e.subject subject) HasSchema (entries rs) all))
+
+  -- so is that of one that is found
+  pub found_is_read : FoundEntriesStand → (subject : List ℕ) (which : VersionRef) (e : Entry) → version_found (entries rs) subject which false ≡ Ok e → first_unread (map version_text (e ∷ [])) ≡ None
+  found_is_read stand subject which e found =
+      none_unread (e ∷ []) (All-cons HasSchema e [] (has_schema e (stand (entries rs) subject which false e (entry_found (counted (entries rs) subject false) (version_in (entries rs) subject which false) found))) (All-nil HasSchema))
+    where
+      entry_found : (c : Result (List Entry) Refusal) (o : Option Entry) → and_then (λ _. ok_or o VersionNotFound) c ≡ Ok e → o ≡ Some e
+      entry_found (Err refusal) o is = cc
+      entry_found (Ok es) None is = cc
+      entry_found (Ok es) (Some f) is = let same : f ≡ e = cc in ap Some same

@@ -1,7 +1,8 @@
 // The query whether a schema may follow.
-ghost use Rattle.std.specs.Prelude.{◌≡◌, List, IfOk, IfErr, Ok, Some, map};
+ghost use Rattle.std.specs.Prelude.{◌≡◌, List, IfOk, IfErr, None, Ok, Some, map};
 ghost use Rattle.avro_schema.specs.Schema.{schema_of};
 ghost use Rattle.reg_levels.specs.RequiredPairs.{HasRisingVersions};
+ghost use Rattle.reg_levels.specs.Judgement.{first_unread};
 ghost use Rattle.reg_levels.specs.Message.{message_of};
 ghost use Rattle.reg_levels.specs.Texts.{VersionText, IsVerdictOfTexts};
 ghost use Rattle.reg_fold.specs.Entries.{entries};
@@ -16,8 +17,8 @@ use crate::error::LookupError;
 use crate::found::version_found;
 use avro_schema::Schema;
 use base_text::Text;
-use reg_fold::{Entry, Refusal, Registry, VersionRef};
-use reg_levels::{JudgedError, LevelVerdict, check_texts};
+use reg_fold::{Entry, Refusal, Registry, VersionRef, entries_are_read, found_entries_stand};
+use reg_levels::{LevelVerdict, check_read_texts};
 use std::alloc::{AllocError, Global};
 
 /// Whether a schema is compatible with a subject's live versions, or with the one of them that is
@@ -59,14 +60,9 @@ fn verdict_asked(
 {
     let schema = sound_schema(alloc, text)?;
     let olds = olds_asked(alloc, registry, subject, which)?;
-    match check_texts(alloc, registry.level(Some(subject)), &schema, &olds) {
-        Ok(verdict) => Ok(verdict),
-        // Memory alone is wanting: the text of an entry is a schema's, since a version's record
-        // whose text is none makes no entry, and the new text is read above.
-        Err(JudgedError::NewText | JudgedError::OldText(_) | JudgedError::OutOfMemory) => {
-            Err(LookupError::OutOfMemory)
-        }
-    }
+    let level = registry.level(Some(subject));
+    let verdict = check_read_texts(alloc, level, &schema, &olds)?;
+    Ok(verdict)
 }
 
 /// The schema of a text, where its defaults are valid.
@@ -95,8 +91,11 @@ fn olds_asked<'a>(
     ensures found { IfOk result (λ olds. olds_of (entries registry.now) subject.now which
         ≡ Ok (map (λ old. (old.0, old.1.now)) olds.items)) }
     ensures rising { IfOk result (λ olds. HasRisingVersions olds.items) }
+    ensures read { IfOk result (λ olds. first_unread (map (λ old. (old.0, old.1.now)) olds.items) ≡ None) }
     ensures refused { IfErr result (IsRefusalOf (olds_of (entries registry.now) subject.now which)) }
 {
+    entries_are_read();
+    found_entries_stand();
     match which {
         None => {
             let live = registry.live(subject)?;

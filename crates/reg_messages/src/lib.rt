@@ -19,5 +19,5 @@ pub use fields::{asks_to_close, find_value, told_length, trim_ows};
 pub use limits::{
     BODY_LIMIT, HEAD_FIELDS, HEAD_LIMIT, HEAD_LINES, REQUEST_READS, limits_are_as_written,
 };
-pub use reading::{Got, read_message};
+pub use reading::{Got, body_len, read_message};
 pub use taking::ReadFault;

@@ -24,6 +24,7 @@ pub(crate) struct Head {
 pub(crate) fn head_in(bytes: &[u8]) -> Option<Head>
     ensures head { MatchOption result (IsNoHead bytes.now)
         (λ found. (h : RequestHead) × IsHead bytes.now h × IsHeadAt bytes.now found h) }
+    ensures only { IfSome result (λ found. (h : RequestHead) → IsHead bytes.now h → IsHeadAt bytes.now found h) }
     ensures within { IfSome result (λ found. IsHeadWithin bytes.now found) }
 {
     let mut fields = [EMPTY_HEADER_SPAN; HEAD_FIELDS];

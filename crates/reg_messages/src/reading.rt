@@ -1,10 +1,11 @@
 // Reading a message: its head, and the body that its fields tell.
-ghost use Rattle.std.specs.Prelude.{◌≡◌, ◌≤◌, ℕ, List, Option, IfOk, IfSome, OnErr, OnOk, IsOk};
+ghost use Rattle.std.specs.Prelude.{◌≡◌, ◌<◌, ◌≤◌, ℕ, List, Option, IfOk, IfSome, OnErr, OnOk, IsOk};
 ghost use Rattle.std.specs.Io.KnownBytes.{Consumes};
 ghost use Rattle.httparse.specs.Grammar.{RequestHead};
 ghost use Rattle.reg_records.specs.Device.{bytes_in, faults_of, reads_of};
 ghost use Rattle.reg_messages.specs.BodyReading.{LosesBody, TakesBody};
 ghost use Rattle.reg_messages.specs.Fields.{body_length, told_length};
+ghost use Rattle.reg_messages.specs.Head.{IsHead};
 ghost use Rattle.reg_messages.specs.HeadReading.{IsTakenAs};
 ghost use Rattle.reg_messages.specs.Messages.{fields_of, wants_close};
 ghost use Rattle.reg_messages.specs.Places.{HasTexts, IsHeadAt, IsHeadWithin, fields_at};
@@ -118,6 +119,29 @@ fn read_body<R: Read>(
             }
         }
         Err(refusal) => Ok(Got::Refused(refusal)),
+    }
+}
+
+/// How many bytes the body has that a head tells; none where the bytes are no head, and where what its
+/// fields tell is refused.
+pub fn body_len(bytes: &[u8]) -> usize
+    ensures told { (h : RequestHead) → IsHead bytes.now h → result ≡ body_length (fields_of h) }
+    ensures some { 0 < result → (h : RequestHead) × IsHead bytes.now h × (result ≡ body_length (fields_of h)) }
+{
+    match head_in(bytes) {
+        Some(head) => told_in(bytes, &head),
+        None => 0,
+    }
+}
+
+/// How many bytes the body has that the fields of the head tell.
+fn told_in(bytes: &[u8], head: &Head) -> usize
+    requires within { IsHeadWithin bytes.now head.now }
+    ensures { (h : RequestHead) → IsHeadAt bytes.now head.now h → result ≡ body_length (fields_of h) }
+{
+    match told_length(fields_in(bytes, head)) {
+        Ok(Some(told)) => told as usize,
+        Ok(None) | Err(_) => 0,
     }
 }
 

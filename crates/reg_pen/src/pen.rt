@@ -19,9 +19,8 @@ use reg_fold::{Refusal, StoreFault};
 use reg_leader::{AdoptError, Command, Decision, Reply, decide};
 use reg_levels::Judged;
 use reg_records::{Log, Record};
-use reg_set::records_are_ordered;
 use reg_shared::{Shared, kept_gives_registry, published_lists_fold};
-use reg_topic::{Commit, Item, lawful_items_follow};
+use reg_topic::{Commit, Item, adopted_logs_begin, lawful_items_follow};
 use std::alloc::{AllocError, Global};
 use std::marker::Model;
 use std::sync::Wait;
@@ -108,7 +107,7 @@ pub fn open<N: FeedName<Item, Shared>, K: Keep + Drop, R: Wait + Drop>(
     ensures passes { IfOk result (λ opened. map (λ p. p.submits) opened.passes.items ≡ replicate passes 0) }
     ensures refused { IfErr result (IsAdoptRefusal (last_records (from_list base.now.records.items))) }
 {
-    records_are_ordered();
+    adopted_logs_begin();
     let shared = Shared::adopt(alloc, base)?;
     let writer = feed::<Item, Shared, N, R>(rt, alloc, list, shared, readers)?;
     let Ok(writer) = Box::new(alloc, writer) else {

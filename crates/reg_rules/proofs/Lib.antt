@@ -1,4 +1,3 @@
-pub mod Needed
 pub mod Newest
 pub mod Numbering
 pub mod Verdicts

@@ -1,6 +1,5 @@
 pub mod Better
 pub mod Finding
-pub mod Needed
 pub mod Report
 pub mod Standing
 pub mod Tests

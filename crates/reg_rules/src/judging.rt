@@ -6,7 +6,6 @@ ghost use Rattle.reg_fold.specs.Standing.{live};
 ghost use Rattle.reg_levels.specs.Judgement.{IsMadeOf, first_unread};
 ghost use Rattle.reg_levels.specs.RequiredPairs.{HasRisingVersions};
 ghost use Rattle.reg_levels.specs.Texts.{IsVerdictOfTexts};
-ghost use Rattle.reg_rules.specs.Needed.{needed};
 ghost use Rattle.reg_rules.specs.Standing.{texts_of};
 ghost use Rattle.reg_rules.specs.Report.{IsReport};
 
@@ -14,7 +13,7 @@ use avro_schema::Schema;
 use base_text::Text;
 use reg_fold::{Entry, Registry, entries_are_read};
 use reg_level_names::Level;
-use reg_levels::{Judged, JudgedError, LevelVerdict, check_texts};
+use reg_levels::{Judged, LevelVerdict, check_read_texts};
 use std::alloc::{AllocError, Global};
 
 /// The message of the first pair that clashes, by the judgement if it fits, else by a new one;
@@ -35,7 +34,7 @@ pub fn clash_of(
     if let Some(judged) = fitting(judged, level, schema.normal().as_str(), &texts) {
         return judged.verdict().message(alloc);
     }
-    let verdict = checked(alloc, level, schema, needed(level, &texts))?;
+    let verdict = checked(alloc, level, schema, &texts)?;
     verdict.message(alloc)
 }
 
@@ -54,19 +53,6 @@ fn fitting<'a>(
     }
 }
 
-/// Of the old versions those that a check needs: all, the greatest, which stands last, or none where
-/// the level asks for no pair. No others are read.
-fn needed<'a, 'b>(level: Level, texts: &'a [(u32, &'b str)]) -> &'a [(u32, &'b str)]
-    ensures { result.now ≡ needed level texts.now }
-{
-    let first = match level {
-        Level::None => texts.len(),
-        Level::Backward | Level::Forward | Level::Full => texts.len().saturating_sub(1),
-        Level::BackwardTransitive | Level::ForwardTransitive | Level::FullTransitive => 0,
-    };
-    &texts[first..]
-}
-
 /// The verdict on a schema. The only error is want of memory.
 fn checked(
     alloc: Global,
@@ -80,11 +66,7 @@ fn checked(
 {
     // It ensures that the normal text means the schema.
     schema.normal();
-    match check_texts(alloc, level, schema, texts) {
-        Ok(verdict) => Ok(verdict),
-        Err(JudgedError::OutOfMemory) => Err(AllocError),
-        Err(JudgedError::NewText | JudgedError::OldText(_)) => unreachable!(),
-    }
+    check_read_texts(alloc, level, schema, texts)
 }
 
 /// The versions of those entries, with the texts that they hold.

@@ -13,6 +13,7 @@ use reg_records::{Key, Record};
 use std::alloc::{AllocError, Global};
 use std::collections::BTreeMap;
 use std::marker::Model;
+use std::mem;
 
 /// The last record of each key, and no other: what compacting a set of records leaves.
 ///
@@ -113,6 +114,18 @@ impl LastRecords {
         Ok(before)
     }
 
+    /// Makes a record that is later than the last of its key, which has one, the last of its key, and
+    /// gives the one before. It takes no memory.
+    pub fn put_over(&mut self, given: Record) -> Record
+        requires news { last_records (set.insert self.old given) ≢ self.old }
+        requires there { IsSome (last self.old given.key) }
+        ensures added { self.new ≡ last_records (set.insert self.old given) }
+        ensures of_key { result.key ≡ given.key }
+        ensures before { last self.old given.key ≡ Some result }
+    {
+        exchange(&mut self.by_key, given)
+    }
+
     /// Makes that the last record of the key, which has one; `None` leaves the key without one. It
     /// takes no memory, so what `put` gave takes the `put` back.
     pub fn put_back(&mut self, key: &Key, before: Option<Record>)
@@ -155,6 +168,19 @@ fn insert_copy(
     let key = given.key.clone()?;
     let last = given.clone()?;
     Ok(by_key.insert(key, last)?)
+}
+
+/// Puts the record at its key, which has one, and gives that one.
+fn exchange(by_key: &mut BTreeMap<Key, Record>, given: Record) -> Record
+    requires { IsSome (last_at by_key.old given.key) }
+    ensures put { Updates key_cmp by_key.old by_key.new given.key (Some given) }
+    ensures before { last_at by_key.old given.key ≡ Some result }
+    ensures in_order { IsOrdered key_cmp by_key.new }
+{
+    match by_key.get_mut(&given.key) {
+        Some(last) => mem::replace(last, given),
+        None => unreachable!(),
+    }
 }
 
 /// Makes that the record of the key, which has one; `None` leaves it without one.

@@ -1,6 +1,9 @@
+pub mod Beginnings
 pub mod Compactions
 pub mod Equality
 pub mod Gains
 pub mod GoesOn
 pub mod Left
+pub mod Promises
+pub mod Superseded
 pub mod Topics

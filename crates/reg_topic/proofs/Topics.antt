@@ -1,13 +1,13 @@
 -- What every list of items keeps, and what lawful ones do.
-use Rattle.std.proofs.Common.{◌≡◌, Bool, true, false, ◌||◌, List, [], ◌∷◌, refl, ap, ◌∙◌}
+use Rattle.std.proofs.Common.{◌≡◌, Bool, true, false, ◌||◌, List, [], ◌∷◌, ◌++◌, refl, ap, ◌∙◌}
 use Rattle.std.specs.Cmp.{IsTotalOrder}
 use Rattle.std.specs.FinSet.{contains, from_list, IsAntisymmetric, contains-union}
 use Rattle.reg_records.specs.declared.record.Record.{Record}
 use Rattle.reg_set.specs.Compaction.{IsCompactionOf}
 use Rattle.reg_set.specs.Join.{CompactionsCompose, CompactionsUnite, DropsLeaveCompactions, EachIsItsOwnCompaction}
 use Rattle.reg_set.specs.RecordOrder.{record_cmp}
-use Rattle.reg_topic.specs.Laws.{ItemsAreFoldedInTurn, KeptStaysCompaction, LawfulItemsFollow, LawfulListsGoOn, LogsGrow}
-use Rattle.reg_topic.specs.Topic.{after_batch, after_drop, after_item, follows, may_drop, without}
+use Rattle.reg_topic.specs.Laws.{ItemsAreFoldedInTurn, KeptStaysCompaction, LawfulItemsFollow, LawfulListsGoOn, LawfulListsJoin, ListsAreFoldedInTurn, LogsGrow, LogsGrowOverLists}
+use Rattle.reg_topic.specs.Topic.{IsLawful, after_batch, after_drop, after_item, after_items, follows, may_drop, without}
 use Rattle.reg_topic.specs.declared.published.Item.{Item}
 use Rattle.reg_topic.specs.declared.published.Item.TheVariants as items
 use Rattle.reg_topic.specs.declared.topic.Topic.{Topic}
@@ -25,6 +25,21 @@ pub lawful_at : LawfulItemsFollow
 lawful_at t [] after i l = l.0
 lawful_at t (j ∷ before) after i l = lawful_at (after_item t j) before after i l.1
 
+pub after_more : ListsAreFoldedInTurn
+after_more t [] js = refl
+after_more t (i ∷ is) js = after_more (after_item t i) is js
+
+pub lawful_parts : LawfulListsJoin
+lawful_parts t is js = (apart t is js, joined t is js)
+  where
+    apart : (t : Topic) (is js : List Item) → IsLawful t (is ++ js) → IsLawful t is × IsLawful (after_items t is) js
+    apart t [] js l = (tt, l)
+    apart t (i ∷ is) js l = let rest = apart (after_item t i) is js l.1 in ((l.0, rest.0), rest.1)
+
+    joined : (t : Topic) (is js : List Item) → IsLawful t is × IsLawful (after_items t is) js → IsLawful t (is ++ js)
+    joined t [] js l = l.1
+    joined t (i ∷ is) js l = (l.0.0, joined (after_item t i) is js (l.0.1, l.1))
+
 -- Logs.
 module _ (order : IsTotalOrder record_cmp) where
   grows-batch : (b : Bool) (t : Topic) (batch : List Record) (r : Record) → contains t.log r ≡ true → contains (after_batch b t batch).log r ≡ true
@@ -38,6 +53,10 @@ module _ (order : IsTotalOrder record_cmp) where
   pub grows : LogsGrow
   grows t (items.Commit commit) r h = grows-batch (follows t.next commit.batch) t commit.batch r h
   grows t (items.Compaction ds) r h = grows-drop (may_drop t.kept ds) t ds r h
+
+  pub grows_over_lists : LogsGrowOverLists
+  grows_over_lists t [] r h = h
+  grows_over_lists t (i ∷ is) r h = grows_over_lists (after_item t i) is r (grows t i r h)
 
 -- Kept sets.
 module _ (order : IsTotalOrder record_cmp) (apart : IsAntisymmetric record_cmp) (itself : EachIsItsOwnCompaction) (across : CompactionsCompose) (drops : DropsLeaveCompactions) (unite : CompactionsUnite) where

@@ -1,8 +1,10 @@
 // The laws of topics. What is proved here costs nothing at run time: a function that needs a law
 // calls it.
-ghost use Rattle.reg_topic.specs.Laws.{AllowedDropsLeaveCompactions, ItemsAreFoldedInTurn, KeptStaysCompaction, LawfulItemsFollow, LawfulListsGoOn, LogIsWhatWasPublished, LogsGrow};
+ghost use Rattle.reg_topic.specs.Laws.{AdoptedLogsBegin, AllowedDropsLeaveCompactions, CommitsFollow, CompactionsTakeParts, ItemsAreFoldedInTurn, KeptStaysCompaction, LawfulItemsFollow, LawfulListsGoOn, LawfulListsJoin, ListsAreFoldedInTurn, LogIsWhatWasPublished, LogsGrow, LogsGrowOverLists, SupersededMayGo};
+ghost use Rattle.reg_topic.specs.Promises.{LawfulListsKeepIds, LawfulListsMeetLevels, LawfulListsStayOpen};
 
-use reg_leader::{batches_end_by_the_limit, batches_go_on};
+use reg_fold::two_schemas_is_least;
+use reg_leader::{batches_end_by_the_limit, batches_go_on, steps_meet_levels, steps_stay_open};
 use reg_set::{compactions_compose, last_records_of_unions, records_are_ordered};
 
 /// Records may be dropped exactly where they are kept and what stays is a compaction of what was.
@@ -17,6 +19,7 @@ pub fn allowed_drops_leave_compactions()
 pub fn kept_sets_are_compactions()
     ensures kept { KeptStaysCompaction }
     ensures grows { LogsGrow }
+    ensures over_lists { LogsGrowOverLists }
 {
     records_are_ordered();
     compactions_compose();
@@ -29,6 +32,55 @@ pub fn lawful_items_follow()
     ensures go_on { LawfulListsGoOn }
     ensures follow { LawfulItemsFollow }
 {}
+
+/// A list may be cut in two anywhere: what it comes to, and whether it is lawful.
+pub fn lists_are_joined()
+    ensures in_turn { ListsAreFoldedInTurn }
+    ensures lawful { LawfulListsJoin }
+{}
+
+/// A commit that may follow is published.
+pub fn commits_follow()
+    ensures { CommitsFollow }
+{
+    records_are_ordered();
+    batches_go_on();
+    batches_end_by_the_limit();
+}
+
+/// A log that is adopted begins an adopted topic.
+pub fn adopted_logs_begin()
+    ensures { AdoptedLogsBegin }
+{
+    records_are_ordered();
+}
+
+/// A compaction with a part of the whole is one too; what is superseded may go, and leaves the last
+/// records.
+pub fn superseded_records_may_go()
+    ensures parts { CompactionsTakeParts }
+    ensures may_go { SupersededMayGo }
+{
+    records_are_ordered();
+}
+
+/// After every lawful list over an adopted base the registry takes commands, and an id names one
+/// schema.
+pub fn lawful_lists_keep_ids()
+    ensures open { LawfulListsStayOpen }
+    ensures ids { LawfulListsKeepIds }
+{
+    steps_stay_open();
+    two_schemas_is_least();
+}
+
+/// In every lawful list each version that was registered without an id met the level then in force
+/// against the versions then live.
+pub fn lawful_lists_meet_levels()
+    ensures { LawfulListsMeetLevels }
+{
+    steps_meet_levels();
+}
 
 /// The log is the first one with all that lawful items published.
 pub fn log_is_what_was_published()

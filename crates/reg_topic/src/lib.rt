@@ -6,8 +6,9 @@ mod published;
 mod topic;
 
 pub use laws::{
-    allowed_drops_leave_compactions, kept_sets_are_compactions, lawful_items_follow,
-    log_is_what_was_published,
+    adopted_logs_begin, allowed_drops_leave_compactions, commits_follow, kept_sets_are_compactions,
+    lawful_items_follow, lawful_lists_keep_ids, lawful_lists_meet_levels, lists_are_joined,
+    log_is_what_was_published, superseded_records_may_go,
 };
 pub use published::{Commit, Item};
 pub use topic::{Topic, follows};

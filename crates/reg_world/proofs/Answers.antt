@@ -1,15 +1,14 @@
 -- The headline's claims, from what every list of events keeps.
-use Rattle.std.proofs.Common.{◌≡◌, ℕ, true, false, Some, IfSome, MatchBool, is_some, slice_get, refl, sym, ap, subst, inl, inr}
+use Rattle.std.proofs.Common.{◌≡◌, ℕ, true, false, Some, IfSome, MatchBool, is_some, slice_get, refl, sym, ap, subst}
 use Rattle.std.specs.FinSet.{empty}
 use Rattle.std.specs.Option.{option_map_or}
 use Rattle.reg_set.specs.Compaction.{IsCompactionOf}
 use Rattle.reg_set.specs.LastRecords.{last_records}
 use Rattle.reg_set.specs.Records.{Records}
-use Rattle.reg_leader.specs.OneStep.{StepsMeetLevels}
-use Rattle.reg_topic.specs.Topic.{IsLawful, after_items, registry_of}
+use Rattle.reg_topic.specs.Promises.{LawfulListsKeepIds, LawfulListsMeetLevels}
 use Rattle.reg_world.specs.Core.{IsNode, KeptIsCompaction, LogIsLawful, NodesAreCompactions}
 use Rattle.reg_world.specs.Happens.{Does, Happens, is_allowed}
-use Rattle.reg_world.specs.Headline.{AnswersAreOfTheSet, Gives, Levels, SameAnswers, Took}
+use Rattle.reg_world.specs.Headline.{AnswersAreOfTheSet, Gives, Ids, Levels, SameAnswers, Took}
 use Rattle.reg_lookup.specs.Answers.{HaveOneAnswer, IsAnswer}
 use Rattle.reg_world.specs.LowerLaws.{LowerLaws}
 use Rattle.reg_world.specs.State.{State, records_at, topic_of}
@@ -67,11 +66,8 @@ module _ (l : LowerLaws) where
   same_answers one es fs w v a b i j whole took tooks query x y gives givess =
       one (last_records whole) query x y ((answers_are_of_the_set es w a i whole took query x).0 gives) ((answers_are_of_the_set fs v b j whole tooks query y).0 givess)
 
-  pub levels : StepsMeetLevels → Levels
-  levels meet es w a before subject text batch (after, is) =
-      let h = sound-after l es w a in
-      let may = l.follow w.base before after _ (subst (IsLawful w.base) is h.lawful) in
-      elim (meet (registry_of (after_items w.base before)) (after_items w.base before).next subject text may.reply batch may.step) [
-        | inl none ↦ absurd (may.writes none)
-        | inr met ↦ met
-      ]
+  pub ids : LawfulListsKeepIds → Ids
+  ids keep es w a = let h = sound-after l es w a in keep w.base w.items h.adopted h.lawful
+
+  pub levels : LawfulListsMeetLevels → Levels
+  levels meet es w a = meet w.base w.items (sound-after l es w a).lawful

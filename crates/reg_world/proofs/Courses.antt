@@ -1,17 +1,8 @@
 -- Lists of events, one event after the other.
-use Rattle.std.proofs.Common.{◌≡◌, ◌≤◌, ◌<◌, ◌+◌, ◌||◌, true, false, ℕ, All, List, [], ◌∷◌, ◌++◌, Result, Ok, Err, IfOk, OnErr, length, get_or, take, refl, sym, ap, subst, ◌∙◌}
+use Rattle.std.proofs.Common.{◌≡◌, ◌≤◌, ◌<◌, ◌+◌, ℕ, List, [], ◌∷◌, ◌++◌, Result, Ok, Err, IfOk, OnErr, length, get_or, take, refl, sym, ap, subst, ◌∙◌}
 use Rattle.std.proofs.lemmas.List.{take_more}
-use Rattle.std.proofs.lemmas.Bool.{false≢true}
-use Rattle.std.proofs.lemmas.List.Elements.{All-head, All-tail}
-use Rattle.std.specs.Cmp.{Equal-is, IsTotalOrder}
-use Rattle.std.specs.FinSet.{IsAntisymmetric, contains-from_list}
-use Rattle.std.specs.List.{list_any}
-use Rattle.std.specs.Ordering.{eq_by_cmp}
 use Rattle.std.specs.declared.alloc.AllocError.{AllocError}
-use Rattle.reg_records.specs.declared.record.Record.{Record}
-use Rattle.reg_set.specs.RecordOrder.{record_cmp}
-use Rattle.reg_fold.specs.Closed.{is_closed}
-use Rattle.reg_topic.specs.Topic.{IsAdopted, registry_of, topic_from}
+use Rattle.reg_topic.specs.Topic.{IsAdopted}
 use Rattle.reg_topic.specs.declared.topic.Topic.{Topic}
 use Rattle.reg_world.specs.Happens.{Happens}
 use Rattle.reg_world.specs.Runs.{After, IsStopped, Runs}
@@ -56,19 +47,3 @@ reached_more s t e o happens (es, a) = (
 pub reached_after : (s t : State) (e : Event) (r : Result Outcome AllocError) → IfOk r (λ o. Happens s e o t) → OnErr r (t ≡ s) → IsReached s → IsReached t
 reached_after s t e (Ok o) happens same h = reached_more s t e o happens h
 reached_after s t e (Err refused) happens same h = subst IsReached (sym same) h
-
--- a log whose records are all before its next offset begins a world, where it takes commands
-among : (next : ℕ) (rs : List Record) → All (λ r. r.offset < next) rs → (order : IsAntisymmetric record_cmp) (q : Record) → list_any (eq_by_cmp record_cmp q) rs ≡ true → q.offset < next
-among next [] all apart q any = absurd (false≢true any)
-among next (r ∷ rs) all apart q any =
-    elim (eq_by_cmp record_cmp q r) as (λ b. eq_by_cmp record_cmp q r ≡ b → (b || list_any (eq_by_cmp record_cmp q) rs) ≡ true → q.offset < next) [
-      | true ↦ λ e _. subst (λ (x : Record). x.offset < next) (sym (apart q r ((Equal-is (record_cmp q r)).0 e))) (All-head (λ x. x.offset < next) r rs all)
-      | false ↦ λ _ rest. among next rs (All-tail (λ x. x.offset < next) r rs all) apart q rest
-    ] refl any
-
-pub base-adopted : IsTotalOrder record_cmp → IsAntisymmetric record_cmp → (rs : List Record) (next : ℕ) → All (λ r. r.offset < next) rs → is_closed (registry_of (topic_from rs next)) ≡ false → IsAdopted (topic_from rs next)
-base-adopted order apart rs next all fine = record {
-  not_closed = fine;
-  ahead = λ q h. among next rs all apart q (sym (contains-from_list order rs q) ∙ h);
-  whole = refl;
-}

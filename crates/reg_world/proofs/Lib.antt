@@ -6,7 +6,6 @@ pub mod EagerPlaces
 pub mod EagerRight
 pub mod EagerSteps
 pub mod EagerWorld
-pub mod Ids
 pub mod Items
 pub mod Merging
 pub mod Refused

@@ -1,17 +1,12 @@
 -- The headline: what a registry of several nodes promises, after every list of events.
-use Rattle.std.specs.Prelude.{◌≡◌, ◌↔◌, ℕ, List, ◌∷◌, ◌++◌, Some, slice_get}
+use Rattle.std.specs.Prelude.{◌≡◌, ◌↔◌, ℕ, List, Some, slice_get}
 use Rattle.std.specs.FinSet.{union}
-use Rattle.reg_records.specs.declared.record.Record.{Record}
 use Rattle.reg_set.specs.Compaction.{IsCompactionOf}
 use Rattle.reg_set.specs.LastRecords.{last_records}
 use Rattle.reg_set.specs.Records.{Records}
-use Rattle.reg_leader.specs.OneStep.{RegistersWhatMeets}
 use Rattle.reg_leader.specs.StayOpen.{IdsNameOneSchema}
-use Rattle.reg_topic.specs.Topic.{after_items, registry_of}
-use Rattle.reg_leader.specs.declared.command.Command.{Command}
-use Rattle.reg_leader.specs.declared.command.Command.TheVariants as commands
-use Rattle.reg_topic.specs.declared.published.Item.{Item}
-use Rattle.reg_topic.specs.declared.published.Item.TheVariants as items
+use Rattle.reg_topic.specs.Promises.{MetLevels}
+use Rattle.reg_topic.specs.Topic.{registry_of}
 use Rattle.reg_world.specs.Happens.{Happens}
 use Rattle.reg_world.specs.Runs.{After}
 use Rattle.reg_lookup.specs.Answers.{IsAnswer}
@@ -67,16 +62,7 @@ pub record Merging : Type 0 where
 abbrev pub Ids : Type 0
 Ids = (events : List Event) (w : State) → After events w → IdsNameOneSchema (registry_of (topic_of w))
 
--- the command published that batch, after these items
-abbrev pub WasPublished : State → List Item → Command → List Record → Type 0
-WasPublished w before c batch = (after : List Item) × (w.items ≡ before ++ items.Commit (record { command = c; batch = batch }) ∷ after)
-
--- each registered version met the level then in force against the versions then live
-abbrev pub MetLevels : State → Type 0
-MetLevels w = (before : List Item) (subject text : List ℕ) (batch : List Record) → WasPublished w before (commands.Register subject text) batch
-    → RegistersWhatMeets (registry_of (after_items w.base before)) (after_items w.base before).next subject text batch
-
 -- Levels: after any list of events, each version in the log that was registered outside IMPORT met
 -- the level then in force against the versions then live.
 abbrev pub Levels : Type 0
-Levels = (events : List Event) (w : State) → After events w → MetLevels w
+Levels = (events : List Event) (w : State) → After events w → MetLevels w.base w.items

@@ -6,17 +6,16 @@ ghost use Rattle.reg_world.specs.Headline.{AnswersAreOfTheSet, Ids, Levels, Merg
 ghost use Rattle.reg_world.specs.LowerLaws.{LowerLaws};
 ghost use Rattle.reg_world.specs.Threads.{ItemsHappen};
 
-use reg_fold::{entries_are_of_places, two_schemas_is_least};
-use reg_leader::{
-    batches_end_by_the_limit, batches_go_on, deletes_name_greatest, steps_meet_levels,
-    steps_stay_open,
-};
+use reg_fold::entries_are_of_places;
+use reg_leader::{batches_end_by_the_limit, batches_go_on, deletes_name_greatest};
 use reg_lookup::queries_have_one_answer;
 use reg_set::{
     compactions_compose, last_is_greatest, last_records_are_enough, last_records_of_unions,
     merging_joins_sets, records_are_ordered,
 };
-use reg_topic::{kept_sets_are_compactions, lawful_items_follow};
+use reg_topic::{
+    kept_sets_are_compactions, lawful_items_follow, lawful_lists_keep_ids, lawful_lists_meet_levels,
+};
 use reg_values::written_values_read_back;
 
 /// The laws of the crates below.
@@ -66,8 +65,7 @@ pub fn ids_name_one_schema()
     ensures { Ids }
 {
     lower_laws();
-    steps_stay_open();
-    two_schemas_is_least();
+    lawful_lists_keep_ids();
 }
 
 /// Each version that was registered met the level then in force.
@@ -75,7 +73,7 @@ pub fn registered_versions_meet_levels()
     ensures { Levels }
 {
     lower_laws();
-    steps_meet_levels();
+    lawful_lists_meet_levels();
 }
 
 /// Taken one after the other, the records of the log give the entries of the log, and of each

@@ -30,8 +30,8 @@ use crate::laws::{
 use reg_fold::{Entry, entries_are_of_places};
 use reg_leader::{AdoptError, adopt};
 use reg_records::Log;
-use reg_set::{compactions_compose, records_are_ordered};
-use reg_topic::Topic;
+use reg_set::compactions_compose;
+use reg_topic::{Topic, adopted_logs_begin};
 use std::alloc::{AllocError, Global};
 use std::error::Error;
 use std::fmt;
@@ -85,7 +85,7 @@ impl World {
         ensures adopted { OnOk result (is_closed (last_records (from_list base.now.records.items)) ≡ false) }
         ensures refused { IfErr result (IsAdoptRefusal (last_records (from_list base.now.records.items))) }
     {
-        records_are_ordered();
+        adopted_logs_begin();
         let topic = Topic::of_log(alloc, base)?;
         let registry = adopt(alloc, &topic.log)?;
         let cluster = Cluster::start(alloc, topic, registry, nodes)?;

@@ -21,13 +21,14 @@ struct Row {
     answers: &'static [(Ask, &'static str)],
 }
 
-/// How a registry takes records: read from a set, added one by one, in one go, or in two goes of
-/// which the later records are the first.
+/// How a registry takes records: read from a set, added one by one, in one go, in batches of a record
+/// and the tombstones after it, or in two goes of which the later records are the first.
 #[derive(Clone, Copy)]
 enum Way {
     Read,
     Grown,
     Filled,
+    Batched,
     Halved,
 }
 
@@ -45,6 +46,25 @@ fn grow(registry: &mut Registry, records: &[Record]) -> Result<(), AllocError> {
     Ok(())
 }
 
+/// Whether no tombstone stands at the place.
+fn ends_batch(records: &[Record], place: usize) -> bool {
+    match records.get(place) {
+        Some(record) => record.value.is_some(),
+        None => true,
+    }
+}
+
+fn fill_in_batches(registry: &mut Registry, records: &[Record]) -> Result<(), AllocError> {
+    let mut first = 0;
+    for place in 1..=records.len() {
+        if ends_batch(records, place) {
+            registry.apply_all(records.get(first..place).unwrap_or(&[]))?;
+            first = place;
+        }
+    }
+    Ok(())
+}
+
 fn fill_in_halves(registry: &mut Registry, records: &[Record]) -> Result<(), AllocError> {
     let third = records.len() / 3;
     registry.apply_all(records.get(third..).unwrap_or(&[]))?;
@@ -54,6 +74,7 @@ fn fill_in_halves(registry: &mut Registry, records: &[Record]) -> Result<(), All
 fn add(registry: &mut Registry, records: &[Record], way: Way) -> Result<(), AllocError> {
     match way {
         Way::Halved => fill_in_halves(registry, records),
+        Way::Batched => fill_in_batches(registry, records),
         Way::Filled => registry.apply_all(records),
         Way::Grown | Way::Read => grow(registry, records),
     }
@@ -73,7 +94,7 @@ fn read(alloc: Global, records: &[Record]) -> Result<Registry, AllocError> {
 fn registry_of(alloc: Global, records: &[Record], way: Way) -> Result<Registry, AllocError> {
     match way {
         Way::Read => read(alloc, records),
-        Way::Grown | Way::Filled | Way::Halved => added(alloc, records, way),
+        Way::Grown | Way::Filled | Way::Batched | Way::Halved => added(alloc, records, way),
     }
 }
 

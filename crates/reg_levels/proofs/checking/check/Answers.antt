@@ -2,7 +2,7 @@ use Rattle.std.proofs.Common.{◌≡◌, ◌∙◌, ap, subst, map, reverse, fla
 use Rattle.std.proofs.lemmas.Result.{IfOk-weaker}
 use Rattle.reg_levels.specs.RequiredPairs.{required_of, required_pairs}
 use Rattle.reg_levels.specs.LevelVerdict.{IsVerdictOn}
-use Rattle.reg_levels.proofs.Considered.{looked_at-map}
+use Rattle.reg_levels.proofs.LookedAt.{looked_at-map}
 use Rattle.reg_levels.proofs.FirstClash.{one_verdict, ok_is_compatible, compatible_is_ok}
 use Rattle.reg_levels.proofs.checking.check.Goals as goal
 

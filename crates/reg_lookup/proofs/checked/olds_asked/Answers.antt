@@ -1,6 +1,7 @@
 use Rattle.std.proofs.Common.{[], ◌∷◌, ap, map, ◌∙◌, arith}
+use Rattle.reg_levels.specs.Judgement.{first_unread}
 use Rattle.reg_lookup.specs.Checked.{version_text}
-use Rattle.reg_lookup.proofs.Asked.{texts_rise}
+use Rattle.reg_lookup.proofs.Asked.{found_is_read, live_are_read, texts_rise}
 use Rattle.reg_lookup.proofs.checked.olds_asked.Goals as goal
 
 pub returns-in_ok-texts_of-in-None-clause-rising : goal.returns-in_ok-texts_of-in-None-clause-rising
@@ -13,3 +14,14 @@ pub returns-in_ok-texts_of-in-Some-clause-rising : goal.returns-in_ok-texts_of-i
 returns-in_ok-texts_of-in-Some-clause-rising c =
     texts_rise c.in_ok-texts_of-in-Some.field-0.items (c.in_ok-found-in-Some.found.now ∷ []) c.in_ok-texts_of-in-Some.ensures
     (λ k within. absurd (omega arith))
+
+pub returns-in_ok-texts_of-in-None-clause-read : goal.returns-in_ok-texts_of-in-None-clause-read
+returns-in_ok-texts_of-in-None-clause-read c =
+    ap first_unread
+    (c.in_ok-texts_of-in-None.ensures ∙ ap (λ es. map version_text (map (λ e. e.now) es)) c.deref.ensures.value ∙ ap (map version_text) c.in_ok-live-in-None.ensures.all)
+    ∙ live_are_read c.entries_are_read.ensures c.args.registry.now c.args.subject.now
+
+pub returns-in_ok-texts_of-in-Some-clause-read : goal.returns-in_ok-texts_of-in-Some-clause-read
+returns-in_ok-texts_of-in-Some-clause-read c =
+    ap first_unread c.in_ok-texts_of-in-Some.ensures
+    ∙ found_is_read c.entries_are_read.ensures c.args.registry.now c.found_entries_stand.ensures c.args.subject.now c.in-Some.which c.in_ok-found-in-Some.found.now c.in_ok-found-in-Some.ensures.found

@@ -4,15 +4,13 @@ use Rattle.reg_topic.specs.Topic.{IsAdopted, registry_of, topic_from}
 use Rattle.reg_topic.specs.declared.published.Item.{Item}
 use Rattle.reg_shared.specs.Held.{Held, base_of, held_of}
 use Rattle.reg_pen.specs.Pen.{IsPen, batches}
-use Rattle.reg_pen.proofs.Adopted.{is_adopted}
 use Rattle.reg_pen.proofs.pen.open.Goals as goal
 
 pub invariant_of-pen : goal.invariant_of-pen
 invariant_of-pen g c =
-    let o = c.records_are_ordered.ensures in
     let b = c.args.base.now in
     let same : g.N.FeedName.first ≡ held_of (topic_from b.records.items b.next) = search rules in
     let lists : c.in-Ok.writer.value ≡ ([], []) = search rules in
     let fine : is_closed (registry_of (topic_from b.records.items b.next)) ≡ false = c.in_ok-shared.ensures.takes_commands in
-    let adopted : IsAdopted (base_of g.N.FeedName.first) = subst (λ (h : Held). IsAdopted (base_of h)) (sym same) (is_adopted o.all o.apart b.records.items b.next b.ahead fine) in
+    let adopted : IsAdopted (base_of g.N.FeedName.first) = subst (λ (h : Held). IsAdopted (base_of h)) (sym same) (c.adopted_logs_begin.ensures b.records.items b.next b.ahead fine) in
     subst (λ (l : List Item × List Item). IsPen (base_of g.N.FeedName.first) l.0 (l.1 ++ []) × (l.1 ++ [] ≡ []) × (0 ≡ batches l.0)) (sym lists) (record { adopted = adopted; lawful = tt; pends = tt }, refl, refl)

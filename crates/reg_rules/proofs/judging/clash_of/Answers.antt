@@ -9,7 +9,6 @@ use Rattle.reg_levels.specs.Message.{message_of}
 use Rattle.reg_levels.specs.RequiredPairs.{HasRisingVersions}
 use Rattle.reg_levels.specs.Texts.{IsVerdictOfTexts, VersionText}
 use Rattle.reg_rules.specs.Standing.{texts_of}
-use Rattle.reg_rules.proofs.Needed.{needed-are_read, needed-decide, needed-rise}
 use Rattle.reg_rules.proofs.Verdicts.{judgement_reports, live_are_read, verdict_reports}
 use Rattle.reg_rules.proofs.judging.clash_of.Goals as goal
 
@@ -19,8 +18,7 @@ checked-requires-clause-rising c =
     ap (map (λ old. old.0)) c.deref-3.ensures.value
     ∙ c.in_ok-texts.ensures.versions
     ∙ ap (λ es. map {A = Entry} (λ e. e.version) (map (λ e. e.now) es)) c.deref.ensures.value in
-    subst HasRisingVersions (sym c.needed.ensures)
-    (needed-rise (λ text. text.now) c.level-level.result c.deref-3.result.now (subst IsStrictlyIncreasing (sym same) c.in_ok-live.ensures.in_order))
+    subst IsStrictlyIncreasing (sym same) c.in_ok-live.ensures.in_order
 
 pub checked-requires-clause-read : goal.checked-requires-clause-read
 checked-requires-clause-read c =
@@ -30,8 +28,7 @@ checked-requires-clause-read c =
     ∙ c.in_ok-texts.ensures.texts
     ∙ ap (λ es. texts_of (map (λ e. e.now) es)) c.deref.ensures.value
     ∙ ap texts_of (c.in_ok-live.ensures.all ∙ ap (live rs) c.as_str-2.ensures) in
-    subst (λ olds. first_unread (map (λ old. (old.0, old.1.now)) olds) ≡ None) (sym c.needed.ensures)
-    (needed-are_read (λ text. text.now) c.level-level.result c.deref-3.result.now (ap first_unread same ∙ live_are_read c.entries_are_read.ensures rs c.args.subject.now))
+    ap first_unread same ∙ live_are_read c.entries_are_read.ensures rs c.args.subject.now
 
 pub returns-in-Some : goal.returns-in-Some
 returns-in-Some c =
@@ -61,7 +58,6 @@ returns c =
     ∙ ap (λ es. texts_of (map (λ e. e.now) es)) c.deref.ensures.value
     ∙ ap texts_of (c.in_ok-live.ensures.all ∙ ap (live rs) c.as_str-2.ensures) in
     let in_force = c.level-level.ensures ∙ ap (λ subject. level rs (Some subject)) c.as_str.ensures in
-    let some = subst (λ olds. IsVerdictOfTexts force normal (map (λ old. (old.0, old.1.now)) olds) c.in_ok-verdict.verdict) c.needed.ensures c.in_ok-verdict.ensures in
     IfOk-weaker c.message-2.result _ _ (λ told is.
     verdict_reports force (level rs (Some s)) normal _ (texts_of (live rs s)) c.in_ok-verdict.verdict told
-    in_force same (needed-decide (λ text. text.now) force c.deref-3.result.now normal c.in_ok-verdict.verdict some) is) c.message-2.ensures
+    in_force same c.in_ok-verdict.ensures is) c.message-2.ensures

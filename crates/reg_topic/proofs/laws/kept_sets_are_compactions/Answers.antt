@@ -1,4 +1,4 @@
-use Rattle.reg_topic.proofs.Topics.{grows, kept-items}
+use Rattle.reg_topic.proofs.Topics.{grows, grows_over_lists, kept-items}
 use Rattle.reg_topic.proofs.laws.kept_sets_are_compactions.Goals as goal
 
 pub returns-clause-kept : goal.returns-clause-kept
@@ -9,3 +9,6 @@ returns-clause-kept c =
 
 pub returns-clause-grows : goal.returns-clause-grows
 returns-clause-grows c = grows c.records_are_ordered.ensures.all
+
+pub returns-clause-over_lists : goal.returns-clause-over_lists
+returns-clause-over_lists c = grows_over_lists c.records_are_ordered.ensures.all

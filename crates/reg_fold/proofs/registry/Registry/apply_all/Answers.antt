@@ -1,23 +1,18 @@
-use Rattle.std.proofs.Common.{Result, Ok, Err, ap, refl, ◌∙◌}
-use Rattle.std.proofs.lemmas.Result.{IfOk-weaker}
-use Rattle.std.specs.Result.{OnErr}
+use Rattle.std.proofs.Common.{◌≡◌, [], Result, Ok, Err, ap, sym, subst, ◌∙◌, arith}
+use Rattle.std.proofs.lemmas.List.{nil_from_length}
+use Rattle.std.specs.FinSet as set
+use Rattle.std.specs.Result.{OnOk}
 use Rattle.reg_set.specs.LastRecords.{last_records}
-use Rattle.reg_fold.proofs.Folding.{union-one}
 use Rattle.reg_fold.proofs.registry.Registry.apply_all.Goals as goal
 
-pub returns-then-records-eq1-clause-added : goal.returns-then-records-eq1-clause-added
-returns-then-records-eq1-clause-added c =
-    let order = c.records_are_ordered.ensures in
-    IfOk-weaker c.apply.result _ _ (λ _ added. added ∙ ap last_records (union-one order.all order.apart c.args.self.now c.args.records.now c.index-records-0.result c.if-records-eq1.true c.index-records-0.is)) c.apply.ensures.added
+in_any_case : {T E P : Type 0} (r : Result T E) → P → OnOk r P
+in_any_case (Ok _) holds = holds
+in_any_case (Err _) holds = tt
 
-pub returns-then-records-eq1-clause-whole : goal.returns-then-records-eq1-clause-whole
-returns-then-records-eq1-clause-whole c =
-    let order = c.records_are_ordered.ensures in
-    IfOk-weaker c.apply.result _ _ (λ _ added whole is. added whole is ∙ ap last_records (union-one order.all order.apart whole c.args.records.now c.index-records-0.result c.if-records-eq1.true c.index-records-0.is)) c.apply.ensures.whole
-
-in_any_case : {T E P : Type 0} (r : Result T E) → P → OnErr r P
-in_any_case (Ok _) holds = tt
-in_any_case (Err _) holds = holds
-
-pub returns-in_err-apply_each-clause-refused : goal.returns-in_err-apply_each-clause-refused
-returns-in_err-apply_each-clause-refused c = in_any_case c.from_residual-in_err-apply_each.result refl
+pub returns-in-empty-clause-whole : goal.returns-in-empty-clause-whole
+returns-in-empty-clause-whole c =
+    let rs = c.args.records.now in
+    let empty : rs ≡ [] = nil_from_length rs (omega (arith, c.in-empty.len_below)) in
+    let same = subst (λ qs. c.args.self.now ≡ last_records (set.union c.args.self.now (set.from_list qs))) (sym empty) c.apply_none.ensures in
+    in_any_case c.apply_none.result (λ whole is.
+    same ∙ ap (λ s. last_records (set.union s (set.from_list rs))) is ∙ c.last_records_of_unions.ensures.last_records whole (set.from_list rs))

@@ -1,5 +1,5 @@
--- Ids: what every batch keeps, every list of events does.
-use Rattle.std.proofs.Common.{◌≡◌, Bool, true, false, ◌||◌, List, [], ◌∷◌, Option, Some, None, is_some, refl}
+-- What every batch keeps, every lawful list does.
+use Rattle.std.proofs.Common.{◌≡◌, Bool, true, false, ◌||◌, List, [], ◌∷◌, Option, Some, None, is_some, refl, subst, inl, inr}
 use Rattle.std.specs.FinSet.{from_list, union}
 use Rattle.reg_records.specs.declared.record.Record.{Record}
 use Rattle.reg_set.specs.LastRecords.{last_records}
@@ -7,15 +7,14 @@ use Rattle.reg_entries.specs.TwoSchemas.{NoneIsOneTextEach}
 use Rattle.reg_fold.specs.Closed.{is_closed, two_schemas}
 use Rattle.reg_fold.specs.Entries.{entries}
 use Rattle.reg_fold.specs.Opaque.{opaque}
+use Rattle.reg_leader.specs.OneStep.{StepsMeetLevels}
 use Rattle.reg_leader.specs.StayOpen.{StepsStayOpen}
+use Rattle.reg_topic.specs.Promises.{LawfulListsKeepIds, LawfulListsMeetLevels, LawfulListsStayOpen}
 use Rattle.reg_topic.specs.Topic.{IsLawful, MayFollow, after_batch, after_drop, after_item, after_items, follows, may_drop, registry_of}
 use Rattle.reg_topic.specs.declared.published.Item.{Item}
 use Rattle.reg_topic.specs.declared.published.Item.TheVariants as items
 use Rattle.reg_topic.specs.declared.topic.Topic.{Topic}
-use Rattle.reg_world.specs.Headline.{Ids}
-use Rattle.reg_world.specs.LowerLaws.{LowerLaws}
-use Rattle.reg_world.specs.State.{topic_of}
-use Rattle.reg_world.proofs.Stays.{sound-after}
+use Rattle.reg_topic.proofs.Topics.{lawful_at}
 
 abbrev IsOpen : Topic → Type 0
 IsOpen t = is_closed (registry_of t) ≡ false
@@ -42,8 +41,18 @@ module _ (stay : StepsStayOpen) where
   none_of false None e = refl
   none_of false (Some x) e = cc
 
-  pub ids : LowerLaws → NoneIsOneTextEach → Ids
-  ids l none es w a =
-      let h = sound-after l es w a in
-      let rs = registry_of (topic_of w) in
-      (none (entries rs)).0 (none_of (is_some (opaque rs)) (two_schemas rs) (open_items w.base w.items h.lawful h.adopted.not_closed))
+  pub stay_open : LawfulListsStayOpen
+  stay_open base is adopted lawful = open_items base is lawful adopted.not_closed
+
+  pub keep_ids : NoneIsOneTextEach → LawfulListsKeepIds
+  keep_ids none base is adopted lawful =
+      let rs = registry_of (after_items base is) in
+      (none (entries rs)).0 (none_of (is_some (opaque rs)) (two_schemas rs) (stay_open base is adopted lawful))
+
+pub meet_levels : StepsMeetLevels → LawfulListsMeetLevels
+meet_levels meet base is lawful before subject text batch (after, same) =
+    let may = lawful_at base before after _ (subst (IsLawful base) same lawful) in
+    elim (meet (registry_of (after_items base before)) (after_items base before).next subject text may.reply batch may.step) [
+      | inl none ↦ absurd (may.writes none)
+      | inr met ↦ met
+    ]
