@@ -10,11 +10,12 @@ ghost use Rattle.reg_fold.specs.Closed.{is_closed};
 ghost use Rattle.reg_fold.specs.Entries.{entries};
 ghost use Rattle.reg_leader.specs.Adoption.{IsAdoptRefusal};
 ghost use Rattle.reg_leader.specs.StayOpen.{IdsNameOneSchema};
+ghost use Rattle.reg_topic.specs.Promises.{MetLevels};
 ghost use Rattle.reg_topic.specs.Topic.{registry_of, topic_from};
 ghost use Rattle.reg_world.specs.Core.{HasLawfulLog, HasNodes};
 ghost use Rattle.reg_world.specs.Eager.{IsFoldedEagerly, eager};
 ghost use Rattle.reg_world.specs.Happens.{Happens, is_allowed};
-ghost use Rattle.reg_world.specs.Headline.{GivesAnswersOfSets, MetLevels};
+ghost use Rattle.reg_world.specs.Headline.{GivesAnswersOfSets};
 ghost use Rattle.reg_world.specs.Runs.{IsStopped, Runs};
 ghost use Rattle.reg_world.specs.State.{start, topic_of};
 ghost use Rattle.reg_world.specs.declared.event.Outcome.TheVariants as Outcome;
@@ -117,7 +118,7 @@ impl World {
         ensures nodes { HasNodes self.new }
         ensures answers { GivesAnswersOfSets self.new }
         ensures ids { IdsNameOneSchema (registry_of (topic_of self.new)) }
-        ensures levels { MetLevels self.new }
+        ensures levels { MetLevels self.new.base self.new.items }
         ensures eager { IsFoldedEagerly self.new }
     {
         every_list_of_events_is_lawful();
