@@ -91,7 +91,6 @@ pub struct Opened<
 
 /// Opens a pen over a log, which has to be adopted, with that keep, so many passes and places for so
 /// many readers. The log isn't lent to the keep.
-#[tactic(auto, using(crate::proofs::Adopted::is_adopted))]
 pub fn open<N: FeedName<Item, Shared>, K: Keep + Drop, R: Wait + Drop>(
     rt: R,
     alloc: Global,
