@@ -1,0 +1,13 @@
+//! Values of Avro schemas: which values a type has, and a sample of them.
+#![tactic(auto)]
+
+mod data;
+mod fits;
+mod laws;
+mod limits;
+mod sampling;
+
+pub use data::Data;
+pub use laws::{samples_are_values, values_have_samples};
+pub use limits::{MOST_LEVELS, MOST_PARTS};
+pub use sampling::sample;

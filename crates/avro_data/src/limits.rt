@@ -1,0 +1,7 @@
+// How large a value may be.
+
+/// The most parts of a value that is made here.
+pub const MOST_PARTS: usize = 1_048_576;
+
+/// The most levels of a value that is made here.
+pub const MOST_LEVELS: usize = 1_000;
