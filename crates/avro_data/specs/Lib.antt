@@ -3,5 +3,7 @@ pub mod View
 pub mod Size
 pub mod Fits
 pub mod Sample
+pub mod Outlines
+pub mod Users
 pub mod Rounds
 pub mod Text

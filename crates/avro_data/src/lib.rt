@@ -2,12 +2,17 @@
 #![tactic(auto)]
 
 mod data;
+mod error;
 mod fits;
 mod laws;
 mod limits;
+mod outline;
+mod rounds;
 mod sampling;
+mod users;
 
 pub use data::Data;
+pub use error::SampleError;
 pub use laws::{samples_are_values, values_have_samples};
 pub use limits::{MOST_LEVELS, MOST_PARTS};
 pub use sampling::sample;
