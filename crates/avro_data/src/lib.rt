@@ -1,4 +1,4 @@
-//! Values of Avro schemas: which values a type has, and a sample of them.
+//! Values of Avro schemas: which values a type has, a sample of them, and their texts.
 #![tactic(auto)]
 
 mod data;
@@ -9,6 +9,7 @@ mod limits;
 mod outline;
 mod rounds;
 mod sampling;
+mod text;
 mod users;
 
 pub use data::Data;

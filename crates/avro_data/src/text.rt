@@ -1,0 +1,110 @@
+// The text of a value.
+ghost use Rattle.std.specs.Prelude.{◌≡◌, ◌++◌, OnOk, true, codes, string_bytes};
+ghost use Rattle.avro_data.specs.Text.{value_text, values_text, members_text, comma_before};
+ghost use Rattle.avro_data.specs.View.{view, values_view, members_view};
+
+use crate::Data;
+use base_text::Text;
+use std::alloc::AllocError;
+use std::collections::BTreeMap;
+
+impl Data {
+    /// Appends the value's text: `leaf`, a symbol, `[a,b]`, `{KEY=a}` in byte order of the keys,
+    /// `#k a` for branch `k`, `(NAME=a,NAME=b)`, `default`. Keys and symbols stand as they are, so
+    /// it is a text for people. The only error is want of memory.
+    pub fn push_text(&self, out: &mut String) -> Result<(), AllocError>
+        ensures { OnOk result (string_bytes out.new ≡ string_bytes out.old ++ value_text (view self.now)) }
+    {
+        push_value(out, self)
+    }
+}
+
+#[cycle(text)]
+fn push_value(out: &mut String, given: &Data) -> Result<(), AllocError>
+    ensures { OnOk result (string_bytes out.new ≡ string_bytes out.old ++ value_text (view given.now)) }
+{
+    match given {
+        Data::Leaf => out.push_str("leaf"),
+        Data::Symbol(symbol) => out.push_str(symbol.as_str()),
+        Data::List(items) => {
+            out.push_str("[")?;
+            push_items(out, items)?;
+            out.push_str("]")
+        }
+        Data::Map(members) => {
+            out.push_str("{")?;
+            push_values(out, members)?;
+            out.push_str("}")
+        }
+        Data::Branch(k, inner) => {
+            write!(out, "#{k} ")?;
+            push_value(out, inner)
+        }
+        Data::Fields(members) => {
+            out.push_str("(")?;
+            push_fields(out, members)?;
+            out.push_str(")")
+        }
+        Data::Default => out.push_str("default"),
+    }
+}
+
+/// The items, with commas between them.
+#[cycle(text)]
+fn push_items(out: &mut String, items: &Vec<Data>) -> Result<(), AllocError>
+    ensures { OnOk result (string_bytes out.new ≡ string_bytes out.old ++ values_text true (values_view items.now.items)) }
+{
+    let mut is_first = true;
+    for item in items {
+        push_comma(out, is_first)?;
+        push_value(out, item)?;
+        is_first = false;
+    }
+    Ok(())
+}
+
+/// The keys and their values, with commas between them.
+#[cycle(text)]
+fn push_values(out: &mut String, members: &BTreeMap<Text, Data>) -> Result<(), AllocError>
+    ensures { OnOk result (string_bytes out.new ≡ string_bytes out.old ++ members_text true (members_view members.now.entries)) }
+{
+    let mut is_first = true;
+    for (key, value) in members.iter() {
+        push_name(out, is_first, key)?;
+        push_value(out, value)?;
+        is_first = false;
+    }
+    Ok(())
+}
+
+/// The names and their values, with commas between them.
+#[cycle(text)]
+fn push_fields(out: &mut String, members: &Vec<(Text, Data)>) -> Result<(), AllocError>
+    ensures { OnOk result (string_bytes out.new ≡ string_bytes out.old ++ members_text true (members_view members.now.items)) }
+{
+    let mut is_first = true;
+    for member in members {
+        push_name(out, is_first, &member.0)?;
+        push_value(out, &member.1)?;
+        is_first = false;
+    }
+    Ok(())
+}
+
+/// A comma, but before the first.
+fn push_comma(out: &mut String, is_first: bool) -> Result<(), AllocError>
+    ensures { OnOk result (string_bytes out.new ≡ string_bytes out.old ++ comma_before is_first) }
+{
+    if is_first {
+        return Ok(());
+    }
+    out.push_str(",")
+}
+
+fn push_name(out: &mut String, is_first: bool, name: &Text) -> Result<(), AllocError>
+    ensures { OnOk result (string_bytes out.new ≡ string_bytes out.old ++ (comma_before is_first ++ name.now ++ codes "=")) }
+{
+    push_comma(out, is_first)?;
+    out.push_str(name.as_str())?;
+    out.push_str("=")
+}
