@@ -1,0 +1,117 @@
+// Samples at the limits of 1,048,576 parts and 1,000 levels.
+use avro_data::{MOST_LEVELS, MOST_PARTS, SampleError, sample};
+use avro_schema::{Schema, SchemaError};
+use std::alloc::{AllocError, Global};
+
+/// What `sample` does.
+#[derive(Clone, Copy, Debug, PartialEq, Eq)]
+enum Outcome {
+    Given,
+    TooLarge,
+    Other,
+}
+
+fn sampled(alloc: Global, text: &str) -> Result<Outcome, SchemaError> {
+    let schema = Schema::read(alloc, text)?;
+    Ok(match sample(alloc, &schema) {
+        Ok(Some(_)) => Outcome::Given,
+        Err(SampleError::TooLarge) => Outcome::TooLarge,
+        _ => Outcome::Other,
+    })
+}
+
+fn is_outcome(alloc: Global, text: &str, want: Outcome) -> bool {
+    matches!(sampled(alloc, text), Ok(is) if is == want)
+}
+
+/// A record without fields, inside as many records as that, each of which has two fields of the
+/// one inside it: 2^(count+1)-1 parts.
+fn doubling(alloc: Global, count: usize) -> Result<String, AllocError> {
+    let mut text = String::from_str(alloc, r#"{"type":"record","name":"R0","fields":[]}"#)?;
+    for k in 0..count {
+        let outside = format!(in alloc; "{}", k + 1)?;
+        text = format!(in alloc;
+            r#"{{"type":"record","name":"R{}","fields":[{{"name":"a","type":{}}},{{"name":"b","type":"R{k}"}}]}}"#,
+            outside.as_str(),
+            text.as_str()
+        )?;
+    }
+    Ok(text)
+}
+
+/// A record with a field of that type and as many more fields as that, of ints.
+fn beside(alloc: Global, inner: &str, count: usize) -> Result<String, AllocError> {
+    let mut text = format!(in alloc;
+        r#"{{"type":"record","name":"R","fields":[{{"name":"a","type":{inner}}}"#
+    )?;
+    for k in 0..count {
+        let field = format!(in alloc; r#",{{"name":"f{k}","type":"int"}}"#)?;
+        text.push_str(field.as_str())?;
+    }
+    text.push_str("]}")?;
+    Ok(text)
+}
+
+/// A record whose last field is of the last of as many records as that, each with a field of the
+/// one before it and the first with an int: count + 2 levels. The records are defined in arrays,
+/// which are empty in a sample.
+fn chain(alloc: Global, count: usize) -> Result<String, AllocError> {
+    let mut text = String::from_str(
+        alloc,
+        r#"{"type":"record","name":"R","fields":[{"name":"f","type":{"type":"array","items":{"type":"record","name":"R0","fields":[{"name":"a","type":"int"}]}}}"#,
+    )?;
+    let mut last = String::from_str(alloc, "R0")?;
+    for k in 1..count {
+        let name = format!(in alloc; "R{k}")?;
+        let field = format!(in alloc;
+            r#",{{"name":"f{k}","type":{{"type":"array","items":{{"type":"record","name":"{}","fields":[{{"name":"a","type":"{}"}}]}}}}}}"#,
+            name.as_str(),
+            last.as_str()
+        )?;
+        text.push_str(field.as_str())?;
+        last = name;
+    }
+    let end = format!(in alloc; r#",{{"name":"last","type":"{}"}}]}}"#, last.as_str())?;
+    text.push_str(end.as_str())?;
+    Ok(text)
+}
+
+#[test]
+fn has_these_limits(rt: HostRuntime) {
+    assert_eq!(rt; (MOST_PARTS, MOST_LEVELS), (1_048_576, 1_000));
+}
+
+#[test]
+fn refuses_too_many_parts(rt: HostRuntime) -> Result<(), AllocError> {
+    let alloc = rt.alloc();
+    let nearly = doubling(alloc, 19)?;
+    assert!(rt; is_outcome(alloc, nearly.as_str(), Outcome::Given));
+    let full = beside(alloc, nearly.as_str(), 0)?;
+    assert!(rt; is_outcome(alloc, full.as_str(), Outcome::Given));
+    let over = beside(alloc, nearly.as_str(), 1)?;
+    assert!(rt; is_outcome(alloc, over.as_str(), Outcome::TooLarge));
+    Ok(())
+}
+
+#[test]
+fn refuses_far_too_many_parts(rt: HostRuntime) -> Result<(), AllocError> {
+    let alloc = rt.alloc();
+    for count in [20, 21, 30] {
+        let text = doubling(alloc, count)?;
+        assert!(rt;
+            is_outcome(alloc, text.as_str(), Outcome::TooLarge),
+            "{count}"
+        );
+    }
+    Ok(())
+}
+
+#[test]
+fn refuses_too_many_levels(rt: HostRuntime) -> Result<(), AllocError> {
+    let alloc = rt.alloc();
+    let full = chain(alloc, 998)?;
+    assert!(rt; is_outcome(alloc, full.as_str(), Outcome::Given));
+    let over = chain(alloc, 999)?;
+    assert!(rt; is_outcome(alloc, over.as_str(), Outcome::TooLarge));
+    Ok(())
+}
