@@ -14,6 +14,6 @@ mod users;
 
 pub use data::Data;
 pub use error::SampleError;
-pub use laws::{samples_are_values, values_have_samples};
+pub use laws::{samples_are_single, samples_are_values, values_have_samples};
 pub use limits::{MOST_LEVELS, MOST_PARTS};
 pub use sampling::sample;

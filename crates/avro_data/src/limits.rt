@@ -5,3 +5,6 @@ pub const MOST_PARTS: usize = 1_048_576;
 
 /// The most levels of a value that is made here.
 pub const MOST_LEVELS: usize = 1_000;
+
+/// The most bytes of names and symbols in a sample; past them memory is as good as refused.
+pub(crate) const MOST_TEXT: usize = 268_435_456;

@@ -76,7 +76,7 @@ fn add(list: &mut Vec<NodeId>, id: NodeId) -> Result<(), AllocError>
     Ok(())
 }
 
-/// The users of those types, each at least once.
+/// The users of those types.
 pub(crate) fn users_of(
     alloc: Global,
     users: &[Vec<NodeId>],
@@ -90,7 +90,17 @@ pub(crate) fn users_of(
             add_all(&mut found, users[of.index].as_slice())?;
         }
     }
-    Ok(found)
+    once_each(alloc, found)
+}
+
+/// The ids in order, each once.
+fn once_each(alloc: Global, mut ids: Vec<NodeId>) -> Result<Vec<NodeId>, AllocError>
+    ensures { IfOk result (λ once. (i : NodeId) → Contains ids.items i → Contains once.items i) }
+{
+    ids.sort_unstable_by_key(|id| id.index);
+    let mut once = Vec::new(alloc);
+    add_all(&mut once, ids.as_slice())?;
+    Ok(once)
 }
 
 fn add_all(found: &mut Vec<NodeId>, ids: &[NodeId]) -> Result<(), AllocError>

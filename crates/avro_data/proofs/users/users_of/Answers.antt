@@ -2,7 +2,8 @@ use Rattle.std.proofs.Common.{◌≡◌, List, get_or, length, Contains, Some, s
 use Rattle.std.specs.Global.{Vec}
 use Rattle.std.proofs.lemmas.Option.{slice_get_read, slice_get-get_or}
 use Rattle.avro_schema.specs.declared.node.NodeId.{NodeId}
-use Rattle.avro_data.specs.Users.{HasUser}
+use Rattle.avro_data.specs.Users.{HasUser, AreUsersOf}
+use Rattle.avro_data.proofs.Building.{if_ok}
 use Rattle.avro_data.proofs.UserLaws.{all_of, users_step, users_skip}
 use Rattle.avro_data.proofs.users.users_of.Goals as goal
 use Rattle.avro_data.proofs.users.users_of.Goals.{then-of-users+in_ok-add_all, else-of-users}
@@ -26,4 +27,10 @@ loop-of-preserved c =
     ]
 
 pub returns : goal.returns
-returns c = λ j i has. all_of c.args.given.now c.loop-of.of-index (λ x. HasUser c.args.users.now x i → Contains c.loop-of.found.items i) c.loop-of-test.false (λ n x lt at x_has. c.loop-of.invariant n x i lt at x_has) j has
+returns c =
+    let found = c.loop-of.found.items in
+    let users = c.args.users.now in
+    let given = c.args.given.now in
+    if_ok c.once_each.result (λ once. (i : NodeId) → Contains found i → Contains once.items i) (λ once. AreUsersOf users given once.items)
+    (λ once kept j i has uses. kept i (all_of given c.loop-of.of-index (λ x. HasUser users x i → Contains found i) c.loop-of-test.false (λ n x lt at x_has. c.loop-of.invariant n x i lt at x_has) j has uses))
+    c.once_each.ensures
