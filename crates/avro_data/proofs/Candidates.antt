@@ -1,5 +1,5 @@
 -- Whatever a round makes ready uses a type that the round before gave its sample.
-use Rattle.std.proofs.Common.{◌≡◌, ℕ, suc, ◌+◌, ◌<◌, ◌≤◌, List, length, Bool, true, false, nat_le, cond, Contains, Option, Some, None, IsSome, is_some, option_map, slice_get, refl, sym, ◌∙◌, ap, subst, arith}
+use Rattle.std.proofs.Common.{◌≡◌, ℕ, suc, ◌+◌, ◌<◌, List, length, Bool, true, false, nat_le, cond, Contains, Option, Some, None, IsSome, slice_get, refl, sym, ◌∙◌, ap, subst, arith}
 use Rattle.std.specs.Option.{option_or}
 use Rattle.std.specs.Global.{Vec}
 use Rattle.std.proofs.lemmas.Bool.Decides.{nat_tests}
@@ -8,11 +8,10 @@ use Rattle.avro_schema.specs.declared.node.NodeId.{NodeId}
 use Rattle.avro_schema.specs.declared.node.Node.{Node}
 use Rattle.avro_data.specs.declared.outline.Outline.{Outline}
 use Rattle.avro_data.specs.declared.outline.Given.{Given}
-use Rattle.avro_data.specs.Sample.{given_by, after}
-use Rattle.avro_data.specs.Outlines.{outline_of, outlined}
-use Rattle.avro_data.specs.Users.{awaited, HasUser, AreUsers, AreUsersOf}
-use Rattle.avro_data.specs.Rounds.{by_round, by_table, AreNew, AreRounds, ready, AreCandidates, IsNext}
-use Rattle.avro_data.proofs.OutlineLaws.{IsNewPart, new_part}
+use Rattle.avro_data.specs.Outlines.{outlined}
+use Rattle.avro_data.specs.Users.{AreUsers, AreUsersOf}
+use Rattle.avro_data.specs.Rounds.{by_round, by_table, AreNew, AreRounds, AreCandidates}
+use Rattle.avro_data.proofs.OutlineLaws.{new_part}
 use Rattle.avro_data.proofs.RoundLaws.{after_next}
 
 none_in : (a b : Option Outline) → option_or a b ≡ None → b ≡ None

@@ -1,5 +1,5 @@
 -- The outline of what a type is given follows from the outlines of what it is given of.
-use Rattle.std.proofs.Common.{◌≡◌, ℕ, suc, ◌+◌, ◌≤◌, min, max, List, [], ◌∷◌, Contains, map, Option, Some, None, IsSome, is_some, option_map, option_and_then, slice_get, refl, sym, ◌∙◌, ap, arith}
+use Rattle.std.proofs.Common.{◌≡◌, ℕ, suc, ◌+◌, ◌≤◌, min, max, List, [], ◌∷◌, Contains, map, Option, Some, None, IsSome, is_some, option_map, option_and_then, refl, sym, ◌∙◌, ap, arith}
 use Rattle.std.specs.Option.{option_or}
 use Rattle.avro_schema.specs.declared.node.NodeId.{NodeId}
 use Rattle.avro_schema.specs.declared.node.Field.{Field}
@@ -7,10 +7,10 @@ use Rattle.avro_schema.specs.declared.node.Node.{Node}
 use Rattle.avro_schema.specs.declared.node.Node.TheVariants as kind
 use Rattle.avro_data.specs.declared.limits.TheConstants.{MOST_PARTS, MOST_LEVELS}
 use Rattle.avro_data.specs.declared.outline.Outline.{Outline}
-use Rattle.avro_data.specs.Value.{Value, symbol, branch, fields_of, Members, no_members, member}
-use Rattle.avro_data.specs.Size.{parts, depth, parts_of_members, depth_of_members}
+use Rattle.avro_data.specs.Value.{Value, branch, fields_of, Members, no_members, member}
+use Rattle.avro_data.specs.Size.{parts_of_members, depth_of_members}
 use Rattle.avro_data.specs.Sample.{of_fields, of_branches, given_by}
-use Rattle.avro_data.specs.Outlines.{outline_of, single, nothing, beside, around, outlined_fields, outlined_branches, outlined}
+use Rattle.avro_data.specs.Outlines.{outline_of, nothing, beside, around, outlined_fields, outlined_branches, outlined}
 use Rattle.avro_data.specs.Users.{awaited}
 use Rattle.avro_data.proofs.Options.{here, later}
 

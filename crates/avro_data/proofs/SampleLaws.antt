@@ -1,18 +1,17 @@
 -- What a sample says of its type's values, and its outline of its size.
-use Rattle.std.proofs.Common.{◌≡◌, ℕ, ◌+◌, min, List, Bool, true, false, ◌||◌, nat_lt, Option, Some, None, IfSome, IfNone, is_some, option_map, refl, sym, ◌∙◌, ap, subst, arith}
+use Rattle.std.proofs.Common.{◌≡◌, ℕ, ◌+◌, min, List, Bool, true, false, ◌||◌, nat_lt, Option, Some, None, IfSome, IfNone, is_some, option_map, refl, sym, ◌∙◌, ap, arith}
 use Rattle.std.specs.Option.{option_map_or}
 use Rattle.std.proofs.lemmas.Bool.Decides.{nat_tests}
 use Rattle.avro_schema.specs.declared.node.NodeId.{NodeId}
 use Rattle.avro_schema.specs.declared.node.Node.{Node}
 use Rattle.avro_data.specs.declared.limits.TheConstants.{MOST_PARTS, MOST_LEVELS}
 use Rattle.avro_data.specs.declared.data.Data.{Data}
-use Rattle.avro_data.specs.declared.outline.Outline.{Outline}
 use Rattle.avro_data.specs.declared.outline.Given.{Given}
 use Rattle.avro_data.specs.Value.{Value}
 use Rattle.avro_data.specs.View.{view}
 use Rattle.avro_data.specs.Size.{parts, depth, is_too_large}
 use Rattle.avro_data.specs.Fits.{fits}
-use Rattle.avro_data.specs.Sample.{after, IsSample}
+use Rattle.avro_data.specs.Sample.{IsSample}
 use Rattle.avro_data.specs.Outlines.{outline_of, is_over}
 use Rattle.avro_data.specs.Rounds.{given_at, sample_in, sample_by, AreAllRounds}
 use Rattle.avro_data.proofs.Samples.{after_are, have}

@@ -1,5 +1,5 @@
 -- Private: which types each type is used in, as far as a sample of these waits for one of it.
-use Rattle.std.specs.Prelude.{◌≡◌, ◌<◌, ℕ, List, [], length, map, Contains, Some, slice_get}
+use Rattle.std.specs.Prelude.{◌≡◌, ◌<◌, List, [], length, map, Contains, Some, slice_get}
 use Rattle.std.specs.Global.{Vec}
 use Rattle.avro_schema.specs.declared.node.NodeId.{NodeId}
 use Rattle.avro_schema.specs.declared.node.Node.{Node}

@@ -1,5 +1,5 @@
 -- Each round gives a type its sample that had none.
-use Rattle.std.proofs.Common.{◌≡◌, ◌≤◌, ◌-◌, length}
+use Rattle.std.proofs.Common.{◌≤◌, ◌-◌, length}
 use Rattle.avro_data.specs.Rounds.{AreRounds, AreCandidates, given_count}
 use Rattle.avro_data.proofs.rounds.all_rounds.Given as goal
 

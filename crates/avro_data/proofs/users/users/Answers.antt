@@ -1,4 +1,4 @@
-use Rattle.std.proofs.Common.{◌≡◌, ◌<◌, length, Some, slice_get, refl, ◌∙◌, arith}
+use Rattle.std.proofs.Common.{◌<◌, length, refl, ◌∙◌, arith}
 use Rattle.std.proofs.lemmas.Option.{slice_get_within}
 use Rattle.avro_data.proofs.UserLaws.{uses_step}
 use Rattle.avro_data.proofs.users.users.Goals as goal

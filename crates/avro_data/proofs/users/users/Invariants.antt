@@ -1,4 +1,4 @@
-use Rattle.std.proofs.Common.{◌≡◌, ◌<◌, ℕ, length, Some, slice_get}
+use Rattle.std.proofs.Common.{◌≡◌, ◌<◌, length, Some, slice_get}
 use Rattle.avro_schema.specs.declared.node.NodeId.{NodeId}
 use Rattle.avro_schema.specs.declared.node.Node.{Node}
 use Rattle.avro_data.specs.Users.{awaited, IsUserOf}
