@@ -1,0 +1,6 @@
+pub mod AtPair
+pub mod Yes
+pub mod Along
+pub mod RoomLaws
+pub mod ReadableLaws
+mod Examples

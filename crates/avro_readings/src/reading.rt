@@ -1,0 +1,335 @@
+// What a reader makes of a writer's value.
+ghost use Rattle.std.specs.Prelude.{◌≡◌, ◌≢◌, IfOk, IfErr, Err, List, Some, true, option_map, slice_get};
+ghost use Rattle.avro_schema.specs.declared.node.Node.TheVariants as kind;
+ghost use Rattle.avro_resolve.specs.Pairing.{partner};
+ghost use Rattle.avro_resolve.specs.Trails.{roots, AreCompatible};
+ghost use Rattle.avro_data.specs.Fits.{fits};
+ghost use Rattle.avro_data.specs.View.{view, values_view, members_view};
+ghost use Rattle.avro_readings.specs.Reads as spec;
+ghost use Rattle.avro_readings.specs.Room.{value_room, values_room, members_room, inner_room, IsTaken, IsHalt};
+ghost use Rattle.avro_readings.specs.Steps.{row_reading, through_union, through_reader, one_field_read, all_fields_read};
+ghost use Rattle.avro_readings.specs.Worth.{IsRead, IsReadRefusal};
+
+use crate::ReadError;
+use crate::laws::compatible_values_are_readable;
+use crate::pairs::{
+    both_leaves, branch_at, fields_at, first_matching, is_barred, items_at, node_at, symbol_at,
+    values_at,
+};
+use crate::readable::can_read;
+use crate::room::{Halt, Room};
+use avro_data::Data;
+use avro_resolve::{Pair, partner};
+use avro_schema::{Field, Node, NodeId, Schema};
+use base_text::Text;
+use named_list::NamedList;
+use std::alloc::Global;
+use std::collections::BTreeMap;
+
+/// What a reader makes of a value that was written (Avro 1.11, "Schema Resolution").
+///
+/// A reader's union tells the number of its own branch, and a field that has nothing to read is
+/// `Default`. Where the two schemas are compatible, no value of the writer's schema is refused as
+/// `Unreadable`. Of a reading that is too large no more than the limit is ever made.
+pub fn read_data(alloc: Global, r: &Schema, w: &Schema, given: &Data) -> Result<Data, ReadError>
+    ensures ok { IfOk result (λ read. IsRead r.now.nodes w.now.nodes (view given.now) (view read)) }
+    ensures refused { IfErr result (IsReadRefusal r.now.nodes w.now.nodes (view given.now)) }
+    ensures compatible { AreCompatible r.now.nodes w.now.nodes → result ≢ Err ReadError.Unreadable }
+{
+    compatible_values_are_readable();
+    // Counting the nodes tells that they are sound.
+    let _sound = r.node_count();
+    if !given.fits(w, w.root()) {
+        return Err(ReadError::Unfit);
+    }
+    let pair = Pair {
+        reader: r.root(),
+        writer: w.root(),
+    };
+    match read(alloc, r, w, pair, given, &mut Room::whole()) {
+        Ok(found) => Ok(found),
+        Err(Halt::Unreadable) => Err(ReadError::Unreadable),
+        Err(Halt::TooLarge) => {
+            // A front of a reading was too large: it counts only where there is a whole one.
+            if can_read(alloc, r, w, given)? {
+                Err(ReadError::TooLarge)
+            } else {
+                Err(ReadError::Unreadable)
+            }
+        }
+        Err(Halt::OutOfMemory) => Err(ReadError::OutOfMemory),
+    }
+}
+
+/// The reading of a value at a pair of types.
+#[cycle(read)]
+fn read(
+    alloc: Global,
+    r: &Schema,
+    w: &Schema,
+    pair: Pair,
+    given: &Data,
+    room: &mut Room,
+) -> Result<Data, Halt>
+    ensures read { IfOk result (λ found. spec.reads r.now.nodes w.now.nodes pair (view given.now) ≡ Some (view found)) }
+    ensures room { IfOk result (λ found. IsTaken room.old room.new (value_room (view found))) }
+    ensures halted { IfErr result (IsHalt room.old (option_map value_room (spec.reads r.now.nodes w.now.nodes pair (view given.now)))) }
+{
+    if is_barred(r, w, pair) {
+        return Err(Halt::Unreadable);
+    }
+    match given {
+        Data::Branch(k, inner) => match branch_at(node_at(w, pair.writer), *k) {
+            Some(writer) => {
+                let next = Pair {
+                    reader: pair.reader,
+                    writer,
+                };
+                read(alloc, r, w, next, inner, room)
+            }
+            None => Err(Halt::Unreadable),
+        },
+        Data::Default => Err(Halt::Unreadable),
+        _ => read_inside(alloc, r, w, pair, given, room),
+    }
+}
+
+/// Through the reader's type, where it is a union.
+#[cycle(read)]
+fn read_inside(
+    alloc: Global,
+    r: &Schema,
+    w: &Schema,
+    pair: Pair,
+    given: &Data,
+    room: &mut Room,
+) -> Result<Data, Halt>
+    ensures read { IfOk result (λ found. through_reader r.now.nodes w.now.nodes pair (view given.now) ≡ Some (view found)) }
+    ensures room { IfOk result (λ found. IsTaken room.old room.new (value_room (view found))) }
+    ensures halted { IfErr result (IsHalt room.old (option_map value_room (through_reader r.now.nodes w.now.nodes pair (view given.now)))) }
+{
+    match node_at(r, pair.reader) {
+        Some(Node::Union(branches)) => {
+            read_branch(alloc, r, w, branches.as_slice(), pair, given, room)
+        }
+        _ => read_row(alloc, r, w, pair, given, room),
+    }
+}
+
+/// By the first branch of the reader's union that matches.
+#[cycle(read)]
+fn read_branch(
+    alloc: Global,
+    r: &Schema,
+    w: &Schema,
+    branches: &[NodeId],
+    pair: Pair,
+    given: &Data,
+    room: &mut Room,
+) -> Result<Data, Halt>
+    ensures read { IfOk result (λ found. through_union r.now.nodes w.now.nodes branches.now pair (view given.now) ≡ Some (view found)) }
+    ensures room { IfOk result (λ found. IsTaken room.old room.new (value_room (view found))) }
+    ensures halted { IfErr result (IsHalt room.old (option_map value_room (through_union r.now.nodes w.now.nodes branches.now pair (view given.now)))) }
+{
+    let Some((k, reader)) = first_matching(r, branches, w, pair.writer) else {
+        return Err(Halt::Unreadable);
+    };
+    let next = Pair {
+        reader,
+        writer: pair.writer,
+    };
+    if is_barred(r, w, next) {
+        return Err(Halt::Unreadable);
+    }
+    room.enter()?;
+    let inner = read_row(alloc, r, w, next, given, room)?;
+    room.leave();
+    Ok(Data::Branch(k, Box::new(alloc, inner)?))
+}
+
+/// At a pair of types that are no unions.
+#[cycle(read)]
+fn read_row(
+    alloc: Global,
+    r: &Schema,
+    w: &Schema,
+    pair: Pair,
+    given: &Data,
+    room: &mut Room,
+) -> Result<Data, Halt>
+    ensures read { IfOk result (λ found. row_reading r.now.nodes w.now.nodes (view given.now) pair ≡ Some (view found)) }
+    ensures room { IfOk result (λ found. IsTaken room.old room.new (value_room (view found))) }
+    ensures halted { IfErr result (IsHalt room.old (option_map value_room (row_reading r.now.nodes w.now.nodes (view given.now) pair))) }
+{
+    room.enter()?;
+    let found = read_parts(alloc, r, w, pair, given, room)?;
+    room.leave();
+    Ok(found)
+}
+
+/// The same, where the room of the value itself is taken.
+#[cycle(read)]
+fn read_parts(
+    alloc: Global,
+    r: &Schema,
+    w: &Schema,
+    pair: Pair,
+    given: &Data,
+    room: &mut Room,
+) -> Result<Data, Halt>
+    ensures read { IfOk result (λ found. row_reading r.now.nodes w.now.nodes (view given.now) pair ≡ Some (view found)) }
+    ensures room { IfOk result (λ found. IsTaken room.old room.new (inner_room (view found))) }
+    ensures halted { IfErr result (IsHalt room.old (option_map inner_room (row_reading r.now.nodes w.now.nodes (view given.now) pair))) }
+{
+    let reader = node_at(r, pair.reader);
+    let writer = node_at(w, pair.writer);
+    match given {
+        Data::Leaf => {
+            if both_leaves(reader, writer) {
+                Ok(Data::Leaf)
+            } else {
+                Err(Halt::Unreadable)
+            }
+        }
+        Data::Symbol(symbol) => match symbol_at(reader, writer, symbol) {
+            Some(known) => Ok(Data::Symbol(known.clone()?)),
+            None => Err(Halt::Unreadable),
+        },
+        Data::List(items) => match items_at(reader, writer) {
+            Some(inner) => Ok(Data::List(read_items(alloc, r, w, inner, items, room)?)),
+            None => Err(Halt::Unreadable),
+        },
+        Data::Map(members) => match values_at(reader, writer) {
+            Some(inner) => Ok(Data::Map(read_values(alloc, r, w, inner, members, room)?)),
+            None => Err(Halt::Unreadable),
+        },
+        Data::Fields(members) => match fields_at(reader, writer) {
+            Some((fields, others)) => {
+                Ok(Data::Fields(read_fields(alloc, r, w, fields, others, members, room)?))
+            }
+            None => Err(Halt::Unreadable),
+        },
+        Data::Branch(..) | Data::Default => Err(Halt::Unreadable),
+    }
+}
+
+#[cycle(read)]
+fn read_items(
+    alloc: Global,
+    r: &Schema,
+    w: &Schema,
+    pair: Pair,
+    items: &Vec<Data>,
+    room: &mut Room,
+) -> Result<Vec<Data>, Halt>
+    ensures read { IfOk result (λ found. spec.items_read r.now.nodes w.now.nodes pair (values_view items.now.items) ≡ Some (values_view found.items)) }
+    ensures room { IfOk result (λ found. IsTaken room.old room.new (values_room (values_view found.items))) }
+    ensures halted { IfErr result (IsHalt room.old (option_map values_room (spec.items_read r.now.nodes w.now.nodes pair (values_view items.now.items)))) }
+{
+    let mut done = Vec::new(alloc);
+    for item in items {
+        let found = read(alloc, r, w, pair, item, room)?;
+        done.push(found)?;
+    }
+    Ok(done)
+}
+
+#[cycle(read)]
+fn read_values(
+    alloc: Global,
+    r: &Schema,
+    w: &Schema,
+    pair: Pair,
+    members: &BTreeMap<Text, Data>,
+    room: &mut Room,
+) -> Result<BTreeMap<Text, Data>, Halt>
+    ensures read { IfOk result (λ found. spec.values_read r.now.nodes w.now.nodes pair (members_view members.now.entries) ≡ Some (members_view found.entries)) }
+    ensures room { IfOk result (λ found. IsTaken room.old room.new (members_room (members_view found.entries))) }
+    ensures halted { IfErr result (IsHalt room.old (option_map members_room (spec.values_read r.now.nodes w.now.nodes pair (members_view members.now.entries)))) }
+{
+    let mut done = BTreeMap::new(alloc);
+    for (key, value) in members.iter() {
+        let found = read(alloc, r, w, pair, value, room)?;
+        let name = key.clone()?;
+        drop(done.insert(name, found)?);
+    }
+    Ok(done)
+}
+
+/// The reader's fields, by those that the writer wrote.
+#[cycle(read)]
+fn read_fields(
+    alloc: Global,
+    r: &Schema,
+    w: &Schema,
+    fields: &[Field],
+    others: &NamedList<Field>,
+    members: &Vec<(Text, Data)>,
+    room: &mut Room,
+) -> Result<Vec<(Text, Data)>, Halt>
+    ensures read { IfOk result (λ found. all_fields_read r.now.nodes w.now.nodes (members_view members.now.items) others.now fields.now ≡ Some (members_view found.items)) }
+    ensures room { IfOk result (λ found. IsTaken room.old room.new (members_room (members_view found.items))) }
+    ensures halted { IfErr result (IsHalt room.old (option_map members_room (all_fields_read r.now.nodes w.now.nodes (members_view members.now.items) others.now fields.now))) }
+{
+    let mut done = Vec::new(alloc);
+    for field in fields {
+        let found = read_field(alloc, r, w, field, others, members, room)?;
+        let name = field.name.clone()?;
+        done.push((name, found))?;
+    }
+    Ok(done)
+}
+
+/// A reader's field: the writer's that it is paired with, or its default.
+#[cycle(read)]
+fn read_field(
+    alloc: Global,
+    r: &Schema,
+    w: &Schema,
+    field: &Field,
+    others: &NamedList<Field>,
+    members: &Vec<(Text, Data)>,
+    room: &mut Room,
+) -> Result<Data, Halt>
+    ensures read { IfOk result (λ found. one_field_read r.now.nodes w.now.nodes (members_view members.now.items) others.now field.now ≡ Some (view found)) }
+    ensures room { IfOk result (λ found. IsTaken room.old room.new (value_room (view found))) }
+    ensures halted { IfErr result (IsHalt room.old (option_map value_room (one_field_read r.now.nodes w.now.nodes (members_view members.now.items) others.now field.now))) }
+{
+    match partner(others, field) {
+        Some(other) => {
+            let pair = Pair {
+                reader: field.node,
+                writer: other.node,
+            };
+            read_named(alloc, r, w, pair, &other.name, members, room)
+        }
+        None => {
+            room.enter()?;
+            room.leave();
+            Ok(Data::Default)
+        }
+    }
+}
+
+/// The value that was written under that name.
+#[cycle(read)]
+fn read_named(
+    alloc: Global,
+    r: &Schema,
+    w: &Schema,
+    pair: Pair,
+    name: &Text,
+    members: &Vec<(Text, Data)>,
+    room: &mut Room,
+) -> Result<Data, Halt>
+    ensures read { IfOk result (λ found. spec.named_read r.now.nodes w.now.nodes name.now pair (members_view members.now.items) ≡ Some (view found)) }
+    ensures room { IfOk result (λ found. IsTaken room.old room.new (value_room (view found))) }
+    ensures halted { IfErr result (IsHalt room.old (option_map value_room (spec.named_read r.now.nodes w.now.nodes name.now pair (members_view members.now.items)))) }
+{
+    for member in members {
+        if member.0 == *name {
+            return read(alloc, r, w, pair, &member.1, room);
+        }
+    }
+    Err(Halt::Unreadable)
+}
