@@ -671,11 +671,11 @@ fn padded(alloc: Global, length: usize) -> Result<String, AllocError> {
     Ok(text)
 }
 
-// A primitive's name in so many objects, one in another.
-fn nested(alloc: Global, objects: u32) -> Result<String, AllocError> {
+// A primitive's name in so many objects, one in another, each of that opening.
+fn nested(alloc: Global, objects: u32, opening: &str) -> Result<String, AllocError> {
     let mut text = String::new(alloc);
     for _ in 0..objects {
-        text.push_str(r#"{"type":"#)?;
+        text.push_str(opening)?;
     }
     text.push_str(r#""int""#)?;
     for _ in 0..objects {
@@ -684,18 +684,13 @@ fn nested(alloc: Global, objects: u32) -> Result<String, AllocError> {
     Ok(text)
 }
 
-// A record with so many fields, each a union of the eight primitives.
-fn wide(alloc: Global, fields: u32) -> Result<String, AllocError> {
+// A record with so many fields, each a union of the eight primitives, and a last one of that type.
+fn wide(alloc: Global, fields: u32, last: &str) -> Result<String, AllocError> {
     let mut text = String::from_str(alloc, r#"{"type":"record","name":"R","fields":["#)?;
-    let mut separator = "";
     for i in 0..fields {
-        write!(
-            text,
-            r#"{separator}{{"name":"f{i}","type":["null","boolean","int","long","float","double","bytes","string"]}}"#
-        )?;
-        separator = ",";
+        write!(text, r#"{{"name":"f{i}","type":{EIGHT}}},"#)?;
     }
-    text.push_str("]}")?;
+    write!(text, r#"{{"name":"last","type":{last}}}]}}"#)?;
     Ok(text)
 }
 
@@ -718,28 +713,42 @@ fn chained(alloc: Global, types: u32) -> Result<String, AllocError> {
 enum Large {
     Padded(usize),
     Nested(u32),
-    Wide(u32),
+    Arrays(u32),
+    Wide(u32, &'static str),
     Chained(u32),
 }
 
 fn text_of(alloc: Global, kind: Large) -> Result<String, AllocError> {
     match kind {
         Large::Padded(length) => padded(alloc, length),
-        Large::Nested(objects) => nested(alloc, objects),
-        Large::Wide(fields) => wide(alloc, fields),
+        Large::Nested(objects) => nested(alloc, objects, r#"{"type":"#),
+        Large::Arrays(objects) => nested(alloc, objects, r#"{"type":"array","items":"#),
+        Large::Wide(fields, last) => wide(alloc, fields, last),
         Large::Chained(types) => chained(alloc, types),
     }
 }
 
+const EIGHT: &str = r#"["null","boolean","int","long","float","double","bytes","string"]"#;
+
 // Texts as long, as deep and with as many nodes as the limits allow, one past each, and many types
 // that use one another.
-static LIMITS: [(Large, &str); 7] = [
+static LIMITS: [(Large, &str); 11] = [
     (Large::Padded(1048576), "1"),
     (Large::Padded(1048577), "TooLong"),
     (Large::Nested(127), "1"),
     (Large::Nested(128), "NotJson"),
-    (Large::Wide(7281), "65530"),
-    (Large::Wide(7282), "TooManyNodes"),
+    (Large::Arrays(127), "128"),
+    (Large::Arrays(128), "NotJson"),
+    (Large::Wide(7280, EIGHT), "65530"),
+    (Large::Wide(7281, EIGHT), "TooManyNodes"),
+    (
+        Large::Wide(7281, r#"["null","int","long","string"]"#),
+        "65535",
+    ),
+    (
+        Large::Wide(7281, r#"["null","int","long","bytes","string"]"#),
+        "TooManyNodes",
+    ),
     (Large::Chained(5000), "5001"),
 ];
 
