@@ -1,0 +1,214 @@
+-- What is answered of a whole request is answered of every text that goes on after it.
+use Rattle.std.proofs.Common.{◌≡◌, ◌≤◌, ◌⊎◌, ◌++◌, ◌∷◌, [], List, ℕ, Bool, true, false, Some, None, refl, sym, ap, subst, ◌∙◌, inl, inr, arith, append-nil, length, length-append, take, drop}
+use Rattle.std.specs.Prelude.{IfOk, IfErr, IfSome, Option, Result, Ok, Err, nat_le}
+use Rattle.std.specs.declared.alloc.AllocError.{AllocError}
+use Rattle.std.proofs.lemmas.List.{append_assoc, take-append-drop, take-append-le}
+use Rattle.std.proofs.Math.Seq.{drop-append_seam}
+use Rattle.httparse.specs.Grammar.{RequestHead}
+use Rattle.reg_leader.specs.declared.command.Command.{Command}
+use Rattle.reg_leader.specs.declared.reply.Reply.{Reply}
+use Rattle.reg_lookup.specs.declared.answered.Answer.{Answer}
+use Rattle.reg_lookup.specs.declared.query.Query.{Query}
+use Rattle.reg_records.specs.declared.device.Device.{Device}
+use Rattle.reg_messages.specs.Fields.{body_length}
+use Rattle.reg_messages.specs.Head.{Front, front_of, over, head, no_head, IsHead}
+use Rattle.reg_messages.specs.Messages.{after_body, body_after, body_in, fields_of, wants_close}
+use Rattle.reg_requests.specs.Asked.{asked_of}
+use Rattle.reg_requests.specs.declared.request.Request.{Request}
+use Rattle.reg_responses.specs.Writing.{AppendsFront}
+use Rattle.reg_http.specs.Requests.{request_of}
+use Rattle.reg_http.specs.Serve.{AnswersFirst, AnswersFront, AnswersHead, Does, LacksMemory, left_if}
+use Rattle.reg_http.specs.ServeSteps.{IsStepRefusal, Steps}
+use Rattle.reg_http.specs.declared.serving.Next.{Next}
+use Rattle.reg_http.specs.declared.serving.ServeError.{ServeError}
+use Rattle.reg_http.specs.declared.serving.Next.TheVariants as nexts
+use Rattle.reg_http.specs.declared.serving.ServeError.TheVariants as errors
+use Rattle.reg_extent.specs.Extent.{IsWhole}
+use Rattle.reg_conversation.specs.Conversation.{AnswersHeld, FailsFirst}
+
+-- a body is the same whatever comes after it
+body_in-more : (n : ℕ) (after more : List ℕ) → length after ≡ n → body_in n (after ++ more) ≡ body_in n after
+body_in-more n after more size =
+    let long : nat_le n (length (after ++ more)) ≡ true = grind (arith, length-append after more, size) in
+    let whole : nat_le n (length after) ≡ true = grind (arith, size) in
+    let same : take n (after ++ more) ≡ take n after = take-append-le n after more (omega (arith, size)) in
+    rw (long, whole, same) refl
+
+-- and what comes after it is that
+drop-more : (n : ℕ) (after more : List ℕ) → length after ≡ n → drop n (after ++ more) ≡ more
+drop-more n after more size = ap (λ k. drop k (after ++ more)) (sym size) ∙ drop-append_seam after more
+
+request-more : (h : RequestHead) (after more : List ℕ) → length after ≡ body_length (fields_of h) → request_of h (after ++ more) ≡ request_of h after
+request-more h after more size = rw (body_in-more (body_length (fields_of h)) after more size) refl
+
+module _ {D : Type 0} (asks : D → Query → Result Answer AllocError → D → Type 0) (commands : D → Command → Reply → D → Type 0) where
+  -- the front that whole bytes have
+  front-whole : (old new : D) (part out : List ℕ) (left : Option (List ℕ)) (front : List ℕ → Front) → ((more : List ℕ) → front_of (part ++ more) ≡ front more)
+      → AnswersFirst asks commands old (Some part) out new left → AnswersFront asks commands old (front []) out new left
+  front-whole old new part out left front always answers =
+      subst (λ f. AnswersFront asks commands old f out new left) (ap front_of (sym (append-nil part)) ∙ always []) answers
+
+  -- the request of whole bytes is that of a text which goes on
+  head-more : (old new : D) (h : RequestHead) (after more out : List ℕ) (closes : Bool) → length after ≡ body_length (fields_of h)
+      → Does asks commands old (asked_of (request_of h after)) (wants_close h) out closes new ⊎ LacksMemory asks commands old h out closes new
+      → AnswersHead asks commands old h (after ++ more) out new (left_if closes more)
+  head-more old new h after more out closes size did = (
+    closes,
+    ap (λ rest. left_if closes rest) (sym (drop-more (body_length (fields_of h)) after more size)),
+    subst (λ r. Does asks commands old (asked_of r) (wants_close h) out closes new ⊎ LacksMemory asks commands old h out closes new) (sym (request-more h after more size)) did,
+  )
+
+  -- a response after which the connection is closed
+  whole-closed : (old new : D) (part out : List ℕ) → IsWhole part → AnswersFirst asks commands old (Some part) out new None
+      → (more : List ℕ) → AnswersFirst asks commands old (Some (part ++ more)) out new None
+  whole-closed old new part out whole answers more = elim whole [
+    | inl never ↦ subst (λ f. AnswersFront asks commands old f out new None) (sym (never.1 more))
+        (front-whole old new part out None (λ m. no_head never.0) never.1 answers)
+    | inr body ↦ subst (λ f. AnswersFront asks commands old f out new None) (sym (body.2 more))
+        (closed-body old new body.0 body.1 more out body.3
+        (subst (λ a. AnswersFront asks commands old (head body.0 a) out new None) (append-nil body.1)
+        (front-whole old new part out None (λ m. head body.0 (body.1 ++ m)) body.2 answers)))
+  ]
+    where
+      closed-head : (old new : D) (h : RequestHead) (after more out : List ℕ) → length after ≡ body_length (fields_of h)
+          → AnswersHead asks commands old h after out new None → AnswersHead asks commands old h (after ++ more) out new None
+      closed-head old new h after more out size (true, left, did) = head-more old new h after more out true size did
+      closed-head old new h after more out size (false, left, did) = absurd (cc)
+
+      closed-body : (old new : D) (bytes after more out : List ℕ) → ((h : RequestHead) → IsHead bytes h → length after ≡ body_length (fields_of h))
+          → AnswersFront asks commands old (head bytes after) out new None → AnswersFront asks commands old (head bytes (after ++ more)) out new None
+      closed-body old new bytes after more out told answers = elim answers [
+        | inl p ↦ inl (p.0, p.1, closed-head old new p.0 after more out (told p.0 p.1) p.2)
+        | inr q ↦ inr q
+      ]
+
+  -- a response after which the connection goes on
+  whole-more : (old new : D) (part out rest : List ℕ) → IsWhole part → AnswersFirst asks commands old (Some part) out new (Some rest)
+      → (more : List ℕ) → AnswersFirst asks commands old (Some (part ++ more)) out new (Some more)
+  whole-more old new part out rest whole answers more = elim whole [
+    | inl never ↦ refused (front-whole old new part out (Some rest) (λ m. no_head never.0) never.1 answers).2
+    | inr body ↦ subst (λ f. AnswersFront asks commands old f out new (Some more)) (sym (body.2 more))
+        (more-body old new body.0 body.1 more out rest body.3
+        (subst (λ a. AnswersFront asks commands old (head body.0 a) out new (Some rest)) (append-nil body.1)
+        (front-whole old new part out (Some rest) (λ m. head body.0 (body.1 ++ m)) body.2 answers)))
+  ]
+    where
+      refused : {P : Type 0} {xs : List ℕ} → Some xs ≡ None → P
+      refused e = absurd (cc)
+
+      more-head : (old new : D) (h : RequestHead) (after more out rest : List ℕ) → length after ≡ body_length (fields_of h)
+          → AnswersHead asks commands old h after out new (Some rest) → AnswersHead asks commands old h (after ++ more) out new (Some more)
+      more-head old new h after more out rest size (true, left, did) = absurd (cc)
+      more-head old new h after more out rest size (false, left, did) = head-more old new h after more out false size did
+
+      more-body : (old new : D) (bytes after more out rest : List ℕ) → ((h : RequestHead) → IsHead bytes h → length after ≡ body_length (fields_of h))
+          → AnswersFront asks commands old (head bytes after) out new (Some rest) → AnswersFront asks commands old (head bytes (after ++ more)) out new (Some more)
+      more-body old new bytes after more out rest told answers = elim answers [
+        | inl p ↦ inl (p.0, p.1, more-head old new p.0 after more out rest (told p.0 p.1) p.2)
+        | inr q ↦ refused q.1.2
+      ]
+
+  -- whole bytes have a request
+  never-over : (part : List ℕ) → IsWhole part → front_of part ≡ over → ⊥
+  never-over part whole is = elim whole [
+    | inl never ↦ (let e : no_head never.0 ≡ over = sym (never.1 []) ∙ ap front_of (append-nil part) ∙ is in absurd (cc))
+    | inr body ↦ (let e : head body.0 (body.1 ++ []) ≡ over = sym (body.2 []) ∙ ap front_of (append-nil part) ∙ is in absurd (cc))
+  ]
+
+  held-parts : (held more : List ℕ) (n : ℕ) → held ++ more ≡ take n held ++ (drop n held ++ more)
+  held-parts held more n = ap (λ t. t ++ more) (sym (take-append-drop n held)) ∙ append_assoc (take n held) (drop n held) more
+
+  -- a step over whole bytes at the front of what is held, after which the connection goes on
+  pub held-more : (old new : D) (held held' : List ℕ) (n : ℕ) (before after : Option (List ℕ)) (next : Next)
+      → next ≡ nexts.More → IsWhole (take n held) → held' ≡ drop n held
+      → (left : Option (List ℕ)) × Steps asks commands old (take n held) before after left new next
+      → AnswersHeld asks commands old held before after held' new true
+  held-more old new held held' n before after next is whole dropped step =
+      let (left, (out, rest, goes, first, written)) =
+      subst (λ k. (left : Option (List ℕ)) × Steps asks commands old (take n held) before after left new k) is step in
+      subst (λ h. AnswersHeld asks commands old held before after h new true) (sym dropped) (
+        out,
+        written,
+        λ more. subst (λ t. AnswersFirst asks commands old (Some t) out new (Some (drop n held ++ more))) (sym (held-parts held more n))
+            (whole-more old new (take n held) out rest whole first (drop n held ++ more)),
+      )
+
+  -- and one after which it is closed
+  pub held-closed : (old new : D) (held held' : List ℕ) (n : ℕ) (before after : Option (List ℕ)) (next : Next)
+      → next ≡ nexts.Closed → IsWhole (take n held)
+      → (left : Option (List ℕ)) × Steps asks commands old (take n held) before after left new next
+      → AnswersHeld asks commands old held before after held' new false
+  held-closed old new held held' n before after next is whole step =
+      let (left, (out, first, written)) =
+      subst (λ k. (left : Option (List ℕ)) × Steps asks commands old (take n held) before after left new k) is step in (
+        out,
+        written,
+        λ more. subst (λ t. AnswersFirst asks commands old (Some t) out new None) (sym (held-parts held more n))
+            (whole-closed old new (take n held) out whole first (drop n held ++ more)),
+      )
+
+  -- there is always one
+  pub held-over : (old new : D) (held : List ℕ) (n : ℕ) (before after : Option (List ℕ)) (next : Next)
+      → next ≡ nexts.Over → IsWhole (take n held)
+      → (left : Option (List ℕ)) × Steps asks commands old (take n held) before after left new next → ⊥
+  held-over old new held n before after next is whole step =
+      let (left, (none, same, kept)) =
+      subst (λ k. (left : Option (List ℕ)) × Steps asks commands old (take n held) before after left new k) is step in
+      never-over (take n held) whole none
+
+  -- a first response that was written in part
+  first-more : (old new : D) (part out : List ℕ) (rest : Option (List ℕ)) → IsWhole part → AnswersFirst asks commands old (Some part) out new rest
+      → (more : List ℕ) → (left : Option (List ℕ)) × AnswersFirst asks commands old (Some (part ++ more)) out new left
+  first-more old new part out None whole first more = (None, whole-closed old new part out whole first more)
+  first-more old new part out (Some rest) whole first more = (Some more, whole-more old new part out rest whole first more)
+
+  fails-more : {W : Type 0} (writer writer' : Device W) (old new : D) (part : List ℕ) (before after : Option (List ℕ)) (e : ServeError) → IsWhole part
+      → FailsFirst asks commands writer writer' old part before after new e
+      → (more : List ℕ) → FailsFirst asks commands writer writer' old (part ++ more) before after new e
+  fails-more writer writer' old new part before after errors.ReadFault whole fails more = fails
+  fails-more writer writer' old new part before after errors.WriteFault whole (lost, out, rest, first, front) more =
+      let (left, begins) = first-more old new part out rest whole first more in (lost, out, left, begins, front)
+
+  pub held-fails : {W : Type 0} (writer writer' : Device W) (old new : D) (held : List ℕ) (n : ℕ) (before after : Option (List ℕ)) (e : ServeError)
+      → IsWhole (take n held) → FailsFirst asks commands writer writer' old (take n held) before after new e
+      → (more : List ℕ) → FailsFirst asks commands writer writer' old (held ++ more) before after new e
+  held-fails writer writer' old new held n before after e whole fails more =
+      subst (λ t. FailsFirst asks commands writer writer' old t before after new e) (sym (held-parts held more n))
+      (fails-more writer writer' old new (take n held) before after e whole fails (drop n held ++ more))
+
+  -- the same bytes, by another name
+  pub step-over : (old new : D) (part text : List ℕ) (before after : Option (List ℕ)) (r : Result Next ServeError) → part ≡ text
+      → IfOk r (λ next. (left : Option (List ℕ)) × Steps asks commands old part before after left new next)
+      → IfOk r (λ next. (left : Option (List ℕ)) × Steps asks commands old text before after left new next)
+  step-over old new part text before after r is step =
+      subst (λ t. IfOk r (λ next. (left : Option (List ℕ)) × Steps asks commands old t before after left new next)) is step
+
+  pub fails-over : {W : Type 0} (writer writer' : Device W) (old new : D) (part text : List ℕ) (before after : Option (List ℕ)) (r : Result Next ServeError) → part ≡ text
+      → IfErr r (FailsFirst asks commands writer writer' old part before after new) → IfErr r (FailsFirst asks commands writer writer' old text before after new)
+  fails-over writer writer' old new part text before after r is fails =
+      subst (λ t. IfErr r (FailsFirst asks commands writer writer' old t before after new)) is fails
+
+  -- what a step did, whose text is known
+  pub step-known : (old new : D) (input : Option (List ℕ)) (bytes : List ℕ) (before after left : Option (List ℕ)) (r : Result Next ServeError) → input ≡ Some bytes
+      → IfOk r (λ next. IfSome input (λ text. Steps asks commands old text before after left new next))
+      → IfOk r (λ next. (rest : Option (List ℕ)) × Steps asks commands old bytes before after rest new next)
+  step-known old new input bytes before after left (Err e) is step = tt
+  step-known old new input bytes before after left (Ok next) is step =
+      (left, subst (λ i. IfSome i (λ text. Steps asks commands old text before after left new next)) is step)
+
+  fails-of : {R W : Type 0} (reader reader' : Device R) (writer writer' : Device W) (old new : D) (input : Option (List ℕ)) (bytes : List ℕ) (before after left : Option (List ℕ))
+      (e : ServeError) → input ≡ Some bytes → IsStepRefusal asks commands reader reader' writer writer' input left before after old new e
+      → FailsFirst asks commands writer writer' old bytes before after new e
+  fails-of reader reader' writer writer' old new input bytes before after left errors.ReadFault is (lost, other, short, same, kept) = (other, same, kept)
+  fails-of reader reader' writer writer' old new input bytes before after left errors.WriteFault is (lost, other, step) =
+      let (out, rest, first, front) = subst (λ i. IfSome i (λ text. (out : List ℕ) × (rest : Option (List ℕ))
+      × AnswersFirst asks commands old (Some text) out new rest × AppendsFront before after out)) is step in
+      (lost, out, rest, first, front)
+
+  pub fails-known : {R W : Type 0} (reader reader' : Device R) (writer writer' : Device W) (old new : D) (input : Option (List ℕ)) (bytes : List ℕ) (before after left : Option (List ℕ))
+      (r : Result Next ServeError) → input ≡ Some bytes
+      → IfErr r (λ e. IsStepRefusal asks commands reader reader' writer writer' input left before after old new e)
+      → IfErr r (FailsFirst asks commands writer writer' old bytes before after new)
+  fails-known reader reader' writer writer' old new input bytes before after left (Ok next) is fails = tt
+  fails-known reader reader' writer writer' old new input bytes before after left (Err e) is fails =
+      fails-of reader reader' writer writer' old new input bytes before after left e is fails

@@ -1,0 +1,10 @@
+//! What came on a connection, in pieces of any length, and the responses to its requests: each request is
+//! answered once it is whole, or the input has ended.
+#![tactic(auto)]
+
+mod answering;
+mod conversation;
+mod pieces;
+
+pub use conversation::Conversation;
+pub use pieces::{PieceError, answer_rest, answer_whole, converse_in_pieces, take_piece};
