@@ -1,5 +1,5 @@
 -- What is answered of a whole request is answered of every text that goes on after it.
-use Rattle.std.proofs.Common.{◌≡◌, ◌≤◌, ◌⊎◌, ◌++◌, ◌∷◌, [], List, ℕ, Bool, true, false, Some, None, refl, sym, ap, subst, ◌∙◌, inl, inr, arith, append-nil, length, length-append, take, drop}
+use Rattle.std.proofs.Common.{◌≡◌, ◌⊎◌, ◌++◌, [], List, ℕ, Bool, true, false, Some, None, refl, sym, ap, subst, ◌∙◌, inl, inr, arith, append-nil, length, length-append, take, drop}
 use Rattle.std.specs.Prelude.{IfOk, IfErr, IfSome, Option, Result, Ok, Err, nat_le}
 use Rattle.std.specs.declared.alloc.AllocError.{AllocError}
 use Rattle.std.proofs.lemmas.List.{append_assoc, take-append-drop, take-append-le}
@@ -12,9 +12,8 @@ use Rattle.reg_lookup.specs.declared.query.Query.{Query}
 use Rattle.reg_records.specs.declared.device.Device.{Device}
 use Rattle.reg_messages.specs.Fields.{body_length}
 use Rattle.reg_messages.specs.Head.{Front, front_of, over, head, no_head, IsHead}
-use Rattle.reg_messages.specs.Messages.{after_body, body_after, body_in, fields_of, wants_close}
+use Rattle.reg_messages.specs.Messages.{body_in, fields_of, wants_close}
 use Rattle.reg_requests.specs.Asked.{asked_of}
-use Rattle.reg_requests.specs.declared.request.Request.{Request}
 use Rattle.reg_responses.specs.Writing.{AppendsFront}
 use Rattle.reg_http.specs.Requests.{request_of}
 use Rattle.reg_http.specs.Serve.{AnswersFirst, AnswersFront, AnswersHead, Does, LacksMemory, left_if}

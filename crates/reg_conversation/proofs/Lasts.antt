@@ -1,6 +1,6 @@
 -- Text that is short of a request gets one response or none, and nothing is left after it.
-use Rattle.std.proofs.Common.{◌≡◌, ◌<◌, ◌≤◌, ◌⊎◌, ◌++◌, ◌∷◌, [], List, ℕ, Bool, true, false, Some, None, refl, sym, ap, subst, ◌∙◌, inl, inr, arith, append-nil, length, drop}
-use Rattle.std.specs.Prelude.{IfOk, OnOk, Option, Result, Ok, Err}
+use Rattle.std.proofs.Common.{◌≡◌, ◌<◌, ◌≤◌, ◌∷◌, [], List, ℕ, true, false, Some, None, refl, sym, ap, subst, ◌∙◌, inl, inr, arith, append-nil, length}
+use Rattle.std.specs.Prelude.{Option, Result}
 use Rattle.std.specs.Io.KnownBytes.{Appends}
 use Rattle.std.specs.declared.alloc.AllocError.{AllocError}
 use Rattle.std.proofs.KnownBytes.{Appends-kept, Appends-nil}
@@ -17,7 +17,7 @@ use Rattle.reg_messages.specs.Head.{Front, front_of, head, no_head, over, IsHead
 use Rattle.reg_messages.specs.Messages.{after_body, fields_of}
 use Rattle.reg_messages.specs.Reading.{IsShort}
 use Rattle.reg_messages.proofs.Heads.{front_of-over}
-use Rattle.reg_http.specs.Serve.{all_of, Answers, AnswersFirst, AnswersFront, AnswersHead, IsOver, left_if}
+use Rattle.reg_http.specs.Serve.{Answers, AnswersFront, AnswersHead}
 use Rattle.reg_http.specs.ServeSteps.{Steps}
 use Rattle.reg_http.specs.declared.serving.Next.{Next}
 use Rattle.reg_http.specs.declared.serving.ServeError.{ServeError}

@@ -1,12 +1,11 @@
 -- The responses to the first requests of a text, and more.
-use Rattle.std.proofs.Common.{◌≡◌, ◌≤◌, ◌++◌, ◌∷◌, [], List, ℕ, Bool, true, false, Some, None, refl, sym, ap, subst, ◌∙◌, inl, inr, arith, append-nil, length, take, drop, get_or}
-use Rattle.std.specs.Prelude.{IfOk, IfErr, OnOk, Option, Result, Ok, Err}
-use Rattle.std.specs.Borrow.{Bor}
-use Rattle.std.specs.Io.KnownBytes.{Appends, Keeps}
+use Rattle.std.proofs.Common.{◌≡◌, ◌++◌, ◌∷◌, [], List, ℕ, Bool, true, false, Some, None, refl, sym, ap, subst, ◌∙◌, inl, inr, append-nil}
+use Rattle.std.specs.Prelude.{IfErr, OnOk, Option, Result, Ok, Err}
+use Rattle.std.specs.Io.KnownBytes.{Appends}
 use Rattle.std.specs.declared.alloc.AllocError.{AllocError}
 use Rattle.std.proofs.KnownBytes.{Appends-kept, Appends-nil, Appends-trans}
 use Rattle.std.proofs.lemmas.Grind.{flat_map-append}
-use Rattle.std.proofs.lemmas.List.{append_assoc, take-append-drop}
+use Rattle.std.proofs.lemmas.List.{append_assoc}
 use Rattle.reg_leader.specs.declared.command.Command.{Command}
 use Rattle.reg_leader.specs.declared.reply.Reply.{Reply}
 use Rattle.reg_lookup.specs.declared.answered.Answer.{Answer}
@@ -16,7 +15,7 @@ use Rattle.reg_records.specs.declared.device.Device.{Device}
 use Rattle.reg_messages.specs.Head.{front_of}
 use Rattle.reg_messages.specs.Reading.{IsShort}
 use Rattle.reg_responses.specs.Writing.{LosesWriter}
-use Rattle.reg_http.specs.Serve.{all_of, Answers, AnswersFirst, IsOver, StopsIn}
+use Rattle.reg_http.specs.Serve.{all_of, Answers}
 use Rattle.reg_http.specs.declared.serving.ServeError.{ServeError}
 use Rattle.reg_http.specs.declared.serving.ServeError.TheVariants as errors
 use Rattle.reg_http.proofs.Runs.{Answers-more}
@@ -150,22 +149,22 @@ module _ {D : Type 0} (asks : D → Query → Result Answer AllocError → D →
   )
   stops-more start writer writer' old mid new text left outs before middle after errors.WriteFault same answers written
       (lost, (more, rest, last, others, out, after_it, first, front, missing, parts, appends)) = (
-    loses-since start writer writer' same lost,
-    (
-      outs ++ more,
-      rest,
-      last,
-      answers-join old mid last (Some text) (Some left) rest outs more answers others,
-      out,
-      after_it,
-      first,
-      front,
-      missing,
-      parts,
-      subst (Appends before after) (sym (ap (λ t. t ++ front) (all_of-append outs more) ∙ append_assoc (all_of outs) (all_of more) front))
-          (Appends-trans before middle after (all_of outs) (all_of more ++ front) written appends),
-    ),
-  )
+        loses-since start writer writer' same lost,
+        (
+          outs ++ more,
+          rest,
+          last,
+          answers-join old mid last (Some text) (Some left) rest outs more answers others,
+          out,
+          after_it,
+          first,
+          front,
+          missing,
+          parts,
+          subst (Appends before after) (sym (ap (λ t. t ++ front) (all_of-append outs more) ∙ append_assoc (all_of outs) (all_of more) front))
+              (Appends-trans before middle after (all_of outs) (all_of more ++ front) written appends),
+        ),
+      )
 
   -- the request at the front failed, after some
   pub stops-held : {W : Type 0} (start writer writer' : Device W) (old mid new : D) (came held held0 : List ℕ) (before middle after : Option (List ℕ)) (e : ServeError)

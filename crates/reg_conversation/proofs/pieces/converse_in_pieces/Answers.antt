@@ -38,3 +38,11 @@ pub returns-in-Ok-clause-written : goal.returns-in-Ok-clause-written
 returns-in-Ok-clause-written g c =
     pieces-ended g.D.Desk.asks g.D.Desk.commands c.args.pieces.now c.loop-piece.piece-index c.args.desk.now c.loop-piece.desk c.answer_rest.new.desk
     c.loop-piece.conversation _ _ _ c.loop-piece-test.false c.loop-piece.invariant.0 c.in-Ok.ensures.answered
+
+pub returns-clause-refused : goal.returns-clause-refused
+returns-clause-refused g c =
+    let (some, faults, few) = c.loop-piece.invariant in
+    let now = c.in-Err-answer_rest in
+    pieces-last g.D.Desk.asks g.D.Desk.commands c.args.pieces.now c.loop-piece.piece-index c.args.writer.now c.loop-piece.writer c.answer_rest.new.writer
+    c.args.desk.now c.loop-piece.desk c.answer_rest.new.desk c.loop-piece.conversation (g.W.Write.contents c.args.writer.now.inner)
+    (g.W.Write.contents c.loop-piece.writer.inner) (g.W.Write.contents c.answer_rest.new.writer.inner) now.e c.loop-piece-test.false faults some now.ensures.refused
