@@ -86,7 +86,10 @@ fn a_writer_is_full_anywhere(rt: HostRuntime) -> Result<(), Fail> {
     let (text, lines, _notes) = &ROWS[4];
     let written = responses(rt.alloc(), lines)?;
     for room in 0..written.len() {
-        assert!(rt; is_full_at(rt.alloc(), text, &written, room)?, "after {room} bytes");
+        assert!(rt;
+            is_full_at(rt.alloc(), text, &written, room)?,
+            "after {room} bytes"
+        );
     }
     Ok(())
 }

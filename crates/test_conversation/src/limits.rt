@@ -52,7 +52,14 @@ fn a_body_comes_in_many_pieces(rt: HostRuntime) -> Result<(), Fail> {
     let start = "PUT /config HTTP/1.1\r\nContent-Length: 1048576\r\n\r\n";
     let mut body = padded(rt.alloc(), start, b' ', 1_048_552)?;
     body.extend_from_slice(b"{\"compatibility\":\"FULL\"}GET /config HTTP/1.1\r\n\r\n")?;
-    assert!(rt; gets(rt.alloc(), &body, 4_096, "200 OK => {\"id\":1}\n200 OK => []")?);
+    assert!(rt;
+        gets(
+            rt.alloc(),
+            &body,
+            4_096,
+            "200 OK => {\"id\":1}\n200 OK => []"
+        )?
+    );
     let cut = padded(rt.alloc(), start, b' ', 1_048_575)?;
     assert!(rt; gets(rt.alloc(), &cut, 4_096, BAD)?);
     Ok(())

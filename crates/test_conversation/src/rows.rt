@@ -7,11 +7,7 @@ use std::test::Fail;
 pub static ROWS: [(&str, &str, &str); 14] = [
     ("", "", ""),
     ("\r\n\n\r\n", "", ""),
-    (
-        "GET /config HTTP/1.1\r\n\r\n",
-        "200 OK => []",
-        "query;",
-    ),
+    ("GET /config HTTP/1.1\r\n\r\n", "200 OK => []", "query;"),
     (
         "\r\nGET /config HTTP/1.1\nHost: a\n\n\r\n\r\nPUT /config HTTP/1.1\r\nContent-Length: 24\r\n\r\n{\"compatibility\":\"FULL\"}\r\nGET /subjects HTTP/1.1\r\n\r\n\r\n",
         "200 OK => []\n200 OK => {\"id\":2}\n200 OK => []",

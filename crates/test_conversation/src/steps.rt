@@ -17,15 +17,46 @@ fn a_request_is_answered_once_it_is_whole(rt: HostRuntime) -> Result<(), Fail> {
     let (first, rest) = REQUEST.split_at(REQUEST.len().min(1));
     conversation.feed(front)?;
     assert_eq!(rt; conversation.front_len(), None);
-    assert!(rt; answer_whole(rt.alloc(), &mut paths, &mut conversation, &mut writer, &mut desk)?);
+    assert!(rt;
+        answer_whole(
+            rt.alloc(),
+            &mut paths,
+            &mut conversation,
+            &mut writer,
+            &mut desk
+        )?
+    );
     conversation.feed(last)?;
     conversation.feed(first)?;
     assert_eq!(rt; conversation.front_len(), Some(24));
-    assert!(rt; answer_whole(rt.alloc(), &mut paths, &mut conversation, &mut writer, &mut desk)?);
+    assert!(rt;
+        answer_whole(
+            rt.alloc(),
+            &mut paths,
+            &mut conversation,
+            &mut writer,
+            &mut desk
+        )?
+    );
     assert_eq!(rt; conversation.held_len(), 1);
-    assert!(rt; take_piece(rt.alloc(), &mut paths, &mut conversation, rest, &mut writer, &mut desk)?);
+    assert!(rt;
+        take_piece(
+            rt.alloc(),
+            &mut paths,
+            &mut conversation,
+            rest,
+            &mut writer,
+            &mut desk
+        )?
+    );
     assert_eq!(rt; conversation.held_len(), 0);
-    answer_rest(rt.alloc(), &mut paths, &mut conversation, &mut writer, &mut desk)?;
+    answer_rest(
+        rt.alloc(),
+        &mut paths,
+        &mut conversation,
+        &mut writer,
+        &mut desk,
+    )?;
     let wanted = responses(rt.alloc(), "200 OK => []\n200 OK => []")?;
     assert_eq!(rt; writer.into_inner().as_slice(), wanted.as_bytes());
     Ok(())
