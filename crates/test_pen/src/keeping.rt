@@ -47,10 +47,12 @@ fn told(alloc: Global, reply: &Reply) -> Result<String, AllocError> {
 }
 
 /// The offsets of the records that the topic keeps.
-fn kept_offsets<N: FeedName<Item, Shared>, S: Copies<Item, Shared, N>, R: Wait + Drop>(
-    alloc: Global,
-    pen: &mut Pen<N, S, Turning, R>,
-) -> Result<Vec<u64>, Fail> {
+pub(crate) fn kept_offsets<
+    N: FeedName<Item, Shared>,
+    S: Copies<Item, Shared, N>,
+    K: Keep + Drop,
+    R: Wait + Drop,
+>(alloc: Global, pen: &mut Pen<N, S, K, R>) -> Result<Vec<u64>, Fail> {
     let mut topic = pen.reader()?;
     let records = topic.read(|shared| shared.since(0)).ok_or(AllocError)??;
     let mut offsets = Vec::new(alloc);
