@@ -1,0 +1,66 @@
+// A world in which the same happens.
+use base_text::Listed;
+use reg_http::reply_answer;
+use reg_leader::Command;
+use reg_lookup::{Answer, Query};
+use reg_records::{Log, Record};
+use reg_world::{Event, Fate, Outcome, World};
+use std::alloc::{AllocError, Global};
+use std::test::Fail;
+
+/// A world of three nodes in which the same happens.
+#[derive(Drop)]
+pub(crate) struct Beside {
+    world: World,
+}
+
+impl Beside {
+    pub(crate) fn over(alloc: Global, base: &Log) -> Result<Beside, Fail> {
+        let world = World::start(alloc, 3, base)?;
+        Ok(Beside { world })
+    }
+
+    /// The answer that the reply has, if there is one.
+    pub(crate) fn command(
+        &mut self,
+        alloc: Global,
+        command: Command,
+    ) -> Result<Option<Answer>, AllocError> {
+        let event = Event::Command {
+            node: 0,
+            command,
+            fate: Fate::Published,
+        };
+        match self.world.step(&event)? {
+            Outcome::Replied(reply) => Ok(Some(reply_answer(alloc, &reply)?)),
+            _ => Ok(None),
+        }
+    }
+
+    /// Whether these records may be dropped; then they are.
+    pub(crate) fn compact(&mut self, dropped: Vec<Record>) -> Result<bool, AllocError> {
+        let event = Event::Compact(Listed::from(dropped));
+        Ok(matches!(self.world.step(&event)?, Outcome::Done))
+    }
+
+    /// Whether the node may take these records; then it does.
+    pub(crate) fn take(&mut self, node: usize, records: Vec<Record>) -> Result<bool, AllocError> {
+        let event = Event::Take {
+            node,
+            records: Listed::from(records),
+        };
+        Ok(matches!(self.world.step(&event)?, Outcome::Done))
+    }
+
+    /// What the node answers, if it is there.
+    pub(crate) fn answer(
+        &mut self,
+        node: usize,
+        query: Query,
+    ) -> Result<Option<Answer>, AllocError> {
+        match self.world.step(&Event::Lookup { node, query })? {
+            Outcome::Answered(answer) => Ok(Some(answer)),
+            _ => Ok(None),
+        }
+    }
+}
