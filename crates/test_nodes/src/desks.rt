@@ -191,9 +191,8 @@ fn write_answer<A: Asked>(
     write!(out, "{} {}", answer.status, answer.body.as_str())
 }
 
-/// Writes what comes after the desk.
+/// Adds what comes after the desk.
 fn finish<
-    'x,
     N: FeedName<Item, Shared>,
     S: Copies<Item, Shared, N>,
     M: FeedName<Take, Taken>,
@@ -202,7 +201,7 @@ fn finish<
 >(
     alloc: Global,
     rt: R,
-    pen: &'x Mutex<Pen<N, S, MemoryAlone, R>>,
+    pen: &Mutex<Pen<N, S, MemoryAlone, R>>,
     topic: FeedReader<Item, Shared, N, S>,
     readers: Vec<FeedReader<Item, Shared, N, S>>,
     second: Node<N, S, M, U, R>,
@@ -210,15 +209,10 @@ fn finish<
     out: String,
 ) -> Result<String, Fail> {
     let mut out = out;
-    let mut second = second;
-    let mut topic = topic;
     let batches = batches_of(&rt, pen);
-    write_kept(&mut topic, batches, &mut out)?;
-    catch_up(alloc, &mut second, &seen, &mut out)?;
-    drop(second);
-    let anew = make_anew::<N, S, Brand, R>(alloc, rt, readers, Unnamed::new())?;
-    out.push_str(anew.as_str())?;
-    Ok(out)
+    write_kept(topic, batches, &mut out)?;
+    catch_up(alloc, second, seen, &mut out)?;
+    add_anew(alloc, rt, readers, out)
 }
 
 /// How many batches were published.
@@ -232,11 +226,12 @@ fn batches_of<N: FeedName<Item, Shared>, S: Copies<Item, Shared, N>, R: Wait + D
 
 /// Writes how many batches there were, and which records are kept.
 fn write_kept<N: FeedName<Item, Shared>, S: Copies<Item, Shared, N>>(
-    topic: &mut FeedReader<Item, Shared, N, S>,
+    topic: FeedReader<Item, Shared, N, S>,
     batches: u64,
     out: &mut String,
 ) -> Result<(), AllocError> {
-    let records = kept(topic)?;
+    let mut topic = topic;
+    let records = kept(&mut topic)?;
     write_records(&records, batches, out)
 }
 
@@ -260,16 +255,40 @@ fn catch_up<
     R: Wait + Drop,
 >(
     alloc: Global,
-    node: &mut Node<N, S, M, U, R>,
-    seen: &Seen<Item, Shared, N>,
+    node: Node<N, S, M, U, R>,
+    seen: Seen<Item, Shared, N>,
     out: &mut String,
 ) -> Result<(), AllocError> {
-    write_answers(alloc, node, out)?;
-    node.learn(seen);
+    let mut node = node;
+    write_answers(alloc, &mut node, out)?;
+    node.learn(&seen);
+    take_all(alloc, &mut node, out)?;
+    renew(alloc, &mut node, out)
+}
+
+/// Asks the node once it took what is new.
+fn take_all<A: Peer>(alloc: Global, node: &mut A, out: &mut String) -> Result<(), AllocError> {
     node.take()?;
-    write_answers(alloc, node, out)?;
+    write_answers(alloc, node, out)
+}
+
+/// Asks the node by a view made anew.
+fn renew<A: Peer>(alloc: Global, node: &mut A, out: &mut String) -> Result<(), AllocError> {
     node.renew()?;
     write_answers(alloc, node, out)
+}
+
+/// Adds what a node answers that is made now.
+fn add_anew<N: FeedName<Item, Shared>, S: Copies<Item, Shared, N>, R: Wait + Drop + Copy>(
+    alloc: Global,
+    rt: R,
+    readers: Vec<FeedReader<Item, Shared, N, S>>,
+    out: String,
+) -> Result<String, Fail> {
+    let mut out = out;
+    let anew = make_anew::<N, S, Brand, R>(alloc, rt, readers, Unnamed::new())?;
+    out.push_str(anew.as_str())?;
+    Ok(out)
 }
 
 /// What a node answers that is made now, once it took all that is kept.
@@ -289,7 +308,6 @@ fn make_anew<
     let mut readers = readers;
     let mut out = String::new(alloc);
     let mut node = make_node::<N, S, M, R>(alloc, rt, &mut readers, list)?;
-    node.take()?;
-    write_answers(alloc, &mut node, &mut out)?;
+    take_all(alloc, &mut node, &mut out)?;
     Ok(out)
 }
