@@ -3,7 +3,7 @@ ghost use Rattle.std.specs.Prelude.{◌≡◌};
 ghost use Rattle.std.specs.FinSet.{empty};
 
 use crate::nodes::{Asked, Node, Peer, make_node};
-use crate::source::kept;
+use crate::source::read_kept;
 use crate::topics::Seats;
 use base_text::Text;
 use reg_desk::{Gate, NodeDesk, Wake};
@@ -231,7 +231,7 @@ fn write_kept<N: FeedName<Item, Shared>, S: Copies<Item, Shared, N>>(
     out: &mut String,
 ) -> Result<(), AllocError> {
     let mut topic = topic;
-    let records = kept(&mut topic)?;
+    let records = read_kept(&mut topic)?;
     write_records(&records, batches, out)
 }
 

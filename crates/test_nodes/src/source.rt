@@ -42,37 +42,37 @@ pub(crate) struct Writing<
 impl<'x, N: FeedName<Item, Shared>, S: Copies<Item, Shared, N>, R: Wait + Drop> Source
     for Writing<'x, N, S, R> {
     fn submit(&mut self, alloc: Global, command: &Command) -> Result<Answer, AllocError> {
-        submit(alloc, &self.rt, self.pen, &mut self.pass, command)
+        lock_and_submit(alloc, &self.rt, self.pen, &mut self.pass, command)
     }
 
     fn compact(&mut self) -> Result<(), AllocError> {
-        compact(&self.rt, self.pen)
+        lock_and_compact(&self.rt, self.pen)
     }
 
     fn kept(&mut self) -> Result<Vec<Record>, AllocError> {
-        kept(&mut self.topic)
+        read_kept(&mut self.topic)
     }
 
     fn superseded(&mut self) -> Result<Vec<Record>, AllocError> {
-        superseded(&mut self.topic)
+        read_superseded(&mut self.topic)
     }
 }
 
 /// All records that the topic keeps.
-pub(crate) fn kept<N: FeedName<Item, Shared>, S: Copies<Item, Shared, N>>(
+pub(crate) fn read_kept<N: FeedName<Item, Shared>, S: Copies<Item, Shared, N>>(
     topic: &mut FeedReader<Item, Shared, N, S>,
 ) -> Result<Vec<Record>, AllocError> {
     topic.read(|shared| shared.since(0)).ok_or(AllocError)?
 }
 
 /// The kept records that a compaction drops.
-fn superseded<N: FeedName<Item, Shared>, S: Copies<Item, Shared, N>>(
+fn read_superseded<N: FeedName<Item, Shared>, S: Copies<Item, Shared, N>>(
     topic: &mut FeedReader<Item, Shared, N, S>,
 ) -> Result<Vec<Record>, AllocError> {
     topic.read(|shared| shared.superseded()).ok_or(AllocError)?
 }
 
-fn compact<N: FeedName<Item, Shared>, S: Copies<Item, Shared, N>, R: Wait + Drop>(
+fn lock_and_compact<N: FeedName<Item, Shared>, S: Copies<Item, Shared, N>, R: Wait + Drop>(
     rt: &R,
     pen: &Mutex<Pen<N, S, MemoryAlone, R>>,
 ) -> Result<(), AllocError> {
@@ -80,7 +80,7 @@ fn compact<N: FeedName<Item, Shared>, S: Copies<Item, Shared, N>, R: Wait + Drop
     pen.compact()
 }
 
-fn submit<N: FeedName<Item, Shared>, S: Copies<Item, Shared, N>, R: Wait + Drop>(
+fn lock_and_submit<N: FeedName<Item, Shared>, S: Copies<Item, Shared, N>, R: Wait + Drop>(
     alloc: Global,
     rt: &R,
     pen: &Mutex<Pen<N, S, MemoryAlone, R>>,
