@@ -31,16 +31,15 @@ impl Beside {
             command,
             fate: Fate::Published,
         };
-        match self.world.step(&event)? {
-            Outcome::Replied(reply) => Ok(Some(reply_answer(alloc, &reply)?)),
-            _ => Ok(None),
-        }
+        let outcome = self.world.step(&event)?;
+        replied(alloc, &outcome)
     }
 
     /// Whether these records may be dropped; then they are.
     pub(crate) fn compact(&mut self, dropped: Vec<Record>) -> Result<bool, AllocError> {
         let event = Event::Compact(Listed::from(dropped));
-        Ok(matches!(self.world.step(&event)?, Outcome::Done))
+        let outcome = self.world.step(&event)?;
+        Ok(matches!(outcome, Outcome::Done))
     }
 
     /// Whether the node may take these records; then it does.
@@ -49,7 +48,8 @@ impl Beside {
             node,
             records: Listed::from(records),
         };
-        Ok(matches!(self.world.step(&event)?, Outcome::Done))
+        let outcome = self.world.step(&event)?;
+        Ok(matches!(outcome, Outcome::Done))
     }
 
     /// What the node answers, if it is there.
@@ -58,9 +58,18 @@ impl Beside {
         node: usize,
         query: Query,
     ) -> Result<Option<Answer>, AllocError> {
-        match self.world.step(&Event::Lookup { node, query })? {
+        let event = Event::Lookup { node, query };
+        match self.world.step(&event)? {
             Outcome::Answered(answer) => Ok(Some(answer)),
             _ => Ok(None),
         }
+    }
+}
+
+/// The answer that a reply has.
+fn replied(alloc: Global, outcome: &Outcome) -> Result<Option<Answer>, AllocError> {
+    match outcome {
+        Outcome::Replied(reply) => Ok(Some(reply_answer(alloc, reply)?)),
+        _ => Ok(None),
     }
 }

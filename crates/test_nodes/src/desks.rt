@@ -137,8 +137,9 @@ fn at_desk<
     let wake = NoWake;
     let mut desk = NodeDesk::new(rt, pen, follower, &gate, &wake, &calls, pass, view);
     do_commands(alloc, &mut desk, commands, out)?;
-    match desk.seen() {
-        Some(seen) => Ok(seen.again()),
+    let seen = desk.seen().map(|seen| seen.again());
+    match seen {
+        Some(seen) => Ok(seen),
         None => Err(Fail::from(AllocError)),
     }
 }

@@ -54,10 +54,10 @@ pub(crate) fn make_node<
     let topic = readers.pop().ok_or(AllocError)?;
     let out = feed::<Take, Taken, M, R>(rt, alloc, list, Taken::new(alloc), 2)?;
     let mut follower = Follower::new(topic, Box::new(alloc, out)?);
-    match follower.view() {
-        Ok(view) => Ok(Node { follower, view }),
-        Err(_) => Err(AllocError),
-    }
+    let Ok(view) = follower.view() else {
+        return Err(AllocError);
+    };
+    Ok(Node { follower, view })
 }
 
 impl<
@@ -100,12 +100,10 @@ impl<
     }
 
     fn renew(&mut self) -> Result<(), AllocError> {
-        match self.follower.view() {
-            Ok(view) => {
-                self.view = view;
-                Ok(())
-            }
-            Err(_) => Err(AllocError),
-        }
+        let Ok(view) = self.follower.view() else {
+            return Err(AllocError);
+        };
+        self.view = view;
+        Ok(())
     }
 }
