@@ -4,9 +4,15 @@
 #[cfg(test)]
 mod answers;
 #[cfg(test)]
+mod cuts;
+#[cfg(test)]
 mod ends;
 #[cfg(test)]
 mod folds;
+#[cfg(test)]
+mod limits;
+#[cfg(test)]
+mod pieces;
 #[cfg(test)]
 mod raw;
 #[cfg(test)]
@@ -17,5 +23,9 @@ mod raw_table;
 mod readers;
 #[cfg(test)]
 mod rows;
+#[cfg(test)]
+mod stops;
+#[cfg(test)]
+mod worked;
 #[cfg(test)]
 mod writers;

@@ -35,7 +35,7 @@ fn named(letter: u8) -> u8 {
     }
 }
 
-fn push_text(out: &mut Vec<u8>, text: &str) -> Result<(), AllocError> {
+pub(crate) fn push_text(out: &mut Vec<u8>, text: &str) -> Result<(), AllocError> {
     let mut is_letter = false;
     for byte in text.bytes() {
         if is_letter {
@@ -63,7 +63,7 @@ fn push_repeated(out: &mut Vec<u8>, part: &str) -> Result<(), Fail> {
     Ok(())
 }
 
-fn push_bytes(out: &mut Vec<u8>, row: &str) -> Result<(), Fail> {
+pub(crate) fn push_bytes(out: &mut Vec<u8>, row: &str) -> Result<(), Fail> {
     let mut is_first = true;
     for part in row.split('<') {
         if is_first {
@@ -136,7 +136,7 @@ fn push_response(out: &mut String, alloc: Global, told: &str) -> Result<(), Allo
 }
 
 /// The whole responses, and how many they are.
-fn responses_of(alloc: Global, told: &str) -> Result<(Vec<u8>, u64), Fail> {
+pub(crate) fn responses_of(alloc: Global, told: &str) -> Result<(Vec<u8>, u64), Fail> {
     let mut text = String::new(alloc);
     let mut count = 0u64;
     if told != "-" {
