@@ -19,7 +19,7 @@ struct Script {
     lines: &'static str,
 }
 
-static SCRIPTS: [Script; 6] = [
+static SCRIPTS: [Script; 7] = [
     Script {
         what: "two nodes",
         nodes: 2,
@@ -240,6 +240,56 @@ lookup 2 versions+ s => 404 {"error_code":40401,"message":"Subject not found"}
 compact 10 => not allowed
 compact 11 => not allowed
 compact 1 8 => done"#,
+    },
+    Script {
+        what: "a node begins anew between its takes",
+        nodes: 2,
+        base: "",
+        lines: r#"command 0 published register s int => id 1
+S 0 s 1 1 int
+command 0 published set_level s NONE => level NONE
+C 1 s NONE
+command 0 published register s long => id 2
+S 2 s 2 2 long
+command 0 published delete s 1 => version 1
+X 3 s 1 1 int
+command 0 published set_mode t READONLY => mode READONLY
+M 4 t READONLY
+take 0 0 1 2 3 4 => done
+lookup 0 versions s => 200 [2]
+lookup 0 versions+ s => 200 [1,2]
+lookup 0 id 1 => 200 {"schema":"\"int\""}
+lookup 0 level s => 200 {"compatibilityLevel":"NONE"}
+lookup 0 mode t => 200 {"mode":"READONLY"}
+take 1 0 2 => done
+lookup 1 versions s => 200 [1,2]
+restart 1 => done
+lookup 1 versions+ s => 404 {"error_code":40401,"message":"Subject not found"}
+take 1 3 => done
+lookup 1 versions+ s => 200 [1]
+restart 1 => done
+take 1 1 4 => done
+lookup 1 versions+ s => 404 {"error_code":40401,"message":"Subject not found"}
+lookup 1 level s => 200 {"compatibilityLevel":"NONE"}
+compact 0 => done
+take 1 0 => not allowed
+restart 0 => done
+take 0 2 => done
+restart 0 => done
+restart 0 => done
+take 0 4 3 => done
+take 1 3 2 => done
+take 0 2 1 => done
+lookup 0 versions s => 200 [2]
+lookup 1 versions s => 200 [2]
+lookup 0 versions+ s => 200 [1,2]
+lookup 1 versions+ s => 200 [1,2]
+lookup 0 id 1 => 200 {"schema":"\"int\""}
+lookup 1 id 1 => 200 {"schema":"\"int\""}
+lookup 0 level s => 200 {"compatibilityLevel":"NONE"}
+lookup 1 level s => 200 {"compatibilityLevel":"NONE"}
+lookup 0 mode t => 200 {"mode":"READONLY"}
+lookup 1 mode t => 200 {"mode":"READONLY"}"#,
     },
     Script {
         what: "the last offset",
