@@ -4,6 +4,7 @@ pub mod Courses
 pub mod Greatest
 pub mod Harmless
 pub mod Lines
+pub mod LiveOnes
 pub mod Names
 pub mod Opens
 pub mod Passed

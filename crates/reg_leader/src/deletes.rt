@@ -1,5 +1,6 @@
 // The commands that delete.
-ghost use Rattle.std.specs.Prelude.{◌≡◌, false, true, IfOk, map, option_copied};
+ghost use Rattle.std.specs.Prelude.{◌≡◌, not, false, true, IfOk, map, option_copied};
+ghost use Rattle.std.specs.List.{list_any};
 ghost use Rattle.reg_leader.specs.Deciding.{Follows};
 ghost use Rattle.reg_rules.specs.Standing.{version_meant};
 ghost use Rattle.reg_leader.specs.Step.{delete_all, delete_entry, delete_subject, delete_version, no_version};
@@ -10,7 +11,7 @@ use crate::reply::Reply;
 use base_text::{Listed, Text};
 use reg_fold::{Entry, Refusal, Registry, VersionRef};
 use reg_modes::{may_write, mode_in_force};
-use reg_rules::{Writing, has_offset, is_live, is_not_live, is_open, stands};
+use reg_rules::{Writing, has_offset, is_open, stands};
 use std::alloc::{AllocError, Global};
 
 pub(crate) fn delete_version(
@@ -103,8 +104,11 @@ fn delete_all(
 ) -> Result<Deed, Refusal>
     ensures { Follows (delete_all registry.now subject.now false greatest) result }
 {
-    is_live(registry, subject)?;
-    let versions = versions_of(alloc, &registry.live(subject.as_str())?)?;
+    let live = registry.live(subject.as_str())?;
+    if live.is_empty() {
+        return Err(Refusal::SubjectSoftDeleted);
+    }
+    let versions = versions_of(alloc, &live)?;
     let writing = Writing::deleted_up_to(subject, greatest)?;
     Ok(Deed {
         reply: Reply::Versions(Listed::from(versions)),
@@ -121,12 +125,21 @@ fn remove_all(
 ) -> Result<Deed, Refusal>
     ensures { Follows (delete_all registry.now subject.now true greatest) result }
 {
-    is_not_live(registry, subject)?;
     let entries = registry.counting(subject.as_str(), true)?;
+    if any_live(&entries) {
+        return Err(Refusal::SubjectNotSoftDeleted);
+    }
     Ok(Deed {
         reply: Reply::Versions(Listed::from(versions_of(alloc, &entries)?)),
         writings: removed_all(alloc, &entries)?,
     })
+}
+
+/// Whether one of the entries is live.
+fn any_live(entries: &[&Entry]) -> bool
+    ensures { result ≡ list_any (λ e. not e.now.soft) entries.now }
+{
+    entries.iter().any(|entry| !entry.soft)
 }
 
 fn versions_of(alloc: Global, entries: &[&Entry]) -> Result<Vec<u32>, AllocError>

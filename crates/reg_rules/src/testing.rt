@@ -79,26 +79,6 @@ pub fn stands(registry: &Registry, subject: &Text) -> Result<(), Refusal>
     Ok(())
 }
 
-/// Whether the subject has a live version.
-pub fn is_live(registry: &Registry, subject: &Text) -> Result<(), Refusal>
-    ensures { result ≡ test.is_live registry.now subject.now }
-{
-    if !registry.has_live(Some(subject.as_str())) {
-        return Err(Refusal::SubjectSoftDeleted);
-    }
-    Ok(())
-}
-
-/// Whether the subject has no live version.
-pub fn is_not_live(registry: &Registry, subject: &Text) -> Result<(), Refusal>
-    ensures { result ≡ test.is_not_live registry.now subject.now }
-{
-    if registry.has_live(Some(subject.as_str())) {
-        return Err(Refusal::SubjectNotSoftDeleted);
-    }
-    Ok(())
-}
-
 /// The subject of a scope, lent.
 pub fn subject_of(scope: &Option<Text>) -> Option<&str>
     ensures { option_map (λ s. s.now) result ≡ scope.now }
