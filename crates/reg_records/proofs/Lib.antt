@@ -1,6 +1,7 @@
 mod Lines
 mod Logs
 mod Tabs
+mod TextLines
 pub mod ReadsBack
 pub mod Fields
 pub mod Controls

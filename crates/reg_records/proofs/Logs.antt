@@ -43,7 +43,7 @@ abbrev pub parts : List ℕ → List (List ℕ)
 parts text = slice_split is_line_feed text
 
 -- a text has a first part
-first_part : (text : List ℕ) → (first : List ℕ) × (more : List (List ℕ)) × (parts text ≡ first ∷ more)
+pub first_part : (text : List ℕ) → (first : List ℕ) × (more : List (List ℕ)) × (parts text ≡ first ∷ more)
 first_part [] = ([], [], refl)
 first_part (b ∷ text) =
     elim (is_line_feed b) as (λ t. (first : List ℕ) × (more : List (List ℕ)) × (cond t ([] ∷ parts text) (onto_first b (parts text)) ≡ first ∷ more)) [
@@ -133,7 +133,7 @@ log_from-unended n (Some text) (Some rest) line none some taken end =
 
 -- ---- how many LFs were taken
 
-line_feeds-none : (bytes : List ℕ) → HasNoLineFeed bytes → count_by is_line_feed bytes ≡ 0
+pub line_feeds-none : (bytes : List ℕ) → HasNoLineFeed bytes → count_by is_line_feed bytes ≡ 0
 line_feeds-none bytes none =
     count_by-none is_line_feed bytes
     (position_or_len_is is_line_feed bytes (length bytes) 0 (omega arith) (λ k h. none k 0 h) (λ h. absurd (omega arith)))

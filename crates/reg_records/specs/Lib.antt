@@ -6,4 +6,5 @@ pub mod Line
 pub mod Log
 pub mod LogSteps
 pub mod Pieces
+pub mod TextLine
 pub mod Written

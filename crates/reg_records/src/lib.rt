@@ -11,6 +11,7 @@ mod log_reader;
 mod members;
 mod pieces;
 mod record;
+mod text_line;
 mod value;
 mod write;
 
@@ -26,5 +27,6 @@ pub use members::{
     compact_texts_read_back, has_number_at, has_text_at, number_at, parse, quoted, text_at,
 };
 pub use record::{Read, Record};
+pub use text_line::{TextLineError, read_text_line};
 pub use value::{Value, values_have_lines};
 pub use write::{WriteLineError, has_line, write_line};

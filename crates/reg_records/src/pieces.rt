@@ -53,6 +53,15 @@ impl LineBuffer {
         }
     }
 
+    /// The same, where the line isn't needed any more.
+    pub(crate) fn into_bytes(self) -> Option<Vec<u8>>
+        ensures { (line : List ℕ) → Holds self line
+            → MatchOption result (LINE_LIMIT < length line) (λ bytes. bytes.items ≡ line) }
+    {
+        let LineBuffer { bytes, is_long } = self;
+        if is_long { None } else { Some(bytes) }
+    }
+
     pub(crate) fn is_empty(&self) -> bool
         ensures { (line : List ℕ) → Holds self.now line → IsTrue result ↔ (line ≡ []) }
     {
