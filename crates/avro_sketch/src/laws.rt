@@ -1,0 +1,16 @@
+// The law of sketches. What is proved here costs nothing at run time: a function that needs it calls
+// it.
+ghost use Rattle.std.specs.Prelude.{List};
+ghost use Rattle.avro_schema.specs.declared.node.Node.{Node};
+ghost use Rattle.avro_sketch.specs.Sketch.{HaveOneSketch};
+
+use avro_data::samples_are_single;
+use avro_resolve::schemas_have_one_verdict;
+
+/// Two sketches of the same two lists of nodes are equal.
+pub fn schemas_have_one_sketch()
+    ensures { (r w : List Node) → HaveOneSketch r w }
+{
+    schemas_have_one_verdict();
+    samples_are_single();
+}

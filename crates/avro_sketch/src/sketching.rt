@@ -1,0 +1,110 @@
+// The lines of a sketch.
+ghost use Rattle.std.specs.Prelude.{◌≡◌, ◌++◌, true, false, Option, IfOk, OnOk, string_bytes};
+ghost use Rattle.avro_resolve.specs.declared.resolving.Verdict.{Verdict};
+ghost use Rattle.avro_resolve.specs.Trails.{roots};
+ghost use Rattle.avro_resolve.specs.Verdict.{IsVerdict};
+ghost use Rattle.avro_data.specs.Fits.{fits};
+ghost use Rattle.avro_data.specs.Sample.{root, IsSample};
+ghost use Rattle.avro_data.specs.Size.{is_too_large};
+ghost use Rattle.avro_data.specs.Value.{Value};
+ghost use Rattle.avro_data.specs.View.{view};
+ghost use Rattle.avro_readings.specs.Reads.{reads};
+ghost use Rattle.avro_sketch.specs.Sketch.{HaveOneSketch, IsSketch, reading_line, sample_lines, value_lines, verdict_line};
+
+use crate::laws::schemas_have_one_sketch;
+use avro_data::{Data, SampleError, sample};
+use avro_readings::{ReadError, read_data};
+use avro_resolve::{Verdict, resolve};
+use avro_schema::Schema;
+use std::alloc::{AllocError, Global};
+
+/// The sketch of a reader's schema `r` and a writer's `w`, in lines that end in LF.
+///
+/// The first is `compatible`, or `clash at` with the trail and its clash. The second is `value` with
+/// the writer's sample, `value too large` where the sample is past the limits of `sample`, or `no
+/// finite value`. After a value the third is `reads` with its reading, `too large` where that is past
+/// these limits, or `unreadable`.
+///
+/// A clash says that a value of the writer's may be unreadable; the sample may have a reading all the
+/// same. Whether defaults are valid doesn't count. The only error is want of memory.
+pub fn sketch_text(alloc: Global, r: &Schema, w: &Schema) -> Result<String, AllocError>
+    ensures sketch { IfOk result (λ text. IsSketch r.now.nodes w.now.nodes (string_bytes text)) }
+    ensures one_sketch { HaveOneSketch r.now.nodes w.now.nodes }
+{
+    schemas_have_one_sketch();
+    let mut out = String::new(alloc);
+    push_verdict(alloc, r, w, &mut out)?;
+    push_sample(alloc, r, w, &mut out)?;
+    Ok(out)
+}
+
+/// Appends the line of the verdict.
+fn push_verdict(alloc: Global, r: &Schema, w: &Schema, out: &mut String) -> Result<(), AllocError>
+    ensures { OnOk result ((verdict : Verdict) × IsVerdict r.now.nodes w.now.nodes verdict
+        × (string_bytes out.new ≡ string_bytes out.old ++ verdict_line verdict)) }
+{
+    match resolve(alloc, r, w)? {
+        Verdict::Compatible => out.push_str("compatible\n"),
+        Verdict::Clash(trail) => writeln!(out, "clash at {trail}: {}", trail.kind),
+    }
+}
+
+/// Appends what is said of the writer's sample.
+fn push_sample(alloc: Global, r: &Schema, w: &Schema, out: &mut String) -> Result<(), AllocError>
+    ensures { OnOk result ((found : Option Value) × IsSample w.now.nodes root found
+        × (string_bytes out.new ≡ string_bytes out.old ++ sample_lines r.now.nodes w.now.nodes found)) }
+{
+    match sample(alloc, w) {
+        Ok(Some(value)) => push_value(alloc, r, w, value, out),
+        Ok(None) => out.push_str("no finite value\n"),
+        Err(SampleError::TooLarge) => out.push_str("value too large\n"),
+        Err(SampleError::OutOfMemory) => Err(AllocError),
+    }
+}
+
+/// Appends what is said of a value.
+fn push_value(
+    alloc: Global,
+    r: &Schema,
+    w: &Schema,
+    value: Data,
+    out: &mut String,
+) -> Result<(), AllocError>
+    requires { fits w.now.nodes root (view value) ≡ true }
+    ensures { OnOk result (string_bytes out.new ≡ string_bytes out.old ++ value_lines r.now.nodes w.now.nodes (view value)) }
+{
+    out.push_str("value ")?;
+    value.push_text(out)?;
+    out.push_str("\n")?;
+    push_reading(alloc, r, w, value, out)
+}
+
+/// Appends what is said of a value's reading.
+fn push_reading(
+    alloc: Global,
+    r: &Schema,
+    w: &Schema,
+    value: Data,
+    out: &mut String,
+) -> Result<(), AllocError>
+    requires { fits w.now.nodes root (view value) ≡ true }
+    ensures { OnOk result (string_bytes out.new ≡ string_bytes out.old ++ reading_line (reads r.now.nodes w.now.nodes roots (view value))) }
+{
+    match read_data(alloc, r, w, &value) {
+        Ok(read) => push_read(&read, out),
+        Err(ReadError::Unreadable) => out.push_str("unreadable\n"),
+        Err(ReadError::TooLarge) => out.push_str("too large\n"),
+        Err(ReadError::Unfit) => unreachable!(),
+        Err(ReadError::OutOfMemory) => Err(AllocError),
+    }
+}
+
+/// Appends a reading's line.
+fn push_read(read: &Data, out: &mut String) -> Result<(), AllocError>
+    requires { is_too_large (view read.now) ≡ false }
+    ensures { OnOk result (string_bytes out.new ≡ string_bytes out.old ++ reading_line (Some (view read.now))) }
+{
+    out.push_str("reads ")?;
+    read.push_text(out)?;
+    out.push_str("\n")
+}
