@@ -6,5 +6,6 @@ pub const MOST_PARTS: usize = 1_048_576;
 /// The most levels of a value that is made here.
 pub const MOST_LEVELS: usize = 1_000;
 
-/// The most bytes of names and symbols in a sample; past them memory is as good as refused.
-pub(crate) const MOST_TEXT: usize = 268_435_456;
+/// The most bytes of names, keys and symbols in a value that is made here; past them memory is as good
+/// as refused.
+pub const MOST_TEXT: usize = 33_554_432;

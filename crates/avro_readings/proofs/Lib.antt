@@ -4,3 +4,4 @@ pub mod Along
 pub mod RoomLaws
 pub mod ReadableLaws
 mod Examples
+mod MemberLaws

@@ -16,6 +16,10 @@ both_leaves (Some (kind.Primitive p)) (Some (kind.Primitive q)) = true
 both_leaves (Some (kind.Fixed m al s)) (Some (kind.Fixed n bl t)) = true
 both_leaves _ _ = false
 
+abbrev pub are_enums : Node → Node → Bool
+are_enums (kind.Enum m al ss d) (kind.Enum n bl ts e) = true
+are_enums _ _ = false
+
 abbrev pub symbol_at : Option Node → Option Node → List ℕ → Option (List ℕ)
 symbol_at (Some (kind.Enum m al ss d)) (Some (kind.Enum n bl ts e)) s = if has_text ss s then Some s else d
 symbol_at _ _ s = None

@@ -5,6 +5,7 @@
 mod asked;
 mod error;
 mod laws;
+mod members;
 mod pairs;
 mod readable;
 mod reading;

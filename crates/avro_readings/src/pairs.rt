@@ -31,11 +31,21 @@ pub fn node_at(schema: &Schema, id: NodeId) -> Option<&Node>
 pub fn is_barred(r: &Schema, w: &Schema, pair: Pair) -> bool
     ensures { result ≡ spec.bars (clash_of r.now.nodes w.now.nodes pair) }
 {
-    if pair.reader.index < r.node_count() && pair.writer.index < w.node_count() {
-        bars(row_at(r, w, pair))
-    } else {
-        true
+    if pair.reader.index >= r.node_count() || pair.writer.index >= w.node_count() {
+        return true;
     }
+    if are_enums(r.node(pair.reader), w.node(pair.writer)) {
+        // Which symbols there are doesn't count, and they may be many.
+        !matches(r, pair.reader, w, pair.writer)
+    } else {
+        bars(row_at(r, w, pair))
+    }
+}
+
+fn are_enums(reader: &Node, writer: &Node) -> bool
+    ensures { result ≡ steps.are_enums reader.now writer.now }
+{
+    matches!(reader, Node::Enum { .. }) && matches!(writer, Node::Enum { .. })
 }
 
 fn bars(row: Row<'_>) -> bool

@@ -1,5 +1,6 @@
 // What a reader makes of a writer's value.
-ghost use Rattle.std.specs.Prelude.{◌≡◌, ◌≢◌, IfOk, IfErr, Err, List, Some, true, option_map, slice_get};
+ghost use Rattle.std.specs.Prelude.{◌≡◌, ◌≢◌, IfOk, IfErr, Err, List, Some, true, map, option_map, slice_get};
+ghost use Rattle.avro_schema.specs.declared.node.Field.{Field as SpecField};
 ghost use Rattle.avro_schema.specs.declared.node.Node.TheVariants as kind;
 ghost use Rattle.avro_resolve.specs.Pairing.{partner};
 ghost use Rattle.avro_resolve.specs.Trails.{roots, AreCompatible};
@@ -12,12 +13,13 @@ ghost use Rattle.avro_readings.specs.Worth.{IsRead, IsReadRefusal};
 
 use crate::ReadError;
 use crate::laws::compatible_values_are_readable;
+use crate::members::{are_named, place_named};
 use crate::pairs::{
     both_leaves, branch_at, fields_at, first_matching, is_barred, items_at, node_at, symbol_at,
     values_at,
 };
 use crate::readable::can_read;
-use crate::room::{Halt, Room};
+use crate::room::{Halt, Room, Texts};
 use avro_data::Data;
 use avro_resolve::{Pair, partner};
 use avro_schema::{Field, Node, NodeId, Schema};
@@ -30,7 +32,8 @@ use std::collections::BTreeMap;
 ///
 /// A reader's union tells the number of its own branch, and a field that has nothing to read is
 /// `Default`. Where the two schemas are compatible, no value of the writer's schema is refused as
-/// `Unreadable`. Of a reading that is too large no more than the limit is ever made.
+/// `Unreadable`. Of a reading that is too large no more than the limit is ever made. `OutOfMemory` also
+/// comes where the names, keys and symbols in the reading have more than [`avro_data::MOST_TEXT`] bytes.
 pub fn read_data(alloc: Global, r: &Schema, w: &Schema, given: &Data) -> Result<Data, ReadError>
     ensures ok { IfOk result (λ read. IsRead r.now.nodes w.now.nodes (view given.now) (view read)) }
     ensures refused { IfErr result (IsReadRefusal r.now.nodes w.now.nodes (view given.now)) }
@@ -46,7 +49,15 @@ pub fn read_data(alloc: Global, r: &Schema, w: &Schema, given: &Data) -> Result<
         reader: r.root(),
         writer: w.root(),
     };
-    match read(alloc, r, w, pair, given, &mut Room::whole()) {
+    match read(
+        alloc,
+        r,
+        w,
+        pair,
+        given,
+        &mut Room::whole(),
+        &mut Texts::whole(),
+    ) {
         Ok(found) => Ok(found),
         Err(Halt::Unreadable) => Err(ReadError::Unreadable),
         Err(Halt::TooLarge) => {
@@ -70,6 +81,7 @@ fn read(
     pair: Pair,
     given: &Data,
     room: &mut Room,
+    texts: &mut Texts,
 ) -> Result<Data, Halt>
     ensures read { IfOk result (λ found. spec.reads r.now.nodes w.now.nodes pair (view given.now) ≡ Some (view found)) }
     ensures room { IfOk result (λ found. IsTaken room.old room.new (value_room (view found))) }
@@ -85,12 +97,12 @@ fn read(
                     reader: pair.reader,
                     writer,
                 };
-                read(alloc, r, w, next, inner, room)
+                read(alloc, r, w, next, inner, room, texts)
             }
             None => Err(Halt::Unreadable),
         },
         Data::Default => Err(Halt::Unreadable),
-        _ => read_inside(alloc, r, w, pair, given, room),
+        _ => read_inside(alloc, r, w, pair, given, room, texts),
     }
 }
 
@@ -103,6 +115,7 @@ fn read_inside(
     pair: Pair,
     given: &Data,
     room: &mut Room,
+    texts: &mut Texts,
 ) -> Result<Data, Halt>
     ensures read { IfOk result (λ found. through_reader r.now.nodes w.now.nodes pair (view given.now) ≡ Some (view found)) }
     ensures room { IfOk result (λ found. IsTaken room.old room.new (value_room (view found))) }
@@ -110,9 +123,9 @@ fn read_inside(
 {
     match node_at(r, pair.reader) {
         Some(Node::Union(branches)) => {
-            read_branch(alloc, r, w, branches.as_slice(), pair, given, room)
+            read_branch(alloc, r, w, branches.as_slice(), pair, given, room, texts)
         }
-        _ => read_row(alloc, r, w, pair, given, room),
+        _ => read_row(alloc, r, w, pair, given, room, texts),
     }
 }
 
@@ -126,6 +139,7 @@ fn read_branch(
     pair: Pair,
     given: &Data,
     room: &mut Room,
+    texts: &mut Texts,
 ) -> Result<Data, Halt>
     ensures read { IfOk result (λ found. through_union r.now.nodes w.now.nodes branches.now pair (view given.now) ≡ Some (view found)) }
     ensures room { IfOk result (λ found. IsTaken room.old room.new (value_room (view found))) }
@@ -142,7 +156,7 @@ fn read_branch(
         return Err(Halt::Unreadable);
     }
     room.enter()?;
-    let inner = read_row(alloc, r, w, next, given, room)?;
+    let inner = read_row(alloc, r, w, next, given, room, texts)?;
     room.leave();
     Ok(Data::Branch(k, Box::new(alloc, inner)?))
 }
@@ -156,13 +170,14 @@ fn read_row(
     pair: Pair,
     given: &Data,
     room: &mut Room,
+    texts: &mut Texts,
 ) -> Result<Data, Halt>
     ensures read { IfOk result (λ found. row_reading r.now.nodes w.now.nodes (view given.now) pair ≡ Some (view found)) }
     ensures room { IfOk result (λ found. IsTaken room.old room.new (value_room (view found))) }
     ensures halted { IfErr result (IsHalt room.old (option_map value_room (row_reading r.now.nodes w.now.nodes (view given.now) pair))) }
 {
     room.enter()?;
-    let found = read_parts(alloc, r, w, pair, given, room)?;
+    let found = read_parts(alloc, r, w, pair, given, room, texts)?;
     room.leave();
     Ok(found)
 }
@@ -176,6 +191,7 @@ fn read_parts(
     pair: Pair,
     given: &Data,
     room: &mut Room,
+    texts: &mut Texts,
 ) -> Result<Data, Halt>
     ensures read { IfOk result (λ found. row_reading r.now.nodes w.now.nodes (view given.now) pair ≡ Some (view found)) }
     ensures room { IfOk result (λ found. IsTaken room.old room.new (inner_room (view found))) }
@@ -192,20 +208,20 @@ fn read_parts(
             }
         }
         Data::Symbol(symbol) => match symbol_at(reader, writer, symbol) {
-            Some(known) => Ok(Data::Symbol(known.clone()?)),
+            Some(known) => Ok(Data::Symbol(texts.copy(known)?)),
             None => Err(Halt::Unreadable),
         },
         Data::List(items) => match items_at(reader, writer) {
-            Some(inner) => Ok(Data::List(read_items(alloc, r, w, inner, items, room)?)),
+            Some(inner) => Ok(Data::List(read_items(alloc, r, w, inner, items, room, texts)?)),
             None => Err(Halt::Unreadable),
         },
         Data::Map(members) => match values_at(reader, writer) {
-            Some(inner) => Ok(Data::Map(read_values(alloc, r, w, inner, members, room)?)),
+            Some(inner) => Ok(Data::Map(read_values(alloc, r, w, inner, members, room, texts)?)),
             None => Err(Halt::Unreadable),
         },
         Data::Fields(members) => match fields_at(reader, writer) {
             Some((fields, others)) => {
-                Ok(Data::Fields(read_fields(alloc, r, w, fields, others, members, room)?))
+                Ok(Data::Fields(read_fields(alloc, r, w, fields, others, members, room, texts)?))
             }
             None => Err(Halt::Unreadable),
         },
@@ -221,6 +237,7 @@ fn read_items(
     pair: Pair,
     items: &Vec<Data>,
     room: &mut Room,
+    texts: &mut Texts,
 ) -> Result<Vec<Data>, Halt>
     ensures read { IfOk result (λ found. spec.items_read r.now.nodes w.now.nodes pair (values_view items.now.items) ≡ Some (values_view found.items)) }
     ensures room { IfOk result (λ found. IsTaken room.old room.new (values_room (values_view found.items))) }
@@ -228,7 +245,7 @@ fn read_items(
 {
     let mut done = Vec::new(alloc);
     for item in items {
-        let found = read(alloc, r, w, pair, item, room)?;
+        let found = read(alloc, r, w, pair, item, room, texts)?;
         done.push(found)?;
     }
     Ok(done)
@@ -242,6 +259,7 @@ fn read_values(
     pair: Pair,
     members: &BTreeMap<Text, Data>,
     room: &mut Room,
+    texts: &mut Texts,
 ) -> Result<BTreeMap<Text, Data>, Halt>
     ensures read { IfOk result (λ found. spec.values_read r.now.nodes w.now.nodes pair (members_view members.now.entries) ≡ Some (members_view found.entries)) }
     ensures room { IfOk result (λ found. IsTaken room.old room.new (members_room (members_view found.entries))) }
@@ -249,8 +267,8 @@ fn read_values(
 {
     let mut done = BTreeMap::new(alloc);
     for (key, value) in members.iter() {
-        let found = read(alloc, r, w, pair, value, room)?;
-        let name = key.clone()?;
+        let found = read(alloc, r, w, pair, value, room, texts)?;
+        let name = texts.copy(key)?;
         drop(done.insert(name, found)?);
     }
     Ok(done)
@@ -266,21 +284,24 @@ fn read_fields(
     others: &NamedList<Field>,
     members: &Vec<(Text, Data)>,
     room: &mut Room,
+    texts: &mut Texts,
 ) -> Result<Vec<(Text, Data)>, Halt>
     ensures read { IfOk result (λ found. all_fields_read r.now.nodes w.now.nodes (members_view members.now.items) others.now fields.now ≡ Some (members_view found.items)) }
     ensures room { IfOk result (λ found. IsTaken room.old room.new (members_room (members_view found.items))) }
     ensures halted { IfErr result (IsHalt room.old (option_map members_room (all_fields_read r.now.nodes w.now.nodes (members_view members.now.items) others.now fields.now))) }
 {
-    let mut done = Vec::new(alloc);
+    let are_fields = are_named(others.as_slice(), members.as_slice());
+    let mut done = Vec::with_capacity(alloc, fields.len())?;
     for field in fields {
-        let found = read_field(alloc, r, w, field, others, members, room)?;
-        let name = field.name.clone()?;
+        let found = read_field(alloc, r, w, field, others, members, are_fields, room, texts)?;
+        let name = texts.copy(&field.name)?;
         done.push((name, found))?;
     }
     Ok(done)
 }
 
-/// A reader's field: the writer's that it is paired with, or its default.
+/// A reader's field: the writer's that it is paired with, or its default. Whether the members have the
+/// names of the writer's fields is told.
 #[cycle(read)]
 fn read_field(
     alloc: Global,
@@ -289,8 +310,11 @@ fn read_field(
     field: &Field,
     others: &NamedList<Field>,
     members: &Vec<(Text, Data)>,
+    are_fields: bool,
     room: &mut Room,
+    texts: &mut Texts,
 ) -> Result<Data, Halt>
+    requires { are_fields ≡ true → map (λ (f : SpecField). f.name) others.now ≡ map (λ m. m.0) members.now.items }
     ensures read { IfOk result (λ found. one_field_read r.now.nodes w.now.nodes (members_view members.now.items) others.now field.now ≡ Some (view found)) }
     ensures room { IfOk result (λ found. IsTaken room.old room.new (value_room (view found))) }
     ensures halted { IfErr result (IsHalt room.old (option_map value_room (one_field_read r.now.nodes w.now.nodes (members_view members.now.items) others.now field.now))) }
@@ -301,7 +325,18 @@ fn read_field(
                 reader: field.node,
                 writer: other.node,
             };
-            read_named(alloc, r, w, pair, &other.name, members, room)
+            read_named(
+                alloc,
+                r,
+                w,
+                pair,
+                &other.name,
+                others,
+                members,
+                are_fields,
+                room,
+                texts,
+            )
         }
         None => {
             room.enter()?;
@@ -319,17 +354,19 @@ fn read_named(
     w: &Schema,
     pair: Pair,
     name: &Text,
+    others: &NamedList<Field>,
     members: &Vec<(Text, Data)>,
+    are_fields: bool,
     room: &mut Room,
+    texts: &mut Texts,
 ) -> Result<Data, Halt>
+    requires { are_fields ≡ true → map (λ (f : SpecField). f.name) others.now ≡ map (λ m. m.0) members.now.items }
     ensures read { IfOk result (λ found. spec.named_read r.now.nodes w.now.nodes name.now pair (members_view members.now.items) ≡ Some (view found)) }
     ensures room { IfOk result (λ found. IsTaken room.old room.new (value_room (view found))) }
     ensures halted { IfErr result (IsHalt room.old (option_map value_room (spec.named_read r.now.nodes w.now.nodes name.now pair (members_view members.now.items)))) }
 {
-    for member in members {
-        if member.0 == *name {
-            return read(alloc, r, w, pair, &member.1, room);
-        }
+    match place_named(others, members, are_fields, name) {
+        Some(place) => read(alloc, r, w, pair, &members[place].1, room, texts),
+        None => Err(Halt::Unreadable),
     }
-    Err(Halt::Unreadable)
 }

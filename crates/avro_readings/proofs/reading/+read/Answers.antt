@@ -1,11 +1,12 @@
-use Rattle.std.proofs.Common.{◌≡◌, ◌+◌, ◌∷◌, ◌++◌, [], drop, map, Some, Err, option_map, rules, sym, ap, ◌∙◌, subst, arith}
+use Rattle.std.proofs.Common.{◌≡◌, ◌+◌, ◌∷◌, ◌++◌, [], drop, map, Some, None, Err, IfOk, IfErr, option_map, position, bytes_eq, rules, sym, ap, ◌∙◌, subst, arith}
 use Rattle.std.proofs.lemmas.List.{drop_more, drop_all}
 use Rattle.std.specs.BTreeMap.{insert_entry}
 use Rattle.std.specs.Cmp.Lexicographic.{slice_cmp}
 use Rattle.std.specs.Ordering.{nat_cmp}
 use Rattle.avro_data.specs.View.{view, values_view, members_view}
 use Rattle.avro_readings.specs.Reads as spec
-use Rattle.avro_readings.specs.Room.{values_room, IsHalt}
+use Rattle.avro_readings.specs.Room.{value_room, values_room, IsHalt}
+use Rattle.avro_readings.proofs.MemberLaws.{named_found, named_none}
 use Rattle.avro_readings.specs.Steps.{values_before, members_before, row_reading, through_union, all_fields_read}
 use Rattle.avro_readings.proofs.Along.{Entry, seen, IsCopied, values_all, members_all, next_last, next_copied, items_step, values_step, fields_step}
 use Rattle.avro_readings.proofs.RoomLaws.{full, row_halt, items_halt, values_halt, fields_halt, items_taken, members_taken}
@@ -42,7 +43,7 @@ read_fields-returns-in_err-found-clause-halted t c =
     let all = c.args.fields.now in
     let f = c.field-item.result in
     let here : drop l.field-index all ≡ f ∷ drop (l.field-index + 1) all = drop_more all l.field-index f (omega arith) ∙ ap (λ y. y ∷ drop (l.field-index + 1) all) (sym c.field-item.is) in
-    let is : c.from_residual.result ≡ Err c.in_err-found.field-0.0 = search rules in
+    let is : c.from_residual-in_err-found.result ≡ Err c.in_err-found.field-0.0 = search rules in
     rw is (fields_halt (λ name q. spec.named_read c.args.r.now.nodes c.args.w.now.nodes name q (members_view c.args.members.now.items)) c.args.others.now all (drop l.field-index all) (drop (l.field-index + 1) all) l.done.items f c.args.room.now l.room l.invariant.read here l.invariant.room c.in_err-found.field-0.0 c.in_err-found.ensures.halted)
 
 pub read_values-returns-in_err-found-clause-halted : goal.read_values-returns-in_err-found-clause-halted
@@ -80,7 +81,7 @@ read_values-loop-key-preserved t c =
     let all = c.args.members.now.entries in
     let found = c.in_ok-found.found in
     let more = c.insert.new.self.entries in
-    let named : c.in_ok-name.name ≡ e.0 = c.in_ok-name.ensures.cases in
+    let named : c.in_ok-name.name ≡ e.0 = c.in_ok-name.ensures in
     let put : more ≡ l.done.entries ++ (e.0, found) ∷ [] =
     c.in_ok-insert.ensures.entries
     ∙ ap (λ k. insert_entry (slice_cmp nat_cmp) l.done.entries k found) named
@@ -105,7 +106,7 @@ read_fields-loop-field-preserved t c =
     let f = c.field-item.result in
     let found = c.in_ok-found.found in
     let here : drop l.field-index all ≡ f ∷ drop (l.field-index + 1) all = drop_more all l.field-index f (omega arith) ∙ ap (λ y. y ∷ drop (l.field-index + 1) all) (sym c.field-item.is) in
-    let pushed : c.push.new.self.items ≡ l.done.items ++ (f.name, found) ∷ [] = c.in_ok-push.ensures.items ∙ ap (λ k. l.done.items ++ (k, found) ∷ []) c.in_ok-name.ensures.cases in
+    let pushed : c.push.new.self.items ≡ l.done.items ++ (f.name, found) ∷ [] = c.in_ok-push.ensures.items ∙ ap (λ k. l.done.items ++ (k, found) ∷ []) c.in_ok-name.ensures in
     record {
       read = fields_step (λ name q. spec.named_read c.args.r.now.nodes c.args.w.now.nodes name q (members_view c.args.members.now.items)) c.args.others.now all (drop l.field-index all) (drop (l.field-index + 1) all) l.done.items c.push.new.self.items f found
           l.invariant.read here (sym c.in_ok-found.ensures.read) pushed;
@@ -120,3 +121,26 @@ read_fields-returns-clause-read t c =
     l.invariant.read
     ∙ ap (λ fs. option_map (members_before (map seen l.done.items)) (all_fields_read c.args.r.now.nodes c.args.w.now.nodes (members_view c.args.members.now.items) c.args.others.now fs)) none
     ∙ ap Some (members_all l.done.items)
+
+pub read_named-returns-in-Some-clause-read : goal.read_named-returns-in-Some-clause-read
+read_named-returns-in-Some-clause-read t c =
+    let es = c.args.members.now.items in
+    let name = c.args.name.now in
+    let is : position (λ (m : Entry). bytes_eq m.0 name) es ≡ Some c.in-Some.place = ap (position (λ (m : Entry). bytes_eq m.0 name)) (sym c.deref.ensures.value) ∙ sym c.place_named.ensures.place ∙ c.in-Some.is in
+    let same = named_found c.args.r.now.nodes c.args.w.now.nodes name c.args.pair es c.in-Some.place c.index.result.now is c.index.ensures in
+    subst (λ o. IfOk c.read.result (λ found. o ≡ Some (view found))) (sym same) c.read.ensures.read
+
+pub read_named-returns-in-Some-clause-halted : goal.read_named-returns-in-Some-clause-halted
+read_named-returns-in-Some-clause-halted t c =
+    let es = c.args.members.now.items in
+    let name = c.args.name.now in
+    let is : position (λ (m : Entry). bytes_eq m.0 name) es ≡ Some c.in-Some.place = ap (position (λ (m : Entry). bytes_eq m.0 name)) (sym c.deref.ensures.value) ∙ sym c.place_named.ensures.place ∙ c.in-Some.is in
+    let same = named_found c.args.r.now.nodes c.args.w.now.nodes name c.args.pair es c.in-Some.place c.index.result.now is c.index.ensures in
+    subst (λ o. IfErr c.read.result (IsHalt c.args.room.now (option_map value_room o))) (sym same) c.read.ensures.halted
+
+pub read_named-returns-in-None-clause-halted : goal.read_named-returns-in-None-clause-halted
+read_named-returns-in-None-clause-halted t c =
+    let es = c.args.members.now.items in
+    let name = c.args.name.now in
+    let is : position (λ (m : Entry). bytes_eq m.0 name) es ≡ None = ap (position (λ (m : Entry). bytes_eq m.0 name)) (sym c.deref.ensures.value) ∙ sym c.place_named.ensures.place ∙ c.in-None.is in
+    ap (option_map value_room) (named_none c.args.r.now.nodes c.args.w.now.nodes name c.args.pair es is)

@@ -28,9 +28,3 @@ invariant-read_fields-loop-field l = record {
       ≡ option_map (members_before (map seen l.done.items)) (all_fields_read l.r.nodes l.w.nodes (members_view l.members.items) l.others (drop l.field-index l.fields));
   room : IsTaken l.fn.room l.room (members_room (members_view l.done.items));
 }
-
-abbrev pub invariant-read_named-loop-member : goal.invariant-read_named-loop-member
-invariant-read_named-loop-member l = record {
-  read : spec.named_read l.r.nodes l.w.nodes l.name l.pair (members_view l.member-items) ≡ spec.named_read l.r.nodes l.w.nodes l.name l.pair (members_view (drop l.member-index l.member-items));
-  room : l.room ≡ l.fn.room;
-}
