@@ -1,3 +1,4 @@
 mod Folds
+mod Sketches
 mod Unions
 mod WordLists

@@ -3,3 +3,5 @@ pub mod Ended
 pub mod Fold
 pub mod Opening
 pub mod Words
+pub mod Sketch
+pub mod Spelling

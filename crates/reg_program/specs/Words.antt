@@ -22,9 +22,13 @@ abbrev pub serving : Option ℕ → Option ℕ → Option ℕ → Command
 serving (Some port) (Some nodes) (Some workers) = if nat_le (port + nodes) 65536 then commands.Serve port nodes workers else commands.Usage
 serving _ _ _ = commands.Usage
 
--- `fold` alone after the program's name is a fold; `serve`, a port, 1 to 3 nodes and 1 to 16 workers after it serve
+-- `fold` and `sketch` are commands without more words
+abbrev pub command_named : List ℕ → Command
+command_named word = if bytes_eq word (codes "fold") then commands.Fold else (if bytes_eq word (codes "sketch") then commands.Sketch else commands.Usage)
+
+-- after the program's name stands `fold` or `sketch` alone, or `serve`, a port, 1 to 3 nodes and 1 to 16 workers
 abbrev pub command_of : List (List ℕ) → Command
-command_of (name ∷ word ∷ []) = if bytes_eq word (codes "fold") then commands.Fold else commands.Usage
+command_of (name ∷ word ∷ []) = command_named word
 command_of (name ∷ word ∷ port ∷ nodes ∷ workers ∷ []) =
     if bytes_eq word (codes "serve") then serving (number_in (1, 65535) port) (number_in (1, 3) nodes) (number_in (1, 16) workers) else commands.Usage
 command_of words = commands.Usage

@@ -1,30 +1,34 @@
 // How the program ends.
 ghost use Rattle.std.specs.Prelude.{◌≡◌, Some};
-ghost use Rattle.reg_program.specs.Ended.{error_text, errors_written, exit_status};
+ghost use Rattle.reg_program.specs.Ended.{error_text, errors_written, exit_status, sketch_error_text};
 
 use crate::folding::{FoldError, Folded};
+use crate::sketching::SketchError;
 use std::error::Error;
 use std::fmt;
 
 /// How the program ends. It is shown as the text that goes to standard error.
-#[derive(Clone, Copy, Debug)]
+#[derive(Debug, Drop)]
 pub enum Ended {
     Usage,
     Folded(Folded),
     Failed(FoldError),
+    Sketched,
+    Unsketched(SketchError),
 }
 
 impl Ended {
     /// The exit status.
-    pub fn status(self) -> u8
-        ensures { result ≡ exit_status self }
+    pub fn status(&self) -> u8
+        ensures { result ≡ exit_status self.now }
     {
         match self {
-            Ended::Folded(_) => 0,
-            Ended::Usage | Ended::Failed(FoldError::Log { line: _, fault: _ }) => 2,
-            Ended::Failed(FoldError::ReadFault)
-            | Ended::Failed(FoldError::WriteFault)
-            | Ended::Failed(FoldError::OutOfMemory) => 1,
+            Ended::Folded(_) | Ended::Sketched => 0,
+            Ended::Usage => 2,
+            Ended::Failed(FoldError::Log { line: _, fault: _ }) => 2,
+            Ended::Failed(_) => 1,
+            Ended::Unsketched(SketchError::Reader(_) | SketchError::Writer(_)) => 2,
+            Ended::Unsketched(_) => 1,
         }
     }
 }
@@ -33,10 +37,10 @@ impl fmt::Display for Ended {
     ghost output = { λ ended. Some (errors_written ended) };
 
     fn fmt<W: fmt::Write>(&self, f: &mut fmt::Formatter<W>) -> fmt::Result {
-        match *self {
+        match self {
             Ended::Usage => writeln!(
                 f,
-                "usage: registryd fold | registryd serve PORT NODES WORKERS"
+                "usage: registryd fold | registryd sketch | registryd serve PORT NODES WORKERS"
             ),
             Ended::Folded(folded) => {
                 let count = folded.foreign;
@@ -47,6 +51,8 @@ impl fmt::Display for Ended {
                 }
             }
             Ended::Failed(error) => writeln!(f, "{error}"),
+            Ended::Sketched => Ok(()),
+            Ended::Unsketched(error) => writeln!(f, "{error}"),
         }
     }
 }
@@ -65,3 +71,19 @@ impl fmt::Display for FoldError {
 }
 
 impl Error for FoldError {}
+
+impl fmt::Display for SketchError {
+    ghost output = { λ error. Some (sketch_error_text error) };
+
+    fn fmt<W: fmt::Write>(&self, f: &mut fmt::Formatter<W>) -> fmt::Result {
+        match self {
+            SketchError::Reader(fault) => write!(f, "reader: {}", fault.name()),
+            SketchError::Writer(fault) => write!(f, "writer: {}", fault.name()),
+            SketchError::ReadFault => write!(f, "ReadFault"),
+            SketchError::WriteFault => write!(f, "WriteFault"),
+            SketchError::OutOfMemory => write!(f, "OutOfMemory"),
+        }
+    }
+}
+
+impl Error for SketchError {}

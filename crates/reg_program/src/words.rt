@@ -1,6 +1,6 @@
 // What the words of the command line ask for.
 ghost use Rattle.std.specs.Prelude.{◌≡◌, ◌≤◌, ◌&&◌, map, nat_le, string_bytes};
-ghost use Rattle.reg_program.specs.Words.{command_of, is_plain, number_in, serving};
+ghost use Rattle.reg_program.specs.Words.{command_named, command_of, is_plain, number_in, serving};
 
 use reg_messages::{digits_value, has_only_digits};
 
@@ -15,6 +15,7 @@ const WORKERS: (u64, u64) = (1, 16);
 #[derive(Clone, Copy, Debug, PartialEq, Eq)]
 pub enum Command {
     Fold,
+    Sketch,
     /// So many nodes are to serve, each by so many workers: node k, from 0, at that port plus k.
     Serve { port: u64, nodes: u64, workers: u64 },
     /// The words are no command: how to use the program is to be said.
@@ -26,13 +27,7 @@ pub fn command_of(words: &[String]) -> Command
     ensures { result ≡ command_of (map string_bytes words.now) }
 {
     match words {
-        [_, word] => {
-            if word.as_str() == "fold" {
-                Command::Fold
-            } else {
-                Command::Usage
-            }
-        }
+        [_, word] => command_named(word.as_str()),
         [_, word, port, nodes, workers] => {
             if word.as_str() == "serve" {
                 serving(
@@ -45,6 +40,19 @@ pub fn command_of(words: &[String]) -> Command
             }
         }
         _ => Command::Usage,
+    }
+}
+
+/// The command that a word alone asks for.
+fn command_named(word: &str) -> Command
+    ensures { result ≡ command_named word.now }
+{
+    if word == "fold" {
+        Command::Fold
+    } else if word == "sketch" {
+        Command::Sketch
+    } else {
+        Command::Usage
     }
 }
 

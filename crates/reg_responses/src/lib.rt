@@ -14,4 +14,4 @@ pub use laws::statuses_have_phrases;
 pub use limits::{INTERRUPTION_LIMIT, limits_are_as_written};
 pub use reply::reply_answer;
 pub use respond::{write_answer, write_no_memory, write_refusal, write_reply};
-pub use writing::WriteFault;
+pub use writing::{WriteFault, write_whole};

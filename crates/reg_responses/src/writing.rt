@@ -35,7 +35,7 @@ pub(crate) fn write_response<W: Write>(
 }
 
 /// Writes the bytes whole, and flushes them. The writer's count of interruptions begins anew.
-pub(crate) fn write_whole<W: Write>(writer: &mut Device<W>, bytes: &[u8]) -> Result<(), WriteFault>
+pub fn write_whole<W: Write>(writer: &mut Device<W>, bytes: &[u8]) -> Result<(), WriteFault>
     ensures { Writes W.contents writer.old writer.new bytes.now result }
 {
     writer.begin_count();

@@ -1,14 +1,15 @@
 //! The program `registryd`: a registry of Avro schemas.
 //!
 //! `registryd fold` reads a log and the requests after its empty line from its input, and writes the
-//! responses to its output. `registryd serve PORT NODES WORKERS` listens, and serves an empty topic
-//! until it is stopped.
+//! responses to its output. `registryd sketch` reads a reader's schema and a writer's, one a line, and
+//! writes what the reader makes of what the writer writes. `registryd serve PORT NODES WORKERS`
+//! listens, and serves an empty topic until it is stopped.
 #![tactic(auto)]
 
 mod serving;
 
 use crate::serving::serve;
-use reg_program::{Command, Ended, command_of, fold};
+use reg_program::{Command, Ended, command_of, fold, sketch};
 use reg_records::Device;
 use std::env;
 use std::io::{self, BufReader, BufWriter};
@@ -25,6 +26,14 @@ fn main(rt: HostRuntime) -> io::Result<ExitCode> {
             match fold(alloc, &mut reader, &mut writer) {
                 Ok(folded) => Ended::Folded(folded),
                 Err(error) => Ended::Failed(error),
+            }
+        }
+        Command::Sketch => {
+            let mut reader = Device::new(BufReader::new(alloc, rt.reader())?);
+            let mut writer = Device::new(BufWriter::new(alloc, io::writer(&rt))?);
+            match sketch(alloc, &mut reader, &mut writer) {
+                Ok(()) => Ended::Sketched,
+                Err(error) => Ended::Unsketched(error),
             }
         }
         Command::Serve {

@@ -1,6 +1,6 @@
 // How folds of logs alone end, and what the program says of it.
 use crate::folds::{ended, is_written};
-use reg_program::{Command, Ended, FoldError, command_of};
+use reg_program::{Command, Ended, FoldError, SketchError, command_of};
 use reg_records::{Device, LINE_LIMIT, LogFault};
 use std::alloc::{AllocError, Global};
 
@@ -66,12 +66,15 @@ fn a_log_alone_writes_nothing_and_ends_by_its_first_fault(rt: HostRuntime) {
 }
 
 /// The words of a command line, and what they ask for.
-static WORDS: [(&str, Command); 20] = [
+static WORDS: [(&str, Command); 23] = [
     ("registryd fold", Command::Fold),
+    ("registryd sketch", Command::Sketch),
     ("other fold", Command::Fold),
     ("registryd", Command::Usage),
     ("registryd Fold", Command::Usage),
+    ("registryd sketches", Command::Usage),
     ("registryd fold fold", Command::Usage),
+    ("registryd sketch fold", Command::Usage),
     ("registryd serve", Command::Usage),
     (
         "registryd serve 8081 1 1",
@@ -133,10 +136,17 @@ fn words_are_commands(rt: HostRuntime) {
 }
 
 /// How the program ends where no log says it, and the text on standard error with the status.
-static OTHER_ENDS: [(Ended, &str); 5] = [
+static OTHER_ENDS: [(Ended, &str); 9] = [
     (
         Ended::Usage,
-        "usage: registryd fold | registryd serve PORT NODES WORKERS\n2",
+        "usage: registryd fold | registryd sketch | registryd serve PORT NODES WORKERS\n2",
+    ),
+    (Ended::Sketched, "0"),
+    (Ended::Unsketched(SketchError::ReadFault), "ReadFault\n1"),
+    (Ended::Unsketched(SketchError::WriteFault), "WriteFault\n1"),
+    (
+        Ended::Unsketched(SketchError::OutOfMemory),
+        "OutOfMemory\n1",
     ),
     (Ended::Failed(FoldError::ReadFault), "ReadFault\n1"),
     (Ended::Failed(FoldError::WriteFault), "WriteFault\n1"),
@@ -150,7 +160,7 @@ static OTHER_ENDS: [(Ended, &str); 5] = [
     ),
 ];
 
-fn is_said(alloc: Global, ended: Ended, wanted: &str) -> bool {
+fn is_said(alloc: Global, ended: &Ended, wanted: &str) -> bool {
     let said = format!(in alloc; "{ended}{}", ended.status());
     matches!(said, Ok(said) if said.as_str() == wanted)
 }
@@ -158,7 +168,7 @@ fn is_said(alloc: Global, ended: Ended, wanted: &str) -> bool {
 #[test]
 fn other_ends_are_said(rt: HostRuntime) {
     for (ended, wanted) in &OTHER_ENDS {
-        assert!(rt; is_said(rt.alloc(), *ended, wanted), "{wanted}");
+        assert!(rt; is_said(rt.alloc(), ended, wanted), "{wanted}");
     }
 }
 

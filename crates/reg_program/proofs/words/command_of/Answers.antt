@@ -4,8 +4,8 @@ use Rattle.reg_program.specs.Words.{number_in, serving}
 use Rattle.reg_program.proofs.WordLists.{few_words, five_words, many_words, some_words}
 use Rattle.reg_program.proofs.words.command_of.Goals as goal
 
-pub returns-then-eq-2 : goal.returns-then-eq-2
-returns-then-eq-2 c =
+pub returns-then-eq : goal.returns-then-eq
+returns-then-eq c =
     let is : bytes_eq (string_bytes c.word-item-then-words-lt6.result) (codes "serve") ≡ true = search rules in
     let told : c.serving.result ≡ serving (number_in (1, 65535) (string_bytes c.port-item.result)) (number_in (1, 3) (string_bytes c.nodes-item.result)) (number_in (1, 16) (string_bytes c.workers-item.result)) = search rules in
     told ∙ five_words string_bytes c.args.words.now c.word-item-then-words-lt6.result c.port-item.result c.nodes-item.result c.workers-item.result
