@@ -123,7 +123,7 @@ fn are_readings_limited(alloc: Global) -> Result<bool, AllocError> {
         twice.as_str(),
         small.as_str(),
         "compatible\nvalue (a=(a=",
-        ",b=()))))\n0",
+        ",b=())))))))))))))))))))\n0",
     );
     let is_past = is_sketch(
         alloc,
