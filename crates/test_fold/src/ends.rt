@@ -136,7 +136,7 @@ fn words_are_commands(rt: HostRuntime) {
 }
 
 /// How the program ends where no log says it, and the text on standard error with the status.
-static OTHER_ENDS: [(Ended, &str); 9] = [
+const OTHER_ENDS: [(Ended, &str); 9] = [
     (
         Ended::Usage,
         "usage: registryd fold | registryd sketch | registryd serve PORT NODES WORKERS\n2",
