@@ -1,0 +1,9 @@
+pub mod Disk
+pub mod Found
+pub mod Journal
+pub mod Lines
+pub mod Loss
+pub mod Memory
+pub mod Opening
+pub mod Past
+pub mod Refusals

@@ -1,0 +1,54 @@
+-- What the lines of a file say, and lines with what they say.
+use Rattle.std.specs.Prelude.{◌≡◌, ◌⊎◌, ⊤, ◌<◌, ◌≤◌, ℕ, List, [], ◌∷◌, ◌++◌, length, map, Result, Ok}
+use Rattle.std.specs.Result.{result_map_both}
+use Rattle.reg_records.specs.Line.{reading}
+use Rattle.reg_records.specs.Log.{LogText, log_of}
+use Rattle.reg_records.specs.Pieces.{HasNoLineFeed}
+use Rattle.reg_records.specs.Written.{line_text}
+use Rattle.reg_records.specs.declared.limits.TheConstants.{LOG_LINES}
+use Rattle.reg_records.specs.declared.log.LogFault.{LogFault}
+use Rattle.reg_records.specs.declared.record.Read.{Read}
+use Rattle.reg_records.specs.declared.record.Read.TheVariants as reads
+use Rattle.reg_records.specs.declared.record.Record.{Record}
+
+-- what the lines of a file say up to its first empty line, or the first fault that they have
+abbrev pub said : List ℕ → Result (List Read) (ℕ × LogFault)
+said file = result_map_both (λ (log : LogText). log.reads) (λ fault. fault) (log_of file)
+
+-- what the lines of a batch say
+abbrev pub batch_reads : List Record → List Read
+batch_reads batch = map reads.Record batch
+
+-- what was said, and the batch behind it
+abbrev pub with_batch : List Record → Result (List Read) (ℕ × LogFault) → Result (List Read) (ℕ × LogFault)
+with_batch batch before = result_map_both (λ read. read ++ batch_reads batch) (λ fault. fault) before
+
+-- the file says what was said before, or that with the whole batch
+abbrev pub IsBeforeOrAfter : Result (List Read) (ℕ × LogFault) → List Record → List ℕ → Type 0
+IsBeforeOrAfter before batch file = (said file ≡ before) ⊎ (said file ≡ with_batch batch before)
+
+-- the lines, each with its LF
+abbrev pub text_of : List (List ℕ) → List ℕ
+text_of [] = []
+text_of (line ∷ lines) = line ++ 10 ∷ text_of lines
+
+-- each line has some bytes and no LF, and says this
+abbrev pub Say : List (List ℕ) → List Read → Type 0
+Say [] [] = ⊤
+Say (line ∷ lines) (read ∷ more) = (0 < length line) × HasNoLineFeed line × (reading line ≡ Ok read) × Say lines more
+Say [] (read ∷ more) = ⊥
+Say (line ∷ lines) [] = ⊥
+
+-- the lines of a batch
+abbrev pub batch_lines : List Record → List (List ℕ)
+batch_lines batch = map line_text batch
+
+-- lines that say this are a log of it
+abbrev pub LinesAreRead : Type 0
+LinesAreRead = (lines : List (List ℕ)) (read : List Read) → Say lines read → length read ≤ LOG_LINES → log_of (text_of lines) ≡ Ok (record { reads = read; rest = [] })
+
+-- a log is lines that say what it says, with an empty line and more behind them, or nothing
+abbrev pub LogsAreLines : Type 0
+LogsAreLines = (text : List ℕ) (log : LogText) → log_of text ≡ Ok log
+    → (lines : List (List ℕ)) × Say lines log.reads × (length log.reads ≤ LOG_LINES)
+    × ((text ≡ text_of lines ++ 10 ∷ log.rest) ⊎ ((text ≡ text_of lines) × (log.rest ≡ [])))

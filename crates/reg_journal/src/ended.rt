@@ -1,0 +1,33 @@
+// The log of a file that has an empty line, and what stands behind that line.
+ghost use Rattle.std.specs.Prelude.{◌≡◌, ◌^◌, ◌<◌, IfErr, IfOk};
+ghost use Rattle.reg_journal.specs.Found.{IsFound, IsLookRefusal};
+
+use crate::opening::{Found, OpenError};
+use reg_records::{Device, Log, LogError, read_log};
+use std::alloc::{AllocFailed, Global};
+
+/// Reads the log of a file, and finds the empty line behind it.
+pub(crate) fn read_ended(alloc: Global, bytes: Vec<u8>) -> Result<Found, OpenError>
+    ensures found { IfOk result (IsFound bytes.items) }
+    ensures within { IfOk result (λ found. found.end < 2 ^ 63) }
+    ensures refused { IfErr result (IsLookRefusal bytes.items) }
+{
+    // With an LF more at the end, what is left unread behind an empty line isn't empty.
+    let mut bytes = bytes;
+    bytes.push(b'\n')?;
+    let mut reader = Device::new(&bytes[..]);
+    let log = read_log(alloc, &mut reader)?;
+    let left = reader.into_inner();
+    if left.is_empty() {
+        return Err(OpenError::NoEmptyLine);
+    }
+    let behind = left[..left.len() - 1].to_vec(alloc)?;
+    let end = bytes.len() - left.len() - 1;
+    let lines = log.records.len() as u64 + log.foreign;
+    Ok(Found {
+        log,
+        end,
+        lines,
+        behind,
+    })
+}

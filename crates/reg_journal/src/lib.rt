@@ -1,0 +1,19 @@
+//! A log in a file: record lines that outlive crashes.
+#![tactic(auto)]
+
+mod batch;
+mod disk;
+mod ended;
+mod gate;
+mod journal;
+mod laws;
+mod memory;
+mod opening;
+mod stored;
+
+pub use disk::{Disk, DiskError};
+pub use journal::{AppendError, Journal};
+pub use laws::{batches_add_records, lines_are_logs};
+pub use memory::Memory;
+pub use opening::{Found, OpenError, cut_behind, look, open, recover, write_end};
+pub use stored::StoredFile;

@@ -1,0 +1,172 @@
+// Opening a file that a crash may have left.
+ghost use Rattle.std.specs.Prelude.{◌≡◌, ◌⊎◌, ◌++◌, ◌^◌, ◌<◌, [], ◌∷◌, List, ℕ, Ok, length, false, IfErr, IfOk, OnOk};
+ghost use Rattle.reg_records.specs.Log.{IsLogOf};
+ghost use Rattle.reg_records.specs.declared.record.Read.{Read};
+ghost use Rattle.reg_journal.specs.Disk.{Only, Keeps, LeavesOnly};
+ghost use Rattle.reg_journal.specs.Found.{IsFound, IsLookRefusal, IsUnchanged, LeavesFile};
+ghost use Rattle.reg_journal.specs.Lines.{said};
+ghost use Rattle.reg_journal.specs.Journal.{IsSettled, IsReady};
+
+use crate::disk::{Disk, DiskError};
+use crate::ended::read_ended;
+use crate::journal::Journal;
+use reg_records::{Device, Log, LogError, read_log};
+use std::alloc::{AllocError, AllocFailed, Global};
+
+/// Why no file was opened.
+#[derive(Clone, Copy, Debug, PartialEq, Eq)]
+pub enum OpenError {
+    /// A line has a fault. Nothing was changed.
+    Log(LogError),
+    /// No empty line ends the log: `write_end` writes one. Nothing was changed.
+    NoEmptyLine,
+    Failed,
+    OutOfMemory,
+}
+
+impl From<DiskError> for OpenError {
+    ghost use Rattle.std.specs.Prelude.{◌≡◌};
+    ghost use Rattle.reg_journal.specs.Opening.{disk_refusal};
+
+    ghost from_gives = { λ error e. e ≡ disk_refusal error };
+
+    fn from(error: DiskError) -> OpenError {
+        match error {
+            DiskError::OutOfMemory => OpenError::OutOfMemory,
+            DiskError::Failed => OpenError::Failed,
+        }
+    }
+}
+
+impl From<LogError> for OpenError {
+    ghost use Rattle.std.specs.Prelude.{◌≡◌};
+    ghost use Rattle.reg_journal.specs.declared.opening.OpenError.TheVariants.{Log};
+
+    ghost from_gives = { λ error e. e ≡ Log error };
+
+    fn from(error: LogError) -> OpenError {
+        OpenError::Log(error)
+    }
+}
+
+impl From<AllocError> for OpenError {
+    ghost use Rattle.std.specs.Prelude.{◌≡◌};
+    ghost use Rattle.reg_journal.specs.declared.opening.OpenError.TheVariants.{OutOfMemory};
+
+    ghost from_gives = { λ _ e. e ≡ OutOfMemory };
+
+    fn from(_refused: AllocError) -> OpenError {
+        OpenError::OutOfMemory
+    }
+}
+
+impl<T: Drop> From<AllocFailed<T>> for OpenError {
+    ghost use Rattle.std.specs.Prelude.{◌≡◌};
+    ghost use Rattle.reg_journal.specs.declared.opening.OpenError.TheVariants.{OutOfMemory};
+
+    ghost from_gives = { λ _ e. e ≡ OutOfMemory };
+
+    fn from(_refused: AllocFailed<T>) -> OpenError {
+        OpenError::OutOfMemory
+    }
+}
+
+/// A log, its place in the file, and what stands behind it.
+#[derive(Debug, Drop)]
+pub struct Found {
+    pub log: Log,
+    /// Where its empty line stands.
+    pub end: usize,
+    /// How many lines stand before it.
+    pub lines: u64,
+    /// What stands behind the empty line: a crash has left it, or somebody has put it there.
+    pub behind: Vec<u8>,
+}
+
+/// Reads the log of a file, and what stands behind its empty line. What it has read is on the disk.
+pub fn look<D: Disk>(alloc: Global, disk: &mut D) -> Result<Found, OpenError>
+    requires { D.is_modelled → D.known disk.old }
+    ensures found { D.is_modelled → IfOk result (IsFound (D.seen disk.old)) }
+    ensures log { D.is_modelled → IfOk result (λ found. (read : List Read) × (said (D.seen disk.old) ≡ Ok read) × IsLogOf read found.log) }
+    ensures within { IfOk result (λ found. found.end < 2 ^ 63) }
+    ensures same { D.is_modelled → OnOk result (IsUnchanged D.known D.seen disk.old disk.new) }
+    ensures durable { D.is_modelled → OnOk result (Only (D.seen disk.new) (D.may_leave disk.new)) }
+    ensures refused { D.is_modelled → IfErr result (IsLookRefusal (D.seen disk.old)) }
+    ensures untouched { D.is_modelled → IfErr result (LeavesFile D.known D.seen disk.old disk.new) }
+
+    // A crash leaves what it might have left before the call.
+    ensures any_moment { D.is_modelled → LeavesOnly D.moment D.left_since disk.old disk.new (D.may_leave disk.old) }
+{
+    // What is read has to be on the disk: another process may have been killed before its sync.
+    disk.sync()?;
+    let bytes = disk.read(alloc)?;
+    read_ended(alloc, bytes)
+}
+
+/// Cuts off what stands behind the empty line of a log that was found. A crash leaves a file that says the same.
+pub fn cut_behind<D: Disk>(disk: &mut D, found: &Found) -> Result<(), OpenError>
+    requires within { found.now.end < 2 ^ 63 }
+    requires known { D.is_modelled → D.known disk.old }
+    requires found { D.is_modelled → IsFound (D.seen disk.old) found.now }
+    requires durable { D.is_modelled → Only (D.seen disk.old) (D.may_leave disk.old) }
+    ensures same { D.is_modelled → OnOk result (D.known disk.new × (said (D.seen disk.new) ≡ said (D.seen disk.old))) }
+    ensures settled { D.is_modelled → OnOk result (IsSettled D.seen D.may_leave disk.new found.now.end found.now.lines) }
+    ensures any_moment { D.is_modelled → LeavesOnly D.moment D.left_since disk.old disk.new (λ c. said c ≡ said (D.seen disk.old)) }
+{
+    disk.cut(found.end + 1)?;
+    Ok(disk.sync()?)
+}
+
+/// Reads the log of a file, and cuts off what a crash has left behind its empty line. It may crash too.
+pub fn recover<D: Disk>(alloc: Global, disk: &mut D) -> Result<Found, OpenError>
+    requires { D.is_modelled → D.known disk.old }
+    ensures log { D.is_modelled → IfOk result (λ found. (read : List Read) × (said (D.seen disk.old) ≡ Ok read) × IsLogOf read found.log) }
+    ensures same { D.is_modelled → OnOk result (D.known disk.new × (said (D.seen disk.new) ≡ said (D.seen disk.old))) }
+    ensures settled { D.is_modelled → IfOk result (λ found. IsSettled D.seen D.may_leave disk.new found.end found.lines) }
+
+    // A crash leaves what it might have left before the call, or a file that says the same.
+    ensures any_moment { D.is_modelled → LeavesOnly D.moment D.left_since disk.old disk.new
+        (λ c. D.may_leave disk.old c ⊎ (said c ≡ said (D.seen disk.old))) }
+{
+    let found = look(alloc, disk)?;
+    cut_behind(disk, &found)?;
+    Ok(found)
+}
+
+/// The log of a file, and the journal that adds to it.
+pub fn open<D: Disk + Drop>(alloc: Global, disk: D) -> Result<(Log, Journal<D>), OpenError>
+    requires { D.is_modelled → D.known disk }
+    ensures log { D.is_modelled → IfOk result (λ found. (read : List Read) × (said (D.seen disk) ≡ Ok read) × IsLogOf read found.0) }
+    ensures same { D.is_modelled → IfOk result (λ found. D.known found.1.disk × (said (D.seen found.1.disk) ≡ said (D.seen disk))) }
+    ensures ready { D.is_modelled → IfOk result (λ found. IsReady D.known D.seen D.may_leave found.1) }
+    ensures any_moment { D.is_modelled → IfOk result (λ found. LeavesOnly D.moment D.left_since disk found.1.disk
+        (λ c. D.may_leave disk c ⊎ (said c ≡ said (D.seen disk)))) }
+{
+    let mut disk = disk;
+    let found = recover(alloc, &mut disk)?;
+    let journal = Journal {
+        disk,
+        end: found.end,
+        lines: found.lines,
+        is_broken: false,
+    };
+    Ok((found.log, journal))
+}
+
+/// Writes an empty line behind lines that have none, as a new file has. A crash leaves the bytes that were there.
+pub fn write_end<D: Disk>(alloc: Global, disk: &mut D) -> Result<(), OpenError>
+    requires { D.is_modelled → D.known disk.old }
+    ensures same { D.is_modelled → OnOk result (D.known disk.new × (said (D.seen disk.new) ≡ said (D.seen disk.old))) }
+    ensures written { D.is_modelled → OnOk result (D.seen disk.new ≡ D.seen disk.old ++ 10 ∷ []) }
+    ensures durable { D.is_modelled → OnOk result (Only (D.seen disk.new) (D.may_leave disk.new)) }
+    ensures any_moment { D.is_modelled → LeavesOnly D.moment D.left_since disk.old disk.new
+        (λ c. D.may_leave disk.old c ⊎ Keeps (length (D.seen disk.old)) (D.seen disk.old) c) }
+{
+    disk.sync()?;
+    let bytes = disk.read(alloc)?;
+    let mut reader = Device::new(&bytes[..]);
+    let _log = read_log(alloc, &mut reader)?;
+    disk.write_at(bytes.len(), b"\n")?;
+    disk.sync()?;
+    Ok(())
+}

@@ -1,0 +1,23 @@
+// What a pen and its file say together.
+ghost use Rattle.std.specs.Prelude.{List, ℕ, Option, Result};
+ghost use Rattle.std.specs.Borrow.{Bor};
+ghost use Rattle.reg_journal.specs.declared.journal.Journal.{Journal};
+ghost use Rattle.reg_leader.specs.declared.command.Command.{Command};
+ghost use Rattle.reg_leader.specs.declared.reply.Reply.{Reply};
+ghost use Rattle.reg_pen.specs.Pen.{PenState, Submits};
+ghost use Rattle.reg_records.specs.declared.log.LogFault.{LogFault};
+ghost use Rattle.reg_records.specs.declared.record.Read.{Read};
+ghost use Rattle.reg_topic.specs.declared.published.Item.{Item};
+ghost use Rattle.reg_topic.specs.declared.topic.Topic.{Topic};
+ghost use Rattle.reg_journal_keep.specs.Keeping.{KeepsFile};
+ghost use Rattle.reg_journal_keep.specs.Published.{SaysPublished};
+
+use reg_journal::Disk;
+
+/// A file that says what a pen has published, and what is pending, says so after each submit, unless a batch is lost.
+pub fn submits_keep_the_file<D: Disk>()
+    ensures { D.is_modelled → (first : Result (List Read) (ℕ × LogFault)) (base : Topic) (since : Option (Bor (List Item)))
+        (old new : PenState (Journal D)) (command : Command) (reply : Reply)
+        → Submits (KeepsFile D.is_modelled D.moment D.left_since D.seen) base since old command reply new
+        → SaysPublished D.seen first old → SaysPublished D.seen first new }
+{}

@@ -1,0 +1,8 @@
+//! The pen's keep over a log in a file.
+#![tactic(auto)]
+
+mod keeping;
+mod laws;
+
+pub use keeping::FileKeep;
+pub use laws::submits_keep_the_file;

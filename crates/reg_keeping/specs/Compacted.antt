@@ -1,0 +1,16 @@
+-- What compacting makes of a log.
+use Rattle.std.specs.Prelude.{◌≡◌, ◌≤◌, ℕ, List, [], length, Ok}
+use Rattle.std.specs.FinSet.{from_list}
+use Rattle.reg_records.specs.Log.{LogText, log_of, next_after, records_in}
+use Rattle.reg_set.specs.LastRecords.{last_records}
+
+-- the output is a log whose records are the last records of the input's, whose next offset is the same, in no more bytes
+pub record IsCompacted (input output : List ℕ) : Type 0 where
+  pub log : LogText
+  pub read : log_of input ≡ Ok log
+  pub out : LogText
+  pub read_back : log_of output ≡ Ok out
+  pub whole : out.rest ≡ []
+  pub lasts : from_list (records_in out.reads) ≡ last_records (from_list (records_in log.reads))
+  pub next : next_after out.reads ≡ next_after log.reads
+  pub small : length output ≤ length input

@@ -1,0 +1,5 @@
+pub mod Begun
+pub mod Compacted
+pub mod Filter
+pub mod Walk
+pub mod Words

@@ -1,0 +1,13 @@
+-- What the words of the command line ask for.
+use Rattle.std.specs.Prelude.{ℕ, [], ◌∷◌, List, codes, bytes_eq, if◌then◌else◌}
+use Rattle.reg_keeping.specs.declared.words.Command.{Command}
+use Rattle.reg_keeping.specs.declared.words.Command.TheVariants.{Compact, Help, Usage}
+
+abbrev pub command_named : List ℕ → Command
+command_named word =
+    if bytes_eq word (codes "compact") then Compact else (if bytes_eq word (codes "help") then Help else Usage)
+
+-- one of these words alone after the program's name
+abbrev pub command_of : List (List ℕ) → Command
+command_of (name ∷ word ∷ []) = command_named word
+command_of words = Usage

@@ -1,0 +1,117 @@
+// A filter from a reader to a writer.
+ghost use Rattle.std.specs.Prelude.{◌≡◌, List, ℕ, IfErr, IfOk, IfSome, OnErr, OnOk};
+ghost use Rattle.std.specs.Io.KnownBytes.{Appends};
+ghost use Rattle.reg_journal.specs.Found.{HasFault};
+ghost use Rattle.reg_keeping.specs.Compacted.{IsCompacted};
+ghost use Rattle.reg_keeping.specs.Filter.{IsFilterRefusal, IsNoReading, filter_error_of};
+ghost use Rattle.reg_keeping.specs.declared.filter.FilterError.TheVariants.{WriteFault};
+
+use crate::compacting::compacted;
+use reg_records::{LogError, LogFault};
+use std::alloc::Global;
+use std::error::Error;
+use std::fmt;
+use std::io::{ErrorKind, Read, Write};
+
+/// Why a filter ended before its end.
+#[derive(Clone, Copy, Debug, PartialEq, Eq)]
+pub enum FilterError {
+    /// The first line of the log that has a fault; lines count from 1. Nothing was written.
+    Log { line: u64, fault: LogFault },
+    /// The reader failed. Nothing was written.
+    ReadFault,
+    /// The writer failed. A part of the output may have been written.
+    WriteFault,
+    /// The log didn't find room. Nothing was written.
+    OutOfMemory,
+}
+
+impl FilterError {
+    ghost use Rattle.std.specs.Prelude.{◌≡◌};
+    ghost use Rattle.reg_keeping.specs.Filter.{exit_status};
+
+    /// The exit status of a program that ends with it.
+    pub fn status(self) -> u8
+        ensures { result ≡ exit_status self }
+    {
+        match self {
+            FilterError::Log { line: _, fault: _ } => 2,
+            FilterError::ReadFault | FilterError::WriteFault | FilterError::OutOfMemory => 1,
+        }
+    }
+}
+
+impl fmt::Display for FilterError {
+    ghost use Rattle.std.specs.Prelude.{Some};
+    ghost use Rattle.reg_keeping.specs.Filter.{filter_error_text};
+
+    ghost output = { λ error. Some (filter_error_text error) };
+
+    fn fmt<W: fmt::Write>(&self, f: &mut fmt::Formatter<W>) -> fmt::Result {
+        match *self {
+            FilterError::Log { line, fault } => write!(f, "line {line}: {fault}"),
+            FilterError::ReadFault => write!(f, "ReadFault"),
+            FilterError::WriteFault => write!(f, "WriteFault"),
+            FilterError::OutOfMemory => write!(f, "OutOfMemory"),
+        }
+    }
+}
+
+impl Error for FilterError {}
+
+/// Reads a log to the end of the input, and writes what compacting leaves of it. What stands behind the log's empty
+/// line is left out. The log is read to its end before the first byte is written.
+pub fn compact<R: Read, W: Write>(
+    alloc: Global,
+    reader: &mut R,
+    writer: &mut W,
+) -> Result<(), FilterError>
+    ensures written { OnOk result (IfSome (R.remaining reader.old) (λ input. (out : List ℕ) × IsCompacted input out
+        × Appends (W.contents writer.old) (W.contents writer.new) out)) }
+    ensures refused { IfErr result (IsFilterRefusal (R.remaining reader.old) (W.contents writer.old) (W.contents writer.new)) }
+{
+    let input = read_input(alloc, reader)?;
+    match compacted(alloc, &input) {
+        Ok(output) => write_output(writer, &output),
+        Err(e) => Err(filter_error(e)),
+    }
+}
+
+/// All that a reader gives.
+pub(crate) fn read_input<R: Read>(alloc: Global, reader: &mut R) -> Result<Vec<u8>, FilterError>
+    ensures read { IfOk result (λ bytes. IfSome (R.remaining reader.old) (λ input. bytes.items ≡ input)) }
+    ensures refused { IfErr result IsNoReading }
+{
+    let mut bytes = Vec::new(alloc);
+    match reader.read_to_end(&mut bytes) {
+        Ok(_) => Ok(bytes),
+        Err(e) => match e.kind() {
+            ErrorKind::OutOfMemory => Err(FilterError::OutOfMemory),
+            _ => Err(FilterError::ReadFault),
+        },
+    }
+}
+
+/// Writes the bytes whole.
+pub(crate) fn write_output<W: Write>(writer: &mut W, bytes: &[u8]) -> Result<(), FilterError>
+    ensures written { OnOk result (Appends (W.contents writer.old) (W.contents writer.new) bytes.now) }
+    ensures refused { IfErr result (λ e. e ≡ WriteFault) }
+{
+    if writer.write_all(bytes).is_err() {
+        return Err(FilterError::WriteFault);
+    }
+    match writer.flush() {
+        Ok(()) => Ok(()),
+        Err(_) => Err(FilterError::WriteFault),
+    }
+}
+
+pub(crate) fn filter_error(e: LogError) -> FilterError
+    ensures { result ≡ filter_error_of e }
+{
+    match e {
+        LogError::Fault { line, fault } => FilterError::Log { line, fault },
+        LogError::ReadFault { line: _ } => FilterError::ReadFault,
+        LogError::OutOfMemory => FilterError::OutOfMemory,
+    }
+}

@@ -1,0 +1,9 @@
+//! Tests of what is done with logs in files.
+#![tactic(auto)]
+
+#[cfg(test)]
+mod compactions;
+#[cfg(test)]
+mod faults;
+#[cfg(test)]
+mod openings;
