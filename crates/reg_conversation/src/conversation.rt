@@ -53,6 +53,22 @@ impl Conversation {
         self.held.len()
     }
 
+    /// The bytes that are held.
+    pub fn bytes(&self) -> &[u8]
+        ensures { result.now ≡ self.now }
+    {
+        &self.held
+    }
+
+    /// Gives back the memory of bytes that were answered, where none are held.
+    pub fn release(&mut self, alloc: Global)
+        ensures { self.new ≡ self.old }
+    {
+        if self.held.is_empty() {
+            self.held = Vec::new(alloc);
+        }
+    }
+
     /// Adds bytes that came.
     pub fn feed(&mut self, bytes: &[u8]) -> Result<(), AllocError>
         ensures fed { OnOk result (self.new ≡ self.old ++ bytes.now) }

@@ -4,7 +4,9 @@
 
 mod answering;
 mod conversation;
+mod desk;
 mod pieces;
 
 pub use conversation::Conversation;
+pub use desk::SharedDesk;
 pub use pieces::{PieceError, answer_rest, answer_whole, converse_in_pieces, take_piece};

@@ -1,3 +1,4 @@
 pub mod Fresh
+pub mod Learnt
 pub mod Plain
 pub mod Told

@@ -52,6 +52,27 @@ pub record IsFresh (first : Held) (seen : List Item) (view : List Take) : Type 0
   pub later : IsPrefix seen front
   pub whole : IsCompactionOf (taken told) (topic_at first front).log
 
+-- what answers stand on: a front of the topic's list, where there was a command, one of the node's list, and whether this shows that
+pub record Fronts : Type 0 where
+  pub topic : Option (List Item)
+  pub node : List Take
+  pub fresh : Bool
+
+-- a desk's answers stand on what it has seen
+abbrev pub StandsOn : Known → Fronts → Type 0
+StandsOn desk fronts = fronts ≡ record { topic = desk.seen; node = desk.view; fresh = desk.fresh }
+
+-- a desk learns of fronts: its own are then the longer ones, and nothing else changes
+pub record LearnsFronts (first : Held) (before : Known) (fronts : Fronts) (after : Known) : Type 0 where
+  pub one : (after.seen ≡ before.seen) ⊎ (after.seen ≡ fronts.topic)
+  pub topic_this : IsPrefix (front_of before.seen) (front_of after.seen)
+  pub topic_that : IsPrefix (front_of fronts.topic) (front_of after.seen)
+  pub node_this : IsPrefix before.view after.view
+  pub node_that : IsPrefix fronts.node after.view
+  pub same_submits : after.submits ≡ before.submits
+  pub fresh : after.fresh ≡ true → IsFresh first (front_of after.seen) after.view
+  pub stays_fresh : before.fresh ≡ true → fronts.fresh ≡ true → after.fresh ≡ true
+
 -- a query changes the view's front alone
 pub record DeskAsks (before : Known) (q : Query) (a : Result Answer AllocError) (after : Known) : Type 0 where
   pub answered : IfOk a (IsAnswer (last_records (taken after.view)) q)
@@ -95,3 +116,10 @@ module _ {K : Type 0} (keeps : K → List Record → Kept → K → Type 0) wher
     pub next : IsNext (base_of first) (front_of before.seen) c reply front
     pub shows : IsPrefix before.view after.view
     pub fresh : after.fresh ≡ true → IsFresh first front after.view
+
+  -- a command is done at one desk, which is fresh then; another learns of what that answer stood on, and answers a query: what its
+  -- node took by then is a compaction of the log of a list that begins with the command's front
+  abbrev pub ReadTheirWrites : Held → Type 0
+  ReadTheirWrites first = (one two : Known) (c : Command) (reply : Reply) (done : Known) (fronts : Fronts) (told : Known) (q : Query)
+      (a : Result Answer AllocError) (after : Known) → DeskCommands first one c reply done → done.fresh ≡ true → StandsOn done fronts
+      → LearnsFronts first two fronts told → DeskAsks told q a after → IsFresh first (front_of done.seen) after.view

@@ -1,11 +1,14 @@
 // A node's desk, of which each worker has one for all its connections.
-ghost use Rattle.std.specs.Prelude.{◌≡◌, true, false, None, option_map};
+ghost use Rattle.std.specs.Prelude.{◌≡◌, true, false, None, MatchBool, option_map};
+ghost use mathlib.Core.List.{IsPrefix};
 ghost use Rattle.reg_desk.specs.Desk.{IsFresh, front_of};
 
 use crate::catching::catch_up;
 use crate::gate::{Gate, pass_gate};
+use crate::standing::Standing;
 use crate::submitting::submit;
 use crate::wake::Wake;
+use reg_conversation::SharedDesk;
 use reg_feed::{Copies, FeedName, Seen};
 use reg_http::Desk;
 use reg_leader::{Command, Reply};
@@ -23,8 +26,8 @@ use std::sync::{Mutex, Wait};
 /// learns, pulls and publishes, and the view learns, before the reply is given. Queries are answered
 /// from the view.
 ///
-/// Contracts see the topic's front of the last command, the view's front, the count of submits, and
-/// whether nothing after the last submit was refused.
+/// Contracts see the topic's front of the last command, its own or one that it learnt of, the view's
+/// front, the count of submits, and whether nothing after that command's submit was refused.
 #[derive(Drop)]
 pub struct NodeDesk<
     'a,
@@ -108,14 +111,14 @@ impl<
         }
     }
 
-    /// The topic's front of the last command.
+    /// The topic's front of the last command, or a longer one that it learnt of.
     pub fn seen(&self) -> Option<&Seen<Item, Shared, N>>
         ensures { option_map (λ s. s.now) result ≡ self.now.seen }
     {
         self.seen.as_ref()
     }
 
-    /// Whether nothing after the last submit was refused.
+    /// Whether nothing after the submit that gave this front was refused.
     pub fn fresh(&self) -> bool
         ensures fresh { result ≡ self.now.fresh }
         ensures shown { result ≡ true → IsFresh N.first (front_of self.now.seen) self.now.view }
@@ -166,5 +169,57 @@ impl<
         self.fresh = catch_up(self.rt, self.follower, &mut self.view, &seen);
         self.seen = Some(seen);
         reply
+    }
+}
+
+impl<
+    'a,
+    N: FeedName<Item, Shared>,
+    S: Copies<Item, Shared, N>,
+    K: Keep + Drop,
+    M: FeedName<Take, Taken>,
+    U: Copies<Take, Taken, M>,
+    R: Wait + Drop,
+    G: Gate,
+    W: Wake,
+> SharedDesk for NodeDesk<'a, N, S, K, M, U, R, G, W> {
+    type Standing = Standing<N, M>;
+
+    ghost use Rattle.reg_desk.specs.Desk.{LearnsFronts, StandsOn};
+
+    ghost stands = { StandsOn };
+
+    ghost learns = { LearnsFronts N.first };
+
+    fn standing(&self) -> Standing<N, M> {
+        let topic = match &self.seen {
+            Some(seen) => Some(seen.again()),
+            None => None,
+        };
+        Standing::of(topic, self.view.seen().again(), self.fresh)
+    }
+
+    #[tactic(auto, using(crate::proofs::Learnt::stays_learnt, crate::proofs::Learnt::takes_learnt))]
+    fn learn(&mut self, standing: &Standing<N, M>) {
+        self.view.learn(standing.node());
+        if let Some(topic) = standing.topic() {
+            if is_news(&self.seen, topic) {
+                self.seen = Some(topic.again());
+                self.fresh = standing.fresh();
+            }
+        }
+    }
+}
+
+/// Whether a front goes beyond the one that is known.
+fn is_news<N: FeedName<Item, Shared>>(
+    known: &Option<Seen<Item, Shared, N>>,
+    told: &Seen<Item, Shared, N>,
+) -> bool
+    ensures { MatchBool result (IsPrefix (front_of known.now) told.now) (IsPrefix told.now (front_of known.now)) }
+{
+    match known {
+        Some(known) => !told.begins(known),
+        None => true,
     }
 }

@@ -4,9 +4,13 @@
 mod catching;
 mod desk;
 mod gate;
+mod laws;
+mod standing;
 mod submitting;
 mod wake;
 
 pub use desk::NodeDesk;
 pub use gate::Gate;
+pub use laws::connections_read_their_writes;
+pub use standing::Standing;
 pub use wake::Wake;

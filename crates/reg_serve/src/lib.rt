@@ -1,23 +1,13 @@
-//! Nodes that serve HTTP over sockets: a listener for each, threads that serve one connection at a time,
-//! and a thread that follows the topic.
+//! Nodes that serve HTTP over sockets. A doorkeeper holds the connections of a node and reads what arrives;
+//! workers answer the requests that are whole; a thread follows the topic.
 #![tactic(auto)]
 
-mod conversing;
-mod door;
+mod doorkeeper;
+mod hall;
 mod latch;
-mod limits;
 mod nodes;
-mod pace;
-mod peer;
-mod sockets;
-mod working;
+mod turns;
+mod worker;
 
-pub use conversing::{CALLS_LIMIT, Ended, converse};
-pub use door::{Door, Visit};
 pub use latch::Latch;
-pub use limits::Limits;
 pub use nodes::{Follow, Node, StartError, begin, open_node};
-pub use pace::Pace;
-pub use peer::{Peer, Receiving, Sending, Stream};
-pub use sockets::SocketDoor;
-pub use working::work;

@@ -1,15 +1,18 @@
-// Nodes: where each listens, its workers, and the thread that follows the topic.
+// Nodes: where each listens, its doorkeeper, its workers, and the thread that follows the topic.
 ghost use Rattle.std.specs.Prelude.{true, IsOk, OnOk};
 
+use crate::doorkeeper::Doorkeeper;
+use crate::hall::Hall;
 use crate::latch::Latch;
-use crate::limits::Limits;
-use crate::sockets::SocketDoor;
-use crate::working::work;
-use reg_http::Desk;
+use crate::worker::work;
+use mio::Poll;
+use reg_connection::Limits;
+use reg_conversation::SharedDesk;
 use std::alloc::Global;
-use std::net::TcpListener;
-use std::sync::Wait;
+use std::io;
+use std::net::{Net, TcpListener};
 use std::sync::atomic::{AtomicU64, Ordering};
+use std::sync::{Mutex, Wait};
 use std::thread::{Parker, Scope, Threads};
 use std::time::{Clock, Duration};
 
@@ -26,23 +29,40 @@ pub trait Follow {
     fn grown(&self) -> &Parker;
 }
 
-/// A node: where it listens, and who follows the topic for it.
+/// A node: where it listens, who follows the topic for it, and what its doorkeeper and its workers share.
 #[derive(Drop)]
-pub struct Node<'a, F> {
+pub struct Node<'a, F: Drop, T: Drop> {
     listener: &'a TcpListener,
     follower: F,
-    /// How many of its workers haven't ended.
+    workers: usize,
+    limits: Limits,
+    hall: Hall<T>,
+    poll: Mutex<Poll>,
+    /// How many of its threads but the follower's haven't ended.
     at_work: AtomicU64,
 }
 
-impl<'a, F> Node<'a, F> {
-    /// A node that isn't opened yet.
-    pub fn new(listener: &'a TcpListener, follower: F) -> Node<'a, F> {
-        Node {
+impl<'a, F: Drop, T: Drop> Node<'a, F, T> {
+    /// A node that isn't opened yet, with room for so many workers. Fails where memory, a descriptor or
+    /// the listener's options are refused.
+    pub fn new(
+        net: &impl Net,
+        alloc: Global,
+        listener: &'a TcpListener,
+        follower: F,
+        workers: usize,
+        limits: Limits,
+    ) -> io::Result<Node<'a, F, T>> {
+        let (hall, poll) = Hall::open(net, alloc, listener, limits.connections, workers)?;
+        Ok(Node {
             listener,
             follower,
+            workers,
+            limits,
+            hall,
+            poll: Mutex::new(poll),
             at_work: AtomicU64::new(0),
-        }
+        })
     }
 }
 
@@ -50,33 +70,40 @@ impl<'a, F> Node<'a, F> {
 #[derive(Clone, Copy, Debug, PartialEq, Eq)]
 pub struct StartError;
 
-/// Starts a node's threads, which wait at the latch: a worker for each desk, and the follower. With a
-/// limit each worker ends after so many connections, and the follower after the last worker. Fails
-/// where a thread can't be made; those that were made still wait at the latch.
+/// Starts a node's threads, which wait at the latch: the doorkeeper, a worker for each desk, and the
+/// follower. With a limit the node ends once so many of its connections were closed. Fails where a thread
+/// can't be made; those that were made still wait at the latch.
 pub fn open_node<
     's,
     E,
-    T: Threads + Wait + Clock + Sync + 's,
-    D: Desk + Send + Drop + 's,
-    F: Follow + Sync + 's,
+    R: Threads + Wait + Clock + Sync + 's,
+    T: Send + Drop + 's,
+    D: SharedDesk<Standing = T> + Send + Drop + 's,
+    F: Follow + Sync + Drop + 's,
 >(
     scope: &Scope<'s, E>,
-    rt: &'s T,
+    rt: &'s R,
     alloc: Global,
     latch: &'s Latch,
-    node: &'s Node<'s, F>,
+    node: &'s Node<'s, F, T>,
     desks: Vec<D>,
     limit: Option<u64>,
-    limits: Limits,
 ) -> Result<(), StartError> {
     for desk in desks {
         node.at_work.fetch_add(1, Ordering::SeqCst);
         if scope
-            .spawn(move || serve_at(rt, alloc, latch, node, desk, limit, limits))
+            .spawn(move || serve_at(rt, alloc, latch, node, desk))
             .is_err()
         {
             return Err(StartError);
         }
+    }
+    node.at_work.fetch_add(1, Ordering::SeqCst);
+    if scope
+        .spawn(move || keep_door(rt, alloc, latch, node, limit))
+        .is_err()
+    {
+        return Err(StartError);
     }
     if scope.spawn(move || follow_at(rt, latch, node)).is_err() {
         return Err(StartError);
@@ -85,26 +112,46 @@ pub fn open_node<
 }
 
 /// What a worker's thread does.
-fn serve_at<T: Wait + Clock, D: Desk + Drop, F: Follow>(
-    rt: &T,
+fn serve_at<R: Wait, D: SharedDesk + Drop, F: Follow + Drop>(
+    rt: &R,
     alloc: Global,
     latch: &Latch,
-    node: &Node<'_, F>,
+    node: &Node<'_, F, D::Standing>,
     desk: D,
-    limit: Option<u64>,
-    limits: Limits,
 ) {
     let mut desk = desk;
     if latch.pass(rt) {
-        let mut door = SocketDoor::new(rt, alloc, node.listener, limits);
-        work(rt, alloc, &mut door, &mut desk, limit);
+        let _refused = work(rt, alloc, &node.hall, &mut desk).is_err();
     }
+    leave_work(node);
+}
+
+/// What the doorkeeper's thread does.
+fn keep_door<R: Wait + Clock, T: Drop, F: Follow + Drop>(
+    rt: &R,
+    alloc: Global,
+    latch: &Latch,
+    node: &Node<'_, F, T>,
+    limit: Option<u64>,
+) {
+    if latch.pass(rt) {
+        let mut poll = node.poll.lock(rt);
+        if let Ok(mut doorkeeper) = Doorkeeper::new(alloc, node.listener, &node.hall, node.limits) {
+            let _refused = doorkeeper.keep(rt, &mut poll, limit).is_err();
+        }
+        node.hall.end(rt, node.workers);
+    }
+    leave_work(node);
+}
+
+/// A thread has ended.
+fn leave_work<T: Drop, F: Follow + Drop>(node: &Node<'_, F, T>) {
     node.at_work.fetch_sub(1, Ordering::SeqCst);
     node.follower.grown().unpark();
 }
 
-/// What a follower's thread does, until the last worker has ended.
-fn follow_at<T: Wait, F: Follow>(rt: &T, latch: &Latch, node: &Node<'_, F>) {
+/// What a follower's thread does, until all others have ended.
+fn follow_at<R: Wait, T: Drop, F: Follow + Drop>(rt: &R, latch: &Latch, node: &Node<'_, F, T>) {
     if !latch.pass(rt) {
         return;
     }

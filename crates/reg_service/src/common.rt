@@ -1,5 +1,5 @@
 // What all nodes share.
-use crate::running::Serving;
+use reg_connection::Limits;
 use reg_desk::Wake;
 use reg_serve::Latch;
 use std::alloc::Global;
@@ -22,7 +22,9 @@ pub(crate) struct Common<'a, R, G> {
     pub(crate) calls: &'a AtomicU64,
     /// The workers of a node.
     pub(crate) workers: u32,
-    pub(crate) serving: Serving,
+    /// After how many closed connections a node ends.
+    pub(crate) limit: Option<u64>,
+    pub(crate) limits: Limits,
 }
 
 /// Wakes the followers of the other nodes.

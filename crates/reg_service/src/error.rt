@@ -4,12 +4,13 @@ use reg_leader::AdoptError;
 use reg_records::LogError;
 use reg_serve::StartError;
 use std::alloc::{AllocError, AllocFailed};
+use std::io;
 use thiserror::Error;
 
 /// Why nodes can't be started. It is shown as its name.
 #[derive(Clone, Copy, Debug, PartialEq, Eq, Error)]
 pub enum StartFault {
-    /// Memory or a thread was refused.
+    /// Memory, a thread or a descriptor was refused.
     #[error("OutOfMemory")]
     OutOfMemory,
     /// A list has no place for another reader.
@@ -37,6 +38,13 @@ impl From<NoPlace> for StartFault {
 
 impl From<StartError> for StartFault {
     fn from(_refused: StartError) -> StartFault {
+        StartFault::OutOfMemory
+    }
+}
+
+/// A node's poll or its listener's options were refused.
+impl From<io::Error> for StartFault {
+    fn from(_refused: io::Error) -> StartFault {
         StartFault::OutOfMemory
     }
 }

@@ -4,13 +4,15 @@ use crate::error::StartFault;
 use crate::following::Following;
 use crate::running::{serve_one, serve_three, serve_two};
 use crate::seats::{Parts, make_desks};
+use reg_conversation::SharedDesk;
 use reg_desk::Gate;
 use reg_feed::{Copies, FeedName};
 use reg_node::{Take, Taken};
 use reg_pen::{MemoryAlone, Pass, Pen};
-use reg_serve::Node;
+use reg_serve::{Follow, Node};
 use reg_shared::Shared;
 use reg_topic::Item;
+use std::net::Net;
 use std::sync::{Mutex, Wait};
 use std::thread::Threads;
 use std::time::Clock;
@@ -22,7 +24,7 @@ pub(crate) fn hold_one<
     S: Copies<Item, Shared, N> + Send + Sync,
     L: FeedName<Take, Taken> + Send + Sync,
     T: Copies<Take, Taken, L> + Send + Sync,
-    R: Threads + Wait + Clock + Sync + Send + Copy + Drop,
+    R: Threads + Wait + Clock + Net + Sync + Send + Copy + Drop,
     G: Gate + Sync,
     F: FnOnce() -> bool,
 >(
@@ -64,14 +66,18 @@ pub(crate) fn hold_one<
         grown: grown.get(0).ok_or(StartFault::NoPlace)?,
     };
     let first_node = Node::new(
+        rt,
+        alloc,
         listeners.get(0).ok_or(StartFault::NoPlace)?,
         first_following,
-    );
+        common.workers as usize,
+        common.limits,
+    )?;
     serve_one(
         rt,
         alloc,
         common.latch,
-        common.serving,
+        common.limit,
         &first_node,
         first_desks,
         ready,
@@ -87,7 +93,7 @@ pub(crate) fn hold_two<
     T: Copies<Take, Taken, L> + Send + Sync,
     M: FeedName<Take, Taken> + Send + Sync,
     U: Copies<Take, Taken, M> + Send + Sync,
-    R: Threads + Wait + Clock + Sync + Send + Copy + Drop,
+    R: Threads + Wait + Clock + Net + Sync + Send + Copy + Drop,
     G: Gate + Sync,
     F: FnOnce() -> bool,
 >(
@@ -130,9 +136,13 @@ pub(crate) fn hold_two<
         grown: grown.get(0).ok_or(StartFault::NoPlace)?,
     };
     let first_node = Node::new(
+        rt,
+        alloc,
         listeners.get(0).ok_or(StartFault::NoPlace)?,
         first_following,
-    );
+        common.workers as usize,
+        common.limits,
+    )?;
     let Parts {
         follower: second_follower,
         views: second_views,
@@ -156,14 +166,18 @@ pub(crate) fn hold_two<
         grown: grown.get(1).ok_or(StartFault::NoPlace)?,
     };
     let second_node = Node::new(
+        rt,
+        alloc,
         listeners.get(1).ok_or(StartFault::NoPlace)?,
         second_following,
-    );
+        common.workers as usize,
+        common.limits,
+    )?;
     serve_two(
         rt,
         alloc,
         common.latch,
-        common.serving,
+        common.limit,
         &first_node,
         first_desks,
         &second_node,
@@ -172,7 +186,7 @@ pub(crate) fn hold_two<
     )
 }
 
-/// Makes the desks of three nodes, and serves by them.
+/// Makes the desks of the first of three nodes, and goes on with the second.
 pub(crate) fn hold_three<
     'x,
     N: FeedName<Item, Shared> + Send + Sync,
@@ -183,7 +197,7 @@ pub(crate) fn hold_three<
     U: Copies<Take, Taken, M> + Send + Sync,
     O: FeedName<Take, Taken> + Send + Sync,
     V: Copies<Take, Taken, O> + Send + Sync,
-    R: Threads + Wait + Clock + Sync + Send + Copy + Drop,
+    R: Threads + Wait + Clock + Net + Sync + Send + Copy + Drop,
     G: Gate + Sync,
     F: FnOnce() -> bool,
 >(
@@ -198,101 +212,175 @@ pub(crate) fn hold_three<
     requires { F.IsAlwaysCallable ready }
 {
     let mut passes = passes;
-    let alloc = common.alloc;
-    let rt = common.rt;
-    let gate = common.gate;
-    let calls = common.calls;
     let grown = common.grown;
-    let listeners = common.listeners;
-    let Parts {
-        follower: first_follower,
-        views: first_views,
-    } = first;
-    let first_follower = Mutex::new(first_follower);
-    let first_others = Others { grown, own: 0 };
-    let first_desks = make_desks(
-        rt,
-        alloc,
+    let Parts { follower, views } = first;
+    let follower = Mutex::new(follower);
+    let others = Others { grown, own: 0 };
+    let desks = make_desks(
+        common.rt,
+        common.alloc,
         pen,
         &mut passes,
-        &first_follower,
-        gate,
-        &first_others,
-        calls,
-        first_views,
+        &follower,
+        common.gate,
+        &others,
+        common.calls,
+        views,
     )?;
-    let first_following = Following {
-        rt,
-        follower: &first_follower,
+    let following = Following {
+        rt: common.rt,
+        follower: &follower,
         grown: grown.get(0).ok_or(StartFault::NoPlace)?,
     };
-    let first_node = Node::new(
-        listeners.get(0).ok_or(StartFault::NoPlace)?,
-        first_following,
-    );
-    let Parts {
-        follower: second_follower,
-        views: second_views,
-    } = second;
-    let second_follower = Mutex::new(second_follower);
-    let second_others = Others { grown, own: 1 };
-    let second_desks = make_desks(
-        rt,
-        alloc,
+    let node = Node::new(
+        common.rt,
+        common.alloc,
+        common.listeners.get(0).ok_or(StartFault::NoPlace)?,
+        following,
+        common.workers as usize,
+        common.limits,
+    )?;
+    hold_second(common, pen, passes, &node, desks, second, third, ready)
+}
+
+/// Makes the desks of the second of three nodes, and goes on with the third.
+fn hold_second<
+    'y,
+    T1: Send + Drop + 'y,
+    D1: SharedDesk<Standing = T1> + Send + Drop + 'y,
+    W1: Follow + Sync + Drop + 'y,
+    N: FeedName<Item, Shared> + Send + Sync,
+    S: Copies<Item, Shared, N> + Send + Sync,
+    M: FeedName<Take, Taken> + Send + Sync,
+    U: Copies<Take, Taken, M> + Send + Sync,
+    O: FeedName<Take, Taken> + Send + Sync,
+    V: Copies<Take, Taken, O> + Send + Sync,
+    R: Threads + Wait + Clock + Net + Sync + Send + Copy + Drop,
+    G: Gate + Sync,
+    F: FnOnce() -> bool,
+>(
+    common: &'y Common<'y, R, G>,
+    pen: &'y Mutex<Pen<N, S, MemoryAlone, R>>,
+    passes: Vec<Pass<N>>,
+    first: &'y Node<'y, W1, T1>,
+    first_desks: Vec<D1>,
+    second: Parts<N, S, M, U, R>,
+    third: Parts<N, S, O, V, R>,
+    ready: F,
+) -> Result<(), StartFault>
+    requires { F.IsAlwaysCallable ready }
+{
+    let mut passes = passes;
+    let grown = common.grown;
+    let Parts { follower, views } = second;
+    let follower = Mutex::new(follower);
+    let others = Others { grown, own: 1 };
+    let desks = make_desks(
+        common.rt,
+        common.alloc,
         pen,
         &mut passes,
-        &second_follower,
-        gate,
-        &second_others,
-        calls,
-        second_views,
+        &follower,
+        common.gate,
+        &others,
+        common.calls,
+        views,
     )?;
-    let second_following = Following {
-        rt,
-        follower: &second_follower,
+    let following = Following {
+        rt: common.rt,
+        follower: &follower,
         grown: grown.get(1).ok_or(StartFault::NoPlace)?,
     };
-    let second_node = Node::new(
-        listeners.get(1).ok_or(StartFault::NoPlace)?,
-        second_following,
-    );
-    let Parts {
-        follower: third_follower,
-        views: third_views,
-    } = third;
-    let third_follower = Mutex::new(third_follower);
-    let third_others = Others { grown, own: 2 };
-    let third_desks = make_desks(
-        rt,
-        alloc,
+    let node = Node::new(
+        common.rt,
+        common.alloc,
+        common.listeners.get(1).ok_or(StartFault::NoPlace)?,
+        following,
+        common.workers as usize,
+        common.limits,
+    )?;
+    hold_third(
+        common,
+        pen,
+        passes,
+        first,
+        first_desks,
+        &node,
+        desks,
+        third,
+        ready,
+    )
+}
+
+/// Makes the desks of the third node, and serves by all three.
+fn hold_third<
+    'y,
+    T1: Send + Drop + 'y,
+    D1: SharedDesk<Standing = T1> + Send + Drop + 'y,
+    W1: Follow + Sync + Drop + 'y,
+    T2: Send + Drop + 'y,
+    D2: SharedDesk<Standing = T2> + Send + Drop + 'y,
+    W2: Follow + Sync + Drop + 'y,
+    N: FeedName<Item, Shared> + Send + Sync,
+    S: Copies<Item, Shared, N> + Send + Sync,
+    O: FeedName<Take, Taken> + Send + Sync,
+    V: Copies<Take, Taken, O> + Send + Sync,
+    R: Threads + Wait + Clock + Net + Sync + Send + Copy + Drop,
+    G: Gate + Sync,
+    F: FnOnce() -> bool,
+>(
+    common: &'y Common<'y, R, G>,
+    pen: &'y Mutex<Pen<N, S, MemoryAlone, R>>,
+    passes: Vec<Pass<N>>,
+    first: &'y Node<'y, W1, T1>,
+    first_desks: Vec<D1>,
+    second: &'y Node<'y, W2, T2>,
+    second_desks: Vec<D2>,
+    third: Parts<N, S, O, V, R>,
+    ready: F,
+) -> Result<(), StartFault>
+    requires { F.IsAlwaysCallable ready }
+{
+    let mut passes = passes;
+    let grown = common.grown;
+    let Parts { follower, views } = third;
+    let follower = Mutex::new(follower);
+    let others = Others { grown, own: 2 };
+    let desks = make_desks(
+        common.rt,
+        common.alloc,
         pen,
         &mut passes,
-        &third_follower,
-        gate,
-        &third_others,
-        calls,
-        third_views,
+        &follower,
+        common.gate,
+        &others,
+        common.calls,
+        views,
     )?;
-    let third_following = Following {
-        rt,
-        follower: &third_follower,
+    let following = Following {
+        rt: common.rt,
+        follower: &follower,
         grown: grown.get(2).ok_or(StartFault::NoPlace)?,
     };
-    let third_node = Node::new(
-        listeners.get(2).ok_or(StartFault::NoPlace)?,
-        third_following,
-    );
+    let node = Node::new(
+        common.rt,
+        common.alloc,
+        common.listeners.get(2).ok_or(StartFault::NoPlace)?,
+        following,
+        common.workers as usize,
+        common.limits,
+    )?;
     serve_three(
-        rt,
-        alloc,
+        common.rt,
+        common.alloc,
         common.latch,
-        common.serving,
-        &first_node,
+        common.limit,
+        first,
         first_desks,
-        &second_node,
+        second,
         second_desks,
-        &third_node,
-        third_desks,
+        &node,
+        desks,
         ready,
     )
 }

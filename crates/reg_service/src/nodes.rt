@@ -8,19 +8,19 @@ ghost use Rattle.reg_shared.specs.Held.{held_of};
 use crate::common::Common;
 use crate::error::StartFault;
 use crate::holding::{hold_one, hold_three, hold_two};
-use crate::running::Serving;
 use crate::seats::{Parts, Seats, make_parts};
+use reg_connection::Limits;
 use reg_desk::Gate;
 use reg_feed::{Copies, FeedName, Stored, Unnamed};
 use reg_node::{Take, Taken};
 use reg_pen::{MemoryAlone, Pen, open};
 use reg_records::{Device, Log, read_log};
-use reg_serve::{Latch, Limits};
+use reg_serve::Latch;
 use reg_shared::Shared;
 use reg_topic::Item;
 use std::alloc::Global;
 use std::marker::Brand;
-use std::net::TcpListener;
+use std::net::{Net, TcpListener};
 use std::sync::atomic::AtomicU64;
 use std::sync::{Mutex, Wait};
 use std::thread::{Parker, Threads};
@@ -29,14 +29,14 @@ use std::time::Clock;
 /// The most nodes.
 pub const NODES_LIMIT: usize = 3;
 
-/// Serves an empty topic by a node for each of at most three listeners, each with so many workers, of
-/// which each serves one connection at a time. A worker calls the gate before it answers a query or
-/// does a command. `ready` is called once all threads were made.
+/// Serves an empty topic by a node for each of at most three listeners, each with a doorkeeper, which holds
+/// the connections, and so many workers, of which each answers one connection at a time. A worker calls
+/// the gate before it answers a query or does a command. `ready` is called once all threads were made.
 ///
-/// With a limit each worker ends after so many connections, and the call returns once all have ended.
-/// Without one it returns only where the nodes can't be started.
+/// With a limit a node ends once as many times its workers of its connections were closed, and the call
+/// returns once all have ended. Without one it returns only where the nodes can't be started.
 pub fn serve_nodes<
-    R: Threads + Wait + Clock + Sync + Send + Copy + Drop,
+    R: Threads + Wait + Clock + Net + Sync + Send + Copy + Drop,
     G: Gate + Sync,
     F: FnOnce() -> bool,
 >(
@@ -58,6 +58,7 @@ pub fn serve_nodes<
     }
     let latch = Latch::new();
     let calls = AtomicU64::new(0);
+    let workers = workers.max(1);
     let common = Common {
         rt: &rt,
         alloc,
@@ -66,11 +67,9 @@ pub fn serve_nodes<
         latch: &latch,
         gate,
         calls: &calls,
-        workers: workers.max(1),
-        serving: Serving {
-            limit,
-            limits: Limits::USUAL,
-        },
+        workers,
+        limit: limit.map(|connections| connections.saturating_mul(u64::from(workers))),
+        limits: Limits::of_nodes(listeners.len().min(NODES_LIMIT)),
     };
     serve_topic::<Brand, R, G, F>(&common, Unnamed::new(), &base, ready)
 }
@@ -78,7 +77,7 @@ pub fn serve_nodes<
 /// Makes the topic, and goes on with the nodes.
 fn serve_topic<
     N: FeedName<Item, Shared> + Send + Sync,
-    R: Threads + Wait + Clock + Sync + Send + Copy + Drop,
+    R: Threads + Wait + Clock + Net + Sync + Send + Copy + Drop,
     G: Gate + Sync,
     F: FnOnce() -> bool,
 >(common: &Common<'_, R, G>, list: Unnamed<Item>, base: &Log, ready: F) -> Result<(), StartFault>
@@ -113,7 +112,8 @@ fn serve_topic<
         gate: common.gate,
         calls: common.calls,
         workers: common.workers,
-        serving: common.serving,
+        limit: common.limit,
+        limits: common.limits,
     };
     let seats = Seats {
         passes: opened.passes,
@@ -139,7 +139,7 @@ fn add_first<
     N: FeedName<Item, Shared> + Send + Sync,
     S: Copies<Item, Shared, N> + Send + Sync,
     L: FeedName<Take, Taken> + Send + Sync,
-    R: Threads + Wait + Clock + Sync + Send + Copy + Drop,
+    R: Threads + Wait + Clock + Net + Sync + Send + Copy + Drop,
     G: Gate + Sync,
     F: FnOnce() -> bool,
 >(
@@ -175,7 +175,7 @@ fn add_second<
     L: FeedName<Take, Taken> + Send + Sync,
     T: Copies<Take, Taken, L> + Send + Sync,
     M: FeedName<Take, Taken> + Send + Sync,
-    R: Threads + Wait + Clock + Sync + Send + Copy + Drop,
+    R: Threads + Wait + Clock + Net + Sync + Send + Copy + Drop,
     G: Gate + Sync,
     F: FnOnce() -> bool,
 >(
@@ -215,7 +215,7 @@ fn add_third<
     M: FeedName<Take, Taken> + Send + Sync,
     U: Copies<Take, Taken, M> + Send + Sync,
     O: FeedName<Take, Taken> + Send + Sync,
-    R: Threads + Wait + Clock + Sync + Send + Copy + Drop,
+    R: Threads + Wait + Clock + Net + Sync + Send + Copy + Drop,
     G: Gate + Sync,
     F: FnOnce() -> bool,
 >(

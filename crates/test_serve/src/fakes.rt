@@ -1,101 +1,115 @@
-// A clock that goes on only when a connection waits, connections by a script, and a door of texts.
+// Streams by a script, and desks that tell what they know.
 ghost use Rattle.std.specs.Io.{ReadsAtMost, WritesAtMost};
 ghost use Rattle.std.specs.Prelude.{⊤};
 
 use base_text::Text;
+use reg_connection::Stream;
+use reg_conversation::SharedDesk;
 use reg_http::Desk;
 use reg_leader::{Command, Reply};
 use reg_lookup::{Answer, Query};
-use reg_records::Device;
-use reg_serve::{Door, Ended, Stream, Visit};
 use std::alloc::{AllocError, Global};
 use std::cell::Cell;
 use std::io::{self, ErrorKind};
+use std::sync::atomic::{AtomicU64, Ordering};
+use std::thread;
 use std::time::{Clock, Duration};
 
-/// A clock in milliseconds.
-#[derive(Drop)]
-pub struct FakeClock {
-    pub millis: Cell<u64>,
+/// What a read of a fake stream meets.
+#[derive(Clone, Copy)]
+pub enum Step {
+    Gives(&'static [u8]),
+    /// Nothing is there yet.
+    Nothing,
+    Interrupted,
+    /// The client has ended its side.
+    Ended,
+    /// The connection is reset.
+    Reset,
 }
 
-impl FakeClock {
-    pub fn new() -> FakeClock {
-        FakeClock {
-            millis: Cell::new(0),
-        }
-    }
-
-    pub fn go_on(&self, millis: u64) {
-        self.millis.set(self.millis.get().saturating_add(millis));
-    }
-}
-
-impl Clock for FakeClock {
-    fn monotonic(&self) -> io::Result<Duration> {
-        Ok(Duration::from_millis(self.millis.get()))
-    }
-
-    fn since_1970(&self) -> io::Result<Duration> {
-        self.monotonic()
-    }
-}
-
-/// A client that gives so many bytes at each read, each after so many milliseconds; none: it is silent,
-/// and each call waits a second for nothing. It takes no byte of what is written where it is silent.
+/// A connection whose client does these steps, the last one again and again, and takes so many bytes.
 #[derive(Drop)]
 pub struct FakeStream<'a> {
-    pub clock: &'a FakeClock,
-    pub piece: usize,
-    pub after: u64,
-    /// How many bytes it gave.
-    pub sent: &'a Cell<u64>,
+    pub steps: &'a [Step],
+    pub at: Cell<usize>,
+    /// How many bytes the client still takes.
+    pub room: &'a Cell<usize>,
+    /// How many bytes it took.
+    pub taken: &'a Cell<usize>,
     /// Whether it was told that nothing more will be written.
     pub ended: &'a Cell<bool>,
 }
 
 impl Stream for FakeStream<'_> {
     fn receive(&self, buf: &mut [u8]) -> io::Result<usize> {
-        if self.piece == 0 {
-            self.clock.go_on(1_000);
-            return Err(io::Error::from(ErrorKind::WouldBlock));
+        let at = self.at.get();
+        let next = at.saturating_add(1);
+        if next < self.steps.len() {
+            self.at.set(next);
         }
-        self.clock.go_on(self.after);
-        let n = self.piece.min(buf.len());
-        self.sent.set(self.sent.get().saturating_add(n as u64));
-        Ok(n)
+        match self.steps.get(at) {
+            Some(Step::Gives(bytes)) => {
+                let n = bytes.len().min(buf.len());
+                buf[..n].copy_from_slice(&bytes[..n]);
+                Ok(n)
+            }
+            Some(Step::Interrupted) => Err(io::Error::from(ErrorKind::Interrupted)),
+            Some(Step::Ended) => Ok(0),
+            Some(Step::Reset) => Err(io::Error::from(ErrorKind::ConnectionReset)),
+            Some(Step::Nothing) | None => Err(io::Error::from(ErrorKind::WouldBlock)),
+        }
     }
 
     fn send(&self, buf: &[u8]) -> io::Result<usize> {
-        if self.piece == 0 {
-            self.clock.go_on(1_000);
+        let n = self.room.get().min(buf.len());
+        if n == 0 {
             return Err(io::Error::from(ErrorKind::WouldBlock));
         }
-        self.clock.go_on(self.after);
-        Ok(self.piece.min(buf.len()))
+        self.room.set(self.room.get().saturating_sub(n));
+        self.taken.set(self.taken.get().saturating_add(n));
+        Ok(n)
     }
 
     fn end_writing(&self) -> io::Result<()> {
         self.ended.set(true);
         Ok(())
     }
+
+    fn set_patient(&self, _patient: bool) -> io::Result<()> {
+        Ok(())
+    }
 }
 
-/// A desk that counts, and answers each query with the count.
-#[derive(Debug, Drop)]
-pub struct CountingDesk {
-    pub count: u32,
+/// What the desks of a test share: how many commands there were, and whether they are held up.
+#[derive(Drop)]
+pub struct Ledger {
+    pub commands: AtomicU64,
+    pub held: AtomicU64,
 }
 
-impl Desk for CountingDesk {
-    ghost asks = { λ _ _ _ _. ⊤ };
+impl Ledger {
+    pub fn new(held: u64) -> Ledger {
+        Ledger {
+            commands: AtomicU64::new(0),
+            held: AtomicU64::new(held),
+        }
+    }
+}
 
-    ghost commands = { λ _ _ _ _. ⊤ };
+/// A desk that answers the schema of an id by that number, the mode by a million bytes, and any other query
+/// by the greatest number that it knows: each command is numbered. A command waits while they are held up, but ten seconds at most.
+#[derive(Drop)]
+pub struct EchoDesk<'a, R: Clock> {
+    pub rt: &'a R,
+    pub known: u64,
+    pub ledger: &'a Ledger,
+}
 
-    fn ask(&mut self, alloc: Global, _query: &Query) -> Result<Answer, AllocError> {
-        self.count = self.count.saturating_add(1);
+impl<R: Clock> EchoDesk<'_, R> {
+    fn answer_of(alloc: Global, number: u64) -> Result<Answer, AllocError> {
         let mut text = String::new(alloc);
-        if write!(text, "[{}]", self.count).is_err() {
+        if write!(text, "[{number}]").is_err() {
             return Err(AllocError);
         }
         Ok(Answer {
@@ -103,66 +117,59 @@ impl Desk for CountingDesk {
             body: Text::copy_of(alloc, text.as_str())?,
         })
     }
+}
+
+impl<R: Clock> EchoDesk<'_, R> {
+    fn long_answer(alloc: Global) -> Result<Answer, AllocError> {
+        let mut text = String::new(alloc);
+        for _piece in 0..100_000 {
+            text.push_str("xxxxxxxxxx")?;
+        }
+        Ok(Answer {
+            status: 200,
+            body: Text::copy_of(alloc, text.as_str())?,
+        })
+    }
+}
+
+impl<R: Clock> Desk for EchoDesk<'_, R> {
+    ghost asks = { λ _ _ _ _. ⊤ };
+
+    ghost commands = { λ _ _ _ _. ⊤ };
+
+    fn ask(&mut self, alloc: Global, query: &Query) -> Result<Answer, AllocError> {
+        match query {
+            Query::SchemaById { id } => EchoDesk::<R>::answer_of(alloc, u64::from(*id)),
+            Query::Mode { .. } => EchoDesk::<R>::long_answer(alloc),
+            _ => EchoDesk::<R>::answer_of(alloc, self.known),
+        }
+    }
 
     fn command(&mut self, _command: &Command) -> Reply {
+        for _turn in 0..10_000 {
+            if self.ledger.held.load(Ordering::SeqCst) == 0 {
+                break;
+            }
+            thread::sleep(self.rt, Duration::from_millis(1));
+        }
+        let before = self.ledger.commands.fetch_add(1, Ordering::SeqCst);
+        self.known = before.saturating_add(1);
         Reply::Nothing
     }
 }
 
-/// A door through which texts come, one after the other; before every second one a connection is
-/// missed. What was written to each is kept.
-#[derive(Drop)]
-pub struct TextDoor<'a> {
-    pub alloc: Global,
-    pub texts: &'a [&'a [u8]],
-    /// How many of them have come.
-    pub at: usize,
-    pub missed: u64,
-    pub even: bool,
-    pub written: String,
-    pub failed: u64,
-}
+impl<R: Clock> SharedDesk for EchoDesk<'_, R> {
+    type Standing = u64;
 
-impl<'a> Door for TextDoor<'a> {
-    type Reader = &'a [u8];
+    ghost stands = { λ _ _. ⊤ };
 
-    type Writer = Vec<u8>;
+    ghost learns = { λ _ _ _. ⊤ };
 
-    ghost admits = { λ _ _ _. ⊤ };
-
-    ghost misses = { λ _ _. ⊤ };
-
-    ghost leaves = { λ _ _ _ _. ⊤ };
-
-    fn admit(&mut self) -> Option<Visit<&'a [u8], Vec<u8>>> {
-        self.even = !self.even;
-        if self.even {
-            self.missed = self.missed.saturating_add(1);
-            return None;
-        }
-        let texts = self.texts;
-        let text = texts.get(self.at)?;
-        self.at = self.at.saturating_add(1);
-        Some(Visit {
-            reader: Device::new(*text),
-            writer: Device::new(Vec::new(self.alloc)),
-        })
+    fn standing(&self) -> u64 {
+        self.known
     }
 
-    fn leave(&mut self, visit: Visit<&'a [u8], Vec<u8>>, ended: Ended)
-        ensures { ⊤ }
-    {
-        let Visit { reader: _, writer } = visit;
-        let bytes = writer.into_inner();
-        if ended != Ended::Over {
-            self.failed = self.failed.saturating_add(1);
-        }
-        let pushed = match str::from_utf8(bytes.as_slice()) {
-            Ok(text) => self.written.push_str(text).is_ok(),
-            Err(_) => false,
-        };
-        if !pushed {
-            self.failed = self.failed.saturating_add(1);
-        }
+    fn learn(&mut self, standing: &u64) {
+        self.known = self.known.max(*standing);
     }
 }

@@ -1,11 +1,15 @@
-//! Tests of the workers and of their limits, over connections and clocks of their own.
+//! Tests of connections by scripts of their own, and of nodes over sockets.
 #![tactic(auto)]
 
 #[cfg(test)]
+mod clients;
+#[cfg(test)]
 mod fakes;
 #[cfg(test)]
-mod limits;
+mod looks;
 #[cfg(test)]
 mod nodes;
 #[cfg(test)]
-mod working;
+mod pieces;
+#[cfg(test)]
+mod turns;

@@ -11,9 +11,12 @@ use std::time::{Clock, Duration};
 
 const CLIENTS: u64 = 8;
 
-/// The workers of a node, each for one connection: one for the level, three for clients, and one for
-/// what the node says in the end.
-const WORKERS: u32 = 5;
+/// The workers of a node: fewer than its clients, so that connections go from worker to worker.
+const WORKERS: u32 = 2;
+
+/// A node ends after so many connections for each of its workers: there are one for the level, three for
+/// clients and one for what the node says in the end, and some more to use them up.
+const CONNECTIONS: u64 = 3;
 
 const ROUNDS: u64 = 16;
 
@@ -284,12 +287,12 @@ fn serve<R: Threads + Wait + Clock + Net<Listener = TcpListener, Stream = TcpStr
                 alloc,
                 listeners,
                 WORKERS,
-                Some(1),
+                Some(CONNECTIONS),
                 &NoGate,
                 || true,
             ));
             let told = use_nodes(alloc, rt, addresses);
-            use_up(rt, addresses, WORKERS);
+            use_up(rt, addresses, WORKERS * CONNECTIONS as u32);
             told
         },
     )

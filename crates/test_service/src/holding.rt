@@ -73,7 +73,7 @@ fn ask_both<R: Clock + Net<Stream = TcpStream>>(
 }
 
 /// What `ask_both` gives while nodes serve, each with so many workers.
-fn serve<R: Threads + Wait + Clock + Net<Stream = TcpStream> + Sync>(
+fn serve<R: Threads + Wait + Clock + Net<Listener = TcpListener, Stream = TcpStream> + Sync>(
     alloc: Global,
     rt: &R,
     gate: &Holding<'_, R>,

@@ -143,7 +143,7 @@ fn hear_all<R: Net<Stream = TcpStream>>(
 }
 
 /// What the clients read of a node whose only worker serves as many connections as there are rows.
-fn serve<R: Threads + Wait + Clock + Net<Stream = TcpStream> + Sync>(
+fn serve<R: Threads + Wait + Clock + Net<Listener = TcpListener, Stream = TcpStream> + Sync>(
     alloc: Global,
     rt: &R,
     listeners: &[TcpListener],

@@ -1,0 +1,43 @@
+// A connection as the system gives it.
+use std::io::{self, Read, Write};
+use std::net::{Shutdown, TcpStream};
+
+/// A connection as the system gives it.
+pub trait Stream {
+    ghost use Rattle.std.specs.Io.{ReadsAtMost, WritesAtMost};
+
+    /// Reads into `buf`, and says how many bytes; 0 where the client has ended its side. `WouldBlock`
+    /// where nothing is there.
+    fn receive(&self, buf: &mut [u8]) -> io::Result<usize>
+        ensures { ReadsAtMost result buf.new };
+
+    /// Writes a front of `buf`, and says how many bytes. `WouldBlock` where the client takes none now.
+    fn send(&self, buf: &[u8]) -> io::Result<usize>
+        ensures { WritesAtMost result buf.now };
+
+    /// Tells the client that nothing more will be written.
+    fn end_writing(&self) -> io::Result<()>;
+
+    /// Whether a read or write that can't go on waits for a while, before it answers `WouldBlock`.
+    fn set_patient(&self, patient: bool) -> io::Result<()>;
+}
+
+impl Stream for TcpStream {
+    fn receive(&self, buf: &mut [u8]) -> io::Result<usize> {
+        let mut stream = self;
+        stream.read(buf)
+    }
+
+    fn send(&self, buf: &[u8]) -> io::Result<usize> {
+        let mut stream = self;
+        stream.write(buf)
+    }
+
+    fn end_writing(&self) -> io::Result<()> {
+        self.shutdown(Shutdown::Write)
+    }
+
+    fn set_patient(&self, patient: bool) -> io::Result<()> {
+        self.set_nonblocking(!patient)
+    }
+}

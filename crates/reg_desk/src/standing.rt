@@ -1,0 +1,65 @@
+// What a desk's answers stand on, which goes with a connection to the next desk.
+ghost use Rattle.std.specs.Prelude.{◌≡◌, true, option_map};
+ghost use Rattle.reg_desk.specs.Desk.{IsFresh, front_of};
+
+use reg_feed::{FeedName, Seen};
+use reg_node::{Take, Taken};
+use reg_shared::Shared;
+use reg_topic::Item;
+use std::marker::Model;
+
+/// What a desk's answers stand on: a front of the topic's list, where there was a command, and one of its
+/// node's list. Where it is fresh the node's front shows the topic's.
+#[derive(Drop)]
+pub struct Standing<N: FeedName<Item, Shared>, M: FeedName<Take, Taken>> {
+    topic: Option<Seen<Item, Shared, N>>,
+    node: Seen<Take, Taken, M>,
+    fresh: bool,
+}
+
+impl<N: FeedName<Item, Shared>, M: FeedName<Take, Taken>> Model for Standing<N, M> {
+    ghost use Rattle.std.specs.Prelude.{◌≡◌, true};
+    ghost use Rattle.reg_desk.specs.Desk.{Fronts, IsFresh, front_of};
+
+    ghost Value = { Fronts };
+
+    ghost view = { λ s. record { topic = s.topic; node = s.node; fresh = s.fresh } };
+
+    ghost invariant = { λ s. s.fresh ≡ true → IsFresh N.first (front_of s.topic) s.node };
+}
+
+impl<N: FeedName<Item, Shared>, M: FeedName<Take, Taken>> Standing<N, M> {
+    /// What stands on these fronts.
+    pub(crate) fn of(
+        topic: Option<Seen<Item, Shared, N>>,
+        node: Seen<Take, Taken, M>,
+        fresh: bool,
+    ) -> Standing<N, M>
+        requires { fresh ≡ true → IsFresh N.first (front_of topic) node }
+        ensures { result ≡ record { topic = topic; node = node; fresh = fresh } }
+    {
+        Standing { topic, node, fresh }
+    }
+
+    /// The front of the topic's list, where there was a command.
+    pub(crate) fn topic(&self) -> Option<&Seen<Item, Shared, N>>
+        ensures front { option_map (λ s. s.now) result ≡ self.now.topic }
+        ensures shown { self.now.fresh ≡ true → IsFresh N.first (front_of self.now.topic) self.now.node }
+    {
+        self.topic.as_ref()
+    }
+
+    /// The front of the node's list.
+    pub(crate) fn node(&self) -> &Seen<Take, Taken, M>
+        ensures { result.now ≡ self.now.node }
+    {
+        &self.node
+    }
+
+    /// Whether the node's front shows the topic's.
+    pub(crate) fn fresh(&self) -> bool
+        ensures { result ≡ self.now.fresh }
+    {
+        self.fresh
+    }
+}

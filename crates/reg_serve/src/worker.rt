@@ -1,0 +1,337 @@
+// A worker: it answers the requests that are whole, of one connection after the other.
+use crate::hall::{Hall, Returned};
+use reg_connection::{Connection, Stream, Turn, answer_last, answer_one, send_some};
+use reg_conversation::SharedDesk;
+use reg_http::Paths;
+use reg_records::Device;
+use std::alloc::{AllocError, Global};
+use std::mem;
+use std::net::TcpStream;
+use std::sync::Wait;
+
+/// The bytes of one read.
+pub(crate) const READ_SIZE: usize = 16_384;
+
+/// How many bytes of answers are gathered before they are written, to within an answer. Then the
+/// connection goes behind those that are ready.
+const GATHERED: usize = 65_536;
+
+/// How many times in a row a worker finds no other connection ready before it stays with its own.
+const CALM: u64 = 3;
+
+/// What a worker keeps from one connection to the next.
+#[derive(Drop)]
+struct Bench {
+    paths: Option<Paths>,
+    /// Answers that aren't sent yet.
+    out: Vec<u8>,
+    buffer: Vec<u8>,
+    /// How many times in a row no other connection was ready.
+    calm: u64,
+}
+
+/// How the answers of one turn end.
+#[derive(Clone, Copy, PartialEq, Eq)]
+enum Answered {
+    /// No other request is whole.
+    All,
+    /// The last answer closes the connection.
+    Closes,
+    /// As much was answered as one turn may.
+    Full,
+    /// The next request may write, and it isn't this connection's turn.
+    MayWrite,
+    /// An answer found no room.
+    Failed,
+}
+
+/// What becomes of a connection after a turn.
+#[derive(Clone, Copy, PartialEq, Eq)]
+enum After {
+    /// Its next request is waited for.
+    Rests,
+    /// It goes behind those that are ready.
+    GoesOn,
+    /// It waits for its turn to write.
+    Queues,
+    /// The doorkeeper waits for its client.
+    Returns,
+    /// It is closed.
+    Over,
+}
+
+/// Attends to the connections that are ready, one after the other, until there is nothing more to do.
+pub(crate) fn work<R: Wait, D: SharedDesk>(
+    rt: &R,
+    alloc: Global,
+    hall: &Hall<D::Standing>,
+    desk: &mut D,
+) -> Result<(), AllocError> {
+    let mut buffer = Vec::new(alloc);
+    buffer.resize(READ_SIZE, 0u8)?;
+    let mut bench = Bench {
+        paths: None,
+        out: Vec::new(alloc),
+        buffer,
+        calm: 0,
+    };
+    for _ in rt.forever() {
+        let Some(connection) = hall.take(rt) else {
+            return Ok(());
+        };
+        attend(rt, alloc, hall, &mut bench, desk, connection);
+    }
+    Ok(())
+}
+
+/// Answers what is whole on a connection, and stays with it while no other one is ready, once that was so
+/// some times in a row.
+fn attend<R: Wait, D: SharedDesk>(
+    rt: &R,
+    alloc: Global,
+    hall: &Hall<D::Standing>,
+    bench: &mut Bench,
+    desk: &mut D,
+    connection: Connection<TcpStream, D::Standing>,
+) {
+    let mut connection = connection;
+    let mut stays = false;
+    let mut after = After::GoesOn;
+    for _ in 0..u64::MAX {
+        after = take_turn(rt, alloc, hall, bench, desk, &mut connection);
+        if after == After::GoesOn && hall.is_calm() {
+            continue;
+        }
+        if after != After::Rests || !is_lull(hall, bench) {
+            break;
+        }
+        if !stays && !stay(hall, &mut connection) {
+            after = After::Over;
+            break;
+        }
+        stays = true;
+        match connection.receive(&mut bench.buffer) {
+            Turn::Ready => {}
+            Turn::Over => {
+                after = After::Over;
+                break;
+            }
+            Turn::Waits | Turn::Again => break,
+        }
+    }
+    if stays && connection.stream.set_patient(false).is_err() {
+        after = After::Over;
+    }
+    leave(rt, hall, connection, after);
+}
+
+/// Answers what is whole, and sends it.
+fn take_turn<R: Wait, D: SharedDesk>(
+    rt: &R,
+    alloc: Global,
+    hall: &Hall<D::Standing>,
+    bench: &mut Bench,
+    desk: &mut D,
+    connection: &mut Connection<TcpStream, D::Standing>,
+) -> After {
+    let mut answered = Answered::All;
+    for _ in 0..u64::MAX {
+        match answer_next(rt, alloc, hall, bench, desk, connection) {
+            None => {}
+            Some(last) => {
+                answered = last;
+                break;
+            }
+        }
+    }
+    let after = send_out(alloc, bench, connection, answered);
+    if bench.out.capacity() > 2 * GATHERED {
+        bench.out = Vec::new(alloc);
+    }
+    bench.out.clear();
+    after
+}
+
+/// Answers the next request. None where this isn't the end of the turn.
+fn answer_next<R: Wait, D: SharedDesk>(
+    rt: &R,
+    alloc: Global,
+    hall: &Hall<D::Standing>,
+    bench: &mut Bench,
+    desk: &mut D,
+    connection: &mut Connection<TcpStream, D::Standing>,
+) -> Option<Answered> {
+    let Some(len) = connection.conversation.front_len() else {
+        return Some(answer_end(alloc, bench, desk, connection));
+    };
+    let may_write = !connection.conversation.bytes().starts_with(b"GET ");
+    if may_write && !hall.turns.begin(rt, connection.queued) {
+        return Some(Answered::MayWrite);
+    }
+    let mut out = Device::new(mem::replace(&mut bench.out, Vec::new(alloc)));
+    let goes_on = answer_one(
+        alloc,
+        &mut bench.paths,
+        &mut connection.conversation,
+        len,
+        &mut connection.standing,
+        &mut out,
+        desk,
+    );
+    bench.out = out.into_inner();
+    if may_write {
+        connection.queued = false;
+        end_turn(rt, hall);
+    }
+    match goes_on {
+        Ok(true) => {
+            if bench.out.len() >= GATHERED {
+                Some(Answered::Full)
+            } else {
+                None
+            }
+        }
+        Ok(false) => Some(Answered::Closes),
+        Err(_) => Some(Answered::Failed),
+    }
+}
+
+/// No request is whole: where the client has ended its side, what is held is answered, and the connection
+/// closes.
+fn answer_end<D: SharedDesk>(
+    alloc: Global,
+    bench: &mut Bench,
+    desk: &mut D,
+    connection: &mut Connection<TcpStream, D::Standing>,
+) -> Answered {
+    if !connection.ended {
+        return Answered::All;
+    }
+    let mut out = Device::new(mem::replace(&mut bench.out, Vec::new(alloc)));
+    let answered = if connection.conversation.front_len().is_none() {
+        answer_last(
+            alloc,
+            &mut bench.paths,
+            &mut connection.conversation,
+            &mut connection.standing,
+            &mut out,
+            desk,
+        )
+    } else {
+        Ok(())
+    };
+    bench.out = out.into_inner();
+    match answered {
+        Ok(()) => Answered::Closes,
+        Err(_) => Answered::Failed,
+    }
+}
+
+/// Ends a turn to write, and hands a connection that waits for it to the workers.
+fn end_turn<R: Wait, T: Drop>(rt: &R, hall: &Hall<T>) {
+    if let Some(next) = hall.turns.end(rt) {
+        let place = next.place;
+        if !hall.hand(rt, next) {
+            hall.give_back(
+                rt,
+                Returned {
+                    place,
+                    connection: None,
+                },
+            );
+        }
+    }
+}
+
+/// Sends what was answered, and says what becomes of the connection.
+fn send_out<T: Drop>(
+    alloc: Global,
+    bench: &mut Bench,
+    connection: &mut Connection<TcpStream, T>,
+    answered: Answered,
+) -> After {
+    if answered == Answered::Failed {
+        return After::Over;
+    }
+    let closes = answered == Answered::Closes;
+    let mut sent = 0;
+    match send_some(&connection.stream, &bench.out, &mut sent) {
+        Ok(true) => {}
+        Ok(false) => {
+            let answers = mem::replace(&mut bench.out, Vec::new(alloc));
+            connection.keep(answers, sent, closes);
+            return After::Returns;
+        }
+        Err(_) => return After::Over,
+    }
+    match answered {
+        Answered::All => After::Rests,
+        Answered::Full => After::GoesOn,
+        Answered::MayWrite => After::Queues,
+        Answered::Closes => closed(connection),
+        Answered::Failed => After::Over,
+    }
+}
+
+/// What becomes of a connection whose last answer is sent.
+fn closed<T: Drop>(connection: &mut Connection<TcpStream, T>) -> After {
+    match connection.close() {
+        Turn::Over => After::Over,
+        Turn::Waits | Turn::Again | Turn::Ready => After::Returns,
+    }
+}
+
+/// Whether no other connection has been ready for some times in a row.
+fn is_lull<T: Drop>(hall: &Hall<T>, bench: &mut Bench) -> bool {
+    if !hall.is_calm() {
+        bench.calm = 0;
+        return false;
+    }
+    if bench.calm < CALM {
+        bench.calm += 1;
+        return false;
+    }
+    true
+}
+
+/// Takes the connection out of the doorkeeper's poll, so that its reads may wait.
+fn stay<T: Drop>(hall: &Hall<T>, connection: &mut Connection<TcpStream, T>) -> bool {
+    hall.unwatch(connection) && connection.stream.set_patient(true).is_ok()
+}
+
+/// Leaves a connection to the doorkeeper, to another worker, or to its turn to write.
+fn leave<R: Wait, T: Drop>(
+    rt: &R,
+    hall: &Hall<T>,
+    connection: Connection<TcpStream, T>,
+    after: After,
+) {
+    let place = connection.place;
+    let returned = match after {
+        After::Rests | After::Returns => Some(connection),
+        After::Over => None,
+        After::GoesOn => {
+            if hall.hand(rt, connection) {
+                return;
+            }
+            None
+        }
+        After::Queues => match hall.turns.wait(rt, connection) {
+            Ok(None) => return,
+            Ok(Some(connection)) => {
+                if hall.hand(rt, connection) {
+                    return;
+                }
+                None
+            }
+            Err(AllocError) => None,
+        },
+    };
+    hall.give_back(
+        rt,
+        Returned {
+            place,
+            connection: returned,
+        },
+    );
+}
