@@ -50,6 +50,11 @@ impl<S: Stream + Drop, T: Drop> Places<S, T> {
         self.free.pop()
     }
 
+    /// Whether all places are taken.
+    pub fn is_full(&self) -> bool {
+        self.free.is_empty()
+    }
+
     /// Whether no place is taken.
     pub fn is_empty(&self) -> bool {
         self.free.len() == self.places.len()
@@ -119,10 +124,10 @@ impl<S: Stream + Drop, T: Drop> Places<S, T> {
         let _kept = self.free.push(at);
     }
 
-    /// The held connection that has waited longest since its last whole request.
-    pub fn oldest(&self) -> Option<usize> {
+    /// The held connection that has waited longest since its last whole request, if that came by some time.
+    pub fn oldest(&self, by: u64) -> Option<usize> {
         let mut oldest = None;
-        let mut since = u64::MAX;
+        let mut since = by.saturating_add(1);
         for (at, place) in self.places.iter().enumerate() {
             if let Place::Held(connection) = place {
                 if connection.asked() < since {

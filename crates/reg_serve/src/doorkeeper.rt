@@ -212,13 +212,17 @@ impl<'a, T: Drop> Doorkeeper<'a, T> {
         }
     }
 
-    /// Accepts what waits. Where a connection can't be accepted, as for want of descriptors, the oldest one
-    /// makes room, and it is tried again after a pause.
+    /// Accepts what waits, as long as there is room. Where a connection can't be accepted, as for want of
+    /// descriptors, the oldest one makes room, and it is tried again after a pause.
     fn accept_some(&mut self) {
         if !self.accepts || self.now < self.accepts_from {
             return;
         }
         for _ in 0..AT_ONCE {
+            if !self.has_room() {
+                self.accepts_from = self.now.saturating_add(self.limits.pause);
+                return;
+            }
             match self.listener.accept() {
                 Ok((stream, _peer)) => self.admit(stream),
                 Err(e) => match e.kind() {
@@ -237,10 +241,12 @@ impl<'a, T: Drop> Doorkeeper<'a, T> {
         }
     }
 
-    /// Lets a connection in; where all places are taken the oldest one makes room. It is closed where
-    /// workers have all of them.
+    /// Lets a connection in; where all places are taken the oldest one makes room.
     fn admit(&mut self, stream: TcpStream) {
-        let Some(at) = self.free_place() else {
+        if self.places.is_full() {
+            self.drop_oldest();
+        }
+        let Some(at) = self.places.take_free() else {
             return;
         };
         let wait = Duration::from_millis(self.limits.stay);
@@ -256,19 +262,21 @@ impl<'a, T: Drop> Doorkeeper<'a, T> {
         }
     }
 
-    fn free_place(&mut self) -> Option<usize> {
-        match self.places.take_free() {
-            Some(at) => Some(at),
-            None => {
-                self.drop_oldest();
-                self.places.take_free()
-            }
-        }
+    /// Whether a place is free, or the oldest connection may make room.
+    fn has_room(&self) -> bool {
+        !self.places.is_full() || self.oldest().is_some()
     }
 
-    /// Closes the connection that has waited longest since its last whole request.
+    /// The connection that has waited longest since its last whole request, if for longer than from one
+    /// look to the next.
+    fn oldest(&self) -> Option<usize> {
+        self.places
+            .oldest(self.now.saturating_sub(self.limits.look))
+    }
+
+    /// Closes the oldest connection.
     fn drop_oldest(&mut self) {
-        if let Some(at) = self.places.oldest() {
+        if let Some(at) = self.oldest() {
             self.places.leave(at);
         }
     }
