@@ -16,7 +16,7 @@ use Rattle.reg_records.specs.declared.line.LineError.TheVariants.{Truncated}
 use Rattle.reg_records.specs.declared.log.LogFault.{LogFault}
 use Rattle.reg_records.specs.declared.log.LogFault.TheVariants.{TooManyLines}
 use Rattle.reg_records.specs.declared.record.Read.{Read}
-use Rattle.reg_journal.specs.Lines.{said, text_of, LinesAreRead, LogsAreLines, Say}
+use Rattle.reg_journal.specs.Lines.{said, text_of, EndedLinesAreRead, LinesAreRead, LogsAreLines, Say}
 
 abbrev pub Outcome : Type 0
 Outcome = Result LogText (ℕ × LogFault)
@@ -75,6 +75,9 @@ log_of_only n (line ∷ lines) (r ∷ read) say few =
 
 pub lines_are_read : LinesAreRead
 lines_are_read lines read say few = log_of_only 1 lines read say (omega arith)
+
+pub ended_lines_are_read : EndedLinesAreRead
+ended_lines_are_read lines read rest say few = log_of_lines 1 lines read rest say (omega arith)
 
 pub said_by_lines : (lines : List (List ℕ)) (read : List Read) (rest : List ℕ) → Say lines read → length read ≤ LOG_LINES → said (text_of lines ++ 10 ∷ rest) ≡ Ok read
 said_by_lines lines read rest say few =

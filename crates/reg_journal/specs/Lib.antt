@@ -7,3 +7,4 @@ pub mod Memory
 pub mod Opening
 pub mod Past
 pub mod Refusals
+pub mod Renewal

@@ -47,6 +47,10 @@ batch_lines batch = map line_text batch
 abbrev pub LinesAreRead : Type 0
 LinesAreRead = (lines : List (List ℕ)) (read : List Read) → Say lines read → length read ≤ LOG_LINES → log_of (text_of lines) ≡ Ok (record { reads = read; rest = [] })
 
+-- so are lines with an empty line and more behind them
+abbrev pub EndedLinesAreRead : Type 0
+EndedLinesAreRead = (lines : List (List ℕ)) (read : List Read) (rest : List ℕ) → Say lines read → length read ≤ LOG_LINES → log_of (text_of lines ++ 10 ∷ rest) ≡ Ok (record { reads = read; rest = rest })
+
 -- a log is lines that say what it says, with an empty line and more behind them, or nothing
 abbrev pub LogsAreLines : Type 0
 LogsAreLines = (text : List ℕ) (log : LogText) → log_of text ≡ Ok log

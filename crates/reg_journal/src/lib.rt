@@ -9,6 +9,7 @@ mod journal;
 mod laws;
 mod memory;
 mod opening;
+mod renewal;
 mod stored;
 
 pub use disk::{Disk, DiskError};
@@ -16,4 +17,5 @@ pub use journal::{AppendError, Journal};
 pub use laws::{batches_add_records, lines_are_logs};
 pub use memory::Memory;
 pub use opening::{Found, OpenError, cut_behind, look, open, recover, write_end};
+pub use renewal::{RenewError, Renewable};
 pub use stored::StoredFile;

@@ -2,6 +2,7 @@
 use Rattle.std.specs.Prelude.{◌≡◌, ℕ, false, List, [], ◌∷◌, ◌++◌, Result}
 use Rattle.reg_journal.specs.Lines.{said, with_batch}
 use Rattle.reg_journal.specs.declared.journal.Journal.{Journal}
+use Rattle.reg_keeping.specs.Said.{SaysCompaction}
 use Rattle.reg_pen.specs.Pen.{PenState}
 use Rattle.reg_records.specs.declared.log.LogFault.{LogFault}
 use Rattle.reg_records.specs.declared.record.Read.{Read}
@@ -15,6 +16,6 @@ batched [] = []
 batched (items.Commit commit ∷ is) = commit.batch ++ batched is
 batched (items.Compaction dropped ∷ is) = batched is
 
--- unless a batch is lost, the file says what it said at first and the batches that are published or pending
+-- unless a batch is lost, the file says a compaction of what it said at first with the batches that are published or pending
 abbrev pub SaysPublished : {D : Type 0} → (D → List ℕ) → Result (List Read) (ℕ × LogFault) → PenState (Journal D) → Type 0
-SaysPublished seen first l = l.lost ≡ false → said (seen l.keep.disk) ≡ with_batch (batched (l.published ++ l.pending)) first
+SaysPublished seen first l = l.lost ≡ false → SaysCompaction (with_batch (batched (l.published ++ l.pending)) first) (said (seen l.keep.disk))

@@ -13,11 +13,15 @@ ghost use Rattle.reg_journal_keep.specs.Keeping.{KeepsFile};
 ghost use Rattle.reg_journal_keep.specs.Published.{SaysPublished};
 
 use reg_journal::Disk;
+use reg_keeping::compactions_stand_for_logs;
 
-/// A file that says what a pen has published, and what is pending, says so after each submit, unless a batch is lost.
+/// A file that says what a pen has published, and what is pending, up to a compaction, says so after each submit, unless
+/// a batch is lost.
 pub fn submits_keep_the_file<D: Disk>()
     ensures { D.is_modelled → (first : Result (List Read) (ℕ × LogFault)) (base : Topic) (since : Option (Bor (List Item)))
         (old new : PenState (Journal D)) (command : Command) (reply : Reply)
         → Submits (KeepsFile D.is_modelled D.moment D.left_since D.seen) base since old command reply new
         → SaysPublished D.seen first old → SaysPublished D.seen first new }
-{}
+{
+    compactions_stand_for_logs();
+}

@@ -3,6 +3,7 @@
 
 mod keeping;
 mod laws;
+mod room;
 
 pub use keeping::FileKeep;
 pub use laws::submits_keep_the_file;

@@ -163,6 +163,10 @@ module _ (total : IsTotalOrder record_cmp) (apart : IsAntisymmetric record_cmp) 
       pub records : from_list (records_in out.reads) ≡ lasts
       pub next : next_after out.reads ≡ next_after read
       pub small : length text ≤ length (text_of lines)
+      pub left : List (List ℕ)
+      pub parts : text ≡ text_of left
+      pub says : Say left out.reads
+      pub fit : length out.reads ≤ LOG_LINES
 
     with_top : (t : ℕ) → next_after read ≡ suc t → HasAt t kept → Leaves (text_of of_lines ++ [])
     with_top t is at =
@@ -174,6 +178,10 @@ module _ (total : IsTotalOrder record_cmp) (apart : IsAntisymmetric record_cmp) 
           records = kept_lasts;
           next = same_next read kept t is at (λ o has. kept_at lasts read o has);
           small = omega (arith, no_longer t lasts lines read None say, ap length (append-nil (text_of of_lines)));
+          left = of_lines;
+          parts = append-nil (text_of of_lines);
+          says = kept_say lasts lines read say;
+          fit = omega (arith, few, most);
         }
 
     with_foreign : (t : ℕ) → next_after read ≡ suc t → (c : Option (List ℕ)) → carried_by (Some t) lines read None ≡ c → IsCarried t c → Leaves (text_of of_lines ++ unwrap_or c [])
@@ -192,6 +200,10 @@ module _ (total : IsTotalOrder record_cmp) (apart : IsAntisymmetric record_cmp) 
           next = same_next read (kept ++ reads.Foreign t ∷ []) t is (pushed_at kept t)
               (λ o has. ⊎_elim (λ there. kept_at lasts read o there) (λ here. subst (λ (p : ℕ). HasAt p read) here (has_top read t is)) (pushed_part kept t o has));
           small = omega (arith, size, ap size_of carries, ap length text, ap length (text_push of_lines it.0), length-append (text_of of_lines) (it.0 ++ 10 ∷ []));
+          left = of_lines ++ it.0 ∷ [];
+          parts = text;
+          says = say_all;
+          fit = omega (arith, few, most, ap count_of carries, length-append kept (reads.Foreign t ∷ []));
         }
 
     pub leaves : (t : ℕ) → next_after read ≡ suc t → Leaves (text_of of_lines ++ cond (top_after (Some t) lasts read false) [] (unwrap_or (carried_by (Some t) lines read None) []))
@@ -220,6 +232,10 @@ module _ (total : IsTotalOrder record_cmp) (apart : IsAntisymmetric record_cmp) 
           records = ap (λ (rs : List Read). from_list (records_in rs)) (sym no_kept) ∙ kept_lasts;
           next = sym is;
           small = omega (arith, ap length text);
+          left = [];
+          parts = text;
+          says = tt;
+          fit = omega arith;
         }
 
     leaves_all : (top : Option ℕ) (n : ℕ) → next_after read ≡ n → top ≡ before n → Leaves (text_of of_lines ++ cond (top_after top lasts read false) [] (unwrap_or (carried_by top lines read None) []))

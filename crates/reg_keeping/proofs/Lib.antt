@@ -3,5 +3,7 @@ mod Fronts
 mod Kept
 mod Lasts
 mod Offsets
+mod Saying
+mod Shrinks
 mod Sizes
 mod Walked

@@ -1,7 +1,10 @@
 -- What compacting makes of a log.
 use Rattle.std.specs.Prelude.{◌≡◌, ◌≤◌, ℕ, List, [], length, Ok}
 use Rattle.std.specs.FinSet.{from_list}
+use Rattle.reg_journal.specs.Lines.{Say, text_of}
 use Rattle.reg_records.specs.Log.{LogText, log_of, next_after, records_in}
+use Rattle.reg_records.specs.declared.limits.TheConstants.{LOG_LINES}
+use Rattle.reg_records.specs.declared.record.Read.{Read}
 use Rattle.reg_set.specs.LastRecords.{last_records}
 
 -- the output is a log whose records are the last records of the input's, whose next offset is the same, in no more bytes
@@ -14,3 +17,15 @@ pub record IsCompacted (input output : List ℕ) : Type 0 where
   pub lasts : from_list (records_in out.reads) ≡ last_records (from_list (records_in log.reads))
   pub next : next_after out.reads ≡ next_after log.reads
   pub small : length output ≤ length input
+
+-- the text is lines which say something, no more than a log may have, and no empty line stands behind them
+pub record IsLines (text : List ℕ) : Type 0 where
+  pub lines : List (List ℕ)
+  pub read : List Read
+  pub parts : text ≡ text_of lines
+  pub say : Say lines read
+  pub few : length read ≤ LOG_LINES
+
+-- a compaction of the file has so many lines
+abbrev pub HasKept : List ℕ → ℕ → Type 0
+HasKept file kept = (output : List ℕ) × (is : IsCompacted file output) × (length is.out.reads ≡ kept)

@@ -4,7 +4,7 @@ ghost use Rattle.std.specs.FinSet.{from_list, insert};
 ghost use Rattle.reg_journal.specs.Found.{HasFault};
 ghost use Rattle.reg_set.specs.LastRecords.{last_records};
 ghost use Rattle.reg_keeping.specs.Begun.{Begins};
-ghost use Rattle.reg_keeping.specs.Compacted.{IsCompacted};
+ghost use Rattle.reg_keeping.specs.Compacted.{IsCompacted, IsLines};
 
 use crate::walk::Walk;
 use reg_journal::lines_are_logs;
@@ -19,6 +19,7 @@ use std::alloc::{AllocError, Global};
 /// log's greatest offset. What follows the log's empty line is left out.
 pub fn compacted(alloc: Global, log: &[u8]) -> Result<Vec<u8>, LogError>
     ensures compacted { IfOk result (λ text. IsCompacted log.now text.items) }
+    ensures lines { IfOk result (λ text. IsLines text.items) }
     ensures fault { IfErr result (HasFault log.now) }
 {
     lines_are_logs();

@@ -1,14 +1,20 @@
-//! Filters over logs in files: what compacting leaves of a log, and the words of their program.
+//! Filters over logs in files: what compacting leaves of a log, also in the place of a journal's file, and the words of
+//! their program.
 #![tactic(auto)]
 
 mod compacting;
 mod cutting;
 mod filter;
+mod in_place;
+mod laws;
 mod opening;
+mod shrinking;
 mod walk;
 mod words;
 
 pub use compacting::compacted;
 pub use filter::{FilterError, compact};
+pub use in_place::{CompactError, compact_journal, compact_superseded};
+pub use laws::compactions_stand_for_logs;
 pub use opening::open_aside;
 pub use words::{Command, USAGE, command_of};

@@ -1,7 +1,7 @@
 // A file in memory that keeps what its calls did, so that a crash can be tried at each of them.
 ghost use Rattle.std.specs.Prelude.{[], ⊤};
 
-use reg_journal::{Disk, DiskError};
+use reg_journal::{Disk, DiskError, RenewError, Renewable};
 use std::alloc::{AllocError, Global};
 
 /// What a call did to the file.
@@ -10,6 +10,11 @@ pub(crate) enum Step {
     Write { at: usize, bytes: Vec<u8> },
     Cut(usize),
     Sync,
+    /// A new file was written beside this one, which isn't touched.
+    Prepare,
+    /// The new file was renamed over this one.
+    Rename(Vec<u8>),
+    SyncFolder,
 }
 
 #[derive(Drop)]
@@ -72,7 +77,13 @@ impl Torn {
                     add_cuts(self.alloc, &mut images, &on_disk, *len)?;
                     seen = front(&seen, *len).to_vec(self.alloc)?;
                 }
-                Step::Sync => {
+                Step::Prepare => {}
+                // The new file is on the disk whole; until the folder is synced, the name may be the old one's.
+                Step::Rename(bytes) => {
+                    images.push(bytes.to_vec(self.alloc)?)?;
+                    seen = bytes.to_vec(self.alloc)?;
+                }
+                Step::Sync | Step::SyncFolder => {
                     // A sync that was refused may leave what was there before it, or all.
                     if k == self.fails_at {
                         images.push(seen.to_vec(self.alloc)?)?;
@@ -232,5 +243,24 @@ impl Disk for Torn {
 
     fn sync(&mut self) -> Result<(), DiskError> {
         self.step(Step::Sync)
+    }
+}
+
+impl Renewable for Torn {
+    fn renew(&mut self, bytes: &[u8]) -> Result<(), RenewError> {
+        let alloc = self.alloc;
+        let next = bytes.to_vec(alloc)?;
+        let copied = bytes.to_vec(alloc)?;
+        if let Err(error) = self.step(Step::Prepare) {
+            return Err(RenewError::Kept(error));
+        }
+        if self.step(Step::Rename(copied)).is_err() {
+            return Err(RenewError::Lost);
+        }
+        self.bytes = next;
+        match self.step(Step::SyncFolder) {
+            Ok(()) => Ok(()),
+            Err(_) => Err(RenewError::Lost),
+        }
     }
 }

@@ -1,0 +1,39 @@
+// A file whose bytes are replaced whole.
+ghost use Rattle.std.specs.Prelude.{◌≡◌, ◌⊎◌, List, ℕ, IfErr, OnOk};
+ghost use Rattle.reg_journal.specs.Disk.{Only, Elapses};
+ghost use Rattle.reg_journal.specs.Renewal.{LeavesDisk};
+
+use crate::disk::{Disk, DiskError};
+use std::alloc::{AllocError, AllocFailed};
+
+/// Why no new file stands in a file's place.
+#[derive(Clone, Copy, Debug, PartialEq, Eq)]
+pub enum RenewError {
+    /// The new file wasn't finished: the file is as it was.
+    Kept(DiskError),
+    /// The new file may stand there or not. Nothing is known of the disk any more.
+    Lost,
+}
+
+impl From<AllocError> for RenewError {
+    ghost use Rattle.std.specs.Prelude.{◌≡◌};
+    ghost use Rattle.reg_journal.specs.Renewal.{no_memory};
+
+    ghost from_gives = { λ _ e. e ≡ no_memory };
+
+    fn from(_refused: AllocError) -> RenewError {
+        RenewError::Kept(DiskError::OutOfMemory)
+    }
+}
+
+/// A disk whose file can be replaced by a new one, whole.
+pub trait Renewable: Disk {
+    /// Puts a new file of these bytes in the file's place. After it, a crash leaves them; a crash at any moment leaves
+    /// what it might have left before, or these bytes.
+    fn renew(&mut self, bytes: &[u8]) -> Result<(), RenewError>
+        ensures seen { Self.known self.old → OnOk result (Self.known self.new × (Self.seen self.new ≡ bytes.now)) }
+        ensures durable { Self.known self.old → OnOk result (Only bytes.now (Self.may_leave self.new)) }
+        ensures crash { Self.known self.old → (c : List ℕ) → Self.may_leave self.new c → Self.may_leave self.old c ⊎ (c ≡ bytes.now) }
+        ensures kept { Self.known self.old → IfErr result (LeavesDisk Self.known Self.seen Self.may_leave self.old self.new) }
+        ensures time { Self.known self.old → Elapses (Self.moment self.old) (Self.moment self.new) (Self.left_since self.old) (Self.left_since self.new) (Self.may_leave self.new) };
+}

@@ -1,0 +1,84 @@
+// When the file of a keep is compacted. To count the lines that are superseded takes a reading of the whole file, so
+// what was counted last is used as long as it tells enough: a line that no other supersedes has a key of its own, and
+// no key ever goes, so later there are never fewer of them.
+ghost use Rattle.std.specs.Prelude.{◌≡◌};
+ghost use Rattle.reg_journal_keep.specs.Room.{due, due_now, next_count, tenth, waited};
+
+use reg_records::LOG_LINES;
+
+/// A file of no more lines isn't compacted for their number alone.
+const FEW_LINES: u64 = 100_000;
+
+/// How many batches pass before a compaction that failed is tried again.
+const PATIENCE: u64 = 1_000;
+
+/// What is known of a file's lines.
+#[derive(Clone, Copy, Debug, PartialEq, Eq)]
+pub(crate) struct Room {
+    /// How many of them weren't superseded when they were counted last.
+    pub kept: u64,
+    /// Of how many lines they are counted again.
+    pub again: u64,
+    /// How many batches pass before that.
+    pub patience: u64,
+}
+
+impl Room {
+    /// Nothing is known.
+    pub(crate) fn new() -> Room
+        ensures { result ≡ record { kept = 0; again = 0; patience = 0 } }
+    {
+        Room {
+            kept: 0,
+            again: 0,
+            patience: 0,
+        }
+    }
+
+    /// So many lines were left or found that no other supersedes, and the file has so many now.
+    pub(crate) fn counted(kept: u64, lines: u64) -> Room
+        ensures { result ≡ record { kept = kept; again = next_count kept lines; patience = 0 } }
+    {
+        Room {
+            kept,
+            again: lines.saturating_add(lines / 4).max(kept.saturating_mul(2)),
+            patience: 0,
+        }
+    }
+
+    /// A compaction failed.
+    pub(crate) fn wait(&mut self)
+        ensures { self.new ≡ record self.old { patience = 1000 } }
+    {
+        self.patience = PATIENCE;
+    }
+
+    /// How many of a file's lines have to be superseded for it to be compacted before a batch of so many more; none
+    /// where they aren't to be counted now.
+    pub(crate) fn due(&mut self, lines: u64, more: u64) -> Option<u64>
+        ensures due { result ≡ due self.old lines more }
+        ensures waited { self.new ≡ waited self.old }
+    {
+        if self.patience > 0 {
+            self.patience -= 1;
+            return None;
+        }
+        self.due_now(lines, more)
+    }
+
+    fn due_now(&self, lines: u64, more: u64) -> Option<u64>
+        ensures { result ≡ due_now self.now lines more }
+    {
+        if more > LOG_LINES.saturating_sub(lines) {
+            let least = lines.div_ceil(10);
+            if lines.saturating_sub(self.kept) < least {
+                return None;
+            }
+            return Some(least);
+        }
+        if lines <= FEW_LINES || lines <= self.again {
+            return None;
+        }
+        Some(lines / 2 + 1)
+    }
+}

@@ -1,0 +1,108 @@
+-- What a journal's file is once it is compacted.
+use Rattle.std.proofs.Common.{◌≡◌, ◌≤◌, ◌+◌, ◌-◌, ◌++◌, inl, ⊎_elim, ℕ, Bool, false, List, [], ◌∷◌, Ok, Err, length, take, refl, sym, ap, subst, ◌∙◌, arith, length-append, count_by, All, if◌then◌else◌}
+use Rattle.std.proofs.lemmas.List.{take_at}
+use Rattle.std.proofs.lemmas.List.Elements.{All-head, All-tail}
+use Rattle.std.proofs.lemmas.List.Sums.{sum_by-append, sum_by-cons}
+use Rattle.std.specs.FinSet.{from_list}
+use Rattle.reg_journal.specs.Disk.{Only}
+use Rattle.reg_journal.specs.Journal.{IsSettled}
+use Rattle.reg_journal.specs.Lines.{EndedLinesAreRead, LinesAreRead, Say, said, text_of}
+use Rattle.reg_records.specs.Line.{is_line_feed}
+use Rattle.reg_records.specs.Log.{LogText, log_of, next_after, records_in}
+use Rattle.reg_records.specs.Pieces.{HasNoLineFeed}
+use Rattle.reg_records.specs.declared.log.LogFault.{LogFault}
+use Rattle.reg_records.specs.declared.record.Read.{Read}
+use Rattle.reg_records.specs.declared.record.Record.{Record}
+use Rattle.reg_set.specs.LastRecords.{last_records}
+use Rattle.reg_keeping.specs.Compacted.{HasKept, IsCompacted, IsLines}
+use Rattle.reg_keeping.specs.Shrunk.{ShrinksTo}
+use Rattle.reg_keeping.specs.declared.shrinking.Shrunk.{Shrunk}
+
+none_in : (line : List ℕ) → HasNoLineFeed line → count_by is_line_feed line ≡ 0
+none_in [] free = refl
+none_in (b ∷ line) free =
+    let here : is_line_feed b ≡ false = All-head (λ x. is_line_feed x ≡ false) b line free in
+    omega (arith, sum_by-cons (λ x. if is_line_feed x then 1 else 0) b line, ap (λ (t : Bool). if t then 1 else 0) here, none_in line (All-tail (λ x. is_line_feed x ≡ false) b line free))
+
+-- a line more has one LF more
+lf_counted : (lines : List (List ℕ)) (read : List Read) → Say lines read → count_by is_line_feed (text_of lines) ≡ length read
+lf_counted [] [] say = refl
+lf_counted [] (r ∷ read) say = absurd say
+lf_counted (line ∷ lines) [] say = absurd say
+lf_counted (line ∷ lines) (r ∷ read) say =
+    let rest = text_of lines in
+    omega (arith, sum_by-append (λ b. if is_line_feed b then 1 else 0) line (10 ∷ rest), sum_by-cons (λ b. if is_line_feed b then 1 else 0) 10 rest, none_in line say.1, lf_counted lines read say.3)
+
+same_log : (text : List ℕ) (a b : LogText) → log_of text ≡ Ok a → log_of text ≡ Ok b → a ≡ b
+same_log text a b p q = cc
+
+not_both : (text : List ℕ) (a : LogText) (e : ℕ × LogFault) → log_of text ≡ Ok a → log_of text ≡ Err e → ⊥
+not_both text a e p q = cc
+
+module _ (are_read : LinesAreRead) (ended_are_read : EndedLinesAreRead) {D : Type 0} (seen : D → List ℕ) (may_leave : D → List ℕ → Type 0) (disk : D) (end count : ℕ) (s : IsSettled seen may_leave disk end count) where
+  before : take end (seen disk) ≡ text_of s.lines
+  before = ap (λ (f : List ℕ). take end f) s.file ∙ take_at (text_of s.lines) (10 ∷ []) end (sym s.ends)
+
+  size : length (seen disk) ≡ end + 1
+  size = omega (arith, ap length s.file, length-append (text_of s.lines) (10 ∷ []), s.ends)
+
+  reads : log_of (take end (seen disk)) ≡ Ok (record { reads = s.read; rest = [] })
+  reads = ap log_of before ∙ are_read s.lines s.read s.say s.few
+
+  -- such a file has no fault
+  pub sound : (number : ℕ) (fault : LogFault) → log_of (take end (seen disk)) ≡ Err (number, fault) → ⊥
+  sound number fault is = not_both (take end (seen disk)) (record { reads = s.read; rest = [] }) (number, fault) reads is
+
+  pub has_length : length (seen disk) ≡ end + 1
+  has_length = size
+
+  module _ (shrunk : Shrunk) (it : ShrinksTo (seen disk) end shrunk) where
+    lines : IsLines it.text
+    lines = it.is_lines
+
+    out_is : it.compacted.out ≡ record { reads = lines.read; rest = [] }
+    out_is = same_log it.text it.compacted.out (record { reads = lines.read; rest = [] }) it.compacted.read_back (ap log_of lines.parts ∙ are_read lines.lines lines.read lines.say lines.few)
+
+    log_is : it.compacted.log ≡ record { reads = s.read; rest = [] }
+    log_is = same_log (take end (seen disk)) it.compacted.log (record { reads = s.read; rest = [] }) it.compacted.read reads
+
+    pub bytes : shrunk.bytes.items ≡ text_of lines.lines ++ 10 ∷ []
+    bytes = it.bytes ∙ ap (λ (t : List ℕ). t ++ 10 ∷ []) lines.parts
+
+    lasts : from_list (records_in lines.read) ≡ last_records (from_list (records_in s.read))
+    lasts =
+        ap (λ (l : LogText). from_list (records_in l.reads)) (sym out_is) ∙ it.compacted.lasts
+        ∙ ap (λ (l : LogText). last_records (from_list (records_in l.reads))) log_is
+
+    next : next_after lines.read ≡ next_after s.read
+    next = ap (λ (l : LogText). next_after l.reads) (sym out_is) ∙ it.compacted.next ∙ ap (λ (l : LogText). next_after l.reads) log_is
+
+    pub whole : IsCompacted (seen disk) shrunk.bytes.items
+    whole = record {
+      log = record { reads = s.read; rest = [] };
+      read = ap log_of s.file ∙ ended_are_read s.lines s.read [] s.say s.few;
+      out = record { reads = lines.read; rest = [] };
+      read_back = ap log_of bytes ∙ ended_are_read lines.lines lines.read [] lines.say lines.few;
+      whole = refl;
+      lasts = lasts;
+      next = next;
+      small = omega (arith, it.compacted.small, ap length it.bytes, length-append it.text (10 ∷ []), size, ap length before, s.ends);
+    }
+
+    kept_count : length lines.read ≡ shrunk.kept
+    kept_count = omega (arith, it.kept, ap (λ (t : List ℕ). count_by is_line_feed t) lines.parts, lf_counted lines.lines lines.read lines.say)
+
+    pub has_kept : HasKept (seen disk) shrunk.kept
+    has_kept = (shrunk.bytes.items, whole, kept_count)
+
+    pub settles : (new : D) (end' : ℕ) → seen new ≡ shrunk.bytes.items → Only (seen new) (may_leave new) → end' ≡ length shrunk.bytes.items - 1 → IsSettled seen may_leave new end' shrunk.kept
+    settles new end' is only ends = record {
+      lines = lines.lines;
+      read = lines.read;
+      file = is ∙ bytes;
+      say = lines.say;
+      ends = omega (arith, ends, ap length bytes, length-append (text_of lines.lines) (10 ∷ []));
+      counts = sym kept_count;
+      few = lines.few;
+      durable = only;
+    }

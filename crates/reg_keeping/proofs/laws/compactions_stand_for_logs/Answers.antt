@@ -1,0 +1,16 @@
+use Rattle.reg_keeping.proofs.Saying.{of_across, of_batches, of_compacted, of_itself}
+use Rattle.reg_keeping.proofs.laws.compactions_stand_for_logs.Goals as goal
+
+pub returns-clause-compacted : goal.returns-clause-compacted
+returns-clause-compacted c = of_compacted c.last_records_are_enough.ensures.least
+
+pub returns-clause-itself : goal.returns-clause-itself
+returns-clause-itself c = of_itself c.compactions_compose.ensures.itself
+
+pub returns-clause-across : goal.returns-clause-across
+returns-clause-across c = of_across c.compactions_compose.ensures.across
+
+pub returns-clause-batches : goal.returns-clause-batches
+returns-clause-batches c =
+    of_batches c.records_are_ordered.ensures.all c.records_are_ordered.ensures.apart c.batches_add_records.ensures.records
+    c.last_records_of_unions.ensures.union c.compactions_compose.ensures.itself

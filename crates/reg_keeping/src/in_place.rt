@@ -1,0 +1,140 @@
+// Compacting the file of a journal, in its place.
+ghost use Rattle.std.specs.Prelude.{◌≡◌, ◌≤◌, ◌<◌, ◌-◌, true, false, Err, IfErr, IfOk};
+ghost use Rattle.reg_journal.specs.Disk.{LeavesOnly};
+ghost use Rattle.reg_journal.specs.Journal.{IsReady};
+ghost use Rattle.reg_keeping.specs.Compacted.{HasKept, IsCompacted};
+ghost use Rattle.reg_keeping.specs.InPlace.{IsAsItWas, IsBeforeOrCompacted, IsShrunk, breaks};
+
+use crate::shrinking::{Shrunk, read_shrunk};
+use reg_journal::{DiskError, Journal, RenewError, Renewable};
+use std::alloc::{AllocFailed, Global};
+
+/// Why a journal's file wasn't compacted.
+#[derive(Clone, Copy, Debug, PartialEq, Eq)]
+pub enum CompactError {
+    /// The journal is as it was, and goes on.
+    OutOfMemory,
+    /// The file couldn't be read, or no new one be finished. The journal is as it was, and goes on.
+    Failed,
+    /// The file isn't what was left there. Nothing is written any more.
+    Changed,
+    /// The new file may stand in the file's place or not. Nothing is written any more.
+    Lost,
+    /// The journal was broken before.
+    Broken,
+}
+
+impl From<DiskError> for CompactError {
+    ghost use Rattle.std.specs.Prelude.{◌≡◌};
+    ghost use Rattle.reg_keeping.specs.InPlace.{disk_refusal};
+
+    ghost from_gives = { λ error e. e ≡ disk_refusal error };
+
+    fn from(error: DiskError) -> CompactError {
+        match error {
+            DiskError::OutOfMemory => CompactError::OutOfMemory,
+            DiskError::Failed => CompactError::Failed,
+        }
+    }
+}
+
+impl From<RenewError> for CompactError {
+    ghost use Rattle.std.specs.Prelude.{◌≡◌};
+    ghost use Rattle.reg_keeping.specs.InPlace.{renew_refusal};
+
+    ghost from_gives = { λ error e. e ≡ renew_refusal error };
+
+    fn from(error: RenewError) -> CompactError {
+        match error {
+            RenewError::Kept(error) => CompactError::from(error),
+            RenewError::Lost => CompactError::Lost,
+        }
+    }
+}
+
+impl<T: Drop> From<AllocFailed<T>> for CompactError {
+    ghost use Rattle.std.specs.Prelude.{◌≡◌};
+    ghost use Rattle.reg_keeping.specs.declared.in_place.CompactError.TheVariants.{OutOfMemory};
+
+    ghost from_gives = { λ _ e. e ≡ OutOfMemory };
+
+    fn from(_refused: AllocFailed<T>) -> CompactError {
+        CompactError::OutOfMemory
+    }
+}
+
+impl CompactError {
+    /// Whether the journal takes no batch any more.
+    pub fn breaks(self) -> bool
+        ensures { result ≡ breaks self }
+    {
+        match self {
+            CompactError::OutOfMemory | CompactError::Failed => false,
+            CompactError::Changed | CompactError::Lost | CompactError::Broken => true,
+        }
+    }
+}
+
+/// Compacts the file of a journal, in its place, and tells how many lines it has then.
+pub fn compact_journal<D: Renewable>(
+    alloc: Global,
+    journal: &mut Journal<D>,
+) -> Result<u64, CompactError>
+    requires ready { D.is_modelled → IsReady D.known D.seen D.may_leave journal.old }
+    ensures compacted { D.is_modelled → IfOk result (λ lines. IsCompacted (D.seen journal.old.disk) (D.seen journal.new.disk) × (journal.new.lines ≡ lines)) }
+    ensures ready { D.is_modelled → IsReady D.known D.seen D.may_leave journal.new }
+
+    // A crash at any moment of the call leaves a file that says what it said before, or a compaction of it.
+    ensures any_moment { D.is_modelled → journal.old.is_broken ≡ false → LeavesOnly D.moment D.left_since journal.old.disk journal.new.disk
+        (IsBeforeOrCompacted (D.seen journal.old.disk)) }
+
+    ensures refused { IfErr result (λ e. breaks e ≡ false → IsAsItWas D.is_modelled D.seen journal.old journal.new) }
+    ensures unsettled { IfErr result (λ e. breaks e ≡ true → journal.new.is_broken ≡ true) }
+    ensures broken { journal.old.is_broken ≡ true → (result ≡ Err CompactError.Broken) × (journal.new ≡ journal.old) }
+{
+    compact_superseded(alloc, journal, 0)
+}
+
+/// Compacts the file of a journal, in its place, where at least so many of its lines are superseded, and tells how many
+/// aren't.
+pub fn compact_superseded<D: Renewable>(
+    alloc: Global,
+    journal: &mut Journal<D>,
+    least: u64,
+) -> Result<u64, CompactError>
+    requires ready { D.is_modelled → IsReady D.known D.seen D.may_leave journal.old }
+    ensures kept { D.is_modelled → IfOk result (HasKept (D.seen journal.old.disk)) }
+    ensures few { IfOk result (λ kept. journal.old.lines - kept < least → IsAsItWas D.is_modelled D.seen journal.old journal.new) }
+    ensures many { IfOk result (λ kept. least ≤ journal.old.lines - kept → IsShrunk D.is_modelled D.seen journal.old kept journal.new) }
+    ensures ready { D.is_modelled → IsReady D.known D.seen D.may_leave journal.new }
+
+    // A crash at any moment of the call leaves a file that says what it said before, or a compaction of it.
+    ensures any_moment { D.is_modelled → journal.old.is_broken ≡ false → LeavesOnly D.moment D.left_since journal.old.disk journal.new.disk
+        (IsBeforeOrCompacted (D.seen journal.old.disk)) }
+
+    ensures refused { IfErr result (λ e. breaks e ≡ false → IsAsItWas D.is_modelled D.seen journal.old journal.new) }
+    ensures unsettled { IfErr result (λ e. breaks e ≡ true → journal.new.is_broken ≡ true) }
+    ensures broken { journal.old.is_broken ≡ true → (result ≡ Err CompactError.Broken) × (journal.new ≡ journal.old) }
+{
+    if journal.is_broken {
+        return Err(CompactError::Broken);
+    }
+    let Shrunk { bytes, kept } = match read_shrunk(alloc, &mut journal.disk, journal.end) {
+        Ok(shrunk) => shrunk,
+        Err(error) => {
+            journal.is_broken = error.breaks();
+            return Err(error);
+        }
+    };
+    if journal.lines.saturating_sub(kept) < least {
+        return Ok(kept);
+    }
+    if let Err(error) = journal.disk.renew(&bytes) {
+        let error = CompactError::from(error);
+        journal.is_broken = error.breaks();
+        return Err(error);
+    }
+    journal.end = bytes.len() - 1;
+    journal.lines = kept;
+    Ok(kept)
+}

@@ -1,0 +1,22 @@
+// What the clauses say together.
+ghost use Rattle.reg_keeping.specs.Said.{BatchesFollowCompactions, CompactedFilesSayIt, EachSaysItsOwnCompaction, SaidCompactionsCompose};
+
+use reg_journal::batches_add_records;
+use reg_set::{
+    compactions_compose, last_records_are_enough, last_records_of_unions, records_are_ordered,
+};
+
+/// What a compacted file says may stand for what the whole one said: also with batches behind it, and once it is
+/// compacted again.
+pub fn compactions_stand_for_logs()
+    ensures compacted { CompactedFilesSayIt }
+    ensures itself { EachSaysItsOwnCompaction }
+    ensures across { SaidCompactionsCompose }
+    ensures batches { BatchesFollowCompactions }
+{
+    batches_add_records();
+    records_are_ordered();
+    last_records_are_enough();
+    last_records_of_unions();
+    compactions_compose();
+}
