@@ -1,8 +1,9 @@
 -- What a submit leaves in the file.
-use Rattle.std.proofs.Common.{◌≡◌, ⊎_elim, ℕ, Bool, true, false, List, [], ◌∷◌, ◌++◌, Option, Result, Ok, Err, refl, sym, ap, subst, ◌∙◌, append_assoc, append-nil, true≢false}
+use Rattle.std.proofs.Common.{◌≡◌, ⊎_elim, ℕ, Bool, true, false, List, [], ◌∷◌, ◌++◌, Option, Result, Ok, Err, refl, sym, ap, subst, subst₂, ◌∙◌, append_assoc, append-nil, true≢false}
 use Rattle.std.specs.Borrow.{Bor}
 use Rattle.reg_journal.specs.Lines.{batch_reads, said, with_batch}
 use Rattle.reg_journal.specs.declared.journal.Journal.{Journal}
+use Rattle.reg_keeping.specs.Said.{BatchesFollowCompactions, SaidCompactionsCompose, SaysCompaction}
 use Rattle.reg_leader.specs.declared.command.Command.{Command}
 use Rattle.reg_leader.specs.declared.reply.Reply.{Reply}
 use Rattle.reg_leader.specs.declared.reply.Reply.TheVariants as replies
@@ -32,38 +33,53 @@ batched_both [] ys = refl
 batched_both (items.Commit commit ∷ xs) ys = ap (λ (l : List Record). commit.batch ++ l) (batched_both xs ys) ∙ sym (append_assoc commit.batch (batched xs) (batched ys))
 batched_both (items.Compaction dropped ∷ xs) ys = batched_both xs ys
 
-module _ {D : Type 0} (is_modelled : Type 0) (moment : D → ℕ) (left_since : D → ℕ → List ℕ → Type 0) (seen : D → List ℕ) (modelled : is_modelled) (first : Result (List Read) (ℕ × LogFault)) where
+module _ {D : Type 0} (across : SaidCompactionsCompose) (follow : BatchesFollowCompactions) (is_modelled : Type 0) (moment : D → ℕ) (left_since : D → ℕ → List ℕ → Type 0) (seen : D → List ℕ) (modelled : is_modelled) (first : Result (List Read) (ℕ × LogFault)) where
+  abbrev says_items : List Item → Journal D → Type 0
+  says_items is keep = SaysCompaction (with_batch (batched is) first) (said (seen keep.disk))
+
+  none_pending : (published : List Item) (keep : Journal D) → says_items published keep → says_items (published ++ []) keep
+  none_pending published keep says = subst (λ (is : List Item). says_items is keep) (sym (append-nil published)) says
+
+  -- a batch that is taken
+  taken : (keep old : Journal D) (published is : List Item) (batch : List Record) → batched is ≡ batch → says_items published old
+      → Ends is_modelled seen old batch Taken keep → says_items (published ++ is) keep
+  taken keep old published is batch same says ends =
+      let now = ends modelled in
+      let before = across (with_batch (batched published) first) (said (seen old.disk)) now.0 says now.1 in
+      subst₂ SaysCompaction
+      (both_said (batched published) batch first
+      ∙ ap (λ (l : List Record). with_batch l first) (ap (λ (l : List Record). batched published ++ l) (sym same) ∙ sym (batched_both published is)))
+      (sym now.2)
+      (follow batch (with_batch (batched published) first) now.0 before)
+
   -- what becomes of a batch that is lent, where nothing is pending
   lent : (kept : Kept) (keep : Journal D) (published : List Item) (old : Journal D) (is : List Item) (batch : List Record) (replied unsettled reply : Reply) (m : PenState (Journal D))
       → batched is ≡ batch
-      → said (seen old.disk) ≡ with_batch (batched published) first
+      → says_items published old
       → Ends is_modelled seen old batch kept keep
       → Follows kept is replied unsettled (record { published = published; pending = []; lost = false; keep = keep }) reply m
       → SaysPublished seen first m
   lent Taken keep published old is batch replied unsettled reply m same says ends follows =
-      let all : said (seen keep.disk) ≡ with_batch (batched (published ++ is)) first =
-      ends modelled ∙ ap (λ s. with_batch batch s) says ∙ both_said (batched published) batch first
-      ∙ ap (λ (l : List Record). with_batch l first) (ap (λ (l : List Record). batched published ++ l) (sym same) ∙ sym (batched_both published is)) in
+      let all : says_items (published ++ is) keep = taken keep old published is batch same says ends in
       ⊎_elim
-      (λ done. subst (λ (n : PenState (Journal D)). SaysPublished seen first n) (sym done.1)
-      (λ kept. all ∙ ap (λ (l : List Item). with_batch (batched l) first) (sym (append-nil (published ++ is)))))
+      (λ done. subst (λ (n : PenState (Journal D)). SaysPublished seen first n) (sym done.1) (λ kept. none_pending (published ++ is) keep all))
       (λ pends. subst (λ (n : PenState (Journal D)). SaysPublished seen first n) (sym pends.1) (λ kept. all))
       follows
   lent (Declined lack) keep published old is batch replied unsettled reply m same says ends follows =
       subst (λ (n : PenState (Journal D)). SaysPublished seen first n) (sym follows.1)
-      (λ kept. ap (λ (j : Journal D). said (seen j.disk)) ends ∙ says ∙ ap (λ (l : List Item). with_batch (batched l) first) (sym (append-nil published)))
+      (λ kept. none_pending published keep (across (with_batch (batched published) first) (said (seen old.disk)) (said (seen keep.disk)) says (ends.1 modelled)))
   lent Lost keep published old is batch replied unsettled reply m same says ends follows =
       subst (λ (n : PenState (Journal D)). SaysPublished seen first n) (sym follows.1) (λ kept. absurd (true≢false kept))
 
   acted : (base : Topic) (published : List Item) (old : Journal D) (lost : Bool) (c : Command) (reply : Reply) (m : PenState (Journal D))
       → lost ≡ false
-      → said (seen old.disk) ≡ with_batch (batched published) first
+      → says_items published old
       → Acts (KeepsFile is_modelled moment left_since seen) base (record { published = published; pending = []; lost = lost; keep = old }) c reply m
       → SaysPublished seen first m
   acted base published old true c reply m kept says acts = absurd (true≢false kept)
   acted base published old false c reply m kept says acts =
       let here : SaysPublished seen first (record { published = published; pending = []; lost = false; keep = old }) =
-      λ none. says ∙ ap (λ (l : List Item). with_batch (batched l) first) (sym (append-nil published)) in
+      λ none. none_pending published old says in
       ⊎_elim
       (λ wrote_nothing. subst (λ (n : PenState (Journal D)). SaysPublished seen first n) (sym wrote_nothing.1) here)
       (λ more. ⊎_elim

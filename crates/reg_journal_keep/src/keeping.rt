@@ -1,5 +1,5 @@
 // A keep that appends each batch to a log in a file.
-ghost use Rattle.std.specs.Prelude.{◌≡◌, ◌↔◌, All, IsTrue, false};
+ghost use Rattle.std.specs.Prelude.{◌≡◌, ◌↔◌, All, IsTrue, true, false};
 ghost use Rattle.reg_records.specs.Written.{HasLine};
 ghost use Rattle.reg_journal.specs.Disk.{LeavesOnly};
 ghost use Rattle.reg_journal.specs.Journal.{IsReady};
@@ -7,7 +7,7 @@ ghost use Rattle.reg_journal.specs.Lines.{said};
 ghost use Rattle.reg_journal_keep.specs.Keeping.{KeepsFile, MakesRoom, kept_of, says_compaction};
 
 use crate::room::Room;
-use reg_journal::{AppendError, Journal, Renewable};
+use reg_journal::{AppendError, Journal, Renewable, lines_are_logs};
 use reg_keeping::{CompactError, compact_superseded, compactions_stand_for_logs};
 use reg_pen::{Keep, Kept, Lack};
 use reg_records::{Record, has_line};
@@ -64,10 +64,14 @@ impl<D: Renewable + Drop> FileKeep<D> {
     /// Compacts the file where that is due before a batch of so many lines is appended. A crash at any moment leaves a
     /// file that says what it said, or a compaction of that.
     pub fn make_room(&mut self, lines: u64)
-        requires { self.old.is_broken ≡ false }
         ensures room { MakesRoom D.is_modelled D.seen self.old self.new }
-        ensures any_moment { D.is_modelled → LeavesOnly D.moment D.left_since self.old.disk self.new.disk (says_compaction (said (D.seen self.old.disk))) }
+        ensures any_moment { D.is_modelled → self.old.is_broken ≡ false → LeavesOnly D.moment D.left_since self.old.disk self.new.disk (says_compaction (said (D.seen self.old.disk))) }
+        ensures broken { self.old.is_broken ≡ true → self.new ≡ self.old }
     {
+        if self.journal.is_broken {
+            return;
+        }
+        lines_are_logs();
         compactions_stand_for_logs();
         let Some(least) = self.room.due(self.journal.lines, lines) else {
             return;

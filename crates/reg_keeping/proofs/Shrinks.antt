@@ -1,12 +1,16 @@
 -- What a journal's file is once it is compacted.
-use Rattle.std.proofs.Common.{◌≡◌, ◌≤◌, ◌+◌, ◌-◌, ◌++◌, inl, ⊎_elim, ℕ, Bool, false, List, [], ◌∷◌, Ok, Err, length, take, refl, sym, ap, subst, ◌∙◌, arith, length-append, count_by, All, if◌then◌else◌}
+use Rattle.std.proofs.Common.{◌≡◌, ◌≤◌, ◌+◌, ◌-◌, ◌++◌, inl, ⊎_elim, ℕ, Bool, false, List, [], ◌∷◌, Ok, Err, length, take, refl, sym, ap, subst, ◌∙◌, arith, length-append, count_by, All, if◌then◌else◌, true≢false}
 use Rattle.std.proofs.lemmas.List.{take_at}
 use Rattle.std.proofs.lemmas.List.Elements.{All-head, All-tail}
 use Rattle.std.proofs.lemmas.List.Sums.{sum_by-append, sum_by-cons}
 use Rattle.std.specs.FinSet.{from_list}
 use Rattle.reg_journal.specs.Disk.{Only}
 use Rattle.reg_journal.specs.Journal.{IsSettled}
-use Rattle.reg_journal.specs.Lines.{EndedLinesAreRead, LinesAreRead, Say, said, text_of}
+use Rattle.reg_journal.specs.Lines.{EndedLinesAreRead, LinesAreRead, Say, text_of}
+use Rattle.reg_journal.specs.Renewal.{LeavesDisk}
+use Rattle.reg_journal.specs.declared.disk.DiskError.TheVariants as disks
+use Rattle.reg_journal.specs.declared.renewal.RenewError.{RenewError}
+use Rattle.reg_journal.specs.declared.renewal.RenewError.TheVariants as renewals
 use Rattle.reg_records.specs.Line.{is_line_feed}
 use Rattle.reg_records.specs.Log.{LogText, log_of, next_after, records_in}
 use Rattle.reg_records.specs.Pieces.{HasNoLineFeed}
@@ -15,14 +19,17 @@ use Rattle.reg_records.specs.declared.record.Read.{Read}
 use Rattle.reg_records.specs.declared.record.Record.{Record}
 use Rattle.reg_set.specs.LastRecords.{last_records}
 use Rattle.reg_keeping.specs.Compacted.{HasKept, IsCompacted, IsLines}
-use Rattle.reg_keeping.specs.Shrunk.{ShrinksTo}
+use Rattle.reg_keeping.specs.InPlace.{breaks, renew_refusal}
+use Rattle.reg_keeping.specs.Shrunk.{IsNoShrinking, ShrinksTo}
+use Rattle.reg_keeping.specs.declared.in_place.CompactError.{CompactError}
+use Rattle.reg_keeping.specs.declared.in_place.CompactError.TheVariants.{Changed}
 use Rattle.reg_keeping.specs.declared.shrinking.Shrunk.{Shrunk}
 
 none_in : (line : List ℕ) → HasNoLineFeed line → count_by is_line_feed line ≡ 0
 none_in [] free = refl
 none_in (b ∷ line) free =
     let here : is_line_feed b ≡ false = All-head (λ x. is_line_feed x ≡ false) b line free in
-    omega (arith, sum_by-cons (λ x. if is_line_feed x then 1 else 0) b line, ap (λ (t : Bool). if t then 1 else 0) here, none_in line (All-tail (λ x. is_line_feed x ≡ false) b line free))
+    omega (arith, sum_by-cons (λ x. if is_line_feed x then 1 else 0) b line, ap {B = ℕ} (λ (t : Bool). if t then 1 else 0) here, none_in line (All-tail (λ x. is_line_feed x ≡ false) b line free))
 
 -- a line more has one LF more
 lf_counted : (lines : List (List ℕ)) (read : List Read) → Say lines read → count_by is_line_feed (text_of lines) ≡ length read
@@ -39,6 +46,17 @@ same_log text a b p q = cc
 not_both : (text : List ℕ) (a : LogText) (e : ℕ × LogFault) → log_of text ≡ Ok a → log_of text ≡ Err e → ⊥
 not_both text a e p q = cc
 
+-- a new file that wasn't finished left the disk as it was
+pub kept_disk : {D : Type 0} (known : D → Type 0) (seen : D → List ℕ) (may_leave : D → List ℕ → Type 0) (old new : D) (e : RenewError) → breaks (renew_refusal e) ≡ false
+    → LeavesDisk known seen may_leave old new e → known new × (seen new ≡ seen old) × ((c : List ℕ) → may_leave new c → may_leave old c)
+kept_disk known seen may_leave old new (renewals.Kept e) kept leaves = leaves
+kept_disk known seen may_leave old new renewals.Lost kept leaves = absurd (true≢false kept)
+
+pub never_changed : (e : RenewError) → renew_refusal e ≡ Changed → ⊥
+never_changed (renewals.Kept disks.OutOfMemory) is = cc
+never_changed (renewals.Kept disks.Failed) is = cc
+never_changed renewals.Lost is = cc
+
 module _ (are_read : LinesAreRead) (ended_are_read : EndedLinesAreRead) {D : Type 0} (seen : D → List ℕ) (may_leave : D → List ℕ → Type 0) (disk : D) (end count : ℕ) (s : IsSettled seen may_leave disk end count) where
   before : take end (seen disk) ≡ text_of s.lines
   before = ap (λ (f : List ℕ). take end f) s.file ∙ take_at (text_of s.lines) (10 ∷ []) end (sym s.ends)
@@ -50,14 +68,29 @@ module _ (are_read : LinesAreRead) (ended_are_read : EndedLinesAreRead) {D : Typ
   reads = ap log_of before ∙ are_read s.lines s.read s.say s.few
 
   -- such a file has no fault
-  pub sound : (number : ℕ) (fault : LogFault) → log_of (take end (seen disk)) ≡ Err (number, fault) → ⊥
+  sound : (number : ℕ) (fault : LogFault) → log_of (take end (seen disk)) ≡ Err (number, fault) → ⊥
   sound number fault is = not_both (take end (seen disk)) (record { reads = s.read; rest = [] }) (number, fault) reads is
 
-  pub has_length : length (seen disk) ≡ end + 1
-  has_length = size
+  pub not_changed : (e : CompactError) → IsNoShrinking (seen disk) end e → e ≡ Changed → ⊥
+  not_changed e is same =
+      let fault = subst (λ (x : CompactError). IsNoShrinking (seen disk) end x) same is size in
+      sound fault.0 fault.1 fault.2
+
+  -- a call that changes nothing
+  pub same_settles : (new : D) → seen new ≡ seen disk → ((c : List ℕ) → may_leave new c → may_leave disk c) → IsSettled seen may_leave new end count
+  same_settles new is crash = record {
+    lines = s.lines;
+    read = s.read;
+    file = is ∙ s.file;
+    say = s.say;
+    ends = s.ends;
+    counts = s.counts;
+    few = s.few;
+    durable = λ c left. s.durable c (crash c left) ∙ sym is;
+  }
 
   module _ (shrunk : Shrunk) (it : ShrinksTo (seen disk) end shrunk) where
-    lines : IsLines it.text
+    abbrev lines : IsLines it.text
     lines = it.is_lines
 
     out_is : it.compacted.out ≡ record { reads = lines.read; rest = [] }
@@ -93,6 +126,7 @@ module _ (are_read : LinesAreRead) (ended_are_read : EndedLinesAreRead) {D : Typ
     kept_count = omega (arith, it.kept, ap (λ (t : List ℕ). count_by is_line_feed t) lines.parts, lf_counted lines.lines lines.read lines.say)
 
     pub has_kept : HasKept (seen disk) shrunk.kept
+    unfolding whole
     has_kept = (shrunk.bytes.items, whole, kept_count)
 
     pub settles : (new : D) (end' : ℕ) → seen new ≡ shrunk.bytes.items → Only (seen new) (may_leave new) → end' ≡ length shrunk.bytes.items - 1 → IsSettled seen may_leave new end' shrunk.kept

@@ -1,12 +1,12 @@
 // Compacting the file of a journal, in its place.
-ghost use Rattle.std.specs.Prelude.{◌≡◌, ◌≤◌, ◌<◌, ◌-◌, true, false, Err, IfErr, IfOk};
+ghost use Rattle.std.specs.Prelude.{◌≡◌, ◌≢◌, ◌≤◌, ◌<◌, ◌-◌, true, false, Err, IfErr, IfOk};
 ghost use Rattle.reg_journal.specs.Disk.{LeavesOnly};
 ghost use Rattle.reg_journal.specs.Journal.{IsReady};
 ghost use Rattle.reg_keeping.specs.Compacted.{HasKept, IsCompacted};
 ghost use Rattle.reg_keeping.specs.InPlace.{IsAsItWas, IsBeforeOrCompacted, IsShrunk, breaks};
 
 use crate::shrinking::{Shrunk, read_shrunk};
-use reg_journal::{DiskError, Journal, RenewError, Renewable};
+use reg_journal::{DiskError, Journal, RenewError, Renewable, lines_are_logs};
 use std::alloc::{AllocFailed, Global};
 
 /// Why a journal's file wasn't compacted.
@@ -16,7 +16,7 @@ pub enum CompactError {
     OutOfMemory,
     /// The file couldn't be read, or no new one be finished. The journal is as it was, and goes on.
     Failed,
-    /// The file isn't what was left there. Nothing is written any more.
+    /// The file isn't what was left there, which never comes of a disk that is modelled. Nothing is written any more.
     Changed,
     /// The new file may stand in the file's place or not. Nothing is written any more.
     Lost,
@@ -90,6 +90,7 @@ pub fn compact_journal<D: Renewable>(
 
     ensures refused { IfErr result (λ e. breaks e ≡ false → IsAsItWas D.is_modelled D.seen journal.old journal.new) }
     ensures unsettled { IfErr result (λ e. breaks e ≡ true → journal.new.is_broken ≡ true) }
+    ensures changed { D.is_modelled → IfErr result (λ e. e ≢ CompactError.Changed) }
     ensures broken { journal.old.is_broken ≡ true → (result ≡ Err CompactError.Broken) × (journal.new ≡ journal.old) }
 {
     compact_superseded(alloc, journal, 0)
@@ -108,17 +109,21 @@ pub fn compact_superseded<D: Renewable>(
     ensures many { IfOk result (λ kept. least ≤ journal.old.lines - kept → IsShrunk D.is_modelled D.seen journal.old kept journal.new) }
     ensures ready { D.is_modelled → IsReady D.known D.seen D.may_leave journal.new }
 
-    // A crash at any moment of the call leaves a file that says what it said before, or a compaction of it.
+    // Unless the journal is broken then, its file says what it said before, or a compaction of it; a crash at any moment
+    // of the call leaves such a file.
+    ensures left { D.is_modelled → journal.new.is_broken ≡ false → IsBeforeOrCompacted (D.seen journal.old.disk) (D.seen journal.new.disk) }
     ensures any_moment { D.is_modelled → journal.old.is_broken ≡ false → LeavesOnly D.moment D.left_since journal.old.disk journal.new.disk
         (IsBeforeOrCompacted (D.seen journal.old.disk)) }
 
     ensures refused { IfErr result (λ e. breaks e ≡ false → IsAsItWas D.is_modelled D.seen journal.old journal.new) }
     ensures unsettled { IfErr result (λ e. breaks e ≡ true → journal.new.is_broken ≡ true) }
+    ensures changed { D.is_modelled → IfErr result (λ e. e ≢ CompactError.Changed) }
     ensures broken { journal.old.is_broken ≡ true → (result ≡ Err CompactError.Broken) × (journal.new ≡ journal.old) }
 {
     if journal.is_broken {
         return Err(CompactError::Broken);
     }
+    lines_are_logs();
     let Shrunk { bytes, kept } = match read_shrunk(alloc, &mut journal.disk, journal.end) {
         Ok(shrunk) => shrunk,
         Err(error) => {

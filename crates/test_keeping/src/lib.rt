@@ -6,4 +6,6 @@ mod compactions;
 #[cfg(test)]
 mod faults;
 #[cfg(test)]
+mod in_place;
+#[cfg(test)]
 mod openings;

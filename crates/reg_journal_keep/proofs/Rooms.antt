@@ -1,0 +1,93 @@
+-- What making room and appending leave of a journal.
+use Rattle.std.proofs.Common.{◌≡◌, ◌⊎◌, inl, inr, ⊎_elim, ◌++◌, ℕ, Bool, true, false, List, [], ◌∷◌, Result, Ok, Err, length, refl, sym, ap, subst, ◌∙◌, true≢false}
+use Rattle.std.specs.Result.{result_map_both}
+use Rattle.reg_journal.specs.Disk.{LeavesOnly, Only}
+use Rattle.reg_journal.specs.Journal.{IsReady, IsSettled}
+use Rattle.reg_journal.specs.Lines.{EndedLinesAreRead, IsBeforeOrAfter, said, with_batch}
+use Rattle.reg_journal.specs.Refusals.{is_refusal}
+use Rattle.reg_journal.specs.declared.journal.AppendError.{AppendError}
+use Rattle.reg_journal.specs.declared.journal.AppendError.TheVariants as errors
+use Rattle.reg_journal.specs.declared.journal.Journal.{Journal}
+use Rattle.reg_journal.proofs.Moments.{joined, started, weaker}
+use Rattle.reg_keeping.specs.InPlace.{IsBeforeOrCompacted}
+use Rattle.reg_keeping.specs.Said.{CompactedFilesSayIt, EachSaysItsOwnCompaction, SaysCompaction}
+use Rattle.reg_records.specs.Log.{LogText, log_of}
+use Rattle.reg_records.specs.declared.log.LogFault.{LogFault}
+use Rattle.reg_records.specs.declared.record.Read.{Read}
+use Rattle.reg_records.specs.declared.record.Record.{Record}
+use Rattle.reg_journal_keep.specs.Keeping.{Ends, MakesRoom, SaysCompactionOrMore, kept_of, says_compaction}
+
+abbrev of_log : Result LogText (ℕ × LogFault) → Result (List Read) (ℕ × LogFault)
+of_log found = result_map_both (λ (log : LogText). log.reads) (λ fault. fault) found
+
+module _ {D : Type 0} (seen : D → List ℕ) (may_leave : D → List ℕ → Type 0) (ended : EndedLinesAreRead) (itself : EachSaysItsOwnCompaction) (disk : D) (end count : ℕ) (s : IsSettled seen may_leave disk end count) where
+  -- a settled file says a compaction of itself
+  pub says_itself : SaysCompaction (said (seen disk)) (said (seen disk))
+  says_itself =
+      let says : said (seen disk) ≡ Ok s.read = ap of_log (ap log_of s.file ∙ ended s.lines s.read [] s.say s.few) in
+      subst (λ (found : Result (List Read) (ℕ × LogFault)). SaysCompaction found found) (sym says) (itself s.read)
+
+  pub says_left : CompactedFilesSayIt → (file : List ℕ) → IsBeforeOrCompacted (seen disk) file → SaysCompaction (said (seen disk)) (said file)
+  says_left compacted file left =
+      ⊎_elim
+      (λ same. subst (λ (found : Result (List Read) (ℕ × LogFault)). SaysCompaction (said (seen disk)) found) (sym same) says_itself)
+      (λ is. compacted (seen disk) file is)
+      left
+
+  -- what a crash leaves of it
+  pub says_on_disk : (file : List ℕ) → may_leave disk file → SaysCompaction (said (seen disk)) (said file)
+  says_on_disk file left = subst (λ (f : List ℕ). SaysCompaction (said (seen disk)) (said f)) (sym (s.durable file left)) says_itself
+
+module _ {D : Type 0} (moment : D → ℕ) (left_since : D → ℕ → List ℕ → Type 0) (seen : D → List ℕ) (old mid new : Journal D) (batch : List Record) where
+  alone : (file : List ℕ) → says_compaction (said (seen old.disk)) file → SaysCompactionOrMore (said (seen old.disk)) batch file
+  alone file says = (said file, says, inl refl)
+
+  -- a batch that is appended once there is room
+  pub appended : LeavesOnly moment left_since old.disk mid.disk (says_compaction (said (seen old.disk)))
+      → SaysCompaction (said (seen old.disk)) (said (seen mid.disk))
+      → LeavesOnly moment left_since mid.disk new.disk (IsBeforeOrAfter (said (seen mid.disk)) batch)
+      → LeavesOnly moment left_since old.disk new.disk (SaysCompactionOrMore (said (seen old.disk)) batch)
+  appended room says appends =
+      weaker moment left_since old.disk new.disk _ (SaysCompactionOrMore (said (seen old.disk)) batch)
+      (joined moment left_since old.disk mid.disk new.disk (says_compaction (said (seen old.disk))) (IsBeforeOrAfter (said (seen mid.disk)) batch) room appends)
+      (λ file left. ⊎_elim (λ p. alone file p) (λ q. (said (seen mid.disk), says, q)) left)
+
+  -- a journal that making room broke is left as it is
+  pub left_alone : LeavesOnly moment left_since old.disk mid.disk (says_compaction (said (seen old.disk))) → new ≡ mid
+      → LeavesOnly moment left_since old.disk new.disk (SaysCompactionOrMore (said (seen old.disk)) batch)
+  left_alone room same =
+      subst (λ (j : Journal D). LeavesOnly moment left_since old.disk j.disk (SaysCompactionOrMore (said (seen old.disk)) batch)) (sym same)
+      (weaker moment left_since old.disk mid.disk (says_compaction (said (seen old.disk))) (SaysCompactionOrMore (said (seen old.disk)) batch) room alone)
+
+  -- either
+  pub at_any_moment : LeavesOnly moment left_since old.disk mid.disk (says_compaction (said (seen old.disk)))
+      → (mid.is_broken ≡ false → SaysCompaction (said (seen old.disk)) (said (seen mid.disk)))
+      → (mid.is_broken ≡ false → LeavesOnly moment left_since mid.disk new.disk (IsBeforeOrAfter (said (seen mid.disk)) batch))
+      → (mid.is_broken ≡ true → new ≡ mid)
+      → LeavesOnly moment left_since old.disk new.disk (SaysCompactionOrMore (said (seen old.disk)) batch)
+  at_any_moment room says appends same =
+      elim (mid.is_broken) as (λ b. mid.is_broken ≡ b → LeavesOnly moment left_since old.disk new.disk (SaysCompactionOrMore (said (seen old.disk)) batch)) [
+        | true ↦ λ broken. left_alone room (same broken)
+        | false ↦ λ sound. appended room (says sound) (appends sound)
+      ] refl
+
+  declined : (is_modelled : Type 0) (error : AppendError) → MakesRoom is_modelled seen old mid → new ≡ mid → (mid.is_broken ≡ true → error ≡ errors.Broken) → (error ≡ errors.Broken → ⊥)
+      → (new.is_broken ≡ false) × (is_modelled → SaysCompaction (said (seen old.disk)) (said (seen new.disk)))
+  declined is_modelled error room same broken not =
+      let sound : mid.is_broken ≡ false =
+      elim (mid.is_broken) as (λ b. mid.is_broken ≡ b → b ≡ false) [
+        | true ↦ λ is. absurd (not (broken is))
+        | false ↦ λ is. refl
+      ] refl in
+      subst (λ (j : Journal D). (j.is_broken ≡ false) × (is_modelled → SaysCompaction (said (seen old.disk)) (said (seen j.disk)))) (sym same)
+      (sound, λ modelled. room modelled sound)
+
+  pub ends_refused : (is_modelled : Type 0) (error : AppendError) → MakesRoom is_modelled seen old mid
+      → (is_refusal error ≡ true → new ≡ mid) → (is_refusal error ≡ false → new.is_broken ≡ true) → (mid.is_broken ≡ true → error ≡ errors.Broken)
+      → Ends is_modelled seen old batch (kept_of error) new
+  ends_refused is_modelled errors.LineTooLong room same loses broken = declined is_modelled errors.LineTooLong room (same refl) broken (λ is. cc)
+  ends_refused is_modelled errors.TooManyLines room same loses broken = declined is_modelled errors.TooManyLines room (same refl) broken (λ is. cc)
+  ends_refused is_modelled errors.OutOfMemory room same loses broken = declined is_modelled errors.OutOfMemory room (same refl) broken (λ is. cc)
+  ends_refused is_modelled errors.Changed room same loses broken = loses refl
+  ends_refused is_modelled errors.Failed room same loses broken = loses refl
+  ends_refused is_modelled errors.Broken room same loses broken = loses refl

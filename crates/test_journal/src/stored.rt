@@ -1,0 +1,71 @@
+// Files of the system that are replaced.
+use reg_journal::{Disk, DiskError, RenewError, Renewable, StoredFile};
+use std::alloc::Global;
+use std::fs::{self, File, OpenOptions};
+use std::os::unix::fs::MetadataExt;
+use std::os::unix::fs::OpenOptionsExt;
+use std::rt::Files;
+use std::test::Fail;
+
+/// A new file of that name with these bytes.
+fn stored<R: Files<File = File> + Clone + Drop>(
+    files: &R,
+    alloc: Global,
+    path: &str,
+    bytes: &[u8],
+) -> Result<StoredFile<R>, Fail> {
+    let mut how = OpenOptions::new();
+    how.read(true).write(true).create(true).truncate(true).mode(0o640);
+    let mut disk = StoredFile::new(alloc, files.clone(), path, how.open(files, path)?)?;
+    disk.write_at(0, bytes).map_err(|_| "not written")?;
+    disk.sync().map_err(|_| "not synced")?;
+    Ok(disk)
+}
+
+#[test]
+fn a_stored_file_is_replaced_with_its_owner_and_permissions(rt: HostRuntime) -> Result<(), Fail> {
+    let alloc = rt.alloc();
+    let mut disk = stored(&rt, alloc, "replaced.log", b"old\n")?;
+    let before = fs::metadata(&rt, "replaced.log")?;
+    // What a crash left of an earlier one is no hindrance.
+    fs::write(&rt, "replaced.log.new", "torn")?;
+    assert!(rt; disk.renew(b"the new lines\n").is_ok());
+    let after = fs::metadata(&rt, "replaced.log")?;
+    assert!(rt; after.ino() != before.ino() && after.mode() == before.mode());
+    assert!(rt; after.uid() == before.uid() && after.gid() == before.gid());
+    assert!(rt; !fs::exists(&rt, "replaced.log.new")?);
+    // What is appended goes to the new file.
+    disk.write_at(14, b"more\n").map_err(|_| "not written")?;
+    assert_eq!(rt; fs::read(&rt, "replaced.log")?.as_slice(), b"the new lines\nmore\n".as_slice());
+    assert_eq!(rt; disk.read(alloc).map_err(|_| "not read")?.as_slice(), b"the new lines\nmore\n".as_slice());
+    fs::remove_file(&rt, "replaced.log")?;
+    Ok(())
+}
+
+#[test]
+fn a_new_file_that_cannot_be_written_leaves_the_old_one(rt: HostRuntime) -> Result<(), Fail> {
+    let alloc = rt.alloc();
+    let mut disk = stored(&rt, alloc, "kept.log", b"old\n")?;
+    fs::create_dir(&rt, "kept.log.new")?;
+    let answer = disk.renew(b"new\n");
+    assert!(rt; matches!(answer, Err(RenewError::Kept(DiskError::Failed))));
+    assert_eq!(rt; fs::read(&rt, "kept.log")?.as_slice(), b"old\n".as_slice());
+    fs::remove_dir(&rt, "kept.log.new")?;
+    assert!(rt; disk.renew(b"new\n").is_ok());
+    assert_eq!(rt; fs::read(&rt, "kept.log")?.as_slice(), b"new\n".as_slice());
+    fs::remove_file(&rt, "kept.log")?;
+    Ok(())
+}
+
+#[test]
+fn a_rename_that_fails_loses_the_file(rt: HostRuntime) -> Result<(), Fail> {
+    let alloc = rt.alloc();
+    let mut disk = stored(&rt, alloc, "lost.log", b"old\n")?;
+    fs::remove_file(&rt, "lost.log")?;
+    fs::create_dir(&rt, "lost.log")?;
+    assert!(rt; matches!(disk.renew(b"new\n"), Err(RenewError::Lost)));
+    fs::remove_dir(&rt, "lost.log")?;
+    disk.remove_unfinished()?;
+    assert!(rt; !fs::exists(&rt, "lost.log.new")?);
+    Ok(())
+}
