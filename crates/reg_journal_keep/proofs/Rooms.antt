@@ -38,6 +38,42 @@ module _ {D : Type 0} (seen : D → List ℕ) (may_leave : D → List ℕ → Ty
   pub says_on_disk : (file : List ℕ) → may_leave disk file → SaysCompaction (said (seen disk)) (said file)
   says_on_disk file left = subst (λ (f : List ℕ). SaysCompaction (said (seen disk)) (said f)) (sym (s.durable file left)) says_itself
 
+-- what compacting in place leaves of a journal, which contracts see as another one
+module _ {D : Type 0} (known : D → Type 0) (seen : D → List ℕ) (may_leave : D → List ℕ → Type 0) (moment : D → ℕ) (left_since : D → ℕ → List ℕ → Type 0)
+    (ended : EndedLinesAreRead) (itself : EachSaysItsOwnCompaction) (compacted : CompactedFilesSayIt) (inside view new : Journal D) (is : inside ≡ view)
+    (ready : known inside.disk × IsSettled seen may_leave inside.disk inside.end inside.lines) where
+  left_of : (file : List ℕ) → IsBeforeOrCompacted (seen inside.disk) file → SaysCompaction (said (seen inside.disk)) (said file)
+  left_of file left = says_left seen may_leave ended itself inside.disk inside.end inside.lines ready.1 compacted file left
+
+  pub room_left : IsBeforeOrCompacted (seen inside.disk) (seen new.disk) → SaysCompaction (said (seen view.disk)) (said (seen new.disk))
+  room_left left = subst (λ (j : Journal D). SaysCompaction (said (seen j.disk)) (said (seen new.disk))) is (left_of (seen new.disk) left)
+
+  pub moments_left : LeavesOnly moment left_since inside.disk new.disk (IsBeforeOrCompacted (seen inside.disk))
+      → LeavesOnly moment left_since view.disk new.disk (says_compaction (said (seen view.disk)))
+  moments_left leaves =
+      subst (λ (j : Journal D). LeavesOnly moment left_since j.disk new.disk (says_compaction (said (seen j.disk)))) is
+      (weaker moment left_since inside.disk new.disk (IsBeforeOrCompacted (seen inside.disk)) (says_compaction (said (seen inside.disk))) leaves left_of)
+
+-- nothing was done
+module _ {D : Type 0} (known : D → Type 0) (seen : D → List ℕ) (may_leave : D → List ℕ → Type 0) (moment : D → ℕ) (left_since : D → ℕ → List ℕ → Type 0)
+    (ended : EndedLinesAreRead) (itself : EachSaysItsOwnCompaction) (j : Journal D) (ready : known j.disk × IsSettled seen may_leave j.disk j.end j.lines) where
+  pub says_same : SaysCompaction (said (seen j.disk)) (said (seen j.disk))
+  says_same = says_itself seen may_leave ended itself j.disk j.end j.lines ready.1
+
+  pub leaves_same : (batch : List Record) → ((file : List ℕ) → left_since j.disk (moment j.disk) file → may_leave j.disk file)
+      → LeavesOnly moment left_since j.disk j.disk (SaysCompactionOrMore (said (seen j.disk)) batch)
+  leaves_same batch only =
+      started moment left_since j.disk (SaysCompactionOrMore (said (seen j.disk)) batch)
+      (λ file left. (said file, says_on_disk seen may_leave ended itself j.disk j.end j.lines ready.1 file (only file left), inl refl))
+
+-- a journal that answers so isn't broken
+pub sound_of : {T : Type 0} (b : Bool) (r : Result T AppendError) (v : T) → r ≡ Ok v → (b ≡ true → r ≡ Err errors.Broken) → b ≡ false
+sound_of true r v ok broken = let e = broken refl in cc
+sound_of false r v ok broken = refl
+
+pub error_of : {T : Type 0} (r : Result T AppendError) (error : AppendError) → r ≡ Err error → r ≡ Err errors.Broken → error ≡ errors.Broken
+error_of r error is broken = cc
+
 module _ {D : Type 0} (moment : D → ℕ) (left_since : D → ℕ → List ℕ → Type 0) (seen : D → List ℕ) (old mid new : Journal D) (batch : List Record) where
   alone : (file : List ℕ) → says_compaction (said (seen old.disk)) file → SaysCompactionOrMore (said (seen old.disk)) batch file
   alone file says = (said file, says, inl refl)

@@ -94,6 +94,7 @@ impl<D: Renewable + Drop> Keep for FileKeep<D> {
 
     fn keep(&mut self, batch: &[Record]) -> Kept {
         compactions_stand_for_logs();
+        lines_are_logs();
         if self.journal.is_broken {
             return Kept::Lost;
         }
