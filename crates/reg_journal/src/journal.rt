@@ -88,6 +88,7 @@ impl<D: Disk> Journal<D> {
 
         ensures acknowledged { D.is_modelled → OnOk result (said (D.seen self.new.disk) ≡ with_batch batch.now (said (D.seen self.old.disk))) }
         ensures ready { D.is_modelled → IsReady D.known D.seen D.may_leave self.new }
+        ensures goes_on { OnOk result (self.new.is_broken ≡ false) }
 
         // A crash at any moment of the call leaves a file that says what it said before, or that with the whole batch.
         ensures any_moment { D.is_modelled → self.old.is_broken ≡ false → LeavesOnly D.moment D.left_since self.old.disk self.new.disk

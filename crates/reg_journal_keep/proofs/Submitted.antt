@@ -44,7 +44,7 @@ module _ {D : Type 0} (across : SaidCompactionsCompose) (follow : BatchesFollowC
   taken : (keep old : Journal D) (published is : List Item) (batch : List Record) → batched is ≡ batch → says_items published old
       → Ends is_modelled seen old batch Taken keep → says_items (published ++ is) keep
   taken keep old published is batch same says ends =
-      let now = ends modelled in
+      let now = ends.1 modelled in
       let before = across (with_batch (batched published) first) (said (seen old.disk)) now.0 says now.1 in
       subst₂ SaysCompaction
       (both_said (batched published) batch first

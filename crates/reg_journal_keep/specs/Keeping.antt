@@ -37,7 +37,8 @@ MakesRoom is_modelled seen old new = is_modelled → new.is_broken ≡ false →
 -- what the journal's file says after what became of a batch: a compaction of what it said, and all of a batch that was taken behind it
 abbrev pub Ends : {D : Type 0} → Type 0 → (D → List ℕ) → Journal D → List Record → Kept → Journal D → Type 0
 Ends is_modelled seen old batch Taken new =
-    is_modelled → (kept : Result (List Read) (ℕ × LogFault)) × SaysCompaction (said (seen old.disk)) kept × (said (seen new.disk) ≡ with_batch batch kept)
+    (new.is_broken ≡ false)
+    × (is_modelled → (kept : Result (List Read) (ℕ × LogFault)) × SaysCompaction (said (seen old.disk)) kept × (said (seen new.disk) ≡ with_batch batch kept))
 Ends is_modelled seen old batch (Declined lack) new = (new.is_broken ≡ false) × (is_modelled → SaysCompaction (said (seen old.disk)) (said (seen new.disk)))
 Ends is_modelled seen old batch Lost new = new.is_broken ≡ true
 

@@ -39,7 +39,10 @@ fn tried(rt: &impl Abort, alloc: Global, fails_at: usize) -> Result<(), Fail> {
         Err(_) => false,
     };
     assert!(rt; is_as_expected);
-    assert_eq!(rt; journal.is_broken, matches!(answer, Err(CompactError::Lost)));
+    assert_eq!(rt;
+        journal.is_broken,
+        matches!(answer, Err(CompactError::Lost))
+    );
     for k in 0..=journal.disk.steps() {
         for image in &journal.disk.images(k)? {
             let is_before = opens_with(alloc, image, &all)?;
@@ -86,9 +89,19 @@ fn a_file_that_another_has_changed_breaks_the_journal(rt: HostRuntime) -> Result
             lines: 1,
             is_broken: false,
         };
-        assert!(rt; matches!(compact_journal(alloc, &mut journal), Err(CompactError::Changed)));
+        assert!(rt;
+            matches!(
+                compact_journal(alloc, &mut journal),
+                Err(CompactError::Changed)
+            )
+        );
         assert!(rt; journal.is_broken && journal.disk.bytes() == file.as_bytes());
-        assert!(rt; matches!(compact_journal(alloc, &mut journal), Err(CompactError::Broken)));
+        assert!(rt;
+            matches!(
+                compact_journal(alloc, &mut journal),
+                Err(CompactError::Broken)
+            )
+        );
         assert!(rt; journal.disk.steps() == 0);
     }
     Ok(())

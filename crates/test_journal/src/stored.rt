@@ -2,8 +2,7 @@
 use reg_journal::{Disk, DiskError, RenewError, Renewable, StoredFile};
 use std::alloc::Global;
 use std::fs::{self, File, OpenOptions};
-use std::os::unix::fs::MetadataExt;
-use std::os::unix::fs::OpenOptionsExt;
+use std::os::unix::fs::{MetadataExt, OpenOptionsExt};
 use std::rt::Files;
 use std::test::Fail;
 
@@ -15,8 +14,12 @@ fn stored<R: Files<File = File> + Clone + Drop>(
     bytes: &[u8],
 ) -> Result<StoredFile<R>, Fail> {
     let mut how = OpenOptions::new();
-    how.read(true).write(true).create(true).truncate(true).mode(0o640);
-    let mut disk = StoredFile::new(alloc, files.clone(), path, how.open(files, path)?)?;
+    how.read(true)
+        .write(true)
+        .create(true)
+        .truncate(true)
+        .mode(0o640);
+    let mut disk = StoredFile::new(alloc, files.clone()?, path, how.open(files, path)?)?;
     disk.write_at(0, bytes).map_err(|_| "not written")?;
     disk.sync().map_err(|_| "not synced")?;
     Ok(disk)
@@ -36,8 +39,14 @@ fn a_stored_file_is_replaced_with_its_owner_and_permissions(rt: HostRuntime) -> 
     assert!(rt; !fs::exists(&rt, "replaced.log.new")?);
     // What is appended goes to the new file.
     disk.write_at(14, b"more\n").map_err(|_| "not written")?;
-    assert_eq!(rt; fs::read(&rt, "replaced.log")?.as_slice(), b"the new lines\nmore\n".as_slice());
-    assert_eq!(rt; disk.read(alloc).map_err(|_| "not read")?.as_slice(), b"the new lines\nmore\n".as_slice());
+    assert_eq!(rt;
+        fs::read(&rt, "replaced.log")?.as_slice(),
+        b"the new lines\nmore\n".as_slice()
+    );
+    assert_eq!(rt;
+        disk.read(alloc).map_err(|_| "not read")?.as_slice(),
+        b"the new lines\nmore\n".as_slice()
+    );
     fs::remove_file(&rt, "replaced.log")?;
     Ok(())
 }

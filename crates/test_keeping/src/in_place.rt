@@ -11,7 +11,11 @@ use std::test::Fail;
 /// A file, what is left of it, and how many lines that has.
 const ROWS: [(&str, &str, u64); 6] = [
     ("|", "|", 0),
-    ("0;{'keytype':'NOOP'};null||", "0;{'keytype':'NOOP'};null||", 1),
+    (
+        "0;{'keytype':'NOOP'};null||",
+        "0;{'keytype':'NOOP'};null||",
+        1,
+    ),
     (
         "0;{'keytype':'MODE'};{'mode':'IMPORT'}|1;{'keytype':'MODE'};null||",
         "1;{'keytype':'MODE'};null||",

@@ -40,7 +40,7 @@ returns g c =
       | in-Ok w ↦
           let mid_sound : mid.is_broken ≡ false = sound_of mid.is_broken c.append.result _ w.in-Ok.is (λ is. (c.append.ensures.broken is).0) in
           subst (λ (k : Kept). Ends d.is_modelled d.seen old batch k new) (sym w.result-is)
-          (λ modelled. (said (d.seen mid.disk), room modelled mid_sound, w.in-Ok.ensures.acknowledged modelled))
+          (w.in-Ok.ensures.goes_on, λ modelled. (said (d.seen mid.disk), room modelled mid_sound, w.in-Ok.ensures.acknowledged modelled))
       | in-Err w ↦
           subst (λ (k : Kept). Ends d.is_modelled d.seen old batch k new) (sym (w.result-is ∙ w.kept_of.ensures))
           (ends_refused d.moment d.left_since d.seen old mid new batch d.is_modelled w.in-Err.error room w.in-Err.ensures.refused w.in-Err.ensures.unsettled
