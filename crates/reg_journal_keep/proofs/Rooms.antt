@@ -1,9 +1,9 @@
 -- What making room and appending leave of a journal.
-use Rattle.std.proofs.Common.{◌≡◌, ◌⊎◌, inl, inr, ⊎_elim, ◌++◌, ℕ, Bool, true, false, List, [], ◌∷◌, Result, Ok, Err, length, refl, sym, ap, subst, ◌∙◌, true≢false}
+use Rattle.std.proofs.Common.{◌≡◌, inl, ⊎_elim, ℕ, Bool, true, false, List, [], Result, Ok, Err, refl, sym, ap, subst, ◌∙◌}
 use Rattle.std.specs.Result.{result_map_both}
-use Rattle.reg_journal.specs.Disk.{LeavesOnly, Only}
-use Rattle.reg_journal.specs.Journal.{IsReady, IsSettled}
-use Rattle.reg_journal.specs.Lines.{EndedLinesAreRead, IsBeforeOrAfter, said, with_batch}
+use Rattle.reg_journal.specs.Disk.{LeavesOnly}
+use Rattle.reg_journal.specs.Journal.{IsSettled}
+use Rattle.reg_journal.specs.Lines.{EndedLinesAreRead, IsBeforeOrAfter, said}
 use Rattle.reg_journal.specs.Refusals.{is_refusal}
 use Rattle.reg_journal.specs.declared.journal.AppendError.{AppendError}
 use Rattle.reg_journal.specs.declared.journal.AppendError.TheVariants as errors

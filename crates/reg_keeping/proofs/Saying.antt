@@ -3,12 +3,12 @@ use Rattle.std.proofs.Common.{◌≡◌, ◌++◌, ◌||◌, ℕ, suc, List, Res
 use Rattle.std.proofs.lemmas.List.Folds.{list_any-append}
 use Rattle.std.proofs.lemmas.List.Sums.{fold-append}
 use Rattle.std.specs.Cmp.{IsTotalOrder}
-use Rattle.std.specs.FinSet.{IsAntisymmetric, contains, contains-from_list, contains-union, from_list, same_set, union}
+use Rattle.std.specs.FinSet.{IsAntisymmetric, contains-from_list, contains-union, from_list, same_set, union}
 use Rattle.std.specs.Ordering.{eq_by_cmp}
 use Rattle.std.specs.Prelude.{Bool, fold}
 use Rattle.std.specs.Result.{result_map_both}
-use Rattle.reg_journal.specs.Lines.{batch_reads, said, with_batch}
-use Rattle.reg_records.specs.Log.{LogText, log_of, next_after, offset_in, records_in}
+use Rattle.reg_journal.specs.Lines.{batch_reads, with_batch}
+use Rattle.reg_records.specs.Log.{LogText, next_after, offset_in, records_in}
 use Rattle.reg_records.specs.declared.log.LogFault.{LogFault}
 use Rattle.reg_records.specs.declared.record.Read.{Read}
 use Rattle.reg_records.specs.declared.record.Record.{Record}
@@ -16,8 +16,7 @@ use Rattle.reg_set.specs.Compaction.{IsCompactionOf}
 use Rattle.reg_set.specs.Join.{CompactionsCompose, CompactionsUnite, EachIsItsOwnCompaction, LastRecordsAreCompaction}
 use Rattle.reg_set.specs.RecordOrder.{record_cmp}
 use Rattle.reg_set.specs.Records.{Records}
-use Rattle.reg_keeping.specs.Compacted.{IsCompacted}
-use Rattle.reg_keeping.specs.Said.{BatchesFollowCompactions, CompactedFilesSayIt, EachSaysItsOwnCompaction, SaidCompactionsCompose, SaysCompaction}
+use Rattle.reg_keeping.specs.Said.{BatchesFollowCompactions, CompactedFilesSayIt, EachSaysItsOwnCompaction, SaidCompactionsCompose}
 
 abbrev Said : Type 0
 Said = Result (List Read) (ℕ × LogFault)

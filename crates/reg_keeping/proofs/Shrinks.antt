@@ -1,5 +1,5 @@
 -- What a journal's file is once it is compacted.
-use Rattle.std.proofs.Common.{◌≡◌, ◌≤◌, ◌+◌, ◌-◌, ◌++◌, inl, ⊎_elim, ℕ, Bool, false, List, [], ◌∷◌, Ok, Err, length, take, refl, sym, ap, subst, ◌∙◌, arith, length-append, count_by, All, if◌then◌else◌, true≢false}
+use Rattle.std.proofs.Common.{◌≡◌, ◌+◌, ◌-◌, ◌++◌, ℕ, Bool, false, List, [], ◌∷◌, Ok, Err, length, take, refl, sym, ap, subst, ◌∙◌, arith, length-append, count_by, if◌then◌else◌, true≢false}
 use Rattle.std.proofs.lemmas.List.{take_at}
 use Rattle.std.proofs.lemmas.List.Elements.{All-head, All-tail}
 use Rattle.std.proofs.lemmas.List.Sums.{sum_by-append, sum_by-cons}
@@ -16,7 +16,6 @@ use Rattle.reg_records.specs.Log.{LogText, log_of, next_after, records_in}
 use Rattle.reg_records.specs.Pieces.{HasNoLineFeed}
 use Rattle.reg_records.specs.declared.log.LogFault.{LogFault}
 use Rattle.reg_records.specs.declared.record.Read.{Read}
-use Rattle.reg_records.specs.declared.record.Record.{Record}
 use Rattle.reg_set.specs.LastRecords.{last_records}
 use Rattle.reg_keeping.specs.Compacted.{HasKept, IsCompacted, IsLines}
 use Rattle.reg_keeping.specs.InPlace.{breaks, renew_refusal}

@@ -1,11 +1,11 @@
 -- A batch is appended once there is room, or nothing is done.
-use Rattle.std.proofs.Common.{◌≡◌, false, true, ℕ, List, sym, subst, ◌∙◌, true≢false}
+use Rattle.std.proofs.Common.{◌≡◌, false, sym, subst, ◌∙◌, true≢false}
 use Rattle.reg_journal.specs.Disk.{LeavesOnly}
 use Rattle.reg_journal.specs.Journal.{IsReady}
 use Rattle.reg_journal.specs.Lines.{said}
 use Rattle.reg_journal.specs.declared.journal.Journal.{Journal}
 use Rattle.reg_pen.specs.declared.keep.Kept.{Kept}
-use Rattle.reg_journal_keep.specs.Keeping.{Ends, KeepsFile, MakesRoom, SaysCompactionOrMore, says_compaction}
+use Rattle.reg_journal_keep.specs.Keeping.{Ends, MakesRoom, says_compaction}
 use Rattle.reg_journal_keep.proofs.Rooms.{at_any_moment, ends_refused, error_of, leaves_same, says_same, sound_of}
 use Rattle.reg_journal_keep.proofs.keeping.FileKeepKeep.keep.Goals.{in-Ok, in-Err}
 use Rattle.reg_journal_keep.proofs.keeping.FileKeepKeep.keep.Goals as goal
