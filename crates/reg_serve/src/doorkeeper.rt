@@ -37,6 +37,8 @@ pub(crate) struct Doorkeeper<'a, T: Drop> {
     /// Whether connections may wait to be accepted, and from when on they are.
     accepts: bool,
     accepts_from: u64,
+    /// One that was accepted, and waits for a place.
+    guest: Option<TcpStream>,
     /// When it last looked for connections that take too long.
     looked: u64,
 }
@@ -62,6 +64,7 @@ impl<'a, T: Drop> Doorkeeper<'a, T> {
             now: 0,
             accepts: true,
             accepts_from: 0,
+            guest: None,
             looked: 0,
         })
     }
@@ -87,7 +90,7 @@ impl<'a, T: Drop> Doorkeeper<'a, T> {
             }
             self.look_again(rt);
             self.take_back(rt);
-            self.accept_some();
+            self.accept_some(rt);
             self.look_for_late();
             self.lighten();
         }
@@ -112,7 +115,7 @@ impl<'a, T: Drop> Doorkeeper<'a, T> {
         if !may_sleep || !self.again.is_empty() {
             return Some(Duration::from_millis(0));
         }
-        if self.accepts {
+        if self.accepts || self.guest.is_some() {
             let left = self.accepts_from.saturating_sub(self.now);
             return Some(Duration::from_millis(left.min(self.limits.pause)));
         }
@@ -214,25 +217,24 @@ impl<'a, T: Drop> Doorkeeper<'a, T> {
 
     /// Accepts what waits, as long as there is room. Where a connection can't be accepted, as for want of
     /// descriptors, the oldest one makes room, and it is tried again after a pause.
-    fn accept_some(&mut self) {
-        if !self.accepts || self.now < self.accepts_from {
+    fn accept_some<R: Wait>(&mut self, rt: &R) {
+        if self.now < self.accepts_from {
             return;
         }
+        if let Some(stream) = self.guest.take() {
+            self.admit(rt, stream);
+        }
         for _ in 0..AT_ONCE {
-            if !self.has_room() {
-                self.accepts_from = self.now.saturating_add(self.limits.pause);
+            if !self.accepts || self.guest.is_some() {
                 return;
             }
             match self.listener.accept() {
-                Ok((stream, _peer)) => self.admit(stream),
+                Ok((stream, _peer)) => self.admit(rt, stream),
                 Err(e) => match e.kind() {
-                    ErrorKind::WouldBlock => {
-                        self.accepts = false;
-                        return;
-                    }
+                    ErrorKind::WouldBlock => self.accepts = false,
                     ErrorKind::Interrupted | ErrorKind::ConnectionAborted => {}
                     _ => {
-                        self.drop_oldest();
+                        self.make_room(rt);
                         self.accepts_from = self.now.saturating_add(self.limits.pause);
                         return;
                     }
@@ -241,12 +243,14 @@ impl<'a, T: Drop> Doorkeeper<'a, T> {
         }
     }
 
-    /// Lets a connection in; where all places are taken the oldest one makes room.
-    fn admit(&mut self, stream: TcpStream) {
+    /// Lets a connection in. Where all places are taken the oldest one makes room, or this one waits.
+    fn admit<R: Wait>(&mut self, rt: &R, stream: TcpStream) {
         if self.places.is_full() {
-            self.drop_oldest();
+            self.make_room(rt);
         }
         let Some(at) = self.places.take_free() else {
+            self.guest = Some(stream);
+            self.accepts_from = self.now.saturating_add(self.limits.pause);
             return;
         };
         let wait = Duration::from_millis(self.limits.stay);
@@ -262,22 +266,23 @@ impl<'a, T: Drop> Doorkeeper<'a, T> {
         }
     }
 
-    /// Whether a place is free, or the oldest connection may make room.
-    fn has_room(&self) -> bool {
-        !self.places.is_full() || self.oldest().is_some()
-    }
-
-    /// The connection that has waited longest since its last whole request, if for longer than from one
-    /// look to the next.
-    fn oldest(&self) -> Option<usize> {
-        self.places
-            .oldest(self.now.saturating_sub(self.limits.look))
-    }
-
-    /// Closes the oldest connection.
-    fn drop_oldest(&mut self) {
-        if let Some(at) = self.oldest() {
-            self.places.leave(at);
+    /// Closes the connection that has waited longest since its last whole request, if for longer than from
+    /// one look to the next. One on which a request has come meanwhile goes to a worker, and the next one
+    /// is looked at.
+    fn make_room<R: Wait>(&mut self, rt: &R) {
+        let by = self.now.saturating_sub(self.limits.look);
+        for _ in 0..self.places.len() {
+            let Some(at) = self.places.oldest(by) else {
+                return;
+            };
+            self.stir(rt, at);
+            if self.places.held(at).is_some() {
+                self.places.leave(at);
+                return;
+            }
+            if !self.places.is_full() {
+                return;
+            }
         }
     }
 

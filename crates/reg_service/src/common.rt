@@ -3,7 +3,6 @@ use reg_connection::Limits;
 use reg_desk::Wake;
 use reg_serve::Latch;
 use std::alloc::Global;
-use std::net::TcpListener;
 use std::sync::atomic::AtomicU64;
 use std::thread::Parker;
 
@@ -12,14 +11,14 @@ use std::thread::Parker;
 pub(crate) struct Common<'a, R, G> {
     pub(crate) rt: &'a R,
     pub(crate) alloc: Global,
-    /// One a node.
-    pub(crate) listeners: &'a [TcpListener],
     /// What wakes a node's follower; one a node.
     pub(crate) grown: &'a [Parker],
     pub(crate) latch: &'a Latch,
     pub(crate) gate: &'a G,
     /// How many calls of desks there were.
     pub(crate) calls: &'a AtomicU64,
+    /// From 1 to `NODES_LIMIT`.
+    pub(crate) nodes: usize,
     /// The workers of a node.
     pub(crate) workers: u32,
     /// After how many closed connections a node ends.

@@ -4,7 +4,7 @@ use reg_leader::AdoptError;
 use reg_records::LogError;
 use reg_serve::StartError;
 use std::alloc::{AllocError, AllocFailed};
-use std::io;
+use std::io::{self, ErrorKind};
 use thiserror::Error;
 
 /// Why nodes can't be started. It is shown as its name.
@@ -16,6 +16,12 @@ pub enum StartFault {
     /// A list has no place for another reader.
     #[error("NoPlace")]
     NoPlace,
+    /// A log can't be taken over.
+    #[error("{0}")]
+    Closed(AdoptError),
+    /// A node can't listen at its port.
+    #[error("port {port}: {kind:?}")]
+    Port { port: u64, kind: ErrorKind },
 }
 
 impl From<AllocError> for StartFault {
@@ -49,10 +55,12 @@ impl From<io::Error> for StartFault {
     }
 }
 
-/// An empty log is refused for want of memory alone.
 impl From<AdoptError> for StartFault {
-    fn from(_refused: AdoptError) -> StartFault {
-        StartFault::OutOfMemory
+    fn from(refused: AdoptError) -> StartFault {
+        match refused {
+            AdoptError::OutOfMemory => StartFault::OutOfMemory,
+            AdoptError::Opaque(_) | AdoptError::TwoSchemas(_) => StartFault::Closed(refused),
+        }
     }
 }
 

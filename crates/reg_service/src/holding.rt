@@ -1,5 +1,6 @@
 // Nodes that are made: their followers stand here while their threads run.
 use crate::common::{Common, Others};
+use crate::entrance::Entrance;
 use crate::error::StartFault;
 use crate::following::Following;
 use crate::running::{serve_one, serve_three, serve_two};
@@ -8,11 +9,11 @@ use reg_conversation::SharedDesk;
 use reg_desk::Gate;
 use reg_feed::{Copies, FeedName};
 use reg_node::{Take, Taken};
-use reg_pen::{MemoryAlone, Pass, Pen};
+use reg_pen::{Keep, Pass, Pen};
 use reg_serve::{Follow, Node};
 use reg_shared::Shared;
 use reg_topic::Item;
-use std::net::Net;
+use std::net::{Net, TcpListener};
 use std::sync::{Mutex, Wait};
 use std::thread::Threads;
 use std::time::Clock;
@@ -22,27 +23,26 @@ pub(crate) fn hold_one<
     'x,
     N: FeedName<Item, Shared> + Send + Sync,
     S: Copies<Item, Shared, N> + Send + Sync,
+    K: Keep + Send + Drop,
     L: FeedName<Take, Taken> + Send + Sync,
     T: Copies<Take, Taken, L> + Send + Sync,
     R: Threads + Wait + Clock + Net + Sync + Send + Copy + Drop,
     G: Gate + Sync,
-    F: FnOnce() -> bool,
+    E: Entrance,
 >(
     common: &'x Common<'x, R, G>,
-    pen: &'x Mutex<Pen<N, S, MemoryAlone, R>>,
+    pen: &'x Mutex<Pen<N, S, K, R>>,
     passes: Vec<Pass<N>>,
     first: Parts<N, S, L, T, R>,
-    ready: F,
-) -> Result<(), StartFault>
-    requires { F.IsAlwaysCallable ready }
-{
+    entrance: &mut E,
+) -> Result<(), StartFault> {
     let mut passes = passes;
     let alloc = common.alloc;
     let rt = common.rt;
     let gate = common.gate;
     let calls = common.calls;
     let grown = common.grown;
-    let listeners = common.listeners;
+    let listeners = entrance.listen()?;
     let Parts {
         follower: first_follower,
         views: first_views,
@@ -80,7 +80,7 @@ pub(crate) fn hold_one<
         common.limit,
         &first_node,
         first_desks,
-        ready,
+        entrance,
     )
 }
 
@@ -89,30 +89,29 @@ pub(crate) fn hold_two<
     'x,
     N: FeedName<Item, Shared> + Send + Sync,
     S: Copies<Item, Shared, N> + Send + Sync,
+    K: Keep + Send + Drop,
     L: FeedName<Take, Taken> + Send + Sync,
     T: Copies<Take, Taken, L> + Send + Sync,
     M: FeedName<Take, Taken> + Send + Sync,
     U: Copies<Take, Taken, M> + Send + Sync,
     R: Threads + Wait + Clock + Net + Sync + Send + Copy + Drop,
     G: Gate + Sync,
-    F: FnOnce() -> bool,
+    E: Entrance,
 >(
     common: &'x Common<'x, R, G>,
-    pen: &'x Mutex<Pen<N, S, MemoryAlone, R>>,
+    pen: &'x Mutex<Pen<N, S, K, R>>,
     passes: Vec<Pass<N>>,
     first: Parts<N, S, L, T, R>,
     second: Parts<N, S, M, U, R>,
-    ready: F,
-) -> Result<(), StartFault>
-    requires { F.IsAlwaysCallable ready }
-{
+    entrance: &mut E,
+) -> Result<(), StartFault> {
     let mut passes = passes;
     let alloc = common.alloc;
     let rt = common.rt;
     let gate = common.gate;
     let calls = common.calls;
     let grown = common.grown;
-    let listeners = common.listeners;
+    let listeners = entrance.listen()?;
     let Parts {
         follower: first_follower,
         views: first_views,
@@ -182,7 +181,7 @@ pub(crate) fn hold_two<
         first_desks,
         &second_node,
         second_desks,
-        ready,
+        entrance,
     )
 }
 
@@ -191,6 +190,7 @@ pub(crate) fn hold_three<
     'x,
     N: FeedName<Item, Shared> + Send + Sync,
     S: Copies<Item, Shared, N> + Send + Sync,
+    K: Keep + Send + Drop,
     L: FeedName<Take, Taken> + Send + Sync,
     T: Copies<Take, Taken, L> + Send + Sync,
     M: FeedName<Take, Taken> + Send + Sync,
@@ -199,18 +199,17 @@ pub(crate) fn hold_three<
     V: Copies<Take, Taken, O> + Send + Sync,
     R: Threads + Wait + Clock + Net + Sync + Send + Copy + Drop,
     G: Gate + Sync,
-    F: FnOnce() -> bool,
+    E: Entrance,
 >(
     common: &'x Common<'x, R, G>,
-    pen: &'x Mutex<Pen<N, S, MemoryAlone, R>>,
+    pen: &'x Mutex<Pen<N, S, K, R>>,
     passes: Vec<Pass<N>>,
     first: Parts<N, S, L, T, R>,
     second: Parts<N, S, M, U, R>,
     third: Parts<N, S, O, V, R>,
-    ready: F,
-) -> Result<(), StartFault>
-    requires { F.IsAlwaysCallable ready }
-{
+    entrance: &mut E,
+) -> Result<(), StartFault> {
+    let listeners = entrance.listen()?;
     let mut passes = passes;
     let grown = common.grown;
     let Parts { follower, views } = first;
@@ -235,12 +234,14 @@ pub(crate) fn hold_three<
     let node = Node::new(
         common.rt,
         common.alloc,
-        common.listeners.get(0).ok_or(StartFault::NoPlace)?,
+        listeners.get(0).ok_or(StartFault::NoPlace)?,
         following,
         common.workers as usize,
         common.limits,
     )?;
-    hold_second(common, pen, passes, &node, desks, second, third, ready)
+    hold_second(
+        common, &listeners, pen, passes, &node, desks, second, third, entrance,
+    )
 }
 
 /// Makes the desks of the second of three nodes, and goes on with the third.
@@ -251,25 +252,25 @@ fn hold_second<
     W1: Follow + Sync + Drop + 'y,
     N: FeedName<Item, Shared> + Send + Sync,
     S: Copies<Item, Shared, N> + Send + Sync,
+    K: Keep + Send + Drop,
     M: FeedName<Take, Taken> + Send + Sync,
     U: Copies<Take, Taken, M> + Send + Sync,
     O: FeedName<Take, Taken> + Send + Sync,
     V: Copies<Take, Taken, O> + Send + Sync,
     R: Threads + Wait + Clock + Net + Sync + Send + Copy + Drop,
     G: Gate + Sync,
-    F: FnOnce() -> bool,
+    E: Entrance,
 >(
     common: &'y Common<'y, R, G>,
-    pen: &'y Mutex<Pen<N, S, MemoryAlone, R>>,
+    listeners: &'y [TcpListener],
+    pen: &'y Mutex<Pen<N, S, K, R>>,
     passes: Vec<Pass<N>>,
     first: &'y Node<'y, W1, T1>,
     first_desks: Vec<D1>,
     second: Parts<N, S, M, U, R>,
     third: Parts<N, S, O, V, R>,
-    ready: F,
-) -> Result<(), StartFault>
-    requires { F.IsAlwaysCallable ready }
-{
+    entrance: &mut E,
+) -> Result<(), StartFault> {
     let mut passes = passes;
     let grown = common.grown;
     let Parts { follower, views } = second;
@@ -294,13 +295,14 @@ fn hold_second<
     let node = Node::new(
         common.rt,
         common.alloc,
-        common.listeners.get(1).ok_or(StartFault::NoPlace)?,
+        listeners.get(1).ok_or(StartFault::NoPlace)?,
         following,
         common.workers as usize,
         common.limits,
     )?;
     hold_third(
         common,
+        listeners,
         pen,
         passes,
         first,
@@ -308,7 +310,7 @@ fn hold_second<
         &node,
         desks,
         third,
-        ready,
+        entrance,
     )
 }
 
@@ -323,24 +325,24 @@ fn hold_third<
     W2: Follow + Sync + Drop + 'y,
     N: FeedName<Item, Shared> + Send + Sync,
     S: Copies<Item, Shared, N> + Send + Sync,
+    K: Keep + Send + Drop,
     O: FeedName<Take, Taken> + Send + Sync,
     V: Copies<Take, Taken, O> + Send + Sync,
     R: Threads + Wait + Clock + Net + Sync + Send + Copy + Drop,
     G: Gate + Sync,
-    F: FnOnce() -> bool,
+    E: Entrance,
 >(
     common: &'y Common<'y, R, G>,
-    pen: &'y Mutex<Pen<N, S, MemoryAlone, R>>,
+    listeners: &'y [TcpListener],
+    pen: &'y Mutex<Pen<N, S, K, R>>,
     passes: Vec<Pass<N>>,
     first: &'y Node<'y, W1, T1>,
     first_desks: Vec<D1>,
     second: &'y Node<'y, W2, T2>,
     second_desks: Vec<D2>,
     third: Parts<N, S, O, V, R>,
-    ready: F,
-) -> Result<(), StartFault>
-    requires { F.IsAlwaysCallable ready }
-{
+    entrance: &mut E,
+) -> Result<(), StartFault> {
     let mut passes = passes;
     let grown = common.grown;
     let Parts { follower, views } = third;
@@ -365,7 +367,7 @@ fn hold_third<
     let node = Node::new(
         common.rt,
         common.alloc,
-        common.listeners.get(2).ok_or(StartFault::NoPlace)?,
+        listeners.get(2).ok_or(StartFault::NoPlace)?,
         following,
         common.workers as usize,
         common.limits,
@@ -381,6 +383,6 @@ fn hold_third<
         second_desks,
         &node,
         desks,
-        ready,
+        entrance,
     )
 }

@@ -3,6 +3,7 @@
 #![tactic(auto)]
 
 mod common;
+mod entrance;
 mod error;
 mod following;
 mod gate;
@@ -10,7 +11,10 @@ mod holding;
 mod nodes;
 mod running;
 mod seats;
+mod size;
 
+pub use entrance::{Entrance, Listening, listen};
 pub use error::StartFault;
 pub use gate::NoGate;
-pub use nodes::{NODES_LIMIT, serve_nodes};
+pub use nodes::{NODES_LIMIT, serve_log, serve_nodes};
+pub use size::Size;

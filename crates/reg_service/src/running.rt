@@ -1,4 +1,5 @@
 // Threads over one, two or three nodes, of which each has types of its own.
+use crate::entrance::Entrance;
 use crate::error::StartFault;
 use reg_conversation::SharedDesk;
 use reg_serve::{Follow, Latch, Node, begin, open_node};
@@ -14,7 +15,7 @@ pub(crate) fn serve_one<
     D1: SharedDesk<Standing = T1> + Send + Drop + 's,
     W1: Follow + Sync + Drop + 's,
     R: Threads + Wait + Clock + Sync + 's,
-    F: FnOnce() -> bool,
+    E: Entrance,
 >(
     rt: &'s R,
     alloc: Global,
@@ -22,18 +23,14 @@ pub(crate) fn serve_one<
     limit: Option<u64>,
     first: &'s Node<'s, W1, T1>,
     first_desks: Vec<D1>,
-    ready: F,
-) -> Result<(), StartFault>
-    requires { F.IsAlwaysCallable ready }
-{
+    entrance: &mut E,
+) -> Result<(), StartFault> {
     thread::scope(
         thread::scope_env(),
         rt,
-        |scope| -> Result<(), StartFault>
-            requires { F.IsAlwaysCallable ready }
-        {
+        |scope| -> Result<(), StartFault> {
             let started = open_node(scope, rt, alloc, latch, first, first_desks, limit);
-            begin(latch, started, ready)?;
+            begin(latch, started, || entrance.ready())?;
             Ok(())
         },
     )
@@ -49,7 +46,7 @@ pub(crate) fn serve_two<
     D2: SharedDesk<Standing = T2> + Send + Drop + 's,
     W2: Follow + Sync + Drop + 's,
     R: Threads + Wait + Clock + Sync + 's,
-    F: FnOnce() -> bool,
+    E: Entrance,
 >(
     rt: &'s R,
     alloc: Global,
@@ -59,22 +56,18 @@ pub(crate) fn serve_two<
     first_desks: Vec<D1>,
     second: &'s Node<'s, W2, T2>,
     second_desks: Vec<D2>,
-    ready: F,
-) -> Result<(), StartFault>
-    requires { F.IsAlwaysCallable ready }
-{
+    entrance: &mut E,
+) -> Result<(), StartFault> {
     thread::scope(
         thread::scope_env(),
         rt,
-        |scope| -> Result<(), StartFault>
-            requires { F.IsAlwaysCallable ready }
-        {
+        |scope| -> Result<(), StartFault> {
             let started = open_node(scope, rt, alloc, latch, first, first_desks, limit);
             let started = match started {
                 Ok(()) => open_node(scope, rt, alloc, latch, second, second_desks, limit),
                 Err(e) => Err(e),
             };
-            begin(latch, started, ready)?;
+            begin(latch, started, || entrance.ready())?;
             Ok(())
         },
     )
@@ -93,7 +86,7 @@ pub(crate) fn serve_three<
     D3: SharedDesk<Standing = T3> + Send + Drop + 's,
     W3: Follow + Sync + Drop + 's,
     R: Threads + Wait + Clock + Sync + 's,
-    F: FnOnce() -> bool,
+    E: Entrance,
 >(
     rt: &'s R,
     alloc: Global,
@@ -105,16 +98,12 @@ pub(crate) fn serve_three<
     second_desks: Vec<D2>,
     third: &'s Node<'s, W3, T3>,
     third_desks: Vec<D3>,
-    ready: F,
-) -> Result<(), StartFault>
-    requires { F.IsAlwaysCallable ready }
-{
+    entrance: &mut E,
+) -> Result<(), StartFault> {
     thread::scope(
         thread::scope_env(),
         rt,
-        |scope| -> Result<(), StartFault>
-            requires { F.IsAlwaysCallable ready }
-        {
+        |scope| -> Result<(), StartFault> {
             let started = open_node(scope, rt, alloc, latch, first, first_desks, limit);
             let started = match started {
                 Ok(()) => open_node(scope, rt, alloc, latch, second, second_desks, limit),
@@ -124,7 +113,7 @@ pub(crate) fn serve_three<
                 Ok(()) => open_node(scope, rt, alloc, latch, third, third_desks, limit),
                 Err(e) => Err(e),
             };
-            begin(latch, started, ready)?;
+            begin(latch, started, || entrance.ready())?;
             Ok(())
         },
     )

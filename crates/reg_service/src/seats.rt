@@ -7,7 +7,7 @@ use crate::error::StartFault;
 use reg_desk::{Gate, NodeDesk, Wake};
 use reg_feed::{Copies, FeedName, FeedReader, Stored, Unnamed, feed};
 use reg_node::{Follower, Take, Taken, View};
-use reg_pen::{MemoryAlone, Pass, Pen};
+use reg_pen::{Keep, Pass, Pen};
 use reg_shared::Shared;
 use reg_topic::Item;
 use std::alloc::Global;
@@ -61,6 +61,9 @@ pub(crate) fn make_parts<
         workers as usize,
     )?;
     let mut follower = Follower::new(topic, Box::new(alloc, out)?);
+    // What the topic begins with is there before the first request is.
+    follower.pull()?;
+    follower.publish()?;
     let mut views = Vec::new(alloc);
     for _worker in 0..workers {
         views.push(follower.view()?)?;
@@ -73,6 +76,7 @@ pub(crate) fn make_desks<
     'a,
     N: FeedName<Item, Shared>,
     S: Copies<Item, Shared, N>,
+    K: Keep + Drop,
     M: FeedName<Take, Taken>,
     U: Copies<Take, Taken, M>,
     R: Wait + Drop,
@@ -81,14 +85,14 @@ pub(crate) fn make_desks<
 >(
     rt: &'a R,
     alloc: Global,
-    pen: &'a Mutex<Pen<N, S, MemoryAlone, R>>,
+    pen: &'a Mutex<Pen<N, S, K, R>>,
     passes: &mut Vec<Pass<N>>,
     follower: &'a Mutex<Follower<N, S, M, U, R>>,
     gate: &'a G,
     wake: &'a W,
     calls: &'a AtomicU64,
     views: Vec<View<M, U>>,
-) -> Result<Vec<NodeDesk<'a, N, S, MemoryAlone, M, U, R, G, W>>, StartFault> {
+) -> Result<Vec<NodeDesk<'a, N, S, K, M, U, R, G, W>>, StartFault> {
     let mut desks = Vec::new(alloc);
     for view in views {
         let Some(pass) = passes.pop() else {

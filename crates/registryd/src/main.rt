@@ -8,9 +8,10 @@
 
 mod serving;
 
-use crate::serving::serve;
+use crate::serving::Ports;
 use reg_program::{Command, Ended, command_of, fold, sketch};
 use reg_records::Device;
+use reg_service::{NoGate, Size, serve_nodes};
 use std::env;
 use std::io::{self, BufReader, BufWriter};
 use std::process::ExitCode;
@@ -41,14 +42,18 @@ fn main(rt: HostRuntime) -> io::Result<ExitCode> {
             nodes,
             workers,
         } => {
-            let ready = || {
-                for k in 0..nodes {
-                    let port = port.saturating_add(k);
-                    let _told = println!(rt; "listening {port}");
-                }
-                true
+            let size = Size {
+                nodes: usize::try_from(nodes).unwrap_or(1),
+                workers: u32::try_from(workers).unwrap_or(1),
+                limit: None,
             };
-            if let Err(fault) = serve(&rt, alloc, port, nodes, workers, ready) {
+            let mut ports = Ports {
+                rt: &rt,
+                alloc,
+                port,
+                nodes,
+            };
+            if let Err(fault) = serve_nodes(&rt, alloc, size, &NoGate, &mut ports) {
                 eprintln!(rt; "{fault}")?;
                 return Ok(ExitCode::from(1));
             }

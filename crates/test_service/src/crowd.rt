@@ -1,6 +1,6 @@
 // Eight clients at three nodes, each on one connection.
 use crate::asking::{ask, connect, listen, use_up};
-use reg_service::{NoGate, serve_nodes};
+use reg_service::{Listening, NoGate, Size, serve_nodes};
 use std::alloc::{AllocError, Global};
 use std::io::{self, BufRead, BufReader, Read, Write};
 use std::net::{Net, SocketAddr, TcpListener, TcpStream};
@@ -275,22 +275,22 @@ fn use_nodes<R: Threads + Wait + Clock + Net<Listener = TcpListener, Stream = Tc
 fn serve<R: Threads + Wait + Clock + Net<Listener = TcpListener, Stream = TcpStream> + Sync>(
     alloc: Global,
     rt: &R,
-    listeners: &[TcpListener],
+    listeners: Vec<TcpListener>,
     addresses: &[SocketAddr; 3],
 ) -> io::Result<(u64, bool)> {
     thread::scope(
         thread::scope_env(),
         rt,
         |scope| -> io::Result<(u64, bool)> {
-            let _server = scope.spawn(move || serve_nodes(
-                rt,
-                alloc,
-                listeners,
-                WORKERS,
-                Some(CONNECTIONS),
-                &NoGate,
-                || true,
-            ));
+            let _server = scope.spawn(move || {
+                let size = Size {
+                    nodes: listeners.len(),
+                    workers: WORKERS,
+                    limit: Some(CONNECTIONS),
+                };
+                let mut entrance = Listening::new(alloc, listeners);
+                serve_nodes(rt, alloc, size, &NoGate, &mut entrance)
+            });
             let told = use_nodes(alloc, rt, addresses);
             use_up(rt, addresses, WORKERS * CONNECTIONS as u32);
             told
@@ -300,13 +300,16 @@ fn serve<R: Threads + Wait + Clock + Net<Listener = TcpListener, Stream = TcpStr
 
 #[test]
 fn clients_read_what_they_wrote(rt: HostRuntime) -> io::Result<()> {
-    let listeners = [listen(&rt)?, listen(&rt)?, listen(&rt)?];
-    let [first, second, third] = &listeners;
+    let (first, second, third) = (listen(&rt)?, listen(&rt)?, listen(&rt)?);
     let addresses = [
         first.local_addr()?,
         second.local_addr()?,
         third.local_addr()?,
     ];
-    assert_eq!(rt; serve(rt.alloc(), &rt, &listeners, &addresses)?, (0, true));
+    let mut listeners = Vec::new(rt.alloc());
+    for listener in [first, second, third] {
+        listeners.push(listener)?;
+    }
+    assert_eq!(rt; serve(rt.alloc(), &rt, listeners, &addresses)?, (0, true));
     Ok(())
 }

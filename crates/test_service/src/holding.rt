@@ -1,7 +1,7 @@
 // Calls that are held by a gate until others are answered.
 use crate::asking::{ask, body, listen, send, use_up};
 use reg_desk::Gate;
-use reg_service::serve_nodes;
+use reg_service::{Listening, Size, serve_nodes};
 use std::alloc::{AllocError, Global};
 use std::io;
 use std::net::{Net, SocketAddr, TcpListener, TcpStream};
@@ -77,7 +77,7 @@ fn serve<R: Threads + Wait + Clock + Net<Listener = TcpListener, Stream = TcpStr
     alloc: Global,
     rt: &R,
     gate: &Holding<'_, R>,
-    listeners: &[TcpListener],
+    listeners: Vec<TcpListener>,
     workers: u32,
     addresses: &[SocketAddr; 2],
     request: &str,
@@ -86,15 +86,15 @@ fn serve<R: Threads + Wait + Clock + Net<Listener = TcpListener, Stream = TcpStr
         thread::scope_env(),
         rt,
         |scope| -> io::Result<(String, String)> {
-            let _server = scope.spawn(move || serve_nodes(
-                rt,
-                alloc,
-                listeners,
-                workers,
-                Some(1),
-                gate,
-                || true,
-            ));
+            let _server = scope.spawn(move || {
+                let size = Size {
+                    nodes: listeners.len(),
+                    workers: workers,
+                    limit: Some(1),
+                };
+                let mut entrance = Listening::new(alloc, listeners);
+                serve_nodes(rt, alloc, size, gate, &mut entrance)
+            });
             let bodies = ask_both(alloc, rt, gate, addresses, request);
             use_up(rt, addresses, 2);
             bodies
@@ -120,7 +120,7 @@ fn hold<R: Threads + Wait + Clock + Net<Listener = TcpListener, Stream = TcpStre
         listeners.last().ok_or(AllocError)?.local_addr()?,
     ];
     let gate = Holding::new(rt);
-    let (held, other) = serve(alloc, rt, &gate, &listeners, workers, &addresses, request)?;
+    let (held, other) = serve(alloc, rt, &gate, listeners, workers, &addresses, request)?;
     Ok((gate.turns.load(Ordering::SeqCst), held, other))
 }
 

@@ -8,4 +8,6 @@ mod crowd;
 #[cfg(test)]
 mod holding;
 #[cfg(test)]
+mod kept;
+#[cfg(test)]
 mod rows;

@@ -1,6 +1,6 @@
 // Requests as bytes on connections of their own, and all bytes of the responses to them.
 use crate::asking::{connect, listen, use_up};
-use reg_service::{NoGate, serve_nodes};
+use reg_service::{Listening, NoGate, Size, serve_nodes};
 use std::alloc::Global;
 use std::io::{self, Write};
 use std::net::{Net, Shutdown, SocketAddr, TcpListener, TcpStream};
@@ -146,22 +146,22 @@ fn hear_all<R: Net<Stream = TcpStream>>(
 fn serve<R: Threads + Wait + Clock + Net<Listener = TcpListener, Stream = TcpStream> + Sync>(
     alloc: Global,
     rt: &R,
-    listeners: &[TcpListener],
+    listeners: Vec<TcpListener>,
     address: SocketAddr,
 ) -> io::Result<Vec<String>> {
     thread::scope(
         thread::scope_env(),
         rt,
         |scope| -> io::Result<Vec<String>> {
-            let _server = scope.spawn(move || serve_nodes(
-                rt,
-                alloc,
-                listeners,
-                1,
-                Some(ROWS.len() as u64),
-                &NoGate,
-                || true,
-            ));
+            let _server = scope.spawn(move || {
+                let size = Size {
+                    nodes: listeners.len(),
+                    workers: 1,
+                    limit: Some(ROWS.len() as u64),
+                };
+                let mut entrance = Listening::new(alloc, listeners);
+                serve_nodes(rt, alloc, size, &NoGate, &mut entrance)
+            });
             let heard = hear_all(alloc, rt, address);
             use_up(rt, &[address], ROWS.len() as u32);
             heard
@@ -171,8 +171,11 @@ fn serve<R: Threads + Wait + Clock + Net<Listener = TcpListener, Stream = TcpStr
 
 #[test]
 fn connections_are_answered_byte_for_byte(rt: HostRuntime) -> Result<(), Fail> {
-    let listeners = [listen(&rt)?];
-    let heard = serve(rt.alloc(), &rt, &listeners, listeners[0].local_addr()?)?;
+    let listener = listen(&rt)?;
+    let address = listener.local_addr()?;
+    let mut listeners = Vec::new(rt.alloc());
+    listeners.push(listener)?;
+    let heard = serve(rt.alloc(), &rt, listeners, address)?;
     for (place, (_sending, text, wanted)) in ROWS.iter().enumerate() {
         let response = heard.get(place).map(|response| response.as_str());
         assert_eq!(rt; response, Some(*wanted), "to {text}");
