@@ -15,7 +15,7 @@ pub(crate) const LISTENER: Token = Token(usize::MAX);
 pub(crate) const WAKER: Token = Token(usize::MAX - 1);
 
 /// The most events that one call of the poll reports.
-const EVENTS: usize = 256;
+pub(crate) const EVENTS: usize = 256;
 
 /// The most connections that are accepted in one turn, and that are taken back from workers, so that
 /// neither keeps the other waiting.
@@ -74,16 +74,16 @@ impl<'a, T: Drop> Doorkeeper<'a, T> {
         &mut self,
         rt: &R,
         poll: &mut Poll,
+        events: &mut Events,
         limit: Option<u64>,
-    ) -> Result<(), AllocError> {
-        let mut events = Events::with_capacity(self.alloc, EVENTS)?;
+    ) {
         for _ in rt.forever() {
             if let Some(limit) = limit {
                 if self.places.closed() >= limit {
                     break;
                 }
             }
-            self.wait(rt, poll, &mut events);
+            self.wait(rt, poll, events);
             self.tell_time(rt);
             for event in events.iter() {
                 self.note(rt, event.token());
@@ -94,7 +94,6 @@ impl<'a, T: Drop> Doorkeeper<'a, T> {
             self.look_for_late();
             self.lighten();
         }
-        Ok(())
     }
 
     /// Waits for events.

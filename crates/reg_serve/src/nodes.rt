@@ -1,14 +1,14 @@
 // Nodes: where each listens, its doorkeeper, its workers, and the thread that follows the topic.
 ghost use Rattle.std.specs.Prelude.{true, IsOk, OnOk};
 
-use crate::doorkeeper::Doorkeeper;
+use crate::doorkeeper::{Doorkeeper, EVENTS};
 use crate::hall::Hall;
 use crate::latch::Latch;
-use crate::worker::work;
-use mio::Poll;
+use crate::worker::{Bench, work};
+use mio::{Events, Poll};
 use reg_connection::Limits;
 use reg_conversation::SharedDesk;
-use std::alloc::Global;
+use std::alloc::{AllocError, Global};
 use std::io;
 use std::net::{Net, TcpListener};
 use std::sync::atomic::{AtomicU64, Ordering};
@@ -66,13 +66,19 @@ impl<'a, F: Drop, T: Drop> Node<'a, F, T> {
     }
 }
 
-/// A thread was refused, or it wasn't time to begin.
+/// A thread or its memory was refused, or it wasn't time to begin.
 #[derive(Clone, Copy, Debug, PartialEq, Eq)]
 pub struct StartError;
 
+impl From<AllocError> for StartError {
+    fn from(_refused: AllocError) -> StartError {
+        StartError
+    }
+}
+
 /// Starts a node's threads, which wait at the latch: the doorkeeper, a worker for each desk, and the
 /// follower. With a limit the node ends once so many of its connections were closed. Fails where a thread
-/// can't be made; those that were made still wait at the latch.
+/// can't be made, or the memory that it begins with; those that were made still wait at the latch.
 pub fn open_node<
     's,
     E,
@@ -90,17 +96,20 @@ pub fn open_node<
     limit: Option<u64>,
 ) -> Result<(), StartError> {
     for desk in desks {
+        let bench = Bench::new(alloc)?;
         node.at_work.fetch_add(1, Ordering::SeqCst);
         if scope
-            .spawn(move || serve_at(rt, alloc, latch, node, desk))
+            .spawn(move || serve_at(rt, alloc, latch, node, bench, desk))
             .is_err()
         {
             return Err(StartError);
         }
     }
+    let doorkeeper = Doorkeeper::new(alloc, node.listener, &node.hall, node.limits)?;
+    let events = Events::with_capacity(alloc, EVENTS)?;
     node.at_work.fetch_add(1, Ordering::SeqCst);
     if scope
-        .spawn(move || keep_door(rt, alloc, latch, node, limit))
+        .spawn(move || keep_door(rt, latch, node, doorkeeper, events, limit))
         .is_err()
     {
         return Err(StartError);
@@ -117,11 +126,13 @@ fn serve_at<R: Wait, D: SharedDesk + Drop, F: Follow + Drop>(
     alloc: Global,
     latch: &Latch,
     node: &Node<'_, F, D::Standing>,
+    bench: Bench,
     desk: D,
 ) {
+    let mut bench = bench;
     let mut desk = desk;
     if latch.pass(rt) {
-        let _refused = work(rt, alloc, &node.hall, &mut desk).is_err();
+        work(rt, alloc, &node.hall, &mut bench, &mut desk);
     }
     leave_work(node);
 }
@@ -129,16 +140,17 @@ fn serve_at<R: Wait, D: SharedDesk + Drop, F: Follow + Drop>(
 /// What the doorkeeper's thread does.
 fn keep_door<R: Wait + Clock, T: Drop, F: Follow + Drop>(
     rt: &R,
-    alloc: Global,
     latch: &Latch,
     node: &Node<'_, F, T>,
+    doorkeeper: Doorkeeper<'_, T>,
+    events: Events,
     limit: Option<u64>,
 ) {
+    let mut doorkeeper = doorkeeper;
+    let mut events = events;
     if latch.pass(rt) {
         let mut poll = node.poll.lock(rt);
-        if let Ok(mut doorkeeper) = Doorkeeper::new(alloc, node.listener, &node.hall, node.limits) {
-            let _refused = doorkeeper.keep(rt, &mut poll, limit).is_err();
-        }
+        doorkeeper.keep(rt, &mut poll, &mut events, limit);
         node.hall.end(rt, node.workers);
     }
     leave_work(node);

@@ -21,13 +21,27 @@ const CALM: u64 = 3;
 
 /// What a worker keeps from one connection to the next.
 #[derive(Drop)]
-struct Bench {
+pub(crate) struct Bench {
     paths: Option<Paths>,
     /// Answers that aren't sent yet.
     out: Vec<u8>,
     buffer: Vec<u8>,
     /// How many times in a row no other connection was ready.
     calm: u64,
+}
+
+impl Bench {
+    /// A worker's, with all the memory that it needs before the first connection.
+    pub(crate) fn new(alloc: Global) -> Result<Bench, AllocError> {
+        let mut buffer = Vec::new(alloc);
+        buffer.resize(READ_SIZE, 0u8)?;
+        Ok(Bench {
+            paths: None,
+            out: Vec::new(alloc),
+            buffer,
+            calm: 0,
+        })
+    }
 }
 
 /// How the answers of one turn end.
@@ -65,23 +79,15 @@ pub(crate) fn work<R: Wait, D: SharedDesk>(
     rt: &R,
     alloc: Global,
     hall: &Hall<D::Standing>,
+    bench: &mut Bench,
     desk: &mut D,
-) -> Result<(), AllocError> {
-    let mut buffer = Vec::new(alloc);
-    buffer.resize(READ_SIZE, 0u8)?;
-    let mut bench = Bench {
-        paths: None,
-        out: Vec::new(alloc),
-        buffer,
-        calm: 0,
-    };
+) {
     for _ in rt.forever() {
         let Some(connection) = hall.take(rt) else {
-            return Ok(());
+            return;
         };
-        attend(rt, alloc, hall, &mut bench, desk, connection);
+        attend(rt, alloc, hall, bench, desk, connection);
     }
-    Ok(())
 }
 
 /// Answers what is whole on a connection, and stays with it while no other one is ready, once that was so
