@@ -5,6 +5,9 @@ ghost use Rattle.reg_keeping.specs.Words.{command_of, command_named};
 /// What the words of the command line ask for.
 #[derive(Clone, Copy, Debug, PartialEq, Eq)]
 pub enum Command {
+    /// The log of a file is to be served. Behind the word stand the file, an address with a port, and how many nodes
+    /// and workers there are.
+    Keep,
     /// A log is to be compacted.
     Compact,
     /// How to use the program is to be written.
@@ -15,8 +18,9 @@ pub enum Command {
 
 /// How to use the program, a line a command.
 pub const USAGE: &str = "usage: registrylog COMMAND\n\
-compact  reads a log, and writes the lines of its last records\n\
-help     writes this\n";
+keep FILE ADDRESS:PORT NODES WORKERS  serves the log of a file, by nodes at the port and those after it\n\
+compact                               reads a log, and writes the lines of its last records\n\
+help                                  writes this\n";
 
 /// What the words ask for, of which the first is the program's name.
 pub fn command_of(words: &[String]) -> Command
@@ -24,6 +28,13 @@ pub fn command_of(words: &[String]) -> Command
 {
     match words {
         [_, word] => command_named(word.as_str()),
+        [_, word, _, _, _, _] => {
+            if word.as_str() == "keep" {
+                Command::Keep
+            } else {
+                Command::Usage
+            }
+        }
         _ => Command::Usage,
     }
 }

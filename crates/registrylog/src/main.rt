@@ -1,9 +1,20 @@
 //! The program `registrylog`: what is done with a registry's log in a file.
 //!
-//! `registrylog compact` reads a log from its input, and writes the lines of its last records to its output.
+//! `registrylog keep FILE ADDRESS:PORT NODES WORKERS` serves it. `registrylog compact` reads a log from its
+//! input, and writes the lines of its last records to its output.
 #![tactic(auto)]
 
+mod fault;
+mod keeping;
+mod opening;
+mod telling;
+mod words;
+
+use crate::fault::KeepFault;
+use crate::keeping::keep;
+use crate::words::read_words;
 use reg_keeping::{Command, USAGE, command_of, compact};
+use reg_service::StartFault;
 use std::env;
 use std::io::{self, BufWriter};
 use std::process::ExitCode;
@@ -12,6 +23,22 @@ fn main(rt: HostRuntime) -> io::Result<ExitCode> {
     let alloc = rt.alloc();
     let words: Vec<String> = env::args(&rt)?.collect(alloc)?;
     match command_of(&words) {
+        Command::Keep => {
+            let Some(asked) = read_words(&words) else {
+                eprint!(rt; "{USAGE}")?;
+                return Ok(ExitCode::from(2));
+            };
+            match keep(&rt, alloc, &asked) {
+                Ok(()) => Ok(ExitCode::SUCCESS),
+                Err(fault) => {
+                    // What keeps it from being taken over was told line by line.
+                    if !matches!(fault, KeepFault::Start(StartFault::Closed(_))) {
+                        eprintln!(rt; "{fault}")?;
+                    }
+                    Ok(ExitCode::from(fault.status()))
+                }
+            }
+        }
         Command::Usage => {
             eprint!(rt; "{USAGE}")?;
             Ok(ExitCode::from(2))

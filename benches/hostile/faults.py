@@ -1,0 +1,308 @@
+"""Faults from outside, on the program as it was built: faults.py PROGRAM [NAME..]. It builds a small library (faults.c) that
+refuses allocations and shortens the calls of sockets, and starts `PROGRAM serve` with it.
+
+`pieces`   300 connections send 100,000 requests in random pieces, and read each answer; then again with sockets that give and
+           take 1 to 7 bytes at a time and are interrupted
+`memory`   four clients register and look up while one allocation in so many is refused; then none is, and all that was
+           acknowledged has to be there
+`fold`     each allocation of `PROGRAM fold` over a stored run is refused in turn
+
+Each ends with status 1 where an answer isn't right."""
+import http.client, json, mmap, os, random, select, socket, struct, subprocess, sys, tempfile, threading, time
+
+PROGRAM, NAMES = sys.argv[1], sys.argv[2:] or ["pieces", "memory", "fold"]
+HERE, PORT = os.path.dirname(os.path.abspath(__file__)), 19600
+FOLDER = tempfile.mkdtemp()
+SHIM, STEER = FOLDER + "/faults.so", FOLDER + "/steer"
+subprocess.run(["cc", "-shared", "-fPIC", "-O2", "-o", SHIM, HERE + "/faults.c", "-ldl"], check=True)
+with open(STEER, "wb") as f:
+    f.write(bytes(32))
+steering = open(STEER, "r+b")
+shared = mmap.mmap(steering.fileno(), 32)
+wrong = 0
+
+
+def steer(period=0, short=0):
+    shared[0:8] = struct.pack("Q", period)
+    shared[16:24] = struct.pack("Q", short)
+
+
+def allocations():
+    return struct.unpack("Q", shared[8:16])[0]
+
+
+def bad(words):
+    global wrong
+    wrong += 1
+    if wrong <= 10:
+        print("WRONG", words)
+
+
+class Node:
+    def __init__(self, workers=4):
+        global PORT
+        PORT += 1
+        steer()
+        self.port = PORT
+        self.process = subprocess.Popen([PROGRAM, "serve", str(PORT), "1", str(workers)], stdout=subprocess.DEVNULL,
+                                        env=dict(os.environ, LD_PRELOAD=SHIM, FAULTS=STEER))
+        for _ in range(400):
+            try:
+                socket.create_connection(("127.0.0.1", PORT), timeout=1).close()
+                return
+            except OSError:
+                time.sleep(0.05)
+        raise SystemExit("nothing listens")
+
+    def threads(self):
+        return len(os.listdir("/proc/%d/task" % self.process.pid))
+
+    def stop(self):
+        self.process.terminate()
+        self.process.wait()
+
+
+def ask(c, method, path, body=None):
+    c.request(method, path, None if body is None else json.dumps(body), {"Content-Type": "application/json"} if body is not None else {})
+    r = c.getresponse()
+    return r.status, json.loads(r.read())
+
+
+SCHEMAS = 200
+
+
+def text(n):
+    return json.dumps({"type": "record", "name": "R%d" % n, "fields": [{"name": "f%d" % (n % 7), "type": "string"}]}, separators=(",", ":"))
+
+
+def request(rng):
+    """A request, and its answer's status and body."""
+    n = rng.randrange(SCHEMAS)
+    what = rng.randrange(4)
+    if what == 0:
+        body = json.dumps({"schema": text(n)}).encode()
+        return (b"POST /subjects/s%d HTTP/1.1\r\nHost: a\r\nContent-Type: application/json\r\nContent-Length: %d\r\n\r\n" % (n, len(body)) + body,
+                (200, {"subject": "s%d" % n, "id": n + 1, "version": 1, "schema": text(n)}))
+    if what == 1:
+        return b"GET /subjects/s%d/versions HTTP/1.1\r\nHost: a\r\n\r\n" % n, (200, [1])
+    if what == 2:
+        return b"GET /schemas/ids/%d HTTP/1.1\r\nHost: a\r\n\r\n" % (n + 1), (200, {"schema": text(n)})
+    return b"GET /nothing HTTP/1.1\r\nHost: a\r\n\r\n", (404, None)
+
+
+def same(got, wanted):
+    def plain(v):
+        if isinstance(v, dict) and "schema" in v:
+            return dict(v, schema=json.loads(v["schema"]))
+        return v
+    return got[0] == wanted[0] and (wanted[1] is None or plain(got[1]) == plain(wanted[1]))
+
+
+class Client:
+    """One connection: what is to be sent, what came, and what is awaited."""
+    def __init__(self, port, rng):
+        self.rng, self.port = rng, port
+        self.open()
+
+    def open(self):
+        self.s = socket.create_connection(("127.0.0.1", self.port), timeout=30)
+        self.s.setblocking(False)
+        self.out, self.come, self.wanted, self.next = b"", b"", [], 0
+
+    def send(self):
+        """Sends a random piece of up to three requests."""
+        now = time.time()
+        if now < self.next:
+            return
+        if not self.out and len(self.wanted) < 3:
+            for _ in range(self.rng.choice([1, 1, 1, 2, 3])):
+                data, wanted = request(self.rng)
+                self.out += data
+                self.wanted.append(wanted)
+                if wanted[0] == 404:
+                    break
+        if self.out:
+            try:
+                n = self.s.send(self.out[:self.rng.choice([1, 3, 10, 40, 100, 1000])])
+                self.out = self.out[n:]
+            except BlockingIOError:
+                pass
+            self.next = now + self.rng.choice([0, 0, 0, 0.001, 0.003])
+
+    def take(self):
+        """Reads what is there; how many answers were whole."""
+        try:
+            data = self.s.recv(65536)
+        except BlockingIOError:
+            return 0
+        self.come += data
+        count = 0
+        while True:
+            head, found, rest = self.come.partition(b"\r\n\r\n")
+            if not found:
+                break
+            length = [int(l.split(b":")[1]) for l in head.lower().split(b"\r\n") if l.startswith(b"content-length")][0]
+            if len(rest) < length:
+                break
+            self.come = rest[length:]
+            got = int(head.split()[1]), json.loads(rest[:length])
+            wanted = self.wanted.pop(0)
+            if not same(got, wanted):
+                bad((got, wanted))
+            count += 1
+            if wanted[0] == 404:
+                # it closes after this answer
+                self.s.close()
+                self.open()
+                return count
+        if not data:
+            bad("a connection was closed, %d answers were awaited" % len(self.wanted))
+            self.s.close()
+            self.open()
+        return count
+
+
+def pieces():
+    for short, count in ((0, 100000), (1, 30000)):
+        node = Node()
+        c = http.client.HTTPConnection("127.0.0.1", node.port)
+        for n in range(SCHEMAS):
+            if ask(c, "POST", "/subjects/s%d/versions" % n, {"schema": text(n)}) != (200, {"id": n + 1}):
+                bad("registering %d" % n)
+        c.close()
+        steer(short=short)
+        rng = random.Random(7 + short)
+        clients = [Client(node.port, rng) for _ in range(300)]
+        begun, made = time.time(), 0
+        while made < count and time.time() - begun < 300:
+            for client in clients:
+                client.send()
+            ready, _, _ = select.select([x.s for x in clients], [], [], 0.0005)
+            fds = {s.fileno() for s in ready}
+            for client in clients:
+                if client.s.fileno() in fds:
+                    made += client.take()
+        if made < count:
+            bad("only %d answers came" % made)
+        print("%s %d requests in pieces on 300 connections in %.1f s" % ("short calls:" if short else "plain calls:", made, time.time() - begun))
+        steer()
+        node.stop()
+
+
+def memory():
+    for period in (1000, 101, 29, 7):
+        node = Node()
+        threads = node.threads()
+        known, counts, lock = {}, {}, threading.Lock()
+        steer(period=period)
+        until = time.time() + 8
+
+        def client(k):
+            rng, n = random.Random(k), 0
+            c = http.client.HTTPConnection("127.0.0.1", node.port, timeout=20)
+            while time.time() < until:
+                n += 1
+                try:
+                    subject = "m%d_%d" % (k, n)
+                    got = ask(c, "POST", "/subjects/%s/versions" % subject, {"schema": text(n)})
+                    if got[0] == 200:
+                        with lock:
+                            known[subject] = got[1]["id"]
+                    got2 = ask(c, "GET", "/subjects/%s/versions/1" % subject)
+                    for g in (got, got2):
+                        word = g[1].get("message", "200") if isinstance(g[1], dict) else "200"
+                        with lock:
+                            counts[word] = counts.get(word, 0) + 1
+                    if got[0] == 200 and got2[0] == 200 and got2[1]["id"] != got[1]["id"]:
+                        bad((got, got2))
+                    if got[0] == 200 and got2[0] == 404 :
+                        with lock:
+                            counts["a write not read back"] = counts.get("a write not read back", 0) + 1
+                except (OSError, http.client.HTTPException):
+                    c.close()
+                    c = http.client.HTTPConnection("127.0.0.1", node.port, timeout=20)
+                    with lock:
+                        counts["closed"] = counts.get("closed", 0) + 1
+
+        work = [threading.Thread(target=client, args=(k,)) for k in range(4)]
+        [t.start() for t in work]
+        [t.join() for t in work]
+        steer()
+        c = http.client.HTTPConnection("127.0.0.1", node.port, timeout=20)
+        got = ask(c, "PUT", "/config", {"compatibility": "FULL"})
+        if got[0] != 200:
+            bad(("after the refusals", got))
+        time.sleep(0.2)
+        ids = {}
+        for subject, id in known.items():
+            got = ask(c, "GET", "/subjects/%s/versions/1" % subject)
+            if got[0] != 200 or got[1]["id"] != id:
+                bad((subject, id, got))
+            elif ids.setdefault(id, got[1]["schema"]) != got[1]["schema"]:
+                bad(("two schemas", id))
+        lost = threads - node.threads()
+        if lost:
+            bad("%d threads less" % lost)
+        print("one allocation in %d refused: %d acknowledged, answers %s" % (period, len(known), dict(sorted(counts.items()))))
+        node.stop()
+
+
+LINES = (b'1\t{"keytype":"SCHEMA","subject":"s","version":1,"magic":1}\t{"subject":"s","version":1,"id":1,"schema":"\\"int\\"","deleted":false}\n'
+         b'2\t{"keytype":"CONFIG","subject":null,"magic":0}\t{"compatibilityLevel":"NONE"}\n\n')
+RUN = [("GET", "/subjects", None), ("POST", "/subjects/s/versions", {"schema": '"long"'}), ("GET", "/subjects/s/versions", None),
+       ("POST", "/subjects/t/versions", {"schema": text(3)}), ("DELETE", "/subjects/s", None), ("GET", "/schemas/ids/1", None),
+       ("PUT", "/mode", {"mode": "READONLY"}), ("POST", "/subjects/u/versions", {"schema": '"int"'})]
+
+
+def fold():
+    data = LINES
+    for method, path, body in RUN:
+        body = b"" if body is None else json.dumps(body).encode()
+        data += b"%s %s HTTP/1.1\r\nHost: a\r\nContent-Length: %d\r\n\r\n" % (method.encode(), path.encode(), len(body)) + body
+    memory_answer = (b'HTTP/1.1 500 Internal Server Error\r\nContent-Type: application/vnd.schemaregistry.v1+json\r\nContent-Length: 52\r\n\r\n'
+                     b'{"error_code":50001,"message":"Store error: memory"}')
+
+    def run(at):
+        """Refuses the allocation of that number alone."""
+        steer(period=at)
+        shared[8:16] = struct.pack("Q", 0)
+        p = subprocess.run([PROGRAM, "fold"], input=data, capture_output=True, timeout=60,
+                           env=dict(os.environ, LD_PRELOAD=SHIM, FAULTS=STEER))
+        steer()
+        return p
+
+    def parts(out):
+        found = []
+        while out:
+            head, sep, rest = out.partition(b"\r\n\r\n")
+            length = [int(l.split(b":")[1]) for l in head.lower().split(b"\r\n") if l.startswith(b"content-length")]
+            if not sep or not length:
+                return None
+            found.append(head + sep + rest[:length[0]])
+            out = rest[length[0]:]
+        return found
+
+    whole = run(0)
+    total = allocations()
+    if whole.returncode or len(parts(whole.stdout)) != len(RUN):
+        bad(("fold", whole))
+    ended = memory_told = 0
+    # From a number above half of all on, only that one allocation is refused.
+    for at in range(total // 2 + 1, total + 1):
+        p = run(at)
+        got = parts(p.stdout)
+        if p.returncode:
+            ended += 1
+            if p.stdout or b"OutOfMemory" not in p.stderr:
+                bad((at, p.returncode, p.stderr[:80], p.stdout[:80]))
+        elif got is None or len(got) != len(RUN):
+            bad((at, p.stdout[-100:]))
+        else:
+            memory_told += memory_answer in got
+    print("fold of a stored run: %d allocations, the later half refused in turn: %d ended with OutOfMemory, %d answered 50001 memory" % (total, ended, memory_told))
+
+
+for name in NAMES:
+    globals()[name]()
+print("all as it should be" if not wrong else "%d WRONG" % wrong)
+sys.exit(1 if wrong else 0)

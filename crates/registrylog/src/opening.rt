@@ -1,0 +1,93 @@
+// Opening a log's file, under its lock.
+use crate::fault::KeepFault;
+use reg_journal::{Found, OpenError, StoredFile, cut_behind, look, write_end};
+use reg_keeping::open_aside;
+use std::alloc::Global;
+use std::fs::{File, Files, TryLockError};
+use std::io::Eprint;
+use std::path::Path;
+
+/// A log's file. While this is there no other process has it.
+#[derive(Drop)]
+pub(crate) struct Locked {
+    /// Where it is, with no link left in it.
+    pub(crate) path: String,
+    pub(crate) file: File,
+    pub(crate) lock: File,
+}
+
+/// Opens a file for reading and writing; it is made where it isn't there.
+pub(crate) fn open_or_make<R: Files<File = File>>(rt: &R, path: &str) -> Result<File, KeepFault> {
+    let mut how = File::options();
+    how.read(true).write(true).create(true);
+    Ok(how.open(rt, path)?)
+}
+
+/// The path with more behind its name.
+fn beside(alloc: Global, path: &str, more: &str) -> Result<String, KeepFault> {
+    let mut other = String::from_str(alloc, path)?;
+    other.push_str(more)?;
+    Ok(other)
+}
+
+/// Puts the names in a file's folder on the disk.
+fn sync_folder<R: Files<File = File>>(rt: &R, path: &str) -> Result<(), KeepFault> {
+    let folder = match Path::new(path).parent() {
+        Some(folder) if !folder.as_str().is_empty() => folder.as_str(),
+        _ => ".",
+    };
+    let folder = File::open(rt, folder)?;
+    Ok(folder.sync_all()?)
+}
+
+/// Opens a log's file, made where it isn't there, and takes its lock, which is a file beside it that is never
+/// removed.
+pub(crate) fn lock<R: Files<File = File>>(
+    rt: &R,
+    alloc: Global,
+    file: &str,
+) -> Result<Locked, KeepFault> {
+    let made = open_or_make(rt, file)?;
+    drop(made);
+    let found = rt.canonicalize(alloc, file)?;
+    let path = String::from_str(alloc, found.as_path().as_str())?;
+    let lock = open_or_make(rt, beside(alloc, path.as_str(), ".lock")?.as_str())?;
+    match lock.try_lock() {
+        Ok(()) => {}
+        Err(TryLockError::WouldBlock) => return Err(KeepFault::InUse),
+        Err(TryLockError::Error(e)) => return Err(KeepFault::from(e)),
+    }
+    // Opened again, since a compaction by another process may have put a new file there by now.
+    let file = open_or_make(rt, path.as_str())?;
+    sync_folder(rt, path.as_str())?;
+    Ok(Locked { path, file, lock })
+}
+
+/// Reads the log of a file, and ends it with an empty line where it has none. What stands behind that line is
+/// copied to a file of its own, with `.cut` behind the name, before it is cut off.
+pub(crate) fn settle<R: Files<File = File> + Eprint + Copy + Drop>(
+    rt: R,
+    alloc: Global,
+    disk: &mut StoredFile<R>,
+    path: &str,
+) -> Result<Found, KeepFault> {
+    let found = match look(alloc, disk) {
+        Err(OpenError::NoEmptyLine) => {
+            write_end(alloc, disk)?;
+            look(alloc, disk)?
+        }
+        other => other?,
+    };
+    if found.behind.is_empty() {
+        cut_behind(disk, &found)?;
+        return Ok(found);
+    }
+    let cut = beside(alloc, path, ".cut")?;
+    let file = open_or_make(&rt, cut.as_str())?;
+    let mut aside = StoredFile::new(alloc, rt, cut.as_str(), file)?;
+    let found = open_aside(alloc, disk, &mut aside)?;
+    sync_folder(&rt, path)?;
+    let count = found.behind.len();
+    let _told = rt.eprintln(format_args!("{count} bytes behind the log were put into {cut}"));
+    Ok(found)
+}

@@ -1,0 +1,45 @@
+// The words behind `keep`.
+use std::net::SocketAddr;
+
+/// What is to be served, and where.
+#[derive(Clone, Copy)]
+pub(crate) struct Asked<'a> {
+    pub(crate) file: &'a str,
+    /// Where the first node listens; each other one at the port after that of the one before it.
+    pub(crate) address: SocketAddr,
+    pub(crate) nodes: u64,
+    pub(crate) workers: u64,
+}
+
+/// A file, an address of the machine with a port, 1 to 3 nodes and 1 to 16 workers of each.
+pub(crate) fn read_words(words: &[String]) -> Option<Asked<'_>> {
+    let [_, _, file, address, nodes, workers] = words else {
+        return None;
+    };
+    let address: SocketAddr = address.as_str().parse().ok()?;
+    let nodes = number(nodes.as_str(), 3)?;
+    let workers = number(workers.as_str(), 16)?;
+    let port = u64::from(address.port());
+    if port == 0 || port + nodes > 65_536 {
+        return None;
+    }
+    Some(Asked {
+        file: file.as_str(),
+        address,
+        nodes,
+        workers,
+    })
+}
+
+/// The number from 1 to so many that a word spells, without a leading zero.
+fn number(word: &str, most: u64) -> Option<u64> {
+    if word.starts_with('0') || !word.bytes().all(|byte| byte.is_ascii_digit()) {
+        return None;
+    }
+    let number: u64 = word.parse().ok()?;
+    if 1 <= number && number <= most {
+        Some(number)
+    } else {
+        None
+    }
+}
