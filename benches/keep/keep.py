@@ -312,9 +312,10 @@ def startup():
 def stall():
     path = FOLDER + "/stall"
     with open(path, "w") as f:
-        for n in range(60000):
+        for n in range(600000):
             f.write('%d\t{"keytype":"SCHEMA","subject":"s%d","version":1,"magic":1}\t{"subject":"s%d","version":1,"id":%d,"schema":"{\\"type\\":\\"record\\",\\"name\\":\\"R%d\\",\\"fields\\":[]}","deleted":false}\n' % (n, n, n, n + 1, n))
-        f.write(FILLER * 59990 + "\n")
+        # Fewer than half are superseded, so that it is compacted only where it would be too long.
+        f.write(FILLER * 399990 + "\n")
     kept = Kept(path, wait=600)
     c, times = kept.connect(), []
     for n in range(2000):
@@ -325,8 +326,11 @@ def stall():
             bad("stall", got)
     said = kept.end()
     times.sort()
-    print("2,000 commands on one connection: %.2f ms each (median), the longest %.0f ms; %d lines in the end; %s" % (
-        times[1000] * 1000, times[-1] * 1000, open(path).read().count("\n"), said.decode().strip()))
+    lines = open(path).read().count("\n") - 1
+    if lines > 700000:
+        bad("not compacted", lines)
+    print("2,000 commands on one connection: %.2f ms each (median), the longest %.0f ms, in which 999,991 lines were compacted; %d lines in the end; %s" % (
+        times[1000] * 1000, times[-1] * 1000, lines, said.decode().strip()))
     os.remove(path)
 
 
