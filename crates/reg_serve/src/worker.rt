@@ -91,7 +91,7 @@ pub(crate) fn work<R: Wait, D: SharedDesk>(
 }
 
 /// Answers what is whole on a connection, and stays with it while no other one is ready, once that was so
-/// some times in a row.
+/// some times in a row. Before it leaves one it looks whether more has come.
 fn attend<R: Wait, D: SharedDesk>(
     rt: &R,
     alloc: Global,
@@ -108,7 +108,13 @@ fn attend<R: Wait, D: SharedDesk>(
         if after == After::GoesOn && hall.is_calm() {
             continue;
         }
-        if after != After::Rests || !is_lull(hall, bench) {
+        if after != After::Rests {
+            break;
+        }
+        if !is_lull(hall, bench) {
+            if !stays {
+                after = look(bench, &mut connection);
+            }
             break;
         }
         if !stays && !stay(hall, &mut connection) {
@@ -129,6 +135,15 @@ fn attend<R: Wait, D: SharedDesk>(
         after = After::Over;
     }
     leave(rt, hall, connection, after);
+}
+
+/// Reads once what is there of the next request, so that the doorkeeper needn't look before anything comes.
+fn look<T: Drop>(bench: &mut Bench, connection: &mut Connection<TcpStream, T>) -> After {
+    match connection.receive(&mut bench.buffer) {
+        Turn::Ready => After::GoesOn,
+        Turn::Over => After::Over,
+        Turn::Waits | Turn::Again => After::Rests,
+    }
 }
 
 /// Answers what is whole, and sends it.
