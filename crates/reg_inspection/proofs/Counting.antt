@@ -1,0 +1,23 @@
+-- Counts of entries.
+use Rattle.std.proofs.Common.{◌≡◌, ◌+◌, ◌-◌, ◌≤◌, ℕ, Bool, true, false, not, cond, List, [], ◌∷◌, length, map, Bor, refl, ap, arith}
+use Rattle.std.proofs.lemmas.List.Sums.{sum_by-cons}
+use Rattle.std.specs.List.{count_by}
+use Rattle.reg_entries.specs.declared.entry.Entry.{Entry}
+
+one_of : (b : Bool) → cond (not b) 1 0 + cond b 1 0 ≡ 1
+one_of true = refl
+one_of false = refl
+
+-- each entry is live or soft
+parts : (es : List (Bor Entry)) → count_by (λ (e : Entry). not e.soft) (map (λ e. e.now) es) + count_by (λ (e : Bor Entry). e.now.soft) es ≡ length es
+parts [] = refl
+parts (e ∷ es) =
+    omega (arith, parts es, one_of e.now.soft, sum_by-cons (λ (x : Entry). cond (not x.soft) 1 0) e.now (map (λ (e : Bor Entry). e.now) es), sum_by-cons (λ (x : Bor Entry). cond x.now.soft 1 0) e es)
+
+pub live_are : (es : List (Bor Entry)) → count_by (λ (e : Entry). not e.soft) (map (λ e. e.now) es) ≡ length es - count_by (λ (e : Bor Entry). e.now.soft) es
+live_are es = omega (arith, parts es)
+
+pub soft_are : (es : List (Bor Entry)) → count_by (λ (e : Entry). e.soft) (map (λ e. e.now) es) ≡ count_by (λ (e : Bor Entry). e.now.soft) es
+soft_are [] = refl
+soft_are (e ∷ es) =
+    omega (arith, soft_are es, sum_by-cons (λ (x : Entry). cond x.soft 1 0) e.now (map (λ (e : Bor Entry). e.now) es), sum_by-cons (λ (x : Bor Entry). cond x.now.soft 1 0) e es)

@@ -1,0 +1,29 @@
+-- What keeps a log from being taken over. Below, rs are the last records.
+use Rattle.std.specs.Prelude.{◌≡◌, ◌↔◌, ℕ, List, [], ◌++◌, false, Option, Some, None, option_and_then, option_map, map, codes, decimal}
+use Rattle.std.specs.List.{filter_map}
+use Rattle.reg_records.specs.declared.record.Record.{Record}
+use Rattle.reg_set.specs.Records.{Records, records_of}
+use Rattle.reg_fold.specs.Closed.{is_closed}
+use Rattle.reg_fold.specs.Entries.{entries}
+use Rattle.reg_inspection.specs.Cause.{cause_of, version_in}
+use Rattle.reg_inspection.specs.Shared.{shared_ids}
+use Rattle.reg_inspection.specs.declared.obstacle.Obstacle.{Obstacle}
+use Rattle.reg_inspection.specs.declared.obstacle.Obstacle.TheVariants as kinds
+
+-- a version's record that can't be read
+abbrev pub opaque_in : Record → Option Obstacle
+opaque_in r = option_and_then (λ v. option_map (λ cause. kinds.Opaque r.offset v.0 v.1 cause) (cause_of r)) (version_in r.key)
+
+-- the versions whose records can't be read, by their offsets, and the ids that name two schemas, in ascending order
+abbrev pub obstacles : Records → List Obstacle
+obstacles rs = filter_map opaque_in (records_of rs) ++ map kinds.TwoSchemas (shared_ids (entries rs))
+
+-- there is none exactly where the registry over the last records takes commands
+abbrev pub NoObstacleIsOpen : Type 0
+NoObstacleIsOpen = (rs : Records) → (obstacles rs ≡ []) ↔ (is_closed rs ≡ false)
+
+-- its text, without the cause
+abbrev pub obstacle_text : Obstacle → List ℕ
+obstacle_text (kinds.Opaque offset subject version cause) =
+    codes "opaque record at " ++ decimal offset ++ codes ": subject " ++ subject ++ codes ", version " ++ decimal version
+obstacle_text (kinds.TwoSchemas id) = codes "two schemas for id " ++ decimal id

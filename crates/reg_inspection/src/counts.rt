@@ -1,0 +1,74 @@
+// What a log holds, in numbers.
+ghost use Rattle.std.specs.Prelude.{◌≡◌, true, IfOk, count_by, length, map};
+ghost use Rattle.reg_entries.specs.Sought.{subjects};
+ghost use Rattle.reg_fold.specs.Entries.{entries};
+ghost use Rattle.reg_inspection.specs.Counts.{counts_in};
+ghost use Rattle.reg_inspection.specs.Shared.{ids_of};
+
+use reg_fold::{Entry, Registry};
+use reg_records::Log;
+use std::alloc::AllocError;
+use std::collections::BTreeSet;
+
+/// What a log holds, in numbers. Its versions are those of its last records that can be read.
+#[derive(Clone, Copy, Debug, PartialEq, Eq)]
+pub struct Counts {
+    /// Its records, superseded ones too.
+    pub records: u64,
+    /// Its lines whose key is none known here.
+    pub foreign: u64,
+    /// One more than the greatest offset of its lines, or 0.
+    pub next: u64,
+    /// The subjects with a version, soft-deleted ones too.
+    pub subjects: u64,
+    /// The versions that aren't soft-deleted.
+    pub live: u64,
+    /// The versions that are soft-deleted.
+    pub deleted: u64,
+    /// The ids of the versions, each once, soft-deleted ones too.
+    pub ids: u64,
+}
+
+/// The counts of a log, over whose last records the registry is, which has those entries of those ids.
+pub(crate) fn counts_of(
+    log: &Log,
+    registry: &Registry,
+    entries: &[&Entry],
+    ids: &BTreeSet<u32>,
+) -> Result<Counts, AllocError>
+    requires entries { map (λ e. e.now) entries.now ≡ entries registry.now }
+    requires ids { ids.now.keys ≡ ids_of (entries registry.now) }
+    ensures { IfOk result (λ counts. counts ≡ counts_in log.now (entries registry.now)) }
+{
+    let deleted = count_soft(entries);
+    Ok(Counts {
+        records: log.records.len() as u64,
+        foreign: log.foreign,
+        next: log.next,
+        subjects: count_subjects(registry)?,
+        live: entries.len() as u64 - deleted,
+        deleted,
+        ids: ids.len() as u64,
+    })
+}
+
+/// How many subjects have an entry.
+fn count_subjects(registry: &Registry) -> Result<u64, AllocError>
+    ensures { IfOk result (λ n. n ≡ length (subjects (entries registry.now) true)) }
+{
+    let found = registry.subjects(true)?;
+    Ok(found.len() as u64)
+}
+
+/// How many of the entries are soft.
+fn count_soft(entries: &[&Entry]) -> u64
+    ensures { result ≡ count_by (λ e. e.now.soft) entries.now }
+{
+    let mut count: u64 = 0;
+    for entry in entries {
+        if entry.soft {
+            count += 1;
+        }
+    }
+    count
+}

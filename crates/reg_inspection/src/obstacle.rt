@@ -1,0 +1,150 @@
+// What keeps a log from being taken over by a topic.
+ghost use Rattle.std.specs.Prelude.{◌≡◌, ◌↔◌, ◌++◌, [], false, IfOk, OnOk, map, option_to_list};
+ghost use Rattle.std.specs.List.{filter_map};
+ghost use Rattle.std.specs.FinSet.{from_list};
+ghost use Rattle.reg_set.specs.LastRecords.{last_records};
+ghost use Rattle.reg_fold.specs.Closed.{is_closed};
+ghost use Rattle.reg_fold.specs.Entries.{entries};
+ghost use Rattle.reg_inspection.specs.Obstacles.{obstacles, opaque_in};
+ghost use Rattle.reg_inspection.specs.Shared.{ids_of, shared_ids};
+
+use crate::cause::{Cause, cause_of};
+use crate::ids::{ids_of, shared_ids};
+use crate::laws::no_obstacle_is_open;
+use base_text::Text;
+use reg_fold::Registry;
+use reg_records::{Key, Log, Record};
+use reg_set::{RecordSet, last_records_are_enough};
+use std::alloc::{AllocError, Global};
+use std::collections::BTreeSet;
+use std::error::Error;
+use std::fmt;
+
+/// What keeps a log from being taken over by a topic.
+#[derive(Debug, Drop, PartialEq, Eq)]
+pub enum Obstacle {
+    /// The last record of a version can't be read.
+    Opaque {
+        offset: u64,
+        subject: Text,
+        version: u32,
+        cause: Cause,
+    },
+    /// The id names two schemas, soft versions counted.
+    TwoSchemas(u32),
+}
+
+/// Without the cause.
+impl fmt::Display for Obstacle {
+    ghost use Rattle.std.specs.Prelude.{Some};
+    ghost use Rattle.reg_inspection.specs.Obstacles.{obstacle_text};
+
+    ghost output = { λ obstacle. Some (obstacle_text obstacle) };
+
+    fn fmt<W: fmt::Write>(&self, f: &mut fmt::Formatter<W>) -> fmt::Result {
+        match self {
+            Obstacle::Opaque {
+                offset,
+                subject,
+                version,
+                cause: _,
+            } => {
+                let subject = subject.as_str();
+                write!(f, "opaque record at {offset}: subject {subject}, version {version}")
+            }
+            Obstacle::TwoSchemas(id) => write!(f, "two schemas for id {id}"),
+        }
+    }
+}
+
+impl Error for Obstacle {}
+
+/// All that keeps a log from being taken over: the versions whose last records can't be read, by their offsets,
+/// then the ids that name two schemas, in ascending order. There is nothing exactly where the log is adopted. The only
+/// error is want of memory.
+pub fn obstacles(alloc: Global, log: &Log) -> Result<Vec<Obstacle>, AllocError>
+    ensures all { IfOk result (λ found. found.items ≡ obstacles (last_records (from_list log.now.records.items))) }
+    ensures none { IfOk result (λ found. (found.items ≡ []) ↔ (is_closed (last_records (from_list log.now.records.items)) ≡ false)) }
+{
+    no_obstacle_is_open();
+    let (last, registry) = lasts_of(alloc, &log.records)?;
+    let ids = ids_of(alloc, &registry.entries()?)?;
+    obstacles_in(alloc, &last, &registry, &ids)
+}
+
+/// The last records of some records, and the registry over them.
+pub(crate) fn lasts_of(
+    alloc: Global,
+    records: &[Record],
+) -> Result<(RecordSet, Registry), AllocError>
+    ensures set { IfOk result (λ lasts. lasts.0 ≡ last_records (from_list records.now)) }
+    ensures registry { IfOk result (λ lasts. lasts.1 ≡ last_records (from_list records.now)) }
+{
+    last_records_are_enough();
+    let mut last = RecordSet::of(alloc, records)?;
+    last.compact();
+    let registry = Registry::of_set(alloc, &last)?;
+    Ok((last, registry))
+}
+
+/// Those of the last records, over which the registry is, whose ids are these.
+pub(crate) fn obstacles_in(
+    alloc: Global,
+    last: &RecordSet,
+    registry: &Registry,
+    ids: &BTreeSet<u32>,
+) -> Result<Vec<Obstacle>, AllocError>
+    requires over { registry.now ≡ last.now }
+    requires ids { ids.now.keys ≡ ids_of (entries last.now) }
+    ensures { IfOk result (λ found. found.items ≡ obstacles last.now) }
+{
+    let mut found = opaques_in(alloc, last.records())?;
+    push_ids(&mut found, &shared_ids(alloc, registry, ids)?)?;
+    Ok(found)
+}
+
+fn push_ids(found: &mut Vec<Obstacle>, ids: &[u32]) -> Result<(), AllocError>
+    ensures { OnOk result (found.new.items ≡ found.old.items ++ map Obstacle.TwoSchemas ids.now) }
+{
+    for id in ids {
+        found.push(Obstacle::TwoSchemas(*id))?;
+    }
+    Ok(())
+}
+
+/// Those of some records that can't be read.
+fn opaques_in(alloc: Global, records: &[Record]) -> Result<Vec<Obstacle>, AllocError>
+    ensures { IfOk result (λ found. found.items ≡ filter_map opaque_in records.now) }
+{
+    let mut found = Vec::new(alloc);
+    for record in records {
+        push_any(&mut found, opaque_in(alloc, record)?)?;
+    }
+    Ok(found)
+}
+
+fn push_any(found: &mut Vec<Obstacle>, obstacle: Option<Obstacle>) -> Result<(), AllocError>
+    ensures { OnOk result (found.new.items ≡ found.old.items ++ option_to_list obstacle) }
+{
+    if let Some(obstacle) = obstacle {
+        found.push(obstacle)?;
+    }
+    Ok(())
+}
+
+fn opaque_in(alloc: Global, given: &Record) -> Result<Option<Obstacle>, AllocError>
+    ensures { IfOk result (λ found. found ≡ opaque_in given.now) }
+{
+    let Key::Schema { subject, version } = &given.key else {
+        return Ok(None);
+    };
+    match cause_of(alloc, given)? {
+        Some(cause) => Ok(Some(Obstacle::Opaque {
+            offset: given.offset,
+            subject: subject.clone()?,
+            version: *version,
+            cause,
+        })),
+        None => Ok(None),
+    }
+}
