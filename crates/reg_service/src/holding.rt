@@ -80,7 +80,7 @@ pub(crate) fn hold_one<
         common.limit,
         &first_node,
         first_desks,
-        entrance,
+        || entrance.ready(),
     )
 }
 
@@ -181,7 +181,7 @@ pub(crate) fn hold_two<
         first_desks,
         &second_node,
         second_desks,
-        entrance,
+        || entrance.ready(),
     )
 }
 
@@ -383,6 +383,6 @@ fn hold_third<
         second_desks,
         &node,
         desks,
-        entrance,
+        || entrance.ready(),
     )
 }

@@ -1,5 +1,4 @@
 // Threads over one, two or three nodes, of which each has types of its own.
-use crate::entrance::Entrance;
 use crate::error::StartFault;
 use reg_conversation::SharedDesk;
 use reg_serve::{Follow, Latch, Node, begin, open_node};
@@ -15,7 +14,7 @@ pub(crate) fn serve_one<
     D1: SharedDesk<Standing = T1> + Send + Drop + 's,
     W1: Follow + Sync + Drop + 's,
     R: Threads + Wait + Clock + Sync + 's,
-    E: Entrance,
+    F: FnOnce() -> bool,
 >(
     rt: &'s R,
     alloc: Global,
@@ -23,14 +22,18 @@ pub(crate) fn serve_one<
     limit: Option<u64>,
     first: &'s Node<'s, W1, T1>,
     first_desks: Vec<D1>,
-    entrance: &mut E,
-) -> Result<(), StartFault> {
+    ready: F,
+) -> Result<(), StartFault>
+    requires { F.IsAlwaysCallable ready }
+{
     thread::scope(
         thread::scope_env(),
         rt,
-        |scope| -> Result<(), StartFault> {
+        |scope| -> Result<(), StartFault>
+            requires { F.IsAlwaysCallable ready }
+        {
             let started = open_node(scope, rt, alloc, latch, first, first_desks, limit);
-            begin(latch, started, || entrance.ready())?;
+            begin(latch, started, ready)?;
             Ok(())
         },
     )
@@ -46,7 +49,7 @@ pub(crate) fn serve_two<
     D2: SharedDesk<Standing = T2> + Send + Drop + 's,
     W2: Follow + Sync + Drop + 's,
     R: Threads + Wait + Clock + Sync + 's,
-    E: Entrance,
+    F: FnOnce() -> bool,
 >(
     rt: &'s R,
     alloc: Global,
@@ -56,18 +59,22 @@ pub(crate) fn serve_two<
     first_desks: Vec<D1>,
     second: &'s Node<'s, W2, T2>,
     second_desks: Vec<D2>,
-    entrance: &mut E,
-) -> Result<(), StartFault> {
+    ready: F,
+) -> Result<(), StartFault>
+    requires { F.IsAlwaysCallable ready }
+{
     thread::scope(
         thread::scope_env(),
         rt,
-        |scope| -> Result<(), StartFault> {
+        |scope| -> Result<(), StartFault>
+            requires { F.IsAlwaysCallable ready }
+        {
             let started = open_node(scope, rt, alloc, latch, first, first_desks, limit);
             let started = match started {
                 Ok(()) => open_node(scope, rt, alloc, latch, second, second_desks, limit),
                 Err(e) => Err(e),
             };
-            begin(latch, started, || entrance.ready())?;
+            begin(latch, started, ready)?;
             Ok(())
         },
     )
@@ -86,7 +93,7 @@ pub(crate) fn serve_three<
     D3: SharedDesk<Standing = T3> + Send + Drop + 's,
     W3: Follow + Sync + Drop + 's,
     R: Threads + Wait + Clock + Sync + 's,
-    E: Entrance,
+    F: FnOnce() -> bool,
 >(
     rt: &'s R,
     alloc: Global,
@@ -98,12 +105,16 @@ pub(crate) fn serve_three<
     second_desks: Vec<D2>,
     third: &'s Node<'s, W3, T3>,
     third_desks: Vec<D3>,
-    entrance: &mut E,
-) -> Result<(), StartFault> {
+    ready: F,
+) -> Result<(), StartFault>
+    requires { F.IsAlwaysCallable ready }
+{
     thread::scope(
         thread::scope_env(),
         rt,
-        |scope| -> Result<(), StartFault> {
+        |scope| -> Result<(), StartFault>
+            requires { F.IsAlwaysCallable ready }
+        {
             let started = open_node(scope, rt, alloc, latch, first, first_desks, limit);
             let started = match started {
                 Ok(()) => open_node(scope, rt, alloc, latch, second, second_desks, limit),
@@ -113,7 +124,7 @@ pub(crate) fn serve_three<
                 Ok(()) => open_node(scope, rt, alloc, latch, third, third_desks, limit),
                 Err(e) => Err(e),
             };
-            begin(latch, started, || entrance.ready())?;
+            begin(latch, started, ready)?;
             Ok(())
         },
     )
