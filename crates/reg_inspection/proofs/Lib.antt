@@ -5,3 +5,4 @@ pub mod Causes
 pub mod Nothing
 pub mod Given
 pub mod Counting
+pub mod Taken

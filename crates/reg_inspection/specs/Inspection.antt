@@ -1,11 +1,13 @@
 -- What an inspection of a log says.
-use Rattle.std.specs.Prelude.{◌≡◌, ⊤, ℕ, List, Err}
-use Rattle.reg_records.specs.Log.{log_of}
-use Rattle.reg_records.specs.declared.log.LogError.{LogError}
-use Rattle.reg_records.specs.declared.log.LogError.TheVariants as logs
+use Rattle.std.specs.Prelude.{◌≡◌, ℕ, List, Bool, not, Ok, Option, string_bytes}
+use Rattle.std.specs.Io.KnownBytes.{Appends}
+use Rattle.reg_records.specs.Log.{LogText, log_of}
 use Rattle.reg_records.specs.declared.record.Read.{Read}
+use Rattle.reg_fold.specs.Closed.{is_closed}
 use Rattle.reg_inspection.specs.Counts.{counts_of, lasts_in}
 use Rattle.reg_inspection.specs.Obstacles.{obstacles}
+use Rattle.reg_inspection.specs.Report.{report_text}
+use Rattle.reg_inspection.specs.declared.inspecting.Description.{Description}
 use Rattle.reg_inspection.specs.declared.inspection.Inspection.{Inspection}
 
 -- the counts and the obstacles of what the lines of a log say
@@ -13,8 +15,24 @@ pub record IsInspectionOf (read : List Read) (found : Inspection) : Type 0 where
   pub counts : found.counts ≡ counts_of read
   pub obstacles : found.obstacles.items ≡ obstacles (lasts_in read)
 
--- the text's first fault is that one
-abbrev pub HasFault : List ℕ → LogError → Type 0
-HasFault text (logs.Fault line fault) = log_of text ≡ Err (line, fault)
-HasFault text (logs.ReadFault line) = ⊤
-HasFault text logs.OutOfMemory = ⊤
+-- the text that is written of what the lines of a log say
+abbrev pub report_of : List Read → List ℕ
+report_of read = report_text (counts_of read) (obstacles (lasts_in read))
+
+-- whether the registry over what they say takes commands
+abbrev pub is_taken : List Read → Bool
+is_taken read = not (is_closed (lasts_in read))
+
+-- Private: the text for a log, and whether it is taken over
+pub record Describes (text : List ℕ) (found : Description) : Type 0 where
+  pub log : LogText
+  pub read : log_of text ≡ Ok log
+  pub said : string_bytes found.text ≡ report_of log.reads
+  pub taken : found.taken ≡ is_taken log.reads
+
+-- the input is a log whose report was written, and the answer is whether it is taken over
+pub record Reports (input : List ℕ) (taken : Bool) (old new : Option (List ℕ)) : Type 0 where
+  pub log : LogText
+  pub read : log_of input ≡ Ok log
+  pub written : Appends old new (report_of log.reads)
+  pub answer : taken ≡ is_taken log.reads

@@ -7,17 +7,26 @@ use Rattle.reg_inspection.specs.declared.counts.Counts.{Counts}
 use Rattle.reg_inspection.specs.declared.obstacle.Obstacle.{Obstacle}
 use Rattle.reg_inspection.specs.declared.obstacle.Obstacle.TheVariants as kinds
 
-abbrev pub counts_text : Counts → List ℕ
-counts_text c =
-    codes "records: " ++ decimal c.records ++ codes "\nforeign lines: " ++ decimal c.foreign ++ codes "\nnext offset: " ++ decimal c.next
-    ++ codes "\nsubjects: " ++ decimal c.subjects ++ codes "\nlive versions: " ++ decimal c.live ++ codes "\nsoft-deleted versions: " ++ decimal c.deleted
-    ++ codes "\nids: " ++ decimal c.ids ++ codes "\n"
+-- what the lines of a log are
+abbrev pub lines_text : ℕ → ℕ → ℕ → List ℕ
+lines_text records foreign next = codes "records: " ++ decimal records ++ codes "\nforeign lines: " ++ decimal foreign ++ codes "\nnext offset: " ++ decimal next ++ codes "\n"
 
--- an obstacle's text, and the cause where it has one
+-- what its versions are
+abbrev pub versions_text : ℕ → ℕ → ℕ → ℕ → List ℕ
+versions_text subjects live deleted ids =
+    codes "subjects: " ++ decimal subjects ++ codes "\nlive versions: " ++ decimal live ++ codes "\nsoft-deleted versions: " ++ decimal deleted
+    ++ codes "\nids: " ++ decimal ids ++ codes "\n"
+
+abbrev pub counts_text : Counts → List ℕ
+counts_text c = lines_text c.records c.foreign c.next ++ versions_text c.subjects c.live c.deleted c.ids
+
+-- what stands behind an obstacle's text: its cause, where it has one
+abbrev pub cause_part : Obstacle → List ℕ
+cause_part (kinds.Opaque offset subject version cause) = codes ": " ++ cause_text cause ++ codes "\n"
+cause_part (kinds.TwoSchemas id) = codes "\n"
+
 abbrev pub obstacle_line : Obstacle → List ℕ
-obstacle_line (kinds.Opaque offset subject version cause) =
-    obstacle_text (kinds.Opaque offset subject version cause) ++ codes ": " ++ cause_text cause ++ codes "\n"
-obstacle_line (kinds.TwoSchemas id) = obstacle_text (kinds.TwoSchemas id) ++ codes "\n"
+obstacle_line obstacle = obstacle_text obstacle ++ cause_part obstacle
 
 abbrev pub report_text : Counts → List Obstacle → List ℕ
 report_text counts found = counts_text counts ++ flat_map obstacle_line found

@@ -29,24 +29,24 @@ pub struct Counts {
     pub ids: u64,
 }
 
-/// The counts of a log, over whose last records the registry is, which has those entries of those ids.
+/// The counts of a log, over whose last records the registry is, which has those entries, of those ids.
 pub(crate) fn counts_of(
     log: &Log,
     registry: &Registry,
-    entries: &[&Entry],
+    found: &[&Entry],
     ids: &BTreeSet<u32>,
 ) -> Result<Counts, AllocError>
-    requires entries { map (λ e. e.now) entries.now ≡ entries registry.now }
+    requires found { map (λ e. e.now) found.now ≡ entries registry.now }
     requires ids { ids.now.keys ≡ ids_of (entries registry.now) }
     ensures { IfOk result (λ counts. counts ≡ counts_in log.now (entries registry.now)) }
 {
-    let deleted = count_soft(entries);
+    let deleted = count_soft(found);
     Ok(Counts {
         records: log.records.len() as u64,
         foreign: log.foreign,
         next: log.next,
         subjects: count_subjects(registry)?,
-        live: entries.len() as u64 - deleted,
+        live: found.len() as u64 - deleted,
         deleted,
         ids: ids.len() as u64,
     })

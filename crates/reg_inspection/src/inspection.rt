@@ -1,11 +1,15 @@
 // What a log holds, and what keeps it from being served.
-ghost use Rattle.std.specs.Prelude.{◌≡◌, ◌++◌, List, Ok, IfErr, IfOk, OnOk, string_bytes};
+ghost use Rattle.std.specs.Prelude.{◌≡◌, ◌==◌, ◌++◌, List, Ok, IfErr, IfOk, OnOk, codes, length, string_bytes};
 ghost use Rattle.std.specs.List.{flat_map};
 ghost use Rattle.reg_records.specs.Log.{IsLogOf, LogText, log_of};
 ghost use Rattle.reg_records.specs.declared.record.Read.{Read};
-ghost use Rattle.reg_inspection.specs.Inspection.{HasFault, IsInspectionOf};
-ghost use Rattle.reg_inspection.specs.Report.{counts_text, obstacle_line, report_text};
+ghost use Rattle.reg_journal.specs.Found.{HasFault};
+ghost use Rattle.reg_inspection.specs.Inspection.{IsInspectionOf};
+ghost use Rattle.reg_inspection.specs.Cause.{cause_text};
+ghost use Rattle.reg_inspection.specs.Obstacles.{obstacle_text};
+ghost use Rattle.reg_inspection.specs.Report.{counts_text, lines_text, obstacle_line, report_text, versions_text};
 
+use crate::cause::Cause;
 use crate::counts::{Counts, counts_of};
 use crate::ids::ids_of;
 use crate::obstacle::{Obstacle, lasts_of, obstacles_in};
@@ -28,6 +32,13 @@ impl Inspection {
         let mut text = counts_text(alloc, &self.counts)?;
         push_lines(alloc, &mut text, &self.obstacles)?;
         Ok(text)
+    }
+
+    /// Whether nothing keeps the log from being taken over.
+    pub fn is_taken(&self) -> bool
+        ensures { result ≡ (length self.now.obstacles.items == 0) }
+    {
+        self.obstacles.is_empty()
     }
 }
 
@@ -57,17 +68,35 @@ fn inspection_of(alloc: Global, log: &Log) -> Result<Inspection, AllocError>
 fn counts_text(alloc: Global, counts: &Counts) -> Result<String, AllocError>
     ensures { IfOk result (λ text. string_bytes text ≡ counts_text counts.now) }
 {
-    let Counts {
-        records,
-        foreign,
-        next,
-        subjects,
-        live,
-        deleted,
-        ids,
-    } = *counts;
+    let mut text = lines_text(alloc, counts.records, counts.foreign, counts.next)?;
+    let versions = versions_text(
+        alloc,
+        counts.subjects,
+        counts.live,
+        counts.deleted,
+        counts.ids,
+    )?;
+    text.push_str(versions.as_str())?;
+    Ok(text)
+}
+
+fn lines_text(alloc: Global, records: u64, foreign: u64, next: u64) -> Result<String, AllocError>
+    ensures { IfOk result (λ text. string_bytes text ≡ lines_text records foreign next) }
+{
+    format!(in alloc; "records: {records}\nforeign lines: {foreign}\nnext offset: {next}\n")
+}
+
+fn versions_text(
+    alloc: Global,
+    subjects: u64,
+    live: u64,
+    deleted: u64,
+    ids: u64,
+) -> Result<String, AllocError>
+    ensures { IfOk result (λ text. string_bytes text ≡ versions_text subjects live deleted ids) }
+{
     format!(in alloc;
-        "records: {records}\nforeign lines: {foreign}\nnext offset: {next}\nsubjects: {subjects}\nlive versions: {live}\nsoft-deleted versions: {deleted}\nids: {ids}\n"
+        "subjects: {subjects}\nlive versions: {live}\nsoft-deleted versions: {deleted}\nids: {ids}\n"
     )
 }
 
@@ -89,7 +118,13 @@ fn obstacle_line(alloc: Global, obstacle: &Obstacle) -> Result<String, AllocErro
     ensures { IfOk result (λ line. string_bytes line ≡ obstacle_line obstacle.now) }
 {
     match obstacle {
-        Obstacle::Opaque { cause, .. } => format!(in alloc; "{obstacle}: {cause}\n"),
+        Obstacle::Opaque { cause, .. } => caused_line(alloc, obstacle, *cause),
         Obstacle::TwoSchemas(_) => format!(in alloc; "{obstacle}\n"),
     }
+}
+
+fn caused_line(alloc: Global, obstacle: &Obstacle, cause: Cause) -> Result<String, AllocError>
+    ensures { IfOk result (λ line. string_bytes line ≡ obstacle_text obstacle.now ++ (codes ": " ++ cause_text cause ++ codes "\n")) }
+{
+    format!(in alloc; "{obstacle}: {cause}\n")
 }

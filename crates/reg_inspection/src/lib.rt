@@ -4,12 +4,14 @@
 mod cause;
 mod counts;
 mod ids;
+mod inspecting;
 mod inspection;
 mod laws;
 mod obstacle;
 
 pub use cause::{Cause, cause_of};
 pub use counts::Counts;
+pub use inspecting::inspect;
 pub use inspection::{Inspection, inspected};
 pub use laws::{causes_are_of_opaque, no_obstacle_is_open, shared_ids_name_two};
 pub use obstacle::{Obstacle, obstacles};

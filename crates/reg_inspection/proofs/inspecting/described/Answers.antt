@@ -1,0 +1,20 @@
+use Rattle.std.proofs.Common.{◌≡◌, ap, ◌∙◌, ℕ, List}
+use Rattle.reg_inspection.specs.Counts.{counts_of, lasts_in}
+use Rattle.reg_inspection.specs.Report.{report_text}
+use Rattle.reg_inspection.specs.declared.counts.Counts.{Counts}
+use Rattle.reg_inspection.specs.declared.obstacle.Obstacle.{Obstacle}
+use Rattle.reg_inspection.proofs.Taken.{nothing_is_taken}
+use Rattle.reg_inspection.proofs.inspecting.described.Goals as goal
+
+pub returns-clause-described : goal.returns-clause-described
+returns-clause-described c =
+    let found = c.in_ok-found.found in
+    let is = c.in_ok-found.ensures.inspected in
+    record {
+      log = is.0;
+      read = is.1;
+      said = c.in_ok-text.ensures
+          ∙ ap (λ (n : Counts). report_text n found.obstacles.items) is.2.counts
+          ∙ ap (λ (os : List Obstacle). report_text (counts_of is.0.reads) os) is.2.obstacles;
+      taken = c.is_taken.ensures ∙ nothing_is_taken c.no_obstacle_is_open.ensures (lasts_in is.0.reads) found.obstacles.items is.2.obstacles;
+    }

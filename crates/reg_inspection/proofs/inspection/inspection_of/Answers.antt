@@ -1,0 +1,26 @@
+use Rattle.std.proofs.Common.{◌≡◌, ℕ, List, length, ap, ◌∙◌}
+use Rattle.std.specs.FinSet.{from_list}
+use Rattle.std.specs.List.{count_by}
+use Rattle.reg_records.specs.Log.{is_foreign, records_in}
+use Rattle.reg_records.specs.declared.record.Record.{Record}
+use Rattle.reg_set.specs.LastRecords.{last_records}
+use Rattle.reg_set.specs.Records.{Records}
+use Rattle.reg_fold.specs.Entries.{entries}
+use Rattle.reg_inspection.specs.Counts.{counts_by, counts_in, lasts_in}
+use Rattle.reg_inspection.specs.Obstacles.{obstacles}
+use Rattle.reg_inspection.proofs.inspection.inspection_of.Goals as goal
+
+pub returns : goal.returns
+returns c read is =
+    let log = c.args.log.now in
+    let same = ap (λ (l : List Record). last_records (from_list l)) (c.deref.ensures.value ∙ is.records) in
+    let set : c.in_ok-last.last ≡ lasts_in read = c.in_ok-last.ensures.set ∙ same in
+    let over : c.in_ok-last.registry ≡ lasts_in read = c.in_ok-last.ensures.registry ∙ same in
+    let es = entries (lasts_in read) in
+    record {
+      counts = c.in_ok-counts_of.ensures ∙ ap (λ (rs : Records). counts_in log (entries rs)) over
+          ∙ ap (λ (l : List Record). counts_by (length l) log.foreign log.next es) is.records
+          ∙ ap (λ (n : ℕ). counts_by (length (records_in read)) n log.next es) is.foreign
+          ∙ ap (λ (n : ℕ). counts_by (length (records_in read)) (count_by is_foreign read) n es) is.next;
+      obstacles = c.in_ok-obstacles_in.ensures ∙ ap obstacles set;
+    }

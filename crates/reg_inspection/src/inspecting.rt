@@ -1,0 +1,95 @@
+// The inspection of a log as a filter from a reader to a writer.
+ghost use Rattle.std.specs.Prelude.{◌≡◌, IfErr, IfOk, IfSome, OnOk};
+ghost use Rattle.std.specs.Io.KnownBytes.{Appends};
+ghost use Rattle.reg_journal.specs.Found.{HasFault};
+ghost use Rattle.reg_keeping.specs.Filter.{IsFilterRefusal, IsNoReading, filter_error_of};
+ghost use Rattle.reg_keeping.specs.declared.filter.FilterError.TheVariants.{WriteFault};
+ghost use Rattle.reg_inspection.specs.Inspection.{Describes, Reports};
+
+use crate::inspection::inspected;
+use crate::laws::no_obstacle_is_open;
+use reg_keeping::FilterError;
+use reg_records::LogError;
+use std::alloc::Global;
+use std::io::{ErrorKind, Read, Write};
+
+/// Reads a log to the end of the input, writes what it holds and what keeps it from being served, a line a fact, and
+/// says whether nothing does. What stands behind the log's empty line is left out. The log is read to its end before
+/// the first byte is written.
+pub fn inspect<R: Read, W: Write>(
+    alloc: Global,
+    reader: &mut R,
+    writer: &mut W,
+) -> Result<bool, FilterError>
+    ensures written { IfOk result (λ taken. IfSome (R.remaining reader.old) (λ input.
+        Reports input taken (W.contents writer.old) (W.contents writer.new))) }
+    ensures refused { IfErr result (IsFilterRefusal (R.remaining reader.old) (W.contents writer.old) (W.contents writer.new)) }
+{
+    let input = read_input(alloc, reader)?;
+    match described(alloc, &input) {
+        Ok(found) => {
+            write_output(writer, found.text.as_bytes())?;
+            Ok(found.taken)
+        }
+        Err(e) => Err(filter_error(e)),
+    }
+}
+
+/// The text of an inspection, and whether nothing keeps the log from being taken over.
+#[derive(Drop)]
+pub(crate) struct Description {
+    pub text: String,
+    pub taken: bool,
+}
+
+fn described(alloc: Global, log: &[u8]) -> Result<Description, LogError>
+    ensures described { IfOk result (Describes log.now) }
+    ensures fault { IfErr result (HasFault log.now) }
+{
+    no_obstacle_is_open();
+    let found = inspected(alloc, log)?;
+    let text = found.report(alloc)?;
+    Ok(Description {
+        text,
+        taken: found.is_taken(),
+    })
+}
+
+/// All that a reader gives.
+fn read_input<R: Read>(alloc: Global, reader: &mut R) -> Result<Vec<u8>, FilterError>
+    ensures read { IfOk result (λ bytes. IfSome (R.remaining reader.old) (λ input. bytes.items ≡ input)) }
+    ensures refused { IfErr result IsNoReading }
+{
+    let mut bytes = Vec::new(alloc);
+    match reader.read_to_end(&mut bytes) {
+        Ok(_) => Ok(bytes),
+        Err(e) => match e.kind() {
+            ErrorKind::OutOfMemory => Err(FilterError::OutOfMemory),
+            _ => Err(FilterError::ReadFault),
+        },
+    }
+}
+
+/// Writes the bytes whole.
+fn write_output<W: Write>(writer: &mut W, bytes: &[u8]) -> Result<(), FilterError>
+    ensures written { OnOk result (Appends (W.contents writer.old) (W.contents writer.new) bytes.now) }
+    ensures refused { IfErr result (λ e. e ≡ WriteFault) }
+{
+    if writer.write_all(bytes).is_err() {
+        return Err(FilterError::WriteFault);
+    }
+    match writer.flush() {
+        Ok(()) => Ok(()),
+        Err(_) => Err(FilterError::WriteFault),
+    }
+}
+
+fn filter_error(e: LogError) -> FilterError
+    ensures { result ≡ filter_error_of e }
+{
+    match e {
+        LogError::Fault { line, fault } => FilterError::Log { line, fault },
+        LogError::ReadFault { line: _ } => FilterError::ReadFault,
+        LogError::OutOfMemory => FilterError::OutOfMemory,
+    }
+}
