@@ -124,10 +124,9 @@ second_none None (Some b) h = absurd (false≢true (sym h))
 second_none (Some a) b h = absurd (false≢true (sym h))
 
 pub no_obstacle_is_open : CausesAreOfOpaque → NoneIsOneTextEach → NoObstacleIsOpen
-no_obstacle_is_open causes none rs =
-    (
-      λ h. neither (opaque rs) (two_schemas rs) (no_opaque causes rs (left_nothing _ _ h)) (no_shared none (entries rs) (unmapped kinds.TwoSchemas (shared_ids (entries rs)) (right_nothing (filter_map opaque_in (records_of rs)) _ h))),
-      λ h.
+no_obstacle_is_open causes none rs = (
+  λ h. neither (opaque rs) (two_schemas rs) (no_opaque causes rs (left_nothing _ _ h)) (no_shared none (entries rs) (unmapped kinds.TwoSchemas (shared_ids (entries rs)) (right_nothing (filter_map opaque_in (records_of rs)) _ h))),
+  λ h.
       ap (λ (os : List Obstacle). os ++ map kinds.TwoSchemas (shared_ids (entries rs))) (opaque_no causes rs (first_none (opaque rs) (two_schemas rs) h))
       ∙ ap (λ (ids : List ℕ). map kinds.TwoSchemas ids) (shared_no none (entries rs) (second_none (opaque rs) (two_schemas rs) h)),
-    )
+)

@@ -100,11 +100,7 @@ fn versions_text(
     )
 }
 
-fn push_lines(
-    alloc: Global,
-    text: &mut String,
-    obstacles: &[Obstacle],
-) -> Result<(), AllocError>
+fn push_lines(alloc: Global, text: &mut String, obstacles: &[Obstacle]) -> Result<(), AllocError>
     ensures { OnOk result (string_bytes text.new ≡ string_bytes text.old ++ flat_map obstacle_line obstacles.now) }
 {
     for obstacle in obstacles {

@@ -50,7 +50,10 @@ impl fmt::Display for Obstacle {
                 cause: _,
             } => {
                 let subject = subject.as_str();
-                write!(f, "opaque record at {offset}: subject {subject}, version {version}")
+                write!(
+                    f,
+                    "opaque record at {offset}: subject {subject}, version {version}"
+                )
             }
             Obstacle::TwoSchemas(id) => write!(f, "two schemas for id {id}"),
         }

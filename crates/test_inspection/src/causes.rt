@@ -14,7 +14,10 @@ const ROWS: [(&str, &str); 24] = [
     ("{'schemaType':'avro'}", "another schema type"),
     ("{'schemaType':1}", "another schema type"),
     // The first cause is told.
-    ("{'schemaType':'PROTOBUF','references':[1]}", "schema type PROTOBUF"),
+    (
+        "{'schemaType':'PROTOBUF','references':[1]}",
+        "schema type PROTOBUF",
+    ),
     ("{'references':[1],'metadata':{}}", "references"),
     ("{'references':{}}", "references"),
     ("{'metadata':{},'ruleSet':{}}", "metadata"),
@@ -22,20 +25,35 @@ const ROWS: [(&str, &str); 24] = [
     ("{}", "not the subject of its key"),
     ("{'subject':'t','version':3}", "not the subject of its key"),
     ("{'subject':'s'}", "not the version of its key"),
-    ("{'subject':'s','version':2,'id':1}", "not the version of its key"),
+    (
+        "{'subject':'s','version':2,'id':1}",
+        "not the version of its key",
+    ),
     ("{'subject':'s','version':3}", "no id from 1 to 2147483647"),
-    ("{'subject':'s','version':3,'id':0}", "no id from 1 to 2147483647"),
-    ("{'subject':'s','version':3,'id':2147483648}", "no id from 1 to 2147483647"),
+    (
+        "{'subject':'s','version':3,'id':0}",
+        "no id from 1 to 2147483647",
+    ),
+    (
+        "{'subject':'s','version':3,'id':2147483648}",
+        "no id from 1 to 2147483647",
+    ),
     (
         "{'subject':'s','version':3,'id':1,'deleted':'no'}",
         "a deleted mark that is no boolean",
     ),
-    ("{'subject':'s','version':3,'id':1}", "a schema that can't be read"),
+    (
+        "{'subject':'s','version':3,'id':1}",
+        "a schema that can't be read",
+    ),
     (
         "{'subject':'s','version':3,'id':1,'schema':'\\'no such type\\''}",
         "a schema that can't be read",
     ),
-    ("{'subject':'s','version':3,'id':1,'schema':'\\'int\\''}", ""),
+    (
+        "{'subject':'s','version':3,'id':1,'schema':'\\'int\\''}",
+        "",
+    ),
     // What is null is as good as absent.
     (
         "{'subject':'s','version':3,'id':1,'schema':'\\'int\\'','schemaType':null,'references':[],'metadata':null,'ruleSet':null,'deleted':null}",
