@@ -8,6 +8,8 @@ pub enum Command {
     /// The log of a file is to be served. Behind the word stand the file, an address with a port, and how many nodes
     /// and workers there are.
     Keep,
+    /// It is to be said what a log holds.
+    Check,
     /// A log is to be compacted.
     Compact,
     /// How to use the program is to be written.
@@ -19,6 +21,7 @@ pub enum Command {
 /// How to use the program, a line a command.
 pub const USAGE: &str = "usage: registrylog COMMAND\n\
 keep FILE ADDRESS:PORT NODES WORKERS  serves the log of a file, by nodes at the port and those after it\n\
+check                                 reads a log, and writes what it holds and what keeps it from being served\n\
 compact                               reads a log, and writes the lines of its last records\n\
 help                                  writes this\n";
 
@@ -42,6 +45,9 @@ pub fn command_of(words: &[String]) -> Command
 fn command_named(word: &str) -> Command
     ensures { result ≡ command_named word.now }
 {
+    if word == "check" {
+        return Command::Check;
+    }
     if word == "compact" {
         return Command::Compact;
     }

@@ -1,7 +1,7 @@
 //! The program `registrylog`: what is done with a registry's log in a file.
 //!
-//! `registrylog keep FILE ADDRESS:PORT NODES WORKERS` serves it. `registrylog compact` reads a log from its
-//! input, and writes the lines of its last records to its output.
+//! `registrylog keep FILE ADDRESS:PORT NODES WORKERS` serves it. `registrylog check` and `registrylog compact`
+//! read a log from their input: the one writes what it holds, the other the lines of its last records.
 #![tactic(auto)]
 
 mod fault;
@@ -13,6 +13,7 @@ mod words;
 use crate::fault::KeepFault;
 use crate::keeping::keep;
 use crate::words::read_words;
+use reg_inspection::inspect;
 use reg_keeping::{Command, USAGE, command_of, compact};
 use reg_service::StartFault;
 use std::env;
@@ -46,6 +47,18 @@ fn main(rt: HostRuntime) -> io::Result<ExitCode> {
         Command::Help => {
             print!(rt; "{USAGE}")?;
             Ok(ExitCode::SUCCESS)
+        }
+        Command::Check => {
+            let mut reader = rt.reader();
+            let mut writer = BufWriter::new(alloc, io::writer(&rt))?;
+            match inspect(alloc, &mut reader, &mut writer) {
+                Ok(true) => Ok(ExitCode::SUCCESS),
+                Ok(false) => Ok(ExitCode::from(2)),
+                Err(error) => {
+                    eprintln!(rt; "{error}")?;
+                    Ok(ExitCode::from(error.status()))
+                }
+            }
         }
         Command::Compact => {
             let mut reader = rt.reader();
