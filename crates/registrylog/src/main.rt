@@ -14,62 +14,66 @@ use crate::fault::KeepFault;
 use crate::keeping::keep;
 use crate::words::read_words;
 use reg_inspection::inspect;
-use reg_keeping::{Command, USAGE, command_of, compact};
+use reg_keeping::{Command, FilterError, USAGE, command_of, compact};
 use reg_service::StartFault;
 use std::env;
-use std::io::{self, BufWriter};
+use std::io::{self, BufWriter, Eprint};
 use std::process::ExitCode;
 
 fn main(rt: HostRuntime) -> io::Result<ExitCode> {
     let alloc = rt.alloc();
     let words: Vec<String> = env::args(&rt)?.collect(alloc)?;
     match command_of(&words) {
-        Command::Keep => {
-            let Some(asked) = read_words(&words) else {
-                eprint!(rt; "{USAGE}")?;
-                return Ok(ExitCode::from(2));
-            };
-            match keep(&rt, alloc, &asked) {
-                Ok(()) => Ok(ExitCode::SUCCESS),
-                Err(fault) => {
-                    // What keeps it from being taken over was told line by line.
-                    if !matches!(fault, KeepFault::Start(StartFault::Closed(_))) {
-                        eprintln!(rt; "{fault}")?;
-                    }
-                    Ok(ExitCode::from(fault.status()))
-                }
-            }
+        Command::Keep => match read_words(&words) {
+            Some(asked) => kept(&rt, keep(&rt, alloc, &asked)),
+            None => misused(&rt),
+        },
+        Command::Check => {
+            let mut reader = rt.reader();
+            let mut writer = BufWriter::new(alloc, io::writer(&rt))?;
+            filtered(&rt, inspect(alloc, &mut reader, &mut writer))
         }
-        Command::Usage => {
-            eprint!(rt; "{USAGE}")?;
-            Ok(ExitCode::from(2))
+        Command::Compact => {
+            let mut reader = rt.reader();
+            let mut writer = BufWriter::new(alloc, io::writer(&rt))?;
+            let compacted = compact(alloc, &mut reader, &mut writer);
+            filtered(&rt, compacted.map(|()| true))
         }
         Command::Help => {
             print!(rt; "{USAGE}")?;
             Ok(ExitCode::SUCCESS)
         }
-        Command::Check => {
-            let mut reader = rt.reader();
-            let mut writer = BufWriter::new(alloc, io::writer(&rt))?;
-            match inspect(alloc, &mut reader, &mut writer) {
-                Ok(true) => Ok(ExitCode::SUCCESS),
-                Ok(false) => Ok(ExitCode::from(2)),
-                Err(error) => {
-                    eprintln!(rt; "{error}")?;
-                    Ok(ExitCode::from(error.status()))
-                }
+        Command::Usage => misused(&rt),
+    }
+}
+
+/// Says how to use the program.
+fn misused<R: Eprint>(rt: &R) -> io::Result<ExitCode> {
+    rt.eprint(USAGE)?;
+    Ok(ExitCode::from(2))
+}
+
+/// Says why a log isn't served. What keeps it from being taken over was told line by line.
+fn kept<R: Eprint>(rt: &R, served: Result<(), KeepFault>) -> io::Result<ExitCode> {
+    match served {
+        Ok(()) => Ok(ExitCode::SUCCESS),
+        Err(fault) => {
+            if !matches!(fault, KeepFault::Start(StartFault::Closed(_))) {
+                rt.eprintln(fault)?;
             }
+            Ok(ExitCode::from(fault.status()))
         }
-        Command::Compact => {
-            let mut reader = rt.reader();
-            let mut writer = BufWriter::new(alloc, io::writer(&rt))?;
-            match compact(alloc, &mut reader, &mut writer) {
-                Ok(()) => Ok(ExitCode::SUCCESS),
-                Err(error) => {
-                    eprintln!(rt; "{error}")?;
-                    Ok(ExitCode::from(error.status()))
-                }
-            }
+    }
+}
+
+/// The end of a filter, which found nothing wrong, or something, or failed.
+fn filtered<R: Eprint>(rt: &R, ended: Result<bool, FilterError>) -> io::Result<ExitCode> {
+    match ended {
+        Ok(true) => Ok(ExitCode::SUCCESS),
+        Ok(false) => Ok(ExitCode::from(2)),
+        Err(error) => {
+            rt.eprintln(error)?;
+            Ok(ExitCode::from(error.status()))
         }
     }
 }
