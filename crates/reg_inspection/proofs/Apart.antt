@@ -1,17 +1,17 @@
 -- The ids that name two schemas.
-use Rattle.std.proofs.Common.{◌≡◌, ◌↔◌, ℕ, Bool, true, false, not, ◌==◌, ◌||◌, inl, inr, ◌⊎◌, ⊎_elim, List, [], ◌∷◌, map, refl, sym, ap, subst, ◌∙◌, arith}
+use Rattle.std.proofs.Common.{◌≡◌, ℕ, Bool, true, false, not, ◌==◌, inl, List, ◌∷◌, map, refl, sym, ap, subst, ◌∙◌, arith}
 use Rattle.std.proofs.lemmas.Bool.{false≢true}
 use Rattle.std.proofs.lemmas.List.Kept.{IsStrictlyIncreasing-filter}
 use Rattle.std.proofs.lemmas.Map.Keys.{IsStrictlyIncreasing-from_sorted}
 use Rattle.std.proofs.lemmas.Slice.Eq.{bytes_eq-Decides}
-use Rattle.std.specs.List.{filter, list_any, Contains}
+use Rattle.std.specs.List.{list_any}
 use Rattle.std.specs.Prelude.{bytes_eq}
 use Rattle.reg_entries.specs.Sought.{with_id}
 use Rattle.reg_entries.specs.TwoSchemas.{HasTwoSchemas}
 use Rattle.reg_entries.specs.declared.entry.Entry.{Entry}
 use Rattle.reg_inspection.specs.Shared.{SharedIdsNameTwo, SharedIdsRise, are_apart, ids_of, shared_ids}
-use Rattle.reg_inspection.proofs.Members.{IsIn, any_found, any_in, by_bool, contains_in, in_contains, in_filter, in_map, out_of_filter, out_of_map, same_test}
-use Rattle.reg_inspection.proofs.Rising.{rising_in, rising_out, rising_rises}
+use Rattle.reg_inspection.proofs.Members.{IsIn, any_found, any_in, by_bool, contains_in, in_contains, in_filter, in_map, out_of_filter, same_test}
+use Rattle.reg_inspection.proofs.Rising.{rising_in, rising_rises}
 
 number : (a b : ℕ) → (a == b) ≡ true → a ≡ b
 number a b h = grind arith

@@ -1,19 +1,19 @@
 -- Nothing keeps a log from being taken over exactly where the registry over its last records takes commands.
-use Rattle.std.proofs.Common.{◌≡◌, ◌↔◌, ℕ, Bool, true, false, not, min, cond, ◌||◌, inl, inr, List, [], ◌∷◌, ◌++◌, map, Option, Some, None, option_and_then, option_map, refl, sym, ap, subst, ◌∙◌}
+use Rattle.std.proofs.Common.{◌≡◌, ℕ, Bool, true, false, not, min, cond, ◌||◌, inl, List, [], ◌∷◌, ◌++◌, map, Option, Some, None, option_and_then, option_map, refl, sym, ap, subst, ◌∙◌}
 use Rattle.std.proofs.lemmas.Bool.{false≢true}
-use Rattle.std.specs.List.{Contains, cons_option, filter, filter_map, fold, reduce}
+use Rattle.std.specs.List.{cons_option, filter, filter_map, reduce}
 use Rattle.std.specs.Prelude.{bytes_eq, is_some}
 use Rattle.reg_records.specs.declared.record.Record.{Record}
 use Rattle.reg_set.specs.Records.{Records, records_of}
 use Rattle.reg_entries.specs.Sought as sought
 use Rattle.reg_entries.specs.TwoSchemas.{HasTwoSchemas, NoneIsOneTextEach}
 use Rattle.reg_entries.specs.declared.entry.Entry.{Entry}
-use Rattle.reg_fold.specs.Closed.{is_closed, two_schemas}
+use Rattle.reg_fold.specs.Closed.{two_schemas}
 use Rattle.reg_fold.specs.Entries.{entries}
 use Rattle.reg_fold.specs.Opaque.{is_opaque, opaque}
-use Rattle.reg_inspection.specs.Cause.{CausesAreOfOpaque, cause_of, version_in}
-use Rattle.reg_inspection.specs.Obstacles.{NoObstacleIsOpen, obstacles, opaque_in}
-use Rattle.reg_inspection.specs.Shared.{SharedIdsNameTwo, shared_ids}
+use Rattle.reg_inspection.specs.Cause.{CausesAreOfOpaque, version_in}
+use Rattle.reg_inspection.specs.Obstacles.{NoObstacleIsOpen, opaque_in}
+use Rattle.reg_inspection.specs.Shared.{shared_ids}
 use Rattle.reg_inspection.specs.declared.cause.Cause.{Cause}
 use Rattle.reg_inspection.specs.declared.obstacle.Obstacle.{Obstacle}
 use Rattle.reg_inspection.specs.declared.obstacle.Obstacle.TheVariants as kinds

@@ -1,5 +1,5 @@
 -- Nothing is found exactly where the registry takes commands.
-use Rattle.std.proofs.Common.{◌≡◌, ◌↔◌, Bool, true, false, not, List, [], ◌∷◌, length, refl, sym, ap, ◌∙◌, arith}
+use Rattle.std.proofs.Common.{◌≡◌, true, false, not, List, [], ◌∷◌, length, refl, sym, ap, ◌∙◌, arith}
 use Rattle.std.proofs.lemmas.Bool.Decides.{nat_tests}
 use Rattle.std.specs.Prelude.{nat_eq}
 use Rattle.reg_set.specs.Records.{Records}

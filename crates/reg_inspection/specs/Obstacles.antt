@@ -1,5 +1,5 @@
 -- What keeps a log from being taken over. Below, rs are the last records.
-use Rattle.std.specs.Prelude.{◌≡◌, ◌↔◌, ℕ, List, [], ◌++◌, false, Option, Some, None, option_and_then, option_map, map, codes, decimal}
+use Rattle.std.specs.Prelude.{◌≡◌, ◌↔◌, ℕ, List, [], ◌++◌, false, Option, option_and_then, option_map, map, codes, decimal}
 use Rattle.std.specs.List.{filter_map}
 use Rattle.reg_records.specs.declared.record.Record.{Record}
 use Rattle.reg_set.specs.Records.{Records, records_of}

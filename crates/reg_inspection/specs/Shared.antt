@@ -1,5 +1,5 @@
 -- The ids of entries, and those that name two schemas.
-use Rattle.std.specs.Prelude.{◌≡◌, ◌↔◌, ℕ, List, [], Bool, not, map, fold, bytes_eq}
+use Rattle.std.specs.Prelude.{◌↔◌, ℕ, List, [], Bool, not, map, fold, bytes_eq}
 use Rattle.std.specs.BTreeSet.{insert_key}
 use Rattle.std.specs.List.{Contains, filter, list_any}
 use Rattle.std.specs.List.Sorted.{IsStrictlyIncreasing}

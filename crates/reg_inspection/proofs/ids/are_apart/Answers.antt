@@ -1,4 +1,4 @@
-use Rattle.std.proofs.Common.{◌≡◌, not, bytes_eq, ◌∙◌, Bor, rules, tests}
+use Rattle.std.proofs.Common.{not, bytes_eq, ◌∙◌, Bor, rules, tests}
 use Rattle.std.proofs.lemmas.Iterator.{YieldsList-from_slice}
 use Rattle.std.proofs.lemmas.Iterator.Search.{any_from_yields_List}
 use Rattle.reg_entries.specs.declared.entry.Entry.{Entry}

@@ -1,4 +1,4 @@
-use Rattle.std.proofs.Common.{◌≡◌, ap, ◌∙◌, ℕ, List}
+use Rattle.std.proofs.Common.{ap, ◌∙◌, List}
 use Rattle.reg_inspection.specs.Counts.{counts_of, lasts_in}
 use Rattle.reg_inspection.specs.Report.{report_text}
 use Rattle.reg_inspection.specs.declared.counts.Counts.{Counts}
