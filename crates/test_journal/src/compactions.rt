@@ -27,7 +27,7 @@ fn tried(rt: &impl Abort, alloc: Global, fails_at: usize) -> Result<(), Fail> {
     let file = file_of(alloc, &all)?;
     let mut journal = Journal {
         disk: Torn::new(alloc, &file, fails_at)?,
-        end: file.len() - 1,
+        end: file.len().saturating_sub(1),
         lines: 3,
         is_broken: false,
     };
