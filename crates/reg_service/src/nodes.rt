@@ -79,9 +79,7 @@ pub fn serve_log<
         calls: &calls,
         nodes,
         workers,
-        limit: size
-            .limit
-            .map(|connections| connections.saturating_mul(u64::from(workers))),
+        limit: size.limit.map(|connections| connections.saturating_mul(u64::from(workers))),
         limits: Limits::of_nodes(nodes),
     };
     serve_topic::<Brand, K, R, G, E>(&common, Unnamed::new(), base, keep, entrance)
@@ -105,15 +103,7 @@ fn serve_topic<
 {
     let readers = common.nodes.clamp(1, NODES_LIMIT);
     let passes = common.workers.saturating_mul(readers as u32);
-    let opened = open::<N, K, R>(
-        *common.rt,
-        common.alloc,
-        list,
-        &base,
-        keep,
-        passes,
-        readers,
-    )?;
+    let opened = open::<N, K, R>(*common.rt, common.alloc, list, &base, keep, passes, readers)?;
     drop(base);
     let mut pen = opened.pen;
     let mut topic = Vec::new(common.alloc);

@@ -60,7 +60,8 @@ impl From<OpenError> for KeepFault {
     fn from(error: OpenError) -> KeepFault {
         match error {
             OpenError::Log(LogError::Fault { line, fault }) => KeepFault::Line { line, fault },
-            OpenError::Log(LogError::OutOfMemory) | OpenError::OutOfMemory => KeepFault::OutOfMemory,
+            OpenError::Log(LogError::OutOfMemory) | OpenError::OutOfMemory =>
+                KeepFault::OutOfMemory,
             OpenError::Log(LogError::ReadFault { line: _ })
             | OpenError::NoEmptyLine
             | OpenError::Failed => KeepFault::File(ErrorKind::Other),

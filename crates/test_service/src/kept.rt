@@ -57,7 +57,8 @@ fn await_flag<R: Clock>(rt: &R, flag: &AtomicU64, wanted: u64) {
 }
 
 /// A log of one version, whose empty line is left out.
-const LOG: &str = "7\t{\"keytype\":\"SCHEMA\",\"subject\":\"s\",\"version\":1,\"magic\":1}\t{\"subject\":\"s\",\"version\":1,\"id\":5,\"schema\":\"\\\"int\\\"\",\"deleted\":false}\n";
+const LOG: &str =
+    "7\t{\"keytype\":\"SCHEMA\",\"subject\":\"s\",\"version\":1,\"magic\":1}\t{\"subject\":\"s\",\"version\":1,\"id\":5,\"schema\":\"\\\"int\\\"\",\"deleted\":false}\n";
 
 fn log(alloc: Global) -> io::Result<Log> {
     let mut lines = Device::new(LOG.as_bytes());
