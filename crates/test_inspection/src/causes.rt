@@ -68,7 +68,10 @@ fn the_first_cause_is_told(rt: HostRuntime) -> Result<(), Fail> {
         let row = format!(in alloc; "9;{{'keytype':'SCHEMA','subject':'s','version':3}};{value}|")?;
         let text = log_of(alloc, row.as_str())?;
         let log = read_log(alloc, &mut Device::new(&text[..])).map_err(|_| "refused")?;
-        let name = match cause_of(alloc, &log.records[0])? {
+        let Some(record) = log.records.first() else {
+            return Err(Fail::from("no record"));
+        };
+        let name = match cause_of(alloc, record)? {
             Some(cause) => cause.name(),
             None => "",
         };
