@@ -1,23 +1,21 @@
 // `registrylog keep`: nodes over a log in a file.
 use crate::fault::KeepFault;
-use crate::opening::{lock, open_or_make, settle};
+use crate::opening::{Locked, lock, open_or_make, settle};
 use crate::telling::Telling;
 use crate::words::Asked;
 use reg_inspection::obstacles;
 use reg_journal::{Journal, StoredFile, look};
 use reg_journal_keep::FileKeep;
-use reg_service::{Entrance, NoGate, Size, StartFault, listen, serve_log};
+use reg_records::Log;
+use reg_service::{Entrance, Size, StartFault, listen};
 use std::alloc::Global;
 use std::fs::{File, Files};
 use std::io::Eprint;
 use std::net::{Net, SocketAddr, TcpListener, TcpStream};
-use std::sync::Wait;
-use std::thread::Threads;
-use std::time::Clock;
 
 /// The way to the nodes.
 #[derive(Drop)]
-struct Door<R: Drop> {
+pub(crate) struct Door<R: Drop> {
     rt: R,
     alloc: Global,
     address: SocketAddr,
@@ -43,24 +41,27 @@ impl<R: Net<Listener = TcpListener, Stream = TcpStream> + Eprint + Drop> Entranc
     }
 }
 
-/// Serves the log of a file until the program is stopped. It returns only where that can't be.
-pub(crate) fn keep<
-    R: Files<File = File>
-        + Threads
-        + Wait
-        + Clock
-        + Net<Listener = TcpListener, Stream = TcpStream>
-        + Eprint
-        + Sync
-        + Send
-        + Copy
-        + Drop,
->(rt: R, alloc: Global, asked: &Asked<'_>) -> Result<(), KeepFault> {
-    let locked = lock(&rt, alloc, asked.file)?;
-    let path = locked.path.as_str();
-    let mut disk = StoredFile::new(alloc, rt, path, locked.file)?;
+/// A log's file that is opened, under its lock.
+#[derive(Drop)]
+pub(crate) struct Opened<R: Files<File = File> + Eprint + Drop> {
+    pub(crate) path: String,
+    pub(crate) lock: File,
+    pub(crate) log: Log,
+    pub(crate) keep: Telling<StoredFile<R>, R>,
+    pub(crate) size: Size,
+    pub(crate) door: Door<R>,
+}
+
+/// Opens the file of a log, and compacts it where that is due.
+pub(crate) fn open_log<R: Files<File = File> + Eprint + Copy + Drop>(
+    rt: R,
+    alloc: Global,
+    asked: &Asked<'_>,
+) -> Result<Opened<R>, KeepFault> {
+    let Locked { path, file, lock } = lock(&rt, alloc, asked.file)?;
+    let mut disk = StoredFile::new(alloc, rt, path.as_str(), file)?;
     disk.remove_unfinished()?;
-    let found = settle(rt, alloc, &mut disk, path)?;
+    let found = settle(rt, alloc, &mut disk, path.as_str())?;
     let journal = Journal {
         disk,
         end: found.end,
@@ -69,7 +70,7 @@ pub(crate) fn keep<
     };
     let mut keep = Telling::new(rt, FileKeep::new(alloc, journal));
     keep.make_room();
-    let mut door = Door {
+    let door = Door {
         rt,
         alloc,
         address: asked.address,
@@ -83,11 +84,27 @@ pub(crate) fn keep<
         workers: u32::try_from(asked.workers).unwrap_or(1),
         limit: None,
     };
-    let served = serve_log(rt, alloc, size, &NoGate, &mut door, found.log, keep);
+    let log = found.log;
+    Ok(Opened {
+        path,
+        lock,
+        log,
+        keep,
+        size,
+        door,
+    })
+}
+
+/// The end of nodes over the log of a file. Where the log can't be taken over it is told why.
+pub(crate) fn ended<R: Files<File = File> + Eprint + Copy + Drop>(
+    rt: R,
+    alloc: Global,
+    path: &str,
+    served: Result<(), StartFault>,
+) -> Result<(), KeepFault> {
     if let Err(StartFault::Closed(_)) = served {
         tell_obstacles(rt, alloc, path)?;
     }
-    drop(locked.lock);
     Ok(served?)
 }
 

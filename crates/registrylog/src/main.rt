@@ -11,11 +11,11 @@ mod telling;
 mod words;
 
 use crate::fault::KeepFault;
-use crate::keeping::keep;
+use crate::keeping::{Opened, ended, open_log};
 use crate::words::read_words;
 use reg_inspection::inspect;
 use reg_keeping::{Command, FilterError, USAGE, command_of, compact};
-use reg_service::StartFault;
+use reg_service::{NoGate, StartFault, serve_log};
 use std::env;
 use std::io::{self, BufWriter, Eprint};
 use std::process::ExitCode;
@@ -25,7 +25,22 @@ fn main(rt: HostRuntime) -> io::Result<ExitCode> {
     let words: Vec<String> = env::args(&rt)?.collect(alloc)?;
     match command_of(&words) {
         Command::Keep => match read_words(&words) {
-            Some(asked) => kept(&rt, keep(&rt, alloc, &asked)),
+            Some(asked) => match open_log(&rt, alloc, &asked) {
+                Ok(opened) => {
+                    let Opened {
+                        path,
+                        lock,
+                        log,
+                        keep,
+                        size,
+                        mut door,
+                    } = opened;
+                    let served = serve_log(&rt, alloc, size, &NoGate, &mut door, log, keep);
+                    drop(lock);
+                    kept(&rt, ended(&rt, alloc, path.as_str(), served))
+                }
+                Err(fault) => kept(&rt, Err(fault)),
+            },
             None => misused(&rt),
         },
         Command::Check => {

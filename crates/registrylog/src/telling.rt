@@ -1,4 +1,6 @@
 // A keep that says what goes wrong.
+ghost use Rattle.std.specs.Prelude.{◌≡◌};
+
 use reg_journal::Renewable;
 use reg_journal_keep::FileKeep;
 use reg_pen::{Keep, Kept};
@@ -31,7 +33,9 @@ impl<D: Renewable + Drop, R: Eprint + Drop> Telling<D, R> {
         self.tell_fault();
     }
 
-    fn tell_fault(&mut self) {
+    fn tell_fault(&mut self)
+        ensures { self.new.keep ≡ self.old.keep }
+    {
         if self.has_told_fault {
             return;
         }

@@ -20,7 +20,7 @@ pub(crate) fn read_words(words: &[String]) -> Option<Asked<'_>> {
     let nodes = number(nodes.as_str(), 3)?;
     let workers = number(workers.as_str(), 16)?;
     let port = u64::from(address.port());
-    if port == 0 || port + nodes > 65_536 {
+    if port == 0 || port.saturating_add(nodes) > 65_536 {
         return None;
     }
     Some(Asked {
