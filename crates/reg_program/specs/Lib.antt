@@ -2,6 +2,8 @@ pub mod Desk
 pub mod Ended
 pub mod Fold
 pub mod Opening
+pub mod Running
+pub mod Telling
 pub mod Words
 pub mod Sketch
 pub mod Spelling

@@ -5,12 +5,15 @@
 mod desk;
 mod ended;
 mod folding;
+mod running;
 mod sketching;
 mod spelling;
+mod telling;
 mod words;
 
 pub use ended::Ended;
 pub use folding::{FoldError, Folded, fold};
+pub use running::run;
 pub use sketching::{SketchError, sketch};
 pub use spelling::SpellingFault;
 pub use words::{Command, command_of};

@@ -1,0 +1,86 @@
+// The program: what its words ask for is done, and how that ended is told.
+ghost use Rattle.std.specs.Prelude.{map, string_bytes};
+ghost use Rattle.reg_program.specs.Running.{EndsAs, FoldGives, Runs, SketchGives};
+ghost use Rattle.reg_program.specs.Words.{command_of};
+
+use crate::ended::Ended;
+use crate::folding::fold;
+use crate::sketching::sketch;
+use crate::telling::tell;
+use crate::words::{Command, command_of};
+use reg_records::Device;
+use std::alloc::Global;
+use std::io::{BufRead, Write};
+
+/// Does what the words of the command line ask for, tells on `errors` how that ended, and returns the
+/// exit status.
+///
+/// Where the words are no command nothing is read or written but what `errors` is told. `serve` is
+/// called where the words ask for nodes that serve, with the first port, the number of nodes and the
+/// number of workers of a node; its result is the status then, and it tells of its end by itself. A
+/// fault of `errors` changes no status.
+pub fn run<R: BufRead, W: Write, E: Write, S: FnMut(u64, u64, u64) -> u8>(
+    alloc: Global,
+    words: &[String],
+    reader: &mut Device<R>,
+    writer: &mut Device<W>,
+    errors: &mut Device<E>,
+    serve: &mut S,
+) -> u8
+    requires { S.IsAlwaysCallable serve.old }
+    ensures { Runs R.remaining W.contents E.contents S.step reader.old reader.new writer.old writer.new errors.old errors.new
+        serve.old serve.new result (command_of (map string_bytes words.now)) }
+{
+    match command_of(words) {
+        Command::Usage => end(errors, &Ended::Usage),
+        Command::Fold => {
+            let ended = fold_end(alloc, reader, writer);
+            end(errors, &ended)
+        }
+        Command::Sketch => {
+            let ended = sketch_end(alloc, reader, writer);
+            end(errors, &ended)
+        }
+        Command::Serve {
+            port,
+            nodes,
+            workers,
+        } => serve(port, nodes, workers),
+    }
+}
+
+/// Folds, and says how that ended.
+fn fold_end<R: BufRead, W: Write>(
+    alloc: Global,
+    reader: &mut Device<R>,
+    writer: &mut Device<W>,
+) -> Ended
+    ensures { FoldGives R.remaining W.contents reader.old reader.new writer.old writer.new result }
+{
+    match fold(alloc, reader, writer) {
+        Ok(folded) => Ended::Folded(folded),
+        Err(error) => Ended::Failed(error),
+    }
+}
+
+/// Sketches, and says how that ended.
+fn sketch_end<R: BufRead, W: Write>(
+    alloc: Global,
+    reader: &mut Device<R>,
+    writer: &mut Device<W>,
+) -> Ended
+    ensures { SketchGives R.remaining W.contents reader.old reader.new writer.old writer.new result }
+{
+    match sketch(alloc, reader, writer) {
+        Ok(()) => Ended::Sketched,
+        Err(error) => Ended::Unsketched(error),
+    }
+}
+
+/// Tells how the program ends, and returns its exit status.
+fn end<E: Write>(errors: &mut Device<E>, ended: &Ended) -> u8
+    ensures { EndsAs E.contents errors.old errors.new result ended.now }
+{
+    let _told = tell(errors, ended);
+    ended.status()
+}
