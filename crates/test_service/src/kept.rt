@@ -85,8 +85,8 @@ const SET_NONE: &str =
 /// The bodies in the order of `visit`: what each node has read of the log, the level while the first batch
 /// waits, the commands that had to wait, and those after them. After a batch that is lost none is done.
 static TOLD: [&str; 10] = [
-    "{\"subject\":\"s\",\"id\":5,\"version\":1,\"schema\":\"\\\"int\\\"\"}",
-    "{\"subject\":\"s\",\"id\":5,\"version\":1,\"schema\":\"\\\"int\\\"\"}",
+    "{\"subject\":\"s\",\"version\":1,\"id\":5,\"schema\":\"\\\"int\\\"\"}",
+    "{\"subject\":\"s\",\"version\":1,\"id\":5,\"schema\":\"\\\"int\\\"\"}",
     "{\"compatibilityLevel\":\"BACKWARD\"}",
     "{\"error_code\":50001,\"message\":\"Store error: memory\"}",
     "{\"id\":6}",
