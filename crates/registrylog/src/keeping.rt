@@ -77,7 +77,7 @@ pub(crate) fn open_log<R: Files<File = File> + Eprint + Copy + Drop>(
         nodes: asked.nodes,
         records: found.log.records.len() as u64,
         next: found.log.next,
-        bytes: found.end as u64 + 1,
+        bytes: (found.end as u64).saturating_add(1),
     };
     let size = Size {
         nodes: usize::try_from(asked.nodes).unwrap_or(1),
