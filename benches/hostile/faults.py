@@ -48,7 +48,9 @@ class Node:
                                         env=dict(os.environ, LD_PRELOAD=SHIM, FAULTS=STEER))
         for _ in range(400):
             try:
-                socket.create_connection(("127.0.0.1", PORT), timeout=1).close()
+                c = http.client.HTTPConnection("127.0.0.1", PORT, timeout=5)
+                ask(c, "GET", "/config")
+                c.close()
                 return
             except OSError:
                 time.sleep(0.05)

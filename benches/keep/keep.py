@@ -102,6 +102,8 @@ class Client(threading.Thread):
                 subject = "c%d-%d" % (self.k, rng.randrange(4))
                 versions, level = self.states.get(subject, [({}, None)])[0]
                 what = rng.randrange(8)
+                if what < 5 and level not in (None, "NONE"):
+                    what = 5
                 live = {v for v in versions if versions[v][2]}
                 if what < 5:
                     self.made[0] += 1
@@ -116,7 +118,7 @@ class Client(threading.Thread):
                     else:
                         bad("registering", status, got)
                 elif what == 5:
-                    to = rng.choice(["NONE", "FULL", "BACKWARD"]) if not live else "NONE"
+                    to = "NONE" if live or level not in (None, "NONE") else rng.choice(["FULL", "BACKWARD"])
                     new = versions
                     self.states[subject] = [(versions, level), (versions, to)]
                     status, got = ask(c, "PUT", "/config/%s" % subject, {"compatibility": to})

@@ -21,6 +21,10 @@ def wait_for(port):
 def start(port):
     p = subprocess.Popen([PROGRAM, "serve", str(port), "1", str(WORKERS)], stdout=subprocess.DEVNULL)
     wait_for(port)
+    # Once it answers all its threads are there.
+    c = http.client.HTTPConnection("127.0.0.1", port)
+    ask(c, "GET", "/config")
+    c.close()
     return p
 
 
