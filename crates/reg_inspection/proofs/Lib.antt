@@ -5,4 +5,6 @@ pub mod Causes
 pub mod Nothing
 pub mod Given
 pub mod Counting
+pub mod Lines
 pub mod Taken
+pub mod Tallies

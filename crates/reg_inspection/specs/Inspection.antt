@@ -5,21 +5,23 @@ use Rattle.reg_records.specs.Log.{LogText, log_of}
 use Rattle.reg_records.specs.declared.record.Read.{Read}
 use Rattle.reg_fold.specs.Closed.{is_closed}
 use Rattle.reg_inspection.specs.Counts.{counts_of, lasts_in}
+use Rattle.reg_inspection.specs.Foreign.{foreign_tally}
 use Rattle.reg_inspection.specs.Obstacles.{obstacles}
 use Rattle.reg_inspection.specs.Report.{report_text}
 use Rattle.reg_inspection.specs.declared.inspecting.Description.{Description}
 use Rattle.reg_inspection.specs.declared.inspection.Inspection.{Inspection}
 
--- the counts and the obstacles of what the lines of a log say
-pub record IsInspectionOf (read : List Read) (found : Inspection) : Type 0 where
+-- the counts, the foreign lines and the obstacles of the log that a text is, whose lines say this
+pub record IsInspectionOf (text : List ℕ) (read : List Read) (found : Inspection) : Type 0 where
   pub counts : found.counts ≡ counts_of read
+  pub foreign : found.foreign.entries ≡ foreign_tally text
   pub obstacles : found.obstacles.items ≡ obstacles (lasts_in read)
 
--- the text that is written of what the lines of a log say
-abbrev pub report_of : List Read → List ℕ
-report_of read = report_text (counts_of read) (obstacles (lasts_in read))
+-- what is written of that log
+abbrev pub report_of : List ℕ → List Read → List ℕ
+report_of text read = report_text (counts_of read) (foreign_tally text) (obstacles (lasts_in read))
 
--- whether the registry over what they say takes commands
+-- whether the registry over what its lines say takes commands
 abbrev pub is_taken : List Read → Bool
 is_taken read = not (is_closed (lasts_in read))
 
@@ -27,12 +29,12 @@ is_taken read = not (is_closed (lasts_in read))
 pub record Describes (text : List ℕ) (found : Description) : Type 0 where
   pub log : LogText
   pub read : log_of text ≡ Ok log
-  pub said : string_bytes found.text ≡ report_of log.reads
+  pub said : string_bytes found.text ≡ report_of text log.reads
   pub taken : found.taken ≡ is_taken log.reads
 
 -- the input is a log whose report was written, and the answer is whether it is taken over
 pub record Reports (input : List ℕ) (taken : Bool) (old new : Option (List ℕ)) : Type 0 where
   pub log : LogText
   pub read : log_of input ≡ Ok log
-  pub written : Appends old new (report_of log.reads)
+  pub written : Appends old new (report_of input log.reads)
   pub answer : taken ≡ is_taken log.reads

@@ -1,5 +1,6 @@
 pub mod Cause
 pub mod Counts
+pub mod Foreign
 pub mod Inspection
 pub mod Obstacles
 pub mod Report

@@ -1,6 +1,7 @@
 -- What keeps a log from being taken over. Below, rs are the last records.
-use Rattle.std.specs.Prelude.{◌≡◌, ◌↔◌, ℕ, List, [], ◌++◌, false, Option, option_and_then, option_map, map, codes, decimal}
-use Rattle.std.specs.List.{filter_map}
+use Rattle.std.specs.Prelude.{◌≡◌, ◌↔◌, ℕ, List, [], ◌++◌, Bool, false, not, ◌==◌, ◌&&◌, nat_le, Option, option_and_then, option_map, map, codes, decimal, if◌then◌else◌}
+use Rattle.std.specs.List.{filter_map, list_all}
+use Rattle.json.specs.Print.{quoted}
 use Rattle.reg_records.specs.declared.record.Record.{Record}
 use Rattle.reg_set.specs.Records.{Records, records_of}
 use Rattle.reg_fold.specs.Closed.{is_closed}
@@ -22,8 +23,18 @@ obstacles rs = filter_map opaque_in (records_of rs) ++ map kinds.TwoSchemas (sha
 abbrev pub NoObstacleIsOpen : Type 0
 NoObstacleIsOpen = (rs : Records) → (obstacles rs ≡ []) ↔ (is_closed rs ≡ false)
 
+-- whether a text has neither a control character nor a quotation mark
+abbrev pub is_plain : List ℕ → Bool
+is_plain text = list_all (λ b. nat_le 32 b && not (b == 34)) text
+
+-- the text as it stands in a line: as it is where it is plain, else as a JSON string, so that it breaks no line
+abbrev pub shown : List ℕ → List ℕ
+shown text = if is_plain text then text else quoted text
+
+abbrev pub opaque_text : ℕ → List ℕ → ℕ → List ℕ
+opaque_text offset subject version = codes "opaque record at " ++ decimal offset ++ codes ": subject " ++ shown subject ++ codes ", version " ++ decimal version
+
 -- its text, without the cause
 abbrev pub obstacle_text : Obstacle → List ℕ
-obstacle_text (kinds.Opaque offset subject version cause) =
-    codes "opaque record at " ++ decimal offset ++ codes ": subject " ++ subject ++ codes ", version " ++ decimal version
+obstacle_text (kinds.Opaque offset subject version cause) = opaque_text offset subject version
 obstacle_text (kinds.TwoSchemas id) = codes "two schemas for id " ++ decimal id

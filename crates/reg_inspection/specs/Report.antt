@@ -1,6 +1,7 @@
 -- The text of an inspection, a line a fact.
-use Rattle.std.specs.Prelude.{ℕ, List, ◌++◌, codes, decimal}
+use Rattle.std.specs.Prelude.{ℕ, List, ◌++◌, codes, decimal, Option, Some, None}
 use Rattle.std.specs.List.{flat_map}
+use Rattle.json.specs.Print.{quoted}
 use Rattle.reg_inspection.specs.Cause.{cause_text}
 use Rattle.reg_inspection.specs.Obstacles.{obstacle_text}
 use Rattle.reg_inspection.specs.declared.counts.Counts.{Counts}
@@ -28,5 +29,14 @@ cause_part (kinds.TwoSchemas id) = codes "\n"
 abbrev pub obstacle_line : Obstacle → List ℕ
 obstacle_line obstacle = obstacle_text obstacle ++ cause_part obstacle
 
-abbrev pub report_text : Counts → List Obstacle → List ℕ
-report_text counts found = counts_text counts ++ flat_map obstacle_line found
+-- how many foreign lines have that keytype, or none
+abbrev pub keytype_line : Option (List ℕ) → ℕ → List ℕ
+keytype_line None n = codes "foreign lines without a keytype: " ++ decimal n ++ codes "\n"
+keytype_line (Some keytype) n = codes "foreign lines of keytype " ++ quoted keytype ++ codes ": " ++ decimal n ++ codes "\n"
+
+abbrev pub foreign_line : Option (List ℕ) × ℕ → List ℕ
+foreign_line e = keytype_line e.0 e.1
+
+-- the counts, then the foreign lines by their keytypes, then the obstacles
+abbrev pub report_text : Counts → List (Option (List ℕ) × ℕ) → List Obstacle → List ℕ
+report_text counts foreign found = counts_text counts ++ flat_map foreign_line foreign ++ flat_map obstacle_line found

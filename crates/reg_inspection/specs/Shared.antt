@@ -4,13 +4,18 @@ use Rattle.std.specs.BTreeSet.{insert_key}
 use Rattle.std.specs.List.{Contains, filter, list_any}
 use Rattle.std.specs.List.Sorted.{IsStrictlyIncreasing}
 use Rattle.std.specs.Ordering.{nat_cmp}
+use Rattle.std.specs.declared.cmp.Ordering.{Ordering}
 use Rattle.reg_entries.specs.Sought.{with_id}
 use Rattle.reg_entries.specs.TwoSchemas.{HasTwoSchemas}
 use Rattle.reg_entries.specs.declared.entry.Entry.{Entry}
 
+-- the items in ascending order, each once
+abbrev pub rising_by : {X : Type 0} → (X → X → Ordering) → List X → List X
+rising_by cmp xs = fold (insert_key cmp) [] xs
+
 -- the numbers in ascending order, each once
 abbrev pub rising : List ℕ → List ℕ
-rising ns = fold (insert_key nat_cmp) [] ns
+rising ns = rising_by nat_cmp ns
 
 -- the ids of the entries, in ascending order
 abbrev pub ids_of : List Entry → List ℕ

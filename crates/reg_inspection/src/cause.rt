@@ -1,13 +1,12 @@
 // Why a version's record can't be read.
-ghost use Rattle.std.specs.Prelude.{◌≡◌, true, IfOk, codes, option_map};
+ghost use Rattle.std.specs.Prelude.{◌≡◌, IfOk, option_map};
 ghost use Rattle.std.specs.Option.{option_map_or};
 ghost use Rattle.serde_json.specs.View.{view};
-ghost use Rattle.reg_records.specs.Json.{is_null};
-ghost use Rattle.reg_values.specs.Value.{is_absent_or, is_avro_name, is_empty_list, deleted_in};
 ghost use Rattle.reg_inspection.specs.Cause.{beyond_avro, beyond_numbers, cause_in, cause_of, schema_cause, type_cause};
 
 use avro_schema::Schema;
 use reg_records::{Key, Record, has_number_at, has_text_at, number_at, parse, text_at};
+use reg_values::{deleted_in, has_no_items, is_absent, is_avro};
 use serde_json::Value as Json;
 use std::alloc::{AllocError, Global};
 use std::error::Error;
@@ -177,50 +176,5 @@ fn schema_cause(alloc: Global, json: &Json) -> Result<Option<Cause>, AllocError>
     match Schema::read_if_any(alloc, text)? {
         Some(_) => Ok(None),
         None => Ok(Some(Cause::Schema)),
-    }
-}
-
-fn is_absent(member: Option<&Json>) -> bool
-    ensures { result ≡ option_map_or is_null (option_map (λ json. view json.now) member.entry) true }
-{
-    match member {
-        Some(json) => json.is_null(),
-        None => true,
-    }
-}
-
-fn is_avro(member: Option<&Json>) -> bool
-    ensures { result ≡ is_absent_or is_avro_name (option_map (λ json. view json.now) member.entry) }
-{
-    match member {
-        Some(json) => json.is_null() || json.as_str() == Some("AVRO"),
-        None => true,
-    }
-}
-
-fn has_no_items(member: Option<&Json>) -> bool
-    ensures { result ≡ is_absent_or is_empty_list (option_map (λ json. view json.now) member.entry) }
-{
-    match member {
-        Some(json) => json.is_null() || is_empty_list(json),
-        None => true,
-    }
-}
-
-fn is_empty_list(json: &Json) -> bool
-    ensures { result ≡ is_empty_list (view json.now) }
-{
-    match json.as_array() {
-        Some(items) => items.is_empty(),
-        None => false,
-    }
-}
-
-fn deleted_in(json: &Json) -> Option<bool>
-    ensures { result ≡ deleted_in (view json.now) }
-{
-    match json.get("deleted") {
-        Some(mark) if !mark.is_null() => mark.as_bool(),
-        _ => Some(false),
     }
 }

@@ -1,17 +1,15 @@
 // The inspection of a log as a filter from a reader to a writer.
-ghost use Rattle.std.specs.Prelude.{◌≡◌, IfErr, IfOk, IfSome, OnOk};
-ghost use Rattle.std.specs.Io.KnownBytes.{Appends};
+ghost use Rattle.std.specs.Prelude.{IfErr, IfOk, IfSome};
 ghost use Rattle.reg_journal.specs.Found.{HasFault};
-ghost use Rattle.reg_keeping.specs.Filter.{IsFilterRefusal, IsNoReading, filter_error_of};
-ghost use Rattle.reg_keeping.specs.declared.filter.FilterError.TheVariants.{WriteFault};
+ghost use Rattle.reg_keeping.specs.Filter.{IsFilterRefusal};
 ghost use Rattle.reg_inspection.specs.Inspection.{Describes, Reports};
 
 use crate::inspection::inspected;
 use crate::laws::no_obstacle_is_open;
-use reg_keeping::FilterError;
+use reg_keeping::{FilterError, filter_error, read_input, write_output};
 use reg_records::LogError;
 use std::alloc::Global;
-use std::io::{ErrorKind, Read, Write};
+use std::io::{Read, Write};
 
 /// Reads a log to the end of the input, writes what it holds and what keeps it from being served, a line a fact, and
 /// says whether nothing does. What stands behind the log's empty line is left out. The log is read to its end before
@@ -53,43 +51,4 @@ fn described(alloc: Global, log: &[u8]) -> Result<Description, LogError>
         text,
         taken: found.is_taken(),
     })
-}
-
-/// All that a reader gives.
-fn read_input<R: Read>(alloc: Global, reader: &mut R) -> Result<Vec<u8>, FilterError>
-    ensures read { IfOk result (λ bytes. IfSome (R.remaining reader.old) (λ input. bytes.items ≡ input)) }
-    ensures refused { IfErr result IsNoReading }
-{
-    let mut bytes = Vec::new(alloc);
-    match reader.read_to_end(&mut bytes) {
-        Ok(_) => Ok(bytes),
-        Err(e) => match e.kind() {
-            ErrorKind::OutOfMemory => Err(FilterError::OutOfMemory),
-            _ => Err(FilterError::ReadFault),
-        },
-    }
-}
-
-/// Writes the bytes whole.
-fn write_output<W: Write>(writer: &mut W, bytes: &[u8]) -> Result<(), FilterError>
-    ensures written { OnOk result (Appends (W.contents writer.old) (W.contents writer.new) bytes.now) }
-    ensures refused { IfErr result (λ e. e ≡ WriteFault) }
-{
-    if writer.write_all(bytes).is_err() {
-        return Err(FilterError::WriteFault);
-    }
-    match writer.flush() {
-        Ok(()) => Ok(()),
-        Err(_) => Err(FilterError::WriteFault),
-    }
-}
-
-fn filter_error(e: LogError) -> FilterError
-    ensures { result ≡ filter_error_of e }
-{
-    match e {
-        LogError::Fault { line, fault } => FilterError::Log { line, fault },
-        LogError::ReadFault { line: _ } => FilterError::ReadFault,
-        LogError::OutOfMemory => FilterError::OutOfMemory,
-    }
 }

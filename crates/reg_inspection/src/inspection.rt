@@ -1,35 +1,39 @@
 // What a log holds, and what keeps it from being served.
-ghost use Rattle.std.specs.Prelude.{◌≡◌, ◌==◌, ◌++◌, List, Ok, IfErr, IfOk, OnOk, codes, length, string_bytes};
+ghost use Rattle.std.specs.Prelude.{◌≡◌, ◌==◌, ◌++◌, ℕ, List, Ok, IfErr, IfOk, OnOk, length, string_bytes};
 ghost use Rattle.std.specs.List.{flat_map};
 ghost use Rattle.reg_records.specs.Log.{IsLogOf, LogText, log_of};
 ghost use Rattle.reg_records.specs.declared.record.Read.{Read};
 ghost use Rattle.reg_journal.specs.Found.{HasFault};
 ghost use Rattle.reg_inspection.specs.Inspection.{IsInspectionOf};
-ghost use Rattle.reg_inspection.specs.Cause.{cause_text};
-ghost use Rattle.reg_inspection.specs.Obstacles.{obstacle_text};
-ghost use Rattle.reg_inspection.specs.Report.{counts_text, lines_text, obstacle_line, report_text, versions_text};
+ghost use Rattle.reg_inspection.specs.Foreign.{foreign_tally};
+ghost use Rattle.reg_inspection.specs.Report.{counts_text, foreign_line, keytype_line, lines_text, obstacle_line, report_text, versions_text};
 
-use crate::cause::Cause;
 use crate::counts::{Counts, counts_of};
+use crate::foreign::foreign_in;
 use crate::ids::ids_of;
 use crate::obstacle::{Obstacle, lasts_of, obstacles_in};
-use reg_records::{Device, Log, LogError, read_log};
+use base_text::Text;
+use reg_records::{Device, Log, LogError, quoted, read_log};
 use std::alloc::{AllocError, Global};
+use std::collections::BTreeMap;
 
 /// What a log holds, and what keeps it from being taken over.
 #[derive(Debug, Drop)]
 pub struct Inspection {
     pub counts: Counts,
+    /// How many foreign lines have each keytype; `None` stands for keys that have none.
+    pub foreign: BTreeMap<Option<Text>, u64>,
     pub obstacles: Vec<Obstacle>,
 }
 
 impl Inspection {
-    /// Its text, a line a fact: the counts, each as `NAME: NUMBER`, then the obstacles, those of versions with their causes.
-    /// The only error is want of memory.
+    /// Its text, a line a fact: the counts, each as `NAME: NUMBER`, then the foreign lines by their keytypes, likewise,
+    /// then the obstacles, those of versions with their causes. The only error is want of memory.
     pub fn report(&self, alloc: Global) -> Result<String, AllocError>
-        ensures { IfOk result (λ text. string_bytes text ≡ report_text self.now.counts self.now.obstacles.items) }
+        ensures { IfOk result (λ text. string_bytes text ≡ report_text self.now.counts self.now.foreign.entries self.now.obstacles.items) }
     {
         let mut text = counts_text(alloc, &self.counts)?;
+        push_foreign(alloc, &mut text, &self.foreign)?;
         push_lines(alloc, &mut text, &self.obstacles)?;
         Ok(text)
     }
@@ -45,22 +49,28 @@ impl Inspection {
 /// Reads a log, and says what it holds and what keeps it from being taken over. What follows the log's empty line is
 /// left out.
 pub fn inspected(alloc: Global, text: &[u8]) -> Result<Inspection, LogError>
-    ensures inspected { IfOk result (λ found. (log : LogText) × (log_of text.now ≡ Ok log) × IsInspectionOf log.reads found) }
+    ensures inspected { IfOk result (λ found. (log : LogText) × (log_of text.now ≡ Ok log) × IsInspectionOf text.now log.reads found) }
     ensures fault { IfErr result (HasFault text.now) }
 {
     let log = read_log(alloc, &mut Device::new(text))?;
-    Ok(inspection_of(alloc, &log)?)
+    let foreign = foreign_in(alloc, text, &log)?;
+    Ok(inspection_of(alloc, &log, foreign)?)
 }
 
-/// What a log that was read holds.
-fn inspection_of(alloc: Global, log: &Log) -> Result<Inspection, AllocError>
-    ensures { (read : List Read) → IsLogOf read log.now → IfOk result (IsInspectionOf read) }
+/// What a log that was read holds, which has those foreign lines.
+fn inspection_of(
+    alloc: Global,
+    log: &Log,
+    foreign: BTreeMap<Option<Text>, u64>,
+) -> Result<Inspection, AllocError>
+    ensures { (text : List ℕ) (read : List Read) → IsLogOf read log.now → foreign.entries ≡ foreign_tally text → IfOk result (IsInspectionOf text read) }
 {
     let (last, registry) = lasts_of(alloc, &log.records)?;
     let entries = registry.entries()?;
     let ids = ids_of(alloc, &entries)?;
     Ok(Inspection {
         counts: counts_of(log, &registry, &entries, &ids)?,
+        foreign,
         obstacles: obstacles_in(alloc, &last, &registry, &ids)?,
     })
 }
@@ -100,6 +110,32 @@ fn versions_text(
     )
 }
 
+fn push_foreign(
+    alloc: Global,
+    text: &mut String,
+    foreign: &BTreeMap<Option<Text>, u64>,
+) -> Result<(), AllocError>
+    ensures { OnOk result (string_bytes text.new ≡ string_bytes text.old ++ flat_map foreign_line foreign.now.entries) }
+{
+    for (keytype, count) in foreign {
+        let line = keytype_line(alloc, keytype, *count)?;
+        text.push_str(line.as_str())?;
+    }
+    Ok(())
+}
+
+fn keytype_line(alloc: Global, keytype: &Option<Text>, count: u64) -> Result<String, AllocError>
+    ensures { IfOk result (λ line. string_bytes line ≡ keytype_line keytype.now count) }
+{
+    match keytype {
+        Some(keytype) => {
+            let keytype = quoted(alloc, keytype.as_str())?;
+            format!(in alloc; "foreign lines of keytype {keytype}: {count}\n")
+        }
+        None => format!(in alloc; "foreign lines without a keytype: {count}\n"),
+    }
+}
+
 fn push_lines(alloc: Global, text: &mut String, obstacles: &[Obstacle]) -> Result<(), AllocError>
     ensures { OnOk result (string_bytes text.new ≡ string_bytes text.old ++ flat_map obstacle_line obstacles.now) }
 {
@@ -113,14 +149,10 @@ fn push_lines(alloc: Global, text: &mut String, obstacles: &[Obstacle]) -> Resul
 fn obstacle_line(alloc: Global, obstacle: &Obstacle) -> Result<String, AllocError>
     ensures { IfOk result (λ line. string_bytes line ≡ obstacle_line obstacle.now) }
 {
+    let text = obstacle.text(alloc)?;
+    let text = text.as_str();
     match obstacle {
-        Obstacle::Opaque { cause, .. } => caused_line(alloc, obstacle, *cause),
-        Obstacle::TwoSchemas(_) => format!(in alloc; "{obstacle}\n"),
+        Obstacle::Opaque { cause, .. } => format!(in alloc; "{text}: {cause}\n"),
+        Obstacle::TwoSchemas(_) => format!(in alloc; "{text}\n"),
     }
-}
-
-fn caused_line(alloc: Global, obstacle: &Obstacle, cause: Cause) -> Result<String, AllocError>
-    ensures { IfOk result (λ line. string_bytes line ≡ obstacle_text obstacle.now ++ (codes ": " ++ cause_text cause ++ codes "\n")) }
-{
-    format!(in alloc; "{obstacle}: {cause}\n")
 }

@@ -1,5 +1,6 @@
 // The laws of obstacles. What is proved here costs nothing at run time: a function that needs a law calls it.
 ghost use Rattle.reg_inspection.specs.Cause.{CausesAreOfOpaque};
+ghost use Rattle.reg_inspection.specs.Foreign.{TalliesHaveEach, TalliesRise};
 ghost use Rattle.reg_inspection.specs.Obstacles.{NoObstacleIsOpen};
 ghost use Rattle.reg_inspection.specs.Shared.{SharedIdsNameTwo, SharedIdsRise};
 
@@ -25,3 +26,9 @@ pub fn no_obstacle_is_open()
     shared_ids_name_two();
     two_schemas_is_least();
 }
+
+/// The keytypes of a tally rise, and a keytype is in it exactly where it was tallied.
+pub fn tallies_have_each_keytype()
+    ensures rise { TalliesRise }
+    ensures each { TalliesHaveEach }
+{}

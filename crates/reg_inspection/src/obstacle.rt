@@ -1,11 +1,11 @@
 // What keeps a log from being taken over by a topic.
-ghost use Rattle.std.specs.Prelude.{◌≡◌, ◌↔◌, ◌++◌, [], false, IfOk, OnOk, map, option_to_list};
+ghost use Rattle.std.specs.Prelude.{◌≡◌, ◌↔◌, ◌++◌, [], false, IfOk, OnOk, map, option_to_list, string_bytes};
 ghost use Rattle.std.specs.List.{filter_map};
 ghost use Rattle.std.specs.FinSet.{from_list};
 ghost use Rattle.reg_set.specs.LastRecords.{last_records};
 ghost use Rattle.reg_fold.specs.Closed.{is_closed};
 ghost use Rattle.reg_fold.specs.Entries.{entries};
-ghost use Rattle.reg_inspection.specs.Obstacles.{obstacles, opaque_in};
+ghost use Rattle.reg_inspection.specs.Obstacles.{is_plain, obstacles, opaque_in, opaque_text, shown};
 ghost use Rattle.reg_inspection.specs.Shared.{ids_of, shared_ids};
 
 use crate::cause::{Cause, cause_of};
@@ -13,12 +13,10 @@ use crate::ids::{ids_of, shared_ids};
 use crate::laws::no_obstacle_is_open;
 use base_text::Text;
 use reg_fold::Registry;
-use reg_records::{Key, Log, Record};
+use reg_records::{Key, Log, Record, quoted};
 use reg_set::{RecordSet, last_records_are_enough};
 use std::alloc::{AllocError, Global};
 use std::collections::BTreeSet;
-use std::error::Error;
-use std::fmt;
 
 /// What keeps a log from being taken over by a topic.
 #[derive(Debug, Drop, PartialEq, Eq)]
@@ -34,33 +32,54 @@ pub enum Obstacle {
     TwoSchemas(u32),
 }
 
-/// Without the cause.
-impl fmt::Display for Obstacle {
-    ghost use Rattle.std.specs.Prelude.{Some};
+impl Obstacle {
+    ghost use Rattle.std.specs.Prelude.{◌≡◌, IfOk, string_bytes};
     ghost use Rattle.reg_inspection.specs.Obstacles.{obstacle_text};
 
-    ghost output = { λ obstacle. Some (obstacle_text obstacle) };
-
-    fn fmt<W: fmt::Write>(&self, f: &mut fmt::Formatter<W>) -> fmt::Result {
+    /// What it is, without the cause: a line without its LF. The only error is want of memory.
+    pub fn text(&self, alloc: Global) -> Result<String, AllocError>
+        ensures { IfOk result (λ text. string_bytes text ≡ obstacle_text self.now) }
+    {
         match self {
             Obstacle::Opaque {
                 offset,
                 subject,
                 version,
                 cause: _,
-            } => {
-                let subject = subject.as_str();
-                write!(
-                    f,
-                    "opaque record at {offset}: subject {subject}, version {version}"
-                )
-            }
-            Obstacle::TwoSchemas(id) => write!(f, "two schemas for id {id}"),
+            } => opaque_text(alloc, *offset, subject.as_str(), *version),
+            Obstacle::TwoSchemas(id) => format!(in alloc; "two schemas for id {id}"),
         }
     }
 }
 
-impl Error for Obstacle {}
+fn opaque_text(
+    alloc: Global,
+    offset: u64,
+    subject: &str,
+    version: u32,
+) -> Result<String, AllocError>
+    ensures { IfOk result (λ text. string_bytes text ≡ opaque_text offset subject.now version) }
+{
+    let subject = shown(alloc, subject)?;
+    format!(in alloc; "opaque record at {offset}: subject {subject}, version {version}")
+}
+
+/// A text as it stands in a line: as a JSON string where it would break the line.
+fn shown(alloc: Global, text: &str) -> Result<String, AllocError>
+    ensures { IfOk result (λ written. string_bytes written ≡ shown text.now) }
+{
+    if is_plain(text) {
+        return String::from_str(alloc, text);
+    }
+    quoted(alloc, text)
+}
+
+/// Whether a text has neither a control character nor a quotation mark.
+fn is_plain(text: &str) -> bool
+    ensures { result ≡ is_plain text.now }
+{
+    text.as_bytes().iter().all(|b| *b >= 32 && *b != b'"')
+}
 
 /// All that keeps a log from being taken over: the versions whose last records can't be read, by their offsets,
 /// then the ids that name two schemas, in ascending order. There is nothing exactly where the log is adopted. The only

@@ -5,7 +5,8 @@ use Rattle.std.specs.Option.{option_map_or}
 use Rattle.reg_journal.specs.Lines.{Say, text_of}
 use Rattle.reg_records.specs.declared.record.Read.{Read}
 use Rattle.reg_set.specs.Records.{Records}
-use Rattle.reg_keeping.specs.Walk.{Front, HasLines, Steps, Walks, carried_by, carried_in, is_kept, kept_lines, top_after, waiting_after}
+use Rattle.reg_keeping.specs.Fronts.{Front, HasLines}
+use Rattle.reg_keeping.specs.Walk.{Steps, Walks, carried_by, carried_in, is_kept, kept_lines, top_after, waiting_after}
 use Rattle.reg_keeping.specs.declared.walk.Walk.{Walk}
 
 -- these lines are left, and come to what all of them come to

@@ -1,6 +1,7 @@
 pub mod Begun
 pub mod Compacted
 pub mod Filter
+pub mod Fronts
 pub mod InPlace
 pub mod Said
 pub mod Shrunk

@@ -1,11 +1,9 @@
 -- Private: what a walk over the lines of a log keeps.
-use Rattle.std.specs.Prelude.{◌≡◌, ℕ, List, [], ◌∷◌, ◌++◌, Bool, false, ◌&&◌, ◌||◌, Option, Some, None, Ok, nat_eq, option_map, unwrap_or, length, if◌then◌else◌}
+use Rattle.std.specs.Prelude.{◌≡◌, ℕ, List, [], ◌∷◌, ◌++◌, Bool, false, ◌&&◌, ◌||◌, Option, Some, None, nat_eq, option_map, unwrap_or, if◌then◌else◌}
 use Rattle.std.specs.FinSet.{contains}
 use Rattle.std.specs.Option.{option_map_or}
-use Rattle.reg_journal.specs.Lines.{Say, text_of}
-use Rattle.reg_records.specs.Line.{reading}
+use Rattle.reg_journal.specs.Lines.{text_of}
 use Rattle.reg_records.specs.Log.{is_foreign, offset_in}
-use Rattle.reg_records.specs.Pieces.{HasNoLineFeed}
 use Rattle.reg_records.specs.declared.record.Read.{Read}
 use Rattle.reg_records.specs.declared.record.Read.TheVariants as reads
 use Rattle.reg_set.specs.LastRecords.{with_last}
@@ -70,19 +68,3 @@ pub record Walks (top : Option ℕ) (lines : List (List ℕ)) (read : List Read)
   pub text : new.text.items ≡ old.text.items ++ text_of (kept_lines old.waiting lines read)
   pub has_top : new.has_top ≡ top_after top old.waiting read old.has_top
   pub carried : carried_in new ≡ carried_by top lines read (carried_in old)
-
--- the text begins with so many lines, which say this
-pub record HasLines (text : List ℕ) (lines : List (List ℕ)) (read : List Read) (count : ℕ) : Type 0 where
-  pub tail : List ℕ
-  pub parts : text ≡ text_of lines ++ tail
-  pub say : Say lines read
-  pub counts : count ≡ length read
-
--- the text begins with that line, which says this
-pub record Front (rest : List ℕ) : Type 0 where
-  pub line : List ℕ
-  pub behind : List ℕ
-  pub read : Read
-  pub parts : rest ≡ line ++ 10 ∷ behind
-  pub free : HasNoLineFeed line
-  pub says : reading line ≡ Ok read

@@ -1,5 +1,5 @@
 // One line of a text.
-ghost use Rattle.std.specs.Prelude.{◌≡◌, ◌≤◌, ◌+◌, ◌++◌, ◌∷◌, ℕ, List, Ok, Some, IfOk, IfSome, length, position};
+ghost use Rattle.std.specs.Prelude.{◌≡◌, ◌≤◌, ◌<◌, ◌+◌, ◌++◌, ◌∷◌, ℕ, List, Ok, Some, IfOk, IfSome, length, position};
 ghost use Rattle.reg_records.specs.Line.{is_line_feed, reading};
 ghost use Rattle.reg_records.specs.Pieces.{HasNoLineFeed};
 ghost use Rattle.reg_records.specs.declared.record.Read.{Read};
@@ -8,8 +8,9 @@ use reg_records::{Read, ReadLineError, read_line};
 use std::alloc::{AllocError, Global};
 
 /// How many bytes the line at the front of a text takes with its LF, and what it says; none where it has no LF or
-/// a fault.
-pub(crate) fn line_at(alloc: Global, text: &[u8]) -> Result<Option<(usize, Read)>, AllocError>
+/// a fault. The only error is want of memory.
+pub fn line_at(alloc: Global, text: &[u8]) -> Result<Option<(usize, Read)>, AllocError>
+    ensures some { IfOk result (λ found. IfSome found (λ it. 0 < it.0)) }
     ensures within { IfOk result (λ found. IfSome found (λ it. it.0 ≤ length text.now)) }
     ensures line { (line more : List ℕ) (read : Read) → text.now ≡ line ++ 10 ∷ more → HasNoLineFeed line → reading line ≡ Ok read
         → IfOk result (λ found. found ≡ Some (length line + 1, read)) }

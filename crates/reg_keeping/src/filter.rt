@@ -77,8 +77,8 @@ pub fn compact<R: Read, W: Write>(
     }
 }
 
-/// All that a reader gives.
-pub(crate) fn read_input<R: Read>(alloc: Global, reader: &mut R) -> Result<Vec<u8>, FilterError>
+/// All that a reader gives: the input of a filter.
+pub fn read_input<R: Read>(alloc: Global, reader: &mut R) -> Result<Vec<u8>, FilterError>
     ensures read { IfOk result (λ bytes. IfSome (R.remaining reader.old) (λ input. bytes.items ≡ input)) }
     ensures refused { IfErr result IsNoReading }
 {
@@ -92,8 +92,8 @@ pub(crate) fn read_input<R: Read>(alloc: Global, reader: &mut R) -> Result<Vec<u
     }
 }
 
-/// Writes the bytes whole.
-pub(crate) fn write_output<W: Write>(writer: &mut W, bytes: &[u8]) -> Result<(), FilterError>
+/// Writes the bytes whole: the output of a filter. Where the writer fails, a part may have been written.
+pub fn write_output<W: Write>(writer: &mut W, bytes: &[u8]) -> Result<(), FilterError>
     ensures written { OnOk result (Appends (W.contents writer.old) (W.contents writer.new) bytes.now) }
     ensures refused { IfErr result (λ e. e ≡ WriteFault) }
 {
@@ -106,7 +106,8 @@ pub(crate) fn write_output<W: Write>(writer: &mut W, bytes: &[u8]) -> Result<(),
     }
 }
 
-pub(crate) fn filter_error(e: LogError) -> FilterError
+/// Why a filter ends whose log wasn't read.
+pub fn filter_error(e: LogError) -> FilterError
     ensures { result ≡ filter_error_of e }
 {
     match e {

@@ -2,7 +2,8 @@
 ghost use Rattle.std.specs.Prelude.{◌≡◌, ◌≤◌, ◌+◌, ◌++◌, ◌∷◌, [], ℕ, List, Some, IfOk, IfSome, OnOk, length};
 ghost use Rattle.reg_records.specs.Log.{is_foreign};
 ghost use Rattle.reg_records.specs.declared.record.Read.{Read};
-ghost use Rattle.reg_keeping.specs.Walk.{Front, HasLines, Steps, Walks, finished, is_at, is_kept, waiting_after};
+ghost use Rattle.reg_keeping.specs.Fronts.{Front, HasLines};
+ghost use Rattle.reg_keeping.specs.Walk.{Steps, Walks, finished, is_at, is_kept, waiting_after};
 
 use crate::cutting::line_at;
 use reg_records::Read;

@@ -219,7 +219,8 @@ pub fn is_plain_avro(json: &Json) -> bool
         && is_absent(json.get("ruleSet"))
 }
 
-fn is_absent(member: Option<&Json>) -> bool
+/// Whether a member is missing or null.
+pub fn is_absent(member: Option<&Json>) -> bool
     ensures { result ≡ option_map_or is_null (option_map (λ json. view json.now) member.entry) true }
 {
     match member {
@@ -228,7 +229,8 @@ fn is_absent(member: Option<&Json>) -> bool
     }
 }
 
-fn is_avro(member: Option<&Json>) -> bool
+/// Whether a `schemaType` names Avro: it is missing, null or `AVRO`.
+pub fn is_avro(member: Option<&Json>) -> bool
     ensures { result ≡ is_absent_or is_avro_name (option_map (λ json. view json.now) member.entry) }
 {
     match member {
@@ -237,7 +239,8 @@ fn is_avro(member: Option<&Json>) -> bool
     }
 }
 
-fn has_no_items(member: Option<&Json>) -> bool
+/// Whether a member is missing, null or the empty list.
+pub fn has_no_items(member: Option<&Json>) -> bool
     ensures { result ≡ is_absent_or is_empty_list (option_map (λ json. view json.now) member.entry) }
 {
     match member {
@@ -246,7 +249,8 @@ fn has_no_items(member: Option<&Json>) -> bool
     }
 }
 
-fn is_empty_list(json: &Json) -> bool
+/// Whether a value is the empty list.
+pub fn is_empty_list(json: &Json) -> bool
     ensures { result ≡ is_empty_list (view json.now) }
 {
     match json.as_array() {
@@ -255,7 +259,8 @@ fn is_empty_list(json: &Json) -> bool
     }
 }
 
-fn deleted_in(json: &Json) -> Option<bool>
+/// The member `deleted` of a value, false where it is missing or null; none where it is no truth value.
+pub fn deleted_in(json: &Json) -> Option<bool>
     ensures { result ≡ deleted_in (view json.now) }
 {
     match json.get("deleted") {

@@ -4,6 +4,6 @@
 mod decoding;
 
 pub use decoding::{
-    Decoded, decode, decode_value, is_plain_avro, values_are_of_keys, written_values_have_lines,
-    written_values_read_back,
+    Decoded, decode, decode_value, deleted_in, has_no_items, is_absent, is_avro, is_empty_list,
+    is_plain_avro, values_are_of_keys, written_values_have_lines, written_values_read_back,
 };

@@ -118,7 +118,8 @@ fn tell_obstacles<R: Files<File = File> + Eprint + Copy + Drop>(
     let mut disk = StoredFile::new(alloc, rt, path, file)?;
     let found = look(alloc, &mut disk)?;
     for obstacle in obstacles(alloc, &found.log)? {
-        let _told = rt.eprintln(format_args!("{obstacle}"));
+        let text = obstacle.text(alloc)?;
+        let _told = rt.eprintln(format_args!("{text}"));
     }
     Ok(())
 }

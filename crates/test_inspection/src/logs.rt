@@ -5,7 +5,7 @@ use std::alloc::Global;
 use std::test::Fail;
 
 /// A log, what is said of it, and whether it is taken over: lines are parted by `|`, and the fields of a log's lines by `;`.
-const ROWS: [(&str, &str, bool); 9] = [
+const ROWS: [(&str, &str, bool); 11] = [
     (
         "",
         "records: 0|foreign lines: 0|next offset: 0|subjects: 0|live versions: 0|soft-deleted versions: 0|ids: 0|",
@@ -22,6 +22,7 @@ const ROWS: [(&str, &str, bool); 9] = [
          6;{'keytype':'SCHEMA','subject':'orders','version':2,'magic':1};{'subject':'orders','version':2,'id':1,'schema':'\\'int\\'','deleted':false}|\
          7;{'keytype':'NOOP','magic':0};null|",
         "records: 7|foreign lines: 1|next offset: 8|subjects: 1|live versions: 2|soft-deleted versions: 0|ids: 1|\
+         foreign lines of keytype \"CONTEXT\": 1|\
          opaque record at 2: subject people, version 1: schema type PROTOBUF|\
          opaque record at 3: subject events, version 1: schema type JSON|\
          opaque record at 4: subject carts, version 1: references|\
@@ -73,13 +74,43 @@ const ROWS: [(&str, &str, bool); 9] = [
     // Foreign lines have offsets too.
     (
         "3;x;y|8;{'keytype':'CONTEXT'};null|",
-        "records: 0|foreign lines: 2|next offset: 9|subjects: 0|live versions: 0|soft-deleted versions: 0|ids: 0|",
+        "records: 0|foreign lines: 2|next offset: 9|subjects: 0|live versions: 0|soft-deleted versions: 0|ids: 0|\
+         foreign lines without a keytype: 1|\
+         foreign lines of keytype \"CONTEXT\": 1|",
         true,
+    ),
+    // Keytypes ascend by their bytes, those of known kinds too where another member is missing or wrong.
+    (
+        "0;{'keytype':'b'};null|\
+         1;{'keytype':'CLEAR_SUBJECT','subject':'s'};null|\
+         2;{'keytype':'b'};x|\
+         3;{'keytype':7};x|\
+         4;{'keytype':'SCHEMA','subject':'s','version':0};x|\
+         5;{'keytype':'a\\nb'};x|\
+         6;[];x|\
+         7;{'keytype':'NOOP'};null|",
+        "records: 1|foreign lines: 7|next offset: 8|subjects: 0|live versions: 0|soft-deleted versions: 0|ids: 0|\
+         foreign lines without a keytype: 2|\
+         foreign lines of keytype \"CLEAR_SUBJECT\": 1|\
+         foreign lines of keytype \"SCHEMA\": 1|\
+         foreign lines of keytype \"a\\nb\": 1|\
+         foreign lines of keytype \"b\": 2|",
+        true,
+    ),
+    // A subject breaks no line.
+    (
+        "0;{'keytype':'SCHEMA','subject':'a\\nb','version':1};x|\
+         1;{'keytype':'SCHEMA','subject':'a\\'b','version':2};x|",
+        "records: 2|foreign lines: 0|next offset: 2|subjects: 0|live versions: 0|soft-deleted versions: 0|ids: 0|\
+         opaque record at 0: subject \"a\\nb\", version 1: not a JSON object|\
+         opaque record at 1: subject \"a\\\"b\", version 2: not a JSON object|",
+        false,
     ),
     // What follows the empty line is no part of the log.
     (
         "3;x;y||8;x;y|",
-        "records: 0|foreign lines: 1|next offset: 4|subjects: 0|live versions: 0|soft-deleted versions: 0|ids: 0|",
+        "records: 0|foreign lines: 1|next offset: 4|subjects: 0|live versions: 0|soft-deleted versions: 0|ids: 0|\
+         foreign lines without a keytype: 1|",
         true,
     ),
 ];
@@ -131,8 +162,8 @@ fn what_keeps_a_log_is_told_without_causes(rt: HostRuntime) -> Result<(), Fail> 
     let log = read_log(alloc, &mut Device::new(&text[..])).map_err(|_| "refused")?;
     let found = obstacles(alloc, &log)?;
     assert!(rt; found.len() == 2);
-    let first = format!(in alloc; "{}", found[0])?;
-    let second = format!(in alloc; "{}", found[1])?;
+    let first = found[0].text(alloc)?;
+    let second = found[1].text(alloc)?;
     assert!(rt; first.as_str() == "opaque record at 4: subject z, version 7");
     assert!(rt; second.as_str() == "two schemas for id 7");
     Ok(())

@@ -1,5 +1,6 @@
-use Rattle.std.proofs.Common.{ap, ◌∙◌, List}
+use Rattle.std.proofs.Common.{ap, ◌∙◌, ℕ, List, Option}
 use Rattle.reg_inspection.specs.Counts.{counts_of, lasts_in}
+use Rattle.reg_inspection.specs.Foreign.{foreign_tally}
 use Rattle.reg_inspection.specs.Report.{report_text}
 use Rattle.reg_inspection.specs.declared.counts.Counts.{Counts}
 use Rattle.reg_inspection.specs.declared.obstacle.Obstacle.{Obstacle}
@@ -14,7 +15,8 @@ returns-clause-described c =
       log = is.0;
       read = is.1;
       said = c.in_ok-text.ensures
-          ∙ ap (λ (n : Counts). report_text n found.obstacles.items) is.2.counts
-          ∙ ap (λ (os : List Obstacle). report_text (counts_of is.0.reads) os) is.2.obstacles;
+          ∙ ap (λ (n : Counts). report_text n found.foreign.entries found.obstacles.items) is.2.counts
+          ∙ ap (λ (es : List (Option (List ℕ) × ℕ)). report_text (counts_of is.0.reads) es found.obstacles.items) is.2.foreign
+          ∙ ap (λ (os : List Obstacle). report_text (counts_of is.0.reads) (foreign_tally c.args.log.now) os) is.2.obstacles;
       taken = c.is_taken.ensures ∙ nothing_is_taken c.no_obstacle_is_open.ensures (lasts_in is.0.reads) found.obstacles.items is.2.obstacles;
     }

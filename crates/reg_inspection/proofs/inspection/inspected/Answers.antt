@@ -1,4 +1,4 @@
-use Rattle.std.proofs.Common.{◌≡◌, sym, ap, ◌∙◌, rules}
+use Rattle.std.proofs.Common.{◌≡◌, Ok, sym, ap, ◌∙◌, rules}
 use Rattle.reg_records.specs.Log.{log_of}
 use Rattle.reg_inspection.proofs.inspection.inspected.Goals as goal
 
@@ -6,4 +6,5 @@ pub returns-clause-inspected : goal.returns-clause-inspected
 returns-clause-inspected c =
     let found = c.in_ok-log.ensures.read in
     let given : c.new.result.inner ≡ c.args.text = search rules in
-    (found.0, ap (λ r. log_of r.now) (sym given) ∙ found.1, c.in_ok-inspection_of.ensures found.0.reads found.2)
+    let is : log_of c.args.text.now ≡ Ok found.0 = ap (λ r. log_of r.now) (sym given) ∙ found.1 in
+    (found.0, is, c.in_ok-inspection_of.ensures c.args.text.now found.0.reads found.2 (c.in_ok-foreign.ensures found.0 is found.2))

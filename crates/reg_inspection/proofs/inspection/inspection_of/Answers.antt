@@ -11,7 +11,7 @@ use Rattle.reg_inspection.specs.Obstacles.{obstacles}
 use Rattle.reg_inspection.proofs.inspection.inspection_of.Goals as goal
 
 pub returns : goal.returns
-returns c read is =
+returns c text read is foreign =
     let log = c.args.log.now in
     let same = ap (λ (l : List Record). last_records (from_list l)) (c.deref.ensures.value ∙ is.records) in
     let set : c.in_ok-last.last ≡ lasts_in read = c.in_ok-last.ensures.set ∙ same in
@@ -22,5 +22,6 @@ returns c read is =
           ∙ ap (λ (l : List Record). counts_by (length l) log.foreign log.next es) is.records
           ∙ ap (λ (n : ℕ). counts_by (length (records_in read)) n log.next es) is.foreign
           ∙ ap (λ (n : ℕ). counts_by (length (records_in read)) (count_by is_foreign read) n es) is.next;
+      foreign = foreign;
       obstacles = c.in_ok-obstacles_in.ensures ∙ ap obstacles set;
     }

@@ -1,7 +1,7 @@
 use Rattle.std.proofs.Common.{◌≤◌, ⊎_elim, [], ◌∷◌, ℕ, List, length, refl, sym, ap, subst, ◌∙◌, arith, append-nil, length-append}
 use Rattle.reg_journal.specs.Lines.{text_of}
 use Rattle.reg_keeping.specs.Compacted.{IsCompacted, IsLines}
-use Rattle.reg_keeping.specs.Walk.{HasLines}
+use Rattle.reg_keeping.specs.Fronts.{HasLines}
 use Rattle.reg_keeping.proofs.Compacts.{walked}
 use Rattle.reg_keeping.proofs.compacting.compacted.Goals as goal
 

@@ -1,6 +1,6 @@
 use Rattle.std.proofs.Common.{ℕ, List}
 use Rattle.reg_records.specs.declared.record.Read.{Read}
-use Rattle.reg_keeping.specs.Walk.{HasLines}
+use Rattle.reg_keeping.specs.Fronts.{HasLines}
 use Rattle.reg_keeping.proofs.Walked.{GoesOn}
 use Rattle.reg_keeping.proofs.walk.Walk.take_lines.Given as goal
 

@@ -1,0 +1,22 @@
+-- The lines at the front of a text.
+use Rattle.std.specs.Prelude.{◌≡◌, ℕ, List, ◌∷◌, ◌++◌, Ok, length}
+use Rattle.reg_journal.specs.Lines.{Say, text_of}
+use Rattle.reg_records.specs.Line.{reading}
+use Rattle.reg_records.specs.Pieces.{HasNoLineFeed}
+use Rattle.reg_records.specs.declared.record.Read.{Read}
+
+-- the text begins with so many lines, which say this
+pub record HasLines (text : List ℕ) (lines : List (List ℕ)) (read : List Read) (count : ℕ) : Type 0 where
+  pub tail : List ℕ
+  pub parts : text ≡ text_of lines ++ tail
+  pub say : Say lines read
+  pub counts : count ≡ length read
+
+-- the text begins with that line, which says this
+pub record Front (rest : List ℕ) : Type 0 where
+  pub line : List ℕ
+  pub behind : List ℕ
+  pub read : Read
+  pub parts : rest ≡ line ++ 10 ∷ behind
+  pub free : HasNoLineFeed line
+  pub says : reading line ≡ Ok read
