@@ -1,12 +1,13 @@
 -- What a node took is a compaction of the topic's log.
-use Rattle.std.proofs.Common.{◌≡◌, ◌⊎◌, inl, inr, ℕ, ◌<◌, Bool, true, false, ◌&&◌, ◌||◌, List, [], ◌∷◌, ◌++◌, Option, Some, None, IfSome, fold, refl, sym, ap, subst, ◌∙◌, arith}
+use Rattle.std.proofs.Common.{◌≡◌, ◌⊎◌, inl, inr, ℕ, ◌<◌, Bool, true, false, ◌&&◌, ◌||◌, List, [], ◌∷◌, ◌++◌, Option, Some, None, IfSome, fold, length, refl, sym, ap, subst, ◌∙◌, arith}
 use Rattle.std.specs.Bool.{nat_le}
 use Rattle.std.proofs.lemmas.Bool.{false≢true}
 use Rattle.std.proofs.lemmas.Bool.Decides.{leb_tells}
 use Rattle.std.proofs.lemmas.List.Sums.{fold-append}
 use Rattle.std.specs.Cmp.{IsTotalOrder}
-use Rattle.std.specs.FinSet.{contains, empty, from_list, contains-empty, contains-from_list, contains-union, IsAntisymmetric}
+use Rattle.std.specs.FinSet.{contains, empty, from_list, insert, contains-empty, contains-from_list, contains-insert, IsAntisymmetric}
 use Rattle.std.specs.List.{list_all, list_any}
+use Rattle.std.specs.Ordering.{eq_by_cmp}
 use mathlib.Core.List.{IsPrefix}
 use Rattle.reg_records.specs.declared.key.Key.{Key}
 use Rattle.reg_records.specs.declared.record.Record.{Record}
@@ -22,10 +23,10 @@ use Rattle.reg_topic.specs.declared.topic.Topic.{Topic}
 use Rattle.reg_shared.specs.Held.{Held, IsSince, base_of, held_of, topic_at}
 use Rattle.reg_shared.specs.Laws.{LaterRecordsAreNews, OffsetsRise}
 use Rattle.reg_node.specs.Caught.{CaughtStays, IsCaught, IsCaughtUp, IsNews, NewsCatchUp, NoNewsCatchUp}
-use Rattle.reg_node.specs.Takes.{AreDrawn, taken, with_take}
+use Rattle.reg_node.specs.Takes.{AreDrawn, taken, takes_of, with_take}
 use Rattle.reg_node.specs.declared.take.Take.{Take}
-use Rattle.reg_node.proofs.Drawn.{drawn_longer, drawn_snoc, last_front}
-use Rattle.reg_node.proofs.Members.{both_true, each_of, from_all, in_all, none_in, or_left, or_right}
+use Rattle.reg_node.proofs.Drawn.{drawn_longer, drawn_more, last_front}
+use Rattle.reg_node.proofs.Members.{both_true, each_of, equal, in_all, none_in, or_left, or_right}
 use Rattle.reg_node.proofs.Prefixes.{prefix_self}
 
 either : (a b : Bool) → (a || b) ≡ true → (a ≡ true) ⊎ (b ≡ true)
@@ -35,6 +36,11 @@ either false b h = inr h
 or_none : (a b : Bool) → b ≡ false → a ≡ (a || b)
 or_none true b e = refl
 or_none false b e = sym e
+
+or_moves : (e a x : Bool) → ((e || a) || x) ≡ (a || (e || x))
+or_moves true true x = refl
+or_moves true false x = refl
+or_moves false a x = refl
 
 one_of : {A B C : Type 0} → (A → C) → (B → C) → A ⊎ B → C
 one_of f g (inl a) = f a
@@ -88,12 +94,21 @@ module _ (grows : LogsGrow) where
       }
 
 module _ (order : IsTotalOrder record_cmp) (apart : IsAntisymmetric record_cmp) where
-  in_take : (s : Records) (t : Take) (r : Record) → contains (with_take s t) r ≡ (contains s r || contains (from_list {R = record_cmp} t.records) r)
-  in_take s t r = contains-union order s (from_list t.records) r
+  in_take : (s : Records) (t : Take) (r : Record) → contains (with_take s t) r ≡ (eq_by_cmp record_cmp r t.kept || contains s r)
+  in_take s t r = contains-insert order s t.kept r
 
-  -- one take more
-  taken_more : (takes : List Take) (t : Take) (r : Record) → contains (taken (takes ++ t ∷ [])) r ≡ (contains (taken takes) r || contains (from_list {R = record_cmp} t.records) r)
-  taken_more takes t r = ap (λ s. contains s r) (fold-append with_take empty takes (t ∷ [])) ∙ in_take (taken takes) t r
+  in_takes : (s : Records) (read : ℕ) (records : List Record) (r : Record) → contains (fold with_take s (takes_of read records)) r ≡ (contains s r || contains (from_list {R = record_cmp} records) r)
+  in_takes s read [] r = or_none (contains s r) _ (contains-from_list order [] r)
+  in_takes s read (d ∷ ds) r =
+      in_takes (insert s d) read ds r
+      ∙ ap (λ b. b || contains (from_list {R = record_cmp} ds) r) (contains-insert order s d r)
+      ∙ or_moves (eq_by_cmp record_cmp r d) (contains s r) (contains (from_list {R = record_cmp} ds) r)
+      ∙ ap (λ b. contains s r || (eq_by_cmp record_cmp r d || b)) (contains-from_list order ds r)
+      ∙ ap (λ b. contains s r || b) (sym (contains-from_list order (d ∷ ds) r))
+
+  -- takes of some records more
+  taken_more : (takes : List Take) (read : ℕ) (records : List Record) (r : Record) → contains (taken (takes ++ takes_of read records)) r ≡ (contains (taken takes) r || contains (from_list {R = record_cmp} records) r)
+  taken_more takes read records r = ap (λ s. contains s r) (fold-append with_take empty takes (takes_of read records)) ∙ in_takes (taken takes) read records r
 
   -- what is new is kept, from the offset on
   kept_since : (kept : Records) (from : ℕ) (records : List Record) → IsSince kept from records → (r : Record) → contains (from_list {R = record_cmp} records) r ≡ true → (contains kept r ≡ true) × (nat_le from r.offset ≡ true)
@@ -127,9 +142,9 @@ module _ (order : IsTotalOrder record_cmp) (apart : IsAntisymmetric record_cmp) 
     of_log first from [] g s d had r h = had r h
     of_log first from (t ∷ ts) g s d had r h =
         of_log first d.0 ts g (with_take s t) d.4 (λ q within. one_of {C = contains (topic_at first g).log q ≡ true}
+        (λ new. log_of_front grows first d.0 g (last_front first d.0 g ts d.4) q ((is_kept first d.0).is_part q (ap (contains (topic_at first d.0).kept) (equal order apart q t.kept new) ∙ d.3)))
         (λ old. had q old)
-        (λ new. log_of_front grows first d.0 g (last_front first d.0 g ts d.4) q ((is_kept first d.0).is_part q (from_all order apart (contains (topic_at first d.0).kept) t.records q d.3 new)))
-        (either (contains s q) (contains (from_list {R = record_cmp} t.records) q) (sym (in_take s t q) ∙ within))) r h
+        (either (eq_by_cmp record_cmp q t.kept) (contains s q) (sym (in_take s t q) ∙ within))) r h
 
     -- takes that have what is new besides
     caught_up : (first : Held) (g : List Item) (takes after : List Take) (upto : ℕ) (records : List Record) → IsCaught first g takes upto → IsNews (held_of (topic_at first g)) upto records
@@ -156,10 +171,10 @@ module _ (order : IsTotalOrder record_cmp) (apart : IsAntisymmetric record_cmp) 
         caught_up first front takes takes upto [] c news c.drawn (λ r. or_none (contains (taken takes) r) _ (contains-from_list order [] r))
 
     pub news_catch_up : NewsCatchUp
-    news_catch_up first front takes upto t c read news =
-        let kept : list_all (contains (topic_at first front).kept) t.records ≡ true =
-        in_all order (contains (topic_at first front).kept) t.records (λ r within. (kept_since (topic_at first front).kept upto t.records news.since r within).0) in
-        let drawn : AreDrawn first [] (takes ++ t ∷ []) front = drawn_snoc first [] front front takes t c.drawn (prefix_self front) read kept in (
-          caught_up first front takes (takes ++ t ∷ []) upto t.records c news drawn (taken_more takes t),
-          none_taken first front takes upto t.records c news.since,
+    news_catch_up first front takes upto records c news =
+        let kept : list_all (contains (topic_at first front).kept) records ≡ true =
+        in_all order (contains (topic_at first front).kept) records (λ r within. (kept_since (topic_at first front).kept upto records news.since r within).0) in
+        let drawn : AreDrawn first [] (takes ++ takes_of (length front) records) front = drawn_more first [] front front takes records c.drawn (prefix_self front) kept in (
+          caught_up first front takes (takes ++ takes_of (length front) records) upto records c news drawn (taken_more takes (length front) records),
+          none_taken first front takes upto records c news.since,
         )

@@ -1,18 +1,20 @@
 -- Takes that are drawn from fronts of the topic's list.
-use Rattle.std.proofs.Common.{◌≡◌, true, List, [], ◌∷◌, ◌++◌, length, sym, ap, ◌∙◌, append_assoc}
+use Rattle.std.proofs.Common.{◌≡◌, true, List, [], ◌∷◌, ◌++◌, length, refl, sym, ap, ◌∙◌, append_assoc}
 use Rattle.std.specs.FinSet.{contains}
 use Rattle.std.specs.List.{list_all}
 use mathlib.Core.List.{IsPrefix}
+use Rattle.reg_records.specs.declared.record.Record.{Record}
 use Rattle.reg_topic.specs.declared.published.Item.{Item}
 use Rattle.reg_shared.specs.Held.{Held, topic_at}
-use Rattle.reg_node.specs.Takes.{AreDrawn}
+use Rattle.reg_node.specs.Takes.{AreDrawn, takes_of}
 use Rattle.reg_node.specs.declared.take.Take.{Take}
+use Rattle.reg_node.proofs.Members.{both_true}
 use Rattle.reg_node.proofs.Prefixes.{prefix_self, prefix_trans}
 
--- one pending take more
-pub one_more : (published pending later after : List Take) (t : Take) → later ≡ published → after ≡ pending ++ t ∷ [] → (published ++ pending) ++ t ∷ [] ≡ later ++ after
-one_more published pending later after t same more =
-    append_assoc published pending (t ∷ []) ∙ (ap (λ (w : List Take). published ++ w) (sym more) ∙ ap (λ (w : List Take). w ++ after) (sym same))
+-- more takes behind the pending ones
+pub more_behind : (published pending rest more after : List Take) → after ≡ rest ++ more → (published ++ (pending ++ rest)) ++ more ≡ published ++ (pending ++ after)
+more_behind published pending rest more after is =
+    append_assoc published (pending ++ rest) more ∙ ap (λ (w : List Take). published ++ w) (append_assoc pending rest more ∙ ap (λ (w : List Take). pending ++ w) (sym is))
 
 module _ (first : Held) where
   -- the front with which they begin is one of the last
@@ -24,8 +26,14 @@ module _ (first : Held) where
   drawn_longer from f g [] d p = prefix_trans from f g d p
   drawn_longer from f g (t ∷ ts) d p = (d.0, d.1, d.2, d.3, drawn_longer d.0 f g ts d.4 p)
 
-  -- one take more, of a longer front
-  pub drawn_snoc : (from f g : List Item) (takes : List Take) (t : Take) → AreDrawn first from takes f → IsPrefix f g → t.read ≡ length g → list_all (contains (topic_at first g).kept) t.records ≡ true
-      → AreDrawn first from (takes ++ t ∷ []) g
-  drawn_snoc from f g [] t d p n kept = (g, prefix_trans from f g d p, n, kept, prefix_self g)
-  drawn_snoc from f g (u ∷ us) t d p n kept = (d.0, d.1, d.2, d.3, drawn_snoc d.0 f g us t d.4 p n kept)
+  -- kept records of one front
+  drawn_all : (from g : List Item) (records : List Record) → IsPrefix from g → list_all (contains (topic_at first g).kept) records ≡ true → AreDrawn first from (takes_of (length g) records) g
+  drawn_all from g [] p kept = p
+  drawn_all from g (r ∷ rs) p kept =
+      let parts = both_true (contains (topic_at first g).kept r) (list_all (contains (topic_at first g).kept) rs) kept in (g, p, refl, parts.0, drawn_all g g rs (prefix_self g) parts.1)
+
+  -- behind takes of a shorter front
+  pub drawn_more : (from f g : List Item) (takes : List Take) (records : List Record) → AreDrawn first from takes f → IsPrefix f g → list_all (contains (topic_at first g).kept) records ≡ true
+      → AreDrawn first from (takes ++ takes_of (length g) records) g
+  drawn_more from f g [] records d p kept = drawn_all from g records (prefix_trans from f g d p) kept
+  drawn_more from f g (t ∷ ts) records d p kept = (d.0, d.1, d.2, d.3, drawn_more d.0 f g ts records d.4 p kept)

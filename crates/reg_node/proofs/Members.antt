@@ -47,19 +47,6 @@ module _ (order : IsTotalOrder record_cmp) (apart : IsAntisymmetric record_cmp) 
   pub equal : (r d : Record) → eq_by_cmp record_cmp r d ≡ true → r ≡ d
   equal r d h = apart r d ((Equal-is (record_cmp r d)).0 h)
 
-  -- what each of the records passes, one of them passes
-  from_any : (p : Record → Bool) (rs : List Record) (r : Record) → list_all p rs ≡ true → list_any (eq_by_cmp record_cmp r) rs ≡ true → p r ≡ true
-  from_any p [] r all any = absurd (false≢true any)
-  from_any p (d ∷ ds) r all any =
-      let parts = both_true (p d) (list_all p ds) all in
-      elim (eq_by_cmp record_cmp r d) as (λ b. eq_by_cmp record_cmp r d ≡ b → (b || list_any (eq_by_cmp record_cmp r) ds) ≡ true → p r ≡ true) [
-        | true ↦ λ e _. ap p (equal r d e) ∙ parts.0
-        | false ↦ λ _ rest. from_any p ds r parts.1 rest
-      ] refl any
-
-  pub from_all : (p : Record → Bool) (rs : List Record) (r : Record) → list_all p rs ≡ true → contains (from_list {R = record_cmp} rs) r ≡ true → p r ≡ true
-  from_all p rs r all within = from_any p rs r all (sym (contains-from_list order rs r) ∙ within)
-
   one_in : (P : Record → Type 0) (rs : List Record) (r : Record) → AllByRecursion P rs → list_any (eq_by_cmp record_cmp r) rs ≡ true → P r
   one_in P [] r all any = absurd (false≢true any)
   one_in P (d ∷ ds) r all any = elim (eq_by_cmp record_cmp r d) as (λ b. eq_by_cmp record_cmp r d ≡ b → (b || list_any (eq_by_cmp record_cmp r) ds) ≡ true → P r) [

@@ -1,5 +1,5 @@
 -- Private: what a follower remembers of its last pull, and why that is enough.
-use Rattle.std.specs.Prelude.{◌≡◌, ◌<◌, ◌≤◌, ℕ, true, false, List, [], ◌∷◌, ◌++◌, Some, length}
+use Rattle.std.specs.Prelude.{◌≡◌, ◌<◌, ◌≤◌, ℕ, true, false, List, [], ◌++◌, Some, length}
 use Rattle.std.specs.FinSet.{contains}
 use Rattle.std.specs.List.{AllByRecursion, list_any}
 use mathlib.Core.List.{IsPrefix}
@@ -9,7 +9,7 @@ use Rattle.reg_set.specs.Compaction.{IsCompactionOf}
 use Rattle.reg_set.specs.LastRecords.{last}
 use Rattle.reg_topic.specs.declared.published.Item.{Item}
 use Rattle.reg_shared.specs.Held.{Held, IsSince, held_of, topic_at}
-use Rattle.reg_node.specs.Takes.{AreDrawn, taken}
+use Rattle.reg_node.specs.Takes.{AreDrawn, taken, takes_of}
 use Rattle.reg_node.specs.declared.take.Take.{Take}
 
 -- the takes are drawn from fronts of that one. All that was taken is below an offset that the topic has reached, and each last record below it was taken
@@ -38,8 +38,8 @@ abbrev pub NoNewsCatchUp : Type 0
 NoNewsCatchUp = (first : Held) (front : List Item) (takes : List Take) (upto : ℕ)
     → IsCaught first front takes upto → IsNews (held_of (topic_at first front)) upto [] → IsCaughtUp first front takes
 
--- else one take more is enough that has all that is kept from there on, and none of it was taken before
+-- else takes of all that is kept from there on are enough, and none of it was taken before
 abbrev pub NewsCatchUp : Type 0
-NewsCatchUp = (first : Held) (front : List Item) (takes : List Take) (upto : ℕ) (t : Take)
-    → IsCaught first front takes upto → t.read ≡ length front → IsNews (held_of (topic_at first front)) upto t.records
-    → IsCaughtUp first front (takes ++ t ∷ []) × (list_any (contains (taken takes)) t.records ≡ false)
+NewsCatchUp = (first : Held) (front : List Item) (takes : List Take) (upto : ℕ) (records : List Record)
+    → IsCaught first front takes upto → IsNews (held_of (topic_at first front)) upto records
+    → IsCaughtUp first front (takes ++ takes_of (length front) records) × (list_any (contains (taken takes)) records ≡ false)

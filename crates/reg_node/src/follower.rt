@@ -5,22 +5,22 @@ ghost use mathlib.Core.List.{IsPrefix};
 ghost use Rattle.reg_set.specs.Compaction.{IsCompactionOf};
 ghost use Rattle.reg_shared.specs.Held.{held_of, topic_at};
 ghost use Rattle.reg_node.specs.Caught.{IsNews};
-ghost use Rattle.reg_node.specs.Takes.{AreDrawn, Pulls, taken};
+ghost use Rattle.reg_node.specs.Takes.{AreDrawn, Pulls, taken, takes_of};
 
 use crate::laws::followers_catch_up;
 use crate::take::{Take, Taken};
 use crate::view::View;
-use base_text::Listed;
 use reg_feed::{Copies, FeedName, FeedReader, FeedWriter, NoPlace, Seen};
 use reg_records::Record;
 use reg_shared::{Shared, published_lists_fold};
 use reg_topic::Item;
 use std::alloc::AllocError;
+use std::collections::VecDeque;
 use std::marker::Model;
 use std::sync::Wait;
 
-/// Takes from the topic, and publishes to its node's views. Each take is from the kept set of a
-/// front of the topic's list that it had read, and these fronts never get shorter.
+/// Takes from the topic, and publishes to its node's views. Each take is one record of the kept set
+/// of a front of the topic's list that it had read, and these fronts never get shorter.
 ///
 /// Contracts see the front of the topic's list that it saw or learnt, beside the published takes and
 /// the pending ones.
@@ -35,6 +35,8 @@ pub struct Follower<
     topic: FeedReader<Item, Shared, N, S>,
     // In a `Box`, since a struct that holds a `FeedWriter` itself gets no generated drop.
     out: Box<FeedWriter<Take, Taken, M, U, R>>,
+    // The last of the pending takes, which `out` doesn't have yet.
+    rest: VecDeque<Take>,
     // The topic's next offset at the last pull. All that was taken is below it, and each last record
     // below it was taken.
     upto: u64,
@@ -55,9 +57,9 @@ impl<
 
     ghost Value = { List Item × (List Take × List Take) };
 
-    ghost view = { λ f. (f.topic, f.out.value) };
+    ghost view = { λ f. (f.topic, (f.out.value.0, f.out.value.1 ++ f.rest.items)) };
 
-    ghost invariant = { λ f. (M.first ≡ empty) × IsCaught N.first f.topic (f.out.value.0 ++ f.out.value.1) f.upto };
+    ghost invariant = { λ f. (M.first ≡ empty) × IsCaught N.first f.topic (f.out.value.0 ++ (f.out.value.1 ++ f.rest.items)) f.upto };
 }
 
 impl<
@@ -76,9 +78,11 @@ impl<
         requires { (out.value ≡ ([], [])) × (M.first ≡ empty) }
         ensures { result ≡ (topic, ([], [])) }
     {
+        let alloc = *Box::allocator(&out);
         Follower {
             topic,
             out,
+            rest: VecDeque::new(alloc),
             upto: 0,
         }
     }
@@ -115,18 +119,12 @@ impl<
         followers_catch_up();
         let found = read_news(&mut self.topic, self.upto)?;
         let next = found.next;
-        if found.records.as_slice().is_empty() {
+        if found.records.is_empty() {
             self.upto = next;
             return Ok(false);
         }
         let read = self.topic.seen().len();
-        let take = Take {
-            read,
-            records: found.records,
-        };
-        if self.out.append(take).is_err() {
-            return Err(AllocError);
-        }
+        add_takes(&mut self.rest, read, found.records)?;
         self.upto = next;
         Ok(true)
     }
@@ -139,6 +137,7 @@ impl<
         ensures told { IfOk result (λ seen. seen ≡ self.new.1.0) }
         ensures refused { OnErr result (self.new ≡ self.old) }
     {
+        append_all(&mut self.out, &mut self.rest)?;
         if self.out.has_pending() {
             self.out.publish()?;
         }
@@ -155,10 +154,43 @@ impl<
     }
 }
 
+/// Adds a take of each record behind them, or none. The only error is want of memory.
+fn add_takes(takes: &mut VecDeque<Take>, read: u64, records: Vec<Record>) -> Result<(), AllocError>
+    ensures added { OnOk result (takes.new.items ≡ takes.old.items ++ takes_of read records.items) }
+    ensures refused { OnErr result (takes.new.items ≡ takes.old.items) }
+{
+    takes.reserve(records.len())?;
+    for kept in records {
+        takes.push_back_reserved(Take { read, kept });
+    }
+    Ok(())
+}
+
+/// Appends the takes to a node's list. The only error is want of memory; those that weren't appended
+/// then stay where they are.
+fn append_all<M: FeedName<Take, Taken>, U: Copies<Take, Taken, M>, R: Wait + Drop>(
+    out: &mut FeedWriter<Take, Taken, M, U, R>,
+    takes: &mut VecDeque<Take>,
+) -> Result<(), AllocError>
+    ensures published { out.new.0 ≡ out.old.0 }
+    ensures pending { out.new.1 ++ takes.new.items ≡ out.old.1 ++ takes.old.items }
+    ensures all { OnOk result (takes.new.items ≡ []) }
+{
+    while let Some(take) = takes.pop_front() {
+        if let Err(refused) = out.append(take) {
+            takes.push_front_reserved(refused);
+            return Err(AllocError);
+        }
+    }
+    // A first pull may take a million records.
+    takes.shrink_to_fit();
+    Ok(())
+}
+
 /// Kept records from some offset on, with the next offset beside them.
 #[derive(Drop)]
 struct News {
-    records: Listed<Record>,
+    records: Vec<Record>,
     next: u64,
 }
 
@@ -167,14 +199,14 @@ fn read_news<N: FeedName<Item, Shared>, S: Copies<Item, Shared, N>>(
     topic: &mut FeedReader<Item, Shared, N, S>,
     from: u64,
 ) -> Result<News, AllocError>
-    ensures news { IfOk result (λ news. IsNews (held_of (topic_at N.first topic.new)) from news.records) }
+    ensures news { IfOk result (λ news. IsNews (held_of (topic_at N.first topic.new)) from news.records.items) }
     ensures next { IfOk result (λ news. news.next ≡ (topic_at N.first topic.new).next) }
     ensures longer { IsPrefix topic.old topic.new }
 {
     published_lists_fold();
     let found = topic.read(
         |shared| -> Result<News, AllocError>
-            ensures { IfOk result (λ news. IsNews shared.now from news.records × (news.next ≡ shared.now.next)) }
+            ensures { IfOk result (λ news. IsNews shared.now from news.records.items × (news.next ≡ shared.now.next)) }
         { copy_since(shared, from) },
     );
     match found {
@@ -185,11 +217,10 @@ fn read_news<N: FeedName<Item, Shared>, S: Copies<Item, Shared, N>>(
 
 /// What is new from an offset on. The only error is want of memory.
 fn copy_since(shared: &Shared, from: u64) -> Result<News, AllocError>
-    ensures { IfOk result (λ news. IsNews shared.now from news.records × (news.next ≡ shared.now.next)) }
+    ensures { IfOk result (λ news. IsNews shared.now from news.records.items × (news.next ≡ shared.now.next)) }
 {
-    let found = shared.since(from)?;
     Ok(News {
-        records: Listed::from(found),
+        records: shared.since(from)?,
         next: shared.next(),
     })
 }

@@ -2,18 +2,17 @@
 ghost use Rattle.std.specs.Prelude.{◌≡◌};
 ghost use Rattle.std.specs.FinSet.{empty};
 
-use base_text::Listed;
 use reg_feed::{FeedName, Fold};
 use reg_fold::Registry;
 use reg_records::Record;
 use std::alloc::{AllocError, Global};
 use std::marker::{Brand, Model};
 
-/// Records that a node took, with the number of the topic's items that it had read.
+/// A kept record that a node took, with the number of the topic's items that it had read.
 #[derive(Debug, Drop, Clone)]
 pub struct Take {
     pub read: u64,
-    pub records: Listed<Record>,
+    pub kept: Record,
 }
 
 /// What lookups read of all that a node took: the last records. Contracts see these.
@@ -58,7 +57,7 @@ impl Fold<Take> for Taken {
     ghost applied = { lasts_with_take };
 
     fn take_item(&mut self, item: &Take) -> Result<(), AllocError> {
-        self.registry.apply_all(item.records.as_slice())
+        self.registry.apply(&item.kept)
     }
 }
 

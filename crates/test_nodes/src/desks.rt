@@ -82,7 +82,8 @@ impl<
 
 /// Does the commands at a desk of the first node, and asks the second one. It tells the replies, and then
 /// a line each: what was counted; what is kept; what the desk answers; what the second node does before
-/// it takes anything, after that, and by a new view; and what a node does that is made anew.
+/// it takes anything; how many takes it has then, and what it answers; what it does by a new view; and how
+/// many takes a node has that is made anew, and what it answers.
 pub(crate) fn run_desk<
     'x,
     N: FeedName<Item, Shared>,
@@ -267,9 +268,10 @@ fn catch_up<
     renew(alloc, &mut node, out)
 }
 
-/// Asks the node once it took what is new.
+/// Writes how many takes the node has once it took what is new, and asks it.
 fn take_all<A: Peer>(alloc: Global, node: &mut A, out: &mut String) -> Result<(), AllocError> {
-    node.take()?;
+    let takes = node.take()?;
+    write!(out, "{takes} takes\n")?;
     write_answers(alloc, node, out)
 }
 

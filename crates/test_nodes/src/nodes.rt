@@ -17,8 +17,8 @@ pub(crate) trait Asked {
 
 /// A node, whatever its feed is named.
 pub(crate) trait Peer: Asked {
-    /// Takes what is new in the topic, and shows it.
-    fn take(&mut self) -> Result<(), AllocError>;
+    /// Takes what is new in the topic, and shows it. Gives how many takes its list then has.
+    fn take(&mut self) -> Result<u64, AllocError>;
 
     /// Makes its view anew.
     fn renew(&mut self) -> Result<(), AllocError>;
@@ -92,11 +92,11 @@ impl<
     U: Copies<Take, Taken, M>,
     R: Wait + Drop,
 > Peer for Node<N, S, M, U, R> {
-    fn take(&mut self) -> Result<(), AllocError> {
+    fn take(&mut self) -> Result<u64, AllocError> {
         self.follower.pull()?;
         let told = self.follower.publish()?;
         self.view.learn(&told);
-        Ok(())
+        Ok(told.len())
     }
 
     fn renew(&mut self) -> Result<(), AllocError> {

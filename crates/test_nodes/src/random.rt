@@ -155,7 +155,7 @@ fn take<P: Source, A: Peer>(
     place: usize,
     beside: &mut Beside,
 ) -> Result<bool, AllocError> {
-    node.take()?;
+    let _takes = node.take()?;
     let kept = source.kept()?;
     beside.take(place, kept)
 }

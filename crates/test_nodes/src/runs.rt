@@ -18,6 +18,8 @@ struct Row {
     submits: &'static str,
     /// How many batches there are, and which records are kept.
     kept: &'static str,
+    /// How many takes a node has that took all of it at once: one of each kept record.
+    takes: &'static str,
     /// What each node answers that has seen all.
     answers: &'static str,
 }
@@ -42,6 +44,7 @@ t { "name":"R", "fields":[ ], "type":"record" }"#,
         replies: "{\"id\":1} fresh\n{\"id\":1} fresh\n{\"id\":1} fresh\n",
         submits: "3 submits\n",
         kept: "2 batches, 2 kept from 0 to 1\n",
+        takes: "2 takes\n",
         answers: "200 [1] 200 {\"compatibilityLevel\":\"BACKWARD\"}\n",
     },
     Row {
@@ -50,6 +53,7 @@ t { "name":"R", "fields":[ ], "type":"record" }"#,
         replies: "{\"compatibility\":\"FULL\"} fresh\n",
         submits: "1 submits\n",
         kept: "1 batches, 1 kept from 0 to 0\n",
+        takes: "1 takes\n",
         answers: "404 {\"error_code\":40401,\"message\":\"Subject not found\"} 200 {\"compatibilityLevel\":\"FULL\"}\n",
     },
     Row {
@@ -58,6 +62,7 @@ t { "name":"R", "fields":[ ], "type":"record" }"#,
         replies: LEVELS_SET,
         submits: "62 submits\n",
         kept: "62 batches, 62 kept from 0 to 61\n",
+        takes: "62 takes\n",
         answers: NONE_SET,
     },
     Row {
@@ -66,6 +71,7 @@ t { "name":"R", "fields":[ ], "type":"record" }"#,
         replies: LEVELS_SET,
         submits: "64 submits\n",
         kept: "64 batches, 1 kept from 63 to 63\n",
+        takes: "1 takes\n",
         answers: NONE_SET,
     },
     Row {
@@ -74,6 +80,7 @@ t { "name":"R", "fields":[ ], "type":"record" }"#,
         replies: LEVELS_SET,
         submits: "66 submits\n",
         kept: "66 batches, 3 kept from 63 to 65\n",
+        takes: "3 takes\n",
         answers: NONE_SET,
     },
     Row {
@@ -82,6 +89,7 @@ t { "name":"R", "fields":[ ], "type":"record" }"#,
         replies: LEVELS_SET,
         submits: "128 submits\n",
         kept: "128 batches, 1 kept from 127 to 127\n",
+        takes: "1 takes\n",
         answers: NONE_SET,
     },
 ];
@@ -118,9 +126,9 @@ fn expected(alloc: Global, row: &Row) -> Result<String, AllocError> {
     for _time in 0..row.times {
         text.push_str(row.replies)?;
     }
-    let answers = row.answers;
+    let Row { takes, answers, .. } = row;
     write!(text, "{}{answers}{}", row.submits, row.kept)?;
-    write!(text, "{UNSEEN}{answers}{answers}{answers}")?;
+    write!(text, "{UNSEEN}{takes}{answers}{answers}{takes}{answers}")?;
     Ok(text)
 }
 

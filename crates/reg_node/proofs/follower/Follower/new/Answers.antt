@@ -6,4 +6,8 @@ use Rattle.reg_node.proofs.follower.Follower.new.Goals as goal
 
 pub invariant_of-result : goal.invariant_of-result
 invariant_of-result g c =
-    (c.requires.1, subst (λ (v : List Take × List Take). IsCaught g.N.FeedName.first c.args.topic (v.0 ++ v.1) 0) (sym c.requires.0) (caught_none g.N.FeedName.first c.args.topic))
+    let first = g.N.FeedName.first in
+    let front = c.args.topic in
+    let rest : List Take = c.new.result.items in
+    let none = subst (λ (w : List Take). IsCaught first front w 0) (sym c.new.ensures.items) (caught_none first front) in
+    (c.requires.1, subst (λ (v : List Take × List Take). IsCaught first front (v.0 ++ (v.1 ++ rest)) 0) (sym c.requires.0) none)
