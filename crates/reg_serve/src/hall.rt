@@ -10,7 +10,7 @@ use std::io;
 use std::net::{Net, TcpListener, TcpStream};
 use std::os::fd::AsRawFd;
 use std::sync::Wait;
-use std::sync::atomic::{AtomicBool, Ordering};
+use std::sync::atomic::{AtomicBool, AtomicUsize, Ordering};
 
 /// What a worker takes up.
 #[derive(Drop)]
@@ -39,6 +39,8 @@ pub(crate) struct Hall<T: Drop> {
     waker: Waker,
     /// Whether the doorkeeper waits, or is about to.
     asleep: AtomicBool,
+    /// How many workers wait for a connection.
+    idle: AtomicUsize,
     /// Whose turn it is to write.
     pub(crate) turns: Turns<T>,
 }
@@ -70,6 +72,7 @@ impl<T: Drop> Hall<T> {
             registry,
             waker,
             asleep: AtomicBool::new(false),
+            idle: AtomicUsize::new(0),
             turns: Turns::new(alloc, workers, connections)?,
         };
         Ok((hall, poll))
@@ -89,15 +92,18 @@ impl<T: Drop> Hall<T> {
 
     /// Waits for a connection to attend to; none where there is nothing more to do.
     pub(crate) fn take<R: Wait>(&self, rt: &R) -> Option<Connection<TcpStream, T>> {
-        match self.ready.recv(rt) {
+        self.idle.fetch_add(1, Ordering::SeqCst);
+        let job = self.ready.recv(rt);
+        self.idle.fetch_sub(1, Ordering::SeqCst);
+        match job {
             Ok(Job::Attend(connection)) => Some(connection),
             Ok(Job::End) | Err(_) => None,
         }
     }
 
-    /// Whether no connection waits for a worker.
+    /// Whether each connection that is ready has a worker that waits for it.
     pub(crate) fn is_calm(&self) -> bool {
-        self.ready.is_empty()
+        self.ready.len() <= self.idle.load(Ordering::SeqCst)
     }
 
     /// Gives a place back to the doorkeeper, with its connection if it isn't closed.

@@ -16,7 +16,8 @@ pub(crate) const READ_SIZE: usize = 16_384;
 /// connection goes behind those that are ready.
 const GATHERED: usize = 65_536;
 
-/// How many times in a row a worker finds no other connection ready before it stays with its own.
+/// How many times in a row a worker finds a worker for each connection that is ready, before it stays
+/// with its own.
 const CALM: u64 = 3;
 
 /// What a worker keeps from one connection to the next.
@@ -26,7 +27,7 @@ pub(crate) struct Bench {
     /// Answers that aren't sent yet.
     out: Vec<u8>,
     buffer: Vec<u8>,
-    /// How many times in a row no other connection was ready.
+    /// How many times in a row each connection that was ready had a worker.
     calm: u64,
 }
 
@@ -90,8 +91,8 @@ pub(crate) fn work<R: Wait, D: SharedDesk>(
     }
 }
 
-/// Answers what is whole on a connection, and stays with it while no other one is ready, once that was so
-/// some times in a row. Before it leaves one it looks whether more has come.
+/// Answers what is whole on a connection, and stays with it while each other one that is ready has a
+/// worker, once that was so some times in a row. Before it leaves one it looks whether more has come.
 fn attend<R: Wait, D: SharedDesk>(
     rt: &R,
     alloc: Global,
@@ -302,7 +303,7 @@ fn closed<T: Drop>(connection: &mut Connection<TcpStream, T>) -> After {
     }
 }
 
-/// Whether no other connection has been ready for some times in a row.
+/// Whether each connection that was ready has had a worker for some times in a row.
 fn is_lull<T: Drop>(hall: &Hall<T>, bench: &mut Bench) -> bool {
     if !hall.is_calm() {
         bench.calm = 0;
