@@ -1,13 +1,13 @@
 // How the program ends.
 ghost use Rattle.std.specs.Prelude.{◌≡◌, Some};
-ghost use Rattle.reg_program.specs.Ended.{error_text, errors_written, exit_status, sketch_error_text};
+ghost use Rattle.reg_program.specs.Ended.{error_text, exit_status, sketch_error_text};
 
 use crate::folding::{FoldError, Folded};
 use crate::sketching::SketchError;
 use std::error::Error;
 use std::fmt;
 
-/// How the program ends. It is shown as the text that goes to standard error.
+/// How the program ends.
 #[derive(Debug, Drop)]
 pub enum Ended {
     Usage,
@@ -29,30 +29,6 @@ impl Ended {
             Ended::Failed(_) => 1,
             Ended::Unsketched(SketchError::Reader(_) | SketchError::Writer(_)) => 2,
             Ended::Unsketched(_) => 1,
-        }
-    }
-}
-
-impl fmt::Display for Ended {
-    ghost output = { λ ended. Some (errors_written ended) };
-
-    fn fmt<W: fmt::Write>(&self, f: &mut fmt::Formatter<W>) -> fmt::Result {
-        match self {
-            Ended::Usage => writeln!(
-                f,
-                "usage: registryd fold | registryd sketch | registryd serve PORT NODES WORKERS"
-            ),
-            Ended::Folded(folded) => {
-                let count = folded.foreign;
-                if count > 0 {
-                    writeln!(f, "foreign {count}")
-                } else {
-                    Ok(())
-                }
-            }
-            Ended::Failed(error) => writeln!(f, "{error}"),
-            Ended::Sketched => Ok(()),
-            Ended::Unsketched(error) => writeln!(f, "{error}"),
         }
     }
 }

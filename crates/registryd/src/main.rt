@@ -7,59 +7,20 @@
 #![tactic(auto)]
 
 mod serving;
+mod words;
 
-use crate::serving::Ports;
-use reg_program::{Command, Ended, command_of, fold, sketch};
-use reg_records::Device;
-use reg_service::{NoGate, Size, serve_nodes};
-use std::env;
-use std::io::{self, BufReader, BufWriter};
+use crate::serving::serve_ports;
+use crate::words::run_words;
 use std::process::ExitCode;
 
-fn main(rt: HostRuntime) -> io::Result<ExitCode> {
+fn main(rt: HostRuntime) -> ExitCode {
     let alloc = rt.alloc();
-    let words: Vec<String> = env::args(&rt)?.collect(alloc)?;
-    let ended = match command_of(&words) {
-        Command::Usage => Ended::Usage,
-        Command::Fold => {
-            let mut reader = Device::new(BufReader::new(alloc, rt.reader())?);
-            let mut writer = Device::new(BufWriter::new(alloc, io::writer(&rt))?);
-            match fold(alloc, &mut reader, &mut writer) {
-                Ok(folded) => Ended::Folded(folded),
-                Err(error) => Ended::Failed(error),
-            }
+    let mut serve = |port, nodes, workers| serve_ports(&rt, alloc, port, nodes, workers);
+    match run_words(&rt, alloc, rt.stderr(), &mut serve) {
+        Ok(status) => ExitCode::from(status),
+        Err(_refused) => {
+            let _told = eprintln!(rt; "OutOfMemory");
+            ExitCode::FAILURE
         }
-        Command::Sketch => {
-            let mut reader = Device::new(BufReader::new(alloc, rt.reader())?);
-            let mut writer = Device::new(BufWriter::new(alloc, io::writer(&rt))?);
-            match sketch(alloc, &mut reader, &mut writer) {
-                Ok(()) => Ended::Sketched,
-                Err(error) => Ended::Unsketched(error),
-            }
-        }
-        Command::Serve {
-            port,
-            nodes,
-            workers,
-        } => {
-            let size = Size {
-                nodes: usize::try_from(nodes).unwrap_or(1),
-                workers: u32::try_from(workers).unwrap_or(1),
-                limit: None,
-            };
-            let mut ports = Ports {
-                rt: &rt,
-                alloc,
-                port,
-                nodes,
-            };
-            if let Err(fault) = serve_nodes(&rt, alloc, size, &NoGate, &mut ports) {
-                eprintln!(rt; "{fault}")?;
-                return Ok(ExitCode::from(1));
-            }
-            return Ok(ExitCode::SUCCESS);
-        }
-    };
-    eprint!(rt; "{ended}")?;
-    Ok(ExitCode::from(ended.status()))
+    }
 }

@@ -1,17 +1,56 @@
-// The way to nodes that serve until the program is stopped.
-use reg_service::{Entrance, StartFault, listen};
+// Nodes that serve until the program is stopped.
+use reg_service::{Entrance, NoGate, Size, StartFault, listen, serve_nodes};
 use std::alloc::Global;
-use std::io::Print;
+use std::io::{Eprint, Print};
 use std::net::{IpAddr, Ipv4Addr, Net, TcpListener, TcpStream};
+use std::sync::Wait;
+use std::thread::Threads;
+use std::time::Clock;
+
+/// Serves at so many ports of 127.0.0.1 by nodes of so many workers, and returns the exit status.
+///
+/// It returns only where the nodes can't be started: what is wrong is then a line on standard error,
+/// and the status is 1, also where that line can't be written.
+pub(crate) fn serve_ports<
+    R: Threads
+        + Wait
+        + Clock
+        + Net<Listener = TcpListener, Stream = TcpStream>
+        + Print
+        + Eprint
+        + Sync
+        + Send
+        + Copy
+        + Drop,
+>(rt: R, alloc: Global, port: u64, nodes: u64, workers: u64) -> u8 {
+    let size = Size {
+        nodes: usize::try_from(nodes).unwrap_or(1),
+        workers: u32::try_from(workers).unwrap_or(1),
+        limit: None,
+    };
+    let mut ports = Ports {
+        rt,
+        alloc,
+        port,
+        nodes,
+    };
+    match serve_nodes(rt, alloc, size, &NoGate, &mut ports) {
+        Ok(()) => 0,
+        Err(fault) => {
+            let _told = rt.eprintln(fault);
+            1
+        }
+    }
+}
 
 /// Ports of 127.0.0.1, one a node.
 #[derive(Drop)]
-pub(crate) struct Ports<R: Drop> {
-    pub(crate) rt: R,
-    pub(crate) alloc: Global,
+struct Ports<R: Drop> {
+    rt: R,
+    alloc: Global,
     /// The first one.
-    pub(crate) port: u64,
-    pub(crate) nodes: u64,
+    port: u64,
+    nodes: u64,
 }
 
 impl<R: Net<Listener = TcpListener, Stream = TcpStream> + Print + Drop> Entrance for Ports<R> {

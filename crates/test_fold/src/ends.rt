@@ -1,7 +1,7 @@
 // How folds of logs alone end, and what the program says of it.
-use crate::folds::{ended, is_written};
-use reg_program::{Command, Ended, FoldError, SketchError, command_of};
-use reg_records::{Device, LINE_LIMIT, LogFault};
+use crate::folds::{is_written, said, words_of};
+use reg_program::{Command, command_of};
+use reg_records::{Device, LINE_LIMIT};
 use std::alloc::{AllocError, Global};
 
 /// Logs without a request, and what is said of them: the text on standard error, the status, and how
@@ -50,8 +50,8 @@ static ENDS: [(&str, &str); 14] = [
 fn told(alloc: Global, log: &str) -> Result<String, AllocError> {
     let mut reader = Device::new(log.as_bytes());
     let mut writer = Device::new(Vec::new(alloc));
-    let ended = ended(alloc, &mut reader, &mut writer);
-    format!(in alloc; "{ended}{} {}", ended.status(), writer.into_inner().len())
+    let said = said(alloc, &mut reader, &mut writer)?;
+    format!(in alloc; "{said} {}", writer.into_inner().len())
 }
 
 fn is_told(alloc: Global, log: &str, wanted: &str) -> bool {
@@ -121,54 +121,13 @@ static WORDS: [(&str, Command); 23] = [
 ];
 
 fn asked(alloc: Global, line: &str) -> Result<Command, AllocError> {
-    let mut words = Vec::new(alloc);
-    for word in line.split(' ') {
-        words.push(String::from_str(alloc, word)?)?;
-    }
-    Ok(command_of(&words))
+    Ok(command_of(&words_of(alloc, line)?))
 }
 
 #[test]
 fn words_are_commands(rt: HostRuntime) {
     for (line, command) in &WORDS {
         assert!(rt; asked(rt.alloc(), line) == Ok(*command), "{line}");
-    }
-}
-
-/// How the program ends where no log says it, and the text on standard error with the status.
-const OTHER_ENDS: [(Ended, &str); 9] = [
-    (
-        Ended::Usage,
-        "usage: registryd fold | registryd sketch | registryd serve PORT NODES WORKERS\n2",
-    ),
-    (Ended::Sketched, "0"),
-    (Ended::Unsketched(SketchError::ReadFault), "ReadFault\n1"),
-    (Ended::Unsketched(SketchError::WriteFault), "WriteFault\n1"),
-    (
-        Ended::Unsketched(SketchError::OutOfMemory),
-        "OutOfMemory\n1",
-    ),
-    (Ended::Failed(FoldError::ReadFault), "ReadFault\n1"),
-    (Ended::Failed(FoldError::WriteFault), "WriteFault\n1"),
-    (Ended::Failed(FoldError::OutOfMemory), "OutOfMemory\n1"),
-    (
-        Ended::Failed(FoldError::Log {
-            line: 1_000_001,
-            fault: LogFault::TooManyLines,
-        }),
-        "line 1000001: TooManyLines\n2",
-    ),
-];
-
-fn is_said(alloc: Global, ended: &Ended, wanted: &str) -> bool {
-    let said = format!(in alloc; "{ended}{}", ended.status());
-    matches!(said, Ok(said) if said.as_str() == wanted)
-}
-
-#[test]
-fn other_ends_are_said(rt: HostRuntime) {
-    for (ended, wanted) in &OTHER_ENDS {
-        assert!(rt; is_said(rt.alloc(), ended, wanted), "{wanted}");
     }
 }
 

@@ -4,6 +4,8 @@
 #[cfg(test)]
 mod answers;
 #[cfg(test)]
+mod clients;
+#[cfg(test)]
 mod cuts;
 #[cfg(test)]
 mod ends;
@@ -23,6 +25,8 @@ mod raw_table;
 mod readers;
 #[cfg(test)]
 mod rows;
+#[cfg(test)]
+mod runs;
 #[cfg(test)]
 mod stops;
 #[cfg(test)]

@@ -2,7 +2,7 @@
 //
 // A row is the bytes of an input, the text on standard error with the status, and the responses, parted
 // by ` => `, in the writing of the table of raw requests.
-use crate::folds::ended;
+use crate::folds::said;
 use crate::raw_table::{push_bytes, push_text, responses_of};
 use reg_records::Device;
 use std::alloc::{AllocError, Global};
@@ -49,8 +49,7 @@ fn output_of(alloc: Global, told: &str) -> Result<Vec<u8>, Fail> {
 fn gives(alloc: Global, input: &[u8], end: &[u8], output: &[u8]) -> Result<bool, AllocError> {
     let mut reader = Device::new(input);
     let mut writer = Device::new(Vec::new(alloc));
-    let ended = ended(alloc, &mut reader, &mut writer);
-    let said = format!(in alloc; "{ended}{}", ended.status())?;
+    let said = said(alloc, &mut reader, &mut writer)?;
     Ok(said.as_bytes() == end && writer.into_inner().as_slice() == output)
 }
 

@@ -1,5 +1,5 @@
 // Whole sketches: an input, what is written, and how the program ends.
-use reg_program::{Ended, sketch};
+use reg_program::{Ended, run, sketch};
 use reg_records::Device;
 use std::alloc::{AllocError, Global};
 use std::io::{BufRead, Write};
@@ -24,9 +24,22 @@ pub(crate) fn ended<R: BufRead, W: Write>(
 fn told(alloc: Global, input: &[u8]) -> Result<String, AllocError> {
     let mut reader = Device::new(input);
     let mut writer = Device::new(Vec::new(alloc));
-    let ended = ended(alloc, &mut reader, &mut writer);
+    let mut errors = Device::new(Vec::new(alloc));
+    let mut words = Vec::new(alloc);
+    words.push(String::from_str(alloc, "registryd")?)?;
+    words.push(String::from_str(alloc, "sketch")?)?;
+    let mut serve = |_port: u64, _nodes: u64, _workers: u64| 9u8;
+    let status = run(
+        alloc,
+        &words,
+        &mut reader,
+        &mut writer,
+        &mut errors,
+        &mut serve,
+    );
     let mut told = String::from_utf8_lossy(alloc, writer.into_inner().as_slice())?;
-    write!(told, "{ended}{}", ended.status())?;
+    told.push_str(String::from_utf8_lossy(alloc, errors.into_inner().as_slice())?.as_str())?;
+    write!(told, "{status}")?;
     Ok(told)
 }
 
