@@ -5,5 +5,6 @@ pub mod Fronts
 pub mod InPlace
 pub mod Said
 pub mod Shrunk
+pub mod Sorted
 pub mod Walk
 pub mod Words

@@ -2,11 +2,11 @@
 ghost use Rattle.std.specs.Prelude.{◌≡◌, List, ℕ, IfErr, IfOk, IfSome, OnErr, OnOk};
 ghost use Rattle.std.specs.Io.KnownBytes.{Appends};
 ghost use Rattle.reg_journal.specs.Found.{HasFault};
-ghost use Rattle.reg_keeping.specs.Compacted.{IsCompacted};
 ghost use Rattle.reg_keeping.specs.Filter.{IsFilterRefusal, IsNoReading, filter_error_of};
+ghost use Rattle.reg_keeping.specs.Sorted.{IsSortedCompaction};
 ghost use Rattle.reg_keeping.specs.declared.filter.FilterError.TheVariants.{WriteFault};
 
-use crate::compacting::compacted;
+use crate::sorting::compacted_in_order;
 use reg_records::{LogError, LogFault};
 use std::alloc::Global;
 use std::error::Error;
@@ -59,19 +59,19 @@ impl fmt::Display for FilterError {
 
 impl Error for FilterError {}
 
-/// Reads a log to the end of the input, and writes what compacting leaves of it. What stands behind the log's empty
-/// line is left out. The log is read to its end before the first byte is written.
+/// Reads a log to the end of the input, and writes what compacting leaves of it, by the offsets. What stands behind the
+/// log's empty line is left out. The log is read to its end before the first byte is written.
 pub fn compact<R: Read, W: Write>(
     alloc: Global,
     reader: &mut R,
     writer: &mut W,
 ) -> Result<(), FilterError>
-    ensures written { OnOk result (IfSome (R.remaining reader.old) (λ input. (out : List ℕ) × IsCompacted input out
+    ensures written { OnOk result (IfSome (R.remaining reader.old) (λ input. (out : List ℕ) × IsSortedCompaction input out
         × Appends (W.contents writer.old) (W.contents writer.new) out)) }
     ensures refused { IfErr result (IsFilterRefusal (R.remaining reader.old) (W.contents writer.old) (W.contents writer.new)) }
 {
     let input = read_input(alloc, reader)?;
-    match compacted(alloc, &input) {
+    match compacted_in_order(alloc, &input) {
         Ok(output) => write_output(writer, &output),
         Err(e) => Err(filter_error(e)),
     }

@@ -9,6 +9,7 @@ mod in_place;
 mod laws;
 mod opening;
 mod shrinking;
+mod sorting;
 mod walk;
 mod words;
 
@@ -18,4 +19,5 @@ pub use filter::{FilterError, compact, filter_error, read_input, write_output};
 pub use in_place::{CompactError, compact_journal, compact_superseded};
 pub use laws::compactions_stand_for_logs;
 pub use opening::open_aside;
+pub use sorting::compacted_in_order;
 pub use words::{Command, USAGE, command_of};

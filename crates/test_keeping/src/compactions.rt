@@ -1,10 +1,10 @@
 // What compacting leaves.
-use reg_keeping::{compact, compacted};
+use reg_keeping::{compact, compacted, compacted_in_order};
 use std::alloc::Global;
 use std::test::Fail;
 
 /// A log, and what is left of it: lines are parted by `|`, and their fields by `;`.
-const ROWS: [(&str, &str); 12] = [
+const ROWS: [(&str, &str); 11] = [
     ("", ""),
     ("|", ""),
     ("0;{'keytype':'NOOP'};null|", "0;{'keytype':'NOOP'};null|"),
@@ -28,11 +28,6 @@ const ROWS: [(&str, &str); 12] = [
         "3;{'keytype':'NOOP'};null|3;{'keytype':'NOOP'};null|",
         "3;{'keytype':'NOOP'};null|",
     ),
-    // Lines keep their order.
-    (
-        "7;{'keytype':'MODE'};a|2;{'keytype':'NOOP'};null|",
-        "7;{'keytype':'MODE'};a|2;{'keytype':'NOOP'};null|",
-    ),
     // A foreign line stays only where it alone has the greatest offset.
     (
         "0;{'keytype':'NOOP'};null|1;x;y|",
@@ -48,6 +43,33 @@ const ROWS: [(&str, &str); 12] = [
     ),
     // What follows the empty line is no part of the log.
     ("0;x;y||1;x;y|", "0;x;y|"),
+];
+
+/// Logs whose offsets don't rise, and what is left of them: in its place, and in the order of the offsets.
+const UNORDERED: [(&str, &str, &str); 4] = [
+    (
+        "7;{'keytype':'MODE'};a|2;{'keytype':'NOOP'};null|",
+        "7;{'keytype':'MODE'};a|2;{'keytype':'NOOP'};null|",
+        "2;{'keytype':'NOOP'};null|7;{'keytype':'MODE'};a|",
+    ),
+    // What is superseded goes, wherever it stands.
+    (
+        "9;{'keytype':'MODE'};a|3;{'keytype':'NOOP'};null|1;{'keytype':'CONFIG'};b|4;{'keytype':'MODE'};c|",
+        "9;{'keytype':'MODE'};a|3;{'keytype':'NOOP'};null|1;{'keytype':'CONFIG'};b|",
+        "1;{'keytype':'CONFIG'};b|3;{'keytype':'NOOP'};null|9;{'keytype':'MODE'};a|",
+    ),
+    // Lines of one offset keep their order.
+    (
+        "5;{'keytype':'NOOP'};null|5;{'keytype':'MODE'};a|10;{'keytype':'CONFIG','subject':'s'};b|1;{'keytype':'CONFIG'};b|",
+        "5;{'keytype':'NOOP'};null|5;{'keytype':'MODE'};a|10;{'keytype':'CONFIG','subject':'s'};b|1;{'keytype':'CONFIG'};b|",
+        "1;{'keytype':'CONFIG'};b|5;{'keytype':'NOOP'};null|5;{'keytype':'MODE'};a|10;{'keytype':'CONFIG','subject':'s'};b|",
+    ),
+    // A foreign line that stays has the greatest offset, so it is the last.
+    (
+        "8;x;y|6;{'keytype':'MODE'};a|2;{'keytype':'NOOP'};null|",
+        "6;{'keytype':'MODE'};a|2;{'keytype':'NOOP'};null|8;x;y|",
+        "2;{'keytype':'NOOP'};null|6;{'keytype':'MODE'};a|8;x;y|",
+    ),
 ];
 
 /// The bytes that a row spells.
@@ -77,6 +99,24 @@ fn the_last_records_are_left(rt: HostRuntime) -> Result<(), Fail> {
             found == left
                 && written == left
                 && compacted(alloc, &left).map_err(|_| "refused")? == left
+        );
+    }
+    Ok(())
+}
+
+#[test]
+fn a_filter_orders_what_is_left(rt: HostRuntime) -> Result<(), Fail> {
+    let alloc = rt.alloc();
+    for (log, in_place, ordered) in UNORDERED {
+        let log = text(alloc, log)?;
+        let ordered = text(alloc, ordered)?;
+        let found = compacted(alloc, &log).map_err(|_| "refused")?;
+        assert!(rt; found == text(alloc, in_place)?);
+        let mut written = Vec::new(alloc);
+        compact(alloc, &mut &log[..], &mut written).map_err(|_| "refused")?;
+        assert!(rt;
+            written == ordered
+                && compacted_in_order(alloc, &ordered).map_err(|_| "refused")? == ordered
         );
     }
     Ok(())
