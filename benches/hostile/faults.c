@@ -1,7 +1,8 @@
 // Refuses allocations and shortens reads and writes of a program: cc -shared -fPIC -O2 -o faults.so faults.c -ldl, and LD_PRELOAD.
 // FAULTS names a file of 32 bytes that is shared with whoever steers it, four numbers of 64 bits in this order: each
 // allocation is refused that makes the second number a multiple of the first, where that isn't 0; the second counts
-// allocations; where the third is one, sockets give and take 1 to 7 bytes at a time, and every seventh call is interrupted.
+// allocations; where the third is one, sockets give and take 1 to 7 bytes at a time, and every seventh call is interrupted;
+// the allocation of the fourth number is refused alone.
 #define _GNU_SOURCE
 #include <dlfcn.h>
 #include <errno.h>
@@ -26,7 +27,7 @@ __attribute__((constructor)) static void begin(void) {
 static int refuses(void) {
     if (!shared) return 0;
     uint64_t period = shared[0], n = __sync_add_and_fetch(&shared[1], 1);
-    return period && n % period == 0;
+    return (period && n % period == 0) || n == shared[3];
 }
 
 #define REAL(name) static __typeof__(&name) real; if (!real) real = (__typeof__(&name))dlsym(RTLD_NEXT, #name)

@@ -22,9 +22,10 @@ shared = mmap.mmap(steering.fileno(), 32)
 wrong = 0
 
 
-def steer(period=0, short=0):
+def steer(period=0, short=0, only=0):
     shared[0:8] = struct.pack("Q", period)
     shared[16:24] = struct.pack("Q", short)
+    shared[24:32] = struct.pack("Q", only)
 
 
 def allocations():
@@ -266,8 +267,8 @@ def fold():
 
     def run(at):
         """Refuses the allocation of that number alone."""
-        steer(period=at)
         shared[8:16] = struct.pack("Q", 0)
+        steer(only=at)
         p = subprocess.run([PROGRAM, "fold"], input=data, capture_output=True, timeout=60,
                            env=dict(os.environ, LD_PRELOAD=SHIM, FAULTS=STEER))
         steer()
@@ -289,8 +290,7 @@ def fold():
     if whole.returncode or len(parts(whole.stdout)) != len(RUN):
         bad(("fold", whole))
     ended = memory_told = 0
-    # From a number above half of all on, only that one allocation is refused.
-    for at in range(total // 2 + 1, total + 1):
+    for at in range(1, total + 1):
         p = run(at)
         got = parts(p.stdout)
         if p.returncode:
@@ -301,7 +301,7 @@ def fold():
             bad((at, p.stdout[-100:]))
         else:
             memory_told += memory_answer in got
-    print("fold of a stored run: %d allocations, the later half refused in turn: %d ended with OutOfMemory, %d answered 50001 memory" % (total, ended, memory_told))
+    print("fold of a stored run: %d allocations, each refused in turn: %d ended with OutOfMemory, %d answered 50001 memory" % (total, ended, memory_told))
 
 
 for name in NAMES:
