@@ -148,6 +148,7 @@ class Client(threading.Thread):
 def kill():
     path, kills = FOLDER + "/kill", int(os.environ.get("KILLS", "100"))
     states, made, told, compactions, unsure = [{} for _ in range(4)], [[0] for _ in range(4)], 0, 0, 0
+    names = {}
     open(path, "w").write('1\t{"keytype":"CONFIG","subject":null,"magic":0}\t{"compatibilityLevel":"NONE"}\n')
     for turn in range(kills + 1):
         if turn % 2 == 0 and os.path.exists(path):
@@ -162,7 +163,7 @@ def kill():
             bad("it doesn't start", kept.text())
             return
         c = kept.connect(turn % 3)
-        names, greatest = {}, 0
+        greatest = 0
         for k in range(4):
             for subject, wanted in list(states[k].items()):
                 got = state(c, subject)
@@ -179,7 +180,7 @@ def kill():
         status, got = ask(c, "POST", "/subjects/z/versions", {"schema": extra})
         old = state(c, "z")[0] if status == 200 else {}
         greatest = max([greatest] + [i for i, s, _ in old.values() if s != plain(extra)])
-        if status != 200 or got["id"] != greatest + 1:
+        if status != 200 or got["id"] <= greatest:
             bad("ids don't go on", turn, got, greatest)
         c.close()
         if turn == kills:

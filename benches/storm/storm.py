@@ -73,7 +73,7 @@ def honest(client, count, out):
             known.pop(subject)
         elif known.get(subject):
             id, text = rng.choice(known[subject])
-            # An id is given again once no version of it stands; each of these stands.
+            # A version of each of these ids stands.
             status, got = ask(c, "GET", "/schemas/ids/%d" % id)
             wrong += status != 200 or got["schema"] != json.dumps(json.loads(text), sort_keys=True, separators=(",", ":"))
         else:

@@ -48,6 +48,7 @@ module _ (S T : Records) where
       in_value (values.Mode mode) = refl
       in_value (values.DeleteSubject subject version) = refl
       in_value values.Noop = refl
+      in_value (values.IdMark id) = refl
 
       and_then : (o : Option Value) → option_and_then (entry_in T r.offset) o ≡ option_and_then (entry_in S r.offset) o
       and_then None = refl

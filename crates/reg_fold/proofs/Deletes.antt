@@ -35,6 +35,7 @@ deleted_in_key (keys.Config scope) = []
 deleted_in_key (keys.Mode scope) = []
 deleted_in_key (keys.DeleteSubject s) = s
 deleted_in_key keys.Noop = []
+deleted_in_key keys.IdMark = []
 
 different : (s t : List ℕ) (v : ℕ) → keys.DeleteSubject s ≡ keys.Schema t v → ⊥
 different s t v e = cc
@@ -77,6 +78,7 @@ module _ (S T : Records) (of_S : EntriesAreOfLasts S) (of_T : EntriesAreOfLasts 
   of_value x (Some (values.Mode mode)) is lasts under = refl
   of_value x (Some (values.DeleteSubject s version)) is lasts under = refl
   of_value x (Some values.Noop) is lasts under = refl
+  of_value x (Some (values.IdMark id)) is lasts under = refl
 
   -- the entries are those before, those of the subject marked anew
   pub after_own_delete : LastIsGreatest → (p : Place) → finmap.get (entry_map T) p ≡ option_map remarked (finmap.get (entry_map S) p)

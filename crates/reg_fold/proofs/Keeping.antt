@@ -1,5 +1,5 @@
 -- What a registry keeps, as a whole.
-use Rattle.std.proofs.Common.{◌≡◌, Bool, false, ◌||◌, ◌&&◌, List, [], ◌∷◌, None, option_and_then, refl, sym, ap, ◌∙◌}
+use Rattle.std.proofs.Common.{◌≡◌, Bool, false, ◌||◌, ◌&&◌, List, [], ◌∷◌, None, option_and_then, unwrap_or, refl, sym, ap, ◌∙◌}
 use Rattle.std.proofs.lemmas.Bool.{false≢true}
 use Rattle.std.proofs.lemmas.Cmp.{tied_itself}
 use Rattle.std.specs.BTreeSet.{BTreeSet, IsEmpty, IsUnchanged}
@@ -17,6 +17,7 @@ use Rattle.reg_set.specs.RecordOrder.{age_cmp, record_cmp}
 use Rattle.reg_set.specs.Records.{Records, in_order, records_of}
 use Rattle.reg_fold.specs.Entries.{entries, entry_map, entry_of}
 use Rattle.reg_entries.specs.EntryOrder.{place_cmp}
+use Rattle.reg_fold.specs.IdMark.{id_mark, id_marked_of}
 use Rattle.reg_fold.specs.InForce.{Scope, level_of, mode_name_of, own_level, own_mode_name}
 use Rattle.reg_fold.specs.Kept.{IsKept}
 use Rattle.reg_fold.specs.Opaque.{is_opaque}
@@ -63,15 +64,20 @@ module _ (total : IsTotalOrder record_cmp) where
   unfolding own_mode_name
   own_mode_name-empty rs rs_are q = ap (λ rs. own_mode_name rs q) rs_are ∙ ap (option_and_then mode_name_of) (last-empty (keys.Mode q))
 
+  id_mark-empty : (rs : Records) → rs ≡ set.empty → id_mark rs ≡ 0
+  unfolding id_mark
+  id_mark-empty rs rs_are = ap id_mark rs_are ∙ ap (λ o. unwrap_or (option_and_then id_marked_of o) 0) (last-empty keys.IdMark)
+
   -- without a record nothing is kept
   pub IsKept-empty : (index : Index) → index.last ≡ set.empty → index.entries ≡ finmap.empty → IsEmpty index.unread → IsEmpty index.deleted
-      → ((q : Scope) → kept_own index.levels q ≡ None) → ((q : Scope) → kept_own index.modes q ≡ None) → IsKept index
-  IsKept-empty index last_is entries_are none_unread none_deleted no_level no_mode = record {
+      → ((q : Scope) → kept_own index.levels q ≡ None) → ((q : Scope) → kept_own index.modes q ≡ None) → index.id_mark ≡ 0 → IsKept index
+  IsKept-empty index last_is entries_are none_unread none_deleted no_level no_mode no_mark = record {
     all_entries = entries_are ∙ sym (ap entry_map last_is ∙ entry_map-empty);
     all_unread = HasSpots-empty is_opaque index.unread index.last last_is none_unread;
     all_deleted = HasSpots-empty is_deleted index.deleted index.last last_is none_deleted;
     all_levels = λ q. no_level q ∙ sym (own_level-empty index.last last_is q);
     all_modes = λ q. no_mode q ∙ sym (own_mode_name-empty index.last last_is q);
+    the_mark = no_mark ∙ sym (id_mark-empty index.last last_is);
   }
 
 -- copies of spots that are equal to them
@@ -83,11 +89,12 @@ spots-copied (x ∷ xs) (y ∷ ys) h = λ i. (h.0.0 i, (h.0.1.0 i, h.0.1.1 i)) �
 
 -- what is kept of the same records and spots is kept
 pub IsKept-same : (old new : Index) → new.last ≡ old.last → new.entries ≡ old.entries → IsUnchanged old.unread new.unread → IsUnchanged old.deleted new.deleted
-    → ((q : Scope) → kept_own new.levels q ≡ kept_own old.levels q) → ((q : Scope) → kept_own new.modes q ≡ kept_own old.modes q) → IsKept old → IsKept new
-IsKept-same old new last_is entries_are unread deleted levels modes kept = record {
+    → ((q : Scope) → kept_own new.levels q ≡ kept_own old.levels q) → ((q : Scope) → kept_own new.modes q ≡ kept_own old.modes q) → new.id_mark ≡ old.id_mark → IsKept old → IsKept new
+IsKept-same old new last_is entries_are unread deleted levels modes mark kept = record {
   all_entries = entries_are ∙ kept.all_entries ∙ sym (ap entry_map last_is);
   all_unread = spots-same is_opaque old.last new.last old.unread new.unread last_is unread kept.all_unread;
   all_deleted = spots-same is_deleted old.last new.last old.deleted new.deleted last_is deleted kept.all_deleted;
   all_levels = λ q. levels q ∙ kept.all_levels q ∙ sym (ap (λ rs. own_level rs q) last_is);
   all_modes = λ q. modes q ∙ kept.all_modes q ∙ sym (ap (λ rs. own_mode_name rs q) last_is);
+  the_mark = mark ∙ kept.the_mark ∙ sym (ap id_mark last_is);
 }

@@ -71,6 +71,7 @@ version_place (keys.Config scope) h = absurd (false≢true h)
 version_place (keys.Mode scope) h = absurd (false≢true h)
 version_place (keys.DeleteSubject subject) h = absurd (false≢true h)
 version_place keys.Noop h = absurd (false≢true h)
+version_place keys.IdMark h = absurd (false≢true h)
 
 not_above : (m o : ℕ) → (o < m → ⊥) → m ≤ o
 not_above m o h =

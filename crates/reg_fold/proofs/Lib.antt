@@ -2,6 +2,7 @@ mod Applies
 mod Deletes
 mod Folding
 mod Found
+mod IdMark
 mod Keeping
 mod Least
 mod News

@@ -1,5 +1,5 @@
 -- What one more record does to what scopes have of their own.
-use Rattle.std.proofs.Common.{◌≡◌, Bool, true, false, cond, List, [], ◌∷◌, ℕ, Option, Some, None, option_and_then, refl, sym, ap, ◌∙◌}
+use Rattle.std.proofs.Common.{◌≡◌, Bool, true, false, cond, List, [], ◌∷◌, ℕ, Option, Some, None, option_and_then, unwrap_or, refl, sym, ap, ◌∙◌}
 use Rattle.std.proofs.lemmas.Bool.{false≢true}
 use Rattle.std.proofs.lemmas.Slice.Eq.{bytes_eq-Decides}
 use Rattle.std.specs.BTreeMap.{is_at}
@@ -15,6 +15,7 @@ use Rattle.reg_records.specs.declared.record.Record.{Record}
 use Rattle.reg_set.specs.LastRecords.{last}
 use Rattle.reg_set.specs.Records.{Records}
 use Rattle.reg_level_names.specs.declared.level.Level.{Level}
+use Rattle.reg_fold.specs.IdMark.{id_mark, id_marked_of}
 use Rattle.reg_fold.specs.InForce.{Scope, level_of, mode_name_of, own_level, own_mode_name}
 use Rattle.reg_fold.specs.Scopes.{AreOwn, HasOwn, kept_own, same_scope}
 use Rattle.reg_fold.specs.Step.{IsStep}
@@ -63,6 +64,7 @@ is_config (keys.Config scope) = true
 is_config (keys.Mode scope) = false
 is_config (keys.DeleteSubject subject) = false
 is_config keys.Noop = false
+is_config keys.IdMark = false
 
 abbrev pub is_mode : Key → Bool
 is_mode (keys.Schema subject version) = false
@@ -70,6 +72,15 @@ is_mode (keys.Config scope) = false
 is_mode (keys.Mode scope) = true
 is_mode (keys.DeleteSubject subject) = false
 is_mode keys.Noop = false
+is_mode keys.IdMark = false
+
+abbrev pub is_id_mark : Key → Bool
+is_id_mark (keys.Schema subject version) = false
+is_id_mark (keys.Config scope) = false
+is_id_mark (keys.Mode scope) = false
+is_id_mark (keys.DeleteSubject subject) = false
+is_id_mark keys.Noop = false
+is_id_mark keys.IdMark = true
 
 module _ (S T : Records) (r : Record) (step : IsStep S T r) where
   module _ (levels : Scoped Level) (own : AreOwn (own_level S) levels) where
@@ -80,6 +91,17 @@ module _ (S T : Records) (r : Record) (step : IsStep S T r) where
     pub levels-change : (scope : Scope) → r.key ≡ keys.Config scope → (new : Scoped Level) → HasOwn levels new scope (level_of r) → AreOwn (own_level T) new
     unfolding own_level
     levels-change = changes level_of (λ q. keys.Config q) S T r step levels own one_level
+
+  -- a record of another key leaves the mark of ids
+  pub mark-stays : is_id_mark r.key ≡ false → id_mark T ≡ id_mark S
+  unfolding id_mark
+  mark-stays other =
+      ap (λ o. unwrap_or (option_and_then id_marked_of o) 0) (step.others keys.IdMark (λ same. false≢true (sym other ∙ ap is_id_mark same)))
+
+  -- one of the mark's key changes it to what it says
+  pub mark-changes : r.key ≡ keys.IdMark → id_mark T ≡ unwrap_or (id_marked_of r) 0
+  unfolding id_mark
+  mark-changes of_key = ap (λ o. unwrap_or (option_and_then id_marked_of o) 0) (ap (last T) (sym of_key) ∙ step.newest)
 
   module _ (modes : Scoped (List ℕ)) (own : AreOwn (own_mode_name S) modes) where
     pub modes-stay : is_mode r.key ≡ false → AreOwn (own_mode_name T) modes

@@ -49,6 +49,7 @@ entry_of-key rs r e is =
     of_value (values.Mode mode) under is = absurd (cc)
     of_value (values.DeleteSubject subject version) under is = absurd (cc)
     of_value values.Noop under is = absurd (cc)
+    of_value (values.IdMark id) under is = absurd (cc)
 
 abbrev pub subject_of : Key → List ℕ
 subject_of (keys.Schema subject version) = subject
@@ -56,6 +57,7 @@ subject_of (keys.Config scope) = []
 subject_of (keys.Mode scope) = []
 subject_of (keys.DeleteSubject subject) = []
 subject_of keys.Noop = []
+subject_of keys.IdMark = []
 
 abbrev pub version_of : Key → ℕ
 version_of (keys.Schema subject version) = version
@@ -63,6 +65,7 @@ version_of (keys.Config scope) = 0
 version_of (keys.Mode scope) = 0
 version_of (keys.DeleteSubject subject) = 0
 version_of keys.Noop = 0
+version_of keys.IdMark = 0
 
 module _ (h : Record → Option Entry) (keyed : (r : Record) (e : Entry) → h r ≡ Some e → r.key ≡ keys.Schema e.subject e.version) (p : Place) where
   -- the entry, if it stands at the place

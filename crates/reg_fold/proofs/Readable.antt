@@ -42,6 +42,7 @@ entry_of-read rs r e is =
     of_value (values.Mode mode) under is = absurd (cc)
     of_value (values.DeleteSubject subject version) under is = absurd (cc)
     of_value values.Noop under is = absurd (cc)
+    of_value (values.IdMark id) under is = absurd (cc)
 
 -- what holds of each entry that is kept holds of one among them
 pub of_kept : (P : Entry → Type 0) (es : List (Place × Entry)) → AllByRecursion (λ kept. P kept.1) es → (e : Entry) (k : ℕ) → k < length (map (λ kept. kept.1) es) → get_or (map (λ kept. kept.1) es) k e ≡ e → P e

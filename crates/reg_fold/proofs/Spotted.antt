@@ -110,6 +110,7 @@ unreadable S r p of_key text gives =
     some_entry (values.Mode mode) under none = no_other under
     some_entry (values.DeleteSubject subject version) under none = no_other under
     some_entry values.Noop under none = no_other under
+    some_entry (values.IdMark id) under none = no_other under
 
     no_value : value_of r ≡ None
     no_value =

@@ -50,6 +50,7 @@ entry_of-fits of_keys rs r e is =
     of_value (values.Mode mode) under is = absurd (cc)
     of_value (values.DeleteSubject subject version) under is = absurd (cc)
     of_value values.Noop under is = absurd (cc)
+    of_value (values.IdMark id) under is = absurd (cc)
 
 pub entries-in_limits : ValuesAreOfKeys → EntriesAreInLimits
 unfolding entries

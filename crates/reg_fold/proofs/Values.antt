@@ -22,6 +22,7 @@ IsUnder key (values.Config level) = is_version key ≡ false
 IsUnder key (values.Mode mode) = is_version key ≡ false
 IsUnder key (values.DeleteSubject subject version) = is_version key ≡ false
 IsUnder key values.Noop = is_version key ≡ false
+IsUnder key (values.IdMark id) = is_version key ≡ false
 
 module _ (P : Value → Type 0) where
   each_some : {X : Type 0} (o : Option X) (f : X → Option Value) → ((x : X) → o ≡ Some x → IfSome (f x) P) → IfSome (option_and_then f o) P
@@ -65,6 +66,7 @@ value_in-under (keys.DeleteSubject subject) d =
     if_so P (has_text_at (codes "subject") subject d) (option_map (λ version. values.DeleteSubject subject version) (number_at (codes "version") d))
     (mapped P (number_at (codes "version") d) (λ version. values.DeleteSubject subject version) (λ version. refl))
 value_in-under keys.Noop d = mapped (IsUnder keys.Noop) (as_object d) (λ _. values.Noop) (λ _. refl)
+value_in-under keys.IdMark d = mapped (IsUnder keys.IdMark) (number_at (codes "id") d) (λ id. values.IdMark id) (λ id. refl)
 
 pub value_of-under : (r : Record) → IfSome (value_of r) (IsUnder r.key)
 value_of-under r =

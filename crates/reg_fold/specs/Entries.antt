@@ -36,6 +36,7 @@ entry_in rs offset (values.Config level) = None
 entry_in rs offset (values.Mode mode) = None
 entry_in rs offset (values.DeleteSubject subject version) = None
 entry_in rs offset values.Noop = None
+entry_in rs offset (values.IdMark id) = None
 
 -- the entry of a record; one without a version's value has none
 unfoldable pub entry_of : Records → Record → Option Entry

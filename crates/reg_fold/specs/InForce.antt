@@ -22,6 +22,7 @@ level_in (values.Config name) = level_named name
 level_in (values.Mode name) = None
 level_in (values.DeleteSubject subject version) = None
 level_in values.Noop = None
+level_in (values.IdMark id) = None
 
 -- the level that a record names
 unfoldable pub level_of : Record → Option Level
@@ -42,6 +43,7 @@ mode_name_in (values.Config name) = None
 mode_name_in (values.Mode name) = Some name
 mode_name_in (values.DeleteSubject subject version) = None
 mode_name_in values.Noop = None
+mode_name_in (values.IdMark id) = None
 
 -- the name of the mode that a record has
 unfoldable pub mode_name_of : Record → Option (List ℕ)

@@ -1,6 +1,7 @@
 -- Private: what a registry keeps beside its last records, so that it reads each of them once.
 use Rattle.std.specs.Prelude.{◌≡◌}
 use Rattle.reg_fold.specs.Entries.{entry_map}
+use Rattle.reg_fold.specs.IdMark.{id_mark}
 use Rattle.reg_fold.specs.InForce.{own_level, own_mode_name}
 use Rattle.reg_fold.specs.Opaque.{is_opaque}
 use Rattle.reg_fold.specs.Scopes.{AreOwn}
@@ -13,3 +14,4 @@ pub record IsKept (index : Index) : Type 0 where
   pub all_deleted : HasSpots is_deleted index.last index.deleted
   pub all_levels : AreOwn (own_level index.last) index.levels
   pub all_modes : AreOwn (own_mode_name index.last) index.modes
+  pub the_mark : index.id_mark ≡ id_mark index.last

@@ -1,6 +1,7 @@
 pub mod Closed
 pub mod Entries
 pub use Rattle.reg_entries.specs.EntryOrder
+pub mod IdMark
 pub mod InForce
 pub mod Kept
 pub mod Marks

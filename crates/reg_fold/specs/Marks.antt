@@ -15,6 +15,7 @@ covers at (values.Config level) version offset = false
 covers at (values.Mode mode) version offset = false
 covers at (values.DeleteSubject subject greatest) version offset = nat_le version greatest && nat_lt offset at
 covers at values.Noop version offset = false
+covers at (values.IdMark id) version offset = false
 
 -- whether the last record of the subject's DELETE_SUBJECT key marks what is at that version and offset
 unfoldable pub is_marked : Records → List ℕ → ℕ → ℕ → Bool

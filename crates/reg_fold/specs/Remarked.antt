@@ -17,6 +17,7 @@ is_delete (keys.Config scope) = false
 is_delete (keys.Mode scope) = false
 is_delete (keys.DeleteSubject subject) = true
 is_delete keys.Noop = false
+is_delete keys.IdMark = false
 
 -- whether the record of a soft delete covers what is at that version and offset
 abbrev pub is_covered_by : Record → ℕ → ℕ → Bool

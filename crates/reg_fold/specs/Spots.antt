@@ -33,6 +33,7 @@ says_deleted (values.Config level) = false
 says_deleted (values.Mode mode) = false
 says_deleted (values.DeleteSubject subject version) = false
 says_deleted values.Noop = false
+says_deleted (values.IdMark id) = false
 
 -- whether a version's own value says deleted
 abbrev pub is_deleted : Record → Bool

@@ -15,7 +15,7 @@ ghost use Rattle.reg_entries.specs.Marked.{MarksEach};
 ghost use Rattle.reg_entries.specs.Sought.{of_subject};
 
 use crate::marks::marks_of;
-use crate::reading::{Reading, reading_of};
+use crate::reading::{Reading, id_marked_of, reading_of};
 use crate::scoped::Scoped;
 use crate::spots::{Spot, forget, forget_elsewhere, spot_of};
 use base_text::Text;
@@ -42,6 +42,8 @@ pub(crate) struct Index {
     pub(crate) levels: Scoped<Level>,
     // The names of those that scopes have of their own, as their records have them.
     pub(crate) modes: Scoped<Text>,
+    // The id up to which ids were given away; 0 where no record says so.
+    pub(crate) id_mark: u32,
 }
 
 impl Clone for Index {
@@ -58,6 +60,7 @@ impl Clone for Index {
             deleted: self.deleted.clone()?,
             levels: self.levels.clone()?,
             modes: self.modes.clone()?,
+            id_mark: self.id_mark,
         })
     }
 }
@@ -79,6 +82,7 @@ impl Index {
             deleted: BTreeSet::new(alloc),
             levels: Scoped::new(alloc),
             modes: Scoped::new(alloc),
+            id_mark: 0,
         }
     }
 
@@ -98,6 +102,7 @@ impl Index {
             Key::Config(scope) => self.apply_config(given, scope),
             Key::Mode(scope) => self.apply_mode(given, scope),
             Key::Noop => self.apply_noop(given),
+            Key::IdMark => self.apply_id_mark(given),
         }
     }
 
@@ -306,6 +311,21 @@ impl Index {
         Ok(())
     }
 
+    /// Adds a mark of ids that is news.
+    fn apply_id_mark(&mut self, given: &Record) -> Result<(), AllocError>
+        requires kept { IsKept self.old }
+        requires news { last_records (set.insert self.old.last given.now) ≢ self.old.last }
+        requires of_key { given.now.key ≡ keys.IdMark }
+        ensures kept { IsKept self.new }
+        ensures added { OnOk result (self.new.last ≡ last_records (set.insert self.old.last given.now)) }
+        ensures refused { OnErr result (self.new.last ≡ self.old.last) }
+    {
+        let marked = id_marked_of(self.alloc, given)?;
+        put_last(&mut self.last, given)?;
+        self.id_mark = marked.unwrap_or(0);
+        Ok(())
+    }
+
     /// That the entries are those that the last records give, and that these are last records.
     pub(crate) fn entries_given(&self)
         ensures given { AreOfLasts self.now.last (entries self.now.last) }
@@ -406,7 +426,11 @@ fn place_in(key: Key) -> (Text, u32)
 {
     match key {
         Key::Schema { subject, version } => (subject, version),
-        Key::Config(_) | Key::Mode(_) | Key::DeleteSubject(_) | Key::Noop => unreachable!(),
+        Key::Config(_)
+        | Key::Mode(_)
+        | Key::DeleteSubject(_)
+        | Key::Noop
+        | Key::IdMark => unreachable!(),
     }
 }
 

@@ -1,6 +1,7 @@
 // The laws of entries and of opaque versions. What is proved here costs nothing at run time: a
 // function that needs a law calls it.
 ghost use Rattle.reg_fold.specs.Entries.{EntriesAreInLimits, EntriesAreOfKeys, EntriesAreOfPlaces, EntriesAreRead};
+ghost use Rattle.reg_fold.specs.IdMark.{IdMarkIsInLimits};
 ghost use Rattle.reg_fold.specs.Opaque.{NoneIsNoOpaqueLast};
 ghost use Rattle.reg_fold.specs.Standing.{FoundEntriesStand};
 
@@ -20,6 +21,13 @@ pub fn found_entries_stand()
 /// The version and the id of each entry are within their limits.
 pub fn entries_are_in_limits()
     ensures { EntriesAreInLimits }
+{
+    values_are_of_keys();
+}
+
+/// The mark of ids is 0, or an id within its limits.
+pub fn id_mark_is_in_limits()
+    ensures { IdMarkIsInLimits }
 {
     values_are_of_keys();
 }

@@ -48,9 +48,14 @@ fn is_covered(value: &Option<Value>, at: u64, version: u32, offset: u64) -> bool
                 ..
             },
         ) => version <= *greatest && offset < at,
-        Some(Value::Schema { .. } | Value::Config(_) | Value::Mode(_) | Value::Noop) | None => {
-            false
-        }
+        Some(
+            Value::Schema { .. }
+            | Value::Config(_)
+            | Value::Mode(_)
+            | Value::Noop
+            | Value::IdMark(_),
+        )
+        | None => false,
     }
 }
 

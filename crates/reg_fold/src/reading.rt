@@ -2,6 +2,7 @@
 ghost use Rattle.std.specs.Prelude.{◌≡◌, [], IfOk, false, option_map};
 ghost use Rattle.std.specs.Option.{option_map_or};
 ghost use Rattle.reg_fold.specs.Entries.{entry_of};
+ghost use Rattle.reg_fold.specs.IdMark.{id_marked_of};
 ghost use Rattle.reg_fold.specs.InForce.{level_of, mode_name_of};
 ghost use Rattle.reg_fold.specs.Spots.{is_deleted};
 
@@ -55,7 +56,11 @@ pub(crate) fn reading_of(
             };
             Ok(Some(Reading { entry, deleted }))
         }
-        Value::Config(_) | Value::Mode(_) | Value::DeleteSubject { .. } | Value::Noop => Ok(None),
+        Value::Config(_)
+        | Value::Mode(_)
+        | Value::DeleteSubject { .. }
+        | Value::Noop
+        | Value::IdMark(_) => Ok(None),
     }
 }
 
@@ -76,7 +81,13 @@ pub(crate) fn level_of(alloc: Global, given: &Record) -> Result<Option<Level>, A
 {
     match decode_value(alloc, given)? {
         Some(Value::Config(name)) => Ok(Level::parse(name.as_str())),
-        Some(Value::Schema { .. } | Value::Mode(_) | Value::DeleteSubject { .. } | Value::Noop)
+        Some(
+            Value::Schema { .. }
+            | Value::Mode(_)
+            | Value::DeleteSubject { .. }
+            | Value::Noop
+            | Value::IdMark(_),
+        )
         | None => Ok(None),
     }
 }
@@ -88,7 +99,31 @@ pub(crate) fn mode_name_of(alloc: Global, given: &Record) -> Result<Option<Text>
 {
     match decode_value(alloc, given)? {
         Some(Value::Mode(name)) => Ok(Some(name)),
-        Some(Value::Schema { .. } | Value::Config(_) | Value::DeleteSubject { .. } | Value::Noop)
+        Some(
+            Value::Schema { .. }
+            | Value::Config(_)
+            | Value::DeleteSubject { .. }
+            | Value::Noop
+            | Value::IdMark(_),
+        )
+        | None => Ok(None),
+    }
+}
+
+/// The id that a record marks, if it has a mark's value.
+#[tactic(auto, unfolding(crate::specs::IdMark::id_marked_of))]
+pub(crate) fn id_marked_of(alloc: Global, given: &Record) -> Result<Option<u32>, AllocError>
+    ensures { IfOk result (λ id. id ≡ id_marked_of given.now) }
+{
+    match decode_value(alloc, given)? {
+        Some(Value::IdMark(id)) => Ok(Some(id)),
+        Some(
+            Value::Schema { .. }
+            | Value::Config(_)
+            | Value::Mode(_)
+            | Value::DeleteSubject { .. }
+            | Value::Noop,
+        )
         | None => Ok(None),
     }
 }

@@ -9,6 +9,7 @@ ghost use Rattle.reg_set.specs.Records.{Records};
 ghost use Rattle.reg_fold.specs.Entries.{AreOfLasts, entries};
 ghost use Rattle.reg_entries.specs.EntryOrder.{IsInOrder};
 ghost use Rattle.reg_fold.specs.Closed.{id_of, is_closed, two_schemas};
+ghost use Rattle.reg_fold.specs.IdMark.{id_mark, last_id};
 ghost use Rattle.reg_fold.specs.InForce.{level, own_level, own_mode_name};
 ghost use Rattle.reg_fold.specs.Opaque.{opaque};
 ghost use Rattle.reg_fold.specs.Tombstones.{is_tombstone};
@@ -327,6 +328,22 @@ impl Registry {
         ensures { result ≡ greatest_id self.now }
     {
         self.index.entries.greatest_id()
+    }
+
+    /// The id up to which ids were given away, as far as the records say: that of the last mark; 0
+    /// where there is none that can be read. Takes no memory.
+    pub fn mark(&self) -> u32
+        ensures { result ≡ id_mark self.now }
+    {
+        self.index.id_mark
+    }
+
+    /// The greatest id that is marked or that an entry has, soft ones too; 0 where there is none.
+    /// Takes no memory.
+    pub fn last_id(&self) -> u32
+        ensures { result ≡ last_id self.now }
+    {
+        self.mark().max(self.greatest_id().unwrap_or(0))
     }
 
     /// The greatest version of a subject's entries, soft ones too.

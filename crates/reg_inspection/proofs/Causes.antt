@@ -90,6 +90,7 @@ of_value (keys.Config scope) value = refl
 of_value (keys.Mode scope) value = refl
 of_value (keys.DeleteSubject subject) value = refl
 of_value keys.Noop value = refl
+of_value keys.IdMark value = refl
 
 pub causes_are_of_opaque : CausesAreOfOpaque
 unfolding is_opaque

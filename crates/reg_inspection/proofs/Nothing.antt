@@ -1,5 +1,5 @@
--- Nothing keeps a log from being taken over exactly where the registry over its last records takes commands.
-use Rattle.std.proofs.Common.{◌≡◌, ℕ, Bool, true, false, not, min, cond, ◌||◌, inl, List, [], ◌∷◌, ◌++◌, map, Option, Some, None, option_and_then, option_map, refl, sym, ap, subst, ◌∙◌}
+-- Nothing keeps a log from being taken over exactly where a topic can begin with it.
+use Rattle.std.proofs.Common.{◌≡◌, ℕ, Bool, true, false, not, min, cond, ◌||◌, ◌&&◌, if◌then◌else◌, inl, List, [], ◌∷◌, ◌++◌, map, Option, Some, None, option_and_then, option_map, refl, sym, ap, subst, ◌∙◌}
 use Rattle.std.proofs.lemmas.Bool.{false≢true}
 use Rattle.std.specs.List.{cons_option, filter, filter_map, reduce}
 use Rattle.std.specs.Prelude.{bytes_eq, is_some}
@@ -8,11 +8,11 @@ use Rattle.reg_set.specs.Records.{Records, records_of}
 use Rattle.reg_entries.specs.Sought as sought
 use Rattle.reg_entries.specs.TwoSchemas.{HasTwoSchemas, NoneIsOneTextEach}
 use Rattle.reg_entries.specs.declared.entry.Entry.{Entry}
-use Rattle.reg_fold.specs.Closed.{two_schemas}
+use Rattle.reg_fold.specs.Closed.{is_closed, two_schemas}
 use Rattle.reg_fold.specs.Entries.{entries}
 use Rattle.reg_fold.specs.Opaque.{is_opaque, opaque}
 use Rattle.reg_inspection.specs.Cause.{CausesAreOfOpaque, version_in}
-use Rattle.reg_inspection.specs.Obstacles.{NoObstacleIsOpen, opaque_in}
+use Rattle.reg_inspection.specs.Obstacles.{NoObstacleIsOpen, can_begin, has_no_place, obstacles, opaque_in, place_missing}
 use Rattle.reg_inspection.specs.Shared.{shared_ids}
 use Rattle.reg_inspection.specs.declared.cause.Cause.{Cause}
 use Rattle.reg_inspection.specs.declared.obstacle.Obstacle.{Obstacle}
@@ -123,10 +123,44 @@ second_none None None h = refl
 second_none None (Some b) h = absurd (false≢true (sym h))
 second_none (Some a) b h = absurd (false≢true (sym h))
 
+closed_is : CausesAreOfOpaque → NoneIsOneTextEach → (rs : Records)
+    → filter_map opaque_in (records_of rs) ≡ [] → shared_ids (entries rs) ≡ [] → is_closed rs ≡ false
+closed_is causes none rs opaques ids = neither (opaque rs) (two_schemas rs) (no_opaque causes rs opaques) (no_shared none (entries rs) ids)
+
+placed : (b : Bool) → (if b then kinds.NumbersUsedUp ∷ [] else []) ≡ [] → b ≡ false
+placed true h = absurd (one_nothing kinds.NumbersUsedUp [] h)
+placed false h = refl
+
+is_false : (b : Bool) → not b ≡ true → b ≡ false
+is_false true h = absurd (false≢true h)
+is_false false h = refl
+
+first_true : (a b : Bool) → (a && b) ≡ true → a ≡ true
+first_true true b h = refl
+first_true false b h = absurd (false≢true h)
+
+second_true : (a b : Bool) → (a && b) ≡ true → b ≡ true
+second_true true b h = h
+second_true false b h = absurd (false≢true h)
+
+-- the obstacles of records are none, and a mark that is due has a place
+begins : CausesAreOfOpaque → NoneIsOneTextEach → (rs : Records) (next : ℕ) → obstacles rs next ≡ [] → can_begin rs next ≡ true
+begins causes none rs next h =
+    let opaques : List Obstacle = filter_map opaque_in (records_of rs) in
+    let shared : List Obstacle = map kinds.TwoSchemas (shared_ids (entries rs)) in
+    let both : opaques ++ shared ≡ [] = left_nothing (opaques ++ shared) (place_missing rs next) h in
+    let closed : is_closed rs ≡ false = closed_is causes none rs (left_nothing opaques shared both)
+    (unmapped kinds.TwoSchemas (shared_ids (entries rs)) (right_nothing opaques shared both)) in
+    let place : has_no_place rs next ≡ false = placed (has_no_place rs next) (right_nothing (opaques ++ shared) (place_missing rs next) h) in
+    ap (λ b. not b && not (has_no_place rs next)) closed ∙ ap not place
+
+open_is : CausesAreOfOpaque → NoneIsOneTextEach → (rs : Records) (next : ℕ) → can_begin rs next ≡ true → obstacles rs next ≡ []
+open_is causes none rs next h =
+    let closed : is_closed rs ≡ false = is_false (is_closed rs) (first_true (not (is_closed rs)) (not (has_no_place rs next)) h) in
+    let place : has_no_place rs next ≡ false = is_false (has_no_place rs next) (second_true (not (is_closed rs)) (not (has_no_place rs next)) h) in
+    ap (λ (os : List Obstacle). os ++ map kinds.TwoSchemas (shared_ids (entries rs)) ++ place_missing rs next) (opaque_no causes rs (first_none (opaque rs) (two_schemas rs) closed))
+    ∙ ap (λ (ids : List ℕ). map kinds.TwoSchemas ids ++ place_missing rs next) (shared_no none (entries rs) (second_none (opaque rs) (two_schemas rs) closed))
+    ∙ ap (λ b. if b then kinds.NumbersUsedUp ∷ [] else []) place
+
 pub no_obstacle_is_open : CausesAreOfOpaque → NoneIsOneTextEach → NoObstacleIsOpen
-no_obstacle_is_open causes none rs = (
-  λ h. neither (opaque rs) (two_schemas rs) (no_opaque causes rs (left_nothing _ _ h)) (no_shared none (entries rs) (unmapped kinds.TwoSchemas (shared_ids (entries rs)) (right_nothing (filter_map opaque_in (records_of rs)) _ h))),
-  λ h.
-      ap (λ (os : List Obstacle). os ++ map kinds.TwoSchemas (shared_ids (entries rs))) (opaque_no causes rs (first_none (opaque rs) (two_schemas rs) h))
-      ∙ ap (λ (ids : List ℕ). map kinds.TwoSchemas ids) (shared_no none (entries rs) (second_none (opaque rs) (two_schemas rs) h)),
-)
+no_obstacle_is_open causes none rs next = (begins causes none rs next, open_is causes none rs next)

@@ -51,6 +51,7 @@ version_in (keys.Config scope) = None
 version_in (keys.Mode scope) = None
 version_in (keys.DeleteSubject subject) = None
 version_in keys.Noop = None
+version_in keys.IdMark = None
 
 -- the first cause that keeps a version's text from being read, if it has a text
 abbrev pub cause_of : Record → Option Cause

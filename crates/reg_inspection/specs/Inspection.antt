@@ -1,12 +1,11 @@
 -- What an inspection of a log says.
-use Rattle.std.specs.Prelude.{◌≡◌, ℕ, List, Bool, not, Ok, Option, string_bytes}
+use Rattle.std.specs.Prelude.{◌≡◌, ℕ, List, Bool, Ok, Option, string_bytes}
 use Rattle.std.specs.Io.KnownBytes.{Appends}
-use Rattle.reg_records.specs.Log.{LogText, log_of}
+use Rattle.reg_records.specs.Log.{LogText, log_of, next_after}
 use Rattle.reg_records.specs.declared.record.Read.{Read}
-use Rattle.reg_fold.specs.Closed.{is_closed}
 use Rattle.reg_inspection.specs.Counts.{counts_of, lasts_in}
 use Rattle.reg_inspection.specs.Foreign.{foreign_tally}
-use Rattle.reg_inspection.specs.Obstacles.{obstacles}
+use Rattle.reg_inspection.specs.Obstacles.{can_begin, obstacles}
 use Rattle.reg_inspection.specs.Report.{report_text}
 use Rattle.reg_inspection.specs.declared.inspecting.Description.{Description}
 use Rattle.reg_inspection.specs.declared.inspection.Inspection.{Inspection}
@@ -15,15 +14,15 @@ use Rattle.reg_inspection.specs.declared.inspection.Inspection.{Inspection}
 pub record IsInspectionOf (text : List ℕ) (read : List Read) (found : Inspection) : Type 0 where
   pub counts : found.counts ≡ counts_of read
   pub foreign : found.foreign.entries ≡ foreign_tally text
-  pub obstacles : found.obstacles.items ≡ obstacles (lasts_in read)
+  pub obstacles : found.obstacles.items ≡ obstacles (lasts_in read) (next_after read)
 
 -- what is written of that log
 abbrev pub report_of : List ℕ → List Read → List ℕ
-report_of text read = report_text (counts_of read) (foreign_tally text) (obstacles (lasts_in read))
+report_of text read = report_text (counts_of read) (foreign_tally text) (obstacles (lasts_in read) (next_after read))
 
--- whether the registry over what its lines say takes commands
+-- whether a topic can begin with what its lines say
 abbrev pub is_taken : List Read → Bool
-is_taken read = not (is_closed (lasts_in read))
+is_taken read = can_begin (lasts_in read) (next_after read)
 
 -- Private: the text for a log, and whether it is taken over
 pub record Describes (text : List ℕ) (found : Description) : Type 0 where

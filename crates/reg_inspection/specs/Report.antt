@@ -25,6 +25,7 @@ counts_text c = lines_text c.records c.foreign c.next ++ versions_text c.subject
 abbrev pub cause_part : Obstacle → List ℕ
 cause_part (kinds.Opaque offset subject version cause) = codes ": " ++ cause_text cause ++ codes "\n"
 cause_part (kinds.TwoSchemas id) = codes "\n"
+cause_part kinds.NumbersUsedUp = codes "\n"
 
 abbrev pub obstacle_line : Obstacle → List ℕ
 obstacle_line obstacle = obstacle_text obstacle ++ cause_part obstacle

@@ -71,7 +71,7 @@ fn inspection_of(
     Ok(Inspection {
         counts: counts_of(log, &registry, &entries, &ids)?,
         foreign,
-        obstacles: obstacles_in(alloc, &last, &registry, &ids)?,
+        obstacles: obstacles_in(alloc, &last, &registry, &ids, log.next)?,
     })
 }
 
@@ -153,6 +153,6 @@ fn obstacle_line(alloc: Global, obstacle: &Obstacle) -> Result<String, AllocErro
     let text = text.as_str();
     match obstacle {
         Obstacle::Opaque { cause, .. } => format!(in alloc; "{text}: {cause}\n"),
-        Obstacle::TwoSchemas(_) => format!(in alloc; "{text}\n"),
+        Obstacle::TwoSchemas(_) | Obstacle::NumbersUsedUp => format!(in alloc; "{text}\n"),
     }
 }

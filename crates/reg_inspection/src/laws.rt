@@ -18,7 +18,8 @@ pub fn shared_ids_name_two()
     ensures name { SharedIdsNameTwo }
 {}
 
-/// Nothing keeps a log from being taken over exactly where the registry over its last records takes commands.
+/// Nothing keeps a log from being taken over exactly where the registry over its last records takes commands, and a mark
+/// of ids that is due has an offset.
 pub fn no_obstacle_is_open()
     ensures { NoObstacleIsOpen }
 {

@@ -1,11 +1,10 @@
 // What keeps a log from being taken over by a topic.
-ghost use Rattle.std.specs.Prelude.{◌≡◌, ◌↔◌, ◌++◌, [], false, IfOk, OnOk, map, option_to_list, string_bytes};
+ghost use Rattle.std.specs.Prelude.{◌≡◌, ◌↔◌, ◌++◌, [], true, IfOk, OnOk, map, option_to_list, string_bytes};
 ghost use Rattle.std.specs.List.{filter_map};
 ghost use Rattle.std.specs.FinSet.{from_list};
 ghost use Rattle.reg_set.specs.LastRecords.{last_records};
-ghost use Rattle.reg_fold.specs.Closed.{is_closed};
 ghost use Rattle.reg_fold.specs.Entries.{entries};
-ghost use Rattle.reg_inspection.specs.Obstacles.{is_plain, obstacles, opaque_in, opaque_text, shown};
+ghost use Rattle.reg_inspection.specs.Obstacles.{can_begin, has_no_place, is_plain, obstacles, opaque_in, opaque_text, shown};
 ghost use Rattle.reg_inspection.specs.Shared.{ids_of, shared_ids};
 
 use crate::cause::{Cause, cause_of};
@@ -13,7 +12,7 @@ use crate::ids::{ids_of, shared_ids};
 use crate::laws::no_obstacle_is_open;
 use base_text::Text;
 use reg_fold::Registry;
-use reg_records::{Key, Log, Record, quoted};
+use reg_records::{Key, Log, OFFSET_LIMIT, Record, quoted};
 use reg_set::{RecordSet, last_records_are_enough};
 use std::alloc::{AllocError, Global};
 use std::collections::BTreeSet;
@@ -30,6 +29,8 @@ pub enum Obstacle {
     },
     /// The id names two schemas, soft versions counted.
     TwoSchemas(u32),
+    /// A mark of ids is due, and no offset is left for it.
+    NumbersUsedUp,
 }
 
 impl Obstacle {
@@ -48,6 +49,9 @@ impl Obstacle {
                 cause: _,
             } => opaque_text(alloc, *offset, subject.as_str(), *version),
             Obstacle::TwoSchemas(id) => format!(in alloc; "two schemas for id {id}"),
+            Obstacle::NumbersUsedUp => {
+                String::from_str(alloc, "no offset is left for the mark of ids")
+            }
         }
     }
 }
@@ -82,16 +86,16 @@ fn is_plain(text: &str) -> bool
 }
 
 /// All that keeps a log from being taken over: the versions whose last records can't be read, by their offsets,
-/// then the ids that name two schemas, in ascending order. There is nothing exactly where the log is adopted. The only
-/// error is want of memory.
+/// then the ids that name two schemas, in ascending order, then that a mark of ids is due without an offset left for
+/// it. There is nothing exactly where the log is adopted. The only error is want of memory.
 pub fn obstacles(alloc: Global, log: &Log) -> Result<Vec<Obstacle>, AllocError>
-    ensures all { IfOk result (λ found. found.items ≡ obstacles (last_records (from_list log.now.records.items))) }
-    ensures none { IfOk result (λ found. (found.items ≡ []) ↔ (is_closed (last_records (from_list log.now.records.items)) ≡ false)) }
+    ensures all { IfOk result (λ found. found.items ≡ obstacles (last_records (from_list log.now.records.items)) log.now.next) }
+    ensures none { IfOk result (λ found. (found.items ≡ []) ↔ (can_begin (last_records (from_list log.now.records.items)) log.now.next ≡ true)) }
 {
     no_obstacle_is_open();
     let (last, registry) = lasts_of(alloc, &log.records)?;
     let ids = ids_of(alloc, &registry.entries()?)?;
-    obstacles_in(alloc, &last, &registry, &ids)
+    obstacles_in(alloc, &last, &registry, &ids, log.next)
 }
 
 /// The last records of some records, and the registry over them.
@@ -109,20 +113,31 @@ pub(crate) fn lasts_of(
     Ok((last, registry))
 }
 
-/// Those of the last records, over which the registry is, whose ids are these.
+/// Those of the last records, over which the registry is, whose ids are these, before that next offset.
 pub(crate) fn obstacles_in(
     alloc: Global,
     last: &RecordSet,
     registry: &Registry,
     ids: &BTreeSet<u32>,
+    next: u64,
 ) -> Result<Vec<Obstacle>, AllocError>
     requires over { registry.now ≡ last.now }
     requires ids { ids.now.keys ≡ ids_of (entries last.now) }
-    ensures { IfOk result (λ found. found.items ≡ obstacles last.now) }
+    ensures { IfOk result (λ found. found.items ≡ obstacles last.now next) }
 {
     let mut found = opaques_in(alloc, last.records())?;
     push_ids(&mut found, &shared_ids(alloc, registry, ids)?)?;
+    if has_no_place(registry, next) {
+        found.push(Obstacle::NumbersUsedUp)?;
+    }
     Ok(found)
+}
+
+/// Whether a mark of ids is due, and no offset is left for it.
+fn has_no_place(registry: &Registry, next: u64) -> bool
+    ensures { result ≡ has_no_place registry.now next }
+{
+    registry.mark() < registry.greatest_id().unwrap_or(0) && next > OFFSET_LIMIT
 }
 
 fn push_ids(found: &mut Vec<Obstacle>, ids: &[u32]) -> Result<(), AllocError>

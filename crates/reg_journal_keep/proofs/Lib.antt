@@ -1,2 +1,3 @@
+mod Opened
 mod Rooms
 mod Submitted

@@ -6,4 +6,4 @@ mod laws;
 mod room;
 
 pub use keeping::FileKeep;
-pub use laws::submits_keep_the_file;
+pub use laws::{opens_keep_the_file, submits_keep_the_file};

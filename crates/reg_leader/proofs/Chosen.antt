@@ -1,5 +1,6 @@
 -- What is chosen among the elements of a list has what all of them have.
-use Rattle.std.proofs.Common.{◌≡◌, ◌⊎◌, inl, inr, ⊎_elim, ℕ, ◌≤◌, min, max, Bool, true, false, cond, nat_le, List, [], ◌∷◌, map, fold, Some, None, All, find, refl, sym, subst, arith}
+use Rattle.std.proofs.Common.{◌≡◌, ◌⊎◌, inl, inr, ⊎_elim, ℕ, ◌≤◌, min, max, Bool, true, false, cond, nat_le, List, [], ◌∷◌, map, fold, Some, None, All, find, refl, sym, subst, ◌∙◌, arith}
+use Rattle.std.proofs.lemmas.Bool.{false≢true}
 use Rattle.std.proofs.lemmas.List.Elements.{All-nil, All-cons, All-head, All-tail}
 use Rattle.std.specs.List.{filter, reduce}
 use Rattle.std.specs.Ordering.{is_lt, ord_max}
@@ -26,6 +27,33 @@ module _ {X : Type 0} (P : X → Type 0) where
         | true ↦ λ same. subst P (inside y x same) (All-head P y ys all)
         | false ↦ λ rest. find_has p ys x (All-tail P y ys all) rest
       ] is
+
+module _ {X : Type 0} (p : X → Bool) where
+  -- what is found passes, and where nothing is found nothing passes
+  pub find_passes : (xs : List X) (x : X) → find p xs ≡ Some x → p x ≡ true
+  find_passes [] x is = absurd (cc)
+  find_passes (y ∷ ys) x is =
+      elim (p y) as (λ b. p y ≡ b → cond b (Some y) (find p ys) ≡ Some x → p x ≡ true) [
+        | true ↦ λ passes same. subst (λ z. p z ≡ true) (inside y x same) passes
+        | false ↦ λ _ rest. find_passes ys x rest
+      ] refl is
+
+  pub find_none : (xs : List X) → find p xs ≡ None → All (λ x. p x ≡ false) xs
+  find_none [] none = All-nil (λ x. p x ≡ false)
+  find_none (y ∷ ys) none =
+      elim (p y) as (λ b. p y ≡ b → cond b (Some y) (find p ys) ≡ None → All (λ x. p x ≡ false) (y ∷ ys)) [
+        | true ↦ λ _ e. absurd (cc)
+        | false ↦ λ is e. All-cons (λ x. p x ≡ false) y ys is (find_none ys e)
+      ] refl none
+
+  -- what all elements have that pass
+  pub from_filter : (P : X → Type 0) (xs : List X) → All P (filter p xs) → All (λ x. p x ≡ true → P x) xs
+  from_filter P [] all = All-nil (λ x. p x ≡ true → P x)
+  from_filter P (x ∷ xs) all =
+      elim (p x) as (λ b. p x ≡ b → All P (cond b (x ∷ filter p xs) (filter p xs)) → All (λ x. p x ≡ true → P x) (x ∷ xs)) [
+        | true ↦ λ _ all. All-cons (λ x. p x ≡ true → P x) x xs (λ _. All-head P x (filter p xs) all) (from_filter P xs (All-tail P x (filter p xs) all))
+        | false ↦ λ is all. All-cons (λ x. p x ≡ true → P x) x xs (λ passes. absurd (false≢true (sym is ∙ passes))) (from_filter P xs all)
+      ] refl all
 
 module _ {X : Type 0} (f : X → X → X) where
   -- where nothing is chosen, nothing passes

@@ -1,11 +1,13 @@
 -- What holds of all that a course may do.
-use Rattle.std.proofs.Common.{◌≡◌, ◌⊎◌, ℕ, suc, ◌+◌, ◌≤◌, true, false, ◌&&◌, Bool, nat_le, length, List, [], ◌∷◌, Option, Some, None, Ok, Err, refl, sym, ap, subst, ◌∙◌, inl, inr, eq-eqb}
+use Rattle.std.proofs.Common.{◌≡◌, ◌⊎◌, ℕ, suc, ◌+◌, ◌≤◌, true, false, ◌&&◌, Bool, nat_le, length, List, [], ◌∷◌, All, Option, Some, None, Ok, Err, refl, sym, ap, subst, ◌∙◌, inl, inr, eq-eqb}
 use Rattle.std.proofs.lemmas.Bool.{leb-true}
+use Rattle.std.proofs.lemmas.List.Elements.{All-from_recursion}
+use Rattle.std.specs.List.{AllByRecursion}
 use Rattle.reg_levels.specs.Texts.{TextsMeet}
 use Rattle.reg_modes.specs.Permitted.{Permit, granted}
 use Rattle.reg_records.specs.declared.limits.TheConstants.{OFFSET_LIMIT}
 use Rattle.reg_records.specs.declared.record.Record.{Record}
-use Rattle.reg_rules.specs.Writings.{numbered}
+use Rattle.reg_rules.specs.Writings.{numbered, written_at}
 use Rattle.reg_rules.specs.declared.writing.Writing.{Writing}
 use Rattle.reg_leader.specs.Course.{Course, Refused, Does, IfMet, IsOutcome, ◌▸◌, where_found, if_offsets_last}
 use Rattle.reg_leader.specs.OneStep.{goes_on}
@@ -18,6 +20,15 @@ numbered-goes_on n (w ∷ ws) = ap (λ b. b && goes_on (suc n) (numbered (suc n)
 numbered-length : (n : ℕ) (ws : List Writing) → length (numbered n ws) ≡ length ws
 numbered-length n [] = refl
 numbered-length n (w ∷ ws) = ap suc (numbered-length (suc n) ws)
+
+-- what the records of writings have
+module _ {Q : Writing → Type 0} (P : Record → Type 0) (each : (n : ℕ) (w : Writing) → Q w → P (written_at n w)) where
+  numbered-each : (n : ℕ) (ws : List Writing) → AllByRecursion Q ws → AllByRecursion P (numbered n ws)
+  numbered-each n [] all = tt
+  numbered-each n (w ∷ ws) all = (each n w all.0, numbered-each (suc n) ws all.1)
+
+  pub numbered-all : (n : ℕ) (ws : List Writing) → AllByRecursion Q ws → All P (numbered n ws)
+  numbered-all n ws all = All-from_recursion P (numbered n ws) (numbered-each n ws all)
 
 -- a batch is empty or is what a course writes, numbered
 if_last-batch : (b : Bool) (reply r : Reply) (ws batch : List Record) → if_offsets_last b reply ws ≡ (r, batch) → (batch ≡ []) ⊎ ((b ≡ true) × (r ≡ reply) × (batch ≡ ws))

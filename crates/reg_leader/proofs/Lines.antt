@@ -1,12 +1,13 @@
 -- What commands write has lines, and is read.
 use Rattle.std.proofs.Common.{◌≡◌, ◌⊎◌, inl, inr, ℕ, suc, ◌+◌, ◌≤◌, Bool, true, false, nat_le, ◌==◌, List, [], ◌∷◌, length, map, bytes_eq, Option, Some, None, is_some, option_map, option_and_then, All, Contains, refl, sym, ap, subst, ◌∙◌, arith}
-use Rattle.std.proofs.lemmas.List.Elements.{All-nil, All-cons, All-head, All-tail, All-filter, All-weaker, All-contains_itself}
+use Rattle.std.proofs.lemmas.List.Elements.{All-nil, All-cons, All-push, All-from_recursion, All-head, All-tail, All-filter, All-weaker, All-contains_itself}
 use Rattle.std.specs.List.{filter}
 use Rattle.std.specs.Ordering.{nat_cmp, on, ord_max}
 use Rattle.avro_schema.specs.Schema.{Meaning, schema_of, is_schema}
 use Rattle.reg_entries.specs.Sought.{counting, counts, of_subject}
 use Rattle.reg_entries.specs.declared.entry.Entry.{Entry}
 use Rattle.reg_fold.specs.Entries.{EntriesAreInLimits, EntriesAreRead, entries}
+use Rattle.reg_fold.specs.IdMark.{IdMarkIsInLimits}
 use Rattle.reg_fold.specs.InForce.{own_level}
 use Rattle.reg_fold.specs.Standing.{greatest_version, live, version_in}
 use Rattle.reg_fold.specs.declared.version_ref.VersionRef.{VersionRef}
@@ -31,14 +32,16 @@ use Rattle.reg_rules.specs.declared.writing.Writing.{Writing}
 use Rattle.reg_set.specs.Records.{Records}
 use Rattle.reg_leader.specs.Course.{Course, ◌▸◌}
 use Rattle.reg_leader.specs.OneStep.{BatchesAreRead, BatchesHaveLines, IsReadable}
-use Rattle.reg_leader.specs.Step.{IsStep, course_of, delete_all, delete_entry, import_as, writes}
+use Rattle.reg_leader.specs.Step.{IsStep, course_of, delete_all, delete_entry, import_as, mark_over, marked, writes}
 use Rattle.reg_leader.specs.declared.command.Command.{Command}
 use Rattle.reg_leader.specs.declared.command.Command.TheVariants as commands
 use Rattle.reg_leader.specs.declared.reply.Reply.{Reply}
 use Rattle.reg_leader.proofs.Below.{NormalTextsReadBack, ValuesHaveLines, ValuesReadBack}
 use Rattle.reg_leader.proofs.Chosen.{find_has, ord_max-picks, reduce_has}
 use Rattle.reg_leader.proofs.Courses.{Of, of_then, of_passed, of_found, outcome-within}
-use Rattle.reg_leader.proofs.Greatest.{greatest-fits}
+use Rattle.reg_leader.proofs.First.{over-all}
+use Rattle.reg_leader.proofs.Greatest.{greatest-fits, greatest-stands, last_id-fits}
+use Rattle.reg_leader.proofs.Names.{meant-stands}
 use Rattle.reg_leader.proofs.Passed.{number_passed}
 
 -- a key within its limits, and no value or one that may stand under it
@@ -103,7 +106,7 @@ entries_are_whole limits read rs =
     ((limits rs e there).0, (limits rs e there).1, some_mapped (λ (m : Meaning). m.normal_text) (schema_of e.text) e.normal (read rs e there)) in
     All-weaker (Contains (entries rs)) IsWhole each (entries rs) (All-contains_itself (entries rs))
 
-module _ (limits : EntriesAreInLimits) (rs : Records) (n : ℕ) (whole : All IsWhole (entries rs)) (again : NormalTextsReadBack) where
+module _ (limits : EntriesAreInLimits) (marks : IdMarkIsInLimits) (rs : Records) (n : ℕ) (whole : All IsWhole (entries rs)) (again : NormalTextsReadBack) where
   of_subject-whole : (subject : List ℕ) → All IsWhole (of_subject (entries rs) subject)
   of_subject-whole subject = All-filter (λ e. bytes_eq e.subject subject) IsWhole (entries rs) whole
 
@@ -118,29 +121,39 @@ module _ (limits : EntriesAreInLimits) (rs : Records) (n : ℕ) (whole : All IsW
   all_removed [] all = All-nil IsSound
   all_removed (e ∷ es) all = All-cons IsSound (removed e) (map removed es) (record { key_fits = (All-head IsWhole e es all).0; value_fits = inl refl }) (all_removed es (All-tail IsWhole e es all))
 
-  writes-sound : (subject normal : List ℕ) (id version : ℕ) → is_schema normal ≡ true → Of AreSound (writes subject normal id version)
-  writes-sound subject normal id version known =
+  marked-sound : (e : Entry) → Contains (entries rs) e → IsSound (marked rs)
+  marked-sound e stands = record { key_fits = tt; value_fits = inr (_, refl, (refl, last_id-fits limits marks rs e stands)) }
+
+  writes-sound : (first : List Writing) (subject normal : List ℕ) (id version : ℕ) → is_schema normal ≡ true → All IsSound first → Of AreSound (writes first subject normal id version)
+  writes-sound first subject normal id version known all =
       of_passed _ (test.is_number id) _ (λ i. of_passed _ (test.is_number version) _ (λ v.
-      one_sound _ (record { key_fits = number_passed version v; value_fits = inr (_, refl, (refl, number_passed version v, number_passed id i, known)) })))
+      All-push IsSound first _ all (record { key_fits = number_passed version v; value_fits = inr (_, refl, (refl, number_passed version v, number_passed id i, known)) })))
 
   import_as-sound : (subject normal : List ℕ) (id : ℕ) (version : Option ℕ) → is_schema normal ≡ true → Of AreSound (import_as rs subject normal id version)
   import_as-sound subject normal id None known =
-      of_found _ (newest (filter (is_of id normal) (live rs subject))) _ _ (λ same _. All-nil IsSound) (λ _. writes-sound subject normal id (next_version rs subject) known)
+      of_found _ (newest (filter (is_of id normal) (live rs subject))) _ _ (λ same _. All-nil IsSound) (λ _. writes-sound [] subject normal id (next_version rs subject) known (All-nil IsSound))
   import_as-sound subject normal id (Some version) known =
       of_found _ (version_in (entries rs) subject (Number version) false) _ _
       (λ e _. of_then _ (refuse_unless (is_of id normal e) (refusals.NotPermitted reasons.VersionIsOccupied)) _ (All-nil IsSound))
-      (λ _. writes-sound subject normal id version known)
+      (λ _.
+      let over = version_in (entries rs) subject (Number version) true in
+      let first = over-all IsSound rs id over (λ e is. marked-sound e (meant-stands rs subject (Number version) e is)) in
+      writes-sound (mark_over rs id over) subject normal id version known (All-from_recursion IsSound (mark_over rs id over) first))
 
-  delete_entry-sound : (permanent : Bool) (e : Entry) → IsWhole e → Of AreSound (delete_entry permanent e)
-  delete_entry-sound false e h =
+  delete_entry-sound : (permanent : Bool) (e : Entry) → Contains (entries rs) e → IsWhole e → Of AreSound (delete_entry rs permanent e)
+  delete_entry-sound false e stands h =
       of_then _ (refuse_if e.soft refusals.VersionSoftDeleted) _ (one_sound _ (record { key_fits = h.0; value_fits = inr (_, refl, (refl, h.0, h.1, h.2)) }))
-  delete_entry-sound true e h =
-      of_then _ (refuse_unless e.soft refusals.VersionNotSoftDeleted) _ (one_sound _ (record { key_fits = h.0; value_fits = inl refl }))
+  delete_entry-sound true e stands h =
+      of_then _ (refuse_unless e.soft refusals.VersionNotSoftDeleted) _
+      (All-cons IsSound (marked rs) (removed e ∷ []) (marked-sound e stands) (one_sound _ (record { key_fits = h.0; value_fits = inl refl })))
 
-  delete_all-sound : (subject : List ℕ) (permanent : Bool) (greatest : ℕ) → IsVersionOrId greatest → Of AreSound (delete_all rs subject permanent greatest)
-  delete_all-sound subject false greatest fits =
-      of_then _ (test.is_live rs subject) _ (one_sound _ (record { key_fits = tt; value_fits = inr (_, refl, (refl, fits)) }))
-  delete_all-sound subject true greatest fits = of_then _ (test.is_not_live rs subject) _ (all_removed (standing rs subject) (counting-whole subject true))
+  delete_all-sound : (subject : List ℕ) (permanent : Bool) (greatest : ℕ) → greatest_version rs subject ≡ Some greatest → Of AreSound (delete_all rs subject permanent greatest)
+  delete_all-sound subject false greatest is =
+      of_then _ (test.is_live rs subject) _ (one_sound _ (record { key_fits = tt; value_fits = inr (_, refl, (refl, greatest-fits limits rs subject greatest is)) }))
+  delete_all-sound subject true greatest is =
+      let one = greatest-stands rs subject greatest is in
+      of_then _ (test.is_not_live rs subject) _
+      (All-cons IsSound (marked rs) (map removed (standing rs subject)) (marked-sound one.0 one.1) (all_removed (standing rs subject) (counting-whole subject true)))
 
   open-sound : (c : Course) → Of AreSound c → Of AreSound (test.is_open rs ▸ test.has_offset n ▸ c)
   open-sound c h = of_then _ (test.is_open rs) _ (of_then _ (test.has_offset n) _ h)
@@ -155,17 +168,18 @@ module _ (limits : EntriesAreInLimits) (rs : Records) (n : ℕ) (whole : All IsW
       of_then _ (test.has_valid_defaults schema) _ (open-sound _ (
       of_then _ (registering (mode rs (Some subject)) false) _ (
       of_found _ (newest (filter (has_schema schema.normal_text) (live rs subject))) _ _ (λ same _. All-nil IsSound) (λ _ _.
-      writes-sound subject schema.normal_text (id_for rs schema.normal_text) (next_version rs subject) (known text schema is)))))) (λ _. tt)
+      writes-sound [] subject schema.normal_text (id_for rs schema.normal_text) (next_version rs subject) (known text schema is) (All-nil IsSound)))))) (λ _. tt)
   course-sound (commands.ImportRegister subject text id version) =
       of_found _ (schema_of text) _ _ (λ schema is. open-sound _ (
       of_then _ (registering (mode rs (Some subject)) true) _ (
-      of_then _ (test.names_no_other rs id schema.normal_text) _ (import_as-sound subject schema.normal_text id version (known text schema is))))) (λ _. tt)
+      of_then _ (test.names_no_other rs id schema.normal_text) _ (
+      of_then _ (test.is_above_mark rs id) _ (import_as-sound subject schema.normal_text id version (known text schema is)))))) (λ _. tt)
   course-sound (commands.DeleteVersion subject version permanent) =
       open-sound _ (of_then _ (writing (mode rs (Some subject))) _ (of_then _ (test.stands rs subject) _ (
-      of_found _ (version_meant rs subject version) _ _ (λ e is. delete_entry-sound permanent e (meant-whole subject version e is)) (λ _. tt))))
+      of_found _ (version_meant rs subject version) _ _ (λ e is. delete_entry-sound permanent e (meant-stands rs subject version e is) (meant-whole subject version e is)) (λ _. tt))))
   course-sound (commands.DeleteSubject subject permanent) =
       open-sound _ (of_then _ (writing (mode rs (Some subject))) _ (
-      of_found _ (greatest_version rs subject) _ _ (λ greatest is. delete_all-sound subject permanent greatest (greatest-fits limits rs subject greatest is)) (λ _. tt)))
+      of_found _ (greatest_version rs subject) _ _ (λ greatest is. delete_all-sound subject permanent greatest is) (λ _. tt)))
   course-sound (commands.SetLevel scope level) =
       open-sound _ (of_then _ (writing (mode rs scope)) _ (one_sound _ (record { key_fits = tt; value_fits = inr (_, refl, (scope, refl, levels-are_named level)) })))
   course-sound (commands.ClearLevel subject) =
@@ -177,18 +191,18 @@ module _ (limits : EntriesAreInLimits) (rs : Records) (n : ℕ) (whole : All IsW
       open-sound _ (of_found _ (own_mode rs (Some subject)) _ _ (λ mode _. one_sound _ (record { key_fits = tt; value_fits = inl refl })) (λ _. tt))
   course-sound commands.Noop = open-sound _ (one_sound _ (record { key_fits = tt; value_fits = inl refl }))
 
-pub batches_have_lines : EntriesAreInLimits → EntriesAreRead → NormalTextsReadBack → ValuesHaveLines → BatchesHaveLines
+pub batches_have_lines : EntriesAreInLimits → IdMarkIsInLimits → EntriesAreRead → NormalTextsReadBack → ValuesHaveLines → BatchesHaveLines
 unfolding IsStep
-batches_have_lines limits read again lines rs n c reply batch step =
-    elim (outcome-within AreSound n (course_of rs n c) reply batch (course-sound limits rs n (entries_are_whole limits read rs) again c) step) [
+batches_have_lines limits marks read again lines rs n c reply batch step =
+    elim (outcome-within AreSound n (course_of rs n c) reply batch (course-sound limits marks rs n (entries_are_whole limits read rs) again c) step) [
       | inl none ↦ subst (All HasLine) (sym none) (All-nil HasLine)
       | inr some ↦ subst (All HasLine) (sym some.1) (numbered-have_lines lines n some.0 some.3 some.2)
     ]
 
-pub batches_are_read : EntriesAreInLimits → EntriesAreRead → NormalTextsReadBack → ValuesReadBack → BatchesAreRead
+pub batches_are_read : EntriesAreInLimits → IdMarkIsInLimits → EntriesAreRead → NormalTextsReadBack → ValuesReadBack → BatchesAreRead
 unfolding IsStep
-batches_are_read limits read again reads rs n c reply batch step =
-    elim (outcome-within AreSound n (course_of rs n c) reply batch (course-sound limits rs n (entries_are_whole limits read rs) again c) step) [
+batches_are_read limits marks read again reads rs n c reply batch step =
+    elim (outcome-within AreSound n (course_of rs n c) reply batch (course-sound limits marks rs n (entries_are_whole limits read rs) again c) step) [
       | inl none ↦ subst (All IsReadable) (sym none) (All-nil IsReadable)
       | inr some ↦ subst (All IsReadable) (sym some.1) (numbered-are_readable reads n some.0 some.2)
     ]

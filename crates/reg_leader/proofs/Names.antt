@@ -12,6 +12,7 @@ use Rattle.reg_entries.specs.TwoSchemas.{NoneIsOneTextEach}
 use Rattle.reg_entries.specs.declared.entry.Entry.{Entry}
 use Rattle.reg_fold.specs.Closed.{id_of, is_closed, two_schemas}
 use Rattle.reg_fold.specs.Entries.{entries}
+use Rattle.reg_fold.specs.IdMark.{id_mark, last_id}
 use Rattle.reg_fold.specs.Opaque.{opaque}
 use Rattle.reg_fold.specs.Standing.{greatest_id, named}
 use Rattle.reg_fold.specs.declared.version_ref.VersionRef.{VersionRef}
@@ -57,6 +58,37 @@ module _ (rs : Records) where
   meant-stands subject (Number version) e is =
       find_has Stands (λ e. e.version == version) (counting (entries rs) subject true) e (All-filter (counts true) Stands _ (All-filter (λ e. bytes_eq e.subject subject) Stands (entries rs) all_stand)) is
 
+  -- no entry has an id above the last one
+  pub id_up_to_last : (e : Entry) → Contains (entries rs) e → e.id ≤ last_id rs
+  id_up_to_last e stands =
+      elim (greatest_id rs) as (λ g. greatest_id rs ≡ g → e.id ≤ max (id_mark rs) (unwrap_or g 0)) [
+        | None ↦ λ is. absurd (All-contains (λ _. ⊥) (entries rs) e (nothing_there max (λ (e : Entry). e.id) (entries rs) is) stands)
+        | Some m ↦ λ is.
+            let low = All-contains (λ e. e.id ≤ m) (entries rs) e (up_to_greatest_of (λ e. e.id) (entries rs) m is) stands in
+            omega (arith, low)
+      ] refl
+
+  -- an entry that an id names stands, with that id
+  pub named-stands : (id : ℕ) (f : Entry) → named rs id ≡ Some f → Contains (entries rs) f × (f.id ≡ id)
+  named-stands id f is =
+      let has = reduce_has (λ e. (e.id == id) ≡ true) (ord_max naming_cmp) (ord_max-picks naming_cmp) (filter (λ e. e.id == id) (entries rs)) f (filter_passes (λ e. e.id == id) (entries rs)) is in
+      (reduce_has Stands (ord_max naming_cmp) (ord_max-picks naming_cmp) (filter (λ e. e.id == id) (entries rs)) f (All-filter (λ e. e.id == id) Stands (entries rs) all_stand) is, eqb-true f.id id has)
+
+  -- an entry with that id and that normal text
+  abbrev pub HasId : List ℕ → ℕ → Type 0
+  HasId normal id = (e : Entry) × Stands e × (e.id ≡ id) × (e.normal ≡ normal)
+
+  all_have : (normal : List ℕ) → All (HasId normal) (map (λ e. e.id) (filter (λ e. bytes_eq e.normal normal) (entries rs)))
+  all_have normal =
+      let own = filter (λ e. bytes_eq e.normal normal) (entries rs) in
+      let stand = All-filter (λ e. bytes_eq e.normal normal) Stands (entries rs) all_stand in
+      let pass = filter_passes (λ e. bytes_eq e.normal normal) (entries rs) in
+      All-map (HasId normal) (λ e. e.id) own (λ k d within. (_, stand k d within, refl, (bytes_eq-Decides _ normal).0 (pass k d within)))
+
+  pub known-stands : (normal : List ℕ) (id : ℕ) → id_of rs normal ≡ Some id → HasId normal id
+  known-stands normal id is =
+      reduce_has (HasId normal) min min-picks (map (λ e. e.id) (filter (λ e. bytes_eq e.normal normal) (entries rs))) id (all_have normal) is
+
   module _ (each : IdsNameOneSchema rs) where
     not_false : (b : Bool) → not b ≡ false → b ≡ true
     not_false true h = refl
@@ -70,38 +102,23 @@ module _ (rs : Records) where
               let isnt = All-contains (λ e. (e.id == id) ≡ false) (entries rs) e (none_passes (ord_max naming_cmp) (λ e. e.id == id) (entries rs) none) stands in
               absurd (false≢true (sym isnt ∙ eq-eqb e.id id same))
           | Some f ↦ λ is has e stands same.
-              let f_stands = reduce_has Stands (ord_max naming_cmp) (ord_max-picks naming_cmp) (filter (λ e. e.id == id) (entries rs)) f (All-filter (λ e. e.id == id) Stands (entries rs) all_stand) is in
-              let f_id = reduce_has (λ e. (e.id == id) ≡ true) (ord_max naming_cmp) (ord_max-picks naming_cmp) (filter (λ e. e.id == id) (entries rs)) f (filter_passes (λ e. e.id == id) (entries rs)) is in
-              each e f stands f_stands (same ∙ sym (eqb-true f.id id f_id)) ∙ (bytes_eq-Decides f.normal normal).0 (not_false (has_schema normal f) has)
+              let found = named-stands id f is in
+              each e f stands found.0 (same ∙ sym found.1) ∙ (bytes_eq-Decides f.normal normal).0 (not_false (has_schema normal f) has)
         ] refl
-
-    -- an entry with that id and that normal text
-    abbrev HasId : List ℕ → ℕ → Type 0
-    HasId normal id = (e : Entry) × Stands e × (e.id ≡ id) × (e.normal ≡ normal)
-
-    all_have : (normal : List ℕ) → All (HasId normal) (map (λ e. e.id) (filter (λ e. bytes_eq e.normal normal) (entries rs)))
-    all_have normal =
-        let own = filter (λ e. bytes_eq e.normal normal) (entries rs) in
-        let stand = All-filter (λ e. bytes_eq e.normal normal) Stands (entries rs) all_stand in
-        let pass = filter_passes (λ e. bytes_eq e.normal normal) (entries rs) in
-        All-map (HasId normal) (λ e. e.id) own (λ k d within. (_, stand k d within, refl, (bytes_eq-Decides _ normal).0 (pass k d within)))
 
     known-only : (normal : List ℕ) (id : ℕ) → id_of rs normal ≡ Some id → NamesOnly id normal
     known-only normal id is e stands same =
-        let found = reduce_has (HasId normal) min min-picks (map (λ e. e.id) (filter (λ e. bytes_eq e.normal normal) (entries rs))) id (all_have normal) is in
+        let found = known-stands normal id is in
         each e found.0 stands found.1 (same ∙ sym found.2) ∙ found.3
 
     -- an id above all others names nothing
-    new-only : (normal : List ℕ) (g : Option ℕ) → greatest_id rs ≡ g → NamesOnly (option_map_or suc g 1) normal
-    new-only normal None is e stands same = absurd (All-contains (λ _. ⊥) (entries rs) e (nothing_there max (λ (e : Entry). e.id) (entries rs) is) stands)
-    new-only normal (Some m) is e stands same =
-        let low = All-contains (λ e. e.id ≤ m) (entries rs) e (up_to_greatest_of (λ e. e.id) (entries rs) m is) stands in
-        absurd (omega (arith, low, same))
+    new-only : (normal : List ℕ) → NamesOnly (suc (last_id rs)) normal
+    new-only normal e stands same = let low = id_up_to_last e stands in absurd (omega (arith, low, same))
 
     -- the id that a registration takes names no other schema
     pub new_id-only : (normal : List ℕ) → NamesOnly (id_for rs normal) normal
     new_id-only normal =
-        elim (id_of rs normal) as (λ o. id_of rs normal ≡ o → NamesOnly (unwrap_or o (option_map_or suc (greatest_id rs) 1)) normal) [
-          | None ↦ λ _. new-only normal (greatest_id rs) refl
+        elim (id_of rs normal) as (λ o. id_of rs normal ≡ o → NamesOnly (unwrap_or o (suc (last_id rs))) normal) [
+          | None ↦ λ _. new-only normal
           | Some id ↦ λ is. known-only normal id is
         ] refl

@@ -13,7 +13,7 @@ use Rattle.reg_rules.specs.Tests as test
 use Rattle.reg_rules.specs.Tests.{refuse_if, refuse_unless}
 use Rattle.reg_set.specs.Records.{Records}
 
-unless_passed : (b : Bool) (refusal : Refusal) → refuse_unless b refusal ≡ granted → b ≡ true
+pub unless_passed : (b : Bool) (refusal : Refusal) → refuse_unless b refusal ≡ granted → b ≡ true
 unless_passed true refusal e = refl
 unless_passed false refusal e = absurd (cc)
 

@@ -1,5 +1,5 @@
 -- A refusal writes nothing: no course does something and replies a refusal.
-use Rattle.std.proofs.Common.{◌≡◌, ℕ, List, Bool, true, false, Option, Some, None, refl, inl, inr}
+use Rattle.std.proofs.Common.{◌≡◌, ℕ, List, [], Bool, true, false, Option, Some, None, refl, inl, inr}
 use Rattle.std.specs.List.{filter}
 use Rattle.avro_schema.specs.Schema.{schema_of}
 use Rattle.reg_entries.specs.declared.entry.Entry.{Entry}
@@ -19,7 +19,7 @@ use Rattle.reg_rules.specs.declared.writing.Writing.{Writing}
 use Rattle.reg_set.specs.Records.{Records}
 use Rattle.reg_leader.specs.Course.{Course, ◌▸◌}
 use Rattle.reg_leader.specs.OneStep.{RefusalsWriteNothing}
-use Rattle.reg_leader.specs.Step.{IsStep, course_of, delete_all, delete_entry, import_as, writes}
+use Rattle.reg_leader.specs.Step.{IsStep, course_of, delete_all, delete_entry, import_as, mark_over, writes}
 use Rattle.reg_leader.specs.declared.command.Command.{Command}
 use Rattle.reg_leader.specs.declared.command.Command.TheVariants as commands
 use Rattle.reg_leader.specs.declared.reply.Reply.{Reply}
@@ -33,18 +33,18 @@ abbrev RepliesNone : Course → Type 0
 RepliesNone c = Of IsNoRefusal c
 
 module _ (rs : Records) (n : ℕ) where
-  writes-none : (subject normal : List ℕ) (id version : ℕ) → RepliesNone (writes subject normal id version)
-  writes-none subject normal id version = of_then _ (test.is_number id) _ (of_then _ (test.is_number version) _ (λ why e. cc))
+  writes-none : (first : List Writing) (subject normal : List ℕ) (id version : ℕ) → RepliesNone (writes first subject normal id version)
+  writes-none first subject normal id version = of_then _ (test.is_number id) _ (of_then _ (test.is_number version) _ (λ why e. cc))
 
   import_as-none : (subject normal : List ℕ) (id : ℕ) (version : Option ℕ) → RepliesNone (import_as rs subject normal id version)
   import_as-none subject normal id None =
-      of_found _ (newest (filter (is_of id normal) (live rs subject))) _ _ (λ same _ why e. cc) (λ _. writes-none subject normal id (next_version rs subject))
+      of_found _ (newest (filter (is_of id normal) (live rs subject))) _ _ (λ same _ why e. cc) (λ _. writes-none [] subject normal id (next_version rs subject))
   import_as-none subject normal id (Some version) =
       of_found _ (version_in (entries rs) subject (Number version) false) _ _
       (λ e _. of_then _ (refuse_unless (is_of id normal e) (refusals.NotPermitted reasons.VersionIsOccupied)) _ (λ why e. cc))
-      (λ _. writes-none subject normal id version)
+      (λ _. writes-none (mark_over rs id (version_in (entries rs) subject (Number version) true)) subject normal id version)
 
-  delete_entry-none : (permanent : Bool) (e : Entry) → RepliesNone (delete_entry permanent e)
+  delete_entry-none : (permanent : Bool) (e : Entry) → RepliesNone (delete_entry rs permanent e)
   delete_entry-none false e = of_then _ (refuse_if e.soft refusals.VersionSoftDeleted) _ (λ why e. cc)
   delete_entry-none true e = of_then _ (refuse_unless e.soft refusals.VersionNotSoftDeleted) _ (λ why e. cc)
 
@@ -61,11 +61,12 @@ module _ (rs : Records) (n : ℕ) where
       of_then _ (test.has_valid_defaults schema) _ (open-none _ (
       of_then _ (registering (mode rs (Some subject)) false) _ (
       of_found _ (newest (filter (has_schema schema.normal_text) (live rs subject))) _ _ (λ same _ why e. cc) (λ _ _.
-      writes-none subject schema.normal_text (id_for rs schema.normal_text) (next_version rs subject)))))) (λ _. tt)
+      writes-none [] subject schema.normal_text (id_for rs schema.normal_text) (next_version rs subject)))))) (λ _. tt)
   course-none (commands.ImportRegister subject text id version) =
       of_found _ (schema_of text) _ _ (λ schema _. open-none _ (
       of_then _ (registering (mode rs (Some subject)) true) _ (
-      of_then _ (test.names_no_other rs id schema.normal_text) _ (import_as-none subject schema.normal_text id version)))) (λ _. tt)
+      of_then _ (test.names_no_other rs id schema.normal_text) _ (
+      of_then _ (test.is_above_mark rs id) _ (import_as-none subject schema.normal_text id version))))) (λ _. tt)
   course-none (commands.DeleteVersion subject version permanent) =
       open-none _ (of_then _ (writing (mode rs (Some subject))) _ (of_then _ (test.stands rs subject) _ (
       of_found _ (version_meant rs subject version) _ _ (λ e _. delete_entry-none permanent e) (λ _. tt))))

@@ -1,6 +1,6 @@
 -- What soft deletes of subjects name.
-use Rattle.std.proofs.Common.{◌≡◌, ◌⊎◌, inl, inr, ℕ, suc, Bool, true, false, List, [], ◌∷◌, map, Option, Some, None, All, refl, sym, ap, subst, ◌∙◌}
-use Rattle.std.proofs.lemmas.List.Elements.{All-from_recursion, All-nil}
+use Rattle.std.proofs.Common.{◌≡◌, ◌⊎◌, inl, inr, ℕ, Bool, true, false, List, [], ◌∷◌, map, Option, Some, None, All, refl, sym, ap, subst, ◌∙◌}
+use Rattle.std.proofs.lemmas.List.Elements.{All-nil}
 use Rattle.std.specs.List.{AllByRecursion, filter}
 use Rattle.avro_schema.specs.Schema.{schema_of}
 use Rattle.reg_entries.specs.declared.entry.Entry.{Entry}
@@ -21,11 +21,12 @@ use Rattle.reg_rules.specs.declared.writing.Writing.{Writing}
 use Rattle.reg_set.specs.Records.{Records}
 use Rattle.reg_leader.specs.Course.{Course}
 use Rattle.reg_leader.specs.Deletes.{DeletesNameGreatest, is_delete}
-use Rattle.reg_leader.specs.Step.{IsStep, course_of, delete_all, delete_entry, import_as, writes}
+use Rattle.reg_leader.specs.Step.{IsStep, course_of, delete_all, delete_entry, import_as, mark_over, writes}
 use Rattle.reg_leader.specs.declared.command.Command.{Command}
 use Rattle.reg_leader.specs.declared.command.Command.TheVariants as commands
 use Rattle.reg_leader.specs.declared.reply.Reply.{Reply}
-use Rattle.reg_leader.proofs.Courses.{Of, of_found, of_then, outcome-of}
+use Rattle.reg_leader.proofs.Courses.{Of, numbered-all, of_found, of_then, outcome-of}
+use Rattle.reg_leader.proofs.First.{and_last, over-all}
 use Rattle.reg_leader.proofs.Greatest.{greatest-fits}
 
 abbrev NoDelete : Writing → Type 0
@@ -41,32 +42,29 @@ none_removed : (es : List Entry) → AllByRecursion NoDelete (map removed es)
 none_removed [] = tt
 none_removed (e ∷ es) = (refl, none_removed es)
 
-numbered-none : (n : ℕ) (ws : List Writing) → AllByRecursion NoDelete ws → AllByRecursion (λ r. is_delete r.key ≡ false) (numbered n ws)
-numbered-none n [] all = tt
-numbered-none n (w ∷ ws) all = (all.0, numbered-none (suc n) ws all.1)
-
 module _ (rs : Records) (n : ℕ) where
   abbrev Names : Course → Type 0
   Names c = Of (Deletes rs) c
 
-  writes-of : (subject normal : List ℕ) (id version : ℕ) → Names (writes subject normal id version)
-  writes-of subject normal id version = of_then _ (test.is_number id) _ (of_then _ (test.is_number version) _ (inl (refl, tt)))
+  writes-of : (first : List Writing) (subject normal : List ℕ) (id version : ℕ) → AllByRecursion NoDelete first → Names (writes first subject normal id version)
+  writes-of first subject normal id version none = of_then _ (test.is_number id) _ (of_then _ (test.is_number version) _ (inl (and_last NoDelete first _ none refl)))
 
   import_as-of : (subject normal : List ℕ) (id : ℕ) (version : Option ℕ) → Names (import_as rs subject normal id version)
   import_as-of subject normal id None =
-      of_found _ (newest (filter (is_of id normal) (live rs subject))) _ _ (λ same e. inl tt) (λ _. writes-of subject normal id (next_version rs subject))
+      of_found _ (newest (filter (is_of id normal) (live rs subject))) _ _ (λ same e. inl tt) (λ _. writes-of [] subject normal id (next_version rs subject) tt)
   import_as-of subject normal id (Some version) =
       of_found _ (version_in (entries rs) subject (Number version) false) _ _ (λ e _.
       of_then _ (refuse_unless (is_of id normal e) (refusals.NotPermitted reasons.VersionIsOccupied)) _ (inl tt)) (λ _.
-      writes-of subject normal id version)
+      let over = version_in (entries rs) subject (Number version) true in
+      writes-of (mark_over rs id over) subject normal id version (over-all NoDelete rs id over (λ e _. refl)))
 
-  delete_entry-of : (permanent : Bool) (e : Entry) → Names (delete_entry permanent e)
+  delete_entry-of : (permanent : Bool) (e : Entry) → Names (delete_entry rs permanent e)
   delete_entry-of false e = of_then _ (refuse_if e.soft refusals.VersionSoftDeleted) _ (inl (refl, tt))
-  delete_entry-of true e = of_then _ (refuse_unless e.soft refusals.VersionNotSoftDeleted) _ (inl (refl, tt))
+  delete_entry-of true e = of_then _ (refuse_unless e.soft refusals.VersionNotSoftDeleted) _ (inl (refl, (refl, tt)))
 
   delete_all-of : (subject : List ℕ) (permanent : Bool) (greatest : ℕ) → greatest_version rs subject ≡ Some greatest → Names (delete_all rs subject permanent greatest)
   delete_all-of subject false greatest is = of_then _ (test.is_live rs subject) _ (inr (subject, greatest, refl, is))
-  delete_all-of subject true greatest is = of_then _ (test.is_not_live rs subject) _ (inl (none_removed (standing rs subject)))
+  delete_all-of subject true greatest is = of_then _ (test.is_not_live rs subject) _ (inl (refl, none_removed (standing rs subject)))
 
   course-names : (c : Command) → Names (course_of rs n c)
   course-names (commands.Register subject text) =
@@ -76,14 +74,15 @@ module _ (rs : Records) (n : ℕ) where
       of_then _ (test.has_offset n) _ (
       of_then _ (registering (mode rs (Some subject)) _) _ (
       of_found _ (newest (filter (has_schema schema.normal_text) (live rs subject))) _ _ (λ same e. inl tt) (λ _ meets.
-      writes-of subject schema.normal_text (id_for rs schema.normal_text) (next_version rs subject))))))) (λ _. tt)
+      writes-of [] subject schema.normal_text (id_for rs schema.normal_text) (next_version rs subject) tt)))))) (λ _. tt)
   course-names (commands.ImportRegister subject text id version) =
       of_found _ (schema_of text) _ _ (λ schema known.
       of_then _ (test.is_open rs) _ (
       of_then _ (test.has_offset n) _ (
       of_then _ (registering (mode rs (Some subject)) _) _ (
       of_then _ (test.names_no_other rs id schema.normal_text) _ (
-      import_as-of subject schema.normal_text id version))))) (λ _. tt)
+      of_then _ (test.is_above_mark rs id) _ (
+      import_as-of subject schema.normal_text id version)))))) (λ _. tt)
   course-names (commands.DeleteVersion subject version permanent) =
       of_then _ (test.is_open rs) _ (
       of_then _ (test.has_offset n) _ (
@@ -113,7 +112,7 @@ deletes_name_greatest fits rs n c reply batch step =
     elim (outcome-of (Deletes rs) n (course_of rs n c) reply batch (course-names rs n c) step) [
       | inl none ↦ inl (subst (All (λ (r : Record). is_delete r.key ≡ false)) (sym none) (All-nil (λ (r : Record). is_delete r.key ≡ false)))
       | inr some ↦ elim (some.2) [
-        | inl nothing ↦ inl (subst (All (λ (r : Record). is_delete r.key ≡ false)) (sym some.1) (All-from_recursion _ (numbered n some.0) (numbered-none n some.0 nothing)))
+        | inl nothing ↦ inl (subst (All (λ (r : Record). is_delete r.key ≡ false)) (sym some.1) (numbered-all (λ r. is_delete r.key ≡ false) (λ n w none. none) n some.0 nothing))
         | inr one ↦ inr (record {
           subject = one.0;
           greatest = one.1;

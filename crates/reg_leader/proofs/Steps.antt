@@ -77,7 +77,7 @@ OneVersion rs subject text reply ws = (ws ≡ []) ⊎ Registered rs subject text
 
 module _ (rs : Records) (n : ℕ) where
   writes-of : (subject text : List ℕ) (schema : Meaning) (id version : ℕ) → schema_of text ≡ Some schema → TextsMeet (level rs (Some subject)) schema.normal_text (texts_of (live rs subject))
-      → Of (OneVersion rs subject text) (writes subject schema.normal_text id version)
+      → Of (OneVersion rs subject text) (writes [] subject schema.normal_text id version)
   writes-of subject text schema id version known meets =
       of_then _ (test.is_number id) _ (of_then _ (test.is_number version) _ (
       inr (record { schema = schema; is_read = known; version = version; id = id; one_version = refl; meets = meets })))

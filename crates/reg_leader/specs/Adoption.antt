@@ -1,19 +1,34 @@
--- Which sets of records a topic can begin with. Below, rs are the last records.
-use Rattle.std.specs.Prelude.{◌≡◌, ⊤, ℕ, List, Some, None, codes}
-use Rattle.reg_fold.specs.Closed.{two_schemas}
+-- Which sets of records a topic can begin with, and what it begins with beside them. Below, rs are the last records and next is the next offset.
+use Rattle.std.specs.Prelude.{◌≡◌, ◌<◌, ◌≤◌, ⊤, ℕ, List, [], ◌∷◌, true, false, Some, None, codes, unwrap_or, if◌then◌else◌}
+use Rattle.reg_fold.specs.Closed.{is_closed, two_schemas}
+use Rattle.reg_fold.specs.IdMark.{needs_mark}
 use Rattle.reg_fold.specs.Opaque.{opaque}
+use Rattle.reg_fold.specs.Standing.{greatest_id}
+use Rattle.reg_records.specs.declared.limits.TheConstants.{OFFSET_LIMIT}
+use Rattle.reg_records.specs.declared.record.Record.{Record}
+use Rattle.reg_rules.specs.Writings.{id_marked, numbered}
 use Rattle.reg_set.specs.Records.{Records}
 use Rattle.reg_leader.specs.declared.adoption.AdoptError.{AdoptError}
-use Rattle.reg_leader.specs.declared.adoption.AdoptError.TheVariants.{Opaque, TwoSchemas, OutOfMemory}
+use Rattle.reg_leader.specs.declared.adoption.AdoptError.TheVariants.{Opaque, TwoSchemas, NumbersUsedUp, OutOfMemory}
+
+-- what it begins with: a mark of the greatest id, where it needs one
+abbrev pub adopting : Records → ℕ → List Record
+adopting rs next = if needs_mark rs then numbered next (id_marked (unwrap_or (greatest_id rs) 0) ∷ []) else []
+
+-- a mark that is due has an offset
+abbrev pub HasPlace : Records → ℕ → Type 0
+HasPlace rs next = needs_mark rs ≡ true → next ≤ OFFSET_LIMIT
 
 -- the cause of a refusal, with the least offset or id that there is; memory may be refused at any time
-abbrev pub IsAdoptRefusal : Records → AdoptError → Type 0
-IsAdoptRefusal rs (Opaque offset) = opaque rs ≡ Some offset
-IsAdoptRefusal rs (TwoSchemas id) = (opaque rs ≡ None) × (two_schemas rs ≡ Some id)
-IsAdoptRefusal rs OutOfMemory = ⊤
+abbrev pub IsAdoptRefusal : Records → ℕ → AdoptError → Type 0
+IsAdoptRefusal rs next (Opaque offset) = opaque rs ≡ Some offset
+IsAdoptRefusal rs next (TwoSchemas id) = (opaque rs ≡ None) × (two_schemas rs ≡ Some id)
+IsAdoptRefusal rs next NumbersUsedUp = (is_closed rs ≡ false) × (needs_mark rs ≡ true) × (OFFSET_LIMIT < next)
+IsAdoptRefusal rs next OutOfMemory = ⊤
 
 -- the text of a refusal
 abbrev pub adopt_error_text : AdoptError → List ℕ
 adopt_error_text (Opaque offset) = codes "Opaque"
 adopt_error_text (TwoSchemas id) = codes "TwoSchemas"
+adopt_error_text NumbersUsedUp = codes "NumbersUsedUp"
 adopt_error_text OutOfMemory = codes "out of memory"

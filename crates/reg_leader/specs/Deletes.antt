@@ -17,6 +17,7 @@ is_delete (keys.Config scope) = false
 is_delete (keys.Mode scope) = false
 is_delete (keys.DeleteSubject subject) = true
 is_delete keys.Noop = false
+is_delete keys.IdMark = false
 
 -- one soft delete alone, which names the greatest version of the subject, soft ones too
 pub record IsSoftDelete (rs : Records) (n : ℕ) (batch : List Record) : Type 0 where

@@ -1,5 +1,5 @@
 -- Batches that leave a registry open. Below, rs are the last records before the batch and n is the next offset.
-use Rattle.std.specs.Prelude.{◌≡◌, ◌⊎◌, ℕ, List, [], ◌∷◌, Bool, false, Some, None, All}
+use Rattle.std.specs.Prelude.{◌≡◌, ◌⊎◌, ℕ, ◌+◌, List, [], ◌∷◌, ◌++◌, length, Bool, false, Some, None, All}
 use Rattle.std.specs.List.{Contains}
 use Rattle.avro_schema.specs.Schema.{Meaning, schema_of}
 use Rattle.reg_entries.specs.declared.entry.Entry.{Entry}
@@ -18,14 +18,16 @@ use Rattle.reg_leader.specs.declared.reply.Reply.{Reply}
 abbrev pub IsQuiet : Record → Type 0
 IsQuiet r = (r.value ≡ None) ⊎ (is_version r.key ≡ false)
 
--- one version alone, within its limits, whose text is a schema's and whose id names no other schema
+-- one version, after quiet records, within its limits, whose text is a schema's and whose id names no other schema
 pub record IsOneVersion (rs : Records) (n : ℕ) (batch : List Record) : Type 0 where
   pub subject : List ℕ
   pub version : ℕ
   pub id : ℕ
   pub text : List ℕ
   pub deleted : Bool
-  pub one_record : batch ≡ record { offset = n; key = keys.Schema subject version; value = written_value (values.Schema subject version id text deleted) } ∷ []
+  pub first : List Record
+  pub are_quiet : All IsQuiet first
+  pub one_record : batch ≡ first ++ record { offset = n + length first; key = keys.Schema subject version; value = written_value (values.Schema subject version id text deleted) } ∷ []
   pub version_fits : IsVersionOrId version
   pub id_fits : IsVersionOrId id
   pub schema : Meaning

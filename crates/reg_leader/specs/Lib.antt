@@ -7,4 +7,5 @@ pub mod OneStep
 pub mod Outcome
 pub mod StayOpen
 pub mod Step
+pub mod Taken
 pub mod Taking

@@ -1,10 +1,11 @@
 -- What each command replies and writes: its tests in their order, and what it does once none fails.
 -- Below, rs are the last records of the log and n is the next offset.
-use Rattle.std.specs.Prelude.{ℕ, List, [], ◌∷◌, Bool, true, false, Option, Some, None, map}
+use Rattle.std.specs.Prelude.{ℕ, List, [], ◌∷◌, ◌++◌, Bool, true, false, ◌==◌, Option, Some, None, map, if◌then◌else◌}
 use Rattle.std.specs.List.{filter}
 use Rattle.avro_schema.specs.Schema.{Meaning, schema_of}
 use Rattle.reg_entries.specs.declared.entry.Entry.{Entry}
 use Rattle.reg_fold.specs.Entries.{entries}
+use Rattle.reg_fold.specs.IdMark.{last_id}
 use Rattle.reg_fold.specs.InForce.{Scope, level, own_level}
 use Rattle.reg_fold.specs.Standing.{live, greatest_version, version_in}
 use Rattle.reg_fold.specs.declared.version_ref.VersionRef.{VersionRef}
@@ -22,7 +23,8 @@ use Rattle.reg_leader.specs.Course.{Course, Refused, Does, IfMet, IsOutcome, ◌
 use Rattle.reg_rules.specs.Standing.{has_schema, id_for, is_of, newest, next_version, standing, texts_of, version_meant}
 use Rattle.reg_rules.specs.Tests as test
 use Rattle.reg_rules.specs.Tests.{refuse_if, refuse_unless}
-use Rattle.reg_rules.specs.Writings.{deleted_again, deleted_up_to, level_cleared, level_set, mode_cleared, mode_set, no_operation, removed, version_of}
+use Rattle.reg_rules.specs.Writings.{deleted_again, deleted_up_to, id_marked, level_cleared, level_set, mode_cleared, mode_set, no_operation, removed, version_of}
+use Rattle.reg_rules.specs.declared.writing.Writing.{Writing}
 use Rattle.reg_leader.specs.declared.command.Command.{Command}
 use Rattle.reg_leader.specs.declared.command.Command.TheVariants as commands
 use Rattle.reg_leader.specs.declared.reply.Reply.{Reply}
@@ -32,32 +34,41 @@ use Rattle.reg_leader.specs.declared.reply.Reply.TheVariants as replies
 abbrev pub where_read : List ℕ → (Meaning → Course) → Course
 where_read text found = where_found (schema_of text) found (Refused refusals.InvalidSchema)
 
--- a schema is written as that version, with that id
-abbrev pub writes : List ℕ → List ℕ → ℕ → ℕ → Course
-writes subject normal id version =
+-- the mark of ids that is written where an entry is removed or written over
+abbrev pub marked : Records → Writing
+marked rs = id_marked (last_id rs)
+
+-- a schema is written as that version, with that id, after what is written first
+abbrev pub writes : List Writing → List ℕ → List ℕ → ℕ → ℕ → Course
+writes first subject normal id version =
     test.is_number id
     ▸ test.is_number version
-    ▸ Does (replies.Id id) (version_of subject version id normal ∷ [])
+    ▸ Does (replies.Id id) (first ++ version_of subject version id normal ∷ [])
 
 -- the entry that is live there is this schema with this id, or the version is occupied
 abbrev pub is_there : ℕ → List ℕ → Entry → Course
 is_there id normal e = refuse_unless (is_of id normal e) (refusals.NotPermitted reasons.VersionIsOccupied) ▸ Does (replies.Id id) []
 
--- an import without a version, and with one
+-- a mark, where an entry of another id stands in the place
+abbrev pub mark_over : Records → ℕ → Option Entry → List Writing
+mark_over rs id None = []
+mark_over rs id (Some e) = if e.id == id then [] else (marked rs ∷ [])
+
+-- an import without a version, and with one, which may write over a soft version
 abbrev pub import_as : Records → List ℕ → List ℕ → ℕ → Option ℕ → Course
 import_as rs subject normal id None =
     where_found (newest (filter (is_of id normal) (live rs subject))) (λ same. Does (replies.Id id) []) (
-    writes subject normal id (next_version rs subject)
+    writes [] subject normal id (next_version rs subject)
     )
 import_as rs subject normal id (Some version) =
     where_found (version_in (entries rs) subject (Number version) false) (is_there id normal) (
-    writes subject normal id version
+    writes (mark_over rs id (version_in (entries rs) subject (Number version) true)) subject normal id version
     )
 
 -- what an entry's delete does: its version is replied
-abbrev pub delete_entry : Bool → Entry → Course
-delete_entry false e = refuse_if e.soft refusals.VersionSoftDeleted ▸ Does (replies.Version e.version) (deleted_again e ∷ [])
-delete_entry true e = refuse_unless e.soft refusals.VersionNotSoftDeleted ▸ Does (replies.Version e.version) (removed e ∷ [])
+abbrev pub delete_entry : Records → Bool → Entry → Course
+delete_entry rs false e = refuse_if e.soft refusals.VersionSoftDeleted ▸ Does (replies.Version e.version) (deleted_again e ∷ [])
+delete_entry rs true e = refuse_unless e.soft refusals.VersionNotSoftDeleted ▸ Does (replies.Version e.version) (marked rs ∷ removed e ∷ [])
 
 -- the refusal where the version that is named isn't there
 abbrev pub no_version : VersionRef → Refusal
@@ -71,7 +82,7 @@ delete_all rs subject false greatest =
     ▸ Does (replies.Versions (map (λ e. e.version) (live rs subject))) (deleted_up_to subject greatest ∷ [])
 delete_all rs subject true greatest =
     test.is_not_live rs subject
-    ▸ Does (replies.Versions (map (λ e. e.version) (standing rs subject))) (map removed (standing rs subject))
+    ▸ Does (replies.Versions (map (λ e. e.version) (standing rs subject))) (marked rs ∷ map removed (standing rs subject))
 
 module _ (rs : Records) (n : ℕ) where
   -- the level is the one in force, and the old versions are the live ones
@@ -84,7 +95,7 @@ module _ (rs : Records) (n : ℕ) where
       ▸ registering (mode rs (Some subject)) false
       ▸ where_found (newest (filter (has_schema schema.normal_text) (live rs subject))) (λ same. Does (replies.Id same.id) []) (
       IfMet (level rs (Some subject)) schema.normal_text (texts_of (live rs subject)) (
-      writes subject schema.normal_text (id_for rs schema.normal_text) (next_version rs subject)
+      writes [] subject schema.normal_text (id_for rs schema.normal_text) (next_version rs subject)
       )))
 
   -- defaults aren't looked at
@@ -95,6 +106,7 @@ module _ (rs : Records) (n : ℕ) where
       ▸ test.has_offset n
       ▸ registering (mode rs (Some subject)) true
       ▸ test.names_no_other rs id schema.normal_text
+      ▸ test.is_above_mark rs id
       ▸ import_as rs subject schema.normal_text id version
       )
 
@@ -104,7 +116,7 @@ module _ (rs : Records) (n : ℕ) where
       ▸ test.has_offset n
       ▸ writing (mode rs (Some subject))
       ▸ test.stands rs subject
-      ▸ where_found (version_meant rs subject version) (delete_entry permanent) (Refused (no_version version))
+      ▸ where_found (version_meant rs subject version) (delete_entry rs permanent) (Refused (no_version version))
 
   abbrev pub delete_subject : List ℕ → Bool → Course
   delete_subject subject permanent =

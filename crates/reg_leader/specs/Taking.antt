@@ -39,7 +39,7 @@ Takes course (Err refusal) = (refusal ≡ no_memory) ⊎ IsRefusal course refusa
 
 -- what follows for a schema that is to be registered and isn't live
 abbrev pub if_met : Records → List ℕ → List ℕ → Course
-if_met rs subject normal = IfMet (level rs (Some subject)) normal (texts_of (live rs subject)) (writes subject normal (id_for rs normal) (next_version rs subject))
+if_met rs subject normal = IfMet (level rs (Some subject)) normal (texts_of (live rs subject)) (writes [] subject normal (id_for rs normal) (next_version rs subject))
 
 -- what comes before that
 abbrev pub before : Records → ℕ → List ℕ → List ℕ → (List ℕ → Course) → Course

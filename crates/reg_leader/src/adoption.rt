@@ -1,10 +1,16 @@
 // Which sets of records a topic can begin with.
-ghost use Rattle.std.specs.Prelude.{◌≡◌, false, IfErr, IfOk, OnOk};
+ghost use Rattle.std.specs.Prelude.{◌≡◌, ◌⊎◌, ◌<◌, ◌≤◌, [], ◌∷◌, true, false, IfErr, IfOk, OnOk};
 ghost use Rattle.reg_fold.specs.Closed.{is_closed};
+ghost use Rattle.reg_fold.specs.IdMark.{needs_mark};
 ghost use Rattle.reg_set.specs.LastRecords.{last_records};
-ghost use Rattle.reg_leader.specs.Adoption.{IsAdoptRefusal};
+ghost use Rattle.reg_records.specs.declared.limits.TheConstants.{OFFSET_LIMIT};
+ghost use Rattle.reg_leader.specs.Adoption.{HasPlace, IsAdoptRefusal, adopting};
+ghost use Rattle.reg_rules.specs.Writings.{id_marked, numbered};
+ghost use Rattle.reg_leader.specs.declared.adoption.AdoptError.TheVariants.{NumbersUsedUp, OutOfMemory};
 
 use reg_fold::Registry;
+use reg_records::{OFFSET_LIMIT, Record};
+use reg_rules::{Writing, numbered};
 use reg_set::RecordSet;
 use std::alloc::{AllocError, Global};
 use std::error::Error;
@@ -17,6 +23,8 @@ pub enum AdoptError {
     Opaque(u64),
     /// An id names two schemas, soft versions counted; the least that does.
     TwoSchemas(u32),
+    /// A mark of ids is due, and no offset is left for it.
+    NumbersUsedUp,
     OutOfMemory,
 }
 
@@ -30,6 +38,7 @@ impl fmt::Display for AdoptError {
         match self {
             AdoptError::Opaque(_) => write!(f, "Opaque"),
             AdoptError::TwoSchemas(_) => write!(f, "TwoSchemas"),
+            AdoptError::NumbersUsedUp => write!(f, "NumbersUsedUp"),
             AdoptError::OutOfMemory => write!(f, "out of memory"),
         }
     }
@@ -48,11 +57,24 @@ impl From<AllocError> for AdoptError {
     }
 }
 
-/// The registry over a set, unless it takes no commands.
-pub fn adopt(alloc: Global, set: &RecordSet) -> Result<Registry, AdoptError>
-    ensures adopted { IfOk result (λ registry. registry ≡ last_records set.now) }
+/// What a topic begins with.
+#[derive(Debug, Drop)]
+pub struct Adopted {
+    /// The registry over the set.
+    pub registry: Registry,
+    /// The records that the topic begins with beside the set: a mark of the greatest id, at the next
+    /// offset, where that id is above the mark that the set has; else none.
+    pub due: Vec<Record>,
+}
+
+/// The registry over a set, and the records that a topic over it begins with beside it, unless the
+/// set takes no commands.
+pub fn adopt(alloc: Global, set: &RecordSet, next: u64) -> Result<Adopted, AdoptError>
+    ensures adopted { IfOk result (λ adopted. adopted.registry ≡ last_records set.now) }
+    ensures due { IfOk result (λ adopted. adopted.due.items ≡ adopting (last_records set.now) next) }
+    ensures place { OnOk result (HasPlace (last_records set.now) next) }
     ensures takes_commands { OnOk result (is_closed (last_records set.now) ≡ false) }
-    ensures refused { IfErr result (IsAdoptRefusal (last_records set.now)) }
+    ensures refused { IfErr result (IsAdoptRefusal (last_records set.now) next) }
 {
     let registry = Registry::of_set(alloc, set)?;
     if let Some(offset) = registry.opaque() {
@@ -61,5 +83,31 @@ pub fn adopt(alloc: Global, set: &RecordSet) -> Result<Registry, AdoptError>
     if let Some(id) = registry.two_schemas() {
         return Err(AdoptError::TwoSchemas(id));
     }
-    Ok(registry)
+    let due = due_mark(alloc, &registry, next)?;
+    Ok(Adopted { registry, due })
+}
+
+/// A mark of the greatest id, where it is above the mark that the registry has.
+fn due_mark(alloc: Global, registry: &Registry, next: u64) -> Result<Vec<Record>, AdoptError>
+    ensures due { IfOk result (λ due. due.items ≡ adopting registry.now next) }
+    ensures place { OnOk result (HasPlace registry.now next) }
+    ensures refused { IfErr result (λ why. (why ≡ OutOfMemory) ⊎ ((why ≡ NumbersUsedUp) × (needs_mark registry.now ≡ true) × (OFFSET_LIMIT < next))) }
+{
+    let greatest = registry.greatest_id().unwrap_or(0);
+    if greatest <= registry.mark() {
+        return Ok(Vec::new(alloc));
+    }
+    if next > OFFSET_LIMIT {
+        return Err(AdoptError::NumbersUsedUp);
+    }
+    Ok(marked_at(alloc, next, greatest)?)
+}
+
+/// The record that marks the id, at that offset.
+fn marked_at(alloc: Global, next: u64, id: u32) -> Result<Vec<Record>, AllocError>
+    requires { next ≤ OFFSET_LIMIT }
+    ensures { IfOk result (λ due. due.items ≡ numbered next (id_marked id ∷ [])) }
+{
+    let writings = vec![in alloc; Writing::id_marked(id)]?;
+    numbered(alloc, next, writings)
 }

@@ -1,12 +1,13 @@
 // The commands that delete.
-ghost use Rattle.std.specs.Prelude.{◌≡◌, not, false, true, IfOk, map, option_copied};
+ghost use Rattle.std.specs.Prelude.{◌≡◌, ◌∷◌, not, false, true, IfOk, map, option_copied};
 ghost use Rattle.std.specs.List.{list_any};
 ghost use Rattle.reg_leader.specs.Deciding.{Follows};
 ghost use Rattle.reg_rules.specs.Standing.{version_meant};
-ghost use Rattle.reg_leader.specs.Step.{delete_all, delete_entry, delete_subject, delete_version, no_version};
+ghost use Rattle.reg_leader.specs.Step.{delete_all, delete_entry, delete_subject, delete_version, marked, no_version};
 ghost use Rattle.reg_rules.specs.Writings.{removed};
 
 use crate::deed::Deed;
+use crate::marking::marked;
 use crate::reply::Reply;
 use base_text::{Listed, Text};
 use reg_fold::{Entry, Refusal, Registry, VersionRef};
@@ -29,7 +30,7 @@ pub(crate) fn delete_version(
     may_write(mode_in_force(registry, Some(subject.as_str())))?;
     stands(registry, subject)?;
     match version_meant(registry, subject, version)? {
-        Some(entry) => delete_entry(alloc, entry, permanent),
+        Some(entry) => delete_entry(alloc, registry, entry, permanent),
         None => Err(no_version(version)),
     }
 }
@@ -48,18 +49,23 @@ fn version_meant<'a>(
     }
 }
 
-fn delete_entry(alloc: Global, entry: &Entry, permanent: bool) -> Result<Deed, Refusal>
-    ensures { Follows (delete_entry permanent entry.now) result }
+fn delete_entry(
+    alloc: Global,
+    registry: &Registry,
+    entry: &Entry,
+    permanent: bool,
+) -> Result<Deed, Refusal>
+    ensures { Follows (delete_entry registry.now permanent entry.now) result }
 {
-    let writing = match (permanent, entry.soft) {
+    let writings = match (permanent, entry.soft) {
         (false, true) => return Err(Refusal::VersionSoftDeleted),
         (true, false) => return Err(Refusal::VersionNotSoftDeleted),
-        (false, false) => Writing::deleted_again(entry)?,
-        (true, true) => Writing::removed(entry)?,
+        (false, false) => vec![in alloc; Writing::deleted_again(entry)?]?,
+        (true, true) => vec![in alloc; marked(registry), Writing::removed(entry)?]?,
     };
     Ok(Deed {
         reply: Reply::Version(entry.version),
-        writings: vec![in alloc; writing]?,
+        writings,
     })
 }
 
@@ -116,7 +122,7 @@ fn delete_all(
     })
 }
 
-/// Removes the subject's versions, each with a record of its own.
+/// Marks the ids, and removes the subject's versions, each with a record of its own.
 fn remove_all(
     alloc: Global,
     registry: &Registry,
@@ -131,7 +137,7 @@ fn remove_all(
     }
     Ok(Deed {
         reply: Reply::Versions(Listed::from(versions_of(alloc, &entries)?)),
-        writings: removed_all(alloc, &entries)?,
+        writings: removed_all(alloc, registry, &entries)?,
     })
 }
 
@@ -152,10 +158,14 @@ fn versions_of(alloc: Global, entries: &[&Entry]) -> Result<Vec<u32>, AllocError
     Ok(versions)
 }
 
-fn removed_all(alloc: Global, entries: &[&Entry]) -> Result<Vec<Writing>, AllocError>
-    ensures { IfOk result (λ writings. writings.items ≡ map removed (map (λ e. e.now) entries.now)) }
+fn removed_all(
+    alloc: Global,
+    registry: &Registry,
+    entries: &[&Entry],
+) -> Result<Vec<Writing>, AllocError>
+    ensures { IfOk result (λ writings. writings.items ≡ marked registry.now ∷ map removed (map (λ e. e.now) entries.now)) }
 {
-    let mut writings = Vec::new(alloc);
+    let mut writings = vec![in alloc; marked(registry)]?;
     for entry in entries {
         writings.push(Writing::removed(entry)?)?;
     }

@@ -4,13 +4,16 @@ ghost use Rattle.reg_leader.specs.Deciding.{Follows};
 ghost use Rattle.reg_leader.specs.Step.{import_as, import_register, is_there};
 
 use crate::deed::Deed;
+use crate::marking::mark_over;
 use crate::registering::{next_version, writes};
 use crate::reply::Reply;
 use avro_schema::Schema;
 use base_text::Text;
 use reg_fold::{Entry, Reason, Refusal, Registry, VersionRef};
 use reg_modes::{may_register, mode_in_force};
-use reg_rules::{has_offset, is_of, is_open, live_import, names_no_other, read_schema};
+use reg_rules::{
+    has_offset, is_above_mark, is_of, is_open, live_import, names_no_other, read_schema,
+};
 use std::alloc::Global;
 
 pub(crate) fn import_register(
@@ -29,13 +32,14 @@ pub(crate) fn import_register(
     has_offset(next)?;
     may_register(mode_in_force(registry, Some(subject.as_str())), true)?;
     names_no_other(registry, id, schema.normal())?;
+    is_above_mark(registry, id)?;
     match version {
         Some(version) => import_at(alloc, registry, subject, &schema, id, version),
         None => import_next(alloc, registry, subject, &schema, id),
     }
 }
 
-/// Imports a schema as that version.
+/// Imports a schema as that version, over a soft one if there is one.
 fn import_at(
     alloc: Global,
     registry: &Registry,
@@ -46,10 +50,13 @@ fn import_at(
 ) -> Result<Deed, Refusal>
     ensures { Follows (import_as registry.now subject.now schema.now.normal_text id (Some version)) result }
 {
-    match registry.version(subject.as_str(), VersionRef::Number(version), false)? {
-        Some(entry) => is_there(alloc, entry, id, schema.normal()),
-        None => writes(alloc, subject, schema, u64::from(id), u64::from(version)),
+    let place = VersionRef::Number(version);
+    if let Some(entry) = registry.version(subject.as_str(), place, false)? {
+        return is_there(alloc, entry, id, schema.normal());
     }
+    let soft = registry.version(subject.as_str(), place, true)?;
+    let first = mark_over(alloc, registry, id, soft)?;
+    writes(first, subject, schema, u64::from(id), u64::from(version))
 }
 
 /// The entry that is live there is this schema with this id, or the version is occupied.
@@ -83,5 +90,5 @@ fn import_next(
         });
     }
     let version = next_version(registry, subject);
-    writes(alloc, subject, schema, u64::from(id), version)
+    writes(Vec::new(alloc), subject, schema, u64::from(id), version)
 }

@@ -3,7 +3,7 @@
 ghost use Rattle.reg_leader.specs.OneStep.{BatchesAreRead, BatchesEndByTheLimit, BatchesGoOn, BatchesHaveLines, RefusalsWriteNothing, StepsAreSingle, StepsMeetLevels};
 
 use avro_schema::normal_texts_read_back;
-use reg_fold::{entries_are_in_limits, entries_are_read};
+use reg_fold::{entries_are_in_limits, entries_are_read, id_mark_is_in_limits};
 use reg_levels::level_verdicts_are_single;
 use reg_values::{written_values_have_lines, written_values_read_back};
 
@@ -40,6 +40,7 @@ pub fn batches_have_lines()
 {
     entries_are_in_limits();
     entries_are_read();
+    id_mark_is_in_limits();
     normal_texts_read_back();
     written_values_have_lines();
 }
@@ -50,6 +51,7 @@ pub fn batches_are_read()
 {
     entries_are_in_limits();
     entries_are_read();
+    id_mark_is_in_limits();
     normal_texts_read_back();
     written_values_read_back();
 }

@@ -9,12 +9,13 @@ mod deletes;
 mod importing;
 mod laws;
 mod levels;
+mod marking;
 mod modes;
 mod registering;
 mod reply;
 mod staying;
 
-pub use adoption::{AdoptError, adopt};
+pub use adoption::{AdoptError, Adopted, adopt};
 pub use command::Command;
 pub use decision::{Decision, decide};
 pub use laws::{
@@ -22,4 +23,4 @@ pub use laws::{
     refusals_write_nothing, steps_are_single, steps_meet_levels,
 };
 pub use reply::Reply;
-pub use staying::{deletes_name_greatest, steps_are_harmless, steps_stay_open};
+pub use staying::{deletes_name_greatest, steps_are_harmless, steps_keep_taken, steps_stay_open};

@@ -1,6 +1,5 @@
 // Registrations without an id.
-ghost use Rattle.std.specs.Prelude.{◌≡◌, suc, IfOk};
-ghost use Rattle.std.specs.Option.{option_map_or};
+ghost use Rattle.std.specs.Prelude.{◌≡◌, IfOk};
 ghost use Rattle.reg_leader.specs.Deciding.{Follows};
 ghost use Rattle.reg_rules.specs.Standing.{id_for, next_version};
 ghost use Rattle.reg_leader.specs.Step.{register, writes};
@@ -76,17 +75,17 @@ fn register_new(
     }
     let id = id_for(registry, schema.normal())?;
     let version = next_version(registry, subject);
-    writes(alloc, subject, schema, id, version)
+    writes(Vec::new(alloc), subject, schema, id, version)
 }
 
 /// The id of a schema that is registered: the least that an entry has it under, else one more than
-/// the greatest, or 1. The only error is want of memory.
+/// the greatest that is marked or that an entry has, or 1. The only error is want of memory.
 fn id_for(registry: &Registry, normal: &Text) -> Result<u64, AllocError>
     ensures { IfOk result (λ id. id ≡ id_for registry.now normal.now) }
 {
     match registry.id_of(normal.as_str())? {
         Some(id) => Ok(u64::from(id)),
-        None => Ok(after(registry.greatest_id())),
+        None => Ok(u64::from(registry.last_id()) + 1),
     }
 }
 
@@ -94,34 +93,28 @@ fn id_for(registry: &Registry, normal: &Text) -> Result<u64, AllocError>
 pub(crate) fn next_version(registry: &Registry, subject: &Text) -> u64
     ensures { result ≡ next_version registry.now subject.now }
 {
-    after(registry.greatest_version(subject.as_str()))
-}
-
-/// One more, or 1.
-fn after(greatest: Option<u32>) -> u64
-    ensures { result ≡ option_map_or suc greatest 1 }
-{
-    match greatest {
-        Some(number) => u64::from(number) + 1,
+    match registry.greatest_version(subject.as_str()) {
+        Some(version) => u64::from(version) + 1,
         None => 1,
     }
 }
 
-/// Writes a schema as that version, with that id.
+/// Writes a schema as that version, with that id, after what is written first.
 pub(crate) fn writes(
-    alloc: Global,
+    first: Vec<Writing>,
     subject: &Text,
     schema: &Schema,
     id: u64,
     version: u64,
 ) -> Result<Deed, Refusal>
-    ensures { Follows (writes subject.now schema.now.normal_text id version) result }
+    ensures { Follows (writes first.items subject.now schema.now.normal_text id version) result }
 {
     let id = is_number(id)?;
     let version = is_number(version)?;
-    let writing = Writing::version_of(subject, version, id, schema.normal().clone()?)?;
+    let mut writings = first;
+    writings.push(Writing::version_of(subject, version, id, schema.normal().clone()?)?)?;
     Ok(Deed {
         reply: Reply::Id(id),
-        writings: vec![in alloc; writing]?,
+        writings,
     })
 }

@@ -3,16 +3,18 @@
 ghost use Rattle.reg_leader.specs.Deletes.{DeletesNameGreatest};
 ghost use Rattle.reg_leader.specs.Harmless.{StepsAreHarmless};
 ghost use Rattle.reg_leader.specs.StayOpen.{StepsKeepIds, StepsStayOpen};
+ghost use Rattle.reg_leader.specs.Taken.{EntriesTakeIds, StepsKeepTaken};
 
 use avro_schema::normal_texts_read_back;
 use reg_fold::{
-    entries_are_in_limits, entries_are_of_places, entries_are_read, none_is_no_opaque_last,
-    two_schemas_is_least,
+    entries_are_in_limits, entries_are_of_places, entries_are_read, id_mark_is_in_limits,
+    none_is_no_opaque_last, two_schemas_is_least,
 };
-use reg_set::{last_is_greatest, merging_joins_sets, records_are_ordered};
+use reg_set::{last_is_greatest, last_records_are_enough, merging_joins_sets, records_are_ordered};
 use reg_values::written_values_read_back;
 
-/// What a command writes is one version whose id names no other schema, or no version with a value.
+/// What a command writes is one version whose id names no other schema, after records that give no
+/// version a value, or such records alone.
 pub fn steps_are_harmless()
     ensures { StepsAreHarmless }
 {
@@ -34,6 +36,25 @@ pub fn steps_stay_open()
     none_is_no_opaque_last();
     records_are_ordered();
     steps_are_harmless();
+    two_schemas_is_least();
+    written_values_read_back();
+}
+
+/// The id of an entry is taken, and what is taken stays so when a command is carried out: no entry
+/// has the id with another schema, and no command gives it to one.
+pub fn steps_keep_taken()
+    ensures entries { EntriesTakeIds }
+    ensures kept { StepsKeepTaken }
+{
+    entries_are_in_limits();
+    entries_are_of_places();
+    entries_are_read();
+    id_mark_is_in_limits();
+    last_is_greatest();
+    last_records_are_enough();
+    merging_joins_sets();
+    normal_texts_read_back();
+    records_are_ordered();
     two_schemas_is_least();
     written_values_read_back();
 }

@@ -1,3 +1,4 @@
 pub mod Keep
+pub mod Opening
 pub mod Pen
 pub mod Pending

@@ -2,9 +2,11 @@
 #![tactic(auto)]
 
 mod keep;
+mod open_error;
 mod pass;
 mod pen;
 
 pub use keep::{Keep, Kept, Lack, MemoryAlone};
+pub use open_error::OpenError;
 pub use pass::Pass;
 pub use pen::{Opened, Pen, Submitted, open};

@@ -1,22 +1,24 @@
 // The owner of the topic's writer. It stands in a `Mutex`.
 ghost use Rattle.std.specs.Prelude.{◌≡◌, ◌≢◌, ◌⊎◌, ◌+◌, ◌<◌, ◌≤◌, ◌^◌, ◌++◌, ◌∷◌, [], false, IfErr, IfOk, MatchBool, None, OnErr, OnOk, Some, map, option_to_list, replicate, true};
+ghost use mathlib.Core.List.{IsPrefix};
 ghost use Rattle.std.specs.FinSet.{from_list};
 ghost use Rattle.reg_set.specs.LastRecords.{last_records};
-ghost use Rattle.reg_leader.specs.Adoption.{IsAdoptRefusal};
-ghost use mathlib.Core.List.{IsPrefix};
+ghost use Rattle.reg_leader.specs.Adoption.{HasPlace};
 ghost use Rattle.reg_leader.specs.Outcome.{IsOutOfMemory};
-ghost use Rattle.reg_topic.specs.Topic.{MayCommit, MayFollow, topic_from};
+ghost use Rattle.reg_topic.specs.Topic.{MayCommit, MayFollow, owed_by, topic_from};
 ghost use Rattle.reg_shared.specs.Held.{base_of, held_of, topic_at};
+ghost use Rattle.reg_pen.specs.Opening.{IsKeepRefusal, IsOpenRefusal, KeepsDue};
 ghost use Rattle.reg_pen.specs.Pen.{Acts, Compacts, Follows, IsAhead, IsBehind, IsNoMemory, IsStepAfter, LeavesCompaction, LeavesLasts, Submits, StillPends, batches, counted, settled};
 ghost use Rattle.reg_pen.specs.Pending.{IsClear, IsFirst, IsPending, batches_in, is_lost, reply_of};
 ghost use Rattle.reg_pen.specs.declared.keep.Kept.{Kept};
 
 use crate::keep::{Keep, Kept};
+use crate::open_error::OpenError;
 use crate::pass::Pass;
 use base_text::Listed;
 use reg_feed::{Copies, FeedName, FeedReader, FeedWriter, NoPlace, Seen, Stored, Unnamed, feed};
 use reg_fold::{Refusal, StoreFault};
-use reg_leader::{AdoptError, Command, Decision, Reply, decide};
+use reg_leader::{Command, Decision, Reply, decide};
 use reg_levels::Judged;
 use reg_records::{Log, Record};
 use reg_shared::{Shared, kept_gives_registry, published_lists_fold};
@@ -90,7 +92,11 @@ pub struct Opened<
 }
 
 /// Opens a pen over a log, which has to be adopted, with that keep, so many passes and places for so
-/// many readers. The log isn't lent to the keep.
+/// many readers.
+///
+/// The topic begins with the log, which isn't lent to the keep, and with the mark of ids that the log
+/// owes, which is: where the keep doesn't take it, no pen is opened. Both are there before anything is
+/// published, and `batches` counts neither.
 pub fn open<N: FeedName<Item, Shared>, K: Keep + Drop, R: Wait + Drop>(
     rt: R,
     alloc: Global,
@@ -99,19 +105,22 @@ pub fn open<N: FeedName<Item, Shared>, K: Keep + Drop, R: Wait + Drop>(
     keep: K,
     passes: u32,
     readers: usize,
-) -> Result<Opened<N, Stored<Item, Shared, N>, K, R>, AdoptError>
+) -> Result<Opened<N, Stored<Item, Shared, N>, K, R>, OpenError>
     requires name { (list.reached.book ≡ N.book) × (N.first ≡ held_of (topic_from base.now.records.items base.now.next)) }
     requires readers { (0 < readers) × (readers < 2 ^ 32) }
-    ensures begun { IfOk result (λ opened. opened.pen ≡ record { published = []; pending = []; lost = false; keep = keep }) }
+    ensures begun { IfOk result (λ opened. opened.pen ≡ record { published = []; pending = []; lost = false; keep = opened.pen.keep }) }
+    ensures kept { IfOk result (λ opened. KeepsDue K.keeps keep (owed_by base.now.records.items base.now.next) opened.pen.keep) }
+    ensures place { OnOk result (HasPlace (last_records (from_list base.now.records.items)) base.now.next) }
     ensures passes { IfOk result (λ opened. map (λ p. p.submits) opened.passes.items ≡ replicate passes 0) }
-    ensures refused { IfErr result (IsAdoptRefusal (last_records (from_list base.now.records.items))) }
+    ensures refused { IfErr result (IsOpenRefusal K.keeps base.now.records.items base.now.next keep) }
 {
     adopted_logs_begin();
-    let shared = Shared::adopt(alloc, base)?;
-    let writer = feed::<Item, Shared, N, R>(rt, alloc, list, shared, readers)?;
-    let Ok(writer) = Box::new(alloc, writer) else {
-        return Err(AdoptError::OutOfMemory);
-    };
+    let begun = Shared::adopt(alloc, base)?;
+    let writer = feed::<Item, Shared, N, R>(rt, alloc, list, begun.shared, readers)?;
+    let writer = Box::new(alloc, writer)?;
+    let passes = new_passes(alloc, passes)?;
+    let mut keep = keep;
+    lend_due(&mut keep, &begun.due)?;
     let pen = Pen {
         alloc,
         writer,
@@ -120,8 +129,22 @@ pub fn open<N: FeedName<Item, Shared>, K: Keep + Drop, R: Wait + Drop>(
         pending: Pending::Nothing,
         committed: 0,
     };
-    let passes = new_passes(alloc, passes)?;
     Ok(Opened { pen, passes })
+}
+
+/// Lends the keep what a topic begins with beside its log, if there is something.
+fn lend_due<K: Keep>(keep: &mut K, due: &[Record]) -> Result<(), OpenError>
+    ensures taken { OnOk result (KeepsDue K.keeps keep.old due.now keep.new) }
+    ensures refused { IfErr result (IsKeepRefusal K.keeps keep.old due.now) }
+{
+    if due.is_empty() {
+        return Ok(());
+    }
+    match keep.keep(due) {
+        Kept::Taken => Ok(()),
+        Kept::Declined(lack) => Err(OpenError::Declined(lack)),
+        Kept::Lost => Err(OpenError::Lost),
+    }
 }
 
 fn new_passes<N>(alloc: Global, count: u32) -> Result<Vec<Pass<N>>, AllocError>
@@ -170,7 +193,7 @@ impl<N: FeedName<Item, Shared>, S: Copies<Item, Shared, N>, K: Keep + Drop, R: W
         }
     }
 
-    /// How many batches were published. Takes no memory.
+    /// How many batches were published, without what the topic began with. Takes no memory.
     pub fn batches(&self) -> u64
         ensures { result ≡ batches self.now.published }
     {

@@ -15,7 +15,7 @@ use Rattle.serde_json.specs.Written.{compact_text, outline}
 use Rattle.serde_json.proofs.Texts.{print-outline}
 use Rattle.serde_json.proofs.Numbers.{number_of-decimal}
 use Rattle.reg_records.specs.declared.key.Key.{Key}
-use Rattle.reg_records.specs.declared.key.Key.TheVariants.{Schema, Config, Mode, DeleteSubject, Noop}
+use Rattle.reg_records.specs.declared.key.Key.TheVariants.{Schema, Config, Mode, DeleteSubject, Noop, IdMark}
 use Rattle.reg_records.specs.Json.{text_at}
 use Rattle.reg_records.specs.Key.{scope_in, key_of_kind, key_of}
 use Rattle.reg_records.specs.Written.{key_data, written_key, IsOf32Bits, IsInLimits}
@@ -36,6 +36,7 @@ HasNumbers-key_data (Mode None) h = (tt, (tt, (IsNumber-decimal 0 (omega arith),
 HasNumbers-key_data (Mode (Some subject)) h = (tt, (tt, (IsNumber-decimal 0 (omega arith), tt)))
 HasNumbers-key_data (DeleteSubject subject) h = (tt, (tt, (IsNumber-decimal 0 (omega arith), tt)))
 HasNumbers-key_data Noop h = (tt, (IsNumber-decimal 0 (omega arith), tt))
+HasNumbers-key_data IdMark h = (tt, (IsNumber-decimal 0 (omega arith), tt))
 
 shallow_key : (k : Key) → depth (outline (key_data k)) ≤ max_depth
 shallow_key (Schema subject version) = omega arith
@@ -45,6 +46,7 @@ shallow_key (Mode None) = omega arith
 shallow_key (Mode (Some subject)) = omega arith
 shallow_key (DeleteSubject subject) = omega arith
 shallow_key Noop = omega arith
+shallow_key IdMark = omega arith
 
 pub read-written_key : (k : Key) → IsOf32Bits k → read (written_key k) ≡ of_json (outline (key_data k))
 unfolding written_key
@@ -65,7 +67,8 @@ any_key_of_kind kind d =
     cond (bytes_eq kind (codes "SCHEMA")) (any_schema_key d)
     (cond (bytes_eq kind (codes "CONFIG")) (option_map Config (scope_in d))
     (cond (bytes_eq kind (codes "MODE")) (option_map Mode (scope_in d))
-    (cond (bytes_eq kind (codes "DELETE_SUBJECT")) (option_map DeleteSubject (text_at (codes "subject") d)) (Some Noop))))
+    (cond (bytes_eq kind (codes "DELETE_SUBJECT")) (option_map DeleteSubject (text_at (codes "subject") d))
+    (cond (bytes_eq kind (codes "NOOP")) (Some Noop) (Some IdMark)))))
 
 abbrev any_key : Option Data → Option Key
 any_key o = option_and_then (λ d. option_and_then (λ kind. any_key_of_kind kind d) (text_at (codes "keytype") d)) o
@@ -78,6 +81,7 @@ any_key-outline (Mode None) h = rw (number_of-decimal 0 (omega arith))
 any_key-outline (Mode (Some subject)) h = rw (number_of-decimal 0 (omega arith))
 any_key-outline (DeleteSubject subject) h = rw (number_of-decimal 0 (omega arith))
 any_key-outline Noop h = rw (number_of-decimal 0 (omega arith))
+any_key-outline IdMark h = rw (number_of-decimal 0 (omega arith))
 
 pub key_of-written_key : (k : Key) → IsInLimits k → key_of (written_key k) ≡ Some k
 key_of-written_key (Schema subject version) h =
@@ -89,6 +93,7 @@ key_of-written_key (Mode None) h = ap (option_and_then key_in) (read-written_key
 key_of-written_key (Mode (Some subject)) h = ap (option_and_then key_in) (read-written_key (Mode (Some subject)) tt) ∙ rw (number_of-decimal 0 (omega arith))
 key_of-written_key (DeleteSubject subject) h = ap (option_and_then key_in) (read-written_key (DeleteSubject subject) tt) ∙ rw (number_of-decimal 0 (omega arith))
 key_of-written_key Noop h = ap (option_and_then key_in) (read-written_key Noop tt) ∙ rw (number_of-decimal 0 (omega arith))
+key_of-written_key IdMark h = ap (option_and_then key_in) (read-written_key IdMark tt) ∙ rw (number_of-decimal 0 (omega arith))
 
 pub written_key-apart : (a b : Key) → IsOf32Bits a → IsOf32Bits b → written_key a ≡ written_key b → a ≡ b
 written_key-apart a b ha hb same =

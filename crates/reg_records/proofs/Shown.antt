@@ -5,7 +5,7 @@ use Rattle.json.specs.Print.{quoted}
 use Rattle.serde_json.specs.Data.{Data, null, object, Members, no_members, member}
 use Rattle.serde_json.specs.Written.{comma_if, compact_text, members_text}
 use Rattle.reg_records.specs.declared.key.Key.{Key}
-use Rattle.reg_records.specs.declared.key.Key.TheVariants.{Schema, Config, Mode, DeleteSubject, Noop}
+use Rattle.reg_records.specs.declared.key.Key.TheVariants.{Schema, Config, Mode, DeleteSubject, Noop, IdMark}
 use Rattle.reg_records.specs.declared.value.Value.{Value}
 use Rattle.reg_records.specs.declared.value.Value.TheVariants as values
 use Rattle.reg_records.specs.declared.limits.TheConstants.{OFFSET_LIMIT}
@@ -54,6 +54,7 @@ are_shown-written_key (Mode (Some subject)) h =
 are_shown-written_key (DeleteSubject subject) h =
     are_shown-compact_text (key_data (DeleteSubject subject)) (are_shown-quoted (codes "DELETE_SUBJECT"), (are_shown-quoted subject, (are_shown-decimal 0 (omega arith), tt)))
 are_shown-written_key Noop h = are_shown-compact_text (key_data Noop) (are_shown-quoted (codes "NOOP"), (are_shown-decimal 0 (omega arith), tt))
+are_shown-written_key IdMark h = are_shown-compact_text (key_data IdMark) (are_shown-quoted (codes "ID_MARK"), (are_shown-decimal 0 (omega arith), tt))
 
 -- the text of an object can stand as the value of a line
 object_field : (d : Data) → ShowsObject d → ForSome (Some (compact_text d)) IsValueField
@@ -80,6 +81,7 @@ field_of_value (values.Mode mode) h = object_field (data_of (values.Mode mode)) 
 field_of_value (values.DeleteSubject subject version) h =
     object_field (data_of (values.DeleteSubject subject version)) (are_shown-quoted subject, (are_shown-decimal version (omega (arith, h.1)), tt))
 field_of_value values.Noop h = λ text none. absurd (cc)
+field_of_value (values.IdMark id) h = object_field (data_of (values.IdMark id)) (are_shown-decimal id (omega (arith, h.1)), tt)
 
 pub HasLine-written_value : (offset : ℕ) (k : Key) (v : Value) → offset ≤ OFFSET_LIMIT → IsInLimits k → HasNumbersInLimits v → HasLine (record { offset = offset; key = k; value = written_value v })
 HasLine-written_value offset k v fits key h = record { offset_fits = fits; key_fits = key; value_fits = field_of_value v h }

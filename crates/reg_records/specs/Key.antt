@@ -23,7 +23,8 @@ key_of_kind kind d =
     else (if bytes_eq kind (codes "CONFIG") then option_map keys.Config (scope_in d)
     else (if bytes_eq kind (codes "MODE") then option_map keys.Mode (scope_in d)
     else (if bytes_eq kind (codes "DELETE_SUBJECT") then option_map keys.DeleteSubject (text_at (codes "subject") d)
-    else (if bytes_eq kind (codes "NOOP") then Some keys.Noop else None))))
+    else (if bytes_eq kind (codes "NOOP") then Some keys.Noop
+    else (if bytes_eq kind (codes "ID_MARK") then Some keys.IdMark else None)))))
 
 -- the key that a text is: its kind is the string `keytype`
 abbrev pub key_of : List ℕ → Option Key
@@ -36,3 +37,4 @@ key_version (keys.Config scope) = None
 key_version (keys.Mode scope) = None
 key_version (keys.DeleteSubject subject) = None
 key_version keys.Noop = None
+key_version keys.IdMark = None

@@ -4,7 +4,7 @@ use Rattle.std.specs.Option.{ForSome, option_map_or}
 use Rattle.serde_json.specs.Data.{unsigned, Data, null, boolean, number, string, object, Members, no_members, member}
 use Rattle.serde_json.specs.Written.{compact_text}
 use Rattle.reg_records.specs.declared.key.Key.{Key}
-use Rattle.reg_records.specs.declared.key.Key.TheVariants.{Schema, Config, Mode, DeleteSubject, Noop}
+use Rattle.reg_records.specs.declared.key.Key.TheVariants.{Schema, Config, Mode, DeleteSubject, Noop, IdMark}
 use Rattle.reg_records.specs.declared.limits.TheConstants.{NUMBER_LIMIT, OFFSET_LIMIT}
 use Rattle.reg_records.specs.declared.record.Record.{Record}
 use Rattle.reg_records.specs.declared.value.Value.{Value}
@@ -27,6 +27,7 @@ key_data (Config scope) = of_kind (codes "CONFIG") (member (codes "subject") (op
 key_data (Mode scope) = of_kind (codes "MODE") (member (codes "subject") (option_map_or string scope null) (magic 0))
 key_data (DeleteSubject subject) = of_kind (codes "DELETE_SUBJECT") (member (codes "subject") (string subject) (magic 0))
 key_data Noop = of_kind (codes "NOOP") (magic 0)
+key_data IdMark = of_kind (codes "ID_MARK") (magic 0)
 
 -- its text
 unfoldable pub written_key : Key → List ℕ
@@ -54,6 +55,7 @@ value_data (values.Mode mode) = Some (object (member (codes "mode") (string mode
 value_data (values.DeleteSubject subject version) =
     Some (object (member (codes "subject") (string subject) (member (codes "version") (number (unsigned version)) no_members)))
 value_data values.Noop = None
+value_data (values.IdMark id) = Some (object (member (codes "id") (number (unsigned id)) no_members))
 
 -- its text
 unfoldable pub written_value : Value → Option (List ℕ)
@@ -66,6 +68,7 @@ HasNumbersInLimits (values.Config level) = ⊤
 HasNumbersInLimits (values.Mode mode) = ⊤
 HasNumbersInLimits (values.DeleteSubject subject version) = IsVersionOrId version
 HasNumbersInLimits values.Noop = ⊤
+HasNumbersInLimits (values.IdMark id) = IsVersionOrId id
 
 -- a text that can stand as the value of a line: no TAB, no LF, and not the text `null`
 abbrev pub IsValueField : List ℕ → Type 0

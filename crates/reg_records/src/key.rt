@@ -28,6 +28,8 @@ pub enum Key {
     DeleteSubject(Text),
     /// No operation.
     Noop,
+    /// The id up to which ids were given away.
+    IdMark,
 }
 
 impl Key {
@@ -42,6 +44,7 @@ impl Key {
             Key::Mode(scope) => scope_key_text(alloc, "MODE", scope.as_ref()),
             Key::DeleteSubject(subject) => scope_key_text(alloc, "DELETE_SUBJECT", Some(subject)),
             Key::Noop => Text::copy_of(alloc, "{\"keytype\":\"NOOP\",\"magic\":0}"),
+            Key::IdMark => Text::copy_of(alloc, "{\"keytype\":\"ID_MARK\",\"magic\":0}"),
         }
     }
 
@@ -51,7 +54,11 @@ impl Key {
     {
         match self {
             Key::Schema { version, .. } => 1 <= *version && *version <= NUMBER_LIMIT,
-            Key::Config(_) | Key::Mode(_) | Key::DeleteSubject(_) | Key::Noop => true,
+            Key::Config(_)
+            | Key::Mode(_)
+            | Key::DeleteSubject(_)
+            | Key::Noop
+            | Key::IdMark => true,
         }
     }
 }
@@ -85,6 +92,7 @@ fn key_of_kind(alloc: Global, kind: &str, json: &Json) -> Result<Option<Key>, Al
         "MODE" => mode_key(alloc, json),
         "DELETE_SUBJECT" => delete_subject_key(alloc, json),
         "NOOP" => Ok(Some(Key::Noop)),
+        "ID_MARK" => Ok(Some(Key::IdMark)),
         _ => Ok(None),
     }
 }

@@ -36,6 +36,8 @@ pub enum Value {
     },
     /// Nothing.
     Noop,
+    /// Ids were given away up to this one, from 1 to `NUMBER_LIMIT`.
+    IdMark(u32),
 }
 
 impl Value {
@@ -59,6 +61,7 @@ impl Value {
                 delete_subject_value_text(alloc, subject, *version)?
             }
             Value::Noop => return Ok(None),
+            Value::IdMark(id) => id_mark_value_text(alloc, *id)?,
         };
         Ok(Some(text))
     }
@@ -123,6 +126,13 @@ fn delete_subject_value_text(
 {
     let subject = quoted(alloc, subject.as_str())?;
     let text = format!(in alloc; "{{\"subject\":{subject},\"version\":{version}}}")?;
+    Ok(Text::from(text))
+}
+
+fn id_mark_value_text(alloc: Global, id: u32) -> Result<Text, AllocError>
+    ensures { IfOk result (λ text. Some text ≡ written_value (Value.IdMark id)) }
+{
+    let text = format!(in alloc; "{{\"id\":{id}}}")?;
     Ok(Text::from(text))
 }
 

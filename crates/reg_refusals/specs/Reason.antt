@@ -1,7 +1,7 @@
 -- The reasons of the codes that have several.
 use Rattle.std.specs.Prelude.{ℕ, List, codes}
 use Rattle.reg_refusals.specs.declared.reason.Reason.{Reason}
-use Rattle.reg_refusals.specs.declared.reason.Reason.TheVariants.{Readonly, IdNeedsImport, ImportNeedsId, IdNamesAnotherSchema, VersionIsOccupied, ScopeIsNotEmpty, InvalidId, VersionNeedsImport}
+use Rattle.reg_refusals.specs.declared.reason.Reason.TheVariants.{Readonly, IdNeedsImport, ImportNeedsId, IdNamesAnotherSchema, VersionIsOccupied, ScopeIsNotEmpty, InvalidId, VersionNeedsImport, IdIsNotAboveMark}
 use Rattle.reg_refusals.specs.declared.reason.StoreFault.{StoreFault}
 use Rattle.reg_refusals.specs.declared.reason.StoreFault.TheVariants.{Memory, OpaqueRecord, TwoSchemas, NumbersUsedUp, Unsettled}
 
@@ -15,6 +15,7 @@ reason_text VersionIsOccupied = codes "version is occupied"
 reason_text ScopeIsNotEmpty = codes "scope is not empty"
 reason_text InvalidId = codes "invalid id"
 reason_text VersionNeedsImport = codes "version needs IMPORT"
+reason_text IdIsNotAboveMark = codes "id is not above the mark"
 
 -- what the registry lacked
 abbrev pub lack_text : StoreFault → List ℕ

@@ -21,6 +21,9 @@ pub enum Reason {
     InvalidId,
     /// A version is given without an id.
     VersionNeedsImport,
+    /// No version has the id that is given, and it is at or below the mark of ids: it may have been
+    /// another schema's.
+    IdIsNotAboveMark,
 }
 
 impl Reason {
@@ -37,6 +40,7 @@ impl Reason {
             Reason::ScopeIsNotEmpty => "scope is not empty",
             Reason::InvalidId => "invalid id",
             Reason::VersionNeedsImport => "version needs IMPORT",
+            Reason::IdIsNotAboveMark => "id is not above the mark",
         }
     }
 }

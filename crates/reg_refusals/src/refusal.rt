@@ -180,6 +180,7 @@ fn not_permitted(reason: Reason) -> &'static str
         Reason::ScopeIsNotEmpty => "Operation not permitted: scope is not empty",
         Reason::InvalidId => "Operation not permitted: invalid id",
         Reason::VersionNeedsImport => "Operation not permitted: version needs IMPORT",
+        Reason::IdIsNotAboveMark => "Operation not permitted: id is not above the mark",
     }
 }
 

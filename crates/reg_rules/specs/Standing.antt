@@ -7,7 +7,8 @@ use Rattle.reg_entries.specs.Sought.{counting}
 use Rattle.reg_entries.specs.declared.entry.Entry.{Entry}
 use Rattle.reg_fold.specs.Closed.{id_of}
 use Rattle.reg_fold.specs.Entries.{entries}
-use Rattle.reg_fold.specs.Standing.{greatest_id, greatest_version, named, version_in}
+use Rattle.reg_fold.specs.IdMark.{last_id}
+use Rattle.reg_fold.specs.Standing.{greatest_version, named, version_in}
 use Rattle.reg_fold.specs.declared.version_ref.VersionRef.{VersionRef}
 use Rattle.reg_fold.specs.declared.version_ref.VersionRef.TheVariants.{Latest, Number}
 use Rattle.reg_levels.specs.Texts.{VersionText}
@@ -33,9 +34,9 @@ abbrev pub version_meant : Records → List ℕ → VersionRef → Option Entry
 version_meant rs subject Latest = version_in (entries rs) subject Latest false
 version_meant rs subject (Number version) = version_in (entries rs) subject (Number version) true
 
--- the id of a schema that is registered: the least that an entry has it under, else one more than the greatest, or 1
+-- the id of a schema that is registered: the least that an entry has it under, else one more than the greatest that is marked or that an entry has, or 1
 abbrev pub id_for : Records → List ℕ → ℕ
-id_for rs normal = unwrap_or (id_of rs normal) (option_map_or suc (greatest_id rs) 1)
+id_for rs normal = unwrap_or (id_of rs normal) (suc (last_id rs))
 
 -- one more than the greatest version of the subject, soft ones too, or 1
 abbrev pub next_version : Records → List ℕ → ℕ

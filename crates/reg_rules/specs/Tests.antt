@@ -1,13 +1,14 @@
 -- The tests of commands, each with its refusal. Below, rs are the last records and n the next offset.
-use Rattle.std.specs.Prelude.{ℕ, List, [], ◌∷◌, Bool, true, false, nat_le, ◌&&◌, Some, is_some, Err}
+use Rattle.std.specs.Prelude.{ℕ, List, [], ◌∷◌, Bool, true, false, nat_le, nat_lt, ◌&&◌, ◌||◌, Some, is_some, Err}
 use Rattle.avro_schema.specs.Defaults.{bad_defaults}
 use Rattle.avro_schema.specs.Schema.{Meaning}
 use Rattle.reg_entries.specs.Sought.{has_live}
 use Rattle.reg_fold.specs.Closed.{two_schemas}
 use Rattle.reg_fold.specs.Entries.{entries}
+use Rattle.reg_fold.specs.IdMark.{id_mark}
 use Rattle.reg_fold.specs.InForce.{Scope}
 use Rattle.reg_fold.specs.Opaque.{opaque}
-use Rattle.reg_fold.specs.Standing.{greatest_version}
+use Rattle.reg_fold.specs.Standing.{greatest_version, named}
 use Rattle.reg_modes.specs.Permitted.{Permit, granted, setting_import}
 use Rattle.reg_modes.specs.declared.mode.Mode.{Mode}
 use Rattle.reg_modes.specs.declared.mode.Mode.TheVariants as modes
@@ -64,6 +65,10 @@ may_set_mode rs scope modes.Readwrite force = granted
 -- the id names no other schema
 abbrev pub names_no_other : Records → ℕ → List ℕ → Permit
 names_no_other rs id normal = refuse_if (names_another rs id normal) (refusals.NotPermitted reasons.IdNamesAnotherSchema)
+
+-- the id has an entry, soft ones too, or is above the mark: no other is given away, since it may have been another schema's
+abbrev pub is_above_mark : Records → ℕ → Permit
+is_above_mark rs id = refuse_unless (is_some (named rs id) || nat_lt (id_mark rs) id) (refusals.NotPermitted reasons.IdIsNotAboveMark)
 
 -- the subject has an entry; a live one; no live one
 abbrev pub stands : Records → List ℕ → Permit

@@ -37,6 +37,10 @@ mode_set scope mode = record { key = keys.Mode scope; value = Some (values.Mode 
 abbrev pub mode_cleared : List ℕ → Writing
 mode_cleared subject = record { key = keys.Mode (Some subject); value = None }
 
+-- ids were given away up to this one
+abbrev pub id_marked : ℕ → Writing
+id_marked id = record { key = keys.IdMark; value = Some (values.IdMark id) }
+
 abbrev pub no_operation : Writing
 no_operation = record { key = keys.Noop; value = None }
 

@@ -69,6 +69,16 @@ pub fn names_no_other(registry: &Registry, id: u32, normal: &Text) -> Result<(),
     }
 }
 
+/// Whether a version has the id, soft ones too, or the id is above the mark of ids.
+pub fn is_above_mark(registry: &Registry, id: u32) -> Result<(), Refusal>
+    ensures { result ≡ test.is_above_mark registry.now id }
+{
+    if registry.by_id(id).is_none() && id <= registry.mark() {
+        return Err(Refusal::NotPermitted(Reason::IdIsNotAboveMark));
+    }
+    Ok(())
+}
+
 /// Whether the subject has a version, soft ones too.
 pub fn stands(registry: &Registry, subject: &Text) -> Result<(), Refusal>
     ensures { result ≡ test.stands registry.now subject.now }

@@ -2,7 +2,7 @@
 ghost use Rattle.std.specs.Prelude.{◌≡◌, ◌+◌, ◌≤◌, suc, vec_len, IfOk, Some};
 ghost use Rattle.reg_records.specs.declared.limits.TheConstants.{OFFSET_LIMIT};
 ghost use Rattle.reg_entries.specs.declared.entry.Entry.{Entry};
-ghost use Rattle.reg_rules.specs.Writings.{deleted_again, deleted_up_to, level_cleared, level_set, mode_cleared, mode_set, no_operation, numbered, removed, version_of, written_at};
+ghost use Rattle.reg_rules.specs.Writings.{deleted_again, deleted_up_to, id_marked, level_cleared, level_set, mode_cleared, mode_set, no_operation, numbered, removed, version_of, written_at};
 
 use base_text::Text;
 use reg_fold::Entry;
@@ -37,6 +37,16 @@ impl Writing {
         Writing {
             key: Key::Noop,
             value: None,
+        }
+    }
+
+    /// Ids were given away up to this one.
+    pub fn id_marked(id: u32) -> Writing
+        ensures { result ≡ id_marked id }
+    {
+        Writing {
+            key: Key::IdMark,
+            value: Some(Value::IdMark(id)),
         }
     }
 

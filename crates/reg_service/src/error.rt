@@ -1,6 +1,7 @@
 // Why nodes can't be started.
 use reg_feed::NoPlace;
 use reg_leader::AdoptError;
+use reg_pen::{Lack, OpenError};
 use reg_records::LogError;
 use reg_serve::StartError;
 use std::alloc::{AllocError, AllocFailed};
@@ -19,6 +20,9 @@ pub enum StartFault {
     /// A log can't be taken over.
     #[error("{0}")]
     Closed(AdoptError),
+    /// The mark of ids that a log owes isn't kept, or may not be.
+    #[error("mark of ids not kept")]
+    NotKept,
     /// A node can't listen at its port.
     #[error("port {port}: {kind:?}")]
     Port { port: u64, kind: ErrorKind },
@@ -59,7 +63,19 @@ impl From<AdoptError> for StartFault {
     fn from(refused: AdoptError) -> StartFault {
         match refused {
             AdoptError::OutOfMemory => StartFault::OutOfMemory,
-            AdoptError::Opaque(_) | AdoptError::TwoSchemas(_) => StartFault::Closed(refused),
+            AdoptError::Opaque(_) | AdoptError::TwoSchemas(_) | AdoptError::NumbersUsedUp => {
+                StartFault::Closed(refused)
+            }
+        }
+    }
+}
+
+impl From<OpenError> for StartFault {
+    fn from(refused: OpenError) -> StartFault {
+        match refused {
+            OpenError::Adopt(refused) => StartFault::from(refused),
+            OpenError::Declined(Lack::Memory) => StartFault::OutOfMemory,
+            OpenError::Declined(Lack::Numbers) | OpenError::Lost => StartFault::NotKept,
         }
     }
 }

@@ -6,12 +6,14 @@ use Rattle.std.specs.Cmp.{IsTotalOrder}
 use Rattle.std.specs.FinSet.{contains, from_list, union, IsAntisymmetric, contains-from_list, contains-union}
 use Rattle.std.specs.List.{AllByRecursion, list_any}
 use Rattle.std.specs.Ordering.{eq_by_cmp}
+use Rattle.reg_leader.specs.Adoption.{adopting}
 use Rattle.reg_leader.specs.OneStep.{goes_on}
 use Rattle.reg_records.specs.declared.limits.TheConstants.{OFFSET_LIMIT}
 use Rattle.reg_records.specs.declared.record.Record.{Record}
+use Rattle.reg_set.specs.LastRecords.{last_records}
 use Rattle.reg_set.specs.RecordOrder.{record_cmp}
 use Rattle.reg_set.specs.Records.{Records}
-use Rattle.reg_topic.specs.Topic.{after_batch, after_drop, after_item, after_items, follows, may_drop, without}
+use Rattle.reg_topic.specs.Topic.{after_batch, after_drop, after_item, after_items, follows, may_drop, plain_topic, topic_from, without}
 use Rattle.reg_topic.specs.declared.published.Item.{Item}
 use Rattle.reg_topic.specs.declared.published.Item.TheVariants as items
 use Rattle.reg_topic.specs.declared.topic.Topic.{Topic}
@@ -24,7 +26,7 @@ first_true : (a b : Bool) → (a && b) ≡ true → a ≡ true
 first_true true b h = refl
 first_true false b h = absurd (false≢true h)
 
-held_batch : (b : Bool) (t : Topic) (batch : List Record) → held_after_batch b (held_of t) batch ≡ held_of (after_batch b t batch)
+pub held_batch : (b : Bool) (t : Topic) (batch : List Record) → held_after_batch b (held_of t) batch ≡ held_of (after_batch b t batch)
 held_batch true t batch = refl
 held_batch false t batch = refl
 
@@ -55,6 +57,16 @@ held_stays h dropped true e = absurd (false≢true (sym e))
 pub held_grown : (h : Held) (batch : List Record) (b : Bool) (kept : Records) → b ≡ true → kept ≡ union h.kept (from_list batch) → (record { kept = kept; next = h.next + length batch }) ≡ held_after_batch b h batch
 held_grown h batch true kept e is = ap (λ (k : Records). let g : Held = record { kept = k; next = h.next + length batch } in g) is
 held_grown h batch false kept e is = absurd (false≢true e)
+
+-- What is held once what is due is taken in.
+pub held_begun : (rs : List Record) (next : ℕ) (plain begun : Held) (due : List Record) → plain ≡ held_of (plain_topic rs next) → due ≡ adopting (last_records (from_list rs)) next
+    → begun ≡ held_after_batch (follows plain.next due) plain due → begun ≡ held_of (topic_from rs next)
+unfolding topic_from
+held_begun rs next plain begun due is owes taken =
+    let owed : List Record = adopting (last_records (from_list rs)) next in
+    let first : Held = held_of (plain_topic rs next) in
+    let same : held_after_batch (follows plain.next due) plain due ≡ held_after_batch (follows next owed) first owed = λ i. held_after_batch (follows (is i).next (owes i)) (is i) (owes i) in
+    taken ∙ same ∙ held_batch (follows next owed) (plain_topic rs next) owed
 
 pub goes : (next : ℕ) (batch : List Record) → follows next batch ≡ true → goes_on next batch ≡ true
 goes next batch e = first_true (goes_on next batch) (nat_le (next + length batch) (suc OFFSET_LIMIT)) e

@@ -4,8 +4,8 @@ ghost use Rattle.std.specs.FinSet.{from_list};
 ghost use Rattle.std.specs.List.{AllByRecursion};
 ghost use Rattle.reg_fold.specs.Closed.{is_closed};
 ghost use Rattle.reg_set.specs.LastRecords.{last_records};
-ghost use Rattle.reg_leader.specs.Adoption.{IsAdoptRefusal};
-ghost use Rattle.reg_topic.specs.Topic.{follows, may_drop, topic_from, without};
+ghost use Rattle.reg_leader.specs.Adoption.{HasPlace, IsAdoptRefusal};
+ghost use Rattle.reg_topic.specs.Topic.{follows, may_drop, owed_by, plain_topic, topic_from, without};
 ghost use Rattle.reg_shared.specs.Held.{IsSince, held_after_batch, held_after_drop, held_of};
 
 use crate::kept::{
@@ -13,7 +13,7 @@ use crate::kept::{
 };
 use reg_feed::{FeedName, Fold};
 use reg_fold::Registry;
-use reg_leader::{AdoptError, adopt};
+use reg_leader::{AdoptError, Adopted, adopt};
 use reg_records::{Log, Record};
 use reg_set::{
     RecordSet, last_is_greatest, last_records_are_enough, merging_joins_sets, records_are_ordered,
@@ -41,6 +41,15 @@ pub struct Shared {
     next: u64,
 }
 
+/// What a topic begins with.
+#[derive(Drop)]
+pub struct Begun {
+    /// What is held of it.
+    pub shared: Shared,
+    /// The records that it begins with beside its log: the mark of ids that the log owes, or none.
+    pub due: Vec<Record>,
+}
+
 impl Model for Shared {
     ghost use Rattle.reg_shared.specs.Held.{Held, held_code};
     ghost use Rattle.reg_shared.specs.Kept.{IsShared, kept_of};
@@ -55,16 +64,36 @@ impl Model for Shared {
 }
 
 impl Shared {
-    /// What is held of the topic that begins with a log, unless it takes no commands.
-    pub fn adopt(alloc: Global, base: &Log) -> Result<Shared, AdoptError>
-        ensures held { IfOk result (λ shared. shared ≡ held_of (topic_from base.now.records.items base.now.next)) }
+    /// What is held of the topic that begins with a log, and with the mark of ids that the log owes,
+    /// unless it takes no commands.
+    pub fn adopt(alloc: Global, base: &Log) -> Result<Begun, AdoptError>
+        ensures held { IfOk result (λ begun. begun.shared ≡ held_of (topic_from base.now.records.items base.now.next)) }
+        ensures due { IfOk result (λ begun. begun.due.items ≡ owed_by base.now.records.items base.now.next) }
+        ensures place { OnOk result (HasPlace (last_records (from_list base.now.records.items)) base.now.next) }
         ensures takes_commands { OnOk result (is_closed (last_records (from_list base.now.records.items)) ≡ false) }
-        ensures refused { IfErr result (IsAdoptRefusal (last_records (from_list base.now.records.items))) }
+        ensures refused { IfErr result (IsAdoptRefusal (last_records (from_list base.now.records.items)) base.now.next) }
+    {
+        let log = RecordSet::of(alloc, &base.records)?;
+        let Adopted { registry, due } = adopt(alloc, &log, base.next)?;
+        let mut shared = Shared::of_log(alloc, base, &log, registry)?;
+        shared.take_batch(&due)?;
+        Ok(Begun { shared, due })
+    }
+
+    /// What is held of a log's records alone, of which those are the set and the registry. The only
+    /// error is want of memory.
+    fn of_log(
+        alloc: Global,
+        base: &Log,
+        log: &RecordSet,
+        registry: Registry,
+    ) -> Result<Shared, AllocError>
+        requires log { log.now ≡ from_list base.now.records.items }
+        requires registry { registry ≡ last_records log.now }
+        ensures { IfOk result (λ shared. shared ≡ held_of (plain_topic base.now.records.items base.now.next)) }
     {
         records_are_ordered();
         last_records_are_enough();
-        let log = RecordSet::of(alloc, &base.records)?;
-        let registry = adopt(alloc, &log)?;
         let records = log.records();
         let older = copy_older(alloc, &registry, records)?;
         let mut by_offset = Vec::new(alloc);

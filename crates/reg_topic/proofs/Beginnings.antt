@@ -1,28 +1,41 @@
--- A log that is adopted begins an adopted topic.
-use Rattle.std.proofs.Common.{◌≡◌, ℕ, ◌<◌, true, false, ◌||◌, List, [], ◌∷◌, All, refl, sym, subst, ◌∙◌}
-use Rattle.std.proofs.lemmas.Bool.{false≢true}
-use Rattle.std.proofs.lemmas.List.Elements.{All-head, All-tail}
+-- A log that takes commands begins an adopted topic.
+use Rattle.std.proofs.Common.{◌≡◌, ℕ, suc, ◌+◌, ◌<◌, Bool, true, false, List, length, nat_le, All, refl, sym, ◌∙◌}
 use Rattle.std.specs.Cmp.{IsTotalOrder}
-use Rattle.std.specs.FinSet.{contains-from_list, IsAntisymmetric}
-use Rattle.std.specs.List.{list_any}
-use Rattle.std.specs.Ordering.{eq_by_cmp}
+use Rattle.std.specs.FinSet.{from_list, IsAntisymmetric, contains-from_list}
+use Rattle.reg_records.specs.declared.limits.TheConstants.{OFFSET_LIMIT}
 use Rattle.reg_records.specs.declared.record.Record.{Record}
+use Rattle.reg_set.specs.Join.{LastIsGreatest, LastOfLastRecords, LastOfUnion}
+use Rattle.reg_set.specs.LastRecords.{last_records}
 use Rattle.reg_set.specs.RecordOrder.{record_cmp}
+use Rattle.reg_entries.specs.TwoSchemas.{NoneIsOneTextEach}
+use Rattle.reg_fold.specs.Closed.{is_closed}
+use Rattle.reg_fold.specs.Entries.{EntriesAreOfPlaces}
+use Rattle.reg_fold.specs.Opaque.{NoneIsNoOpaqueLast}
+use Rattle.reg_leader.specs.Adoption.{adopting}
+use Rattle.reg_leader.specs.OneStep.{goes_on}
+use Rattle.reg_leader.specs.Taken.{AreBelow}
 use Rattle.reg_topic.specs.Laws.{AdoptedLogsBegin}
-use Rattle.reg_topic.proofs.Compactions.{equal}
+use Rattle.reg_topic.specs.Topic.{IsAdopted, after_batch, follows, plain_topic, topic_from}
+use Rattle.reg_topic.proofs.Compactions.{both_true}
+use Rattle.reg_topic.proofs.Marks.{AreMarks, due_are_marks, marks_leave_open}
+use Rattle.reg_topic.proofs.Offsets.{below_batch, below_list}
 
-module _ (order : IsTotalOrder record_cmp) (apart : IsAntisymmetric record_cmp) where
-  among : (next : ℕ) (rs : List Record) → All (λ r. r.offset < next) rs → (q : Record) → list_any (eq_by_cmp record_cmp q) rs ≡ true → q.offset < next
-  among next [] all q any = absurd (false≢true any)
-  among next (r ∷ rs) all q any =
-      elim (eq_by_cmp record_cmp q r) as (λ b. eq_by_cmp record_cmp q r ≡ b → (b || list_any (eq_by_cmp record_cmp q) rs) ≡ true → q.offset < next) [
-        | true ↦ λ e _. subst (λ (x : Record). x.offset < next) (sym (equal order apart q r e)) (All-head (λ x. x.offset < next) r rs all)
-        | false ↦ λ _ rest. among next rs (All-tail (λ x. x.offset < next) r rs all) q rest
-      ] refl any
+module _ (order : IsTotalOrder record_cmp) (apart : IsAntisymmetric record_cmp) (greatest : LastIsGreatest) (of_union : LastOfUnion) (of_lasts : LastOfLastRecords)
+    (stand : EntriesAreOfPlaces) (opaque_lasts : NoneIsNoOpaqueLast) (one : NoneIsOneTextEach) where
+  below : (rs : List Record) (next : ℕ) → All (λ r. r.offset < next) rs → AreBelow (from_list rs) next
+  below rs next all q h = below_list order apart next rs all q (sym (contains-from_list order rs q) ∙ h)
 
-  pub adopted_begin : AdoptedLogsBegin
-  adopted_begin rs next all fine = record {
-    not_closed = fine;
-    ahead = λ q h. among next rs all q (sym (contains-from_list order rs q) ∙ h);
+  begins : (b : Bool) (rs : List Record) (next : ℕ) (due : List Record) → follows next due ≡ b → AreMarks due → All (λ r. r.offset < next) rs → is_closed (last_records (from_list rs)) ≡ false
+      → IsAdopted (after_batch b (plain_topic rs next) due)
+  begins true rs next due on marks all fine = record {
+    not_closed = marks_leave_open order apart greatest of_union of_lasts stand opaque_lasts one (from_list rs) due marks fine;
+    ahead = below_batch order apart true (plain_topic rs next) due (λ _. (both_true (goes_on next due) (nat_le (next + length due) (suc OFFSET_LIMIT)) on).0) (below rs next all);
     whole = refl;
   }
+  begins false rs next due on marks all fine = record { not_closed = fine; ahead = below rs next all; whole = refl }
+
+  pub adopted_begin : AdoptedLogsBegin
+  unfolding topic_from
+  adopted_begin rs next all fine =
+      let due : List Record = adopting (last_records (from_list rs)) next in
+      begins (follows next due) rs next due refl (due_are_marks (last_records (from_list rs)) next) all fine

@@ -4,6 +4,8 @@ pub mod Equality
 pub mod Gains
 pub mod GoesOn
 pub mod Left
+pub mod Marks
+pub mod Offsets
 pub mod Promises
 pub mod Superseded
 pub mod Topics

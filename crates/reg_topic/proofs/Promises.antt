@@ -1,53 +1,112 @@
 -- What every batch keeps, every lawful list does.
-use Rattle.std.proofs.Common.{◌≡◌, Bool, true, false, ◌||◌, List, [], ◌∷◌, Option, Some, None, is_some, refl, subst, inl, inr}
-use Rattle.std.specs.FinSet.{from_list, union}
+use Rattle.std.proofs.Common.{◌≡◌, ◌⊎◌, inl, inr, ℕ, Bool, true, false, List, [], ◌∷◌, ◌++◌, Contains, refl, sym, subst, ◌∙◌}
+use Rattle.std.specs.Cmp.{IsTotalOrder}
+use Rattle.std.specs.FinSet.{from_list, union, IsAntisymmetric}
+use mathlib.Core.List.{IsPrefix}
 use Rattle.reg_records.specs.declared.record.Record.{Record}
 use Rattle.reg_set.specs.LastRecords.{last_records}
-use Rattle.reg_entries.specs.TwoSchemas.{NoneIsOneTextEach}
-use Rattle.reg_fold.specs.Closed.{is_closed, two_schemas}
+use Rattle.reg_set.specs.RecordOrder.{record_cmp}
+use Rattle.reg_entries.specs.declared.entry.Entry.{Entry}
+use Rattle.reg_fold.specs.Closed.{is_closed}
 use Rattle.reg_fold.specs.Entries.{entries}
-use Rattle.reg_fold.specs.Opaque.{opaque}
-use Rattle.reg_leader.specs.OneStep.{StepsMeetLevels}
-use Rattle.reg_leader.specs.StayOpen.{StepsStayOpen}
+use Rattle.reg_leader.specs.OneStep.{BatchesGoOn, StepsMeetLevels}
+use Rattle.reg_leader.specs.StayOpen.{StepsStayOpen, last_after}
+use Rattle.reg_leader.specs.Taken.{AreBelow, EntriesTakeIds, IsTaken, StepsKeepTaken}
 use Rattle.reg_topic.specs.Promises.{LawfulListsKeepIds, LawfulListsMeetLevels, LawfulListsStayOpen}
-use Rattle.reg_topic.specs.Topic.{IsLawful, MayFollow, after_batch, after_drop, after_item, after_items, follows, may_drop, registry_of}
+use Rattle.reg_topic.specs.Topic.{IsAdopted, IsLawful, MayFollow, after_batch, after_drop, after_item, after_items, follows, may_drop, registry_of}
 use Rattle.reg_topic.specs.declared.published.Item.{Item}
 use Rattle.reg_topic.specs.declared.published.Item.TheVariants as items
 use Rattle.reg_topic.specs.declared.topic.Topic.{Topic}
-use Rattle.reg_topic.proofs.Topics.{lawful_at}
+use Rattle.reg_topic.proofs.Offsets.{below_batch, below_drop}
+use Rattle.reg_topic.proofs.Topics.{after_more, lawful_at, lawful_parts}
 
-abbrev IsOpen : Topic → Type 0
-IsOpen t = is_closed (registry_of t) ≡ false
+-- the entry stood in the log after those items
+abbrev StoodAfter : Topic → List Item → Entry → Type 0
+StoodAfter base is e = Contains (entries (registry_of (after_items base is))) e
 
-module _ (stay : StepsStayOpen) where
-  open_batch : (b : Bool) (t : Topic) (batch : List Record) → is_closed (last_records (union t.log (from_list batch))) ≡ false → IsOpen t → IsOpen (after_batch b t batch)
+-- of two fronts of a list one is a front of the other
+fronts : (xs ys ps qs : List Item) → xs ++ ps ≡ ys ++ qs → IsPrefix xs ys ⊎ IsPrefix ys xs
+fronts [] ys ps qs same = inl (ys, refl)
+fronts (x ∷ xs) [] ps qs same = inr (x ∷ xs, refl)
+fronts (x ∷ xs) (y ∷ ys) ps qs same =
+    let here : x ≡ y = cc in
+    let back : y ≡ x = sym here in
+    let rest : xs ++ ps ≡ ys ++ qs = cc in
+    elim (fronts xs ys ps qs rest) as (λ _. IsPrefix (x ∷ xs) (y ∷ ys) ⊎ IsPrefix (y ∷ ys) (x ∷ xs)) [
+      | inl p ↦ inl (p.0, λ i. here i ∷ p.1 i)
+      | inr p ↦ inr (p.0, λ i. back i ∷ p.1 i)
+    ]
+
+lawful_front : (base : Topic) (one is : List Item) → IsPrefix one is → IsLawful base is → IsLawful base one
+lawful_front base one is p lawful = ((lawful_parts base one p.0).0 (subst (IsLawful base) (sym p.1) lawful)).0
+
+-- a registry that takes commands, of a log with no offset at or past the next one
+record IsSteady (t : Topic) : Type 0 where
+  not_closed : is_closed (registry_of t) ≡ false
+  below : AreBelow t.log t.next
+
+steady : (base : Topic) → IsAdopted base → IsSteady base
+steady base adopted = record { not_closed = adopted.not_closed; below = adopted.ahead }
+
+module _ (order : IsTotalOrder record_cmp) (apart : IsAntisymmetric record_cmp) (go : BatchesGoOn) (stay : StepsStayOpen) where
+  open_batch : (b : Bool) (t : Topic) (batch : List Record) → is_closed (last_records (union t.log (from_list batch))) ≡ false → is_closed (registry_of t) ≡ false → is_closed (registry_of (after_batch b t batch)) ≡ false
   open_batch true t batch more h = more
   open_batch false t batch more h = h
 
-  open_drop : (b : Bool) (t : Topic) (ds : List Record) → IsOpen t → IsOpen (after_drop b t ds)
+  open_drop : (b : Bool) (t : Topic) (ds : List Record) → is_closed (registry_of t) ≡ false → is_closed (registry_of (after_drop b t ds)) ≡ false
   open_drop true t ds h = h
   open_drop false t ds h = h
 
-  open_item : (t : Topic) (i : Item) → MayFollow t i → IsOpen t → IsOpen (after_item t i)
-  open_item t (items.Commit commit) m h = open_batch (follows t.next commit.batch) t commit.batch (stay t.log t.next commit.command m.reply commit.batch h m.step) h
-  open_item t (items.Compaction ds) m h = open_drop (may_drop t.kept ds) t ds h
+  steady_item : (t : Topic) (i : Item) → MayFollow t i → IsSteady t → IsSteady (after_item t i)
+  steady_item t (items.Commit commit) m h = record {
+    not_closed = open_batch (follows t.next commit.batch) t commit.batch (stay t.log t.next commit.command m.reply commit.batch h.not_closed m.step) h.not_closed;
+    below = below_batch order apart (follows t.next commit.batch) t commit.batch (λ _. go (registry_of t) t.next commit.command m.reply commit.batch m.step) h.below;
+  }
+  steady_item t (items.Compaction ds) m h = record {
+    not_closed = open_drop (may_drop t.kept ds) t ds h.not_closed;
+    below = below_drop (may_drop t.kept ds) t ds h.below;
+  }
 
-  open_items : (t : Topic) (is : List Item) → IsLawful t is → IsOpen t → IsOpen (after_items t is)
-  open_items t [] l h = h
-  open_items t (i ∷ is) l h = open_items (after_item t i) is l.1 (open_item t i l.0 h)
-
-  none_of : {A : Type 0} (a : Bool) (o : Option A) → (a || is_some o) ≡ false → o ≡ None
-  none_of true o e = cc
-  none_of false None e = refl
-  none_of false (Some x) e = cc
+  steady_items : (t : Topic) (is : List Item) → IsLawful t is → IsSteady t → IsSteady (after_items t is)
+  steady_items t [] l h = h
+  steady_items t (i ∷ is) l h = steady_items (after_item t i) is l.1 (steady_item t i l.0 h)
 
   pub stay_open : LawfulListsStayOpen
-  stay_open base is adopted lawful = open_items base is lawful adopted.not_closed
+  stay_open base is adopted lawful = (steady_items base is lawful (steady base adopted)).not_closed
 
-  pub keep_ids : NoneIsOneTextEach → LawfulListsKeepIds
-  keep_ids none base is adopted lawful =
-      let rs = registry_of (after_items base is) in
-      (none (entries rs)).0 (none_of (is_some (opaque rs)) (two_schemas rs) (stay_open base is adopted lawful))
+  module _ (take : EntriesTakeIds) (keep : StepsKeepTaken) where
+    taken_batch : (b : Bool) (t : Topic) (batch : List Record) (id : ℕ) (normal : List ℕ) → IsTaken (last_after t.log batch) id normal → IsTaken (registry_of t) id normal → IsTaken (registry_of (after_batch b t batch)) id normal
+    taken_batch true t batch id normal more h = more
+    taken_batch false t batch id normal more h = h
+
+    taken_drop : (b : Bool) (t : Topic) (ds : List Record) (id : ℕ) (normal : List ℕ) → IsTaken (registry_of t) id normal → IsTaken (registry_of (after_drop b t ds)) id normal
+    taken_drop true t ds id normal h = h
+    taken_drop false t ds id normal h = h
+
+    taken_item : (t : Topic) (i : Item) (id : ℕ) (normal : List ℕ) → MayFollow t i → IsSteady t → IsTaken (registry_of t) id normal → IsTaken (registry_of (after_item t i)) id normal
+    taken_item t (items.Commit commit) id normal m s h =
+        taken_batch (follows t.next commit.batch) t commit.batch id normal (keep t.log t.next commit.command m.reply commit.batch s.not_closed s.below m.step id normal h) h
+    taken_item t (items.Compaction ds) id normal m s h = taken_drop (may_drop t.kept ds) t ds id normal h
+
+    taken_items : (t : Topic) (is : List Item) (id : ℕ) (normal : List ℕ) → IsLawful t is → IsSteady t → IsTaken (registry_of t) id normal → IsTaken (registry_of (after_items t is)) id normal
+    taken_items t [] id normal l s h = h
+    taken_items t (i ∷ is) id normal l s h = taken_items (after_item t i) is id normal l.1 (steady_item t i l.0 s) (taken_item t i id normal l.0 s h)
+
+    -- an entry of a front, and one of the list
+    later_on : (base : Topic) (one more : List Item) → IsAdopted base → IsLawful base (one ++ more) → (e f : Entry) → StoodAfter base one e → StoodAfter base (one ++ more) f → e.id ≡ f.id → e.normal ≡ f.normal
+    later_on base one more adopted lawful e f in_e in_f same =
+        let parts = (lawful_parts base one more).0 lawful in
+        let t : Topic = after_items base one in
+        let s : IsSteady t = steady_items base one parts.0 (steady base adopted) in
+        let taken = taken_items t more e.id e.normal parts.1 s (take (registry_of t) s.not_closed e in_e) in
+        sym (taken.no_other f (subst (λ (u : Topic). Contains (entries (registry_of u)) f) (after_more base one more) in_f) (sym same))
+
+    pub keep_ids : LawfulListsKeepIds
+    keep_ids base is adopted lawful one other p q e f in_e in_f same =
+        elim (fronts one other p.0 q.0 (p.1 ∙ sym q.1)) as (λ _. e.normal ≡ f.normal) [
+          | inl d ↦ later_on base one d.0 adopted (subst (IsLawful base) (sym d.1) (lawful_front base other is q lawful)) e f in_e (subst (λ (js : List Item). StoodAfter base js f) (sym d.1) in_f) same
+          | inr d ↦ sym (later_on base other d.0 adopted (subst (IsLawful base) (sym d.1) (lawful_front base one is p lawful)) f e in_f (subst (λ (js : List Item). StoodAfter base js e) (sym d.1) in_e) (sym same))
+        ]
 
 pub meet_levels : StepsMeetLevels → LawfulListsMeetLevels
 meet_levels meet base is lawful before subject text batch (after, same) =

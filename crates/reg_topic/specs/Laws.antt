@@ -8,7 +8,7 @@ use Rattle.reg_set.specs.LastRecords.{is_last, last_records}
 use Rattle.reg_set.specs.RecordOrder.{record_cmp}
 use Rattle.reg_set.specs.Records.{Records}
 use Rattle.reg_fold.specs.Closed.{is_closed}
-use Rattle.reg_topic.specs.Topic.{IsAdopted, IsLawful, MayCommit, MayFollow, after_item, after_items, follows, may_drop, published_by, registry_of, topic_from, without}
+use Rattle.reg_topic.specs.Topic.{IsAdopted, IsLawful, MayCommit, MayFollow, after_item, after_items, follows, may_drop, published_by, topic_from, without}
 use Rattle.reg_topic.specs.declared.published.Commit.{Commit}
 use Rattle.reg_topic.specs.declared.published.Item.{Item}
 use Rattle.reg_topic.specs.declared.topic.Topic.{Topic}
@@ -58,9 +58,9 @@ LawfulListsJoin = (t : Topic) (is js : List Item) → IsLawful t (is ++ js) ↔ 
 abbrev pub CommitsFollow : Type 0
 CommitsFollow = (t : Topic) (commit : Commit) → MayCommit t commit → follows t.next commit.batch ≡ true
 
--- records of which none is at or past the next offset, and that aren't closed, begin an adopted topic
+-- records of which none is at or past the next offset, and that aren't closed, begin an adopted topic: the mark that they owe leaves it open
 abbrev pub AdoptedLogsBegin : Type 0
-AdoptedLogsBegin = (rs : List Record) (next : ℕ) → All (λ r. r.offset < next) rs → is_closed (registry_of (topic_from rs next)) ≡ false → IsAdopted (topic_from rs next)
+AdoptedLogsBegin = (rs : List Record) (next : ℕ) → All (λ r. r.offset < next) rs → is_closed (last_records (from_list rs)) ≡ false → IsAdopted (topic_from rs next)
 
 -- a compaction, together with a part of the whole, is a compaction of the whole
 abbrev pub CompactionsTakeParts : Type 0

@@ -1,9 +1,12 @@
 -- What every lawful list promises of the log after it.
 use Rattle.std.specs.Prelude.{◌≡◌, ℕ, List, ◌∷◌, ◌++◌, false}
-use Rattle.reg_records.specs.declared.record.Record.{Record}
+use Rattle.std.specs.List.{Contains}
+use mathlib.Core.List.{IsPrefix}
+use Rattle.reg_entries.specs.declared.entry.Entry.{Entry}
 use Rattle.reg_fold.specs.Closed.{is_closed}
+use Rattle.reg_fold.specs.Entries.{entries}
+use Rattle.reg_records.specs.declared.record.Record.{Record}
 use Rattle.reg_leader.specs.OneStep.{RegistersWhatMeets}
-use Rattle.reg_leader.specs.StayOpen.{IdsNameOneSchema}
 use Rattle.reg_leader.specs.declared.command.Command.{Command}
 use Rattle.reg_leader.specs.declared.command.Command.TheVariants as commands
 use Rattle.reg_topic.specs.Topic.{IsAdopted, IsLawful, after_items, registry_of}
@@ -15,9 +18,14 @@ use Rattle.reg_topic.specs.declared.topic.Topic.{Topic}
 abbrev pub LawfulListsStayOpen : Type 0
 LawfulListsStayOpen = (base : Topic) (is : List Item) → IsAdopted base → IsLawful base is → is_closed (registry_of (after_items base is)) ≡ false
 
--- and any two of its entries with one id have one schema
+-- two entries of one id that stood at any two moments since the base have one schema: a moment is after a front of the list
+abbrev pub IdsAreForGood : Topic → List Item → Type 0
+IdsAreForGood base is = (one other : List Item) → IsPrefix one is → IsPrefix other is → (e f : Entry)
+    → Contains (entries (registry_of (after_items base one))) e → Contains (entries (registry_of (after_items base other))) f
+    → e.id ≡ f.id → e.normal ≡ f.normal
+
 abbrev pub LawfulListsKeepIds : Type 0
-LawfulListsKeepIds = (base : Topic) (is : List Item) → IsAdopted base → IsLawful base is → IdsNameOneSchema (registry_of (after_items base is))
+LawfulListsKeepIds = (base : Topic) (is : List Item) → IsAdopted base → IsLawful base is → IdsAreForGood base is
 
 -- the command published that batch, after the items before
 abbrev pub WasPublished : List Item → List Item → Command → List Record → Type 0

@@ -7,6 +7,7 @@ use Rattle.reg_records.specs.declared.record.Record.{Record}
 use Rattle.reg_set.specs.LastRecords.{is_last, last_records}
 use Rattle.reg_set.specs.Records.{Records}
 use Rattle.reg_fold.specs.Closed.{is_closed}
+use Rattle.reg_leader.specs.Adoption.{adopting}
 use Rattle.reg_leader.specs.OneStep.{goes_on}
 use Rattle.reg_leader.specs.Step.{IsStep}
 use Rattle.reg_leader.specs.declared.reply.Reply.{Reply}
@@ -50,9 +51,17 @@ after_item t (items.Compaction dropped) = after_drop (may_drop t.kept dropped) t
 abbrev pub after_items : Topic → List Item → Topic
 after_items t is = fold after_item t is
 
--- the topic that a base begins: its records are log and kept set
-abbrev pub topic_from : List Record → ℕ → Topic
-topic_from base next = record { log = from_list base; kept = from_list base; next = next }
+-- the topic of a base's records alone: they are log and kept set
+abbrev pub plain_topic : List Record → ℕ → Topic
+plain_topic base next = record { log = from_list base; kept = from_list base; next = next }
+
+-- what a topic over a base begins with beside it: the mark of ids that the base owes, or no record
+abbrev pub owed_by : List Record → ℕ → List Record
+owed_by base next = adopting (registry_of (plain_topic base next)) next
+
+-- the topic that a base begins: with what it owes, which is a part of the topic and no item
+unfoldable pub topic_from : List Record → ℕ → Topic
+topic_from base next = after_batch (follows next (owed_by base next)) (plain_topic base next) (owed_by base next)
 
 -- a base that is adopted: not closed, with all offsets below the next one
 pub record IsAdopted (base : Topic) : Type 0 where

@@ -3,9 +3,14 @@
 ghost use Rattle.reg_topic.specs.Laws.{AdoptedLogsBegin, AllowedDropsLeaveCompactions, CommitsFollow, CompactionsTakeParts, ItemsAreFoldedInTurn, KeptStaysCompaction, LawfulItemsFollow, LawfulListsGoOn, LawfulListsJoin, ListsAreFoldedInTurn, LogIsWhatWasPublished, LogsGrow, LogsGrowOverLists, SupersededMayGo};
 ghost use Rattle.reg_topic.specs.Promises.{LawfulListsKeepIds, LawfulListsMeetLevels, LawfulListsStayOpen};
 
-use reg_fold::two_schemas_is_least;
-use reg_leader::{batches_end_by_the_limit, batches_go_on, steps_meet_levels, steps_stay_open};
-use reg_set::{compactions_compose, last_records_of_unions, records_are_ordered};
+use reg_fold::{entries_are_of_places, none_is_no_opaque_last, two_schemas_is_least};
+use reg_leader::{
+    batches_end_by_the_limit, batches_go_on, steps_keep_taken, steps_meet_levels, steps_stay_open,
+};
+use reg_set::{
+    compactions_compose, last_is_greatest, last_records_are_enough, last_records_of_unions,
+    merging_joins_sets, records_are_ordered,
+};
 
 /// Records may be dropped exactly where they are kept and what stays is a compaction of what was.
 pub fn allowed_drops_leave_compactions()
@@ -48,11 +53,17 @@ pub fn commits_follow()
     batches_end_by_the_limit();
 }
 
-/// A log that is adopted begins an adopted topic.
+/// A log that takes commands begins an adopted topic, with the mark of ids that it owes.
 pub fn adopted_logs_begin()
     ensures { AdoptedLogsBegin }
 {
+    entries_are_of_places();
+    last_is_greatest();
+    last_records_are_enough();
+    merging_joins_sets();
+    none_is_no_opaque_last();
     records_are_ordered();
+    two_schemas_is_least();
 }
 
 /// A compaction with a part of the whole is one too; what is superseded may go, and leaves the last
@@ -64,14 +75,16 @@ pub fn superseded_records_may_go()
     records_are_ordered();
 }
 
-/// After every lawful list over an adopted base the registry takes commands, and an id names one
-/// schema.
+/// After every lawful list over an adopted base the registry takes commands, and two entries of one
+/// id that stood at any two moments have one schema.
 pub fn lawful_lists_keep_ids()
     ensures open { LawfulListsStayOpen }
     ensures ids { LawfulListsKeepIds }
 {
+    batches_go_on();
+    records_are_ordered();
+    steps_keep_taken();
     steps_stay_open();
-    two_schemas_is_least();
 }
 
 /// In every lawful list each version that was registered without an id met the level then in force

@@ -4,7 +4,7 @@ ghost use Rattle.std.specs.FinSet.{contains, insert};
 ghost use Rattle.reg_set.specs.LastRecords.{is_last};
 ghost use Rattle.reg_records.specs.declared.limits.TheConstants.{OFFSET_LIMIT};
 ghost use Rattle.reg_leader.specs.OneStep.{goes_on};
-ghost use Rattle.reg_topic.specs.Topic.{after_batch, after_drop, after_item, follows, may_drop, topic_from, without};
+ghost use Rattle.reg_topic.specs.Topic.{after_batch, after_drop, after_item, follows, may_drop, plain_topic, without};
 
 use crate::published::Item;
 use reg_records::{Log, OFFSET_LIMIT, Record};
@@ -23,9 +23,10 @@ pub struct Topic {
 }
 
 impl Topic {
-    /// The topic that begins with a log: all its records are kept. The only error is want of memory.
+    /// The topic of a log's records alone, which are all kept: the mark of ids that the log owes isn't
+    /// there yet. The only error is want of memory.
     pub fn of_log(alloc: Global, base: &Log) -> Result<Topic, AllocError>
-        ensures { IfOk result (λ topic. topic ≡ topic_from base.now.records.items base.now.next) }
+        ensures { IfOk result (λ topic. topic ≡ plain_topic base.now.records.items base.now.next) }
     {
         let log = RecordSet::of(alloc, &base.records)?;
         Ok(Topic {

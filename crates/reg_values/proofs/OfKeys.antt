@@ -87,6 +87,7 @@ value_in-of (keys.DeleteSubject subject) d =
     mapped P (number_at (codes "version") d) (λ version. values.DeleteSubject subject version) (λ version at.
     inl (refl, number_fits (codes "version") d version at)))
 value_in-of keys.Noop d = mapped (IsOf keys.Noop) (as_object d) (λ _. values.Noop) (λ _ _. inr (refl, refl))
+value_in-of keys.IdMark d = mapped (IsOf keys.IdMark) (number_at (codes "id") d) (λ id. values.IdMark id) (λ id at. inl (refl, number_fits (codes "id") d id at))
 
 value_of-of : (r : Record) → IfSome (value_of r) (IsOf r.key)
 value_of-of r =
@@ -103,3 +104,4 @@ has_numbers_in_limits key (values.Config level) h = tt
 has_numbers_in_limits key (values.Mode mode) h = tt
 has_numbers_in_limits key (values.DeleteSubject subject version) h = h.1
 has_numbers_in_limits key values.Noop h = absurd h
+has_numbers_in_limits key (values.IdMark id) h = h.1

@@ -12,7 +12,7 @@ use Rattle.serde_json.proofs.Numbers.{number_of-decimal}
 use Rattle.avro_schema.specs.Schema.{is_schema}
 use Rattle.reg_level_names.specs.Level.{is_level}
 use Rattle.reg_records.specs.declared.key.Key.{Key}
-use Rattle.reg_records.specs.declared.key.Key.TheVariants.{Schema, Config, Mode, DeleteSubject}
+use Rattle.reg_records.specs.declared.key.Key.TheVariants.{Schema, Config, Mode, DeleteSubject, IdMark}
 use Rattle.reg_records.specs.declared.value.Value.{Value}
 use Rattle.reg_records.specs.declared.value.Value.TheVariants as values
 use Rattle.reg_values.specs.Value.{value_in, value_of}
@@ -59,6 +59,11 @@ module _ (read-compact_text : (d : Data) → HasNumbers (outline d) → depth (o
       ap (option_and_then (value_in (DeleteSubject subject))) (read-compact_text (data_of (values.DeleteSubject subject version)) (tt, (n, tt)) (omega arith))
       ∙ rw (number_of-decimal version (omega arith), same_bytes subject, le-leb 1 version v.0, le-leb version _ v.1)
 
+  id_mark_again : (id : ℕ) → IsVersionOrId id → option_and_then (value_in IdMark) (read (compact_text (data_of (values.IdMark id)))) ≡ Some (values.IdMark id)
+  id_mark_again id i =
+      ap (option_and_then (value_in IdMark)) (read-compact_text (data_of (values.IdMark id)) (IsNumber-decimal id (omega arith), tt) (omega arith))
+      ∙ rw (number_of-decimal id (omega arith), le-leb 1 id i.0, le-leb id _ i.1)
+
   pub value_of-written_value : (offset : ℕ) (k : Key) (v : Value) → IsValueOf k v → value_of (record { offset = offset; key = k; value = written_value v }) ≡ Some v
   unfolding written_value
   value_of-written_value offset k (values.Schema subject version id schema deleted) h = rw h.0 (schema_again subject version id schema deleted h.1 h.2 h.3)
@@ -66,3 +71,4 @@ module _ (read-compact_text : (d : Data) → HasNumbers (outline d) → depth (o
   value_of-written_value offset k (values.Mode mode) h = rw h.1 (ap (option_and_then (value_in (Mode h.0))) (read-compact_text (data_of (values.Mode mode)) (tt, tt) (omega arith)))
   value_of-written_value offset k (values.DeleteSubject subject version) h = rw h.0 (delete_subject_again subject version h.1)
   value_of-written_value offset k values.Noop h = absurd h
+  value_of-written_value offset k (values.IdMark id) h = rw h.0 (id_mark_again id h.1)

@@ -3,7 +3,7 @@ use Rattle.std.specs.Prelude.{◌≡◌, ◌⊎◌, ℕ, List, true, Option, Som
 use Rattle.avro_schema.specs.Schema.{is_schema}
 use Rattle.reg_level_names.specs.Level.{is_level}
 use Rattle.reg_records.specs.declared.key.Key.{Key}
-use Rattle.reg_records.specs.declared.key.Key.TheVariants.{Schema, Config, Mode, DeleteSubject, Noop}
+use Rattle.reg_records.specs.declared.key.Key.TheVariants.{Schema, Config, Mode, DeleteSubject, Noop, IdMark}
 use Rattle.reg_records.specs.declared.record.Record.{Record}
 use Rattle.reg_records.specs.declared.value.Value.{Value}
 use Rattle.reg_records.specs.declared.value.Value.TheVariants as values
@@ -18,6 +18,7 @@ IsValueOf key (values.Config level) = (scope : Option (List ℕ)) × (key ≡ Co
 IsValueOf key (values.Mode mode) = (scope : Option (List ℕ)) × (key ≡ Mode scope)
 IsValueOf key (values.DeleteSubject subject version) = (key ≡ DeleteSubject subject) × IsVersionOrId version
 IsValueOf key values.Noop = ⊥
+IsValueOf key (values.IdMark id) = (key ≡ IdMark) × IsVersionOrId id
 
 -- what is read under a key may stand under it: a version's value names the subject and the version of its key; only no operation has no text
 abbrev pub ValuesAreOfKeys : Type 0

@@ -38,7 +38,7 @@ deleted_in d = option_map_or (λ mark. if is_null mark then Some false else as_b
 -- a version names the key's subject and version again, and its schema's text can be read as a schema, whose defaults aren't looked at
 -- a level is the name of one, and a mode is any text
 -- a soft delete names the key's subject again, and the last version that it covers
--- no operation is any JSON object
+-- no operation is any JSON object, and a mark of ids a number within the limits of ids
 abbrev pub value_in : Key → Data → Option Value
 value_in (keys.Schema subject version) d =
     if has_text_at (codes "subject") subject d && has_number_at (codes "version") version d && is_plain_avro d
@@ -49,6 +49,7 @@ value_in (keys.Mode scope) d = option_map values.Mode (text_at (codes "mode") d)
 value_in (keys.DeleteSubject subject) d =
     if has_text_at (codes "subject") subject d then option_map (values.DeleteSubject subject) (number_at (codes "version") d) else None
 value_in keys.Noop d = option_map (λ _. values.Noop) (as_object d)
+value_in keys.IdMark d = option_map values.IdMark (number_at (codes "id") d)
 
 -- the value of a record; a record without text has none, and one that can't be read has none
 abbrev pub value_of : Record → Option Value
@@ -61,3 +62,4 @@ schema_in (values.Config level) = None
 schema_in (values.Mode mode) = None
 schema_in (values.DeleteSubject subject version) = None
 schema_in values.Noop = None
+schema_in (values.IdMark id) = None

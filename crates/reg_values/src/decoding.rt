@@ -68,6 +68,7 @@ fn decode_in(alloc: Global, key: &Key, json: &Json) -> Result<Option<Decoded>, A
         Key::Mode(_) => decode_mode(alloc, json),
         Key::DeleteSubject(subject) => decode_delete_subject(subject, json),
         Key::Noop => Ok(decode_noop(json)),
+        Key::IdMark => Ok(decode_id_mark(json)),
     }
 }
 
@@ -193,6 +194,15 @@ fn decode_noop(json: &Json) -> Option<Decoded>
 {
     match json.as_object() {
         Some(_) => Some(without_schema(Value::Noop)),
+        None => None,
+    }
+}
+
+fn decode_id_mark(json: &Json) -> Option<Decoded>
+    ensures { result ≡ option_map with_schema (value_in Key.IdMark (view json.now)) }
+{
+    match number_at(json, "id") {
+        Some(id) => Some(without_schema(Value::IdMark(id))),
         None => None,
     }
 }

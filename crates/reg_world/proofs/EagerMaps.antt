@@ -192,6 +192,7 @@ place-put of_keys r e is =
     of_value (values.Mode mode) has h = absurd (cc)
     of_value (values.DeleteSubject subject version) has h = absurd (cc)
     of_value values.Noop has h = absurd (cc)
+    of_value (values.IdMark id) has h = absurd (cc)
 
 pub version_put : ValuesAreOfKeys → (m : Standing) (r : Record) (subject : List ℕ) (version : ℕ) (e : Entry) → r.key ≡ keys.Schema subject version → put_by r ≡ Some e
     → (p : Place) → finmap.get (finmap.insert m (place_of e) e) p ≡ after_key (keys.Schema subject version) p (finmap.get m p) r

@@ -108,6 +108,7 @@ fit_plain log (keys.Config scope) r e = tt
 fit_plain log (keys.Mode scope) r e = tt
 fit_plain log (keys.DeleteSubject subject) r e = absurd (false≢true (sym e))
 fit_plain log keys.Noop r e = tt
+fit_plain log keys.IdMark r e = tt
 
 module _ (l : EagerLaws) where
   below_more : (log : Records) (n : ℕ) (r : Record) → r.offset ≡ n → Below log n → Below (insert log r) (suc n)

@@ -49,6 +49,7 @@ at_offset x e is = elim (value_of x) as (λ o. option_and_then (entry_as_written
     of_value (values.Mode mode) h = absurd (cc)
     of_value (values.DeleteSubject subject version) h = absurd (cc)
     of_value values.Noop h = absurd (cc)
+    of_value (values.IdMark id) h = absurd (cc)
 
 -- a delete marks nothing that is not before it
 covers-false : (at : ℕ) (value : Value) (version offset : ℕ) → at < offset → covers at value version offset ≡ false
@@ -62,6 +63,7 @@ covers-false at (values.Schema subject version' id schema deleted) version offse
 covers-false at (values.Config level) version offset h = refl
 covers-false at (values.Mode mode) version offset h = refl
 covers-false at values.Noop version offset h = refl
+covers-false at (values.IdMark id) version offset h = refl
 
 or-false : (b : Bool) → (b || false) ≡ b
 or-false true = refl
@@ -79,6 +81,7 @@ IsFit log (keys.Schema subject version) r = Unit {0}
 IsFit log (keys.Config scope) r = Unit {0}
 IsFit log (keys.Mode scope) r = Unit {0}
 IsFit log keys.Noop r = Unit {0}
+IsFit log keys.IdMark r = Unit {0}
 
 module _ (l : LastLaws) where
   gives : (log : Records) (offset : ℕ) (v : Value) → of_lasts.entry_in (last_records log) offset v ≡ option_map (remarked log) (entry_as_written offset v)
@@ -89,6 +92,7 @@ module _ (l : LastLaws) where
   gives log offset (values.Mode mode) = refl
   gives log offset (values.DeleteSubject subject version) = refl
   gives log offset values.Noop = refl
+  gives log offset (values.IdMark id) = refl
 
   given : (log : Records) (x : Record) → entry_of (last_records log) x ≡ option_map (remarked log) (put_by x)
   unfolding entry_of
@@ -199,6 +203,8 @@ module _ (l : LastLaws) where
       untouched log r p (λ e. let f : keys.Mode scope ≡ keys.Schema p.0 p.1 = sym key ∙ e in cc) (λ s e. let f : keys.Mode scope ≡ keys.DeleteSubject s = sym key ∙ e in cc)
   by_key log r p keys.Noop key above fit =
       untouched log r p (λ e. let f : keys.Noop ≡ keys.Schema p.0 p.1 = sym key ∙ e in cc) (λ s e. let f : keys.Noop ≡ keys.DeleteSubject s = sym key ∙ e in cc)
+  by_key log r p keys.IdMark key above fit =
+      untouched log r p (λ e. let f : keys.IdMark ≡ keys.Schema p.0 p.1 = sym key ∙ e in cc) (λ s e. let f : keys.IdMark ≡ keys.DeleteSubject s = sym key ∙ e in cc)
 
   pub one_record : (log : Records) (r : Record) (p : Place) → IsAbove log r → IsFit log r.key r → after_key r.key p (seen log p) r ≡ seen (insert log r) p
   one_record log r p above fit = by_key log r p r.key refl above fit

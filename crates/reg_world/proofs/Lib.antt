@@ -1,4 +1,5 @@
 pub mod Answers
+pub mod Begun
 pub mod Courses
 pub mod EagerFolding
 pub mod EagerMaps

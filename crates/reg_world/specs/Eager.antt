@@ -37,6 +37,7 @@ entry_as_written offset (values.Config level) = None
 entry_as_written offset (values.Mode mode) = None
 entry_as_written offset (values.DeleteSubject subject version) = None
 entry_as_written offset values.Noop = None
+entry_as_written offset (values.IdMark id) = None
 
 -- what a record puts at the place of its version: an entry, and nothing where it has no value that can be read
 abbrev pub put_by : Record → Option Entry
@@ -49,6 +50,7 @@ marked_with (values.Config level) e = e
 marked_with (values.Mode mode) e = e
 marked_with (values.DeleteSubject subject greatest) e = if bytes_eq e.subject subject && nat_le e.version greatest then with_soft true e else e
 marked_with values.Noop e = e
+marked_with (values.IdMark id) e = e
 
 -- an entry after the record of a soft delete; one without a value marks nothing
 abbrev pub marked_by : Record → Entry → Entry
@@ -61,6 +63,7 @@ after_key (keys.Config scope) place found r = found
 after_key (keys.Mode scope) place found r = found
 after_key (keys.DeleteSubject subject) place found r = option_map (marked_by r) found
 after_key keys.Noop place found r = found
+after_key keys.IdMark place found r = found
 
 -- what stands at a place after some records, one after the other
 abbrev pub after_records : Place → Option Entry → List Record → Option Entry

@@ -4,13 +4,11 @@ use Rattle.std.specs.FinSet.{union}
 use Rattle.reg_set.specs.Compaction.{IsCompactionOf}
 use Rattle.reg_set.specs.LastRecords.{last_records}
 use Rattle.reg_set.specs.Records.{Records}
-use Rattle.reg_leader.specs.StayOpen.{IdsNameOneSchema}
-use Rattle.reg_topic.specs.Promises.{MetLevels}
-use Rattle.reg_topic.specs.Topic.{registry_of}
+use Rattle.reg_topic.specs.Promises.{IdsAreForGood, MetLevels}
 use Rattle.reg_world.specs.Happens.{Happens}
 use Rattle.reg_world.specs.Runs.{After}
 use Rattle.reg_lookup.specs.Answers.{IsAnswer}
-use Rattle.reg_world.specs.State.{State, topic_of}
+use Rattle.reg_world.specs.State.{State}
 use Rattle.reg_world.specs.declared.event.Event.{Event}
 use Rattle.reg_world.specs.declared.event.Event.TheVariants as events
 use Rattle.reg_world.specs.declared.event.Outcome.TheVariants as outcomes
@@ -58,9 +56,10 @@ pub record Merging : Type 0 where
   pub answers_repeat : (R : Records) → AnswerAlike (union R R) R
   pub compactions : (C R D S : Records) → IsCompactionOf C R → IsCompactionOf D S → AnswerAlike (union C D) (union R S)
 
--- Ids: after any list of events, any two entries of the log with one id have equal normal texts.
+-- Ids: after any list of events, two entries of one id that stood in the log at any two moments since
+-- the start have one schema.
 abbrev pub Ids : Type 0
-Ids = (events : List Event) (w : State) → After events w → IdsNameOneSchema (registry_of (topic_of w))
+Ids = (events : List Event) (w : State) → After events w → IdsAreForGood w.base w.items
 
 -- Levels: after any list of events, each version in the log that was registered outside IMPORT met
 -- the level then in force against the versions then live.

@@ -106,7 +106,7 @@ fn take_one(alloc: Global, standing: &mut Entries, given: &Record) -> Result<(),
     match &given.key {
         Key::Schema { subject, version } => take_version(alloc, standing, given, subject, *version),
         Key::DeleteSubject(_) => take_delete(alloc, standing, given),
-        Key::Config(_) | Key::Mode(_) | Key::Noop => Ok(()),
+        Key::Config(_) | Key::Mode(_) | Key::Noop | Key::IdMark => Ok(()),
     }
 }
 
@@ -158,7 +158,11 @@ fn put_by(alloc: Global, given: &Record) -> Result<Option<Entry>, AllocError>
                 soft: deleted,
             }))
         }
-        Value::Config(_) | Value::Mode(_) | Value::DeleteSubject { .. } | Value::Noop => Ok(None),
+        Value::Config(_)
+        | Value::Mode(_)
+        | Value::DeleteSubject { .. }
+        | Value::Noop
+        | Value::IdMark(_) => Ok(None),
     }
 }
 
@@ -180,9 +184,14 @@ fn take_delete(alloc: Global, standing: &mut Entries, given: &Record) -> Result<
         Some(Value::DeleteSubject { subject, version }) => {
             mark_up_to(alloc, standing, subject, version)
         }
-        Some(Value::Schema { .. } | Value::Config(_) | Value::Mode(_) | Value::Noop) | None => {
-            Ok(())
-        }
+        Some(
+            Value::Schema { .. }
+            | Value::Config(_)
+            | Value::Mode(_)
+            | Value::Noop
+            | Value::IdMark(_),
+        )
+        | None => Ok(()),
     }
 }
 

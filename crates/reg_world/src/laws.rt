@@ -60,7 +60,7 @@ pub fn nodes_answer_alike()
     queries_have_one_answer();
 }
 
-/// Two versions of one id have one schema, soft ones too.
+/// Two versions of one id that stood at any two moments have one schema, soft ones too.
 pub fn ids_name_one_schema()
     ensures { Ids }
 {

@@ -8,10 +8,9 @@ ghost use Rattle.reg_entries.specs.EntryOrder.{place_of};
 ghost use Rattle.reg_entries.specs.declared.entry.Entry.{Entry};
 ghost use Rattle.reg_fold.specs.Closed.{is_closed};
 ghost use Rattle.reg_fold.specs.Entries.{entries};
-ghost use Rattle.reg_leader.specs.Adoption.{IsAdoptRefusal};
-ghost use Rattle.reg_leader.specs.StayOpen.{IdsNameOneSchema};
-ghost use Rattle.reg_topic.specs.Promises.{MetLevels};
-ghost use Rattle.reg_topic.specs.Topic.{registry_of, topic_from};
+ghost use Rattle.reg_leader.specs.Adoption.{HasPlace, IsAdoptRefusal};
+ghost use Rattle.reg_topic.specs.Promises.{IdsAreForGood, MetLevels};
+ghost use Rattle.reg_topic.specs.Topic.{after_batch, follows, registry_of, topic_from};
 ghost use Rattle.reg_world.specs.Core.{HasLawfulLog, HasNodes};
 ghost use Rattle.reg_world.specs.Eager.{IsFoldedEagerly, eager};
 ghost use Rattle.reg_world.specs.Happens.{Happens, is_allowed};
@@ -28,11 +27,11 @@ use crate::laws::{
     eager_folding_is_right, events_are_refused_exactly, every_list_of_events_is_lawful,
     ids_name_one_schema, nodes_answer_alike, registered_versions_meet_levels,
 };
-use reg_fold::{Entry, entries_are_of_places};
-use reg_leader::{AdoptError, adopt};
-use reg_records::Log;
+use reg_fold::{Entry, Registry, entries_are_of_places};
+use reg_leader::{AdoptError, Adopted, adopt};
+use reg_records::{Log, Record};
 use reg_set::compactions_compose;
-use reg_topic::{Topic, adopted_logs_begin};
+use reg_topic::{Topic, adopted_logs_begin, follows};
 use std::alloc::{AllocError, Global};
 use std::error::Error;
 use std::fmt;
@@ -80,15 +79,18 @@ impl fmt::Display for RunError {
 impl Error for RunError {}
 
 impl World {
-    /// A world over a base, whose nodes have no record. A base that isn't adopted is refused.
+    /// A world over a base, whose nodes have no record. Its topic begins with the base and the mark of
+    /// ids that the base owes. A base that isn't adopted is refused.
     pub fn start(alloc: Global, nodes: usize, base: &Log) -> Result<World, AdoptError>
         ensures start { IfOk result (λ w. w ≡ start (topic_from base.now.records.items base.now.next) nodes) }
+        ensures place { OnOk result (HasPlace (last_records (from_list base.now.records.items)) base.now.next) }
         ensures adopted { OnOk result (is_closed (last_records (from_list base.now.records.items)) ≡ false) }
-        ensures refused { IfErr result (IsAdoptRefusal (last_records (from_list base.now.records.items))) }
+        ensures refused { IfErr result (IsAdoptRefusal (last_records (from_list base.now.records.items)) base.now.next) }
     {
         adopted_logs_begin();
-        let topic = Topic::of_log(alloc, base)?;
-        let registry = adopt(alloc, &topic.log)?;
+        let mut topic = Topic::of_log(alloc, base)?;
+        let Adopted { mut registry, due } = adopt(alloc, &topic.log, topic.next)?;
+        publish_due(alloc, &mut topic, &mut registry, &due)?;
         let cluster = Cluster::start(alloc, topic, registry, nodes)?;
         Ok(World { cluster })
     }
@@ -108,8 +110,8 @@ impl World {
     /// Does the events in turn. An error leaves the world where the events that were done lead.
     ///
     /// Wherever that is, the log is lawful, the kept set is a compaction of it, each node answers as
-    /// the set does of which it took a compaction, an id names one schema, each registered version
-    /// met its level, and the log's records, taken one after the other, give its entries.
+    /// the set does of which it took a compaction, an id names one schema for good, each registered
+    /// version met its level, and the log's records, taken one after the other, give its entries.
     pub fn run(&mut self, events: &[Event]) -> Result<Vec<Outcome>, RunError>
         ensures runs { IfOk result (λ outcomes. Runs self.old events.now outcomes.items self.new) }
         ensures refused { IfErr result (λ error. IsStopped self.old events.now error self.new) }
@@ -117,7 +119,7 @@ impl World {
         ensures kept { IsCompactionOf (topic_of self.new).kept (topic_of self.new).log }
         ensures nodes { HasNodes self.new }
         ensures answers { GivesAnswersOfSets self.new }
-        ensures ids { IdsNameOneSchema (registry_of (topic_of self.new)) }
+        ensures ids { IdsAreForGood self.new.base self.new.items }
         ensures levels { MetLevels self.new.base self.new.items }
         ensures eager { IsFoldedEagerly self.new }
     {
@@ -166,6 +168,26 @@ impl World {
         }
         Ok(outcomes)
     }
+}
+
+/// Publishes what is due, and adds it to the registry over the topic's log. What doesn't go on at
+/// the next offset changes nothing. The only error is want of memory.
+fn publish_due(
+    alloc: Global,
+    topic: &mut Topic,
+    registry: &mut Registry,
+    due: &[Record],
+) -> Result<(), AllocError>
+    requires { registry.old ≡ registry_of topic.old }
+    ensures topic { OnOk result (topic.new ≡ after_batch (follows topic.old.next due.now) topic.old due.now) }
+    ensures registry { OnOk result (registry.new ≡ registry_of topic.new) }
+{
+    if !follows(topic.next, due) {
+        return Ok(());
+    }
+    topic.publish_batch(alloc, due)?;
+    registry.apply_all(due)?;
+    Ok(())
 }
 
 /// Adds the outcome of an event that was done.

@@ -6,7 +6,7 @@ use std::alloc::{AllocError, Global};
 
 /// Logs without a request, and what is said of them: the text on standard error, the status, and how
 /// many bytes are written.
-static ENDS: [(&str, &str); 14] = [
+static ENDS: [(&str, &str); 16] = [
     ("", "0 0"),
     ("\n", "0 0"),
     ("7\t{\"keytype\":\"NOOP\"}\tnull\n", "0 0"),
@@ -17,6 +17,14 @@ static ENDS: [(&str, &str); 14] = [
     (
         "7\tno JSON\tnull\n8\t{\"keytype\":\"NOOP\"}\tnull\n9\t[]\t\n\n",
         "foreign 2\n0 0",
+    ),
+    (
+        "7\t{\"keytype\":\"ID_MARK\",\"magic\":0}\t{\"id\":9}\n",
+        "0 0",
+    ),
+    (
+        "7\t{\"keytype\":\"id_mark\",\"magic\":0}\t{\"id\":9}\n",
+        "foreign 1\n0 0",
     ),
     (
         "7\tno JSON\tnull\n8\t{\"keytype\":\"NOOP\"}\tnull\n9\t[]\t\t\n",

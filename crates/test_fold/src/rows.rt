@@ -147,12 +147,55 @@ POST /subjects/t/versions {"schema":"{ \"name\":\"R\", \"fields\":[ ], \"type\":
 POST /subjects/t/versions {"schema":"{ \"name\":\"R\", \"fields\":[ ], \"type\":\"record\" }"} => 200 {"id":1}
 GET /subjects/t/versions => 200 [1]
 
-a version is deleted, and its id is used again
+a version is deleted, and its id isn't used again
 1|{"keytype":"SCHEMA","subject":"s","version":1,"magic":1}|{"subject":"s","version":1,"id":1,"schema":"\"string\"","deleted":false}
 2|{"keytype":"SCHEMA","subject":"s","version":2,"magic":1}|{"subject":"s","version":2,"id":2,"schema":"\"int\"","deleted":false}
 DELETE /subjects/s/versions/2 => 200 2
 DELETE /subjects/s/versions/2?permanent=true => 200 2
-POST /subjects/t/versions {"schema":"\"long\""} => 200 {"id":2}
+POST /subjects/t/versions {"schema":"\"long\""} => 200 {"id":3}
+PUT /mode?force=true {"mode":"IMPORT"} => 200 {"mode":"IMPORT"}
+POST /subjects/u/versions {"schema":"\"bytes\"","id":2} => 422 {"error_code":42205,"message":"Operation not permitted: id is not above the mark"}
+POST /subjects/u/versions {"schema":"\"long\"","id":1} => 422 {"error_code":42205,"message":"Operation not permitted: id names another schema"}
+POST /subjects/u/versions {"schema":"\"string\"","id":1} => 200 {"id":1}
+POST /subjects/u/versions {"schema":"\"bytes\"","id":4} => 200 {"id":4}
+
+a subject is deleted, and its schema is registered again
+1|{"keytype":"SCHEMA","subject":"s","version":1,"magic":1}|{"subject":"s","version":1,"id":1,"schema":"\"string\"","deleted":false}
+DELETE /subjects/s => 200 [1]
+DELETE /subjects/s?permanent=true => 200 [1]
+POST /subjects/s/versions {"schema":"\"string\""} => 200 {"id":2}
+GET /subjects/s/versions => 200 [1]
+
+an import over a soft version of another id
+1|{"keytype":"SCHEMA","subject":"s","version":1,"magic":1}|{"subject":"s","version":1,"id":9,"schema":"\"int\"","deleted":true}
+PUT /mode {"mode":"IMPORT"} => 200 {"mode":"IMPORT"}
+POST /subjects/s/versions {"schema":"\"long\"","id":2,"version":1} => 200 {"id":2}
+POST /subjects/t/versions {"schema":"\"int\"","id":9} => 422 {"error_code":42205,"message":"Operation not permitted: id is not above the mark"}
+PUT /mode {"mode":"READWRITE"} => 200 {"mode":"READWRITE"}
+POST /subjects/t/versions {"schema":"\"int\""} => 200 {"id":10}
+
+a mark that a log has
+1|{"keytype":"SCHEMA","subject":"s","version":1,"magic":1}|{"subject":"s","version":1,"id":3,"schema":"\"int\"","deleted":false}
+2|{"keytype":"ID_MARK","magic":0}|{"id":8}
+POST /subjects/t/versions {"schema":"\"long\""} => 200 {"id":9}
+
+a mark that can't be read, after one that can
+1|{"keytype":"ID_MARK","magic":0}|{"id":8}
+2|{"keytype":"ID_MARK","magic":0}|{"id":"8"}
+3|{"keytype":"SCHEMA","subject":"s","version":1,"magic":1}|{"subject":"s","version":1,"id":3,"schema":"\"int\"","deleted":false}
+POST /subjects/t/versions {"schema":"\"long\""} => 200 {"id":4}
+
+a mark without a value, after one that has one
+1|{"keytype":"SCHEMA","subject":"s","version":1,"magic":1}|{"subject":"s","version":1,"id":3,"schema":"\"int\"","deleted":false}
+2|{"keytype":"ID_MARK","magic":0}|{"id":9}
+3|{"keytype":"ID_MARK","magic":0}|null
+POST /subjects/t/versions {"schema":"\"long\""} => 200 {"id":4}
+
+the greatest id is marked
+1|{"keytype":"ID_MARK","magic":0}|{"id":2147483647}
+POST /subjects/s/versions {"schema":"\"int\""} => 500 {"error_code":50001,"message":"Store error: numbers used up"}
+PUT /mode {"mode":"IMPORT"} => 200 {"mode":"IMPORT"}
+POST /subjects/s/versions {"schema":"\"int\"","id":2147483647} => 422 {"error_code":42205,"message":"Operation not permitted: id is not above the mark"}
 
 a subject is deleted
 1|{"keytype":"SCHEMA","subject":"s","version":1,"magic":1}|{"subject":"s","version":1,"id":1,"schema":"\"string\"","deleted":false}
@@ -216,7 +259,13 @@ a version before a line that is foreign
 1|{"keytype":"SCHEMA","subject":"s","version":1,"magic":1}|{"subject":"s","version":1,"id":1,"schema":"\"int\"","deleted":false}
 7|{"keytype":"CLEAR_SUBJECT","subject":"s","magic":0}|{"subject":"s"}
 POST /subjects/s {"schema":"\"int\""} => 200 {"subject":"s","version":1,"id":1,"schema":"\"int\""}
-POST /subjects/s/versions {"schema":"\"long\""} => 200 {"id":2}"#;
+POST /subjects/s/versions {"schema":"\"long\""} => 200 {"id":2}
+
+a line that is foreign in the place of a mark of ids, and its offset counts
+1|{"keytype":"SCHEMA","subject":"s","version":1,"magic":1}|{"subject":"s","version":1,"id":3,"schema":"\"int\"","deleted":false}
+9223372036854775806|{"keytype":"id_mark","magic":0}|{"id":9}
+POST /subjects/t/versions {"schema":"\"long\""} => 200 {"id":4}
+PUT /mode {"mode":"READONLY"} => 500 {"error_code":50001,"message":"Store error: numbers used up"}"#;
 
 /// The phrase of a status.
 fn phrase(status: &str) -> &'static str {

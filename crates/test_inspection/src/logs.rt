@@ -5,7 +5,7 @@ use std::alloc::Global;
 use std::test::Fail;
 
 /// A log, what is said of it, and whether it is taken over: lines are parted by `|`, and the fields of a log's lines by `;`.
-const ROWS: [(&str, &str, bool); 11] = [
+const ROWS: [(&str, &str, bool); 13] = [
     (
         "",
         "records: 0|foreign lines: 0|next offset: 0|subjects: 0|live versions: 0|soft-deleted versions: 0|ids: 0|",
@@ -69,6 +69,19 @@ const ROWS: [(&str, &str, bool); 11] = [
     (
         "0;{'keytype':'CONFIG','subject':'a'};x|",
         "records: 1|foreign lines: 0|next offset: 1|subjects: 0|live versions: 0|soft-deleted versions: 0|ids: 0|",
+        true,
+    ),
+    // A mark of ids is due, and the greatest offset there is has been used.
+    (
+        "9223372036854775807;{'keytype':'SCHEMA','subject':'s','version':1};{'subject':'s','version':1,'id':3,'schema':'\\'int\\''}|",
+        "records: 1|foreign lines: 0|next offset: 9223372036854775808|subjects: 1|live versions: 1|soft-deleted versions: 0|ids: 1|\
+         no offset is left for the mark of ids|",
+        false,
+    ),
+    (
+        "5;{'keytype':'ID_MARK','magic':0};{'id':3}|\
+         9223372036854775807;{'keytype':'SCHEMA','subject':'s','version':1};{'subject':'s','version':1,'id':3,'schema':'\\'int\\''}|",
+        "records: 2|foreign lines: 0|next offset: 9223372036854775808|subjects: 1|live versions: 1|soft-deleted versions: 0|ids: 1|",
         true,
     ),
     // Foreign lines have offsets too.

@@ -1,11 +1,12 @@
 // Sets that a topic can begin with, and others.
 use crate::logs::record_of;
+use crate::replies::lines_of;
 use reg_leader::{AdoptError, adopt};
 use reg_set::RecordSet;
 use std::alloc::Global;
 use std::test::Fail;
 
-// Logs, and why their sets aren't adopted.
+// Logs, and why their sets aren't adopted before the offset 9.
 static SETS: [(&str, Option<AdoptError>); 7] = [
     ("", None),
     (
@@ -44,6 +45,68 @@ static SETS: [(&str, Option<AdoptError>); 7] = [
     ),
 ];
 
+// Logs, the next offsets, and the lines that are due, each after a line's end.
+static DUE: [(&str, u64, &str); 9] = [
+    ("", 0, ""),
+    (
+        r#"1|{"keytype":"SCHEMA","subject":"s","version":1,"magic":1}|{"subject":"s","version":1,"id":1,"schema":"\"string\"","deleted":false}"#,
+        2,
+        r#"
+2|{"keytype":"ID_MARK","magic":0}|{"id":1}"#,
+    ),
+    (
+        r#"1|{"keytype":"SCHEMA","subject":"s","version":1,"magic":1}|{"subject":"s","version":1,"id":3,"schema":"\"string\"","deleted":true}
+2|{"keytype":"SCHEMA","subject":"t","version":1,"magic":1}|{"subject":"t","version":1,"id":2,"schema":"\"int\"","deleted":false}
+3|{"keytype":"ID_MARK","magic":0}|{"id":2}"#,
+        9223372036854775807,
+        r#"
+9223372036854775807|{"keytype":"ID_MARK","magic":0}|{"id":3}"#,
+    ),
+    (
+        r#"1|{"keytype":"SCHEMA","subject":"s","version":1,"magic":1}|{"subject":"s","version":1,"id":3,"schema":"\"string\"","deleted":false}
+2|{"keytype":"ID_MARK","magic":0}|{"id":3}"#,
+        9223372036854775808,
+        "",
+    ),
+    (
+        r#"1|{"keytype":"SCHEMA","subject":"s","version":1,"magic":1}|{"subject":"s","version":1,"id":3,"schema":"\"string\"","deleted":false}
+2|{"keytype":"ID_MARK","magic":0}|{"id":9}"#,
+        3,
+        "",
+    ),
+    (
+        r#"1|{"keytype":"SCHEMA","subject":"s","version":1,"magic":1}|{"subject":"s","version":1,"id":3,"schema":"\"string\"","deleted":false}
+2|{"keytype":"ID_MARK","magic":0}|{"id":9}
+3|{"keytype":"ID_MARK","magic":0}|{"id":0}"#,
+        4,
+        r#"
+4|{"keytype":"ID_MARK","magic":0}|{"id":3}"#,
+    ),
+    (
+        r#"1|{"keytype":"SCHEMA","subject":"s","version":1,"magic":1}|{"subject":"s","version":1,"id":3,"schema":"\"string\"","deleted":false}
+2|{"keytype":"ID_MARK","magic":0}|{"id":9}
+3|{"keytype":"ID_MARK","magic":0}|null"#,
+        4,
+        r#"
+4|{"keytype":"ID_MARK","magic":0}|{"id":3}"#,
+    ),
+    (r#"1|{"keytype":"ID_MARK","magic":0}|{"id":9}"#, 2, ""),
+    (
+        r#"1|{"keytype":"SCHEMA","subject":"s","version":1,"magic":1}|null
+2|{"keytype":"CONFIG","subject":null,"magic":0}|{"compatibilityLevel":"FULL"}"#,
+        9223372036854775808,
+        "",
+    ),
+];
+
+// An id that names two schemas, and one schema; no mark.
+const TWO: &str =
+    r#"3|{"keytype":"SCHEMA","subject":"s","version":1,"magic":1}|{"subject":"s","version":1,"id":1,"schema":"\"int\"","deleted":false}
+4|{"keytype":"SCHEMA","subject":"t","version":1,"magic":1}|{"subject":"t","version":1,"id":1,"schema":"\"long\"","deleted":false}"#;
+
+const ONE: &str =
+    r#"3|{"keytype":"SCHEMA","subject":"s","version":1,"magic":1}|{"subject":"s","version":1,"id":1,"schema":"\"int\"","deleted":false}"#;
+
 fn take_all(alloc: Global, set: &mut RecordSet, lines: &str) -> Result<(), Fail> {
     for line in lines.lines() {
         set.take(&record_of(alloc, line)?)?;
@@ -51,17 +114,49 @@ fn take_all(alloc: Global, set: &mut RecordSet, lines: &str) -> Result<(), Fail>
     Ok(())
 }
 
-// Why the set of those records isn't adopted.
-fn refused(alloc: Global, lines: &str) -> Result<Option<AdoptError>, Fail> {
+// Why the set of those records isn't adopted before that offset.
+fn refused(alloc: Global, lines: &str, next: u64) -> Result<Option<AdoptError>, Fail> {
     let mut set = RecordSet::new(alloc);
     take_all(alloc, &mut set, lines)?;
-    Ok(adopt(alloc, &set).err())
+    Ok(adopt(alloc, &set, next).err())
+}
+
+// Whether these lines are due beside the set of those records.
+fn is_due(alloc: Global, lines: &str, next: u64, due: &str) -> Result<bool, Fail> {
+    let mut set = RecordSet::new(alloc);
+    take_all(alloc, &mut set, lines)?;
+    match adopt(alloc, &set, next) {
+        Ok(adopted) => Ok(lines_of(alloc, &adopted.due)?.as_slice() == due.as_bytes()),
+        Err(_) => Ok(false),
+    }
 }
 
 #[test]
 fn sets_are_adopted_or_refused(rt: HostRuntime) -> Result<(), Fail> {
     for (lines, expected) in &SETS {
-        assert_eq!(rt; refused(rt.alloc(), lines)?, *expected, "{lines}");
+        assert_eq!(rt; refused(rt.alloc(), lines, 9)?, *expected, "{lines}");
     }
+    Ok(())
+}
+
+#[test]
+fn marks_are_due_where_ids_are_above_them(rt: HostRuntime) -> Result<(), Fail> {
+    for (lines, next, due) in &DUE {
+        assert!(rt; is_due(rt.alloc(), lines, *next, due)?, "{lines}");
+    }
+    Ok(())
+}
+
+#[test]
+fn a_mark_needs_an_offset(rt: HostRuntime) -> Result<(), Fail> {
+    let past = 9223372036854775808;
+    assert_eq!(rt;
+        refused(rt.alloc(), ONE, past)?,
+        Some(AdoptError::NumbersUsedUp)
+    );
+    assert_eq!(rt;
+        refused(rt.alloc(), TWO, past)?,
+        Some(AdoptError::TwoSchemas(1))
+    );
     Ok(())
 }

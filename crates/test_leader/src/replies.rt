@@ -55,6 +55,15 @@ fn push_line(alloc: Global, told: &mut Vec<u8>, record: &Record) -> Result<(), F
     Ok(())
 }
 
+// The lines of records, each after a line's end.
+pub fn lines_of(alloc: Global, records: &[Record]) -> Result<Vec<u8>, Fail> {
+    let mut lines = Vec::new(alloc);
+    for record in records {
+        push_line(alloc, &mut lines, record)?;
+    }
+    Ok(lines)
+}
+
 // The reply, and below it the lines that are written.
 fn told(alloc: Global, decision: &Decision) -> Result<Vec<u8>, Fail> {
     let mut told = reply_text(alloc, &decision.reply)?.into_bytes();

@@ -57,14 +57,30 @@ delete s 2
 
 delete+ s 2
 2
-4|{"keytype":"SCHEMA","subject":"s","version":2,"magic":1}|null
+4|{"keytype":"ID_MARK","magic":0}|{"id":2}
+5|{"keytype":"SCHEMA","subject":"s","version":2,"magic":1}|null
 
 delete s 2
 40402 Version not found
 
 register t "long"
-{"id":2}
-5|{"keytype":"SCHEMA","subject":"t","version":1,"magic":1}|{"subject":"t","version":1,"id":2,"schema":"\"long\"","deleted":false}
+{"id":3}
+6|{"keytype":"SCHEMA","subject":"t","version":1,"magic":1}|{"subject":"t","version":1,"id":3,"schema":"\"long\"","deleted":false}
+
+set_mode+ * IMPORT
+mode IMPORT
+7|{"keytype":"MODE","subject":null,"magic":0}|{"mode":"IMPORT"}
+
+import u 2 - "bytes"
+42205 Operation not permitted: id is not above the mark
+
+import u 1 - "string"
+{"id":1}
+8|{"keytype":"SCHEMA","subject":"u","version":1,"magic":1}|{"subject":"u","version":1,"id":1,"schema":"\"string\"","deleted":false}
+
+import u 4 - "bytes"
+{"id":4}
+9|{"keytype":"SCHEMA","subject":"u","version":2,"magic":1}|{"subject":"u","version":2,"id":4,"schema":"\"bytes\"","deleted":false}
 
 log before 3
 1|{"keytype":"SCHEMA","subject":"s","version":1,"magic":1}|{"subject":"s","version":1,"id":1,"schema":"\"string\"","deleted":false}
@@ -88,11 +104,16 @@ delete_all s
 
 delete_all+ s
 [1,2]
-4|{"keytype":"SCHEMA","subject":"s","version":1,"magic":1}|null
-5|{"keytype":"SCHEMA","subject":"s","version":2,"magic":1}|null
+4|{"keytype":"ID_MARK","magic":0}|{"id":2}
+5|{"keytype":"SCHEMA","subject":"s","version":1,"magic":1}|null
+6|{"keytype":"SCHEMA","subject":"s","version":2,"magic":1}|null
 
 delete_all s
 40401 Subject not found
+
+register s "string"
+{"id":3}
+7|{"keytype":"SCHEMA","subject":"s","version":1,"magic":1}|{"subject":"s","version":1,"id":3,"schema":"\"string\"","deleted":false}
 
 log before 3
 1|{"keytype":"SCHEMA","subject":"s","version":1,"magic":1}|{"subject":"s","version":1,"id":1,"schema":"\"string\"","deleted":false}
@@ -142,10 +163,51 @@ delete_all+ s
 50001 Store error: numbers used up
 
 delete+ s 2
-2
-9223372036854775807|{"keytype":"SCHEMA","subject":"s","version":2,"magic":1}|null
+50001 Store error: numbers used up
 
 noop
+nothing
+9223372036854775807|{"keytype":"NOOP","magic":0}|null
+
+noop
+50001 Store error: numbers used up
+
+log before 9223372036854775806
+1|{"keytype":"SCHEMA","subject":"s","version":1,"magic":1}|{"subject":"s","version":1,"id":1,"schema":"\"int\"","deleted":true}
+
+delete+ s 1
+1
+9223372036854775806|{"keytype":"ID_MARK","magic":0}|{"id":1}
+9223372036854775807|{"keytype":"SCHEMA","subject":"s","version":1,"magic":1}|null
+
+log before 3
+1|{"keytype":"ID_MARK","magic":0}|{"id":7}
+2|{"keytype":"SCHEMA","subject":"s","version":1,"magic":1}|{"subject":"s","version":1,"id":2,"schema":"\"int\"","deleted":true}
+
+delete+ s 1
+1
+3|{"keytype":"ID_MARK","magic":0}|{"id":7}
+4|{"keytype":"SCHEMA","subject":"s","version":1,"magic":1}|null
+
+log before 2
+1|{"keytype":"ID_MARK","magic":0}|{"id":7}
+
+register s "int"
+{"id":8}
+2|{"keytype":"SCHEMA","subject":"s","version":1,"magic":1}|{"subject":"s","version":1,"id":8,"schema":"\"int\"","deleted":false}
+
+log before 3
+1|{"keytype":"ID_MARK","magic":0}|{"id":7}
+2|{"keytype":"ID_MARK","magic":0}|{"id":0}
+
+register s "int"
+{"id":1}
+3|{"keytype":"SCHEMA","subject":"s","version":1,"magic":1}|{"subject":"s","version":1,"id":1,"schema":"\"int\"","deleted":false}
+
+log before 2
+1|{"keytype":"ID_MARK","magic":0}|{"id":2147483647}
+
+register s "int"
 50001 Store error: numbers used up"#;
 
 // Each other command with each of its refusals, and ids and versions that aren't the next ones.
@@ -233,18 +295,33 @@ delete+ s latest
 
 delete+ s 11
 11
-15|{"keytype":"SCHEMA","subject":"s","version":11,"magic":1}|null
+15|{"keytype":"ID_MARK","magic":0}|{"id":10}
+16|{"keytype":"SCHEMA","subject":"s","version":11,"magic":1}|null
 
 delete_all s
 [2,5,10]
-16|{"keytype":"DELETE_SUBJECT","subject":"s","magic":0}|{"subject":"s","version":10}
+17|{"keytype":"DELETE_SUBJECT","subject":"s","magic":0}|{"subject":"s","version":10}
 
 delete_all+ s
 [2,5,9,10]
-17|{"keytype":"SCHEMA","subject":"s","version":2,"magic":1}|null
-18|{"keytype":"SCHEMA","subject":"s","version":5,"magic":1}|null
-19|{"keytype":"SCHEMA","subject":"s","version":9,"magic":1}|null
-20|{"keytype":"SCHEMA","subject":"s","version":10,"magic":1}|null
+18|{"keytype":"ID_MARK","magic":0}|{"id":10}
+19|{"keytype":"SCHEMA","subject":"s","version":2,"magic":1}|null
+20|{"keytype":"SCHEMA","subject":"s","version":5,"magic":1}|null
+21|{"keytype":"SCHEMA","subject":"s","version":9,"magic":1}|null
+22|{"keytype":"SCHEMA","subject":"s","version":10,"magic":1}|null
+
+register s "bytes"
+{"id":11}
+23|{"keytype":"SCHEMA","subject":"s","version":1,"magic":1}|{"subject":"s","version":1,"id":11,"schema":"\"bytes\"","deleted":false}
+
+delete_all t
+[1]
+24|{"keytype":"DELETE_SUBJECT","subject":"t","magic":0}|{"subject":"t","version":1}
+
+delete_all+ t
+[1]
+25|{"keytype":"ID_MARK","magic":0}|{"id":11}
+26|{"keytype":"SCHEMA","subject":"t","version":1,"magic":1}|null
 
 log before 3
 1|{"keytype":"SCHEMA","subject":"s","version":1,"magic":1}|{"subject":"s","version":1,"id":1,"schema":"\"int\"","deleted":false}
@@ -335,7 +412,7 @@ import s 9 4 "int"
 4|{"keytype":"SCHEMA","subject":"s","version":4,"magic":1}|{"subject":"s","version":4,"id":9,"schema":"\"int\"","deleted":false}
 
 import s 0 - "bytes"
-50001 Store error: numbers used up
+42205 Operation not permitted: id is not above the mark
 
 import s 5 2147483648 "bytes"
 50001 Store error: numbers used up
@@ -365,17 +442,59 @@ mode IMPORT
 
 import s 9 1 "int"
 {"id":9}
-10|{"keytype":"SCHEMA","subject":"s","version":1,"magic":1}|{"subject":"s","version":1,"id":9,"schema":"\"int\"","deleted":false}
+10|{"keytype":"ID_MARK","magic":0}|{"id":9}
+11|{"keytype":"SCHEMA","subject":"s","version":1,"magic":1}|{"subject":"s","version":1,"id":9,"schema":"\"int\"","deleted":false}
 
 import s 9 9 int
 42201 Invalid Avro schema
 
 set_mode s READONLY
 mode READONLY
-11|{"keytype":"MODE","subject":"s","magic":0}|{"mode":"READONLY"}
+12|{"keytype":"MODE","subject":"s","magic":0}|{"mode":"READONLY"}
 
 import s 9 9 "int"
-42205 Operation not permitted: READONLY"#;
+42205 Operation not permitted: READONLY
+
+log before 2
+0|{"keytype":"SCHEMA","subject":"s","version":1,"magic":1}|{"subject":"s","version":1,"id":9,"schema":"\"int\"","deleted":true}
+1|{"keytype":"MODE","subject":null,"magic":0}|{"mode":"IMPORT"}
+
+import s 2 1 "long"
+{"id":2}
+2|{"keytype":"ID_MARK","magic":0}|{"id":9}
+3|{"keytype":"SCHEMA","subject":"s","version":1,"magic":1}|{"subject":"s","version":1,"id":2,"schema":"\"long\"","deleted":false}
+
+import t 9 - "int"
+42205 Operation not permitted: id is not above the mark
+
+import t 9 - "bytes"
+42205 Operation not permitted: id is not above the mark
+
+import t 2 - "int"
+42205 Operation not permitted: id names another schema
+
+import t 10 - "int"
+{"id":10}
+4|{"keytype":"SCHEMA","subject":"t","version":1,"magic":1}|{"subject":"t","version":1,"id":10,"schema":"\"int\"","deleted":false}
+
+delete s 1
+1
+5|{"keytype":"SCHEMA","subject":"s","version":1,"magic":1}|{"subject":"s","version":1,"id":2,"schema":"\"long\"","deleted":true}
+
+import s 2 1 "long"
+{"id":2}
+6|{"keytype":"SCHEMA","subject":"s","version":1,"magic":1}|{"subject":"s","version":1,"id":2,"schema":"\"long\"","deleted":false}
+
+log before 9223372036854775807
+1|{"keytype":"SCHEMA","subject":"s","version":1,"magic":1}|{"subject":"s","version":1,"id":9,"schema":"\"int\"","deleted":true}
+2|{"keytype":"MODE","subject":null,"magic":0}|{"mode":"IMPORT"}
+
+import s 2 1 "long"
+50001 Store error: numbers used up
+
+import s 9 1 "int"
+{"id":9}
+9223372036854775807|{"keytype":"SCHEMA","subject":"s","version":1,"magic":1}|{"subject":"s","version":1,"id":9,"schema":"\"int\"","deleted":false}"#;
 
 fn decision_on(
     alloc: Global,

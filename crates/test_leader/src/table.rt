@@ -9,7 +9,7 @@ use std::alloc::Global;
 use std::test::Fail;
 
 // Logs, and commands on the registry of each, with what is replied. None is applied.
-static REPLIES: [(&str, &str); 6] = [
+static REPLIES: [(&str, &str); 7] = [
     (
         r#"1|{"keytype":"SCHEMA","subject":"live","version":1,"magic":1}|{"subject":"live","version":1,"id":1,"schema":"\"int\"","deleted":false}
 2|{"keytype":"SCHEMA","subject":"soft","version":1,"magic":1}|{"subject":"soft","version":1,"id":2,"schema":"\"long\"","deleted":true}"#,
@@ -151,6 +151,23 @@ noop => 50001 Store error: two schemas for one id"#,
 3|{"keytype":"SCHEMA","subject":"live","version":1,"magic":1}|{"subject":"live","version":1,"id":1,"schema":"\"int\"","deleted":false}
 4|{"keytype":"SCHEMA","subject":"soft","version":1,"magic":1}|{"subject":"soft","version":1,"id":1,"schema":"\"long\"","deleted":true}"#,
         r#"noop => 50001 Store error: opaque record"#,
+    ),
+    (
+        r#"1|{"keytype":"SCHEMA","subject":"live","version":1,"magic":1}|{"subject":"live","version":1,"id":1,"schema":"\"int\"","deleted":false}
+2|{"keytype":"SCHEMA","subject":"soft","version":1,"magic":1}|{"subject":"soft","version":1,"id":2,"schema":"\"long\"","deleted":true}
+3|{"keytype":"MODE","subject":null,"magic":0}|{"mode":"IMPORT"}
+4|{"keytype":"ID_MARK","magic":0}|{"id":5}"#,
+        r#"import unknown 0 - "bytes" => 42205 Operation not permitted: id is not above the mark
+import unknown 1 - "int" => {"id":1}
+import unknown 2 - "long" => {"id":2}
+import unknown 3 - "bytes" => 42205 Operation not permitted: id is not above the mark
+import unknown 5 - "bytes" => 42205 Operation not permitted: id is not above the mark
+import unknown 6 - "bytes" => {"id":6}
+import live 2 1 "int" => 42205 Operation not permitted: id names another schema
+import live 3 1 "int" => 42205 Operation not permitted: id is not above the mark
+import live 6 1 "int" => 42205 Operation not permitted: version is occupied
+import soft 1 1 "int" => {"id":1}
+import soft 4 1 "long" => 42205 Operation not permitted: id is not above the mark"#,
     ),
 ];
 

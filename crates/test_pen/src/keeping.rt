@@ -7,7 +7,7 @@ use reg_feed::{Copies, FeedName, Seen, Unnamed};
 use reg_http::reply_answer;
 use reg_leader::{Command, Reply};
 use reg_level_names::Level;
-use reg_pen::{Keep, Kept, Lack, Opened, Pass, Pen, open};
+use reg_pen::{Keep, Kept, Lack, OpenError, Opened, Pass, Pen, open};
 use reg_records::{Device, Log, Record, read_log};
 use reg_shared::Shared;
 use reg_topic::Item;
@@ -75,14 +75,22 @@ fn submit<N: FeedName<Item, Shared>, S: Copies<Item, Shared, N>, R: Wait + Drop>
     Ok((reply, pen.batches()))
 }
 
-/// What is replied to a change of the level, time after time; then whether a compaction is done, and
-/// the offsets of what is kept.
+/// What is replied to commands, with how many batches were published by then; whether a compaction is
+/// done, and the offsets of what is kept.
+#[derive(Drop)]
+struct Course {
+    replies: Vec<(String, u64)>,
+    is_compacted: bool,
+    kept: Vec<u64>,
+}
+
+/// Changes the level, time after time, and compacts.
 fn change_levels<N: FeedName<Item, Shared>, S: Copies<Item, Shared, N>, R: Wait + Drop>(
     alloc: Global,
     pen: &mut Pen<N, S, Turning, R>,
     pass: &mut Pass<N>,
     turns: u64,
-) -> Result<(Vec<(String, u64)>, bool, Vec<u64>), Fail> {
+) -> Result<Course, Fail> {
     let command = Command::SetLevel {
         subject: None,
         level: Level::Full,
@@ -94,7 +102,11 @@ fn change_levels<N: FeedName<Item, Shared>, S: Copies<Item, Shared, N>, R: Wait 
     }
     let is_compacted = pen.compact().is_ok();
     let kept = kept_offsets(alloc, pen)?;
-    Ok((replies, is_compacted, kept))
+    Ok(Course {
+        replies,
+        is_compacted,
+        kept,
+    })
 }
 
 fn run_topic<N: FeedName<Item, Shared>, R: Wait + Drop>(
@@ -102,29 +114,37 @@ fn run_topic<N: FeedName<Item, Shared>, R: Wait + Drop>(
     rt: R,
     list: Unnamed<Item>,
     base: &Log,
+    keep: Turning,
     turns: u64,
-) -> Result<(Vec<(String, u64)>, bool, Vec<u64>), Fail>
+) -> Result<Result<Course, OpenError>, Fail>
     requires { (list.reached.book ≡ N.book) × (N.first ≡ held_of (topic_from base.now.records.items base.now.next)) }
 {
-    let keep = Turning { lent: 0 };
-    let Opened {
-        mut pen,
-        mut passes,
-    } = open::<N, Turning, R>(rt, alloc, list, base, keep, 1, 1)?;
-    match passes.first_mut() {
-        Some(pass) => change_levels(alloc, &mut pen, pass, turns),
-        None => Err(Fail::from(AllocError)),
+    match open::<N, Turning, R>(rt, alloc, list, base, keep, 1, 1) {
+        Ok(opened) => {
+            let Opened {
+                mut pen,
+                mut passes,
+            } = opened;
+            let pass = passes.first_mut().ok_or(AllocError)?;
+            Ok(Ok(change_levels(alloc, &mut pen, pass, turns)?))
+        }
+        Err(error) => Ok(Err(error)),
     }
 }
 
+/// So many turns over a log, with a keep to which so many batches were lent before; or why no pen was
+/// opened.
 fn run<R: Wait + Drop>(
     alloc: Global,
     rt: R,
+    log: &str,
+    lent: u64,
     turns: u64,
-) -> Result<(Vec<(String, u64)>, bool, Vec<u64>), Fail> {
-    let mut none = Device::new(b"".as_slice());
-    let base = read_log(alloc, &mut none)?;
-    run_topic::<Brand, R>(alloc, rt, Unnamed::new(), &base, turns)
+) -> Result<Result<Course, OpenError>, Fail> {
+    let mut lines = Device::new(log.as_bytes());
+    let base = read_log(alloc, &mut lines)?;
+    let keep = Turning { lent };
+    run_topic::<Brand, R>(alloc, rt, Unnamed::new(), &base, keep, turns)
 }
 
 /// What is replied, in turn, and how many batches were published by then.
@@ -144,11 +164,44 @@ static REPLIES: [(&str, u64); 5] = [
 
 #[test]
 fn a_batch_is_published_only_where_it_is_kept(rt: HostRuntime) -> Result<(), Fail> {
-    let (replies, is_compacted, kept) = run(rt.alloc(), &rt, 5)?;
-    assert_eq!(rt; replies.len(), REPLIES.len());
-    for (reply, (text, batches)) in replies.iter().zip(&REPLIES) {
+    let course = run(rt.alloc(), &rt, "", 0, 5)?.map_err(|_| "not opened")?;
+    assert_eq!(rt; course.replies.len(), REPLIES.len());
+    for (reply, (text, batches)) in course.replies.iter().zip(&REPLIES) {
         assert!(rt; reply.0.as_str() == *text && reply.1 == *batches, "{text}");
     }
-    assert_eq!(rt; (is_compacted, kept.as_slice()), (false, [0].as_slice()));
+    assert!(rt; !course.is_compacted);
+    assert_eq!(rt; course.kept.as_slice(), [0].as_slice());
+    Ok(())
+}
+
+/// A version with the id 1.
+const VERSION: &str =
+    "0\t{\"keytype\":\"SCHEMA\",\"subject\":\"s\",\"version\":1,\"magic\":1}\t{\"subject\":\"s\",\"version\":1,\"id\":1,\"schema\":\"\\\"int\\\"\",\"deleted\":false}\n";
+
+/// The mark of ids that such a log owes is lent first, and stands at offset 1; no batch counts it.
+#[test]
+fn a_topic_begins_with_the_mark_that_its_log_owes(rt: HostRuntime) -> Result<(), Fail> {
+    let course = run(rt.alloc(), &rt, VERSION, 1, 2)?.map_err(|_| "not opened")?;
+    let replies = [REPLIES[2].0, "unsettled 2"];
+    assert_eq!(rt; course.replies.len(), replies.len());
+    for (reply, text) in course.replies.iter().zip(&replies) {
+        assert!(rt; reply.0.as_str() == *text && reply.1 == 0, "{text}");
+    }
+    assert!(rt; !course.is_compacted);
+    assert_eq!(rt; course.kept.as_slice(), [0, 1].as_slice());
+    Ok(())
+}
+
+#[test]
+fn no_pen_is_opened_where_the_mark_is_not_kept(rt: HostRuntime) -> Result<(), Fail> {
+    let causes = [
+        (0, OpenError::Declined(Lack::Numbers)),
+        (2, OpenError::Declined(Lack::Memory)),
+        (3, OpenError::Lost),
+    ];
+    for (lent, cause) in causes {
+        let error = run(rt.alloc(), &rt, VERSION, lent, 0)?.err();
+        assert!(rt; error == Some(cause), "{cause}");
+    }
     Ok(())
 }

@@ -20,6 +20,9 @@ pub(crate) enum Line {
     NoLevel(u64, &'static str),
     /// No operation.
     Noop(u64),
+    /// A mark of ids; one of 0 can't be read.
+    IdMark(u64, u32),
+    NoIdMark(u64),
 }
 
 /// The front of a version's line, up to its value.
@@ -56,6 +59,9 @@ fn write_key(out: &mut String, line: Line) -> Result<(), AllocError> {
             )
         }
         Line::Noop(offset) => { write!(out, "{offset}\t{{\"keytype\":\"NOOP\",\"magic\":0}}\t") }
+        Line::IdMark(offset, _) | Line::NoIdMark(offset) => {
+            write!(out, "{offset}\t{{\"keytype\":\"ID_MARK\",\"magic\":0}}\t")
+        }
     }
 }
 
@@ -81,14 +87,17 @@ fn write_value(out: &mut String, line: Line) -> Result<(), AllocError> {
         Line::Deleted(_, subject, version, id, name) => {
             write_schema(out, (subject, version), id, name, true)
         }
-        Line::Tombstone(..) | Line::Undelete(..) | Line::NoLevel(..) | Line::Noop(_) => {
-            write!(out, "null\n")
-        }
+        Line::Tombstone(..)
+        | Line::Undelete(..)
+        | Line::NoLevel(..)
+        | Line::Noop(_)
+        | Line::NoIdMark(_) => write!(out, "null\n"),
         Line::Unreadable(_, _, _) => write!(out, "{{}}\n"),
         Line::Delete(_, subject, version) => {
             write!(out, "{{\"subject\":\"{subject}\",\"version\":{version}}}\n")
         }
         Line::Level(_, _, name) => write!(out, "{{\"compatibilityLevel\":\"{name}\"}}\n"),
+        Line::IdMark(_, id) => write!(out, "{{\"id\":{id}}}\n"),
     }
 }
 

@@ -10,7 +10,7 @@ use plain::PlainRegistry;
 use reg_fold::Registry;
 use reg_records::{LogError, Record};
 use reg_set::RecordSet;
-use rows::{ENTRIES, LEVELS, LIVE};
+use rows::{ENTRIES, LEVELS, LIVE, MARKS};
 use side_by_side::is_like;
 use std::alloc::{AllocError, Global};
 
@@ -176,7 +176,7 @@ fn orders_hold(alloc: Global, row: &Row) -> Result<bool, LogError> {
 
 #[test]
 fn the_last_records_give_the_answers(rt: HostRuntime) {
-    let tables: [&[Row]; 3] = [&LIVE, &ENTRIES, &LEVELS];
+    let tables: [&[Row]; 4] = [&LIVE, &ENTRIES, &LEVELS, &MARKS];
     for rows in tables {
         for row in rows {
             assert!(rt; orders_hold(rt.alloc(), row) == Ok(true), "{}", row.what);

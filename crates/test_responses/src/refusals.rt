@@ -3,7 +3,7 @@ use reg_refusals::{Allow, Reason, Refusal, StoreFault};
 use std::alloc::{AllocError, Global};
 
 /// Refusals, each with its code, status, reason, or `-` where its code has but one, and message.
-const REFUSALS: [(Refusal, &str); 33] = [
+const REFUSALS: [(Refusal, &str); 34] = [
     (Refusal::BadRequest, "400 400 - | Bad Request"),
     (Refusal::NotFound, "404 404 - | Not Found"),
     (
@@ -85,6 +85,10 @@ const REFUSALS: [(Refusal, &str); 33] = [
     (
         Refusal::NotPermitted(Reason::VersionNeedsImport),
         "42205 422 version needs IMPORT | Operation not permitted: version needs IMPORT",
+    ),
+    (
+        Refusal::NotPermitted(Reason::IdIsNotAboveMark),
+        "42205 422 id is not above the mark | Operation not permitted: id is not above the mark",
     ),
     (
         Refusal::Store(StoreFault::Memory),

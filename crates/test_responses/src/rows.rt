@@ -5,7 +5,7 @@ use reg_modes::Mode;
 use reg_refusals::{Allow, Reason, Refusal, StoreFault};
 
 /// Refusals.
-pub const REFUSALS: [(Refusal, bool, &str); 42] = [
+pub const REFUSALS: [(Refusal, bool, &str); 43] = [
     (
         Refusal::BadRequest,
         true,
@@ -185,6 +185,11 @@ pub const REFUSALS: [(Refusal, bool, &str); 42] = [
         Refusal::NotPermitted(Reason::VersionNeedsImport),
         false,
         r#"HTTP/1.1 422 Unprocessable Entity|Content-Type: application/vnd.schemaregistry.v1+json|Content-Length: 78||{"error_code":42205,"message":"Operation not permitted: version needs IMPORT"}"#,
+    ),
+    (
+        Refusal::NotPermitted(Reason::IdIsNotAboveMark),
+        false,
+        r#"HTTP/1.1 422 Unprocessable Entity|Content-Type: application/vnd.schemaregistry.v1+json|Content-Length: 82||{"error_code":42205,"message":"Operation not permitted: id is not above the mark"}"#,
     ),
     (
         Refusal::Store(StoreFault::Memory),

@@ -12,8 +12,10 @@ use std::test::Fail;
 use std::thread::{self, Threads};
 use std::time::{Clock, Duration};
 
-/// What becomes of each batch, and of those after the last of them.
-static FATES: [Kept; 5] = [
+/// What becomes of the mark of ids that the log owes, then of each batch, and of those after the last of
+/// them.
+static FATES: [Kept; 6] = [
+    Kept::Taken,
     Kept::Declined(Lack::Memory),
     Kept::Taken,
     Kept::Declined(Lack::Numbers),
@@ -24,11 +26,12 @@ static FATES: [Kept; 5] = [
 /// The most turns that a batch is held, each a sleep of one millisecond.
 const TURNS: u64 = 10_000;
 
-/// Lets each batch wait until it is let go, and then does with it as the table says.
+/// Lets each batch wait until it is let go, and then does with it as the table says. The mark that the
+/// log owes doesn't wait, since nothing listens before it is taken.
 #[derive(Drop)]
 struct Scripted<'a, R> {
     rt: &'a R,
-    /// How many batches came.
+    /// How many batches came, with the mark.
     lent: &'a AtomicU64,
     is_let_go: &'a AtomicU64,
 }
@@ -40,7 +43,9 @@ impl<R: Clock> Keep for Scripted<'_, R> {
 
     fn keep(&mut self, _batch: &[Record]) -> Kept {
         let place = self.lent.fetch_add(1, Ordering::SeqCst);
-        await_flag(self.rt, self.is_let_go, 1);
+        if place > 0 {
+            await_flag(self.rt, self.is_let_go, 1);
+        }
         let place = usize::try_from(place).unwrap_or(FATES.len());
         FATES.get(place).copied().unwrap_or(Kept::Lost)
     }
@@ -114,7 +119,7 @@ fn visit<R: Clock + Net<Stream = TcpStream>>(
         told.push(ask(alloc, rt, *address, GET_VERSION)?)?;
     }
     let held = send(rt, addresses[0], SET_FULL)?;
-    await_flag(rt, lent, 1);
+    await_flag(rt, lent, 2);
     let behind = send(rt, addresses[0], REGISTER)?;
     told.push(ask(alloc, rt, addresses[0], GET_LEVEL)?)?;
     is_let_go.store(1, Ordering::SeqCst);

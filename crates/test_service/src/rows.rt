@@ -23,7 +23,7 @@ enum Sending {
 }
 
 /// What each client sends, and what it reads up to the end of the server's side.
-static ROWS: [(Sending, &str, &str); 13] = [
+static ROWS: [(Sending, &str, &str); 14] = [
     (
         Sending::Ended,
         "GET /subjects HTTP/1.1\r\nHost: a\r\n\r\n",
@@ -83,6 +83,12 @@ static ROWS: [(Sending, &str, &str); 13] = [
         Sending::Ended,
         "GET /subjects HTTP/1.1\r\nHost: a\r\n\r\n",
         "HTTP/1.1 200 OK\r\nContent-Type: application/vnd.schemaregistry.v1+json\r\nContent-Length: 5\r\n\r\n[\"s\"]",
+    ),
+    // The id of a schema that is deleted for good isn't given away again.
+    (
+        Sending::Ended,
+        "POST /subjects/u/versions HTTP/1.1\r\nHost: a\r\nContent-Length: 20\r\n\r\n{\"schema\":\"\\\"int\\\"\"}DELETE /subjects/u/versions/1 HTTP/1.1\r\nHost: a\r\n\r\nDELETE /subjects/u/versions/1?permanent=true HTTP/1.1\r\nHost: a\r\n\r\nPOST /subjects/t/versions HTTP/1.1\r\nHost: a\r\nContent-Length: 21\r\n\r\n{\"schema\":\"\\\"long\\\"\"}GET /schemas/ids/2 HTTP/1.1\r\nHost: a\r\n\r\n",
+        "HTTP/1.1 200 OK\r\nContent-Type: application/vnd.schemaregistry.v1+json\r\nContent-Length: 8\r\n\r\n{\"id\":2}HTTP/1.1 200 OK\r\nContent-Type: application/vnd.schemaregistry.v1+json\r\nContent-Length: 1\r\n\r\n1HTTP/1.1 200 OK\r\nContent-Type: application/vnd.schemaregistry.v1+json\r\nContent-Length: 1\r\n\r\n1HTTP/1.1 200 OK\r\nContent-Type: application/vnd.schemaregistry.v1+json\r\nContent-Length: 8\r\n\r\n{\"id\":3}HTTP/1.1 404 Not Found\r\nContent-Type: application/vnd.schemaregistry.v1+json\r\nContent-Length: 49\r\n\r\n{\"error_code\":40403,\"message\":\"Schema not found\"}",
     ),
     (Sending::Ended, "", ""),
 ];

@@ -59,8 +59,8 @@ command 0 published delete_all s
 command 0 published register s int"#,
         entries: r#"X 1 s 1 1 "int"
 X 3 s 3 3 "string"
-X 23 s 4 4 "bytes"
-S 26 s 5 1 "int"
+X 24 s 4 4 "bytes"
+S 28 s 5 1 "int"
 "#,
     },
     Row {
@@ -74,8 +74,8 @@ command 0 published register t long
 command 0 published delete_all r
 command 0 published set_mode+ * IMPORT
 command 0 published import r 7 1 double"#,
-        entries: r#"S 9 r 1 7 "double"
-S 6 t 1 2 "long"
+        entries: r#"S 12 r 1 7 "double"
+S 8 t 1 2 "long"
 "#,
     },
 ];

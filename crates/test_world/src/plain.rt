@@ -5,13 +5,13 @@ use base_text::Text;
 use reg_fold::Registry;
 use reg_leader::{Command, Decision, decide};
 use reg_lookup::{Query, answer};
-use reg_records::{Log, Record};
+use reg_records::{Key, Log, Record};
 use reg_world::{Event, Fate};
 use std::alloc::{AllocError, Global};
 
 #[derive(Drop)]
 pub(crate) struct Plain {
-    /// The base's records, and all that commands decided, lost ones too.
+    /// The base's records with the mark that they owe, and all that commands decided, lost ones too.
     pub written: Vec<Record>,
     pub log: Vec<Record>,
     kept: Vec<Record>,
@@ -67,6 +67,21 @@ pub(crate) fn registry_of(alloc: Global, records: &[Record]) -> Result<Registry,
     Ok(registry)
 }
 
+/// The mark of ids that a topic over those records begins with, where an entry's id is above theirs.
+fn due_marks(alloc: Global, records: &[Record], next: u64) -> Result<Vec<Record>, AllocError> {
+    let registry = registry_of(alloc, records)?;
+    let greatest = registry.greatest_id().unwrap_or(0);
+    let mut due = Vec::new(alloc);
+    if registry.mark() < greatest {
+        due.push(Record {
+            offset: next,
+            key: Key::IdMark,
+            value: Some(Text::from(format!(in alloc; "{{\"id\":{greatest}}}")?)),
+        })?;
+    }
+    Ok(due)
+}
+
 fn answer_over(alloc: Global, registry: &Registry, query: &Query) -> Result<String, AllocError> {
     let found = answer(alloc, registry, query)?;
     answer_text(alloc, &found)
@@ -95,9 +110,12 @@ impl Plain {
     }
 
     fn begin(&mut self, alloc: Global, base: &[Record], count: usize) -> Result<(), AllocError> {
+        let due = due_marks(alloc, base, self.next)?;
         push_all(&mut self.written, base)?;
+        push_all(&mut self.written, &due)?;
         push_all(&mut self.log, base)?;
         push_all(&mut self.kept, base)?;
+        self.stand(&due, Fate::Published)?;
         for _ in 0..count {
             self.nodes.push(Vec::new(alloc))?;
         }

@@ -2,7 +2,8 @@
 // which is the name of a primitive type; `X` the same, where the value says that it is deleted; `N` a
 // subject and version without a value; `U` one whose value can't be read; `D` a subject and the
 // greatest version of a soft delete; `C` and `M` a scope and the name of a level or a mode, where `*`
-// is all subjects and `-` no value; `O` is a record of no meaning.
+// is all subjects and `-` no value; `I` the id up to which ids were given away, or `-`; `O` is a
+// record of no meaning.
 use reg_records::{Device, Log, LogError, read_log};
 use std::alloc::{AllocError, Global};
 
@@ -78,6 +79,15 @@ fn write_setting(
     write_name(out, member, name)
 }
 
+fn write_mark(out: &mut String, id: &str) -> Result<(), AllocError> {
+    out.push_str("{\"keytype\":\"ID_MARK\",\"magic\":0}\t")?;
+    if id == "-" {
+        out.push_str("null")
+    } else {
+        write!(out, "{{\"id\":{id}}}")
+    }
+}
+
 /// The key and the value of a record, with a TAB between them.
 fn write_fields(out: &mut String, kind: &str, rest: &str) -> Result<(), AllocError> {
     match kind {
@@ -88,6 +98,7 @@ fn write_fields(out: &mut String, kind: &str, rest: &str) -> Result<(), AllocErr
         "D" => write_delete(out, rest),
         "C" => write_setting(out, rest, "CONFIG", "compatibilityLevel"),
         "M" => write_setting(out, rest, "MODE", "mode"),
+        "I" => write_mark(out, rest),
         _ => out.push_str("{\"keytype\":\"NOOP\",\"magic\":0}\tnull"),
     }
 }

@@ -19,7 +19,7 @@ struct Script {
     lines: &'static str,
 }
 
-static SCRIPTS: [Script; 7] = [
+static SCRIPTS: [Script; 9] = [
     Script {
         what: "two nodes",
         nodes: 2,
@@ -96,20 +96,24 @@ take 0 4 => done
 lookup 0 versions s => 404 {"error_code":40401,"message":"Subject not found"}
 lookup 0 versions+ s => 200 [1]
 command 0 unsettled delete+ s 1 => unsettled 4
-N 4 s 1
+I 4 3
+N 5 s 1
 compact 5 => not allowed
+compact 6 => not allowed
 take 0 5 => not allowed
+take 0 6 => not allowed
 compact 0 4 => done
-take 0 5 => done
+take 0 6 => done
 take 0 0 => not allowed
 take 0 4 => not allowed
 lookup 0 versions+ s => 404 {"error_code":40401,"message":"Subject not found"}
-compact 5 => not allowed
-command 0 unsettled register s string => unsettled 5
-S 5 s 1 4 string
+compact 6 => not allowed
+command 0 unsettled register s string => unsettled 6
+S 6 s 1 4 string
 compact => done
-compact 5 => done
-take 0 6 => done
+compact 5 => not allowed
+compact 6 => done
+take 0 7 => done
 lookup 0 id 4 => 200 {"schema":"\"string\""}"#,
     },
     Script {
@@ -123,6 +127,7 @@ N 4 t 1"#,
 S 2 s 1 1 long
 S 9 s 1 1 int
 N 2 s 1
+I 5 1
 command 2 published register u bytes => not allowed
 command 2 unsettled register u bytes => not allowed
 command 2 lost register u bytes => not allowed
@@ -130,6 +135,7 @@ compact 4 => not allowed
 compact 5 => not allowed
 compact 6 => not allowed
 compact 7 => not allowed
+compact 8 => not allowed
 compact 0 4 => not allowed
 compact 4 0 => not allowed
 compact 1 => not allowed
@@ -165,8 +171,8 @@ take 1 2 1 => not allowed
 take 1 3 1 => done
 command 2 published register u bytes => not allowed
 command 0 published register u bytes => id 2
-S 5 u 1 2 bytes
-take 1 8 => done
+S 6 u 1 2 bytes
+take 1 8 9 => done
 lookup 1 subjects => 200 ["s","u"]
 lookup 0 subjects => 200 ["s","t"]
 merge 0 1 => done
@@ -198,7 +204,8 @@ S 6 t 2 2 int
 D 7 t 1
 C 3 * NONE
 C 2 * FULL"#,
-        lines: r#"take 0 0 => done
+        lines: r#"I 8 2
+take 0 0 => done
 lookup 0 id 1 => 200 {"schema":"\"int\""}
 take 1 1 => done
 lookup 1 id 1 => 200 {"schema":"\"long\""}
@@ -224,22 +231,25 @@ take 0 6 => done
 lookup 0 level * => 200 {"compatibilityLevel":"NONE"}
 take 0 7 => not allowed
 command 0 published register s bytes => id 3
-S 8 s 2 3 bytes
-take 1 8 => done
+S 9 s 2 3 bytes
+take 1 9 => done
 lookup 1 versions s => 200 [1,2]
 lookup 0 versions s => 200 [1]
 command 1 published delete_all s => versions 1 2
-D 9 s 2
+D 10 s 2
+compact 8 => not allowed
 command 1 published delete_all+ s => versions 1 2
-N 10 s 1
-N 11 s 2
-take 2 11 => done
+I 11 3
+N 12 s 1
+N 13 s 2
+take 2 13 => done
 lookup 2 versions+ s => 200 [1]
-take 2 10 => done
+take 2 12 => done
 lookup 2 versions+ s => 404 {"error_code":40401,"message":"Subject not found"}
-compact 10 => not allowed
 compact 11 => not allowed
-compact 1 8 => done"#,
+compact 12 => not allowed
+compact 13 => not allowed
+compact 1 8 9 => done"#,
     },
     Script {
         what: "a node begins anew between its takes",
@@ -290,6 +300,62 @@ lookup 0 level s => 200 {"compatibilityLevel":"NONE"}
 lookup 1 level s => 200 {"compatibilityLevel":"NONE"}
 lookup 0 mode t => 200 {"mode":"READONLY"}
 lookup 1 mode t => 200 {"mode":"READONLY"}"#,
+    },
+    Script {
+        what: "ids that are never used again",
+        nodes: 1,
+        base: "S 0 s 1 2 int",
+        lines: r#"I 1 2
+command 0 published register t long => id 3
+S 2 t 1 3 long
+command 0 published delete t 1 => version 1
+X 3 t 1 3 long
+command 0 published delete+ t 1 => version 1
+I 4 3
+N 5 t 1
+command 0 published register t bytes => id 4
+S 6 t 1 4 bytes
+command 0 published set_mode+ * IMPORT => mode IMPORT
+M 7 * IMPORT
+command 0 published import u 3 1 long => 42205 Operation not permitted: id is not above the mark
+command 0 published import u 0 1 long => 42205 Operation not permitted: id is not above the mark
+command 0 published import u 2 1 int => id 2
+S 8 u 1 2 int
+command 0 published import u 9 2 long => id 9
+S 9 u 2 9 long
+command 0 published delete_all u => versions 1 2
+D 10 u 2
+command 0 published import u 10 2 double => id 10
+I 11 9
+S 12 u 2 10 double
+command 0 published import u 9 3 long => 42205 Operation not permitted: id is not above the mark
+command 0 published set_mode * READWRITE => mode READWRITE
+M 13 * READWRITE
+command 0 published register v float => id 11
+S 14 v 1 11 float
+take 0 0 1 2 3 4 5 6 8 9 10 11 12 14 => done
+lookup 0 subjects+ => 200 ["s","t","u","v"]
+lookup 0 versions t => 200 [1]
+lookup 0 versions u => 200 [2]
+lookup 0 id 4 => 200 {"schema":"\"bytes\""}
+lookup 0 id 10 => 200 {"schema":"\"double\""}
+compact 1 4 => done
+compact 11 => not allowed
+take 0 4 => not allowed"#,
+    },
+    Script {
+        what: "a base whose last mark has no value",
+        nodes: 1,
+        base: r#"S 1 s 1 3 int
+I 2 9
+I 3 -"#,
+        lines: r#"I 4 3
+command 0 published register t long => id 4
+S 5 t 1 4 long
+take 0 0 4 => done
+lookup 0 id 4 => 200 {"schema":"\"long\""}
+compact 3 => not allowed
+compact 1 2 => done"#,
     },
     Script {
         what: "the last offset",
@@ -454,7 +520,7 @@ fn events_have_their_outcomes(rt: HostRuntime) -> Result<(), Fail> {
 }
 
 /// Bases, and why no world starts over them.
-static BASES: [(&str, Option<AdoptError>); 6] = [
+static BASES: [(&str, Option<AdoptError>); 9] = [
     ("", None),
     ("S 1 s 1 1 int\nS 2 t 1 1 int", None),
     ("U 3 s 1\nS 4 s 1 1 int", None),
@@ -467,6 +533,12 @@ static BASES: [(&str, Option<AdoptError>); 6] = [
         "S 4 s 1 3 int\nS 5 t 1 3 long\nU 6 u 1",
         Some(AdoptError::Opaque(6)),
     ),
+    ("S 9223372036854775806 s 1 3 int", None),
+    (
+        "S 9223372036854775807 s 1 3 int\nI 4 2",
+        Some(AdoptError::NumbersUsedUp),
+    ),
+    ("S 9223372036854775807 s 1 3 int\nI 4 3", None),
 ];
 
 fn refusal_of(alloc: Global, base: &str) -> Result<Option<AdoptError>, Fail> {

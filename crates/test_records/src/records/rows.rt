@@ -28,7 +28,11 @@ pub(crate) static AS_WRITTEN: &str =
 
 {"keytype":"NOOP","magic":0}|null
 =
-nothing"#;
+nothing
+
+{"keytype":"ID_MARK","magic":0}|{"id":2147483647}
+=
+{"id":2147483647}"#;
 
 /// Keys in other spellings.
 pub(crate) static OTHER_KEYS: &str =
@@ -54,6 +58,10 @@ nothing
 
 {"keytype":"CONFIG","keytype":"NOOP"}|{}
 {"keytype":"NOOP","magic":0}
+nothing
+
+{"magic":7,"subject":1,"keytype":"ID_MARK"}|{}
+{"keytype":"ID_MARK","magic":0}
 nothing"#;
 
 /// Values in other spellings, and those that say nothing.
@@ -167,6 +175,38 @@ nothing
 nothing
 
 {"keytype":"DELETE_SUBJECT","subject":"s","magic":0}|{"subject":"s","version":0}
+=
+nothing
+
+{"keytype":"ID_MARK","magic":0}|{"more":[],"id":1}
+=
+{"id":1}
+
+{"keytype":"ID_MARK","magic":0}|{"id":0}
+=
+nothing
+
+{"keytype":"ID_MARK","magic":0}|{"id":2147483648}
+=
+nothing
+
+{"keytype":"ID_MARK","magic":0}|{"id":1.0}
+=
+nothing
+
+{"keytype":"ID_MARK","magic":0}|{"id":"1"}
+=
+nothing
+
+{"keytype":"ID_MARK","magic":0}|{}
+=
+nothing
+
+{"keytype":"ID_MARK","magic":0}|[1]
+=
+nothing
+
+{"keytype":"ID_MARK","magic":0}|null
 =
 nothing"#;
 

@@ -12,6 +12,10 @@ pub(crate) enum Ask {
     /// The offset and the text of what an id names, and whether it is soft.
     Named(u32),
     GreatestId,
+    /// The mark of ids.
+    Mark,
+    /// The greatest id that is marked or that an entry has.
+    LastId,
     GreatestVersion(&'static str),
     /// The least id of a schema.
     IdOf(&'static str),
@@ -28,6 +32,8 @@ pub(crate) fn answer(alloc: Global, registry: &Registry, ask: Ask) -> Result<Str
         Ask::Live(subject) => versions(alloc, &registry.live(subject)?),
         Ask::Named(id) => named(alloc, registry.by_id(id)),
         Ask::GreatestId => number(alloc, registry.greatest_id()),
+        Ask::Mark => number(alloc, Some(registry.mark())),
+        Ask::LastId => number(alloc, Some(registry.last_id())),
         Ask::GreatestVersion(subject) => number(alloc, registry.greatest_version(subject)),
         Ask::IdOf(normal) => number(alloc, registry.id_of(normal)?),
         Ask::TwoSchemas => number(alloc, registry.two_schemas()),

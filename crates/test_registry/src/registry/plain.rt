@@ -49,7 +49,11 @@ fn reading_of(line: Line) -> Option<Said> {
         }
         Line::Delete(offset, subject, last) => (offset, subject, 0, last, ""),
         Line::Undelete(offset, subject) => (offset, subject, 0, 0, ""),
-        Line::Level(..) | Line::NoLevel(..) | Line::Noop(_) => return None,
+        Line::Level(..)
+        | Line::NoLevel(..)
+        | Line::Noop(_)
+        | Line::IdMark(..)
+        | Line::NoIdMark(_) => return None,
     };
     Some(Said {
         offset,
@@ -89,12 +93,28 @@ fn is_marked(lines: &[Line], entry: Said) -> bool {
     }
 }
 
+/// The id of the last mark, by its offset and then by its value; 0 where it can't be read, or has none.
+fn mark_of(lines: &[Line]) -> u32 {
+    let mut best = (0, false, 0);
+    for line in lines {
+        let said = match *line {
+            Line::IdMark(offset, id) => (offset, true, id),
+            Line::NoIdMark(offset) => (offset, false, 0),
+            _ => continue,
+        };
+        best = best.max(said);
+    }
+    best.2
+}
+
 #[derive(Drop)]
 pub(crate) struct PlainRegistry {
     /// By subject, then by version.
     pub entries: Vec<Said>,
     /// The least offset of a version that can't be read.
     pub opaque: Option<u64>,
+    /// The mark of ids.
+    pub mark: u32,
 }
 
 impl PlainRegistry {
@@ -103,6 +123,7 @@ impl PlainRegistry {
         let mut registry = PlainRegistry {
             entries: Vec::new(alloc),
             opaque: None,
+            mark: mark_of(lines),
         };
         registry.fill(lines)?;
         Ok(registry)

@@ -1,10 +1,12 @@
 // Small logs, and what a registry over them answers.
 use super::Row;
 use super::answers::Ask::{
-    GreatestId, GreatestVersion, IdOf, InForce, IsClosed, Live, Named, Opaque, TwoSchemas, Versions,
+    GreatestId, GreatestVersion, IdOf, InForce, IsClosed, LastId, Live, Mark, Named, Opaque,
+    TwoSchemas, Versions,
 };
 use crate::lines::Line::{
-    Delete, Deleted, Level, NoLevel, Noop, Schema, Tombstone, Undelete, Unreadable,
+    Delete, Deleted, IdMark, Level, NoIdMark, NoLevel, Noop, Schema, Tombstone, Undelete,
+    Unreadable,
 };
 
 const INT: &str = "\"int\"";
@@ -100,6 +102,54 @@ pub(crate) static LIVE: [Row; 11] = [
         what: "A record is taken after a younger one of no operation",
         lines: &[Noop(9), Schema(1, "s", 1, 1, "int")],
         answers: &[(Live("s"), " 1")],
+    },
+];
+
+/// Up to which id ids were given away.
+pub(crate) static MARKS: [Row; 7] = [
+    Row {
+        what: "Without a mark it is 0",
+        lines: &[Schema(1, "s", 1, 7, "int")],
+        answers: &[(Mark, "0"), (LastId, "7")],
+    },
+    Row {
+        what: "The last mark counts, also where an earlier one is greater",
+        lines: &[IdMark(2, 9), IdMark(5, 3)],
+        answers: &[(Mark, "3"), (LastId, "3"), (GreatestId, "none")],
+    },
+    Row {
+        what: "One that can't be read marks none, and closes nothing",
+        lines: &[Schema(1, "s", 1, 1, "int"), IdMark(2, 9), IdMark(5, 0)],
+        answers: &[
+            (Mark, "0"),
+            (LastId, "1"),
+            (Opaque, "none"),
+            (IsClosed, "false"),
+        ],
+    },
+    Row {
+        what: "One without a value marks none",
+        lines: &[IdMark(2, 9), NoIdMark(5)],
+        answers: &[(Mark, "0"), (LastId, "0")],
+    },
+    Row {
+        what: "A mark below the greatest id stays",
+        lines: &[Schema(1, "s", 1, 7, "int"), IdMark(2, 3)],
+        answers: &[(Mark, "3"), (GreatestId, "7"), (LastId, "7")],
+    },
+    Row {
+        what: "A mark stays where the version goes",
+        lines: &[
+            Schema(1, "s", 1, 7, "int"),
+            IdMark(2, 7),
+            Tombstone(3, "s", 1),
+        ],
+        answers: &[(Mark, "7"), (GreatestId, "none"), (LastId, "7")],
+    },
+    Row {
+        what: "Of two marks at one offset the one with the greater text is last",
+        lines: &[IdMark(2, 21), IdMark(2, 3)],
+        answers: &[(Mark, "3")],
     },
 ];
 

@@ -19,7 +19,7 @@ fn line(draws: &mut Draws, offsets: u64) -> Line {
     let version = draws.small(NUMBERS - 1).saturating_add(1);
     let number = draws.small(NUMBERS);
     let name = one_of(draws, &NAMES);
-    match draws.below(16) {
+    match draws.below(19) {
         0 => Line::Level(offset, "null", "FULL"),
         1 => Line::NoLevel(offset, "null"),
         2 => Line::Undelete(offset, subject),
@@ -28,6 +28,8 @@ fn line(draws: &mut Draws, offsets: u64) -> Line {
         6 | 7 => Line::Tombstone(offset, subject, version),
         8 => Line::Unreadable(offset, subject, version),
         9 | 10 => Line::Deleted(offset, subject, version, number, name),
+        11 | 12 => Line::IdMark(offset, number),
+        13 => Line::NoIdMark(offset),
         _ => Line::Schema(offset, subject, version, number, name),
     }
 }
@@ -80,6 +82,7 @@ fn have_ids(registry: &Registry, plain: &PlainRegistry) -> bool {
     registry.greatest_id() == plain.greatest_id()
         && registry.two_schemas() == plain.two_schemas()
         && registry.opaque() == plain.opaque
+        && registry.mark() == plain.mark
 }
 
 fn have_subjects(registry: &Registry, plain: &PlainRegistry) -> Result<bool, AllocError> {

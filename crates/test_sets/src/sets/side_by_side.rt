@@ -8,7 +8,7 @@ use reg_set::{LastRecords, RecordSet, Taken, is_compaction_of};
 use std::alloc::{AllocError, Global};
 
 /// Keys in their order, some of whose subjects share a beginning, and some have what JSON escapes.
-pub(super) static KEYS: [&str; 24] = [
+pub(super) static KEYS: [&str; 25] = [
     r#"{"keytype":"SCHEMA","subject":"","version":1,"magic":1}"#,
     r#"{"keytype":"SCHEMA","subject":"","version":10,"magic":1}"#,
     r#"{"keytype":"SCHEMA","subject":"s","version":1,"magic":1}"#,
@@ -33,6 +33,7 @@ pub(super) static KEYS: [&str; 24] = [
     r#"{"keytype":"DELETE_SUBJECT","subject":"s","magic":0}"#,
     r#"{"keytype":"DELETE_SUBJECT","subject":"s\n","magic":0}"#,
     r#"{"keytype":"NOOP","magic":0}"#,
+    r#"{"keytype":"ID_MARK","magic":0}"#,
 ];
 
 fn line(draws: &mut Draws, offsets: u64) -> Line<'static> {

@@ -23,5 +23,5 @@ returns c text read is foreign =
           ∙ ap (λ (n : ℕ). counts_by (length (records_in read)) n log.next es) is.foreign
           ∙ ap (λ (n : ℕ). counts_by (length (records_in read)) (count_by is_foreign read) n es) is.next;
       foreign = foreign;
-      obstacles = c.in_ok-obstacles_in.ensures ∙ ap obstacles set;
+      obstacles = c.in_ok-obstacles_in.ensures ∙ ap (λ (rs : Records). obstacles rs log.next) set ∙ ap (obstacles (lasts_in read)) is.next;
     }

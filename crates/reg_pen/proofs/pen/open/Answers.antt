@@ -1,16 +1,18 @@
 use Rattle.std.proofs.Common.{rules, ◌≡◌, ◌++◌, false, [], refl, sym, subst, List}
-use Rattle.reg_fold.specs.Closed.{is_closed}
-use Rattle.reg_topic.specs.Topic.{IsAdopted, registry_of, topic_from}
+use Rattle.reg_topic.specs.Topic.{IsAdopted, topic_from}
 use Rattle.reg_topic.specs.declared.published.Item.{Item}
+use Rattle.reg_topic.specs.declared.topic.Topic.{Topic}
 use Rattle.reg_shared.specs.Held.{Held, base_of, held_of}
 use Rattle.reg_pen.specs.Pen.{IsPen, batches}
+use Rattle.reg_pen.proofs.Begun.{base_whole}
 use Rattle.reg_pen.proofs.pen.open.Goals as goal
 
 pub invariant_of-pen : goal.invariant_of-pen
 invariant_of-pen g c =
     let b = c.args.base.now in
-    let same : g.N.FeedName.first ≡ held_of (topic_from b.records.items b.next) = search rules in
-    let lists : c.in-Ok.writer.value ≡ ([], []) = search rules in
-    let fine : is_closed (registry_of (topic_from b.records.items b.next)) ≡ false = c.in_ok-shared.ensures.takes_commands in
-    let adopted : IsAdopted (base_of g.N.FeedName.first) = subst (λ (h : Held). IsAdopted (base_of h)) (sym same) (c.adopted_logs_begin.ensures b.records.items b.next b.ahead fine) in
+    let topic : Topic = topic_from b.records.items b.next in
+    let same : g.N.FeedName.first ≡ held_of topic = search rules in
+    let lists : c.in_ok-writer-2.writer.value ≡ ([], []) = search rules in
+    let begun : IsAdopted topic = c.adopted_logs_begin.ensures b.records.items b.next b.ahead c.in_ok-begun.ensures.takes_commands in
+    let adopted : IsAdopted (base_of g.N.FeedName.first) = subst (λ (h : Held). IsAdopted (base_of h)) (sym same) (subst IsAdopted (sym (base_whole topic begun.whole)) begun) in
     subst (λ (l : List Item × List Item). IsPen (base_of g.N.FeedName.first) l.0 (l.1 ++ []) × (l.1 ++ [] ≡ []) × (0 ≡ batches l.0)) (sym lists) (record { adopted = adopted; lawful = tt; pends = tt }, refl, refl)

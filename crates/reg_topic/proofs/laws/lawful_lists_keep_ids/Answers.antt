@@ -2,7 +2,12 @@ use Rattle.reg_topic.proofs.Promises.{keep_ids, stay_open}
 use Rattle.reg_topic.proofs.laws.lawful_lists_keep_ids.Goals as goal
 
 pub returns-clause-open : goal.returns-clause-open
-returns-clause-open c = stay_open c.steps_stay_open.ensures.stay
+returns-clause-open c =
+    let o = c.records_are_ordered.ensures in
+    stay_open o.all o.apart c.batches_go_on.ensures c.steps_stay_open.ensures.stay
 
 pub returns-clause-ids : goal.returns-clause-ids
-returns-clause-ids c = keep_ids c.steps_stay_open.ensures.stay c.two_schemas_is_least.ensures.none
+returns-clause-ids c =
+    let o = c.records_are_ordered.ensures in
+    let taken = c.steps_keep_taken.ensures in
+    keep_ids o.all o.apart c.batches_go_on.ensures c.steps_stay_open.ensures.stay taken.entries taken.kept

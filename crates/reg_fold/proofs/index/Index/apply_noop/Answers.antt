@@ -2,7 +2,7 @@ use Rattle.std.proofs.Common.{ap, sym, ◌∙◌}
 use Rattle.reg_fold.specs.Opaque.{is_opaque, is_version}
 use Rattle.reg_fold.specs.Remarked.{is_delete}
 use Rattle.reg_fold.specs.Spots.{is_deleted}
-use Rattle.reg_fold.proofs.Owned.{is_config, is_mode, levels-stay, modes-stay}
+use Rattle.reg_fold.proofs.Owned.{is_config, is_id_mark, is_mode, levels-stay, mark-stays, modes-stay}
 use Rattle.reg_fold.proofs.Spotted.{spots-other}
 use Rattle.reg_fold.proofs.Steps.{entries-other}
 use Rattle.reg_fold.proofs.index.Index.apply_noop.Goals as goal
@@ -20,4 +20,5 @@ returns-clause-kept c =
       all_deleted = spots-other is_deleted old.last after r step no_version old.deleted c.requires.kept.all_deleted;
       all_levels = levels-stay old.last after r step old.levels c.requires.kept.all_levels (ap is_config c.requires.of_key);
       all_modes = modes-stay old.last after r step old.modes c.requires.kept.all_modes (ap is_mode c.requires.of_key);
+      the_mark = c.requires.kept.the_mark ∙ sym (mark-stays old.last after r step (ap is_id_mark c.requires.of_key));
     }

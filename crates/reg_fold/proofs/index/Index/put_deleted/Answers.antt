@@ -6,11 +6,12 @@ use Rattle.reg_set.specs.Records.{Records}
 use Rattle.reg_entries.specs.EntryOrder.{place_cmp, place_of}
 use Rattle.reg_entries.specs.declared.entry.Entry.{Entry}
 use Rattle.reg_fold.specs.Entries.{entry_map}
+use Rattle.reg_fold.specs.IdMark.{id_mark}
 use Rattle.reg_fold.specs.InForce.{own_level, own_mode_name}
 use Rattle.reg_fold.specs.Opaque.{is_opaque}
 use Rattle.reg_fold.specs.Scopes.{AreOwn}
 use Rattle.reg_fold.specs.Spots.{Forgets, HasSpots, elsewhere, is_deleted, spot_cmp}
-use Rattle.reg_fold.proofs.Owned.{is_config, is_mode, levels-stay, modes-stay}
+use Rattle.reg_fold.proofs.Owned.{is_config, is_id_mark, is_mode, levels-stay, mark-stays, modes-stay}
 use Rattle.reg_fold.proofs.Spotted.{readable, spots-forgotten, spots-put, spots-taken_back}
 use Rattle.reg_fold.proofs.Steps.{entries-put}
 use Rattle.reg_fold.proofs.index.Index.put_deleted.Goals as goal
@@ -35,6 +36,7 @@ returns-in-Ok-clause-kept c =
           (subst (λ o. Forgets (elsewhere o r.offset) c.insert.new.self c.forget_elsewhere.new.spots) c.spot_of-spot.ensures c.forget_elsewhere.ensures);
       all_levels = levels-stay old.last after r last.step old.levels c.requires.kept.all_levels (ap is_config c.requires.of_key);
       all_modes = modes-stay old.last after r last.step old.modes c.requires.kept.all_modes (ap is_mode c.requires.of_key);
+      the_mark = c.requires.kept.the_mark ∙ sym (mark-stays old.last after r last.step (ap is_id_mark c.requires.of_key));
     }
 
 was_absent : (b : Bool) → not b ≡ true → b ≡ false
@@ -59,4 +61,5 @@ returns-then-is_new-clause-kept c =
           (spots-taken_back is_deleted old.last old.deleted c.insert.new.self c.remove.new.self (r.offset, place) c.requires.kept.all_deleted absent put c.remove.ensures.updates);
       all_levels = subst (λ (rs : Records). AreOwn (own_level rs) old.levels) (sym stay.lasts_stay) c.requires.kept.all_levels;
       all_modes = subst (λ (rs : Records). AreOwn (own_mode_name rs) old.modes) (sym stay.lasts_stay) c.requires.kept.all_modes;
+      the_mark = c.requires.kept.the_mark ∙ sym (ap id_mark stay.lasts_stay);
     }

@@ -5,7 +5,7 @@ use Rattle.reg_entries.specs.EntryOrder.{place_cmp}
 use Rattle.reg_entries.specs.declared.entry.Entry.{Entry}
 use Rattle.reg_fold.specs.Opaque.{is_opaque}
 use Rattle.reg_fold.specs.Spots.{Forgets, elsewhere, is_deleted, spot_cmp}
-use Rattle.reg_fold.proofs.Owned.{is_config, is_mode, levels-stay, modes-stay}
+use Rattle.reg_fold.proofs.Owned.{is_config, is_id_mark, is_mode, levels-stay, mark-stays, modes-stay}
 use Rattle.reg_fold.proofs.Spotted.{spots-forgotten, spots-put, unreadable}
 use Rattle.reg_fold.proofs.Steps.{entries-removed}
 use Rattle.reg_fold.proofs.index.Index.put_unread.Goals as goal
@@ -29,4 +29,5 @@ returns-clause-kept c =
           c.requires.own c.forget.new.spots (subst (λ o. Forgets o old.deleted c.forget.new.spots) c.spot_of-spot.ensures c.forget.ensures);
       all_levels = levels-stay old.last after r last.step old.levels c.requires.kept.all_levels (ap is_config c.requires.of_key);
       all_modes = modes-stay old.last after r last.step old.modes c.requires.kept.all_modes (ap is_mode c.requires.of_key);
+      the_mark = c.requires.kept.the_mark ∙ sym (mark-stays old.last after r last.step (ap is_id_mark c.requires.of_key));
     }

@@ -36,3 +36,7 @@ returns-in-DeleteSubject c = rw c.in-DeleteSubject.is (IfOk-weaker c.scope_key_t
 pub returns-in-Noop : goal.returns-in-Noop
 unfolding written_key escape_byte digits
 returns-in-Noop c = search rules
+
+pub returns-in-IdMark : goal.returns-in-IdMark
+unfolding written_key escape_byte digits
+returns-in-IdMark c = search rules

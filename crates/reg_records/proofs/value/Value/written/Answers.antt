@@ -2,7 +2,7 @@ use Rattle.std.proofs.Common.{◌≡◌, ◌∙◌, ◌++◌, ℕ, List, Some, c
 use Rattle.json.specs.Print.{escape_byte, quoted}
 use Rattle.reg_records.specs.declared.value.Value.TheVariants.{Config, Mode}
 use Rattle.reg_records.specs.Written.{written_value}
-use Rattle.reg_records.proofs.value.Value.written.Goals.{in-Schema+in_ok-text-in-Schema, in-Config+in_ok-text-in-Config, in-Mode+in_ok-text-in-Mode, in-DeleteSubject+in_ok-text-in-DeleteSubject}
+use Rattle.reg_records.proofs.value.Value.written.Goals.{in-Schema+in_ok-text-in-Schema, in-Config+in_ok-text-in-Config, in-Mode+in_ok-text-in-Mode, in-DeleteSubject+in_ok-text-in-DeleteSubject, in-IdMark+in_ok-text-in-IdMark}
 use Rattle.reg_records.proofs.value.Value.written.Goals as goal
 
 config_text : (level : List ℕ) → Some (codes "{\"" ++ codes "compatibilityLevel" ++ codes "\":" ++ quoted level ++ codes "}") ≡ written_value (Config level)
@@ -19,6 +19,7 @@ returns c = elim c.match-self.branch [
   | in-Config+in_ok-text-in-Config w ↦ rw w.in-Config.is (ap Some (w.text-is ∙ w.in_ok-text-in-Config.ensures) ∙ config_text _)
   | in-Mode+in_ok-text-in-Mode w ↦ rw w.in-Mode.is (ap Some (w.text-is ∙ w.in_ok-text-in-Mode.ensures) ∙ mode_text _)
   | in-DeleteSubject+in_ok-text-in-DeleteSubject w ↦ rw w.in-DeleteSubject.is (ap Some w.text-is ∙ w.in_ok-text-in-DeleteSubject.ensures)
+  | in-IdMark+in_ok-text-in-IdMark w ↦ rw w.in-IdMark.is (ap Some w.text-is ∙ w.in_ok-text-in-IdMark.ensures)
 ]
 
 pub returns-in-Noop : goal.returns-in-Noop

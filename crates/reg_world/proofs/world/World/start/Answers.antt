@@ -1,13 +1,30 @@
-use Rattle.std.proofs.Common.{◌≡◌, false, sym, subst}
+use Rattle.std.proofs.Common.{◌≡◌, List, false, ap, subst, sym, ◌∙◌}
+use Rattle.std.specs.FinSet.{from_list}
 use Rattle.reg_fold.specs.Closed.{is_closed}
-use Rattle.reg_topic.specs.Topic.{registry_of, topic_from}
+use Rattle.reg_leader.specs.Adoption.{HasPlace}
+use Rattle.reg_set.specs.LastRecords.{last_records}
+use Rattle.reg_topic.specs.Topic.{topic_from}
 use Rattle.reg_topic.specs.declared.topic.Topic.{Topic}
 use Rattle.reg_world.specs.State.{start}
+use Rattle.reg_world.proofs.Begun.{begun_is}
 use Rattle.reg_world.proofs.Courses.{IsReached, reached_at_start}
 use Rattle.reg_world.proofs.world.World.start.Goals as goal
+
+pub returns-clause-start : goal.returns-clause-start
+returns-clause-start c =
+    let b = c.args.base.now in
+    let begun : c.publish_due.new.topic ≡ topic_from b.records.items b.next =
+    begun_is b.records.items b.next c.in_ok-topic.topic c.publish_due.new.topic _ c.in_ok-topic.ensures (c.deref.ensures.value ∙ c.in_ok-registry.ensures.due) c.in_ok-publish_due.ensures.topic in
+    c.in_ok-cluster.ensures ∙ ap (λ (t : Topic). start t c.args.nodes) begun
+
+pub returns-clause-place : goal.returns-clause-place
+returns-clause-place c = subst (λ (t : Topic). HasPlace (last_records t.log) t.next) c.in_ok-topic.ensures c.in_ok-registry.ensures.place
 
 pub invariant_of-result : goal.invariant_of-result
 invariant_of-result c =
     let b = c.args.base.now in
-    let adopted = c.adopted_logs_begin.ensures b.records.items b.next b.ahead (subst (λ (t : Topic). is_closed (registry_of t) ≡ false) c.in_ok-topic.ensures c.in_ok-registry.ensures.takes_commands) in
-    subst IsReached (sym c.in_ok-cluster.ensures) (subst (λ (t : Topic). IsReached (start t c.args.nodes)) (sym c.in_ok-topic.ensures) (reached_at_start (topic_from b.records.items b.next) c.args.nodes adopted))
+    let begun : c.publish_due.new.topic ≡ topic_from b.records.items b.next =
+    begun_is b.records.items b.next c.in_ok-topic.topic c.publish_due.new.topic _ c.in_ok-topic.ensures (c.deref.ensures.value ∙ c.in_ok-registry.ensures.due) c.in_ok-publish_due.ensures.topic in
+    let fine : is_closed (last_records (from_list b.records.items)) ≡ false = subst (λ (t : Topic). is_closed (last_records t.log) ≡ false) c.in_ok-topic.ensures c.in_ok-registry.ensures.takes_commands in
+    let adopted = c.adopted_logs_begin.ensures b.records.items b.next b.ahead fine in
+    subst IsReached (sym c.in_ok-cluster.ensures) (subst (λ (t : Topic). IsReached (start t c.args.nodes)) (sym begun) (reached_at_start (topic_from b.records.items b.next) c.args.nodes adopted))

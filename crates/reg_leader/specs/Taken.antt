@@ -1,0 +1,34 @@
+-- Ids that were given away stay so.
+use Rattle.std.specs.Prelude.{◌≡◌, ◌⊎◌, ◌≤◌, ◌<◌, ℕ, List, true, false}
+use Rattle.std.specs.FinSet.{contains}
+use Rattle.std.specs.List.{Contains}
+use Rattle.reg_entries.specs.declared.entry.Entry.{Entry}
+use Rattle.reg_fold.specs.Closed.{is_closed}
+use Rattle.reg_fold.specs.Entries.{entries}
+use Rattle.reg_fold.specs.IdMark.{id_mark}
+use Rattle.reg_records.specs.declared.record.Record.{Record}
+use Rattle.reg_set.specs.LastRecords.{last_records}
+use Rattle.reg_set.specs.Records.{Records}
+use Rattle.reg_leader.specs.StayOpen.{last_after}
+use Rattle.reg_leader.specs.Step.{IsStep}
+use Rattle.reg_leader.specs.declared.command.Command.{Command}
+use Rattle.reg_leader.specs.declared.reply.Reply.{Reply}
+
+-- the id is that schema's: no entry has it with another one, and it has an entry or is at most the mark, so that it is given to no other
+pub record IsTaken (rs : Records) (id : ℕ) (normal : List ℕ) : Type 0 where
+  pub no_other : (e : Entry) → Contains (entries rs) e → e.id ≡ id → e.normal ≡ normal
+  pub is_kept : ((e : Entry) × Contains (entries rs) e × (e.id ≡ id)) ⊎ (id ≤ id_mark rs)
+
+-- the id of an entry is taken, in a registry that isn't closed
+abbrev pub EntriesTakeIds : Type 0
+EntriesTakeIds = (rs : Records) → is_closed rs ≡ false → (e : Entry) → Contains (entries rs) e → IsTaken rs e.id e.normal
+
+-- all records have offsets below n
+abbrev pub AreBelow : Records → ℕ → Type 0
+AreBelow log n = (r : Record) → contains log r ≡ true → r.offset < n
+
+-- what is taken stays so when a step's batch is applied, at offsets above all others
+abbrev pub StepsKeepTaken : Type 0
+StepsKeepTaken = (log : Records) (n : ℕ) (c : Command) (reply : Reply) (batch : List Record)
+    → is_closed (last_records log) ≡ false → AreBelow log n → IsStep (last_records log) n c reply batch
+    → (id : ℕ) (normal : List ℕ) → IsTaken (last_records log) id normal → IsTaken (last_after log batch) id normal

@@ -1,0 +1,30 @@
+// The marks of ids that commands write first.
+ghost use Rattle.std.specs.Prelude.{◌≡◌, IfOk, option_copied};
+ghost use Rattle.reg_leader.specs.Step.{mark_over, marked};
+
+use reg_fold::{Entry, Registry};
+use reg_rules::Writing;
+use std::alloc::{AllocError, Global};
+
+/// The mark of ids that is written where an entry is removed or written over.
+pub(crate) fn marked(registry: &Registry) -> Writing
+    ensures { result ≡ marked registry.now }
+{
+    Writing::id_marked(registry.last_id())
+}
+
+/// What is written before a version of that id: a mark, where an entry of another id stands in the
+/// place.
+pub(crate) fn mark_over(
+    alloc: Global,
+    registry: &Registry,
+    id: u32,
+    standing: Option<&Entry>,
+) -> Result<Vec<Writing>, AllocError>
+    ensures { IfOk result (λ first. first.items ≡ mark_over registry.now id (option_copied standing.entry)) }
+{
+    match standing {
+        Some(entry) if entry.id != id => Ok(vec![in alloc; marked(registry)]?),
+        _ => Ok(Vec::new(alloc)),
+    }
+}

@@ -1,0 +1,52 @@
+-- The offsets of a log stay below the next one.
+use Rattle.std.proofs.Common.{◌≡◌, ◌⊎◌, inl, inr, ℕ, suc, ◌+◌, ◌<◌, ◌==◌, Bool, true, false, ◌||◌, List, [], ◌∷◌, length, All, refl, sym, ap, ◌∙◌, arith, eqb-true}
+use Rattle.std.proofs.lemmas.Bool.{false≢true}
+use Rattle.std.proofs.lemmas.List.Elements.{All-head, All-tail}
+use Rattle.std.specs.Cmp.{IsTotalOrder}
+use Rattle.std.specs.FinSet.{contains, from_list, IsAntisymmetric, contains-from_list, contains-union}
+use Rattle.std.specs.List.{list_any}
+use Rattle.std.specs.Ordering.{eq_by_cmp}
+use Rattle.reg_records.specs.declared.record.Record.{Record}
+use Rattle.reg_set.specs.RecordOrder.{record_cmp}
+use Rattle.reg_leader.specs.OneStep.{goes_on}
+use Rattle.reg_leader.specs.Taken.{AreBelow}
+use Rattle.reg_topic.specs.Topic.{after_batch, after_drop}
+use Rattle.reg_topic.specs.declared.topic.Topic.{Topic}
+use Rattle.reg_topic.proofs.Compactions.{both_true, equal}
+
+pub either : (a b : Bool) → (a || b) ≡ true → (a ≡ true) ⊎ (b ≡ true)
+either true b h = inl refl
+either false b h = inr h
+
+pub below_drop : (b : Bool) (t : Topic) (ds : List Record) → AreBelow t.log t.next → AreBelow (after_drop b t ds).log (after_drop b t ds).next
+below_drop true t ds h = h
+below_drop false t ds h = h
+
+module _ (order : IsTotalOrder record_cmp) (apart : IsAntisymmetric record_cmp) where
+  pub below_list : (next : ℕ) (rs : List Record) → All (λ r. r.offset < next) rs → (q : Record) → list_any (eq_by_cmp record_cmp q) rs ≡ true → q.offset < next
+  below_list next [] all q any = absurd (false≢true any)
+  below_list next (r ∷ rs) all q any = elim (either (eq_by_cmp record_cmp q r) (list_any (eq_by_cmp record_cmp q) rs) any) as (λ _. q.offset < next) [
+    | inl e ↦
+        let at = ap (λ (x : Record). x.offset) (equal order apart q r e) in
+        let here = All-head (λ x. x.offset < next) r rs all in
+        omega (arith, at, here)
+    | inr rest ↦ below_list next rs (All-tail (λ x. x.offset < next) r rs all) q rest
+  ]
+
+  in_batch : (n : ℕ) (rs : List Record) (q : Record) → goes_on n rs ≡ true → list_any (eq_by_cmp record_cmp q) rs ≡ true → q.offset < n + length rs
+  in_batch n [] q on any = absurd (false≢true any)
+  in_batch n (r ∷ rs) q on any =
+      let parts = both_true (r.offset == n) (goes_on (suc n) rs) on in
+      elim (either (eq_by_cmp record_cmp q r) (list_any (eq_by_cmp record_cmp q) rs) any) as (λ _. q.offset < n + length (r ∷ rs)) [
+        | inl e ↦ let at = ap (λ (x : Record). x.offset) (equal order apart q r e) ∙ eqb-true r.offset n parts.0 in omega (arith, at)
+        | inr rest ↦ let h = in_batch (suc n) rs q parts.1 rest in omega (arith, h)
+      ]
+
+  -- where a batch is published, it goes on
+  pub below_batch : (b : Bool) (t : Topic) (batch : List Record) → (b ≡ true → goes_on t.next batch ≡ true) → AreBelow t.log t.next → AreBelow (after_batch b t batch).log (after_batch b t batch).next
+  below_batch false t batch on below q h = below q h
+  below_batch true t batch on below q h =
+      elim (either (contains t.log q) (contains (from_list {R = record_cmp} batch) q) (sym (contains-union order t.log (from_list batch) q) ∙ h)) as (λ _. q.offset < t.next + length batch) [
+        | inl old ↦ let k = below q old in omega (arith, k)
+        | inr new ↦ in_batch t.next batch q (on refl) (sym (contains-from_list order batch q) ∙ new)
+      ]
