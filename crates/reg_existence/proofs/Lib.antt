@@ -1,0 +1,9 @@
+pub mod FirstTrail
+pub mod Bounded
+pub mod Verdicts
+pub mod Reports
+pub mod Steps
+pub mod Events
+pub mod Singles
+pub mod Empty
+pub mod CatchingUp

@@ -1,0 +1,4 @@
+pub mod Verdicts
+pub mod Steps
+pub mod Events
+pub mod CatchingUp
