@@ -426,11 +426,8 @@ fn place_in(key: Key) -> (Text, u32)
 {
     match key {
         Key::Schema { subject, version } => (subject, version),
-        Key::Config(_)
-        | Key::Mode(_)
-        | Key::DeleteSubject(_)
-        | Key::Noop
-        | Key::IdMark => unreachable!(),
+        Key::Config(_) | Key::Mode(_) | Key::DeleteSubject(_) | Key::Noop | Key::IdMark =>
+            unreachable!(),
     }
 }
 

@@ -54,11 +54,7 @@ impl Key {
     {
         match self {
             Key::Schema { version, .. } => 1 <= *version && *version <= NUMBER_LIMIT,
-            Key::Config(_)
-            | Key::Mode(_)
-            | Key::DeleteSubject(_)
-            | Key::Noop
-            | Key::IdMark => true,
+            Key::Config(_) | Key::Mode(_) | Key::DeleteSubject(_) | Key::Noop | Key::IdMark => true,
         }
     }
 }
