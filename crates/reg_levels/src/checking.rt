@@ -52,7 +52,7 @@ fn check_each(
 }
 
 /// The old versions that a level looks at: none, the greatest, which stands last, or all.
-pub(crate) fn looked_at<T>(level: Level, olds: &[T]) -> &[T]
+pub fn looked_at<T>(level: Level, olds: &[T]) -> &[T]
     ensures { result.now ≡ pairs.looked_at level olds.now }
 {
     let first = match level {

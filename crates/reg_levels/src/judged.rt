@@ -57,6 +57,25 @@ impl Judged {
         })
     }
 
+    /// The judgement of a verdict that is the true one of these. Takes no memory.
+    pub fn of_parts(
+        level: Level,
+        new_text: Text,
+        olds: Listed<(u32, Text)>,
+        verdict: LevelVerdict,
+    ) -> Judged
+        requires { IsTrueVerdict level new_text olds verdict }
+        ensures made { IsMadeOf result level new_text olds }
+        ensures verdict { result.verdict ≡ verdict }
+    {
+        Judged {
+            level,
+            new_text,
+            olds,
+            verdict,
+        }
+    }
+
     /// The verdict, which is that of the texts. Takes no memory.
     pub fn verdict(&self) -> &LevelVerdict
         ensures verdict { result.now ≡ self.now.verdict }
@@ -92,8 +111,8 @@ fn judge(
     check_texts(alloc, level, &new, olds)
 }
 
-/// A copy of the versions and texts.
-fn copy_of(alloc: Global, olds: &[(u32, &str)]) -> Result<Listed<(u32, Text)>, AllocError>
+/// A copy of the versions and texts. The only error is want of memory.
+pub fn copy_of(alloc: Global, olds: &[(u32, &str)]) -> Result<Listed<(u32, Text)>, AllocError>
     ensures { IfOk result (λ copy. copy ≡ map (λ old. (old.0, old.1.now)) olds.now) }
 {
     let mut copy = Vec::new(alloc);

@@ -10,9 +10,9 @@ mod texts;
 mod verdict;
 mod versions;
 
-pub use checking::{check, level_verdicts_are_single};
+pub use checking::{check, level_verdicts_are_single, looked_at};
 pub use direction::Direction;
-pub use judged::Judged;
+pub use judged::{Judged, copy_of};
 pub use judged_error::JudgedError;
 pub use texts::{check_read_texts, check_texts};
 pub use verdict::LevelVerdict;

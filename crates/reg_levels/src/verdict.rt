@@ -34,7 +34,7 @@ impl LevelVerdict {
     }
 
     /// The level is met.
-    pub(crate) fn passed() -> LevelVerdict
+    pub fn passed() -> LevelVerdict
         ensures { result ≡ passed }
     {
         LevelVerdict {
@@ -46,7 +46,7 @@ impl LevelVerdict {
     }
 
     /// That version clashes in that direction.
-    pub(crate) fn failed(version: u32, direction: Direction, trail: Trail) -> LevelVerdict
+    pub fn failed(version: u32, direction: Direction, trail: Trail) -> LevelVerdict
         ensures { result ≡ record { ok = false; version = Some version; direction = Some direction; trail = Some trail } }
     {
         LevelVerdict {

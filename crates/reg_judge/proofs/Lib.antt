@@ -1,0 +1,6 @@
+pub mod Keeping
+pub mod Last
+pub mod Refused
+pub mod Runs
+pub mod Texts
+pub mod Using

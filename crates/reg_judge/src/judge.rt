@@ -1,0 +1,171 @@
+// A judge, and what it answers.
+ghost use Rattle.std.specs.Prelude.{◌≡◌, IsTrue, IfOk, IfErr, OnOk, OnErr, map};
+ghost use Rattle.reg_levels.specs.RequiredPairs.{HasRisingVersions};
+ghost use Rattle.reg_levels.specs.Judgement.{IsTrueVerdict, IsMadeOf};
+ghost use Rattle.reg_levels.specs.JudgedError.{IsJudgedRefusal};
+ghost use Rattle.reg_levels.specs.declared.verdict.LevelVerdict.{LevelVerdict as Verdict};
+ghost use Rattle.reg_judge.specs.LastJudged.{HasLastJudged};
+ghost use Rattle.reg_judge.specs.Judge.{HasUsed, IsCapacity, IsJudgeRefusal, has_pair, keeps_none, text_pairs};
+
+use crate::judge_error::JudgeError;
+use crate::judging::{Run, judge_each};
+use crate::schemas::{Schemas, keep, keep_olds, take, take_olds};
+use crate::verdicts::{Verdicts, keep_all};
+use avro_resolve::schemas_have_one_verdict;
+use base_text::Text;
+use lru::LruCache;
+use reg_level_names::Level;
+use reg_levels::{
+    Judged, JudgedError, LevelVerdict, copy_of, level_verdicts_are_single, looked_at,
+};
+use std::alloc::Global;
+use std::hash::RandomState;
+use std::marker::Model;
+use std::num::NonZeroUsize;
+
+/// The most schemas, and the most verdicts, that a judge keeps.
+pub const MOST_KEPT: usize = 65_536;
+
+/// A judge of levels, which keeps the schemas that it read last and the verdicts that it used last.
+///
+/// Contracts see the pairs of a reader's text and a writer's whose verdict it has, the one used
+/// last first, how many there may be, and whether each verdict of the last judgement was kept.
+#[derive(Drop)]
+pub struct Judge {
+    alloc: Global,
+    schemas: Schemas,
+    verdicts: Verdicts,
+    kept_all: bool,
+}
+
+impl Model for Judge {
+    ghost use Rattle.reg_judge.specs.Judge.{Keeping};
+    ghost use Rattle.reg_judge.specs.Kept.{AreSchemas, AreVerdicts, pairs_of};
+
+    ghost Value = { Keeping };
+
+    ghost view = { λ j. record { pairs = pairs_of j.verdicts.entries; capacity = j.verdicts.cap; kept_all = j.kept_all } };
+
+    ghost invariant = { λ j. AreSchemas j.schemas.entries × AreVerdicts j.verdicts.entries };
+}
+
+impl Judge {
+    /// A judge that keeps at most so many schemas and so many verdicts, each from 1 to `MOST_KEPT`.
+    ///
+    /// Its texts are found by hashes under these keys.
+    pub fn new(
+        alloc: Global,
+        keys: RandomState,
+        schemas: usize,
+        verdicts: usize,
+    ) -> Result<Judge, JudgeError>
+        ensures new { IfOk result (λ judge. judge ≡ keeps_none verdicts) }
+        ensures capacities { OnOk result (IsCapacity schemas × IsCapacity verdicts) }
+        ensures refused { IfErr result (IsJudgeRefusal schemas verdicts) }
+    {
+        if schemas > MOST_KEPT || verdicts > MOST_KEPT {
+            return Err(JudgeError::BadCapacity);
+        }
+        let (Some(schemas), Some(verdicts)) = (
+            NonZeroUsize::new(schemas),
+            NonZeroUsize::new(verdicts),
+        ) else {
+            return Err(JudgeError::BadCapacity);
+        };
+        Ok(Judge {
+            alloc,
+            schemas: LruCache::with_hasher(alloc, schemas, keys)?,
+            verdicts: LruCache::with_hasher(alloc, verdicts, keys)?,
+            kept_all: true,
+        })
+    }
+
+    /// Whether a new schema's text meets a level against old ones, which stand by ascending
+    /// version: as `Judged::make` judges it, whatever was asked before.
+    ///
+    /// Refused is the new text that is no schema's, else the first such old one. What memory is
+    /// refused for isn't kept, and changes no answer.
+    pub fn check(
+        &mut self,
+        level: Level,
+        new_text: &str,
+        olds: &[(u32, &str)],
+    ) -> Result<LevelVerdict, JudgedError>
+        requires { HasRisingVersions olds.now }
+        ensures verdict { IfOk result (IsTrueVerdict level new_text.now (map (λ old. (old.0, old.1.now)) olds.now)) }
+        ensures only { IfOk result (λ v. (u : Verdict) → IsTrueVerdict level new_text.now (map (λ old. (old.0, old.1.now)) olds.now) u → u ≡ v) }
+        ensures refused { IfErr result (IsJudgedRefusal new_text.now (map (λ old. (old.0, old.1.now)) olds.now)) }
+        ensures capacity { self.new.capacity ≡ self.old.capacity }
+        ensures used { OnOk result (IsTrue self.new.kept_all → HasUsed self.old.capacity
+            (text_pairs level new_text.now (map (λ old. (old.0, old.1.now)) olds.now)) self.old.pairs self.new.pairs) }
+        ensures unchanged { OnErr result (self.new ≡ self.old) }
+    {
+        schemas_have_one_verdict();
+        level_verdicts_are_single();
+        let Some(new) = take(self.alloc, &mut self.schemas, new_text)? else {
+            return Err(JudgedError::NewText);
+        };
+        let olds = take_olds(self.alloc, &mut self.schemas, olds)?;
+        let Run { verdict, used } = judge_each(
+            self.alloc,
+            &self.verdicts,
+            level,
+            &new,
+            looked_at(level, &olds),
+        )?;
+        keep_olds(&mut self.schemas, olds);
+        keep(&mut self.schemas, new);
+        self.kept_all = keep_all(&mut self.verdicts, used);
+        Ok(verdict)
+    }
+
+    /// The judgement of a new schema's text against old ones, which stand by ascending version: what
+    /// `Judged::make` makes of them, whatever was asked before.
+    ///
+    /// Refused is the new text that is no schema's, else the first such old one. What memory is
+    /// refused for isn't kept, and changes no answer.
+    pub fn make(
+        &mut self,
+        level: Level,
+        new_text: &str,
+        olds: &[(u32, &str)],
+    ) -> Result<Judged, JudgedError>
+        requires { HasRisingVersions olds.now }
+        ensures made { IfOk result (λ j. IsMadeOf j level new_text.now (map (λ old. (old.0, old.1.now)) olds.now)) }
+        ensures refused { IfErr result (IsJudgedRefusal new_text.now (map (λ old. (old.0, old.1.now)) olds.now)) }
+        ensures capacity { self.new.capacity ≡ self.old.capacity }
+        ensures used { OnOk result (IsTrue self.new.kept_all → HasUsed self.old.capacity
+            (text_pairs level new_text.now (map (λ old. (old.0, old.1.now)) olds.now)) self.old.pairs self.new.pairs) }
+        ensures unchanged { OnErr result (self.new ≡ self.old) }
+    {
+        let kept_text = Text::copy_of(self.alloc, new_text)?;
+        let kept_olds = copy_of(self.alloc, olds)?;
+        let verdict = self.check(level, new_text, olds)?;
+        Ok(Judged::of_parts(level, kept_text, kept_olds, verdict))
+    }
+
+    /// Whether the verdict of a reader's text and a writer's is kept. Takes no memory.
+    pub fn has(&self, reader_text: &str, writer_text: &str) -> bool
+        ensures { result ≡ has_pair self.now.pairs (reader_text.now, writer_text.now) }
+    {
+        for (pair, _) in &self.verdicts {
+            if reader_text == pair.0.as_str() && writer_text == pair.1.as_str() {
+                return true;
+            }
+        }
+        false
+    }
+
+    /// Whether each verdict of the last judgement was kept. Takes no memory.
+    pub fn kept_all(&self) -> bool
+        ensures { result ≡ self.now.kept_all }
+    {
+        self.kept_all
+    }
+}
+
+/// The pair that is judged last is one that the judge has afterwards, where it kept each verdict:
+/// `used` of `check` and `make` says so. What is proved here costs nothing at run time.
+pub fn pairs_judged_last_are_kept()
+    ensures { HasLastJudged }
+{}

@@ -1,0 +1,13 @@
+//! A judge: checks of compatibility levels that remember the schemas that they read and the
+//! verdicts that they came to.
+#![tactic(auto)]
+
+mod judge;
+mod judge_error;
+mod judging;
+mod schemas;
+mod source;
+mod verdicts;
+
+pub use judge::{Judge, MOST_KEPT, pairs_judged_last_are_kept};
+pub use judge_error::JudgeError;

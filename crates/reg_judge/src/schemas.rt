@@ -1,0 +1,81 @@
+// The schemas that a judge keeps.
+ghost use Rattle.std.specs.Prelude.{◌≡◌, None, IfOk, IfErr, IfSome, OnOk, is_some, map};
+ghost use Rattle.avro_schema.specs.Schema.{is_schema};
+ghost use Rattle.reg_levels.specs.Judgement.{first_unread};
+ghost use Rattle.reg_judge.specs.Kept.{AreSchemas, IsUnread};
+
+use crate::source::Source;
+use avro_schema::Schema;
+use lru::LruCache;
+use reg_levels::JudgedError;
+use std::alloc::{AllocError, Global};
+use std::hash::RandomState;
+
+/// The schemas that are kept, each under its text.
+pub(crate) type Schemas = LruCache<String, Schema, RandomState>;
+
+/// The schema of a text, taken from those that are kept, or read; `None` where there is none.
+///
+/// The only error is want of memory.
+pub(crate) fn take(
+    alloc: Global,
+    kept: &mut Schemas,
+    text: &str,
+) -> Result<Option<Source>, AllocError>
+    requires { AreSchemas kept.old.entries }
+    ensures text { IfOk result (λ found. IfSome found (λ source. source ≡ text.now)) }
+    ensures read { IfOk result (λ found. is_some found ≡ is_schema text.now) }
+    ensures left { AreSchemas kept.new.entries }
+{
+    if let Some((text, schema)) = kept.pop_entry(text) {
+        return Ok(Some(Source { text, schema }));
+    }
+    match Schema::read_if_any(alloc, text)? {
+        Some(schema) => Ok(Some(Source {
+            text: String::from_str(alloc, text)?,
+            schema,
+        })),
+        None => Ok(None),
+    }
+}
+
+/// The schemas of the old texts, each with its version.
+pub(crate) fn take_olds(
+    alloc: Global,
+    kept: &mut Schemas,
+    olds: &[(u32, &str)],
+) -> Result<Vec<(u32, Source)>, JudgedError>
+    requires { AreSchemas kept.old.entries }
+    ensures texts { IfOk result (λ taken. taken.items ≡ map (λ old. (old.0, old.1.now)) olds.now) }
+    ensures read { OnOk result (first_unread (map (λ old. (old.0, old.1.now)) olds.now) ≡ None) }
+    ensures refused { IfErr result (IsUnread (map (λ old. (old.0, old.1.now)) olds.now)) }
+    ensures left { AreSchemas kept.new.entries }
+{
+    let mut taken = Vec::new(alloc);
+    for old in olds {
+        let Some(source) = take(alloc, kept, old.1)? else {
+            return Err(JudgedError::OldText(old.0));
+        };
+        taken.push((old.0, source))?;
+    }
+    Ok(taken)
+}
+
+/// Keeps a schema. Where memory is refused, it isn't kept.
+pub(crate) fn keep(kept: &mut Schemas, source: Source)
+    requires { AreSchemas kept.old.entries }
+    ensures { AreSchemas kept.new.entries }
+{
+    let Source { text, schema } = source;
+    let _kept = kept.put(text, schema);
+}
+
+/// Keeps the schemas.
+pub(crate) fn keep_olds(kept: &mut Schemas, olds: Vec<(u32, Source)>)
+    requires { AreSchemas kept.old.entries }
+    ensures { AreSchemas kept.new.entries }
+{
+    for (_, source) in olds {
+        keep(kept, source);
+    }
+}

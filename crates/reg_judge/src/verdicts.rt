@@ -1,0 +1,68 @@
+// The verdicts that a judge keeps.
+ghost use Rattle.std.specs.Prelude.{◌≡◌, IfOk, IsTrue};
+ghost use Rattle.reg_judge.specs.Judge.{used as with_used, used_all};
+ghost use Rattle.reg_judge.specs.Kept.{AreVerdicts, IsVerdictOf, pairs_of, texts_of};
+
+use crate::source::Source;
+use avro_resolve::{Verdict, resolve};
+use lru::LruCache;
+use std::alloc::{AllocError, Global};
+use std::hash::RandomState;
+
+/// A reader's text and a writer's.
+pub(crate) type Pair = (String, String);
+
+/// The verdicts that are kept, each under its pair of texts.
+pub(crate) type Verdicts = LruCache<Pair, Verdict, RandomState>;
+
+/// The verdict on two schemas, as it is kept, or made.
+///
+/// The only error is want of memory.
+pub(crate) fn verdict_on(
+    alloc: Global,
+    kept: &Verdicts,
+    pair: &Pair,
+    reader: &Source,
+    writer: &Source,
+) -> Result<Verdict, AllocError>
+    requires kept { AreVerdicts kept.now.entries }
+    requires pair { texts_of pair.now ≡ (reader.now, writer.now) }
+    ensures { IfOk result (λ verdict. IsVerdictOf (pair.now, verdict)) }
+{
+    match kept.peek(pair) {
+        Some(verdict) => verdict.clone(),
+        None => resolve(alloc, &reader.schema, &writer.schema),
+    }
+}
+
+/// Keeps a verdict, as the one that was used last. Where memory is refused, it isn't kept, and
+/// the answer is no.
+fn keep(kept: &mut Verdicts, pair: Pair, verdict: Verdict) -> bool
+    requires kept { AreVerdicts kept.old.entries }
+    requires made { IsVerdictOf (pair, verdict) }
+    ensures verdicts { AreVerdicts kept.new.entries }
+    ensures capacity { kept.new.cap ≡ kept.old.cap }
+    ensures kept { IsTrue result → pairs_of kept.new.entries
+        ≡ with_used kept.old.cap (texts_of pair) (pairs_of kept.old.entries) }
+{
+    kept.put(pair, verdict).is_ok()
+}
+
+/// Keeps verdicts, the last one as the one that was used last. What memory is refused for isn't
+/// kept; the answer is whether all were kept.
+pub(crate) fn keep_all(kept: &mut Verdicts, used: Vec<(Pair, Verdict)>) -> bool
+    requires kept { AreVerdicts kept.old.entries }
+    requires used { AreVerdicts used.items }
+    ensures verdicts { AreVerdicts kept.new.entries }
+    ensures capacity { kept.new.cap ≡ kept.old.cap }
+    ensures kept { IsTrue result → pairs_of kept.new.entries
+        ≡ used_all kept.old.cap (pairs_of used.items) (pairs_of kept.old.entries) }
+{
+    let mut all = true;
+    for (pair, verdict) in used {
+        if !keep(kept, pair, verdict) {
+            all = false;
+        }
+    }
+    all
+}
