@@ -5,7 +5,7 @@ ghost use Rattle.std.specs.FinSet.{from_list};
 ghost use Rattle.reg_set.specs.LastRecords.{last_records};
 ghost use Rattle.reg_leader.specs.Adoption.{HasPlace};
 ghost use Rattle.reg_leader.specs.Outcome.{IsOutOfMemory};
-ghost use Rattle.reg_topic.specs.Topic.{MayCommit, MayFollow, owed_by, topic_from};
+ghost use Rattle.reg_topic.specs.Topic.{IsAdopted, MayCommit, MayFollow, owed_by, topic_from};
 ghost use Rattle.reg_shared.specs.Held.{base_of, held_of, topic_at};
 ghost use Rattle.reg_pen.specs.Opening.{IsKeepRefusal, IsOpenRefusal, KeepsDue};
 ghost use Rattle.reg_pen.specs.Pen.{Acts, Compacts, Follows, IsAhead, IsBehind, IsNoMemory, IsStepAfter, LeavesCompaction, LeavesLasts, Submits, StillPends, batches, counted, settled};
@@ -111,6 +111,7 @@ pub fn open<N: FeedName<Item, Shared>, K: Keep + Drop, R: Wait + Drop>(
     ensures begun { IfOk result (λ opened. opened.pen ≡ record { published = []; pending = []; lost = false; keep = opened.pen.keep }) }
     ensures kept { IfOk result (λ opened. KeepsDue K.keeps keep (owed_by base.now.records.items base.now.next) opened.pen.keep) }
     ensures place { OnOk result (HasPlace (last_records (from_list base.now.records.items)) base.now.next) }
+    ensures adopted { OnOk result (IsAdopted (base_of N.first)) }
     ensures passes { IfOk result (λ opened. map (λ p. p.submits) opened.passes.items ≡ replicate passes 0) }
     ensures refused { IfErr result (IsOpenRefusal K.keeps base.now.records.items base.now.next keep) }
 {

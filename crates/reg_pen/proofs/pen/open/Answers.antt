@@ -1,4 +1,4 @@
-use Rattle.std.proofs.Common.{rules, ◌≡◌, ◌++◌, false, [], refl, sym, subst, List}
+use Rattle.std.proofs.Common.{rules, ◌≡◌, ◌++◌, [], refl, sym, subst, List}
 use Rattle.reg_topic.specs.Topic.{IsAdopted, topic_from}
 use Rattle.reg_topic.specs.declared.published.Item.{Item}
 use Rattle.reg_topic.specs.declared.topic.Topic.{Topic}
@@ -16,3 +16,11 @@ invariant_of-pen g c =
     let begun : IsAdopted topic = c.adopted_logs_begin.ensures b.records.items b.next b.ahead c.in_ok-begun.ensures.takes_commands in
     let adopted : IsAdopted (base_of g.N.FeedName.first) = subst (λ (h : Held). IsAdopted (base_of h)) (sym same) (subst IsAdopted (sym (base_whole topic begun.whole)) begun) in
     subst (λ (l : List Item × List Item). IsPen (base_of g.N.FeedName.first) l.0 (l.1 ++ []) × (l.1 ++ [] ≡ []) × (0 ≡ batches l.0)) (sym lists) (record { adopted = adopted; lawful = tt; pends = tt }, refl, refl)
+
+pub returns-clause-adopted : goal.returns-clause-adopted
+returns-clause-adopted g c =
+    let b = c.args.base.now in
+    let topic : Topic = topic_from b.records.items b.next in
+    let same : g.N.FeedName.first ≡ held_of topic = search rules in
+    let begun : IsAdopted topic = c.adopted_logs_begin.ensures b.records.items b.next b.ahead c.in_ok-begun.ensures.takes_commands in
+    subst (λ (h : Held). IsAdopted (base_of h)) (sym same) (subst IsAdopted (sym (base_whole topic begun.whole)) begun)

@@ -1,0 +1,9 @@
+pub mod Acts
+pub mod Claims
+pub mod Deeds
+pub mod Drawn
+pub mod Lists
+pub mod Pens
+pub mod Steps
+pub mod Weave
+pub mod World

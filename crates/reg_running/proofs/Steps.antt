@@ -1,0 +1,123 @@
+-- What one act or one deed does to a world.
+use Rattle.std.proofs.Common.{◌≡◌, ℕ, zero, suc, ◌<◌, true, false, Bool, ◌&&◌, ◌||◌, List, [], ◌∷◌, ◌++◌, None, Some, MatchBool, is_some, slice_get, length, fold, refl, sym, ap, subst, ◌∙◌, arith}
+use Rattle.std.proofs.lemmas.List.{append-nil}
+use Rattle.std.specs.Cmp.{IsTotalOrder}
+use Rattle.std.specs.FinSet.{contains, empty, from_list, insert, union, contains-from_list, contains-insert, contains-union, IsAntisymmetric, same_set}
+use Rattle.std.specs.Option.{option_map_or}
+use Rattle.std.specs.Ordering.{eq_by_cmp}
+use Rattle.reg_records.specs.declared.record.Record.{Record}
+use Rattle.reg_set.specs.LastRecords.{last_records}
+use Rattle.reg_set.specs.RecordOrder.{record_cmp}
+use Rattle.reg_set.specs.Records.{Records}
+use Rattle.reg_lookup.specs.Answers.{IsAnswer}
+use Rattle.reg_lookup.specs.declared.answered.Answer.{Answer}
+use Rattle.reg_lookup.specs.declared.query.Query.{Query}
+use Rattle.reg_topic.specs.declared.published.Item.{Item}
+use Rattle.reg_shared.specs.Held.{Held, base_of, topic_at}
+use Rattle.reg_node.specs.Takes.{with_take}
+use Rattle.reg_node.specs.declared.take.Take.{Take}
+use Rattle.reg_world.specs.Happens.{Does, Happens, is_allowed}
+use Rattle.reg_world.specs.State.{State, changed, taking}
+use Rattle.reg_world.specs.declared.event.Event.{Event}
+use Rattle.reg_world.specs.declared.event.Event.TheVariants as events
+use Rattle.reg_world.specs.declared.event.Fate.TheVariants.{Published}
+use Rattle.reg_world.specs.declared.event.Outcome.{Outcome}
+use Rattle.reg_world.specs.declared.event.Outcome.TheVariants as outcomes
+use Rattle.reg_world.specs.declared.node.Node.{Node}
+use Rattle.reg_running.specs.Running.{Act, Carried, Dropped, Deed, Drew, IsAct, items_of, takes}
+use Rattle.reg_running.specs.Woven.{ByPen, event_of, outcome_of}
+
+happens_allowed : (s t : State) (e : Event) (o : Outcome) → is_allowed s e ≡ true → Does s e o t → Happens s e o t
+unfolding Happens
+happens_allowed s t e o fine d = subst (λ b. MatchBool b (Does s e o t) ((o ≡ outcomes.NotAllowed) × (t ≡ s))) (sym fine) d
+
+abbrev pub node_with : Records → Records → Node
+node_with set took = record { set = set; took = took }
+
+-- the node after it did that
+abbrev pub with_deeds : Node → List Deed → Node
+with_deeds n deeds = node_with (fold with_take n.set (takes deeds)) (fold with_take n.took (takes deeds))
+
+abbrev pub state_of : Held → List Item → List Node → State
+state_of first items nodes = record { base = base_of first; items = items; unsettled = None; nodes = nodes }
+
+pub is_there : (nodes : List Node) (i : ℕ) → i < length nodes → is_some (slice_get nodes i) ≡ true
+is_there [] i h = absurd (omega arith)
+is_there (n ∷ nodes) zero h = refl
+is_there (n ∷ nodes) (suc i) h = is_there nodes i (omega arith)
+
+and-true : {a b : Bool} → a ≡ true → b ≡ true → (a && b) ≡ true
+and-true {b = b} e f = ap (λ a. a && b) e ∙ f
+
+or_turned : (a b : Bool) → (a || (b || false)) ≡ (b || a)
+or_turned true true = refl
+or_turned true false = refl
+or_turned false true = refl
+or_turned false false = refl
+
+module _ (first : Held) (from : List Item) (nodes : List Node) where
+  -- an act of the pen's
+  pub act_happens : (a : Act) → IsAct (length nodes) (topic_at first from) a → Happens (state_of first from nodes) (event_of (ByPen a)) (outcome_of (ByPen a)) (state_of first (from ++ items_of a) nodes)
+  act_happens (Carried node command reply []) (there, step) =
+      happens_allowed (state_of first from nodes) _ (events.Command node command Published) (outcomes.Replied reply) (is_there nodes node there) (record {
+        reply = reply;
+        batch = [];
+        step = step;
+        outcome = refl;
+        state = ap (λ is. state_of first is nodes) (append-nil from);
+      })
+  act_happens (Carried node command reply (r ∷ rs)) (there, step) =
+      happens_allowed (state_of first from nodes) _ (events.Command node command Published) (outcomes.Replied reply) (is_there nodes node there) (record {
+        reply = reply;
+        batch = r ∷ rs;
+        step = step;
+        outcome = refl;
+        state = refl;
+      })
+  act_happens (Dropped records) may = happens_allowed (state_of first from nodes) _ (events.Compact records) outcomes.Done may (refl, refl)
+
+  -- an answer
+  pub answer_happens : (i : ℕ) (n : Node) (query : Query) (answer : Answer) → slice_get nodes i ≡ Some n → IsAnswer (last_records n.set) query answer
+      → Happens (state_of first from nodes) (events.Lookup i query) (outcomes.Answered answer) (state_of first from nodes)
+  answer_happens i n query answer there is =
+      happens_allowed (state_of first from nodes) (state_of first from nodes) (events.Lookup i query) (outcomes.Answered answer) (ap is_some there) (
+        answer,
+        subst (λ o. IsAnswer (last_records (option_map_or (λ (node : Node). node.set) o empty)) query answer) (sym there) is,
+        refl,
+        refl,
+      )
+
+  -- a take
+  pub take_happens : (i : ℕ) (n : Node) (t : Take) → slice_get nodes i ≡ Some n → contains (topic_at first from).kept t.kept ≡ true
+      → Happens (state_of first from nodes) (events.Take i (t.kept ∷ [])) outcomes.Done (state_of first from (changed i (taking (from_list (t.kept ∷ []))) nodes))
+  take_happens i n t there kept =
+      happens_allowed (state_of first from nodes) _ (events.Take i (t.kept ∷ [])) outcomes.Done (and-true (ap is_some there) (and-true kept refl)) (refl, refl)
+
+-- The nodes once one has changed.
+pub changed_one : (f : Node → Node) (nodes : List Node) (i : ℕ) (n : Node) → slice_get nodes i ≡ Some n → slice_get (changed i f nodes) i ≡ Some (f n)
+changed_one f [] i n e = let no : None ≡ Some n = e in cc
+changed_one f (m ∷ nodes) zero n e = let same : m ≡ n = cc in ap (λ x. Some (f x)) same
+changed_one f (m ∷ nodes) (suc i) n e = changed_one f nodes i n e
+
+pub changed_other : (f : Node → Node) (nodes : List Node) (i j : ℕ) → (i ≡ j → ⊥) → slice_get (changed i f nodes) j ≡ slice_get nodes j
+changed_other f [] i j apart = refl
+changed_other f (m ∷ nodes) zero zero apart = absurd (apart refl)
+changed_other f (m ∷ nodes) zero (suc j) apart = refl
+changed_other f (m ∷ nodes) (suc i) zero apart = refl
+changed_other f (m ∷ nodes) (suc i) (suc j) apart = changed_other f nodes i j (λ e. apart (ap suc e))
+
+pub changed_count : (f : Node → Node) (nodes : List Node) (i : ℕ) → length (changed i f nodes) ≡ length nodes
+changed_count f [] i = refl
+changed_count f (m ∷ nodes) zero = refl
+changed_count f (m ∷ nodes) (suc i) = ap suc (changed_count f nodes i)
+
+module _ (order : IsTotalOrder record_cmp) (apart : IsAntisymmetric record_cmp) where
+  one_more : (s : Records) (r : Record) → union s (from_list (r ∷ [])) ≡ insert s r
+  one_more s r = same_set order apart (union s (from_list (r ∷ []))) (insert s r) (λ q.
+      contains-union order s (from_list (r ∷ [])) q
+      ∙ (ap (λ b. contains s q || b) (contains-from_list order (r ∷ []) q)
+      ∙ (or_turned (contains s q) (eq_by_cmp record_cmp q r) ∙ sym (contains-insert order s r q))))
+
+  -- the node with one take more
+  pub with_one : (n : Node) (t : Take) → taking (from_list (t.kept ∷ [])) n ≡ with_deeds n (Drew t ∷ [])
+  with_one n t = ap (λ s. node_with s (union n.took (from_list (t.kept ∷ [])))) (one_more n.set t.kept) ∙ ap (node_with (insert n.set t.kept)) (one_more n.took t.kept)

@@ -1,0 +1,70 @@
+// What running nodes do, as a world. What is proved here costs nothing at run time: a function that
+// needs a law calls it.
+ghost use Rattle.reg_running.specs.Calls.{ActsAddUp, ActsAreLawful, CallsKeepPens, CompactionsAreActs, FollowersAreNodes, LawfulListsAreOfActs, SubmitsAreActs, ViewsTellForNodes};
+ghost use Rattle.reg_running.specs.Claims.{ClaimsHoldAtEachMoment, MomentsAreAfterEvents, RunningNodesAnswerAlike, RunningNodesKeepPromises, SameAnswersAtMoments};
+ghost use Rattle.reg_running.specs.Woven.{RunningNodesAreAWorld, RunningNodesAreWoven};
+
+use reg_lookup::queries_have_one_answer;
+use reg_pen::Keep;
+use reg_set::{last_records_are_enough, records_are_ordered};
+use reg_topic::{lawful_lists_keep_ids, lawful_lists_meet_levels};
+use reg_world::{ids_name_one_schema, nodes_answer_alike, registered_versions_meet_levels};
+
+/// What the pen and the nodes did is a list of a world's events, with the outcomes that the callers
+/// got, each take directly after the last item that its pull had read.
+pub fn running_nodes_are_a_world()
+    ensures world { RunningNodesAreAWorld }
+    ensures woven { RunningNodesAreWoven }
+{
+    records_are_ordered();
+}
+
+/// What holds after every list of events holds of running nodes at each moment: nodes answer as the
+/// sets do that they took, an id names one schema for good, and each registered version met its level.
+pub fn running_nodes_keep_the_headline()
+    ensures moments { MomentsAreAfterEvents }
+    ensures claims { ClaimsHoldAtEachMoment }
+    ensures alike { SameAnswersAtMoments }
+{
+    ids_name_one_schema();
+    nodes_answer_alike();
+    registered_versions_meet_levels();
+}
+
+/// Nodes that had taken compactions of one set told one answer.
+pub fn running_nodes_answer_alike()
+    ensures { RunningNodesAnswerAlike }
+{
+    last_records_are_enough();
+    queries_have_one_answer();
+}
+
+/// In what was published an id names one schema for good, and each version that was registered met
+/// the level then in force.
+pub fn running_nodes_keep_promises()
+    ensures { RunningNodesKeepPromises }
+{
+    lawful_lists_are_of_acts();
+    lawful_lists_keep_ids();
+    lawful_lists_meet_levels();
+}
+
+/// What a pen's calls add to the topic's list are acts, of which the callers got the replies.
+pub fn pens_do_acts<K: Keep>()
+    ensures submits { SubmitsAreActs K.keeps }
+    ensures compactions { CompactionsAreActs K }
+    ensures in_turn { ActsAddUp }
+    ensures stays { CallsKeepPens K.keeps }
+{}
+
+/// The lists that acts publish are the lawful ones.
+pub fn lawful_lists_are_of_acts()
+    ensures lists { LawfulListsAreOfActs }
+    ensures lawful { ActsAreLawful }
+{}
+
+/// What a follower takes and its views answer are a node's deeds.
+pub fn followers_do_deeds()
+    ensures followers { FollowersAreNodes }
+    ensures views { ViewsTellForNodes }
+{}
