@@ -1,5 +1,6 @@
 // What running nodes do, as a world. What is proved here costs nothing at run time: a function that
 // needs a law calls it.
+ghost use Rattle.reg_running.specs.Bytes.{RunningNodesWriteAlike, SameBytes};
 ghost use Rattle.reg_running.specs.Calls.{ActsAddUp, ActsAreLawful, CallsKeepPens, CompactionsAreActs, FollowersAreNodes, LawfulListsAreOfActs, SubmitsAreActs, ViewsTellForNodes};
 ghost use Rattle.reg_running.specs.Claims.{ClaimsHoldAtEachMoment, MomentsAreAfterEvents, RunningNodesAnswerAlike, RunningNodesKeepPromises, SameAnswersAtMoments};
 ghost use Rattle.reg_running.specs.Woven.{RunningNodesAreAWorld, RunningNodesAreWoven};
@@ -37,6 +38,15 @@ pub fn running_nodes_answer_alike()
 {
     last_records_are_enough();
     queries_have_one_answer();
+}
+
+/// The bytes of their responses are the same, too: of nodes in worlds, and of running ones.
+pub fn same_sets_give_same_bytes()
+    ensures worlds { SameBytes }
+    ensures running { RunningNodesWriteAlike }
+{
+    nodes_answer_alike();
+    running_nodes_answer_alike();
 }
 
 /// In what was published an id names one schema for good, and each version that was registered met
