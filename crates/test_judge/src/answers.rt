@@ -5,6 +5,7 @@ use reg_level_names::Level;
 use reg_levels::{JudgedError, versions_rise};
 use std::alloc::Global;
 use std::hash::RandomState;
+use std::test::Fail;
 
 const INT: &str = r#""int""#;
 
@@ -92,31 +93,31 @@ fn is_text(told: &Option<Text>, want: Option<&str>) -> bool {
 }
 
 #[test]
-fn each_judge_answers_alike(rt: HostRuntime) {
+fn each_judge_answers_alike(rt: HostRuntime) -> Result<(), Fail> {
     for capacity in [1, 2, 100] {
-        let keys = RandomState::new(&rt).unwrap();
-        let mut judge = Judge::new(rt.alloc(), keys, capacity, capacity).unwrap();
+        let keys = RandomState::new(&rt)?;
+        let mut judge = Judge::new(rt.alloc(), keys, capacity, capacity)?;
         for turn in 0..2u32 {
             for (place, (level, new_text, olds, want)) in ASKED.iter().enumerate() {
-                let (checked, made) = told(rt.alloc(), &mut judge, *level, new_text, olds).unwrap();
+                let (checked, made) = told(rt.alloc(), &mut judge, *level, new_text, olds)?;
                 assert!(rt; is_text(&checked, *want), "{capacity} {turn} {place}");
                 assert!(rt; is_text(&made, *want), "{capacity} {turn} {place}");
                 assert!(rt; judge.kept_all());
             }
         }
     }
+    Ok(())
 }
 
 #[test]
-fn a_judgement_fits_what_it_was_made_of(rt: HostRuntime) {
-    let keys = RandomState::new(&rt).unwrap();
-    let mut judge = Judge::new(rt.alloc(), keys, 2, 2).unwrap();
-    let made = judge
-        .make(Level::Backward, WITH_STRING, &[(1, WITH_INT), (2, EMPTY)])
-        .unwrap();
+fn a_judgement_fits_what_it_was_made_of(rt: HostRuntime) -> Result<(), Fail> {
+    let keys = RandomState::new(&rt)?;
+    let mut judge = Judge::new(rt.alloc(), keys, 2, 2)?;
+    let made = judge.make(Level::Backward, WITH_STRING, &[(1, WITH_INT), (2, EMPTY)])?;
     assert!(rt; made.fits(Level::Backward, WITH_STRING, BOTH));
     assert!(rt; !made.fits(Level::Backward, WITH_STRING, &[(1, WITH_INT)]));
     assert!(rt; !made.fits(Level::Forward, WITH_STRING, BOTH));
+    Ok(())
 }
 
 /// A new text, old ones, and what is refused.
@@ -132,13 +133,14 @@ static REFUSALS: [(&str, Olds, JudgedError); 4] = [
 ];
 
 #[test]
-fn what_is_no_schema_is_refused(rt: HostRuntime) {
-    let keys = RandomState::new(&rt).unwrap();
-    let mut judge = Judge::new(rt.alloc(), keys, 2, 2).unwrap();
+fn what_is_no_schema_is_refused(rt: HostRuntime) -> Result<(), Fail> {
+    let keys = RandomState::new(&rt)?;
+    let mut judge = Judge::new(rt.alloc(), keys, 2, 2)?;
     for turn in 0..2u32 {
         for (place, (new_text, olds, want)) in REFUSALS.iter().enumerate() {
             let refused = told(rt.alloc(), &mut judge, Level::None, new_text, olds).err();
             assert!(rt; refused == Some(*want), "{turn} {place}");
         }
     }
+    Ok(())
 }
