@@ -5,6 +5,7 @@ pub mod Hops
 pub mod Named
 pub mod Marked
 pub mod Searching
+pub mod Sieving
 pub mod SeenLaws
 pub mod Order
 pub mod BreadthFirst

@@ -50,7 +50,7 @@ text_at (u ∷ ts) (suc k) t s at same = sym (ap (λ b. bytes_eq s u || b) (sym 
 -- ---- what the place of a name says
 
 module _ {X : Type 0} (p : X → Bool) (xs : List X) where
-  found_at : (k : ℕ) → position p xs ≡ Some k → (k < length xs) × (slice_get xs k ≡ find p xs)
+  pub found_at : (k : ℕ) → position p xs ≡ Some k → (k < length xs) × (slice_get xs k ≡ find p xs)
   found_at k e =
       let (below, same) = cond_some (nat_lt (position_or_len p xs) (length xs)) (position_or_len p xs) k e in
       let inside : position_or_len p xs < length xs = ltb-true (position_or_len p xs) (length xs) below in
@@ -60,7 +60,7 @@ module _ {X : Type 0} (p : X → Bool) (xs : List X) where
   no_place true e = cc
   no_place false e = refl
 
-  found_nowhere : position p xs ≡ None → find p xs ≡ None
+  pub found_nowhere : position p xs ≡ None → find p xs ≡ None
   found_nowhere e =
       let past = no_place (nat_lt (position_or_len p xs) (length xs)) e in
       find_at p xs ∙ slice_get_past xs (position_or_len p xs) (ltb-false (position_or_len p xs) (length xs) past)

@@ -12,7 +12,7 @@ pub and_right : (a b : Bool) → (a && b) ≡ true → b ≡ true
 and_right true b e = e
 and_right false b e = cc
 
-below_length : {A : Type 0} (xs : List A) (k : ℕ) (x : A) → slice_get xs k ≡ Some x → k < length xs
+pub below_length : {A : Type 0} (xs : List A) (k : ℕ) (x : A) → slice_get xs k ≡ Some x → k < length xs
 below_length [] k x e = cc
 below_length (y ∷ xs) zero x e = omega arith
 below_length (y ∷ xs) (suc k) x e = let h : k < length xs = below_length xs k x e in omega arith

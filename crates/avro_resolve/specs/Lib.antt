@@ -8,5 +8,6 @@ pub mod Follow
 pub mod Inward
 pub mod Row
 pub mod Marks
+pub mod Sieve
 pub mod Seen
 pub mod Search

@@ -3,6 +3,7 @@ ghost use Rattle.std.specs.Prelude.{◌≡◌, true, find, filter, filter_map, m
 ghost use Rattle.avro_schema.specs.Sound.{HaveDistinctNames};
 ghost use Rattle.avro_schema.specs.Defaults.{field_named as spec_field_named};
 ghost use Rattle.avro_resolve.specs.Pairing as spec;
+ghost use Rattle.avro_resolve.specs.Sieve.{AreFew};
 
 use avro_schema::Field;
 use base_text::Text;
@@ -120,6 +121,33 @@ pub fn paired_at<'a>(
                 return Some(f);
             }
             left -= 1;
+        }
+    }
+    None
+}
+
+/// The same, where the reader's fields of these numbers are looked at alone.
+pub fn paired_among<'a>(
+    reader: &'a [Field],
+    writer: &NamedList<Field>,
+    few: &[usize],
+    number: usize,
+) -> Option<&'a Field>
+    requires { AreFew reader.now writer.now few.now }
+    ensures { option_copied result ≡ slice_get (filter (λ f. is_some (spec.partner writer.now f)) reader.now) number }
+{
+    let mut left = number;
+    let mut next = 0;
+    for k in few {
+        if *k >= next {
+            let f = &reader[*k];
+            next = *k + 1;
+            if partner(writer, f).is_some() {
+                if left == 0 {
+                    return Some(f);
+                }
+                left -= 1;
+            }
         }
     }
     None

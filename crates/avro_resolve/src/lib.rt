@@ -14,6 +14,7 @@ mod obligations;
 mod resolving;
 mod search;
 mod seen;
+mod sieve;
 mod table;
 mod trail;
 

@@ -3,9 +3,11 @@ ghost use Rattle.std.specs.Prelude.{◌≡◌, ◌≤◌, ◌*◌, [], length, I
 ghost use Rattle.avro_schema.specs.Sound.{IsSound};
 ghost use Rattle.avro_resolve.specs.Marks.{AreMade};
 ghost use Rattle.avro_resolve.specs.Search.{AgreesWith};
+ghost use Rattle.avro_resolve.specs.Sieve.{AreSieves};
 
 use crate::marks::Marks;
 use crate::search::Search;
+use crate::sieve::Sieves;
 use crate::trail::Trail;
 use avro_schema::Schema;
 use std::alloc::{AllocError, Global};
@@ -59,7 +61,8 @@ pub fn resolve_counted(alloc: Global, r: &Schema, w: &Schema) -> Result<Counted,
 {
     let mut search = Search::none(alloc, r.node_count(), w.node_count())?;
     let mut marks = Marks::none(Some(alloc));
-    resolve_by(alloc, r, w, &mut search, &mut marks)
+    let mut sieves = Sieves::none(alloc);
+    resolve_by(alloc, r, w, &mut search, &mut marks, &mut sieves)
 }
 
 /// Resolves by a search that has reached no pair.
@@ -69,12 +72,14 @@ fn resolve_by(
     w: &Schema,
     search: &mut Search,
     marks: &mut Marks,
+    sieves: &mut Sieves,
 ) -> Result<Counted, AllocError>
     requires reader { IsSound r.now.nodes }
     requires writer { IsSound w.now.nodes }
     requires none { search.old.entries.items ≡ [] }
     requires agrees { AgreesWith search.old.seen [] }
     requires made { AreMade r.now.nodes marks.old.made }
+    requires sieves { AreSieves r.now.nodes sieves.old.of }
     ensures verdict { IfOk result (λ c. IsVerdict r.now.nodes w.now.nodes c.verdict) }
     ensures pairs { IfOk result (λ c. c.pairs ≤ length r.now.nodes * length w.now.nodes) }
 {
@@ -82,8 +87,8 @@ fn resolve_by(
     let mut head = 0;
     'heads: while head < search.entries.len() {
         let pair = search.entries[head].pair;
-        if let Some(cause) = search.look_up(r, w, head, pair, marks)? {
-            let trail = search.trail_to(alloc, r, w, head, cause)?;
+        if let Some(cause) = search.look_up(r, w, head, pair, marks, sieves)? {
+            let trail = search.trail_to(alloc, r, w, head, cause, sieves)?;
             return Ok(Counted {
                 verdict: Verdict::Clash(trail),
                 pairs: head + 1,

@@ -4,16 +4,18 @@ ghost use Rattle.std.specs.List.{enumerate_from};
 ghost use Rattle.std.specs.Result.{result_err, result_unwrap_or};
 ghost use Rattle.avro_resolve.specs.declared.trail.Hop.TheVariants as hop;
 ghost use Rattle.avro_resolve.specs.Marks.{AreMade};
+ghost use Rattle.avro_resolve.specs.Sieve.{AreFew, AreSieves, fields_in};
 ghost use Rattle.avro_resolve.specs.Table as spec;
 ghost use Rattle.avro_resolve.specs.Row.{clash_of_cause, outcome_of, HasDistinct};
 ghost use Rattle.avro_schema.specs.Sound.{HaveDistinctNames};
 ghost use Rattle.avro_resolve.specs.Trails.{roots};
 
-use crate::fields::{paired_at, partner_near};
+use crate::fields::{paired_among, paired_at, partner, partner_near};
 use crate::marks::Marks;
 use crate::obligations::Pair;
 use crate::seen::Seen;
-use crate::table::{Cause, Row, are_matching_primitives, row_at, row_by_marks};
+use crate::sieve::{Sieves, few_fields, is_worth_while};
+use crate::table::{Cause, Row, are_matching_primitives, long_records, row_at, row_by_marks};
 use crate::trail::{Hop, Trail};
 use avro_schema::{Field, NodeId, Schema};
 use base_text::Listed;
@@ -91,18 +93,24 @@ impl Search {
         place: usize,
         pair: Pair,
         marks: &mut Marks,
+        sieves: &mut Sieves,
     ) -> Result<Option<Cause<'a>>, AllocError>
         requires reader { pair.reader.index < length r.now.nodes }
         requires writer { pair.writer.index < length w.now.nodes }
         requires agrees { AgreesWith self.old.seen self.old.entries.items }
         requires made { AreMade r.now.nodes marks.old.made }
+        requires sieves { AreSieves r.now.nodes sieves.old.of }
         ensures clash { IfOk result (λ cause. option_map clash_of_cause cause ≡ spec.clash_of r.now.nodes w.now.nodes pair) }
         ensures entries { OnOk result (self.new.entries.items ≡ expanded place 0 (spec.obligations r.now.nodes w.now.nodes pair) self.old.entries.items) }
         ensures agrees { IfOk result (λ cause. cause ≡ None → AgreesWith self.new.seen self.new.entries.items) }
         ensures made { AreMade r.now.nodes marks.new.made }
+        ensures sieves { OnOk result (AreSieves r.now.nodes sieves.new.of) }
     {
         if are_matching_primitives(r, w, pair) {
             return Ok(None);
+        }
+        if let Some((reader, writer)) = long_records(r, w, pair) {
+            return self.reach_long(r, place, pair.reader, reader, writer, sieves);
         }
         let row = row_by_marks(r, w, pair, marks);
         self.expand(place, row)
@@ -187,6 +195,79 @@ impl Search {
         Ok(None)
     }
 
+    /// The same for the reader's record of that id, by its sieve.
+    fn reach_long<'a>(
+        &mut self,
+        r: &Schema,
+        place: usize,
+        id: NodeId,
+        reader: &'a NamedList<Field>,
+        writer: &NamedList<Field>,
+        sieves: &mut Sieves,
+    ) -> Result<Option<Cause<'a>>, AllocError>
+        requires fields { reader.now ≡ fields_in (slice_get r.now.nodes id.index) }
+        requires readers { HaveDistinctNames reader.now }
+        requires writers { HaveDistinctNames writer.now }
+        requires agrees { AgreesWith self.old.seen self.old.entries.items }
+        requires sieves { AreSieves r.now.nodes sieves.old.of }
+        ensures clash { IfOk result (λ cause. option_map clash_of_cause cause ≡ result_err (spec.to_fields reader.now writer.now)) }
+        ensures entries { OnOk result (self.new.entries.items ≡ expanded place 0 (result_unwrap_or (spec.to_fields reader.now writer.now) []) self.old.entries.items) }
+        ensures agrees { IfOk result (λ cause. cause ≡ None → AgreesWith self.new.seen self.new.entries.items) }
+        ensures sieves { OnOk result (AreSieves r.now.nodes sieves.new.of) }
+    {
+        sieves.look_at(r, id, reader.as_slice())?;
+        match sieves.of_record(r, id) {
+            Some(others)
+                if is_worth_while(
+                    reader.as_slice().len(),
+                    others.len(),
+                    writer.as_slice().len(),
+                ) => {
+                let few = few_fields(sieves.memory(), reader, others, writer.as_slice())?;
+                self.reach_few(place, reader.as_slice(), writer, few.as_slice())
+            }
+            _ => self.reach_fields(place, reader.as_slice(), writer),
+        }
+    }
+
+    /// The same, where the reader's fields of these numbers are looked at alone.
+    fn reach_few<'a>(
+        &mut self,
+        place: usize,
+        reader: &'a [Field],
+        writer: &NamedList<Field>,
+        few: &[usize],
+    ) -> Result<Option<Cause<'a>>, AllocError>
+        requires distinct { HaveDistinctNames writer.now }
+        requires few { AreFew reader.now writer.now few.now }
+        requires agrees { AgreesWith self.old.seen self.old.entries.items }
+        ensures clash { IfOk result (λ cause. option_map clash_of_cause cause ≡ result_err (spec.to_fields reader.now writer.now)) }
+        ensures entries { OnOk result (self.new.entries.items ≡ expanded place 0 (result_unwrap_or (spec.to_fields reader.now writer.now) []) self.old.entries.items) }
+        ensures agrees { IfOk result (λ cause. cause ≡ None → AgreesWith self.new.seen self.new.entries.items) }
+    {
+        let before = self.entries.len();
+        let mut number = 0;
+        let mut next = 0;
+        for k in few {
+            if *k >= next {
+                let f = &reader[*k];
+                next = *k + 1;
+                if let Some(g) = partner(writer, f) {
+                    let pair = Pair {
+                        reader: f.node,
+                        writer: g.node,
+                    };
+                    self.reach(reached(pair, place, number))?;
+                    number += 1;
+                } else if f.default.is_none() {
+                    self.entries.truncate(before);
+                    return Ok(Some(Cause::LackingField(&f.name)));
+                }
+            }
+        }
+        Ok(None)
+    }
+
     /// The trail to the pair at a place, which clashes for this cause.
     pub fn trail_to(
         &self,
@@ -195,14 +276,16 @@ impl Search {
         w: &Schema,
         place: usize,
         cause: Cause<'_>,
+        sieves: &Sieves,
     ) -> Result<Trail, AllocError>
         requires within { place < vec_len self.now.entries }
         requires back { LeadsBack r.now.nodes w.now.nodes self.now.entries.items }
+        requires sieves { AreSieves r.now.nodes sieves.now.of }
         ensures hops { IfOk result (λ trail. IsWayBack r.now.nodes w.now.nodes self.now.entries.items place (reverse trail.hops)) }
         ensures kind { IfOk result (λ trail. trail.kind ≡ clash_of_cause cause.entry) }
     {
         let kind = cause.kind()?;
-        let hops = self.hops_to(alloc, r, w, place)?;
+        let hops = self.hops_to(alloc, r, w, place, sieves)?;
         Ok(Trail { hops, kind })
     }
 
@@ -213,16 +296,18 @@ impl Search {
         r: &Schema,
         w: &Schema,
         place: usize,
+        sieves: &Sieves,
     ) -> Result<Listed<Hop>, AllocError>
         requires within { place < vec_len self.now.entries }
         requires back { LeadsBack r.now.nodes w.now.nodes self.now.entries.items }
+        requires sieves { AreSieves r.now.nodes sieves.now.of }
         ensures { IfOk result (λ hops. IsWayBack r.now.nodes w.now.nodes self.now.entries.items place (reverse hops)) }
     {
         let mut hops = Vec::new(alloc);
         let mut at = place;
         'back: while let Some(step) = self.entries[at].from {
             let parent = self.entries[step.place].pair;
-            hops.push(hop_of(r, w, parent, step.number)?)?;
+            hops.push(hop_of(r, w, parent, step.number, sieves)?)?;
             at = step.place;
         }
         hops.reverse();
@@ -241,7 +326,73 @@ fn reached(pair: Pair, place: usize, number: usize) -> Entry
 }
 
 /// The hop of a pair's obligation of that number.
-fn hop_of(r: &Schema, w: &Schema, pair: Pair, number: usize) -> Result<Hop, AllocError>
+fn hop_of(
+    r: &Schema,
+    w: &Schema,
+    pair: Pair,
+    number: usize,
+    sieves: &Sieves,
+) -> Result<Hop, AllocError>
+    requires reader { pair.reader.index < length r.now.nodes }
+    requires writer { pair.writer.index < length w.now.nodes }
+    requires numbered { number < length (spec.obligations r.now.nodes w.now.nodes pair) }
+    requires sieves { AreSieves r.now.nodes sieves.now.of }
+    ensures { IfOk result (λ h. option_map (λ o. o.hop) (slice_get (spec.obligations r.now.nodes w.now.nodes pair) number) ≡ Some h) }
+{
+    match long_records(r, w, pair) {
+        Some((reader, writer)) => long_hop(r, pair.reader, reader, writer, number, sieves),
+        None => short_hop(r, w, pair, number),
+    }
+}
+
+/// The hop into the field of that number, of the reader's record of that id, by its sieve.
+fn long_hop(
+    r: &Schema,
+    id: NodeId,
+    reader: &NamedList<Field>,
+    writer: &NamedList<Field>,
+    number: usize,
+    sieves: &Sieves,
+) -> Result<Hop, AllocError>
+    requires fields { reader.now ≡ fields_in (slice_get r.now.nodes id.index) }
+    requires readers { HaveDistinctNames reader.now }
+    requires numbered { number < length (result_unwrap_or (spec.to_fields reader.now writer.now) []) }
+    requires sieves { AreSieves r.now.nodes sieves.now.of }
+    ensures { IfOk result (λ h. option_map (λ o. o.hop) (slice_get (result_unwrap_or (spec.to_fields reader.now writer.now) []) number) ≡ Some h) }
+{
+    match sieves.of_record(r, id) {
+        Some(others)
+            if is_worth_while(
+                reader.as_slice().len(),
+                others.len(),
+                writer.as_slice().len(),
+            ) => {
+            let few = few_fields(sieves.memory(), reader, others, writer.as_slice())?;
+            few_hop(reader.as_slice(), writer, few.as_slice(), number)
+        }
+        _ => field_hop(reader.as_slice(), writer, number),
+    }
+}
+
+/// The same, where the reader's fields of these numbers are looked at alone.
+fn few_hop(
+    reader: &[Field],
+    writer: &NamedList<Field>,
+    few: &[usize],
+    number: usize,
+) -> Result<Hop, AllocError>
+    requires numbered { number < length (result_unwrap_or (spec.to_fields reader.now writer.now) []) }
+    requires few { AreFew reader.now writer.now few.now }
+    ensures { IfOk result (λ h. option_map (λ o. o.hop) (slice_get (result_unwrap_or (spec.to_fields reader.now writer.now) []) number) ≡ Some h) }
+{
+    match paired_among(reader, writer, few, number) {
+        Some(f) => Ok(Hop::Field(f.name.clone()?)),
+        None => unreachable!(),
+    }
+}
+
+/// The same of any pair.
+fn short_hop(r: &Schema, w: &Schema, pair: Pair, number: usize) -> Result<Hop, AllocError>
     requires reader { pair.reader.index < length r.now.nodes }
     requires writer { pair.writer.index < length w.now.nodes }
     requires numbered { number < length (spec.obligations r.now.nodes w.now.nodes pair) }

@@ -1,10 +1,11 @@
 // The table: the row that a pair of types falls under, with what it takes from the schemas.
-ghost use Rattle.std.specs.Prelude.{◌≡◌, ◌<◌, ℕ, List, [], ◌∷◌, Option, IsTrue, true, is_some, All, length, map, not, find, slice_get, bytes_eq, option_copied, Ok, IfOk};
+ghost use Rattle.std.specs.Prelude.{◌≡◌, ◌<◌, ℕ, List, [], ◌∷◌, Option, IsTrue, true, is_some, All, length, map, not, find, slice_get, bytes_eq, option_copied, Ok, IfOk, IfSome};
 ghost use Rattle.std.specs.List.{enumerate_from};
 ghost use Rattle.avro_schema.specs.declared.node.Node.TheVariants as kind;
 ghost use Rattle.avro_schema.specs.Names.{has_text};
 ghost use Rattle.avro_resolve.specs.Marks.{AreMade, branches_in};
 ghost use Rattle.avro_resolve.specs.Match as matching;
+ghost use Rattle.avro_resolve.specs.Sieve.{fields_in};
 ghost use Rattle.avro_resolve.specs.Table as spec;
 ghost use Rattle.avro_schema.specs.Sound.{HaveDistinctNames, fields_of_node};
 ghost use Rattle.avro_resolve.specs.Row.{clash_of_cause, hop_into, outcome_of, HasDistinct};
@@ -13,6 +14,7 @@ use crate::marks::{Marks, first_marked};
 use crate::matching::matches;
 use crate::names::{names_match, primitives_match};
 use crate::obligations::Pair;
+use crate::sieve::is_long;
 use crate::trail::{ClashKind, Hop};
 use avro_schema::{Field, FullName, Node, NodeId, Primitive, Schema};
 use base_text::Text;
@@ -95,6 +97,44 @@ pub fn are_matching_primitives(r: &Schema, w: &Schema, pair: Pair) -> bool
             _ => false,
         },
         _ => false,
+    }
+}
+
+/// The fields of a pair of records whose names match, where the reader's are many and the writer's few.
+pub fn long_records<'a>(
+    r: &'a Schema,
+    w: &'a Schema,
+    pair: Pair,
+) -> Option<(&'a NamedList<Field>, &'a NamedList<Field>)>
+    requires reader { pair.reader.index < length r.now.nodes }
+    requires writer { pair.writer.index < length w.now.nodes }
+    ensures outcome { IfSome result (λ both. spec.outcome r.now.nodes w.now.nodes pair ≡ spec.to_fields both.0.now both.1.now) }
+    ensures reader { IfSome result (λ both. both.0.now ≡ fields_in (slice_get r.now.nodes pair.reader.index)) }
+    ensures readers { IfSome result (λ both. HaveDistinctNames both.0.now) }
+    ensures writers { IfSome result (λ both. HaveDistinctNames both.1.now) }
+{
+    let Node::Record {
+        name,
+        aliases,
+        fields,
+    } = r.node(pair.reader)
+    else {
+        return None;
+    };
+    let Node::Record {
+        name: other,
+        fields: others,
+        ..
+    } = w.node(pair.writer)
+    else {
+        return None;
+    };
+    if is_long(fields.as_slice(), others.as_slice())
+        && names_match(name, aliases.as_slice(), other)
+    {
+        Some((fields, others))
+    } else {
+        None
     }
 }
 

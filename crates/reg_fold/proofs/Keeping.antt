@@ -1,5 +1,5 @@
 -- What a registry keeps, as a whole.
-use Rattle.std.proofs.Common.{◌≡◌, Bool, false, ◌||◌, ◌&&◌, List, [], ◌∷◌, None, option_and_then, unwrap_or, refl, sym, ap, ◌∙◌}
+use Rattle.std.proofs.Common.{◌≡◌, Bool, false, ◌||◌, ◌&&◌, List, [], ◌∷◌, Some, None, option_and_then, unwrap_or, refl, sym, ap, ◌∙◌}
 use Rattle.std.proofs.lemmas.Bool.{false≢true}
 use Rattle.std.proofs.lemmas.Cmp.{tied_itself}
 use Rattle.std.specs.BTreeSet.{BTreeSet, IsEmpty, IsUnchanged}
@@ -22,6 +22,7 @@ use Rattle.reg_fold.specs.InForce.{Scope, level_of, mode_name_of, own_level, own
 use Rattle.reg_fold.specs.Kept.{IsKept}
 use Rattle.reg_fold.specs.Opaque.{is_opaque}
 use Rattle.reg_fold.specs.Scopes.{kept_own}
+use Rattle.reg_fold.specs.SoftDeletes.{delete_of, own_delete}
 use Rattle.reg_fold.specs.Spots.{Spot, HasSpots, is_deleted, is_spot, spot_cmp}
 use Rattle.reg_entries.specs.declared.entry.Entry.{Entry}
 use Rattle.reg_fold.specs.declared.index.Index.{Index}
@@ -64,17 +65,23 @@ module _ (total : IsTotalOrder record_cmp) where
   unfolding own_mode_name
   own_mode_name-empty rs rs_are q = ap (λ rs. own_mode_name rs q) rs_are ∙ ap (option_and_then mode_name_of) (last-empty (keys.Mode q))
 
+  own_delete-empty : (rs : Records) → rs ≡ set.empty → (q : Scope) → own_delete rs q ≡ None
+  unfolding own_delete
+  own_delete-empty rs rs_are None = refl
+  own_delete-empty rs rs_are (Some s) = ap (λ rs. option_and_then delete_of (last rs (keys.DeleteSubject s))) rs_are ∙ ap (option_and_then delete_of) (last-empty (keys.DeleteSubject s))
+
   id_mark-empty : (rs : Records) → rs ≡ set.empty → id_mark rs ≡ 0
   unfolding id_mark
   id_mark-empty rs rs_are = ap id_mark rs_are ∙ ap (λ o. unwrap_or (option_and_then id_marked_of o) 0) (last-empty keys.IdMark)
 
   -- without a record nothing is kept
   pub IsKept-empty : (index : Index) → index.last ≡ set.empty → index.entries ≡ finmap.empty → IsEmpty index.unread → IsEmpty index.deleted
-      → ((q : Scope) → kept_own index.levels q ≡ None) → ((q : Scope) → kept_own index.modes q ≡ None) → index.id_mark ≡ 0 → IsKept index
-  IsKept-empty index last_is entries_are none_unread none_deleted no_level no_mode no_mark = record {
+      → ((q : Scope) → kept_own index.deletes q ≡ None) → ((q : Scope) → kept_own index.levels q ≡ None) → ((q : Scope) → kept_own index.modes q ≡ None) → index.id_mark ≡ 0 → IsKept index
+  IsKept-empty index last_is entries_are none_unread none_deleted no_delete no_level no_mode no_mark = record {
     all_entries = entries_are ∙ sym (ap entry_map last_is ∙ entry_map-empty);
     all_unread = HasSpots-empty is_opaque index.unread index.last last_is none_unread;
     all_deleted = HasSpots-empty is_deleted index.deleted index.last last_is none_deleted;
+    all_deletes = λ q. no_delete q ∙ sym (own_delete-empty index.last last_is q);
     all_levels = λ q. no_level q ∙ sym (own_level-empty index.last last_is q);
     all_modes = λ q. no_mode q ∙ sym (own_mode_name-empty index.last last_is q);
     the_mark = no_mark ∙ sym (id_mark-empty index.last last_is);
@@ -89,11 +96,12 @@ spots-copied (x ∷ xs) (y ∷ ys) h = λ i. (h.0.0 i, (h.0.1.0 i, h.0.1.1 i)) �
 
 -- what is kept of the same records and spots is kept
 pub IsKept-same : (old new : Index) → new.last ≡ old.last → new.entries ≡ old.entries → IsUnchanged old.unread new.unread → IsUnchanged old.deleted new.deleted
-    → ((q : Scope) → kept_own new.levels q ≡ kept_own old.levels q) → ((q : Scope) → kept_own new.modes q ≡ kept_own old.modes q) → new.id_mark ≡ old.id_mark → IsKept old → IsKept new
-IsKept-same old new last_is entries_are unread deleted levels modes mark kept = record {
+    → ((q : Scope) → kept_own new.deletes q ≡ kept_own old.deletes q) → ((q : Scope) → kept_own new.levels q ≡ kept_own old.levels q) → ((q : Scope) → kept_own new.modes q ≡ kept_own old.modes q) → new.id_mark ≡ old.id_mark → IsKept old → IsKept new
+IsKept-same old new last_is entries_are unread deleted deletes levels modes mark kept = record {
   all_entries = entries_are ∙ kept.all_entries ∙ sym (ap entry_map last_is);
   all_unread = spots-same is_opaque old.last new.last old.unread new.unread last_is unread kept.all_unread;
   all_deleted = spots-same is_deleted old.last new.last old.deleted new.deleted last_is deleted kept.all_deleted;
+  all_deletes = λ q. deletes q ∙ kept.all_deletes q ∙ sym (ap (λ rs. own_delete rs q) last_is);
   all_levels = λ q. levels q ∙ kept.all_levels q ∙ sym (ap (λ rs. own_level rs q) last_is);
   all_modes = λ q. modes q ∙ kept.all_modes q ∙ sym (ap (λ rs. own_mode_name rs q) last_is);
   the_mark = mark ∙ kept.the_mark ∙ sym (ap id_mark last_is);

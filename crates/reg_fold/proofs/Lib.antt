@@ -11,6 +11,8 @@ mod Owned
 mod Placed
 mod Places
 mod Readable
+mod Settled
+mod SoftDeletes
 mod Spotted
 mod Standing
 mod Steps

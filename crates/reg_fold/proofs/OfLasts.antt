@@ -73,7 +73,7 @@ module _ (total : IsTotalOrder record_cmp) (ties : IsAntisymmetric record_cmp) (
       ] is
 
 -- an entry that is found at a place is among the entries
-Contains-find : (es : List (Place × Entry)) (q : Place) (e : Entry) → find place_cmp q es ≡ Some e → Contains (map (λ x. x.1) es) e
+pub Contains-find : (es : List (Place × Entry)) (q : Place) (e : Entry) → find place_cmp q es ≡ Some e → Contains (map (λ x. x.1) es) e
 Contains-find [] q e is = absurd (none_some e is)
 Contains-find (f ∷ fs) q e is =
     elim (eq_by_cmp place_cmp q f.0) as (λ b. cond b (Some f.1) (find place_cmp q fs) ≡ Some e → Contains (map (λ x. x.1) (f ∷ fs)) e) [
@@ -90,7 +90,7 @@ find-below q (f ∷ fs) h =
     ap (λ o. cond (is_eq o) (Some f.1) (find place_cmp q fs)) (less _ (left_of _ _ h)) ∙ find-below q fs (right_of (is_lt (place_cmp q f.0)) _ h)
 
 -- an entry among sorted ones is found at its place
-find-contained : (es : List (Place × Entry)) (e : Entry) → ArePlaced es → T (is_sorted place_cmp es) → (k : ℕ) → k < length (map (λ x. x.1) es) → get_or (map (λ x. x.1) es) k e ≡ e → find place_cmp (place_of e) es ≡ Some e
+pub find-contained : (es : List (Place × Entry)) (e : Entry) → ArePlaced es → T (is_sorted place_cmp es) → (k : ℕ) → k < length (map (λ x. x.1) es) → get_or (map (λ x. x.1) es) k e ≡ e → find place_cmp (place_of e) es ≡ Some e
 find-contained [] e placed sorted k within at = absurd (omega arith)
 find-contained (f ∷ fs) e placed sorted zero within at =
     let here : place_of e ≡ f.0 = sym (placed.0 ∙ ap place_of at) in
@@ -105,7 +105,7 @@ find-contained (f ∷ fs) e placed sorted (suc k) within at =
       | false ↦ λ _. later
     ] refl
 
-and_then_some : {A B : Type 0} (f : A → Option B) (o : Option A) (b : B) → option_and_then f o ≡ Some b → (a : A) × (o ≡ Some a) × (f a ≡ Some b)
+pub and_then_some : {A B : Type 0} (f : A → Option B) (o : Option A) (b : B) → option_and_then f o ≡ Some b → (a : A) × (o ≡ Some a) × (f a ≡ Some b)
 and_then_some f None b is = absurd (none_some b is)
 and_then_some f (Some a) b is = (a, refl, is)
 

@@ -16,6 +16,7 @@ use Rattle.reg_fold.specs.Entries.{entry_map, entry_of}
 use Rattle.reg_entries.specs.EntryOrder.{Place, place_cmp, place_of}
 use Rattle.reg_fold.specs.Opaque.{is_version}
 use Rattle.reg_fold.specs.Remarked.{is_delete, is_soft_after}
+use Rattle.reg_fold.specs.SoftDeletes.{delete_of}
 use Rattle.reg_fold.specs.Spots.{HasSpots, Spot, is_deleted}
 use Rattle.reg_fold.specs.Step.{EntriesAreOfLasts, IsStep}
 use Rattle.reg_entries.specs.Marked.{with_soft}
@@ -53,7 +54,7 @@ module _ (S T : Records) (r : Record) (step : IsStep S T r) where
   entries-other version delete = after_other S T step.from_before step.from_after r step.others (no_version r.key version) (no_delete r.key delete)
 
   pub entries-marked : LastIsGreatest → (deleted : BTreeSet Spot) → HasSpots is_deleted S deleted → (subject : List ℕ) → r.key ≡ keys.DeleteSubject subject → (m : finmap.FinMap place_cmp Entry)
-      → ((p : Place) → finmap.get m p ≡ option_map (λ e. cond (bytes_eq e.subject subject) (with_soft (is_soft_after deleted r e) e) e) (finmap.get (entry_map S) p)) → m ≡ entry_map T
+      → ((p : Place) → finmap.get m p ≡ option_map (λ e. cond (bytes_eq e.subject subject) (with_soft (is_soft_after deleted (delete_of r) e) e) e) (finmap.get (entry_map S) p)) → m ≡ entry_map T
   entries-marked greatest deleted has subject of_key m marked =
       finmap.same_map place_cmp-total place_cmp-ties m (entry_map T) (λ p.
       marked p ∙ sym (after_own_delete S T step.from_before step.from_after r step.others step.newest deleted has subject of_key greatest p))

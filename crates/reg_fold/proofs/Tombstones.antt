@@ -7,8 +7,7 @@ use Rattle.std.specs.FinSet.{IsAntisymmetric, contains, contains-from_list, cont
 use Rattle.std.specs.List.{list_all, list_any}
 use Rattle.std.specs.Option.{option_map_or}
 use Rattle.std.specs.Ordering.{eq_by_cmp}
-use Rattle.serde_json.specs.Read.{read}
-use Rattle.reg_values.specs.Value.{value_in, value_of}
+use Rattle.reg_values.specs.Value.{value_of, value_of_text}
 use Rattle.reg_records.specs.declared.key.Key.{Key}
 use Rattle.reg_records.specs.declared.record.Record.{Record}
 use Rattle.reg_set.specs.Join.{LastIsGreatest, LastOfLastRecords, LastRecordsOfUnion, NoLastIsNoRecord}
@@ -46,7 +45,7 @@ module _ (rs : Records) (r : Record) (tombstone : is_tombstone rs r ≡ true) wh
   has_last = second_true _ _ (second_true _ _ tombstone)
 
   says_nothing : value_of r ≡ None
-  says_nothing = ap (option_and_then (λ text. option_and_then (value_in r.key) (read text))) no_value
+  says_nothing = ap (option_and_then (value_of_text r.key)) no_value
 
   pub gives_none : (ss : Records) → entry_of ss r ≡ None
   unfolding entry_of

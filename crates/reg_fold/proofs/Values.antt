@@ -2,12 +2,11 @@
 use Rattle.std.proofs.Common.{◌≡◌, ℕ, Bool, true, false, cond, ◌&&◌, codes, List, option_map, Option, Some, None, option_and_then, refl, sym, ap, ◌∙◌}
 use Rattle.std.specs.Prelude.{IfSome}
 use Rattle.serde_json.specs.Data.{Data}
-use Rattle.serde_json.specs.Find.{as_object}
 use Rattle.serde_json.specs.Read.{read}
 use Rattle.avro_schema.specs.Schema.{is_schema}
 use Rattle.reg_level_names.specs.Level.{is_level}
 use Rattle.reg_records.specs.Json.{text_at, text_where, number_at, has_text_at, has_number_at}
-use Rattle.reg_values.specs.Value.{value_of, value_in, is_plain_avro, deleted_in}
+use Rattle.reg_values.specs.Value.{value_of, value_of_text, value_in, is_plain_avro, deleted_in}
 use Rattle.reg_records.specs.declared.key.Key.{Key}
 use Rattle.reg_records.specs.declared.key.Key.TheVariants as keys
 use Rattle.reg_records.specs.declared.record.Record.{Record}
@@ -65,10 +64,19 @@ value_in-under (keys.DeleteSubject subject) d =
     let P : Value → Type 0 = IsUnder (keys.DeleteSubject subject) in
     if_so P (has_text_at (codes "subject") subject d) (option_map (λ version. values.DeleteSubject subject version) (number_at (codes "version") d))
     (mapped P (number_at (codes "version") d) (λ version. values.DeleteSubject subject version) (λ version. refl))
-value_in-under keys.Noop d = mapped (IsUnder keys.Noop) (as_object d) (λ _. values.Noop) (λ _. refl)
+value_in-under keys.Noop d = refl
 value_in-under keys.IdMark d = mapped (IsUnder keys.IdMark) (number_at (codes "id") d) (λ id. values.IdMark id) (λ id. refl)
 
+read-under : (key : Key) (text : List ℕ) → IfSome (option_and_then (value_in key) (read text)) (IsUnder key)
+read-under key text = each_some (IsUnder key) (read text) (value_in key) (λ d _. value_in-under key d)
+
+value_of_text-under : (key : Key) (text : List ℕ) → IfSome (value_of_text key text) (IsUnder key)
+value_of_text-under (keys.Schema subject version) text = read-under (keys.Schema subject version) text
+value_of_text-under (keys.Config scope) text = read-under (keys.Config scope) text
+value_of_text-under (keys.Mode scope) text = read-under (keys.Mode scope) text
+value_of_text-under (keys.DeleteSubject subject) text = read-under (keys.DeleteSubject subject) text
+value_of_text-under keys.Noop text = refl
+value_of_text-under keys.IdMark text = read-under keys.IdMark text
+
 pub value_of-under : (r : Record) → IfSome (value_of r) (IsUnder r.key)
-value_of-under r =
-    let P : Value → Type 0 = IsUnder r.key in
-    each_some P r.value (λ text. option_and_then (value_in r.key) (read text)) (λ text _. each_some P (read text) (value_in r.key) (λ d _. value_in-under r.key d))
+value_of-under r = each_some (IsUnder r.key) r.value (value_of_text r.key) (λ text _. value_of_text-under r.key text)

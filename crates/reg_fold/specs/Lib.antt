@@ -8,6 +8,7 @@ pub mod Marks
 pub mod Opaque
 pub mod Remarked
 pub mod Scopes
+pub mod SoftDeletes
 pub mod Spots
 pub mod Standing
 pub mod Step

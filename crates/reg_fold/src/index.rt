@@ -2,11 +2,13 @@
 ghost use Rattle.std.specs.Prelude.{◌≡◌, ◌≢◌, IsSome, IfSome, IfOk, OnOk, OnErr, Some, None, true, false, is_some};
 ghost use Rattle.std.specs.FinMap as finmap;
 ghost use Rattle.std.specs.FinSet as set;
+ghost use Rattle.std.specs.List.{filter};
 ghost use Rattle.reg_records.specs.declared.key.Key.TheVariants as keys;
 ghost use Rattle.reg_set.specs.LastRecords.{last, last_records, with_last};
 ghost use Rattle.reg_fold.specs.Entries.{AreOfLasts, entries, entry_of};
 ghost use Rattle.reg_fold.specs.Opaque.{is_version, opaque};
-ghost use Rattle.reg_fold.specs.Remarked.{is_soft_after};
+ghost use Rattle.reg_fold.specs.Remarked.{is_changed, is_soft_after};
+ghost use Rattle.reg_fold.specs.Scopes.{kept_own};
 ghost use Rattle.reg_fold.specs.Spots.{is_deleted};
 ghost use Rattle.reg_fold.specs.Step.{EntriesAreOfLasts, IsStep};
 ghost use Rattle.reg_fold.specs.Tombstones.{is_tombstone};
@@ -14,16 +16,16 @@ ghost use Rattle.reg_entries.specs.EntryOrder.{place_of};
 ghost use Rattle.reg_entries.specs.Marked.{MarksEach};
 ghost use Rattle.reg_entries.specs.Sought.{of_subject};
 
-use crate::marks::marks_of;
-use crate::reading::{Reading, id_marked_of, reading_of};
+use crate::marks::{SoftDelete, keep_changed, marks_of};
+use crate::reading::{Reading, delete_of, id_marked_of, reading_of};
 use crate::scoped::Scoped;
+use crate::settings::put_own;
 use crate::spots::{Spot, forget, forget_elsewhere, spot_of};
 use base_text::Text;
 use reg_entries::{Entries, Entry, Mark};
 use reg_level_names::Level;
 use reg_records::{Key, Record};
 use reg_set::{LastRecords, last_is_greatest, last_records_are_enough, records_are_ordered};
-use reg_values::decode_value;
 use std::alloc::{AllocError, Global};
 use std::collections::BTreeSet;
 
@@ -38,6 +40,8 @@ pub(crate) struct Index {
     pub(crate) unread: BTreeSet<Spot>,
     // Where the versions are whose own values say deleted.
     pub(crate) deleted: BTreeSet<Spot>,
+    // Of each subject the last soft delete, as far as it can be read.
+    pub(crate) deletes: Scoped<SoftDelete>,
     // Those that scopes have of their own.
     pub(crate) levels: Scoped<Level>,
     // The names of those that scopes have of their own, as their records have them.
@@ -58,6 +62,7 @@ impl Clone for Index {
             entries: self.entries.clone()?,
             unread: self.unread.clone()?,
             deleted: self.deleted.clone()?,
+            deletes: self.deletes.clone()?,
             levels: self.levels.clone()?,
             modes: self.modes.clone()?,
             id_mark: self.id_mark,
@@ -80,6 +85,7 @@ impl Index {
             entries: Entries::new(alloc),
             unread: BTreeSet::new(alloc),
             deleted: BTreeSet::new(alloc),
+            deletes: Scoped::new(alloc),
             levels: Scoped::new(alloc),
             modes: Scoped::new(alloc),
             id_mark: 0,
@@ -121,7 +127,7 @@ impl Index {
         ensures refused { OnErr result (self.new.last ≡ self.old.last) }
     {
         let place = (subject.clone()?, version);
-        match reading_of(self.alloc, &self.last, given)? {
+        match reading_of(self, given)? {
             Some(
                 Reading {
                     entry,
@@ -280,22 +286,28 @@ impl Index {
         ensures added { OnOk result (self.new.last ≡ last_records (set.insert self.old.last given.now)) }
         ensures refused { OnErr result (self.new.last ≡ self.old.last) }
     {
-        let marks = self.marks(given, subject)?;
+        let delete = delete_of(self.alloc, given)?;
+        let marks = self.marks(delete, subject)?;
         let name = subject.clone()?;
+        let scope = Some(subject.clone()?);
         last_is_greatest();
-        put_last(&mut self.last, given)?;
+        put_own(&mut self.last, &mut self.deletes, given, &scope, delete)?;
         self.entries.mark(name, &marks);
         Ok(())
     }
 
-    /// The marks of a subject's entries once that is its last soft delete.
-    fn marks(&self, given: &Record, subject: &Text) -> Result<Vec<Mark>, AllocError>
-        ensures { IfOk result (λ marks. MarksEach (is_soft_after self.now.deleted given.now) marks.items
-            (of_subject (finmap.values self.now.entries) subject.now)) }
+    /// The marks of a subject's entries once that is its last soft delete, if it has one: of those
+    /// alone that it covers and the one before doesn't, or the other way round.
+    fn marks(&self, delete: Option<SoftDelete>, subject: &Text) -> Result<Vec<Mark>, AllocError>
+        ensures { IfOk result (λ marks. MarksEach (is_soft_after self.now.deleted delete) marks.items
+            (filter (is_changed (kept_own self.now.deletes (Some subject.now)) delete)
+            (of_subject (finmap.values self.now.entries) subject.now))) }
     {
-        let found = self.entries.of_subject(subject.as_str())?;
-        let value = decode_value(self.alloc, given)?;
-        marks_of(self.alloc, &self.deleted, &found, given, &value)
+        let before = self.deletes.of(Some(subject.as_str())).copied();
+        let mut found = self.entries.of_subject(subject.as_str())?;
+        keep_changed(&mut found, before, delete);
+        let marks = marks_of(self.alloc, &self.deleted, &found, delete)?;
+        Ok(marks)
     }
 
     /// Adds a record that says nothing and is news.

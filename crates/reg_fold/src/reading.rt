@@ -4,15 +4,18 @@ ghost use Rattle.std.specs.Option.{option_map_or};
 ghost use Rattle.reg_fold.specs.Entries.{entry_of};
 ghost use Rattle.reg_fold.specs.IdMark.{id_marked_of};
 ghost use Rattle.reg_fold.specs.InForce.{level_of, mode_name_of};
+ghost use Rattle.reg_fold.specs.Marks.{is_marked};
+ghost use Rattle.reg_fold.specs.Scopes.{AreOwn};
+ghost use Rattle.reg_fold.specs.SoftDeletes.{delete_of, own_delete};
 ghost use Rattle.reg_fold.specs.Spots.{is_deleted};
 
-use crate::marks::is_marked;
+use crate::index::Index;
+use crate::marks::{SoftDelete, is_covered};
 use avro_schema::Schema;
 use base_text::Text;
 use reg_entries::Entry;
 use reg_level_names::Level;
 use reg_records::{Record, Value};
-use reg_set::LastRecords;
 use reg_values::{Decoded, decode, decode_value};
 use std::alloc::{AllocError, Global};
 
@@ -25,15 +28,12 @@ pub(crate) struct Reading {
 
 /// What a record says, if it has a version's value, which is read once.
 #[tactic(auto, unfolding(crate::specs::Entries::entry_of))]
-pub(crate) fn reading_of(
-    alloc: Global,
-    last: &LastRecords,
-    given: &Record,
-) -> Result<Option<Reading>, AllocError>
-    ensures entry { IfOk result (λ found. option_map (λ reading. reading.entry) found ≡ entry_of last.now given.now) }
+pub(crate) fn reading_of(index: &Index, given: &Record) -> Result<Option<Reading>, AllocError>
+    requires { AreOwn (own_delete index.now.last) index.now.deletes }
+    ensures entry { IfOk result (λ found. option_map (λ reading. reading.entry) found ≡ entry_of index.now.last given.now) }
     ensures deleted { IfOk result (λ found. option_map_or (λ reading. reading.deleted) found false ≡ is_deleted given.now) }
 {
-    let Some(Decoded { value, schema }) = decode(alloc, given)? else {
+    let Some(Decoded { value, schema }) = decode(index.alloc, given)? else {
         return Ok(None);
     };
     match value {
@@ -44,13 +44,13 @@ pub(crate) fn reading_of(
             schema: text,
             deleted,
         } => {
-            let soft = deleted || is_marked(alloc, last, &subject, version, given.offset)?;
+            let soft = deleted || is_marked(index, &subject, version, given.offset);
             let entry = Entry {
                 subject,
                 version,
                 id,
                 text,
-                normal: normal_of(alloc, &schema)?,
+                normal: normal_of(index.alloc, &schema)?,
                 offset: given.offset,
                 soft,
             };
@@ -62,6 +62,15 @@ pub(crate) fn reading_of(
         | Value::Noop
         | Value::IdMark(_) => Ok(None),
     }
+}
+
+/// Whether the last soft delete of the subject covers that version and offset.
+fn is_marked(index: &Index, subject: &Text, version: u32, offset: u64) -> bool
+    requires { AreOwn (own_delete index.now.last) index.now.deletes }
+    ensures { result ≡ is_marked index.now.last subject.now version offset }
+{
+    let delete = index.deletes.of(Some(subject.as_str())).copied();
+    is_covered(delete, version, offset)
 }
 
 /// The normal text of a schema; without one no text.
@@ -103,6 +112,27 @@ pub(crate) fn mode_name_of(alloc: Global, given: &Record) -> Result<Option<Text>
             Value::Schema { .. }
             | Value::Config(_)
             | Value::DeleteSubject { .. }
+            | Value::Noop
+            | Value::IdMark(_),
+        )
+        | None => Ok(None),
+    }
+}
+
+/// The soft delete that a record is, if it has the value of one.
+#[tactic(auto, unfolding(crate::specs::SoftDeletes::delete_of))]
+pub(crate) fn delete_of(alloc: Global, given: &Record) -> Result<Option<SoftDelete>, AllocError>
+    ensures { IfOk result (λ delete. delete ≡ delete_of given.now) }
+{
+    match decode_value(alloc, given)? {
+        Some(Value::DeleteSubject { version, .. }) => Ok(Some(SoftDelete {
+            offset: given.offset,
+            version,
+        })),
+        Some(
+            Value::Schema { .. }
+            | Value::Config(_)
+            | Value::Mode(_)
             | Value::Noop
             | Value::IdMark(_),
         )

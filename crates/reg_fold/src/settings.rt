@@ -57,7 +57,7 @@ impl Index {
 
 /// Makes a record that is news the last of its key, and gives the scope its own, or takes away what
 /// it has. The only error is want of memory; all is then as it was.
-fn put_own<T: Drop>(
+pub(crate) fn put_own<T: Drop>(
     lasts: &mut LastRecords,
     owns: &mut Scoped<T>,
     given: &Record,

@@ -568,3 +568,45 @@ fn resolves_as_the_plain_search(rt: HostRuntime) {
         }
     }
 }
+
+/// What the searches say of a random record of many fields against so many records of few.
+fn long_verdict(
+    alloc: Global,
+    random: &mut Random,
+    many: usize,
+    fields: usize,
+) -> Result<String, AllocError> {
+    let writer = random.short_writers(alloc, many, fields)?;
+    let reader = random.long_reader(alloc, fields)?;
+    agreed_verdict(alloc, reader.as_str(), writer.as_str())
+}
+
+/// Whether both searches say the same of such a pair, which are schemas.
+fn long_alike(
+    alloc: Global,
+    random: &mut Random,
+    many: usize,
+    fields: usize,
+) -> Result<bool, AllocError> {
+    let found = long_verdict(alloc, random, many, fields)?;
+    Ok(!found.as_str().starts_with(DIFFER) && found.as_str() != NO_SCHEMA)
+}
+
+/// How many pairs are tried of how many fields against how many records.
+static LONG_SIZES: [(usize, usize, usize); 4] = [
+    (20, 17, 3),
+    (10, 101, 5),
+    (2, 401, 8),
+    (1, 701, 2),
+];
+
+#[test]
+fn resolves_long_records_as_the_plain_search(rt: HostRuntime) {
+    let mut random = Random::new(43);
+    for (pairs, fields, many) in &LONG_SIZES {
+        for pair in 0..*pairs {
+            let is_alike = long_alike(rt.alloc(), &mut random, *many, *fields);
+            assert!(rt; is_alike == Ok(true), "pair {pair} of {fields} fields");
+        }
+    }
+}

@@ -141,6 +141,84 @@ impl Random {
         }
     }
 
+    /// Some type without a name of its own, always of the same kind for the same number.
+    fn plain_type_at(&mut self, number: usize) -> &'static str {
+        if self.below(200) == 0 {
+            return "\"boolean\"";
+        }
+        match TYPES.get(number % 9) {
+            Some(text) => text,
+            None => "",
+        }
+    }
+
+    /// A union of so many records of up to three of the fields f0 and so on.
+    pub fn short_writers(
+        &mut self,
+        alloc: Global,
+        many: usize,
+        fields: usize,
+    ) -> Result<String, AllocError> {
+        let mut text = String::from_str(alloc, "[")?;
+        let mut separator = "";
+        for number in 0..many {
+            write!(
+                text,
+                "{separator}{{\"type\":\"record\",\"name\":\"k{number}.R\",\"fields\":["
+            )?;
+            self.write_few(&mut text, fields)?;
+            text.push_str("]}")?;
+            separator = ",";
+        }
+        text.push_str("]")?;
+        Ok(text)
+    }
+
+    fn write_few(&mut self, text: &mut String, fields: usize) -> Result<(), AllocError> {
+        let many = fields.max(4);
+        let mut number = self.below(many);
+        let mut separator = "";
+        for _ in 0..self.below(4) {
+            let of = self.plain_type_at(number);
+            write!(text, "{separator}{{\"name\":\"f{number}\",\"type\":{of}}}")?;
+            separator = ",";
+            number = number.saturating_add(1) % many;
+        }
+        Ok(())
+    }
+
+    /// A record that reads many fields, most of them with a default, and some by an alias.
+    pub fn long_reader(&mut self, alloc: Global, fields: usize) -> Result<String, AllocError> {
+        let mut text = String::from_str(alloc, "{\"type\":\"record\",\"name\":\"R\",\"fields\":[")?;
+        let mut separator = "";
+        for number in 0..fields {
+            text.push_str(separator)?;
+            self.write_long(&mut text, number)?;
+            separator = ",";
+        }
+        text.push_str("]}")?;
+        Ok(text)
+    }
+
+    fn write_long(&mut self, text: &mut String, number: usize) -> Result<(), AllocError> {
+        let of = self.plain_type_at(number);
+        match self.below(2000) {
+            0 => write!(text, "{{\"name\":\"f{number}\",\"type\":{of}}}"),
+            1..=200 => {
+                write!(
+                    text,
+                    "{{\"name\":\"g{number}\",\"aliases\":[\"z\",\"f{number}\"],\"type\":{of},\"default\":0}}"
+                )
+            }
+            _ => {
+                write!(
+                    text,
+                    "{{\"name\":\"f{number}\",\"type\":{of},\"default\":0}}"
+                )
+            }
+        }
+    }
+
     /// The front of a record, with its first two fields.
     fn head(&mut self, alloc: Global) -> Result<String, AllocError> {
         let symbols = self.one_of(&ENUMS);

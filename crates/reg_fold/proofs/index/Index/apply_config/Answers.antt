@@ -4,6 +4,7 @@ use Rattle.reg_fold.specs.Remarked.{is_delete}
 use Rattle.reg_fold.specs.Scopes.{HasOwn}
 use Rattle.reg_fold.specs.Spots.{is_deleted}
 use Rattle.reg_fold.proofs.Owned.{is_id_mark, is_mode, levels-change, mark-stays, modes-stay}
+use Rattle.reg_fold.proofs.SoftDeletes.{deletes-stay}
 use Rattle.reg_fold.proofs.Spotted.{spots-other}
 use Rattle.reg_fold.proofs.Steps.{entries-other}
 use Rattle.reg_fold.proofs.index.Index.apply_config.Goals as goal
@@ -20,6 +21,7 @@ returns-clause-kept c =
       all_entries = c.requires.kept.all_entries ∙ sym (entries-other old.last after r put.step no_version (ap is_delete c.requires.of_key));
       all_unread = spots-other is_opaque old.last after r put.step no_version old.unread c.requires.kept.all_unread;
       all_deleted = spots-other is_deleted old.last after r put.step no_version old.deleted c.requires.kept.all_deleted;
+      all_deletes = deletes-stay old.last after r put.step old.deletes c.requires.kept.all_deletes (ap is_delete c.requires.of_key);
       all_levels = levels-change old.last after r put.step old.levels c.requires.kept.all_levels c.args.scope.now c.requires.of_key c.put_own.new.owns has;
       all_modes = modes-stay old.last after r put.step old.modes c.requires.kept.all_modes (ap is_mode c.requires.of_key);
       the_mark = c.requires.kept.the_mark ∙ sym (mark-stays old.last after r put.step (ap is_id_mark c.requires.of_key));

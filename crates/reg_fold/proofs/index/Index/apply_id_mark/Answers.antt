@@ -3,6 +3,7 @@ use Rattle.reg_fold.specs.Opaque.{is_opaque, is_version}
 use Rattle.reg_fold.specs.Remarked.{is_delete}
 use Rattle.reg_fold.specs.Spots.{is_deleted}
 use Rattle.reg_fold.proofs.Owned.{is_config, is_mode, levels-stay, mark-changes, modes-stay}
+use Rattle.reg_fold.proofs.SoftDeletes.{deletes-stay}
 use Rattle.reg_fold.proofs.Spotted.{spots-other}
 use Rattle.reg_fold.proofs.Steps.{entries-other}
 use Rattle.reg_fold.proofs.index.Index.apply_id_mark.Goals as goal
@@ -18,6 +19,7 @@ returns-clause-kept c =
       all_entries = c.requires.kept.all_entries ∙ sym (entries-other old.last after r step no_version (ap is_delete c.requires.of_key));
       all_unread = spots-other is_opaque old.last after r step no_version old.unread c.requires.kept.all_unread;
       all_deleted = spots-other is_deleted old.last after r step no_version old.deleted c.requires.kept.all_deleted;
+      all_deletes = deletes-stay old.last after r step old.deletes c.requires.kept.all_deletes (ap is_delete c.requires.of_key);
       all_levels = levels-stay old.last after r step old.levels c.requires.kept.all_levels (ap is_config c.requires.of_key);
       all_modes = modes-stay old.last after r step old.modes c.requires.kept.all_modes (ap is_mode c.requires.of_key);
       the_mark = c.unwrap_or-self.ensures ∙ ap (λ o. unwrap_or o 0) c.in_ok-marked.ensures ∙ sym (mark-changes old.last after r step c.requires.of_key);

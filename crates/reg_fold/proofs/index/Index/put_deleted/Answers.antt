@@ -9,9 +9,12 @@ use Rattle.reg_fold.specs.Entries.{entry_map}
 use Rattle.reg_fold.specs.IdMark.{id_mark}
 use Rattle.reg_fold.specs.InForce.{own_level, own_mode_name}
 use Rattle.reg_fold.specs.Opaque.{is_opaque}
+use Rattle.reg_fold.specs.Remarked.{is_delete}
 use Rattle.reg_fold.specs.Scopes.{AreOwn}
+use Rattle.reg_fold.specs.SoftDeletes.{own_delete}
 use Rattle.reg_fold.specs.Spots.{Forgets, HasSpots, elsewhere, is_deleted, spot_cmp}
 use Rattle.reg_fold.proofs.Owned.{is_config, is_id_mark, is_mode, levels-stay, mark-stays, modes-stay}
+use Rattle.reg_fold.proofs.SoftDeletes.{deletes-stay}
 use Rattle.reg_fold.proofs.Spotted.{readable, spots-forgotten, spots-put, spots-taken_back}
 use Rattle.reg_fold.proofs.Steps.{entries-put}
 use Rattle.reg_fold.proofs.index.Index.put_deleted.Goals as goal
@@ -34,6 +37,7 @@ returns-in-Ok-clause-kept c =
       all_deleted = spots-put is_deleted old.last after r last.step place c.requires.of_key c.in-Ok.before last.before old.deleted c.requires.kept.all_deleted
           c.requires.own c.insert.new.self c.forget_elsewhere.new.spots put
           (subst (λ o. Forgets (elsewhere o r.offset) c.insert.new.self c.forget_elsewhere.new.spots) c.spot_of-spot.ensures c.forget_elsewhere.ensures);
+      all_deletes = deletes-stay old.last after r last.step old.deletes c.requires.kept.all_deletes (ap is_delete c.requires.of_key);
       all_levels = levels-stay old.last after r last.step old.levels c.requires.kept.all_levels (ap is_config c.requires.of_key);
       all_modes = modes-stay old.last after r last.step old.modes c.requires.kept.all_modes (ap is_mode c.requires.of_key);
       the_mark = c.requires.kept.the_mark ∙ sym (mark-stays old.last after r last.step (ap is_id_mark c.requires.of_key));
@@ -59,6 +63,7 @@ returns-then-is_new-clause-kept c =
       all_unread = subst (λ (rs : Records). HasSpots is_opaque rs old.unread) (sym stay.lasts_stay) c.requires.kept.all_unread;
       all_deleted = subst (λ (rs : Records). HasSpots is_deleted rs c.remove.new.self) (sym stay.lasts_stay)
           (spots-taken_back is_deleted old.last old.deleted c.insert.new.self c.remove.new.self (r.offset, place) c.requires.kept.all_deleted absent put c.remove.ensures.updates);
+      all_deletes = subst (λ (rs : Records). AreOwn (own_delete rs) old.deletes) (sym stay.lasts_stay) c.requires.kept.all_deletes;
       all_levels = subst (λ (rs : Records). AreOwn (own_level rs) old.levels) (sym stay.lasts_stay) c.requires.kept.all_levels;
       all_modes = subst (λ (rs : Records). AreOwn (own_mode_name rs) old.modes) (sym stay.lasts_stay) c.requires.kept.all_modes;
       the_mark = c.requires.kept.the_mark ∙ sym (ap id_mark stay.lasts_stay);

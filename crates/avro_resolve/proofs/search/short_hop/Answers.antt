@@ -2,7 +2,7 @@ use Rattle.std.proofs.Common.{◌∙◌, ◌<◌, ap, sym, subst, length}
 use Rattle.avro_resolve.specs.Row.{outcome_of}
 use Rattle.avro_resolve.proofs.Rows.{owed_in}
 use Rattle.avro_resolve.proofs.Hops.{hop_in, hop_of_branch}
-use Rattle.avro_resolve.proofs.search.hop_of.Goals as goal
+use Rattle.avro_resolve.proofs.search.short_hop.Goals as goal
 
 pub returns-in-WriterBranches : goal.returns-in-WriterBranches
 returns-in-WriterBranches c =
