@@ -10,6 +10,8 @@ mod judgements;
 #[cfg(test)]
 mod logs;
 #[cfg(test)]
+mod removals;
+#[cfg(test)]
 mod replies;
 #[cfg(test)]
 mod sessions;

@@ -4,6 +4,8 @@
 #[cfg(test)]
 mod judged;
 #[cfg(test)]
+mod large;
+#[cfg(test)]
 mod names;
 #[cfg(test)]
 mod verdicts;

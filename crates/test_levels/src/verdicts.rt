@@ -219,7 +219,11 @@ static ROWS: [Row; 13] = [
 ];
 
 /// Whether a verdict tells that, by its fields and by its message.
-fn is_told(alloc: Global, verdict: &LevelVerdict, want: &str) -> Result<bool, AllocError> {
+pub(crate) fn is_told(
+    alloc: Global,
+    verdict: &LevelVerdict,
+    want: &str,
+) -> Result<bool, AllocError> {
     if verdict.ok {
         return Ok(want == OK && names_no_pair(verdict));
     }

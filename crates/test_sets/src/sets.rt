@@ -1,4 +1,5 @@
 // Sets of records, on worked rows and beside a plain program.
+mod large;
 mod plain;
 mod rows;
 mod side_by_side;

@@ -243,7 +243,7 @@ fn drawn_lines_give_the_same_answers(rt: HostRuntime) {
 }
 
 /// The keys of versions up to that one.
-fn keys(alloc: Global, last: u32) -> Result<Vec<String>, AllocError> {
+pub(super) fn keys(alloc: Global, last: u32) -> Result<Vec<String>, AllocError> {
     let mut keys = Vec::new(alloc);
     for version in 1..=last {
         keys.push(format!(in alloc;
@@ -254,7 +254,7 @@ fn keys(alloc: Global, last: u32) -> Result<Vec<String>, AllocError> {
 }
 
 /// Lines at one offset or at many.
-fn wide(alloc: Global, keys: &[String], spread: u64) -> Result<Vec<Line>, AllocError> {
+pub(super) fn wide(alloc: Global, keys: &[String], spread: u64) -> Result<Vec<Line>, AllocError> {
     let mut lines = Vec::new(alloc);
     let mut offset: u64 = 0;
     for key in keys {
