@@ -198,8 +198,8 @@ module _ {D : Type 0} (asks : D → Query → Result Answer AllocError → D →
   fails-of : {R W : Type 0} (reader reader' : Device R) (writer writer' : Device W) (old new : D) (input : Option (List ℕ)) (bytes : List ℕ) (before after left : Option (List ℕ))
       (e : ServeError) → input ≡ Some bytes → IsStepRefusal asks commands reader reader' writer writer' input left before after old new e
       → FailsFirst asks commands writer writer' old bytes before after new e
-  fails-of reader reader' writer writer' old new input bytes before after left errors.ReadFault is (lost, other, short, same, kept) = (other, same, kept)
-  fails-of reader reader' writer writer' old new input bytes before after left errors.WriteFault is (lost, other, step) =
+  fails-of reader reader' writer writer' old new input bytes before after left errors.ReadFault is (lost, other, short, same, kept, begun) = (other, same, kept)
+  fails-of reader reader' writer writer' old new input bytes before after left errors.WriteFault is (lost, since, other, step) =
       let (out, rest, first, front) = subst (λ i. IfSome i (λ text. (out : List ℕ) × (rest : Option (List ℕ))
       × AnswersFirst asks commands old (Some text) out new rest × AppendsFront before after out)) is step in
       (lost, out, rest, first, front)

@@ -132,7 +132,7 @@ module _ {D : Type 0} (asks : D → Query → Result Answer AllocError → D →
   stops-first writer writer' old new text before after errors.ReadFault (faults, same, kept) =
       (faults, ([], text, (same, refl), Appends-kept before before after [] (Appends-nil before) kept))
   stops-first writer writer' old new text before after errors.WriteFault (lost, out, rest, first, (front, more, parts, written)) =
-      (lost, ([], Some text, old, (refl, refl), out, rest, first, front, more, parts, written))
+      (lost, [], (Some text, old, (refl, refl), out, rest, first, front, more, parts, written))
 
   -- after some
   stops-more : {W : Type 0} (start writer writer' : Device W) (old mid new : D) (text left : List ℕ) (outs : List (List ℕ)) (before middle after : Option (List ℕ)) (e : ServeError)
@@ -148,10 +148,10 @@ module _ {D : Type 0} (asks : D → Query → Result Answer AllocError → D →
     ),
   )
   stops-more start writer writer' old mid new text left outs before middle after errors.WriteFault same answers written
-      (lost, (more, rest, last, others, out, after_it, first, front, missing, parts, appends)) = (
+      (lost, more, (rest, last, others, out, after_it, first, front, missing, parts, appends)) = (
         loses-since start writer writer' same lost,
+        outs ++ more,
         (
-          outs ++ more,
           rest,
           last,
           answers-join old mid last (Some text) (Some left) rest outs more answers others,

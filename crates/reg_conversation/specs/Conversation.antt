@@ -12,7 +12,7 @@ use Rattle.reg_messages.specs.Head.{front_of}
 use Rattle.reg_messages.specs.Reading.{IsShort}
 use Rattle.reg_responses.specs.Writing.{AppendsFront, LosesWriter}
 use Rattle.reg_extent.specs.Extent.{TakesInAll}
-use Rattle.reg_http.specs.Serve.{all_of, Answers, AnswersFirst, IsOutput, IsOver, StopsIn}
+use Rattle.reg_http.specs.Serve.{all_of, Answers, AnswersFirst, IsOutput, IsOver, StopsInNext}
 use Rattle.reg_http.specs.declared.limits.TheConstants.{REQUESTS_LIMIT}
 use Rattle.reg_http.specs.declared.serving.ServeError.{ServeError}
 use Rattle.reg_http.specs.declared.serving.ServeError.TheVariants as errors
@@ -72,4 +72,4 @@ module _ {D : Type 0} (asks : D → Query → Result Answer AllocError → D →
   Stops writer writer' old text before after new errors.ReadFault =
       (faults_of writer' ≡ faults_of writer) × StopsAfter old text before after new
   Stops writer writer' old text before after new errors.WriteFault =
-      LosesWriter writer writer' × StopsIn asks commands old text before after new
+      LosesWriter writer writer' × (outs : List (List ℕ)) × StopsInNext asks commands old text outs before after new

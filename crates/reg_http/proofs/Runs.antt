@@ -1,20 +1,22 @@
 -- The responses to the first requests of a text, and one more.
-use Rattle.std.proofs.Common.{◌≡◌, ◌≤◌, ◌<◌, ◌+◌, ℕ, List, [], ◌∷◌, ◌++◌, refl, sym, ap, subst, ◌∙◌, inl, inr, arith, append-nil, length-append, IfSome, Some, None, true, false}
-use Rattle.std.specs.Prelude.{Bool, Option, Result}
+use Rattle.std.proofs.Common.{◌≡◌, ◌≤◌, ◌<◌, ◌+◌, ℕ, List, [], ◌∷◌, ◌++◌, refl, sym, ap, subst, ◌∙◌, inl, inr, arith, append-nil, length, length-append, IfSome, Some, None, true, false}
+use Rattle.std.specs.Prelude.{Bool, IfErr, Option, Result, Ok, Err, option_map, unwrap_or}
+use Rattle.std.proofs.lemmas.Option.{none-some}
 use Rattle.std.specs.Io.KnownBytes.{Appends, Keeps}
 use Rattle.std.specs.declared.alloc.AllocError.{AllocError}
 use Rattle.std.proofs.KnownBytes.{Appends-nil, Appends-trans, Appends-kept}
 use Rattle.std.proofs.lemmas.Grind.{flat_map-append}
-use Rattle.reg_records.specs.Device.{counted, faults_of}
+use Rattle.reg_records.specs.Device.{BeganAt, KeepsEnd, all_interruptions_of, all_reads_of, begun_of, bytes_in, counted, counted_by, faults_of, place_of, reads_of}
 use Rattle.reg_lookup.specs.declared.answered.Answer.{Answer}
 use Rattle.reg_leader.specs.declared.command.Command.{Command}
 use Rattle.reg_leader.specs.declared.reply.Reply.{Reply}
 use Rattle.reg_records.specs.declared.device.Device.{Device}
 use Rattle.reg_lookup.specs.declared.query.Query.{Query}
 use Rattle.reg_messages.specs.Reading.{TakesShort}
-use Rattle.reg_messages.specs.Taking.{LosesReader}
-use Rattle.reg_responses.specs.Writing.{AppendsFront, LosesWriter}
-use Rattle.reg_http.specs.Serve.{all_of, Answers, AnswersFirst, IsOutput, IsPart, IsServeRefusal, StopsBetween, StopsIn}
+use Rattle.reg_messages.specs.Taking.{CountsReads, LosesReader}
+use Rattle.reg_responses.specs.Writing.{AppendsFront}
+use Rattle.reg_responses.proofs.Written.{IsLostSince-later, LosesWriter-later}
+use Rattle.reg_http.specs.Serve.{LosesRequest, ReadsForRequests, all_of, Answers, AnswersFirst, IsOutput, IsPart, IsServeRefusal, StopsBetween, StopsIn}
 use Rattle.reg_http.specs.ServeSteps.{HasAnswered, IsStepRefusal, Steps}
 use Rattle.reg_http.specs.declared.limits.TheConstants.{REQUESTS_LIMIT}
 use Rattle.reg_http.specs.declared.serving.Next.{Next}
@@ -22,13 +24,27 @@ use Rattle.reg_http.specs.declared.serving.Next.TheVariants as nexts
 use Rattle.reg_http.specs.declared.serving.ServeError.{ServeError}
 use Rattle.reg_http.specs.declared.serving.ServeError.TheVariants as errors
 
--- a reader that is lost later was lost since, where no fault was counted before
-pub LosesReader-later : {R : Type 0} (old mid new : Device R) → faults_of mid ≡ faults_of old → LosesReader mid new → LosesReader old new
-LosesReader-later old mid new same lost = elim lost [ inl one ↦ inl (one ∙ ap counted same) | inr p ↦ inr (p.0 ∙ same, p.1) ]
+-- a reader that is lost in a request whose reads were counted from its front on
+pub lost_request : {R : Type 0} (old new : Device R) → reads_of old ≡ 0 → CountsReads old new → LosesReader old new → LosesRequest old new
+lost_request old new none (few, most, least, more, begun) lost =
+    elim lost [ inl one ↦ inl one | inr p ↦ inr (p.0, p.1, omega (arith, none, least, p.1)) ]
 
--- a writer likewise
-LosesWriter-later : {W : Type 0} (old mid new : Device W) → faults_of mid ≡ faults_of old → LosesWriter mid new → LosesWriter old new
-LosesWriter-later old mid new same lost = elim lost [ inl p ↦ inl (p.0 ∙ ap counted same, p.1) | inr p ↦ inr (p.0 ∙ same, p.1) ]
+-- a reader that is lost later was lost since, where no fault was counted before
+LosesRequest-later : {R : Type 0} (old mid new : Device R) → faults_of mid ≡ faults_of old → counted_by 0 (all_reads_of old) ≤ all_reads_of mid
+    → LosesRequest mid new → LosesRequest old new
+LosesRequest-later old mid new same least lost =
+    elim lost [ inl one ↦ inl (one ∙ ap counted same) | inr p ↦ inr (p.0 ∙ same, p.1, omega (arith, least, p.2)) ]
+
+-- a count that began where a step found the reader began at what was left then
+pub began_here : {R : Type 0} (remaining : R → Option (List ℕ)) (old mid new : Device R) (text here : List ℕ)
+    → bytes_in remaining old ≡ Some text → bytes_in remaining mid ≡ Some here → KeepsEnd remaining old mid → begun_of new ≡ place_of mid
+    → BeganAt old new text here
+began_here remaining old mid new text here known left end begun = elim end [
+  | inl none ↦ absurd (none-some (counted_by (length text) (place_of old)) (sym none ∙ ap (λ o. option_map (λ bytes. counted_by (length bytes) (place_of old)) o) known))
+  | inr same ↦ ap (λ p. counted_by (length here) p) begun ∙ ap (λ o. unwrap_or o 0)
+      (sym (ap (λ o. option_map (λ bytes. counted_by (length bytes) (place_of mid)) o) left) ∙ same
+      ∙ ap (λ o. option_map (λ bytes. counted_by (length bytes) (place_of old)) o) known)
+]
 
 -- the last response joins those before it
 all_of-more : (outs : List (List ℕ)) (out : List ℕ) → all_of (outs ++ out ∷ []) ≡ all_of outs ++ out
@@ -135,43 +151,90 @@ module _ {D : Type 0} (asks : D → Query → Result Answer AllocError → D →
   IsOutput-of old new None before after left count goes part = tt
   IsOutput-of old new (Some text) before after left count goes part = IsOutput-part old new text count goes before after left part
 
-  pub StopsBetween-of : (old mid new : D) (input before middle after left rest : Option (List ℕ)) (count : ℕ)
+  StopsBetween-of : {R : Type 0} (reader reader' : Device R) (old mid new : D) (input before middle after left rest : Option (List ℕ)) (count : ℕ)
+      → count < REQUESTS_LIMIT → ReadsForRequests reader reader' (count + 1)
+      → ((text here : List ℕ) → input ≡ Some text → left ≡ Some here → BeganAt reader reader' text here)
       → HasAnswered asks commands old input count before middle left mid → IfSome left (λ text. TakesShort text rest) → new ≡ mid → Keeps middle after
-      → IfSome input (λ text. StopsBetween asks commands old text rest before after new)
-  StopsBetween-of old mid new None before middle after left rest count done short same kept = tt
-  StopsBetween-of old mid new (Some text) before middle after left rest count (outs, here, is, answers, counted, written) short same kept = (
+      → IfSome input (λ text. StopsBetween asks commands reader reader' old text rest before after new)
+  StopsBetween-of reader reader' old mid new None before middle after left rest count few reads began done short same kept = tt
+  StopsBetween-of reader reader' old mid new (Some text) before middle after left rest count few reads began (outs, here, is, answers, many, written) short same kept = (
     outs,
     here,
     subst (λ d. Answers asks commands old (Some text) outs d (Some here)) (sym same) answers,
     subst (λ l. IfSome l (λ t. TakesShort t rest)) is short,
     Appends-kept before middle after (all_of outs) written kept,
+    subst (λ n. n < REQUESTS_LIMIT) many few,
+    began text here refl is,
+    subst (λ n. ReadsForRequests reader reader' (n + 1)) many reads,
   )
 
-  pub StopsIn-of : (old mid new : D) (input before middle after left : Option (List ℕ)) (count : ℕ)
+  -- a part whose end is not told
+  pub IsPart-some : (old new : D) (input before after left : Option (List ℕ)) (count : ℕ) (goes : Bool)
+      → IfSome input (λ text. IsPart asks commands old text count goes before after left new)
+      → IfSome input (λ text. (goes' : Bool) × IsPart asks commands old text count goes' before after left new)
+  IsPart-some old new None before after left count goes part = tt
+  IsPart-some old new (Some text) before after left count goes part = (goes, part)
+
+  pub StopsIn-of : (old mid new : D) (input before middle after left : Option (List ℕ)) (count : ℕ) → count < REQUESTS_LIMIT
       → HasAnswered asks commands old input count before middle left mid
       → IfSome left (λ text. (out : List ℕ) × (rest : Option (List ℕ)) × AnswersFirst asks commands mid (Some text) out new rest
       × AppendsFront middle after out)
       → IfSome input (λ text. StopsIn asks commands old text before after new)
-  StopsIn-of old mid new None before middle after left count done step = tt
-  StopsIn-of old mid new (Some text) before middle after left count (outs, here, is, answers, many, written) step =
+  StopsIn-of old mid new None before middle after left count few done step = tt
+  StopsIn-of old mid new (Some text) before middle after left count few (outs, here, is, answers, many, written) step =
       let (out, rest, first, (front, lost, parts, appends)) = subst (λ l. IfSome l (λ t. (out : List ℕ) × (rest : Option (List ℕ))
-      × AnswersFirst asks commands mid (Some t) out new rest × AppendsFront middle after out)) is step in
-      (outs, Some here, mid, answers, out, rest, first, front, lost, parts, Appends-trans before middle after (all_of outs) front written appends)
+      × AnswersFirst asks commands mid (Some t) out new rest × AppendsFront middle after out)) is step in (
+        outs,
+        subst (λ n. n < REQUESTS_LIMIT) many few,
+        (Some here, mid, answers, out, rest, first, front, lost, parts, Appends-trans before middle after (all_of outs) front written appends),
+      )
+
+  -- the same refusal, where the counts began anew before
+  IsStepRefusal-begun : {R W : Type 0} (reader begun reader' : Device R) (writer writer' : Device W) (input input' left before after : Option (List ℕ)) (old new : D) (e : ServeError)
+      → faults_of begun ≡ faults_of reader → all_reads_of begun ≡ all_reads_of reader → place_of begun ≡ place_of reader → input' ≡ input
+      → IsStepRefusal asks commands begun reader' writer writer' input' left before after old new e
+      → IsStepRefusal asks commands reader reader' writer writer' input left before after old new e
+  IsStepRefusal-begun reader begun reader' writer writer' input input' left before after old new errors.ReadFault faults reads place same (lost, other, short, idle, kept, at) = (
+    elim lost [ inl one ↦ inl (one ∙ ap counted faults) | inr p ↦ inr (p.0 ∙ faults, p.1, omega (arith, reads, p.2)) ],
+    other,
+    subst (λ i. IfSome i (λ text. TakesShort text left)) same short,
+    idle,
+    kept,
+    at ∙ place,
+  )
+  IsStepRefusal-begun reader begun reader' writer writer' input input' left before after old new errors.WriteFault faults reads place same (lost, since, other, step) = (
+    lost,
+    since,
+    other ∙ faults,
+    subst (λ i. IfSome i (λ text. (out : List ℕ) × (rest : Option (List ℕ)) × AnswersFirst asks commands old (Some text) out new rest × AppendsFront before after out)) same step,
+  )
+
+  pub IsStepRefusal-anew : {R W : Type 0} (reader begun reader' : Device R) (writer writer' : Device W) (input input' left before after : Option (List ℕ)) (old new : D)
+      (r : Result Next ServeError) → faults_of begun ≡ faults_of reader → all_reads_of begun ≡ all_reads_of reader → place_of begun ≡ place_of reader → input' ≡ input
+      → IfErr r (λ e. IsStepRefusal asks commands begun reader' writer writer' input' left before after old new e)
+      → IfErr r (λ e. IsStepRefusal asks commands reader reader' writer writer' input left before after old new e)
+  IsStepRefusal-anew reader begun reader' writer writer' input input' left before after old new (Ok next) faults reads place same refused = tt
+  IsStepRefusal-anew reader begun reader' writer writer' input input' left before after old new (Err e) faults reads place same refused =
+      IsStepRefusal-begun reader begun reader' writer writer' input input' left before after old new e faults reads place same refused
 
   -- a step that was refused ends the whole
   pub IsServeRefusal-step : {R W : Type 0} (reader reader' reader'' : Device R) (writer writer' writer'' : Device W)
       (old mid new : D) (input before middle after left rest : Option (List ℕ)) (count : ℕ) (e : ServeError)
       → faults_of reader' ≡ faults_of reader → faults_of writer' ≡ faults_of writer
+      → counted_by 0 (all_reads_of reader) ≤ all_reads_of reader' → counted_by 0 (all_interruptions_of writer) ≤ all_interruptions_of writer'
+      → count < REQUESTS_LIMIT → ReadsForRequests reader reader'' (count + 1)
+      → ((text here : List ℕ) → input ≡ Some text → left ≡ Some here → begun_of reader'' ≡ place_of reader' → BeganAt reader reader'' text here)
       → HasAnswered asks commands old input count before middle left mid
       → IsStepRefusal asks commands reader' reader'' writer' writer'' left rest middle after mid new e
       → IsServeRefusal asks commands reader reader'' writer writer'' input rest before after old new e
-  IsServeRefusal-step reader reader' reader'' writer writer' writer'' old mid new input before middle after left rest count errors.ReadFault reads writes done (lost, other, short, same, kept) = (
-    LosesReader-later reader reader' reader'' reads lost,
+  IsServeRefusal-step reader reader' reader'' writer writer' writer'' old mid new input before middle after left rest count errors.ReadFault reads writes least lasting few most began done (lost, other, short, same, kept, begun) = (
+    LosesRequest-later reader reader' reader'' reads least lost,
     other ∙ writes,
-    StopsBetween-of old mid new input before middle after left rest count done short same kept,
+    StopsBetween-of reader reader'' old mid new input before middle after left rest count few most (λ text here known is. began text here known is begun) done short same kept,
   )
-  IsServeRefusal-step reader reader' reader'' writer writer' writer'' old mid new input before middle after left rest count errors.WriteFault reads writes done (lost, other, step) = (
+  IsServeRefusal-step reader reader' reader'' writer writer' writer'' old mid new input before middle after left rest count errors.WriteFault reads writes least lasting few most began done (lost, since, other, step) = (
     LosesWriter-later writer writer' writer'' writes lost,
+    IsLostSince-later writer writer' writer'' writes lasting since,
     other ∙ reads,
-    StopsIn-of old mid new input before middle after left count done step,
+    StopsIn-of old mid new input before middle after left count few done step,
   )

@@ -1,5 +1,5 @@
 -- The responses to the requests of a text.
-use Rattle.std.specs.Prelude.{◌≡◌, ◌⊎◌, ◌≤◌, ⊤, ℕ, List, [], ◌∷◌, ◌++◌, Bool, true, false, ◌||◌, length, Option, Some, None, IfSome, IsOk, Result, Ok, Err, if◌then◌else◌}
+use Rattle.std.specs.Prelude.{◌≡◌, ◌⊎◌, ◌≤◌, ◌<◌, ◌+◌, ◌*◌, ⊤, ℕ, List, [], ◌∷◌, ◌++◌, Bool, true, false, ◌||◌, length, Option, Some, None, IfSome, IsOk, Result, Ok, Err, if◌then◌else◌}
 use Rattle.std.specs.List.{flat_map}
 use Rattle.std.specs.Io.KnownBytes.{Appends}
 use Rattle.std.specs.declared.alloc.AllocError.{AllocError}
@@ -8,7 +8,7 @@ use Rattle.reg_leader.specs.declared.command.Command.{Command}
 use Rattle.reg_leader.specs.declared.reply.Reply.{Reply}
 use Rattle.reg_lookup.specs.declared.answered.Answer.{Answer}
 use Rattle.reg_lookup.specs.declared.query.Query.{Query}
-use Rattle.reg_records.specs.Device.{faults_of}
+use Rattle.reg_records.specs.Device.{BeganAt, HasReadMore, all_reads_of, counted, faults_of, reads_of}
 use Rattle.reg_records.specs.declared.device.Device.{Device}
 use Rattle.reg_refusals.specs.declared.refusal.Refusal.{Refusal}
 use Rattle.reg_refusals.specs.declared.refusal.Refusal.TheVariants as refusals
@@ -16,17 +16,26 @@ use Rattle.reg_messages.specs.Fields.{told_length}
 use Rattle.reg_messages.specs.Head.{Front, over, head, no_head, front_of, IsHead, IsNoHead}
 use Rattle.reg_messages.specs.Messages.{after_body, fields_of, wants_close}
 use Rattle.reg_messages.specs.Reading.{TakesShort}
-use Rattle.reg_messages.specs.Taking.{LosesReader}
+use Rattle.reg_messages.specs.declared.limits.TheConstants.{REQUEST_READS}
 use Rattle.reg_requests.specs.Asked.{asked_of}
 use Rattle.reg_requests.specs.declared.asked.Asked.{Asked}
 use Rattle.reg_requests.specs.declared.asked.Asked.TheVariants as asked
 use Rattle.reg_responses.specs.Reply.{reply_answer}
 use Rattle.reg_responses.specs.Response.{answer_text, memory_text, refusal_text}
-use Rattle.reg_responses.specs.Writing.{LosesWriter}
+use Rattle.reg_responses.specs.Writing.{IsLostSince, LosesWriter}
 use Rattle.reg_http.specs.Requests.{request_of}
 use Rattle.reg_http.specs.declared.limits.TheConstants.{REQUESTS_LIMIT}
 use Rattle.reg_http.specs.declared.serving.ServeError.{ServeError}
 use Rattle.reg_http.specs.declared.serving.ServeError.TheVariants as errors
+
+-- one fault was counted, or none was, and since then as many reads were made as may be for one request
+abbrev pub LosesRequest : {R : Type 0} → Device R → Device R → Type 0
+LosesRequest before after = (faults_of after ≡ counted (faults_of before)) ⊎ ((faults_of after ≡ faults_of before)
+    × (reads_of after ≡ REQUEST_READS) × HasReadMore before after REQUEST_READS)
+
+-- no more reads were made than for so many requests
+abbrev pub ReadsForRequests : {R : Type 0} → Device R → Device R → ℕ → Type 0
+ReadsForRequests before after count = all_reads_of after ≤ all_reads_of before + count * REQUEST_READS
 
 -- what is left to be read: none where the server closed the connection
 abbrev pub left_if : Bool → List ℕ → Option (List ℕ)
@@ -106,24 +115,32 @@ module _ {D : Type 0} (asks : D → Query → Result Answer AllocError → D →
       (outs : List (List ℕ)) × (rest : Option (List ℕ)) × Answers old (Some text) outs new rest
       × GoesOn goes rest left count × (count ≡ length outs) × (count ≤ REQUESTS_LIMIT) × Appends before after (all_of outs)
 
-  -- what was written of the responses before a fault: those of the first requests whole, and a front of the next one's,
-  -- whose request may be done at the desk
-  abbrev pub StopsIn : D → List ℕ → Option (List ℕ) → Option (List ℕ) → D → Type 0
-  StopsIn old text before after new =
-      (outs : List (List ℕ)) × (left : Option (List ℕ)) × (mid : D) × Answers old (Some text) outs mid left
+  -- these responses to the first requests were written whole, and a front of the next one, whose request may be done at the desk
+  abbrev pub StopsInNext : D → List ℕ → List (List ℕ) → Option (List ℕ) → Option (List ℕ) → D → Type 0
+  StopsInNext old text outs before after new =
+      (left : Option (List ℕ)) × (mid : D) × Answers old (Some text) outs mid left
       × (out : List ℕ) × (rest : Option (List ℕ)) × AnswersFirst mid left out new rest
       × (front : List ℕ) × (lost : List ℕ) × (out ≡ front ++ lost) × Appends before after (all_of outs ++ front)
 
-  -- the responses to all requests that the reader gave whole were written whole; what it gave after them is short of a request
-  abbrev pub StopsBetween : D → List ℕ → Option (List ℕ) → Option (List ℕ) → Option (List ℕ) → D → Type 0
-  StopsBetween old text left before after new =
+  -- what was written before the writer's fault: fewer responses than one call may answer, and a front of the next one
+  abbrev pub StopsIn : D → List ℕ → Option (List ℕ) → Option (List ℕ) → D → Type 0
+  StopsIn old text before after new =
+      (outs : List (List ℕ)) × (length outs < REQUESTS_LIMIT) × StopsInNext old text outs before after new
+
+  -- the responses to all requests that the reader gave whole were written whole, fewer than one call may answer; what it gave after
+  -- them is short of a request, from whose front on the reads were counted
+  abbrev pub StopsBetween : {R : Type 0} → Device R → Device R → D → List ℕ → Option (List ℕ) → Option (List ℕ) → Option (List ℕ) → D → Type 0
+  StopsBetween reader reader' old text left before after new =
       (outs : List (List ℕ)) × (rest : List ℕ) × Answers old (Some text) outs new (Some rest)
-      × TakesShort rest left × Appends before after (all_of outs)
+      × TakesShort rest left × Appends before after (all_of outs) × (length outs < REQUESTS_LIMIT)
+      × BeganAt reader reader' text rest × ReadsForRequests reader reader' (length outs + 1)
 
   -- why no more was answered, what was written by then, and what the other device counted
   abbrev pub IsServeRefusal : {R W : Type 0} → Device R → Device R → Device W → Device W
       → Option (List ℕ) → Option (List ℕ) → Option (List ℕ) → Option (List ℕ) → D → D → ServeError → Type 0
   IsServeRefusal reader reader' writer writer' input left before after old new errors.ReadFault =
-      LosesReader reader reader' × (faults_of writer' ≡ faults_of writer) × IfSome input (λ text. StopsBetween old text left before after new)
+      LosesRequest reader reader' × (faults_of writer' ≡ faults_of writer)
+      × IfSome input (λ text. StopsBetween reader reader' old text left before after new)
   IsServeRefusal reader reader' writer writer' input left before after old new errors.WriteFault =
-      LosesWriter writer writer' × (faults_of reader' ≡ faults_of reader) × IfSome input (λ text. StopsIn old text before after new)
+      LosesWriter writer writer' × IsLostSince writer writer' × (faults_of reader' ≡ faults_of reader)
+      × IfSome input (λ text. StopsIn old text before after new)

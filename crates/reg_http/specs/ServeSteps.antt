@@ -6,17 +6,16 @@ use Rattle.reg_leader.specs.declared.command.Command.{Command}
 use Rattle.reg_leader.specs.declared.reply.Reply.{Reply}
 use Rattle.reg_lookup.specs.declared.answered.Answer.{Answer}
 use Rattle.reg_lookup.specs.declared.query.Query.{Query}
-use Rattle.reg_records.specs.Device.{faults_of}
+use Rattle.reg_records.specs.Device.{begun_of, faults_of, place_of}
 use Rattle.reg_records.specs.declared.device.Device.{Device}
 use Rattle.reg_messages.specs.Head.{over, front_of}
 use Rattle.reg_messages.specs.Reading.{TakesShort}
-use Rattle.reg_messages.specs.Taking.{LosesReader}
 use Rattle.reg_requests.specs.declared.asked.Asked.{Asked}
 use Rattle.reg_requests.specs.declared.asked.Asked.TheVariants as asked
 use Rattle.reg_responses.specs.Reply.{reply_answer}
 use Rattle.reg_responses.specs.Response.{answer_text, memory_text, refusal_text}
-use Rattle.reg_responses.specs.Writing.{AppendsFront, LosesWriter}
-use Rattle.reg_http.specs.Serve.{all_of, left_if, Answers, AnswersFirst}
+use Rattle.reg_responses.specs.Writing.{AppendsFront, IsLostSince, LosesWriter}
+use Rattle.reg_http.specs.Serve.{LosesRequest, all_of, left_if, Answers, AnswersFirst}
 use Rattle.reg_http.specs.declared.attending.Attended.{Attended}
 use Rattle.reg_http.specs.declared.attending.Attended.TheVariants as attended
 use Rattle.reg_http.specs.declared.doing.Done.{Done}
@@ -74,11 +73,12 @@ module _ {D : Type 0} (asks : D → Query → Result Answer AllocError → D →
   Steps old text before after left new nexts.More =
       (out : List ℕ) × (rest : List ℕ) × (left ≡ Some rest) × AnswersFirst asks commands old (Some text) out new (Some rest) × Appends before after out
 
-  -- why one request wasn't answered
+  -- why one request wasn't answered; its reads were counted from its front on
   abbrev pub IsStepRefusal : {R W : Type 0} → Device R → Device R → Device W → Device W
       → Option (List ℕ) → Option (List ℕ) → Option (List ℕ) → Option (List ℕ) → D → D → ServeError → Type 0
   IsStepRefusal reader reader' writer writer' input left before after old new errors.ReadFault =
-      LosesReader reader reader' × (faults_of writer' ≡ faults_of writer) × IfSome input (λ text. TakesShort text left) × (new ≡ old) × Keeps before after
+      LosesRequest reader reader' × (faults_of writer' ≡ faults_of writer) × IfSome input (λ text. TakesShort text left) × (new ≡ old) × Keeps before after
+      × (begun_of reader' ≡ place_of reader)
   IsStepRefusal reader reader' writer writer' input left before after old new errors.WriteFault =
-      LosesWriter writer writer' × (faults_of reader' ≡ faults_of reader)
+      LosesWriter writer writer' × IsLostSince writer writer' × (faults_of reader' ≡ faults_of reader)
       × IfSome input (λ text. (out : List ℕ) × (rest : Option (List ℕ)) × AnswersFirst asks commands old (Some text) out new rest × AppendsFront before after out)

@@ -1,6 +1,6 @@
 // Reading the next request, and doing what it asks.
 ghost use Rattle.std.specs.Prelude.{◌≡◌, ◌≤◌, IfOk, IfSome, OnErr, OnOk};
-ghost use Rattle.reg_records.specs.Device.{bytes_in, faults_of, reads_of};
+ghost use Rattle.reg_records.specs.Device.{KeepsEnd, bytes_in, faults_of, reads_of};
 ghost use Rattle.reg_messages.specs.Reading.{TakesShort};
 ghost use Rattle.reg_messages.specs.Taking.{CountsReads, LosesReader};
 ghost use Rattle.reg_messages.specs.declared.limits.TheConstants.{REQUEST_READS};
@@ -35,6 +35,7 @@ pub(crate) fn attend<R: Read, D: Desk>(
         Attends D.asks D.commands desk.old text (bytes_in R.remaining reader.new) desk.new a)) }
     ensures faults { OnOk result (faults_of reader.new ≡ faults_of reader.old) }
     ensures reads { CountsReads reader.old reader.new }
+    ensures end { KeepsEnd R.remaining reader.old reader.new }
     ensures lost { OnErr result (LosesReader reader.old reader.new) }
     ensures short { OnErr result (IfSome (bytes_in R.remaining reader.old) (λ text. TakesShort text (bytes_in R.remaining reader.new))) }
     ensures idle { OnErr result (desk.new ≡ desk.old) }

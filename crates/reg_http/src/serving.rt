@@ -1,10 +1,10 @@
 // The responses to the requests that a reader gives.
-ghost use Rattle.std.specs.Prelude.{◌≡◌, ◌≤◌, ◌+◌, ◌*◌, ℕ, List, IfOk, IfErr, IfSome, OnOk};
+ghost use Rattle.std.specs.Prelude.{◌≡◌, ◌≤◌, ◌+◌, ◌*◌, ℕ, List, Bool, IfOk, IfErr, IfSome, OnOk};
 ghost use Rattle.std.specs.Io.KnownBytes.{Appends};
-ghost use Rattle.reg_records.specs.Device.{all_reads_of, bytes_in, faults_of, interruptions_of, reads_of};
+ghost use Rattle.reg_records.specs.Device.{KeepsEnd, KeepsInterruptions, KeepsReads, all_reads_of, begun_of, bytes_in, faults_of, interruptions_of, place_of, reads_of};
 ghost use Rattle.reg_messages.specs.declared.limits.TheConstants.{REQUEST_READS};
 ghost use Rattle.reg_responses.specs.declared.limits.TheConstants.{INTERRUPTION_LIMIT};
-ghost use Rattle.reg_http.specs.Serve.{IsOutput, IsPart, IsServeRefusal};
+ghost use Rattle.reg_http.specs.Serve.{IsOutput, IsPart, IsServeRefusal, ReadsForRequests};
 ghost use Rattle.reg_http.specs.ServeSteps.{IsStepRefusal, Steps, next_if};
 
 use crate::attending::{Attended, attend};
@@ -52,8 +52,12 @@ pub fn serve<R: BufRead, W: Write, D: Desk>(
     ensures refused { IfErr result (λ e. IsServeRefusal D.asks D.commands reader.old reader.new writer.old writer.new
         (bytes_in R.remaining reader.old) (bytes_in R.remaining reader.new)
         (bytes_in W.contents writer.old) (bytes_in W.contents writer.new) desk.old desk.new e) }
+    ensures left { IfOk result (λ served. IfSome (bytes_in R.remaining reader.old) (λ text. (goes : Bool)
+        × IsPart D.asks D.commands desk.old text served.requests goes
+        (bytes_in W.contents writer.old) (bytes_in W.contents writer.new) (bytes_in R.remaining reader.new) desk.new)) }
     ensures reads { (reads_of reader.new ≤ REQUEST_READS)
         × (all_reads_of reader.new ≤ all_reads_of reader.old + REQUESTS_LIMIT * REQUEST_READS) }
+    ensures few { IfOk result (λ served. ReadsForRequests reader.old reader.new (served.requests + 1)) }
     ensures interruptions { interruptions_of writer.new ≤ INTERRUPTION_LIMIT }
 {
     match serve_part(alloc, reader, writer, desk) {
@@ -92,6 +96,7 @@ pub fn serve_part<R: BufRead, W: Write, D: Desk>(
         (bytes_in W.contents writer.old) (bytes_in W.contents writer.new) desk.old desk.new e) }
     ensures reads { (reads_of reader.new ≤ REQUEST_READS)
         × (all_reads_of reader.new ≤ all_reads_of reader.old + REQUESTS_LIMIT * REQUEST_READS) }
+    ensures few { IfOk result (λ part. ReadsForRequests reader.old reader.new (part.requests + 1)) }
     ensures interruptions { interruptions_of writer.new ≤ INTERRUPTION_LIMIT }
 {
     let mut paths = None;
@@ -131,7 +136,7 @@ pub enum Next {
     More,
 }
 
-/// Answers the next request, if there is one. The count of reads begins anew. The registry's paths are
+/// Answers the next request, if there is one. The count of reads begins anew at its front. The registry's paths are
 /// made at the first request, and are to be handed on to the next call.
 pub fn answer_next<R: BufRead, W: Write, D: Desk>(
     alloc: Global,
@@ -148,6 +153,9 @@ pub fn answer_next<R: BufRead, W: Write, D: Desk>(
         (bytes_in R.remaining reader.old) (bytes_in R.remaining reader.new)
         (bytes_in W.contents writer.old) (bytes_in W.contents writer.new) desk.old desk.new e) }
     ensures reads { (reads_of reader.new ≤ REQUEST_READS) × (all_reads_of reader.new ≤ all_reads_of reader.old + REQUEST_READS) }
+    ensures counted { KeepsReads reader.old reader.new }
+    ensures end { KeepsEnd R.remaining reader.old reader.new }
+    ensures lasting { OnOk result (KeepsInterruptions writer.old writer.new) }
     ensures interruptions { interruptions_of writer.new ≤ INTERRUPTION_LIMIT }
 {
     reader.begin_count();
@@ -155,6 +163,7 @@ pub fn answer_next<R: BufRead, W: Write, D: Desk>(
 }
 
 /// The same, where no read for the request is counted yet.
+#[tactic(auto, using(crate::proofs::Runs::lost_request))]
 fn answer_counted<R: BufRead, W: Write, D: Desk>(
     alloc: Global,
     paths: &mut Option<Paths>,
@@ -163,6 +172,7 @@ fn answer_counted<R: BufRead, W: Write, D: Desk>(
     desk: &mut D,
 ) -> Result<Next, ServeError>
     requires begun { reads_of reader.old ≡ 0 }
+    requires here { begun_of reader.old ≡ place_of reader.old }
     requires few { interruptions_of writer.old ≤ INTERRUPTION_LIMIT }
     ensures step { IfOk result (λ next. IfSome (bytes_in R.remaining reader.old) (λ text. Steps D.asks D.commands desk.old text
         (bytes_in W.contents writer.old) (bytes_in W.contents writer.new) (bytes_in R.remaining reader.new) desk.new next)) }
@@ -171,6 +181,9 @@ fn answer_counted<R: BufRead, W: Write, D: Desk>(
         (bytes_in R.remaining reader.old) (bytes_in R.remaining reader.new)
         (bytes_in W.contents writer.old) (bytes_in W.contents writer.new) desk.old desk.new e) }
     ensures reads { (reads_of reader.new ≤ REQUEST_READS) × (all_reads_of reader.new ≤ all_reads_of reader.old + REQUEST_READS) }
+    ensures counted { KeepsReads reader.old reader.new }
+    ensures end { KeepsEnd R.remaining reader.old reader.new }
+    ensures lasting { OnOk result (KeepsInterruptions writer.old writer.new) }
     ensures interruptions { interruptions_of writer.new ≤ INTERRUPTION_LIMIT }
 {
     match attend(alloc, paths, reader, desk) {

@@ -11,7 +11,7 @@ use Rattle.reg_records.specs.declared.key.Key.{Key}
 use Rattle.reg_records.specs.declared.key.Key.TheVariants as keys
 use Rattle.reg_records.specs.declared.value.Value.{Value}
 use Rattle.reg_records.specs.declared.value.Value.TheVariants as values
-use Rattle.reg_values.specs.Value.{is_absent_or, is_avro_name, is_empty_list, is_plain_avro, deleted_in, value_in}
+use Rattle.reg_values.specs.Value.{is_absent_or, is_avro_name, is_empty_list, is_plain_avro, deleted_in, value_in, value_of_text}
 use Rattle.reg_fold.specs.Opaque.{is_opaque, is_version}
 use Rattle.reg_inspection.specs.Cause.{CausesAreOfOpaque, beyond_avro, cause_in, type_cause, version_in}
 use Rattle.reg_inspection.specs.declared.cause.Cause.{Cause}
@@ -83,7 +83,7 @@ module _ (subject : List ℕ) (version : ℕ) where
 
 of_value : (key : Key) (value : Option (List ℕ))
     → is_some (option_and_then (λ v. option_and_then (λ text. option_map_or (cause_in v.0 v.1) (read text) (Some causes.NotJson)) value) (version_in key))
-    ≡ (is_version key && is_some value && is_none (option_and_then (λ text. option_and_then (value_in key) (read text)) value))
+    ≡ (is_version key && is_some value && is_none (option_and_then (value_of_text key) value))
 of_value (keys.Schema subject version) None = refl
 of_value (keys.Schema subject version) (Some text) = of_text subject version (read text)
 of_value (keys.Config scope) value = refl

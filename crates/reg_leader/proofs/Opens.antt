@@ -11,7 +11,7 @@ use Rattle.reg_entries.specs.declared.entry.Entry.{Entry}
 use Rattle.reg_fold.specs.Closed.{is_closed}
 use Rattle.reg_fold.specs.Entries.{EntriesAreOfPlaces, entries, entry_in, entry_of, normal_of}
 use Rattle.reg_fold.specs.Opaque.{NoneIsNoOpaqueLast, is_opaque, is_version}
-use Rattle.reg_values.specs.Value.{value_in, value_of}
+use Rattle.reg_values.specs.Value.{value_of, value_of_text}
 use Rattle.reg_records.specs.Written.{written_value}
 use Rattle.reg_records.specs.declared.key.Key.{Key}
 use Rattle.reg_records.specs.declared.key.Key.TheVariants as keys
@@ -22,7 +22,6 @@ use Rattle.reg_set.specs.Join.{LastIsGreatest, LastOfUnion}
 use Rattle.reg_set.specs.LastRecords.{last, last_records}
 use Rattle.reg_set.specs.RecordOrder.{record_cmp}
 use Rattle.reg_set.specs.Records.{Records}
-use Rattle.serde_json.specs.Read.{read}
 use Rattle.reg_leader.specs.Harmless.{IsHarmless, IsOneVersion, IsQuiet}
 use Rattle.reg_leader.specs.StayOpen.{IdsNameOneSchema, last_after}
 use Rattle.reg_leader.proofs.Below.{ValuesReadBack}
@@ -46,7 +45,7 @@ quiet-opaque r (inr e) = false-and _ _ (false-and (is_version r.key) (is_some r.
 quiet-none : (rs : Records) (r : Record) (subject : List ℕ) (version : ℕ) (e : Entry) → IsQuiet r → r.key ≡ keys.Schema subject version → entry_of rs r ≡ Some e → ⊥
 unfolding entry_of
 quiet-none rs r subject version e (inl none) key is =
-    let gone : value_of r ≡ None = ap (λ v. option_and_then (λ text. option_and_then (value_in r.key) (read text)) v) none in
+    let gone : value_of r ≡ None = ap (option_and_then (value_of_text r.key)) none in
     let h = sym (ap (option_and_then (entry_in rs r.offset)) gone) ∙ is in cc
 quiet-none rs r subject version e (inr other) key is = absurd (false≢true (sym other ∙ ap is_version key))
 

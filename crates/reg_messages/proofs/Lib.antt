@@ -1,4 +1,5 @@
 pub mod BodiesTaken
+pub mod Counts
 mod Examples
 pub mod Fronts
 pub mod Gets

@@ -1,7 +1,7 @@
 -- What is taken from a reader in one read, and how a reader is lost.
-use Rattle.std.specs.Prelude.{◌≡◌, ◌⊎◌, ◌≤◌, ℕ, ◌+◌, List, [], ◌∷◌, length, Option, Some, None}
+use Rattle.std.specs.Prelude.{◌≡◌, ◌⊎◌, ◌≤◌, ℕ, ◌+◌, ◌-◌, List, [], ◌∷◌, length, Option, Some, None}
 use Rattle.std.specs.Io.KnownBytes.{Consumes, IsAtEnd}
-use Rattle.reg_records.specs.Device.{counted, faults_of, reads_of, all_reads_of}
+use Rattle.reg_records.specs.Device.{all_reads_of, begun_of, counted, counted_by, faults_of, reads_of}
 use Rattle.reg_records.specs.declared.device.Device.{Device}
 use Rattle.reg_messages.specs.declared.limits.TheConstants.{REQUEST_READS}
 
@@ -10,10 +10,12 @@ abbrev pub LosesReader : {R : Type 0} → Device R → Device R → Type 0
 LosesReader before after = (faults_of after ≡ counted (faults_of before))
     ⊎ ((faults_of after ≡ faults_of before) × (reads_of after ≡ REQUEST_READS))
 
--- no more reads were made than were counted for the request, and no more than may be
+-- each read was counted for the request, whose count goes on, and no more reads were made than may be
 abbrev pub CountsReads : {R : Type 0} → Device R → Device R → Type 0
 CountsReads before after = (reads_of after ≤ REQUEST_READS)
     × (all_reads_of after + reads_of before ≤ all_reads_of before + reads_of after)
+    × (counted_by (reads_of after - reads_of before) (all_reads_of before) ≤ all_reads_of after)
+    × (reads_of before ≤ reads_of after) × (begun_of after ≡ begun_of before)
 
 -- some bytes, or none at the end
 abbrev pub TakesSome : Option (List ℕ) → Option (List ℕ) → List ℕ → Type 0

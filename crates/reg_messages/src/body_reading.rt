@@ -1,7 +1,7 @@
 // Taking the body of a request from a reader.
 ghost use Rattle.std.specs.Io.KnownBytes.{Consumes};
 ghost use Rattle.std.specs.Prelude.{◌≡◌, ◌≤◌, ◌+◌, ℕ, List, [], Option, length, IfOk, OnOk, OnErr};
-ghost use Rattle.reg_records.specs.Device.{bytes_in, faults_of, reads_of};
+ghost use Rattle.reg_records.specs.Device.{KeepsEnd, bytes_in, faults_of, reads_of};
 ghost use Rattle.reg_messages.specs.BodyReading.{LosesBody, TakesAll, TakesBody};
 ghost use Rattle.reg_messages.specs.Taking.{CountsReads, LosesReader};
 
@@ -23,6 +23,7 @@ pub(crate) enum Body {
 }
 
 /// Takes the body, of which so many bytes are told.
+#[tactic(auto, using(crate::proofs::Counts::counts_then, reg_records::proofs::Ends::ends_then))]
 pub(crate) fn take_body<R: Read>(
     alloc: Global,
     reader: &mut Device<R>,
@@ -32,6 +33,7 @@ pub(crate) fn take_body<R: Read>(
     ensures taken { IfOk result (TakesBody (bytes_in R.remaining reader.old) (bytes_in R.remaining reader.new) len) }
     ensures faults { OnOk result (faults_of reader.new ≡ faults_of reader.old) }
     ensures reads { CountsReads reader.old reader.new }
+    ensures end { KeepsEnd R.remaining reader.old reader.new }
     ensures lost { OnErr result (LosesReader reader.old reader.new) }
     ensures short { OnErr result (LosesBody (bytes_in R.remaining reader.old) (bytes_in R.remaining reader.new) len) }
 {
@@ -42,12 +44,14 @@ pub(crate) fn take_body<R: Read>(
 }
 
 /// Takes so many bytes into a vector that is empty.
+#[tactic(auto, using(crate::proofs::Counts::counts_then, reg_records::proofs::Ends::ends_then))]
 fn fill_body<R: Read>(reader: &mut Device<R>, room: Vec<u8>, len: usize) -> Result<Body, ReadFault>
     requires begun { reads_of reader.old ≤ REQUEST_READS }
     requires empty { room.items ≡ [] }
     ensures taken { IfOk result (TakesBody (bytes_in R.remaining reader.old) (bytes_in R.remaining reader.new) len) }
     ensures faults { OnOk result (faults_of reader.new ≡ faults_of reader.old) }
     ensures reads { CountsReads reader.old reader.new }
+    ensures end { KeepsEnd R.remaining reader.old reader.new }
     ensures lost { OnErr result (LosesReader reader.old reader.new) }
     ensures short { OnErr result (LosesBody (bytes_in R.remaining reader.old) (bytes_in R.remaining reader.new) len) }
 {
@@ -71,12 +75,14 @@ fn fill_body<R: Read>(reader: &mut Device<R>, room: Vec<u8>, len: usize) -> Resu
 }
 
 /// Takes the rest of a body, of so many bytes, and drops it.
+#[tactic(auto, using(crate::proofs::Counts::counts_then, reg_records::proofs::Ends::ends_then))]
 fn drop_body<R: Read>(reader: &mut Device<R>, left: usize) -> Result<Body, ReadFault>
     requires begun { reads_of reader.old ≤ REQUEST_READS }
     ensures taken { (start : Option (List ℕ)) (taken : List ℕ) (len : ℕ) → Consumes start (bytes_in R.remaining reader.old) taken
         → len ≡ length taken + left → IfOk result (TakesBody start (bytes_in R.remaining reader.new) len) }
     ensures faults { OnOk result (faults_of reader.new ≡ faults_of reader.old) }
     ensures reads { CountsReads reader.old reader.new }
+    ensures end { KeepsEnd R.remaining reader.old reader.new }
     ensures lost { OnErr result (LosesReader reader.old reader.new) }
     ensures short { (start : Option (List ℕ)) (taken : List ℕ) (len : ℕ) → Consumes start (bytes_in R.remaining reader.old) taken
         → len ≡ length taken + left → OnErr result (LosesBody start (bytes_in R.remaining reader.new) len) }
@@ -88,11 +94,13 @@ fn drop_body<R: Read>(reader: &mut Device<R>, left: usize) -> Result<Body, ReadF
 }
 
 /// Takes so many bytes, and says whether there were as many.
+#[tactic(auto, using(crate::proofs::Counts::counts_then, reg_records::proofs::Ends::ends_then))]
 fn skip_bytes<R: Read>(reader: &mut Device<R>, len: usize) -> Result<bool, ReadFault>
     requires begun { reads_of reader.old ≤ REQUEST_READS }
     ensures taken { IfOk result (TakesAll (bytes_in R.remaining reader.old) (bytes_in R.remaining reader.new) len) }
     ensures faults { OnOk result (faults_of reader.new ≡ faults_of reader.old) }
     ensures reads { CountsReads reader.old reader.new }
+    ensures end { KeepsEnd R.remaining reader.old reader.new }
     ensures lost { OnErr result (LosesReader reader.old reader.new) }
     ensures short { OnErr result (LosesBody (bytes_in R.remaining reader.old) (bytes_in R.remaining reader.new) len) }
 {

@@ -1,6 +1,6 @@
 // Reading the head of a request, byte by byte, so that nothing past it is taken.
 ghost use Rattle.std.specs.Prelude.{◌≡◌, ◌<◌, ◌≤◌, ℕ, List, Option, length, IfOk, IfSome, OnOk, OnErr};
-ghost use Rattle.reg_records.specs.Device.{bytes_in, faults_of, reads_of};
+ghost use Rattle.reg_records.specs.Device.{KeepsEnd, bytes_in, faults_of, reads_of};
 ghost use Rattle.reg_messages.specs.Head.{is_skipped, ends_in_empty_line, has_few_lines};
 ghost use Rattle.reg_messages.specs.HeadReading.{LosesBlank, LosesHead, TakesBlank, TakesFront, TakesHead, taken_head};
 ghost use Rattle.reg_messages.specs.Reading.{TakesShort};
@@ -44,11 +44,13 @@ pub(crate) enum Taken {
 }
 
 /// Takes the CR and LF bytes at the front, up to one more than a head may have, and the byte after them.
+#[tactic(auto, using(crate::proofs::Counts::counts_then, reg_records::proofs::Ends::ends_then))]
 pub(crate) fn take_blank<R: Read>(reader: &mut Device<R>) -> Result<Blank, ReadFault>
     requires begun { reads_of reader.old ≤ REQUEST_READS }
     ensures taken { IfOk result (TakesBlank (bytes_in R.remaining reader.old) (bytes_in R.remaining reader.new)) }
     ensures faults { OnOk result (faults_of reader.new ≡ faults_of reader.old) }
     ensures reads { CountsReads reader.old reader.new }
+    ensures end { KeepsEnd R.remaining reader.old reader.new }
     ensures lost { OnErr result (LosesReader reader.old reader.new
         × LosesBlank (bytes_in R.remaining reader.old) (bytes_in R.remaining reader.new)) }
 {
@@ -77,6 +79,7 @@ fn is_skipped(b: u8) -> bool
 }
 
 /// Takes bytes after the first of the buffer, up to an empty line.
+#[tactic(auto, using(crate::proofs::Counts::counts_then, reg_records::proofs::Ends::ends_then))]
 pub(crate) fn take_head<R: Read>(
     reader: &mut Device<R>,
     buffer: &mut [u8],
@@ -88,6 +91,7 @@ pub(crate) fn take_head<R: Read>(
     ensures taken { IfOk result (TakesHead (bytes_in R.remaining reader.old) (bytes_in R.remaining reader.new) buffer.old buffer.new limit) }
     ensures faults { OnOk result (faults_of reader.new ≡ faults_of reader.old) }
     ensures reads { CountsReads reader.old reader.new }
+    ensures end { KeepsEnd R.remaining reader.old reader.new }
     ensures lost { OnErr result (LosesReader reader.old reader.new
         × LosesHead (bytes_in R.remaining reader.old) (bytes_in R.remaining reader.new) buffer.old limit) }
 {
@@ -115,6 +119,7 @@ fn ends_in_empty_line(bytes: &[u8]) -> bool
 
 /// Takes what stands before the body of the next request. The bytes of its head go to the front of the
 /// buffer.
+#[tactic(auto, using(crate::proofs::Counts::counts_then, reg_records::proofs::Ends::ends_then))]
 pub(crate) fn take_front<R: Read>(
     reader: &mut Device<R>,
     buffer: &mut [u8],
@@ -124,6 +129,7 @@ pub(crate) fn take_front<R: Read>(
     ensures taken { IfOk result (TakesFront (bytes_in R.remaining reader.old) (bytes_in R.remaining reader.new) buffer.new) }
     ensures faults { OnOk result (faults_of reader.new ≡ faults_of reader.old) }
     ensures reads { CountsReads reader.old reader.new }
+    ensures end { KeepsEnd R.remaining reader.old reader.new }
     ensures lost { OnErr result (LosesReader reader.old reader.new) }
     ensures short { OnErr result (IfSome (bytes_in R.remaining reader.old) (λ text. TakesShort text (bytes_in R.remaining reader.new))) }
 {
@@ -134,6 +140,7 @@ pub(crate) fn take_front<R: Read>(
 }
 
 /// Takes the rest of what stands before the body, once the CR and LF bytes at the front are taken.
+#[tactic(auto, using(crate::proofs::Counts::counts_then, reg_records::proofs::Ends::ends_then))]
 fn take_after_blank<R: Read>(
     reader: &mut Device<R>,
     buffer: &mut [u8],
@@ -145,6 +152,7 @@ fn take_after_blank<R: Read>(
         → IfOk result (TakesFront start (bytes_in R.remaining reader.new) buffer.new) }
     ensures faults { OnOk result (faults_of reader.new ≡ faults_of reader.old) }
     ensures reads { CountsReads reader.old reader.new }
+    ensures end { KeepsEnd R.remaining reader.old reader.new }
     ensures lost { OnErr result (LosesReader reader.old reader.new) }
     ensures short { (start : Option (List ℕ)) → TakesBlank start (bytes_in R.remaining reader.old) blank
         → OnErr result (IfSome start (λ text. TakesShort text (bytes_in R.remaining reader.new))) }

@@ -2,7 +2,7 @@
 ghost use Rattle.std.specs.Prelude.{◌≡◌, ◌<◌, ◌≤◌, ℕ, List, Option, IfOk, IfSome, OnErr, OnOk, IsOk};
 ghost use Rattle.std.specs.Io.KnownBytes.{Consumes};
 ghost use Rattle.httparse.specs.Grammar.{RequestHead};
-ghost use Rattle.reg_records.specs.Device.{bytes_in, faults_of, reads_of};
+ghost use Rattle.reg_records.specs.Device.{KeepsEnd, bytes_in, faults_of, reads_of};
 ghost use Rattle.reg_messages.specs.BodyReading.{LosesBody, TakesBody};
 ghost use Rattle.reg_messages.specs.Fields.{body_length, told_length};
 ghost use Rattle.reg_messages.specs.Head.{IsHead};
@@ -54,11 +54,13 @@ pub enum Got {
 
 /// Reads the next message, and no byte more. Where memory for it is refused, its bytes are taken all
 /// the same, so that the next one is found.
+#[tactic(auto, using(crate::proofs::Counts::counts_then, reg_records::proofs::Ends::ends_then))]
 pub fn read_message<R: Read>(alloc: Global, reader: &mut Device<R>) -> Result<Got, ReadFault>
     requires begun { reads_of reader.old ≤ REQUEST_READS }
     ensures got { IfOk result (λ got. IfSome (bytes_in R.remaining reader.old) (λ text. GetsFrom text (bytes_in R.remaining reader.new) got)) }
     ensures faults { OnOk result (faults_of reader.new ≡ faults_of reader.old) }
     ensures reads { CountsReads reader.old reader.new }
+    ensures end { KeepsEnd R.remaining reader.old reader.new }
     ensures lost { OnErr result (LosesReader reader.old reader.new) }
     ensures short { OnErr result (IfSome (bytes_in R.remaining reader.old) (λ text. TakesShort text (bytes_in R.remaining reader.new))) }
 {
@@ -72,6 +74,7 @@ pub fn read_message<R: Read>(alloc: Global, reader: &mut Device<R>) -> Result<Go
 }
 
 /// Reads the rest of the message whose head these bytes are.
+#[tactic(auto, using(crate::proofs::Counts::counts_then, reg_records::proofs::Ends::ends_then))]
 fn read_after_head<R: Read>(
     alloc: Global,
     reader: &mut Device<R>,
@@ -82,6 +85,7 @@ fn read_after_head<R: Read>(
         → IfOk result (λ got. IfSome start (λ text. GetsFrom text (bytes_in R.remaining reader.new) got)) }
     ensures faults { OnOk result (faults_of reader.new ≡ faults_of reader.old) }
     ensures reads { CountsReads reader.old reader.new }
+    ensures end { KeepsEnd R.remaining reader.old reader.new }
     ensures lost { OnErr result (LosesReader reader.old reader.new) }
     ensures short { (start : Option (List ℕ)) (taken : List ℕ) → Consumes start (bytes_in R.remaining reader.old) taken → IsTakenAs taken bytes.now
         → OnErr result (IfSome start (λ text. TakesShort text (bytes_in R.remaining reader.new))) }
@@ -93,6 +97,7 @@ fn read_after_head<R: Read>(
 }
 
 /// Reads the body that the fields of the head tell.
+#[tactic(auto, using(crate::proofs::Counts::counts_then, reg_records::proofs::Ends::ends_then))]
 fn read_body<R: Read>(
     alloc: Global,
     reader: &mut Device<R>,
@@ -106,6 +111,7 @@ fn read_body<R: Read>(
         → IfOk result (GetsAfter h (bytes_in R.remaining reader.old) (bytes_in R.remaining reader.new)) }
     ensures faults { OnOk result (faults_of reader.new ≡ faults_of reader.old) }
     ensures reads { CountsReads reader.old reader.new }
+    ensures end { KeepsEnd R.remaining reader.old reader.new }
     ensures lost { OnErr result (LosesReader reader.old reader.new) }
     ensures short { (h : RequestHead) → IsHeadAt bytes.now head.now h
         → OnErr result (LosesBody (bytes_in R.remaining reader.old) (bytes_in R.remaining reader.new) (body_length (fields_of h))) }

@@ -1,7 +1,7 @@
 // Taking bytes from a reader, whose reads for one request are counted.
 ghost use Rattle.std.specs.Io.KnownBytes.{Keeps};
 ghost use Rattle.std.specs.Prelude.{◌≡◌, ◌<◌, ◌≤◌, length, take, IfOk, OnOk, OnErr};
-ghost use Rattle.reg_records.specs.Device.{bytes_in, faults_of, reads_of};
+ghost use Rattle.reg_records.specs.Device.{KeepsEnd, bytes_in, faults_of, reads_of};
 ghost use Rattle.reg_messages.specs.Taking.{CountsReads, LosesReader, TakesByte, TakesSome};
 
 use crate::limits::REQUEST_READS;
@@ -14,6 +14,7 @@ pub struct ReadFault;
 
 /// Takes the bytes of one read into the front of the buffer, and says how many; none at the end of the
 /// input. An interrupted read is tried again.
+#[tactic(auto, using(crate::proofs::Counts::counts_then, reg_records::proofs::Ends::ends_then, reg_records::proofs::Ends::end_kept, reg_records::proofs::Ends::end_read))]
 pub(crate) fn take_some<R: Read>(
     reader: &mut Device<R>,
     buffer: &mut [u8],
@@ -24,6 +25,7 @@ pub(crate) fn take_some<R: Read>(
     ensures taken { IfOk result (λ n. TakesSome (bytes_in R.remaining reader.old) (bytes_in R.remaining reader.new) (take n buffer.new)) }
     ensures faults { OnOk result (faults_of reader.new ≡ faults_of reader.old) }
     ensures reads { CountsReads reader.old reader.new }
+    ensures end { KeepsEnd R.remaining reader.old reader.new }
     ensures lost { OnErr result (LosesReader reader.old reader.new
         × Keeps (bytes_in R.remaining reader.old) (bytes_in R.remaining reader.new)) }
 {
@@ -41,11 +43,13 @@ pub(crate) fn take_some<R: Read>(
 }
 
 /// Takes one byte; none at the end of the input.
+#[tactic(auto, using(crate::proofs::Counts::counts_then, reg_records::proofs::Ends::ends_then))]
 pub(crate) fn take_byte<R: Read>(reader: &mut Device<R>) -> Result<Option<u8>, ReadFault>
     requires begun { reads_of reader.old ≤ REQUEST_READS }
     ensures taken { IfOk result (TakesByte (bytes_in R.remaining reader.old) (bytes_in R.remaining reader.new)) }
     ensures faults { OnOk result (faults_of reader.new ≡ faults_of reader.old) }
     ensures reads { CountsReads reader.old reader.new }
+    ensures end { KeepsEnd R.remaining reader.old reader.new }
     ensures lost { OnErr result (LosesReader reader.old reader.new
         × Keeps (bytes_in R.remaining reader.old) (bytes_in R.remaining reader.new)) }
 {

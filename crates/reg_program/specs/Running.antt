@@ -25,8 +25,7 @@ FoldGives remaining contents reader reader' writer writer' (ends.Folded folded) 
     IfSome (bytes_in remaining reader) (λ input. (out : List ℕ) × Folds input folded out × Appends (bytes_in contents writer) (bytes_in contents writer') out)
     × (faults_of reader' ≡ faults_of reader) × (faults_of writer' ≡ faults_of writer)
     × (reads_of reader' ≤ REQUEST_READS) × (interruptions_of writer' ≤ INTERRUPTION_LIMIT)
-FoldGives remaining contents reader reader' writer writer' (ends.Failed error) = IsFoldRefusal reader reader' writer writer'
-    (bytes_in remaining reader) (bytes_in remaining reader') (bytes_in contents writer) (bytes_in contents writer') error
+FoldGives remaining contents reader reader' writer writer' (ends.Failed error) = IsFoldRefusal remaining contents reader reader' writer writer' error
 FoldGives remaining contents reader reader' writer writer' ended = ⊥
 
 -- the reader and the writer of one sketch, before and after it, where it ends so

@@ -2,12 +2,12 @@
 ghost use Rattle.std.specs.Prelude.{◌≡◌, ◌≤◌, List, ℕ, IfOk, IfErr, IfSome, OnOk, count_by};
 ghost use Rattle.std.specs.FinSet as set;
 ghost use Rattle.std.specs.Io.KnownBytes.{Appends};
-ghost use Rattle.reg_records.specs.Device.{bytes_in, faults_of, interruptions_of, reads_of};
+ghost use Rattle.reg_records.specs.Device.{KeepsEnd, KeepsReads, bytes_in, faults_of, interruptions_of, reads_of};
 ghost use Rattle.reg_messages.specs.declared.limits.TheConstants.{REQUEST_READS};
 ghost use Rattle.reg_responses.specs.declared.limits.TheConstants.{INTERRUPTION_LIMIT};
 ghost use Rattle.reg_set.specs.LastRecords.{last_records};
-ghost use Rattle.reg_program.specs.Fold.{Folds, IsFoldRefusal, IsLogRefused, ended_by};
-ghost use Rattle.reg_program.specs.Opening.{IsOpened, fold_error_of};
+ghost use Rattle.reg_program.specs.Fold.{Folds, IsFoldRefusal, IsLogRefused, ended_by, fold_error_of};
+ghost use Rattle.reg_program.specs.Opening.{IsOpened};
 
 use crate::desk::FoldDesk;
 use reg_fold::Registry;
@@ -64,9 +64,7 @@ pub fn fold<R: BufRead, W: Write>(
     ensures faults { OnOk result ((faults_of reader.new ≡ faults_of reader.old) × (faults_of writer.new ≡ faults_of writer.old)) }
     ensures bounds { OnOk result ((reads_of reader.new ≤ REQUEST_READS) × (interruptions_of writer.new ≤ INTERRUPTION_LIMIT)) }
     ensures reads { reads_of reader.new ≤ LINE_READS }
-    ensures refused { IfErr result (IsFoldRefusal reader.old reader.new writer.old writer.new
-        (bytes_in R.remaining reader.old) (bytes_in R.remaining reader.new)
-        (bytes_in W.contents writer.old) (bytes_in W.contents writer.new)) }
+    ensures refused { IfErr result (IsFoldRefusal R.remaining W.contents reader.old reader.new writer.old writer.new) }
 {
     let Opened { foreign, mut desk } = open(alloc, reader)?;
     match serve(alloc, reader, writer, &mut desk) {
@@ -90,7 +88,9 @@ fn open<R: BufRead>(alloc: Global, reader: &mut Device<R>) -> Result<Opened, Fol
         IsOpened input (bytes_in R.remaining reader.new) opened.foreign opened.desk)) }
     ensures faults { OnOk result (faults_of reader.new ≡ faults_of reader.old) }
     ensures reads { reads_of reader.new ≤ LINE_READS }
-    ensures refused { IfErr result (IsLogRefused reader.old reader.new (bytes_in R.remaining reader.old)) }
+    ensures end { OnOk result (KeepsEnd R.remaining reader.old reader.new) }
+    ensures counted { OnOk result (KeepsReads reader.old reader.new) }
+    ensures refused { IfErr result (IsLogRefused R.remaining reader.old reader.new) }
 {
     let log = match read_log(alloc, reader) {
         Ok(log) => log,

@@ -1,6 +1,6 @@
 // Lines that spell schemas.
 ghost use Rattle.std.specs.Prelude.{◌≡◌, ◌≤◌, Some, IfOk, IfErr, IfSome, OnOk};
-ghost use Rattle.reg_records.specs.Device.{all_reads_of, bytes_in, counted_by, faults_of, reads_of};
+ghost use Rattle.reg_records.specs.Device.{KeepsReads, bytes_in, faults_of, reads_of};
 ghost use Rattle.reg_records.specs.TextLine.{after_front};
 ghost use Rattle.reg_program.specs.Ended.{spelling_fault_name};
 ghost use Rattle.reg_program.specs.Sketch.{SpellsSchema};
@@ -52,7 +52,7 @@ pub(crate) fn read_schema<R: BufRead>(
     ensures refused { IfErr result (IsSpellingRefusal reader.old reader.new (bytes_in R.remaining reader.old)) }
     ensures faults { OnOk result (faults_of reader.new ≡ faults_of reader.old) }
     ensures bound { reads_of reader.new ≤ LINE_READS }
-    ensures reads { counted_by 0 (all_reads_of reader.old) ≤ all_reads_of reader.new }
+    ensures reads { KeepsReads reader.old reader.new }
 {
     match read_text_line(alloc, reader) {
         Ok(text) => schema_of(alloc, text.as_str()),

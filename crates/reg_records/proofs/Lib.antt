@@ -1,3 +1,4 @@
+pub mod Ends
 mod Lines
 mod Logs
 mod Tabs

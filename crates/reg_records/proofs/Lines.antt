@@ -1,5 +1,5 @@
 -- How the bytes that were taken for a line grow.
-use Rattle.std.proofs.Common.{◌≡◌, ◌<◌, ◌≤◌, ◌+◌, inl, inr, List, ℕ, [], ◌∷◌, ◌++◌, length, take, None, Some, OnSome, IsTrue, false, cond, nat_lt, sym, ap, subst, ◌∙◌, refl, arith, append_assoc}
+use Rattle.std.proofs.Common.{◌≡◌, ◌<◌, ◌≤◌, ◌+◌, inl, inr, List, ℕ, [], ◌∷◌, ◌++◌, length, take, None, Some, OnSome, IsTrue, false, cond, nat_lt, sym, ap, subst, ◌∙◌, refl, arith, append_assoc, length-append}
 use Rattle.std.specs.Io.KnownBytes.{Consumes, Keeps, IsAtEnd}
 use Rattle.std.proofs.KnownBytes.{Consumes-trans, Consumes-kept}
 use Rattle.std.proofs.lemmas.List.Elements.{All-append, All-from_get_or}
@@ -10,6 +10,7 @@ use Rattle.std.proofs.lemmas.List.Quantifiers.{position-Some}
 use Rattle.std.proofs.lemmas.List.Sums.{fails_before_first}
 use Rattle.std.proofs.lemmas.Option.{none-some}
 use Rattle.std.proofs.lemmas.Bool.{cases_lt, eqb-true, false≢true, lt-ltb}
+use Rattle.reg_records.specs.Device.{counted_by}
 use Rattle.reg_records.specs.Line.{is_line_feed}
 use Rattle.reg_records.specs.Pieces.{HasNoLineFeed, Holds, Grows}
 use Rattle.reg_records.specs.declared.pieces.LineBuffer.{LineBuffer}
@@ -18,13 +19,23 @@ use Rattle.reg_records.specs.declared.pieces.LineBuffer.{LineBuffer}
 abbrev pub TakesPart : Option (List ℕ) → Option (List ℕ) → LineBuffer → Type 0
 TakesPart old new buffer = (line : List ℕ) × HasNoLineFeed line × Holds buffer line × Consumes old new line
 
-pub TakesPart-more : (old mid new : Option (List ℕ)) (before after : LineBuffer) (line bytes : List ℕ)
+-- the place after more bytes of a line
+pub place-more : (before mid after n : ℕ) (line bytes : List ℕ) → counted_by 0 mid ≡ counted_by (length line) before → after ≡ counted_by n mid
+    → length bytes ≡ n → counted_by 0 after ≡ counted_by (length (line ++ bytes)) before
+place-more before mid after n line bytes so_far moved len = omega (arith, so_far, moved, len, length-append line bytes)
+
+-- and after its LF
+pub place-ended : (before mid after n : ℕ) (line bytes : List ℕ) → counted_by 0 mid ≡ counted_by (length line) before → after ≡ counted_by n mid
+    → length bytes + 1 ≡ n → counted_by 0 after ≡ counted_by (length ((line ++ bytes) ++ 10 ∷ [])) before
+place-ended before mid after n line bytes so_far moved len = omega (arith, so_far, moved, len, length-append line bytes, length-append (line ++ bytes) (10 ∷ []))
+
+abbrev pub TakesPart-more : (old mid new : Option (List ℕ)) (before after : LineBuffer) (line bytes : List ℕ)
     → HasNoLineFeed line → Holds before line → Consumes old mid line
     → HasNoLineFeed bytes → Consumes mid new bytes → Grows before after bytes → TakesPart old new after
 TakesPart-more old mid new before after line bytes none held read none' read' grows =
     (line ++ bytes, All-append (λ b. is_line_feed b ≡ false) line bytes none none', grows line held, Consumes-trans old mid new line bytes read read')
 
-pub TakesPart-kept : (old mid new : Option (List ℕ)) (before after : LineBuffer) (line : List ℕ)
+abbrev pub TakesPart-kept : (old mid new : Option (List ℕ)) (before after : LineBuffer) (line : List ℕ)
     → HasNoLineFeed line → Holds before line → Consumes old mid line → Keeps mid new → after ≡ before → TakesPart old new after
 TakesPart-kept old mid new before after line none held read kept same =
     (line, none, subst (λ b. Holds b line) (sym same) held, Consumes-kept old mid new line read kept)

@@ -1,5 +1,5 @@
 -- What a line is to the log that it begins.
-use Rattle.std.proofs.Common.{◌≡◌, ◌<◌, ◌≤◌, ◌+◌, ◌==◌, ℕ, suc, Bool, cond, true, false, List, [], ◌∷◌, ◌++◌, length, None, Some, IfSome, OnSome, inl, inr, Result, Ok, Err, refl, sym, ap, ◌∙◌, arith, append_assoc, append-nil, nat_lt}
+use Rattle.std.proofs.Common.{◌≡◌, ◌<◌, ◌≤◌, ◌+◌, ◌*◌, ◌==◌, ℕ, suc, Bool, cond, true, false, List, [], ◌∷◌, ◌++◌, length, None, Some, IfSome, OnSome, inl, inr, Result, Ok, Err, refl, sym, ap, ◌∙◌, arith, append_assoc, append-nil, nat_lt}
 use Rattle.std.specs.Prelude.{Option, IsTrue, count_by, max}
 use Rattle.std.specs.Option.{option_to_list}
 use Rattle.std.specs.Result.{result_map_both}
@@ -13,16 +13,16 @@ use Rattle.std.proofs.lemmas.Bool.{ne_eqb}
 use Rattle.std.proofs.lemmas.Bool.Decides.{nat_tests}
 use Rattle.reg_records.proofs.Lines.{Consumes-ended, length-of_nonempty}
 use Rattle.reg_records.proofs.Tabs.{count_by-none}
-use Rattle.reg_records.specs.Device.{all_reads_of, counted_by, faults_of}
+use Rattle.reg_records.specs.Device.{all_reads_of, counted_by, faults_of, place_of}
 use Rattle.reg_records.specs.Line.{is_line_feed, reading}
-use Rattle.reg_records.specs.Log.{LogText, log_from, log_of, line_then, record_in, records_in, is_foreign, offset_in, next_after, IsLogOf, IsLogRefusal, LosesLine, TakesLastLine}
+use Rattle.reg_records.specs.Log.{LogText, log_from, log_of, line_then, record_in, records_in, is_foreign, offset_in, next_after, AreWholeLines, IsLogOf, IsLogRefusal, LosesLine, ReadsFewTimes, TakesLastLine}
 use Rattle.reg_records.specs.LogSteps.{AddsRead, IsStepRefusal, IsLineRefusal}
 use Rattle.reg_records.specs.declared.device.Device.{Device}
 use Rattle.reg_records.specs.declared.log.Log.{Log}
 use Rattle.reg_records.specs.declared.log.LogError.{LogError}
 use Rattle.reg_records.specs.declared.log.LogError.TheVariants as errors
 use Rattle.reg_records.specs.Pieces.{HasNoLineFeed}
-use Rattle.reg_records.specs.declared.limits.TheConstants.{LOG_LINES}
+use Rattle.reg_records.specs.declared.limits.TheConstants.{LINE_READS, LOG_LINES}
 use Rattle.reg_records.specs.declared.line.LineError.{LineError}
 use Rattle.reg_records.specs.declared.line.LineError.TheVariants.{Truncated}
 use Rattle.reg_records.specs.declared.log.LogFault.{LogFault}
@@ -214,17 +214,43 @@ LosesLine-after before mid after faults reads lost = elim lost [
   | inr many ↦ inr (many.0 ∙ faults, many.1, omega (arith, reads, many.2))
 ]
 
+-- a log has as many lines as records and foreign lines
+lines_in : (reads : List Read) → length (records_in reads) + count_by is_foreign reads ≡ length reads
+lines_in [] = refl
+lines_in (kinds.Record r ∷ reads) =
+    one_record _ (length (records_in reads)) (count_by is_foreign reads) (length reads) _ refl (sum_by-append (λ x. cond (is_foreign x) 1 0) (kinds.Record r ∷ []) reads) (lines_in reads)
+  where
+    one_record : (first records foreign lines both : ℕ) → first ≡ 0 → both ≡ first + foreign → records + foreign ≡ lines → suc records + both ≡ suc lines
+    one_record first records foreign lines both none sum e = omega (arith, none, sum, e)
+lines_in (kinds.Foreign offset ∷ reads) =
+    one_foreign _ (length (records_in reads)) (count_by is_foreign reads) (length reads) _ refl (sum_by-append (λ x. cond (is_foreign x) 1 0) (kinds.Foreign offset ∷ []) reads) (lines_in reads)
+  where
+    one_foreign : (first records foreign lines both : ℕ) → first ≡ 1 → both ≡ first + foreign → records + foreign ≡ lines → records + both ≡ suc lines
+    one_foreign first records foreign lines both one sum e = omega (arith, one, sum, e)
+
+pub log_lines : (old new : Log) (reads : List Read) → IsLogOf reads old → new ≡ old → length new.records.items + new.foreign ≡ length reads
+log_lines old new reads is same =
+    ap (λ (log : Log). length log.records.items + log.foreign) same
+    ∙ ap (λ records. length records + old.foreign) is.records ∙ ap (λ n. length (records_in reads) + n) is.foreign ∙ lines_in reads
+
+-- one line more
+pub AreWholeLines-more : (lines line : List ℕ) → AreWholeLines (lines ++ (line ++ 10 ∷ []))
+AreWholeLines-more lines line = inr (lines ++ line, sym (append_assoc lines line (10 ∷ [])))
+
 pub IsLogRefusal-step : {R : Type 0} (n : ℕ) (before mid after : Device R) (old now new : Option (List ℕ)) (reads : List Read) (taken : List ℕ) (e : LogError)
     → GoesOn old now reads n → Consumes old now taken → count_by is_line_feed taken + 1 ≡ n
+    → AreWholeLines taken → counted_by 0 (place_of mid) ≡ counted_by (length taken) (place_of before)
     → faults_of mid ≡ faults_of before → counted_by 0 (all_reads_of before) ≤ all_reads_of mid
+    → all_reads_of mid + LINE_READS ≤ all_reads_of before + n * LINE_READS → ReadsFewTimes mid after 1
     → IsStepRefusal n mid after now new e → IsLogRefusal before after old new e
-IsLogRefusal-step n before mid after old now new reads taken (errors.Fault line fault) so_far took count faults least step =
+IsLogRefusal-step n before mid after old now new reads taken (errors.Fault line fault) so_far took count whole place faults least most few step =
     let (is, same, first, part, none, last) = step in (
       same ∙ faults,
       refused old now so_far took first,
       taken ++ part,
       TakesLastLine-after old now new taken part took last,
       omega (arith, is, count, line_feeds-append taken part, line_feeds-none part none),
+      rw is (omega (arith, most, few)),
     )
   where
     refused : (old now : Option (List ℕ)) → GoesOn old now reads n → Consumes old now taken
@@ -232,14 +258,19 @@ IsLogRefusal-step n before mid after old now new reads taken (errors.Fault line 
     refused None now so_far took e = tt
     refused (Some text) None so_far took e = absurd took
     refused (Some text) (Some rest) so_far took e = so_far ∙ ap (map_log (with_reads reads)) e ∙ ap (λ k. Err (k, fault)) (sym step.0)
-IsLogRefusal-step n before mid after old now new reads taken (errors.ReadFault line) so_far took count faults least step =
-    let (is, (lost, part, none, read)) = step in (
+IsLogRefusal-step n before mid after old now new reads taken (errors.ReadFault line) so_far took count whole place faults least most few step =
+    let (is, (lost, began, part, none, read)) = step in (
       LosesLine-after before mid after faults least lost,
-      taken ++ part,
+      taken,
+      part,
       Consumes-trans old now new taken part took read,
-      omega (arith, is, count, line_feeds-append taken part, line_feeds-none part none),
+      whole,
+      began ∙ place,
+      count ∙ sym is,
+      line_feeds-none part none,
+      rw is (omega (arith, most, few)),
     )
-IsLogRefusal-step n before mid after old now new reads taken errors.OutOfMemory so_far took count faults least step = step ∙ faults
+IsLogRefusal-step n before mid after old now new reads taken errors.OutOfMemory so_far took count whole place faults least most few step = step ∙ faults
 
 pub is_empty_line-unless : (line : List ℕ) → (line ≡ [] → IsTrue false) → is_empty_line line ≡ false
 is_empty_line-unless line h = is_empty_line-some line (length-of_nonempty line h)

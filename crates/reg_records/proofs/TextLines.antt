@@ -79,4 +79,4 @@ refused-end before after old new faults end kept =
 
 pub refused-lost : {R : Type 0} (before after : Device R) (old new : Option (List ℕ))
     → LeavesLine before after old new → IsTextRefusal before after old new ReadFault
-refused-lost before after old new (lost, line, none, taken) = (lost, line, taken, line_feeds-none line none)
+refused-lost before after old new (lost, began, line, none, taken) = (lost, began, line, taken, line_feeds-none line none)

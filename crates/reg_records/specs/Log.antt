@@ -1,9 +1,9 @@
 -- A log is the lines of a text up to an empty line or the end of the text.
-use Rattle.std.specs.Prelude.{◌≡◌, ◌⊎◌, ℕ, suc, ◌+◌, ◌≤◌, max, List, [], ◌∷◌, ◌++◌, Bool, ◌==◌, nat_lt, length, count_by, fold, Option, Some, None, is_none, IfSome, OnSome, Result, Ok, Err, if◌then◌else◌}
+use Rattle.std.specs.Prelude.{◌≡◌, ◌⊎◌, ℕ, suc, ◌+◌, ◌*◌, ◌≤◌, max, List, [], ◌∷◌, ◌++◌, Bool, ◌==◌, nat_lt, length, count_by, fold, Option, Some, None, is_none, IfSome, OnSome, Result, Ok, Err, if◌then◌else◌}
 use Rattle.std.specs.List.{filter_map, join_with_byte, slice_split}
 use Rattle.std.specs.Result.{result_map_both}
 use Rattle.std.specs.Io.KnownBytes.{Consumes, IsAtEnd}
-use Rattle.reg_records.specs.Device.{all_reads_of, counted, counted_by, faults_of, reads_of}
+use Rattle.reg_records.specs.Device.{BeganAfter, HasReadMore, all_reads_of, counted, faults_of, reads_of}
 use Rattle.reg_records.specs.Line.{is_line_feed, reading}
 use Rattle.reg_records.specs.declared.device.Device.{Device}
 use Rattle.reg_records.specs.declared.log.Log.{Log}
@@ -67,19 +67,28 @@ pub record IsLogOf (read : List Read) (log : Log) : Type 0 where
 -- a fault was counted, or none was and the last line took as many reads as one may, made since
 abbrev pub LosesLine : {R : Type 0} → Device R → Device R → Type 0
 LosesLine before after = (faults_of after ≡ counted (faults_of before)) ⊎ ((faults_of after ≡ faults_of before)
-    × (reads_of after ≡ LINE_READS) × (counted_by LINE_READS (all_reads_of before) ≤ all_reads_of after))
+    × (reads_of after ≡ LINE_READS) × HasReadMore before after LINE_READS)
 
 -- those bytes were taken with the LF after them, or they were all that was left
 abbrev pub TakesLastLine : Option (List ℕ) → Option (List ℕ) → List ℕ → Type 0
 TakesLastLine old new bytes = Consumes old new (bytes ++ 10 ∷ []) ⊎ (Consumes old new bytes × OnSome old (IsAtEnd new))
 
+-- no bytes, or bytes up to and with an LF
+abbrev pub AreWholeLines : List ℕ → Type 0
+AreWholeLines bytes = (bytes ≡ []) ⊎ ((front : List ℕ) × (bytes ≡ front ++ 10 ∷ []))
+
+-- no more reads were made than so many lines may take
+abbrev pub ReadsFewTimes : {R : Type 0} → Device R → Device R → ℕ → Type 0
+ReadsFewTimes before after lines = all_reads_of after ≤ all_reads_of before + lines * LINE_READS
+
 -- why no log was read: a line's fault comes where it is the first, and that line is taken with its LF;
--- a reader's fault only where one was counted or a line took as many reads as it may, and its line is the
--- one after those that were read
+-- a reader's fault only where one was counted or a line took as many reads as it may, counted from its front on, and its line is
+-- the one after those that were read
 abbrev pub IsLogRefusal : {R : Type 0} → Device R → Device R → Option (List ℕ) → Option (List ℕ) → LogError → Type 0
 IsLogRefusal before after old new (errors.Fault line fault) =
     (faults_of after ≡ faults_of before) × IfSome old (λ text. log_of text ≡ Err (line, fault))
-    × (taken : List ℕ) × TakesLastLine old new taken × (count_by is_line_feed taken + 1 ≡ line)
-IsLogRefusal before after old new (errors.ReadFault line) =
-    LosesLine before after × (taken : List ℕ) × Consumes old new taken × (count_by is_line_feed taken + 1 ≡ line)
+    × (taken : List ℕ) × TakesLastLine old new taken × (count_by is_line_feed taken + 1 ≡ line) × ReadsFewTimes before after line
+IsLogRefusal before after old new (errors.ReadFault line) = LosesLine before after
+    × (lines : List ℕ) × (part : List ℕ) × Consumes old new (lines ++ part) × AreWholeLines lines × BeganAfter before after (length lines)
+    × (count_by is_line_feed lines + 1 ≡ line) × (count_by is_line_feed part ≡ 0) × ReadsFewTimes before after line
 IsLogRefusal before after old new errors.OutOfMemory = faults_of after ≡ faults_of before

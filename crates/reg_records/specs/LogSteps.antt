@@ -3,8 +3,7 @@ use Rattle.std.specs.Prelude.{◌≡◌, ⊤, ℕ, suc, ◌+◌, ◌≤◌, max,
 use Rattle.std.specs.Option.{option_to_list}
 use Rattle.std.specs.List.{slice_split}
 use Rattle.std.specs.Result.{result_map_both}
-use Rattle.std.specs.Io.KnownBytes.{Consumes}
-use Rattle.reg_records.specs.Device.{faults_of}
+use Rattle.reg_records.specs.Device.{Source, Takes, faults_of}
 use Rattle.reg_records.specs.Line.{is_line_feed, reading}
 use Rattle.reg_records.specs.Log.{LogText, log_from, line_then, record_in, is_foreign, offset_in, TakesLastLine}
 use Rattle.reg_records.specs.Pieces.{HasNoLineFeed, LeavesLine}
@@ -24,16 +23,16 @@ pub record AddsRead (old : Log) (read : Read) (new : Log) : Type 0 where
   pub next : new.next ≡ max old.next (suc (offset_in read))
 
 -- what became of the line of that number: it says something and the log goes on, or the log ends there
-abbrev pub StepsLog : ℕ → Option (List ℕ) → Option (List ℕ) → Log → Log → Bool → Type 0
+abbrev pub StepsLog : ℕ → Source → Source → Log → Log → Bool → Type 0
 StepsLog number old new before after true =
     (number ≤ LOG_LINES) × (read : Read) × AddsRead before read after
-    × ((taken : List ℕ) × Consumes old new taken × (count_by is_line_feed taken ≡ 1))
-    × IfSome old (λ text. IfSome new (λ rest. log_from number (slice_split is_line_feed text)
+    × ((line : List ℕ) × Takes old new (line ++ 10 ∷ []) × (count_by is_line_feed line ≡ 0))
+    × IfSome old.known (λ text. IfSome new.known (λ rest. log_from number (slice_split is_line_feed text)
     ≡ result_map_both (λ (log : LogText). record log { reads = read ∷ log.reads }) (λ fault. fault)
     (log_from (suc number) (slice_split is_line_feed rest))))
 StepsLog number old new before after false =
-    (after ≡ before) × IfSome old (λ text. (rest : List ℕ)
-    × (log_from number (slice_split is_line_feed text) ≡ Ok (record { reads = []; rest = rest })) × (new ≡ Some rest))
+    (after ≡ before) × IfSome old.known (λ text. (rest : List ℕ)
+    × (log_from number (slice_split is_line_feed text) ≡ Ok (record { reads = []; rest = rest })) × (new.known ≡ Some rest))
 
 -- why the line of that number was refused
 abbrev pub IsStepRefusal : {R : Type 0} → ℕ → Device R → Device R → Option (List ℕ) → Option (List ℕ) → LogError → Type 0

@@ -3,7 +3,7 @@ use Rattle.std.specs.Prelude.{◌≡◌, ℕ, List, ◌∷◌, length, drop, cou
 use Rattle.std.specs.List.{join_with_byte, slice_split}
 use Rattle.std.specs.Str.{is_utf8}
 use Rattle.std.specs.Io.KnownBytes.{Consumes}
-use Rattle.reg_records.specs.Device.{faults_of}
+use Rattle.reg_records.specs.Device.{BeganAfter, faults_of}
 use Rattle.reg_records.specs.Line.{is_line_feed}
 use Rattle.reg_records.specs.Log.{LosesLine, TakesLastLine}
 use Rattle.reg_records.specs.declared.device.Device.{Device}
@@ -31,11 +31,11 @@ abbrev pub after_front : List ℕ → List ℕ
 after_front input = join_with_byte 10 (drop 1 (slice_split is_line_feed input))
 
 -- why no text was read: a line's fault, where that line is taken with its LF, or all that was left;
--- a reader's fault only where one was counted or the line took as many reads as it may
+-- a reader's fault only where one was counted or the line took as many reads as it may, counted from its front on
 abbrev pub IsTextRefusal : {R : Type 0} → Device R → Device R → Option (List ℕ) → Option (List ℕ) → TextLineError → Type 0
 IsTextRefusal before after old new (errors.Line fault) =
     (faults_of after ≡ faults_of before) × IfSome old (λ input. front_text input ≡ Err fault)
     × (taken : List ℕ) × TakesLastLine old new taken × (count_by is_line_feed taken ≡ 0)
 IsTextRefusal before after old new errors.ReadFault =
-    LosesLine before after × (taken : List ℕ) × Consumes old new taken × (count_by is_line_feed taken ≡ 0)
+    LosesLine before after × BeganAfter before after 0 × (taken : List ℕ) × Consumes old new taken × (count_by is_line_feed taken ≡ 0)
 IsTextRefusal before after old new errors.OutOfMemory = faults_of after ≡ faults_of before

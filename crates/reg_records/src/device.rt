@@ -2,8 +2,9 @@
 ghost use Rattle.std.specs.Prelude.{◌≡◌, IfOk, IsTrue, MatchResult, ◌↔◌, ◌≢◌};
 ghost use Rattle.std.specs.Io.{ReadsAtMost, WritesAtMost};
 ghost use Rattle.std.specs.Io.KnownBytes.{ReadConsumes, WriteAppends, Keeps};
-ghost use Rattle.reg_records.specs.Device.{inner_of, faults_of, reads_of, all_reads_of, interruptions_of, bytes_in, counted, CountsFault, CountsWrite, CountsInterruption};
-ghost use Rattle.reg_records.specs.Pieces.{CountsPiece, TakesPiece};
+ghost use Rattle.reg_records.specs.Device.{inner_of, faults_of, reads_of, all_reads_of, place_of, begun_of, interruptions_of, all_interruptions_of};
+ghost use Rattle.reg_records.specs.Device.{bytes_in, counted, counted_by, CountsBytes, CountsFault, CountsWrite, CountsInterruption};
+ghost use Rattle.reg_records.specs.Pieces.{CountsPiece, TakesPiece, piece_len};
 
 use crate::pieces::{LineBuffer, Piece, take_piece};
 use std::alloc::AllocError;
@@ -19,7 +20,10 @@ pub struct Device<T> {
     faults: u64,
     reads: u64,
     all_reads: u64,
+    place: u64,
+    begun: u64,
     interruptions: u64,
+    all_interruptions: u64,
 }
 
 impl<T> Device<T> {
@@ -28,7 +32,10 @@ impl<T> Device<T> {
         ensures faults { faults_of result ≡ 0 }
         ensures reads { reads_of result ≡ 0 }
         ensures all_reads { all_reads_of result ≡ 0 }
+        ensures place { place_of result ≡ 0 }
+        ensures begun { begun_of result ≡ 0 }
         ensures interruptions { interruptions_of result ≡ 0 }
+        ensures all_interruptions { all_interruptions_of result ≡ 0 }
         ensures inner { inner_of result ≡ inner }
     {
         Device {
@@ -36,7 +43,10 @@ impl<T> Device<T> {
             faults: 0,
             reads: 0,
             all_reads: 0,
+            place: 0,
+            begun: 0,
             interruptions: 0,
+            all_interruptions: 0,
         }
     }
 
@@ -61,6 +71,20 @@ impl<T> Device<T> {
         self.all_reads
     }
 
+    /// How many bytes it has given in all, up to `u64::MAX`: the place where it stands.
+    pub fn place(&self) -> u64
+        ensures { result ≡ place_of self.now }
+    {
+        self.place
+    }
+
+    /// The place where its count of reads began.
+    pub fn begun(&self) -> u64
+        ensures { result ≡ begun_of self.now }
+    {
+        self.begun
+    }
+
     /// How many of its writes and flushes in a row were interrupted, up to `u64::MAX`.
     pub fn interruptions(&self) -> u64
         ensures { result ≡ interruptions_of self.now }
@@ -68,15 +92,27 @@ impl<T> Device<T> {
         self.interruptions
     }
 
-    /// Begins the counts of reads and of interruptions anew, as for a line or a request.
+    /// How many of its writes and flushes were interrupted in all, up to `u64::MAX`.
+    pub fn all_interruptions(&self) -> u64
+        ensures { result ≡ all_interruptions_of self.now }
+    {
+        self.all_interruptions
+    }
+
+    /// Begins the counts of reads and of interruptions in a row anew, as for a line or a request, at the
+    /// place where it stands.
     pub fn begin_count(&mut self)
         ensures inner { inner_of self.new ≡ inner_of self.old }
         ensures faults { faults_of self.new ≡ faults_of self.old }
         ensures reads { reads_of self.new ≡ 0 }
         ensures all_reads { all_reads_of self.new ≡ all_reads_of self.old }
+        ensures place { place_of self.new ≡ place_of self.old }
+        ensures begun { begun_of self.new ≡ place_of self.old }
         ensures interruptions { interruptions_of self.new ≡ 0 }
+        ensures all_interruptions { all_interruptions_of self.new ≡ all_interruptions_of self.old }
     {
         self.reads = 0;
+        self.begun = self.place;
         self.interruptions = 0;
     }
 
@@ -85,6 +121,8 @@ impl<T> Device<T> {
         ensures inner { inner_of self.new ≡ inner_of self.old }
         ensures reads { reads_of self.new ≡ reads_of self.old }
         ensures all_reads { all_reads_of self.new ≡ all_reads_of self.old }
+        ensures place { place_of self.new ≡ place_of self.old }
+        ensures begun { begun_of self.new ≡ begun_of self.old }
         ensures fault { kind ≢ ErrorKind.Interrupted → faults_of self.new ≡ counted (faults_of self.old) }
         ensures interruption { kind ≡ ErrorKind.Interrupted → faults_of self.new ≡ faults_of self.old }
     {
@@ -97,16 +135,31 @@ impl<T> Device<T> {
     fn count_write_error(&mut self, kind: ErrorKind)
         ensures inner { inner_of self.new ≡ inner_of self.old }
         ensures fault { kind ≢ ErrorKind.Interrupted → faults_of self.new ≡ counted (faults_of self.old) }
-        ensures anew { kind ≢ ErrorKind.Interrupted → interruptions_of self.new ≡ 0 }
+        ensures anew { kind ≢ ErrorKind.Interrupted
+            → (interruptions_of self.new ≡ 0) × (all_interruptions_of self.new ≡ all_interruptions_of self.old) }
         ensures no_fault { kind ≡ ErrorKind.Interrupted → faults_of self.new ≡ faults_of self.old }
-        ensures interruption { kind ≡ ErrorKind.Interrupted → interruptions_of self.new ≡ counted (interruptions_of self.old) }
+        ensures interruption { kind ≡ ErrorKind.Interrupted → (interruptions_of self.new ≡ counted (interruptions_of self.old))
+            × (all_interruptions_of self.new ≡ counted (all_interruptions_of self.old)) }
     {
         if is_fault(kind) {
             self.faults = one_more(self.faults);
             self.interruptions = 0;
         } else {
             self.interruptions = one_more(self.interruptions);
+            self.all_interruptions = one_more(self.all_interruptions);
         }
+    }
+
+    /// Counts bytes that it gave.
+    fn count_bytes(&mut self, len: usize)
+        ensures inner { inner_of self.new ≡ inner_of self.old }
+        ensures faults { faults_of self.new ≡ faults_of self.old }
+        ensures reads { reads_of self.new ≡ reads_of self.old }
+        ensures all_reads { all_reads_of self.new ≡ all_reads_of self.old }
+        ensures place { place_of self.new ≡ counted_by len (place_of self.old) }
+        ensures begun { begun_of self.new ≡ begun_of self.old }
+    {
+        self.place = self.place.saturating_add(len as u64);
     }
 
     /// What it was made of.
@@ -118,7 +171,10 @@ impl<T> Device<T> {
             faults: _,
             reads: _,
             all_reads: _,
+            place: _,
+            begun: _,
             interruptions: _,
+            all_interruptions: _,
         } = self;
         inner
     }
@@ -131,12 +187,19 @@ impl<R: BufRead> Device<R> {
         ensures faults { MatchResult result (CountsPiece self.old self.new) (λ _. faults_of self.new ≡ faults_of self.old) }
         ensures reads { reads_of self.new ≡ counted (reads_of self.old) }
         ensures all_reads { all_reads_of self.new ≡ counted (all_reads_of self.old) }
+        ensures place { IfOk result (λ piece. place_of self.new ≡ counted_by (piece_len piece) (place_of self.old)) }
+        ensures begun { begun_of self.new ≡ begun_of self.old }
     {
         self.reads = one_more(self.reads);
         self.all_reads = one_more(self.all_reads);
         let piece = take_piece(&mut self.inner, line)?;
-        if let Piece::Failed(kind) = piece {
-            self.count_read_error(kind);
+        match piece {
+            Piece::Ended(len) | Piece::More(len) => self.count_bytes(len),
+            Piece::NoMore => self.count_bytes(0),
+            Piece::Failed(kind) => {
+                self.count_bytes(0);
+                self.count_read_error(kind);
+            }
         }
         Ok(piece)
     }
@@ -151,12 +214,15 @@ impl<R: Read> Read for Device<R> {
         ensures faults { CountsFault self.old self.new result }
         ensures reads { reads_of self.new ≡ counted (reads_of self.old) }
         ensures all_reads { all_reads_of self.new ≡ counted (all_reads_of self.old) }
+        ensures place { CountsBytes self.old self.new result }
+        ensures begun { begun_of self.new ≡ begun_of self.old }
     {
         self.reads = one_more(self.reads);
         self.all_reads = one_more(self.all_reads);
         let answer = self.inner.read(buf);
-        if let Err(e) = &answer {
-            self.count_read_error(e.kind());
+        match &answer {
+            Ok(n) => self.count_bytes(*n),
+            Err(e) => self.count_read_error(e.kind()),
         }
         answer
     }

@@ -1,6 +1,6 @@
 // The next line from a reader, in few enough reads.
-ghost use Rattle.std.specs.Prelude.{◌≡◌, ◌≤◌, IfOk, MatchOption, MatchResult, OnSome};
-ghost use Rattle.reg_records.specs.Device.{all_reads_of, bytes_in, counted_by, faults_of, reads_of};
+ghost use Rattle.std.specs.Prelude.{◌≡◌, ◌≤◌, IfOk, OnOk, MatchOption, MatchResult, OnSome};
+ghost use Rattle.reg_records.specs.Device.{KeepsEnd, all_reads_of, bytes_in, counted_by, faults_of, reads_of, source_of};
 ghost use Rattle.reg_records.specs.Pieces.{LeavesLine, TakesLine};
 
 use crate::device::Device;
@@ -27,9 +27,10 @@ pub(crate) fn take_line<R: BufRead>(
 ) -> Result<Option<NextLine>, AllocError>
     ensures taken { IfOk result (λ taken. MatchOption taken
         (LeavesLine reader.old reader.new (bytes_in R.remaining reader.old) (bytes_in R.remaining reader.new))
-        (TakesLine (bytes_in R.remaining reader.old) (bytes_in R.remaining reader.new))) }
+        (TakesLine (source_of R.remaining reader.old) (source_of R.remaining reader.new))) }
     ensures faults { MatchResult result (λ taken. OnSome taken (faults_of reader.new ≡ faults_of reader.old))
         (λ _. faults_of reader.new ≡ faults_of reader.old) }
+    ensures end { OnOk result (KeepsEnd R.remaining reader.old reader.new) }
     ensures bound { reads_of reader.new ≤ LINE_READS }
     ensures reads { all_reads_of reader.new ≡ counted_by (reads_of reader.new) (all_reads_of reader.old) }
 {
@@ -37,7 +38,7 @@ pub(crate) fn take_line<R: BufRead>(
     reader.begin_count();
     for _i in 0..LINE_READS {
         match reader.take_piece(&mut line)? {
-            Piece::Ended => return Ok(Some(NextLine::Line(line))),
+            Piece::Ended(_) => return Ok(Some(NextLine::Line(line))),
             Piece::NoMore => {
                 return Ok(Some(if line.is_empty() {
                     NextLine::End
@@ -45,7 +46,7 @@ pub(crate) fn take_line<R: BufRead>(
                     NextLine::Unended
                 }));
             }
-            Piece::More => {}
+            Piece::More(_) => {}
             Piece::Failed(ErrorKind::Interrupted) => {}
             Piece::Failed(_) => return Ok(None),
         }

@@ -1,8 +1,8 @@
 // Reading a log line by line.
-ghost use Rattle.std.specs.Prelude.{◌≡◌, ◌<◌, ◌≤◌, ◌+◌, ℕ, List, IfOk, IfErr, OnOk, IfSome, Some, Ok, nat_lt, if◌then◌else◌};
-ghost use Rattle.reg_records.specs.Device.{all_reads_of, bytes_in, counted_by, faults_of, reads_of};
+ghost use Rattle.std.specs.Prelude.{◌≡◌, ◌<◌, ◌≤◌, ◌+◌, ℕ, List, length, IfOk, IfErr, OnOk, IfSome, Some, Ok, nat_lt, if◌then◌else◌};
+ghost use Rattle.reg_records.specs.Device.{KeepsEnd, KeepsReads, bytes_in, faults_of, reads_of, source_of};
 ghost use Rattle.reg_records.specs.Line.{IsFaultOf, reading};
-ghost use Rattle.reg_records.specs.Log.{LogText, log_of, IsLogOf, IsLogRefusal, offset_in};
+ghost use Rattle.reg_records.specs.Log.{LogText, log_of, IsLogOf, IsLogRefusal, ReadsFewTimes, offset_in};
 ghost use Rattle.reg_records.specs.LogSteps.{StepsLog, IsStepRefusal, IsLineRefusal};
 ghost use Rattle.reg_records.specs.Pieces.{Holds};
 
@@ -19,14 +19,18 @@ use std::io::BufRead;
 /// Reads the log at the front of `reader`: lines up to an empty line or the end of the input. What
 /// stands after the empty line is left unread.
 ///
-/// A line past its limit is read to its LF, its bytes dropped, before its fault is told.
+/// A line past its limit is read to its LF, its bytes dropped, before its fault is told. The count of
+/// reads begins anew at each line.
 pub fn read_log<R: BufRead>(alloc: Global, reader: &mut Device<R>) -> Result<Log, LogError>
     ensures read { IfOk result (λ log. IfSome (bytes_in R.remaining reader.old) (λ text. (found : LogText)
         × (log_of text ≡ Ok found) × IsLogOf found.reads log × (bytes_in R.remaining reader.new ≡ Some found.rest))) }
     ensures refused { IfErr result
         (IsLogRefusal reader.old reader.new (bytes_in R.remaining reader.old) (bytes_in R.remaining reader.new)) }
     ensures faults { OnOk result (faults_of reader.new ≡ faults_of reader.old) }
+    ensures end { OnOk result (KeepsEnd R.remaining reader.old reader.new) }
     ensures bound { reads_of reader.new ≤ LINE_READS }
+    ensures counted { OnOk result (KeepsReads reader.old reader.new) }
+    ensures reads { IfOk result (λ log. ReadsFewTimes reader.old reader.new (length log.records.items + log.foreign + 1)) }
 {
     let mut log = Log::new(alloc);
     let mut number = 1;
@@ -46,12 +50,14 @@ fn read_next<R: BufRead>(
     requires counted { log.old.foreign < number }
     requires within { number ≤ LOG_LINES + 1 }
     ensures step { IfOk result
-        (StepsLog number (bytes_in R.remaining reader.old) (bytes_in R.remaining reader.new) log.old log.new) }
+        (StepsLog number (source_of R.remaining reader.old) (source_of R.remaining reader.new) log.old log.new) }
     ensures refused { IfErr result
         (IsStepRefusal number reader.old reader.new (bytes_in R.remaining reader.old) (bytes_in R.remaining reader.new)) }
     ensures faults { OnOk result (faults_of reader.new ≡ faults_of reader.old) }
+    ensures end { OnOk result (KeepsEnd R.remaining reader.old reader.new) }
     ensures bound { reads_of reader.new ≤ LINE_READS }
-    ensures reads { counted_by 0 (all_reads_of reader.old) ≤ all_reads_of reader.new }
+    ensures reads { KeepsReads reader.old reader.new }
+    ensures few { ReadsFewTimes reader.old reader.new 1 }
 {
     let Some(next) = take_line(alloc, reader)? else {
         return Err(LogError::ReadFault { line: number });

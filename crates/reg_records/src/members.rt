@@ -9,6 +9,7 @@ ghost use Rattle.serde_json.specs.Written.{compact_text, outline};
 ghost use Rattle.reg_records.specs.Json.{text_at, number_at, has_text_at, has_number_at};
 
 use crate::limits::NUMBER_LIMIT;
+use json::Writer;
 use serde_json::Value as Json;
 use std::alloc::{AllocError, Global};
 
@@ -66,13 +67,15 @@ pub fn has_number_at(json: &Json, name: &str, number: u32) -> bool
     }
 }
 
-/// The JSON string of a text, between its quotes (RFC 8259, section 7).
+/// The JSON string of a text, between its quotes (RFC 8259, section 7). The only error is want of memory.
 pub fn quoted(alloc: Global, text: &str) -> Result<String, AllocError>
     ensures { IfOk result (λ written. string_bytes written ≡ quoted text.now) }
 {
-    match serde_json::to_string(alloc, &text) {
+    let mut out = Writer::new(Vec::new(alloc));
+    out.string(text)?;
+    match String::from_utf8(out.into_inner()) {
         Ok(written) => Ok(written),
-        Err(_) => Err(AllocError),
+        Err(_) => unreachable!(),
     }
 }
 

@@ -72,10 +72,10 @@ impl LineBuffer {
 /// What one read gave.
 #[derive(Clone, Copy)]
 pub(crate) enum Piece {
-    /// The rest of the line, and its LF.
-    Ended,
-    /// Bytes of the line.
-    More,
+    /// The rest of the line, and its LF: so many bytes.
+    Ended(usize),
+    /// So many bytes of the line.
+    More(usize),
     /// The end of the input.
     NoMore,
     /// Nothing, for an error of that kind.
@@ -102,11 +102,11 @@ pub(crate) fn take_piece<R: BufRead>(
     match end {
         Some(end) => {
             reader.consume(end + 1);
-            Ok(Piece::Ended)
+            Ok(Piece::Ended(end + 1))
         }
         None => {
             reader.consume(len);
-            Ok(Piece::More)
+            Ok(Piece::More(len))
         }
     }
 }

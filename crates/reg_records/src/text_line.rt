@@ -1,6 +1,7 @@
 // Lines that are texts.
 ghost use Rattle.std.specs.Prelude.{◌≡◌, ◌≤◌, ℕ, List, IfOk, IfErr, IfSome, MatchOption, MatchResult, OnOk, Ok, Err, Some, length};
-ghost use Rattle.reg_records.specs.Device.{all_reads_of, bytes_in, counted_by, faults_of, reads_of};
+ghost use Rattle.reg_records.specs.Device.{KeepsReads, bytes_in, faults_of, reads_of};
+ghost use Rattle.reg_records.specs.Log.{ReadsFewTimes};
 ghost use Rattle.reg_records.specs.Pieces.{Holds};
 ghost use Rattle.reg_records.specs.TextLine.{after_front, front_text, text_in, IsTextRefusal};
 
@@ -48,7 +49,8 @@ pub fn read_text_line<R: BufRead>(
         (IsTextRefusal reader.old reader.new (bytes_in R.remaining reader.old) (bytes_in R.remaining reader.new)) }
     ensures faults { OnOk result (faults_of reader.new ≡ faults_of reader.old) }
     ensures bound { reads_of reader.new ≤ LINE_READS }
-    ensures reads { counted_by 0 (all_reads_of reader.old) ≤ all_reads_of reader.new }
+    ensures reads { KeepsReads reader.old reader.new }
+    ensures few { ReadsFewTimes reader.old reader.new 1 }
 {
     let Some(next) = take_line(alloc, reader)? else {
         return Err(TextLineError::ReadFault);

@@ -6,9 +6,9 @@ use Rattle.std.specs.Io.KnownBytes.{Appends}
 use Rattle.std.proofs.KnownBytes.{Appends-trans}
 use Rattle.std.proofs.lemmas.Grind.{flat_map-append}
 use Rattle.std.proofs.lemmas.List.{append_assoc, drop-take}
-use Rattle.reg_records.specs.Device.{bytes_in, counted, faults_of, inner_of, interruptions_of}
+use Rattle.reg_records.specs.Device.{all_interruptions_of, bytes_in, counted, counted_by, faults_of, inner_of, interruptions_of}
 use Rattle.reg_records.specs.declared.device.Device.{Device}
-use Rattle.reg_responses.specs.Writing.{AppendsFront, HasFront, HasWritten, LosesWriter, Writes}
+use Rattle.reg_responses.specs.Writing.{AppendsFront, HasFront, HasWritten, IsLostSince, LosesWriter, Writes}
 
 Appends-nothing : (known : Option (List ℕ)) → Appends known known []
 Appends-nothing None = tt
@@ -18,6 +18,11 @@ Appends-nothing (Some bytes) = sym (append-nil bytes)
 pub LosesWriter-later : {W : Type 0} (old mid new : Device W) → faults_of mid ≡ faults_of old → LosesWriter mid new → LosesWriter old new
 LosesWriter-later old mid new same lost =
     elim lost [ inl faulted ↦ inl (faulted.0 ∙ ap counted same, faulted.1) | inr many ↦ inr (many.0 ∙ same, many.1) ]
+
+pub IsLostSince-later : {W : Type 0} (old mid new : Device W) → faults_of mid ≡ faults_of old
+    → counted_by 0 (all_interruptions_of old) ≤ all_interruptions_of mid → IsLostSince mid new → IsLostSince old new
+IsLostSince-later old mid new same least lost =
+    elim lost [ inl faulted ↦ inl (faulted ∙ ap counted same) | inr many ↦ inr (omega (arith, least, many)) ]
 
 -- what stands whole before a front of more is a front with it
 pub AppendsFront-then : (old mid new : Option (List ℕ)) (before text after whole : List ℕ) → whole ≡ before ++ (text ++ after)
@@ -35,13 +40,14 @@ pub HasFront-then : {W : Type 0} (contents : W → Option (List ℕ)) (old mid n
 HasFront-then contents old mid new before text after whole e written lost = (
   LosesWriter-later old mid new written.1 lost.0,
   AppendsFront-then (bytes_in contents old) (bytes_in contents mid) (bytes_in contents new) before text after whole e written.0 lost.1,
+  IsLostSince-later old mid new written.1 written.3 lost.2,
 )
 
 -- a front of the first part is one of both
 pub HasFront-more : {W : Type 0} (contents : W → Option (List ℕ)) (old new : Device W) (first second : List ℕ)
     → HasFront contents old new first → HasFront contents old new (first ++ second)
-HasFront-more contents old new first second (lost, (front, rest, parts, appends)) =
-    (lost, (front, rest ++ second, ap (λ b. b ++ second) parts ∙ append_assoc front rest second, appends))
+HasFront-more contents old new first second (lost, (front, rest, parts, appends), since) =
+    (lost, (front, rest ++ second, ap (λ b. b ++ second) parts ∙ append_assoc front rest second, appends), since)
 
 -- the second part, after the first
 pub Writes-then : {W A E : Type 0} (contents : W → Option (List ℕ)) (old mid new : Device W) (first second : List ℕ) (result : Result A E)
@@ -50,6 +56,7 @@ Writes-then contents old mid new first second (Ok value) before after = (
   Appends-trans (bytes_in contents old) (bytes_in contents mid) (bytes_in contents new) first second before.0 after.0,
   after.1 ∙ before.1,
   after.2,
+  omega (arith, before.3, after.3),
 )
 Writes-then contents old mid new first second (Err e) before after =
     HasFront-then contents old mid new first second [] (first ++ second) (ap (λ b. first ++ b) (sym (append-nil second))) before after
@@ -62,9 +69,9 @@ Writes-flushed contents old mid new text result before after =
 
 -- counts that begin anew write nothing
 pub HasWritten-begun : {W : Type 0} (contents : W → Option (List ℕ)) (old new : Device W) → inner_of new ≡ inner_of old
-    → faults_of new ≡ faults_of old → interruptions_of new ≡ 0 → HasWritten contents old new []
-HasWritten-begun contents old new inner faults interruptions =
-    (subst (λ w. Appends (contents old.inner) (contents w) []) (sym inner) (Appends-nothing (contents old.inner)), faults, interruptions)
+    → faults_of new ≡ faults_of old → interruptions_of new ≡ 0 → all_interruptions_of new ≡ all_interruptions_of old → HasWritten contents old new []
+HasWritten-begun contents old new inner faults interruptions all =
+    (subst (λ w. Appends (contents old.inner) (contents w) []) (sym inner) (Appends-nothing (contents old.inner)), faults, interruptions, omega (arith, all))
 
 -- what stands for the elements up to one, for that one, and for those after it
 pub flat_map-split : {X : Type 0} (f : X → List ℕ) (xs : List X) (i : ℕ) (x : X) → take (i + 1) xs ≡ take i xs ++ x ∷ []

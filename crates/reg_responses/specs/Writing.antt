@@ -1,7 +1,7 @@
 -- What a writer has and counted once a text was written, or the writer was lost before its end.
 use Rattle.std.specs.Prelude.{◌≡◌, ◌⊎◌, ℕ, List, ◌++◌, Option, Result, MatchResult}
 use Rattle.std.specs.Io.KnownBytes.{Appends}
-use Rattle.reg_records.specs.Device.{bytes_in, counted, faults_of, interruptions_of}
+use Rattle.reg_records.specs.Device.{IsInterruptedMore, KeepsInterruptions, bytes_in, counted, faults_of, interruptions_of}
 use Rattle.reg_records.specs.declared.device.Device.{Device}
 use Rattle.reg_responses.specs.declared.limits.TheConstants.{INTERRUPTION_LIMIT}
 
@@ -10,6 +10,11 @@ abbrev pub LosesWriter : {W : Type 0} → Device W → Device W → Type 0
 LosesWriter before after = ((faults_of after ≡ counted (faults_of before)) × (interruptions_of after ≡ 0))
     ⊎ ((faults_of after ≡ faults_of before) × (interruptions_of after ≡ INTERRUPTION_LIMIT))
 
+-- one fault was counted since, or as many interruptions came since as may come in a row
+abbrev pub IsLostSince : {W : Type 0} → Device W → Device W → Type 0
+IsLostSince before after = (faults_of after ≡ counted (faults_of before))
+    ⊎ IsInterruptedMore before after INTERRUPTION_LIMIT
+
 -- a front of the text was appended
 abbrev pub AppendsFront : Option (List ℕ) → Option (List ℕ) → List ℕ → Type 0
 AppendsFront old new text = (front : List ℕ) × (rest : List ℕ) × (text ≡ front ++ rest) × Appends old new front
@@ -17,12 +22,12 @@ AppendsFront old new text = (front : List ℕ) × (rest : List ℕ) × (text ≡
 -- the text was appended, nothing else, no fault was counted, and the last call wasn't interrupted
 abbrev pub HasWritten : {W : Type 0} → (W → Option (List ℕ)) → Device W → Device W → List ℕ → Type 0
 HasWritten contents before after text = Appends (bytes_in contents before) (bytes_in contents after) text
-    × (faults_of after ≡ faults_of before) × (interruptions_of after ≡ 0)
+    × (faults_of after ≡ faults_of before) × (interruptions_of after ≡ 0) × KeepsInterruptions before after
 
--- the writer was lost, and has a front of the text
+-- the writer was lost, by what came since, and has a front of the text
 abbrev pub HasFront : {W : Type 0} → (W → Option (List ℕ)) → Device W → Device W → List ℕ → Type 0
 HasFront contents before after text =
-    LosesWriter before after × AppendsFront (bytes_in contents before) (bytes_in contents after) text
+    LosesWriter before after × AppendsFront (bytes_in contents before) (bytes_in contents after) text × IsLostSince before after
 
 -- the text was written, or the writer was lost
 abbrev pub Writes : {W A E : Type 0} → (W → Option (List ℕ)) → Device W → Device W → List ℕ → Result A E → Type 0

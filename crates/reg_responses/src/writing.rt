@@ -4,7 +4,7 @@ ghost use Rattle.std.specs.Io.KnownBytes.{Keeps};
 ghost use Rattle.reg_records.specs.Device.{bytes_in, faults_of, interruptions_of};
 ghost use Rattle.reg_responses.specs.Pieces.{pieces_text};
 ghost use Rattle.reg_responses.specs.Response.{head_text, phrase_of, response_text, allow_field, closing_field};
-ghost use Rattle.reg_responses.specs.Writing.{HasWritten, LosesWriter, Writes};
+ghost use Rattle.reg_responses.specs.Writing.{HasWritten, IsLostSince, LosesWriter, Writes};
 
 use crate::limits::INTERRUPTION_LIMIT;
 use crate::pieces::{Piece, pieces_len, write_pieces};
@@ -102,7 +102,7 @@ fn write_some<W: Write>(writer: &mut Device<W>, bytes: &[u8]) -> Result<usize, W
     ensures some { IfOk result (λ n. (0 < n) × (n ≤ length bytes.now)) }
     ensures written { IfOk result (λ n. HasWritten W.contents writer.old writer.new (take n bytes.now)) }
     ensures lost { OnErr result (LosesWriter writer.old writer.new
-        × Keeps (bytes_in W.contents writer.old) (bytes_in W.contents writer.new)) }
+        × Keeps (bytes_in W.contents writer.old) (bytes_in W.contents writer.new) × IsLostSince writer.old writer.new) }
 {
     for _i in 0..INTERRUPTION_LIMIT {
         match writer.write(bytes) {

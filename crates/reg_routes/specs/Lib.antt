@@ -1,3 +1,4 @@
+pub mod Adding
 pub mod Query
 pub mod Router
 pub mod Routes

@@ -1,5 +1,6 @@
 // The paths of the registry, as a router has them.
-ghost use Rattle.std.specs.Prelude.{◌≡◌, [], IfOk, OnOk, fold, map};
+ghost use Rattle.std.specs.Prelude.{◌≡◌, [], true, IfOk, OnOk, fold, map};
+ghost use Rattle.reg_routes.specs.Adding.{all_can_be_added, can_be_added};
 ghost use Rattle.reg_routes.specs.Router.{path_rows, route_of, with_path};
 
 use crate::route::Route;
@@ -40,11 +41,11 @@ pub struct Paths {
 }
 
 impl Paths {
-    /// Whatever keeps the router from being made is reported as want of memory.
+    /// The only error is want of memory.
     pub fn new(alloc: Global) -> Result<Paths, AllocError> {
         match router_of_paths(alloc) {
             Ok(router) => Ok(Paths { router }),
-            Err(_) => Err(AllocError),
+            Err(e) => Err(e),
         }
     }
 
@@ -60,16 +61,17 @@ impl Paths {
     }
 }
 
-/// A router of all paths.
+/// A router of all paths. The only error is want of memory.
 #[tactic(auto, unfolding(crate::specs::Router::path_rows))]
-fn router_of_paths(alloc: Global) -> Result<Router<Route>, InsertError>
+fn router_of_paths(alloc: Global) -> Result<Router<Route>, AllocError>
     ensures { IfOk result (λ router. router ≡ path_rows) }
 {
     router_of(alloc, &PATHS)
 }
 
-/// A router of these paths, added in turn.
-fn router_of(alloc: Global, paths: &[(&str, Route)]) -> Result<Router<Route>, InsertError>
+/// A router of these paths, added in turn. The only error is want of memory.
+fn router_of(alloc: Global, paths: &[(&str, Route)]) -> Result<Router<Route>, AllocError>
+    requires { all_can_be_added [] (map (λ path. (path.0.now, path.1)) paths.now) ≡ true }
     ensures { IfOk result (λ router. router ≡ fold with_path [] (map (λ path. (path.0.now, path.1)) paths.now)) }
 {
     let mut router = Router::new(alloc);
@@ -79,9 +81,14 @@ fn router_of(alloc: Global, paths: &[(&str, Route)]) -> Result<Router<Route>, In
     Ok(router)
 }
 
-/// Adds a path with its route.
-fn add(router: &mut Router<Route>, path: &str, route: Route) -> Result<(), InsertError>
+/// Adds a path with its route. The only error is want of memory.
+fn add(router: &mut Router<Route>, path: &str, route: Route) -> Result<(), AllocError>
+    requires { can_be_added router.old (path.now, route) ≡ true }
     ensures { OnOk result (router.new ≡ with_path router.old (path.now, route)) }
 {
-    router.insert(path, route)
+    match router.insert(path, route) {
+        Ok(()) => Ok(()),
+        Err(InsertError::OutOfMemory) => Err(AllocError),
+        Err(_) => unreachable!(),
+    }
 }

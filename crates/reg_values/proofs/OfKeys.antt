@@ -4,12 +4,12 @@ use Rattle.std.proofs.lemmas.Bool.{false≢true, leb-true}
 use Rattle.std.specs.Option.{option_map_or}
 use Rattle.std.specs.Prelude.{IfSome}
 use Rattle.serde_json.specs.Data.{Data}
-use Rattle.serde_json.specs.Find.{as_number, as_object, as_u64, get}
+use Rattle.serde_json.specs.Find.{as_number, as_u64, get}
 use Rattle.serde_json.specs.Read.{read}
 use Rattle.avro_schema.specs.Schema.{is_schema}
 use Rattle.reg_level_names.specs.Level.{is_level}
 use Rattle.reg_records.specs.Json.{has_number_at, has_text_at, number_at, text_at, text_where}
-use Rattle.reg_values.specs.Value.{deleted_in, is_plain_avro, value_in, value_of}
+use Rattle.reg_values.specs.Value.{deleted_in, is_plain_avro, value_in, value_of, value_of_text}
 use Rattle.reg_records.specs.Written.{IsVersionOrId, HasNumbersInLimits}
 use Rattle.reg_values.specs.OfKey.{IsValueOf, ValuesAreOfKeys}
 use Rattle.reg_records.specs.declared.key.Key.{Key}
@@ -86,13 +86,22 @@ value_in-of (keys.DeleteSubject subject) d =
     if_so P (has_text_at (codes "subject") subject d) (option_map (λ version. values.DeleteSubject subject version) (number_at (codes "version") d)) (λ _.
     mapped P (number_at (codes "version") d) (λ version. values.DeleteSubject subject version) (λ version at.
     inl (refl, number_fits (codes "version") d version at)))
-value_in-of keys.Noop d = mapped (IsOf keys.Noop) (as_object d) (λ _. values.Noop) (λ _ _. inr (refl, refl))
+value_in-of keys.Noop d = inr (refl, refl)
 value_in-of keys.IdMark d = mapped (IsOf keys.IdMark) (number_at (codes "id") d) (λ id. values.IdMark id) (λ id at. inl (refl, number_fits (codes "id") d id at))
 
+read-of : (key : Key) (text : List ℕ) → IfSome (option_and_then (value_in key) (read text)) (IsOf key)
+read-of key text = each_some (IsOf key) (read text) (value_in key) (λ d _. value_in-of key d)
+
+value_of_text-of : (key : Key) (text : List ℕ) → IfSome (value_of_text key text) (IsOf key)
+value_of_text-of (keys.Schema subject version) text = read-of (keys.Schema subject version) text
+value_of_text-of (keys.Config scope) text = read-of (keys.Config scope) text
+value_of_text-of (keys.Mode scope) text = read-of (keys.Mode scope) text
+value_of_text-of (keys.DeleteSubject subject) text = read-of (keys.DeleteSubject subject) text
+value_of_text-of keys.Noop text = inr (refl, refl)
+value_of_text-of keys.IdMark text = read-of keys.IdMark text
+
 value_of-of : (r : Record) → IfSome (value_of r) (IsOf r.key)
-value_of-of r =
-    let P : Value → Type 0 = IsOf r.key in
-    each_some P r.value (λ text. option_and_then (value_in r.key) (read text)) (λ text _. each_some P (read text) (value_in r.key) (λ d _. value_in-of r.key d))
+value_of-of r = each_some (IsOf r.key) r.value (value_of_text r.key) (λ text _. value_of_text-of r.key text)
 
 pub values_are_of_keys : ValuesAreOfKeys
 values_are_of_keys r v is = subst (λ o. IfSome o (IsOf r.key)) is (value_of-of r)

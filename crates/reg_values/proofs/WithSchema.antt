@@ -9,11 +9,12 @@ use Rattle.serde_json.specs.declared.value.Value.{Value as Json}
 use Rattle.avro_schema.specs.Schema.{Meaning, is_schema, schema_of}
 use Rattle.reg_records.specs.Json.{has_number_at, has_text_at, number_at, text_at}
 use Rattle.reg_values.specs.declared.decoding.Decoded.{Decoded}
+use Rattle.reg_records.specs.declared.key.Key.{Key}
 use Rattle.reg_records.specs.declared.key.Key.TheVariants as keys
 use Rattle.reg_records.specs.declared.value.Value.{Value}
-use Rattle.reg_records.specs.declared.value.Value.TheVariants.{Schema}
+use Rattle.reg_records.specs.declared.value.Value.TheVariants.{Schema, Noop}
 use Rattle.reg_records.specs.declared.record.Record.{Record}
-use Rattle.reg_values.specs.Value.{value_in, value_of, deleted_in, is_plain_avro, schema_in}
+use Rattle.reg_values.specs.Value.{is_noop, value_in, value_of, value_of_text, deleted_in, is_plain_avro, schema_in}
 use Rattle.reg_values.specs.WithSchema.{with_schema}
 
 schema-with_schema : (o : Option Value) → IfSome (option_map with_schema o) (λ d. d.schema ≡ schema_in d.value)
@@ -34,11 +35,15 @@ pub schema_in-decoded : (decoded : Result (Option Decoded) AllocError) (found : 
     → IfOk decoded (λ d. IfSome d (λ e. e.schema ≡ schema_in e.value))
 schema_in-decoded decoded found is = IfOk-weaker decoded _ _ (λ d e. subst (λ (o : Option Decoded). IfSome o (λ x. x.schema ≡ schema_in x.value)) (sym e) (schema-with_schema found)) is
 
--- the value of a record whose text is a JSON value
-pub value_of-read : (r : Record) (text : List ℕ) (found : Option Json) (json : Json) → r.value ≡ Some text → option_map view found ≡ read text → found ≡ Some json
-    → value_in r.key (view json) ≡ value_of r
-value_of-read r text found json valued is_read is =
-    sym (ap (option_and_then (λ t. option_and_then (value_in r.key) (read t))) valued ∙ ap (option_and_then (value_in r.key)) (sym is_read ∙ ap (option_map view) is))
+-- the value of a text that is a JSON value, under every key but that of no operation
+pub value_of_text-read : (key : Key) (text : List ℕ) (found : Option Json) (json : Json) → is_noop key ≡ false → option_map view found ≡ read text → found ≡ Some json
+    → value_in key (view json) ≡ value_of_text key text
+value_of_text-read key text found json other is_read is =
+    sym (ap (λ b. if b then Some Noop else option_and_then (value_in key) (read text)) other ∙ ap (option_and_then (value_in key)) (sym is_read ∙ ap (option_map view) is))
+
+-- the value of a record that has a text
+pub value_of-text : (r : Record) (text : List ℕ) → r.value ≡ Some text → value_of_text r.key text ≡ value_of r
+value_of-text r text valued = sym (ap (option_and_then (value_of_text r.key)) valued)
 
 module _ (subject : List ℕ) (version : ℕ) (d : Data) (id : ℕ) (text : List ℕ)
     (about : (has_text_at (codes "subject") subject d && has_number_at (codes "version") version d) ≡ true) (plain : is_plain_avro d ≡ true)

@@ -1,8 +1,8 @@
 -- The value that a record's text gives, which its key has a say in.
-use Rattle.std.specs.Prelude.{Bool, true, false, ◌&&◌, ◌||◌, Option, Some, None, is_none, option_map, option_and_then, bytes_eq, codes, if◌then◌else◌}
+use Rattle.std.specs.Prelude.{List, ℕ, Bool, true, false, ◌&&◌, ◌||◌, Option, Some, None, is_none, option_map, option_and_then, bytes_eq, codes, if◌then◌else◌}
 use Rattle.std.specs.Option.{option_map_or}
 use Rattle.serde_json.specs.Data.{Data}
-use Rattle.serde_json.specs.Find.{get, get_item, as_bool, as_str, as_array, as_object}
+use Rattle.serde_json.specs.Find.{get, get_item, as_bool, as_str, as_array}
 use Rattle.serde_json.specs.Read.{read}
 use Rattle.avro_schema.specs.Schema.{Meaning, schema_of, is_schema}
 use Rattle.reg_level_names.specs.Level.{is_level}
@@ -38,7 +38,7 @@ deleted_in d = option_map_or (λ mark. if is_null mark then Some false else as_b
 -- a version names the key's subject and version again, and its schema's text can be read as a schema, whose defaults aren't looked at
 -- a level is the name of one, and a mode is any text
 -- a soft delete names the key's subject again, and the last version that it covers
--- no operation is any JSON object, and a mark of ids a number within the limits of ids
+-- a mark of ids is a number within the limits of ids
 abbrev pub value_in : Key → Data → Option Value
 value_in (keys.Schema subject version) d =
     if has_text_at (codes "subject") subject d && has_number_at (codes "version") version d && is_plain_avro d
@@ -48,12 +48,25 @@ value_in (keys.Config scope) d = option_map values.Config (text_where is_level (
 value_in (keys.Mode scope) d = option_map values.Mode (text_at (codes "mode") d)
 value_in (keys.DeleteSubject subject) d =
     if has_text_at (codes "subject") subject d then option_map (values.DeleteSubject subject) (number_at (codes "version") d) else None
-value_in keys.Noop d = option_map (λ _. values.Noop) (as_object d)
+value_in keys.Noop d = Some values.Noop
 value_in keys.IdMark d = option_map values.IdMark (number_at (codes "id") d)
+
+-- the key of no operation
+abbrev pub is_noop : Key → Bool
+is_noop (keys.Schema subject version) = false
+is_noop (keys.Config scope) = false
+is_noop (keys.Mode scope) = false
+is_noop (keys.DeleteSubject subject) = false
+is_noop keys.Noop = true
+is_noop keys.IdMark = false
+
+-- the value that a text gives under that key: no operation is any text, JSON or not, and under every other key a JSON value is read
+abbrev pub value_of_text : Key → List ℕ → Option Value
+value_of_text key text = if is_noop key then Some values.Noop else option_and_then (value_in key) (read text)
 
 -- the value of a record; a record without text has none, and one that can't be read has none
 abbrev pub value_of : Record → Option Value
-value_of r = option_and_then (λ text. option_and_then (value_in r.key) (read text)) r.value
+value_of r = option_and_then (value_of_text r.key) r.value
 
 -- the schema that a version's value has
 abbrev pub schema_in : Value → Option Meaning

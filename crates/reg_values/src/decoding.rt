@@ -9,7 +9,7 @@ ghost use Rattle.reg_records.specs.Written.{written_value, HasLine, IsInLimits};
 ghost use Rattle.reg_records.specs.declared.key.Key.{Key};
 ghost use Rattle.reg_records.specs.declared.value.Value.{Value};
 ghost use Rattle.reg_values.specs.OfKey.{IsValueOf, ValuesAreOfKeys};
-ghost use Rattle.reg_values.specs.Value.{value_of, schema_in, value_in, is_plain_avro, is_absent_or, is_avro_name, is_empty_list, deleted_in};
+ghost use Rattle.reg_values.specs.Value.{value_of, value_of_text, is_noop, schema_in, value_in, is_plain_avro, is_absent_or, is_avro_name, is_empty_list, deleted_in};
 ghost use Rattle.reg_values.specs.WithSchema.{with_schema};
 
 use avro_schema::Schema;
@@ -50,13 +50,29 @@ pub fn decode(alloc: Global, given: &Record) -> Result<Option<Decoded>, AllocErr
     ensures value { IfOk result (λ found. option_map (λ d. d.value) found ≡ value_of given.now) }
     ensures schema { IfOk result (λ found. IfSome found (λ d. d.schema ≡ schema_in d.value)) }
 {
-    let Some(text) = &given.value else {
-        return Ok(None);
-    };
-    match parse(alloc, text.as_str())? {
-        Some(json) => decode_in(alloc, &given.key, &json),
+    match &given.value {
+        Some(text) => decode_text(alloc, &given.key, text.as_str()),
         None => Ok(None),
     }
+}
+
+/// What a text says under that key; a NOOP's may be any text.
+fn decode_text(alloc: Global, key: &Key, text: &str) -> Result<Option<Decoded>, AllocError>
+    ensures { IfOk result (λ found. found ≡ option_map with_schema (value_of_text key.now text.now)) }
+{
+    if is_noop(key) {
+        return Ok(Some(without_schema(Value::Noop)));
+    }
+    match parse(alloc, text)? {
+        Some(json) => decode_in(alloc, key, &json),
+        None => Ok(None),
+    }
+}
+
+fn is_noop(key: &Key) -> bool
+    ensures { result ≡ is_noop key.now }
+{
+    matches!(key, Key::Noop)
 }
 
 fn decode_in(alloc: Global, key: &Key, json: &Json) -> Result<Option<Decoded>, AllocError>
@@ -67,7 +83,7 @@ fn decode_in(alloc: Global, key: &Key, json: &Json) -> Result<Option<Decoded>, A
         Key::Config(_) => decode_config(alloc, json),
         Key::Mode(_) => decode_mode(alloc, json),
         Key::DeleteSubject(subject) => decode_delete_subject(subject, json),
-        Key::Noop => Ok(decode_noop(json)),
+        Key::Noop => Ok(Some(without_schema(Value::Noop))),
         Key::IdMark => Ok(decode_id_mark(json)),
     }
 }
@@ -186,15 +202,6 @@ fn decode_delete_subject(subject: &Text, json: &Json) -> Result<Option<Decoded>,
             version,
         }))),
         None => Ok(None),
-    }
-}
-
-fn decode_noop(json: &Json) -> Option<Decoded>
-    ensures { result ≡ option_map with_schema (value_in Key.Noop (view json.now)) }
-{
-    match json.as_object() {
-        Some(_) => Some(without_schema(Value::Noop)),
-        None => None,
     }
 }
 

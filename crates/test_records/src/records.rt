@@ -127,6 +127,35 @@ fn other_keys_are_foreign(rt: HostRuntime) {
     }
 }
 
+/// Values under the key of no operation, and whether they are one.
+static OPERATIONS: [(&str, bool); 7] = [
+    ("{}", true),
+    ("[1]", true),
+    ("1", true),
+    ("x{", true),
+    ("", true),
+    ("null ", true),
+    ("null", false),
+];
+
+fn is_no_operation(alloc: Global, value: &str) -> Result<bool, LogError> {
+    let line = Line {
+        key: r#"{"keytype":"NOOP","magic":0}"#,
+        value,
+    };
+    match records_of(alloc, line)?.first() {
+        Some(found) => Ok(matches!(decode_value(alloc, found)?, Some(Value::Noop))),
+        None => Ok(false),
+    }
+}
+
+#[test]
+fn any_text_is_no_operation(rt: HostRuntime) {
+    for (value, is) in &OPERATIONS {
+        assert!(rt; is_no_operation(rt.alloc(), value) == Ok(*is), "{value}");
+    }
+}
+
 /// Offsets, versions and values of records, and whether they have a line.
 static HAVE_LINES: [(u64, u32, &str, bool); 7] = [
     (9_223_372_036_854_775_807, 2_147_483_647, "null ", true),

@@ -1,19 +1,23 @@
-use Rattle.std.proofs.Common.{ap, refl, ◌∙◌, arith}
-use Rattle.reg_http.proofs.Runs.{IsPart-full, HasAnswered-begun, HasAnswered-more, IsPart-over, IsPart-closed, IsServeRefusal-step}
+use Rattle.std.proofs.Common.{ap, inr, refl, ◌∙◌, arith}
+use Rattle.reg_records.proofs.Ends.{ends_then}
+use Rattle.reg_http.proofs.Runs.{began_here, IsPart-full, HasAnswered-begun, HasAnswered-more, IsPart-over, IsPart-closed, IsServeRefusal-step}
 use Rattle.reg_http.proofs.serving.serve_part.Goals as goal
 
 pub loop-requests-init : goal.loop-requests-init
-loop-requests-init g c = (HasAnswered-begun g.D.Desk.asks g.D.Desk.commands _ _ _ _ (ap g.W.Write.contents c.begin_count.ensures.inner), refl, c.begin_count.ensures.faults, (λ some. absurd (omega (arith, some)), omega arith, omega arith))
+loop-requests-init g c = (HasAnswered-begun g.D.Desk.asks g.D.Desk.commands _ _ _ _ (ap g.W.Write.contents c.begin_count.ensures.inner), refl, c.begin_count.ensures.faults, (λ some. absurd (omega (arith, some)), omega arith, omega arith), omega arith, inr refl, omega (arith, c.begin_count.ensures.all_interruptions))
 
 pub loop-requests-preserved : goal.loop-requests-preserved
 loop-requests-preserved g c =
-    let (done, reads, writes, bounds) = c.loop-requests.invariant in
+    let (done, reads, writes, bounds, least, end, lasting) = c.loop-requests.invariant in
     let now = c.in-Ok-More in (
       HasAnswered-more g.D.Desk.asks g.D.Desk.commands c.args.desk.now c.loop-requests.desk c.answer_next.new.desk
           _ _ _ _ _ _ c.loop-requests.requests done now.field-0 now.field-0-is now.ensures.step,
       now.ensures.faults.0 ∙ reads,
       now.ensures.faults.1 ∙ writes,
       (λ _. omega arith, omega arith, omega arith),
+      omega (arith, least, c.answer_next.ensures.counted),
+      ends_then g.R.Read.remaining c.args.reader.now c.loop-requests.reader c.answer_next.new.reader end c.answer_next.ensures.end,
+      omega (arith, lasting, now.ensures.lasting),
     )
 
 pub returns-in-Ok-Closed-clause-written : goal.returns-in-Ok-Closed-clause-written
@@ -30,10 +34,12 @@ returns-in-Ok-Over-clause-written g c =
 
 pub returns-in-Err-clause-refused : goal.returns-in-Err-clause-refused
 returns-in-Err-clause-refused g c =
-    let (done, reads, writes, bounds) = c.loop-requests.invariant in
+    let (done, reads, writes, bounds, least, end, lasting) = c.loop-requests.invariant in
     IsServeRefusal-step g.D.Desk.asks g.D.Desk.commands c.args.reader.now c.loop-requests.reader c.answer_next.new.reader
     c.args.writer.now c.loop-requests.writer c.answer_next.new.writer c.args.desk.now c.loop-requests.desk c.answer_next.new.desk _ _ _ _ _ _
-    c.loop-requests.requests c.in-Err.e reads writes done c.in-Err.ensures.refused
+    c.loop-requests.requests c.in-Err.e reads writes least lasting c.loop-requests-test.true (omega (arith, bounds.1, c.answer_next.ensures.reads))
+    (λ text here known left begun. began_here g.R.Read.remaining c.args.reader.now c.loop-requests.reader c.answer_next.new.reader text here known left end begun)
+    done c.in-Err.ensures.refused
 
 pub returns-clause-written : goal.returns-clause-written
 returns-clause-written g c = IsPart-full g.D.Desk.asks g.D.Desk.commands _ _ _ _ _ _ _ (omega (arith, c.loop-requests-test.false)) c.loop-requests.invariant.0

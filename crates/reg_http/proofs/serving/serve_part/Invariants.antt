@@ -1,5 +1,5 @@
 use Rattle.std.proofs.Common.{◌≡◌, ◌≤◌, ◌<◌, ◌+◌, ◌*◌}
-use Rattle.reg_records.specs.Device.{all_reads_of, bytes_in, faults_of, interruptions_of, reads_of}
+use Rattle.reg_records.specs.Device.{KeepsEnd, all_interruptions_of, all_reads_of, bytes_in, counted_by, faults_of, interruptions_of, reads_of}
 use Rattle.reg_messages.specs.declared.limits.TheConstants.{REQUEST_READS}
 use Rattle.reg_responses.specs.declared.limits.TheConstants.{INTERRUPTION_LIMIT}
 use Rattle.reg_http.specs.ServeSteps.{HasAnswered}
@@ -13,3 +13,5 @@ invariant-loop-requests g l =
     × (faults_of l.reader ≡ faults_of l.fn.reader) × (faults_of l.writer ≡ faults_of l.fn.writer)
     × ((0 < l.requests → reads_of l.reader ≤ REQUEST_READS) × (all_reads_of l.reader ≤ all_reads_of l.fn.reader + l.requests * REQUEST_READS)
     × (interruptions_of l.writer ≤ INTERRUPTION_LIMIT))
+    × (counted_by 0 (all_reads_of l.fn.reader) ≤ all_reads_of l.reader) × KeepsEnd g.R.Read.remaining l.fn.reader l.reader
+    × (counted_by 0 (all_interruptions_of l.fn.writer) ≤ all_interruptions_of l.writer)

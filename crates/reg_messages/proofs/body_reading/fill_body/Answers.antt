@@ -4,7 +4,7 @@ use Rattle.reg_messages.proofs.body_reading.fill_body.Goals as goal
 
 pub returns-then-is_err-clause-taken : goal.returns-then-is_err-clause-taken
 returns-then-is_err-clause-taken g c =
-    let (many, took, faults, reads) = c.loop-left.invariant in
+    let (many, took, faults, reads, end) = c.loop-left.invariant in
     let items = c.loop-left.bytes.items in
     let piece = take c.in-Ok.n c.take_some.new.buffer in
     c.drop_body.ensures.taken (g.R.Read.remaining c.args.reader.now.inner) (items ++ piece) c.args.len
@@ -13,7 +13,7 @@ returns-then-is_err-clause-taken g c =
 
 pub returns-then-is_err-clause-short : goal.returns-then-is_err-clause-short
 returns-then-is_err-clause-short g c =
-    let (many, took, faults, reads) = c.loop-left.invariant in
+    let (many, took, faults, reads, end) = c.loop-left.invariant in
     let items = c.loop-left.bytes.items in
     let piece = take c.in-Ok.n c.take_some.new.buffer in
     c.drop_body.ensures.short (g.R.Read.remaining c.args.reader.now.inner) (items ++ piece) c.args.len

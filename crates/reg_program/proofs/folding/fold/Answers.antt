@@ -12,8 +12,7 @@ returns-in-Ok-clause-written g c =
 pub returns-clause-refused : goal.returns-clause-refused
 returns-clause-refused g c =
     let opened = c.in_ok-foreign.field-0 in
-    inr (served_refused c.args.reader.now c.open.new.reader c.serve.new.reader c.args.writer.now c.serve.new.writer
-    (g.R.Read.remaining c.args.reader.now.inner) (g.R.Read.remaining c.open.new.reader.inner)
-    (g.R.Read.remaining c.serve.new.reader.inner) (g.W.Write.contents c.args.writer.now.inner) (g.W.Write.contents c.serve.new.writer.inner)
+    inr (served_refused g.R.Read.remaining g.W.Write.contents c.args.reader.now c.open.new.reader c.serve.new.reader c.args.writer.now c.serve.new.writer
     opened.foreign opened.desk c.serve.new.desk c.in-Err.error c.ended_by.result
-    c.in_ok-foreign.ensures.faults c.ended_by.ensures c.in_ok-foreign.ensures.opened c.in-Err.ensures.refused)
+    c.ended_by.ensures c.in_ok-foreign.ensures.opened c.in_ok-foreign.ensures.end c.in_ok-foreign.ensures.faults c.in_ok-foreign.ensures.counted
+    c.in-Err.ensures.refused)

@@ -1,10 +1,10 @@
-use Rattle.std.proofs.Common.{◌≡◌, ◌≤◌, ◌+◌, ◌-◌, ℕ, List, length}
+use Rattle.std.proofs.Common.{◌≡◌, ◌≤◌, ◌+◌, ◌*◌, ◌-◌, ℕ, List, length}
 use Rattle.std.specs.Prelude.{count_by}
 use Rattle.std.specs.Io.KnownBytes.{Consumes}
-use Rattle.reg_records.specs.Device.{all_reads_of, bytes_in, counted_by, faults_of}
+use Rattle.reg_records.specs.Device.{KeepsEnd, all_reads_of, bytes_in, counted_by, faults_of, place_of}
 use Rattle.reg_records.specs.Line.{is_line_feed}
-use Rattle.reg_records.specs.Log.{IsLogOf}
-use Rattle.reg_records.specs.declared.limits.TheConstants.{LOG_LINES}
+use Rattle.reg_records.specs.Log.{AreWholeLines, IsLogOf}
+use Rattle.reg_records.specs.declared.limits.TheConstants.{LINE_READS, LOG_LINES}
 use Rattle.reg_records.specs.declared.record.Read.{Read}
 use Rattle.reg_records.proofs.Logs.{GoesOn}
 use Rattle.reg_records.proofs.log_reader.read_log.Given as goal
@@ -14,9 +14,12 @@ abbrev pub invariant-loop-log : goal.invariant-loop-log
 invariant-loop-log g l =
     (reads : List Read) × IsLogOf reads l.log × (length reads + 1 ≡ l.number) × (l.number ≤ LOG_LINES + 1)
     × ((taken : List ℕ) × Consumes (bytes_in g.R.Read.remaining l.initial.reader) (bytes_in g.R.Read.remaining l.reader) taken
-    × (count_by is_line_feed taken + 1 ≡ l.number))
+    × (count_by is_line_feed taken + 1 ≡ l.number) × AreWholeLines taken
+    × (counted_by 0 (place_of l.reader) ≡ counted_by (length taken) (place_of l.initial.reader)))
     × GoesOn (bytes_in g.R.Read.remaining l.initial.reader) (bytes_in g.R.Read.remaining l.reader) reads l.number
     × (faults_of l.reader ≡ faults_of l.initial.reader) × (counted_by 0 (all_reads_of l.initial.reader) ≤ all_reads_of l.reader)
+    × (all_reads_of l.reader + LINE_READS ≤ all_reads_of l.initial.reader + l.number * LINE_READS)
+    × KeepsEnd g.R.Read.remaining l.initial.reader l.reader
 
 abbrev pub decreases-loop-log : goal.decreases-loop-log
 decreases-loop-log g l = LOG_LINES + 2 - l.number

@@ -1,6 +1,6 @@
 use Rattle.std.proofs.Common.{◌≡◌, [], ◌∷◌, ◌++◌, refl, inr, ap, arith, true}
 use Rattle.std.proofs.lemmas.Result.{err_from_is_err_and}
-use Rattle.reg_records.proofs.Logs.{is_empty_line, log_from-read, log_from-ended, log_from-unended, line_feeds-line, IsStepRefusal-line, is_empty_line-unless}
+use Rattle.reg_records.proofs.Logs.{is_empty_line, log_from-read, log_from-ended, log_from-unended, line_feeds-none, IsStepRefusal-line, is_empty_line-unless}
 use Rattle.reg_records.proofs.log_reader.read_next.Goals as goal
 
 pub returns-in-Unended-clause-refused : goal.returns-in-Unended-clause-refused
@@ -13,7 +13,7 @@ pub returns-then-is_empty-clause-step : goal.returns-then-is_empty-clause-step
 returns-then-is_empty-clause-step g c =
     let (line, none, read, held) = rw (c.in-Some.is, c.in-Line.is) at c.in_ok-next.ensures.taken in
     let ended : is_empty_line line ≡ true = ap is_empty_line ((c.if-is_empty.ensures line held).0 refl) in
-    (refl, log_from-ended c.args.number _ _ line none read ended)
+    (refl, log_from-ended c.args.number _ _ line none read.0 ended)
 
 pub returns-in_err-read-clause-refused : goal.returns-in_err-read-clause-refused
 returns-in_err-read-clause-refused g c =
@@ -21,7 +21,7 @@ returns-in_err-read-clause-refused g c =
     let same = rw c.in-Some.is at c.in_ok-next.ensures.faults in
     let some = is_empty_line-unless line (c.if-is_empty.ensures line held).1 in
     let p = err_from_is_err_and c.from_residual-in_err-read.result c.from_residual-in_err-read.ensures.1 in
-    rw (p.1, p.2) (IsStepRefusal-line c.args.number c.args.reader.now c.take_line.new.reader _ _ line _ same none read some (c.in_err-read.ensures.refused line held))
+    rw (p.1, p.2) (IsStepRefusal-line c.args.number c.args.reader.now c.take_line.new.reader _ _ line _ same none read.0 some (c.in_err-read.ensures.refused line held))
 
 pub returns-clause-step : goal.returns-clause-step
 returns-clause-step g c =
@@ -31,8 +31,8 @@ returns-clause-step g c =
       within,
       c.in_ok-read.read,
       c.in_ok-add.ensures,
-      (line ++ 10 ∷ [], read, line_feeds-line line none),
-      log_from-read c.args.number _ _ line c.in_ok-read.read none read some says within,
+      (line, read, line_feeds-none line none),
+      log_from-read c.args.number _ _ line c.in_ok-read.read none read.0 some says within,
     )
 
 pub returns-in_err-next-clause-reads : goal.returns-in_err-next-clause-reads

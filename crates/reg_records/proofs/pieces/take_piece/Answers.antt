@@ -1,4 +1,5 @@
 use Rattle.std.proofs.Common.{◌+◌, ◌≤◌, length, take, sym, subst, ◌≡◌, ◌∙◌, arith, rules, take_all}
+use Rattle.std.proofs.lemmas.List.{length-take}
 use Rattle.std.specs.Io.BufRead.{FillKeeps}
 use Rattle.std.specs.Io.KnownBytes.{Consumes}
 use Rattle.std.proofs.BufReadLemmas.{Consumes_shown}
@@ -16,7 +17,7 @@ returns-in-Some g c =
     let within : end + 1 ≤ length shown = omega (arith, place) in
     let moved = Consumes_shown _ _ _ _ shown (end + 1) within c.in-Ok.ensures.front c.in-Ok.ensures.end filled.0 filled.1 c.consume.ensures.bytes in
     let len : c.unwrap_or-len.result ≡ end = search rules in
-    (take end shown, none, subst (Consumes _ _) line moved.0, subst (λ n. Grows c.args.line.now c.add.new.self (take n shown)) len c.in_ok-add.ensures)
+    (take end shown, none, subst (Consumes _ _) line moved.0, subst (λ n. Grows c.args.line.now c.add.new.self (take n shown)) len c.in_ok-add.ensures, omega (arith, within, length-take end shown))
 
 pub returns-in-None : goal.returns-in-None
 returns-in-None g c =
@@ -26,4 +27,4 @@ returns-in-None g c =
     let len : c.unwrap_or-len.result ≡ length shown = search rules in
     let whole : take c.unwrap_or-len.result shown ≡ shown = take_all c.unwrap_or-len.result shown (omega (arith, len)) in
     let moved = Consumes_shown _ _ _ _ shown c.unwrap_or-len.result (omega (arith, len)) c.in-Ok.ensures.front c.in-Ok.ensures.end filled.0 filled.1 c.consume-in-None.ensures.bytes in
-    (shown, no_line_feed shown (sym c.line_len-end.ensures ∙ c.in-None.is), subst (Consumes _ _) whole moved.0, subst (Grows c.args.line.now c.add.new.self) whole c.in_ok-add.ensures)
+    (shown, no_line_feed shown (sym c.line_len-end.ensures ∙ c.in-None.is), subst (Consumes _ _) whole moved.0, subst (Grows c.args.line.now c.add.new.self) whole c.in_ok-add.ensures, sym len)

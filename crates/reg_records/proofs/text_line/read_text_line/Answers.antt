@@ -22,10 +22,10 @@ returns-in-Unended-clause-refused g c =
 pub returns-in-Ok-clause-text : goal.returns-in-Ok-clause-text
 returns-in-Ok-clause-text g c =
     let (line, none, read, held) = rw (c.in-Some.is, c.in-Line.is) at c.in_ok-next.ensures.taken in
-    front _ _ line (Ok c.in-Ok.text) none read (c.in-Ok.ensures line held)
+    front _ _ line (Ok c.in-Ok.text) none read.0 (c.in-Ok.ensures line held)
 
 pub returns-in-Err-clause-refused : goal.returns-in-Err-clause-refused
 returns-in-Err-clause-refused g c =
     let (line, none, read, held) = rw (c.in-Some.is, c.in-Line.is) at c.in_ok-next.ensures.taken in
     let same = rw c.in-Some.is at c.in_ok-next.ensures.faults in
-    refused-line c.args.reader.now c.take_line.new.reader _ _ line c.in-Err.fault same none read (c.in-Err.ensures line held)
+    refused-line c.args.reader.now c.take_line.new.reader _ _ line c.in-Err.fault same none read.0 (c.in-Err.ensures line held)

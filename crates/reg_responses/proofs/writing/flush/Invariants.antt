@@ -1,6 +1,6 @@
-use Rattle.std.proofs.Common.{◌≡◌}
+use Rattle.std.proofs.Common.{◌≡◌, ◌≤◌}
 use Rattle.std.specs.Io.KnownBytes.{Keeps}
-use Rattle.reg_records.specs.Device.{bytes_in, faults_of, interruptions_of}
+use Rattle.reg_records.specs.Device.{all_interruptions_of, bytes_in, counted_by, faults_of, interruptions_of}
 use Rattle.reg_responses.proofs.writing.flush.Given as goal
 
 -- each turn so far was interrupted
@@ -8,3 +8,4 @@ abbrev pub invariant-loop-i : goal.invariant-loop-i
 invariant-loop-i g l =
     Keeps (bytes_in g.W.Write.contents l.initial.writer) (bytes_in g.W.Write.contents l.writer)
     × (faults_of l.writer ≡ faults_of l.initial.writer) × (interruptions_of l.writer ≡ l._i)
+    × (counted_by l._i (all_interruptions_of l.initial.writer) ≤ all_interruptions_of l.writer)
