@@ -1,14 +1,15 @@
 -- The headline's claims, from what every list of events keeps.
-use Rattle.std.proofs.Common.{◌≡◌, ℕ, true, false, Some, IfSome, MatchBool, is_some, slice_get, refl, sym, ap, subst}
-use Rattle.std.specs.FinSet.{empty}
+use Rattle.std.proofs.Common.{◌≡◌, ℕ, true, false, Option, Some, None, IfSome, MatchBool, is_some, slice_get, refl, sym, ap, subst}
+use Rattle.std.specs.FinSet.{contains, empty}
 use Rattle.std.specs.Option.{option_map_or}
+use Rattle.reg_records.specs.declared.record.Record.{Record}
 use Rattle.reg_set.specs.Compaction.{IsCompactionOf}
-use Rattle.reg_set.specs.LastRecords.{last_records}
+use Rattle.reg_set.specs.LastRecords.{last, last_records}
 use Rattle.reg_set.specs.Records.{Records}
 use Rattle.reg_topic.specs.Promises.{LawfulListsKeepIds, LawfulListsMeetLevels}
-use Rattle.reg_world.specs.Core.{IsNode, KeptIsCompaction, LogIsLawful, NodesAreCompactions}
+use Rattle.reg_world.specs.Core.{IsNode, KeptIsCompaction, LogIsLawful, NoItemIsSkipped, NodesAreCompactions}
 use Rattle.reg_world.specs.Happens.{Does, Happens, is_allowed}
-use Rattle.reg_world.specs.Headline.{AnswersAreOfTheSet, Gives, Ids, Levels, SameAnswers, Took}
+use Rattle.reg_world.specs.Headline.{AnswersAreOfTheSet, CaughtUpNodesAnswerAsTheLog, Gives, Ids, Levels, SameAnswers, TakersOfAllCatchUp, Took}
 use Rattle.reg_lookup.specs.Answers.{HaveOneAnswer, IsAnswer}
 use Rattle.reg_world.specs.LowerLaws.{LowerLaws}
 use Rattle.reg_world.specs.State.{State, records_at, topic_of}
@@ -38,6 +39,11 @@ unfolding Happens
 gives_of w i query answer node there is =
     subst (λ b. MatchBool b (Does w (events.Lookup i query) (outcomes.Answered answer) w) ((outcomes.Answered answer ≡ outcomes.NotAllowed) × (w ≡ w))) (sym (ap is_some there)) (answer, is, refl, refl)
 
+-- what one set has of last records another has, too, where that has all that the one has
+lasts_of : (C D : Records) (o : Option Record) → ((r : Record) → contains C r ≡ true → contains D r ≡ true) → IfSome o (λ r. contains C r ≡ true) → IfSome o (λ r. contains D r ≡ true)
+lasts_of C D None has h = tt
+lasts_of C D (Some r) has h = has r h
+
 module _ (l : LowerLaws) where
   pub kept_is_compaction : KeptIsCompaction
   kept_is_compaction es w a = kept l w (sound-after l es w a)
@@ -45,13 +51,20 @@ module _ (l : LowerLaws) where
   pub log_is_lawful : LogIsLawful
   log_is_lawful es w a = let h = sound-after l es w a in (h.adopted, h.lawful, h.pending)
 
+  pub no_item_is_skipped : NoItemIsSkipped
+  no_item_is_skipped es w a = l.whole w.base w.items (sound-after l es w a).lawful
+
   pub nodes_are_compactions : NodesAreCompactions
   nodes_are_compactions es w a i = at_index (IsNode w) w.nodes i (all_kept (IsNodeOf (topic_of w).log) (IsNode w) (λ n k. record { compaction = k.compaction; part = k.part }) w.nodes (sound-after l es w a).nodes)
 
-  -- the i-th node's set is a compaction of whatever it took a compaction of
+  -- the i-th node is one of the log
+  node_at : (w : State) (i : ℕ) (node : Node) → IsSound w → slice_get w.nodes i ≡ Some node → IsNodeOf (topic_of w).log node
+  node_at w i node h there = subst (λ o. IfSome o (IsNodeOf (topic_of w).log)) there (at_index (IsNodeOf (topic_of w).log) w.nodes i h.nodes)
+
+  -- its set is a compaction of whatever it took a compaction of
   set_of : (w : State) (i : ℕ) (whole : Records) → IsSound w → Took w i whole → IsCompactionOf (records_at w i) whole
   set_of w i whole h took =
-      let node = subst (λ o. IfSome o (IsNodeOf (topic_of w).log)) took.is_there (at_index (IsNodeOf (topic_of w).log) w.nodes i h.nodes) in
+      let node = node_at w i took.node h took.is_there in
       subst (λ s. IsCompactionOf s whole) (sym (ap (λ o. option_map_or (λ (n : Node). n.set) o empty) took.is_there)) (l.across took.node.set took.node.took whole node.compaction took.compaction)
 
   pub answers_are_of_the_set : AnswersAreOfTheSet
@@ -60,6 +73,21 @@ module _ (l : LowerLaws) where
         λ gives. subst (λ rs. IsAnswer rs query answer) alike (answer_of w w i query answer gives),
         λ is. gives_of w i query answer took.node took.is_there (subst (λ rs. IsAnswer rs query answer) (sym alike) is),
       )
+
+  pub takers_catch_up : TakersOfAllCatchUp
+  takers_catch_up es w a i took =
+      let h = sound-after l es w a in
+      record {
+        node = took.node;
+        is_there = took.is_there;
+        compaction = record {
+          is_part = (node_at w i took.node h took.is_there).part;
+          has_lasts = λ key. lasts_of (topic_of w).kept took.node.took (last (topic_of w).log key) took.all ((kept l w h).has_lasts key);
+        };
+      }
+
+  pub caught_up : CaughtUpNodesAnswerAsTheLog
+  caught_up es w a i took = answers_are_of_the_set es w a i (topic_of w).log took
 
   -- with the law that a query has one answer
   pub same_answers : HaveOneAnswer → SameAnswers

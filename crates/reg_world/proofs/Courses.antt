@@ -5,7 +5,8 @@ use Rattle.std.specs.declared.alloc.AllocError.{AllocError}
 use Rattle.reg_topic.specs.Topic.{IsAdopted}
 use Rattle.reg_topic.specs.declared.topic.Topic.{Topic}
 use Rattle.reg_world.specs.Happens.{Happens}
-use Rattle.reg_world.specs.Runs.{After, IsStopped, Runs}
+use Rattle.reg_world.specs.Headline.{IsReached}
+use Rattle.reg_world.specs.Runs.{IsStopped, Runs}
 use Rattle.reg_world.specs.State.{State, start}
 use Rattle.reg_world.specs.declared.event.Event.{Event}
 use Rattle.reg_world.specs.declared.event.Outcome.{Outcome}
@@ -23,10 +24,6 @@ one_more s t u es os i e o within is run happens =
 
 pub stops : (s t : State) (es : List Event) (os : List Outcome) (i done : ℕ) → i ≡ done → i ≤ length es → Runs s (take i es) os t → IsStopped s es (OutOfMemory done) t
 stops s t es os i done same within run = (subst (λ k. k ≤ length es) same within, (os, subst (λ k. Runs s (take k es) os t) same run))
-
--- some list of events leads there
-abbrev pub IsReached : State → Type 0
-IsReached s = (es : List Event) × After es s
 
 pub reached_at_start : (base : Topic) (count : ℕ) → IsAdopted base → IsReached (start base count)
 reached_at_start base count adopted = ([], record { base = base; adopted = adopted; count = count; outcomes = []; run = refl })

@@ -50,6 +50,11 @@ at_index P [] i a = tt
 at_index P (n ∷ ns) zero a = a.0
 at_index P (n ∷ ns) (suc i) a = at_index P ns i a.1
 
+-- once what isn't settled is, nothing is left to settle
+pub settle-none : (u : Option Commit) (s : State) → s.unsettled ≡ u → (settle u s).unsettled ≡ None
+settle-none None s e = e
+settle-none (Some commit) s e = refl
+
 module _ (l : LowerLaws) where
   pub kept : (s : State) → IsSound s → IsCompactionOf (topic_of s).kept (topic_of s).log
   kept s h = l.kept s.base s.items (subst (λ k. IsCompactionOf k s.base.log) (sym h.adopted.whole) (l.itself s.base.log))
@@ -88,10 +93,6 @@ module _ (l : LowerLaws) where
 
   pub sound-publish : (s : State) (i : Item) → s.unsettled ≡ None → IsSound s → MayFollow (topic_of s) i → IsSound (publish s i)
   sound-publish s i none h m = sound-add s i s.unsettled h m (subst (λ u. IfSome u (MayCommit (after_items s.base (s.items ++ i ∷ [])))) (sym none) tt)
-
-  pub settle-none : (u : Option Commit) (s : State) → s.unsettled ≡ u → (settle u s).unsettled ≡ None
-  settle-none None s e = e
-  settle-none (Some commit) s e = refl
 
   sound-settle : (u : Option Commit) (s : State) → s.unsettled ≡ u → IsSound s → IsSound (settle u s)
   sound-settle None s e h = h

@@ -69,9 +69,9 @@ module _ (l : LowerLaws) where
 
   sound-does : (s t : State) (e : Event) (o : Outcome) → is_allowed s e ≡ true → Does s e o t → IsSound s → IsSound t
   sound-does s t (events.Command node command fate) o fine d h =
-      subst Stays (sym d.state) (sound-batch (settled s) fate command d.reply d.batch (settle-none l s.unsettled s refl) (sound-settled l s h) d.step)
+      subst Stays (sym d.state) (sound-batch (settled s) fate command d.reply d.batch (settle-none s.unsettled s refl) (sound-settled l s h) d.step)
   sound-does s t (events.Compact dropped) o fine d h =
-      subst Stays (sym d.1) (sound-publish l (settled s) (items.Compaction dropped) (settle-none l s.unsettled s refl) (sound-settled l s h) fine)
+      subst Stays (sym d.1) (sound-publish l (settled s) (items.Compaction dropped) (settle-none s.unsettled s refl) (sound-settled l s h) fine)
   sound-does s t (events.Take node records) o fine d h =
       let all = (both_true _ _ fine).1 in
       subst Stays (sym d.1) (sound-node l s node (taking (from_list records)) (node-taking l (topic_of s).log (from_list records)

@@ -3,7 +3,7 @@ use Rattle.std.specs.Cmp.{IsTotalOrder}
 use Rattle.std.specs.FinSet.{IsAntisymmetric}
 use Rattle.reg_set.specs.Join.{CompactionsCompose, CompactionsUnite, EachIsItsOwnCompaction, LastRecordsAreCompaction, LastRecordsOfCompaction}
 use Rattle.reg_set.specs.RecordOrder.{record_cmp}
-use Rattle.reg_topic.specs.Laws.{ItemsAreFoldedInTurn, KeptStaysCompaction, LawfulItemsFollow, LawfulListsGoOn, LogsGrow}
+use Rattle.reg_topic.specs.Laws.{CommitsFollow, ItemsAreFoldedInTurn, KeptStaysCompaction, LawfulItemsFollow, LawfulListsGoOn, LogIsWhatWasPublished, LogsGrow}
 
 pub record LowerLaws : Type 0 where
   pub order : IsTotalOrder record_cmp
@@ -18,3 +18,5 @@ pub record LowerLaws : Type 0 where
   pub in_turn : ItemsAreFoldedInTurn
   pub go_on : LawfulListsGoOn
   pub follow : LawfulItemsFollow
+  pub commits : CommitsFollow
+  pub whole : LogIsWhatWasPublished

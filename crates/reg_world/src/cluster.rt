@@ -1,5 +1,5 @@
 // A topic with its nodes, and what each event does to them.
-ghost use Rattle.std.specs.Prelude.{◌≡◌, ◌⊎◌, ◌+◌, ◌++◌, ◌<◌, ◌≤◌, true, None, IfOk, OnOk, OnErr, option_copied, option_map, replicate, slice_get, vec_capacity, vec_len};
+ghost use Rattle.std.specs.Prelude.{◌≡◌, ◌↔◌, ◌⊎◌, ◌+◌, ◌++◌, ◌<◌, ◌≤◌, true, None, IfOk, OnOk, OnErr, option_copied, option_map, replicate, slice_get, vec_capacity, vec_len};
 ghost use Rattle.std.specs.List.{list_all};
 ghost use Rattle.std.specs.FinSet.{contains};
 ghost use Rattle.reg_refusals.specs.Refusal.{no_memory};
@@ -402,7 +402,7 @@ fn are_all_in(kept: &RecordSet, records: &[Record]) -> bool
 
 /// Whether memory was refused: no step of a command replies so.
 fn is_no_memory(reply: &Reply) -> bool
-    ensures { (reply.now ≡ replies.Refused no_memory) → result ≡ true }
+    ensures { (result ≡ true) ↔ (reply.now ≡ replies.Refused no_memory) }
 {
     match reply {
         Reply::Refused(Refusal::Store(StoreFault::Memory)) => true,

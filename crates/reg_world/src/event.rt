@@ -24,7 +24,8 @@ pub enum Event {
         command: Command,
         fate: Fate,
     },
-    /// What wasn't settled is published, and then these records leave the kept set.
+    /// What wasn't settled is published, and then these records leave the kept set. Whether they may is
+    /// judged with that published.
     Compact(Listed<Record>),
     /// The node takes these records, which are kept.
     Take {

@@ -1,8 +1,8 @@
 // What holds after every list of events. What is proved here costs nothing at run time: a function
 // that needs a law calls it.
-ghost use Rattle.reg_world.specs.Core.{KeptIsCompaction, LogIsLawful, NodesAreCompactions, RefusedExactly, UnsettledComesFirst};
+ghost use Rattle.reg_world.specs.Core.{KeptIsCompaction, LogIsLawful, NoItemIsSkipped, NodesAreCompactions, RefusedExactly, UnsettledComesFirst, UnsettledCounts, UnsettledGoesOn};
 ghost use Rattle.reg_world.specs.Eager.{EagerFoldingIsRight};
-ghost use Rattle.reg_world.specs.Headline.{AnswersAreOfTheSet, Ids, Levels, Merging, SameAnswers};
+ghost use Rattle.reg_world.specs.Headline.{AnswersAreOfTheSet, CaughtUpNodesAnswerAsTheLog, Ids, Levels, Merging, SameAnswers, TakersOfAllCatchUp, WorldsKeepTheHeadline};
 ghost use Rattle.reg_world.specs.LowerLaws.{LowerLaws};
 ghost use Rattle.reg_world.specs.Threads.{ItemsHappen};
 
@@ -14,7 +14,8 @@ use reg_set::{
     merging_joins_sets, records_are_ordered,
 };
 use reg_topic::{
-    kept_sets_are_compactions, lawful_items_follow, lawful_lists_keep_ids, lawful_lists_meet_levels,
+    commits_follow, kept_sets_are_compactions, lawful_items_follow, lawful_lists_keep_ids,
+    lawful_lists_meet_levels, log_is_what_was_published,
 };
 use reg_values::written_values_read_back;
 
@@ -28,12 +29,15 @@ fn lower_laws()
     compactions_compose();
     kept_sets_are_compactions();
     lawful_items_follow();
+    commits_follow();
+    log_is_what_was_published();
 }
 
-/// After every list of events the log is lawful, the kept set is a compaction of it, and each node's
-/// set is one of what it took.
+/// After every list of events the log is lawful, with all that was published, the kept set is a
+/// compaction of it, and each node's set is one of what it took.
 pub fn every_list_of_events_is_lawful()
     ensures log { LogIsLawful }
+    ensures whole { NoItemIsSkipped }
     ensures kept { KeptIsCompaction }
     ensures nodes { NodesAreCompactions }
 {
@@ -45,10 +49,16 @@ pub fn events_are_refused_exactly()
     ensures { RefusedExactly }
 {}
 
-/// What isn't settled is the next to be published, if anything is.
+/// What isn't settled is published first by the next command or compaction that is allowed, which
+/// counts it already: it is judged, and happens, as if that were in the log. Whatever else happens
+/// leaves it unsettled.
 pub fn unsettled_comes_first()
-    ensures { UnsettledComesFirst }
-{}
+    ensures first { UnsettledComesFirst }
+    ensures counts { UnsettledCounts }
+    ensures goes_on { UnsettledGoesOn }
+{
+    lower_laws();
+}
 
 /// A node answers as the set does of which it took a compaction, so nodes that took one set answer
 /// alike.
@@ -58,6 +68,14 @@ pub fn nodes_answer_alike()
 {
     lower_laws();
     queries_have_one_answer();
+}
+
+/// A node that took all that is kept, or any compaction of the log, answers as the whole log does.
+pub fn caught_up_nodes_answer_as_the_log()
+    ensures all { TakersOfAllCatchUp }
+    ensures answers { CaughtUpNodesAnswerAsTheLog }
+{
+    lower_laws();
 }
 
 /// Two versions of one id that stood at any two moments have one schema, soft ones too.
@@ -105,3 +123,15 @@ pub fn merging_answers_alike()
 pub fn items_happen()
     ensures { ItemsHappen }
 {}
+
+/// The claims of one world hold of each that a list of events leads to.
+pub fn worlds_keep_the_headline()
+    ensures { WorldsKeepTheHeadline }
+{
+    every_list_of_events_is_lawful();
+    nodes_answer_alike();
+    caught_up_nodes_answer_as_the_log();
+    ids_name_one_schema();
+    registered_versions_meet_levels();
+    eager_folding_is_right();
+}

@@ -2,19 +2,16 @@
 ghost use Rattle.std.specs.Prelude.{◌≡◌, ◌↔◌, ◌+◌, ◌++◌, ◌∷◌, [], false, Some, IfOk, IfErr, OnErr, OnOk, length};
 ghost use Rattle.std.specs.FinSet.{from_list};
 ghost use Rattle.std.specs.List.{Contains};
-ghost use Rattle.reg_set.specs.Compaction.{IsCompactionOf};
 ghost use Rattle.reg_set.specs.LastRecords.{last_records};
 ghost use Rattle.reg_entries.specs.EntryOrder.{place_of};
 ghost use Rattle.reg_entries.specs.declared.entry.Entry.{Entry};
 ghost use Rattle.reg_fold.specs.Closed.{is_closed};
 ghost use Rattle.reg_fold.specs.Entries.{entries};
 ghost use Rattle.reg_leader.specs.Adoption.{HasPlace, IsAdoptRefusal};
-ghost use Rattle.reg_topic.specs.Promises.{IdsAreForGood, MetLevels};
 ghost use Rattle.reg_topic.specs.Topic.{after_batch, follows, registry_of, topic_from};
-ghost use Rattle.reg_world.specs.Core.{HasLawfulLog, HasNodes};
-ghost use Rattle.reg_world.specs.Eager.{IsFoldedEagerly, eager};
+ghost use Rattle.reg_world.specs.Eager.{eager};
 ghost use Rattle.reg_world.specs.Happens.{Happens, is_allowed};
-ghost use Rattle.reg_world.specs.Headline.{GivesAnswersOfSets};
+ghost use Rattle.reg_world.specs.Headline.{IsReached, KeepsTheHeadline};
 ghost use Rattle.reg_world.specs.Runs.{IsStopped, Runs};
 ghost use Rattle.reg_world.specs.State.{start, topic_of};
 ghost use Rattle.reg_world.specs.declared.event.Outcome.TheVariants as Outcome;
@@ -23,10 +20,7 @@ ghost use Rattle.reg_world.specs.declared.world.RunError.TheVariants as RunError
 use crate::cluster::Cluster;
 use crate::eager::{fold_eagerly, listed};
 use crate::event::{Event, Outcome};
-use crate::laws::{
-    eager_folding_is_right, events_are_refused_exactly, every_list_of_events_is_lawful,
-    ids_name_one_schema, nodes_answer_alike, registered_versions_meet_levels,
-};
+use crate::laws::{eager_folding_is_right, events_are_refused_exactly, worlds_keep_the_headline};
 use reg_fold::{Entry, Registry, entries_are_of_places};
 use reg_leader::{AdoptError, Adopted, adopt};
 use reg_records::{Log, Record};
@@ -38,17 +32,20 @@ use std::fmt;
 use std::marker::Model;
 
 /// A topic with its nodes, after some list of events.
+///
+/// Wherever the events lead, the log is lawful, with all that was published, the kept set is a
+/// compaction of it, each node answers as the set does of which it took a compaction, so as the log
+/// if it took all that is kept, an id names one schema for good, each registered version met its
+/// level, and the log's records, taken one after the other, give its entries.
 #[derive(Debug, Drop)]
 pub struct World {
     cluster: Cluster,
 }
 
 impl Model for World {
-    ghost use Rattle.std.specs.Prelude.{List};
     ghost use Rattle.reg_world.specs.contracts.cluster.Cluster as clusters;
-    ghost use Rattle.reg_world.specs.Runs.{After};
+    ghost use Rattle.reg_world.specs.Headline.{IsReached};
     ghost use Rattle.reg_world.specs.State.{State};
-    ghost use Rattle.reg_world.specs.declared.event.Event.{Event};
 
     ghost Value = { State };
 
@@ -56,7 +53,7 @@ impl Model for World {
 
     ghost view = { λ w. w.cluster };
 
-    ghost invariant = { λ w. (events : List Event) × After events w.cluster };
+    ghost invariant = { λ w. IsReached w.cluster };
 }
 
 /// Why a run of events ended early.
@@ -85,14 +82,18 @@ impl World {
         ensures start { IfOk result (λ w. w ≡ start (topic_from base.now.records.items base.now.next) nodes) }
         ensures place { OnOk result (HasPlace (last_records (from_list base.now.records.items)) base.now.next) }
         ensures adopted { OnOk result (is_closed (last_records (from_list base.now.records.items)) ≡ false) }
+        ensures keeps { IfOk result KeepsTheHeadline }
         ensures refused { IfErr result (IsAdoptRefusal (last_records (from_list base.now.records.items)) base.now.next) }
     {
         adopted_logs_begin();
+        worlds_keep_the_headline();
         let mut topic = Topic::of_log(alloc, base)?;
         let Adopted { mut registry, due } = adopt(alloc, &topic.log, topic.next)?;
         publish_due(alloc, &mut topic, &mut registry, &due)?;
         let cluster = Cluster::start(alloc, topic, registry, nodes)?;
-        Ok(World { cluster })
+        let world = World { cluster };
+        world.is_reached();
+        Ok(world)
     }
 
     /// Does what the event says, where it is allowed. The only error is want of memory; the world
@@ -101,36 +102,35 @@ impl World {
         ensures happens { IfOk result (λ outcome. Happens self.old event.now outcome self.new) }
         ensures not_allowed { IfOk result (λ outcome. (outcome ≡ Outcome.NotAllowed)
             ↔ (is_allowed self.old event.now ≡ false)) }
+        ensures keeps { KeepsTheHeadline self.new }
         ensures refused { OnErr result (self.new ≡ self.old) }
     {
         events_are_refused_exactly();
+        worlds_keep_the_headline();
         self.cluster.step(event)
     }
 
     /// Does the events in turn. An error leaves the world where the events that were done lead.
     ///
-    /// Wherever that is, the log is lawful, the kept set is a compaction of it, each node answers as
-    /// the set does of which it took a compaction, an id names one schema for good, each registered
-    /// version met its level, and the log's records, taken one after the other, give its entries.
+    /// An item that can't follow on those before it would be skipped in the log. None is: the log has
+    /// all that the items published.
     pub fn run(&mut self, events: &[Event]) -> Result<Vec<Outcome>, RunError>
         ensures runs { IfOk result (λ outcomes. Runs self.old events.now outcomes.items self.new) }
         ensures refused { IfErr result (λ error. IsStopped self.old events.now error self.new) }
-        ensures log { HasLawfulLog self.new }
-        ensures kept { IsCompactionOf (topic_of self.new).kept (topic_of self.new).log }
-        ensures nodes { HasNodes self.new }
-        ensures answers { GivesAnswersOfSets self.new }
-        ensures ids { IdsAreForGood self.new.base self.new.items }
-        ensures levels { MetLevels self.new.base self.new.items }
-        ensures eager { IsFoldedEagerly self.new }
+        ensures keeps { KeepsTheHeadline self.new }
     {
-        every_list_of_events_is_lawful();
-        nodes_answer_alike();
-        ids_name_one_schema();
-        registered_versions_meet_levels();
-        eager_folding_is_right();
+        worlds_keep_the_headline();
         let outcomes = self.run_each(events);
-        let _ = &self.cluster;
+        self.is_reached();
         outcomes
+    }
+
+    /// Each world is where some list of events leads, over an adopted base, so that what holds after
+    /// every list of events holds of it. This does nothing, and takes no memory.
+    pub fn is_reached(&self)
+        ensures { IsReached self.now }
+    {
+        let _ = &self.cluster;
     }
 
     /// The entries of the log, by subject, by its bytes, and then by version. The log's records are

@@ -14,4 +14,6 @@ returns c = record {
   in_turn = c.lawful_items_follow.ensures.in_turn;
   go_on = c.lawful_items_follow.ensures.go_on;
   follow = c.lawful_items_follow.ensures.follow;
+  commits = c.commits_follow.ensures;
+  whole = c.log_is_what_was_published.ensures;
 }

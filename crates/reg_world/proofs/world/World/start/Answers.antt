@@ -5,9 +5,10 @@ use Rattle.reg_leader.specs.Adoption.{HasPlace}
 use Rattle.reg_set.specs.LastRecords.{last_records}
 use Rattle.reg_topic.specs.Topic.{topic_from}
 use Rattle.reg_topic.specs.declared.topic.Topic.{Topic}
+use Rattle.reg_world.specs.Headline.{IsReached}
 use Rattle.reg_world.specs.State.{start}
 use Rattle.reg_world.proofs.Begun.{begun_is}
-use Rattle.reg_world.proofs.Courses.{IsReached, reached_at_start}
+use Rattle.reg_world.proofs.Courses.{reached_at_start}
 use Rattle.reg_world.proofs.world.World.start.Goals as goal
 
 pub returns-clause-start : goal.returns-clause-start
@@ -20,8 +21,11 @@ returns-clause-start c =
 pub returns-clause-place : goal.returns-clause-place
 returns-clause-place c = subst (λ (t : Topic). HasPlace (last_records t.log) t.next) c.in_ok-topic.ensures c.in_ok-registry.ensures.place
 
-pub invariant_of-result : goal.invariant_of-result
-invariant_of-result c =
+pub returns-clause-keeps : goal.returns-clause-keeps
+returns-clause-keeps c = let led = c.is_reached.ensures in c.worlds_keep_the_headline.ensures led.0 c.in_ok-cluster.cluster led.1
+
+pub invariant_of-world : goal.invariant_of-world
+invariant_of-world c =
     let b = c.args.base.now in
     let begun : c.publish_due.new.topic ≡ topic_from b.records.items b.next =
     begun_is b.records.items b.next c.in_ok-topic.topic c.publish_due.new.topic _ c.in_ok-topic.ensures (c.deref.ensures.value ∙ c.in_ok-registry.ensures.due) c.in_ok-publish_due.ensures.topic in

@@ -1,6 +1,7 @@
 use Rattle.std.proofs.Common.{◌≡◌, ◌↔◌, false, IfOk, subst}
 use Rattle.std.proofs.lemmas.Result.{IfOk-weaker}
 use Rattle.reg_world.specs.Happens.{is_allowed}
+use Rattle.reg_world.specs.Headline.{IsReached}
 use Rattle.reg_world.specs.declared.event.Outcome.TheVariants as outcomes
 use Rattle.reg_world.proofs.Courses.{reached_after}
 use Rattle.reg_world.proofs.world.World.step.Goals as goal
@@ -12,3 +13,9 @@ returns-clause-not_allowed c =
 
 pub invariant_of-self : goal.invariant_of-self
 invariant_of-self c = reached_after c.self.inside.cluster c.step.new.self c.args.event.now c.step.result c.step.ensures.happens c.step.ensures.refused c.self.invariant
+
+pub returns-clause-keeps : goal.returns-clause-keeps
+returns-clause-keeps c =
+    let t = c.step.new.self in
+    let led : IsReached t = reached_after c.self.inside.cluster t c.args.event.now c.step.result c.step.ensures.happens c.step.ensures.refused c.self.invariant in
+    c.worlds_keep_the_headline.ensures led.0 t led.1
