@@ -1,4 +1,7 @@
+mod Alike
+mod Desks
 mod Folds
+mod Openings
 mod Sketches
 mod Unions
 mod WordLists

@@ -1,10 +1,9 @@
 -- What is sketched of two lines, and that it is one text.
 use Rattle.std.proofs.Common.{◌≡◌, ℕ, List, Option, None, Some, IfSome, subst}
-use Rattle.std.specs.Prelude.{Ok}
 use Rattle.avro_schema.specs.Schema.{Meaning, schema_of}
 use Rattle.avro_schema.specs.declared.node.Node.{Node}
 use Rattle.avro_sketch.specs.Sketch.{HaveOneSketch, IsSketch}
-use Rattle.reg_records.specs.TextLine.{after_front, front_text}
+use Rattle.reg_records.specs.TextLine.{after_front}
 use Rattle.reg_program.specs.Sketch.{LeavesRest, Sketches, SpellsSchema}
 
 -- the line at the front spells the schema, and what stands after it is left

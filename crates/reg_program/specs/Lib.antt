@@ -2,6 +2,7 @@ pub mod Desk
 pub mod Ended
 pub mod Fold
 pub mod Opening
+pub mod Published
 pub mod Running
 pub mod Telling
 pub mod Words

@@ -13,7 +13,10 @@ use crate::desk::FoldDesk;
 use reg_fold::Registry;
 use reg_http::{ServeError, serve};
 use reg_records::{Device, LINE_READS, LogError, LogFault, Record, read_log};
-use reg_set::records_are_ordered;
+use reg_set::{last_records_of_unions, records_are_ordered};
+use reg_topic::{
+    commits_follow, lawful_items_follow, lawful_lists_keep_ids, lawful_lists_meet_levels,
+};
 use std::alloc::{AllocError, Global};
 use std::io::{BufRead, Write};
 
@@ -53,7 +56,9 @@ impl From<AllocError> for FoldError {
 /// Reads a log, and answers the requests after its empty line, one after the other, from the registry
 /// over its records; what a command writes counts for the requests after it.
 ///
-/// The log is read to its end before the first byte is written.
+/// The log is read to its end before the first byte is written. Over a log that takes commands an id
+/// never changes its meaning by what they write, and each version that is registered meets the level
+/// in force against the live versions.
 pub fn fold<R: BufRead, W: Write>(
     alloc: Global,
     reader: &mut Device<R>,
@@ -66,6 +71,11 @@ pub fn fold<R: BufRead, W: Write>(
     ensures reads { reads_of reader.new ≤ LINE_READS }
     ensures refused { IfErr result (IsFoldRefusal R.remaining W.contents reader.old reader.new writer.old writer.new) }
 {
+    commits_follow();
+    last_records_of_unions();
+    lawful_items_follow();
+    lawful_lists_keep_ids();
+    lawful_lists_meet_levels();
     let Opened { foreign, mut desk } = open(alloc, reader)?;
     match serve(alloc, reader, writer, &mut desk) {
         Ok(served) => Ok(Folded {
@@ -84,14 +94,15 @@ struct Opened {
 
 /// Reads the log, and opens a desk over its records.
 fn open<R: BufRead>(alloc: Global, reader: &mut Device<R>) -> Result<Opened, FoldError>
-    ensures opened { IfOk result (λ opened. IfSome (bytes_in R.remaining reader.old) (λ input.
-        IsOpened input (bytes_in R.remaining reader.new) opened.foreign opened.desk)) }
+    ensures opened { IfOk result (λ opened.
+        IsOpened (bytes_in R.remaining reader.old) (bytes_in R.remaining reader.new) opened.foreign opened.desk) }
     ensures faults { OnOk result (faults_of reader.new ≡ faults_of reader.old) }
     ensures reads { reads_of reader.new ≤ LINE_READS }
     ensures end { OnOk result (KeepsEnd R.remaining reader.old reader.new) }
     ensures counted { OnOk result (KeepsReads reader.old reader.new) }
     ensures refused { IfErr result (IsLogRefused R.remaining reader.old reader.new) }
 {
+    records_are_ordered();
     let log = match read_log(alloc, reader) {
         Ok(log) => log,
         Err(e) => return Err(fold_error(e)),
