@@ -30,6 +30,9 @@ pub struct Decision {
 
 /// What a command replies and writes, from the offset `next` on. A judgement that is absent or
 /// doesn't fit is made anew. Where memory is refused, that is the reply, and nothing is written.
+///
+/// Where memory isn't refused, one registry, offset and command have one reply and one batch, whatever
+/// was judged: `steps_are_single`.
 pub fn decide(
     alloc: Global,
     registry: &Registry,

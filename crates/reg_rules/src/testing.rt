@@ -58,6 +58,10 @@ pub fn may_set_mode(
 }
 
 /// Whether the id names no other schema.
+///
+/// The registry is to be open, which `is_open` tests: then all entries of an id have one schema. In a
+/// closed one an id may already name two, and only that of the entry which `by_id` gives is looked at;
+/// an import tests `is_open` first, so it is refused there before this is asked.
 pub fn names_no_other(registry: &Registry, id: u32, normal: &Text) -> Result<(), Refusal>
     ensures { result ≡ test.names_no_other registry.now id normal.now }
 {
