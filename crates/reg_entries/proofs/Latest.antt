@@ -32,7 +32,7 @@ use Rattle.reg_entries.proofs.Found.{all_found, at_places, in_values, not_both, 
 use Rattle.reg_entries.proofs.Listed.{by_bool, never, own_place}
 use denote.Ref.{Bor}
 
-reverse-more : {X : Type 0} (x : X) (xs : List X) → reverse (x ∷ xs) ≡ reverse xs ++ x ∷ []
+pub reverse-more : {X : Type 0} (x : X) (xs : List X) → reverse (x ∷ xs) ≡ reverse xs ++ x ∷ []
 reverse-more x xs = reverse-append (x ∷ []) xs
 
 pub map-reverse : {X Y : Type 0} (f : X → Y) (xs : List X) → map f (reverse xs) ≡ reverse (map f xs)

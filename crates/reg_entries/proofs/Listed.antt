@@ -128,68 +128,68 @@ pub either : {X Y P Q : Type 0} (r : Result X Y) → OnOk r P → OnErr r Q → 
 either (Ok x) p q = inl p
 either (Err x) p q = inr q
 
--- where a schema is put, and then each of two goes unless it is one of an entry
-pub listed_settled : (m n : BTreeMap Place Entry) (before added one two : BTreeSet Schema) (e : Entry) (old : Option Schema)
-    → ArePlaced m → AreListed m before
-    → ((q : Place) → eq_by_cmp place_cmp (place_of e) q ≡ false → entry_at n q ≡ entry_at m q)
-    → (entry_at n (place_of e) ≡ Some e) ⊎ (entry_at n (place_of e) ≡ entry_at m (place_of e))
-    → old ≡ option_map schema_of (entry_at m (place_of e))
-    → ((s : Schema) → contains schema_cmp added s ≡ cond (eq_by_cmp schema_cmp (schema_of e) s) true (contains schema_cmp before s))
-    → ((s : Schema) → contains schema_cmp one s ≡ (contains schema_cmp added s && (not (eq_by_cmp schema_cmp (schema_of e) s) || is_held n s)))
-    → ((s : Schema) → contains schema_cmp two s ≡ (contains schema_cmp one s && (not (is_that old s) || is_held n s)))
-    → AreListed n two
-listed_settled m n before added one two e old placed listed else here old_is adds settles ends s =
-    by_bool (is_held n s) is_one is_none
-  where
-    -- what n has at the place of s, where s isn't the schema of e, m has too
-    same_entry : eq_by_cmp schema_cmp (schema_of e) s ≡ false → is_held n s ≡ true → is_held m s ≡ true
-    same_entry apart is =
-        by_bool (eq_by_cmp place_cmp (place_of e) s.2)
-        (λ h. let place : place_of e ≡ s.2 = same_place _ _ h in at_place place (either place here))
-        (λ h. sym (ap (λ o. has_it o s) (else s.2 h)) ∙ is)
-      where
-        either : place_of e ≡ s.2 → (entry_at n (place_of e) ≡ Some e) ⊎ (entry_at n (place_of e) ≡ entry_at m (place_of e)) → (entry_at n s.2 ≡ Some e) ⊎ (entry_at n s.2 ≡ entry_at m s.2)
-        either place (inl h) = inl (sym (ap (entry_at n) place) ∙ h)
-        either place (inr h) = inr (sym (ap (entry_at n) place) ∙ h ∙ ap (entry_at m) place)
+module _ (m n : BTreeMap Place Entry) (e : Entry) (old : Option Schema) (placed : ArePlaced m)
+    (else : (q : Place) → eq_by_cmp place_cmp (place_of e) q ≡ false → entry_at n q ≡ entry_at m q)
+    (here : (entry_at n (place_of e) ≡ Some e) ⊎ (entry_at n (place_of e) ≡ entry_at m (place_of e)))
+    (old_is : old ≡ option_map schema_of (entry_at m (place_of e))) where
+  -- what n has at the place of s, where s isn't the schema of e, m has too
+  pub same_entry : (s : Schema) → eq_by_cmp schema_cmp (schema_of e) s ≡ false → is_held n s ≡ true → is_held m s ≡ true
+  same_entry s apart is =
+      by_bool (eq_by_cmp place_cmp (place_of e) s.2)
+      (λ h. let place : place_of e ≡ s.2 = same_place _ _ h in at_place place (either place here))
+      (λ h. sym (ap (λ o. has_it o s) (else s.2 h)) ∙ is)
+    where
+      either : place_of e ≡ s.2 → (entry_at n (place_of e) ≡ Some e) ⊎ (entry_at n (place_of e) ≡ entry_at m (place_of e)) → (entry_at n s.2 ≡ Some e) ⊎ (entry_at n s.2 ≡ entry_at m s.2)
+      either place (inl h) = inl (sym (ap (entry_at n) place) ∙ h)
+      either place (inr h) = inr (sym (ap (entry_at n) place) ∙ h ∙ ap (entry_at m) place)
 
-        at_place : place_of e ≡ s.2 → (entry_at n s.2 ≡ Some e) ⊎ (entry_at n s.2 ≡ entry_at m s.2) → is_held m s ≡ true
-        at_place place (inl h) = absurd (never _ (one_schema (schema_of e) s (schema_here e s place (sym (ap (λ o. has_it o s) h) ∙ is))) apart)
-        at_place place (inr h) = sym (ap (λ o. has_it o s) h) ∙ is
+      at_place : place_of e ≡ s.2 → (entry_at n s.2 ≡ Some e) ⊎ (entry_at n s.2 ≡ entry_at m s.2) → is_held m s ≡ true
+      at_place place (inl h) = absurd (never _ (one_schema (schema_of e) s (schema_here e s place (sym (ap (λ o. has_it o s) h) ∙ is))) apart)
+      at_place place (inr h) = sym (ap (λ o. has_it o s) h) ∙ is
 
-    is_one : is_held n s ≡ true → contains schema_cmp two s ≡ is_held n s
-    is_one is =
-        ends s ∙ ap (λ b. contains schema_cmp one s && (not (is_that old s) || b)) is ∙ kept (contains schema_cmp one s) (not (is_that old s))
-        ∙ settles s ∙ ap (λ b. contains schema_cmp added s && (not (eq_by_cmp schema_cmp (schema_of e) s) || b)) is ∙ kept (contains schema_cmp added s) (not (eq_by_cmp schema_cmp (schema_of e) s))
-        ∙ adds s ∙ by_bool (eq_by_cmp schema_cmp (schema_of e) s)
-        (λ h. ap (λ b. cond b true (contains schema_cmp before s)) h ∙ sym is)
-        (λ h. ap (λ b. cond b true (contains schema_cmp before s)) h ∙ listed s ∙ same_entry h is ∙ sym is)
+  -- the schema that m has and n has not is the old one
+  pub was_old : (s : Schema) → is_held n s ≡ false → is_held m s ≡ true → is_that old s ≡ true
+  was_old s isnt is =
+      by_bool (eq_by_cmp place_cmp (place_of e) s.2)
+      (λ h. let place : place_of e ≡ s.2 = same_place _ _ h in
+      ap (λ o. is_that o s) (old_is ∙ ap (λ p. option_map schema_of (entry_at m p)) place) ∙ found (entry_at m s.2) refl is)
+      (λ h. absurd (never _ is (sym (ap (λ o. has_it o s) (else s.2 h)) ∙ isnt)))
+    where
+      found : (o : Option Entry) → entry_at m s.2 ≡ o → has_it o s ≡ true → is_that (option_map schema_of o) s ≡ true
+      found None at h = absurd (false≢true h)
+      found (Some f) at h = one_schema (schema_of f) s (schema_here f s (own_place m placed s.2 f at) h)
 
-    -- the schema that m has and n has not is the old one
-    was_old : is_held n s ≡ false → is_held m s ≡ true → is_that old s ≡ true
-    was_old isnt is =
-        by_bool (eq_by_cmp place_cmp (place_of e) s.2)
-        (λ h. let place : place_of e ≡ s.2 = same_place _ _ h in
-        ap (λ o. is_that o s) (old_is ∙ ap (λ p. option_map schema_of (entry_at m p)) place) ∙ found (entry_at m s.2) refl is)
-        (λ h. absurd (never _ is (sym (ap (λ o. has_it o s) (else s.2 h)) ∙ isnt)))
-      where
-        found : (o : Option Entry) → entry_at m s.2 ≡ o → has_it o s ≡ true → is_that (option_map schema_of o) s ≡ true
-        found None at h = absurd (false≢true h)
-        found (Some f) at h = one_schema (schema_of f) s (schema_here f s (own_place m placed s.2 f at) h)
+  -- where a schema is put, and then each of two goes unless it is one of an entry
+  pub listed_settled : (before added one two : BTreeSet Schema) → AreListed m before
+      → ((s : Schema) → contains schema_cmp added s ≡ cond (eq_by_cmp schema_cmp (schema_of e) s) true (contains schema_cmp before s))
+      → ((s : Schema) → contains schema_cmp one s ≡ (contains schema_cmp added s && (not (eq_by_cmp schema_cmp (schema_of e) s) || is_held n s)))
+      → ((s : Schema) → contains schema_cmp two s ≡ (contains schema_cmp one s && (not (is_that old s) || is_held n s)))
+      → AreListed n two
+  listed_settled before added one two listed adds settles ends s =
+      by_bool (is_held n s) is_one is_none
+    where
+      is_one : is_held n s ≡ true → contains schema_cmp two s ≡ is_held n s
+      is_one is =
+          ends s ∙ ap (λ b. contains schema_cmp one s && (not (is_that old s) || b)) is ∙ kept (contains schema_cmp one s) (not (is_that old s))
+          ∙ settles s ∙ ap (λ b. contains schema_cmp added s && (not (eq_by_cmp schema_cmp (schema_of e) s) || b)) is ∙ kept (contains schema_cmp added s) (not (eq_by_cmp schema_cmp (schema_of e) s))
+          ∙ adds s ∙ by_bool (eq_by_cmp schema_cmp (schema_of e) s)
+          (λ h. ap (λ b. cond b true (contains schema_cmp before s)) h ∙ sym is)
+          (λ h. ap (λ b. cond b true (contains schema_cmp before s)) h ∙ listed s ∙ same_entry s h is ∙ sym is)
 
-    is_none : is_held n s ≡ false → contains schema_cmp two s ≡ is_held n s
-    is_none isnt =
-        ends s ∙ by_bool (eq_by_cmp schema_cmp (schema_of e) s) of_new of_other ∙ sym isnt
-      where
-        of_new : eq_by_cmp schema_cmp (schema_of e) s ≡ true → (contains schema_cmp one s && (not (is_that old s) || is_held n s)) ≡ false
-        of_new h =
-            ap (λ b. b && (not (is_that old s) || is_held n s))
-            (settles s ∙ ap (λ b. contains schema_cmp added s && (not b || is_held n s)) h ∙ ap (λ b. contains schema_cmp added s && b) isnt ∙ gone (contains schema_cmp added s))
+      is_none : is_held n s ≡ false → contains schema_cmp two s ≡ is_held n s
+      is_none isnt =
+          ends s ∙ by_bool (eq_by_cmp schema_cmp (schema_of e) s) of_new of_other ∙ sym isnt
+        where
+          of_new : eq_by_cmp schema_cmp (schema_of e) s ≡ true → (contains schema_cmp one s && (not (is_that old s) || is_held n s)) ≡ false
+          of_new h =
+              ap (λ b. b && (not (is_that old s) || is_held n s))
+              (settles s ∙ ap (λ b. contains schema_cmp added s && (not b || is_held n s)) h ∙ ap (λ b. contains schema_cmp added s && b) isnt ∙ gone (contains schema_cmp added s))
 
-        of_other : eq_by_cmp schema_cmp (schema_of e) s ≡ false → (contains schema_cmp one s && (not (is_that old s) || is_held n s)) ≡ false
-        of_other h =
-            by_bool (is_held m s)
-            (λ is. ap (λ b. contains schema_cmp one s && (not b || is_held n s)) (was_old isnt is) ∙ ap (λ b. contains schema_cmp one s && b) isnt ∙ gone (contains schema_cmp one s))
-            (λ isnt_m. ap (λ b. b && (not (is_that old s) || is_held n s)) (settles s ∙ ap (λ b. b && (not (eq_by_cmp schema_cmp (schema_of e) s) || is_held n s)) (adds s ∙ ap (λ b. cond b true (contains schema_cmp before s)) h ∙ listed s ∙ isnt_m)))
+          of_other : eq_by_cmp schema_cmp (schema_of e) s ≡ false → (contains schema_cmp one s && (not (is_that old s) || is_held n s)) ≡ false
+          of_other h =
+              by_bool (is_held m s)
+              (λ is. ap (λ b. contains schema_cmp one s && (not b || is_held n s)) (was_old s isnt is) ∙ ap (λ b. contains schema_cmp one s && b) isnt ∙ gone (contains schema_cmp one s))
+              (λ isnt_m. ap (λ b. b && (not (is_that old s) || is_held n s)) (settles s ∙ ap (λ b. b && (not (eq_by_cmp schema_cmp (schema_of e) s) || is_held n s)) (adds s ∙ ap (λ b. cond b true (contains schema_cmp before s)) h ∙ listed s ∙ isnt_m)))
 
 -- where the entry at a place goes, and its schema
 pub listed_gone : (m n : BTreeMap Place Entry) (before after : BTreeSet Schema) (p : Place) (e : Entry)
@@ -221,3 +221,12 @@ listed_gone m n before after p e placed listed at was goes s =
         absurd (never _ (one_schema (schema_of e) s (schema_here e s place (sym (ap (λ o. has_it o s) found) ∙ is))) h))
         (λ isnt. isnt ∙ sym (none k)))
         (λ k. sym (ap (λ o. has_it o s) (at s.2 ∙ ap (λ b. cond b None (entry_at m s.2)) k)))
+
+-- what follows where a call succeeds, and where it fails
+pub on_ok : {X Y P Q : Type 0} (r : Result X Y) → (P → Q) → OnOk r P → OnOk r Q
+on_ok (Ok x) f p = f p
+on_ok (Err y) f p = p
+
+pub on_err : {X Y P Q : Type 0} (r : Result X Y) → (P → Q) → OnErr r P → OnErr r Q
+on_err (Ok x) f p = p
+on_err (Err y) f p = f p

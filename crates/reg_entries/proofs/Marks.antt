@@ -4,7 +4,7 @@ use Rattle.std.proofs.lemmas.Bool.{false≢true}
 use Rattle.std.proofs.lemmas.List.{take_more}
 use Rattle.std.proofs.lemmas.List.Sums.{fold-append}
 use Rattle.std.proofs.lemmas.Slice.Eq.{bytes_eq-Decides}
-use Rattle.std.specs.BTreeMap.{BTreeMap, IsOrdered}
+use Rattle.std.specs.BTreeMap.{BTreeMap, IsOrdered, get_by_text}
 use Rattle.std.specs.BTreeSet.{BTreeSet, contains}
 use Rattle.std.specs.List.{filter, AllByRecursion}
 use Rattle.std.specs.Map.{values_of}
@@ -14,9 +14,9 @@ use Rattle.std.proofs.lemmas.Cmp.{tied_itself}
 use Rattle.std.specs.Prelude.{bytes_eq, IfSome, is_some}
 use Rattle.std.specs.declared.string.String.{String}
 use Rattle.reg_entries.specs.EntryOrder.{Place, place_cmp, place_of}
-use Rattle.reg_entries.specs.Index.{Name, name_cmp, name_of, entry_at, IsAt, ArePlaced, AreNamed, HasAt, IsGreatest, IsIndexed, kept_version}
+use Rattle.reg_entries.specs.Index.{Name, name_cmp, name_of, entry_at, IsAt, ArePlaced, AreNamed, HasAt, IsIndexed, IsTop}
 use Rattle.reg_entries.specs.Marked.{with_soft, mark_one, marked, MarksEach}
-use Rattle.reg_entries.specs.Schemas.{Schema, schema_of, AreListed, AreSuspected}
+use Rattle.reg_entries.specs.Schemas.{Schema, schema_of, AreListed}
 use Rattle.reg_entries.specs.declared.entry.Entry.{Entry}
 use Rattle.reg_entries.specs.declared.entry.Mark.{Mark}
 use Rattle.reg_entries.proofs.Chosen.{IsIn, all_filter, all_map, in_filter}
@@ -129,7 +129,7 @@ pub marked_none : (s : List ℕ) (o : Option Entry) → o ≡ option_map (marked
 marked_none s None = refl
 marked_none s (Some e) = ap Some (elim (bytes_eq e.subject s) as (λ b. e ≡ cond b e e) [ true ↦ refl | false ↦ refl ])
 
-module _ {Y : Type 0} (m n : BTreeMap Place Entry) (names : BTreeSet Name) (versions : BTreeMap (String Y) (Option ℕ)) (indexed : IsIndexed m names versions) (ordered : IsOrdered place_cmp n) (s : List ℕ) (marks : List Mark) (at : (p : Place) → entry_at n p ≡ option_map (marked s marks) (entry_at m p)) where
+module _ {Y : Type 0} (m n : BTreeMap Place Entry) (names : BTreeSet Name) (tops : BTreeMap (String Y) Place) (indexed : IsIndexed m names tops) (ordered : IsOrdered place_cmp n) (s : List ℕ) (marks : List Mark) (at : (p : Place) → entry_at n p ≡ option_map (marked s marks) (entry_at m p)) where
   same_some : (p : Place) → is_some (entry_at n p) ≡ is_some (entry_at m p)
   same_some p = ap is_some (at p) ∙ elim (entry_at m p) as (λ o. is_some (option_map (marked s marks) o) ≡ is_some o) [ None ↦ refl | Some e ↦ refl ]
 
@@ -147,17 +147,17 @@ module _ {Y : Type 0} (m n : BTreeMap Place Entry) (names : BTreeSet Name) (vers
       each None = refl
       each (Some e) = ap (λ y. eq_by_cmp name_cmp y x) (sym (marked_keeps name_of (λ b x. refl) s marks e))
 
-  greatest_marked : (t : List ℕ) (v : Option ℕ) → IsGreatest m t v → IsGreatest n t v
-  greatest_marked t None h = λ w. at (t, w) ∙ ap (option_map (marked s marks)) (h w)
-  greatest_marked t (Some v) h = (same_some (t, v) ∙ h.0, λ w some. h.1 w (sym (same_some (t, w)) ∙ some))
+  top_marked : (t : List ℕ) (o : Option Place) → IsTop m t o → IsTop n t o
+  top_marked t None h = λ w. at (t, w) ∙ ap (option_map (marked s marks)) (h w)
+  top_marked t (Some p) h = (h.0, same_some p ∙ h.1, λ w some. h.2 w (sym (same_some (t, w)) ∙ some))
 
   -- all that is kept beside the entries stays under marks
-  pub indexed_marked : IsIndexed n names versions
+  pub indexed_marked : IsIndexed n names tops
   indexed_marked = record {
     ordered = ordered;
     placed = placed_marked;
     named = named_marked;
-    greatest = λ t. greatest_marked t (kept_version versions t) (indexed.greatest t);
+    top = λ t. top_marked t (get_by_text tops t) (indexed.top t);
   }
 
 -- marks of other entries leave an entry as it is, and its own gives it its mark
@@ -188,7 +188,7 @@ module _ (soft : Entry → Bool) (e : Entry) where
   fold_reach b (x ∷ xs) h (inr i) =
       ⊎_elim (λ k. ap (λ y. fold mark_one y (map mark_of xs)) k ∙ fold_reach b xs h.1 i) (λ k. ap (λ y. fold mark_one y (map mark_of xs)) k ∙ fold_hit xs h.1) (one b x h.0)
 
-module _ {Y : Type 0} (m n : BTreeMap Place Entry) (names : BTreeSet Name) (versions : BTreeMap (String Y) (Option ℕ)) (indexed : IsIndexed m names versions) (s : List ℕ) (marks : List Mark) (at : (p : Place) → entry_at n p ≡ option_map (marked s marks) (entry_at m p)) where
+module _ {Y : Type 0} (m n : BTreeMap Place Entry) (names : BTreeSet Name) (tops : BTreeMap (String Y) Place) (indexed : IsIndexed m names tops) (s : List ℕ) (marks : List Mark) (at : (p : Place) → entry_at n p ≡ option_map (marked s marks) (entry_at m p)) where
   -- where each entry of the subject has its mark
   pub each_marked : (soft : Entry → Bool) → MarksEach soft marks (filter (λ e. bytes_eq e.subject s) (values_of m.entries))
       → (p : Place) → entry_at n p ≡ option_map (λ e. cond (bytes_eq e.subject s) (with_soft (soft e) e) e) (entry_at m p)
@@ -203,7 +203,7 @@ module _ {Y : Type 0} (m n : BTreeMap Place Entry) (names : BTreeSet Name) (vers
           all_filter (λ x. bytes_eq x.subject s) (λ x. x.version ≡ e.version → x ≡ e) (values_of m.entries)
           (all_map (λ (x : Place × Entry). x.1) (λ x. bytes_eq x.subject s ≡ true → x.version ≡ e.version → x ≡ e) m.entries
           (all_found (λ q x. bytes_eq x.subject s ≡ true → x.version ≡ e.version → x ≡ e) m.entries indexed.ordered
-          (λ q x found subject version. one_place m names versions indexed q p x e found is (λ i. (((bytes_eq-Decides x.subject s).0 subject ∙ sym of_s) i, version i)))))
+          (λ q x found subject version. one_place m names tops indexed q p x e found is (λ i. (((bytes_eq-Decides x.subject s).0 subject ∙ sym of_s) i, version i)))))
 
       own : (e : Entry) → entry_at m p ≡ Some e → marked s marks e ≡ cond (bytes_eq e.subject s) (with_soft (soft e) e) e
       own e is =
@@ -223,26 +223,3 @@ listed_marked m n schemas listed s marks at x = listed x ∙ each (entry_at m x.
     each : (o : Option Entry) → has_it o x ≡ has_it (option_map (marked s marks) o) x
     each None = refl
     each (Some e) = ap (λ (k : Schema). k.1 == x.1 && bytes_eq k.0 x.0) (sym (marked_keeps schema_of (λ b x. refl) s marks e))
-
--- and so do the suspects
-pub suspected_marked : (m n : BTreeMap Place Entry) (suspects : BTreeSet ℕ) → AreSuspected m suspects → (s : List ℕ) (marks : List Mark)
-    → ((p : Place) → entry_at n p ≡ option_map (marked s marks) (entry_at m p)) → AreSuspected n suspects
-suspected_marked m n suspects suspected s marks at p q e f at_p at_q ids texts =
-    let old_e = was p e at_p in
-    let old_f = was q f at_q in
-    let e_id : old_e.0.id ≡ e.id = sym (marked_keeps (λ x. x.id) (λ b x. refl) s marks old_e.0) ∙ ap (λ x. x.id) old_e.1.1 in
-    let f_id : old_f.0.id ≡ f.id = sym (marked_keeps (λ x. x.id) (λ b x. refl) s marks old_f.0) ∙ ap (λ x. x.id) old_f.1.1 in
-    let e_text : old_e.0.normal ≡ e.normal = sym (marked_keeps (λ x. x.normal) (λ b x. refl) s marks old_e.0) ∙ ap (λ x. x.normal) old_e.1.1 in
-    let f_text : old_f.0.normal ≡ f.normal = sym (marked_keeps (λ x. x.normal) (λ b x. refl) s marks old_f.0) ∙ ap (λ x. x.normal) old_f.1.1 in
-    subst (λ i. contains nat_cmp suspects i ≡ true) e_id
-    (suspected p q old_e.0 old_f.0 old_e.1.0 old_f.1.0 (e_id ∙ ids ∙ sym f_id) (λ same. texts (sym e_text ∙ same ∙ f_text)))
-  where
-    was : (p : Place) (e : Entry) → entry_at n p ≡ Some e → (o : Entry) × ((entry_at m p ≡ Some o) × (marked s marks o ≡ e))
-    was p e found = each (entry_at m p) refl (sym (at p) ∙ found)
-      where
-        each : (o : Option Entry) → entry_at m p ≡ o → option_map (marked s marks) o ≡ Some e → (o : Entry) × ((entry_at m p ≡ Some o) × (marked s marks o ≡ e))
-        each None is h = absurd (cc)
-        each (Some o) is h = (o, (is, inside h))
-          where
-            inside : Some (marked s marks o) ≡ Some e → marked s marks o ≡ e
-            inside h = cc

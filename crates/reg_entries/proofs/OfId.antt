@@ -183,7 +183,7 @@ module _ (m : BTreeMap Place Entry) (names : BTreeSet Name) (ordered : tree.IsOr
     from_entry : (e : Entry) → IsIn e (with_id (values_of m.entries) id) → IsIn e (filter_map of_name of_the_id)
     from_entry e i =
         let own = out_of_filter (λ e. e.id == id) e (values_of m.entries) i in
-        let at = place_of_value m names ordered placed names_are e own.1 in
+        let at = place_of_value m ordered e own.1 in
         in_filter_map of_name (name_of e) e of_the_id (ap (entry_at m) (own_place m placed at.0 e at.1) ∙ at.1)
         (in_filter (of_id id) (name_of e) names.keys (within_id (name_of e) id (number e.id id own.0)) (key_in name_cmp name_cmp-ties names (name_of e) (has_its_name m names ordered placed names_are at.0 e at.1)))
       where

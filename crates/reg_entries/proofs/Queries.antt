@@ -1,5 +1,5 @@
 -- What is found by id and by subject.
-use Rattle.std.proofs.Common.{◌≡◌, ℕ, ◌+◌, ◌<◌, ◌≤◌, true, false, ◌==◌, List, [], ◌∷◌, map, length, Option, Some, None, refl, sym, ap, subst, ◌∙◌, ◌⊎◌, inl, inr, arith}
+use Rattle.std.proofs.Common.{option_map, ◌≡◌, ℕ, ◌+◌, ◌<◌, ◌≤◌, true, false, ◌==◌, List, [], ◌∷◌, map, length, Option, Some, None, refl, sym, ap, subst, ◌∙◌, ◌⊎◌, inl, inr, arith}
 use Rattle.std.proofs.lemmas.Bool.{false≢true}
 use Rattle.std.proofs.lemmas.Bool.Decides.{nat_tests}
 use Rattle.std.proofs.lemmas.Cmp.{tied_itself, nat_cmp_total, on_total, then_total}
@@ -16,12 +16,12 @@ use Rattle.std.specs.declared.cmp.Ordering.{Ordering}
 use Rattle.std.specs.declared.cmp.Ordering.TheVariants.{Less, Equal, Greater}
 use Rattle.std.specs.declared.string.String.{String}
 use Rattle.reg_entries.specs.EntryOrder.{Place, place_cmp, place_of, naming_cmp}
-use Rattle.reg_entries.specs.Index.{Name, name_cmp, name_of, entry_at, is_named, IsAt, IsGreatest, IsIndexed}
+use Rattle.reg_entries.specs.Index.{Name, name_cmp, name_of, entry_at, is_named, IsAt, IsIndexed, IsTop}
 use Rattle.reg_entries.specs.Sought.{named, greatest_id, greatest_version}
 use Rattle.reg_entries.specs.declared.entry.Entry.{Entry}
 use Rattle.reg_entries.proofs.Chosen.{IsIn, all_filter, all_map, in_filter, in_map, reduce_none, reduce_greatest, reduce_max, IsUpTo}
 use Rattle.reg_entries.proofs.Found.{all_found, in_values}
-use Rattle.reg_entries.proofs.Greatest.{is_some_none}
+use Rattle.reg_entries.proofs.Topmost.{is_some_none}
 use Rattle.reg_entries.proofs.Places.{place_cmp-total, name_cmp-total, name_cmp-ties, equal}
 
 naming_cmp-total : IsTotalOrder naming_cmp
@@ -60,7 +60,7 @@ pub some_at_name : (m : BTreeMap Place Entry) (names : BTreeSet Name) → ((x : 
 some_at_name m names named x has none =
     false≢true (sym (ap (λ o. option_map_or (λ e. eq_by_cmp name_cmp (name_of e) x) o false) none) ∙ sym (named x) ∙ has)
 
-module _ {Y : Type 0} (m : BTreeMap Place Entry) (names : BTreeSet Name) (versions : BTreeMap (String Y) (Option ℕ)) (indexed : IsIndexed m names versions) where
+module _ {Y : Type 0} (m : BTreeMap Place Entry) (names : BTreeSet Name) (tops : BTreeMap (String Y) Place) (indexed : IsIndexed m names tops) where
   -- an entry that is found is at its own place
   own : (q : Place) (e : Entry) → entry_at m q ≡ Some e → place_of e ≡ q
   own q e found = (subst (λ o. IfSome o (IsAt q)) found (indexed.placed q)).0
@@ -162,7 +162,7 @@ module _ {Y : Type 0} (m : BTreeMap Place Entry) (names : BTreeSet Name) (versio
       (all_found (λ q f. ⊥) m.entries indexed.ordered (λ q f at. none (name_of f) (has_name q f at)))))
 
   -- the greatest version of a subject
-  pub greatest_version_is : (s : List ℕ) (o : Option ℕ) → IsGreatest m s o → o ≡ greatest_version (values_of m.entries) s
+  pub greatest_version_is : (s : List ℕ) (o : Option Place) → IsTop m s o → option_map (λ p. p.1) o ≡ greatest_version (values_of m.entries) s
   greatest_version_is s None h =
       sym (reduce_none _ _ (all_map (λ e. e.version) (λ _. ⊥) (filter (λ e. bytes_eq e.subject s) (values_of m.entries))
       (all_filter (λ e. bytes_eq e.subject s) (λ _. ⊥) (values_of m.entries)
@@ -172,26 +172,26 @@ module _ {Y : Type 0} (m : BTreeMap Place Entry) (names : BTreeSet Name) (versio
     where
       here : (q : Place) (e : Entry) → entry_at m q ≡ Some e → bytes_eq e.subject s ≡ true → entry_at m (s, e.version) ≡ Some e
       here q e found same = ap (λ t. entry_at m (t, e.version)) (sym ((bytes_eq-Decides e.subject s).0 same)) ∙ ap (entry_at m) (own q e found) ∙ found
-  greatest_version_is s (Some v) h = by_entry (entry_at m (s, v)) refl
+  greatest_version_is s (Some p) h = by_entry (entry_at m p) refl
     where
       here : (q : Place) (e : Entry) → entry_at m q ≡ Some e → bytes_eq e.subject s ≡ true → entry_at m (s, e.version) ≡ Some e
       here q e found same = ap (λ t. entry_at m (t, e.version)) (sym ((bytes_eq-Decides e.subject s).0 same)) ∙ ap (entry_at m) (own q e found) ∙ found
 
-      by_entry : (o : Option Entry) → entry_at m (s, v) ≡ o → Some v ≡ greatest_version (values_of m.entries) s
-      by_entry None none = absurd (is_some_none _ none h.0)
+      by_entry : (o : Option Entry) → entry_at m p ≡ o → Some p.1 ≡ greatest_version (values_of m.entries) s
+      by_entry None none = absurd (is_some_none _ none h.1)
       by_entry (Some e) found =
-          let place : place_of e ≡ (s, v) = own (s, v) e found in
-          let version : e.version ≡ v = ap (λ (p : Place). p.1) place in
-          sym (reduce_max v _
-          (all_map (λ e. e.version) (λ n. n ≤ v) (filter (λ e. bytes_eq e.subject s) (values_of m.entries))
-          (all_filter (λ e. bytes_eq e.subject s) (λ e. e.version ≤ v) (values_of m.entries)
-          (all_map (λ (e : Place × Entry). e.1) (λ e. bytes_eq e.subject s ≡ true → e.version ≤ v) m.entries
-          (all_found (λ q e. bytes_eq e.subject s ≡ true → e.version ≤ v) m.entries indexed.ordered
-          (λ q f at same. h.1 f.version (ap is_some (here q f at same)))))))
+          let place : place_of e ≡ p = own p e found in
+          let version : e.version ≡ p.1 = ap (λ (q : Place). q.1) place in
+          sym (reduce_max p.1 _
+          (all_map (λ e. e.version) (λ n. n ≤ p.1) (filter (λ e. bytes_eq e.subject s) (values_of m.entries))
+          (all_filter (λ e. bytes_eq e.subject s) (λ e. e.version ≤ p.1) (values_of m.entries)
+          (all_map (λ (e : Place × Entry). e.1) (λ e. bytes_eq e.subject s ≡ true → e.version ≤ p.1) m.entries
+          (all_found (λ q e. bytes_eq e.subject s ≡ true → e.version ≤ p.1) m.entries indexed.ordered
+          (λ q f at same. h.2 f.version (ap is_some (here q f at same)))))))
           (subst (λ n. IsIn n (map (λ e. e.version) (filter (λ e. bytes_eq e.subject s) (values_of m.entries)))) version
           (in_map (λ e. e.version) e (filter (λ e. bytes_eq e.subject s) (values_of m.entries))
-          (in_filter (λ e. bytes_eq e.subject s) e (values_of m.entries) ((bytes_eq-Decides e.subject s).1 (ap (λ (p : Place). p.0) place))
-          (in_values (s, v) e m.entries found)))))
+          (in_filter (λ e. bytes_eq e.subject s) e (values_of m.entries) ((bytes_eq-Decides e.subject s).1 (ap (λ (q : Place). q.0) place ∙ h.0))
+          (in_values p e m.entries found)))))
 
 -- what is before the first name of the next id has an id up to this one
 pub before_bound : (k : Name) (n : ℕ) → name_cmp k (n, 0, ([], 0)) ≡ Less → k.0 < n

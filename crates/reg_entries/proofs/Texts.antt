@@ -71,7 +71,7 @@ passed t k s apart from same before = by_order (slice_cmp nat_cmp t k.0) refl
     by_order Greater is = false≢true (sym from_t ∙ ap is_gt is)
 
 module _ (m : BTreeMap Place Entry) (schemas : BTreeSet Schema) (ordered : IsOrdered place_cmp m) (placed : ArePlaced m) (listed : AreListed m schemas) where
-  has_schema : (q : Place) (e : Entry) → entry_at m q ≡ Some e → contains schema_cmp schemas (schema_of e) ≡ true
+  pub has_schema : (q : Place) (e : Entry) → entry_at m q ≡ Some e → contains schema_cmp schemas (schema_of e) ≡ true
   has_schema q e found = listed (schema_of e) ∙ ap (λ o. has_it o (schema_of e)) (ap (entry_at m) (own_place m placed q e found) ∙ found) ∙ has_own e
 
   -- no entry has the text, where no schema has

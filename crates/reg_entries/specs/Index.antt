@@ -1,5 +1,5 @@
--- Private: what is kept of the entries: a map m by place, their names by id, and the greatest version of each subject.
-use Rattle.std.specs.Prelude.{◌≡◌, ℕ, ◌≤◌, ◌<◌, ◌^◌, Bool, false, List, Option, Some, None, option_and_then, IsSome, IfSome, if◌then◌else◌}
+-- Private: what is kept of the entries: a map m by place, their names by id, and the place of each subject's greatest version.
+use Rattle.std.specs.Prelude.{◌≡◌, ℕ, ◌≤◌, ◌<◌, ◌^◌, Bool, false, List, Option, Some, None, IsSome, IfSome, if◌then◌else◌}
 use Rattle.std.specs.declared.string.String.{String}
 use Rattle.std.specs.declared.cmp.Ordering.{Ordering}
 use Rattle.std.specs.BTreeMap.{BTreeMap, IsOrdered, get, get_by_text}
@@ -42,22 +42,18 @@ AreNamed m names = (n : Name) → contains name_cmp names n ≡ is_named m n
 abbrev pub HasAt : BTreeMap Place Entry → BTreeMap Place Entry → Place → Option Entry → Type 0
 HasAt m n p o = (q : Place) → entry_at n q ≡ (if eq_by_cmp place_cmp p q then o else entry_at m q)
 
--- v is the greatest version of the subject, and None where it has no entry
-abbrev pub IsGreatest : BTreeMap Place Entry → List ℕ → Option ℕ → Type 0
-IsGreatest m subject None = (w : ℕ) → entry_at m (subject, w) ≡ None
-IsGreatest m subject (Some v) = IsSome (entry_at m (subject, v)) × ((w : ℕ) → IsSome (entry_at m (subject, w)) → w ≤ v)
+-- the greatest version of the subject is at o, and None where it has no entry
+abbrev pub IsTop : BTreeMap Place Entry → List ℕ → Option Place → Type 0
+IsTop m subject None = (w : ℕ) → entry_at m (subject, w) ≡ None
+IsTop m subject (Some p) = (p.0 ≡ subject) × IsSome (entry_at m p) × ((w : ℕ) → IsSome (entry_at m (subject, w)) → w ≤ p.1)
 
--- of the versions of p's subject that are below p's the greatest, and None where there is none
-abbrev pub IsGreatestBelow : BTreeMap Place Entry → Place → Option ℕ → Type 0
-IsGreatestBelow m p None = (w : ℕ) → w < p.1 → entry_at m (p.0, w) ≡ None
-IsGreatestBelow m p (Some v) = IsSome (entry_at m (p.0, v)) × ((w : ℕ) → w < p.1 → IsSome (entry_at m (p.0, w)) → w ≤ v)
+-- of the versions of p's subject up to p's the greatest, and None where there is none
+abbrev pub IsGreatestUpTo : BTreeMap Place Entry → Place → Option ℕ → Type 0
+IsGreatestUpTo m p None = (w : ℕ) → w ≤ p.1 → entry_at m (p.0, w) ≡ None
+IsGreatestUpTo m p (Some v) = IsSome (entry_at m (p.0, v)) × ((w : ℕ) → w ≤ p.1 → IsSome (entry_at m (p.0, w)) → w ≤ v)
 
--- the version kept for a subject
-abbrev pub kept_version : {Y : Type 0} → BTreeMap (String Y) (Option ℕ) → List ℕ → Option ℕ
-kept_version versions subject = option_and_then (λ o. o) (get_by_text versions subject)
-
-pub record IsIndexed {Y : Type 0} (m : BTreeMap Place Entry) (names : BTreeSet Name) (versions : BTreeMap (String Y) (Option ℕ)) : Type 0 where
+pub record IsIndexed {Y : Type 0} (m : BTreeMap Place Entry) (names : BTreeSet Name) (tops : BTreeMap (String Y) Place) : Type 0 where
   pub ordered : IsOrdered place_cmp m
   pub placed : ArePlaced m
   pub named : AreNamed m names
-  pub greatest : (subject : List ℕ) → IsGreatest m subject (kept_version versions subject)
+  pub top : (subject : List ℕ) → IsTop m subject (get_by_text tops subject)

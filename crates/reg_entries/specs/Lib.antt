@@ -1,6 +1,7 @@
 pub mod EntryOrder
 pub mod Index
 pub mod Marked
+pub mod Meanings
 pub mod Schemas
 pub mod Sought
 pub mod TwoSchemas

@@ -1,5 +1,5 @@
 -- Private: what is kept of the schemas of the entries, which are kept as a map m by place.
-use Rattle.std.specs.Prelude.{◌≡◌, ℕ, Bool, true, false, not, ◌&&◌, ◌==◌, bytes_eq, List, Option, Some}
+use Rattle.std.specs.Prelude.{◌≡◌, ℕ, Bool, false, ◌&&◌, ◌==◌, bytes_eq, List, Option}
 use Rattle.std.specs.Option.{option_map_or}
 use Rattle.std.specs.declared.cmp.Ordering.{Ordering}
 use Rattle.std.specs.BTreeMap.{BTreeMap}
@@ -32,11 +32,3 @@ is_held m s = option_map_or (λ e. e.id == s.1 && bytes_eq e.normal s.0) (entry_
 -- the schemas are those of the entries
 abbrev pub AreListed : BTreeMap Place Entry → BTreeSet Schema → Type 0
 AreListed m schemas = (s : Schema) → contains schema_cmp schemas s ≡ is_held m s
-
--- whether that entry, if there is one, has another normal text
-abbrev pub is_other : Option Entry → List ℕ → Bool
-is_other o normal = option_map_or (λ e. not (bytes_eq e.normal normal)) o false
-
--- an id that two entries of different normal texts have is among the suspects
-abbrev pub AreSuspected : BTreeMap Place Entry → BTreeSet ℕ → Type 0
-AreSuspected m suspects = (p q : Place) (e f : Entry) → entry_at m p ≡ Some e → entry_at m q ≡ Some f → e.id ≡ f.id → ¬ (e.normal ≡ f.normal) → contains nat_cmp suspects e.id ≡ true

@@ -1,24 +1,22 @@
 // The entries, found by place, by subject and by id.
-ghost use Rattle.std.specs.Prelude.{◌≡◌, ℕ, List, Bool, false, IfOk, OnOk, OnErr, map, option_map, bytes_eq, if◌then◌else◌};
+ghost use Rattle.std.specs.Prelude.{◌≡◌, ℕ, List, Bool, Some, false, IfOk, OnOk, OnErr, map, option_map, bytes_eq, if◌then◌else◌};
 ghost use Rattle.std.specs.FinMap as finmap;
-ghost use Rattle.std.specs.Option.{option_copied, option_map_or};
+ghost use Rattle.std.specs.Option.{option_copied};
 ghost use Rattle.reg_entries.specs.EntryOrder.{Place, place_of, IsInOrder};
 ghost use Rattle.reg_entries.specs.Marked.{with_soft, marked, MarksEach};
-ghost use Rattle.reg_entries.specs.Sought.{of_subject, counting, latest, of_version, subjects, has_live, with_id, HasRisingVersions, named, greatest_id, greatest_version, id_of, shares_its_id, two_schemas};
+ghost use Rattle.reg_entries.specs.Sought.{of_subject, counting, latest, of_version, subjects, has_live, with_id, HasRisingVersions, named, greatest_id, greatest_version, id_of, two_schemas};
 ghost use Rattle.reg_entries.specs.declared.entry.Entry.{Entry};
 
 use crate::entry::{Entry, Mark};
 use crate::ids::list_with_id;
 use crate::lists::{
-    any_live, counts, keep_counting, last_counting, list_all, list_between, list_subjects,
-    set_marks,
+    any_live, any_live_up_to, counts, keep_counting, last_counting, list_all, list_between,
+    list_subjects, set_marks,
 };
-use crate::names::{
-    At, Name, forget, greatest_with, leave_room, name_above, place_of, set_version, version_below,
-    version_of,
-};
-use crate::schemas::{Schema, first_schema, unlist, write_all};
-use crate::suspects::{has_other, is_other, suspect};
+use crate::meanings::{Meaning, mean, settle_both, settle_meaning};
+use crate::names::{At, Name, name_above, place_of};
+use crate::schemas::{Schema, first_schema, schema_at, schema_of, unlist, write_all};
+use crate::tops::{leave_room, settle_top};
 use base_text::Text;
 use std::alloc::{AllocError, Global};
 use std::collections::{BTreeMap, BTreeSet};
@@ -33,12 +31,13 @@ pub struct Entries {
     alloc: Global,
     entries: BTreeMap<At, Entry>,
     names: BTreeSet<Name>,
-    // Of each subject with an entry its greatest version.
-    versions: BTreeMap<String, Option<u32>>,
+    // Of each subject with an entry the place of its greatest version.
+    tops: BTreeMap<String, At>,
     schemas: BTreeSet<Schema>,
-    // Each id that two entries of different normal texts have, and maybe others that were put with
-    // different texts.
-    suspects: BTreeSet<u32>,
+    // Each id with each normal text of its entries.
+    meanings: BTreeSet<Meaning>,
+    // The ids that have two texts.
+    doubled: BTreeSet<u32>,
 }
 
 impl Model for Entries {
@@ -46,7 +45,8 @@ impl Model for Entries {
     ghost use Rattle.std.specs.FinMap as finmap;
     ghost use Rattle.reg_entries.specs.EntryOrder.{place_cmp};
     ghost use Rattle.reg_entries.specs.Index.{IsIndexed};
-    ghost use Rattle.reg_entries.specs.Schemas.{AreListed, AreSuspected};
+    ghost use Rattle.reg_entries.specs.Meanings.{AreDoubled, AreMeant};
+    ghost use Rattle.reg_entries.specs.Schemas.{AreListed};
     ghost use Rattle.reg_entries.specs.contracts.entry.Entry as stored;
     ghost use Rattle.reg_entries.specs.declared.entry.Entry.{Entry};
 
@@ -56,7 +56,7 @@ impl Model for Entries {
 
     ghost view = { λ a. finmap.from_entries a.entries.entries };
 
-    ghost invariant = { λ a. IsIndexed a.entries a.names a.versions × AreListed a.entries a.schemas × AreSuspected a.entries a.suspects };
+    ghost invariant = { λ a. IsIndexed a.entries a.names a.tops × AreListed a.entries a.schemas × AreMeant a.schemas a.meanings × AreDoubled a.meanings a.doubled };
 }
 
 impl Clone for Entries {
@@ -67,9 +67,10 @@ impl Clone for Entries {
             alloc: self.alloc,
             entries: self.entries.clone()?,
             names: self.names.clone()?,
-            versions: self.versions.clone()?,
+            tops: self.tops.clone()?,
             schemas: self.schemas.clone()?,
-            suspects: self.suspects.clone()?,
+            meanings: self.meanings.clone()?,
+            doubled: self.doubled.clone()?,
         })
     }
 }
@@ -83,9 +84,10 @@ impl Entries {
             alloc,
             entries: BTreeMap::new(alloc),
             names: BTreeSet::new(alloc),
-            versions: BTreeMap::new(alloc),
+            tops: BTreeMap::new(alloc),
             schemas: BTreeSet::new(alloc),
-            suspects: BTreeSet::new(alloc),
+            meanings: BTreeSet::new(alloc),
+            doubled: BTreeSet::new(alloc),
         }
     }
 
@@ -102,14 +104,32 @@ impl Entries {
         ensures put { OnOk result (self.new ≡ finmap.insert self.old (place_of entry) entry) }
         ensures refused { OnErr result (self.new ≡ self.old) }
     {
-        let (subject, version) = place_of(&entry)?;
-        let doubled = is_other(self.named(entry.id), &entry.normal);
-        suspect(&mut self.suspects, entry.id, doubled)?;
-        leave_room(self.alloc, &mut self.versions, subject.as_str())?;
-        write_all(&mut self.entries, &mut self.names, &mut self.schemas, entry)?;
-        let greatest = greatest_with(&self.versions, subject.as_str(), version);
-        set_version(&mut self.versions, subject.as_str(), Some(greatest));
-        Ok(())
+        let place = place_of(&entry)?;
+        let new = schema_of(&entry)?;
+        let old = schema_at(&self.entries, &place)?;
+        leave_room(self.alloc, &mut self.tops, &place)?;
+        if let Err(refused) = mean(self.alloc, &mut self.meanings, &mut self.doubled, &entry) {
+            settle_top(&mut self.tops, &self.entries, place);
+            return Err(refused);
+        }
+        let written = write_all(
+            &mut self.entries,
+            &mut self.names,
+            &mut self.schemas,
+            entry,
+            &new,
+            &old,
+        );
+        settle_top(&mut self.tops, &self.entries, place);
+        settle_both(
+            self.alloc,
+            &mut self.meanings,
+            &mut self.doubled,
+            &self.schemas,
+            new,
+            old,
+        );
+        written
     }
 
     /// Removes the entry at a place, if there is one.
@@ -119,13 +139,16 @@ impl Entries {
         let Some(entry) = self.entries.remove(place) else {
             return;
         };
-        let entry = unlist(&mut self.schemas, entry);
-        forget(&mut self.names, entry);
-        let subject = place.0.as_str();
-        if version_of(&self.versions, subject) == Some(place.1) {
-            let version = version_below(&self.entries, place);
-            set_version(&mut self.versions, subject, version);
-        }
+        let (normal, id, place) = unlist(&mut self.names, &mut self.schemas, entry);
+        settle_top(&mut self.tops, &self.entries, place);
+        settle_meaning(
+            self.alloc,
+            &mut self.meanings,
+            &mut self.doubled,
+            &self.schemas,
+            normal,
+            id,
+        );
     }
 
     /// Gives versions of a subject their marks. A mark of a version that isn't there does nothing.
@@ -215,10 +238,25 @@ impl Entries {
     }
 
     /// Whether a subject, or any one, has a live entry. Takes no memory.
+    ///
+    /// Of a subject it goes back from the greatest version on until an entry is live.
     pub fn has_live(&self, subject: Option<&str>) -> bool
         ensures { result ≡ has_live (finmap.values self.now) (option_map (λ s. s.now) subject.entry) }
     {
-        any_live(&self.entries, subject)
+        match subject {
+            Some(subject) => self.has_live_of(subject),
+            None => any_live(&self.entries),
+        }
+    }
+
+    /// Whether a subject has a live entry.
+    fn has_live_of(&self, subject: &str) -> bool
+        ensures { result ≡ has_live (finmap.values self.now) (Some subject.now) }
+    {
+        match self.tops.get(subject) {
+            Some(top) => any_live_up_to(&self.entries, top),
+            None => false,
+        }
     }
 
     /// The entries with an id, soft ones too, by place. The only error is want of memory.
@@ -262,37 +300,12 @@ impl Entries {
         }
     }
 
-    /// The least id that two entries of different normal texts have, soft ones too.
-    ///
-    /// It goes through the entries of those ids alone that were put with different texts, from the
-    /// least one on, until it finds two that differ.
+    /// The least id that two entries of different normal texts have, soft ones too. It is kept, so
+    /// no entry is looked at.
     pub fn two_schemas(&self) -> Option<u32>
         ensures { result ≡ two_schemas (finmap.values self.now) }
     {
-        self.suspects.iter().find(|id| self.has_two(**id)).copied()
-    }
-
-    /// Whether two entries of an id have different normal texts.
-    fn has_two(&self, id: u32) -> bool
-        ensures { result ≡ option_map_or (shares_its_id (finmap.values self.now)) (named (finmap.values self.now) id) false }
-    {
-        match self.named(id) {
-            Some(entry) => self.shares_its_id(entry),
-            None => false,
-        }
-    }
-
-    /// Whether an entry has the id of that one and another normal text.
-    fn shares_its_id(&self, entry: &Entry) -> bool
-        ensures { result ≡ shares_its_id (finmap.values self.now) entry.now }
-    {
-        has_other(
-            self.alloc,
-            &self.entries,
-            &self.names,
-            entry.id,
-            &entry.normal,
-        )
+        self.doubled.first().copied()
     }
 
     /// The greatest id of an entry, soft ones too.
@@ -308,6 +321,6 @@ impl Entries {
     pub fn greatest_version(&self, subject: &str) -> Option<u32>
         ensures { result ≡ greatest_version (finmap.values self.now) subject.now }
     {
-        version_of(&self.versions, subject)
+        Some(self.tops.get(subject)?.1)
     }
 }

@@ -6,9 +6,10 @@ mod entry;
 mod ids;
 mod laws;
 mod lists;
+mod meanings;
 mod names;
 mod schemas;
-mod suspects;
+mod tops;
 
 pub use entries::Entries;
 pub use entry::{Entry, Mark};

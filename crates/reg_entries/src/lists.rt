@@ -1,5 +1,5 @@
 // Entries in lists, and their marks.
-ghost use Rattle.std.specs.Prelude.{◌≡◌, false, IfOk, map, not, option_map, reverse, if◌then◌else◌};
+ghost use Rattle.std.specs.Prelude.{◌≡◌, false, Some, None, IfOk, map, option_map, reverse, if◌then◌else◌};
 ghost use Rattle.std.specs.BTreeMap.{IsOrdered, values};
 ghost use Rattle.std.specs.BTreeMap.Range.{entries_between};
 ghost use Rattle.std.specs.List.{filter, find};
@@ -7,9 +7,9 @@ ghost use Rattle.std.specs.Map.{values_of};
 ghost use Rattle.std.specs.Option.{option_copied};
 ghost use Rattle.std.specs.Ordering.{eq_by_cmp, is_gt};
 ghost use Rattle.reg_entries.specs.EntryOrder.{Place, place_cmp};
-ghost use Rattle.reg_entries.specs.Index.{entry_at, ArePlaced};
+ghost use Rattle.reg_entries.specs.Index.{entry_at, ArePlaced, IsTop};
 ghost use Rattle.reg_entries.specs.Marked.{with_soft, marked};
-ghost use Rattle.reg_entries.specs.Sought.{counts, subjects, has_live, is_in_scope};
+ghost use Rattle.reg_entries.specs.Sought.{counts, subjects, has_live};
 
 use crate::entry::{Entry, Mark};
 use crate::names::At;
@@ -94,21 +94,29 @@ pub(crate) fn counts(entry: &Entry, deleted: bool) -> bool
     deleted || !entry.soft
 }
 
-/// Whether one of them is live and in the scope: of that subject, or of any one.
-pub(crate) fn any_live(entries: &BTreeMap<At, Entry>, scope: Option<&str>) -> bool
-    ensures { result ≡ has_live (values entries.now) (option_map (λ s. s.now) scope.entry) }
+/// Whether one of them is live. This goes through all entries.
+pub(crate) fn any_live(entries: &BTreeMap<At, Entry>) -> bool
+    ensures { result ≡ has_live (values entries.now) None }
 {
-    entries
-        .values()
-        .any(|entry| is_in_scope(entry, scope) && !entry.soft)
+    entries.values().any(|entry| !entry.soft)
 }
 
-fn is_in_scope(entry: &Entry, scope: Option<&str>) -> bool
-    ensures { result ≡ is_in_scope (option_map (λ s. s.now) scope.entry) entry.now }
+/// Whether the subject of its greatest version's place has a live entry. This goes back from that
+/// version on until an entry is live, or of another subject.
+pub(crate) fn any_live_up_to(entries: &BTreeMap<At, Entry>, top: &At) -> bool
+    requires ordered { IsOrdered place_cmp entries.now }
+    requires placed { ArePlaced entries.now }
+    requires top { IsTop entries.now top.now.0 (Some top.now) }
+    ensures { result ≡ has_live (values entries.now) (Some top.now.0) }
 {
-    match scope {
-        Some(subject) => entry.subject.as_str() == subject,
-        None => true,
+    let found = entries
+        .range(..=top)
+        .rev()
+        .map(|(_, entry)| entry)
+        .find(|entry| entry.subject != top.0 || !entry.soft);
+    match found {
+        Some(entry) => entry.subject == top.0,
+        None => false,
     }
 }
 

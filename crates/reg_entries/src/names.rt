@@ -1,11 +1,11 @@
-// The names of entries, and the greatest versions of subjects: what is kept beside the entries.
-ghost use Rattle.std.specs.Prelude.{◌≡◌, ◌+◌, [], ◌⊎◌, ◌≤◌, ◌<◌, ◌^◌, ℕ, List, Some, false, cond, not, ◌&&◌, ◌||◌, ◌==◌, bytes_eq, IfOk, OnOk, OnErr, IsSome};
-ghost use Rattle.std.specs.BTreeMap.{IsOrdered, get_by_text};
+// The names of entries, which are kept beside them.
+ghost use Rattle.std.specs.Prelude.{◌≡◌, ◌+◌, [], ◌<◌, ◌^◌, Some, false, cond, not, ◌&&◌, ◌||◌, ◌==◌, IfOk, OnOk, OnErr};
+ghost use Rattle.std.specs.BTreeMap.{IsOrdered};
 ghost use Rattle.std.specs.BTreeSet as tree_set;
 ghost use Rattle.std.specs.BTreeSet.{contains, keys_between};
 ghost use Rattle.std.specs.Ordering.{eq_by_cmp};
 ghost use Rattle.reg_entries.specs.EntryOrder.{place_cmp, place_of};
-ghost use Rattle.reg_entries.specs.Index.{Name, name_of, name_cmp, kept_version, HasAt, ArePlaced, AreNamed, IsGreatestBelow};
+ghost use Rattle.reg_entries.specs.Index.{Name, name_of, name_cmp, HasAt, ArePlaced, AreNamed};
 
 use crate::entry::Entry;
 use base_text::Text;
@@ -81,69 +81,6 @@ pub(crate) fn forget_other(names: &mut BTreeSet<Name>, entry: Entry, id: u32, of
 {
     if entry.id != id || entry.offset != offset {
         forget(names, entry);
-    }
-}
-
-/// Leaves room for the greatest version of a subject.
-pub(crate) fn leave_room(
-    alloc: Global,
-    versions: &mut BTreeMap<String, Option<u32>>,
-    subject: &str,
-) -> Result<(), AllocError>
-    ensures kept { (s : List ℕ) → kept_version versions.new s ≡ kept_version versions.old s }
-    ensures room { OnOk result (IsSome (get_by_text versions.new subject.now)) }
-{
-    if !versions.contains_key(subject) {
-        versions.insert(String::from_str(alloc, subject)?, None)?;
-    }
-    Ok(())
-}
-
-/// The greatest version of a subject, if it has one.
-pub(crate) fn version_of(versions: &BTreeMap<String, Option<u32>>, subject: &str) -> Option<u32>
-    ensures { result ≡ kept_version versions.now subject.now }
-{
-    *versions.get(subject)?
-}
-
-/// The greatest version of a subject once it has that one too.
-pub(crate) fn greatest_with(
-    versions: &BTreeMap<String, Option<u32>>,
-    subject: &str,
-    version: u32,
-) -> u32
-    ensures reaches { version ≤ result }
-    ensures bounds { (old : ℕ) → kept_version versions.now subject.now ≡ Some old → old ≤ result }
-    ensures either { (result ≡ version) ⊎ (kept_version versions.now subject.now ≡ Some result) }
-{
-    match version_of(versions, subject) {
-        Some(old) if version < old => old,
-        _ => version,
-    }
-}
-
-/// Keeps the greatest version of a subject that has room for it.
-pub(crate) fn set_version(
-    versions: &mut BTreeMap<String, Option<u32>>,
-    subject: &str,
-    version: Option<u32>,
-)
-    ensures { IsSome (get_by_text versions.old subject.now) → (s : List ℕ) → kept_version versions.new s ≡ cond (bytes_eq subject.now s) version (kept_version versions.old s) }
-{
-    if let Some(kept) = versions.get_mut(subject) {
-        *kept = version;
-    }
-}
-
-/// The greatest version of a place's subject below that of the place.
-pub(crate) fn version_below(entries: &BTreeMap<At, Entry>, place: &At) -> Option<u32>
-    ensures { IsGreatestBelow entries.now place.now result }
-{
-    let (found, _) = entries.range(..place).next_back()?;
-    if found.0 == place.0 {
-        Some(found.1)
-    } else {
-        None
     }
 }
 

@@ -4,7 +4,7 @@ ghost use Rattle.std.specs.BTreeMap.{IsOrdered};
 ghost use Rattle.std.specs.BTreeSet.{contains};
 ghost use Rattle.std.specs.Ordering.{eq_by_cmp};
 ghost use Rattle.reg_entries.specs.EntryOrder.{Place, place_cmp, place_of};
-ghost use Rattle.reg_entries.specs.Index.{entry_at, HasAt, ArePlaced, AreNamed};
+ghost use Rattle.reg_entries.specs.Index.{Name, name_of, name_cmp, entry_at, HasAt, ArePlaced, AreNamed};
 ghost use Rattle.reg_entries.specs.Schemas.{Schema, schema_of, schema_cmp, is_held, is_that, AreListed};
 
 use crate::entry::Entry;
@@ -36,7 +36,10 @@ pub(crate) fn first_schema(alloc: Global, normal: &str) -> Result<Schema, AllocE
 }
 
 /// The schema of the entry at a place, if there is one.
-fn schema_at(entries: &BTreeMap<At, Entry>, place: &At) -> Result<Option<Schema>, AllocError>
+pub(crate) fn schema_at(
+    entries: &BTreeMap<At, Entry>,
+    place: &At,
+) -> Result<Option<Schema>, AllocError>
     ensures { IfOk result (λ schema. schema ≡ option_map schema_of (entry_at entries.now place.now)) }
 {
     match entries.get(place) {
@@ -55,41 +58,44 @@ fn has_schema(entries: &BTreeMap<At, Entry>, schema: &Schema) -> bool
     }
 }
 
-/// Takes the schema of an entry away, and gives the entry back.
-pub(crate) fn unlist(schemas: &mut BTreeSet<Schema>, entry: Entry) -> Entry
-    ensures kept { result ≡ entry }
-    ensures gone { (s : Schema) → contains schema_cmp schemas.new s ≡ cond (eq_by_cmp schema_cmp (schema_of entry) s) false (contains schema_cmp schemas.old s) }
+/// Takes the name and the schema of an entry away, and gives the schema.
+pub(crate) fn unlist(
+    names: &mut BTreeSet<Name>,
+    schemas: &mut BTreeSet<Schema>,
+    entry: Entry,
+) -> Schema
+    ensures schema { result ≡ schema_of entry }
+    ensures unnamed { (n : Name) → contains name_cmp names.new n ≡ cond (eq_by_cmp name_cmp (name_of entry) n) false (contains name_cmp names.old n) }
+    ensures unlisted { (s : Schema) → contains schema_cmp schemas.new s ≡ cond (eq_by_cmp schema_cmp (schema_of entry) s) false (contains schema_cmp schemas.old s) }
 {
     let Entry {
         subject,
         version,
         id,
-        text,
         normal,
         offset,
-        soft,
+        ..
     } = entry;
-    let schema = (normal, id, (subject, version));
+    let name = (u64::from(id), offset, (subject, version));
+    names.remove(&name);
+    let (_, _, place) = name;
+    let schema = (normal, id, place);
     schemas.remove(&schema);
-    let (normal, id, (subject, version)) = schema;
-    Entry {
-        subject,
-        version,
-        id,
-        text,
-        normal,
-        offset,
-        soft,
-    }
+    schema
 }
 
-/// Writes an entry, its name and its schema. An entry that was at its place goes, with its own.
+/// Writes an entry, its name and its schema, which is the new one. An entry that was at its place
+/// goes, with its own, which is the old one.
 pub(crate) fn write_all(
     entries: &mut BTreeMap<At, Entry>,
     names: &mut BTreeSet<Name>,
     schemas: &mut BTreeSet<Schema>,
     entry: Entry,
+    new: &Schema,
+    old: &Option<Schema>,
 ) -> Result<(), AllocError>
+    requires new { new.now ≡ schema_of entry }
+    requires old { old.now ≡ option_map schema_of (entry_at entries.old (place_of entry)) }
     requires ordered { IsOrdered place_cmp entries.old }
     requires placed { ArePlaced entries.old }
     requires named { AreNamed entries.old names.old }
@@ -101,12 +107,10 @@ pub(crate) fn write_all(
     ensures still_named { AreNamed entries.new names.new }
     ensures still_listed { AreListed entries.new schemas.new }
 {
-    let new = schema_of(&entry)?;
-    let old = schema_at(entries, &new.2)?;
     schemas.insert(schema_of(&entry)?)?;
     let written = write(entries, names, entry);
-    settle(schemas, entries, &new);
-    settle_any(schemas, entries, &old);
+    settle(schemas, entries, new);
+    settle_any(schemas, entries, old);
     written
 }
 

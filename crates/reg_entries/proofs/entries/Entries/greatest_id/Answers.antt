@@ -9,7 +9,7 @@ pub returns-in_err-last : goal.returns-in_err-last
 returns-in_err-last c =
     let a = c.self.inside in
     c.from_residual.ensures
-    ∙ sym (greatest_id_none a.entries a.names a.versions c.self.invariant.0 (no_name a.names c.in_err-last.ensures.variant.1))
+    ∙ sym (greatest_id_none a.entries a.names a.tops c.self.invariant.0 (no_name a.names c.in_err-last.ensures.variant.1))
     ∙ ap greatest_id (sym (values-view a.entries c.self.invariant.0.ordered) ∙ ap finmap.values c.self.view_is)
 
 pub returns-in_err-entry : goal.returns-in_err-entry
@@ -20,5 +20,5 @@ returns-in_err-entry c =
 pub returns : goal.returns
 returns c =
     let a = c.self.inside in
-    greatest_id_some a.entries a.names a.versions c.self.invariant.0 c.in_ok-last.last.now c.in_ok-entry.entry.now c.in_ok-last.ensures.member (sym c.in_ok-entry.ensures.value) c.in_ok-last.ensures.greatest
+    greatest_id_some a.entries a.names a.tops c.self.invariant.0 c.in_ok-last.last.now c.in_ok-entry.entry.now c.in_ok-last.ensures.member (sym c.in_ok-entry.ensures.value) c.in_ok-last.ensures.greatest
     ∙ ap greatest_id (sym (values-view a.entries c.self.invariant.0.ordered) ∙ ap finmap.values c.self.view_is)

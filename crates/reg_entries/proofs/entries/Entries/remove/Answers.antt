@@ -1,68 +1,49 @@
-use Rattle.std.proofs.Common.{◌≡◌, false, List, Some, None, cond, bytes_eq, sym, ap, subst, ◌∙◌}
+use Rattle.std.proofs.Common.{◌≡◌, inl, Some, None, sym, ap, subst, ◌∙◌}
 use Rattle.std.specs.BTreeMap.{get_by_text}
-use Rattle.std.specs.BTreeSet.{contains}
 use Rattle.std.specs.FinMap as finmap
-use Rattle.std.specs.Ordering.{eq_by_cmp}
 use Rattle.std.specs.Prelude.{IsSome, is_some}
-use Rattle.reg_entries.specs.Index.{Name, name_of, name_cmp, entry_at, HasAt, kept_version}
-use Rattle.reg_entries.proofs.Greatest.{greatest_after_lower, greatest_after_remove}
+use Rattle.reg_entries.specs.EntryOrder.{Place}
+use Rattle.reg_entries.specs.Index.{entry_at, HasAt}
+use Rattle.reg_entries.specs.Meanings.{meaning_of, SettlesMeaning}
+use Rattle.reg_entries.specs.Schemas.{Schema, schema_of}
 use Rattle.reg_entries.proofs.Indexed.{named-gone, placed-gone}
-use Rattle.reg_entries.proofs.Listed.{listed_gone}
-use Rattle.reg_entries.proofs.Doubled.{suspected_gone}
-use Rattle.reg_entries.proofs.Versions.{kept_has_room, same_option, different}
+use Rattle.reg_entries.proofs.Listed.{listed_gone, own_place}
+use Rattle.reg_entries.proofs.Meant.{meant_gone}
+use Rattle.reg_entries.proofs.Topmost.{has_top, tops_settled}
 use Rattle.reg_entries.proofs.Views.{view-gone}
 use Rattle.reg_entries.proofs.entries.Entries.remove.Goals as goal
 
 pub returns-in_default : goal.returns-in_default
 returns-in_default c = view-gone c.self.inside.entries c.remove.new.self c.args.place.now c.remove.ensures.updates.0 ∙ ap (λ m. finmap.remove m c.args.place.now) c.self.view_is
 
-pub returns-then-eq : goal.returns-then-eq
-returns-then-eq c = view-gone c.self.inside.entries c.remove.new.self c.args.place.now c.remove.ensures.updates.0 ∙ ap (λ m. finmap.remove m c.args.place.now) c.self.view_is
+pub returns : goal.returns
+returns c = view-gone c.self.inside.entries c.remove.new.self c.args.place.now c.remove.ensures.updates.0 ∙ ap (λ m. finmap.remove m c.args.place.now) c.self.view_is
 
-pub returns-else-eq : goal.returns-else-eq
-returns-else-eq c = view-gone c.self.inside.entries c.remove.new.self c.args.place.now c.remove.ensures.updates.0 ∙ ap (λ m. finmap.remove m c.args.place.now) c.self.view_is
+pub settle_top-requires : goal.settle_top-requires
+settle_top-requires c = placed-gone c.self.inside.entries c.remove.new.self c.self.inside.names c.self.invariant.0.placed c.self.invariant.0.named c.args.place.now c.remove.ensures.updates.0
 
-pub invariant_of-self-then-eq : goal.invariant_of-self-then-eq
-invariant_of-self-then-eq c =
-    let m = c.self.inside.entries in
+pub invariant_of-self-2 : goal.invariant_of-self-2
+invariant_of-self-2 c =
+    let a = c.self.inside in
+    let m = a.entries in
     let n = c.remove.new.self in
     let p = c.args.place.now in
-    let i = c.self.invariant.0 in
-    let forgets = subst (λ e. (x : Name) → contains name_cmp c.forget.new.names x ≡ cond (eq_by_cmp name_cmp (name_of e) x) false (contains name_cmp c.self.inside.names x)) c.unlist-entry.ensures.kept c.forget.ensures in
+    let i = c.self.invariant in
+    let e = c.in-Some.entry in
     let at : HasAt m n p None = c.remove.ensures.updates.0 in
-    let was : entry_at m p ≡ Some c.in-Some.entry = sym c.remove.ensures.value ∙ c.in-Some.is in
-    let top : kept_version c.self.inside.versions p.0 ≡ Some p.1 = ap (kept_version c.self.inside.versions) (sym c.as_str-subject.ensures) ∙ sym c.version_of.ensures ∙ same_option _ _ (sym c.if-eq.ensures) in
-    let room : IsSome (get_by_text c.self.inside.versions c.as_str-subject.result.now) = ap (λ t. is_some (get_by_text c.self.inside.versions t)) c.as_str-subject.ensures ∙ kept_has_room c.self.inside.versions p.0 p.1 top in
-    let now : (s : List _) → kept_version c.set_version.new.versions s ≡ cond (bytes_eq p.0 s) c.version_below-version.result (kept_version c.self.inside.versions s) =
-    subst (λ t. (s : List _) → kept_version c.set_version.new.versions s ≡ cond (bytes_eq t s) c.version_below-version.result (kept_version c.self.inside.versions s)) c.as_str-subject.ensures (c.set_version.ensures room) in (
+    let was : entry_at m p ≡ Some e = sym c.remove.ensures.value ∙ c.in-Some.is in
+    let same : c.unlist-normal.result.2 ≡ p = ap (λ (s : Schema). s.2) c.unlist-normal.ensures.schema ∙ own_place m i.0.placed p e was in
+    let room : IsSome (get_by_text a.tops c.unlist-normal.result.2.0) = ap (λ (q : Place). is_some (get_by_text a.tops q.0)) same ∙ has_top m p (get_by_text a.tops p.0) (ap is_some was) (i.0.top p.0) in
+    let here : HasAt m n c.unlist-normal.result.2 None = subst (λ q. HasAt m n q None) (sym same) at in
+    let settled : SettlesMeaning c.unlist-normal.new.schemas (meaning_of (schema_of e)) a.meanings c.settle_meaning.new.meanings =
+    subst (λ (s : Schema). SettlesMeaning c.unlist-normal.new.schemas (s.1, s.0) a.meanings c.settle_meaning.new.meanings) c.unlist-normal.ensures.schema c.settle_meaning.ensures.settled in (
       record {
         ordered = c.remove.ensures.ordered;
-        placed = placed-gone m n c.self.inside.names i.placed i.named p at;
-        named = named-gone m n c.self.inside.names i.placed i.named p at c.forget.new.names c.in-Some.entry was forgets;
-        greatest = greatest_after_lower m n p at (kept_version c.self.inside.versions) (kept_version c.set_version.new.versions) i.greatest top c.version_below-version.result c.version_below-version.ensures now;
+        placed = placed-gone m n a.names i.0.placed i.0.named p at;
+        named = named-gone m n a.names i.0.placed i.0.named p at c.unlist-normal.new.names e was c.unlist-normal.ensures.unnamed;
+        top = tops_settled m n c.unlist-normal.result.2 None (inl here) (get_by_text a.tops) (get_by_text c.settle_top.new.tops) i.0.top (c.settle_top.ensures.top room) c.settle_top.ensures.others;
       },
-      listed_gone m n c.self.inside.schemas c.unlist-entry.new.schemas p c.in-Some.entry i.placed c.self.invariant.1 at was c.unlist-entry.ensures.gone,
-      suspected_gone m n c.self.inside.suspects p c.self.invariant.2 at,
-    )
-
-pub invariant_of-self-else-eq : goal.invariant_of-self-else-eq
-invariant_of-self-else-eq c =
-    let m = c.self.inside.entries in
-    let n = c.remove.new.self in
-    let p = c.args.place.now in
-    let i = c.self.invariant.0 in
-    let forgets = subst (λ e. (x : Name) → contains name_cmp c.forget.new.names x ≡ cond (eq_by_cmp name_cmp (name_of e) x) false (contains name_cmp c.self.inside.names x)) c.unlist-entry.ensures.kept c.forget.ensures in
-    let at : HasAt m n p None = c.remove.ensures.updates.0 in
-    let was : entry_at m p ≡ Some c.in-Some.entry = sym c.remove.ensures.value ∙ c.in-Some.is in
-    let apart : ¬ (kept_version c.self.inside.versions p.0 ≡ Some p.1) = λ top.
-    let seen : c.version_of.result ≡ Some p.1 = c.version_of.ensures ∙ ap (kept_version c.self.inside.versions) c.as_str-subject.ensures ∙ top in
-    different _ _ (sym c.if-eq.ensures) seen in (
-      record {
-        ordered = c.remove.ensures.ordered;
-        placed = placed-gone m n c.self.inside.names i.placed i.named p at;
-        named = named-gone m n c.self.inside.names i.placed i.named p at c.forget.new.names c.in-Some.entry was forgets;
-        greatest = greatest_after_remove m n p at (ap is_some was) (kept_version c.self.inside.versions) i.greatest apart;
-      },
-      listed_gone m n c.self.inside.schemas c.unlist-entry.new.schemas p c.in-Some.entry i.placed c.self.invariant.1 at was c.unlist-entry.ensures.gone,
-      suspected_gone m n c.self.inside.suspects p c.self.invariant.2 at,
+      listed_gone m n a.schemas c.unlist-normal.new.schemas p e i.0.placed i.1 at was c.unlist-normal.ensures.unlisted,
+      meant_gone a.schemas c.unlist-normal.new.schemas a.meanings c.settle_meaning.new.meanings (schema_of e) i.2 c.unlist-normal.ensures.unlisted settled,
+      c.settle_meaning.ensures.doubled,
     )

@@ -2,7 +2,7 @@ use Rattle.std.proofs.Common.{◌≡◌, ap, ◌∙◌, rules}
 use Rattle.std.specs.FinMap as finmap
 use Rattle.reg_entries.specs.declared.entry.Entry.{Entry}
 use Rattle.reg_entries.specs.contracts.entry.EntryClone.TheImpl as entry_clone
-use Rattle.reg_entries.proofs.Copies.{AreListed-copied, AreSuspected-copied, IsIndexed-copied, entries-copied, ids-copied, names-copied, versions-copied}
+use Rattle.reg_entries.proofs.Copies.{AreDoubled-copied, AreListed-copied, AreMeant-copied, IsIndexed-copied, entries-copied, ids-copied, meanings-copied, names-copied, tops-copied}
 use Rattle.reg_entries.proofs.entries.EntriesClone.clone.Goals as goal
 
 entry_copy : (a b : Entry) → (entry_clone.ghosts).is_clone a b → b ≡ a
@@ -13,13 +13,15 @@ invariant_of-result c =
     let kept = c.self.inside in
     let same = entries-copied _ entry_copy kept.entries.entries c.in_ok-clone.field-0.entries c.in_ok-clone.ensures.cases in
     let schemas = names-copied kept.schemas.keys c.in_ok-clone-4.field-0.keys c.in_ok-clone-4.ensures.cases in
-    let suspects = ids-copied kept.suspects.keys c.in_ok-clone-5.field-0.keys c.in_ok-clone-5.ensures.cases in (
-      IsIndexed-copied kept.entries c.in_ok-clone.field-0 kept.names c.in_ok-clone-2.field-0 kept.versions c.in_ok-clone-3.field-0 same
+    let meanings = meanings-copied kept.meanings.keys c.in_ok-clone-5.field-0.keys c.in_ok-clone-5.ensures.cases in
+    let doubled = ids-copied kept.doubled.keys c.in_ok-clone-6.field-0.keys c.in_ok-clone-6.ensures.cases in (
+      IsIndexed-copied kept.entries c.in_ok-clone.field-0 kept.names c.in_ok-clone-2.field-0 kept.tops c.in_ok-clone-3.field-0 same
           (names-copied kept.names.keys c.in_ok-clone-2.field-0.keys c.in_ok-clone-2.ensures.cases)
-          (λ s. versions-copied _ (λ a b h. search rules) s kept.versions.entries c.in_ok-clone-3.field-0.entries c.in_ok-clone-3.ensures.cases)
+          (λ s. tops-copied s kept.tops.entries c.in_ok-clone-3.field-0.entries c.in_ok-clone-3.ensures.cases)
           c.self.invariant.0,
       AreListed-copied kept.entries c.in_ok-clone.field-0 same kept.schemas c.in_ok-clone-4.field-0 schemas c.self.invariant.1,
-      AreSuspected-copied kept.entries c.in_ok-clone.field-0 same kept.suspects c.in_ok-clone-5.field-0 suspects c.self.invariant.2,
+      AreMeant-copied kept.schemas c.in_ok-clone-4.field-0 kept.meanings c.in_ok-clone-5.field-0 schemas meanings c.self.invariant.2,
+      AreDoubled-copied kept.meanings c.in_ok-clone-5.field-0 kept.doubled c.in_ok-clone-6.field-0 meanings doubled c.self.invariant.3,
     )
 
 pub returns : goal.returns

@@ -1,0 +1,151 @@
+// What ids mean: which normal texts the entries of an id have, and which ids have two.
+ghost use Rattle.std.specs.Prelude.{◌≡◌, ◌↔◌, ◌+◌, [], ℕ, true, false, cond, OnOk, OnErr};
+ghost use Rattle.std.specs.BTreeSet as tree_set;
+ghost use Rattle.std.specs.BTreeSet.{contains, keys_between};
+ghost use Rattle.std.specs.Ordering.{eq_by_cmp, nat_cmp};
+ghost use Rattle.reg_entries.specs.Meanings.{Meaning, meaning_of, meaning_cmp, IsMeant, IsMeaningOf, HasTwo, AreDoubled, SettlesDoubled, SettlesMeaning};
+ghost use Rattle.reg_entries.specs.Schemas.{Schema};
+ghost use Rattle.reg_entries.specs.declared.entry.Entry.{Entry};
+
+use crate::entry::Entry;
+use crate::schemas::Schema;
+use base_text::Text;
+use std::alloc::{AllocError, Global};
+use std::collections::BTreeSet;
+use std::collections::btree_set::Range;
+use std::ops::Bound;
+
+/// An id and a normal text of its entries.
+pub(crate) type Meaning = (u64, Text);
+
+/// Adds the id and the normal text of an entry. The only error is want of memory; the meanings are
+/// then as they were.
+pub(crate) fn mean(
+    alloc: Global,
+    meanings: &mut BTreeSet<Meaning>,
+    doubled: &mut BTreeSet<u32>,
+    entry: &Entry,
+) -> Result<(), AllocError>
+    requires { AreDoubled meanings.old doubled.old }
+    ensures meant { OnOk result ((k : Meaning) → contains meaning_cmp meanings.new k ≡ cond (eq_by_cmp meaning_cmp (entry.now.id, entry.now.normal) k) true (contains meaning_cmp meanings.old k)) }
+    ensures refused { OnErr result ((k : Meaning) → contains meaning_cmp meanings.new k ≡ contains meaning_cmp meanings.old k) }
+    ensures doubled { AreDoubled meanings.new doubled.new }
+{
+    let id = entry.id;
+    let meaning = (u64::from(id), entry.normal.clone()?);
+    doubled.insert(id)?;
+    let added = meanings.insert(meaning);
+    settle_doubled(alloc, meanings, doubled, id);
+    added?;
+    Ok(())
+}
+
+/// Takes an id and a normal text away unless some schema has both.
+pub(crate) fn settle_meaning(
+    alloc: Global,
+    meanings: &mut BTreeSet<Meaning>,
+    doubled: &mut BTreeSet<u32>,
+    schemas: &BTreeSet<Schema>,
+    normal: Text,
+    id: u32,
+)
+    requires { AreDoubled meanings.old doubled.old }
+    ensures settled { SettlesMeaning schemas.now (id, normal) meanings.old meanings.new }
+    ensures doubled { AreDoubled meanings.new doubled.new }
+{
+    let first = (normal, id, (Text::from(String::new(alloc)), 0));
+    if !is_meant(schemas, &first) {
+        let meaning = (u64::from(id), first.0);
+        forget_meaning(alloc, meanings, doubled, &meaning, id);
+    }
+}
+
+/// Takes the ids and the normal texts of a schema, and of another if there is one, away unless some
+/// schema has both.
+pub(crate) fn settle_both(
+    alloc: Global,
+    meanings: &mut BTreeSet<Meaning>,
+    doubled: &mut BTreeSet<u32>,
+    schemas: &BTreeSet<Schema>,
+    one: Schema,
+    other: Option<Schema>,
+)
+    requires { AreDoubled meanings.old doubled.old }
+    ensures settled { (k : Meaning) → (contains meaning_cmp meanings.new k ≡ true) ↔ ((contains meaning_cmp meanings.old k ≡ true) × (IsMeaningOf one other k → IsMeant schemas.now k)) }
+    ensures doubled { AreDoubled meanings.new doubled.new }
+{
+    let (normal, id, _) = one;
+    settle_meaning(alloc, meanings, doubled, schemas, normal, id);
+    if let Some((normal, id, _)) = other {
+        settle_meaning(alloc, meanings, doubled, schemas, normal, id);
+    }
+}
+
+/// Whether some schema has the normal text and the id of one, which has the least place.
+fn is_meant(schemas: &BTreeSet<Schema>, first: &Schema) -> bool
+    requires { first.now.2 ≡ ([], 0) }
+    ensures { (result ≡ true) ↔ IsMeant schemas.now (meaning_of first.now) }
+{
+    match schemas.range(first..).next() {
+        Some(found) => found.0 == first.0 && found.1 == first.1,
+        None => false,
+    }
+}
+
+/// Takes an id and a normal text away.
+fn forget_meaning(
+    alloc: Global,
+    meanings: &mut BTreeSet<Meaning>,
+    doubled: &mut BTreeSet<u32>,
+    meaning: &Meaning,
+    id: u32,
+)
+    requires id { meaning.now.0 ≡ id }
+    requires doubled { AreDoubled meanings.old doubled.old }
+    ensures gone { (k : Meaning) → contains meaning_cmp meanings.new k ≡ cond (eq_by_cmp meaning_cmp meaning.now k) false (contains meaning_cmp meanings.old k) }
+    ensures doubled { AreDoubled meanings.new doubled.new }
+{
+    meanings.remove(meaning);
+    settle_doubled(alloc, meanings, doubled, id);
+}
+
+/// Takes an id away from the doubled ones unless it has two texts.
+fn settle_doubled(alloc: Global, meanings: &BTreeSet<Meaning>, doubled: &mut BTreeSet<u32>, id: u32)
+    ensures { SettlesDoubled meanings.now id doubled.old doubled.new }
+{
+    if !has_two(alloc, meanings, id) {
+        doubled.remove(&id);
+    }
+}
+
+/// Whether an id has two texts.
+fn has_two(alloc: Global, meanings: &BTreeSet<Meaning>, id: u32) -> bool
+    ensures { (result ≡ true) ↔ HasTwo meanings.now id }
+{
+    let mut texts = texts_of(alloc, meanings, id);
+    let Some(_) = texts.next() else {
+        return false;
+    };
+    let Some(_) = texts.next() else {
+        return false;
+    };
+    true
+}
+
+/// The meanings of an id, in their order.
+fn texts_of<'a>(alloc: Global, meanings: &'a BTreeSet<Meaning>, id: u32) -> Range<'a, Meaning>
+    ensures texts { result ≡ keys_between meaning_cmp (Bound.Included (id, [])) (Bound.Excluded (id + 1, [])) meanings.now }
+    ensures ordered { tree_set.IsOrdered meaning_cmp meanings.now }
+{
+    let id = u64::from(id);
+    let first = first_meaning(alloc, id);
+    let above = first_meaning(alloc, id + 1);
+    meanings.range((Bound::Included(&first), Bound::Excluded(&above)))
+}
+
+/// The least meaning of an id.
+fn first_meaning(alloc: Global, id: u64) -> Meaning
+    ensures { result ≡ (id, []) }
+{
+    (id, Text::from(String::new(alloc)))
+}
