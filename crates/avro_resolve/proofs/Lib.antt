@@ -3,7 +3,8 @@ pub mod MatchLaws
 pub mod Rows
 pub mod Hops
 pub mod Named
-pub mod Marked
+pub mod Labelled
+pub mod Indexed
 pub mod Searching
 pub mod Sieving
 pub mod SeenLaws

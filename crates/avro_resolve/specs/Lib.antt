@@ -7,7 +7,8 @@ pub mod Verdict
 pub mod Follow
 pub mod Inward
 pub mod Row
-pub mod Marks
+pub mod Labels
+pub mod Unions
 pub mod Sieve
 pub mod Seen
 pub mod Search

@@ -6,8 +6,8 @@ mod fields;
 mod firsts;
 mod follow;
 mod grid;
+mod labels;
 mod laws;
-mod marks;
 mod matching;
 mod names;
 mod obligations;
@@ -17,6 +17,7 @@ mod seen;
 mod sieve;
 mod table;
 mod trail;
+mod unions;
 
 pub use fields::{first_lacking, partner};
 pub use laws::{obligations_are_compatible, schemas_have_one_verdict};

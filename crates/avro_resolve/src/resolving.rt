@@ -1,14 +1,14 @@
 // Whether two schemas resolve.
 ghost use Rattle.std.specs.Prelude.{◌≡◌, ◌≤◌, ◌*◌, [], length, IfOk};
 ghost use Rattle.avro_schema.specs.Sound.{IsSound};
-ghost use Rattle.avro_resolve.specs.Marks.{AreMade};
 ghost use Rattle.avro_resolve.specs.Search.{AgreesWith};
 ghost use Rattle.avro_resolve.specs.Sieve.{AreSieves};
+ghost use Rattle.avro_resolve.specs.Unions.{AreIndexes};
 
-use crate::marks::Marks;
 use crate::search::Search;
 use crate::sieve::Sieves;
 use crate::trail::Trail;
+use crate::unions::Unions;
 use avro_schema::Schema;
 use std::alloc::{AllocError, Global};
 
@@ -60,25 +60,25 @@ pub fn resolve_counted(alloc: Global, r: &Schema, w: &Schema) -> Result<Counted,
     ensures pairs { IfOk result (λ c. c.pairs ≤ length r.now.nodes * length w.now.nodes) }
 {
     let mut search = Search::none(alloc, r.node_count(), w.node_count())?;
-    let mut marks = Marks::none(Some(alloc));
+    let mut unions = Unions::none(alloc);
     let mut sieves = Sieves::none(alloc);
-    resolve_by(alloc, r, w, &mut search, &mut marks, &mut sieves)
+    resolve_by(alloc, r, w, &mut search, &mut unions, &mut sieves)
 }
 
 /// Resolves by a search that has reached no pair.
-fn resolve_by(
+fn resolve_by<'a>(
     alloc: Global,
-    r: &Schema,
-    w: &Schema,
+    r: &'a Schema,
+    w: &'a Schema,
     search: &mut Search,
-    marks: &mut Marks,
+    unions: &mut Unions<'a>,
     sieves: &mut Sieves,
 ) -> Result<Counted, AllocError>
     requires reader { IsSound r.now.nodes }
     requires writer { IsSound w.now.nodes }
     requires none { search.old.entries.items ≡ [] }
     requires agrees { AgreesWith search.old.seen [] }
-    requires made { AreMade r.now.nodes marks.old.made }
+    requires unions { AreIndexes r.now.nodes unions.old.of }
     requires sieves { AreSieves r.now.nodes sieves.old.of }
     ensures verdict { IfOk result (λ c. IsVerdict r.now.nodes w.now.nodes c.verdict) }
     ensures pairs { IfOk result (λ c. c.pairs ≤ length r.now.nodes * length w.now.nodes) }
@@ -87,8 +87,8 @@ fn resolve_by(
     let mut head = 0;
     'heads: while head < search.entries.len() {
         let pair = search.entries[head].pair;
-        if let Some(cause) = search.look_up(r, w, head, pair, marks, sieves)? {
-            let trail = search.trail_to(alloc, r, w, head, cause, sieves)?;
+        if let Some(cause) = search.look_up(r, w, head, pair, unions, sieves)? {
+            let trail = search.trail_to(alloc, r, w, head, cause, unions, sieves)?;
             return Ok(Counted {
                 verdict: Verdict::Clash(trail),
                 pairs: head + 1,

@@ -3,20 +3,20 @@ ghost use Rattle.std.specs.Prelude.{◌≡◌, ◌<◌, [], ◌∷◌, true, Non
 ghost use Rattle.std.specs.List.{enumerate_from};
 ghost use Rattle.std.specs.Result.{result_err, result_unwrap_or};
 ghost use Rattle.avro_resolve.specs.declared.trail.Hop.TheVariants as hop;
-ghost use Rattle.avro_resolve.specs.Marks.{AreMade};
 ghost use Rattle.avro_resolve.specs.Sieve.{AreFew, AreSieves, fields_in};
 ghost use Rattle.avro_resolve.specs.Table as spec;
 ghost use Rattle.avro_resolve.specs.Row.{clash_of_cause, outcome_of, HasDistinct};
 ghost use Rattle.avro_schema.specs.Sound.{HaveDistinctNames};
 ghost use Rattle.avro_resolve.specs.Trails.{roots};
+ghost use Rattle.avro_resolve.specs.Unions.{AreIndexes};
 
 use crate::fields::{paired_among, paired_at, partner, partner_near};
-use crate::marks::Marks;
 use crate::obligations::Pair;
 use crate::seen::Seen;
 use crate::sieve::{Sieves, few_fields, is_worth_while};
-use crate::table::{Cause, Row, are_matching_primitives, long_records, row_at, row_by_marks};
+use crate::table::{Cause, Row, are_matching_primitives, long_records, row_by_index};
 use crate::trail::{Hop, Trail};
+use crate::unions::Unions;
 use avro_schema::{Field, NodeId, Schema};
 use base_text::Listed;
 use named_list::NamedList;
@@ -92,18 +92,18 @@ impl Search {
         w: &'a Schema,
         place: usize,
         pair: Pair,
-        marks: &mut Marks,
+        unions: &mut Unions<'a>,
         sieves: &mut Sieves,
     ) -> Result<Option<Cause<'a>>, AllocError>
         requires reader { pair.reader.index < length r.now.nodes }
         requires writer { pair.writer.index < length w.now.nodes }
         requires agrees { AgreesWith self.old.seen self.old.entries.items }
-        requires made { AreMade r.now.nodes marks.old.made }
+        requires unions { AreIndexes r.now.nodes unions.old.of }
         requires sieves { AreSieves r.now.nodes sieves.old.of }
         ensures clash { IfOk result (λ cause. option_map clash_of_cause cause ≡ spec.clash_of r.now.nodes w.now.nodes pair) }
         ensures entries { OnOk result (self.new.entries.items ≡ expanded place 0 (spec.obligations r.now.nodes w.now.nodes pair) self.old.entries.items) }
         ensures agrees { IfOk result (λ cause. cause ≡ None → AgreesWith self.new.seen self.new.entries.items) }
-        ensures made { AreMade r.now.nodes marks.new.made }
+        ensures unions { OnOk result (AreIndexes r.now.nodes unions.new.of) }
         ensures sieves { OnOk result (AreSieves r.now.nodes sieves.new.of) }
     {
         if are_matching_primitives(r, w, pair) {
@@ -112,7 +112,8 @@ impl Search {
         if let Some((reader, writer)) = long_records(r, w, pair) {
             return self.reach_long(r, place, pair.reader, reader, writer, sieves);
         }
-        let row = row_by_marks(r, w, pair, marks);
+        unions.look_at(r, pair.reader)?;
+        let row = row_by_index(r, w, pair, unions.of_union(r, pair.reader));
         self.expand(place, row)
     }
 
@@ -269,37 +270,41 @@ impl Search {
     }
 
     /// The trail to the pair at a place, which clashes for this cause.
-    pub fn trail_to(
+    pub fn trail_to<'a>(
         &self,
         alloc: Global,
-        r: &Schema,
-        w: &Schema,
+        r: &'a Schema,
+        w: &'a Schema,
         place: usize,
-        cause: Cause<'_>,
+        cause: Cause<'a>,
+        unions: &Unions<'a>,
         sieves: &Sieves,
     ) -> Result<Trail, AllocError>
         requires within { place < vec_len self.now.entries }
         requires back { LeadsBack r.now.nodes w.now.nodes self.now.entries.items }
+        requires unions { AreIndexes r.now.nodes unions.now.of }
         requires sieves { AreSieves r.now.nodes sieves.now.of }
         ensures hops { IfOk result (λ trail. IsWayBack r.now.nodes w.now.nodes self.now.entries.items place (reverse trail.hops)) }
         ensures kind { IfOk result (λ trail. trail.kind ≡ clash_of_cause cause.entry) }
     {
         let kind = cause.kind()?;
-        let hops = self.hops_to(alloc, r, w, place, sieves)?;
+        let hops = self.hops_to(alloc, r, w, place, unions, sieves)?;
         Ok(Trail { hops, kind })
     }
 
     /// The hops from the roots to the pair at a place.
-    fn hops_to(
+    fn hops_to<'a>(
         &self,
         alloc: Global,
-        r: &Schema,
-        w: &Schema,
+        r: &'a Schema,
+        w: &'a Schema,
         place: usize,
+        unions: &Unions<'a>,
         sieves: &Sieves,
     ) -> Result<Listed<Hop>, AllocError>
         requires within { place < vec_len self.now.entries }
         requires back { LeadsBack r.now.nodes w.now.nodes self.now.entries.items }
+        requires unions { AreIndexes r.now.nodes unions.now.of }
         requires sieves { AreSieves r.now.nodes sieves.now.of }
         ensures { IfOk result (λ hops. IsWayBack r.now.nodes w.now.nodes self.now.entries.items place (reverse hops)) }
     {
@@ -307,7 +312,7 @@ impl Search {
         let mut at = place;
         'back: while let Some(step) = self.entries[at].from {
             let parent = self.entries[step.place].pair;
-            hops.push(hop_of(r, w, parent, step.number, sieves)?)?;
+            hops.push(hop_of(r, w, parent, step.number, unions, sieves)?)?;
             at = step.place;
         }
         hops.reverse();
@@ -326,22 +331,24 @@ fn reached(pair: Pair, place: usize, number: usize) -> Entry
 }
 
 /// The hop of a pair's obligation of that number.
-fn hop_of(
-    r: &Schema,
-    w: &Schema,
+fn hop_of<'a>(
+    r: &'a Schema,
+    w: &'a Schema,
     pair: Pair,
     number: usize,
+    unions: &Unions<'a>,
     sieves: &Sieves,
 ) -> Result<Hop, AllocError>
     requires reader { pair.reader.index < length r.now.nodes }
     requires writer { pair.writer.index < length w.now.nodes }
     requires numbered { number < length (spec.obligations r.now.nodes w.now.nodes pair) }
+    requires unions { AreIndexes r.now.nodes unions.now.of }
     requires sieves { AreSieves r.now.nodes sieves.now.of }
     ensures { IfOk result (λ h. option_map (λ o. o.hop) (slice_get (spec.obligations r.now.nodes w.now.nodes pair) number) ≡ Some h) }
 {
     match long_records(r, w, pair) {
         Some((reader, writer)) => long_hop(r, pair.reader, reader, writer, number, sieves),
-        None => short_hop(r, w, pair, number),
+        None => short_hop(r, w, pair, number, unions),
     }
 }
 
@@ -392,13 +399,20 @@ fn few_hop(
 }
 
 /// The same of any pair.
-fn short_hop(r: &Schema, w: &Schema, pair: Pair, number: usize) -> Result<Hop, AllocError>
+fn short_hop<'a>(
+    r: &'a Schema,
+    w: &'a Schema,
+    pair: Pair,
+    number: usize,
+    unions: &Unions<'a>,
+) -> Result<Hop, AllocError>
+    requires unions { AreIndexes r.now.nodes unions.now.of }
     requires reader { pair.reader.index < length r.now.nodes }
     requires writer { pair.writer.index < length w.now.nodes }
     requires numbered { number < length (spec.obligations r.now.nodes w.now.nodes pair) }
     ensures { IfOk result (λ h. option_map (λ o. o.hop) (slice_get (spec.obligations r.now.nodes w.now.nodes pair) number) ≡ Some h) }
 {
-    match row_at(r, w, pair) {
+    match row_by_index(r, w, pair, unions.of_union(r, pair.reader)) {
         Row::WriterBranches(_, _) => Ok(Hop::Writer(number)),
         Row::One(part, _) => Ok(part.hop()),
         Row::Fields(reader, writer) => field_hop(reader, writer, number),

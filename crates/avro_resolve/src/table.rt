@@ -1,21 +1,22 @@
 // The table: the row that a pair of types falls under, with what it takes from the schemas.
-ghost use Rattle.std.specs.Prelude.{◌≡◌, ◌<◌, ℕ, List, [], ◌∷◌, Option, IsTrue, true, is_some, All, length, map, not, find, slice_get, bytes_eq, option_copied, Ok, IfOk, IfSome};
+ghost use Rattle.std.specs.Prelude.{◌≡◌, ◌≢◌, ◌<◌, ℕ, List, [], ◌∷◌, Option, IsTrue, true, is_some, All, length, map, not, find, slice_get, bytes_eq, option_copied, Some, Ok, IfOk, IfSome};
 ghost use Rattle.std.specs.List.{enumerate_from};
 ghost use Rattle.avro_schema.specs.declared.node.Node.TheVariants as kind;
+ghost use Rattle.avro_schema.specs.declared.node.NodeId.{NodeId as SpecId};
 ghost use Rattle.avro_schema.specs.Names.{has_text};
-ghost use Rattle.avro_resolve.specs.Marks.{AreMade, branches_in};
 ghost use Rattle.avro_resolve.specs.Match as matching;
 ghost use Rattle.avro_resolve.specs.Sieve.{fields_in};
 ghost use Rattle.avro_resolve.specs.Table as spec;
+ghost use Rattle.avro_resolve.specs.Unions.{IsIndex, branches_in};
 ghost use Rattle.avro_schema.specs.Sound.{HaveDistinctNames, fields_of_node};
 ghost use Rattle.avro_resolve.specs.Row.{clash_of_cause, hop_into, outcome_of, HasDistinct};
 
-use crate::marks::{Marks, first_marked};
 use crate::matching::matches;
 use crate::names::{names_match, primitives_match};
 use crate::obligations::Pair;
 use crate::sieve::is_long;
 use crate::trail::{ClashKind, Hop};
+use crate::unions::{Branches, first_by_index};
 use avro_schema::{Field, FullName, Node, NodeId, Primitive, Schema};
 use base_text::Text;
 use named_list::NamedList;
@@ -145,18 +146,21 @@ pub fn row_at<'a>(r: &'a Schema, w: &'a Schema, pair: Pair) -> Row<'a>
     ensures row { outcome_of result ≡ spec.outcome r.now.nodes w.now.nodes pair }
     ensures distinct { HasDistinct result }
 {
-    let mut marks = Marks::none(None);
-    row_by_marks(r, w, pair, &mut marks)
+    row_by_index(r, w, pair, None)
 }
 
-/// The row of a pair, by marks of the branches of the reader's union, if it is one and they were made.
-pub fn row_by_marks<'a>(r: &'a Schema, w: &'a Schema, pair: Pair, marks: &mut Marks) -> Row<'a>
+/// The row of a pair, by an index of the branches of the reader's union, if it is one that has one.
+pub fn row_by_index<'a>(
+    r: &'a Schema,
+    w: &'a Schema,
+    pair: Pair,
+    index: Option<&Branches<'a>>,
+) -> Row<'a>
     requires reader { pair.reader.index < length r.now.nodes }
     requires writer { pair.writer.index < length w.now.nodes }
-    requires made { AreMade r.now.nodes marks.old.made }
+    requires index { IfSome index (λ x. IsIndex r.now.nodes (branches_in (slice_get r.now.nodes pair.reader.index)) x.now) }
     ensures row { outcome_of result ≡ spec.outcome r.now.nodes w.now.nodes pair }
     ensures distinct { HasDistinct result }
-    ensures made { AreMade r.now.nodes marks.new.made }
 {
     let writer = w.node(pair.writer);
     if let Node::Union(branches) = writer {
@@ -169,7 +173,7 @@ pub fn row_by_marks<'a>(r: &'a Schema, w: &'a Schema, pair: Pair, marks: &mut Ma
             branches.as_slice(),
             w,
             pair.writer,
-            marks,
+            index,
         ),
         reader => plain_row(reader, writer),
     }
@@ -311,24 +315,28 @@ fn primitive_row<'a>(reader: Primitive, writer: Primitive) -> Row<'a>
     }
 }
 
-/// The row of a reader's union: its first branch that matches.
+/// The row of a reader's union and a writer's type that is none: its first branch that matches.
 fn branch_row<'a>(
-    r: &Schema,
+    r: &'a Schema,
     i: NodeId,
     branches: &[NodeId],
-    w: &Schema,
+    w: &'a Schema,
     j: NodeId,
-    marks: &mut Marks,
+    index: Option<&Branches<'a>>,
 ) -> Row<'a>
     requires reader { All (λ b. b.index < length r.now.nodes) branches.now }
     requires writer { j.index < length w.now.nodes }
+    requires plain { (cs : List SpecId) → slice_get w.now.nodes j.index ≢ Some (kind.Union cs) }
     requires branches { branches.now ≡ branches_in (slice_get r.now.nodes i.index) }
-    requires made { AreMade r.now.nodes marks.old.made }
+    requires index { IfSome index (λ x. IsIndex r.now.nodes (branches_in (slice_get r.now.nodes i.index)) x.now) }
     ensures row { outcome_of result ≡ spec.to_reader_branch j (find (λ b. matching.matches r.now.nodes w.now.nodes b.1 j) (enumerate_from 0 branches.now)) }
     ensures distinct { HasDistinct result }
-    ensures made { AreMade r.now.nodes marks.new.made }
 {
-    match first_by_marks(r, i, branches, w, j, marks) {
+    let first = match index {
+        Some(index) => first_by_index(r, i, index, w, j),
+        None => first_matching_branch(r, branches, w, j),
+    };
+    match first {
         Some((k, b)) => Row::One(
             Part::Branch(k),
             Pair {
@@ -337,32 +345,6 @@ fn branch_row<'a>(
             },
         ),
         None => Row::Clash(Cause::MissingUnionBranch),
-    }
-}
-
-/// The first branch that matches, by the branches' marks where the writer's type has a name.
-fn first_by_marks(
-    r: &Schema,
-    i: NodeId,
-    branches: &[NodeId],
-    w: &Schema,
-    j: NodeId,
-    marks: &mut Marks,
-) -> Option<(usize, NodeId)>
-    requires reader { All (λ b. b.index < length r.now.nodes) branches.now }
-    requires writer { j.index < length w.now.nodes }
-    requires branches { branches.now ≡ branches_in (slice_get r.now.nodes i.index) }
-    requires made { AreMade r.now.nodes marks.old.made }
-    ensures first { result ≡ find (λ b. matching.matches r.now.nodes w.now.nodes b.1 j) (enumerate_from 0 branches.now) }
-    ensures made { AreMade r.now.nodes marks.new.made }
-{
-    let Some(name) = w.name_of(j) else {
-        return first_matching_branch(r, branches, w, j);
-    };
-    marks.look_at(r, i, branches);
-    match marks.of_branches(r, i) {
-        Some(of_branches) => first_marked(r, branches, of_branches, w, j, name),
-        None => first_matching_branch(r, branches, w, j),
     }
 }
 

@@ -1,6 +1,7 @@
 // Pairs of schemas, each with the verdict that the resolution table gives.
 mod plain;
 mod random;
+mod unions;
 
 use avro_resolve::{ClashKind, Hop, Trail, Verdict, matches, resolve, resolve_counted};
 use avro_schema::{NodeId, Schema};
@@ -607,6 +608,33 @@ fn resolves_long_records_as_the_plain_search(rt: HostRuntime) {
         for pair in 0..*pairs {
             let is_alike = long_alike(rt.alloc(), &mut random, *many, *fields);
             assert!(rt; is_alike == Ok(true), "pair {pair} of {fields} fields");
+        }
+    }
+}
+
+/// What the searches say of two random records of unions of so many types.
+fn unions_verdict(alloc: Global, random: &mut Random, many: usize) -> Result<String, AllocError> {
+    let writer = random.unions(alloc, "w", many)?;
+    let reader = random.unions(alloc, "r", many)?;
+    agreed_verdict(alloc, reader.as_str(), writer.as_str())
+}
+
+/// Whether both searches say the same of such a pair, which are schemas.
+fn unions_alike(alloc: Global, random: &mut Random, many: usize) -> Result<bool, AllocError> {
+    let found = unions_verdict(alloc, random, many)?;
+    Ok(!found.as_str().starts_with(DIFFER) && found.as_str() != NO_SCHEMA)
+}
+
+/// How many pairs are tried of unions of how many types.
+static UNION_SIZES: [(usize, usize); 4] = [(20, 5), (8, 17), (3, 41), (1, 90)];
+
+#[test]
+fn resolves_unions_as_the_plain_search(rt: HostRuntime) {
+    let mut random = Random::new(47);
+    for (pairs, many) in &UNION_SIZES {
+        for pair in 0..*pairs {
+            let is_alike = unions_alike(rt.alloc(), &mut random, *many);
+            assert!(rt; is_alike == Ok(true), "pair {pair} of {many} types");
         }
     }
 }

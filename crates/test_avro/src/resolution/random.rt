@@ -49,7 +49,7 @@ impl Random {
     }
 
     /// A number below that.
-    fn below(&mut self, many: usize) -> usize
+    pub fn below(&mut self, many: usize) -> usize
         requires { 0 < many }
     {
         self.state = self
@@ -60,7 +60,7 @@ impl Random {
     }
 
     /// One of the texts.
-    fn one_of(&mut self, texts: &[&'static str]) -> &'static str {
+    pub fn one_of(&mut self, texts: &[&'static str]) -> &'static str {
         let k = self.below(texts.len().max(1));
         match texts.get(k) {
             Some(text) => text,

@@ -10,7 +10,7 @@ use Rattle.avro_resolve.proofs.resolving.resolve_by.Goals as goal
 
 pub heads-init : goal.heads-init
 heads-init c =
-    (c.in_ok-reach_roots.ensures.agrees, searched_first c.args.r.now.nodes c.args.w.now.nodes c.requires.reader c.requires.writer c.reach_roots.new.self.entries.items c.in_ok-reach_roots.ensures.first, omega arith, c.requires.made, c.requires.sieves)
+    (c.in_ok-reach_roots.ensures.agrees, searched_first c.args.r.now.nodes c.args.w.now.nodes c.requires.reader c.requires.writer c.reach_roots.new.self.entries.items c.in_ok-reach_roots.ensures.first, omega arith, c.requires.unions, c.requires.sieves)
 
 pub look_up-requires-clause-reader : goal.look_up-requires-clause-reader
 look_up-requires-clause-reader c =
@@ -54,7 +54,7 @@ heads-preserved c =
     let owed = obligations c.args.r.now.nodes c.args.w.now.nodes c.index.result.now.pair in
     let next = searched_next _ _ _ _ c.heads.invariant.1 c.requires.reader c.requires.writer c.index.result.now owed at (owes_when (outcome c.args.r.now.nodes c.args.w.now.nodes c.index.result.now.pair) (ap (option_map clash_of_cause) (sym c.in_default.is) ∙ c.in_ok-cause.ensures.clash)) in
     let entries = c.in_ok-cause.ensures.entries in
-    (c.in_ok-cause.ensures.agrees c.in_default.is, rw entries next, omega (arith, c.heads-test.true, c.len.ensures, c.heads.search.entries.ok.0, c.look_up.new.self.entries.ok.0, ap length entries, length-expanded c.heads.head 0 owed c.heads.search.entries.items), c.look_up.ensures.made, c.in_ok-cause.ensures.sieves)
+    (c.in_ok-cause.ensures.agrees c.in_default.is, rw entries next, omega (arith, c.heads-test.true, c.len.ensures, c.heads.search.entries.ok.0, c.look_up.new.self.entries.ok.0, ap length entries, length-expanded c.heads.head 0 owed c.heads.search.entries.items), c.in_ok-cause.ensures.unions, c.in_ok-cause.ensures.sieves)
 
 pub returns-clause-verdict : goal.returns-clause-verdict
 returns-clause-verdict c =

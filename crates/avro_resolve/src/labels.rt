@@ -1,0 +1,82 @@
+// Labels of named types, by which the types that match a name are found.
+ghost use Rattle.std.specs.Prelude.{◌≡◌, None, Some, option_copied, option_map};
+ghost use Rattle.avro_resolve.specs.Labels as spec;
+
+use avro_schema::{FullName, Node};
+use base_text::Text;
+
+/// What two types have in common whose names are compared: their kind, and of fixed types the size.
+#[derive(Clone, Copy, PartialEq, Eq, PartialOrd, Ord, Drop)]
+pub enum Shape {
+    Record,
+    Enum,
+    Fixed(u32),
+}
+
+/// What a type is found by: the last part of its name, or with a namespace one of its aliases.
+#[derive(Clone, Copy, PartialEq, Eq, PartialOrd, Ord, Drop)]
+pub struct Label<'a> {
+    pub shape: Shape,
+    pub name: &'a Text,
+    pub namespace: Option<&'a Text>,
+}
+
+/// The head of a type that has a name.
+#[derive(Clone, Copy, Drop)]
+pub struct Heading<'a> {
+    pub shape: Shape,
+    pub name: &'a FullName,
+    pub aliases: &'a [FullName],
+}
+
+/// The label of the last part of a name.
+pub fn last_label(shape: Shape, name: &FullName) -> Label<'_>
+    ensures shape { result.shape ≡ shape }
+    ensures name { result.name.now ≡ name.now.name }
+    ensures namespace { result.namespace ≡ None }
+{
+    Label {
+        shape,
+        name: &name.name,
+        namespace: None,
+    }
+}
+
+/// The label of a full name.
+pub fn full_label(shape: Shape, name: &FullName) -> Label<'_>
+    ensures shape { result.shape ≡ shape }
+    ensures name { result.name.now ≡ name.now.name }
+    ensures namespace { option_copied result.namespace ≡ Some name.now.namespace }
+{
+    Label {
+        shape,
+        name: &name.name,
+        namespace: Some(&name.namespace),
+    }
+}
+
+/// The head of a type, if it has a name.
+pub fn head_of(node: &Node) -> Option<Heading<'_>>
+    ensures { option_map spec.read_heading result ≡ spec.heading_of (Some node.now) }
+{
+    match node {
+        Node::Record { name, aliases, .. } => { headed(Shape::Record, name, aliases.as_slice()) }
+        Node::Enum { name, aliases, .. } => headed(Shape::Enum, name, aliases.as_slice()),
+        Node::Fixed {
+            name,
+            aliases,
+            size,
+        } => headed(Shape::Fixed(*size), name, aliases.as_slice()),
+        _ => None,
+    }
+}
+
+fn headed<'a>(shape: Shape, name: &'a FullName, aliases: &'a [FullName]) -> Option<Heading<'a>>
+    ensures { option_map spec.read_heading result ≡ Some (shape, name.now, aliases.now) }
+{
+    Some(Heading {
+        shape,
+        name,
+        aliases,
+    })
+}
