@@ -125,7 +125,7 @@ pub(crate) fn obstacles_in(
     requires ids { ids.now.keys ≡ ids_of (entries last.now) }
     ensures { IfOk result (λ found. found.items ≡ obstacles last.now next) }
 {
-    let mut found = opaques_in(alloc, last.records())?;
+    let mut found = opaques_in(alloc, &last.records()?)?;
     push_ids(&mut found, &shared_ids(alloc, registry, ids)?)?;
     if has_no_place(registry, next) {
         found.push(Obstacle::NumbersUsedUp)?;

@@ -137,7 +137,7 @@ drops_leave_compactions R D = (
 )
 
 -- what holds of each of a list, from what holds of each that is among it
-all_from : (p : Record → Bool) (xs : List Record) → ((q : Record) → list_any (eq_by_cmp record_cmp q) xs ≡ true → p q ≡ true) → list_all p xs ≡ true
+pub all_from : (p : Record → Bool) (xs : List Record) → ((q : Record) → list_any (eq_by_cmp record_cmp q) xs ≡ true → p q ≡ true) → list_all p xs ≡ true
 all_from p [] each = refl
 all_from p (x ∷ xs) each =
     both (each x (ap (λ o. is_eq o || list_any (eq_by_cmp record_cmp x) xs) (tied_itself record_cmp-total x))) (all_from p xs (λ q h. each q (among (eq_by_cmp record_cmp q x) _ h)))

@@ -54,7 +54,7 @@ none_of_later r q (x ∷ xs) e h =
     let apart = ap is_eq (record_cmp-total.congr q r x e ∙ less _ (first_of _ _ h)) in
     ap (λ b. b || list_any (eq_by_cmp record_cmp q) xs) apart ∙ none_of_later r q xs e (second_of _ _ h)
 
-all_placed : (p : Record → Bool) (r : Record) (qs : List Record) → p r ≡ true → list_all p qs ≡ true → list_all p (placed r qs) ≡ true
+pub all_placed : (p : Record → Bool) (r : Record) (qs : List Record) → p r ≡ true → list_all p qs ≡ true → list_all p (placed r qs) ≡ true
 all_placed p r [] one all = both one refl
 all_placed p r (q ∷ qs) one all =
     elim (record_cmp r q) as (λ o. list_all p (match_ordering o (r ∷ q ∷ qs) (q ∷ qs) (q ∷ placed r qs)) ≡ true) [
@@ -63,7 +63,7 @@ all_placed p r (q ∷ qs) one all =
       | Greater ↦ both (first_of _ _ all) (all_placed p r qs one (second_of _ _ all))
     ]
 
-is_in_order-placed : (r : Record) (qs : List Record) → is_in_order qs ≡ true → is_in_order (placed r qs) ≡ true
+pub is_in_order-placed : (r : Record) (qs : List Record) → is_in_order qs ≡ true → is_in_order (placed r qs) ≡ true
 is_in_order-placed r [] h = refl
 is_in_order-placed r (q ∷ qs) h =
     elim (record_cmp r q) as (λ o. record_cmp r q ≡ o → is_in_order (match_ordering o (r ∷ q ∷ qs) (q ∷ qs) (q ∷ placed r qs)) ≡ true) [
@@ -76,7 +76,7 @@ pub is_in_order-in_order : (rs : List Record) → is_in_order (in_order rs) ≡ 
 is_in_order-in_order [] = refl
 is_in_order-in_order (r ∷ rs) = is_in_order-placed r (in_order rs) (is_in_order-in_order rs)
 
-any_placed : (p : Record → Bool) (r : Record) (qs : List Record) → ((x : Record) → record_cmp r x ≡ Equal → p x ≡ p r) → list_any p (placed r qs) ≡ (p r || list_any p qs)
+pub any_placed : (p : Record → Bool) (r : Record) (qs : List Record) → ((x : Record) → record_cmp r x ≡ Equal → p x ≡ p r) → list_any p (placed r qs) ≡ (p r || list_any p qs)
 any_placed p r [] alike = refl
 any_placed p r (q ∷ qs) alike =
     elim (record_cmp r q) as (λ o. record_cmp r q ≡ o → list_any p (match_ordering o (r ∷ q ∷ qs) (q ∷ qs) (q ∷ placed r qs)) ≡ (p r || (p q || list_any p qs))) [
@@ -89,10 +89,10 @@ pub any_in_order : (p : Record → Bool) → ((r x : Record) → record_cmp r x 
 any_in_order p alike [] = refl
 any_in_order p alike (r ∷ rs) = any_placed p r (in_order rs) (alike r) ∙ ap (λ b. p r || b) (any_in_order p alike rs)
 
-ties_alike : (q r x : Record) → record_cmp r x ≡ Equal → eq_by_cmp record_cmp q x ≡ eq_by_cmp record_cmp q r
+pub ties_alike : (q r x : Record) → record_cmp r x ≡ Equal → eq_by_cmp record_cmp q x ≡ eq_by_cmp record_cmp q r
 ties_alike q r x e = ap is_eq (sym (alike_right record_cmp-total r x q e))
 
-itself : (r : Record) → eq_by_cmp record_cmp r r ≡ true
+pub itself : (r : Record) → eq_by_cmp record_cmp r r ≡ true
 itself r = ap is_eq (tied_itself record_cmp-total r)
 
 -- the records of a set are its members

@@ -1,9 +1,9 @@
 -- The last records, beside the records in order.
-use Rattle.std.proofs.Common.{◌≡◌, Bool, true, false, cond, ◌&&◌, ⊎_elim, List, [], ◌∷◌, Option, Some, None, refl, sym, ap, ◌∙◌, rules}
+use Rattle.std.proofs.Common.{◌≡◌, Bool, true, false, cond, ◌&&◌, ⊎_elim, List, [], ◌∷◌, ◌++◌, Option, Some, None, refl, sym, ap, ◌∙◌, rules}
 use Rattle.std.proofs.lemmas.Bool.{false≢true}
 use Rattle.std.proofs.lemmas.Cmp.{tied_itself}
 use Rattle.std.specs.FinSet.{contains, empty, from_list, insert, contains-empty, contains-from_list, same_set}
-use Rattle.std.specs.List.{filter, list_all, AllZip}
+use Rattle.std.specs.List.{AppendsClones, filter, list_all, AllZip}
 use Rattle.std.specs.Option.{option_map_or}
 use Rattle.std.specs.Ordering.{is_eq, is_le, is_lt}
 use Rattle.reg_records.specs.contracts.key.KeyClone.TheImpl as key_clone
@@ -81,6 +81,10 @@ listed D d [] [] h = refl
 listed D d [] (y ∷ ys) h = absurd h
 listed D d (x ∷ xs) [] h = absurd h
 listed D d (x ∷ xs) (y ∷ ys) h = λ i. d x y h.0 i ∷ listed D d xs ys h.1 i
+
+-- copies put after records are the records put after them
+pub copies_after : (old new more : List Record) → AppendsClones (record_clone.ghosts).is_clone old new more → new ≡ old ++ more
+copies_after old new more h = h.1 ∙ ap (λ l. old ++ l) (listed (record_clone.ghosts).is_clone record_copy more h.0 h.2)
 
 all-filter : (p t : Record → Bool) (xs : List Record) → list_all p xs ≡ true → list_all p (filter t xs) ≡ true
 all-filter p t [] h = refl

@@ -1,9 +1,13 @@
+mod Alone
 mod ByKey
 mod Compactions
+mod Distinct
 mod Equality
 mod InOrder
 mod Indexed
+mod Joined
 mod Lasts
+mod Listed
 mod OneEach
 mod Orders
 mod Places

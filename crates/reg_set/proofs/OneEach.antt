@@ -87,6 +87,19 @@ module _ (S : Records) (r : Record) where
         | false ↦ λ e. last-other S r key e
       ] refl
 
+  -- the last record of the key changes exactly where the record is later than it
+  pub news-differ : is_new (last S r.key) r ≡ true → last (insert S r) r.key ≡ last S r.key → ⊥
+  news-differ h e =
+      let there : last S r.key ≡ Some r = sym e ∙ last-fresh S r (new-not_later (last S r.key) r h) in
+      false≢true (sym (ap is_lt (tied_itself age_cmp-total r)) ∙ ap (λ o. is_new o r) (sym there) ∙ h)
+
+  pub news-from_differing : (last (insert S r) r.key ≡ last S r.key → ⊥) → is_new (last S r.key) r ≡ true
+  news-from_differing differs =
+      elim (is_new (last S r.key) r) as (λ b. is_new (last S r.key) r ≡ b → b ≡ true) [
+        | true ↦ λ _. refl
+        | false ↦ λ e. absurd (differs (last-old e r.key))
+      ] refl
+
   pub new-changes : is_new (last S r.key) r ≡ true → last_records (insert S r) ≡ S → ⊥
   new-changes h e =
       let there : last S r.key ≡ Some r = ap (λ s. last s r.key) (sym e) ∙ last_of_last_records (insert S r) r.key ∙ last-fresh S r (new-not_later (last S r.key) r h) in

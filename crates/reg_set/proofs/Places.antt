@@ -4,17 +4,16 @@ use Rattle.std.proofs.lemmas.Bool.{false≢true}
 use Rattle.std.proofs.lemmas.Cmp.{tied_itself}
 use Rattle.std.proofs.lemmas.List.{take-append-drop, drop_more}
 use Rattle.std.proofs.lemmas.List.Folds.{list_any-append}
-use Rattle.std.specs.FinSet as set
-use Rattle.std.specs.FinSet.{from_list, contains-from_list, contains-insert, same_set}
 use Rattle.std.specs.List.{list_any, list_all, insert}
 use Rattle.std.specs.Ordering.{eq_by_cmp, is_eq, is_lt}
 use Rattle.std.specs.declared.cmp.Ordering.{Ordering}
 use Rattle.std.specs.declared.cmp.Ordering.TheVariants.{Less, Equal, Greater}
 use Rattle.reg_records.specs.declared.record.Record.{Record}
 use Rattle.reg_set.specs.RecordOrder.{record_cmp}
-use Rattle.reg_set.specs.Records.{is_in_order}
+use Rattle.reg_set.specs.Records.{is_in_order, placed}
 use Rattle.reg_set.proofs.Orders.{record_cmp-total, record_cmp-ties}
-use Rattle.reg_set.proofs.InOrder.{both, first_of, second_of, less, turned, before_all, none_of_later}
+use Rattle.reg_set.proofs.InOrder.{both, first_of, second_of, less, turned, before_all, none_of_later, any_placed, is_in_order-placed, one_order, ties_alike}
+use Rattle.reg_set.proofs.Lasts.{at_any, equal}
 
 neither_left : (a b : Bool) → (a || b) ≡ false → a ≡ false
 neither_left true b e = absurd (false≢true (sym e))
@@ -120,12 +119,32 @@ module _ (r : Record) (rs : List Record) (n : ℕ) where
   insert_in_order ordered before not_before apart =
       between_in_order (take n rs) (drop n rs) r (ap is_in_order parted ∙ ordered) before (all_after r (drop n rs) (rest_in_order ordered) not_before (sym (any_from_place before) ∙ apart))
 
-  pub from_list-insert : from_list {R = record_cmp} (insert rs n r) ≡ set.insert (from_list rs) r
-  from_list-insert =
-      same_set record_cmp-total record_cmp-ties _ _ (λ q.
-      contains-from_list record_cmp-total (insert rs n r) q ∙ any_between (is_same q) (take n rs) (drop n rs) r
-      ∙ ap (λ b. is_same q r || b) (ap (list_any (is_same q)) parted ∙ sym (contains-from_list record_cmp-total rs q))
-      ∙ sym (contains-insert record_cmp-total (from_list rs) r q))
+  -- inserted at its place, it is placed
+  pub insert-placed : is_in_order rs ≡ true → list_all (is_before r) (take n rs) ≡ true → list_any (is_before r) (drop n rs) ≡ false → list_any (is_same r) rs ≡ false → insert rs n r ≡ placed r rs
+  insert-placed ordered before not_before apart =
+      one_order (insert rs n r) (placed r rs) (insert_in_order ordered before not_before apart) (is_in_order-placed r rs ordered) (λ q.
+      any_between (is_same q) (take n rs) (drop n rs) r ∙ ap (λ b. is_same q r || b) (ap (list_any (is_same q)) parted)
+      ∙ sym (any_placed (is_same q) r rs (ties_alike q r)))
+
+  -- one that is among them stays where it is
+  pub placed-there : is_in_order rs ≡ true → list_any (is_same r) rs ≡ true → placed r rs ≡ rs
+  placed-there ordered there =
+      one_order (placed r rs) rs (is_in_order-placed r rs ordered) ordered (λ q.
+      any_placed (is_same q) r rs (ties_alike q r)
+      ∙ elim (is_same q r) as (λ b. is_same q r ≡ b → (b || list_any (is_same q) rs) ≡ list_any (is_same q) rs) [
+        | true ↦ λ e. sym (ap (λ x. list_any (is_same x) rs) (record_cmp-ties q r (equal _ e)) ∙ there)
+        | false ↦ λ _. refl
+      ] refl)
+
+-- where all stand before r, so do those from a place on
+pub some_from : (p : Record → Bool) (xs : List Record) (n : ℕ) → list_all p xs ≡ true → n < length xs → list_any p (drop n xs) ≡ true
+some_from p [] n all h = absurd (omega arith)
+some_from p (x ∷ xs) zero all h = ap (λ b. b || list_any p xs) (first_of (p x) _ all)
+some_from p (x ∷ xs) (suc n) all h = some_from p xs n (second_of (p x) _ all) (omega arith)
+
+-- a record among them does not stand before itself
+pub not_all_before : (r : Record) (rs : List Record) → list_any (is_same r) rs ≡ true → list_all (is_before r) rs ≡ true → ⊥
+not_all_before r rs there all = false≢true (ap is_lt (sym (tied_itself record_cmp-total r)) ∙ at_any (is_before r) r rs all there)
 
 -- what does not stand before r has none that does after it
 none_after : (r x : Record) (xs : List Record) → list_all (λ q. is_lt (record_cmp x q)) xs ≡ true → is_before r x ≡ false → list_any (is_before r) xs ≡ false

@@ -27,15 +27,15 @@ same_answers false false f g = refl
 pub one_set : (R S : Records) → ((q : Record) → contains R q ≡ true → contains S q ≡ true) → ((q : Record) → contains S q ≡ true → contains R q ≡ true) → R ≡ S
 one_set R S f g = same_set record_cmp-total record_cmp-ties R S (λ q. same_answers (contains R q) (contains S q) (f q) (g q))
 
-or_left : (a b : Bool) → a ≡ true → (a || b) ≡ true
+pub or_left : (a b : Bool) → a ≡ true → (a || b) ≡ true
 or_left true b h = refl
 or_left false b h = absurd (false≢true h)
 
-or_right : (a b : Bool) → b ≡ true → (a || b) ≡ true
+pub or_right : (a b : Bool) → b ≡ true → (a || b) ≡ true
 or_right true b h = refl
 or_right false b h = h
 
-either : (a b : Bool) → (a || b) ≡ true → (a ≡ true) ⊎ (b ≡ true)
+pub either : (a b : Bool) → (a || b) ≡ true → (a ≡ true) ⊎ (b ≡ true)
 either true b h = inl refl
 either false b h = inr h
 

@@ -1,3 +1,4 @@
+pub mod ByKey
 pub mod Compaction
 pub mod Index
 pub mod Join

@@ -63,7 +63,7 @@ impl LastRecords {
     pub fn of(set: &RecordSet) -> Result<LastRecords, AllocError>
         ensures { IfOk result (λ found. found ≡ last_records set.now) }
     {
-        set.lasts().clone()
+        set.lasts()
     }
 
     /// The last record of the key.

@@ -1,9 +1,10 @@
 //! The set of the records that a node has taken, and the last record of each key in it.
 #![tactic(auto)]
 
-mod index;
+mod by_key;
 mod last_records;
 mod laws;
+mod of_one_key;
 mod order;
 mod record_set;
 mod turns;

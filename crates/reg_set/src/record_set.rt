@@ -9,12 +9,15 @@ ghost use Rattle.reg_set.specs.Join.{later};
 ghost use Rattle.reg_set.specs.LastRecords.{last, last_records};
 ghost use Rattle.reg_set.specs.Records.{records_of, is_in_order};
 
-use crate::index::{keep_lasts, put};
+use crate::by_key::{
+    add_all, are_all_in, copy_all, has_lasts_of_keys, lasts_of, leave_lasts, take_in,
+};
 use crate::last_records::LastRecords;
-use crate::order::{count_before, is_among, stands_at};
-use crate::turns::{of_both, put_in_turn};
+use crate::order::is_among;
+use crate::turns::{put_in_order, put_in_turn};
 use reg_records::{Key, Record};
 use std::alloc::{AllocError, Global};
+use std::collections::BTreeMap;
 use std::marker::Model;
 
 /// What taking a record did to a set.
@@ -34,25 +37,24 @@ pub enum Taken {
 /// The greatest is the last record of the key; a last record without a value deletes the key.
 #[derive(Debug, Drop)]
 pub struct RecordSet {
-    // In order: by offset, then by key, then by value. None stands twice.
-    records: Vec<Record>,
-    // The last ones of those.
-    lasts: LastRecords,
+    alloc: Global,
+    // Those of each key, in order: by offset, then by value. None stands twice.
+    by_key: BTreeMap<Key, Vec<Record>>,
 }
 
 impl Model for RecordSet {
     ghost use Rattle.std.specs.FinSet as set;
     ghost use Rattle.reg_records.specs.contracts.record.Record as stored;
-    ghost use Rattle.reg_set.specs.Index.{IsIndexed};
+    ghost use Rattle.reg_set.specs.ByKey.{AreByKey, set_of};
     ghost use Rattle.reg_set.specs.Records.{Records};
 
     ghost Value = { Records };
 
     ghost coded = { set.code (stored.the_row).coded };
 
-    ghost view = { λ s. set.from_list s.records.items };
+    ghost view = { λ s. set_of s.by_key };
 
-    ghost invariant = { λ s. IsIndexed s.records.items s.lasts };
+    ghost invariant = { λ s. AreByKey s.by_key };
 }
 
 impl Clone for RecordSet {
@@ -60,8 +62,8 @@ impl Clone for RecordSet {
 
     fn clone(&self) -> Result<RecordSet, AllocError> {
         Ok(RecordSet {
-            records: self.records.clone()?,
-            lasts: self.lasts.clone()?,
+            alloc: self.alloc,
+            by_key: self.by_key.clone()?,
         })
     }
 }
@@ -73,8 +75,8 @@ impl RecordSet {
         ensures no_records { records_of result ≡ [] }
     {
         RecordSet {
-            records: Vec::new(alloc),
-            lasts: LastRecords::new(alloc),
+            alloc,
+            by_key: BTreeMap::new(alloc),
         }
     }
 
@@ -96,48 +98,49 @@ impl RecordSet {
             (taken ≡ Taken.Repeat) ↔ IsTrue (set.contains self.old given.now)) }
         ensures refused { OnErr result (self.new ≡ self.old) }
     {
-        let records: &[Record] = &self.records;
-        let place = count_before(records, given);
-        if stands_at(records, place, given) {
-            return Ok(Taken::Repeat);
-        }
-        if !self.lasts.is_news(given) {
-            self.records.insert(place, given.clone()?)?;
-            return Ok(Taken::Older);
-        }
-        put(&mut self.records, &mut self.lasts, place, given)?;
-        Ok(Taken::Fresh)
+        let taken = take_in(self.alloc, &mut self.by_key, given)?;
+        Ok(taken)
     }
 
     /// The last record of the key: the greatest of its records.
     pub fn last(&self, key: &Key) -> Option<&Record>
         ensures { option_map (λ found. found.now) result ≡ last self.now key.now }
     {
-        self.lasts.last(key)
+        match self.by_key.get(key) {
+            Some(records) => records.last(),
+            None => None,
+        }
     }
 
-    /// The last record of each key.
-    pub(crate) fn lasts(&self) -> &LastRecords
-        ensures { result.now ≡ last_records self.now }
+    /// The last record of each key. The only error is want of memory.
+    pub(crate) fn lasts(&self) -> Result<LastRecords, AllocError>
+        ensures { IfOk result (λ lasts. lasts ≡ last_records self.now) }
     {
-        &self.lasts
+        let found = lasts_of(self.alloc, &self.by_key)?;
+        Ok(found)
     }
 
-    /// The records, by offset, then by key, then no value before a text, then by the text's bytes.
-    /// Keys are ordered by kind, then by subject, by its bytes, and then by version.
-    pub fn records(&self) -> &[Record]
-        ensures all { result.now ≡ records_of self.now }
-        ensures in_order { IsTrue (is_in_order result.now) }
-        ensures members { self.now ≡ set.from_list result.now }
+    /// Copies of the records, by offset, then by key, then no value before a text, then by the text's
+    /// bytes. Keys are ordered by kind, then by subject, by its bytes, and then by version. The only
+    /// error is want of memory.
+    pub fn records(&self) -> Result<Vec<Record>, AllocError>
+        ensures all { IfOk result (λ found. found.items ≡ records_of self.now) }
+        ensures in_order { IfOk result (λ found. IsTrue (is_in_order found.items)) }
+        ensures members { IfOk result (λ found. self.now ≡ set.from_list found.items) }
     {
-        self.records.as_slice()
+        let mut found = copy_all(self.alloc, &self.by_key)?;
+        put_in_order(&mut found);
+        Ok(found)
     }
 
     /// Whether the record is in the set.
     pub fn contains(&self, given: &Record) -> bool
         ensures { result ≡ set.contains self.now given.now }
     {
-        is_among(&self.records, given)
+        match self.by_key.get(&given.key) {
+            Some(records) => is_among(records, given),
+            None => false,
+        }
     }
 
     /// Adds the records of the other set. The only error is want of memory; the set is then as it
@@ -148,9 +151,9 @@ impl RecordSet {
             ((key : Key) → last self.new key ≡ later (last self.old key) (last other.now key)) }
         ensures refused { OnErr result (self.new ≡ self.old) }
     {
-        let alloc = *self.records.allocator();
-        let both = of_both(alloc, self.records(), other.records())?;
-        *self = set_of(alloc, both)?;
+        let mut both = self.clone()?;
+        add_all(&mut both, &other.by_key)?;
+        *self = both;
         Ok(())
     }
 
@@ -160,7 +163,7 @@ impl RecordSet {
         ensures lasts { (key : Key) → last self.new key ≡ last self.old key }
         ensures compaction { IsCompactionOf self.new self.old }
     {
-        keep_lasts(&mut self.records, &self.lasts);
+        leave_lasts(&mut self.by_key);
     }
 }
 
@@ -188,20 +191,18 @@ pub fn is_compaction_of(compaction: &RecordSet, whole: &RecordSet) -> bool
 fn is_part_of(part: &RecordSet, whole: &RecordSet) -> bool
     ensures { result ≡ list_all (set.contains whole.now) (records_of part.now) }
 {
-    part.records().iter().all(|record| whole.contains(record))
+    are_all_in(&part.by_key, whole)
 }
 
 fn has_lasts_of(part: &RecordSet, whole: &RecordSet) -> bool
     ensures { result ≡ list_all (λ r. option_map_or (set.contains part.now) (last whole.now r.key) true)
         (records_of whole.now) }
 {
-    whole
-        .records()
-        .iter()
-        .all(|record| has_last_of(part, whole, &record.key))
+    has_lasts_of_keys(&whole.by_key, part, whole)
 }
 
-fn has_last_of(part: &RecordSet, whole: &RecordSet, key: &Key) -> bool
+/// Whether the part has the last record of the key in the whole set, if there is one.
+pub(crate) fn has_last_of(part: &RecordSet, whole: &RecordSet, key: &Key) -> bool
     ensures { result ≡ option_map_or (set.contains part.now) (last whole.now key.now) true }
 {
     match whole.last(key) {

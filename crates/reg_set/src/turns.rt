@@ -1,23 +1,24 @@
-// Records in the order in which a set is best made of them.
-ghost use Rattle.std.specs.Prelude.{◌≡◌, ◌++◌, IfOk, map};
+// Records in the order of a set.
+ghost use Rattle.std.specs.Prelude.{IsTrue};
+ghost use Rattle.std.specs.List.{IsDistinct};
 ghost use Rattle.std.specs.List.Sorted.{IsPermutation};
+ghost use Rattle.std.specs.Ordering.{eq_by_cmp};
+ghost use Rattle.reg_set.specs.RecordOrder.{record_cmp};
+ghost use Rattle.reg_set.specs.Records.{is_in_order};
 
 use crate::order::compare;
 use reg_records::Record;
-use std::alloc::{AllocError, Global};
 
-/// The records of two lists.
-pub(crate) fn of_both<'a>(
-    alloc: Global,
-    one: &'a [Record],
-    other: &'a [Record],
-) -> Result<Vec<&'a Record>, AllocError>
-    ensures { IfOk result (λ found. map (λ r. r.now) found.items ≡ one.now ++ other.now) }
+/// Puts records, of which none stands twice, in the order of a set.
+pub(crate) fn put_in_order(records: &mut Vec<Record>)
+    requires { IsDistinct (eq_by_cmp record_cmp) records.old.items }
+    ensures moved { IsPermutation records.old.items records.new.items }
+    ensures in_order { IsTrue (is_in_order records.new.items) }
 {
-    one.iter().chain(other.iter()).collect(alloc)
+    records.sort_unstable_by(|one, other| compare(one, other));
 }
 
-/// Puts the records in the order of a set.
+/// Puts the records in the order in which a set is best made of them, which is its own.
 pub(crate) fn put_in_turn(records: &mut Vec<&Record>)
     ensures { IsPermutation records.old.items records.new.items }
 {

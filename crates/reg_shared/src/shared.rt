@@ -94,10 +94,8 @@ impl Shared {
     {
         records_are_ordered();
         last_records_are_enough();
-        let records = log.records();
-        let older = copy_older(alloc, &registry, records)?;
-        let mut by_offset = Vec::new(alloc);
-        push_all(&mut by_offset, records)?;
+        let by_offset = log.records()?;
+        let older = copy_older(alloc, &registry, &by_offset)?;
         Ok(Shared {
             alloc,
             registry,

@@ -125,8 +125,9 @@ fn without(alloc: Global, kept: &RecordSet, dropped: &[Record]) -> Result<Record
 {
     records_are_ordered();
     let gone = RecordSet::of(alloc, dropped)?;
+    let records = kept.records()?;
     let mut left = RecordSet::new(alloc);
-    for record in kept.records() {
+    for record in &records {
         take_unless_gone(&mut left, &gone, record)?;
     }
     Ok(left)

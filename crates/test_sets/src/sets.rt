@@ -15,7 +15,7 @@ fn set_of(alloc: Global, lines: &[Line]) -> Result<RecordSet, LogError> {
 }
 
 fn has_lines(alloc: Global, set: &RecordSet, lines: &[Line]) -> Result<bool, LogError> {
-    Ok(set.records() == records_of(alloc, lines)?.as_slice())
+    Ok(set.records()? == records_of(alloc, lines)?)
 }
 
 fn take(alloc: Global, set: &mut RecordSet, line: Line) -> Result<Option<Taken>, LogError> {

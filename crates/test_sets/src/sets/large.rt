@@ -31,7 +31,7 @@ fn hold(alloc: Global, records: &[Record], in_order: &[Record]) -> Result<bool, 
     Ok(
         are_taken(&mut set, records, Taken::Fresh)?
             && are_taken(&mut set, records, Taken::Repeat)?
-            && set.records() == in_order
+            && set.records()?.as_slice() == in_order
             && has_each(&set, records),
     )
 }

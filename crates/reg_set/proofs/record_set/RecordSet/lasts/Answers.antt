@@ -3,4 +3,4 @@ use Rattle.reg_set.specs.LastRecords.{last_records}
 use Rattle.reg_set.proofs.record_set.RecordSet.lasts.Goals as goal
 
 pub returns : goal.returns
-returns c = c.self.invariant.1 ∙ ap last_records c.self.view_is
+returns c = c.in_ok-found.ensures ∙ ap last_records c.self.view_is

@@ -1,0 +1,65 @@
+// The records of one key, which stand in order.
+ghost use Rattle.std.specs.Prelude.{◌≡◌, ◌↔◌, OnOk, OnErr, IfOk, IsTrue};
+ghost use Rattle.std.specs.FinSet as set;
+ghost use Rattle.std.specs.List.{list_any, list_all};
+ghost use Rattle.std.specs.Ordering.{eq_by_cmp, is_lt};
+ghost use Rattle.reg_set.specs.ByKey.{AreOf, last_alone};
+ghost use Rattle.reg_set.specs.LastRecords.{last_records};
+ghost use Rattle.reg_set.specs.RecordOrder.{record_cmp};
+ghost use Rattle.reg_set.specs.Records.{is_in_order, placed};
+
+use crate::last_records::LastRecords;
+use crate::order::{count_before, stands_at};
+use crate::record_set::Taken;
+use reg_records::{Key, Record};
+use std::alloc::AllocError;
+
+/// Takes the record in among those of its key, and says what that did. The only error is want of
+/// memory; they are then as they were.
+pub(crate) fn take_among(records: &mut Vec<Record>, given: &Record) -> Result<Taken, AllocError>
+    requires { IsTrue (is_in_order records.old.items) }
+    ensures added { OnOk result (records.new.items ≡ placed given.now records.old.items) }
+    ensures fresh { IfOk result (λ taken. (taken ≡ Taken.Fresh)
+        ↔ IsTrue (list_all (λ q. is_lt (record_cmp q given.now)) records.old.items)) }
+    ensures repeat { IfOk result (λ taken. (taken ≡ Taken.Repeat)
+        ↔ IsTrue (list_any (eq_by_cmp record_cmp given.now) records.old.items)) }
+    ensures refused { OnErr result (records.new.items ≡ records.old.items) }
+{
+    let seen: &[Record] = records;
+    let place = count_before(seen, given);
+    if stands_at(seen, place, given) {
+        return Ok(Taken::Repeat);
+    }
+    let is_last = place == seen.len();
+    records.insert(place, given.clone()?)?;
+    if is_last {
+        return Ok(Taken::Fresh);
+    }
+    Ok(Taken::Older)
+}
+
+/// Leaves the last of the records alone. It takes no memory.
+pub(crate) fn leave_last(records: &mut Vec<Record>)
+    ensures { records.new.items ≡ last_alone records.old.items }
+{
+    if let Some(place) = records.len().checked_sub(1) {
+        records.swap(0, place);
+        records.truncate(1);
+    }
+}
+
+/// Adds the last of a key's records to the last ones. The only error is want of memory.
+pub(crate) fn put_last(
+    lasts: &mut LastRecords,
+    _key: &Key,
+    records: &[Record],
+) -> Result<(), AllocError>
+    requires compact { last_records lasts.old ≡ lasts.old }
+    requires of_key { AreOf _key.now records.now }
+    ensures { OnOk result (lasts.new ≡ last_records (set.union lasts.old (set.from_list records.now))) }
+{
+    if let Some(last) = records.last() {
+        lasts.put(last)?;
+    }
+    Ok(())
+}
