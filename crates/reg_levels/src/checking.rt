@@ -64,7 +64,7 @@ pub fn looked_at<T>(level: Level, olds: &[T]) -> &[T]
 }
 
 /// Whether a new schema meets a level against one version.
-fn check_version(
+pub(crate) fn check_version(
     alloc: Global,
     level: Level,
     new: &Schema,

@@ -1,13 +1,13 @@
 // Whether a new schema meets a level against old versions that are given by their texts.
-ghost use Rattle.std.specs.Prelude.{◌≡◌, ℕ, List, None, true, IfOk, IfErr, OnOk, map};
+ghost use Rattle.std.specs.Prelude.{◌≡◌, ℕ, List, None, true, IfOk, IfErr, OnOk, flat_map, map, reverse};
 ghost use Rattle.avro_schema.specs.Schema.{is_schema};
-ghost use Rattle.reg_levels.specs.RequiredPairs.{HasRisingVersions, Version};
-ghost use Rattle.reg_levels.specs.LevelVerdict.{IsLevelVerdict};
-ghost use Rattle.reg_levels.specs.Texts.{versions_in};
+ghost use Rattle.reg_levels.specs.RequiredPairs.{HasRisingVersions, Version, required_of};
+ghost use Rattle.reg_levels.specs.LevelVerdict.{IsLevelVerdict, IsVerdictOn};
+ghost use Rattle.reg_levels.specs.Texts.{nodes_in, versions_in};
 ghost use Rattle.reg_levels.specs.Judgement.{first_unread};
 ghost use Rattle.reg_levels.specs.JudgedError.{IsJudgedRefusal};
 
-use crate::checking::{check, looked_at};
+use crate::checking::{check, check_version, looked_at};
 use crate::judged_error::JudgedError;
 use crate::verdict::LevelVerdict;
 use avro_schema::Schema;
@@ -37,7 +37,8 @@ pub fn check_texts(
 }
 
 /// The same, where each old text is known to be a schema's: those alone are read of which the level
-/// looks at the versions. The only error is want of memory.
+/// looks at the versions, one after the other from the greatest down, up to one that clashes. The only
+/// error is want of memory.
 pub fn check_read_texts(
     alloc: Global,
     level: Level,
@@ -48,26 +49,51 @@ pub fn check_read_texts(
     requires read { first_unread (map (λ old. (old.0, old.1.now)) olds.now) ≡ None }
     ensures { IfOk result (IsLevelVerdict level new.now.nodes (versions_in (map (λ old. (old.0, old.1.now)) olds.now))) }
 {
-    check_each_read(alloc, level, new, looked_at(level, olds))
+    check_each_text(alloc, level, new, looked_at(level, olds))
 }
 
-/// The same, where each of the old texts is read.
-fn check_each_read(
+/// The same, where a level looks at all these versions.
+fn check_each_text(
     alloc: Global,
     level: Level,
     new: &Schema,
     olds: &[(u32, &str)],
 ) -> Result<LevelVerdict, AllocError>
-    requires rising { HasRisingVersions olds.now }
-    requires read { first_unread (map (λ old. (old.0, old.1.now)) olds.now) ≡ None }
-    ensures { IfOk result (IsLevelVerdict level new.now.nodes (versions_in (map (λ old. (old.0, old.1.now)) olds.now))) }
+    requires { first_unread (map (λ old. (old.0, old.1.now)) olds.now) ≡ None }
+    ensures { IfOk result (IsVerdictOn (flat_map (required_of level new.now.nodes)
+        (reverse (map (λ old. (old.0, nodes_in old.1.now)) olds.now)))) }
 {
-    // It ensures that a text means the new schema.
-    new.normal();
-    match check_texts(alloc, level, new, olds) {
-        Ok(verdict) => Ok(verdict),
-        Err(JudgedError::OutOfMemory) => Err(AllocError),
-        Err(JudgedError::NewText | JudgedError::OldText(_)) => unreachable!(),
+    for place in (0..olds.len()).rev() {
+        let verdict = check_text(alloc, level, new, &olds[place])?;
+        if !verdict.ok {
+            return Ok(verdict);
+        }
+    }
+    Ok(LevelVerdict::passed())
+}
+
+/// The same of one version.
+fn check_text(
+    alloc: Global,
+    level: Level,
+    new: &Schema,
+    old: &(u32, &str),
+) -> Result<LevelVerdict, AllocError>
+    requires { is_schema old.now.1.now ≡ true }
+    ensures { IfOk result (IsVerdictOn (required_of level new.now.nodes (old.now.0, nodes_in old.now.1.now))) }
+{
+    let schema = read_known(alloc, old.1)?;
+    check_version(alloc, level, new, old.0, &schema)
+}
+
+/// The schema of a text that is known to be one's. The only error is want of memory.
+fn read_known(alloc: Global, text: &str) -> Result<Schema, AllocError>
+    requires { is_schema text.now ≡ true }
+    ensures { IfOk result (λ schema. schema.nodes ≡ nodes_in text.now) }
+{
+    match Schema::read_if_any(alloc, text)? {
+        Some(schema) => Ok(schema),
+        None => unreachable!(),
     }
 }
 
