@@ -1,2 +1,3 @@
 pub mod Attended
+pub mod Ended
 pub mod Runs

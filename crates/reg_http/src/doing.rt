@@ -1,18 +1,17 @@
 // Doing what a request asks, and writing the response to it.
 ghost use Rattle.std.specs.Prelude.{◌≡◌, IfOk};
 ghost use Rattle.reg_requests.specs.Asked.{asked_of};
-ghost use Rattle.reg_responses.specs.Writing.{Writes};
+ghost use Rattle.reg_responses.specs.Writing.{Ends, Writes};
 ghost use Rattle.reg_http.specs.ServeSteps.{Did, done_closes, done_text};
 
 use crate::desk::Desk;
 use reg_leader::Reply;
 use reg_lookup::Answer;
-use reg_records::Device;
+use reg_records::{Device, Output};
 use reg_refusals::Refusal;
 use reg_requests::{Asked, Paths, Request};
 use reg_responses::{WriteFault, write_answer, write_no_memory, write_refusal, write_reply};
 use std::alloc::{AllocError, Global};
-use std::io::Write;
 
 /// What was done of a request.
 #[derive(Debug, Drop)]
@@ -63,12 +62,13 @@ fn asked_by(
 }
 
 /// Writes the response to what was done, where the client wants the connection closed or not.
-pub(crate) fn write_done<W: Write>(
+pub(crate) fn write_done<W: Output>(
     writer: &mut Device<W>,
     done: &Done,
     wants_close: bool,
 ) -> Result<(), WriteFault>
-    ensures { Writes W.contents writer.old writer.new (done_text wants_close done.now) result }
+    ensures written { Writes W.contents writer.old writer.new (done_text wants_close done.now) result }
+    ensures ended { Ends W.writes W.flushes writer.new result }
 {
     match done {
         Done::Answered(answer) => write_answer(writer, answer, wants_close),

@@ -4,6 +4,7 @@ ghost use Rattle.std.specs.Io.KnownBytes.{Appends};
 ghost use Rattle.reg_records.specs.Device.{KeepsEnd, KeepsInterruptions, KeepsReads, all_reads_of, begun_of, bytes_in, faults_of, interruptions_of, place_of, reads_of};
 ghost use Rattle.reg_messages.specs.declared.limits.TheConstants.{REQUEST_READS};
 ghost use Rattle.reg_responses.specs.declared.limits.TheConstants.{INTERRUPTION_LIMIT};
+ghost use Rattle.reg_http.specs.Ends.{EndsAfter, EndsRefused, EndsStep, EndsStepRefused};
 ghost use Rattle.reg_http.specs.Serve.{IsOutput, IsPart, IsServeRefusal, ReadsForRequests};
 ghost use Rattle.reg_http.specs.ServeSteps.{IsStepRefusal, Steps, next_if};
 
@@ -11,10 +12,10 @@ use crate::attending::{Attended, attend};
 use crate::desk::Desk;
 use crate::doing::{closes_after, write_done};
 use crate::limits::REQUESTS_LIMIT;
-use reg_records::Device;
+use reg_records::{Device, Output};
 use reg_requests::Paths;
 use std::alloc::Global;
-use std::io::{BufRead, Write};
+use std::io::BufRead;
 
 /// What a call of `serve` did.
 #[derive(Clone, Copy, Debug, PartialEq, Eq)]
@@ -39,7 +40,7 @@ pub enum ServeError {
 ///
 /// Where memory is refused the response says so, and the next request is answered. The reads are
 /// counted anew for each request, and the writer's interruptions for each response.
-pub fn serve<R: BufRead, W: Write, D: Desk>(
+pub fn serve<R: BufRead, W: Output, D: Desk>(
     alloc: Global,
     reader: &mut Device<R>,
     writer: &mut Device<W>,
@@ -59,6 +60,8 @@ pub fn serve<R: BufRead, W: Write, D: Desk>(
         × (all_reads_of reader.new ≤ all_reads_of reader.old + REQUESTS_LIMIT * REQUEST_READS) }
     ensures few { IfOk result (λ served. ReadsForRequests reader.old reader.new (served.requests + 1)) }
     ensures interruptions { interruptions_of writer.new ≤ INTERRUPTION_LIMIT }
+    ensures flushed { IfOk result (λ served. EndsAfter W.writes W.flushes served.requests writer.old writer.new) }
+    ensures cause { IfErr result (EndsRefused W.writes W.flushes writer.old writer.new) }
 {
     match serve_part(alloc, reader, writer, desk) {
         Ok(part) => Ok(Served {
@@ -81,7 +84,7 @@ pub struct ServedPart {
 
 /// Answers requests as `serve` does, and says whether the connection goes on after them. Where it does,
 /// the reader stands at the next request.
-pub fn serve_part<R: BufRead, W: Write, D: Desk>(
+pub fn serve_part<R: BufRead, W: Output, D: Desk>(
     alloc: Global,
     reader: &mut Device<R>,
     writer: &mut Device<W>,
@@ -98,6 +101,8 @@ pub fn serve_part<R: BufRead, W: Write, D: Desk>(
         × (all_reads_of reader.new ≤ all_reads_of reader.old + REQUESTS_LIMIT * REQUEST_READS) }
     ensures few { IfOk result (λ part. ReadsForRequests reader.old reader.new (part.requests + 1)) }
     ensures interruptions { interruptions_of writer.new ≤ INTERRUPTION_LIMIT }
+    ensures flushed { IfOk result (λ part. EndsAfter W.writes W.flushes part.requests writer.old writer.new) }
+    ensures cause { IfErr result (EndsRefused W.writes W.flushes writer.old writer.new) }
 {
     let mut paths = None;
     writer.begin_count();
@@ -138,7 +143,7 @@ pub enum Next {
 
 /// Answers the next request, if there is one. The count of reads begins anew at its front. The registry's paths are
 /// made at the first request, and are to be handed on to the next call.
-pub fn answer_next<R: BufRead, W: Write, D: Desk>(
+pub fn answer_next<R: BufRead, W: Output, D: Desk>(
     alloc: Global,
     paths: &mut Option<Paths>,
     reader: &mut Device<R>,
@@ -157,6 +162,8 @@ pub fn answer_next<R: BufRead, W: Write, D: Desk>(
     ensures end { KeepsEnd R.remaining reader.old reader.new }
     ensures lasting { OnOk result (KeepsInterruptions writer.old writer.new) }
     ensures interruptions { interruptions_of writer.new ≤ INTERRUPTION_LIMIT }
+    ensures flushed { IfOk result (EndsStep W.writes W.flushes writer.old writer.new) }
+    ensures cause { IfErr result (EndsStepRefused W.writes W.flushes writer.old writer.new) }
 {
     reader.begin_count();
     answer_counted(alloc, paths, reader, writer, desk)
@@ -164,7 +171,7 @@ pub fn answer_next<R: BufRead, W: Write, D: Desk>(
 
 /// The same, where no read for the request is counted yet.
 #[tactic(auto, using(crate::proofs::Runs::lost_request))]
-fn answer_counted<R: BufRead, W: Write, D: Desk>(
+fn answer_counted<R: BufRead, W: Output, D: Desk>(
     alloc: Global,
     paths: &mut Option<Paths>,
     reader: &mut Device<R>,
@@ -185,6 +192,8 @@ fn answer_counted<R: BufRead, W: Write, D: Desk>(
     ensures end { KeepsEnd R.remaining reader.old reader.new }
     ensures lasting { OnOk result (KeepsInterruptions writer.old writer.new) }
     ensures interruptions { interruptions_of writer.new ≤ INTERRUPTION_LIMIT }
+    ensures flushed { IfOk result (EndsStep W.writes W.flushes writer.old writer.new) }
+    ensures cause { IfErr result (EndsStepRefused W.writes W.flushes writer.old writer.new) }
 {
     match attend(alloc, paths, reader, desk) {
         Ok(Attended::Over) => Ok(Next::Over),

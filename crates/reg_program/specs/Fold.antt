@@ -1,6 +1,8 @@
 -- What the fold of a log and the requests after it does.
-use Rattle.std.specs.Prelude.{◌≡◌, ◌⊎◌, ℕ, List, [], Option, Some, IfSome, Ok, count_by}
+use Rattle.std.specs.Prelude.{◌≡◌, ◌⊎◌, ⊤, ℕ, List, [], Option, Some, IfSome, Result, Ok, count_by}
 use Rattle.std.specs.Io.KnownBytes.{Keeps}
+use Rattle.std.specs.declared.io.Error.{Error}
+use Rattle.reg_http.specs.Ends.{EndsAfter}
 use Rattle.reg_http.specs.Serve.{IsOutput, IsServeRefusal}
 use Rattle.reg_http.specs.declared.serving.ServeError.{ServeError}
 use Rattle.reg_http.specs.declared.serving.ServeError.TheVariants as serving
@@ -9,6 +11,7 @@ use Rattle.reg_records.specs.Log.{IsLogRefusal, LogText, log_of, is_foreign}
 use Rattle.reg_records.specs.declared.device.Device.{Device}
 use Rattle.reg_records.specs.declared.log.LogError.{LogError}
 use Rattle.reg_records.specs.declared.log.LogError.TheVariants as logs
+use Rattle.reg_responses.specs.Writing.{IsLostBy}
 use Rattle.reg_topic.specs.declared.published.Item.{Item}
 use Rattle.reg_topic.specs.declared.topic.Topic.{Topic}
 use Rattle.reg_program.specs.Published.{KeepsPromises, asks, commands, topic_of}
@@ -66,3 +69,12 @@ module _ {R W : Type 0} (remaining : R → Option (List ℕ)) (contents : W → 
   IsFoldRefusal reader reader' writer writer' error =
       (IsLogRefused remaining reader reader' error × (faults_of writer' ≡ faults_of writer) × Keeps (bytes_in contents writer) (bytes_in contents writer'))
       ⊎ EndsServing reader reader' writer writer' error
+
+module _ {W : Type 0} (writes : W → List ℕ → Result ℕ Error → W → Type 0) (flushes : W → Result ⊤ Error → W → Type 0) where
+  -- Where a fold ends before its end: the writer was lost by its last call; or the reader was lost, and the writer is as it was, or
+  -- as the flush of the last response left it; or the log was refused, and the writer is as it was.
+  abbrev pub EndsFoldRefused : Device W → Device W → FoldError → Type 0
+  EndsFoldRefused before after (errors.Log line fault) = after ≡ before
+  EndsFoldRefused before after errors.ReadFault = (count : ℕ) × EndsAfter writes flushes count before after
+  EndsFoldRefused before after errors.WriteFault = IsLostBy writes flushes after
+  EndsFoldRefused before after errors.OutOfMemory = after ≡ before

@@ -1,12 +1,14 @@
 -- What the program does, by the words of its command line.
-use Rattle.std.specs.Prelude.{◌≡◌, ◌≤◌, ℕ, List, Option, IfSome}
+use Rattle.std.specs.Prelude.{◌≡◌, ◌≤◌, ⊤, ℕ, List, Option, IfSome, Result}
 use Rattle.std.specs.Io.KnownBytes.{Appends}
+use Rattle.std.specs.declared.io.Error.{Error}
+use Rattle.reg_http.specs.Ends.{EndsAfter}
 use Rattle.reg_messages.specs.declared.limits.TheConstants.{REQUEST_READS}
 use Rattle.reg_records.specs.Device.{bytes_in, faults_of, interruptions_of, reads_of}
 use Rattle.reg_records.specs.declared.device.Device.{Device}
 use Rattle.reg_responses.specs.declared.limits.TheConstants.{INTERRUPTION_LIMIT}
 use Rattle.reg_program.specs.Ended.{errors_written, exit_status}
-use Rattle.reg_program.specs.Fold.{Folds, IsFoldRefusal}
+use Rattle.reg_program.specs.Fold.{EndsFoldRefused, Folds, IsFoldRefusal}
 use Rattle.reg_program.specs.Sketch.{IsSketchRefusal, LeavesRest, Sketches}
 use Rattle.reg_program.specs.Telling.{Tells}
 use Rattle.reg_program.specs.declared.ended.Ended.{Ended}
@@ -20,13 +22,16 @@ EndsAs contents errors errors' status ended = Tells contents errors errors' (err
 
 -- the reader and the writer of one fold, before and after it, where it ends so
 abbrev pub FoldGives : {R W : Type 0} → (R → Option (List ℕ)) → (W → Option (List ℕ))
+    → (W → List ℕ → Result ℕ Error → W → Type 0) → (W → Result ⊤ Error → W → Type 0)
     → Device R → Device R → Device W → Device W → Ended → Type 0
-FoldGives remaining contents reader reader' writer writer' (ends.Folded folded) =
+FoldGives remaining contents writes flushes reader reader' writer writer' (ends.Folded folded) =
     IfSome (bytes_in remaining reader) (λ input. (out : List ℕ) × Folds input folded out × Appends (bytes_in contents writer) (bytes_in contents writer') out)
     × (faults_of reader' ≡ faults_of reader) × (faults_of writer' ≡ faults_of writer)
     × (reads_of reader' ≤ REQUEST_READS) × (interruptions_of writer' ≤ INTERRUPTION_LIMIT)
-FoldGives remaining contents reader reader' writer writer' (ends.Failed error) = IsFoldRefusal remaining contents reader reader' writer writer' error
-FoldGives remaining contents reader reader' writer writer' ended = ⊥
+    × EndsAfter writes flushes folded.requests writer writer'
+FoldGives remaining contents writes flushes reader reader' writer writer' (ends.Failed error) =
+    IsFoldRefusal remaining contents reader reader' writer writer' error × EndsFoldRefused writes flushes writer writer' error
+FoldGives remaining contents writes flushes reader reader' writer writer' ended = ⊥
 
 -- the reader and the writer of one sketch, before and after it, where it ends so
 abbrev pub SketchGives : {R W : Type 0} → (R → Option (List ℕ)) → (W → Option (List ℕ))
@@ -42,13 +47,18 @@ SketchGives remaining contents reader reader' writer writer' ended = ⊥
 -- What the program does for a command, by its reader, its writer, standard error and what serves, each before and after it, and
 -- its status. Words that are no command read and write nothing; a fold folds once, a sketch sketches once; and what serves is
 -- called once, for that command alone, and its result is the status.
-abbrev pub Runs : {R W E S : Type 0} → (R → Option (List ℕ)) → (W → Option (List ℕ)) → (E → Option (List ℕ)) → (S → ℕ → ℕ → ℕ → ℕ → S → Type 0)
+abbrev pub Runs : {R W E S : Type 0} → (R → Option (List ℕ)) → (W → Option (List ℕ))
+    → (W → List ℕ → Result ℕ Error → W → Type 0) → (W → Result ⊤ Error → W → Type 0)
+    → (E → Option (List ℕ)) → (S → ℕ → ℕ → ℕ → ℕ → S → Type 0)
     → Device R → Device R → Device W → Device W → Device E → Device E → S → S → ℕ → Command → Type 0
-Runs remaining contents told step reader reader' writer writer' errors errors' serve serve' status commands.Usage =
+Runs remaining contents writes flushes told step reader reader' writer writer' errors errors' serve serve' status commands.Usage =
     (reader' ≡ reader) × (writer' ≡ writer) × (serve' ≡ serve) × EndsAs told errors errors' status ends.Usage
-Runs remaining contents told step reader reader' writer writer' errors errors' serve serve' status commands.Fold = (serve' ≡ serve)
-    × (ended : Ended) × FoldGives remaining contents reader reader' writer writer' ended × EndsAs told errors errors' status ended
-Runs remaining contents told step reader reader' writer writer' errors errors' serve serve' status commands.Sketch = (serve' ≡ serve)
-    × (ended : Ended) × SketchGives remaining contents reader reader' writer writer' ended × EndsAs told errors errors' status ended
-Runs remaining contents told step reader reader' writer writer' errors errors' serve serve' status (commands.Serve port nodes workers) =
+Runs remaining contents writes flushes told step reader reader' writer writer' errors errors' serve serve' status commands.Fold =
+    (serve' ≡ serve) × (ended : Ended) × FoldGives remaining contents writes flushes reader reader' writer writer' ended
+    × EndsAs told errors errors' status ended
+Runs remaining contents writes flushes told step reader reader' writer writer' errors errors' serve serve' status commands.Sketch =
+    (serve' ≡ serve) × (ended : Ended) × SketchGives remaining contents reader reader' writer writer' ended
+    × EndsAs told errors errors' status ended
+Runs remaining contents writes flushes told step reader reader' writer writer' errors errors' serve serve' status
+    (commands.Serve port nodes workers) =
     (reader' ≡ reader) × (writer' ≡ writer) × (errors' ≡ errors) × step serve port nodes workers status serve'

@@ -2,23 +2,24 @@
 ghost use Rattle.std.specs.Prelude.{◌≡◌, ◌≤◌, List, ℕ, IfOk, IfErr, IfSome, OnOk, count_by};
 ghost use Rattle.std.specs.FinSet as set;
 ghost use Rattle.std.specs.Io.KnownBytes.{Appends};
+ghost use Rattle.reg_http.specs.Ends.{EndsAfter};
 ghost use Rattle.reg_records.specs.Device.{KeepsEnd, KeepsReads, bytes_in, faults_of, interruptions_of, reads_of};
 ghost use Rattle.reg_messages.specs.declared.limits.TheConstants.{REQUEST_READS};
 ghost use Rattle.reg_responses.specs.declared.limits.TheConstants.{INTERRUPTION_LIMIT};
 ghost use Rattle.reg_set.specs.LastRecords.{last_records};
-ghost use Rattle.reg_program.specs.Fold.{Folds, IsFoldRefusal, IsLogRefused, ended_by, fold_error_of};
+ghost use Rattle.reg_program.specs.Fold.{EndsFoldRefused, Folds, IsFoldRefusal, IsLogRefused, ended_by, fold_error_of};
 ghost use Rattle.reg_program.specs.Opening.{IsOpened};
 
 use crate::desk::FoldDesk;
 use reg_fold::Registry;
 use reg_http::{ServeError, serve};
-use reg_records::{Device, LINE_READS, LogError, LogFault, Record, read_log};
+use reg_records::{Device, LINE_READS, LogError, LogFault, Output, Record, read_log};
 use reg_set::{last_records_of_unions, records_are_ordered};
 use reg_topic::{
     commits_follow, lawful_items_follow, lawful_lists_keep_ids, lawful_lists_meet_levels,
 };
 use std::alloc::{AllocError, Global};
-use std::io::{BufRead, Write};
+use std::io::BufRead;
 
 /// What a fold did.
 #[derive(Clone, Copy, Debug, PartialEq, Eq)]
@@ -59,7 +60,7 @@ impl From<AllocError> for FoldError {
 /// The log is read to its end before the first byte is written. Over a log that takes commands an id
 /// never changes its meaning by what they write, and each version that is registered meets the level
 /// in force against the live versions.
-pub fn fold<R: BufRead, W: Write>(
+pub fn fold<R: BufRead, W: Output>(
     alloc: Global,
     reader: &mut Device<R>,
     writer: &mut Device<W>,
@@ -70,6 +71,8 @@ pub fn fold<R: BufRead, W: Write>(
     ensures bounds { OnOk result ((reads_of reader.new ≤ REQUEST_READS) × (interruptions_of writer.new ≤ INTERRUPTION_LIMIT)) }
     ensures reads { reads_of reader.new ≤ LINE_READS }
     ensures refused { IfErr result (IsFoldRefusal R.remaining W.contents reader.old reader.new writer.old writer.new) }
+    ensures flushed { IfOk result (λ folded. EndsAfter W.writes W.flushes folded.requests writer.old writer.new) }
+    ensures cause { IfErr result (EndsFoldRefused W.writes W.flushes writer.old writer.new) }
 {
     commits_follow();
     last_records_of_unions();

@@ -8,7 +8,7 @@ use crate::folding::fold;
 use crate::sketching::sketch;
 use crate::telling::tell;
 use crate::words::{Command, command_of};
-use reg_records::Device;
+use reg_records::{Device, Output};
 use std::alloc::Global;
 use std::io::{BufRead, Write};
 
@@ -19,7 +19,7 @@ use std::io::{BufRead, Write};
 /// called where the words ask for nodes that serve, with the first port, the number of nodes and the
 /// number of workers of a node; its result is the status then, and it tells of its end by itself. A
 /// fault of `errors` changes no status.
-pub fn run<R: BufRead, W: Write, E: Write, S: FnMut(u64, u64, u64) -> u8>(
+pub fn run<R: BufRead, W: Output, E: Write, S: FnMut(u64, u64, u64) -> u8>(
     alloc: Global,
     words: &[String],
     reader: &mut Device<R>,
@@ -28,8 +28,8 @@ pub fn run<R: BufRead, W: Write, E: Write, S: FnMut(u64, u64, u64) -> u8>(
     serve: &mut S,
 ) -> u8
     requires { S.IsAlwaysCallable serve.old }
-    ensures { Runs R.remaining W.contents E.contents S.step reader.old reader.new writer.old writer.new errors.old errors.new
-        serve.old serve.new result (command_of (map string_bytes words.now)) }
+    ensures { Runs R.remaining W.contents W.writes W.flushes E.contents S.step reader.old reader.new writer.old writer.new
+        errors.old errors.new serve.old serve.new result (command_of (map string_bytes words.now)) }
 {
     match command_of(words) {
         Command::Usage => end(errors, &Ended::Usage),
@@ -50,12 +50,12 @@ pub fn run<R: BufRead, W: Write, E: Write, S: FnMut(u64, u64, u64) -> u8>(
 }
 
 /// Folds, and says how that ended.
-fn fold_end<R: BufRead, W: Write>(
+fn fold_end<R: BufRead, W: Output>(
     alloc: Global,
     reader: &mut Device<R>,
     writer: &mut Device<W>,
 ) -> Ended
-    ensures { FoldGives R.remaining W.contents reader.old reader.new writer.old writer.new result }
+    ensures { FoldGives R.remaining W.contents W.writes W.flushes reader.old reader.new writer.old writer.new result }
 {
     match fold(alloc, reader, writer) {
         Ok(folded) => Ended::Folded(folded),

@@ -6,6 +6,7 @@ ghost use Rattle.reg_records.specs.Device.{inner_of, faults_of, reads_of, all_re
 ghost use Rattle.reg_records.specs.Device.{bytes_in, counted, counted_by, CountsBytes, CountsFault, CountsWrite, CountsInterruption};
 ghost use Rattle.reg_records.specs.Pieces.{CountsPiece, TakesPiece, piece_len};
 
+use crate::output::Output;
 use crate::pieces::{LineBuffer, Piece, take_piece};
 use std::alloc::AllocError;
 use std::io::{self, BufRead, ErrorKind, Read, Write};
@@ -228,16 +229,17 @@ impl<R: Read> Read for Device<R> {
     }
 }
 
-impl<W: Write> Write for Device<W> {
+impl<W: Output> Write for Device<W> {
     ghost contents = { bytes_in W.contents };
 
     fn write(&mut self, buf: &[u8]) -> io::Result<usize>
         ensures bound { WritesAtMost result buf.now }
         ensures bytes { WriteAppends (bytes_in W.contents self.old) (bytes_in W.contents self.new) result buf.now }
+        ensures answer { W.writes (inner_of self.old) buf.now result (inner_of self.new) }
         ensures faults { CountsWrite self.old self.new buf.now result }
         ensures interruptions { CountsInterruption self.old self.new result }
     {
-        let answer = self.inner.write(buf);
+        let answer = self.inner.write_out(buf);
         match &answer {
             Ok(n) => {
                 self.interruptions = 0;
@@ -252,10 +254,11 @@ impl<W: Write> Write for Device<W> {
 
     fn flush(&mut self) -> io::Result<()>
         ensures bytes { Keeps (bytes_in W.contents self.old) (bytes_in W.contents self.new) }
+        ensures answer { W.flushes (inner_of self.old) result (inner_of self.new) }
         ensures faults { CountsFault self.old self.new result }
         ensures interruptions { CountsInterruption self.old self.new result }
     {
-        let answer = self.inner.flush();
+        let answer = self.inner.flush_out();
         match &answer {
             Ok(()) => self.interruptions = 0,
             Err(e) => self.count_write_error(e.kind()),

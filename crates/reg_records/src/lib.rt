@@ -9,6 +9,7 @@ mod line_reader;
 mod log;
 mod log_reader;
 mod members;
+mod output;
 mod pieces;
 mod record;
 mod text_line;
@@ -26,6 +27,7 @@ pub use log_reader::read_log;
 pub use members::{
     compact_texts_read_back, has_number_at, has_text_at, number_at, parse, quoted, text_at,
 };
+pub use output::Output;
 pub use record::{Read, Record};
 pub use text_line::{TextLineError, read_text_line};
 pub use value::{Value, values_have_lines};

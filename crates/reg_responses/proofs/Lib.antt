@@ -1,3 +1,4 @@
+pub mod Ended
 pub mod Examples
 pub mod HavePhrases
 pub mod Listing

@@ -1,15 +1,14 @@
 // The pieces of a response, which are written without memory.
 ghost use Rattle.std.specs.Char.{digit_char};
-ghost use Rattle.std.specs.Prelude.{◌≡◌, ◌≤◌, ◌<◌, ◌^◌, ◌∷◌, ◌++◌, length, take, decimal};
+ghost use Rattle.std.specs.Prelude.{◌≡◌, ◌≤◌, ◌<◌, ◌^◌, ◌∷◌, ◌++◌, OnErr, length, take, decimal};
 ghost use Rattle.json.specs.Print.{escape, escape_byte, escape_letter, quoted};
 ghost use Rattle.reg_records.specs.Device.{interruptions_of};
 ghost use Rattle.reg_responses.specs.Pieces.{piece_text, pieces_text, listed, listed_more};
-ghost use Rattle.reg_responses.specs.Writing.{Writes};
+ghost use Rattle.reg_responses.specs.Writing.{IsLostBy, Writes};
 
 use crate::writing::{WriteFault, write_bytes};
 use itoa::Buffer;
-use reg_records::Device;
-use std::io::Write;
+use reg_records::{Device, Output};
 
 /// A piece of a response.
 #[derive(Clone, Copy)]
@@ -23,12 +22,13 @@ pub(crate) enum Piece<'p> {
 }
 
 /// Writes the pieces, one after the other.
-pub(crate) fn write_pieces<W: Write>(
+pub(crate) fn write_pieces<W: Output>(
     writer: &mut Device<W>,
     pieces: &[Piece<'_>],
 ) -> Result<(), WriteFault>
     requires { interruptions_of writer.old ≡ 0 }
-    ensures { Writes W.contents writer.old writer.new (pieces_text pieces.now) result }
+    ensures written { Writes W.contents writer.old writer.new (pieces_text pieces.now) result }
+    ensures cause { OnErr result (IsLostBy W.writes W.flushes writer.new) }
 {
     for piece in pieces {
         write_piece(writer, piece)?;
@@ -36,9 +36,10 @@ pub(crate) fn write_pieces<W: Write>(
     Ok(())
 }
 
-fn write_piece<W: Write>(writer: &mut Device<W>, piece: &Piece<'_>) -> Result<(), WriteFault>
+fn write_piece<W: Output>(writer: &mut Device<W>, piece: &Piece<'_>) -> Result<(), WriteFault>
     requires { interruptions_of writer.old ≡ 0 }
-    ensures { Writes W.contents writer.old writer.new (piece_text piece.now) result }
+    ensures written { Writes W.contents writer.old writer.new (piece_text piece.now) result }
+    ensures cause { OnErr result (IsLostBy W.writes W.flushes writer.new) }
 {
     match piece {
         Piece::Text(text) => write_bytes(writer, text.as_bytes()),
@@ -48,26 +49,29 @@ fn write_piece<W: Write>(writer: &mut Device<W>, piece: &Piece<'_>) -> Result<()
     }
 }
 
-fn write_number<W: Write>(writer: &mut Device<W>, number: u128) -> Result<(), WriteFault>
+fn write_number<W: Output>(writer: &mut Device<W>, number: u128) -> Result<(), WriteFault>
     requires { interruptions_of writer.old ≡ 0 }
-    ensures { Writes W.contents writer.old writer.new (decimal number) result }
+    ensures written { Writes W.contents writer.old writer.new (decimal number) result }
+    ensures cause { OnErr result (IsLostBy W.writes W.flushes writer.new) }
 {
     let mut buffer = Buffer::new();
     write_bytes(writer, buffer.format(number).as_bytes())
 }
 
-fn write_quoted<W: Write>(writer: &mut Device<W>, bytes: &[u8]) -> Result<(), WriteFault>
+fn write_quoted<W: Output>(writer: &mut Device<W>, bytes: &[u8]) -> Result<(), WriteFault>
     requires { interruptions_of writer.old ≡ 0 }
-    ensures { Writes W.contents writer.old writer.new (quoted bytes.now) result }
+    ensures written { Writes W.contents writer.old writer.new (quoted bytes.now) result }
+    ensures cause { OnErr result (IsLostBy W.writes W.flushes writer.new) }
 {
     write_bytes(writer, b"\"")?;
     write_escaped(writer, bytes)?;
     write_bytes(writer, b"\"")
 }
 
-fn write_escaped<W: Write>(writer: &mut Device<W>, bytes: &[u8]) -> Result<(), WriteFault>
+fn write_escaped<W: Output>(writer: &mut Device<W>, bytes: &[u8]) -> Result<(), WriteFault>
     requires { interruptions_of writer.old ≡ 0 }
-    ensures { Writes W.contents writer.old writer.new (escape bytes.now) result }
+    ensures written { Writes W.contents writer.old writer.new (escape bytes.now) result }
+    ensures cause { OnErr result (IsLostBy W.writes W.flushes writer.new) }
 {
     for b in bytes {
         write_escaped_byte(writer, *b)?;
@@ -75,9 +79,10 @@ fn write_escaped<W: Write>(writer: &mut Device<W>, bytes: &[u8]) -> Result<(), W
     Ok(())
 }
 
-fn write_escaped_byte<W: Write>(writer: &mut Device<W>, b: u8) -> Result<(), WriteFault>
+fn write_escaped_byte<W: Output>(writer: &mut Device<W>, b: u8) -> Result<(), WriteFault>
     requires { interruptions_of writer.old ≡ 0 }
-    ensures { Writes W.contents writer.old writer.new (escape_byte b) result }
+    ensures written { Writes W.contents writer.old writer.new (escape_byte b) result }
+    ensures cause { OnErr result (IsLostBy W.writes W.flushes writer.new) }
 {
     let (escape, len) = escape_of(b);
     write_bytes(writer, &escape[..len])
@@ -135,9 +140,10 @@ fn hex_digit(digit: u8) -> u8
     }
 }
 
-fn write_listed<W: Write>(writer: &mut Device<W>, numbers: &[u32]) -> Result<(), WriteFault>
+fn write_listed<W: Output>(writer: &mut Device<W>, numbers: &[u32]) -> Result<(), WriteFault>
     requires { interruptions_of writer.old ≡ 0 }
-    ensures { Writes W.contents writer.old writer.new (listed numbers.now) result }
+    ensures written { Writes W.contents writer.old writer.new (listed numbers.now) result }
+    ensures cause { OnErr result (IsLostBy W.writes W.flushes writer.new) }
 {
     match numbers {
         [] => Ok(()),
@@ -145,17 +151,23 @@ fn write_listed<W: Write>(writer: &mut Device<W>, numbers: &[u32]) -> Result<(),
     }
 }
 
-fn write_first<W: Write>(writer: &mut Device<W>, first: u32, rest: &[u32]) -> Result<(), WriteFault>
+fn write_first<W: Output>(
+    writer: &mut Device<W>,
+    first: u32,
+    rest: &[u32],
+) -> Result<(), WriteFault>
     requires { interruptions_of writer.old ≡ 0 }
-    ensures { Writes W.contents writer.old writer.new (decimal first ++ listed_more rest.now) result }
+    ensures written { Writes W.contents writer.old writer.new (decimal first ++ listed_more rest.now) result }
+    ensures cause { OnErr result (IsLostBy W.writes W.flushes writer.new) }
 {
     write_number(writer, u128::from(first))?;
     write_more(writer, rest)
 }
 
-fn write_more<W: Write>(writer: &mut Device<W>, numbers: &[u32]) -> Result<(), WriteFault>
+fn write_more<W: Output>(writer: &mut Device<W>, numbers: &[u32]) -> Result<(), WriteFault>
     requires { interruptions_of writer.old ≡ 0 }
-    ensures { Writes W.contents writer.old writer.new (listed_more numbers.now) result }
+    ensures written { Writes W.contents writer.old writer.new (listed_more numbers.now) result }
+    ensures cause { OnErr result (IsLostBy W.writes W.flushes writer.new) }
 {
     for number in numbers {
         write_after_comma(writer, *number)?;
@@ -163,9 +175,10 @@ fn write_more<W: Write>(writer: &mut Device<W>, numbers: &[u32]) -> Result<(), W
     Ok(())
 }
 
-fn write_after_comma<W: Write>(writer: &mut Device<W>, number: u32) -> Result<(), WriteFault>
+fn write_after_comma<W: Output>(writer: &mut Device<W>, number: u32) -> Result<(), WriteFault>
     requires { interruptions_of writer.old ≡ 0 }
-    ensures { Writes W.contents writer.old writer.new (44 ∷ decimal number) result }
+    ensures written { Writes W.contents writer.old writer.new (44 ∷ decimal number) result }
+    ensures cause { OnErr result (IsLostBy W.writes W.flushes writer.new) }
 {
     write_bytes(writer, b",")?;
     write_number(writer, u128::from(number))

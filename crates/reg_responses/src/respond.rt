@@ -5,25 +5,25 @@ ghost use Rattle.reg_lookup.specs.Bodies.{answer_with, list_body, number_data};
 ghost use Rattle.reg_responses.specs.Pieces.{pieces_text};
 ghost use Rattle.reg_responses.specs.Reply.{id_body, member_body, reply_answer};
 ghost use Rattle.reg_responses.specs.Response.{allow_in, answer_text, memory_text, refusal_text, response_text};
-ghost use Rattle.reg_responses.specs.Writing.{Writes};
+ghost use Rattle.reg_responses.specs.Writing.{Ends, Writes};
 
 use crate::bodies::{error_pieces, id_pieces, member_pieces, versions_pieces};
 use crate::pieces::Piece;
 use crate::writing::{WriteFault, write_response, write_whole};
 use reg_leader::Reply;
 use reg_lookup::Answer;
-use reg_records::Device;
+use reg_records::{Device, Output};
 use reg_refusals::{Allow, Refusal, StoreFault};
-use std::io::Write;
 
 /// Writes the response that gives an answer, and flushes it. It tells whether the server closes the
 /// connection after it.
-pub fn write_answer<W: Write>(
+pub fn write_answer<W: Output>(
     writer: &mut Device<W>,
     answer: &Answer,
     closes: bool,
 ) -> Result<(), WriteFault>
-    ensures { Writes W.contents writer.old writer.new (answer_text closes answer.now) result }
+    ensures written { Writes W.contents writer.old writer.new (answer_text closes answer.now) result }
+    ensures ended { Ends W.writes W.flushes writer.new result }
 {
     let body = [Piece::Text(answer.body.as_str())];
     write_response(writer, answer.status, None, closes, &body)
@@ -31,12 +31,13 @@ pub fn write_answer<W: Write>(
 
 /// Writes the response to a command's reply, and flushes it.
 #[tactic(auto, unfolding(crate::specs::Reply::reply_answer))]
-pub fn write_reply<W: Write>(
+pub fn write_reply<W: Output>(
     writer: &mut Device<W>,
     reply: &Reply,
     closes: bool,
 ) -> Result<(), WriteFault>
-    ensures { Writes W.contents writer.old writer.new (answer_text closes (reply_answer reply.now)) result }
+    ensures written { Writes W.contents writer.old writer.new (answer_text closes (reply_answer reply.now)) result }
+    ensures ended { Ends W.writes W.flushes writer.new result }
 {
     match reply {
         Reply::Id(id) => write_id(writer, *id, closes),
@@ -57,51 +58,56 @@ pub fn write_reply<W: Write>(
     }
 }
 
-fn write_id<W: Write>(writer: &mut Device<W>, id: u32, closes: bool) -> Result<(), WriteFault>
-    ensures { Writes W.contents writer.old writer.new (answer_text closes (answer_with (Ok (id_body id)))) result }
+fn write_id<W: Output>(writer: &mut Device<W>, id: u32, closes: bool) -> Result<(), WriteFault>
+    ensures written { Writes W.contents writer.old writer.new (answer_text closes (answer_with (Ok (id_body id)))) result }
+    ensures ended { Ends W.writes W.flushes writer.new result }
 {
     write_told(writer, &id_pieces(id), closes)
 }
 
-fn write_version<W: Write>(
+fn write_version<W: Output>(
     writer: &mut Device<W>,
     version: u32,
     closes: bool,
 ) -> Result<(), WriteFault>
-    ensures { Writes W.contents writer.old writer.new (answer_text closes (answer_with (Ok (compact_text (number_data version))))) result }
+    ensures written { Writes W.contents writer.old writer.new (answer_text closes (answer_with (Ok (compact_text (number_data version))))) result }
+    ensures ended { Ends W.writes W.flushes writer.new result }
 {
     write_told(writer, &[Piece::Number(u128::from(version))], closes)
 }
 
-fn write_versions<W: Write>(
+fn write_versions<W: Output>(
     writer: &mut Device<W>,
     versions: &[u32],
     closes: bool,
 ) -> Result<(), WriteFault>
-    ensures { Writes W.contents writer.old writer.new (answer_text closes (answer_with (Ok (list_body number_data versions.now)))) result }
+    ensures written { Writes W.contents writer.old writer.new (answer_text closes (answer_with (Ok (list_body number_data versions.now)))) result }
+    ensures ended { Ends W.writes W.flushes writer.new result }
 {
     write_told(writer, &versions_pieces(versions), closes)
 }
 
-fn write_member<W: Write>(
+fn write_member<W: Output>(
     writer: &mut Device<W>,
     name: &str,
     text: &str,
     closes: bool,
 ) -> Result<(), WriteFault>
-    ensures { Writes W.contents writer.old writer.new (answer_text closes (answer_with (Ok (member_body name.now text.now)))) result }
+    ensures written { Writes W.contents writer.old writer.new (answer_text closes (answer_with (Ok (member_body name.now text.now)))) result }
+    ensures ended { Ends W.writes W.flushes writer.new result }
 {
     write_told(writer, &member_pieces(name, text), closes)
 }
 
 /// Writes the response whose body has these pieces.
-fn write_told<W: Write>(
+fn write_told<W: Output>(
     writer: &mut Device<W>,
     body: &[Piece<'_>],
     closes: bool,
 ) -> Result<(), WriteFault>
     requires { length body.now ≤ 8 }
-    ensures { Writes W.contents writer.old writer.new (answer_text closes (answer_with (Ok (pieces_text body.now)))) result }
+    ensures written { Writes W.contents writer.old writer.new (answer_text closes (answer_with (Ok (pieces_text body.now)))) result }
+    ensures ended { Ends W.writes W.flushes writer.new result }
 {
     write_response(writer, 200, None, closes, body)
 }
@@ -109,24 +115,26 @@ fn write_told<W: Write>(
 /// Writes the response of a refusal, with the methods that the path offers where it tells them, and
 /// flushes it.
 #[tactic(auto, unfolding(crate::specs::Response::refusal_text))]
-pub fn write_refusal<W: Write>(
+pub fn write_refusal<W: Output>(
     writer: &mut Device<W>,
     refusal: &Refusal,
     closes: bool,
 ) -> Result<(), WriteFault>
-    ensures { Writes W.contents writer.old writer.new (refusal_text closes refusal.now) result }
+    ensures written { Writes W.contents writer.old writer.new (refusal_text closes refusal.now) result }
+    ensures ended { Ends W.writes W.flushes writer.new result }
 {
     write_refused(writer, refusal, allow_in(refusal), closes)
 }
 
-fn write_refused<W: Write>(
+fn write_refused<W: Output>(
     writer: &mut Device<W>,
     refusal: &Refusal,
     allow: Option<Allow>,
     closes: bool,
 ) -> Result<(), WriteFault>
-    ensures { let answer = answer_with (Err refusal.now) in
+    ensures written { let answer = answer_with (Err refusal.now) in
         Writes W.contents writer.old writer.new (response_text answer.status allow closes answer.body) result }
+    ensures ended { Ends W.writes W.flushes writer.new result }
 {
     let body = error_pieces(refusal.code(), refusal.message());
     write_response(writer, refusal.status(), allow, closes, &body)
@@ -142,8 +150,9 @@ fn allow_in(refusal: &Refusal) -> Option<Allow>
 }
 
 /// Writes the response where memory was refused, and flushes it.
-pub fn write_no_memory<W: Write>(writer: &mut Device<W>, closes: bool) -> Result<(), WriteFault>
-    ensures { Writes W.contents writer.old writer.new (memory_text closes) result }
+pub fn write_no_memory<W: Output>(writer: &mut Device<W>, closes: bool) -> Result<(), WriteFault>
+    ensures written { Writes W.contents writer.old writer.new (memory_text closes) result }
+    ensures ended { Ends W.writes W.flushes writer.new result }
 {
     write_whole(writer, no_memory_text(closes).as_bytes())
 }

@@ -4,12 +4,12 @@ ghost use Rattle.std.specs.Io.KnownBytes.{Keeps};
 ghost use Rattle.reg_records.specs.Device.{bytes_in, faults_of, interruptions_of};
 ghost use Rattle.reg_responses.specs.Pieces.{pieces_text};
 ghost use Rattle.reg_responses.specs.Response.{head_text, phrase_of, response_text, allow_field, closing_field};
-ghost use Rattle.reg_responses.specs.Writing.{HasWritten, IsLostSince, LosesWriter, Writes};
+ghost use Rattle.reg_responses.specs.Writing.{Ends, HasWritten, IsLostBy, IsLostSince, LosesWriter, Writes};
 
 use crate::limits::INTERRUPTION_LIMIT;
 use crate::pieces::{Piece, pieces_len, write_pieces};
 use http::StatusCode;
-use reg_records::Device;
+use reg_records::{Device, Output};
 use reg_refusals::Allow;
 use std::io::{ErrorKind, Write};
 
@@ -19,7 +19,7 @@ pub struct WriteFault;
 
 /// Writes a response whole, and flushes it. The writer's count of interruptions begins anew.
 #[tactic(auto, unfolding(crate::specs::Response::response_text))]
-pub(crate) fn write_response<W: Write>(
+pub(crate) fn write_response<W: Output>(
     writer: &mut Device<W>,
     status: u16,
     allow: Option<Allow>,
@@ -27,7 +27,8 @@ pub(crate) fn write_response<W: Write>(
     body: &[Piece<'_>],
 ) -> Result<(), WriteFault>
     requires few { length body.now ≤ 8 }
-    ensures { Writes W.contents writer.old writer.new (response_text status allow closes (pieces_text body.now)) result }
+    ensures written { Writes W.contents writer.old writer.new (response_text status allow closes (pieces_text body.now)) result }
+    ensures ended { Ends W.writes W.flushes writer.new result }
 {
     writer.begin_count();
     write_head(writer, status, allow, closes, pieces_len(body))?;
@@ -35,8 +36,9 @@ pub(crate) fn write_response<W: Write>(
 }
 
 /// Writes the bytes whole, and flushes them. The writer's count of interruptions begins anew.
-pub fn write_whole<W: Write>(writer: &mut Device<W>, bytes: &[u8]) -> Result<(), WriteFault>
-    ensures { Writes W.contents writer.old writer.new bytes.now result }
+pub fn write_whole<W: Output>(writer: &mut Device<W>, bytes: &[u8]) -> Result<(), WriteFault>
+    ensures written { Writes W.contents writer.old writer.new bytes.now result }
+    ensures ended { Ends W.writes W.flushes writer.new result }
 {
     writer.begin_count();
     write_bytes(writer, bytes)?;
@@ -44,7 +46,7 @@ pub fn write_whole<W: Write>(writer: &mut Device<W>, bytes: &[u8]) -> Result<(),
 }
 
 #[tactic(auto, unfolding(crate::specs::Response::head_text))]
-fn write_head<W: Write>(
+fn write_head<W: Output>(
     writer: &mut Device<W>,
     status: u16,
     allow: Option<Allow>,
@@ -52,7 +54,8 @@ fn write_head<W: Write>(
     len: u128,
 ) -> Result<(), WriteFault>
     requires { interruptions_of writer.old ≡ 0 }
-    ensures { Writes W.contents writer.old writer.new (head_text status allow closes len) result }
+    ensures written { Writes W.contents writer.old writer.new (head_text status allow closes len) result }
+    ensures cause { OnErr result (IsLostBy W.writes W.flushes writer.new) }
 {
     let (allow_name, methods, allow_end) = allow_field(allow);
     write_pieces(
@@ -76,17 +79,19 @@ fn write_head<W: Write>(
     )
 }
 
-fn write_body<W: Write>(writer: &mut Device<W>, body: &[Piece<'_>]) -> Result<(), WriteFault>
+fn write_body<W: Output>(writer: &mut Device<W>, body: &[Piece<'_>]) -> Result<(), WriteFault>
     requires { interruptions_of writer.old ≡ 0 }
-    ensures { Writes W.contents writer.old writer.new (pieces_text body.now) result }
+    ensures written { Writes W.contents writer.old writer.new (pieces_text body.now) result }
+    ensures ended { Ends W.writes W.flushes writer.new result }
 {
     write_pieces(writer, body)?;
     flush(writer)
 }
 
-pub(crate) fn write_bytes<W: Write>(writer: &mut Device<W>, bytes: &[u8]) -> Result<(), WriteFault>
+pub(crate) fn write_bytes<W: Output>(writer: &mut Device<W>, bytes: &[u8]) -> Result<(), WriteFault>
     requires { interruptions_of writer.old ≡ 0 }
-    ensures { Writes W.contents writer.old writer.new bytes.now result }
+    ensures written { Writes W.contents writer.old writer.new bytes.now result }
+    ensures cause { OnErr result (IsLostBy W.writes W.flushes writer.new) }
 {
     let mut at = 0;
     while at < bytes.len() {
@@ -96,13 +101,14 @@ pub(crate) fn write_bytes<W: Write>(writer: &mut Device<W>, bytes: &[u8]) -> Res
 }
 
 /// Writes at least one of the bytes, and says how many.
-fn write_some<W: Write>(writer: &mut Device<W>, bytes: &[u8]) -> Result<usize, WriteFault>
+fn write_some<W: Output>(writer: &mut Device<W>, bytes: &[u8]) -> Result<usize, WriteFault>
     requires some { 0 < length bytes.now }
     requires interruptions { interruptions_of writer.old ≡ 0 }
     ensures some { IfOk result (λ n. (0 < n) × (n ≤ length bytes.now)) }
     ensures written { IfOk result (λ n. HasWritten W.contents writer.old writer.new (take n bytes.now)) }
     ensures lost { OnErr result (LosesWriter writer.old writer.new
         × Keeps (bytes_in W.contents writer.old) (bytes_in W.contents writer.new) × IsLostSince writer.old writer.new) }
+    ensures cause { OnErr result (IsLostBy W.writes W.flushes writer.new) }
 {
     for _i in 0..INTERRUPTION_LIMIT {
         match writer.write(bytes) {
@@ -118,9 +124,10 @@ fn write_some<W: Write>(writer: &mut Device<W>, bytes: &[u8]) -> Result<usize, W
     Err(WriteFault)
 }
 
-fn flush<W: Write>(writer: &mut Device<W>) -> Result<(), WriteFault>
+fn flush<W: Output>(writer: &mut Device<W>) -> Result<(), WriteFault>
     requires { interruptions_of writer.old ≡ 0 }
-    ensures { Writes W.contents writer.old writer.new [] result }
+    ensures written { Writes W.contents writer.old writer.new [] result }
+    ensures ended { Ends W.writes W.flushes writer.new result }
 {
     for _i in 0..INTERRUPTION_LIMIT {
         match writer.flush() {

@@ -2,6 +2,7 @@ use Rattle.std.proofs.Common.{◌≡◌, ◌≤◌, ◌<◌, ◌+◌, ◌*◌}
 use Rattle.reg_records.specs.Device.{KeepsEnd, all_interruptions_of, all_reads_of, bytes_in, counted_by, faults_of, interruptions_of, reads_of}
 use Rattle.reg_messages.specs.declared.limits.TheConstants.{REQUEST_READS}
 use Rattle.reg_responses.specs.declared.limits.TheConstants.{INTERRUPTION_LIMIT}
+use Rattle.reg_http.specs.Ends.{EndsAfter}
 use Rattle.reg_http.specs.ServeSteps.{HasAnswered}
 use Rattle.reg_http.proofs.serving.serve_part.Given as goal
 
@@ -15,3 +16,4 @@ invariant-loop-requests g l =
     × (interruptions_of l.writer ≤ INTERRUPTION_LIMIT))
     × (counted_by 0 (all_reads_of l.fn.reader) ≤ all_reads_of l.reader) × KeepsEnd g.R.Read.remaining l.fn.reader l.reader
     × (counted_by 0 (all_interruptions_of l.fn.writer) ≤ all_interruptions_of l.writer)
+    × EndsAfter g.W.Output.writes g.W.Output.flushes l.requests l.fn.writer l.writer

@@ -2,5 +2,5 @@ use Rattle.std.proofs.Common.{append-nil}
 use Rattle.std.specs.Prelude.{decimal}
 use Rattle.reg_responses.proofs.respond.write_version.Goals as goal
 
-pub returns : goal.returns
-returns g c = rw (c.from.ensures, append-nil (decimal c.args.version)) at c.write_told.ensures
+pub returns-clause-written : goal.returns-clause-written
+returns-clause-written g c = rw (c.from.ensures, append-nil (decimal c.args.version)) at c.write_told.ensures.written

@@ -5,8 +5,8 @@ use Rattle.std.proofs.lemmas.Result.{err_from_is_err_and}
 use Rattle.reg_responses.proofs.Written.{IsLostSince-later, LosesWriter-later, take-rest, fits-rest}
 use Rattle.reg_responses.proofs.writing.write_bytes.Goals as goal
 
-pub returns-in_err-at : goal.returns-in_err-at
-returns-in_err-at g c =
+pub returns-in_err-at-clause-written : goal.returns-in_err-at-clause-written
+returns-in_err-at-clause-written g c =
     let ((written, faults, interruptions, least), within) = c.loop-at.invariant in
     let lost = c.in_err-at.ensures.lost in
     let bytes = c.args.bytes.now in

@@ -7,9 +7,9 @@ in_three : (a b c whole rest : List ℕ) → a ++ (b ++ c) ≡ whole → a ++ (b
 in_three a b c whole rest e =
     ap (λ t. a ++ t) (sym (append_assoc b c rest)) ∙ sym (append_assoc a (b ++ c) rest) ∙ ap (λ t. t ++ rest) e
 
-pub returns : goal.returns
+pub returns-clause-written : goal.returns-clause-written
 unfolding head_text
-returns g c =
+returns-clause-written g c =
     let parts = c.allow_field.result in
     let allow = in_three parts.0.now parts.1.now parts.2.now (allow_field c.args.allow) (closing_field c.args.closes ++ codes "\r\n") c.allow_field.ensures in
-    rw (c.from.ensures, c.phrase_of.ensures, c.closing_field.ensures, allow) at c.write_pieces.ensures
+    rw (c.from.ensures, c.phrase_of.ensures, c.closing_field.ensures, allow) at c.write_pieces.ensures.written
