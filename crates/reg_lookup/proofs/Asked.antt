@@ -21,7 +21,7 @@ use Rattle.reg_set.specs.Records.{Records}
 use Rattle.reg_fold.specs.Entries.{EntriesAreRead, entries}
 use Rattle.reg_fold.specs.Standing.{FoundEntriesStand, version_in}
 use Rattle.reg_fold.specs.declared.version_ref.VersionRef.{VersionRef}
-use Rattle.reg_lookup.specs.Checked.{asked, olds_of, read_sound_schema, unless_bad, version_text}
+use Rattle.reg_lookup.specs.Checked.{asked_on, read_sound_schema, unless_bad, version_text}
 use Rattle.reg_lookup.specs.Found.{and_then, counted, version_found}
 use Rattle.reg_refusals.specs.declared.refusal.Refusal.{Refusal}
 use Rattle.reg_refusals.specs.declared.refusal.Refusal.TheVariants.{InvalidSchema, VersionNotFound}
@@ -47,18 +47,15 @@ bad_refused field (Err e) text m failed bad means =
     ap (λ o. and_then (λ schema. unless_bad (bad_defaults schema.nodes) schema) (ok_or o InvalidSchema)) means
     ∙ unless_some (bad_defaults m.nodes) (field e) m bad
 
--- a schema that is read, and the versions, make what is asked
-pub asked_read : (es : List Entry) (subject : List ℕ) (which : Option VersionRef) (text : List ℕ) (m : Meaning) (olds : List VersionText)
-    → read_sound_schema text ≡ Ok m → olds_of es subject which ≡ Ok olds → asked es subject which text ≡ Ok olds
-asked_read es subject which text m olds read found = ap (and_then (λ schema. olds_of es subject which)) read ∙ found
+-- once the schema is read, the versions are what is asked
+pub asked_read : (olds : Result (List VersionText) Refusal) (text : List ℕ) (m : Meaning) → read_sound_schema text ≡ Ok m → asked_on olds text ≡ olds
+asked_read olds text m read = ap (and_then (λ schema. olds)) read
 
 -- the verdict on what a text means is the text's
-pub verdict_of_text : (l k : Level) (text : List ℕ) (m : Meaning) (xs ys : List VersionText) (v : LevelVerdict)
-    → l ≡ k → schema_of text ≡ Some m → xs ≡ ys → IsLevelVerdict l m.nodes (versions_in xs) v → IsVerdictOfTexts k text ys v
-verdict_of_text l k text m xs ys v at means same is =
-    subst (λ j. IsVerdictOfTexts j text ys v) at
-    (subst (λ nodes. IsLevelVerdict l nodes (versions_in ys) v) (ap (λ o. option_map_or (λ s. s.nodes) o []) (sym means))
-    (subst (λ zs. IsLevelVerdict l m.nodes (versions_in zs) v) same is))
+pub verdict_of_text : (l : Level) (text : List ℕ) (m : Meaning) (olds : List VersionText) (v : LevelVerdict)
+    → schema_of text ≡ Some m → IsLevelVerdict l m.nodes (versions_in olds) v → IsVerdictOfTexts l text olds v
+verdict_of_text l text m olds v means is =
+    subst (λ nodes. IsLevelVerdict l nodes (versions_in olds) v) (ap (λ o. option_map_or (λ s. s.nodes) o []) (sym means)) is
 
 abbrev HasSchema : Entry → Type 0
 HasSchema e = is_schema e.text ≡ true

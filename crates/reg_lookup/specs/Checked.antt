@@ -3,11 +3,16 @@ use Rattle.std.specs.Prelude.{◌≡◌, ℕ, List, [], ◌∷◌, Bool, false, 
 use Rattle.avro_schema.specs.Defaults.{bad_defaults}
 use Rattle.avro_schema.specs.Schema.{Meaning}
 use Rattle.reg_level_names.specs.declared.level.Level.{Level}
+use Rattle.reg_levels.specs.Judgement.{first_unread}
 use Rattle.reg_levels.specs.declared.verdict.LevelVerdict.{LevelVerdict}
 use Rattle.reg_levels.specs.Message.{message_of}
+use Rattle.reg_levels.specs.RequiredPairs.{HasRisingVersions, looked_at}
 use Rattle.reg_levels.specs.Texts.{VersionText, IsVerdictOfTexts}
 use Rattle.reg_entries.specs.Sought.{live_of}
 use Rattle.reg_entries.specs.declared.entry.Entry.{Entry}
+use Rattle.reg_set.specs.Records.{Records}
+use Rattle.reg_fold.specs.Entries.{entries}
+use Rattle.reg_fold.specs.InForce.{level}
 use Rattle.reg_refusals.specs.declared.refusal.Refusal.{Refusal}
 use Rattle.reg_refusals.specs.declared.refusal.Refusal.TheVariants.{InvalidSchema}
 use Rattle.reg_fold.specs.declared.version_ref.VersionRef.{VersionRef}
@@ -33,8 +38,24 @@ olds_of es subject None = Ok (map version_text (live_of es subject))
 olds_of es subject (Some which) = found_map (λ e. version_text e ∷ []) (version_found es subject which false)
 
 -- the versions, once the schema is read
+abbrev pub asked_on : Result (List VersionText) Refusal → List ℕ → Result (List VersionText) Refusal
+asked_on olds text = and_then (λ schema. olds) (read_sound_schema text)
+
 abbrev pub asked : List Entry → List ℕ → Option VersionRef → List ℕ → Result (List VersionText) Refusal
-asked es subject which text = and_then (λ schema. olds_of es subject which) (read_sound_schema text)
+asked es subject which text = asked_on (olds_of es subject which) text
+
+-- what a check is answered on: the level in force for the subject, and of the versions those that it looks at, or why there are none
+pub record CheckedOn : Type 0 where
+  pub level : Level
+  pub olds : Result (List VersionText) Refusal
+
+abbrev pub checked_on : Records → List ℕ → Option VersionRef → CheckedOn
+checked_on rs subject which =
+    record { level = level rs (Some subject); olds = found_map (looked_at (level rs (Some subject))) (olds_of (entries rs) subject which) }
+
+-- the versions rise, and each text is a schema's
+abbrev pub AreRead : List VersionText → Type 0
+AreRead olds = HasRisingVersions olds × (first_unread olds ≡ None)
 
 -- the answer says the verdict of the pairs that the level requires of the text against the versions
 abbrev pub TellsVerdict : Level → List ℕ → Bool → Result (List VersionText) Refusal → Answer → Type 0

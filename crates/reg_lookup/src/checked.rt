@@ -1,30 +1,91 @@
 // The query whether a schema may follow.
-ghost use Rattle.std.specs.Prelude.{◌≡◌, List, IfOk, IfErr, None, Ok, Some, map};
+ghost use Rattle.std.specs.Prelude.{◌≡◌, ℕ, List, Option, IfOk, IfErr, None, Ok, map};
 ghost use Rattle.avro_schema.specs.Schema.{schema_of};
 ghost use Rattle.reg_levels.specs.RequiredPairs.{HasRisingVersions};
 ghost use Rattle.reg_levels.specs.Judgement.{first_unread};
+ghost use Rattle.reg_levels.specs.LevelVerdict.{IsLevelVerdict};
 ghost use Rattle.reg_levels.specs.Message.{message_of};
-ghost use Rattle.reg_levels.specs.Texts.{VersionText, IsVerdictOfTexts};
+ghost use Rattle.reg_levels.specs.Texts.{VersionText, IsVerdictOfTexts, versions_in};
+ghost use Rattle.reg_set.specs.Records.{Records};
 ghost use Rattle.reg_fold.specs.Entries.{entries};
-ghost use Rattle.reg_fold.specs.InForce.{level};
+ghost use Rattle.reg_fold.specs.declared.version_ref.VersionRef.{VersionRef};
+ghost use Rattle.reg_lookup.specs.Answers.{IsAnswer};
 ghost use Rattle.reg_lookup.specs.Bodies as bodies;
-ghost use Rattle.reg_lookup.specs.Checked.{asked, olds_of, read_sound_schema, version_text, TellsVerdict};
+ghost use Rattle.reg_lookup.specs.Checked.{AreRead, asked_on, checked_on, olds_of, read_sound_schema, version_text, TellsVerdict};
 ghost use Rattle.reg_lookup.specs.Gives.{IsRefusalOf};
+ghost use Rattle.reg_lookup.specs.declared.query.Query.TheVariants.{Check};
 
 use crate::answered::{Answer, told};
 use crate::bodies::check_body;
 use crate::error::LookupError;
 use crate::found::version_found;
 use avro_schema::Schema;
-use base_text::Text;
+use base_text::{Listed, Text};
 use reg_fold::{Entry, Refusal, Registry, VersionRef, entries_are_read, found_entries_stand};
-use reg_levels::{LevelVerdict, check_read_texts};
+use reg_level_names::Level;
+use reg_levels::{LevelVerdict, check_read_texts, copy_of, looked_at};
 use std::alloc::{AllocError, Global};
+use std::marker::Model;
 
-/// Whether a schema is compatible with a subject's live versions, or with the one of them that is
-/// named, under the level in force for the subject. A schema that can't be read is refused first.
+/// What a check is answered on: the level in force for the subject, and the versions that it looks at
+/// of those that are asked, with copies of their texts, or why there are none.
 ///
-/// The only error is want of memory.
+/// It is taken from a registry, and then answers without it: reading and comparing schemas may take
+/// long.
+#[derive(Debug, Drop)]
+pub struct Grounds {
+    level: Level,
+    olds: Result<Listed<(u32, Text)>, Refusal>,
+}
+
+impl Model for Grounds {
+    ghost use Rattle.std.specs.Prelude.{IfOk};
+    ghost use Rattle.reg_lookup.specs.Checked.{AreRead, CheckedOn};
+
+    ghost Value = { CheckedOn };
+
+    ghost view = { λ g. record { level = g.level; olds = g.olds } };
+
+    ghost invariant = { λ g. IfOk g.olds AreRead };
+}
+
+impl Grounds {
+    /// What a check of a subject is answered on, against its live versions, or the one of them that is
+    /// named. The only error is want of memory.
+    pub fn of(
+        alloc: Global,
+        registry: &Registry,
+        subject: &str,
+        which: Option<VersionRef>,
+    ) -> Result<Grounds, AllocError>
+        ensures { IfOk result (λ grounds. grounds ≡ checked_on registry.now subject.now which) }
+    {
+        let level = registry.level(Some(subject));
+        match olds_asked(alloc, registry, subject, which) {
+            Ok(olds) => Ok(Grounds {
+                level,
+                olds: Ok(copy_of(alloc, looked_at(level, &olds))?),
+            }),
+            Err(LookupError::Refused(refusal)) => Ok(Grounds {
+                level,
+                olds: Err(refusal),
+            }),
+            Err(LookupError::OutOfMemory) => Err(AllocError),
+        }
+    }
+
+    /// The answer whether a schema may follow, over each registry that it could be taken from. A schema
+    /// that can't be read is refused first. The only error is want of memory.
+    pub fn answer(self, alloc: Global, text: &str, verbose: bool) -> Result<Answer, AllocError>
+        ensures { IfOk result (λ a. (rs : Records) (subject : List ℕ) (which : Option VersionRef)
+            → self ≡ checked_on rs subject which → IsAnswer rs (Check subject which text.now verbose) a) }
+    {
+        let Grounds { level, olds } = self;
+        answer_on(alloc, level, olds, text, verbose)
+    }
+}
+
+/// The answer of a check over a registry. The only error is want of memory.
 pub(crate) fn check_answer(
     alloc: Global,
     registry: &Registry,
@@ -33,10 +94,24 @@ pub(crate) fn check_answer(
     text: &str,
     verbose: bool,
 ) -> Result<Answer, AllocError>
-    ensures { IfOk result (TellsVerdict (level registry.now (Some subject.now)) text.now verbose
-        (asked (entries registry.now) subject.now which text.now)) }
+    ensures { IfOk result (IsAnswer registry.now (Check subject.now which text.now verbose)) }
 {
-    match verdict_asked(alloc, registry, subject, which, text) {
+    let grounds = Grounds::of(alloc, registry, subject, which)?;
+    grounds.answer(alloc, text, verbose)
+}
+
+/// Whether a schema is compatible with the versions that are asked, all of which the level looks at.
+fn answer_on(
+    alloc: Global,
+    level: Level,
+    olds: Result<Listed<(u32, Text)>, Refusal>,
+    text: &str,
+    verbose: bool,
+) -> Result<Answer, AllocError>
+    requires { IfOk olds AreRead }
+    ensures { IfOk result (TellsVerdict level text.now verbose (asked_on olds text.now)) }
+{
+    match verdict_on(alloc, level, olds, text) {
         Ok(verdict) => {
             let body = verdict_body(alloc, verbose, &verdict)?;
             told(alloc, Ok(body))
@@ -45,24 +120,37 @@ pub(crate) fn check_answer(
     }
 }
 
-/// The verdict of a subject's level on a schema against the versions that are asked.
-fn verdict_asked(
+/// The verdict of a level on a schema against those versions.
+fn verdict_on(
     alloc: Global,
-    registry: &Registry,
-    subject: &str,
-    which: Option<VersionRef>,
+    level: Level,
+    olds: Result<Listed<(u32, Text)>, Refusal>,
     text: &str,
 ) -> Result<LevelVerdict, LookupError>
-    ensures found { IfOk result (λ v. (olds : List VersionText)
-        × (asked (entries registry.now) subject.now which text.now ≡ Ok olds)
-        × IsVerdictOfTexts (level registry.now (Some subject.now)) text.now olds v) }
-    ensures refused { IfErr result (IsRefusalOf (asked (entries registry.now) subject.now which text.now)) }
+    requires { IfOk olds AreRead }
+    ensures found { IfOk result (λ v. (against : List VersionText)
+        × (asked_on olds text.now ≡ Ok against) × IsVerdictOfTexts level text.now against v) }
+    ensures refused { IfErr result (IsRefusalOf (asked_on olds text.now)) }
 {
     let schema = sound_schema(alloc, text)?;
-    let olds = olds_asked(alloc, registry, subject, which)?;
-    let level = registry.level(Some(subject));
-    let verdict = check_read_texts(alloc, level, &schema, &olds)?;
-    Ok(verdict)
+    match olds {
+        Ok(olds) => Ok(check_each(alloc, level, &schema, &olds)?),
+        Err(refusal) => Err(LookupError::Refused(refusal)),
+    }
+}
+
+/// The verdict of a level on a schema. The only error is want of memory.
+fn check_each(
+    alloc: Global,
+    level: Level,
+    schema: &Schema,
+    olds: &Listed<(u32, Text)>,
+) -> Result<LevelVerdict, AllocError>
+    requires { AreRead olds.now }
+    ensures { IfOk result (IsLevelVerdict level schema.now.nodes (versions_in olds.now)) }
+{
+    let lent = lend_texts(alloc, olds.as_slice())?;
+    check_read_texts(alloc, level, schema, &lent)
 }
 
 /// The schema of a text, where its defaults are valid.
@@ -118,6 +206,18 @@ fn texts_of<'a>(alloc: Global, entries: &[&'a Entry]) -> Result<Vec<(u32, &'a st
         olds.push((entry.version, entry.text.as_str()))?;
     }
     Ok(olds)
+}
+
+/// The same versions, with their texts lent.
+fn lend_texts<'a>(alloc: Global, olds: &'a [(u32, Text)]) -> Result<Vec<(u32, &'a str)>, AllocError>
+    ensures texts { IfOk result (λ lent. map (λ old. (old.0, old.1.now)) lent.items ≡ olds.now) }
+    ensures versions { IfOk result (λ lent. map (λ old. old.0) lent.items ≡ map (λ old. old.0) olds.now) }
+{
+    let mut lent = Vec::new(alloc);
+    for old in olds {
+        lent.push((old.0, old.1.as_str()))?;
+    }
+    Ok(lent)
 }
 
 /// What is told of a verdict; of a clash only where `verbose` is true.

@@ -16,5 +16,6 @@ mod settings;
 
 pub use answered::Answer;
 pub use answering::answer;
+pub use checked::Grounds;
 pub use laws::{compactions_answer_alike, queries_have_one_answer};
 pub use query::Query;

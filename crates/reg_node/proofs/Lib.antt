@@ -1,5 +1,6 @@
 pub mod Caught
 pub mod Drawn
 pub mod Lasts
+pub mod Matters
 pub mod Members
 pub mod Prefixes

@@ -1,2 +1,3 @@
 pub mod Caught
+pub mod Judging
 pub mod Takes

@@ -149,8 +149,9 @@ impl<
         ensures new { IfOk result (λ v. v ≡ []) }
         ensures same { self.new ≡ self.old }
     {
+        let alloc = *Box::allocator(&self.out);
         let reader = self.out.reader()?;
-        Ok(View::new(reader))
+        Ok(View::new(alloc, reader))
     }
 }
 

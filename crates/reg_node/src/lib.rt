@@ -1,11 +1,14 @@
 //! A node: its follower, which takes from the topic, and the views that answer.
 #![tactic(auto)]
 
+mod against;
+mod case;
 mod follower;
 mod laws;
 mod take;
 mod view;
 
+pub use case::Case;
 pub use follower::Follower;
 pub use laws::takes_fold_to_last_records;
 pub use take::{Take, Taken};

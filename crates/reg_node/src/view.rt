@@ -1,15 +1,27 @@
 // A node's view, which waits for nobody.
-ghost use Rattle.std.specs.Prelude.{◌≡◌, ◌⊎◌, IfOk};
+ghost use Rattle.std.specs.Prelude.{◌≡◌, ◌⊎◌, IfOk, IfSome};
 ghost use Rattle.std.specs.FinSet.{empty};
 ghost use mathlib.Core.List.{IsPrefix};
 ghost use Rattle.reg_set.specs.LastRecords.{last_records};
 ghost use Rattle.reg_lookup.specs.Answers.{IsAnswer};
+ghost use Rattle.reg_lookup.specs.Checked.{checked_on};
+ghost use Rattle.reg_lookup.specs.declared.query.Query.TheVariants.{Check};
+ghost use Rattle.reg_leader.specs.declared.command.Command.TheVariants.{Register};
+ghost use Rattle.reg_node.specs.Judging.{IsJudgementOf, IsMatterOf, against};
 ghost use Rattle.reg_node.specs.Takes.{taken};
 
+use crate::against::Against;
+use crate::case::Case;
 use crate::laws::takes_fold_to_last_records;
 use crate::take::{Take, Taken};
+use avro_schema::Schema;
+use base_text::Text;
 use reg_feed::{Copies, FeedName, FeedReader, Seen};
-use reg_lookup::{Answer, Query, answer};
+use reg_fold::VersionRef;
+use reg_judge::Judge;
+use reg_leader::Command;
+use reg_levels::Judged;
+use reg_lookup::{Answer, Grounds, Query, answer};
 use std::alloc::{AllocError, Global};
 use std::marker::Model;
 
@@ -17,6 +29,7 @@ use std::marker::Model;
 /// was told of.
 #[derive(Drop)]
 pub struct View<M: FeedName<Take, Taken>, U: Copies<Take, Taken, M>> {
+    alloc: Global,
     reader: FeedReader<Take, Taken, M, U>,
 }
 
@@ -33,11 +46,11 @@ impl<M: FeedName<Take, Taken>, U: Copies<Take, Taken, M>> Model for View<M, U> {
 }
 
 impl<M: FeedName<Take, Taken>, U: Copies<Take, Taken, M>> View<M, U> {
-    pub(crate) fn new(reader: FeedReader<Take, Taken, M, U>) -> View<M, U>
+    pub(crate) fn new(alloc: Global, reader: FeedReader<Take, Taken, M, U>) -> View<M, U>
         requires { M.first ≡ empty }
         ensures { result ≡ reader }
     {
-        View { reader }
+        View { alloc, reader }
     }
 
     /// The front of the node's list that it saw or was told of.
@@ -59,11 +72,133 @@ impl<M: FeedName<Take, Taken>, U: Copies<Take, Taken, M>> View<M, U> {
     /// The answer over what the node took by some published list that begins with all that this view
     /// saw or was told of; that list is then what it saw. It waits for nobody. The only error is
     /// want of memory, or that the follower is gone.
+    ///
+    /// What a check is answered on is copied, and then answered on, so that a long check holds nobody
+    /// up.
     pub fn lookup(&mut self, alloc: Global, query: &Query) -> Result<Answer, AllocError>
         ensures answered { IfOk result (IsAnswer (last_records (taken self.new)) query.now) }
         ensures longer { IsPrefix self.old self.new }
     {
-        look(alloc, &mut self.reader, query)
+        match query {
+            Query::Check {
+                subject,
+                version,
+                text,
+                verbose,
+            } => check(alloc, &mut self.reader, subject, *version, text, *verbose),
+            _ => look(alloc, &mut self.reader, query),
+        }
+    }
+
+    /// The judgement of a registration over what the node took by some published list that begins with
+    /// all that this view saw or was told of; that list is then what it saw. `None` for each other
+    /// command, where the text is no schema's, where memory was refused, and where the follower is gone.
+    ///
+    /// What it is judged against is copied, and then judged, so that a long judgement holds nobody up.
+    pub fn judge(&mut self, command: &Command, judge: &mut Judge) -> Option<Judged>
+        ensures judged { IfSome result (IsJudgementOf (last_records (taken self.new)) command.now) }
+        ensures longer { IsPrefix self.old self.new }
+        ensures capacity { judge.new.capacity ≡ judge.old.capacity }
+    {
+        let case = self.case(command)?;
+        case.judged(judge)
+    }
+
+    /// What is to be judged of a registration, over such a list. `None` for each other command, where
+    /// the text is no schema's, where memory was refused, and where the follower is gone.
+    pub fn case(&mut self, command: &Command) -> Option<Case>
+        ensures case { IfSome result (IsMatterOf (last_records (taken self.new)) command.now) }
+        ensures longer { IsPrefix self.old self.new }
+    {
+        let Command::Register { subject, text } = command else {
+            return None;
+        };
+        match copy_case(self.alloc, &mut self.reader, subject, text) {
+            Ok(case) => case,
+            Err(_) => None,
+        }
+    }
+}
+
+/// The answer of a check.
+fn check<M: FeedName<Take, Taken>, U: Copies<Take, Taken, M>>(
+    alloc: Global,
+    reader: &mut FeedReader<Take, Taken, M, U>,
+    subject: &Text,
+    which: Option<VersionRef>,
+    text: &Text,
+    verbose: bool,
+) -> Result<Answer, AllocError>
+    requires { M.first ≡ empty }
+    ensures answered { IfOk result (IsAnswer (last_records (taken reader.new)) (Check subject.now which text.now verbose)) }
+    ensures longer { IsPrefix reader.old reader.new }
+{
+    let grounds = copy_grounds(alloc, reader, subject.as_str(), which)?;
+    grounds.answer(alloc, text.as_str(), verbose)
+}
+
+/// What a check is answered on.
+fn copy_grounds<M: FeedName<Take, Taken>, U: Copies<Take, Taken, M>>(
+    alloc: Global,
+    reader: &mut FeedReader<Take, Taken, M, U>,
+    subject: &str,
+    which: Option<VersionRef>,
+) -> Result<Grounds, AllocError>
+    requires { M.first ≡ empty }
+    ensures grounds { IfOk result (λ grounds. grounds ≡ checked_on (last_records (taken reader.new)) subject.now which) }
+    ensures longer { IsPrefix reader.old reader.new }
+{
+    takes_fold_to_last_records();
+    let found = reader.read(
+        |taken| -> Result<Grounds, AllocError>
+            ensures { IfOk result (λ grounds. grounds ≡ checked_on taken.now subject.entry.now which) }
+        { Grounds::of(alloc, taken.registry(), subject, which) },
+    );
+    match found {
+        Some(copied) => copied,
+        None => Err(AllocError),
+    }
+}
+
+/// What is to be judged of a registration, if its text is a schema's.
+fn copy_case<M: FeedName<Take, Taken>, U: Copies<Take, Taken, M>>(
+    alloc: Global,
+    reader: &mut FeedReader<Take, Taken, M, U>,
+    subject: &Text,
+    text: &Text,
+) -> Result<Option<Case>, AllocError>
+    requires { M.first ≡ empty }
+    ensures case { IfOk result (λ found. IfSome found (IsMatterOf (last_records (taken reader.new)) (Register subject.now text.now))) }
+    ensures longer { IsPrefix reader.old reader.new }
+{
+    let Some(schema) = Schema::read_if_any(alloc, text.as_str())? else {
+        return Ok(None);
+    };
+    let subject = subject.clone()?;
+    let new_text = schema.normal().clone()?;
+    let against = copy_against(alloc, reader, &subject)?;
+    Ok(Some(Case::of(alloc, subject, new_text, against)))
+}
+
+/// What a new schema is judged against.
+fn copy_against<M: FeedName<Take, Taken>, U: Copies<Take, Taken, M>>(
+    alloc: Global,
+    reader: &mut FeedReader<Take, Taken, M, U>,
+    subject: &Text,
+) -> Result<Against, AllocError>
+    requires { M.first ≡ empty }
+    ensures against { IfOk result (λ made. made ≡ against (last_records (taken reader.new)) subject.now) }
+    ensures longer { IsPrefix reader.old reader.new }
+{
+    takes_fold_to_last_records();
+    let found = reader.read(
+        |taken| -> Result<Against, AllocError>
+            ensures { IfOk result (λ made. made ≡ against taken.now subject.entry.now) }
+        { Against::over(alloc, taken.registry(), subject) },
+    );
+    match found {
+        Some(copied) => copied,
+        None => Err(AllocError),
     }
 }
 

@@ -5,7 +5,7 @@ ghost use Rattle.std.specs.FinSet.{from_list};
 ghost use Rattle.reg_set.specs.LastRecords.{last_records};
 ghost use Rattle.reg_leader.specs.Adoption.{HasPlace};
 ghost use Rattle.reg_leader.specs.Outcome.{IsOutOfMemory};
-ghost use Rattle.reg_topic.specs.Topic.{IsAdopted, MayCommit, MayFollow, owed_by, topic_from};
+ghost use Rattle.reg_topic.specs.Topic.{IsAdopted, MayCommit, MayFollow, owed_by, registry_of, topic_from};
 ghost use Rattle.reg_shared.specs.Held.{base_of, held_of, topic_at};
 ghost use Rattle.reg_pen.specs.Opening.{IsKeepRefusal, IsOpenRefusal, KeepsDue};
 ghost use Rattle.reg_pen.specs.Pen.{Acts, Compacts, Follows, IsAhead, IsBehind, IsNoMemory, IsStepAfter, LeavesCompaction, LeavesLasts, Submits, StillPends, batches, counted, settled};
@@ -17,7 +17,7 @@ use crate::open_error::OpenError;
 use crate::pass::Pass;
 use base_text::Listed;
 use reg_feed::{Copies, FeedName, FeedReader, FeedWriter, NoPlace, Seen, Stored, Unnamed, feed};
-use reg_fold::{Refusal, StoreFault};
+use reg_fold::{Refusal, Registry, StoreFault};
 use reg_leader::{Command, Decision, Reply, decide};
 use reg_levels::Judged;
 use reg_records::{Log, Record};
@@ -199,6 +199,16 @@ impl<N: FeedName<Item, Shared>, S: Copies<Item, Shared, N>, K: Keep + Drop, R: W
         ensures { result ≡ batches self.now.published }
     {
         self.committed
+    }
+
+    /// The registry over the published log, on which a command is decided where nothing is pending.
+    /// Takes no memory.
+    pub fn registry(&self) -> &Registry
+        ensures { result.now ≡ registry_of (topic_at N.first self.now.published) }
+    {
+        published_lists_fold();
+        kept_gives_registry();
+        self.writer.value().registry()
     }
 
     /// Publishes what is pending, and then a compaction that leaves the last records alone, which isn't

@@ -1,0 +1,148 @@
+// What a new schema of a subject is judged against.
+ghost use Rattle.std.specs.Prelude.{◌≡◌, ◌↔◌, true, IsTrue, IfOk, map};
+ghost use Rattle.reg_levels.specs.Judgement.{IsMadeOf};
+ghost use Rattle.reg_levels.specs.RequiredPairs.{HasRisingVersions};
+ghost use Rattle.reg_rules.specs.Standing.{texts_of};
+ghost use Rattle.reg_node.specs.Judging.{against};
+
+use base_text::{Listed, Text};
+use reg_fold::{Entry, Registry};
+use reg_judge::Judge;
+use reg_level_names::Level;
+use reg_levels::{Judged, JudgedError};
+use std::alloc::{AllocError, Global};
+use std::marker::Model;
+
+/// The longest text, in bytes, that a judge is asked about.
+const LONGEST_KEPT: usize = 4_096;
+
+/// What a new schema of a subject is judged against: the level in force, and the live versions with
+/// copies of their texts.
+#[derive(Debug, Drop)]
+pub(crate) struct Against {
+    level: Level,
+    olds: Listed<(u32, Text)>,
+}
+
+impl Model for Against {
+    ghost use Rattle.reg_levels.specs.RequiredPairs.{HasRisingVersions};
+    ghost use Rattle.reg_node.specs.Judging.{Standing};
+
+    ghost Value = { Standing };
+
+    ghost view = { λ a. record { level = a.level; olds = a.olds } };
+
+    ghost invariant = { λ a. HasRisingVersions a.olds };
+}
+
+impl Against {
+    /// What a new schema of the subject is judged against over a registry. The only error is want of
+    /// memory.
+    pub(crate) fn over(
+        alloc: Global,
+        registry: &Registry,
+        subject: &Text,
+    ) -> Result<Against, AllocError>
+        ensures { IfOk result (λ made. made ≡ against registry.now subject.now) }
+    {
+        let level = registry.level(Some(subject.as_str()));
+        let live = registry.live(subject.as_str())?;
+        let olds = copy_texts(alloc, &live)?;
+        Ok(Against { level, olds })
+    }
+
+    /// Whether a new schema of the subject is judged against the same over a registry. The only error
+    /// is want of memory.
+    pub(crate) fn stands(&self, registry: &Registry, subject: &Text) -> Result<bool, AllocError>
+        ensures { IfOk result (λ yes. (yes ≡ true) ↔ (against registry.now subject.now ≡ self.now)) }
+    {
+        if registry.level(Some(subject.as_str())) != self.level {
+            return Ok(false);
+        }
+        let live = registry.live(subject.as_str())?;
+        Ok(are_texts_of(self.olds.as_slice(), &live))
+    }
+
+    /// The judgement of a new schema's text, by the judge where no text is longer than 4,096 bytes,
+    /// else without it.
+    pub(crate) fn judged(
+        &self,
+        alloc: Global,
+        new_text: &str,
+        judge: &mut Judge,
+    ) -> Result<Judged, JudgedError>
+        ensures made { IfOk result (λ j. IsMadeOf j self.now.level new_text.now self.now.olds) }
+        ensures capacity { judge.new.capacity ≡ judge.old.capacity }
+    {
+        let olds = lend_texts(alloc, self.olds.as_slice())?;
+        judge_lent(alloc, self.level, new_text, &olds, judge)
+    }
+}
+
+/// The judgement of a new schema's text against old ones.
+fn judge_lent(
+    alloc: Global,
+    level: Level,
+    new_text: &str,
+    olds: &[(u32, &str)],
+    judge: &mut Judge,
+) -> Result<Judged, JudgedError>
+    requires { HasRisingVersions olds.now }
+    ensures made { IfOk result (λ j. IsMadeOf j level new_text.now (map (λ old. (old.0, old.1.now)) olds.now)) }
+    ensures capacity { judge.new.capacity ≡ judge.old.capacity }
+{
+    if is_kept(new_text) && olds.iter().all(|old| is_kept(old.1)) {
+        judge.make(level, new_text, olds)
+    } else {
+        Judged::make(alloc, level, new_text, olds)
+    }
+}
+
+/// Whether a judge is asked about the text.
+fn is_kept(text: &str) -> bool {
+    text.len() <= LONGEST_KEPT
+}
+
+/// The versions of those entries, with copies of the texts that they hold.
+fn copy_texts(alloc: Global, entries: &[&Entry]) -> Result<Listed<(u32, Text)>, AllocError>
+    ensures { IfOk result (λ olds. olds ≡ texts_of (map (λ e. e.now) entries.now)) }
+{
+    let mut olds = Vec::new(alloc);
+    for entry in entries {
+        olds.push((entry.version, entry.text.clone()?))?;
+    }
+    Ok(Listed::from(olds))
+}
+
+/// Whether they are the versions of those entries, with the texts that they hold.
+fn are_texts_of(olds: &[(u32, Text)], entries: &[&Entry]) -> bool
+    ensures { IsTrue result ↔ (olds.now ≡ map (λ e. (e.now.version, e.now.text)) entries.now) }
+{
+    if olds.len() != entries.len() {
+        return false;
+    }
+    for place in 0..olds.len() {
+        if !is_text_of(&olds[place], entries[place]) {
+            return false;
+        }
+    }
+    true
+}
+
+fn is_text_of(old: &(u32, Text), entry: &Entry) -> bool
+    ensures { IsTrue result ↔ (old.now ≡ (entry.now.version, entry.now.text)) }
+{
+    old.0 == entry.version && old.1.as_str() == entry.text.as_str()
+}
+
+/// The same versions, with their texts lent.
+fn lend_texts<'a>(alloc: Global, olds: &'a [(u32, Text)]) -> Result<Vec<(u32, &'a str)>, AllocError>
+    ensures texts { IfOk result (λ lent. map (λ old. (old.0, old.1.now)) lent.items ≡ olds.now) }
+    ensures versions { IfOk result (λ lent. map (λ old. old.0) lent.items ≡ map (λ old. old.0) olds.now) }
+{
+    let mut lent = Vec::new(alloc);
+    for old in olds {
+        lent.push((old.0, old.1.as_str()))?;
+    }
+    Ok(lent)
+}

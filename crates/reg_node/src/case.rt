@@ -1,0 +1,85 @@
+// A registration that is to be judged.
+ghost use Rattle.std.specs.Prelude.{◌≡◌, ◌↔◌, true, IfOk, IfSome};
+ghost use Rattle.reg_levels.specs.Judgement.{IsMadeOf};
+ghost use Rattle.reg_node.specs.Judging.{against};
+
+use crate::against::Against;
+use base_text::Text;
+use reg_fold::Registry;
+use reg_judge::Judge;
+use reg_levels::Judged;
+use std::alloc::{AllocError, Global};
+use std::marker::Model;
+
+/// A registration that is to be judged: its subject, its schema's normal text, and copies of what that
+/// is judged against.
+#[derive(Debug, Drop)]
+pub struct Case {
+    alloc: Global,
+    subject: Text,
+    new_text: Text,
+    against: Against,
+}
+
+impl Model for Case {
+    ghost use Rattle.reg_node.specs.Judging.{Matter};
+
+    ghost Value = { Matter };
+
+    ghost view = { λ c. record { subject = c.subject; new_text = c.new_text; standing = c.against } };
+}
+
+impl Case {
+    /// A case of these. Takes no memory.
+    pub(crate) fn of(alloc: Global, subject: Text, new_text: Text, against: Against) -> Case
+        ensures { result ≡ record { subject = subject; new_text = new_text; standing = against } }
+    {
+        Case {
+            alloc,
+            subject,
+            new_text,
+            against,
+        }
+    }
+
+    /// The judgement, by the judge where no text is longer than 4,096 bytes, else without it. `None`
+    /// where a text is no schema's, or where memory was refused.
+    pub fn judged(&self, judge: &mut Judge) -> Option<Judged>
+        ensures made { IfSome result (λ j. IsMadeOf j self.now.standing.level self.now.new_text self.now.standing.olds) }
+        ensures capacity { judge.new.capacity ≡ judge.old.capacity }
+    {
+        match self
+            .against
+            .judged(self.alloc, self.new_text.as_str(), judge)
+        {
+            Ok(judged) => Some(judged),
+            Err(_) => None,
+        }
+    }
+
+    /// Whether it is the case of the same registration over a registry. The only error is want of memory.
+    pub fn stands(&self, registry: &Registry) -> Result<bool, AllocError>
+        ensures { IfOk result (λ yes. (yes ≡ true) ↔ (against registry.now self.now.subject ≡ self.now.standing)) }
+    {
+        self.against.stands(registry, &self.subject)
+    }
+
+    /// The case of the same registration over another registry. The only error is want of memory.
+    pub fn anew(self, registry: &Registry) -> Result<Case, AllocError>
+        ensures { IfOk result (λ case. case ≡ record self { standing = against registry.now self.subject }) }
+    {
+        let Case {
+            alloc,
+            subject,
+            new_text,
+            against: _,
+        } = self;
+        let against = Against::over(alloc, registry, &subject)?;
+        Ok(Case {
+            alloc,
+            subject,
+            new_text,
+            against,
+        })
+    }
+}
