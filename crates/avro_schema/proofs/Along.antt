@@ -5,7 +5,7 @@ use Rattle.std.proofs.lemmas.List.{append-nil}
 use Rattle.std.proofs.lemmas.List.Elements.{Contains-append_cases}
 use Rattle.avro_schema.specs.declared.error.SchemaError.{SchemaError}
 use Rattle.avro_schema.specs.declared.error.SchemaError.TheVariants as fault
-use Rattle.avro_schema.specs.declared.kinds.Kind.{Kind}
+use Rattle.avro_schema.specs.Kinds.{Kind}
 use Rattle.avro_schema.specs.declared.node.NodeId.{NodeId}
 use Rattle.avro_schema.specs.declared.node.Field.{Field}
 use Rattle.avro_schema.specs.declared.builder.Builder.{Builder}
@@ -102,18 +102,18 @@ pub record BranchesAlong (old : Builder) (ns : List ℕ) (all : Forms) (now : Bu
 pub branches_start : (old : Builder) (ns : List ℕ) (all : Forms) (ds : List Definition) → HasMet old ds → BranchesAlong old ns all old all [] [] ds
 branches_start old ns all ds met = record { met_now = ds; met = met; reads = λ new js r. r; refuses = λ e c. c; kinds_are = refl }
 
-pub branches_step : (old : Builder) (ns : List ℕ) (all : Forms) (now next : Builder) (f : Form) (rest : Forms) (is : List NodeId) (ks : List Kind) (i : NodeId) (k : Kind) (ds : List Definition)
-    → BranchesAlong old ns all now (and_form f rest) is ks ds → ((es : List Definition) → HasMet now es → IsTypeRead es ns f now next i) → ((es : List Definition) → HasMet now es → k ≡ kind_in_union es ns (opened now) f)
-    → BranchesAlong old ns all next rest (is ++ i ∷ []) (ks ++ k ∷ []) ds
-branches_step old ns all now next f rest is ks i k ds along reads kind =
+abbrev pub branches_step : (old : Builder) (ns : List ℕ) (all : Forms) (now next : Builder) (f : Form) (rest : Forms) (is : List NodeId) (ks : List Kind) (i : NodeId) (ds : List Definition)
+    → (along : BranchesAlong old ns all now (and_form f rest) is ks ds) → IsTypeRead along.met_now ns f now next i
+    → BranchesAlong old ns all next rest (is ++ i ∷ []) (ks ++ kind_in_union along.met_now ns (opened now) f ∷ []) ds
+branches_step old ns all now next f rest is ks i ds along r =
     let es = along.met_now in
-    let r = reads es along.met in
+    let k = kind_in_union es ns (opened now) f in
     record {
       met_now = es ++ definitions (places ns (opened now) f);
       met = r.0.met;
       reads = λ new js s. let t : AreRead ds ns all old new (is ++ i ∷ js) = along.reads new (i ∷ js) (cons_read es ns f rest now next new i js r s) in subst (λ l. AreRead ds ns all old new l) (sym (append_assoc is (i ∷ []) js)) t;
       refuses = λ e c. along.refuses e (cons_tail es ns f rest now next i e r c);
-      kinds_are = along.kinds_are ∙ ap (λ l. ks ++ l) (cons_kinds es ns f rest now next i r ∙ ap (λ j. j ∷ all_kinds (es ++ definitions (places ns (opened now) f)) ns rest next) (sym (kind es along.met))) ∙ sym (append_assoc ks (k ∷ []) _);
+      kinds_are = along.kinds_are ∙ ap (λ l. ks ++ l) (cons_kinds es ns f rest now next i r) ∙ sym (append_assoc ks (k ∷ []) _);
     }
 
 pub branches_end : (old : Builder) (ns : List ℕ) (all : Forms) (now : Builder) (is : List NodeId) (ks : List Kind) (ds : List Definition) → BranchesAlong old ns all now no_forms is ks ds → fits_union ks ≡ true → AreBranchesRead ds ns all old now is

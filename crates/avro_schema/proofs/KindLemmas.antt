@@ -1,18 +1,14 @@
 -- Kinds of branches, and names that are primitives or uses.
-use Rattle.std.proofs.Common.{◌≡◌, ℕ, List, [], ◌∷◌, ◌++◌, Bool, true, false, ◌&&◌, ◌||◌, not, cond, Option, Some, None, find, Result, IfOk, refl, sym, ◌∙◌, ap, subst}
+use Rattle.std.proofs.Common.{◌≡◌, ℕ, List, [], ◌∷◌, ◌++◌, Bool, true, false, ◌&&◌, ◌||◌, not, Option, Some, None, refl, sym, ◌∙◌, ap}
 use Rattle.std.specs.List.{list_any}
 use Rattle.std.proofs.lemmas.List.Folds.{list_any-append}
-use Rattle.std.proofs.lemmas.Result.{IfOk-weaker}
-use Rattle.avro_schema.specs.declared.kinds.Kind.{Kind}
-use Rattle.avro_schema.specs.declared.kinds.Kind.TheVariants as kind
+use Rattle.avro_schema.specs.Kinds.{Kind}
+use Rattle.avro_schema.specs.Kinds as kind
 use Rattle.avro_schema.specs.declared.node.Primitive.{Primitive}
 use Rattle.avro_schema.specs.contracts.node.PrimitivePartialEq.TheImpl.Laws.{laws-law}
 use Rattle.avro_schema.specs.Names.{primitive_named, all_distinct}
-use Rattle.avro_schema.specs.declared.builder.Builder.{Builder}
-use Rattle.avro_schema.specs.Form.{Heading, Form, plain, by_name, form_of_name}
-use Rattle.avro_schema.specs.Places.{Definition, definition_used, defined_by}
-use Rattle.avro_schema.specs.Faults.{kind_in_union, kind_named, same_primitive, same_kind, is_union_kind, fits_union}
-use Rattle.avro_schema.specs.Building.{may_stand, HasMet, opened}
+use Rattle.avro_schema.specs.Form.{plain, by_name, form_of_name}
+use Rattle.avro_schema.specs.Faults.{same_primitive, same_kind, is_union_kind, fits_union}
 use Rattle.avro_schema.proofs.TextLemmas.{bytes_eq-sym, all_distinct-middle, all_distinct-push}
 
 pub form_plain : (s : List ℕ) (p : Primitive) → Some p ≡ primitive_named s → form_of_name s ≡ plain p
@@ -21,21 +17,11 @@ form_plain s p e = ap (λ (o : Option Primitive). elim o [ None ↦ by_name s | 
 pub form_use : (s : List ℕ) → None ≡ primitive_named s → form_of_name s ≡ by_name s
 form_use s e = ap (λ (o : Option Primitive). elim o [ None ↦ by_name s | Some q ↦ plain q ]) (sym e)
 
-passes_first : {X : Type 0} (t : X → Bool) (y x : X) (b : Bool) (o : Option X) → t y ≡ b → (o ≡ Some x → t x ≡ true) → cond b (Some y) o ≡ Some x → t x ≡ true
-passes_first t y x true o h later k = let same : y ≡ x = cc in ap t (sym same) ∙ h
-passes_first t y x false o h later k = later k
-
-pub find-passes : {X : Type 0} (t : X → Bool) (xs : List X) (x : X) → find t xs ≡ Some x → t x ≡ true
-find-passes t [] x e = cc
-find-passes t (y ∷ xs) x e = passes_first t y x (t y) (find t xs) refl (find-passes t xs x) e
-
-pub kind_primitive : (ds : List Definition) (ns : List ℕ) (n : ℕ) (s : List ℕ) (p : Primitive) → Some p ≡ primitive_named s → kind.Primitive p ≡ kind_in_union ds ns n (form_of_name s)
-kind_primitive ds ns n s p e = ap (kind_in_union ds ns n) (sym (form_plain s p e))
-
-pub kind_use : (ds : List Definition) (ns : List ℕ) (n : ℕ) (s : List ℕ) → None ≡ primitive_named s → kind_in_union ds ns n (form_of_name s) ≡ kind_named (definition_used ds n ns s)
-kind_use ds ns n s e = ap (kind_in_union ds ns n) (form_use s e)
-
 -- ---- the kinds that were added
+
+-- whether a kind may stand beside the kinds ks
+abbrev pub may_stand : Kind → List Kind → Bool
+may_stand k ks = not (is_union_kind k) && not (list_any (same_kind k) ks)
 
 pub same_primitive-sym : (p q : Primitive) → same_primitive p q ≡ same_primitive q p
 same_primitive-sym = laws-law.symm
@@ -114,9 +100,3 @@ by_which false false ks k more e h x = cc
 -- one that may not
 pub fits_not : (ks : List Kind) (k : Kind) (more : List Kind) → may_stand k ks ≡ false → fits_union (ks ++ k ∷ more) ≡ false
 fits_not ks k more stands = by_which (is_union_kind k) (list_any (same_kind k) ks) ks k more refl refl stands
-
-pub kind_as : {E : Type 0} (r : Result Kind E) (a : Builder) (ns : List ℕ) (f g : Form) → g ≡ f → IfOk r (λ k. (ds : List Definition) → HasMet a ds → k ≡ kind_in_union ds ns (opened a) f) → IfOk r (λ k. (ds : List Definition) → HasMet a ds → k ≡ kind_in_union ds ns (opened a) g)
-kind_as r a ns f g e h = subst (λ (j : Form). IfOk r (λ k. (ds : List Definition) → HasMet a ds → k ≡ kind_in_union ds ns (opened a) j)) (sym e) h
-
-pub kind_named_as : {E : Type 0} (r : Result Kind E) (a : Builder) (ns : List ℕ) (h : Heading) (g : Form) → ((ds : List Definition) → kind_in_union ds ns (opened a) g ≡ kind_named (defined_by ns (opened a) h)) → IfOk r (λ k. (n : ℕ) → k ≡ kind_named (defined_by ns n h)) → IfOk r (λ k. (ds : List Definition) → HasMet a ds → k ≡ kind_in_union ds ns (opened a) g)
-kind_named_as r a ns h g e i = IfOk-weaker r (λ k. (n : ℕ) → k ≡ kind_named (defined_by ns n h)) (λ k. (ds : List Definition) → HasMet a ds → k ≡ kind_in_union ds ns (opened a) g) (λ k x ds met. x (opened a) ∙ sym (e ds)) i

@@ -95,7 +95,7 @@ module _ (ds es : List Definition) where
   node_of-later ns n (fixed_of h d) p = refl
   node_of-later ns n ill_formed p = refl
 
-  heading_faults-later : (ns : List ℕ) (n : ℕ) (h : Heading) → From n es → heading_faults (ds ++ es) ns n h ≡ heading_faults ds ns n h
+  pub heading_faults-later : (ns : List ℕ) (n : ℕ) (h : Heading) → From n es → heading_faults (ds ++ es) ns n h ≡ heading_faults ds ns n h
   heading_faults-later ns n h p = simp (new-written ds es ns n h h.name p)
 
   pub faults_of-later : (ns : List ℕ) (n : ℕ) (f : Form) → From (n + count f) es → faults_of (ds ++ es) ns n f ≡ faults_of ds ns n f
@@ -207,6 +207,9 @@ mutual
   definitions_of_fields-from ns n m no_fields p = tt
   definitions_of_fields-from ns n m ill_fields p = tt
   definitions_of_fields-from ns n m (and_field h f fs) p = parts-from ns n m f _ p (definitions_in-from ns n m f (omega arith)) (definitions_of_fields-from ns (n + count f) m fs (omega arith))
+
+pub type-from : (ns : List ℕ) (n : ℕ) (f : Form) → From n (definitions (places ns n f))
+type-from ns n f = definition-from ns n n f (places_in ns n f) (omega arith) (definitions_in-from ns n n f (omega arith))
 
 -- ---- how many nodes there are
 

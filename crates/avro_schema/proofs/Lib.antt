@@ -7,10 +7,12 @@ pub mod Refused
 pub mod Along
 pub mod ObjectForms
 pub mod TextLemmas
+pub mod NameLemmas
 pub mod Lookups
 mod ListedOnce
 pub mod KindLemmas
 pub mod SetLemmas
+pub mod BranchLemmas
 pub mod Answering
 pub mod WholeLemmas
 pub mod Numbered

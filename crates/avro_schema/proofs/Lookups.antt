@@ -1,20 +1,16 @@
 -- The builder's map of names, beside the definitions that it has met.
-use Rattle.std.proofs.Common.{◌≡◌, ℕ, suc, ◌+◌, ◌≤◌, ◌<◌, List, [], ◌∷◌, ◌++◌, length, Bool, true, false, ◌&&◌, ◌||◌, ◌==◌, nat_lt, cond, Option, Some, None, is_some, is_none, option_map, find, bytes_eq, nat_cmp, Equal, is_eq, Result, refl, sym, ◌∙◌, ap, subst, arith, IfOk}
+use Rattle.std.proofs.Common.{◌≡◌, inl, inr, ◌⊎◌, ℕ, ◌+◌, ◌≤◌, ◌<◌, List, [], ◌∷◌, ◌++◌, length, Bool, true, false, cond, Option, Some, None, is_some, is_none, option_map, option_and_then, bytes_eq, Result, refl, sym, ◌∙◌, ap, subst, arith, IfOk}
 use Rattle.std.specs.Option.{option_or}
-use Rattle.std.specs.BTreeMap.{get_by_text}
-use Rattle.std.specs.Cmp.Lexicographic.{slice_cmp}
-use Rattle.std.proofs.lemmas.Map.Text.{is_eq-slice_cmp}
 use Rattle.std.specs.Result.{IsErrAnd, IfErr}
 use Rattle.std.proofs.lemmas.Result.{err_from_is_err_and}
-use Rattle.std.proofs.lemmas.List.Folds.{find-append}
 use Rattle.std.proofs.lemmas.Slice.Eq.{bytes_eq-Decides}
-use Rattle.std.proofs.lemmas.Bool.Decides.{nat_tests}
 use Rattle.avro_schema.specs.declared.node.Node.{Node}
 use Rattle.avro_schema.specs.declared.builder.Builder.{Builder}
 use Rattle.avro_schema.specs.Names.{has_dot, joined}
 use Rattle.avro_schema.specs.Places.{Definition, defined, definition_used}
-use Rattle.avro_schema.specs.Building.{Before, nodes_of, opened, node_named, HasMet}
-use Rattle.avro_schema.proofs.KindLemmas.{find-passes}
+use Rattle.avro_schema.specs.DefinedNames.{node_named, number_of, node_in, node_of, AreDefined}
+use Rattle.avro_schema.specs.Building.{Before, nodes_of, opened, HasMet}
+use Rattle.avro_schema.proofs.NameLemmas.{IsDefinedToo, defined_more, none_named, named_too}
 use Rattle.avro_schema.proofs.Types.{found-at, opened-more}
 use Rattle.avro_schema.specs.declared.limits.TheConstants.{MOST_NODES}
 
@@ -34,39 +30,66 @@ pub met_more : (a b : Builder) (ds : List Definition) (x : Node) → nodes_of b 
 met_more a b ds x opens keeps lt met =
     let more : opened b ≡ opened a + 1 = opened-more x a b opens in
     record {
-      names = λ s. rw keeps (met.names s);
+      names = subst (λ m. AreDefined m ds) (sym keeps) met.names;
+      apart = met.apart;
       before = Before-more (opened a) (opened b) ds (omega arith) met.before;
       small = omega arith;
     }
 
-or_none : {A : Type 0} (o : Option A) → option_or o None ≡ o
-or_none None = refl
-or_none (Some x) = refl
+-- ---- no two names are of one node
 
-pub no_node : (o : Option Definition) → option_map (λ d. d.node) o ≡ None → o ≡ None
-no_node None e = refl
-no_node (Some d) e = cc
+first_before : (n : ℕ) (d : Definition) (o : Option Definition) (i : ℕ) (t : Bool) → d.node < n → (option_map (λ x. x.node) o ≡ Some i → i < n) → option_map (λ x. x.node) (cond t (Some d) o) ≡ Some i → i < n
+first_before n d o i true lt later e = let is : d.node ≡ i = cc in omega (arith, lt)
+first_before n d o i false lt later e = later e
 
--- a name is added that was not there
-named_too : (ds : List Definition) (bs : List ℕ) (i : ℕ) (s : List ℕ) (b : Bool) → bytes_eq bs s ≡ b → node_named ds bs ≡ None → cond b (Some i) (node_named ds s) ≡ node_named (ds ++ record { name = bs; node = i } ∷ []) s
-named_too ds bs i s true e new =
-    let same : bs ≡ s = (bytes_eq-Decides bs s).0 e in
-    let none : find (λ d. bytes_eq d.name s) ds ≡ None = no_node _ (ap (λ t. node_named ds t) (sym same) ∙ new) in
-    sym (ap (option_map (λ d. d.node)) (find-append (λ d. bytes_eq d.name s) ds (record { name = bs; node = i } ∷ []) ∙ ap (λ o. option_or o (cond (bytes_eq bs s) (Some (record { name = bs; node = i })) None)) none
-    ∙ ap (λ b. cond b (Some (record { name = bs; node = i })) None) e))
-named_too ds bs i s false e new =
-    sym (ap (option_map (λ d. d.node)) (find-append (λ d. bytes_eq d.name s) ds (record { name = bs; node = i } ∷ []) ∙ ap (λ b. option_or (find (λ d. bytes_eq d.name s) ds) (cond b (Some (record { name = bs; node = i })) None)) e ∙ or_none _))
+node_before : (n : ℕ) (ds : List Definition) (s : List ℕ) (i : ℕ) → Before n ds → node_named ds s ≡ Some i → i < n
+node_before n [] s i b e = cc
+node_before n (d ∷ ds) s i b e = first_before n d _ i (bytes_eq d.name s) b.0 (node_before n ds s i b.1) e
 
-pub met_named : (a b c : Builder) (ds : List Definition) (x : Node) (bs : List ℕ) → nodes_of b ≡ nodes_of a ++ x ∷ [] → b.names ≡ a.names → HasMet b ds → get_by_text a.names bs ≡ None → c.nodes ≡ b.nodes
-    → ((cs : List ℕ) → get_by_text c.names cs ≡ cond (bytes_eq bs cs) (Some (opened a)) (get_by_text b.names cs)) → HasMet c (ds ++ record { name = bs; node = opened a } ∷ [])
-met_named a b c ds x bs opens keeps met new stays updates =
+named_by : (ds : List Definition) (bs : List ℕ) (n : ℕ) (s : List ℕ) (i : ℕ) (t : Bool) → bytes_eq bs s ≡ t → node_named ds bs ≡ None → node_named (ds ++ record { name = bs; node = n } ∷ []) s ≡ Some i → ((bs ≡ s) × (i ≡ n)) ⊎ (node_named ds s ≡ Some i)
+named_by ds bs n s i true e new h =
+    let is : Some n ≡ Some i = named_too ds bs n s true e new ∙ h in
+    let same : i ≡ n = cc in
+    inl ((bytes_eq-Decides bs s).0 e, same)
+named_by ds bs n s i false e new h = inr (named_too ds bs n s false e new ∙ h)
+
+abbrev Apart : List Definition → Type 0
+Apart ds = (s t : List ℕ) (i : ℕ) → node_named ds s ≡ Some i → node_named ds t ≡ Some i → s ≡ t
+
+apart_too : (ds : List Definition) (bs : List ℕ) (n : ℕ) → Before n ds → node_named ds bs ≡ None → Apart ds → Apart (ds ++ record { name = bs; node = n } ∷ [])
+apart_too ds bs n before new apart = λ s t i h k.
+    elim (named_by ds bs n s i (bytes_eq bs s) refl new h) [
+      | inl p ↦ elim (named_by ds bs n t i (bytes_eq bs t) refl new k) [
+        | inl q ↦ sym p.0 ∙ q.0
+        | inr q ↦ absurd (omega (arith, node_before n ds t i before q, p.1))
+      ]
+      | inr p ↦ elim (named_by ds bs n t i (bytes_eq bs t) refl new k) [
+        | inl q ↦ absurd (omega (arith, node_before n ds s i before p, q.1))
+        | inr q ↦ apart s t i p q
+      ]
+    ]
+
+pub met_named : (a b c : Builder) (ds : List Definition) (x : Node) (ns : List ℕ) (k : ℕ) (last : List ℕ) → nodes_of b ≡ nodes_of a ++ x ∷ [] → HasMet a ds → HasMet b ds → c.nodes ≡ b.nodes → IsDefinedToo b.names c.names ns k last (opened a)
+    → HasMet c (ds ++ record { name = joined ns last; node = opened a } ∷ [])
+met_named a b c ds x ns k last opens was met stays too =
     let more : opened b ≡ opened a + 1 = opened-more x a b opens in
     let same : opened c ≡ opened b = ap (λ v. length v.items) stays in
-    let none : node_named ds bs ≡ None = sym (met.names bs) ∙ ap (λ m. get_by_text m bs) keeps ∙ new in
     record {
-      names = λ s. updates s ∙ ap (λ o. cond (bytes_eq bs s) (Some (opened a)) o) (met.names s) ∙ named_too ds bs (opened a) s (bytes_eq bs s) refl none;
+      names = defined_more b.names c.names ns k last (opened a) too ds met.names;
+      apart = apart_too ds (joined ns last) (opened a) was.before (none_named b.names c.names ns k last (opened a) too ds met.names) met.apart;
       before = Before-push (opened c) ds _ (Before-more (opened b) (opened c) ds (omega arith) met.before) (omega arith);
       small = omega (arith, met.small);
+    }
+
+-- a namespace has a number, which had none
+pub met_numbered : (a b : Builder) (ds : List Definition) → b.nodes ≡ a.nodes → (AreDefined a.names ds → AreDefined b.names ds) → HasMet a ds → HasMet b ds
+met_numbered a b ds stays names met =
+    let same : opened b ≡ opened a = ap (λ v. length v.items) stays in
+    record {
+      names = names met.names;
+      apart = met.apart;
+      before = subst (λ n. Before n ds) (sym same) met.before;
+      small = subst (λ n. n ≤ MOST_NODES) (sym same) met.small;
     }
 
 some_node : (o : Option Definition) → is_some (option_map (λ d. d.node) o) ≡ is_some o
@@ -77,83 +100,42 @@ none_not : (o : Option Definition) → is_some o ≡ true → is_none o ≡ fals
 none_not None e = cc
 none_not (Some d) e = refl
 
--- a name that the map has is defined
-pub is_defined : (r : Builder) (ds : List Definition) (s : List ℕ) (b : Bool) → HasMet r ds → is_some (get_by_text r.names s) ≡ b → is_some (defined ds (opened r) s) ≡ b
-is_defined r ds s b met e = sym (some_node (defined ds (opened r) s)) ∙ ap is_some (sym (found-at r ds s met)) ∙ e
+-- what is found of a last part in a namespace whose number is known
+pub node_is : (r : Builder) (ds : List Definition) (ns : List ℕ) (k : ℕ) (last : List ℕ) → HasMet r ds → number_of r.names ns ≡ Some k → has_dot last ≡ false → node_in r.names k last ≡ option_map (λ d. d.node) (defined ds (opened r) (joined ns last))
+node_is r ds ns k last met number dotless =
+    sym (ap (option_and_then (λ i. node_in r.names i last)) number) ∙ met.names.found ns last dotless ∙ found-at r ds (joined ns last) met
 
-pub not_new : (r : Builder) (ds : List Definition) (s : List ℕ) → HasMet r ds → is_some (get_by_text r.names s) ≡ true → is_none (defined ds (opened r) s) ≡ false
-not_new r ds s met e = none_not _ (is_defined r ds s true met e)
+pub is_defined : (r : Builder) (ds : List Definition) (ns : List ℕ) (k : ℕ) (last : List ℕ) (b : Bool) → HasMet r ds → number_of r.names ns ≡ Some k → has_dot last ≡ false → is_some (node_in r.names k last) ≡ b → is_some (defined ds (opened r) (joined ns last)) ≡ b
+is_defined r ds ns k last b met number dotless e = sym (some_node (defined ds (opened r) (joined ns last))) ∙ ap is_some (sym (node_is r ds ns k last met number dotless)) ∙ e
+
+pub not_new : (r : Builder) (ds : List Definition) (ns : List ℕ) (k : ℕ) (last : List ℕ) → HasMet r ds → number_of r.names ns ≡ Some k → has_dot last ≡ false → is_some (node_in r.names k last) ≡ true → is_none (defined ds (opened r) (joined ns last)) ≡ false
+not_new r ds ns k last met number dotless e = none_not _ (is_defined r ds ns k last true met number dotless e)
 
 no_definition : (o : Option Definition) → is_some o ≡ false → o ≡ None
 no_definition None e = refl
 no_definition (Some d) e = cc
 
-pub is_undefined : (r : Builder) (ds : List Definition) (s : List ℕ) → HasMet r ds → is_some (get_by_text r.names s) ≡ false → defined ds (opened r) s ≡ None
-is_undefined r ds s met e = no_definition _ (is_defined r ds s false met e)
+pub is_undefined : (r : Builder) (ds : List Definition) (ns : List ℕ) (k : ℕ) (last : List ℕ) → HasMet r ds → number_of r.names ns ≡ Some k → has_dot last ≡ false → is_some (node_in r.names k last) ≡ false → defined ds (opened r) (joined ns last) ≡ None
+is_undefined r ds ns k last met number dotless e = no_definition _ (is_defined r ds ns k last false met number dotless e)
 
-or_some : {A : Type 0} (o p : Option A) → is_some o ≡ true → option_or o p ≡ o
-or_some None p e = cc
-or_some (Some x) p e = refl
+-- ---- uses
 
-pub named_dotted : (ds : List Definition) (n : ℕ) (ns s : List ℕ) → has_dot s ≡ true → definition_used ds n ns s ≡ defined ds n s
-named_dotted ds n ns s e = ap (λ b. cond b (defined ds n s) (option_or (defined ds n (joined ns s)) (defined ds n s))) e
+-- a text with a dot is a full name
+pub use_dotted : (r : Builder) (ds : List Definition) (ns s : List ℕ) → HasMet r ds → has_dot s ≡ true → node_named ds s ≡ option_map (λ d. d.node) (definition_used ds (opened r) ns s)
+use_dotted r ds ns s met dot = found-at r ds s met ∙ ap (λ b. option_map (λ d. d.node) (cond b (defined ds (opened r) s) (option_or (defined ds (opened r) (joined ns s)) (defined ds (opened r) s)))) (sym dot)
 
-or_itself : {A : Type 0} (o : Option A) → option_or o o ≡ o
-or_itself None = refl
-or_itself (Some x) = refl
+map_or : (o p : Option Definition) → option_or (option_map (λ d. d.node) o) (option_map (λ d. d.node) p) ≡ option_map (λ d. d.node) (option_or o p)
+map_or None p = refl
+map_or (Some d) p = refl
 
-not_empty : (n : ℕ) → (suc n == 0) ≡ false
-not_empty n = grind (arith, nat_tests)
-
-no_flag : (b : Bool) → b ≡ false → (b || false) ≡ true → ⊥
-no_flag true e h = cc
-no_flag false e h = cc
-
-by_dot : (ds : List Definition) (n : ℕ) (ns s : List ℕ) (b : Bool) → has_dot s ≡ b → ((length ns == 0) || b) ≡ true → definition_used ds n ns s ≡ defined ds n s
-by_dot ds n ns s true e h = named_dotted ds n ns s e
-by_dot ds n [] s false e h = ap (λ b. cond b (defined ds n s) (option_or (defined ds n s) (defined ds n s))) e ∙ or_itself (defined ds n s)
-by_dot ds n (x ∷ ns) s false e h = absurd (no_flag _ (not_empty (length ns)) h)
-
--- a text that is its own full name
-pub named_whole : (ds : List Definition) (n : ℕ) (ns s : List ℕ) → ((length ns == 0) || has_dot s) ≡ true → definition_used ds n ns s ≡ defined ds n s
-named_whole ds n ns s h = by_dot ds n ns s (has_dot s) refl h
-
-or_right : (a b : Bool) → (a || b) ≡ false → b ≡ false
-or_right true b h = cc
-or_right false b h = h
-
--- another is looked for in the namespace that applies, and then by itself
-pub named_joined : (ds : List Definition) (n : ℕ) (ns s full : List ℕ) → ((length ns == 0) || has_dot s) ≡ false → full ≡ joined ns s → definition_used ds n ns s ≡ option_or (defined ds n full) (defined ds n s)
-named_joined ds n ns s full h is =
-    ap (λ b. cond b (defined ds n s) (option_or (defined ds n (joined ns s)) (defined ds n s))) (or_right _ _ h) ∙ ap (λ t. option_or (defined ds n t) (defined ds n s)) (sym is)
-
-pub near_found : {A B : Type 0} (f : A → B) (o : Option A) (p q : Option B) → is_some o ≡ true → option_map f o ≡ p → option_map f o ≡ option_or p q
-near_found f None p q h e = cc
-near_found f (Some x) p q h e = e ∙ sym (or_some p q (ap is_some (sym e)))
-
-pub near_absent : {A B : Type 0} (f : A → B) (o : Option A) (p q : Option B) → is_some o ≡ false → option_map f o ≡ p → q ≡ option_or p q
-near_absent f None p q h e = ap (λ d. option_or d q) e
-near_absent f (Some x) p q h e = cc
-
-and_right : (a b : Bool) → a && b ≡ true → b ≡ true
-and_right true b h = h
-and_right false b h = cc
-
-found_as : (ds : List Definition) (n i : ℕ) (s : List ℕ) (o : Option Definition) → defined ds n s ≡ o → Some i ≡ option_map (λ d. d.node) o → Some (record { name = s; node = i }) ≡ o
-found_as ds n i s None e h = cc
-found_as ds n i s (Some d) e h =
-    let name : s ≡ d.name = sym ((bytes_eq-Decides d.name s).0 (and_right _ _ (find-passes (λ d. nat_lt d.node n && bytes_eq d.name s) ds d e))) in
-    let node : i ≡ d.node = cc in
-    λ j. Some (record { name = name j; node = node j })
-
--- what a look-up of the text s finds: the key k of the map, and its node
-pub found_key : (r : Builder) (ds : List Definition) (s k : List ℕ) (i : ℕ) → HasMet r ds → slice_cmp nat_cmp s k ≡ Equal → Some i ≡ get_by_text r.names s → Some (record { name = k; node = i }) ≡ defined ds (opened r) s
-found_key r ds s k i met same is =
-    let key : s ≡ k = (bytes_eq-Decides s k).0 (sym (is_eq-slice_cmp s k) ∙ ap is_eq same) in
-    ap (λ t. Some (record { name = t; node = i })) (sym key) ∙ found_as ds (opened r) i s (defined ds (opened r) s) refl (is ∙ found-at r ds s met)
-
-pub absent_key : (r : Builder) (ds : List Definition) (s : List ℕ) → HasMet r ds → None ≡ get_by_text r.names s → None ≡ defined ds (opened r) s
-absent_key r ds s met is = sym (no_node (defined ds (opened r) s) (sym (is ∙ found-at r ds s met)))
+-- another is looked for in the namespace that applies, and then in the null namespace
+pub use_plain : (r : Builder) (ds : List Definition) (ns : List ℕ) (k : ℕ) (s : List ℕ) → HasMet r ds → number_of r.names ns ≡ Some k → has_dot s ≡ false → option_or (node_in r.names k s) (node_of r.names [] s) ≡ option_map (λ d. d.node) (definition_used ds (opened r) ns s)
+use_plain r ds ns k s met number dotless =
+    let n = opened r in
+    ap (λ o. option_or o (node_of r.names [] s)) (node_is r ds ns k s met number dotless)
+    ∙ ap (λ o. option_or (option_map (λ d. d.node) (defined ds n (joined ns s))) o) (met.names.found [] s dotless ∙ found-at r ds s met)
+    ∙ map_or (defined ds n (joined ns s)) (defined ds n s)
+    ∙ ap (λ b. option_map (λ d. d.node) (cond b (defined ds n s) (option_or (defined ds n (joined ns s)) (defined ds n s)))) (sym dotless)
 
 pub no_value : {A : Type 0} (o : Option A) → is_some o ≡ false → o ≡ None
 no_value None e = refl

@@ -14,6 +14,7 @@ use Rattle.avro_schema.specs.Places.{count, Place, places, Definition, heading_i
 use Rattle.avro_schema.specs.Nodes.{node_at}
 use Rattle.avro_schema.specs.Faults.{unless, faults_at}
 use Rattle.avro_schema.specs.Schema.{IsRefusalBy}
+use Rattle.avro_schema.specs.DefinedNames.{AreDefined}
 use Rattle.avro_schema.specs.Building.{Before, nodes_of, opened, HasMet, Reads, too_many, faults_in}
 use Rattle.avro_schema.proofs.Later.{SameAlong, count-type}
 use Rattle.avro_schema.specs.declared.limits.TheConstants.{MOST_NODES}
@@ -117,7 +118,7 @@ closes es p ps x y a a1 b c opens r writes keeps is good =
     let same : opened c ≡ opened b = ap length writes ∙ length-set (nodes_of b) (opened a) x in
     record {
       nodes = done ∙ ap (λ o. nodes_of a ++ cons_option o inner) (sym is);
-      met = record { names = λ s. rw keeps (r.met.names s); before = subst (λ n. Before n es) (sym same) r.met.before; small = subst (λ n. n ≤ MOST_NODES) (sym same) r.met.small };
+      met = record { names = subst (λ m. AreDefined m es) (sym keeps) r.met.names; apart = r.met.apart; before = subst (λ n. Before n es) (sym same) r.met.before; small = subst (λ n. n ≤ MOST_NODES) (sym same) r.met.small };
       none_stands = nil-append _ _ good r.none_stands;
     }
 

@@ -1,6 +1,6 @@
 -- Which faults stand where a kind of type is refused.
-use Rattle.std.proofs.Common.{◌≡◌, inl, inr, ℕ, ◌+◌, ◌≤◌, List, [], ◌∷◌, ◌++◌, Bool, true, false, ◌&&◌, Option, Some, None, is_some, is_none, Contains, refl, sym, ◌∙◌, ap, subst, arith, string_bytes, unwrap_or, bytes_eq}
-use Rattle.std.specs.List.{cons_option, flat_map, list_all}
+use Rattle.std.proofs.Common.{◌≡◌, inl, inr, ℕ, ◌+◌, ◌≤◌, List, [], ◌∷◌, ◌++◌, Bool, true, false, ◌&&◌, Option, Some, None, is_some, is_none, Contains, refl, sym, ◌∙◌, ap, subst, arith, unwrap_or, bytes_eq}
+use Rattle.std.specs.List.{flat_map, list_all}
 use Rattle.std.proofs.lemmas.List.{append-nil}
 use Rattle.std.proofs.lemmas.List.Elements.{Contains-append_left, Contains-append_right, Contains-append_cases}
 use Rattle.std.specs.Option.{option_map_or}
@@ -11,12 +11,12 @@ use Rattle.avro_schema.specs.declared.error.SchemaError.TheVariants as fault
 use Rattle.avro_schema.specs.declared.heading.TypeNames.{TypeNames}
 use Rattle.avro_schema.specs.declared.node.FullName.{FullName}
 use Rattle.avro_schema.specs.Form.{Heading, Form, Forms, Fields, by_name, record_of, enum_of, fixed_of, array_of, map_of, union_of, ill_formed, ill_fields, FieldHeading}
-use Rattle.avro_schema.specs.Names.{is_name, is_type_name, is_full_name, full_text, all_distinct, has_text}
-use Rattle.avro_schema.specs.Places.{count, forms_count, fields_count, own_namespace, type_name, places_of_fields, Definition, definitions, defined, definition_used}
+use Rattle.avro_schema.specs.Names.{is_name, is_type_name, is_full_name, all_distinct, has_text}
+use Rattle.avro_schema.specs.Places.{count, forms_count, fields_count, type_name, places_of_fields, Definition, definitions, defined, definition_used}
 use Rattle.avro_schema.specs.Faults.{unless, are_written, is_formed, field_headings, fits_fields, faults_at, heading_faults, written_faults, symbols_faults, size_faults, field_list_faults, fits_enum, if_written, field_name}
 use Rattle.avro_schema.specs.Schema.{IsRefusalBy}
-use Rattle.avro_schema.specs.Building.{too_many, type_faults, branches_faults, fields_faults, has_distinct_names, HasNames, field_faults}
-use Rattle.avro_schema.proofs.Later.{From, defined-later, definitions_of_fields-from}
+use Rattle.avro_schema.specs.Building.{full_of, opening_faults, too_many, type_faults, branches_faults, fields_faults, has_distinct_names, HasNames, field_faults}
+use Rattle.avro_schema.proofs.Later.{From, type-from, heading_faults-later}
 use Rattle.avro_schema.proofs.Reading.{weaken, left, alone, in_parts, in_own, in_count, right, unless_too}
 use Rattle.avro_schema.proofs.Types.{definition_of, defined_by-names, new-names, defined_first}
 
@@ -56,18 +56,25 @@ refused_union ds ns fs n m e is r =
 
 -- ---- types with a name
 
--- what a named type is refused for by itself
-in_heading : (n m : ℕ) (es : List Definition) (ns : List ℕ) (h : Heading) (more fs : List SchemaError) (e : SchemaError) → Contains (written_faults h) e → Contains (too_many n ++ ((heading_faults es ns m h ++ more) ++ fs)) e
-in_heading n m es ns h more fs e c = in_own n (heading_faults es ns m h ++ more) fs e (Contains-append_left (heading_faults es ns m h) more e (Contains-append_left (written_faults h) _ e c))
+-- what a named type is refused for before its parts are looked at
+in_heading : (n m : ℕ) (ds later : List Definition) (ns : List ℕ) (h : Heading) (more fs : List SchemaError) (e : SchemaError) → n + 1 ≤ m → From n later → Contains (opening_faults ds ns h n) e
+    → Contains (too_many m ++ ((heading_faults (ds ++ later) ns n h ++ more) ++ fs)) e
+in_heading n m ds later ns h more fs e le from c =
+    elim (Contains-append_cases (heading_faults ds ns n h) (too_many (n + 1)) e c) [
+      | inl k ↦ in_own m (heading_faults (ds ++ later) ns n h ++ more) fs e (Contains-append_left (heading_faults (ds ++ later) ns n h) more e (subst (λ l. Contains l e) (sym (heading_faults-later ds later ns n h from)) k))
+      | inr k ↦ in_count (n + 1) m _ e le k
+    ]
 
-pub refused_names_record : (ds : List Definition) (ns : List ℕ) (h : Heading) (fs : Fields) (n : ℕ) (e : SchemaError) → IsRefusalBy (written_faults h) e → IsRefusalBy (type_faults ds ns (record_of h fs) n) e
-refused_names_record ds ns h fs n e = weaken _ _ e (in_heading _ n _ ns h (field_list_faults fs) _ e)
+-- a heading that is at fault by itself, or defines a name that was defined before, or one node too many
+pub refused_written : (ds : List Definition) (ns : List ℕ) (h : Heading) (n : ℕ) (e : SchemaError) → IsRefusalBy (written_faults h) e → IsRefusalBy (opening_faults ds ns h n) e
+refused_written ds ns h n e r = left (heading_faults ds ns n h) _ e (left (written_faults h) _ e r)
 
-pub refused_names_enum : (ds : List Definition) (ns : List ℕ) (h : Heading) (ss : Option (List (List ℕ))) (d : Option Data) (n : ℕ) (e : SchemaError) → IsRefusalBy (written_faults h) e → IsRefusalBy (type_faults ds ns (enum_of h ss d) n) e
-refused_names_enum ds ns h ss d n e = weaken _ _ e (in_heading _ n _ ns h (symbols_faults ss d) _ e)
-
-pub refused_names_fixed : (ds : List Definition) (ns : List ℕ) (h : Heading) (s : Option Num) (n : ℕ) (e : SchemaError) → IsRefusalBy (written_faults h) e → IsRefusalBy (type_faults ds ns (fixed_of h s) n) e
-refused_names_fixed ds ns h s n e = weaken _ _ e (in_heading _ n _ ns h (size_faults s) _ e)
+pub refused_defined : (ds : List Definition) (ns : List ℕ) (h : Heading) (r : TypeNames) (n : ℕ) (e : SchemaError) → HasNames ns h r → IsRefusalBy (unless (is_none (defined ds n (full_of r.name))) fault.Redefined ++ too_many (n + 1)) e → IsRefusalBy (opening_faults ds ns h n) e
+refused_defined ds ns h r n e has = weaken _ _ e (λ c.
+    elim (Contains-append_cases (unless (is_none (defined ds n (full_of r.name))) fault.Redefined) (too_many (n + 1)) e c) [
+      | inl k ↦ Contains-append_left (heading_faults ds ns n h) _ e (Contains-append_right (written_faults h) _ e (subst (λ b. Contains (unless b fault.Redefined) e) (sym (new-names ds ns h r n has)) k))
+      | inr k ↦ Contains-append_right (heading_faults ds ns n h) _ e k
+    ])
 
 pub refused_symbols : (ds : List Definition) (ns : List ℕ) (h : Heading) (ss : Option (List (List ℕ))) (d : Option Data) (n : ℕ) (e : SchemaError) → IsRefusalBy (symbols_faults ss d) e → IsRefusalBy (type_faults ds ns (enum_of h ss d) n) e
 refused_symbols ds ns h ss d n e = weaken _ _ e (λ c. in_own (n + 1) (heading_faults _ ns n h ++ symbols_faults ss d) [] e (Contains-append_right (heading_faults _ ns n h) (symbols_faults ss d) e c))
@@ -75,32 +82,15 @@ refused_symbols ds ns h ss d n e = weaken _ _ e (λ c. in_own (n + 1) (heading_f
 pub refused_size : (ds : List Definition) (ns : List ℕ) (h : Heading) (s : Option Num) (n : ℕ) (e : SchemaError) → IsRefusalBy (size_faults s) e → IsRefusalBy (type_faults ds ns (fixed_of h s) n) e
 refused_size ds ns h s n e = weaken _ _ e (λ c. in_own (n + 1) (heading_faults _ ns n h ++ size_faults s) [] e (Contains-append_right (heading_faults _ ns n h) (size_faults s) e c))
 
--- a name that was defined before, or one node too many
-in_opening : (ds later : List Definition) (ns : List ℕ) (h : Heading) (r : TypeNames) (n m : ℕ) (more fs : List SchemaError) (e : SchemaError) → HasNames ns h r → From n later → n + 1 ≤ m
-    → Contains (unless (is_none (defined ds n (string_bytes r.text))) fault.Redefined ++ too_many (n + 1)) e → Contains (too_many m ++ ((heading_faults (ds ++ later) ns n h ++ more) ++ fs)) e
-in_opening ds later ns h r n m more fs e has from le c =
-    let same : if_written (λ s. is_none (defined (ds ++ later) n (full_text (own_namespace ns h) s))) h.name ≡ is_none (defined ds n (string_bytes r.text)) = new-names (ds ++ later) ns h r n has ∙ ap is_none (defined-later ds later n (string_bytes r.text) from) in
-    elim (Contains-append_cases (unless (is_none (defined ds n (string_bytes r.text))) fault.Redefined) (too_many (n + 1)) e c) [
-      | inl k ↦ in_own m (heading_faults (ds ++ later) ns n h ++ more) fs e (Contains-append_left (heading_faults (ds ++ later) ns n h) more e
-          (Contains-append_right (written_faults h) _ e (subst (λ b. Contains (unless b fault.Redefined) e) (sym same) k)))
-      | inr k ↦ in_count (n + 1) m _ e le k
-    ]
+pub refused_opening_enum : (ds : List Definition) (ns : List ℕ) (h : Heading) (ss : Option (List (List ℕ))) (d : Option Data) (n : ℕ) (e : SchemaError) → IsRefusalBy (opening_faults ds ns h n) e → IsRefusalBy (type_faults ds ns (enum_of h ss d) n) e
+refused_opening_enum ds ns h ss d n e = weaken _ _ e (in_heading n (n + 1) ds _ ns h (symbols_faults ss d) [] e (omega arith) (type-from ns n (enum_of h ss d)))
 
-abbrev OpeningFaults : List Definition → TypeNames → ℕ → List SchemaError
-OpeningFaults ds r n = unless (is_none (defined ds n (string_bytes r.text))) fault.Redefined ++ too_many (n + 1)
+pub refused_opening_fixed : (ds : List Definition) (ns : List ℕ) (h : Heading) (s : Option Num) (n : ℕ) (e : SchemaError) → IsRefusalBy (opening_faults ds ns h n) e → IsRefusalBy (type_faults ds ns (fixed_of h s) n) e
+refused_opening_fixed ds ns h s n e = weaken _ _ e (in_heading n (n + 1) ds _ ns h (size_faults s) [] e (omega arith) (type-from ns n (fixed_of h s)))
 
-from_first : (ns : List ℕ) (h : Heading) (r : TypeNames) (n : ℕ) (es : List Definition) (o : Option Definition) → o ≡ Some (definition_of r n) → From n es → From n (cons_option o es)
-from_first ns h r n es o e f = subst (λ p. From n (cons_option p es)) (sym e) (omega arith, f)
-
-pub refused_opening_enum : (ds : List Definition) (ns : List ℕ) (h : Heading) (r : TypeNames) (ss : Option (List (List ℕ))) (d : Option Data) (n : ℕ) (e : SchemaError) → HasNames ns h r → IsRefusalBy (OpeningFaults ds r n) e → IsRefusalBy (type_faults ds ns (enum_of h ss d) n) e
-refused_opening_enum ds ns h r ss d n e has = weaken _ _ e (in_opening ds _ ns h r n (n + 1) (symbols_faults ss d) [] e has (from_first ns h r n [] _ (defined_by-names ns h r n has) tt) (omega arith))
-
-pub refused_opening_fixed : (ds : List Definition) (ns : List ℕ) (h : Heading) (r : TypeNames) (s : Option Num) (n : ℕ) (e : SchemaError) → HasNames ns h r → IsRefusalBy (OpeningFaults ds r n) e → IsRefusalBy (type_faults ds ns (fixed_of h s) n) e
-refused_opening_fixed ds ns h r s n e has = weaken _ _ e (in_opening ds _ ns h r n (n + 1) (size_faults s) [] e has (from_first ns h r n [] _ (defined_by-names ns h r n has) tt) (omega arith))
-
-pub refused_opening_record : (ds : List Definition) (ns : List ℕ) (h : Heading) (r : TypeNames) (fs : Fields) (n : ℕ) (e : SchemaError) → HasNames ns h r → IsRefusalBy (OpeningFaults ds r n) e → IsRefusalBy (type_faults ds ns (record_of h fs) n) e
-refused_opening_record ds ns h r fs n e has =
-    weaken _ _ e (in_opening ds _ ns h r n (n + (1 + fields_count fs)) (field_list_faults fs) _ e has (from_first ns h r n _ _ (defined_by-names ns h r n has) (definitions_of_fields-from (type_name ns h).namespace (n + 1) n fs (omega arith))) (omega arith))
+pub refused_opening_record : (ds : List Definition) (ns : List ℕ) (h : Heading) (fs : Fields) (n : ℕ) (e : SchemaError) → IsRefusalBy (opening_faults ds ns h n) e → IsRefusalBy (type_faults ds ns (record_of h fs) n) e
+refused_opening_record ds ns h fs n e =
+    weaken _ _ e (in_heading n (n + (1 + fields_count fs)) ds _ ns h (field_list_faults fs) _ e (omega arith) (type-from ns n (record_of h fs)))
 
 -- the list of a record's fields
 pub refused_list : (ds : List Definition) (ns : List ℕ) (h : Heading) (fs : Fields) (n : ℕ) (e : SchemaError) → IsRefusalBy (field_list_faults fs) e → IsRefusalBy (type_faults ds ns (record_of h fs) n) e

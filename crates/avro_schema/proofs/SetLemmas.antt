@@ -1,17 +1,17 @@
--- Sets of texts, beside the lists of the texts that were put in.
-use Rattle.std.proofs.Common.{◌≡◌, ℕ, zero, suc, ◌<◌, List, [], ◌∷◌, ◌++◌, length, get_or, take, drop, Bool, true, false, ◌||◌, not, cond, bytes_eq, refl, sym, ◌∙◌, ap, subst, arith}
+-- Sets of nodes, beside the lists of the kinds that were put in.
+use Rattle.std.proofs.Common.{◌≡◌, ℕ, zero, suc, ◌<◌, List, [], ◌∷◌, ◌++◌, length, get_or, take, drop, Bool, true, false, ◌||◌, not, cond, ◌==◌, is_eq, Equal, Less, Greater, ◌⊎◌, inl, inr, refl, sym, ◌∙◌, ap, subst, arith}
 use Rattle.std.specs.List.{list_any}
 use Rattle.std.specs.Ordering.{nat_cmp}
-use Rattle.std.specs.Cmp.Lexicographic.{slice_cmp}
+use Rattle.std.specs.Cmp.{nat_cmp_is}
+use Rattle.std.proofs.lemmas.Bool.{cases_order}
+use Rattle.std.proofs.lemmas.Bool.Decides.{nat_tests}
 use Rattle.std.specs.BTreeSet.{BTreeSet, contains, Updates}
 use Rattle.std.proofs.lemmas.List.Folds.{list_any-append}
-use Rattle.std.proofs.lemmas.Map.Text.{is_eq-slice_cmp}
-use Rattle.avro_schema.specs.declared.kinds.Kind.{Kind}
-use Rattle.avro_schema.specs.declared.kinds.Kind.TheVariants as kind
+use Rattle.avro_schema.specs.declared.kinds.BranchKind.{BranchKind}
+use Rattle.avro_schema.specs.declared.kinds.BranchKind.TheVariants as branch
 use Rattle.avro_schema.specs.declared.kinds.Kinds.{Kinds}
-use Rattle.avro_schema.specs.Faults.{same_primitive, same_kind}
-use Rattle.avro_schema.specs.Building.{HoldsKinds, may_stand}
-use Rattle.avro_schema.proofs.TextLemmas.{bytes_eq-sym}
+use Rattle.avro_schema.specs.Faults.{same_primitive}
+use Rattle.avro_schema.specs.Branches.{HoldsKinds, same_branch, may_stand}
 
 by_cases : (b o : Bool) → cond b true o ≡ o || (b || false)
 by_cases true true = refl
@@ -34,45 +34,38 @@ same_any p xs x e = list_any-append p xs (x ∷ []) ∙ ap (λ b. list_any p xs 
 
 -- ---- the kinds that were met, after one more
 
-put_named : (s n : BTreeSet (List ℕ)) (key : List ℕ) (ks : List Kind) → ((q : List ℕ) → contains (slice_cmp nat_cmp) s q ≡ list_any (same_kind (kind.Named q)) ks)
-    → Updates (slice_cmp nat_cmp) s n key true → (q : List ℕ) → contains (slice_cmp nat_cmp) n q ≡ list_any (same_kind (kind.Named q)) (ks ++ kind.Named key ∷ [])
-put_named s n key ks has updates q =
-    updates.0 q ∙ ap (λ b. cond b true (contains (slice_cmp nat_cmp) s q)) (is_eq-slice_cmp key q ∙ bytes_eq-sym key q) ∙ ap (λ o. cond (bytes_eq q key) true o) (has q)
-    ∙ by_cases (bytes_eq q key) (list_any (same_kind (kind.Named q)) ks) ∙ sym (list_any-append (same_kind (kind.Named q)) ks (kind.Named key ∷ []))
+by_order : (key q : ℕ) → (key ≡ q) ⊎ ((key < q) ⊎ (q < key)) → is_eq (nat_cmp key q) ≡ (q == key)
+by_order key q (inl e) = ap is_eq (sym (nat_cmp_is key q Equal e)) ∙ sym (let other : q ≡ key = sym e in grind (arith, nat_tests))
+by_order key q (inr (inl lt)) = ap is_eq (sym (nat_cmp_is key q Less lt)) ∙ sym (grind (arith, nat_tests))
+by_order key q (inr (inr lt)) = ap is_eq (sym (nat_cmp_is key q Greater lt)) ∙ sym (grind (arith, nat_tests))
 
-kept : (test : Kind → Bool) (b : Bool) (ks : List Kind) (k : Kind) → b ≡ list_any test ks → test k ≡ false → b ≡ list_any test (ks ++ k ∷ [])
+same_number : (key q : ℕ) → is_eq (nat_cmp key q) ≡ (q == key)
+same_number key q = by_order key q (cases_order key q)
+
+put_named : (s n : BTreeSet ℕ) (key : ℕ) (ks : List BranchKind) → ((q : ℕ) → contains nat_cmp s q ≡ list_any (same_branch (branch.Named q)) ks)
+    → Updates nat_cmp s n key true → (q : ℕ) → contains nat_cmp n q ≡ list_any (same_branch (branch.Named q)) (ks ++ branch.Named key ∷ [])
+put_named s n key ks has updates q =
+    updates.0 q ∙ ap (λ b. cond b true (contains nat_cmp s q)) (same_number key q) ∙ ap (λ o. cond (q == key) true o) (has q)
+    ∙ by_cases (q == key) (list_any (same_branch (branch.Named q)) ks) ∙ sym (list_any-append (same_branch (branch.Named q)) ks (branch.Named key ∷ []))
+
+kept : (test : BranchKind → Bool) (b : Bool) (ks : List BranchKind) (k : BranchKind) → b ≡ list_any test ks → test k ≡ false → b ≡ list_any test (ks ++ k ∷ [])
 kept test b ks k is apart = is ∙ sym (same_any test ks k apart)
 
 -- a branch of kind k was added, and fits says whether it may stand
-abbrev Added : Kinds → Kind → List Kind → Bool → Type 0
+abbrev Added : Kinds → BranchKind → List BranchKind → Bool → Type 0
 Added n k ks fits = HoldsKinds n (ks ++ k ∷ []) × (fits ≡ may_stand k ks)
 
-pub as_kind : (n : Kinds) (k j : Kind) (ks : List Kind) (fits : Bool) → k ≡ j → HoldsKinds n (ks ++ j ∷ []) × (fits ≡ may_stand j ks) → HoldsKinds n (ks ++ k ∷ []) × (fits ≡ may_stand k ks)
-as_kind n k j ks fits is added = subst (λ (i : Kind). Added n i ks fits) (sym is) added
+pub as_kind : (n : Kinds) (k j : BranchKind) (ks : List BranchKind) (fits : Bool) → k ≡ j → HoldsKinds n (ks ++ j ∷ []) × (fits ≡ may_stand j ks) → HoldsKinds n (ks ++ k ∷ []) × (fits ≡ may_stand k ks)
+as_kind n k j ks fits is added = subst (λ (i : BranchKind). Added n i ks fits) (sym is) added
 
-pub added_named : (s n : Kinds) (key : List ℕ) (ks : List Kind) (fits : Bool) → HoldsKinds s ks → n.primitives.items ≡ s.primitives.items → n.has_array ≡ s.has_array → n.has_map ≡ s.has_map → Updates (slice_cmp nat_cmp) s.named n.named key true
-    → fits ≡ not (contains (slice_cmp nat_cmp) s.named key) → HoldsKinds n (ks ++ kind.Named key ∷ []) × (fits ≡ may_stand (kind.Named key) ks)
+pub added_named : (s n : Kinds) (key : ℕ) (ks : List BranchKind) (fits : Bool) → HoldsKinds s ks → n.primitives.items ≡ s.primitives.items → n.has_array ≡ s.has_array → n.has_map ≡ s.has_map → Updates nat_cmp s.named n.named key true
+    → fits ≡ not (contains nat_cmp s.named key) → HoldsKinds n (ks ++ branch.Named key ∷ []) × (fits ≡ may_stand (branch.Named key) ks)
 added_named s n key ks fits holds primitives arrays maps updates is = (
   record {
-    primitives = λ p. kept (same_kind (kind.Primitive p)) _ ks (kind.Named key) (ap (list_any (λ q. same_primitive q p)) primitives ∙ holds.primitives p) refl;
-    array = kept (same_kind kind.Array) _ ks (kind.Named key) (arrays ∙ holds.array) refl;
-    map = kept (same_kind kind.Map) _ ks (kind.Named key) (maps ∙ holds.map) refl;
+    primitives = λ p. kept (same_branch (branch.Primitive p)) _ ks (branch.Named key) (ap (list_any (λ q. same_primitive q p)) primitives ∙ holds.primitives p) refl;
+    array = kept (same_branch branch.Array) _ ks (branch.Named key) (arrays ∙ holds.array) refl;
+    map = kept (same_branch branch.Map) _ ks (branch.Named key) (maps ∙ holds.map) refl;
     named = put_named s.named n.named key ks holds.named updates;
   },
   is ∙ ap not (holds.named key),
-)
-
-none_unknown : (ks : List Kind) → list_any (same_kind kind.Unknown) ks ≡ false
-none_unknown [] = refl
-none_unknown (k ∷ ks) = none_unknown ks
-
-pub added_unknown : (s : Kinds) (ks : List Kind) → HoldsKinds s ks → HoldsKinds s (ks ++ kind.Unknown ∷ []) × (true ≡ may_stand kind.Unknown ks)
-added_unknown s ks holds = (
-  record {
-    primitives = λ p. kept (same_kind (kind.Primitive p)) _ ks kind.Unknown (holds.primitives p) refl;
-    array = kept (same_kind kind.Array) _ ks kind.Unknown holds.array refl;
-    map = kept (same_kind kind.Map) _ ks kind.Unknown holds.map refl;
-    named = λ t. kept (same_kind (kind.Named t)) _ ks kind.Unknown (holds.named t) refl;
-  },
-  ap not (sym (none_unknown ks)),
 )

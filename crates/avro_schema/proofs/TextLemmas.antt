@@ -14,7 +14,7 @@ use Rattle.avro_schema.specs.Names.{is_dot, has_dot, all_distinct}
 pub other_text : (w s : List ℕ) → (s ≡ w → ⊥) → bytes_eq w s ≡ false
 other_text w s apart = false_from_ne_true (bytes_eq w s) (λ t. apart (sym ((bytes_eq-Decides w s).0 t)))
 
-either_way : (a b : Bool) → (a ≡ true → b ≡ true) → (b ≡ true → a ≡ true) → a ≡ b
+pub either_way : (a b : Bool) → (a ≡ true → b ≡ true) → (b ≡ true → a ≡ true) → a ≡ b
 either_way true b p q = sym (p refl)
 either_way false true p q = q refl
 either_way false false p q = refl
@@ -69,6 +69,25 @@ split_last s front back i j found is_front is_back le len_front len_back =
     let from : length s - suffix_len (λ x. not (is_dot x)) s ≡ j = omega arith in
     let upto : length s - suffix_len (λ x. not (is_dot x)) s - 1 ≡ i = omega arith in
     (ap (λ m. drop m s) from ∙ sym is_back, ap (λ m. take m s) upto ∙ sym is_front, a_dot s i (omega arith) here)
+
+parted : (s : List ℕ) (i : ℕ) → i < length s → s ≡ take i s ++ get_or s i 0 ∷ drop (suc i) s
+parted [] i h = absurd (omega arith)
+parted (x ∷ s) zero h = refl
+parted (x ∷ s) (suc i) h = ap (λ l. x ∷ l) (parted s i (omega arith))
+
+-- the parts before and after the last dot
+pub split_parts : (s : List ℕ) (front back : List ℕ) (i j : ℕ) → RFindsChar 46 s (Some (i, j)) → front ≡ take i s → back ≡ drop j s → i ≤ j → length front ≡ i → length back + j ≡ length s → (s ≡ front ++ 46 ∷ back) × (has_dot back ≡ false)
+split_parts s front back i j found is_front is_back le len_front len_back =
+    let next : j ≡ suc i = omega (arith, found.1.ends) in
+    let here : get_or s i 0 ≡ 46 = found.1.byte (omega arith) in
+    let no : has_dot (drop j s) ≡ false = no_dots (drop j s) (λ k lt. NoCharPasses-char 46 (drop j s) k found.0 (omega arith) lt) in (
+      parted s i (omega arith)
+          ∙ ap (λ x. take i s ++ x ∷ drop (suc i) s) here
+          ∙ ap (λ k. take i s ++ 46 ∷ drop k s) (sym next)
+          ∙ ap (λ l. l ++ 46 ∷ drop j s) (sym is_front)
+          ∙ ap (λ l. front ++ 46 ∷ l) (sym is_back),
+      ap has_dot is_back ∙ no,
+    )
 
 -- ---- distinct texts
 

@@ -1,7 +1,6 @@
 -- What is read and refused of each kind of type.
-use Rattle.std.proofs.Common.{◌≡◌, ℕ, ◌+◌, List, [], ◌∷◌, ◌++◌, length, set, Bool, true, false, ◌&&◌, cond, find, Option, Some, None, is_some, is_none, option_map, option_and_then, unwrap_or, refl, sym, ◌∙◌, ap, subst, arith, bytes_eq, append_assoc, length-append, string_bytes}
+use Rattle.std.proofs.Common.{◌≡◌, ℕ, ◌+◌, List, [], ◌∷◌, ◌++◌, length, set, Bool, true, false, ◌&&◌, cond, find, Option, Some, None, is_some, is_none, option_map, option_and_then, unwrap_or, refl, sym, ◌∙◌, ap, subst, arith, bytes_eq, append_assoc, length-append}
 use Rattle.std.specs.List.{cons_option, list_all}
-use Rattle.std.specs.BTreeMap.{get_by_text}
 use Rattle.std.proofs.lemmas.Bool.{lt-ltb}
 use Rattle.std.proofs.lemmas.List.{append-nil}
 use Rattle.serde_json.specs.Data.{Num, Data}
@@ -19,7 +18,8 @@ use Rattle.avro_schema.specs.Form.{Heading, Form, Forms, Fields, record_of, enum
 use Rattle.avro_schema.specs.Places.{own_namespace, type_name, Place, place, places, places_of_forms, places_of_fields, Definition, heading_in, definitions, defined, defined_by}
 use Rattle.avro_schema.specs.Nodes.{node_at, node_id, branches, field_list, type_aliases}
 use Rattle.avro_schema.specs.Faults.{if_written, fits_union, kinds, faults_at, heading_faults, field_list_faults, fits_enum, are_written, is_formed, field_headings}
-use Rattle.avro_schema.specs.Building.{Before, nodes_of, opened, HasMet, Reads, IsTypeRead, AreBranchesRead, AreFieldsRead, are_formed, has_distinct_names, HasNames, HasSymbols, HasSize}
+use Rattle.avro_schema.specs.DefinedNames.{node_named}
+use Rattle.avro_schema.specs.Building.{full_of, Before, nodes_of, opened, HasMet, Reads, IsTypeRead, AreBranchesRead, AreFieldsRead, are_formed, has_distinct_names, HasNames, HasSymbols, HasSize}
 use Rattle.avro_schema.proofs.Later.{From, defined-later, definitions_of_fields-from}
 use Rattle.avro_schema.proofs.Reading.{unless-nil, nil-append, to, from_to, closes, opens_one}
 
@@ -37,8 +37,8 @@ pub defined-all : (ds : List Definition) (n : ℕ) (s : List ℕ) → Before n d
 defined-all [] n s b = refl
 defined-all (d ∷ ds) n s b = ap (λ t. cond (t && bytes_eq d.name s) (Some d) (defined ds n s)) (lt-ltb d.node n b.0) ∙ ap (λ o. cond (bytes_eq d.name s) (Some d) o) (defined-all ds n s b.1)
 
-pub found-at : (r : Builder) (ds : List Definition) (s : List ℕ) → HasMet r ds → get_by_text r.names s ≡ option_map (λ d. d.node) (defined ds (opened r) s)
-found-at r ds s h = h.names s ∙ ap (option_map (λ d. d.node)) (sym (defined-all ds (opened r) s h.before))
+pub found-at : (r : Builder) (ds : List Definition) (s : List ℕ) → HasMet r ds → node_named ds s ≡ option_map (λ d. d.node) (defined ds (opened r) s)
+found-at r ds s h = ap (option_map (λ d. d.node)) (sym (defined-all ds (opened r) s h.before))
 
 -- ---- one type at node n
 
@@ -94,18 +94,18 @@ tested_as f g (Some s) t e = ap (λ p. if_written g p) e
 
 -- the definition that a heading gives
 abbrev pub definition_of : TypeNames → ℕ → Definition
-definition_of r n = record { name = string_bytes r.text; node = n }
+definition_of r n = record { name = full_of r.name; node = n }
 
 pub defined_by-names : (ns : List ℕ) (h : Heading) (r : TypeNames) (n : ℕ) → HasNames ns h r → defined_by ns n h ≡ Some (definition_of r n)
-defined_by-names ns h r n has = named_as (full_text (own_namespace ns h)) (λ s. record { name = s; node = n }) h.name (string_bytes r.text) has.text
+defined_by-names ns h r n has = named_as (full_text (own_namespace ns h)) (λ s. record { name = s; node = n }) h.name (full_of r.name) has.text
 
-pub new-names : (ds : List Definition) (ns : List ℕ) (h : Heading) (r : TypeNames) (n : ℕ) → HasNames ns h r → if_written (λ s. is_none (defined ds n (full_text (own_namespace ns h) s))) h.name ≡ is_none (defined ds n (string_bytes r.text))
-new-names ds ns h r n has = tested_as (full_text (own_namespace ns h)) (λ s. is_none (defined ds n s)) h.name (string_bytes r.text) has.text
+pub new-names : (ds : List Definition) (ns : List ℕ) (h : Heading) (r : TypeNames) (n : ℕ) → HasNames ns h r → if_written (λ s. is_none (defined ds n (full_text (own_namespace ns h) s))) h.name ≡ is_none (defined ds n (full_of r.name))
+new-names ds ns h r n has = tested_as (full_text (own_namespace ns h)) (λ s. is_none (defined ds n s)) h.name (full_of r.name) has.text
 
 -- a heading whose name is new, whatever opens from here on
-good_heading : (ds es : List Definition) (ns : List ℕ) (h : Heading) (r : TypeNames) (n : ℕ) → HasNames ns h r → defined ds n (string_bytes r.text) ≡ None → From n es → heading_faults (ds ++ es) ns n h ≡ []
+good_heading : (ds es : List Definition) (ns : List ℕ) (h : Heading) (r : TypeNames) (n : ℕ) → HasNames ns h r → defined ds n (full_of r.name) ≡ None → From n es → heading_faults (ds ++ es) ns n h ≡ []
 good_heading ds es ns h r n has new later =
-    nil-append _ _ has.none_stands (unless-nil _ fault.Redefined (new-names (ds ++ es) ns h r n has ∙ ap is_none (defined-later ds es n (string_bytes r.text) later ∙ new)))
+    nil-append _ _ has.none_stands (unless-nil _ fault.Redefined (new-names (ds ++ es) ns h r n has ∙ ap is_none (defined-later ds es n (full_of r.name) later ∙ new)))
 
 -- its definition goes before those of its parts
 pub defined_first : (ds : List Definition) (d : Definition) (es : List Definition) (o : Option Definition) → o ≡ Some d → (ds ++ d ∷ []) ++ es ≡ ds ++ cons_option o es
@@ -120,7 +120,7 @@ read_leaf ds ns h r f x a b has defines opens met is good =
     (opens_one (ds ++ d ∷ []) (place ns (opened a) f) x a b opens met is good)
 
 pub read_enum : (ds : List Definition) (ns : List ℕ) (h : Heading) (r : TypeNames) (ss : Option (List (List ℕ))) (d : Option Data) (v : Symbols) (a b : Builder) → HasNames ns h r → HasSymbols ss d v
-    → nodes_of b ≡ nodes_of a ++ kind.Enum r.name r.aliases.items v.symbols v.default ∷ [] → HasMet b (ds ++ definition_of r (opened a) ∷ []) → defined ds (opened a) (string_bytes r.text) ≡ None
+    → nodes_of b ≡ nodes_of a ++ kind.Enum r.name r.aliases.items v.symbols v.default ∷ [] → HasMet b (ds ++ definition_of r (opened a) ∷ []) → defined ds (opened a) (full_of r.name) ≡ None
     → IsTypeRead ds ns (enum_of h ss d) a b (at_node (opened a))
 read_enum ds ns h r ss d v a b has symbols opens met new =
     let good : faults_at (ds ++ definition_of r (opened a) ∷ []) (place ns (opened a) (enum_of h ss d)) ≡ [] =
@@ -134,7 +134,7 @@ read_enum ds ns h r ss d v a b has symbols opens met new =
     (read_leaf ds ns h r (enum_of h ss d) _ a b has refl opens met is good, refl)
 
 pub read_fixed : (ds : List Definition) (ns : List ℕ) (h : Heading) (r : TypeNames) (s : Option Num) (size : ℕ) (a b : Builder) → HasNames ns h r → HasSize s size
-    → nodes_of b ≡ nodes_of a ++ kind.Fixed r.name r.aliases.items size ∷ [] → HasMet b (ds ++ definition_of r (opened a) ∷ []) → defined ds (opened a) (string_bytes r.text) ≡ None
+    → nodes_of b ≡ nodes_of a ++ kind.Fixed r.name r.aliases.items size ∷ [] → HasMet b (ds ++ definition_of r (opened a) ∷ []) → defined ds (opened a) (full_of r.name) ≡ None
     → IsTypeRead ds ns (fixed_of h s) a b (at_node (opened a))
 read_fixed ds ns h r s size a b has sized opens met new =
     let good : faults_at (ds ++ definition_of r (opened a) ∷ []) (place ns (opened a) (fixed_of h s)) ≡ [] =
@@ -156,7 +156,7 @@ good_fields fs p q =
     nil-append _ _ (unless-nil _ fault.BadForm (and_true _ _ both.0 q)) (unless-nil _ fault.BadName both.1)
 
 pub read_record : (ds : List Definition) (ns : List ℕ) (h : Heading) (r : TypeNames) (fs : Fields) (y : Node) (gs : List Field) (a a1 b c : Builder) → HasNames ns h r
-    → nodes_of a1 ≡ nodes_of a ++ y ∷ [] → defined ds (opened a) (string_bytes r.text) ≡ None → AreFieldsRead (ds ++ definition_of r (opened a) ∷ []) r.name.namespace fs a1 b gs → has_distinct_names fs ≡ true
+    → nodes_of a1 ≡ nodes_of a ++ y ∷ [] → defined ds (opened a) (full_of r.name) ≡ None → AreFieldsRead (ds ++ definition_of r (opened a) ∷ []) r.name.namespace fs a1 b gs → has_distinct_names fs ≡ true
     → nodes_of c ≡ set (nodes_of b) (opened a) (kind.Record r.name r.aliases.items gs) → c.names ≡ b.names → IsTypeRead ds ns (record_of h fs) a c (at_node (opened a))
 read_record ds ns h r fs y gs a a1 b c has opens new reads distinct writes keeps =
     let n = opened a in

@@ -1,67 +1,48 @@
 -- Private: what the builder holds before and after each type that it reads.
-use Rattle.std.specs.Prelude.{◌≡◌, ◌<◌, ◌≤◌, ℕ, ◌+◌, List, [], ◌∷◌, ◌++◌, length, Bool, true, false, not, ◌&&◌, nat_le, Option, Some, None, is_some, option_map, option_and_then, unwrap_or, codes, find, filter_map, flat_map, map, set, bytes_eq, String, string_bytes}
-use Rattle.std.specs.Global.{Global}
-use Rattle.std.specs.List.{list_any, list_all}
-use denote.Ref.{Bor}
-use Rattle.std.specs.Ordering.{nat_cmp}
-use Rattle.std.specs.Cmp.Lexicographic.{slice_cmp}
-use Rattle.std.specs.BTreeMap.{get_by_text}
-use Rattle.std.specs.BTreeSet.{contains}
+use Rattle.std.specs.Prelude.{◌≡◌, ◌<◌, ◌≤◌, ℕ, ◌+◌, List, [], ◌∷◌, ◌++◌, length, Bool, true, false, ◌&&◌, nat_le, Option, Some, None, is_some, option_map, option_and_then, unwrap_or, codes, filter_map, flat_map, map, set, bytes_eq}
+use Rattle.std.specs.List.{list_all}
 use Rattle.avro_schema.specs.declared.error.SchemaError.{SchemaError}
 use Rattle.avro_schema.specs.declared.error.SchemaError.TheVariants as fault
 use Rattle.avro_schema.specs.declared.fields.FieldNames.{FieldNames}
 use Rattle.avro_schema.specs.declared.heading.TypeNames.{TypeNames}
-use Rattle.avro_schema.specs.declared.named_types.OpenRecord.{OpenRecord}
-use Rattle.avro_schema.specs.declared.kinds.Kind.{Kind}
-use Rattle.avro_schema.specs.declared.kinds.Kind.TheVariants as kind
-use Rattle.avro_schema.specs.declared.kinds.Kinds.{Kinds}
+use Rattle.avro_schema.specs.declared.named_types.OpenType.{OpenType}
+use Rattle.avro_schema.specs.declared.defined_names.Namespace.{Namespace}
+use Rattle.avro_schema.specs.declared.node.FullName.{FullName}
 use Rattle.avro_schema.specs.declared.node.Field.{Field}
 use Rattle.avro_schema.specs.declared.node.Node.{Node}
 use Rattle.avro_schema.specs.declared.node.Node.TheVariants as node_kind
 use Rattle.avro_schema.specs.declared.node.NodeId.{NodeId}
-use Rattle.avro_schema.specs.declared.node.Primitive.{Primitive}
 use Rattle.avro_schema.specs.declared.builder.Builder.{Builder}
 use Rattle.avro_schema.specs.declared.symbols.Symbols.{Symbols}
 use Rattle.serde_json.specs.Data.{Num, Data, Items}
 use Rattle.serde_json.specs.Find.{get, as_str, as_array, as_object, as_number, as_u64}
-use Rattle.avro_schema.specs.Names.{full_text, all_distinct, is_name}
+use Rattle.avro_schema.specs.Names.{has_dot, joined, full_text, all_distinct, is_name}
 use Rattle.avro_schema.specs.Form.{Heading, FieldHeading, Form, Forms, Fields, record_of, enum_of, fixed_of, array_of, map_of, ill_formed, ill_fields, form, fields_of_items, heading_of, strings_in}
 use Rattle.avro_schema.specs.Places.{count, forms_count, fields_count, own_namespace, type_name, Place, places, places_of_forms, places_of_fields, Definition, definitions, defined}
 use Rattle.avro_schema.specs.Nodes.{type_aliases, field_at, node_id, branches, field_list, node_at}
-use Rattle.avro_schema.specs.Faults.{unless, is_union_kind, same_primitive, same_kind, fits_union, fits_enum, kinds, written_faults, size_faults, field_list_faults, faults_at, kind_in_union, field_headings, field_name, is_formed, if_written, are_written}
+use Rattle.avro_schema.specs.Faults.{unless, fits_union, fits_enum, kinds, written_faults, heading_faults, size_faults, field_list_faults, faults_at, field_headings, field_name, is_formed, if_written, are_written}
 use Rattle.avro_schema.specs.Schema.{IsRefusalBy}
+use Rattle.avro_schema.specs.DefinedNames.{node_named, AreDefined, IsNumbered, KeepsNumbers}
 use Rattle.avro_schema.specs.declared.limits.TheConstants.{MOST_NODES}
-
--- ---- unions
-
--- the kinds that were met are just ks
-pub record HoldsKinds (s : Kinds) (ks : List Kind) : Type 0 where
-  pub primitives : (p : Primitive) → list_any (λ q. same_primitive q p) s.primitives.items ≡ list_any (same_kind (kind.Primitive p)) ks
-  pub array : s.has_array ≡ list_any (same_kind kind.Array) ks
-  pub map : s.has_map ≡ list_any (same_kind kind.Map) ks
-  pub named : (t : List ℕ) → contains (slice_cmp nat_cmp) s.named t ≡ list_any (same_kind (kind.Named t)) ks
-
--- whether a kind may stand beside the kinds ks
-abbrev pub may_stand : Kind → List Kind → Bool
-may_stand k ks = not (is_union_kind k) && not (list_any (same_kind k) ks)
 
 -- ---- names
 
+-- a full name as a text
+abbrev pub full_of : FullName → List ℕ
+full_of n = joined n.namespace n.name
+
 pub record HasNames (enclosing : List ℕ) (h : Heading) (r : TypeNames) : Type 0 where
   pub none_stands : written_faults h ≡ []
-  pub text : option_map (full_text (own_namespace enclosing h)) h.name ≡ Some (string_bytes r.text)
+  pub text : option_map (full_text (own_namespace enclosing h)) h.name ≡ Some (full_of r.name)
   pub name : r.name ≡ type_name enclosing h
+  pub last : has_dot r.name.name ≡ false
   pub aliases : r.aliases.items ≡ type_aliases r.name h
 
+-- a number that is given is that of the enclosing namespace, which is the type's own
+abbrev pub IsNumberedAs : Namespace → TypeNames → Type 0
+IsNumberedAs enclosing r = (i : ℕ) → r.number ≡ Some i → (i ≡ enclosing.number) × (r.name.namespace ≡ enclosing.text)
+
 -- ---- the builder
-
--- the definition that a look-up finds: its name and its node
-abbrev pub definition_of : Bor (List ℕ) × ℕ → Definition
-definition_of p = record { name = p.0.now; node = p.1 }
-
--- the node at which a full name is defined
-abbrev pub node_named : List Definition → List ℕ → Option ℕ
-node_named ds s = option_map (λ d. d.node) (find (λ d. bytes_eq d.name s) ds)
 
 -- each definition opens before node n
 abbrev pub Before : ℕ → List Definition → Type 0
@@ -77,7 +58,9 @@ opened r = length (nodes_of r)
 
 -- the definitions that the builder has met are ds
 pub record HasMet (r : Builder) (ds : List Definition) : Type 0 where
-  pub names : (s : List ℕ) → get_by_text r.names s ≡ node_named ds s
+  pub names : AreDefined r.names ds
+  -- no two names are of one node
+  pub apart : (s t : List ℕ) (i : ℕ) → node_named ds s ≡ Some i → node_named ds t ≡ Some i → s ≡ t
   pub before : Before (opened r) ds
   pub small : opened r ≤ MOST_NODES
 
@@ -134,28 +117,31 @@ IsFieldRead ds ns h f old new g =
     let ps = places ns (opened old) f in
     Reads ds ps old new × (g ≡ field_at h (node_id (ds ++ definitions ps) ns (opened old) f)) × (is_formed h && if_written (list_all is_name) h.aliases ≡ true)
 
--- ---- the same whatever was met before; no node is lost
+-- ---- the same whatever was met before; no node is lost, and no number of a namespace
+
+abbrev pub Keeps : Builder → Builder → Type 0
+Keeps old new = KeepsNumbers old.names new.names
 
 abbrev pub ReadsType : Builder → Builder → List ℕ → Form → NodeId → Type 0
-ReadsType old new ns f i = (opened old ≤ opened new) × ((ds : List Definition) → HasMet old ds → IsTypeRead ds ns f old new i)
+ReadsType old new ns f i = (opened old ≤ opened new) × ((ds : List Definition) → HasMet old ds → IsTypeRead ds ns f old new i) × Keeps old new
 
 abbrev pub RefusesType : Builder → List ℕ → Form → SchemaError → Type 0
 RefusesType old ns f e = (ds : List Definition) → HasMet old ds → IsRefusalBy (type_faults ds ns f (opened old)) e
 
 abbrev pub ReadsBranches : Builder → Builder → List ℕ → Forms → List NodeId → Type 0
-ReadsBranches old new ns fs is = (opened old ≤ opened new) × ((ds : List Definition) → HasMet old ds → AreBranchesRead ds ns fs old new is)
+ReadsBranches old new ns fs is = (opened old ≤ opened new) × ((ds : List Definition) → HasMet old ds → AreBranchesRead ds ns fs old new is) × Keeps old new
 
 abbrev pub RefusesBranches : Builder → List ℕ → Forms → SchemaError → Type 0
 RefusesBranches old ns fs e = (ds : List Definition) → HasMet old ds → IsRefusalBy (branches_faults ds ns fs (opened old)) e
 
 abbrev pub ReadsFields : Builder → Builder → List ℕ → Fields → List Field → Type 0
-ReadsFields old new ns fs gs = (opened old ≤ opened new) × ((ds : List Definition) → HasMet old ds → AreFieldsRead ds ns fs old new gs)
+ReadsFields old new ns fs gs = (opened old ≤ opened new) × ((ds : List Definition) → HasMet old ds → AreFieldsRead ds ns fs old new gs) × Keeps old new
 
 abbrev pub RefusesFields : Builder → List ℕ → Fields → SchemaError → Type 0
 RefusesFields old ns fs e = (ds : List Definition) → HasMet old ds → IsRefusalBy (fields_faults ds ns fs (opened old)) e
 
 abbrev pub ReadsField : Builder → Builder → List ℕ → FieldHeading → Form → Field → Type 0
-ReadsField old new ns h f g = (opened old ≤ opened new) × ((ds : List Definition) → HasMet old ds → IsFieldRead ds ns h f old new g)
+ReadsField old new ns h f g = (opened old ≤ opened new) × ((ds : List Definition) → HasMet old ds → IsFieldRead ds ns h f old new g) × Keeps old new
 
 abbrev pub RefusesField : Builder → List ℕ → FieldHeading → Form → SchemaError → Type 0
 RefusesField old ns h f e = (ds : List Definition) → HasMet old ds → IsRefusalBy (field_faults h ++ type_faults ds ns f (opened old)) e
@@ -216,36 +202,30 @@ pub record HasSize (n : Option Num) (bytes : ℕ) : Type 0 where
   pub size : unwrap_or (option_and_then as_u64 n) 0 ≡ bytes
   pub none_stands : size_faults n ≡ []
 
--- ---- records in two steps
+-- ---- types with a name in two steps
 
--- the names of an open record, whose full name as a text is text
-abbrev pub names_of : OpenRecord → String Global → TypeNames
-names_of r text = record { text = text; name = r.name; aliases = r.aliases }
+-- the names of an open type
+abbrev pub names_of : OpenType → TypeNames
+names_of r = record { name = r.name; aliases = r.aliases; number = None }
 
--- the record of heading h is open in new, its name defined
-pub record OpensRecord (old new : Builder) (ns : List ℕ) (h : Heading) (r : OpenRecord) : Type 0 where
-  pub text : String Global
+-- the type of heading h is open in new, its name defined
+pub record OpensType (old new : Builder) (ns : List ℕ) (h : Heading) (r : OpenType) : Type 0 where
   pub first : Node
-  pub has : HasNames ns h (names_of r text)
+  pub has : HasNames ns h (names_of r)
   pub place : r.index ≡ opened old
   pub opens : nodes_of new ≡ nodes_of old ++ first ∷ []
-  pub met : (ds : List Definition) → HasMet old ds → HasMet new (ds ++ record { name = string_bytes text; node = r.index } ∷ []) × (defined ds r.index (string_bytes text) ≡ None)
+  pub inside : r.namespace.text ≡ r.name.namespace
+  pub numbered : IsNumbered new.names r.namespace
+  pub keeps : Keeps old new
+  pub met : (ds : List Definition) → HasMet old ds → HasMet new (ds ++ record { name = full_of r.name; node = r.index } ∷ []) × (defined ds r.index (full_of r.name) ≡ None)
+
+-- what is wrong with a heading, or one node too many
+abbrev pub opening_faults : List Definition → List ℕ → Heading → ℕ → List SchemaError
+opening_faults ds ns h n = heading_faults ds ns n h ++ too_many (n + 1)
 
 -- an open record is written with the fields gs, of distinct names
-pub record ClosesRecord (old new : Builder) (r : OpenRecord) (gs : List Field) (i : NodeId) : Type 0 where
+pub record ClosesRecord (old new : Builder) (r : OpenType) (gs : List Field) (i : NodeId) : Type 0 where
   pub id : i ≡ record { index = r.index }
   pub distinct : all_distinct bytes_eq (map (λ g. g.name) gs) ≡ true
   pub nodes : nodes_of new ≡ set (nodes_of old) r.index (node_kind.Record r.name r.aliases.items gs)
   pub names : new.names ≡ old.names
-
--- ---- the kind of a branch that is read next
-
-abbrev pub IsKindOf : Builder → List ℕ → Form → Kind → Type 0
-IsKindOf r ns f k = (ds : List Definition) → HasMet r ds → k ≡ kind_in_union ds ns (opened r) f
-
--- it fits beside the kinds ks, and is added to them
-abbrev pub AdmitsKind : Builder → List ℕ → Form → List Kind → Kinds → Type 0
-AdmitsKind r ns f ks new = (k : Kind) × IsKindOf r ns f k × (may_stand k ks ≡ true) × HoldsKinds new (ks ++ k ∷ [])
-
-abbrev pub RefusesKind : Builder → List ℕ → Form → List Kind → Type 0
-RefusesKind r ns f ks = (k : Kind) × IsKindOf r ns f k × (may_stand k ks ≡ false)

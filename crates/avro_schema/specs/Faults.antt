@@ -7,8 +7,8 @@ use Rattle.serde_json.specs.Data.{Num, Data}
 use Rattle.serde_json.specs.Find.{as_str, as_u64}
 use Rattle.avro_schema.specs.declared.error.SchemaError.{SchemaError}
 use Rattle.avro_schema.specs.declared.error.SchemaError.TheVariants as fault
-use Rattle.avro_schema.specs.declared.kinds.Kind.{Kind}
-use Rattle.avro_schema.specs.declared.kinds.Kind.TheVariants as kind
+use Rattle.avro_schema.specs.Kinds.{Kind}
+use Rattle.avro_schema.specs.Kinds as kind
 use Rattle.avro_schema.specs.declared.node.Primitive.{Primitive}
 use Rattle.avro_schema.specs.contracts.node.Primitive.{the_type}
 use Rattle.avro_schema.specs.Names.{is_name, is_full_name, is_type_name, full_text, all_distinct, has_text}

@@ -2,10 +2,14 @@ pub mod Names
 pub mod Form
 pub mod Places
 pub mod Nodes
+pub mod Kinds
 pub mod Faults
 pub mod Schema
 pub mod Defaults
+pub mod Required
 pub mod Sound
 pub mod Plain
+pub mod DefinedNames
+pub mod Branches
 pub mod Building
 pub mod JsonCode

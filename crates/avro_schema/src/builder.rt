@@ -1,28 +1,30 @@
 // The nodes that were read so far, and the names that some of them have.
-ghost use Rattle.std.specs.Prelude.{◌≡◌, ◌<◌, ◌+◌, set, List, [], ◌∷◌, ◌++◌, IfOk, IfErr, None, option_map, is_none, string_bytes};
+ghost use Rattle.std.specs.Prelude.{◌≡◌, ◌<◌, ◌+◌, set, List, [], ◌∷◌, ◌++◌, IfOk, IfErr, ℕ, false, Some, None, option_map, is_none};
 
+use crate::defined_names::{DefinedNames, Namespace};
 use crate::limits::MOST_NODES;
-use crate::names::{is_whole, joined};
 use crate::{Node, Primitive, SchemaError};
+use base_text::Text;
 use std::alloc::{AllocError, Global};
-use std::collections::BTreeMap;
 use std::mem;
 
-/// The types that were read so far, and the nodes of those that have a name, by full name.
+/// The types that were read so far, and the nodes of those that have a name.
 #[derive(Drop)]
 pub(crate) struct Builder {
     pub(crate) nodes: Vec<Node>,
-    names: BTreeMap<String, usize>,
+    names: DefinedNames,
 }
 
 impl Builder {
     ghost use Rattle.avro_schema.specs.declared.error.SchemaError.TheVariants as fault;
     ghost use Rattle.avro_schema.specs.declared.node.Node.TheVariants as kind;
     ghost use Rattle.avro_schema.specs.declared.node.Primitive.TheVariants as simple;
+    ghost use Rattle.avro_schema.specs.Names.{has_dot, joined};
     ghost use Rattle.avro_schema.specs.Places.{Definition, definition_used, defined};
     ghost use Rattle.avro_schema.specs.Faults.{unless};
     ghost use Rattle.avro_schema.specs.Schema.{IsRefusalBy};
-    ghost use Rattle.avro_schema.specs.Building.{HasMet, definition_of, opened, nodes_of, too_many};
+    ghost use Rattle.avro_schema.specs.DefinedNames.{node_named, number_of, IsNumbered};
+    ghost use Rattle.avro_schema.specs.Building.{HasMet, Keeps, opened, nodes_of, too_many};
 
     pub(crate) fn new(alloc: Global) -> Builder
         ensures met { HasMet result [] }
@@ -30,7 +32,7 @@ impl Builder {
     {
         Builder {
             nodes: Vec::new(alloc),
-            names: BTreeMap::new(alloc),
+            names: DefinedNames::new(alloc),
         }
     }
 
@@ -54,6 +56,7 @@ impl Builder {
     pub(crate) fn reserve(&mut self) -> Result<usize, SchemaError>
         ensures ok { IfOk result (λ i. (i ≡ opened self.old) × (nodes_of self.new ≡ nodes_of self.old ++ kind.Primitive simple.Null ∷ [])) }
         ensures met { IfOk result (λ _. (ds : List Definition) → HasMet self.old ds → HasMet self.new ds) }
+        ensures names { self.new.names ≡ self.old.names }
         ensures err { IfErr result (IsRefusalBy (too_many (opened self.old + 1))) }
     {
         self.open(Node::Primitive(Primitive::Null))
@@ -69,53 +72,78 @@ impl Builder {
         drop(open);
     }
 
-    /// Opens the next node, and defines a full name as it.
-    pub(crate) fn open_named(&mut self, name: String, node: Node) -> Result<usize, SchemaError>
-        ensures ok { IfOk result (λ i. (i ≡ opened self.old) × (nodes_of self.new ≡ nodes_of self.old ++ node ∷ [])) }
-        ensures met { IfOk result (λ i. (ds : List Definition) → HasMet self.old ds
-            → HasMet self.new (ds ++ record { name = string_bytes name; node = i } ∷ []) × (defined ds i (string_bytes name) ≡ None)) }
-        ensures err { IfErr result (λ e. (ds : List Definition) → HasMet self.old ds
-            → IsRefusalBy (unless (is_none (defined ds (opened self.old) (string_bytes name))) fault.Redefined ++ too_many (opened self.old + 1)) e) }
+    /// The namespace of that text, whose number is known where it is the enclosing one.
+    pub(crate) fn numbered(
+        &mut self,
+        alloc: Global,
+        text: &Text,
+        known: Option<usize>,
+    ) -> Result<Namespace, AllocError>
+        requires { (i : ℕ) → known ≡ Some i → number_of self.old.names text.now ≡ Some i }
+        ensures nodes { self.new.nodes ≡ self.old.nodes }
+        ensures ok { IfOk result (λ ns. (ns.text ≡ text.now) × IsNumbered self.new.names ns) }
+        ensures kept { IfOk result (λ _. Keeps self.old self.new) }
+        ensures met { IfOk result (λ _. (ds : List Definition) → HasMet self.old ds → HasMet self.new ds) }
     {
-        if self.names.contains_key(name.as_str()) {
-            drop(node);
+        let number = match known {
+            Some(number) => number,
+            None => self.names.number_of(alloc, text.as_str())?,
+        };
+        Ok(Namespace {
+            text: text.clone()?,
+            number,
+        })
+    }
+
+    /// Opens the next node, and defines a name without a dot as it.
+    pub(crate) fn open_named(
+        &mut self,
+        alloc: Global,
+        namespace: &Namespace,
+        last: &str,
+    ) -> Result<usize, SchemaError>
+        requires numbered { IsNumbered self.old.names namespace.now }
+        requires last { has_dot last.now ≡ false }
+        ensures ok { IfOk result (λ i. (i ≡ opened self.old) × (nodes_of self.new ≡ nodes_of self.old ++ kind.Primitive simple.Null ∷ [])) }
+        ensures kept { IfOk result (λ _. Keeps self.old self.new) }
+        ensures met { IfOk result (λ i. (ds : List Definition) → HasMet self.old ds
+            → HasMet self.new (ds ++ record { name = joined namespace.now.text last.now; node = i } ∷ [])
+            × (defined ds i (joined namespace.now.text last.now) ≡ None)) }
+        ensures err { IfErr result (λ e. (ds : List Definition) → HasMet self.old ds
+            → IsRefusalBy (unless (is_none (defined ds (opened self.old) (joined namespace.now.text last.now))) fault.Redefined ++ too_many (opened self.old + 1)) e) }
+    {
+        if self.names.node_in(namespace.number, last).is_some() {
             return Err(SchemaError::Redefined);
         }
-        let index = self.open(node)?;
-        self.names.insert(name, index)?;
+        let index = self.reserve()?;
+        self.names.define(alloc, namespace.number, last, index)?;
         Ok(index)
     }
 
-    /// The type that was defined by a full name: its name and its node.
-    fn defined(&self, full: &str) -> Option<(&str, usize)>
+    /// The node of the type that a use names: a name with a dot as it is written, another in the
+    /// namespace that applies, else in the null namespace.
+    pub(crate) fn find(&self, name: &str, namespace: &Namespace) -> Option<usize>
+        requires { IsNumbered self.now.names namespace.now }
         ensures { (ds : List Definition) → HasMet self.now ds
-            → option_map definition_of result ≡ defined ds (opened self.now) full.now }
+            → result ≡ option_map (λ d. d.node) (definition_used ds (opened self.now) namespace.now.text name.now) }
     {
-        match self.names.get_key_value(full) {
-            Some((name, index)) => Some((name.as_str(), *index)),
-            None => None,
+        match name.rsplit_once('.') {
+            Some((before, last)) => self.find_in(before, last),
+            None => match self.names.node_in(namespace.number, name) {
+                Some(node) => Some(node),
+                None => self.names.node_of("", name),
+            },
         }
     }
 
-    /// The type that a use names: a name with a dot as it is written, another in the namespace
-    /// that applies, else in the null namespace.
-    pub(crate) fn find(
-        &self,
-        alloc: Global,
-        name: &str,
-        namespace: &str,
-    ) -> Result<Option<(&str, usize)>, AllocError>
-        ensures { IfOk result (λ o. (ds : List Definition) → HasMet self.now ds
-            → option_map definition_of o ≡ definition_used ds (opened self.now) namespace.now name.now) }
+    /// The node of the type whose full name has these parts. No name begins with its only dot.
+    fn find_in(&self, before: &str, last: &str) -> Option<usize>
+        requires { has_dot last.now ≡ false }
+        ensures { (ds : List Definition) → HasMet self.now ds → result ≡ node_named ds (before.now ++ 46 ∷ last.now) }
     {
-        if is_whole(namespace, name) {
-            return Ok(self.defined(name));
+        if before.is_empty() {
+            return None;
         }
-        let full = joined(alloc, namespace, name)?;
-        let near = self.defined(full.as_str());
-        if near.is_some() {
-            return Ok(near);
-        }
-        Ok(self.defined(name))
+        self.names.node_of(before, last)
     }
 }

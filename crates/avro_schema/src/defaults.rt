@@ -1,11 +1,13 @@
 // Which defaults are values of their fields' types (Avro 1.11, "Records").
-ghost use Rattle.std.specs.Prelude.{◌≡◌, ◌&&◌, [], false, not, int_le, map, filter, IfErr, OnOk, Contains, option_copied, is_some};
+ghost use Rattle.std.specs.Prelude.{◌≡◌, ◌&&◌, [], true, false, not, int_le, map, filter, IfErr, OnOk, Contains, option_copied, option_map, is_some};
 ghost use Rattle.std.specs.Option.{option_map_or};
 ghost use Rattle.serde_json.specs.Find.{get_member, as_integer};
 ghost use Rattle.serde_json.specs.View.{view, number_view, items_view, members_view};
 ghost use Rattle.avro_schema.specs.Defaults as spec;
+ghost use Rattle.avro_schema.specs.Required.{required_of, have_all};
 
 use crate::{BadDefault, Field, Node, NodeId, Primitive, Schema};
+use base_text::{Listed, Text};
 use named_list::NamedList;
 use serde_json::{Map, Number, Value};
 
@@ -27,7 +29,7 @@ impl Schema {
         let nodes = self.nodes();
         for node in nodes {
             if let Node::Record { fields, .. } = node {
-                check_fields(nodes, fields.as_slice())?;
+                check_fields(self, fields.as_slice())?;
             }
         }
         Ok(())
@@ -35,12 +37,12 @@ impl Schema {
 }
 
 /// Tests the defaults of a record's fields.
-fn check_fields<'s>(nodes: &[Node], fields: &'s [Field]) -> Result<(), BadDefault<'s>>
-    ensures ok { OnOk result (map (λ f. f.name) (filter (λ f. not (spec.has_good_default nodes.now f)) fields.now) ≡ []) }
-    ensures bad { IfErr result (λ bad. Contains (map (λ f. f.name) (filter (λ f. not (spec.has_good_default nodes.now f)) fields.now)) bad.field.now) }
+fn check_fields<'s>(schema: &Schema, fields: &'s [Field]) -> Result<(), BadDefault<'s>>
+    ensures ok { OnOk result (map (λ f. f.name) (filter (λ f. not (spec.has_good_default schema.now.nodes f)) fields.now) ≡ []) }
+    ensures bad { IfErr result (λ bad. Contains (map (λ f. f.name) (filter (λ f. not (spec.has_good_default schema.now.nodes f)) fields.now)) bad.field.now) }
 {
     for field in fields {
-        if !has_good_default(nodes, field) {
+        if !has_good_default(schema, field) {
             return Err(BadDefault { field: &field.name });
         }
     }
@@ -48,49 +50,62 @@ fn check_fields<'s>(nodes: &[Node], fields: &'s [Field]) -> Result<(), BadDefaul
 }
 
 /// Whether a field's default is a value of its type, or it has none.
-fn has_good_default(nodes: &[Node], field: &Field) -> bool
-    ensures { result ≡ spec.has_good_default nodes.now field.now }
+fn has_good_default(schema: &Schema, field: &Field) -> bool
+    ensures { result ≡ spec.has_good_default schema.now.nodes field.now }
 {
     match &field.default {
-        Some(default) => default_fits(nodes, field.node, default.json()),
+        Some(default) => default_fits(schema, field.node, default.json()),
         None => true,
     }
 }
 
 /// The type that a default of a type is a value of: a union's first branch. The empty union has
 /// none.
-fn default_type(nodes: &[Node], id: NodeId) -> Option<&Node>
-    ensures { option_copied result ≡ spec.default_type nodes.now id }
+fn default_type(schema: &Schema, id: NodeId) -> Option<&Node>
+    ensures { option_copied result ≡ spec.default_type schema.now.nodes id }
 {
-    match nodes.get(id.index) {
+    match schema.nodes().get(id.index) {
         Some(Node::Union(branches)) => match branches.as_slice().first() {
-            Some(branch) => nodes.get(branch.index),
+            Some(branch) => schema.nodes().get(branch.index),
             None => None,
         },
         other => other,
     }
 }
 
+/// The names of the fields that an object which is a default of a type has to have.
+fn required_names(schema: &Schema, id: NodeId) -> Option<&Listed<Text>>
+    ensures { option_copied result ≡ option_map required_of (spec.default_type schema.now.nodes id) }
+{
+    match schema.nodes().get(id.index) {
+        Some(Node::Union(branches)) => match branches.as_slice().first() {
+            Some(branch) => schema.required(*branch),
+            None => None,
+        },
+        _ => schema.required(id),
+    }
+}
+
 /// Whether a JSON value is a default of a type.
 #[cycle(default_fits)]
-fn default_fits(nodes: &[Node], id: NodeId, value: &Value) -> bool
-    ensures { result ≡ spec.default_fits nodes.now id (view value.now) }
+fn default_fits(schema: &Schema, id: NodeId, value: &Value) -> bool
+    ensures { result ≡ spec.default_fits schema.now.nodes id (view value.now) }
 {
-    let node = default_type(nodes, id);
+    let node = default_type(schema, id);
     match value {
         Value::Null => takes_null(node),
         Value::Bool(_) => takes_boolean(node),
         Value::Number(number) => takes_number(node, number),
         Value::String(_) => takes_string(node),
         Value::Array(items) => match node {
-            Some(Node::Array(inner)) => items_fit(nodes, *inner, items),
+            Some(Node::Array(inner)) => items_fit(schema, *inner, items),
             _ => false,
         },
         Value::Object(members) => match node {
-            Some(Node::Map(inner)) => values_fit(nodes, *inner, members),
+            Some(Node::Map(inner)) => values_fit(schema, *inner, members),
             Some(Node::Record { fields, .. }) => {
-                fields_fit(nodes, fields, members)
-                    && absent_have_defaults(members, fields.as_slice())
+                fields_fit(schema, fields, members)
+                    && have_required(members, required_names(schema, id))
             }
             _ => false,
         },
@@ -98,11 +113,11 @@ fn default_fits(nodes: &[Node], id: NodeId, value: &Value) -> bool
 }
 
 #[cycle(default_fits)]
-fn items_fit(nodes: &[Node], id: NodeId, items: &Vec<Value>) -> bool
-    ensures { result ≡ spec.items_fit nodes.now id (items_view items.now.items) }
+fn items_fit(schema: &Schema, id: NodeId, items: &Vec<Value>) -> bool
+    ensures { result ≡ spec.items_fit schema.now.nodes id (items_view items.now.items) }
 {
     for item in items {
-        if !default_fits(nodes, id, item) {
+        if !default_fits(schema, id, item) {
             return false;
         }
     }
@@ -110,11 +125,11 @@ fn items_fit(nodes: &[Node], id: NodeId, items: &Vec<Value>) -> bool
 }
 
 #[cycle(default_fits)]
-fn values_fit(nodes: &[Node], id: NodeId, members: &Map<String, Value>) -> bool
-    ensures { result ≡ spec.values_fit nodes.now id (members_view members.now.entries) }
+fn values_fit(schema: &Schema, id: NodeId, members: &Map<String, Value>) -> bool
+    ensures { result ≡ spec.values_fit schema.now.nodes id (members_view members.now.entries) }
 {
     for (_name, value) in members.iter() {
-        if !default_fits(nodes, id, value) {
+        if !default_fits(schema, id, value) {
             return false;
         }
     }
@@ -123,12 +138,12 @@ fn values_fit(nodes: &[Node], id: NodeId, members: &Map<String, Value>) -> bool
 
 /// Whether the members of fields' names are values of the fields.
 #[cycle(default_fits)]
-fn fields_fit(nodes: &[Node], fields: &NamedList<Field>, members: &Map<String, Value>) -> bool
-    ensures { result ≡ spec.fields_fit nodes.now fields.now (members_view members.now.entries) }
+fn fields_fit(schema: &Schema, fields: &NamedList<Field>, members: &Map<String, Value>) -> bool
+    ensures { result ≡ spec.fields_fit schema.now.nodes fields.now (members_view members.now.entries) }
 {
     for (name, value) in members.iter() {
         if let Some(field) = field_named(fields, name.as_str()) {
-            if !default_fits(nodes, field.node, value) {
+            if !default_fits(schema, field.node, value) {
                 return false;
             }
         }
@@ -142,11 +157,20 @@ fn field_named<'f>(fields: &'f NamedList<Field>, name: &str) -> Option<&'f Field
     fields.find(name)
 }
 
-/// Whether each field that the members leave out has a default.
-fn absent_have_defaults(members: &Map<String, Value>, fields: &[Field]) -> bool
-    ensures { result ≡ spec.absent_have_defaults (members_view members.now.entries) fields.now }
+/// Whether each of the names is a member's. Takes no more steps than there are members, and one.
+fn have_required(members: &Map<String, Value>, required: Option<&Listed<Text>>) -> bool
+    ensures { result ≡ option_map_or (have_all (members_view members.now.entries)) (option_copied required.entry) true }
 {
-    fields.iter().all(|field| has_member(members, field.name.as_str()) || field.default.is_some())
+    match required {
+        Some(names) => have_all_of(members, names.as_slice()),
+        None => true,
+    }
+}
+
+fn have_all_of(members: &Map<String, Value>, names: &[Text]) -> bool
+    ensures { result ≡ have_all (members_view members.now.entries) names.now }
+{
+    names.iter().all(|name| has_member(members, name.as_str()))
 }
 
 fn has_member(members: &Map<String, Value>, name: &str) -> bool

@@ -1,35 +1,38 @@
 // The names of a type.
-ghost use Rattle.std.specs.Prelude.{◌≡◌, ◌&&◌, IfOk, IfErr, map};
+ghost use Rattle.std.specs.Prelude.{◌≡◌, ◌&&◌, IfOk, IfErr, ℕ, false, Some, None, map, option_map, unwrap_or};
 ghost use Rattle.std.specs.List.{list_all};
 ghost use Rattle.json_tree.specs.View.{view};
 ghost use Rattle.avro_schema.specs.Form.{heading_of};
 ghost use Rattle.avro_schema.specs.Faults.{written_faults};
 ghost use Rattle.avro_schema.specs.Names as spec;
-ghost use Rattle.avro_schema.specs.Building.{HasNames};
+ghost use Rattle.avro_schema.specs.Building.{HasNames, IsNumberedAs};
 ghost use Rattle.avro_schema.specs.Schema.{IsRefusalBy};
 
+use crate::defined_names::Namespace;
 use crate::members::{aliases_of, string_at};
-use crate::names::{full_name, full_text, is_full_name, is_type_name};
+use crate::names::{full_name, has_dot, is_full_name, is_type_name};
 use crate::{FullName, SchemaError};
 use base_text::Text;
 use json_tree::Json;
 use std::alloc::{AllocError, Global};
 
-/// The names of a type: its full name, also as a text, and its aliases.
+/// The names of a type: its full name and its aliases.
 #[derive(Drop)]
 pub(crate) struct TypeNames {
-    pub(crate) text: String,
     pub(crate) name: FullName,
     pub(crate) aliases: Vec<FullName>,
+    /// The number of its namespace, where it has that of the type around it.
+    pub(crate) number: Option<usize>,
 }
 
 /// Reads the names of a type that an object writes, inside a type of the namespace `enclosing`.
 pub(crate) fn read_type_names(
     alloc: Global,
     value: &Json<'_>,
-    enclosing: &str,
+    enclosing: &Namespace,
 ) -> Result<TypeNames, SchemaError>
-    ensures ok { IfOk result (HasNames enclosing.now (heading_of (view value.now))) }
+    ensures ok { IfOk result (HasNames enclosing.now.text (heading_of (view value.now))) }
+    ensures number { IfOk result (IsNumberedAs enclosing.now) }
     ensures err { IfErr result (IsRefusalBy (written_faults (heading_of (view value.now)))) }
 {
     let Some(name) = string_at(value, "name") else {
@@ -41,15 +44,40 @@ pub(crate) fn read_type_names(
     if !may_name(name, aliases.as_slice()) {
         return Err(SchemaError::BadName);
     }
-    let namespace = string_at(value, "namespace").unwrap_or(enclosing);
-    let text = full_text(alloc, namespace, name)?;
-    let name = full_name(alloc, namespace, name)?;
-    let aliases = type_aliases(alloc, name.namespace.as_str(), aliases.as_slice())?;
+    let written = string_at(value, "namespace");
+    let number = inherited(written, name, enclosing);
+    let namespace = own_namespace(alloc, written, enclosing)?;
+    let name = full_name(alloc, &namespace, name)?;
+    let aliases = type_aliases(alloc, &name.namespace, aliases.as_slice())?;
     Ok(TypeNames {
-        text,
         name,
         aliases,
+        number,
     })
+}
+
+/// The number of the enclosing namespace, where a name takes that one.
+fn inherited(written: Option<&str>, name: &str, enclosing: &Namespace) -> Option<usize>
+    ensures { (i : ℕ) → result ≡ Some i → (i ≡ enclosing.now.number) × (option_map (λ s. s.now) written.entry ≡ None) × (spec.has_dot name.now ≡ false) }
+{
+    if written.is_some() || has_dot(name) {
+        return None;
+    }
+    Some(enclosing.number)
+}
+
+/// The namespace that applies to a type's own name.
+fn own_namespace(
+    alloc: Global,
+    written: Option<&str>,
+    enclosing: &Namespace,
+) -> Result<Text, AllocError>
+    ensures { IfOk result (λ t. t ≡ unwrap_or (option_map (λ s. s.now) written.entry) enclosing.now.text) }
+{
+    match written {
+        Some(text) => Text::copy_of(alloc, text),
+        None => enclosing.text.clone(),
+    }
 }
 
 /// Whether a type may have a name and aliases.
@@ -68,7 +96,7 @@ fn are_full_names(texts: &[Text]) -> bool
 /// The full names that a type's aliases give.
 fn type_aliases(
     alloc: Global,
-    namespace: &str,
+    namespace: &Text,
     aliases: &[Text],
 ) -> Result<Vec<FullName>, AllocError>
     ensures { IfOk result (λ v. v.items ≡ map (spec.full_name namespace.now) aliases.now) }

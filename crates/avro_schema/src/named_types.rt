@@ -1,5 +1,5 @@
 // Reading types with names, but for the fields of records.
-ghost use Rattle.std.specs.Prelude.{◌≡◌, ◌<◌, map, bytes_eq, IfOk, IfErr};
+ghost use Rattle.std.specs.Prelude.{◌≡◌, ◌<◌, List, map, bytes_eq, IfOk, IfErr};
 ghost use Rattle.json_tree.specs.View.{view};
 ghost use Rattle.avro_schema.specs.declared.error.SchemaError.TheVariants as fault;
 ghost use Rattle.avro_schema.specs.Form.{form_of_name, heading_of};
@@ -8,6 +8,7 @@ ghost use Rattle.avro_schema.specs.Faults.{unless};
 ghost use Rattle.avro_schema.specs.Schema.{IsRefusalBy};
 
 use crate::builder::Builder;
+use crate::defined_names::Namespace;
 use crate::fields::named_fields;
 use crate::heading::{TypeNames, read_type_names};
 use crate::names::primitive_named;
@@ -17,55 +18,64 @@ use base_text::{Listed, Text};
 use json_tree::Json;
 use std::alloc::Global;
 
-/// A record that is open, its fields not read yet.
+/// A type with a name whose node is open, but not written yet.
 #[derive(Drop)]
-pub(crate) struct OpenRecord {
+pub(crate) struct OpenType {
     pub(crate) index: usize,
+    /// That of the types inside it.
+    pub(crate) namespace: Namespace,
     pub(crate) name: FullName,
     pub(crate) aliases: Vec<FullName>,
 }
 
 impl Builder {
-    ghost use Rattle.avro_schema.specs.Building.{opened, ReadsType, RefusesType, OpensRecord, ClosesRecord, record_in, enum_in, fixed_in};
+    ghost use Rattle.avro_schema.specs.Places.{Definition};
+    ghost use Rattle.avro_schema.specs.DefinedNames.{IsNumbered};
+    ghost use Rattle.avro_schema.specs.Building.{HasMet, opened, ReadsType, RefusesType, OpensType, ClosesRecord, opening_faults, enum_in, fixed_in};
 
     /// Reads a name: a primitive's, or a use of a type.
     pub(crate) fn read_name(
         &mut self,
         alloc: Global,
         name: &str,
-        namespace: &str,
+        namespace: &Namespace,
     ) -> Result<NodeId, SchemaError>
-        ensures ok { IfOk result (ReadsType self.old self.new namespace.now (form_of_name name.now)) }
-        ensures err { IfErr result (RefusesType self.old namespace.now (form_of_name name.now)) }
+        requires { IsNumbered self.old.names namespace.now }
+        ensures ok { IfOk result (ReadsType self.old self.new namespace.now.text (form_of_name name.now)) }
+        ensures err { IfErr result (RefusesType self.old namespace.now.text (form_of_name name.now)) }
     {
         if let Some(primitive) = primitive_named(name) {
             let index = self.open(Node::Primitive(primitive))?;
             return Ok(NodeId { index });
         }
-        match self.find(alloc, name, namespace)? {
-            Some((_, index)) => Ok(NodeId { index }),
+        match self.find(name, namespace) {
+            Some(index) => Ok(NodeId { index }),
             None => Err(SchemaError::Unknown(Text::copy_of(alloc, name)?)),
         }
     }
 
-    /// Opens a record, and defines its name.
-    pub(crate) fn open_record(
+    /// Opens a type with a name, and defines the name.
+    pub(crate) fn open_type(
         &mut self,
         alloc: Global,
         value: &Json<'_>,
-        namespace: &str,
-    ) -> Result<OpenRecord, SchemaError>
-        ensures ok { IfOk result (OpensRecord self.old self.new namespace.now (heading_of (view value.now))) }
-        ensures err { IfErr result (RefusesType self.old namespace.now (record_in (view value.now))) }
+        namespace: &Namespace,
+    ) -> Result<OpenType, SchemaError>
+        requires { IsNumbered self.old.names namespace.now }
+        ensures ok { IfOk result (OpensType self.old self.new namespace.now.text (heading_of (view value.now))) }
+        ensures err { IfErr result (λ e. (ds : List Definition) → HasMet self.old ds
+            → IsRefusalBy (opening_faults ds namespace.now.text (heading_of (view value.now)) (opened self.old)) e) }
     {
         let TypeNames {
-            text,
             name,
             aliases,
+            number,
         } = read_type_names(alloc, value, namespace)?;
-        let index = self.open_named(text, Node::Primitive(Primitive::Null))?;
-        Ok(OpenRecord {
+        let namespace = self.numbered(alloc, &name.namespace, number)?;
+        let index = self.open_named(alloc, &namespace, name.name.as_str())?;
+        Ok(OpenType {
             index,
+            namespace,
             name,
             aliases,
         })
@@ -75,7 +85,7 @@ impl Builder {
     pub(crate) fn close_record(
         &mut self,
         alloc: Global,
-        started: OpenRecord,
+        started: OpenType,
         fields: Vec<Field>,
     ) -> Result<NodeId, SchemaError>
         requires { started.index < opened self.old }
@@ -83,10 +93,11 @@ impl Builder {
         ensures err { IfErr result (IsRefusalBy (unless (all_distinct bytes_eq (map (λ f. f.name) fields.items)) fault.BadForm)) }
     {
         let list = named_fields(alloc, fields)?;
-        let OpenRecord {
+        let OpenType {
             index,
             name,
             aliases,
+            ..
         } = started;
         let node = Node::Record {
             name,
@@ -101,16 +112,18 @@ impl Builder {
         &mut self,
         alloc: Global,
         value: &Json<'_>,
-        namespace: &str,
+        namespace: &Namespace,
     ) -> Result<NodeId, SchemaError>
-        ensures ok { IfOk result (ReadsType self.old self.new namespace.now (enum_in (view value.now))) }
-        ensures err { IfErr result (RefusesType self.old namespace.now (enum_in (view value.now))) }
+        requires { IsNumbered self.old.names namespace.now }
+        ensures ok { IfOk result (ReadsType self.old self.new namespace.now.text (enum_in (view value.now))) }
+        ensures err { IfErr result (RefusesType self.old namespace.now.text (enum_in (view value.now))) }
     {
-        let TypeNames {
-            text,
+        let OpenType {
+            index,
             name,
             aliases,
-        } = read_type_names(alloc, value, namespace)?;
+            ..
+        } = self.open_type(alloc, value, namespace)?;
         let Symbols { symbols, default } = read_symbols(alloc, value)?;
         let node = Node::Enum {
             name,
@@ -118,7 +131,7 @@ impl Builder {
             symbols,
             default,
         };
-        let index = self.open_named(text, node)?;
+        self.close(index, node);
         Ok(NodeId { index })
     }
 
@@ -126,23 +139,25 @@ impl Builder {
         &mut self,
         alloc: Global,
         value: &Json<'_>,
-        namespace: &str,
+        namespace: &Namespace,
     ) -> Result<NodeId, SchemaError>
-        ensures ok { IfOk result (ReadsType self.old self.new namespace.now (fixed_in (view value.now))) }
-        ensures err { IfErr result (RefusesType self.old namespace.now (fixed_in (view value.now))) }
+        requires { IsNumbered self.old.names namespace.now }
+        ensures ok { IfOk result (ReadsType self.old self.new namespace.now.text (fixed_in (view value.now))) }
+        ensures err { IfErr result (RefusesType self.old namespace.now.text (fixed_in (view value.now))) }
     {
-        let TypeNames {
-            text,
+        let OpenType {
+            index,
             name,
             aliases,
-        } = read_type_names(alloc, value, namespace)?;
+            ..
+        } = self.open_type(alloc, value, namespace)?;
         let size = read_size(value)?;
         let node = Node::Fixed {
             name,
             aliases: Listed::from(aliases),
             size,
         };
-        let index = self.open_named(text, node)?;
+        self.close(index, node);
         Ok(NodeId { index })
     }
 }

@@ -1,5 +1,5 @@
 // Names and full names (Avro 1.11, "Names").
-ghost use Rattle.std.specs.Prelude.{◌≡◌, ◌==◌, ◌||◌, length, IfOk, string_bytes};
+ghost use Rattle.std.specs.Prelude.{◌≡◌, ◌==◌, ◌||◌, true, false, IfOk};
 ghost use Rattle.std.specs.Char.{is_ascii_alphabetic, is_ascii_alphanumeric};
 ghost use Rattle.std.specs.List.{after_last, list_all};
 ghost use Rattle.avro_schema.specs.Names as spec;
@@ -67,7 +67,8 @@ pub(crate) fn is_type_name(text: &str) -> bool
     is_full_name(text) && primitive_named(last_part(text)).is_none()
 }
 
-fn has_dot(text: &str) -> bool
+/// Whether a text is its own full name, whichever namespace applies.
+pub(crate) fn has_dot(text: &str) -> bool
     ensures { result ≡ spec.has_dot text.now }
 {
     text.as_bytes().contains(&b'.')
@@ -84,50 +85,22 @@ fn last_part(text: &str) -> &str
 }
 
 /// What a text names where a namespace applies.
-pub(crate) fn full_name(alloc: Global, namespace: &str, text: &str) -> Result<FullName, AllocError>
-    ensures { IfOk result (λ n. n ≡ spec.full_name namespace.now text.now) }
+pub(crate) fn full_name(alloc: Global, namespace: &Text, text: &str) -> Result<FullName, AllocError>
+    ensures name { IfOk result (λ n. n ≡ spec.full_name namespace.now text.now) }
+    ensures last { IfOk result (λ n. spec.has_dot n.name ≡ false) }
+    ensures whole { IfOk result (λ n. spec.is_full_name text.now ≡ true → spec.full_text namespace.now text.now ≡ spec.joined n.namespace n.name) }
 {
     match text.rsplit_once('.') {
-        Some((before, last)) => of_parts(alloc, before, last),
-        None => of_parts(alloc, namespace, text),
+        Some((before, last)) => of_parts(alloc, Text::copy_of(alloc, before)?, last),
+        None => of_parts(alloc, namespace.clone()?, text),
     }
 }
 
-fn of_parts(alloc: Global, namespace: &str, name: &str) -> Result<FullName, AllocError>
-    ensures { IfOk result (λ n. n ≡ record { namespace = namespace.now; name = name.now }) }
+fn of_parts(alloc: Global, namespace: Text, name: &str) -> Result<FullName, AllocError>
+    ensures { IfOk result (λ n. n ≡ record { namespace = namespace; name = name.now }) }
 {
     Ok(FullName {
-        namespace: Text::copy_of(alloc, namespace)?,
+        namespace,
         name: Text::copy_of(alloc, name)?,
     })
-}
-
-/// A name behind a namespace.
-pub(crate) fn joined(alloc: Global, namespace: &str, name: &str) -> Result<String, AllocError>
-    ensures { IfOk result (λ t. string_bytes t ≡ spec.joined namespace.now name.now) }
-{
-    let mut full = String::from_str(alloc, namespace)?;
-    if !namespace.is_empty() {
-        full.push_str(".")?;
-    }
-    full.push_str(name)?;
-    Ok(full)
-}
-
-/// Whether a text is its own full name where a namespace applies.
-pub(crate) fn is_whole(namespace: &str, text: &str) -> bool
-    ensures { result ≡ ((length namespace.now == 0) || spec.has_dot text.now) }
-{
-    namespace.is_empty() || has_dot(text)
-}
-
-/// The full name that a text gives where a namespace applies, as a text.
-pub(crate) fn full_text(alloc: Global, namespace: &str, text: &str) -> Result<String, AllocError>
-    ensures { IfOk result (λ t. string_bytes t ≡ spec.full_text namespace.now text.now) }
-{
-    if has_dot(text) {
-        String::from_str(alloc, text)
-    } else {
-        joined(alloc, namespace, text)
-    }
 }

@@ -21,5 +21,5 @@ pub(crate) fn normal_of(alloc: Global, text: &str, value: &Json<'_>) -> Result<T
     ensures same { IfOk result (λ normal. schema_of normal ≡ schema_of text.now) }
 {
     compact_texts_are_no_longer();
-    Ok(Text::from(value.to_text(alloc, text.len())?))
+    Text::of_string(value.to_text(alloc, text.len())?)
 }

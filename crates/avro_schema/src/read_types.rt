@@ -5,6 +5,7 @@ ghost use Rattle.serde_json.specs.Data.{array};
 ghost use Rattle.avro_schema.specs.Plain.{IsPlain};
 
 use crate::builder::Builder;
+use crate::defined_names::Namespace;
 use crate::fields::{field_items, read_field_names};
 use crate::kinds::Kinds;
 use crate::members::string_at;
@@ -16,6 +17,7 @@ use std::alloc::Global;
 
 impl Builder {
     ghost use Rattle.avro_schema.specs.Form.{form, forms, union_of, fields_of_items, field_heading_of};
+    ghost use Rattle.avro_schema.specs.DefinedNames.{IsNumbered};
     ghost use Rattle.avro_schema.specs.Building.{ReadsType, RefusesType, ReadsBranches, RefusesBranches, ReadsField, RefusesField, ReadsFields, RefusesFields, is_object, form_in, record_in, array_in, map_in};
 
     /// Reads a type inside a type of that namespace.
@@ -24,11 +26,12 @@ impl Builder {
         &mut self,
         alloc: Global,
         value: &Json<'_>,
-        namespace: &str,
+        namespace: &Namespace,
     ) -> Result<NodeId, SchemaError>
-        requires { IsPlain (view value.now) }
-        ensures ok { IfOk result (ReadsType self.old self.new namespace.now (form (view value.now))) }
-        ensures err { IfErr result (RefusesType self.old namespace.now (form (view value.now))) }
+        requires plain { IsPlain (view value.now) }
+        requires numbered { IsNumbered self.old.names namespace.now }
+        ensures ok { IfOk result (ReadsType self.old self.new namespace.now.text (form (view value.now))) }
+        ensures err { IfErr result (RefusesType self.old namespace.now.text (form (view value.now))) }
     {
         match value {
             Json::String(name) => self.read_name(alloc, name, namespace),
@@ -43,12 +46,13 @@ impl Builder {
         &mut self,
         alloc: Global,
         value: &Json<'_>,
-        namespace: &str,
+        namespace: &Namespace,
     ) -> Result<NodeId, SchemaError>
         requires object { is_object (view value.now) ≡ true }
         requires plain { IsPlain (view value.now) }
-        ensures ok { IfOk result (ReadsType self.old self.new namespace.now (form (view value.now))) }
-        ensures err { IfErr result (RefusesType self.old namespace.now (form (view value.now))) }
+        requires numbered { IsNumbered self.old.names namespace.now }
+        ensures ok { IfOk result (ReadsType self.old self.new namespace.now.text (form (view value.now))) }
+        ensures err { IfErr result (RefusesType self.old namespace.now.text (form (view value.now))) }
     {
         let Some(name) = string_at(value, "type") else {
             return self.read_member(alloc, value, "type", namespace);
@@ -71,11 +75,12 @@ impl Builder {
         alloc: Global,
         value: &Json<'_>,
         name: &str,
-        namespace: &str,
+        namespace: &Namespace,
     ) -> Result<NodeId, SchemaError>
-        requires { IsPlain (view value.now) }
-        ensures ok { IfOk result (ReadsType self.old self.new namespace.now (form_in name.now (view value.now))) }
-        ensures err { IfErr result (RefusesType self.old namespace.now (form_in name.now (view value.now))) }
+        requires plain { IsPlain (view value.now) }
+        requires numbered { IsNumbered self.old.names namespace.now }
+        ensures ok { IfOk result (ReadsType self.old self.new namespace.now.text (form_in name.now (view value.now))) }
+        ensures err { IfErr result (RefusesType self.old namespace.now.text (form_in name.now (view value.now))) }
     {
         match value.get(name) {
             Some(member) => self.read_type(alloc, member, namespace),
@@ -88,11 +93,12 @@ impl Builder {
         &mut self,
         alloc: Global,
         value: &Json<'_>,
-        namespace: &str,
+        namespace: &Namespace,
     ) -> Result<NodeId, SchemaError>
-        requires { IsPlain (view value.now) }
-        ensures ok { IfOk result (ReadsType self.old self.new namespace.now (array_in (view value.now))) }
-        ensures err { IfErr result (RefusesType self.old namespace.now (array_in (view value.now))) }
+        requires plain { IsPlain (view value.now) }
+        requires numbered { IsNumbered self.old.names namespace.now }
+        ensures ok { IfOk result (ReadsType self.old self.new namespace.now.text (array_in (view value.now))) }
+        ensures err { IfErr result (RefusesType self.old namespace.now.text (array_in (view value.now))) }
     {
         let index = self.reserve()?;
         let items = self.read_member(alloc, value, "items", namespace)?;
@@ -105,11 +111,12 @@ impl Builder {
         &mut self,
         alloc: Global,
         value: &Json<'_>,
-        namespace: &str,
+        namespace: &Namespace,
     ) -> Result<NodeId, SchemaError>
-        requires { IsPlain (view value.now) }
-        ensures ok { IfOk result (ReadsType self.old self.new namespace.now (map_in (view value.now))) }
-        ensures err { IfErr result (RefusesType self.old namespace.now (map_in (view value.now))) }
+        requires plain { IsPlain (view value.now) }
+        requires numbered { IsNumbered self.old.names namespace.now }
+        ensures ok { IfOk result (ReadsType self.old self.new namespace.now.text (map_in (view value.now))) }
+        ensures err { IfErr result (RefusesType self.old namespace.now.text (map_in (view value.now))) }
     {
         let index = self.reserve()?;
         let values = self.read_member(alloc, value, "values", namespace)?;
@@ -122,11 +129,12 @@ impl Builder {
         &mut self,
         alloc: Global,
         items: &Vec<Json<'_>>,
-        namespace: &str,
+        namespace: &Namespace,
     ) -> Result<NodeId, SchemaError>
-        requires { IsPlain (array (items_view items.now.items)) }
-        ensures ok { IfOk result (ReadsType self.old self.new namespace.now (union_of (forms (items_view items.now.items)))) }
-        ensures err { IfErr result (RefusesType self.old namespace.now (union_of (forms (items_view items.now.items)))) }
+        requires plain { IsPlain (array (items_view items.now.items)) }
+        requires numbered { IsNumbered self.old.names namespace.now }
+        ensures ok { IfOk result (ReadsType self.old self.new namespace.now.text (union_of (forms (items_view items.now.items)))) }
+        ensures err { IfErr result (RefusesType self.old namespace.now.text (union_of (forms (items_view items.now.items)))) }
     {
         let index = self.reserve()?;
         let branches = self.read_branches(alloc, items, namespace)?;
@@ -139,17 +147,21 @@ impl Builder {
         &mut self,
         alloc: Global,
         items: &Vec<Json<'_>>,
-        namespace: &str,
+        namespace: &Namespace,
     ) -> Result<Vec<NodeId>, SchemaError>
-        requires { IsPlain (array (items_view items.now.items)) }
-        ensures ok { IfOk result (λ v. ReadsBranches self.old self.new namespace.now (forms (items_view items.now.items)) v.items) }
-        ensures err { IfErr result (RefusesBranches self.old namespace.now (forms (items_view items.now.items))) }
+        requires plain { IsPlain (array (items_view items.now.items)) }
+        requires numbered { IsNumbered self.old.names namespace.now }
+        ensures ok { IfOk result (λ v. ReadsBranches self.old self.new namespace.now.text (forms (items_view items.now.items)) v.items) }
+        ensures err { IfErr result (RefusesBranches self.old namespace.now.text (forms (items_view items.now.items))) }
     {
         let mut branches = Vec::with_capacity(alloc, items.len())?;
         let mut kinds = Kinds::new(alloc);
         for item in items {
-            self.add_kind(alloc, &mut kinds, item, namespace)?;
+            let before = self.nodes.len();
             let branch = self.read_type(alloc, item, namespace)?;
+            if !kinds.add(self.branch_kind(branch, before))? {
+                return Err(SchemaError::BadUnion);
+            }
             branches.push(branch)?;
         }
         Ok(branches)
@@ -160,17 +172,18 @@ impl Builder {
         &mut self,
         alloc: Global,
         value: &Json<'_>,
-        namespace: &str,
+        namespace: &Namespace,
     ) -> Result<NodeId, SchemaError>
-        requires { IsPlain (view value.now) }
-        ensures ok { IfOk result (ReadsType self.old self.new namespace.now (record_in (view value.now))) }
-        ensures err { IfErr result (RefusesType self.old namespace.now (record_in (view value.now))) }
+        requires plain { IsPlain (view value.now) }
+        requires numbered { IsNumbered self.old.names namespace.now }
+        ensures ok { IfOk result (ReadsType self.old self.new namespace.now.text (record_in (view value.now))) }
+        ensures err { IfErr result (RefusesType self.old namespace.now.text (record_in (view value.now))) }
     {
         let Some(items) = field_items(value) else {
             return Err(SchemaError::BadForm);
         };
-        let record = self.open_record(alloc, value, namespace)?;
-        let fields = self.read_fields(alloc, items, record.name.namespace.as_str())?;
+        let record = self.open_type(alloc, value, namespace)?;
+        let fields = self.read_fields(alloc, items, &record.namespace)?;
         self.close_record(alloc, record, fields)
     }
 
@@ -179,11 +192,12 @@ impl Builder {
         &mut self,
         alloc: Global,
         items: &Vec<Json<'_>>,
-        namespace: &str,
+        namespace: &Namespace,
     ) -> Result<Vec<Field>, SchemaError>
-        requires { IsPlain (array (items_view items.now.items)) }
-        ensures ok { IfOk result (λ v. ReadsFields self.old self.new namespace.now (fields_of_items (items_view items.now.items)) v.items) }
-        ensures err { IfErr result (RefusesFields self.old namespace.now (fields_of_items (items_view items.now.items))) }
+        requires plain { IsPlain (array (items_view items.now.items)) }
+        requires numbered { IsNumbered self.old.names namespace.now }
+        ensures ok { IfOk result (λ v. ReadsFields self.old self.new namespace.now.text (fields_of_items (items_view items.now.items)) v.items) }
+        ensures err { IfErr result (RefusesFields self.old namespace.now.text (fields_of_items (items_view items.now.items))) }
     {
         let mut fields = Vec::with_capacity(alloc, items.len())?;
         for item in items {
@@ -198,11 +212,12 @@ impl Builder {
         &mut self,
         alloc: Global,
         value: &Json<'_>,
-        namespace: &str,
+        namespace: &Namespace,
     ) -> Result<Field, SchemaError>
-        requires { IsPlain (view value.now) }
-        ensures ok { IfOk result (ReadsField self.old self.new namespace.now (field_heading_of (view value.now)) (form_in (codes "type") (view value.now))) }
-        ensures err { IfErr result (RefusesField self.old namespace.now (field_heading_of (view value.now)) (form_in (codes "type") (view value.now))) }
+        requires plain { IsPlain (view value.now) }
+        requires numbered { IsNumbered self.old.names namespace.now }
+        ensures ok { IfOk result (ReadsField self.old self.new namespace.now.text (field_heading_of (view value.now)) (form_in (codes "type") (view value.now))) }
+        ensures err { IfErr result (RefusesField self.old namespace.now.text (field_heading_of (view value.now)) (form_in (codes "type") (view value.now))) }
     {
         let names = read_field_names(alloc, value)?;
         let node = self.read_member(alloc, value, "type", namespace)?;

@@ -1,5 +1,5 @@
 // A schema: the list of its nodes, the root first.
-ghost use Rattle.std.specs.Prelude.{◌≡◌, ◌≢◌, ◌<◌, ◌≤◌, length, slice_get, Some, None, All, IfOk, IfErr, option_copied, string_bytes};
+ghost use Rattle.std.specs.Prelude.{◌≡◌, ◌≢◌, ◌<◌, ◌≤◌, length, slice_get, Some, None, All, IfOk, IfErr, option_copied, option_map, string_bytes};
 ghost use Rattle.serde_json.specs.Read.{read as json_of};
 ghost use Rattle.json_tree.specs.View.{view};
 
@@ -8,8 +8,9 @@ use crate::laws::schemas_are_sound;
 use crate::limits::LONGEST_TEXT;
 use crate::members::has_float;
 use crate::normal::normal_of;
+use crate::required::required_fields;
 use crate::{FullName, Node, NodeId, SchemaError};
-use base_text::Text;
+use base_text::{Listed, Text};
 use json::Scratch;
 use json_tree::{Json, JsonError};
 use std::alloc::{AllocError, Global};
@@ -19,11 +20,14 @@ use std::marker::Model;
 #[derive(Drop)]
 pub struct Schema {
     nodes: Vec<Node>,
+    /// For each node the names of its fields without a default.
+    required: Vec<Listed<Text>>,
     normal: Text,
 }
 
 impl Model for Schema {
-    ghost use Rattle.std.specs.Prelude.{◌≡◌, Some};
+    ghost use Rattle.std.specs.Prelude.{◌≡◌, Some, map};
+    ghost use Rattle.avro_schema.specs.Required.{required_of};
     ghost use Rattle.std.specs.Coded.{codes};
     ghost use Rattle.avro_schema.specs.JsonCode.{json_code};
     ghost use Rattle.avro_schema.specs.Schema.{Meaning, schema_of};
@@ -34,14 +38,15 @@ impl Model for Schema {
 
     ghost view = { λ s. record { nodes = s.nodes.items; normal_text = s.normal } };
 
-    ghost invariant = { λ s. schema_of s.normal
-        ≡ Some (record { nodes = s.nodes.items; normal_text = s.normal }) };
+    ghost invariant = { λ s. (schema_of s.normal ≡ Some (record { nodes = s.nodes.items; normal_text = s.normal }))
+        × (s.required.items ≡ map required_of s.nodes.items) };
 }
 
 impl Schema {
     ghost use Rattle.avro_schema.specs.Nodes.{name_in};
     ghost use Rattle.avro_schema.specs.Schema.{schema_of, faults, IsRefusalBy};
     ghost use Rattle.avro_schema.specs.Sound.{IsSound, parts_of_node};
+    ghost use Rattle.avro_schema.specs.Required.{required_of};
 
     /// Reads a schema's text: JSON of at most `LONGEST_TEXT` bytes.
     ///
@@ -71,10 +76,13 @@ impl Schema {
             return Err(SchemaError::FloatNumber);
         }
         let mut builder = Builder::new(alloc);
-        builder.read_type(alloc, value, "")?;
+        let null = builder.numbered(alloc, &Text::empty(), None)?;
+        builder.read_type(alloc, value, &null)?;
         let normal = normal_of(alloc, text, value)?;
+        let required = required_fields(alloc, builder.nodes.as_slice())?;
         Ok(Schema {
             nodes: builder.nodes,
+            required,
             normal,
         })
     }
@@ -117,6 +125,13 @@ impl Schema {
         ensures { result.now ≡ self.now.nodes }
     {
         &self.nodes
+    }
+
+    /// The names of the fields of a node that have no default.
+    pub(crate) fn required(&self, id: NodeId) -> Option<&Listed<Text>>
+        ensures { option_copied result ≡ option_map required_of (slice_get self.now.nodes id.index) }
+    {
+        self.required.get(id.index)
     }
 
     /// The number of nodes, at least one.

@@ -25,8 +25,8 @@ returns-then-not-may_name-clause-err c =
     refused_names (heading_of (view c.args.value.now)) c.in-Some.name.now c.in-Some-2.aliases.items c.in-Some.ensures (sym c.in_ok-aliases.ensures ∙ ap (option_map (λ v. v.items)) c.in-Some-2.is)
     (ap (λ l. is_type_name c.in-Some.name.now && list_all is_full_name l) (sym c.as_slice.ensures.value) ∙ sym c.if-not-may_name.ensures)
 
-pub returns-in_err-text-clause-err : goal.returns-in_err-text-clause-err
-returns-in_err-text-clause-err c = exit_err c.from_residual-in_err-text.result (IsRefusalBy (written_faults (heading_of (view c.args.value.now)))) fault.OutOfMemory c.from_residual-in_err-text.ensures.1 (no_memory _ _ refl)
+pub returns-in_err-namespace-clause-err : goal.returns-in_err-namespace-clause-err
+returns-in_err-namespace-clause-err c = exit_err c.from_residual-in_err-namespace.result (IsRefusalBy (written_faults (heading_of (view c.args.value.now)))) fault.OutOfMemory c.from_residual-in_err-namespace.ensures.1 (no_memory _ _ refl)
 
 pub returns-in_err-name-clause-err : goal.returns-in_err-name-clause-err
 returns-in_err-name-clause-err c = exit_err c.from_residual-in_err-name.result (IsRefusalBy (written_faults (heading_of (view c.args.value.now)))) fault.OutOfMemory c.from_residual-in_err-name.ensures.1 (no_memory _ _ refl)

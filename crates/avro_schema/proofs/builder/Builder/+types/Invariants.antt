@@ -1,23 +1,24 @@
-use Rattle.std.proofs.Common.{◌≡◌, ◌≤◌, ◌*◌, ◌+◌, List, drop, true}
+use Rattle.std.proofs.Common.{◌≤◌, ◌*◌, ◌+◌, List, drop}
 use Rattle.serde_json.specs.Data.{depth, items_depth}
 use Rattle.json_tree.specs.View.{view, items_view}
-use Rattle.avro_schema.specs.declared.kinds.Kind.{Kind}
+use Rattle.avro_schema.specs.declared.kinds.BranchKind.{BranchKind}
 use Rattle.avro_schema.specs.Form.{forms, fields_of_items}
 use Rattle.avro_schema.specs.Places.{Definition}
-use Rattle.avro_schema.specs.Faults.{fits_union}
-use Rattle.avro_schema.specs.Building.{HasMet, HoldsKinds, opened}
-use Rattle.avro_schema.proofs.Along.{BranchesAlong, FieldsAlong, TestsAlong}
+use Rattle.avro_schema.specs.Branches.{HoldsKinds}
+use Rattle.avro_schema.specs.Building.{HasMet, Keeps, opened}
+use Rattle.avro_schema.proofs.Along.{FieldsAlong, TestsAlong}
+use Rattle.avro_schema.proofs.Answering.{BranchesFit}
 use Rattle.avro_schema.proofs.builder.Builder.+types.Given as goal
 
 abbrev pub invariant-read_branches-loop-item : goal.invariant-read_branches-loop-item
 invariant-read_branches-loop-item l =
-    (ks : List Kind) × HoldsKinds l.kinds ks × (fits_union ks ≡ true) × (opened l.fn.self ≤ opened l.self)
-    × ((ds : List Definition) → HasMet l.fn.self ds → BranchesAlong l.fn.self l.namespace (forms (items_view l.item-items)) l.self (forms (items_view (drop l.item-index l.item-items))) l.branches.items ks ds)
+    (ms : List BranchKind) × HoldsKinds l.kinds ms × (opened l.fn.self ≤ opened l.self) × Keeps l.fn.self l.self
+    × ((ds : List Definition) → HasMet l.fn.self ds → BranchesFit l.fn.self l.namespace.text (forms (items_view l.item-items)) l.self (forms (items_view (drop l.item-index l.item-items))) l.branches.items ms ds)
 
 abbrev pub invariant-read_fields-loop-item : goal.invariant-read_fields-loop-item
 invariant-read_fields-loop-item l =
-    (opened l.fn.self ≤ opened l.self)
-    × ((ds : List Definition) → HasMet l.fn.self ds → FieldsAlong l.fn.self l.namespace (fields_of_items (items_view l.item-items)) l.self (fields_of_items (items_view (drop l.item-index l.item-items))) l.fields.items ds
+    (opened l.fn.self ≤ opened l.self) × Keeps l.fn.self l.self
+    × ((ds : List Definition) → HasMet l.fn.self ds → FieldsAlong l.fn.self l.namespace.text (fields_of_items (items_view l.item-items)) l.self (fields_of_items (items_view (drop l.item-index l.item-items))) l.fields.items ds
     × TestsAlong (fields_of_items (items_view l.item-items)) (fields_of_items (items_view (drop l.item-index l.item-items))))
 
 abbrev pub decreases-read_type : goal.decreases-read_type

@@ -1,16 +1,17 @@
-use Rattle.std.proofs.Common.{◌≡◌, ◌∙◌, sym, ap, subst, refl, false, is_some, string_bytes, Some, [], ◌∷◌, ◌++◌, cond, bytes_eq}
+use Rattle.std.proofs.Common.{◌≡◌, ◌∙◌, sym, ap, subst, refl, false, is_some, [], ◌∷◌, ◌++◌}
+use Rattle.avro_schema.specs.Names.{joined}
 use Rattle.avro_schema.specs.Places.{defined}
+use Rattle.avro_schema.specs.DefinedNames.{number_of, node_in}
 use Rattle.avro_schema.specs.Building.{HasMet, opened}
-use Rattle.std.specs.BTreeMap.{get_by_text}
 use Rattle.std.proofs.lemmas.Result.{err_from_is_err_and}
-use Rattle.std.proofs.lemmas.Map.Text.{btree_map_updates_text}
 use Rattle.avro_schema.proofs.Reading.{left, right, alone}
+use Rattle.avro_schema.proofs.NameLemmas.{IsDefinedToo}
 use Rattle.avro_schema.proofs.Lookups.{not_new, met_named, is_undefined, no_value}
 use Rattle.avro_schema.proofs.builder.Builder.open_named.Goals as goal
 
-pub returns-then-contains_key-clause-err : goal.returns-then-contains_key-clause-err
-returns-then-contains_key-clause-err c = λ ds met.
-    left _ _ _ (alone _ _ (not_new c.args.self.now ds (string_bytes c.args.name) met (ap (λ s. is_some (get_by_text c.args.self.now.names s)) (sym c.as_str.ensures.value) ∙ sym c.if-contains_key.ensures)))
+pub returns-then-is_some-clause-err : goal.returns-then-is_some-clause-err
+returns-then-is_some-clause-err c = λ ds met.
+    left _ _ _ (alone _ _ (not_new c.args.self.now ds c.args.namespace.now.text c.args.namespace.now.number c.args.last.now met c.requires.numbered c.requires.last (ap is_some (sym c.node_in.ensures) ∙ sym c.is_some.ensures ∙ c.if-is_some.true)))
 
 pub returns-in_err-index-clause-err : goal.returns-in_err-index-clause-err
 returns-in_err-index-clause-err c =
@@ -19,10 +20,21 @@ returns-in_err-index-clause-err c =
 
 pub returns-clause-met : goal.returns-clause-met
 returns-clause-met c = λ ds met.
-    let s = string_bytes c.args.name in
-    let absent : is_some (get_by_text c.args.self.now.names s) ≡ false = ap (λ s. is_some (get_by_text c.args.self.now.names s)) (sym c.as_str.ensures.value) ∙ sym c.if-contains_key.ensures in
-    let is : c.in_ok-index.index ≡ opened c.args.self.now = c.in_ok-index.ensures.ok.0 in
-    let after : HasMet (record { nodes = c.open.new.self.nodes; names = c.insert.new.self }) (ds ++ record { name = s; node = opened c.args.self.now } ∷ []) =
-    met_named c.args.self.now c.open.new.self _ ds c.args.node s c.in_ok-index.ensures.ok.1 c.open.ensures.names (c.in_ok-index.ensures.met ds met) (no_value _ absent) refl
-    (λ cs. btree_map_updates_text s c.open.new.self.names c.insert.new.self (Some c.in_ok-index.index) c.in_ok-insert.ensures.updates cs ∙ ap (λ i. cond (bytes_eq s cs) (Some i) (get_by_text c.open.new.self.names cs)) is) in
-    (subst (λ i. HasMet (record { nodes = c.open.new.self.nodes; names = c.insert.new.self }) (ds ++ record { name = s; node = i } ∷ [])) (sym is) after, ap (λ i. defined ds i s) is ∙ is_undefined c.args.self.now ds s met absent)
+    let a = c.args.self.now in
+    let ns = c.args.namespace.now in
+    let last = c.args.last.now in
+    let absent : is_some (node_in a.names ns.number last) ≡ false = ap is_some (sym c.node_in.ensures) ∙ sym c.is_some.ensures ∙ c.if-is_some.false in
+    let is : c.in_ok-index.index ≡ opened a = c.in_ok-index.ensures.ok.0 in
+    let kept = c.reserve.ensures.names in
+    let number = ap (λ m. number_of m ns.text) kept ∙ c.requires.numbered in
+    let too : IsDefinedToo c.reserve.new.self.names c.define.new.self ns.text ns.number last c.in_ok-index.index = record {
+      number = number;
+      dotless = c.requires.last;
+      new = ap (λ m. node_in m ns.number last) kept ∙ no_value _ absent;
+      numbers = c.define.ensures.numbers;
+      count = c.define.ensures.count;
+      put = c.in_ok-define.ensures.put ((c.in_ok-index.ensures.met ds met).names.within ns.text ns.number number);
+    } in
+    let after : HasMet (record { nodes = c.reserve.new.self.nodes; names = c.define.new.self }) (ds ++ record { name = joined ns.text last; node = opened a } ∷ []) =
+    met_named a c.reserve.new.self _ ds _ ns.text ns.number last c.in_ok-index.ensures.ok.1 met (c.in_ok-index.ensures.met ds met) refl (subst (IsDefinedToo c.reserve.new.self.names c.define.new.self ns.text ns.number last) is too) in
+    (subst (λ i. HasMet (record { nodes = c.reserve.new.self.nodes; names = c.define.new.self }) (ds ++ record { name = joined ns.text last; node = i } ∷ [])) (sym is) after, ap (λ i. defined ds i (joined ns.text last)) is ∙ is_undefined a ds ns.text ns.number last met c.requires.numbered c.requires.last absent)

@@ -10,8 +10,8 @@ returns-clause-at c =
 
 pub returns-clause-within : goal.returns-clause-within
 returns-clause-within c =
-    let sound : IsSound c.args.self.now.nodes = subst (λ m. IsSound m.nodes) c.self.view_is (c.schemas_are_sound.ensures _ _ c.self.invariant) in
+    let sound : IsSound c.args.self.now.nodes = subst (λ m. IsSound m.nodes) c.self.view_is (c.schemas_are_sound.ensures _ _ c.self.invariant.0) in
     sound.closed c.args.id.index c.index.result.now (returns-clause-at c)
 
 pub returns-clause-sound : goal.returns-clause-sound
-returns-clause-sound c = subst (λ m. IsSound m.nodes) c.self.view_is (c.schemas_are_sound.ensures _ _ c.self.invariant)
+returns-clause-sound c = subst (λ m. IsSound m.nodes) c.self.view_is (c.schemas_are_sound.ensures _ _ c.self.invariant.0)
