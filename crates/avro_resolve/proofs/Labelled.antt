@@ -1,5 +1,5 @@
 -- What the labels of types tell of names that match.
-use Rattle.std.proofs.Common.{◌≡◌, ◌≢◌, ℕ, List, [], ◌∷◌, Bool, true, false, ◌&&◌, ◌||◌, ◌==◌, Option, Some, None, bytes_eq, nat_eq, refl, sym, ◌∙◌, ap, subst}
+use Rattle.std.proofs.Common.{◌≡◌, ◌≢◌, ℕ, List, [], ◌∷◌, Bool, true, false, ◌&&◌, ◌||◌, Option, Some, None, bytes_eq, refl, sym, ◌∙◌, ap}
 use Rattle.std.specs.BTreeMap.{is_at}
 use Rattle.std.specs.Borrow.{Bor}
 use Rattle.std.specs.Cmp.Lexicographic.{slice_cmp, nat_list_eq_equiv}
@@ -17,7 +17,7 @@ use Rattle.avro_resolve.specs.contracts.labels.ShapeOrd.TheImpl as shapes
 use Rattle.avro_resolve.specs.declared.labels.Label.{Label}
 use Rattle.avro_resolve.specs.declared.labels.Shape.{Shape}
 use Rattle.avro_resolve.specs.declared.labels.Shape.TheVariants as shape
-use Rattle.avro_resolve.specs.Labels.{Head, has_alias, has_label, heading_of, is_label, is_labelled, is_unnamed, label_cmp, same_shape}
+use Rattle.avro_resolve.specs.Labels.{Head, has_label, heading_of, is_label, is_labelled, is_unnamed, label_cmp, same_shape}
 use Rattle.avro_resolve.specs.Match.{both, names_match, nodes_match}
 use Rattle.avro_resolve.proofs.SeenLaws.{is_eq-nat_cmp, is_eq-then}
 

@@ -3,8 +3,9 @@ ghost use Rattle.std.specs.Prelude.{◌≡◌, true, find, filter, filter_map, m
 ghost use Rattle.avro_schema.specs.Sound.{HaveDistinctNames};
 ghost use Rattle.avro_schema.specs.Defaults.{field_named as spec_field_named};
 ghost use Rattle.avro_resolve.specs.Pairing as spec;
-ghost use Rattle.avro_resolve.specs.Sieve.{AreFew};
+ghost use Rattle.avro_resolve.specs.Sieve.{AreFound};
 
+use crate::sieve::Found;
 use avro_schema::Field;
 use base_text::Text;
 use named_list::NamedList;
@@ -42,7 +43,7 @@ pub fn partner<'a>(writer: &'a NamedList<Field>, field: &Field) -> Option<&'a Fi
 }
 
 /// The field at a place, if there is one.
-fn field_at(fields: &[Field], k: usize) -> Option<&Field>
+pub fn field_at(fields: &[Field], k: usize) -> Option<&Field>
     ensures { option_copied result ≡ slice_get fields.now k }
 {
     fields.get(k)
@@ -126,23 +127,24 @@ pub fn paired_at<'a>(
     None
 }
 
-/// The same, where the reader's fields of these numbers are looked at alone.
+/// The same, where these of the reader's fields are looked at alone.
 pub fn paired_among<'a>(
     reader: &'a [Field],
-    writer: &NamedList<Field>,
-    few: &[usize],
+    writer: &[Field],
+    found: &[Found],
     number: usize,
 ) -> Option<&'a Field>
-    requires { AreFew reader.now writer.now few.now }
+    requires distinct { HaveDistinctNames writer.now }
+    requires found { AreFound reader.now writer.now found.now }
     ensures { option_copied result ≡ slice_get (filter (λ f. is_some (spec.partner writer.now f)) reader.now) number }
 {
     let mut left = number;
     let mut next = 0;
-    for k in few {
-        if *k >= next {
-            let f = &reader[*k];
-            next = *k + 1;
-            if partner(writer, f).is_some() {
+    for x in found {
+        if x.holder.field >= next {
+            let f = &reader[x.holder.field];
+            next = x.holder.field + 1;
+            if field_at(writer, x.place).is_some() {
                 if left == 0 {
                     return Some(f);
                 }

@@ -25,11 +25,11 @@ fn is_among(name: &FullName, names: &[FullName]) -> bool
     false
 }
 
-/// Whether two full names are the same.
+/// Whether two full names are the same. Long namespaces are often equal where the last parts differ.
 fn is_same_name(a: &FullName, b: &FullName) -> bool
     ensures { result ≡ same_name a.now b.now }
 {
-    a.namespace == b.namespace && a.name == b.name
+    a.name == b.name && a.namespace == b.namespace
 }
 
 /// Whether a writer's primitive is the reader's, or is promoted to it.

@@ -72,7 +72,7 @@ fn resolve_by<'a>(
     w: &'a Schema,
     search: &mut Search,
     unions: &mut Unions<'a>,
-    sieves: &mut Sieves,
+    sieves: &mut Sieves<'a>,
 ) -> Result<Counted, AllocError>
     requires reader { IsSound r.now.nodes }
     requires writer { IsSound w.now.nodes }

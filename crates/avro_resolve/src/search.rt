@@ -3,17 +3,17 @@ ghost use Rattle.std.specs.Prelude.{◌≡◌, ◌<◌, [], ◌∷◌, true, Non
 ghost use Rattle.std.specs.List.{enumerate_from};
 ghost use Rattle.std.specs.Result.{result_err, result_unwrap_or};
 ghost use Rattle.avro_resolve.specs.declared.trail.Hop.TheVariants as hop;
-ghost use Rattle.avro_resolve.specs.Sieve.{AreFew, AreSieves, fields_in};
+ghost use Rattle.avro_resolve.specs.Sieve.{AreFound, AreSieves, fields_in};
 ghost use Rattle.avro_resolve.specs.Table as spec;
 ghost use Rattle.avro_resolve.specs.Row.{clash_of_cause, outcome_of, HasDistinct};
 ghost use Rattle.avro_schema.specs.Sound.{HaveDistinctNames};
 ghost use Rattle.avro_resolve.specs.Trails.{roots};
 ghost use Rattle.avro_resolve.specs.Unions.{AreIndexes};
 
-use crate::fields::{paired_among, paired_at, partner, partner_near};
+use crate::fields::{field_at, paired_among, paired_at, partner_near};
 use crate::obligations::Pair;
 use crate::seen::Seen;
-use crate::sieve::{Sieves, few_fields, is_worth_while};
+use crate::sieve::{Found, Sieves, found_fields};
 use crate::table::{Cause, Row, are_matching_primitives, long_records, row_by_index};
 use crate::trail::{Hop, Trail};
 use crate::unions::Unions;
@@ -93,7 +93,7 @@ impl Search {
         place: usize,
         pair: Pair,
         unions: &mut Unions<'a>,
-        sieves: &mut Sieves,
+        sieves: &mut Sieves<'a>,
     ) -> Result<Option<Cause<'a>>, AllocError>
         requires reader { pair.reader.index < length r.now.nodes }
         requires writer { pair.writer.index < length w.now.nodes }
@@ -203,11 +203,10 @@ impl Search {
         place: usize,
         id: NodeId,
         reader: &'a NamedList<Field>,
-        writer: &NamedList<Field>,
-        sieves: &mut Sieves,
+        writer: &'a NamedList<Field>,
+        sieves: &mut Sieves<'a>,
     ) -> Result<Option<Cause<'a>>, AllocError>
         requires fields { reader.now ≡ fields_in (slice_get r.now.nodes id.index) }
-        requires readers { HaveDistinctNames reader.now }
         requires writers { HaveDistinctNames writer.now }
         requires agrees { AgreesWith self.old.seen self.old.entries.items }
         requires sieves { AreSieves r.now.nodes sieves.old.of }
@@ -218,29 +217,25 @@ impl Search {
     {
         sieves.look_at(r, id, reader.as_slice())?;
         match sieves.of_record(r, id) {
-            Some(others)
-                if is_worth_while(
-                    reader.as_slice().len(),
-                    others.len(),
-                    writer.as_slice().len(),
-                ) => {
-                let few = few_fields(sieves.memory(), reader, others, writer.as_slice())?;
-                self.reach_few(place, reader.as_slice(), writer, few.as_slice())
+            Some(sieve) if sieve.is_worth_while(writer.as_slice().len()) => {
+                let writer = writer.as_slice();
+                let found = found_fields(sieves.memory(), reader.as_slice(), sieve, writer)?;
+                self.reach_found(place, reader.as_slice(), writer, found.as_slice())
             }
             _ => self.reach_fields(place, reader.as_slice(), writer),
         }
     }
 
-    /// The same, where the reader's fields of these numbers are looked at alone.
-    fn reach_few<'a>(
+    /// The same, where these of the reader's fields are looked at alone.
+    fn reach_found<'a>(
         &mut self,
         place: usize,
         reader: &'a [Field],
-        writer: &NamedList<Field>,
-        few: &[usize],
+        writer: &[Field],
+        found: &[Found],
     ) -> Result<Option<Cause<'a>>, AllocError>
         requires distinct { HaveDistinctNames writer.now }
-        requires few { AreFew reader.now writer.now few.now }
+        requires found { AreFound reader.now writer.now found.now }
         requires agrees { AgreesWith self.old.seen self.old.entries.items }
         ensures clash { IfOk result (λ cause. option_map clash_of_cause cause ≡ result_err (spec.to_fields reader.now writer.now)) }
         ensures entries { OnOk result (self.new.entries.items ≡ expanded place 0 (result_unwrap_or (spec.to_fields reader.now writer.now) []) self.old.entries.items) }
@@ -249,11 +244,11 @@ impl Search {
         let before = self.entries.len();
         let mut number = 0;
         let mut next = 0;
-        for k in few {
-            if *k >= next {
-                let f = &reader[*k];
-                next = *k + 1;
-                if let Some(g) = partner(writer, f) {
+        for x in found {
+            if x.holder.field >= next {
+                let f = &reader[x.holder.field];
+                next = x.holder.field + 1;
+                if let Some(g) = field_at(writer, x.place) {
                     let pair = Pair {
                         reader: f.node,
                         writer: g.node,
@@ -278,7 +273,7 @@ impl Search {
         place: usize,
         cause: Cause<'a>,
         unions: &Unions<'a>,
-        sieves: &Sieves,
+        sieves: &Sieves<'a>,
     ) -> Result<Trail, AllocError>
         requires within { place < vec_len self.now.entries }
         requires back { LeadsBack r.now.nodes w.now.nodes self.now.entries.items }
@@ -300,7 +295,7 @@ impl Search {
         w: &'a Schema,
         place: usize,
         unions: &Unions<'a>,
-        sieves: &Sieves,
+        sieves: &Sieves<'a>,
     ) -> Result<Listed<Hop>, AllocError>
         requires within { place < vec_len self.now.entries }
         requires back { LeadsBack r.now.nodes w.now.nodes self.now.entries.items }
@@ -337,7 +332,7 @@ fn hop_of<'a>(
     pair: Pair,
     number: usize,
     unions: &Unions<'a>,
-    sieves: &Sieves,
+    sieves: &Sieves<'a>,
 ) -> Result<Hop, AllocError>
     requires reader { pair.reader.index < length r.now.nodes }
     requires writer { pair.writer.index < length w.now.nodes }
@@ -353,46 +348,43 @@ fn hop_of<'a>(
 }
 
 /// The hop into the field of that number, of the reader's record of that id, by its sieve.
-fn long_hop(
+fn long_hop<'a>(
     r: &Schema,
     id: NodeId,
     reader: &NamedList<Field>,
-    writer: &NamedList<Field>,
+    writer: &'a NamedList<Field>,
     number: usize,
-    sieves: &Sieves,
+    sieves: &Sieves<'a>,
 ) -> Result<Hop, AllocError>
     requires fields { reader.now ≡ fields_in (slice_get r.now.nodes id.index) }
-    requires readers { HaveDistinctNames reader.now }
+    requires writers { HaveDistinctNames writer.now }
     requires numbered { number < length (result_unwrap_or (spec.to_fields reader.now writer.now) []) }
     requires sieves { AreSieves r.now.nodes sieves.now.of }
     ensures { IfOk result (λ h. option_map (λ o. o.hop) (slice_get (result_unwrap_or (spec.to_fields reader.now writer.now) []) number) ≡ Some h) }
 {
     match sieves.of_record(r, id) {
-        Some(others)
-            if is_worth_while(
-                reader.as_slice().len(),
-                others.len(),
-                writer.as_slice().len(),
-            ) => {
-            let few = few_fields(sieves.memory(), reader, others, writer.as_slice())?;
-            few_hop(reader.as_slice(), writer, few.as_slice(), number)
+        Some(sieve) if sieve.is_worth_while(writer.as_slice().len()) => {
+            let others = writer.as_slice();
+            let found = found_fields(sieves.memory(), reader.as_slice(), sieve, others)?;
+            found_hop(reader.as_slice(), others, found.as_slice(), number)
         }
         _ => field_hop(reader.as_slice(), writer, number),
     }
 }
 
-/// The same, where the reader's fields of these numbers are looked at alone.
-fn few_hop(
+/// The same, where these of the reader's fields are looked at alone.
+fn found_hop(
     reader: &[Field],
-    writer: &NamedList<Field>,
-    few: &[usize],
+    writer: &[Field],
+    found: &[Found],
     number: usize,
 ) -> Result<Hop, AllocError>
     requires numbered { number < length (result_unwrap_or (spec.to_fields reader.now writer.now) []) }
-    requires few { AreFew reader.now writer.now few.now }
+    requires distinct { HaveDistinctNames writer.now }
+    requires found { AreFound reader.now writer.now found.now }
     ensures { IfOk result (λ h. option_map (λ o. o.hop) (slice_get (result_unwrap_or (spec.to_fields reader.now writer.now) []) number) ≡ Some h) }
 {
-    match paired_among(reader, writer, few, number) {
+    match paired_among(reader, writer, found, number) {
         Some(f) => Ok(Hop::Field(f.name.clone()?)),
         None => unreachable!(),
     }

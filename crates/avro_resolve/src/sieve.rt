@@ -1,33 +1,61 @@
-// Which fields of a reader's record can be passed over, beside a writer's record of few fields.
-ghost use Rattle.std.specs.Prelude.{◌≡◌, ◌≢◌, ◌<◌, ℕ, List, Some, All, length, slice_get, not, IfOk, IfSome, OnOk};
+// Which fields of a reader's record have a partner among a writer's fields, found from the writer's side.
+ghost use Rattle.std.specs.Prelude.{◌≡◌, ◌≢◌, ◌+◌, ◌++◌, ℕ, List, Some, IsTrue, length, map, slice_get, IfOk, IfSome, OnOk};
 ghost use Rattle.avro_schema.specs.declared.node.Node.{Node as SpecNode};
-ghost use Rattle.avro_schema.specs.declared.node.Field.{Field as SpecField};
 ghost use Rattle.avro_schema.specs.Sound.{HaveDistinctNames};
 ghost use Rattle.avro_resolve.specs.Sieve as spec;
 
 use avro_schema::{Field, NodeId, Schema};
-use named_list::NamedList;
+use base_text::Text;
 use std::alloc::{AllocError, Global};
-use std::collections::BTreeMap;
+use std::collections::{BTreeMap, BTreeSet};
 
-/// Up to how many fields all are looked at.
+/// Up to how many fields, and aliases of each, all are looked at.
 const FEW: usize = 16;
 
-/// For records of the reader's, by their numbers, which fields have to be looked at whatever the
-/// writer's are named.
-#[derive(Drop)]
-pub struct Sieves {
-    memory: Global,
-    pub of: BTreeMap<usize, Vec<usize>>,
+/// A field by its number, and a place among its names: 0 is that of its own name, and its aliases
+/// come after it.
+#[derive(Clone, Copy, PartialEq, Eq, PartialOrd, Ord, Drop)]
+pub struct Holder {
+    pub field: usize,
+    pub rank: usize,
 }
 
-impl Sieves {
+/// A reader's field with one of its names, and the place of the writer's field of that name; or with
+/// a place after its names, and one after the writer's fields.
+#[derive(Clone, Copy, PartialEq, Eq, PartialOrd, Ord, Drop)]
+pub struct Found {
+    pub holder: Holder,
+    pub place: usize,
+}
+
+/// The fields of a reader's record by their names.
+#[derive(Drop)]
+pub struct Sieve<'a> {
+    /// The fields without default, each with a place after its names.
+    pub others: Vec<Holder>,
+    /// At each name the fields that have it.
+    pub holders: BTreeMap<&'a Text, Vec<Holder>>,
+    /// How many names there are, an alias as often as it is written.
+    names: usize,
+}
+
+/// The sieves of records of the reader's, by their numbers.
+#[derive(Drop)]
+pub struct Sieves<'a> {
+    memory: Global,
+    /// The records that were looked at.
+    met: BTreeSet<usize>,
+    pub of: BTreeMap<usize, Sieve<'a>>,
+}
+
+impl<'a> Sieves<'a> {
     /// None so far.
-    pub fn none(memory: Global) -> Sieves
+    pub fn none(memory: Global) -> Sieves<'a>
         ensures { (r : List SpecNode) → spec.AreSieves r result.of }
     {
         Sieves {
             memory,
+            met: BTreeSet::new(memory),
             of: BTreeMap::new(memory),
         }
     }
@@ -37,96 +65,227 @@ impl Sieves {
         self.memory
     }
 
-    /// What is kept of the reader's record of that id.
-    pub fn of_record(&self, _r: &Schema, id: NodeId) -> Option<&[usize]>
+    /// The sieve of the reader's record of that id.
+    pub fn of_record(&self, _r: &Schema, id: NodeId) -> Option<&Sieve<'a>>
         requires { spec.AreSieves _r.now.nodes self.now.of }
-        ensures { IfSome result (λ others. spec.IsSieve (spec.fields_in (slice_get _r.now.nodes id.index)) others.now) }
+        ensures { IfSome result (λ sieve. spec.IsSieve (spec.fields_in (slice_get _r.now.nodes id.index)) sieve.now) }
     {
-        match self.of.get(&id.index) {
-            Some(others) => Some(others.as_slice()),
-            None => None,
-        }
+        self.of.get(&id.index)
     }
 
-    /// Looks at the fields of the reader's record of that id, unless they were looked at.
-    pub fn look_at(&mut self, _r: &Schema, id: NodeId, fields: &[Field]) -> Result<(), AllocError>
+    /// Makes the sieve of the reader's record of that id, unless it was made. To make one takes longer
+    /// than to look at all fields, so none is made of a record that is looked at once.
+    pub fn look_at(
+        &mut self,
+        _r: &Schema,
+        id: NodeId,
+        fields: &'a [Field],
+    ) -> Result<(), AllocError>
         requires fields { fields.now ≡ spec.fields_in (slice_get _r.now.nodes id.index) }
         requires made { spec.AreSieves _r.now.nodes self.old.of }
         ensures { OnOk result (spec.AreSieves _r.now.nodes self.new.of) }
     {
-        if !self.of.contains_key(&id.index) {
-            let others = others_of(self.memory, fields)?;
-            self.of.insert(id.index, others)?;
+        if !self.met.insert(id.index)? && !self.of.contains_key(&id.index) {
+            let sieve = sieve_of(self.memory, fields)?;
+            self.of.insert(id.index, sieve)?;
         }
         Ok(())
     }
 }
 
-/// The numbers of the fields that have no default, or aliases.
-fn others_of(alloc: Global, fields: &[Field]) -> Result<Vec<usize>, AllocError>
-    ensures { IfOk result (λ others. spec.IsSieve fields.now others.items) }
+/// The sieve of these fields.
+fn sieve_of<'a>(alloc: Global, fields: &'a [Field]) -> Result<Sieve<'a>, AllocError>
+    ensures { IfOk result (spec.IsSieve fields.now) }
+{
+    Ok(Sieve {
+        others: others_of(alloc, fields)?,
+        holders: holders_of(alloc, fields)?,
+        names: names_in(fields),
+    })
+}
+
+/// How many names fields have.
+fn names_in(fields: &[Field]) -> usize {
+    let mut names = fields.len();
+    for f in fields {
+        names = names.saturating_add(f.aliases.as_slice().len());
+    }
+    names
+}
+
+/// The fields that have no default.
+fn others_of(alloc: Global, fields: &[Field]) -> Result<Vec<Holder>, AllocError>
+    ensures { IfOk result (λ others. spec.AreOthers fields.now others.items) }
 {
     let mut others = Vec::new(alloc);
     for (k, f) in fields.iter().enumerate() {
-        if is_other(f) {
-            others.push(k)?;
+        if f.default.is_none() {
+            others.push(Holder {
+                field: k,
+                rank: f.aliases.as_slice().len() + 1,
+            })?;
         }
     }
     Ok(others)
 }
 
-/// Whether a field has no default, or aliases.
-fn is_other(field: &Field) -> bool
-    ensures { result ≡ not (spec.is_plain field.now) }
-{
-    !(field.default.is_some() && field.aliases.as_slice().is_empty())
-}
-
-/// Whether a reader's record has many fields, and many more than a writer's.
-pub fn is_long(reader: &[Field], writer: &[Field]) -> bool {
-    reader.len() > FEW && writer.len() < reader.len() / 4
-}
-
-/// Whether to look at these many others and at the writer's fields takes less than to look at all
-/// of the reader's.
-pub fn is_worth_while(reader: usize, others: usize, writer: usize) -> bool {
-    others < reader / 4 && writer < reader / 4
-}
-
-/// The numbers of the reader's fields that have to be looked at, in their order: the others of its
-/// sieve, and those of the names of the writer's fields.
-pub fn few_fields(
+/// At each name the fields that have it.
+fn holders_of<'a>(
     alloc: Global,
-    reader: &NamedList<Field>,
-    others: &[usize],
-    writer: &[Field],
-) -> Result<Vec<usize>, AllocError>
-    requires distinct { HaveDistinctNames reader.now }
-    requires sieve { spec.IsSieve reader.now others.now }
-    ensures { IfOk result (λ few. spec.AreFew reader.now writer.now few.items) }
+    fields: &'a [Field],
+) -> Result<BTreeMap<&'a Text, Vec<Holder>>, AllocError>
+    ensures { IfOk result (λ holders. spec.AreHolders fields.now (length fields.now) 0 holders) }
 {
-    let mut few = with_named(alloc, reader, others, writer)?;
-    few.sort_unstable();
-    Ok(few)
+    let mut holders = BTreeMap::new(alloc);
+    for (k, f) in fields.iter().enumerate() {
+        add_names(alloc, &mut holders, k, f, fields)?;
+    }
+    Ok(holders)
+}
+
+/// Adds the names of the field of that number.
+fn add_names<'a>(
+    alloc: Global,
+    holders: &mut BTreeMap<&'a Text, Vec<Holder>>,
+    field: usize,
+    f: &'a Field,
+    _fields: &[Field],
+) -> Result<(), AllocError>
+    requires field { slice_get _fields.now field ≡ Some f.now }
+    requires before { spec.AreHolders _fields.now field 0 holders.old }
+    ensures { OnOk result (spec.AreHolders _fields.now (field + 1) 0 holders.new) }
+{
+    add_name(alloc, holders, &f.name, Holder { field, rank: 0 })?;
+    for (k, alias) in f.aliases.as_slice().iter().enumerate() {
+        let rank = k + 1;
+        add_name(alloc, holders, alias, Holder { field, rank })?;
+    }
+    Ok(())
+}
+
+/// Adds a name of a field.
+fn add_name<'a>(
+    alloc: Global,
+    holders: &mut BTreeMap<&'a Text, Vec<Holder>>,
+    name: &'a Text,
+    holder: Holder,
+) -> Result<(), AllocError>
+    ensures here { OnOk result ((n : spec.Name) → n.now ≡ name.now → spec.IsAddedTo (spec.held holders.old n) (spec.held holders.new n) holder) }
+    ensures others { OnOk result ((n : spec.Name) → n.now ≢ name.now → spec.held holders.new n ≡ spec.held holders.old n) }
+{
+    match holders.get_mut(&name) {
+        Some(kept) => {
+            add_holder(kept, holder)?;
+            Ok(())
+        }
+        None => {
+            let mut kept = Vec::new(alloc);
+            kept.push(holder)?;
+            holders.insert(name, kept)?;
+            Ok(())
+        }
+    }
+}
+
+/// Adds a place at which a field has a name, unless the field added last has it too.
+fn add_holder(kept: &mut Vec<Holder>, holder: Holder) -> Result<(), AllocError>
+    ensures { OnOk result (spec.IsAddedTo kept.old.items kept.new.items holder) }
+{
+    if !is_last(kept.as_slice(), holder.field) {
+        kept.push(holder)?;
+    }
+    Ok(())
+}
+
+/// Whether the last of these is of that field.
+fn is_last(kept: &[Holder], field: usize) -> bool
+    ensures { IsTrue result → spec.IsAbsent field kept.now → ⊥ }
+{
+    match kept {
+        [.., last] => last.field == field,
+        [] => false,
+    }
+}
+
+/// Whether a reader's record has many fields, and many more than a writer's; or one of many aliases.
+pub fn is_long(reader: &[Field], writer: &[Field]) -> bool {
+    reader.len() > FEW && writer.len() < reader.len() / 4 || has_many_aliases(reader)
+}
+
+/// Whether one of the fields has many aliases.
+fn has_many_aliases(fields: &[Field]) -> bool {
+    for f in fields {
+        if f.aliases.as_slice().len() > FEW {
+            return true;
+        }
+    }
+    false
+}
+
+impl<'a> Sieve<'a> {
+    /// The fields that have a name.
+    fn with_name(&self, name: &'a Text) -> &[Holder]
+        ensures { result.now ≡ spec.held self.now.holders name.entry }
+    {
+        match self.holders.get(&name) {
+            Some(holders) => holders.as_slice(),
+            None => &[],
+        }
+    }
+
+    /// Whether to look at the fields without default and at so many of a writer's takes less than to
+    /// look at all names.
+    pub fn is_worth_while(&self, writer: usize) -> bool {
+        let many = self.names / 4;
+        self.others.len() < many && writer < many
+    }
+}
+
+/// The fields that have a name of the writer's, each with each such name, and those without default;
+/// in the order of their numbers, and of one field the first of its names first.
+pub fn found_fields<'a>(
+    alloc: Global,
+    _reader: &[Field],
+    sieve: &Sieve<'a>,
+    writer: &'a [Field],
+) -> Result<Vec<Found>, AllocError>
+    requires distinct { HaveDistinctNames writer.now }
+    requires sieve { spec.IsSieve _reader.now sieve.now }
+    ensures { IfOk result (λ found. spec.AreFound _reader.now writer.now found.items) }
+{
+    let mut found = found_unsorted(alloc, _reader, sieve, writer)?;
+    found.sort_unstable();
+    Ok(found)
 }
 
 /// The same in any order.
-fn with_named(
+fn found_unsorted<'a>(
     alloc: Global,
-    reader: &NamedList<Field>,
-    others: &[usize],
-    writer: &[Field],
-) -> Result<Vec<usize>, AllocError>
-    requires distinct { HaveDistinctNames reader.now }
-    requires sieve { spec.IsSieve reader.now others.now }
-    ensures within { IfOk result (λ few. All (λ k. k < length reader.now) few.items) }
-    ensures whole { IfOk result (λ few. (k : ℕ) (f : SpecField) → slice_get reader.now k ≡ Some f → spec.IsAbsent k few.items → spec.IsPassed writer.now f) }
+    _reader: &[Field],
+    sieve: &Sieve<'a>,
+    writer: &'a [Field],
+) -> Result<Vec<Found>, AllocError>
+    requires distinct { HaveDistinctNames writer.now }
+    requires sieve { spec.IsSieve _reader.now sieve.now }
+    ensures { IfOk result (λ found. spec.AreFoundUpto _reader.now writer.now (length writer.now) found.items) }
 {
-    let mut few = Vec::from_slice(alloc, others)?;
-    for g in writer {
-        if let Some(k) = reader.place(&g.name) {
-            few.push(k)?;
-        }
+    let mut found = Vec::new(alloc);
+    add_found(&mut found, sieve.others.as_slice(), writer.len())?;
+    for (place, g) in writer.iter().enumerate() {
+        add_found(&mut found, sieve.with_name(&g.name), place)?;
     }
-    Ok(few)
+    Ok(found)
+}
+
+/// Adds these, each with that place.
+fn add_found(found: &mut Vec<Found>, holders: &[Holder], place: usize) -> Result<(), AllocError>
+    ensures { OnOk result (found.new.items ≡ found.old.items ++ map (spec.at_place place) holders.now) }
+{
+    for holder in holders {
+        found.push(Found {
+            holder: *holder,
+            place,
+        })?;
+    }
+    Ok(())
 }

@@ -4,6 +4,8 @@
 #[cfg(test)]
 mod lists;
 #[cfg(test)]
+mod namespaces;
+#[cfg(test)]
 mod named_lists;
 #[cfg(test)]
 mod resolution;

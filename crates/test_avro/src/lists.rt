@@ -14,10 +14,10 @@ fn a_list_gives_its_vector_back(rt: HostRuntime) -> Result<(), Fail> {
 #[test]
 fn a_text_is_compared_by_its_bytes(rt: HostRuntime) -> Result<(), Fail> {
     let small = Text::copy_of(rt.alloc(), "Z")?;
-    let large = Text::from(String::from_str(rt.alloc(), "a")?);
+    let large = Text::of_string(String::from_str(rt.alloc(), "a")?)?;
     assert!(rt; small < large);
     let again = large.clone()?;
     assert!(rt; again == large);
-    assert_eq!(rt; String::from(again).as_str(), "a");
+    assert_eq!(rt; again.as_str(), "a");
     Ok(())
 }

@@ -1,6 +1,7 @@
 // Pairs of schemas, each with the verdict that the resolution table gives.
 mod plain;
 mod random;
+mod resolve_fields;
 mod unions;
 
 use avro_resolve::{ClashKind, Hop, Trail, Verdict, matches, resolve, resolve_counted};

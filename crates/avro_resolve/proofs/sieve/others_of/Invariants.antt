@@ -1,11 +1,11 @@
-use Rattle.std.proofs.Common.{◌≡◌, ◌<◌, ℕ, All, Some, true, length, slice_get}
+use Rattle.std.proofs.Common.{◌≡◌, ◌<◌, ℕ, All, Some, true, is_some, slice_get}
 use Rattle.avro_schema.specs.declared.node.Field.{Field}
-use Rattle.avro_resolve.specs.Sieve.{is_plain, IsAbsent}
+use Rattle.avro_resolve.specs.Sieve.{IsAfter, IsAbsent}
 use Rattle.avro_resolve.proofs.sieve.others_of.Given as goal
 
--- the fields so far are plain, but for those
+-- the fields so far have a default, but for those
 abbrev pub invariant-loop-k : goal.invariant-loop-k
 invariant-loop-k l = record {
-  within : All (λ n. n < length l.fields) l.others.items;
-  whole : (n : ℕ) (f : Field) → slice_get l.fields n ≡ Some f → n < l.k → IsAbsent n l.others.items → is_plain f ≡ true;
+  after : All (IsAfter l.fields) l.others.items;
+  whole : (n : ℕ) (f : Field) → slice_get l.fields n ≡ Some f → n < l.k → IsAbsent n l.others.items → is_some f.default ≡ true;
 }

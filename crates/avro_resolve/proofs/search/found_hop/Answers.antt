@@ -3,7 +3,7 @@ use Rattle.avro_resolve.specs.Table.{to_fields}
 use Rattle.avro_resolve.proofs.Rows.{owed_in}
 use Rattle.avro_resolve.specs.declared.trail.Hop.TheVariants as hop
 use Rattle.avro_resolve.proofs.Hops.{hop_below, hop_of_field}
-use Rattle.avro_resolve.proofs.search.few_hop.Goals as goal
+use Rattle.avro_resolve.proofs.search.found_hop.Goals as goal
 
 pub unreachable-requires : goal.unreachable-requires
 unreachable-requires c =
