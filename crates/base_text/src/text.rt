@@ -1,5 +1,6 @@
-// A text that contracts see as its bytes.
-ghost use Rattle.std.specs.Prelude.{◌≡◌, Some, IfOk, string_bytes, nat_eq, refl};
+// A text that contracts see as its bytes, and whose clones share it.
+ghost use Rattle.std.specs.Arc.{arc_str_bytes};
+ghost use Rattle.std.specs.Prelude.{◌≡◌, [], Some, IfOk, string_bytes, nat_eq, refl};
 ghost use Rattle.std.specs.Ordering.{nat_cmp};
 ghost use Rattle.std.specs.Cmp.Lexicographic.{pointwise, slice_cmp, nat_list_eq_equiv, nat_list_cmp_total, texts_ties, texts_po};
 ghost use Rattle.std.specs.Cmp.{partial_equiv_from_equiv};
@@ -7,30 +8,51 @@ ghost use Rattle.std.specs.Cmp.{partial_equiv_from_equiv};
 use std::alloc::{AllocError, Global};
 use std::cmp::Ordering;
 use std::marker::Model;
+use std::sync::ArcStr;
 
 /// A UTF-8 text, which contracts see as the list of its bytes.
 ///
-/// Two texts are equal where their bytes are, and they are ordered by their bytes.
-#[derive(Debug, Drop)]
+/// Two texts are equal where their bytes are, and they are ordered by their bytes. A clone shares the
+/// bytes of its original: it copies none and takes no memory.
+#[derive(Debug)]
 pub struct Text {
-    string: String,
+    // `None` for the empty text, which takes no memory.
+    shared: Option<ArcStr>,
 }
 
 impl Model for Text {
-    ghost use Rattle.std.specs.Prelude.{List, ℕ, string_bytes};
+    ghost use Rattle.std.specs.Arc.{arc_str_bytes};
+    ghost use Rattle.std.specs.Option.{option_map_or};
+    ghost use Rattle.std.specs.Prelude.{List, ℕ, []};
 
     ghost Value = { List ℕ };
 
-    ghost view = { λ t. string_bytes t.string };
+    ghost view = { λ t. option_map_or arc_str_bytes t.shared [] };
 }
 
 impl Text {
+    /// The text with no bytes, which takes no memory.
+    pub fn empty() -> Text
+        ensures { result ≡ [] }
+    {
+        Text { shared: None }
+    }
+
     /// A copy of `text`. The only error is want of memory.
     pub fn copy_of(alloc: Global, text: &str) -> Result<Text, AllocError>
         ensures { IfOk result (λ t. t ≡ text.now) }
     {
         Ok(Text {
-            string: String::from_str(alloc, text)?,
+            shared: Some(ArcStr::from_str(alloc, text)?),
+        })
+    }
+
+    /// The text that a string holds, whose bytes stay where they are. The only error is want of memory.
+    pub fn of_string(string: String) -> Result<Text, AllocError>
+        ensures { IfOk result (λ t. t ≡ string_bytes string) }
+    {
+        Ok(Text {
+            shared: Some(ArcStr::from_string(string)?),
         })
     }
 
@@ -38,24 +60,18 @@ impl Text {
     pub fn as_str(&self) -> &str
         ensures { result.now ≡ self.now }
     {
-        &self.string
+        match &self.shared {
+            Some(shared) => shared.as_str(),
+            None => "",
+        }
     }
 }
 
-impl From<String> for Text {
-    ghost from_gives = { λ string text. text ≡ string_bytes string };
-
-    fn from(string: String) -> Text {
-        Text { string }
-    }
-}
-
-impl From<Text> for String {
-    ghost from_gives = { λ text string. string_bytes string ≡ text };
-
-    fn from(text: Text) -> String {
-        let Text { string } = text;
-        string
+/// Gives up its share of the bytes.
+impl Drop for Text {
+    fn drop(self) {
+        let Text { shared } = self;
+        drop(shared);
     }
 }
 
@@ -63,9 +79,12 @@ impl Clone for Text {
     ghost is_clone = { λ text copy. copy ≡ text };
 
     fn clone(&self) -> Result<Text, AllocError> {
-        Ok(Text {
-            string: self.string.clone()?,
-        })
+        match &self.shared {
+            Some(shared) => Ok(Text {
+                shared: Some(shared.clone()?),
+            }),
+            None => Ok(Text::empty()),
+        }
     }
 }
 

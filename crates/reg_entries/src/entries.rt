@@ -108,7 +108,7 @@ impl Entries {
         let new = schema_of(&entry)?;
         let old = schema_at(&self.entries, &place)?;
         leave_room(self.alloc, &mut self.tops, &place)?;
-        if let Err(refused) = mean(self.alloc, &mut self.meanings, &mut self.doubled, &entry) {
+        if let Err(refused) = mean(&mut self.meanings, &mut self.doubled, &entry) {
             settle_top(&mut self.tops, &self.entries, place);
             return Err(refused);
         }
@@ -122,7 +122,6 @@ impl Entries {
         );
         settle_top(&mut self.tops, &self.entries, place);
         settle_both(
-            self.alloc,
             &mut self.meanings,
             &mut self.doubled,
             &self.schemas,
@@ -142,7 +141,6 @@ impl Entries {
         let (normal, id, place) = unlist(&mut self.names, &mut self.schemas, entry);
         settle_top(&mut self.tops, &self.entries, place);
         settle_meaning(
-            self.alloc,
             &mut self.meanings,
             &mut self.doubled,
             &self.schemas,
@@ -275,7 +273,7 @@ impl Entries {
     pub fn named(&self, id: u32) -> Option<&Entry>
         ensures { option_copied result ≡ named (finmap.values self.now) id }
     {
-        let above = name_above(self.alloc, id);
+        let above = name_above(id);
         let last = self.names.range(..&above).next_back()?;
         if last.0 == u64::from(id) {
             self.entries.get(&last.2)

@@ -10,7 +10,7 @@ ghost use Rattle.reg_entries.specs.declared.entry.Entry.{Entry};
 use crate::entry::Entry;
 use crate::schemas::Schema;
 use base_text::Text;
-use std::alloc::{AllocError, Global};
+use std::alloc::AllocError;
 use std::collections::BTreeSet;
 use std::collections::btree_set::Range;
 use std::ops::Bound;
@@ -21,7 +21,6 @@ pub(crate) type Meaning = (u64, Text);
 /// Adds the id and the normal text of an entry. The only error is want of memory; the meanings are
 /// then as they were.
 pub(crate) fn mean(
-    alloc: Global,
     meanings: &mut BTreeSet<Meaning>,
     doubled: &mut BTreeSet<u32>,
     entry: &Entry,
@@ -35,14 +34,13 @@ pub(crate) fn mean(
     let meaning = (u64::from(id), entry.normal.clone()?);
     doubled.insert(id)?;
     let added = meanings.insert(meaning);
-    settle_doubled(alloc, meanings, doubled, id);
+    settle_doubled(meanings, doubled, id);
     added?;
     Ok(())
 }
 
 /// Takes an id and a normal text away unless some schema has both.
 pub(crate) fn settle_meaning(
-    alloc: Global,
     meanings: &mut BTreeSet<Meaning>,
     doubled: &mut BTreeSet<u32>,
     schemas: &BTreeSet<Schema>,
@@ -53,17 +51,16 @@ pub(crate) fn settle_meaning(
     ensures settled { SettlesMeaning schemas.now (id, normal) meanings.old meanings.new }
     ensures doubled { AreDoubled meanings.new doubled.new }
 {
-    let first = (normal, id, (Text::from(String::new(alloc)), 0));
+    let first = (normal, id, (Text::empty(), 0));
     if !is_meant(schemas, &first) {
         let meaning = (u64::from(id), first.0);
-        forget_meaning(alloc, meanings, doubled, &meaning, id);
+        forget_meaning(meanings, doubled, &meaning, id);
     }
 }
 
 /// Takes the ids and the normal texts of a schema, and of another if there is one, away unless some
 /// schema has both.
 pub(crate) fn settle_both(
-    alloc: Global,
     meanings: &mut BTreeSet<Meaning>,
     doubled: &mut BTreeSet<u32>,
     schemas: &BTreeSet<Schema>,
@@ -75,9 +72,9 @@ pub(crate) fn settle_both(
     ensures doubled { AreDoubled meanings.new doubled.new }
 {
     let (normal, id, _) = one;
-    settle_meaning(alloc, meanings, doubled, schemas, normal, id);
+    settle_meaning(meanings, doubled, schemas, normal, id);
     if let Some((normal, id, _)) = other {
-        settle_meaning(alloc, meanings, doubled, schemas, normal, id);
+        settle_meaning(meanings, doubled, schemas, normal, id);
     }
 }
 
@@ -94,7 +91,6 @@ fn is_meant(schemas: &BTreeSet<Schema>, first: &Schema) -> bool
 
 /// Takes an id and a normal text away.
 fn forget_meaning(
-    alloc: Global,
     meanings: &mut BTreeSet<Meaning>,
     doubled: &mut BTreeSet<u32>,
     meaning: &Meaning,
@@ -106,23 +102,23 @@ fn forget_meaning(
     ensures doubled { AreDoubled meanings.new doubled.new }
 {
     meanings.remove(meaning);
-    settle_doubled(alloc, meanings, doubled, id);
+    settle_doubled(meanings, doubled, id);
 }
 
 /// Takes an id away from the doubled ones unless it has two texts.
-fn settle_doubled(alloc: Global, meanings: &BTreeSet<Meaning>, doubled: &mut BTreeSet<u32>, id: u32)
+fn settle_doubled(meanings: &BTreeSet<Meaning>, doubled: &mut BTreeSet<u32>, id: u32)
     ensures { SettlesDoubled meanings.now id doubled.old doubled.new }
 {
-    if !has_two(alloc, meanings, id) {
+    if !has_two(meanings, id) {
         doubled.remove(&id);
     }
 }
 
 /// Whether an id has two texts.
-fn has_two(alloc: Global, meanings: &BTreeSet<Meaning>, id: u32) -> bool
+fn has_two(meanings: &BTreeSet<Meaning>, id: u32) -> bool
     ensures { (result ≡ true) ↔ HasTwo meanings.now id }
 {
-    let mut texts = texts_of(alloc, meanings, id);
+    let mut texts = texts_of(meanings, id);
     let Some(_) = texts.next() else {
         return false;
     };
@@ -133,19 +129,19 @@ fn has_two(alloc: Global, meanings: &BTreeSet<Meaning>, id: u32) -> bool
 }
 
 /// The meanings of an id, in their order.
-fn texts_of<'a>(alloc: Global, meanings: &'a BTreeSet<Meaning>, id: u32) -> Range<'a, Meaning>
+fn texts_of<'a>(meanings: &'a BTreeSet<Meaning>, id: u32) -> Range<'a, Meaning>
     ensures texts { result ≡ keys_between meaning_cmp (Bound.Included (id, [])) (Bound.Excluded (id + 1, [])) meanings.now }
     ensures ordered { tree_set.IsOrdered meaning_cmp meanings.now }
 {
     let id = u64::from(id);
-    let first = first_meaning(alloc, id);
-    let above = first_meaning(alloc, id + 1);
+    let first = first_meaning(id);
+    let above = first_meaning(id + 1);
     meanings.range((Bound::Included(&first), Bound::Excluded(&above)))
 }
 
 /// The least meaning of an id.
-fn first_meaning(alloc: Global, id: u64) -> Meaning
+fn first_meaning(id: u64) -> Meaning
     ensures { result ≡ (id, []) }
 {
-    (id, Text::from(String::new(alloc)))
+    (id, Text::empty())
 }

@@ -9,7 +9,7 @@ ghost use Rattle.reg_entries.specs.Index.{Name, name_of, name_cmp, HasAt, ArePla
 
 use crate::entry::Entry;
 use base_text::Text;
-use std::alloc::{AllocError, Global};
+use std::alloc::AllocError;
 use std::collections::btree_set::Range;
 use std::collections::{BTreeMap, BTreeSet};
 use std::ops::Bound;
@@ -38,26 +38,26 @@ pub(crate) fn name_of(entry: &Entry) -> Result<Name, AllocError>
 }
 
 /// The least name of an id.
-fn first_name(alloc: Global, id: u32) -> Name
+fn first_name(id: u32) -> Name
     ensures { result ≡ (id, 0, ([], 0)) }
 {
-    (u64::from(id), 0, (Text::from(String::new(alloc)), 0))
+    (u64::from(id), 0, (Text::empty(), 0))
 }
 
 /// The least name of the ids above that one.
-pub(crate) fn name_above(alloc: Global, id: u32) -> Name
+pub(crate) fn name_above(id: u32) -> Name
     ensures { result ≡ (id + 1, 0, ([], 0)) }
 {
-    (u64::from(id) + 1, 0, (Text::from(String::new(alloc)), 0))
+    (u64::from(id) + 1, 0, (Text::empty(), 0))
 }
 
 /// The names of an id, in their order.
-pub(crate) fn names_of<'a>(alloc: Global, names: &'a BTreeSet<Name>, id: u32) -> Range<'a, Name>
+pub(crate) fn names_of<'a>(names: &'a BTreeSet<Name>, id: u32) -> Range<'a, Name>
     ensures names { result ≡ keys_between name_cmp (Bound.Included (id, 0, ([], 0))) (Bound.Excluded (id + 1, 0, ([], 0))) names.now }
     ensures ordered { tree_set.IsOrdered name_cmp names.now }
 {
-    let first = first_name(alloc, id);
-    let above = name_above(alloc, id);
+    let first = first_name(id);
+    let above = name_above(id);
     names.range((Bound::Included(&first), Bound::Excluded(&above)))
 }
 

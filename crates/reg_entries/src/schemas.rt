@@ -28,11 +28,7 @@ pub(crate) fn schema_of(entry: &Entry) -> Result<Schema, AllocError>
 pub(crate) fn first_schema(alloc: Global, normal: &str) -> Result<Schema, AllocError>
     ensures { IfOk result (λ schema. schema ≡ (normal.now, 0, ([], 0))) }
 {
-    Ok((
-        Text::copy_of(alloc, normal)?,
-        0,
-        (Text::from(String::new(alloc)), 0),
-    ))
+    Ok((Text::copy_of(alloc, normal)?, 0, (Text::empty(), 0)))
 }
 
 /// The schema of the entry at a place, if there is one.

@@ -291,7 +291,14 @@ impl Index {
         let name = subject.clone()?;
         let scope = Some(subject.clone()?);
         last_is_greatest();
-        put_own(&mut self.last, &mut self.deletes, given, &scope, delete)?;
+        put_own(
+            self.alloc,
+            &mut self.last,
+            &mut self.deletes,
+            given,
+            &scope,
+            delete,
+        )?;
         self.entries.mark(name, &marks);
         Ok(())
     }

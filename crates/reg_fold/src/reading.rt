@@ -45,12 +45,13 @@ pub(crate) fn reading_of(index: &Index, given: &Record) -> Result<Option<Reading
             deleted,
         } => {
             let soft = deleted || is_marked(index, &subject, version, given.offset);
+            let normal = normal_of(index.alloc, &schema, &text)?;
             let entry = Entry {
                 subject,
                 version,
                 id,
                 text,
-                normal: normal_of(index.alloc, &schema)?,
+                normal,
                 offset: given.offset,
                 soft,
             };
@@ -73,13 +74,22 @@ fn is_marked(index: &Index, subject: &Text, version: u32, offset: u64) -> bool
     is_covered(delete, version, offset)
 }
 
-/// The normal text of a schema; without one no text.
-fn normal_of(alloc: Global, schema: &Option<Schema>) -> Result<Text, AllocError>
+/// The normal text of a schema, which is the schema's own text where the two are equal; without one
+/// no text.
+///
+/// It is a copy, made after all that reading the schema took was given back: the first one stands in
+/// the midst of that, and would keep the memory round it from being used again.
+fn normal_of(
+    alloc: Global,
+    schema: &Option<Schema>,
+    text: &Text,
+) -> Result<Text, AllocError>
     ensures { IfOk result (λ normal. normal ≡ option_map_or (λ meaning. meaning.normal_text) schema.now []) }
 {
     match schema {
-        Some(schema) => schema.normal().clone(),
-        None => Ok(Text::from(String::new(alloc))),
+        Some(schema) if schema.normal() == text => text.clone(),
+        Some(schema) => Text::copy_of(alloc, schema.normal().as_str()),
+        None => Ok(Text::empty()),
     }
 }
 

@@ -237,6 +237,38 @@ impl Registry {
         self.index.last.last(key)
     }
 
+    /// A copy of a record, whose value brings along the text that the entry at its place has, if there
+    /// is one: who reads a version's record then shares the text with this registry. The only error is
+    /// want of memory.
+    pub fn copy_of(&self, given: &Record) -> Result<Record, AllocError>
+        ensures { IfOk result (λ copy. copy ≡ given.now) }
+    {
+        let Some(text) = self.text_at(&given.key)? else {
+            return given.clone();
+        };
+        let value = match &given.value {
+            Some(value) => Some(value.bringing(text)?),
+            None => None,
+        };
+        Ok(Record {
+            offset: given.offset,
+            key: given.key.clone()?,
+            value,
+        })
+    }
+
+    /// The text of the entry at a version's place. The only error is want of memory.
+    fn text_at(&self, key: &Key) -> Result<Option<&Text>, AllocError> {
+        let Key::Schema { subject, version } = key else {
+            return Ok(None);
+        };
+        let place = (subject.clone()?, *version);
+        match self.index.entries.at(&place) {
+            Some(entry) => Ok(Some(&entry.text)),
+            None => Ok(None),
+        }
+    }
+
     /// Whether the record is the last of its key. Takes no memory.
     pub fn contains(&self, given: &Record) -> bool
         ensures { result ≡ set.contains self.now given.now }

@@ -57,12 +57,17 @@ impl<T> Scoped<T> {
 impl<T: Drop> Scoped<T> {
     /// Gives the scope its own in place of what it has, or takes that away. The only error is want of
     /// memory; all is then as it was.
-    pub(crate) fn set(&mut self, scope: &Option<Text>, own: Option<T>) -> Result<(), AllocError>
+    pub(crate) fn set(
+        &mut self,
+        alloc: Global,
+        scope: &Option<Text>,
+        own: Option<T>,
+    ) -> Result<(), AllocError>
         ensures set { OnOk result (HasOwn self.old self.new scope.now own) }
         ensures refused { OnErr result ((q : Scope) → kept_own self.new q ≡ kept_own self.old q) }
     {
         match (scope, own) {
-            (Some(subject), Some(own)) => put_text(&mut self.of_subjects, subject, own)?,
+            (Some(subject), Some(own)) => put_text(alloc, &mut self.of_subjects, subject, own)?,
             (Some(subject), None) => remove_text(&mut self.of_subjects, subject),
             (None, own) => self.of_all = own,
         }
@@ -71,6 +76,7 @@ impl<T: Drop> Scoped<T> {
 }
 
 fn put_text<T: Drop>(
+    alloc: Global,
     owns: &mut BTreeMap<String, T>,
     subject: &Text,
     own: T,
@@ -79,7 +85,7 @@ fn put_text<T: Drop>(
         ≡ (if bytes_eq subject.now s then Some own else get_by_text owns.old s)) }
     ensures refused { OnErr result ((s : List ℕ) → get_by_text owns.new s ≡ get_by_text owns.old s) }
 {
-    let name = String::from(subject.clone()?);
+    let name = String::from_str(alloc, subject.as_str())?;
     owns.insert(name, own)?;
     Ok(())
 }

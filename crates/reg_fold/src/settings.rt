@@ -13,7 +13,7 @@ use crate::scoped::Scoped;
 use base_text::Text;
 use reg_records::Record;
 use reg_set::LastRecords;
-use std::alloc::AllocError;
+use std::alloc::{AllocError, Global};
 
 impl Index {
     ghost use Rattle.reg_fold.specs.Kept.{IsKept};
@@ -32,7 +32,14 @@ impl Index {
         ensures refused { OnErr result (self.new.last ≡ self.old.last) }
     {
         let level = level_of(self.alloc, given)?;
-        put_own(&mut self.last, &mut self.levels, given, scope, level)?;
+        put_own(
+            self.alloc,
+            &mut self.last,
+            &mut self.levels,
+            given,
+            scope,
+            level,
+        )?;
         Ok(())
     }
 
@@ -50,7 +57,14 @@ impl Index {
         ensures refused { OnErr result (self.new.last ≡ self.old.last) }
     {
         let name = mode_name_of(self.alloc, given)?;
-        put_own(&mut self.last, &mut self.modes, given, scope, name)?;
+        put_own(
+            self.alloc,
+            &mut self.last,
+            &mut self.modes,
+            given,
+            scope,
+            name,
+        )?;
         Ok(())
     }
 }
@@ -58,6 +72,7 @@ impl Index {
 /// Makes a record that is news the last of its key, and gives the scope its own, or takes away what
 /// it has. The only error is want of memory; all is then as it was.
 pub(crate) fn put_own<T: Drop>(
+    alloc: Global,
     lasts: &mut LastRecords,
     owns: &mut Scoped<T>,
     given: &Record,
@@ -72,7 +87,7 @@ pub(crate) fn put_own<T: Drop>(
     ensures owns_stay { OnErr result ((q : Scope) → kept_own owns.new q ≡ kept_own owns.old q) }
 {
     let before = put_last(lasts, given)?;
-    if let Err(refused) = owns.set(scope, own) {
+    if let Err(refused) = owns.set(alloc, scope, own) {
         lasts.put_back(&given.key, before);
         return Err(refused);
     }

@@ -71,7 +71,7 @@ fn register_new(
     if let Some(message) = clash_of(alloc, registry, subject, schema, judged)? {
         let told = message.as_str();
         let whole = format!(in alloc; "Incompatible with {told}")?;
-        return Err(Refusal::Incompatible(Text::from(whole)));
+        return Err(Refusal::Incompatible(Text::of_string(whole)?));
     }
     let id = id_for(registry, schema.normal())?;
     let version = next_version(registry, subject);

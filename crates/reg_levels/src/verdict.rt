@@ -85,5 +85,6 @@ fn clash_message(
 {
     let kind = &trail.kind;
     let text = format!(in alloc; "version {version}, {direction}, at {trail}: {kind}")?;
-    Ok(Text::from(text))
+    let message = Text::of_string(text)?;
+    Ok(message)
 }

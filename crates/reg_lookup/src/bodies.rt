@@ -22,7 +22,7 @@ pub(crate) fn versions_body(alloc: Global, entries: &[&Entry]) -> Result<Text, A
         separator = ",";
     }
     list.push_str("]")?;
-    Ok(Text::from(list))
+    Text::of_string(list)
 }
 
 /// The list of the subjects and versions of those entries.
@@ -41,7 +41,7 @@ pub(crate) fn places_body(alloc: Global, entries: &[&Entry]) -> Result<Text, All
         separator = ",";
     }
     list.push_str("]")?;
-    Ok(Text::from(list))
+    Text::of_string(list)
 }
 
 /// The list of those subjects.
@@ -56,7 +56,7 @@ pub(crate) fn subjects_body(alloc: Global, subjects: &[&str]) -> Result<Text, Al
         separator = ",";
     }
     list.push_str("]")?;
-    Ok(Text::from(list))
+    Text::of_string(list)
 }
 
 /// An entry, with the text that its record holds.
@@ -69,7 +69,7 @@ pub(crate) fn entry_body(alloc: Global, entry: &Entry) -> Result<Text, AllocErro
         "{{\"subject\":{subject},\"version\":{},\"id\":{},\"schema\":{schema}}}",
         entry.version, entry.id
     )?;
-    Ok(Text::from(body))
+    Text::of_string(body)
 }
 
 /// The text of a schema.
@@ -77,7 +77,7 @@ pub(crate) fn schema_body(alloc: Global, text: &str) -> Result<Text, AllocError>
     ensures { IfOk result (λ body. body ≡ spec.schema_body text.now) }
 {
     let text = quoted(alloc, text)?;
-    Ok(Text::from(format!(in alloc; "{{\"schema\":{text}}}")?))
+    Text::of_string(format!(in alloc; "{{\"schema\":{text}}}")?)
 }
 
 /// A refusal's code and message.
@@ -86,7 +86,7 @@ pub(crate) fn refusal_body(alloc: Global, refusal: &Refusal) -> Result<Text, All
 {
     let code = refusal.code();
     let message = quoted(alloc, refusal.message())?;
-    Ok(Text::from(format!(in alloc; "{{\"error_code\":{code},\"message\":{message}}}")?))
+    Text::of_string(format!(in alloc; "{{\"error_code\":{code},\"message\":{message}}}")?)
 }
 
 /// Whether a level is met, and where messages are asked for that of the clash, if there is one.
@@ -99,7 +99,7 @@ pub(crate) fn check_body(
     ensures { IfOk result (λ body. body ≡ spec.check_body verbose ok message.now) }
 {
     let messages = messages_member(alloc, verbose, message)?;
-    Ok(Text::from(format!(in alloc; "{{\"is_compatible\":{ok}{messages}}}")?))
+    Text::of_string(format!(in alloc; "{{\"is_compatible\":{ok}{messages}}}")?)
 }
 
 /// The member of the messages, behind its comma, where they were asked for; else nothing.
@@ -128,7 +128,7 @@ pub(crate) fn level_body(alloc: Global, name: &str) -> Result<Text, AllocError>
     ensures { IfOk result (λ body. body ≡ spec.level_body name.now) }
 {
     let name = quoted(alloc, name)?;
-    Ok(Text::from(format!(in alloc; "{{\"compatibilityLevel\":{name}}}")?))
+    Text::of_string(format!(in alloc; "{{\"compatibilityLevel\":{name}}}")?)
 }
 
 /// The name of a mode.
@@ -136,5 +136,5 @@ pub(crate) fn mode_body(alloc: Global, name: &str) -> Result<Text, AllocError>
     ensures { IfOk result (λ body. body ≡ spec.mode_body name.now) }
 {
     let name = quoted(alloc, name)?;
-    Ok(Text::from(format!(in alloc; "{{\"mode\":{name}}}")?))
+    Text::of_string(format!(in alloc; "{{\"mode\":{name}}}")?)
 }

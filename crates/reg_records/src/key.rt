@@ -159,7 +159,7 @@ fn schema_key_text(alloc: Global, subject: &Text, version: u32) -> Result<Text, 
     let text = format!(in alloc;
         "{{\"keytype\":\"SCHEMA\",\"subject\":{subject},\"version\":{version},\"magic\":1}}"
     )?;
-    Ok(Text::from(text))
+    Text::of_string(text)
 }
 
 /// The key of that kind, which has no member of its own beside its subject.
@@ -169,7 +169,7 @@ fn scope_key_text(alloc: Global, kind: &str, scope: Option<&Text>) -> Result<Tex
 {
     let subject = scope_text(alloc, scope)?;
     let text = format!(in alloc; "{{\"keytype\":\"{kind}\",\"subject\":{subject},\"magic\":0}}")?;
-    Ok(Text::from(text))
+    Text::of_string(text)
 }
 
 /// The JSON text of a scope: its subject, or `null` for the global one.

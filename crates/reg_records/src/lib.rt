@@ -14,6 +14,7 @@ mod pieces;
 mod record;
 mod text_line;
 mod value;
+mod value_text;
 mod write;
 
 pub use device::Device;
@@ -31,4 +32,5 @@ pub use output::Output;
 pub use record::{Read, Record};
 pub use text_line::{TextLineError, read_text_line};
 pub use value::{Value, values_have_lines};
+pub use value_text::ValueText;
 pub use write::{WriteLineError, has_line, write_line};

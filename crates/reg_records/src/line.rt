@@ -10,6 +10,7 @@ ghost use Rattle.reg_records.specs.declared.record.Read.{Read};
 use crate::key::key_of;
 use crate::limits::{LINE_LIMIT, OFFSET_LIMIT};
 use crate::record::{Read, Record};
+use crate::value_text::ValueText;
 use base_text::Text;
 use std::alloc::{AllocError, Global};
 use std::error::Error;
@@ -231,7 +232,7 @@ fn read_at(alloc: Global, offset: u64, key: &str, value: &str) -> Result<Read, A
     };
     let value = match value {
         "null" => None,
-        text => Some(Text::copy_of(alloc, text)?),
+        text => Some(ValueText::from(Text::copy_of(alloc, text)?)),
     };
     Ok(Read::Record(Record { offset, key, value }))
 }

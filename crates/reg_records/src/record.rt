@@ -1,6 +1,6 @@
 // Records, and what a line can say.
 use crate::key::Key;
-use base_text::Text;
+use crate::value_text::ValueText;
 
 /// An entry of the topic. Records of one key are ordered by offset, then no value before a text,
 /// then by the text's bytes.
@@ -10,7 +10,7 @@ pub struct Record {
     pub offset: u64,
     pub key: Key,
     /// The text of its value; `None` deletes the key.
-    pub value: Option<Text>,
+    pub value: Option<ValueText>,
 }
 
 /// What a line that isn't refused says.

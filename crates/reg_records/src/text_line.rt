@@ -1,5 +1,5 @@
 // Lines that are texts.
-ghost use Rattle.std.specs.Prelude.{◌≡◌, ◌≤◌, ℕ, List, IfOk, IfErr, IfSome, MatchOption, MatchResult, OnOk, Ok, Err, Some, length};
+ghost use Rattle.std.specs.Prelude.{◌≡◌, ◌≤◌, ℕ, List, IfOk, IfErr, IfSome, MatchOption, MatchResult, OnOk, Ok, Err, Some, length, string_bytes};
 ghost use Rattle.reg_records.specs.Device.{KeepsReads, bytes_in, faults_of, reads_of};
 ghost use Rattle.reg_records.specs.Log.{ReadsFewTimes};
 ghost use Rattle.reg_records.specs.Pieces.{Holds};
@@ -58,34 +58,35 @@ pub fn read_text_line<R: BufRead>(
     match next {
         NextLine::End => Err(TextLineError::Line(LineError::Truncated)),
         NextLine::Unended => Err(TextLineError::Line(LineError::Truncated)),
-        NextLine::Line(line) => match text_in(line) {
-            Ok(text) => Ok(text),
+        NextLine::Line(line) => match string_in(line) {
+            Ok(string) => Ok(Text::of_string(string)?),
             Err(fault) => Err(TextLineError::Line(fault)),
         },
     }
 }
 
 /// The text in a line that was taken.
-fn text_in(line: LineBuffer) -> Result<Text, LineError>
+fn string_in(line: LineBuffer) -> Result<String, LineError>
     ensures { (bytes : List ℕ) → Holds line bytes
-        → MatchResult result (λ text. text_in bytes ≡ Ok text) (λ fault. text_in bytes ≡ Err fault) }
+        → MatchResult result
+        (λ string. text_in bytes ≡ Ok (string_bytes string)) (λ fault. text_in bytes ≡ Err fault) }
 {
     match line.into_bytes() {
-        Some(bytes) => text_of(bytes),
+        Some(bytes) => string_of(bytes),
         None => Err(LineError::TooLong),
     }
 }
 
 /// The text that the bytes are.
-fn text_of(bytes: Vec<u8>) -> Result<Text, LineError>
+fn string_of(bytes: Vec<u8>) -> Result<String, LineError>
     ensures { MatchResult result
-        (λ text. text_in bytes.items ≡ Ok text) (λ fault. text_in bytes.items ≡ Err fault) }
+        (λ string. text_in bytes.items ≡ Ok (string_bytes string)) (λ fault. text_in bytes.items ≡ Err fault) }
 {
     if bytes.len() > LINE_LIMIT {
         return Err(LineError::TooLong);
     }
     match String::from_utf8(bytes) {
-        Ok(string) => Ok(Text::from(string)),
+        Ok(string) => Ok(string),
         Err(_) => Err(LineError::BadUtf8),
     }
 }

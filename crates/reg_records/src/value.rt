@@ -9,6 +9,7 @@ ghost use Rattle.reg_records.specs.declared.value.Value.{Value};
 
 use crate::limits::OFFSET_LIMIT;
 use crate::members::quoted;
+use crate::value_text::ValueText;
 use base_text::Text;
 use std::alloc::{AllocError, Global};
 
@@ -44,7 +45,7 @@ impl Value {
     /// The JSON text that is written for the value, without spaces and with its members in a fixed
     /// order; `None` for no operation, which is written without a value. The only error is want of
     /// memory.
-    pub fn written(&self, alloc: Global) -> Result<Option<Text>, AllocError>
+    pub fn written(&self, alloc: Global) -> Result<Option<ValueText>, AllocError>
         ensures { IfOk result (λ text. text ≡ written_value self.now) }
     {
         let text = match self {
@@ -74,20 +75,20 @@ fn schema_value_text(
     id: u32,
     schema: &Text,
     deleted: bool,
-) -> Result<Text, AllocError>
+) -> Result<ValueText, AllocError>
     ensures { IfOk result (λ text. Some text ≡ written_value (Value.Schema subject.now version id schema.now deleted)) }
 {
-    let subject = quoted(alloc, subject.as_str())?;
-    let schema = quoted(alloc, schema.as_str())?;
+    let quoted_subject = quoted(alloc, subject.as_str())?;
+    let quoted_schema = quoted(alloc, schema.as_str())?;
     let text = schema_value_object(
         alloc,
-        subject.as_str(),
+        quoted_subject.as_str(),
         version,
         id,
-        schema.as_str(),
+        quoted_schema.as_str(),
         deleted,
     )?;
-    Ok(Text::from(text))
+    ValueText::with_schema(text, schema)
 }
 
 /// The object of a version's value, whose subject and schema are written already.
@@ -109,31 +110,31 @@ fn schema_value_object(
 }
 
 /// The object whose only member is that text.
-fn member_text(alloc: Global, name: &str, text: &Text) -> Result<Text, AllocError>
+fn member_text(alloc: Global, name: &str, text: &Text) -> Result<ValueText, AllocError>
     ensures { IfOk result (λ object. object ≡ codes "{\"" ++ name.now ++ codes "\":" ++ quoted text.now ++ codes "}") }
 {
     let text = quoted(alloc, text.as_str())?;
     let object = format!(in alloc; "{{\"{name}\":{text}}}")?;
-    Ok(Text::from(object))
+    ValueText::of_string(object)
 }
 
 fn delete_subject_value_text(
     alloc: Global,
     subject: &Text,
     version: u32,
-) -> Result<Text, AllocError>
+) -> Result<ValueText, AllocError>
     ensures { IfOk result (λ text. Some text ≡ written_value (Value.DeleteSubject subject.now version)) }
 {
     let subject = quoted(alloc, subject.as_str())?;
     let text = format!(in alloc; "{{\"subject\":{subject},\"version\":{version}}}")?;
-    Ok(Text::from(text))
+    ValueText::of_string(text)
 }
 
-fn id_mark_value_text(alloc: Global, id: u32) -> Result<Text, AllocError>
+fn id_mark_value_text(alloc: Global, id: u32) -> Result<ValueText, AllocError>
     ensures { IfOk result (λ text. Some text ≡ written_value (Value.IdMark id)) }
 {
     let text = format!(in alloc; "{{\"id\":{id}}}")?;
-    Ok(Text::from(text))
+    ValueText::of_string(text)
 }
 
 /// A record whose value was written has a line, where its numbers are within their limits.

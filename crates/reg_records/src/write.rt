@@ -8,7 +8,7 @@ ghost use Rattle.reg_records.specs.Written.{HasLine, IsValueField, line_text};
 use crate::limits::{LINE_LIMIT, OFFSET_LIMIT};
 use crate::line::{LineError, is_free_of};
 use crate::record::Record;
-use base_text::Text;
+use crate::value_text::ValueText;
 use std::alloc::{AllocError, Global};
 use std::error::Error;
 use std::fmt;
@@ -82,7 +82,7 @@ fn line_text(alloc: Global, given: &Record) -> Result<String, AllocError>
 }
 
 /// The text of a value, or `null` where there is none.
-fn value_field(value: &Option<Text>) -> &str
+fn value_field(value: &Option<ValueText>) -> &str
     ensures { result.now ≡ unwrap_or value.now (codes "null") }
 {
     match value {
@@ -97,7 +97,7 @@ fn joined(alloc: Global, offset: u64, key: &str, value: &str) -> Result<String, 
     format!(in alloc; "{offset}\t{key}\t{value}")
 }
 
-fn has_value_field(value: &Option<Text>) -> bool
+fn has_value_field(value: &Option<ValueText>) -> bool
     ensures { IsTrue result ↔ ForSome value.now IsValueField }
 {
     match value {

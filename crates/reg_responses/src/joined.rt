@@ -16,7 +16,7 @@ pub(crate) fn joined(alloc: Global, pieces: &[Piece<'_>]) -> Result<Text, AllocE
     for piece in pieces {
         push_piece(alloc, &mut text, piece)?;
     }
-    Ok(Text::from(text))
+    Text::of_string(text)
 }
 
 fn push_piece(alloc: Global, text: &mut String, piece: &Piece<'_>) -> Result<(), AllocError>

@@ -55,7 +55,7 @@ fn part_text(alloc: Global, part: &[u8]) -> Result<Option<Text>, AllocError>
     ensures { IfOk result (λ text. text ≡ part_text part.now) }
 {
     match percent_decode(part).decode_utf8(alloc) {
-        Ok(text) => Ok(Some(Text::from(text.into_owned(alloc)?))),
+        Ok(text) => Ok(Some(Text::of_string(text.into_owned(alloc)?)?)),
         Err(DecodeError::Utf8(_)) => Ok(None),
         Err(DecodeError::OutOfMemory) => Err(AllocError),
     }

@@ -48,7 +48,7 @@ pub(crate) fn copy_kept(
     let mut found = Vec::new(alloc);
     for record in records {
         if is_kept(registry, older, record) {
-            found.push(record.clone()?)?;
+            found.push(registry.copy_of(record)?)?;
         }
     }
     Ok(found)

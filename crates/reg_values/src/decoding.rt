@@ -16,7 +16,7 @@ use avro_schema::Schema;
 use base_text::Text;
 use reg_level_names::Level;
 use reg_records::{
-    Key, OFFSET_LIMIT, Record, Value, compact_texts_read_back, has_number_at, has_text_at,
+    Key, OFFSET_LIMIT, Record, Value, ValueText, compact_texts_read_back, has_number_at, has_text_at,
     number_at, parse, text_at, values_have_lines,
 };
 use serde_json::Value as Json;
@@ -51,20 +51,24 @@ pub fn decode(alloc: Global, given: &Record) -> Result<Option<Decoded>, AllocErr
     ensures schema { IfOk result (λ found. IfSome found (λ d. d.schema ≡ schema_in d.value)) }
 {
     match &given.value {
-        Some(text) => decode_text(alloc, &given.key, text.as_str()),
+        Some(text) => decode_text(alloc, &given.key, text),
         None => Ok(None),
     }
 }
 
 /// What a text says under that key; a NOOP's may be any text.
-fn decode_text(alloc: Global, key: &Key, text: &str) -> Result<Option<Decoded>, AllocError>
+fn decode_text(
+    alloc: Global,
+    key: &Key,
+    text: &ValueText,
+) -> Result<Option<Decoded>, AllocError>
     ensures { IfOk result (λ found. found ≡ option_map with_schema (value_of_text key.now text.now)) }
 {
     if is_noop(key) {
         return Ok(Some(without_schema(Value::Noop)));
     }
-    match parse(alloc, text)? {
-        Some(json) => decode_in(alloc, key, &json),
+    match parse(alloc, text.as_str())? {
+        Some(json) => decode_in(alloc, key, text, &json),
         None => Ok(None),
     }
 }
@@ -75,11 +79,16 @@ fn is_noop(key: &Key) -> bool
     matches!(key, Key::Noop)
 }
 
-fn decode_in(alloc: Global, key: &Key, json: &Json) -> Result<Option<Decoded>, AllocError>
+fn decode_in(
+    alloc: Global,
+    key: &Key,
+    text: &ValueText,
+    json: &Json,
+) -> Result<Option<Decoded>, AllocError>
     ensures { IfOk result (λ found. found ≡ option_map with_schema (value_in key.now (view json.now))) }
 {
     match key {
-        Key::Schema { subject, version } => decode_schema(alloc, subject, *version, json),
+        Key::Schema { subject, version } => decode_schema(alloc, subject, *version, text, json),
         Key::Config(_) => decode_config(alloc, json),
         Key::Mode(_) => decode_mode(alloc, json),
         Key::DeleteSubject(subject) => decode_delete_subject(subject, json),
@@ -92,6 +101,7 @@ fn decode_schema(
     alloc: Global,
     subject: &Text,
     version: u32,
+    given: &ValueText,
     json: &Json,
 ) -> Result<Option<Decoded>, AllocError>
     ensures { IfOk result (λ found. found ≡ option_map with_schema (value_in (Key.Schema subject.now version) (view json.now))) }
@@ -102,12 +112,13 @@ fn decode_schema(
     let Some(id) = number_at(json, "id") else {
         return Ok(None);
     };
-    let Some(text) = text_at(json, "schema") else {
+    let Some(schema) = text_at(json, "schema") else {
         return Ok(None);
     };
     let Some(deleted) = deleted_in(json) else {
         return Ok(None);
     };
+    let text = given.share(alloc, schema)?;
     decode_version(alloc, subject, version, id, text, deleted)
 }
 
@@ -124,14 +135,20 @@ fn decode_version(
     subject: &Text,
     version: u32,
     id: u32,
-    text: &str,
+    text: Text,
     deleted: bool,
 ) -> Result<Option<Decoded>, AllocError>
-    ensures { IfOk result (λ found. found ≡ option_map (λ meaning. record { value = Value.Schema subject.now version id text.now deleted; schema = Some meaning }) (schema_of text.now)) }
+    ensures { IfOk result (λ found. found ≡ option_map (λ meaning. record { value = Value.Schema subject.now version id text deleted; schema = Some meaning }) (schema_of text)) }
 {
-    match Schema::read_if_any(alloc, text)? {
+    match Schema::read_if_any(alloc, text.as_str())? {
         Some(schema) => {
-            let value = version_value(alloc, subject, version, id, text, deleted)?;
+            let value = Value::Schema {
+                subject: subject.clone()?,
+                version,
+                id,
+                schema: text,
+                deleted,
+            };
             Ok(Some(Decoded {
                 value,
                 schema: Some(schema),
@@ -139,25 +156,6 @@ fn decode_version(
         }
         None => Ok(None),
     }
-}
-
-fn version_value(
-    alloc: Global,
-    subject: &Text,
-    version: u32,
-    id: u32,
-    text: &str,
-    deleted: bool,
-) -> Result<Value, AllocError>
-    ensures { IfOk result (λ value. value ≡ Value.Schema subject.now version id text.now deleted) }
-{
-    Ok(Value::Schema {
-        subject: subject.clone()?,
-        version,
-        id,
-        schema: Text::copy_of(alloc, text)?,
-        deleted,
-    })
 }
 
 fn decode_config(alloc: Global, json: &Json) -> Result<Option<Decoded>, AllocError>

@@ -147,7 +147,7 @@ fn put_by(alloc: Global, given: &Record) -> Result<Option<Entry>, AllocError>
             schema: text,
             deleted,
         } => {
-            let normal = normal_of(alloc, &schema)?;
+            let normal = normal_of(&schema)?;
             Ok(Some(Entry {
                 subject,
                 version,
@@ -167,12 +167,12 @@ fn put_by(alloc: Global, given: &Record) -> Result<Option<Entry>, AllocError>
 }
 
 /// The normal text of a schema; without one no text.
-fn normal_of(alloc: Global, schema: &Option<Schema>) -> Result<Text, AllocError>
+fn normal_of(schema: &Option<Schema>) -> Result<Text, AllocError>
     ensures { IfOk result (λ normal. normal ≡ option_map_or (λ meaning. meaning.normal_text) schema.now []) }
 {
     match schema {
         Some(schema) => schema.normal().clone(),
-        None => Ok(Text::from(String::new(alloc))),
+        None => Ok(Text::empty()),
     }
 }
 

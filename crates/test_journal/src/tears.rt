@@ -5,7 +5,7 @@ ghost use Rattle.reg_records.specs.Written.{HasLine};
 use crate::torn::Torn;
 use base_text::Text;
 use reg_journal::{AppendError, Journal, OpenError, recover, write_end};
-use reg_records::{Key, Record, has_line, write_line};
+use reg_records::{Key, Record, ValueText, has_line, write_line};
 use std::alloc::{AllocError, Global};
 use std::process::Abort;
 use std::test::Fail;
@@ -20,7 +20,7 @@ pub(crate) fn batch_of(alloc: Global, first: u64, count: u64) -> Result<Vec<Reco
         let record = Record {
             offset: first.saturating_add(k),
             key: Key::Noop,
-            value: Some(Text::copy_of(alloc, "1")?),
+            value: Some(ValueText::from(Text::copy_of(alloc, "1")?)),
         };
         if has_line(&record) {
             batch.push(record)?;

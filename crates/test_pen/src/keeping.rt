@@ -43,7 +43,7 @@ fn told(alloc: Global, reply: &Reply) -> Result<String, AllocError> {
         return format!(in alloc; "unsettled {offset}");
     }
     let answer = reply_answer(alloc, reply)?;
-    Ok(String::from(answer.body))
+    String::from_str(alloc, answer.body.as_str())
 }
 
 /// The offsets of the records that the topic keeps.

@@ -52,7 +52,7 @@ impl<N: FeedName<Item, Shared>, S: Copies<Item, Shared, N>, K: Keep + Drop, R: W
         let count = self.pen.batches();
         Ok(Answer {
             status: 200,
-            body: Text::from(format!(in alloc; "{count}")?),
+            body: Text::of_string(format!(in alloc; "{count}")?)?,
         })
     }
 

@@ -3,7 +3,7 @@ mod rows;
 
 use base_text::Text;
 use reg_records::{
-    Device, Key, LogError, Record, Value, has_line, limits_are_as_written,
+    Device, Key, LogError, Record, Value, ValueText, has_line, limits_are_as_written,
     lines_are_of_the_grammar, read_log, write_line, written_keys_are_apart,
 };
 use reg_values::{decode_value, written_values_have_lines, written_values_read_back};
@@ -28,7 +28,7 @@ fn records_of(alloc: Global, line: Line) -> Result<Vec<Record>, LogError> {
     Ok(read_log(alloc, &mut reader)?.records)
 }
 
-fn is_text(text: &Option<Text>, wanted: &str) -> bool {
+fn is_text(text: &Option<ValueText>, wanted: &str) -> bool {
     match text {
         Some(text) => text.as_str() == wanted,
         None => wanted.is_empty(),
@@ -156,6 +156,28 @@ fn any_text_is_no_operation(rt: HostRuntime) {
     }
 }
 
+/// The schema's text that a value's text brings along, and the one that is read in it.
+static SHARED: [(&str, &str); 4] = [
+    ("\"int\"", "\"int\""),
+    ("\"int\"", "\"long\""),
+    ("", ""),
+    ("\"int\"", ""),
+];
+
+fn is_shared(alloc: Global, brought: &str, read: &str) -> Result<bool, AllocError> {
+    let plain = ValueText::from(Text::copy_of(alloc, "value")?);
+    let value = plain.bringing(&Text::copy_of(alloc, brought)?)?;
+    let shared = value.share(alloc, read)?;
+    Ok(value == plain && value.as_str() == "value" && shared.as_str() == read)
+}
+
+#[test]
+fn what_is_read_is_shared_or_copied(rt: HostRuntime) {
+    for (brought, read) in &SHARED {
+        assert!(rt; is_shared(rt.alloc(), brought, read) == Ok(true), "{read}");
+    }
+}
+
 /// Offsets, versions and values of records, and whether they have a line.
 static HAVE_LINES: [(u64, u32, &str, bool); 7] = [
     (9_223_372_036_854_775_807, 2_147_483_647, "null ", true),
@@ -172,7 +194,7 @@ fn has_a_line(alloc: Global, offset: u64, version: u32, value: &str) -> Result<b
     Ok(has_line(&Record {
         offset,
         key: Key::Schema { subject, version },
-        value: Some(Text::copy_of(alloc, value)?),
+        value: Some(ValueText::from(Text::copy_of(alloc, value)?)),
     }))
 }
 

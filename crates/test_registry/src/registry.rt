@@ -183,3 +183,27 @@ fn the_last_records_give_the_answers(rt: HostRuntime) {
         }
     }
 }
+
+/// Whether each record's copy, as a registry over all of them gives it, is that record.
+fn copies_hold(alloc: Global, row: &Row) -> Result<bool, LogError> {
+    let records = records_of(alloc, row.lines)?;
+    let mut registry = Registry::empty(alloc);
+    grow(&mut registry, &records)?;
+    for record in &records {
+        let copy = registry.copy_of(record)?;
+        if copy != *record {
+            return Ok(false);
+        }
+    }
+    Ok(true)
+}
+
+#[test]
+fn copies_are_the_records(rt: HostRuntime) {
+    let tables: [&[Row]; 4] = [&LIVE, &ENTRIES, &LEVELS, &MARKS];
+    for rows in tables {
+        for row in rows {
+            assert!(rt; copies_hold(rt.alloc(), row) == Ok(true), "{}", row.what);
+        }
+    }
+}

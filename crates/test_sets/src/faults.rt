@@ -1,8 +1,8 @@
 // The faults of lines, the texts of errors, and the limit of a line.
 use base_text::Text;
 use reg_records::{
-    Key, LINE_LIMIT, LineError, LogError, LogFault, Read, ReadLineError, Record, WriteLineError,
-    has_line, read_line, write_line,
+    Key, LINE_LIMIT, LineError, LogError, LogFault, Read, ReadLineError, Record, ValueText,
+    WriteLineError, has_line, read_line, write_line,
 };
 use std::alloc::{AllocError, Global};
 
@@ -142,7 +142,7 @@ fn is_written(alloc: Global, len: usize, wanted: Option<usize>) -> Result<bool, 
     let given = Record {
         offset: 7,
         key: Key::Noop,
-        value: Some(Text::from(value)),
+        value: Some(ValueText::from(Text::of_string(value)?)),
     };
     Ok(has_length(alloc, &given, wanted))
 }

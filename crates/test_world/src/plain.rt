@@ -5,7 +5,7 @@ use base_text::Text;
 use reg_fold::Registry;
 use reg_leader::{Command, Decision, decide};
 use reg_lookup::{Query, answer};
-use reg_records::{Key, Log, Record};
+use reg_records::{Key, Log, Record, ValueText};
 use reg_world::{Event, Fate};
 use std::alloc::{AllocError, Global};
 
@@ -42,7 +42,7 @@ fn is_among(list: &[Record], given: &Record) -> bool {
 }
 
 /// No value is before each text.
-fn is_greater(value: &Option<Text>, than: &Option<Text>) -> bool {
+fn is_greater(value: &Option<ValueText>, than: &Option<ValueText>) -> bool {
     match (value, than) {
         (Some(value), Some(than)) => *value > *than,
         (Some(_), None) => true,
@@ -67,6 +67,11 @@ pub(crate) fn registry_of(alloc: Global, records: &[Record]) -> Result<Registry,
     Ok(registry)
 }
 
+fn mark_text(alloc: Global, id: u32) -> Result<ValueText, AllocError> {
+    let text = format!(in alloc; "{{\"id\":{id}}}")?;
+    Ok(ValueText::from(Text::of_string(text)?))
+}
+
 /// The mark of ids that a topic over those records begins with, where an entry's id is above theirs.
 fn due_marks(alloc: Global, records: &[Record], next: u64) -> Result<Vec<Record>, AllocError> {
     let registry = registry_of(alloc, records)?;
@@ -76,7 +81,7 @@ fn due_marks(alloc: Global, records: &[Record], next: u64) -> Result<Vec<Record>
         due.push(Record {
             offset: next,
             key: Key::IdMark,
-            value: Some(Text::from(format!(in alloc; "{{\"id\":{greatest}}}")?)),
+            value: Some(mark_text(alloc, greatest)?),
         })?;
     }
     Ok(due)

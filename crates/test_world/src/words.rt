@@ -19,7 +19,7 @@ pub(crate) fn text_of(alloc: Global, word: &str) -> Result<Text, AllocError> {
 
 /// The text of a primitive type.
 pub(crate) fn schema_of(alloc: Global, name: &str) -> Result<Text, AllocError> {
-    Ok(Text::from(format!(in alloc; "\"{name}\"")?))
+    Text::of_string(format!(in alloc; "\"{name}\"")?)
 }
 
 pub(crate) fn scope_of(alloc: Global, word: &str) -> Result<Option<Text>, AllocError> {

@@ -1,4 +1,5 @@
 use Rattle.std.proofs.Common.{◌∙◌, ap, rules, arith}
+use Rattle.std.proofs.lemmas.Result.{IfOk-weaker}
 use Rattle.json.specs.Print.{quoted}
 use Rattle.reg_lookup.specs.Bodies.{place_data}
 use Rattle.reg_lookup.proofs.BodyTexts.{compact_text-place_data}
@@ -10,4 +11,5 @@ loop-entry-preserved c =
     (search rules, IsBegun-more (λ e. place_data e.now) c.args.entries.now _ c.entry-item.result _ _ _ _ c.loop-entry-test.true c.entry-item.is c.loop-entry.invariant.1 (compact_text-place_data c.entry-item.result.now _ (c.in_ok-subject.ensures ∙ ap quoted c.as_str.ensures)) c.in_ok-write.ensures.bytes)
 
 pub returns : goal.returns
-returns c = c.from.ensures ∙ c.in_ok-push_str.ensures.bytes ∙ IsBegun-all (place_data) (λ x. x.now) c.args.entries.now _ _ _ (omega arith) c.loop-entry.invariant.1
+returns c =
+    IfOk-weaker c.of_string.result _ _ (λ _ same. same ∙ c.in_ok-push_str.ensures.bytes ∙ IsBegun-all (place_data) (λ x. x.now) c.args.entries.now _ _ _ (omega arith) c.loop-entry.invariant.1) c.of_string.ensures

@@ -1,7 +1,8 @@
-use Rattle.std.proofs.Common.{rules}
+use Rattle.std.proofs.Common.{◌∙◌, rules}
+use Rattle.std.proofs.lemmas.Result.{IfOk-weaker}
 use Rattle.json.specs.Print.{escape_byte}
 use Rattle.reg_lookup.proofs.bodies.schema_body.Goals as goal
 
 pub returns : goal.returns
 unfolding escape_byte
-returns c = search rules
+returns c = IfOk-weaker c.of_string.result _ _ (λ _ same. same ∙ search rules) c.of_string.ensures

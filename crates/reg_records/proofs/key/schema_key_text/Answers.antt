@@ -1,4 +1,5 @@
 use Rattle.std.proofs.Common.{◌≡◌, ◌∙◌, ◌++◌, ℕ, List, codes, decimal, ap, append_assoc}
+use Rattle.std.proofs.lemmas.Result.{IfOk-weaker}
 use Rattle.std.specs.Fmt.{digits}
 use Rattle.json.specs.Print.{escape_byte, quoted}
 use Rattle.reg_records.specs.declared.key.Key.TheVariants.{Schema}
@@ -12,4 +13,5 @@ schema_text written subject version e =
     ap (λ s. codes "{\"keytype\":\"SCHEMA\",\"subject\":" ++ (s ++ (codes ",\"version\":" ++ (decimal version ++ codes ",\"magic\":1}")))) e ∙ simp append_assoc
 
 pub returns : goal.returns
-returns c = c.from.ensures ∙ c.in_ok-text.ensures.ok ∙ schema_text _ _ _ (c.in_ok-subject.ensures ∙ ap quoted c.as_str.ensures)
+returns c =
+    IfOk-weaker c.of_string.result _ _ (λ _ same. same ∙ c.in_ok-text.ensures.ok ∙ schema_text _ _ _ (c.in_ok-subject.ensures ∙ ap quoted c.as_str.ensures)) c.of_string.ensures

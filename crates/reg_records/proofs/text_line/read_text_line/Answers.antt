@@ -1,4 +1,4 @@
-use Rattle.std.proofs.Common.{Ok}
+use Rattle.std.proofs.Common.{Ok, ap, sym, ◌∙◌}
 use Rattle.reg_records.proofs.TextLines.{front, refused-end, refused-line, refused-lost, refused-unended}
 use Rattle.reg_records.proofs.text_line.read_text_line.Goals as goal
 
@@ -19,10 +19,10 @@ returns-in-Unended-clause-refused g c =
     let same = rw c.in-Some.is at c.in_ok-next.ensures.faults in
     refused-unended c.args.reader.now c.take_line.new.reader _ _ line same none read end
 
-pub returns-in-Ok-clause-text : goal.returns-in-Ok-clause-text
-returns-in-Ok-clause-text g c =
+pub returns-in_ok-of_string-in-Ok-clause-text : goal.returns-in_ok-of_string-in-Ok-clause-text
+returns-in_ok-of_string-in-Ok-clause-text g c =
     let (line, none, read, held) = rw (c.in-Some.is, c.in-Line.is) at c.in_ok-next.ensures.taken in
-    front _ _ line (Ok c.in-Ok.text) none read.0 (c.in-Ok.ensures line held)
+    front _ _ line (Ok c.in_ok-of_string-in-Ok.field-0) none read.0 (c.in-Ok.ensures line held ∙ ap Ok (sym c.in_ok-of_string-in-Ok.ensures))
 
 pub returns-in-Err-clause-refused : goal.returns-in-Err-clause-refused
 returns-in-Err-clause-refused g c =

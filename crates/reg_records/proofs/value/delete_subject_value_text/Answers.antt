@@ -1,4 +1,5 @@
 use Rattle.std.proofs.Common.{◌≡◌, ◌∙◌, ◌++◌, ℕ, List, Some, codes, decimal, ap, append_assoc}
+use Rattle.std.proofs.lemmas.Result.{IfOk-weaker}
 use Rattle.json.specs.Print.{escape_byte, quoted}
 use Rattle.reg_records.specs.declared.value.Value.TheVariants.{DeleteSubject}
 use Rattle.reg_records.specs.Written.{written_value}
@@ -10,4 +11,5 @@ unfolding written_value escape_byte
 value_text written subject version e = ap (λ s. Some (codes "{\"subject\":" ++ (s ++ (codes ",\"version\":" ++ (decimal version ++ codes "}"))))) e ∙ simp append_assoc
 
 pub returns : goal.returns
-returns c = ap Some (c.from.ensures ∙ c.in_ok-text.ensures.ok) ∙ value_text _ _ _ (c.in_ok-subject.ensures ∙ ap quoted c.as_str.ensures)
+returns c =
+    IfOk-weaker c.of_string.result _ _ (λ _ same. ap Some (same ∙ c.in_ok-text.ensures.ok) ∙ value_text _ _ _ (c.in_ok-subject.ensures ∙ ap quoted c.as_str.ensures)) c.of_string.ensures

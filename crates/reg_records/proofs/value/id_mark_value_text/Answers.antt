@@ -1,4 +1,5 @@
 use Rattle.std.proofs.Common.{◌≡◌, ◌∙◌, ◌++◌, ℕ, Some, codes, decimal, ap, append_assoc}
+use Rattle.std.proofs.lemmas.Result.{IfOk-weaker}
 use Rattle.json.specs.Print.{escape_byte}
 use Rattle.reg_records.specs.declared.value.Value.TheVariants.{IdMark}
 use Rattle.reg_records.specs.Written.{written_value}
@@ -9,4 +10,5 @@ unfolding written_value escape_byte
 value_text id = simp append_assoc
 
 pub returns : goal.returns
-returns c = ap Some (c.from.ensures ∙ c.in_ok-text.ensures.ok) ∙ value_text _
+returns c =
+    IfOk-weaker c.of_string.result _ _ (λ _ same. ap Some (same ∙ c.in_ok-text.ensures.ok) ∙ value_text _) c.of_string.ensures

@@ -1,4 +1,5 @@
-use Rattle.std.proofs.Common.{◌≡◌, ◌++◌, ℕ, List, Bool, Some, codes, decimal, rules, append_assoc}
+use Rattle.std.proofs.Common.{◌≡◌, ◌∙◌, ◌++◌, ℕ, List, Bool, Some, codes, decimal, ap, rules, append_assoc}
+use Rattle.std.proofs.lemmas.Result.{IfOk-weaker}
 use Rattle.json.specs.Print.{escape_byte, quoted}
 use Rattle.serde_json.specs.Data.{boolean}
 use Rattle.serde_json.specs.Written.{compact_text}
@@ -12,4 +13,4 @@ unfolding written_value escape_byte
 value_text subject version id schema deleted = simp append_assoc
 
 pub returns : goal.returns
-returns c = search (rules, value_text)
+returns c = IfOk-weaker c.with_schema.result _ _ (λ _ same. ap Some same ∙ search (rules, value_text)) c.with_schema.ensures

@@ -11,7 +11,7 @@ use Rattle.std.specs.declared.ops.Bound.TheVariants.{Included, Excluded}
 use Rattle.reg_entries.specs.Index.{Name, name_cmp, entry_at}
 use Rattle.reg_entries.specs.declared.entry.Entry.{Entry}
 use Rattle.reg_entries.proofs.OfId.{by_place, by_place-total, filter_map_none, filter_map_some, with_id_is}
-use Rattle.reg_entries.proofs.ids.list_with_id.Goals as goal
+use Rattle.reg_entries.proofs.ids.list_by_name.Goals as goal
 
 pub loop-name-preserved-in_default : goal.loop-name-preserved-in_default
 loop-name-preserved-in_default c =

@@ -5,7 +5,7 @@ use Rattle.std.proofs.lemmas.Bool.Decides.{nat_tests}
 use Rattle.std.proofs.lemmas.Str.{IsUtf8-from_is_utf8, IsUtf8-string_bytes, is_utf8-from_IsUtf8}
 use Rattle.reg_records.specs.declared.limits.TheConstants.{LINE_LIMIT}
 use Rattle.reg_records.specs.declared.line.LineError.TheVariants.{TooLong, BadUtf8}
-use Rattle.reg_records.proofs.text_line.text_of.Goals as goal
+use Rattle.reg_records.proofs.text_line.string_of.Goals as goal
 
 unless_true : (b : Bool) → (b ≡ true → ⊥) → b ≡ false
 unless_true true h = absurd (h refl)
@@ -19,7 +19,7 @@ returns-in-Ok c =
     let utf8 : is_utf8 bytes ≡ true = ap is_utf8 (sym same) ∙ is_utf8-from_IsUtf8 _ (IsUtf8-string_bytes c.in-Ok.string) in
     ap (λ b. cond b (Err TooLong) (cond (is_utf8 bytes) (Ok bytes) (Err BadUtf8))) short
     ∙ ap (λ b. cond b (Ok bytes) (Err BadUtf8)) utf8
-    ∙ ap Ok (sym (c.from.ensures ∙ same))
+    ∙ ap Ok (sym same)
 
 pub returns : goal.returns
 returns c =
