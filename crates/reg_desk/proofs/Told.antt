@@ -1,5 +1,5 @@
 -- What the pen tells of a command.
-use Rattle.std.proofs.Common.{◌≡◌, ◌⊎◌, inl, inr, ◌+◌, ◌≤◌, List, [], ◌∷◌, ◌++◌, length, Option, Some, None, refl, sym, ap, subst, ◌∙◌, arith, length-append, Bor}
+use Rattle.std.proofs.Common.{◌≡◌, ◌⊎◌, inl, inr, ◌+◌, ◌≤◌, List, [], ◌∷◌, ◌++◌, true, length, Option, Some, None, refl, sym, ap, subst, ◌∙◌, arith, length-append, Bor}
 use mathlib.Core.List.{IsPrefix}
 use Rattle.reg_records.specs.declared.record.Record.{Record}
 use Rattle.reg_leader.specs.declared.command.Command.{Command}
@@ -8,10 +8,12 @@ use Rattle.reg_leader.specs.declared.reply.Reply.TheVariants as replies
 use Rattle.reg_topic.specs.declared.published.Item.{Item}
 use Rattle.reg_topic.specs.declared.published.Item.TheVariants as items
 use Rattle.reg_topic.specs.declared.topic.Topic.{Topic}
-use Rattle.reg_pen.specs.Pen.{Acts, Follows, IsBehind, IsStepAfter, PenState, Submits, StillPends, item_of, settled}
+use Rattle.reg_shared.specs.Held.{Held, base_of}
+use Rattle.reg_pen.specs.Pen.{Acts, Follows, IsBehind, IsStepAfter, PenState, Submits, StillPends, item_of, counted, settled}
 use Rattle.reg_pen.specs.declared.keep.Kept.{Kept}
 use Rattle.reg_pen.specs.declared.keep.Kept.TheVariants.{Taken, Declined, Lost}
-use Rattle.reg_desk.specs.Desk.{IsNext, Replies}
+use Rattle.reg_node.specs.declared.take.Take.{Take}
+use Rattle.reg_desk.specs.Desk.{DeskCommands, IsFresh, IsNext, Known, Replies, front_of}
 use Rattle.reg_desk.specs.Told.{IsTold, front_at}
 use Rattle.reg_desk.proofs.Fresh.{prefix_trans}
 
@@ -102,3 +104,16 @@ module _ {K : Type 0} (keeps : K → List Record → Kept → K → Type 0) wher
       → IsNext keeps base before c reply found
   is_next base before told found c reply (inl none) grows same = record { grows = grows; replies = inr (inr (inr (inr none))) }
   is_next base before told found c reply (inr next) grows same = subst (λ (w : List Item). IsNext keeps base before c reply w) (sym (same next.grows)) next
+
+  -- the view may show more before the command is submitted, and again after it
+  pub commands : (first : Held) (inside before after : Known) (c : Command) (reply : Reply) (front : List Item) (shown : List Take) → inside ≡ before → after.seen ≡ Some front
+      → after.submits ≡ counted inside.submits → IsNext keeps (base_of first) (front_of inside.seen) c reply front → IsPrefix inside.view shown → IsPrefix shown after.view
+      → (after.fresh ≡ true → IsFresh first front after.view) → DeskCommands keeps first before c reply after
+  commands first inside before after c reply front shown same seen counts next grows shows fresh = subst (λ (k : Known). DeskCommands keeps first k c reply after) same (record {
+    counts = counts;
+    front = front;
+    seen = seen;
+    next = next;
+    shows = prefix_trans inside.view shown after.view grows shows;
+    fresh = fresh;
+  })

@@ -5,12 +5,14 @@ ghost use Rattle.reg_desk.specs.Desk.{IsFresh, front_of};
 
 use crate::catching::catch_up;
 use crate::gate::{Gate, pass_gate};
+use crate::ruling::Ruling;
 use crate::standing::Standing;
 use crate::submitting::submit;
 use crate::wake::Wake;
 use reg_conversation::SharedDesk;
 use reg_feed::{Copies, FeedName, Seen};
 use reg_http::Desk;
+use reg_judge::Judge;
 use reg_leader::{Command, Reply};
 use reg_lookup::{Answer, Query};
 use reg_node::{Follower, Take, Taken, View};
@@ -22,9 +24,9 @@ use std::marker::Model;
 use std::sync::atomic::AtomicU64;
 use std::sync::{Mutex, Wait};
 
-/// A node's desk. A command goes to the pen, once; the other nodes are woken; then the node's follower
-/// learns, pulls and publishes, and the view learns, before the reply is given. Queries are answered
-/// from the view.
+/// A node's desk. A registration is judged by what the view shows. Then the command goes to the pen, once;
+/// the other nodes are woken; then the node's follower learns, pulls and publishes, and the view learns,
+/// before the reply is given. Queries are answered from the view.
 ///
 /// Contracts see the topic's front of the last command, its own or one that it learnt of, the view's
 /// front, the count of submits, and whether nothing after that command's submit was refused.
@@ -48,6 +50,7 @@ pub struct NodeDesk<
     calls: &'a AtomicU64,
     pass: Pass<N>,
     view: View<M, U>,
+    judge: Judge,
     seen: Option<Seen<Item, Shared, N>>,
     fresh: bool,
 }
@@ -94,6 +97,7 @@ impl<
         calls: &'a AtomicU64,
         pass: Pass<N>,
         view: View<M, U>,
+        judge: Judge,
     ) -> NodeDesk<'a, N, S, K, M, U, R, G, W>
         ensures { result ≡ record { seen = None; view = view; submits = pass.submits; fresh = false } }
     {
@@ -106,6 +110,7 @@ impl<
             calls,
             pass,
             view,
+            judge,
             seen: None,
             fresh: false,
         }
@@ -158,12 +163,15 @@ impl<
 
     fn command(&mut self, command: &Command) -> Reply {
         pass_gate(self.gate, self.calls);
+        let ruling = Ruling::of(&mut self.view, &mut self.judge, command);
         let Submitted { reply, seen } = submit(
             self.rt,
             self.pen,
             &mut self.pass,
             &self.seen,
             command,
+            ruling,
+            &mut self.judge,
         );
         self.wake.topic_grew();
         self.fresh = catch_up(self.rt, self.follower, &mut self.view, &seen);

@@ -5,6 +5,7 @@ mod catching;
 mod desk;
 mod gate;
 mod laws;
+mod ruling;
 mod standing;
 mod submitting;
 mod wake;

@@ -7,6 +7,7 @@ use Rattle.std.proofs.lemmas.Slice.Eq.{bytes_eq-Decides}
 use Rattle.avro_schema.specs.Schema.{Meaning, schema_of}
 use Rattle.avro_resolve.specs.declared.resolving.Verdict.{Verdict}
 use Rattle.reg_levels.specs.Texts.{nodes_in}
+use Rattle.reg_judge.specs.declared.kept_schema.KeptSchema.{KeptSchema}
 use Rattle.reg_judge.specs.Judge.{is_pair}
 use Rattle.reg_judge.specs.Kept.{IsPairVerdict, IsSchemaOf, IsVerdictOf, pairs_of, texts_of}
 
@@ -14,9 +15,9 @@ pub same_bytes : {Z : Type 0} (a b : String Z) → string_eq a b ≡ true → st
 same_bytes a b equal = (bytes_eq-Decides (string_bytes a) (string_bytes b)).0 equal
 
 -- a schema is that of each equal text
-pub of_equal : {Z : Type 0} (a b : String Z) (schema : Meaning) → IsSchemaOf (a, schema) → string_eq a b ≡ true → IsSchemaOf (b, schema)
+pub of_equal : {Z : Type 0} (a b : String Z) (kept : KeptSchema) → IsSchemaOf (a, kept) → string_eq a b ≡ true → IsSchemaOf (b, kept)
 unfolding IsSchemaOf
-of_equal a b schema is equal = subst (λ text. schema_of text ≡ Some schema) (same_bytes a b equal) is
+of_equal a b kept is equal = subst (λ text. schema_of text ≡ Some kept.schema) (same_bytes a b equal) is
 
 -- the nodes that a text means
 pub nodes_of : (text : List ℕ) (schema : Meaning) → schema_of text ≡ Some schema → nodes_in text ≡ schema.nodes

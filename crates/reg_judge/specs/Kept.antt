@@ -1,6 +1,6 @@
 -- Private: what a judge keeps, and how a judgement goes on.
 use Rattle.std.specs.Prelude.{◌≡◌, ◌⊎◌, ◌++◌, ℕ, List, [], ◌∷◌, Some, false, Contains, map, reverse, flat_map, String, string_bytes}
-use Rattle.avro_schema.specs.Schema.{Meaning, schema_of}
+use Rattle.avro_schema.specs.Schema.{schema_of}
 use Rattle.avro_resolve.specs.Trails.{IsShown}
 use Rattle.avro_resolve.specs.Verdict.{IsVerdict}
 use Rattle.avro_resolve.specs.declared.trail.Trail.{Trail}
@@ -15,6 +15,7 @@ use Rattle.reg_levels.specs.Judgement.{first_unread}
 use Rattle.reg_levels.specs.LevelVerdict.{passed, failed}
 use Rattle.reg_levels.specs.RequiredPairs.{Required, directions}
 use Rattle.reg_levels.specs.Texts.{VersionText, nodes_in}
+use Rattle.reg_judge.specs.declared.kept_schema.KeptSchema.{KeptSchema}
 use Rattle.reg_judge.specs.Judge.{TextPair, IsCompatiblePair, text_pair}
 
 -- each of them is so
@@ -27,10 +28,10 @@ IsPairVerdict p = IsVerdict (nodes_in p.0) (nodes_in p.1)
 
 module _ {Z : Type 0} where
   -- the schema is that of its text
-  unfoldable pub IsSchemaOf : String Z × Meaning → Type 0
-  IsSchemaOf e = schema_of (string_bytes e.0) ≡ Some e.1
+  unfoldable pub IsSchemaOf : String Z × KeptSchema → Type 0
+  IsSchemaOf e = schema_of (string_bytes e.0) ≡ Some e.1.schema
 
-  abbrev pub AreSchemas : List (String Z × Meaning) → Type 0
+  abbrev pub AreSchemas : List (String Z × KeptSchema) → Type 0
   AreSchemas = AllAre IsSchemaOf
 
   abbrev pub texts_of : String Z × String Z → TextPair

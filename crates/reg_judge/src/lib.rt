@@ -5,6 +5,7 @@
 mod judge;
 mod judge_error;
 mod judging;
+mod kept_schema;
 mod schemas;
 mod source;
 mod verdicts;

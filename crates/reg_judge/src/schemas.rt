@@ -4,6 +4,7 @@ ghost use Rattle.avro_schema.specs.Schema.{is_schema};
 ghost use Rattle.reg_levels.specs.Judgement.{first_unread};
 ghost use Rattle.reg_judge.specs.Kept.{AreSchemas, IsUnread};
 
+use crate::kept_schema::KeptSchema;
 use crate::source::Source;
 use avro_schema::Schema;
 use lru::LruCache;
@@ -12,7 +13,7 @@ use std::alloc::{AllocError, Global};
 use std::hash::RandomState;
 
 /// The schemas that are kept, each under its text.
-pub(crate) type Schemas = LruCache<String, Schema, RandomState>;
+pub(crate) type Schemas = LruCache<String, KeptSchema, RandomState>;
 
 /// The schema of a text, taken from those that are kept, or read; `None` where there is none.
 ///
@@ -27,8 +28,11 @@ pub(crate) fn take(
     ensures read { IfOk result (λ found. is_some found ≡ is_schema text.now) }
     ensures left { AreSchemas kept.new.entries }
 {
-    if let Some((text, schema)) = kept.pop_entry(text) {
-        return Ok(Some(Source { text, schema }));
+    if let Some((text, stored)) = kept.pop_entry(text) {
+        return Ok(Some(Source {
+            text,
+            schema: stored.into_schema(),
+        }));
     }
     match Schema::read_if_any(alloc, text)? {
         Some(schema) => Ok(Some(Source {
@@ -67,7 +71,7 @@ pub(crate) fn keep(kept: &mut Schemas, source: Source)
     ensures { AreSchemas kept.new.entries }
 {
     let Source { text, schema } = source;
-    let _kept = kept.put(text, schema);
+    let _kept = kept.put(text, KeptSchema::of(schema));
 }
 
 /// Keeps the schemas.

@@ -3,6 +3,7 @@ use reg_connection::Limits;
 use reg_desk::Wake;
 use reg_serve::Latch;
 use std::alloc::Global;
+use std::hash::RandomState;
 use std::sync::atomic::AtomicU64;
 use std::thread::Parker;
 
@@ -11,6 +12,8 @@ use std::thread::Parker;
 pub(crate) struct Common<'a, R, G> {
     pub(crate) rt: &'a R,
     pub(crate) alloc: Global,
+    /// Under them the judges of desks find texts.
+    pub(crate) keys: RandomState,
     /// What wakes a node's follower; one a node.
     pub(crate) grown: &'a [Parker],
     pub(crate) latch: &'a Latch,

@@ -1,5 +1,6 @@
 // Why nodes can't be started.
 use reg_feed::NoPlace;
+use reg_judge::JudgeError;
 use reg_leader::AdoptError;
 use reg_pen::{Lack, OpenError};
 use reg_records::LogError;
@@ -11,7 +12,7 @@ use thiserror::Error;
 /// Why nodes can't be started. It is shown as its name.
 #[derive(Clone, Copy, Debug, PartialEq, Eq, Error)]
 pub enum StartFault {
-    /// Memory, a thread or a descriptor was refused.
+    /// Memory, a thread, a descriptor or random bytes were refused.
     #[error("OutOfMemory")]
     OutOfMemory,
     /// A list has no place for another reader.
@@ -52,9 +53,16 @@ impl From<StartError> for StartFault {
     }
 }
 
-/// A node's poll or its listener's options were refused.
+/// A node's poll, its listener's options or the keys of hashes were refused.
 impl From<io::Error> for StartFault {
     fn from(_refused: io::Error) -> StartFault {
+        StartFault::OutOfMemory
+    }
+}
+
+/// A judge of so many schemas and verdicts as a desk has is refused for want of memory alone.
+impl From<JudgeError> for StartFault {
+    fn from(_refused: JudgeError) -> StartFault {
         StartFault::OutOfMemory
     }
 }

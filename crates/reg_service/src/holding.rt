@@ -39,6 +39,7 @@ pub(crate) fn hold_one<
     let mut passes = passes;
     let alloc = common.alloc;
     let rt = common.rt;
+    let keys = common.keys;
     let gate = common.gate;
     let calls = common.calls;
     let grown = common.grown;
@@ -52,6 +53,7 @@ pub(crate) fn hold_one<
     let first_desks = make_desks(
         rt,
         alloc,
+        keys,
         pen,
         &mut passes,
         &first_follower,
@@ -108,6 +110,7 @@ pub(crate) fn hold_two<
     let mut passes = passes;
     let alloc = common.alloc;
     let rt = common.rt;
+    let keys = common.keys;
     let gate = common.gate;
     let calls = common.calls;
     let grown = common.grown;
@@ -121,6 +124,7 @@ pub(crate) fn hold_two<
     let first_desks = make_desks(
         rt,
         alloc,
+        keys,
         pen,
         &mut passes,
         &first_follower,
@@ -151,6 +155,7 @@ pub(crate) fn hold_two<
     let second_desks = make_desks(
         rt,
         alloc,
+        keys,
         pen,
         &mut passes,
         &second_follower,
@@ -218,6 +223,7 @@ pub(crate) fn hold_three<
     let desks = make_desks(
         common.rt,
         common.alloc,
+        common.keys,
         pen,
         &mut passes,
         &follower,
@@ -279,6 +285,7 @@ fn hold_second<
     let desks = make_desks(
         common.rt,
         common.alloc,
+        common.keys,
         pen,
         &mut passes,
         &follower,
@@ -351,6 +358,7 @@ fn hold_third<
     let desks = make_desks(
         common.rt,
         common.alloc,
+        common.keys,
         pen,
         &mut passes,
         &follower,

@@ -21,8 +21,10 @@ use reg_serve::Latch;
 use reg_shared::Shared;
 use reg_topic::Item;
 use std::alloc::Global;
+use std::hash::RandomState;
 use std::marker::Brand;
 use std::net::Net;
+use std::random::RandomSource;
 use std::sync::atomic::AtomicU64;
 use std::sync::{Mutex, Wait};
 use std::thread::{Parker, Threads};
@@ -33,7 +35,7 @@ pub const NODES_LIMIT: usize = 3;
 
 /// Serves an empty topic, which ends with the process; else as `serve_log`.
 pub fn serve_nodes<
-    R: Threads + Wait + Clock + Net + Sync + Send + Copy + Drop,
+    R: Threads + Wait + Clock + Net + RandomSource + Sync + Send + Copy + Drop,
     G: Gate + Sync,
     E: Entrance,
 >(rt: R, alloc: Global, size: Size, gate: &G, entrance: &mut E) -> Result<(), StartFault> {
@@ -50,7 +52,7 @@ pub fn serve_nodes<
 /// can't be started.
 pub fn serve_log<
     K: Keep + Send + Drop,
-    R: Threads + Wait + Clock + Net + Sync + Send + Copy + Drop,
+    R: Threads + Wait + Clock + Net + RandomSource + Sync + Send + Copy + Drop,
     G: Gate + Sync,
     E: Entrance,
 >(
@@ -73,6 +75,7 @@ pub fn serve_log<
     let common = Common {
         rt: &rt,
         alloc,
+        keys: RandomState::new(&rt)?,
         grown: &grown,
         latch: &latch,
         gate,
@@ -115,6 +118,7 @@ fn serve_topic<
     let here = Common {
         rt: common.rt,
         alloc: common.alloc,
+        keys: common.keys,
         grown: common.grown,
         latch: common.latch,
         gate: common.gate,

@@ -6,13 +6,21 @@ use crate::common::Common;
 use crate::error::StartFault;
 use reg_desk::{Gate, NodeDesk, Wake};
 use reg_feed::{Copies, FeedName, FeedReader, Stored, Unnamed, feed};
+use reg_judge::Judge;
 use reg_node::{Follower, Take, Taken, View};
 use reg_pen::{Keep, Pass, Pen};
 use reg_shared::Shared;
 use reg_topic::Item;
 use std::alloc::Global;
+use std::hash::RandomState;
 use std::sync::atomic::AtomicU64;
 use std::sync::{Mutex, Wait};
+
+/// How many schemas the judge of a desk keeps.
+const SCHEMAS: usize = 256;
+
+/// How many verdicts the judge of a desk keeps.
+const VERDICTS: usize = 1_024;
 
 /// What nodes that aren't made yet have of the topic.
 #[derive(Drop)]
@@ -71,7 +79,7 @@ pub(crate) fn make_parts<
     Ok(Parts { follower, views })
 }
 
-/// A desk of a node for each view.
+/// A desk of a node for each view, with a judge of its own.
 pub(crate) fn make_desks<
     'a,
     N: FeedName<Item, Shared>,
@@ -85,6 +93,7 @@ pub(crate) fn make_desks<
 >(
     rt: &'a R,
     alloc: Global,
+    keys: RandomState,
     pen: &'a Mutex<Pen<N, S, K, R>>,
     passes: &mut Vec<Pass<N>>,
     follower: &'a Mutex<Follower<N, S, M, U, R>>,
@@ -98,7 +107,8 @@ pub(crate) fn make_desks<
         let Some(pass) = passes.pop() else {
             return Err(StartFault::NoPlace);
         };
-        desks.push(NodeDesk::new(rt, pen, follower, gate, wake, calls, pass, view))?;
+        let judge = Judge::new(alloc, keys, SCHEMAS, VERDICTS)?;
+        desks.push(NodeDesk::new(rt, pen, follower, gate, wake, calls, pass, view, judge))?;
     }
     Ok(desks)
 }

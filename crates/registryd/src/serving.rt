@@ -3,6 +3,7 @@ use reg_service::{Entrance, NoGate, Size, StartFault, listen, serve_nodes};
 use std::alloc::Global;
 use std::io::{Eprint, Print};
 use std::net::{IpAddr, Ipv4Addr, Net, TcpListener, TcpStream};
+use std::random::RandomSource;
 use std::sync::Wait;
 use std::thread::Threads;
 use std::time::Clock;
@@ -16,6 +17,7 @@ pub(crate) fn serve_ports<
         + Wait
         + Clock
         + Net<Listener = TcpListener, Stream = TcpStream>
+        + RandomSource
         + Print
         + Eprint
         + Sync

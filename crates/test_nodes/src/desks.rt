@@ -9,6 +9,7 @@ use base_text::Text;
 use reg_desk::{Gate, NodeDesk, Wake};
 use reg_feed::{Copies, FeedName, FeedReader, Seen, Unnamed};
 use reg_http::{Desk, reply_answer};
+use reg_judge::Judge;
 use reg_leader::Command;
 use reg_lookup::{Answer, Query};
 use reg_node::{Follower, Take, Taken, View};
@@ -17,14 +18,16 @@ use reg_records::Record;
 use reg_shared::Shared;
 use reg_topic::Item;
 use std::alloc::{AllocError, Global};
+use std::hash::RandomState;
 use std::marker::Brand;
+use std::random::RandomSource;
 use std::sync::atomic::AtomicU64;
 use std::sync::{Mutex, Wait};
 use std::test::Fail;
 
 /// Lets each call pass.
 #[derive(Drop)]
-struct NoGate;
+pub(crate) struct NoGate;
 
 impl Gate for NoGate {
     fn before_answer(&self, _call: u64) {}
@@ -32,14 +35,14 @@ impl Gate for NoGate {
 
 /// Wakes nobody.
 #[derive(Drop)]
-struct NoWake;
+pub(crate) struct NoWake;
 
 impl Wake for NoWake {
     fn topic_grew(&self) {}
 }
 
 /// A desk, whatever its feeds are named.
-trait Worker: Asked {
+pub(crate) trait Worker: Asked {
     /// The answer that the reply has, and whether the desk is fresh then.
     fn work(&mut self, alloc: Global, command: &Command) -> Result<(Answer, bool), AllocError>;
 
@@ -54,7 +57,8 @@ impl<
     M: FeedName<Take, Taken>,
     U: Copies<Take, Taken, M>,
     R: Wait + Drop,
-> Asked for NodeDesk<'a, N, S, MemoryAlone, M, U, R, NoGate, NoWake> {
+    G: Gate,
+> Asked for NodeDesk<'a, N, S, MemoryAlone, M, U, R, G, NoWake> {
     fn answer_to(&mut self, alloc: Global, query: &Query) -> Result<Answer, AllocError> {
         self.ask(alloc, query)
     }
@@ -67,7 +71,8 @@ impl<
     M: FeedName<Take, Taken>,
     U: Copies<Take, Taken, M>,
     R: Wait + Drop,
-> Worker for NodeDesk<'a, N, S, MemoryAlone, M, U, R, NoGate, NoWake> {
+    G: Gate,
+> Worker for NodeDesk<'a, N, S, MemoryAlone, M, U, R, G, NoWake> {
     fn work(&mut self, alloc: Global, command: &Command) -> Result<(Answer, bool), AllocError> {
         let reply = self.command(command);
         let is_fresh = self.fresh();
@@ -78,6 +83,12 @@ impl<
     fn submitted(&self) -> u64 {
         self.submits()
     }
+}
+
+/// A judge for a desk.
+pub(crate) fn make_judge<R: RandomSource>(alloc: Global, rt: &R) -> Result<Judge, Fail> {
+    let keys = RandomState::new(rt)?;
+    Ok(Judge::new(alloc, keys, 16, 64)?)
 }
 
 /// Does the commands at a desk of the first node, and asks the second one. It tells the replies, and then
@@ -92,7 +103,7 @@ pub(crate) fn run_desk<
     T: Copies<Take, Taken, L>,
     M: FeedName<Take, Taken>,
     U: Copies<Take, Taken, M>,
-    R: Wait + Drop + Copy,
+    R: Wait + RandomSource + Drop + Copy,
 >(
     alloc: Global,
     rt: R,
@@ -104,6 +115,7 @@ pub(crate) fn run_desk<
 ) -> Result<String, Fail> {
     let Seats {
         pass,
+        other: _other,
         topic,
         readers,
     } = seats;
@@ -122,7 +134,7 @@ fn at_desk<
     S: Copies<Item, Shared, N>,
     M: FeedName<Take, Taken>,
     U: Copies<Take, Taken, M>,
-    R: Wait + Drop,
+    R: Wait + RandomSource + Drop,
 >(
     alloc: Global,
     rt: &'a R,
@@ -136,7 +148,8 @@ fn at_desk<
     let calls = AtomicU64::new(0);
     let gate = NoGate;
     let wake = NoWake;
-    let mut desk = NodeDesk::new(rt, pen, follower, &gate, &wake, &calls, pass, view);
+    let judge = make_judge(alloc, rt)?;
+    let mut desk = NodeDesk::new(rt, pen, follower, &gate, &wake, &calls, pass, view, judge);
     do_commands(alloc, &mut desk, commands, out)?;
     let seen = desk.seen().map(|seen| seen.again());
     match seen {

@@ -1,4 +1,4 @@
-//! Tests of a node's desk, and of three nodes over one topic.
+//! Tests of desks of nodes, and of three nodes over one topic.
 #![tactic(auto)]
 
 #[cfg(test)]
@@ -13,6 +13,8 @@ mod nodes;
 mod random;
 #[cfg(test)]
 mod runs;
+#[cfg(test)]
+mod slow;
 #[cfg(test)]
 mod source;
 #[cfg(test)]

@@ -265,6 +265,7 @@ pub(crate) fn run_draws<
     let mut third = third;
     let Seats {
         pass,
+        other: _other,
         topic,
         readers,
     } = seats;

@@ -4,8 +4,11 @@ use base_text::Text;
 use reg_leader::Command;
 use reg_level_names::Level;
 use std::alloc::{AllocError, Global};
+use std::random::RandomSource;
 use std::sync::Wait;
 use std::test::Fail;
+use std::thread::Threads;
+use std::time::Clock;
 
 /// Commands that are done time after time, and what comes of them.
 struct Row {
@@ -133,7 +136,11 @@ fn expected(alloc: Global, row: &Row) -> Result<String, AllocError> {
 }
 
 /// What came of it.
-fn told<R: Wait + Drop + Copy>(alloc: Global, rt: R, row: &Row) -> Result<String, Fail> {
+fn told<R: Threads + Wait + Clock + RandomSource + Sync + Send + Copy + Drop>(
+    alloc: Global,
+    rt: R,
+    row: &Row,
+) -> Result<String, Fail> {
     let task = Task::Commands(commands_of(alloc, row)?);
     run(alloc, rt, &task)
 }

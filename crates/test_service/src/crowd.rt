@@ -4,6 +4,7 @@ use reg_service::{Listening, NoGate, Size, serve_nodes};
 use std::alloc::{AllocError, Global};
 use std::io::{self, BufRead, BufReader, Read, Write};
 use std::net::{Net, SocketAddr, TcpListener, TcpStream};
+use std::random::RandomSource;
 use std::sync::Wait;
 use std::sync::atomic::{AtomicU64, Ordering};
 use std::thread::{self, Threads};
@@ -261,18 +262,28 @@ fn will_agree<R: Net<Stream = TcpStream> + Clock>(
 
 /// Sets the level at the first node and lets the clients do what they do. How often one didn't read
 /// what it had been told, and whether the nodes then come to say the same.
-fn use_nodes<R: Threads + Wait + Clock + Net<Listener = TcpListener, Stream = TcpStream> + Sync>(
-    alloc: Global,
-    rt: &R,
-    addresses: &[SocketAddr; 3],
-) -> io::Result<(u64, bool)> {
+fn use_nodes<
+    R: Threads
+        + Wait
+        + Clock
+        + Net<Listener = TcpListener, Stream = TcpStream>
+        + RandomSource
+        + Sync,
+>(alloc: Global, rt: &R, addresses: &[SocketAddr; 3]) -> io::Result<(u64, bool)> {
     ask(alloc, rt, addresses[0], NO_LEVEL)?;
     let wrong = visit_all(alloc, rt, addresses);
     Ok((wrong, will_agree(alloc, rt, addresses)?))
 }
 
 /// What `use_nodes` gives while three nodes serve.
-fn serve<R: Threads + Wait + Clock + Net<Listener = TcpListener, Stream = TcpStream> + Sync>(
+fn serve<
+    R: Threads
+        + Wait
+        + Clock
+        + Net<Listener = TcpListener, Stream = TcpStream>
+        + RandomSource
+        + Sync,
+>(
     alloc: Global,
     rt: &R,
     listeners: Vec<TcpListener>,

@@ -5,6 +5,7 @@ use reg_service::{Listening, Size, serve_nodes};
 use std::alloc::{AllocError, Global};
 use std::io;
 use std::net::{Net, SocketAddr, TcpListener, TcpStream};
+use std::random::RandomSource;
 use std::sync::Wait;
 use std::sync::atomic::{AtomicU64, Ordering};
 use std::test::Fail;
@@ -73,7 +74,14 @@ fn ask_both<R: Clock + Net<Stream = TcpStream>>(
 }
 
 /// What `ask_both` gives while nodes serve, each with so many workers.
-fn serve<R: Threads + Wait + Clock + Net<Listener = TcpListener, Stream = TcpStream> + Sync>(
+fn serve<
+    R: Threads
+        + Wait
+        + Clock
+        + Net<Listener = TcpListener, Stream = TcpStream>
+        + RandomSource
+        + Sync,
+>(
     alloc: Global,
     rt: &R,
     gate: &Holding<'_, R>,
@@ -104,7 +112,14 @@ fn serve<R: Threads + Wait + Clock + Net<Listener = TcpListener, Stream = TcpStr
 
 /// For how many turns the first call is held, and the bodies of its response and of the other one. It is
 /// asked at the first node, the other at the last one.
-fn hold<R: Threads + Wait + Clock + Net<Listener = TcpListener, Stream = TcpStream> + Sync>(
+fn hold<
+    R: Threads
+        + Wait
+        + Clock
+        + Net<Listener = TcpListener, Stream = TcpStream>
+        + RandomSource
+        + Sync,
+>(
     alloc: Global,
     rt: &R,
     nodes: u32,

@@ -6,6 +6,7 @@ use reg_service::{Listening, NoGate, Size, serve_log};
 use std::alloc::Global;
 use std::io;
 use std::net::{Net, SocketAddr, TcpListener, TcpStream};
+use std::random::RandomSource;
 use std::sync::Wait;
 use std::sync::atomic::{AtomicU64, Ordering};
 use std::test::Fail;
@@ -138,7 +139,14 @@ const WORKERS: u32 = 2;
 const LIMIT: u32 = 10;
 
 /// What `visit` gives while two nodes serve the log over the scripted keep.
-fn serve<R: Threads + Wait + Clock + Net<Listener = TcpListener, Stream = TcpStream> + Sync>(
+fn serve<
+    R: Threads
+        + Wait
+        + Clock
+        + Net<Listener = TcpListener, Stream = TcpStream>
+        + RandomSource
+        + Sync,
+>(
     alloc: Global,
     rt: &R,
     listeners: Vec<TcpListener>,

@@ -11,3 +11,5 @@ mod holding;
 mod kept;
 #[cfg(test)]
 mod rows;
+#[cfg(test)]
+mod slow;

@@ -4,6 +4,7 @@ use reg_service::{Listening, NoGate, Size, serve_nodes};
 use std::alloc::Global;
 use std::io::{self, Write};
 use std::net::{Net, Shutdown, SocketAddr, TcpListener, TcpStream};
+use std::random::RandomSource;
 use std::sync::Wait;
 use std::test::Fail;
 use std::thread::{self, Threads};
@@ -149,7 +150,14 @@ fn hear_all<R: Net<Stream = TcpStream>>(
 }
 
 /// What the clients read of a node whose only worker serves as many connections as there are rows.
-fn serve<R: Threads + Wait + Clock + Net<Listener = TcpListener, Stream = TcpStream> + Sync>(
+fn serve<
+    R: Threads
+        + Wait
+        + Clock
+        + Net<Listener = TcpListener, Stream = TcpStream>
+        + RandomSource
+        + Sync,
+>(
     alloc: Global,
     rt: &R,
     listeners: Vec<TcpListener>,

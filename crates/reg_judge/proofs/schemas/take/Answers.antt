@@ -1,4 +1,4 @@
-use Rattle.std.proofs.Common.{◌≡◌, true, sym, ◌∙◌, subst, ap, is_some}
+use Rattle.std.proofs.Common.{◌≡◌, true, Some, sym, ◌∙◌, subst, ap, is_some}
 use Rattle.std.specs.Prelude.{bytes_eq, string_bytes}
 use Rattle.std.proofs.lemmas.Slice.Eq.{bytes_eq-Decides}
 use Rattle.avro_schema.specs.Schema.{schema_of}
@@ -7,15 +7,15 @@ use Rattle.reg_judge.proofs.Keeping.{found, without}
 use Rattle.reg_judge.proofs.schemas.take.Goals as goal
 
 -- what was taken out is right, and its text is the one that was asked for
-taken : (c : goal.In-Some) → IsSchemaOf (c.in-Some.text, c.in-Some.schema) × (bytes_eq c.args.text.now (string_bytes c.in-Some.text) ≡ true)
-taken c = found IsSchemaOf _ c.args.kept.now.entries (c.in-Some.text, c.in-Some.schema) c.requires (sym c.pop_entry.ensures.value ∙ c.in-Some.is)
+taken : (c : goal.After-into_schema) → IsSchemaOf (c.in-Some.text, c.in-Some.stored) × (bytes_eq c.args.text.now (string_bytes c.in-Some.text) ≡ true)
+taken c = found IsSchemaOf _ c.args.kept.now.entries (c.in-Some.text, c.in-Some.stored) c.requires (sym c.pop_entry.ensures.value ∙ c.in-Some.is)
 
-same : (c : goal.In-Some) → c.args.text.now ≡ string_bytes c.in-Some.text
+same : (c : goal.After-into_schema) → c.args.text.now ≡ string_bytes c.in-Some.text
 same c = (bytes_eq-Decides c.args.text.now (string_bytes c.in-Some.text)).0 (taken c).1
 
 pub invariant_of-result : goal.invariant_of-result
 unfolding IsSchemaOf
-invariant_of-result c = (taken c).0
+invariant_of-result c = (taken c).0 ∙ sym (ap Some c.into_schema.ensures)
 
 pub returns-in-Some-clause-text : goal.returns-in-Some-clause-text
 returns-in-Some-clause-text c = sym (same c)

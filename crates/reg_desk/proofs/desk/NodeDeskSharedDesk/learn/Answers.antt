@@ -1,4 +1,4 @@
-use Rattle.std.proofs.Common.{◌≡◌, true, List, Option, None, Some, Bool, ℕ, refl, ap, sym, subst, ◌∙◌}
+use Rattle.std.proofs.Common.{◌≡◌, true, List, Option, Some, ap, subst, ◌∙◌}
 use mathlib.Core.List.{IsPrefix}
 use Rattle.reg_topic.specs.declared.published.Item.{Item}
 use Rattle.reg_node.specs.declared.take.Take.{Take}

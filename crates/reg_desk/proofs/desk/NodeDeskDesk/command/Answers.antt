@@ -1,0 +1,10 @@
+use Rattle.std.proofs.Common.{refl}
+use Rattle.reg_desk.proofs.Told.{commands}
+use Rattle.reg_desk.proofs.desk.NodeDeskDesk.command.Goals as goal
+
+pub returns : goal.returns
+returns g c =
+    let done = c.submit-reply.ensures in
+    let shown = c.catch_up-self-inside.ensures in
+    commands g.K.Keep.keeps g.N.FeedName.first _ c.args.self.now _ c.args.command.now c.submit-reply.result.reply c.submit-reply.result.seen c.of-ruling.new.view
+    c.self.view_is refl done.counted done.next c.of-ruling.ensures shown.shows shown.fresh

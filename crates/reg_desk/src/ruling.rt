@@ -1,0 +1,50 @@
+// A registration's judgement, which is made before the pen is taken.
+ghost use mathlib.Core.List.{IsPrefix};
+
+use reg_feed::{Copies, FeedName};
+use reg_fold::Registry;
+use reg_judge::Judge;
+use reg_leader::Command;
+use reg_levels::Judged;
+use reg_node::{Case, Take, Taken, View};
+
+/// A registration, and its judgement.
+#[derive(Drop)]
+pub(crate) struct Ruling {
+    pub(crate) case: Case,
+    pub(crate) judged: Judged,
+}
+
+impl Ruling {
+    /// The judgement of a registration against what the view shows. `None` for each other command, and
+    /// where there is none.
+    ///
+    /// Each registration is judged, also where its text is short: how long its check takes depends on what is
+    /// live. Under a level that looks at one version this costs half as much again as a decision alone, but
+    /// none of it while the pen is held.
+    pub(crate) fn of<M: FeedName<Take, Taken>, U: Copies<Take, Taken, M>>(
+        view: &mut View<M, U>,
+        judge: &mut Judge,
+        command: &Command,
+    ) -> Option<Ruling>
+        ensures { IsPrefix view.old view.new }
+    {
+        let case = view.case(command)?;
+        Ruling::on(case, judge)
+    }
+
+    /// The judgement of that case.
+    pub(crate) fn on(case: Case, judge: &mut Judge) -> Option<Ruling> {
+        let judged = case.judged(judge)?;
+        Some(Ruling { case, judged })
+    }
+}
+
+/// The case over the registry, where it isn't the same any more. Where memory is refused it passes for
+/// the same one.
+pub(crate) fn overtaken(case: Case, registry: &Registry) -> Option<Case> {
+    match case.stands(registry) {
+        Ok(false) => case.anew(registry).ok(),
+        Ok(true) | Err(_) => None,
+    }
+}
