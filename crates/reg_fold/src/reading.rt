@@ -79,11 +79,7 @@ fn is_marked(index: &Index, subject: &Text, version: u32, offset: u64) -> bool
 ///
 /// It is a copy, made after all that reading the schema took was given back: the first one stands in
 /// the midst of that, and would keep the memory round it from being used again.
-fn normal_of(
-    alloc: Global,
-    schema: &Option<Schema>,
-    text: &Text,
-) -> Result<Text, AllocError>
+fn normal_of(alloc: Global, schema: &Option<Schema>, text: &Text) -> Result<Text, AllocError>
     ensures { IfOk result (λ normal. normal ≡ option_map_or (λ meaning. meaning.normal_text) schema.now []) }
 {
     match schema {

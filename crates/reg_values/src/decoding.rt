@@ -16,8 +16,8 @@ use avro_schema::Schema;
 use base_text::Text;
 use reg_level_names::Level;
 use reg_records::{
-    Key, OFFSET_LIMIT, Record, Value, ValueText, compact_texts_read_back, has_number_at, has_text_at,
-    number_at, parse, text_at, values_have_lines,
+    Key, OFFSET_LIMIT, Record, Value, ValueText, compact_texts_read_back, has_number_at,
+    has_text_at, number_at, parse, text_at, values_have_lines,
 };
 use serde_json::Value as Json;
 use std::alloc::{AllocError, Global};
@@ -57,11 +57,7 @@ pub fn decode(alloc: Global, given: &Record) -> Result<Option<Decoded>, AllocErr
 }
 
 /// What a text says under that key; a NOOP's may be any text.
-fn decode_text(
-    alloc: Global,
-    key: &Key,
-    text: &ValueText,
-) -> Result<Option<Decoded>, AllocError>
+fn decode_text(alloc: Global, key: &Key, text: &ValueText) -> Result<Option<Decoded>, AllocError>
     ensures { IfOk result (λ found. found ≡ option_map with_schema (value_of_text key.now text.now)) }
 {
     if is_noop(key) {

@@ -4,9 +4,9 @@
 #[cfg(test)]
 mod lists;
 #[cfg(test)]
-mod namespaces;
-#[cfg(test)]
 mod named_lists;
+#[cfg(test)]
+mod namespaces;
 #[cfg(test)]
 mod resolution;
 #[cfg(test)]
