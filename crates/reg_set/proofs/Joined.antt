@@ -100,10 +100,10 @@ holds_of_all : (p : Key → Bool) (ks : List Key) → ((k : Key) → p k ≡ tru
 holds_of_all p [] h = refl
 holds_of_all p (k ∷ ks) h = both (h k) (holds_of_all p ks h)
 
--- whether a part has the last records, key by key
-module _ (m : RecordLists) (by_key : AreByKey m) (part whole : Records) (view : set_of m ≡ whole) where
+-- a test of the last records, key by key
+module _ (m : RecordLists) (by_key : AreByKey m) (test : Record → Bool) (whole : Records) (view : set_of m ≡ whole) where
   abbrev has_last : Key → Bool
-  has_last key = option_map_or (contains part) (last whole key) true
+  has_last key = option_map_or test (last whole key) true
 
   pub all-of_keys : list_all has_last (keys m) ≡ list_all (λ r. has_last r.key) (records_of whole)
   all-of_keys =
@@ -114,9 +114,9 @@ module _ (m : RecordLists) (by_key : AreByKey m) (part whole : Records) (view : 
       let key : r.key ≡ place.1 = of_that_key m by_key place.1 r (ap (list_any (is_same r)) (at_place m by_key place.0 place.1 place.2 place.3) ∙ place.4) in
       ap has_last key ∙ key_holds has_last m.entries place.0 place.1 place.2 h place.3))
       (λ h. holds_of_all has_last (keys m) (λ key.
-      elim (last whole key) as (λ o. last whole key ≡ o → option_map_or (contains part) o true ≡ true) [
+      elim (last whole key) as (λ o. last whole key ≡ o → option_map_or test o true ≡ true) [
         | None ↦ λ _. refl
         | Some r ↦ λ e.
             let fact = last-some whole key r e in
-            ap (λ o. option_map_or (contains part) o true) (sym e) ∙ ap has_last (sym fact.is_of_key) ∙ at_any (λ q. has_last q.key) r (records_of whole) h (sym (contains-records_of whole r) ∙ fact.is_in_set)
+            ap (λ o. option_map_or test o true) (sym e) ∙ ap has_last (sym fact.is_of_key) ∙ at_any (λ q. has_last q.key) r (records_of whole) h (sym (contains-records_of whole r) ∙ fact.is_in_set)
       ] refl))

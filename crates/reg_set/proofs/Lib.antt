@@ -3,6 +3,7 @@ mod ByKey
 mod Compactions
 mod Distinct
 mod Equality
+mod Gone
 mod InOrder
 mod Indexed
 mod Joined

@@ -6,12 +6,13 @@ ghost use Rattle.std.specs.List.{list_any, list_all};
 ghost use Rattle.std.specs.Option.{option_map_or};
 ghost use Rattle.std.specs.Ordering.{eq_by_cmp, is_lt};
 ghost use Rattle.reg_set.specs.ByKey.{AreByKey, AreSame, IsTakenIn, IsLastsOf, all_records, records_at};
+ghost use Rattle.reg_set.specs.Compaction.{is_kept_or_gone};
 ghost use Rattle.reg_set.specs.LastRecords.{last, last_records};
 ghost use Rattle.reg_set.specs.RecordOrder.{key_cmp, record_cmp};
 
 use crate::last_records::LastRecords;
 use crate::of_one_key::{leave_last, put_last, take_among};
-use crate::record_set::{RecordSet, Taken, has_last_of};
+use crate::record_set::{RecordSet, Taken, has_last_of, has_last_or_none};
 use reg_records::{Key, Record};
 use std::alloc::{AllocError, Global};
 use std::collections::BTreeMap;
@@ -154,4 +155,19 @@ pub(crate) fn has_lasts_of_keys(
     ensures { result ≡ list_all (λ key. option_map_or (set.contains part.now) (last whole.now key) true) (keys by_key.now) }
 {
     by_key.keys().all(|key| has_last_of(part, whole, key))
+}
+
+/// Whether the part has the last record of the whole set of each key that has records here, or the
+/// key is gone.
+pub(crate) fn are_kept_or_gone(
+    by_key: &BTreeMap<Key, Vec<Record>>,
+    floor: u64,
+    part: &RecordSet,
+    whole: &RecordSet,
+) -> bool
+    ensures { result ≡ list_all (λ key. option_map_or (is_kept_or_gone floor part.now) (last whole.now key) true) (keys by_key.now) }
+{
+    by_key
+        .keys()
+        .all(|key| has_last_or_none(floor, part, whole, key))
 }

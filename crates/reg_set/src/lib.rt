@@ -14,4 +14,4 @@ pub use laws::{
     compactions_compose, last_is_greatest, last_records_are_enough, last_records_of_unions,
     merging_joins_sets, records_are_ordered,
 };
-pub use record_set::{RecordSet, Taken, is_compaction_of};
+pub use record_set::{RecordSet, Taken, is_compaction_below, is_compaction_of};

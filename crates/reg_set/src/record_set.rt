@@ -4,13 +4,14 @@ ghost use Rattle.std.specs.FinSet as set;
 ghost use Rattle.std.specs.List.{list_all};
 ghost use Rattle.std.specs.Option.{option_map_or};
 ghost use Rattle.reg_records.specs.declared.key.Key.{Key};
-ghost use Rattle.reg_set.specs.Compaction.{IsCompactionOf};
+ghost use Rattle.reg_set.specs.Compaction.{IsCompactionBelow, IsCompactionOf, is_kept_or_gone};
 ghost use Rattle.reg_set.specs.Join.{later};
 ghost use Rattle.reg_set.specs.LastRecords.{last, last_records};
 ghost use Rattle.reg_set.specs.Records.{records_of, is_in_order};
 
 use crate::by_key::{
-    add_all, are_all_in, copy_all, has_lasts_of_keys, lasts_of, leave_lasts, take_in,
+    add_all, are_all_in, are_kept_or_gone, copy_all, has_lasts_of_keys, lasts_of, leave_lasts,
+    take_in,
 };
 use crate::last_records::LastRecords;
 use crate::order::is_among;
@@ -209,4 +210,39 @@ pub(crate) fn has_last_of(part: &RecordSet, whole: &RecordSet, key: &Key) -> boo
         Some(record) => part.contains(record),
         None => true,
     }
+}
+
+/// Whether `compaction` is a part of `whole` that has the last record of each key of `whole`, or no
+/// record of the key where that last one has no value and stands below `floor`. It takes no memory.
+pub fn is_compaction_below(floor: u64, compaction: &RecordSet, whole: &RecordSet) -> bool
+    ensures { IsTrue result ↔ IsCompactionBelow floor compaction.now whole.now }
+{
+    is_part_of(compaction, whole) && has_lasts_below(floor, compaction, whole)
+}
+
+fn has_lasts_below(floor: u64, part: &RecordSet, whole: &RecordSet) -> bool
+    ensures { result ≡ list_all (λ r. option_map_or (is_kept_or_gone floor part.now) (last whole.now r.key) true)
+        (records_of whole.now) }
+{
+    are_kept_or_gone(&whole.by_key, floor, part, whole)
+}
+
+/// Whether the part has the last record of the key in the whole set, if there is one, or the key is
+/// gone.
+pub(crate) fn has_last_or_none(floor: u64, part: &RecordSet, whole: &RecordSet, key: &Key) -> bool
+    ensures { result ≡ option_map_or (is_kept_or_gone floor part.now) (last whole.now key.now) true }
+{
+    match whole.last(key) {
+        Some(record) => is_kept_or_gone(floor, part, record),
+        None => true,
+    }
+}
+
+/// Whether the part has the record, or that one deletes its key below the floor, and the part has
+/// none of the key.
+fn is_kept_or_gone(floor: u64, part: &RecordSet, given: &Record) -> bool
+    ensures { result ≡ is_kept_or_gone floor part.now given.now }
+{
+    let is_below = given.value.is_none() && given.offset < floor;
+    part.contains(given) || is_below && part.last(&given.key).is_none()
 }

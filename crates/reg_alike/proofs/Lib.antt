@@ -1,0 +1,6 @@
+mod Answers
+mod InForce
+mod Nulls
+mod Retained
+mod Standing
+mod Steps

@@ -1,0 +1,3 @@
+pub mod AnswerAlike
+pub mod GiveAlike
+pub mod StepAlike

@@ -1,0 +1,68 @@
+// The laws of records that give the same. What is proved here costs nothing at run time: a function
+// that needs a law calls it.
+ghost use Rattle.reg_alike.specs.AnswerAlike.{AlikeAnswersAlike, CompactionsAnswerAlike};
+ghost use Rattle.reg_alike.specs.GiveAlike.{CompactionsGiveAlike, EachGivesAlikeItself, GivingAlikeComposes, GivingAlikeIsSymmetric, NullsGiveNothing, SameStandingGivesAlike};
+ghost use Rattle.reg_alike.specs.StepAlike.{CompactionsStepAlike, StepsAlike};
+
+use reg_kept::compactions_keep_what_stands;
+use reg_set::{last_is_greatest, last_records_are_enough, records_are_ordered};
+
+/// Giving the same is an equivalence.
+pub fn giving_alike_is_an_equivalence()
+    ensures itself { EachGivesAlikeItself }
+    ensures back { GivingAlikeIsSymmetric }
+    ensures across { GivingAlikeComposes }
+{}
+
+/// Last records without a value give nothing: those that have one give the same alone.
+pub fn nulls_give_nothing()
+    ensures { NullsGiveNothing }
+{
+    records_are_ordered();
+    last_is_greatest();
+    last_records_are_enough();
+}
+
+/// Two sets of records give the same where their last records that have a value are the same.
+pub fn what_stands_gives_all()
+    ensures { SameStandingGivesAlike }
+{
+    giving_alike_is_an_equivalence();
+    nulls_give_nothing();
+}
+
+/// A set gives the same as each of its compactions, at whatever floor.
+pub fn compactions_give_alike()
+    ensures { CompactionsGiveAlike }
+{
+    compactions_keep_what_stands();
+    what_stands_gives_all();
+}
+
+/// Sets of last records that give the same have the same answer to each query, to the byte.
+pub fn alike_answers_alike()
+    ensures { AlikeAnswersAlike }
+{}
+
+/// Each query has the same answer over a set and over each of its compactions, at whatever floor.
+pub fn compactions_answer_alike()
+    ensures { CompactionsAnswerAlike }
+{
+    compactions_give_alike();
+    alike_answers_alike();
+}
+
+/// Over sets of last records that give the same, each command has the same reply and writes the same
+/// batch.
+pub fn alike_steps_alike()
+    ensures { StepsAlike }
+{}
+
+/// Over a set and each of its compactions, at whatever floor, each command has the same reply and writes
+/// the same batch.
+pub fn compactions_step_alike()
+    ensures { CompactionsStepAlike }
+{
+    compactions_give_alike();
+    alike_steps_alike();
+}

@@ -1,0 +1,4 @@
+pub mod Compactions
+pub mod Drops
+pub mod Examples
+pub mod Sets

@@ -1,0 +1,4 @@
+pub mod Compaction
+pub mod Floored
+pub mod Floors
+pub mod Laws

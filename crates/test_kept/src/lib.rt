@@ -1,0 +1,5 @@
+//! Tests of sets with a floor, by public calls.
+#![tactic(auto)]
+
+#[cfg(test)]
+mod rows;
