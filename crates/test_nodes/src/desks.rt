@@ -115,7 +115,6 @@ pub(crate) fn run_desk<
 ) -> Result<String, Fail> {
     let Seats {
         pass,
-        other: _other,
         topic,
         readers,
     } = seats;

@@ -14,8 +14,6 @@ mod random;
 #[cfg(test)]
 mod runs;
 #[cfg(test)]
-mod slow;
-#[cfg(test)]
 mod source;
 #[cfg(test)]
 mod topics;

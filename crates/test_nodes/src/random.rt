@@ -265,7 +265,6 @@ pub(crate) fn run_draws<
     let mut third = third;
     let Seats {
         pass,
-        other: _other,
         topic,
         readers,
     } = seats;

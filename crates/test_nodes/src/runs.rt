@@ -7,8 +7,6 @@ use std::alloc::{AllocError, Global};
 use std::random::RandomSource;
 use std::sync::Wait;
 use std::test::Fail;
-use std::thread::Threads;
-use std::time::Clock;
 
 /// Commands that are done time after time, and what comes of them.
 struct Row {
@@ -136,7 +134,7 @@ fn expected(alloc: Global, row: &Row) -> Result<String, AllocError> {
 }
 
 /// What came of it.
-fn told<R: Threads + Wait + Clock + RandomSource + Sync + Send + Copy + Drop>(
+fn told<R: Wait + RandomSource + Drop + Copy>(
     alloc: Global,
     rt: R,
     row: &Row,

@@ -8,10 +8,8 @@ ghost use Rattle.reg_shared.specs.Held.{held_of};
 use crate::desks::run_desk;
 use crate::nodes::{Node, make_node};
 use crate::random::run_draws;
-use crate::slow::run_slow;
 use reg_feed::{Copies, FeedName, FeedReader, Stored, Unnamed};
 use reg_leader::Command;
-use reg_level_names::Level;
 use reg_node::{Take, Taken};
 use reg_pen::{MemoryAlone, Pass, Pen, open};
 use reg_records::{Device, Log, read_log};
@@ -22,14 +20,9 @@ use std::marker::Brand;
 use std::random::RandomSource;
 use std::sync::{Mutex, Wait};
 use std::test::Fail;
-use std::thread::Threads;
-use std::time::Clock;
 
 /// How many nodes there can be: three, and one that is made anew.
 const NODES: u32 = 4;
-
-/// How many desks there can be.
-const PASSES: u32 = 2;
 
 /// How many readers the topic has: one a node, and the one that the test reads by.
 const READERS: usize = 5;
@@ -39,9 +32,6 @@ const READERS: usize = 5;
 pub(crate) enum Task {
     /// These commands, at the desk of the first node.
     Commands(Vec<Command>),
-    /// A registration that takes long, at the desk of the second node, and commands at that of the first one,
-    /// at last one that sets that level of the subject.
-    Slow(Option<Level>),
     /// What is drawn from that number on, at all three nodes.
     Draws(u64),
 }
@@ -50,8 +40,6 @@ pub(crate) enum Task {
 #[derive(Drop)]
 pub(crate) struct Seats<N: FeedName<Item, Shared>, S: Copies<Item, Shared, N>> {
     pub(crate) pass: Pass<N>,
-    /// For a second desk.
-    pub(crate) other: Pass<N>,
     /// By it the test reads.
     pub(crate) topic: FeedReader<Item, Shared, N, S>,
     /// One a node that isn't made yet.
@@ -59,7 +47,7 @@ pub(crate) struct Seats<N: FeedName<Item, Shared>, S: Copies<Item, Shared, N>> {
 }
 
 /// Does the task in a topic of its own, and tells what came of it.
-pub(crate) fn run<R: Threads + Wait + Clock + RandomSource + Sync + Send + Copy + Drop>(
+pub(crate) fn run<R: Wait + RandomSource + Drop + Copy>(
     alloc: Global,
     rt: R,
     task: &Task,
@@ -70,13 +58,16 @@ pub(crate) fn run<R: Threads + Wait + Clock + RandomSource + Sync + Send + Copy 
 }
 
 /// Makes the topic, and goes on with the nodes.
-fn run_topic<
-    N: FeedName<Item, Shared> + Send + Sync,
-    R: Threads + Wait + Clock + RandomSource + Sync + Send + Copy + Drop,
->(alloc: Global, rt: R, list: Unnamed<Item>, base: &Log, task: &Task) -> Result<String, Fail>
+fn run_topic<N: FeedName<Item, Shared>, R: Wait + RandomSource + Drop + Copy>(
+    alloc: Global,
+    rt: R,
+    list: Unnamed<Item>,
+    base: &Log,
+    task: &Task,
+) -> Result<String, Fail>
     requires { (list.reached.book ≡ N.book) × (N.first ≡ held_of (topic_from base.now.records.items base.now.next)) }
 {
-    let opened = open::<N, MemoryAlone, R>(rt, alloc, list, base, MemoryAlone, PASSES, READERS)?;
+    let opened = open::<N, MemoryAlone, R>(rt, alloc, list, base, MemoryAlone, 1, READERS)?;
     let mut pen = opened.pen;
     let seats = seats_of(alloc, &mut pen, opened.passes)?;
     let pen = Mutex::new(pen);
@@ -91,7 +82,7 @@ fn run_topic<
     )
 }
 
-/// Both passes, and all readers.
+/// One of the passes, and all readers.
 fn seats_of<N: FeedName<Item, Shared>, S: Copies<Item, Shared, N>, R: Wait + Drop>(
     alloc: Global,
     pen: &mut Pen<N, S, MemoryAlone, R>,
@@ -104,10 +95,8 @@ fn seats_of<N: FeedName<Item, Shared>, S: Copies<Item, Shared, N>, R: Wait + Dro
     }
     let topic = pen.reader()?;
     let pass = passes.pop().ok_or(AllocError)?;
-    let other = passes.pop().ok_or(AllocError)?;
     Ok(Seats {
         pass,
-        other,
         topic,
         readers,
     })
@@ -115,10 +104,10 @@ fn seats_of<N: FeedName<Item, Shared>, S: Copies<Item, Shared, N>, R: Wait + Dro
 
 fn run_first<
     'x,
-    N: FeedName<Item, Shared> + Send + Sync,
-    S: Copies<Item, Shared, N> + Send + Sync,
-    L: FeedName<Take, Taken> + Send + Sync,
-    R: Threads + Wait + Clock + RandomSource + Sync + Send + Copy + Drop,
+    N: FeedName<Item, Shared>,
+    S: Copies<Item, Shared, N>,
+    L: FeedName<Take, Taken>,
+    R: Wait + RandomSource + Drop + Copy,
 >(
     alloc: Global,
     rt: R,
@@ -146,12 +135,12 @@ fn run_first<
 
 fn run_second<
     'x,
-    N: FeedName<Item, Shared> + Send + Sync,
-    S: Copies<Item, Shared, N> + Send + Sync,
-    L: FeedName<Take, Taken> + Send + Sync,
-    T: Copies<Take, Taken, L> + Send + Sync,
-    M: FeedName<Take, Taken> + Send + Sync,
-    R: Threads + Wait + Clock + RandomSource + Sync + Send + Copy + Drop,
+    N: FeedName<Item, Shared>,
+    S: Copies<Item, Shared, N>,
+    L: FeedName<Take, Taken>,
+    T: Copies<Take, Taken, L>,
+    M: FeedName<Take, Taken>,
+    R: Wait + RandomSource + Drop + Copy,
 >(
     alloc: Global,
     rt: R,
@@ -166,12 +155,8 @@ fn run_second<
 {
     let mut seats = seats;
     let second = make_node::<N, S, M, R>(alloc, rt, &mut seats.readers, list)?;
-    match task {
-        Task::Commands(commands) => {
-            return run_desk(alloc, rt, pen, seats, first, second, commands);
-        }
-        Task::Slow(last) => return run_slow(alloc, rt, pen, seats, first, second, *last),
-        Task::Draws(_) => {}
+    if let Task::Commands(commands) = task {
+        return run_desk(alloc, rt, pen, seats, first, second, commands);
     }
     run_third::<N, S, L, T, M, Stored<Take, Taken, M>, Brand, R>(
         alloc,
@@ -195,7 +180,7 @@ fn run_third<
     M: FeedName<Take, Taken>,
     U: Copies<Take, Taken, M>,
     O: FeedName<Take, Taken>,
-    R: Wait + Drop + Copy,
+    R: Wait + RandomSource + Drop + Copy,
 >(
     alloc: Global,
     rt: R,
@@ -212,7 +197,7 @@ fn run_third<
     let mut seats = seats;
     let third = make_node::<N, S, O, R>(alloc, rt, &mut seats.readers, list)?;
     let seed = match task {
-        Task::Commands(_) | Task::Slow(_) => 0,
+        Task::Commands(_) => 0,
         Task::Draws(seed) => *seed,
     };
     run_draws(alloc, rt, pen, seats, first, second, third, base, seed)
