@@ -7,8 +7,11 @@ pub mod Labelled
 pub mod Indexed
 pub mod Searching
 pub mod Sieving
+pub mod Owing
 pub mod SeenLaws
+pub mod Agendas
 pub mod Order
 pub mod BreadthFirst
+pub mod AnyClash
 pub mod Verdicts
 pub mod Examples

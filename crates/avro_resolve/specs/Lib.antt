@@ -12,3 +12,7 @@ pub mod Unions
 pub mod Sieve
 pub mod Seen
 pub mod Search
+pub mod Owed
+pub mod Agenda
+pub mod Numbered
+pub mod AnyClash

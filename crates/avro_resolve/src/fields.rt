@@ -51,6 +51,7 @@ pub fn field_at(fields: &[Field], k: usize) -> Option<&Field>
 
 /// The partner of a reader's field, with a place after which that of the reader's next field may
 /// be looked for. A field of its name is looked for near that place first.
+#[inline(always)]
 pub fn partner_near<'a>(
     writer: &'a NamedList<Field>,
     field: &Field,

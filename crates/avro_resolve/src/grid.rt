@@ -42,7 +42,7 @@ impl Grid {
     }
 }
 
-fn with_bit(bits: u64, k: usize) -> u64
+pub fn with_bit(bits: u64, k: usize) -> u64
     requires { k < 64 }
     ensures set { bit_at result k ≡ 1 }
     ensures others { (i : ℕ) → i ≢ k → bit_at result i ≡ bit_at bits i }
@@ -50,9 +50,26 @@ fn with_bit(bits: u64, k: usize) -> u64
     bits | (1 << k)
 }
 
-fn has_bit(bits: u64, k: usize) -> bool
+pub fn without_bit(bits: u64, k: usize) -> u64
+    requires { k < 64 }
+    ensures cleared { bit_at result k ≡ 0 }
+    ensures others { (i : ℕ) → i < 64 → i ≢ k → bit_at result i ≡ bit_at bits i }
+{
+    bits & !(1 << k)
+}
+
+pub fn has_bit(bits: u64, k: usize) -> bool
     requires { k < 64 }
     ensures { IsTrue result ↔ (bit_at bits k ≡ 1) }
 {
     bits & (1 << k) != 0
+}
+
+/// The place of the lowest bit that is set.
+pub fn lowest_bit(bits: u64) -> usize
+    requires { bits ≢ 0 }
+    ensures within { result < 64 }
+    ensures set { bit_at bits result ≡ 1 }
+{
+    bits.trailing_zeros() as usize
 }

@@ -2,6 +2,8 @@
 //! the two are compatible, and where they aren't, a shortest trail to a clash.
 #![tactic(auto)]
 
+mod agenda;
+mod any_clash;
 mod fields;
 mod firsts;
 mod follow;
@@ -10,7 +12,9 @@ mod labels;
 mod laws;
 mod matching;
 mod names;
+mod numbers;
 mod obligations;
+mod owed;
 mod resolving;
 mod search;
 mod seen;

@@ -5,12 +5,21 @@ ghost use Rattle.avro_resolve.specs.Search.{AgreesWith};
 ghost use Rattle.avro_resolve.specs.Sieve.{AreSieves};
 ghost use Rattle.avro_resolve.specs.Unions.{AreIndexes};
 
+use crate::any_clash::pairs_without_clash;
 use crate::search::Search;
 use crate::sieve::Sieves;
 use crate::trail::Trail;
 use crate::unions::Unions;
 use avro_schema::Schema;
 use std::alloc::{AllocError, Global};
+
+/// After how many pairs it is asked whether any clash can be reached, before the search for the
+/// shortest trail to one goes on.
+const MANY_PAIRS: usize = 65_536;
+
+/// The part of all pairs that has to be reached before: by then the search has taken about as much
+/// memory as the question takes.
+const PART: usize = 256;
 
 /// Whether a reader's schema and a writer's are compatible.
 #[derive(Debug, Drop)]
@@ -33,7 +42,8 @@ impl Clone for Verdict {
     }
 }
 
-/// A verdict, and how many pairs of types were looked up for it.
+/// A verdict, and how many pairs of types it needed: all that can be reached, or those that are
+/// looked up until the clash is met that is shown.
 #[derive(Debug, Drop)]
 pub struct Counted {
     pub verdict: Verdict,
@@ -53,7 +63,7 @@ pub fn resolve(alloc: Global, r: &Schema, w: &Schema) -> Result<Verdict, AllocEr
     Ok(resolve_counted(alloc, r, w)?.verdict)
 }
 
-/// The same, with the number of pairs of types that were looked up: at most `r.node_count()` times
+/// The same, with the number of pairs of types that it needed: at most `r.node_count()` times
 /// `w.node_count()`.
 pub fn resolve_counted(alloc: Global, r: &Schema, w: &Schema) -> Result<Counted, AllocError>
     ensures verdict { IfOk result (λ c. IsVerdict r.now.nodes w.now.nodes c.verdict) }
@@ -84,8 +94,18 @@ fn resolve_by<'a>(
     ensures pairs { IfOk result (λ c. c.pairs ≤ length r.now.nodes * length w.now.nodes) }
 {
     search.reach_roots(r, w)?;
+    let mut patience = patience_with(r, w);
     let mut head = 0;
     'heads: while head < search.entries.len() {
+        if search.entries.len() > patience {
+            patience = usize::MAX;
+            if let Some(pairs) = pairs_without_clash(alloc, r, w, unions, sieves)? {
+                return Ok(Counted {
+                    verdict: Verdict::Compatible,
+                    pairs,
+                });
+            }
+        }
         let pair = search.entries[head].pair;
         if let Some(cause) = search.look_up(r, w, head, pair, unions, sieves)? {
             let trail = search.trail_to(alloc, r, w, head, cause, unions, sieves)?;
@@ -100,4 +120,11 @@ fn resolve_by<'a>(
         verdict: Verdict::Compatible,
         pairs: head,
     })
+}
+
+/// After how many pairs it is worth while to ask whether any clash can be reached: the search for
+/// the shortest trail takes far more memory for a pair than that question does.
+fn patience_with(r: &Schema, w: &Schema) -> usize {
+    let pairs = r.node_count().saturating_mul(w.node_count());
+    MANY_PAIRS.max(pairs / PART)
 }

@@ -87,6 +87,7 @@ pub enum Row<'a> {
 }
 
 /// Whether a pair is of two primitives that match. Most pairs are, and owe nothing.
+#[inline(always)]
 pub fn are_matching_primitives(r: &Schema, w: &Schema, pair: Pair) -> bool
     requires reader { pair.reader.index < length r.now.nodes }
     requires writer { pair.writer.index < length w.now.nodes }

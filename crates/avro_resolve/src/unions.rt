@@ -64,6 +64,7 @@ impl<'a> Unions<'a> {
 
     /// Makes an index of the reader's type of that id, if it is a long union that has none, and not
     /// too long for what is left.
+    #[inline(always)]
     pub fn look_at(&mut self, r: &'a Schema, id: NodeId) -> Result<(), AllocError>
         requires within { id.index < length r.now.nodes }
         requires made { spec.AreIndexes r.now.nodes self.old.of }

@@ -1,4 +1,5 @@
 // Pairs of schemas, each with the verdict that the resolution table gives.
+mod grid;
 mod plain;
 mod random;
 mod resolve_fields;
@@ -7,6 +8,7 @@ mod unions;
 use avro_resolve::{ClashKind, Hop, Trail, Verdict, matches, resolve, resolve_counted};
 use avro_schema::{NodeId, Schema};
 use base_text::{Listed, Text};
+use grid::grid_text;
 use plain::plain_verdict;
 use random::Random;
 use std::alloc::{AllocError, Global};
@@ -20,7 +22,16 @@ fn resolved(alloc: Global, r: &Schema, w: &Schema) -> Result<Verdict, AllocError
 
 /// The verdict as a text. A trail that is shown is one.
 fn verdict(alloc: Global, r: &Schema, w: &Schema) -> Result<String, AllocError> {
-    match &resolved(alloc, r, w)? {
+    verdict_text(alloc, r, w, &resolved(alloc, r, w)?)
+}
+
+fn verdict_text(
+    alloc: Global,
+    r: &Schema,
+    w: &Schema,
+    verdict: &Verdict,
+) -> Result<String, AllocError> {
+    match verdict {
         Verdict::Compatible => String::from_str(alloc, COMPATIBLE),
         Verdict::Clash(trail) => shown(alloc, trail, trail.check(r, w)),
     }
@@ -638,4 +649,60 @@ fn resolves_unions_as_the_plain_search(rt: HostRuntime) {
             assert!(rt; is_alike == Ok(true), "pair {pair} of {many} types");
         }
     }
+}
+
+/// How many records each schema of a grid has. All of them meet: more pairs than are looked up
+/// before it is asked whether any clash can be reached.
+const SIDE: usize = 257;
+
+/// A field of the reader's first record, which only the writer's last has too.
+const READ_FIELD: &str = r#",{"name":"c","type":"int","default":0}"#;
+
+const INT_FIELD: &str = r#",{"name":"c","type":"int"}"#;
+
+const STRING_FIELD: &str = r#",{"name":"c","type":"string"}"#;
+
+/// Whether two such schemas have that verdict, after so many pairs.
+fn is_grid_verdict(
+    alloc: Global,
+    mark: &str,
+    want: &str,
+    pairs: usize,
+) -> Result<bool, AllocError> {
+    let reader = grid_text(alloc, SIDE, "a", "b", 0, READ_FIELD)?;
+    let writer = grid_text(alloc, SIDE, "b", "a", SIDE - 1, mark)?;
+    let r = Schema::read_if_any(alloc, reader.as_str())?;
+    let w = Schema::read_if_any(alloc, writer.as_str())?;
+    match (&r, &w) {
+        (Some(r), Some(w)) => {
+            let found = resolve_counted(alloc, r, w)?;
+            let text = verdict_text(alloc, r, w, &found.verdict)?;
+            Ok(text.as_str() == want && found.pairs == pairs)
+        }
+        _ => Ok(false),
+    }
+}
+
+/// The way from the last record of both to the reader's first and the writer's last.
+fn grid_way(alloc: Global) -> Result<String, AllocError> {
+    let mut text = format!(in alloc; "/field:f{}", SIDE - 1)?;
+    for _ in 1..SIDE {
+        text.push_str("/field:a")?;
+    }
+    text.push_str("/field:c: TYPE_MISMATCH")?;
+    Ok(text)
+}
+
+fn are_grids_resolved(alloc: Global) -> Result<bool, AllocError> {
+    let way = grid_way(alloc)?;
+    let all = SIDE * SIDE + 2;
+    Ok(
+        is_grid_verdict(alloc, INT_FIELD, COMPATIBLE, all)?
+            && is_grid_verdict(alloc, STRING_FIELD, way.as_str(), all)?,
+    )
+}
+
+#[test]
+fn resolves_where_all_types_meet(rt: HostRuntime) {
+    assert!(rt; are_grids_resolved(rt.alloc()) == Ok(true));
 }

@@ -6,7 +6,9 @@ use Rattle.avro_resolve.specs.Table.{outcome, obligations}
 use Rattle.avro_resolve.proofs.Rows.{owed_in}
 use Rattle.avro_resolve.proofs.BreadthFirst.{leads_back, searched_first, searched_within, searched_clash, searched_next, searched_few, searched_all, length-expanded}
 use Rattle.avro_resolve.proofs.Searching.{clashes_when, owes_when}
+use Rattle.avro_resolve.specs.Sieve.{AreSieves}
 use Rattle.avro_resolve.proofs.resolving.resolve_by.Goals as goal
+use Rattle.avro_resolve.proofs.resolving.resolve_by.Goals.{then-len-patience+in_ok-pairs+in_default, else-len-patience}
 
 pub heads-init : goal.heads-init
 heads-init c =
@@ -29,19 +31,19 @@ trail_to-requires-clause-within c =
 
 pub trail_to-requires-clause-back : goal.trail_to-requires-clause-back
 trail_to-requires-clause-back c =
-    let clash = clashes_when (outcome c.args.r.now.nodes c.args.w.now.nodes c.index.result.now.pair) (clash_of_cause c.in-Some.cause) (ap (option_map clash_of_cause) (sym c.in-Some.is) ∙ c.in_ok-cause.ensures.clash) in
+    let clash = clashes_when (outcome c.args.r.now.nodes c.args.w.now.nodes c.index.result.now.pair) (clash_of_cause c.in-Some-2.cause) (ap (option_map clash_of_cause) (sym c.in-Some-2.is) ∙ c.in_ok-cause.ensures.clash) in
     let same = c.in_ok-cause.ensures.entries ∙ ap (λ o. expanded c.heads.head 0 (owed_in o) c.heads.search.entries.items) clash in
     subst (LeadsBack c.args.r.now.nodes c.args.w.now.nodes) (sym same) (leads_back _ _ _ _ c.heads.invariant.1)
 
-pub returns-in-Some-clause-verdict : goal.returns-in-Some-clause-verdict
-returns-in-Some-clause-verdict c =
+pub returns-in-Some-2-clause-verdict : goal.returns-in-Some-2-clause-verdict
+returns-in-Some-2-clause-verdict c =
     let at = slice_get_read c.heads.search.entries.items _ c.heads.head c.index.result.now c.heads.search.entries.ok.0 (omega (arith, c.heads-test.true, c.len.ensures)) c.index.ensures in
-    let clash = clashes_when (outcome c.args.r.now.nodes c.args.w.now.nodes c.index.result.now.pair) (clash_of_cause c.in-Some.cause) (ap (option_map clash_of_cause) (sym c.in-Some.is) ∙ c.in_ok-cause.ensures.clash) in
+    let clash = clashes_when (outcome c.args.r.now.nodes c.args.w.now.nodes c.index.result.now.pair) (clash_of_cause c.in-Some-2.cause) (ap (option_map clash_of_cause) (sym c.in-Some-2.is) ∙ c.in_ok-cause.ensures.clash) in
     let same = c.in_ok-cause.ensures.entries ∙ ap (λ o. expanded c.heads.head 0 (owed_in o) c.heads.search.entries.items) clash in
     searched_clash _ _ _ _ c.heads.invariant.1 c.index.result.now c.in_ok-trail.trail.kind c.in_ok-trail.trail.hops at (clash ∙ ap Err (sym c.in_ok-trail.ensures.kind)) (subst (λ es. IsWayBack c.args.r.now.nodes c.args.w.now.nodes es c.heads.head (reverse c.in_ok-trail.trail.hops)) same c.in_ok-trail.ensures.hops)
 
-pub returns-in-Some-clause-pairs : goal.returns-in-Some-clause-pairs
-returns-in-Some-clause-pairs c =
+pub returns-in-Some-2-clause-pairs : goal.returns-in-Some-2-clause-pairs
+returns-in-Some-2-clause-pairs c =
     omega (arith, c.heads-test.true, c.len.ensures, c.heads.search.entries.ok.0, searched_few _ _ _ _ c.heads.invariant.1)
 
 pub heads-smaller : goal.heads-smaller
@@ -52,9 +54,9 @@ pub heads-preserved : goal.heads-preserved
 heads-preserved c =
     let at = slice_get_read c.heads.search.entries.items _ c.heads.head c.index.result.now c.heads.search.entries.ok.0 (omega (arith, c.heads-test.true, c.len.ensures)) c.index.ensures in
     let owed = obligations c.args.r.now.nodes c.args.w.now.nodes c.index.result.now.pair in
-    let next = searched_next _ _ _ _ c.heads.invariant.1 c.requires.reader c.requires.writer c.index.result.now owed at (owes_when (outcome c.args.r.now.nodes c.args.w.now.nodes c.index.result.now.pair) (ap (option_map clash_of_cause) (sym c.in_default.is) ∙ c.in_ok-cause.ensures.clash)) in
+    let next = searched_next _ _ _ _ c.heads.invariant.1 c.requires.reader c.requires.writer c.index.result.now owed at (owes_when (outcome c.args.r.now.nodes c.args.w.now.nodes c.index.result.now.pair) (ap (option_map clash_of_cause) (sym c.in_default-2.is) ∙ c.in_ok-cause.ensures.clash)) in
     let entries = c.in_ok-cause.ensures.entries in
-    (c.in_ok-cause.ensures.agrees c.in_default.is, rw entries next, omega (arith, c.heads-test.true, c.len.ensures, c.heads.search.entries.ok.0, c.look_up.new.self.entries.ok.0, ap length entries, length-expanded c.heads.head 0 owed c.heads.search.entries.items), c.in_ok-cause.ensures.unions, c.in_ok-cause.ensures.sieves)
+    (c.in_ok-cause.ensures.agrees c.in_default-2.is, rw entries next, omega (arith, c.heads-test.true, c.len.ensures, c.heads.search.entries.ok.0, c.look_up.new.self.entries.ok.0, ap length entries, length-expanded c.heads.head 0 owed c.heads.search.entries.items), c.in_ok-cause.ensures.unions, c.in_ok-cause.ensures.sieves)
 
 pub returns-clause-verdict : goal.returns-clause-verdict
 returns-clause-verdict c =
@@ -64,3 +66,10 @@ returns-clause-verdict c =
 pub returns-clause-pairs : goal.returns-clause-pairs
 returns-clause-pairs c =
     omega (arith, c.heads.search.entries.ok.0, c.heads.invariant.2, searched_few _ _ _ _ c.heads.invariant.1)
+
+pub look_up-requires-clause-sieves : goal.look_up-requires-clause-sieves
+look_up-requires-clause-sieves c =
+    elim c.if-len-patience.branch [
+      | then-len-patience+in_ok-pairs+in_default w ↦ subst (λ s. AreSieves c.args.r.now.nodes s.of) (sym w.sieves-is) w.in_ok-pairs.ensures.sieves
+      | else-len-patience w ↦ subst (λ s. AreSieves c.args.r.now.nodes s.of) (sym w.sieves-is) c.heads.invariant.4
+    ]

@@ -1,0 +1,128 @@
+// Whether any clash can be reached, by a search that keeps but two bits of a pair: no trail, and no order.
+ghost use Rattle.std.specs.Prelude.{◌≡◌, ◌<◌, ◌≤◌, ℕ, ◌==◌, ◌*◌, ◌^◌, true, Some, All, length, IfOk, IfSome, OnOk};
+ghost use Rattle.avro_resolve.specs.Agenda.{is_met, waits, IsOrderly};
+ghost use Rattle.avro_resolve.specs.AnyClash.{HaveMet};
+ghost use Rattle.avro_resolve.specs.Numbered.{number_of as the_number, IsPairOf};
+ghost use Rattle.avro_resolve.specs.Sieve.{AreSieves};
+ghost use Rattle.avro_resolve.specs.Trails.{AreCompatible};
+ghost use Rattle.avro_resolve.specs.Unions.{AreIndexes};
+ghost use Rattle.avro_schema.specs.Sound.{IsSound};
+
+use crate::agenda::Agenda;
+use crate::obligations::Pair;
+use crate::owed::look_up;
+use crate::sieve::Sieves;
+use crate::unions::Unions;
+use avro_schema::{NodeId, Schema};
+use std::alloc::{AllocError, Global};
+
+/// How many pairs can be reached, if none of them clashes. Schemas with more pairs than there are
+/// numbers aren't searched.
+#[cold]
+#[inline(never)]
+pub fn pairs_without_clash<'a>(
+    alloc: Global,
+    r: &'a Schema,
+    w: &'a Schema,
+    unions: &mut Unions<'a>,
+    sieves: &mut Sieves<'a>,
+) -> Result<Option<usize>, AllocError>
+    requires reader { IsSound r.now.nodes }
+    requires writer { IsSound w.now.nodes }
+    requires unions { AreIndexes r.now.nodes unions.old.of }
+    requires sieves { AreSieves r.now.nodes sieves.old.of }
+    ensures compatible { IfOk result (λ found. IfSome found (λ pairs. AreCompatible r.now.nodes w.now.nodes)) }
+    ensures pairs { IfOk result (λ found. IfSome found (λ pairs. pairs ≤ length r.now.nodes * length w.now.nodes)) }
+    ensures unions { OnOk result (AreIndexes r.now.nodes unions.new.of) }
+    ensures sieves { OnOk result (AreSieves r.now.nodes sieves.new.of) }
+{
+    match r.node_count().checked_mul(w.node_count()) {
+        Some(many) => {
+            let mut agenda = Agenda::none(alloc, many)?;
+            agenda.meet(0)?;
+            look_up_all(alloc, r, w, &mut agenda, unions, sieves)
+        }
+        None => Ok(None),
+    }
+}
+
+/// Looks up all pairs that can be reached from the roots, by their numbers. Gives how many they are
+/// if none of them clashes.
+fn look_up_all<'a>(
+    alloc: Global,
+    r: &'a Schema,
+    w: &'a Schema,
+    agenda: &mut Agenda,
+    unions: &mut Unions<'a>,
+    sieves: &mut Sieves<'a>,
+) -> Result<Option<usize>, AllocError>
+    requires reader { IsSound r.now.nodes }
+    requires writer { IsSound w.now.nodes }
+    requires small { length r.now.nodes * length w.now.nodes < 2 ^ 64 }
+    requires room { length r.now.nodes * length w.now.nodes < 64 * length agenda.old.met.words.items }
+    requires orderly { IsOrderly agenda.old }
+    requires roots { (k : ℕ) → is_met agenda.old k ≡ (0 == k) }
+    requires roots_wait { (k : ℕ) → waits agenda.old k ≡ (0 == k) }
+    requires unions { AreIndexes r.now.nodes unions.old.of }
+    requires sieves { AreSieves r.now.nodes sieves.old.of }
+    ensures compatible { IfOk result (λ found. IfSome found (λ pairs. AreCompatible r.now.nodes w.now.nodes)) }
+    ensures pairs { IfOk result (λ found. IfSome found (λ pairs. pairs ≤ length r.now.nodes * length w.now.nodes)) }
+    ensures unions { OnOk result (AreIndexes r.now.nodes unions.new.of) }
+    ensures sieves { OnOk result (AreSieves r.now.nodes sieves.new.of) }
+{
+    let mut owed = Vec::new(alloc);
+    let mut pairs = 0;
+    'pairs: while let Some(number) = agenda.next() {
+        let pair = pair_of(r, w, number);
+        let cause = look_up(r, w, pair, unions, sieves, &mut owed)?;
+        if cause.is_some() {
+            return Ok(None);
+        }
+        meet_all(agenda, r, w, owed.as_slice())?;
+        pairs += 1;
+    }
+    Ok(Some(pairs))
+}
+
+/// Meets pairs, by their numbers.
+fn meet_all(agenda: &mut Agenda, r: &Schema, w: &Schema, owed: &[Pair]) -> Result<(), AllocError>
+    requires within { All (IsPairOf r.now.nodes w.now.nodes) owed.now }
+    requires small { length r.now.nodes * length w.now.nodes < 2 ^ 64 }
+    requires room { length r.now.nodes * length w.now.nodes < 64 * length agenda.old.met.words.items }
+    requires orderly { IsOrderly agenda.old }
+    ensures met { OnOk result (HaveMet r.now.nodes w.now.nodes agenda.old owed.now agenda.new) }
+    ensures room { OnOk result (length agenda.new.met.words.items ≡ length agenda.old.met.words.items) }
+    ensures orderly { OnOk result (IsOrderly agenda.new) }
+{
+    for pair in owed {
+        agenda.meet(number_of(r, w, *pair))?;
+    }
+    Ok(())
+}
+
+/// A pair's number: the pairs with the reader's first type come first, then those with its second.
+fn number_of(_r: &Schema, w: &Schema, pair: Pair) -> usize
+    requires within { IsPairOf _r.now.nodes w.now.nodes pair }
+    requires small { length _r.now.nodes * length w.now.nodes < 2 ^ 64 }
+    ensures number { result ≡ the_number w.now.nodes pair }
+    ensures below { result < length _r.now.nodes * length w.now.nodes }
+{
+    pair.reader.index * w.node_count() + pair.writer.index
+}
+
+/// The pair of that number.
+fn pair_of(_r: &Schema, w: &Schema, number: usize) -> Pair
+    requires { number < length _r.now.nodes * length w.now.nodes }
+    ensures within { IsPairOf _r.now.nodes w.now.nodes result }
+    ensures number { the_number w.now.nodes result ≡ number }
+{
+    let writers = w.node_count();
+    Pair {
+        reader: NodeId {
+            index: number / writers,
+        },
+        writer: NodeId {
+            index: number % writers,
+        },
+    }
+}
