@@ -1,9 +1,10 @@
 // What a check of a level says.
-ghost use Rattle.std.specs.Prelude.{◌≡◌, Some, None, true, false, IfOk};
+ghost use Rattle.std.specs.Prelude.{◌≡◌, Some, None, true, false, IfOk, option_map};
 ghost use Rattle.reg_levels.specs.LevelVerdict.{passed};
 ghost use Rattle.reg_levels.specs.Message as message;
 
 use crate::direction::Direction;
+use crate::message::ClashMessage;
 use avro_resolve::Trail;
 use base_text::Text;
 use std::alloc::{AllocError, Global};
@@ -25,11 +26,23 @@ impl LevelVerdict {
     pub fn message(&self, alloc: Global) -> Result<Option<Text>, AllocError>
         ensures { IfOk result (λ m. m ≡ message.message_of self.now) }
     {
+        match self.clash_message() {
+            Some(clash) => Ok(Some(Text::of_string(format!(in alloc; "{clash}")?)?)),
+            None => Ok(None),
+        }
+    }
+
+    /// The same, to be written where it goes. Takes no memory.
+    pub fn clash_message(&self) -> Option<ClashMessage<'_>>
+        ensures { option_map message.text_of result ≡ message.message_of self.now }
+    {
         match (self.version, self.direction, &self.trail) {
-            (Some(version), Some(direction), Some(trail)) => {
-                Ok(Some(clash_message(alloc, version, direction, trail)?))
-            }
-            _ => Ok(None),
+            (Some(version), Some(direction), Some(trail)) => Some(ClashMessage {
+                version,
+                direction,
+                trail,
+            }),
+            _ => None,
         }
     }
 
@@ -73,18 +86,4 @@ impl Clone for LevelVerdict {
             trail,
         })
     }
-}
-
-fn clash_message(
-    alloc: Global,
-    version: u32,
-    direction: Direction,
-    trail: &Trail,
-) -> Result<Text, AllocError>
-    ensures { IfOk result (λ text. text ≡ message.clash_message version direction trail.now) }
-{
-    let kind = &trail.kind;
-    let text = format!(in alloc; "version {version}, {direction}, at {trail}: {kind}")?;
-    let message = Text::of_string(text)?;
-    Ok(message)
 }

@@ -1,9 +1,9 @@
 -- The texts of objects whose members have literal names.
-use Rattle.std.proofs.Common.{◌≡◌, ◌++◌, ◌∙◌, ℕ, List, Some, None, true, codes, decimal, refl, ap, append_assoc}
-use Rattle.json.specs.Print.{escape_byte, quoted}
-use Rattle.serde_json.specs.Written.{compact_text, members_text}
+use Rattle.std.proofs.Common.{◌≡◌, ◌++◌, ◌∙◌, ℕ, List, Bool, true, false, Some, codes, decimal, if◌then◌else◌, ap, append_assoc}
+use Rattle.json.specs.Print.{escape, escape_byte, quoted}
+use Rattle.serde_json.specs.Written.{compact_text}
 use Rattle.reg_entries.specs.declared.entry.Entry.{Entry}
-use Rattle.reg_lookup.specs.Bodies.{entry_body, messages_member, place_data}
+use Rattle.reg_lookup.specs.Bodies.{check_body, entry_body, place_data}
 
 pub compact_text-place_data : (e : Entry) (subject : List ℕ) → subject ≡ quoted e.subject
     → codes "{\"subject\":" ++ (subject ++ (codes ",\"version\":" ++ (decimal e.version ++ codes "}"))) ≡ compact_text (place_data e)
@@ -23,11 +23,9 @@ pub entry_text-written : (e : Entry) (subject schema : List ℕ) → subject ≡
 entry_text-written e subject schema h k =
     ap (λ s. entry_text s e.version e.id schema) h ∙ ap (entry_text (quoted e.subject) e.version e.id) k ∙ entry_text-quoted e
 
-pub messages_member-none : codes ",\"messages\":[]" ++ codes "}" ≡ members_text true (messages_member true None)
+-- a clash's message, which is escaped already
+pub check_body-told : (ok : Bool) (message : List ℕ)
+    → ((codes "{\"is_compatible\":" ++ ((if ok then codes "true" else codes "false") ++ codes ",\"messages\":[\"")) ++ escape message) ++ codes "\"]}" ≡ check_body true ok (Some message)
 unfolding escape_byte
-messages_member-none = refl
-
-pub messages_member-one : (message written : List ℕ) → written ≡ quoted message
-    → (codes ",\"messages\":[" ++ (written ++ codes "]")) ++ codes "}" ≡ members_text true (messages_member true (Some message))
-unfolding escape_byte
-messages_member-one message written h = rw h (simp append_assoc)
+check_body-told true message = simp append_assoc
+check_body-told false message = simp append_assoc

@@ -1,11 +1,14 @@
 // The bodies of answers: JSON without spaces (RFC 8259), members in the order of the formats.
-ghost use Rattle.std.specs.Prelude.{◌≡◌, ◌++◌, IfOk, codes, map, string_bytes, true};
+ghost use Rattle.std.specs.Prelude.{◌≡◌, ◌++◌, IfOk, map, option_map, string_bytes};
+ghost use Rattle.json.specs.Print.{escape};
 ghost use Rattle.serde_json.specs.Data.{string};
-ghost use Rattle.serde_json.specs.Written.{members_text};
+ghost use Rattle.reg_levels.specs.Message.{text_of};
 ghost use Rattle.reg_lookup.specs.Bodies as spec;
 
+use crate::in_string::InString;
 use base_text::Text;
 use reg_fold::{Entry, Refusal};
+use reg_levels::ClashMessage;
 use reg_records::quoted;
 use std::alloc::{AllocError, Global};
 use std::fmt::Write;
@@ -89,37 +92,36 @@ pub(crate) fn refusal_body(alloc: Global, refusal: &Refusal) -> Result<Text, All
     Text::of_string(format!(in alloc; "{{\"error_code\":{code},\"message\":{message}}}")?)
 }
 
-/// Whether a level is met, and where messages are asked for that of the clash, if there is one.
+/// Whether a level is met, and where messages are asked for that of the clash, if there is one. The
+/// message is written once, where it stands: it may be long.
 pub(crate) fn check_body(
     alloc: Global,
     verbose: bool,
     ok: bool,
-    message: &Option<Text>,
+    clash: Option<ClashMessage<'_>>,
 ) -> Result<Text, AllocError>
-    ensures { IfOk result (λ body. body ≡ spec.check_body verbose ok message.now) }
-{
-    let messages = messages_member(alloc, verbose, message)?;
-    Text::of_string(format!(in alloc; "{{\"is_compatible\":{ok}{messages}}}")?)
-}
-
-/// The member of the messages, behind its comma, where they were asked for; else nothing.
-fn messages_member(
-    alloc: Global,
-    verbose: bool,
-    message: &Option<Text>,
-) -> Result<String, AllocError>
-    ensures { IfOk result (λ text. string_bytes text ++ codes "}"
-        ≡ members_text true (spec.messages_member verbose message.now)) }
+    ensures { IfOk result (λ body. body ≡ spec.check_body verbose ok (option_map text_of clash.entry)) }
 {
     if !verbose {
-        return Ok(String::new(alloc));
+        return Text::of_string(format!(in alloc; "{{\"is_compatible\":{ok}}}")?);
     }
-    match message {
-        None => String::from_str(alloc, ",\"messages\":[]"),
-        Some(message) => {
-            let message = quoted(alloc, message.as_str())?;
-            format!(in alloc; ",\"messages\":[{message}]")
-        }
+    let Some(clash) = clash else {
+        return Text::of_string(format!(in alloc; "{{\"is_compatible\":{ok},\"messages\":[]}}")?);
+    };
+    let front = format!(in alloc; "{{\"is_compatible\":{ok},\"messages\":[\"")?;
+    let mut body = with_message(alloc, front, clash)?;
+    body.push_str("\"]}")?;
+    Text::of_string(body)
+}
+
+/// A text that ends inside of a JSON string, with the message of a clash behind it.
+fn with_message(alloc: Global, front: String, clash: ClashMessage<'_>) -> Result<String, AllocError>
+    ensures { IfOk result (λ text. string_bytes text ≡ string_bytes front ++ escape (text_of clash.entry)) }
+{
+    let mut body = InString::of(alloc, front);
+    match write!(body, "{clash}") {
+        Ok(()) => Ok(body.text),
+        Err(_) => Err(AllocError),
     }
 }
 

@@ -224,10 +224,5 @@ fn lend_texts<'a>(alloc: Global, olds: &'a [(u32, Text)]) -> Result<Vec<(u32, &'
 fn verdict_body(alloc: Global, verbose: bool, verdict: &LevelVerdict) -> Result<Text, AllocError>
     ensures { IfOk result (λ body. body ≡ bodies.check_body verbose verdict.now.ok (message_of verdict.now)) }
 {
-    let message = if verbose {
-        verdict.message(alloc)?
-    } else {
-        None
-    };
-    check_body(alloc, verbose, verdict.ok, &message)
+    check_body(alloc, verbose, verdict.ok, verdict.clash_message())
 }

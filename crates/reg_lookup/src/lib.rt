@@ -10,6 +10,7 @@ mod by_subject;
 mod checked;
 mod error;
 mod found;
+mod in_string;
 mod laws;
 mod query;
 mod settings;
