@@ -311,6 +311,11 @@ def delete_lines(size):
     return Input(log, request("GET", "/subjects/s/versions/1"), NO_VERSION, lines_are_dear=True)
 
 
+def delete_lines_in_turn(size):
+    log = chain(many_versions(size), (soft_delete(size + i + 1, "s", 1 if i % 2 else size) for i in range(size)))
+    return Input(log, request("GET", "/subjects/s/versions/1"), NO_VERSION, lines_are_dear=True)
+
+
 def delete_value(size):
     ignored = ',"x":[%s]' % ",".join(["{}"] * 690_000)
     log = chain([soft_delete(1, "s", 1, ignored)], many_versions(size, 2))
@@ -376,6 +381,8 @@ CASES = [
      999_000, 20_000, id_versions),
     ("delete_lines", "so many versions of a subject, then as many soft deletes of it: each could mark each version anew",
      10_000, 1_000, delete_lines),
+    ("delete_lines_in_turn", "the same, whose deletes are of all versions and of one in turn: each could mark all of them and take the marks back",
+     10_000, 1_000, delete_lines_in_turn),
     ("delete_value", "a soft delete of 2 MB, then so many versions of its subject: each could read the delete anew",
      1_000, 50, delete_value),
     ("suspects", "so many versions, each written over with another schema under its id; a command, for which no id may have two",

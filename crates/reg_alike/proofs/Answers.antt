@@ -19,7 +19,7 @@ use Rattle.reg_lookup.specs.declared.answered.Answer.{Answer}
 use Rattle.reg_lookup.specs.declared.query.Query.{Query}
 use Rattle.reg_lookup.specs.declared.query.Query.TheVariants as queries
 use Rattle.reg_alike.specs.AnswerAlike.{AlikeAnswersAlike}
-use Rattle.reg_alike.specs.GiveAlike.{GiveAlike}
+use Rattle.reg_fold.specs.GiveAlike.{GiveAlike}
 use Rattle.reg_alike.proofs.InForce.{same_level, same_mode, same_own_mode}
 
 module _ (rs ss : Records) (alike : GiveAlike rs ss) where

@@ -8,7 +8,7 @@ use Rattle.reg_fold.specs.InForce.{Scope, level}
 use Rattle.reg_modes.specs.InForce.{mode, own_mode}
 use Rattle.reg_modes.specs.Mode.{standing_mode}
 use Rattle.reg_modes.specs.declared.mode.Mode.TheVariants.{Readwrite}
-use Rattle.reg_alike.specs.GiveAlike.{GiveAlike}
+use Rattle.reg_fold.specs.GiveAlike.{GiveAlike}
 
 module _ (rs ss : Records) (alike : GiveAlike rs ss) where
   open alike use {levels_alike, modes_alike}

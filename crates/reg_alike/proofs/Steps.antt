@@ -26,7 +26,7 @@ use Rattle.reg_leader.specs.Step.{IsStep, course_of, delete_all, delete_entry, i
 use Rattle.reg_leader.specs.declared.command.Command.{Command}
 use Rattle.reg_leader.specs.declared.command.Command.TheVariants as commands
 use Rattle.reg_leader.specs.declared.reply.Reply.TheVariants as replies
-use Rattle.reg_alike.specs.GiveAlike.{GiveAlike}
+use Rattle.reg_fold.specs.GiveAlike.{GiveAlike}
 use Rattle.reg_alike.specs.StepAlike.{StepsAlike}
 use Rattle.reg_alike.proofs.InForce.{same_level, same_mode, same_own_mode}
 

@@ -6,7 +6,7 @@ use Rattle.reg_kept.specs.Floored.{Floored}
 use Rattle.reg_lookup.specs.Answers.{IsAnswer, IsAnswerOver}
 use Rattle.reg_lookup.specs.declared.answered.Answer.{Answer}
 use Rattle.reg_lookup.specs.declared.query.Query.{Query}
-use Rattle.reg_alike.specs.GiveAlike.{GiveAlike}
+use Rattle.reg_fold.specs.GiveAlike.{GiveAlike}
 
 -- each query has the same answers over both
 abbrev pub AlikeAnswersAlike : Type 0

@@ -8,7 +8,7 @@ use Rattle.reg_kept.specs.Floored.{Floored}
 use Rattle.reg_leader.specs.Step.{IsStep}
 use Rattle.reg_leader.specs.declared.command.Command.{Command}
 use Rattle.reg_leader.specs.declared.reply.Reply.{Reply}
-use Rattle.reg_alike.specs.GiveAlike.{GiveAlike}
+use Rattle.reg_fold.specs.GiveAlike.{GiveAlike}
 
 -- each command has the same reply and the same batch over both, at each next offset
 abbrev pub StepsAlike : Type 0

@@ -1,18 +1,12 @@
 // The laws of records that give the same. What is proved here costs nothing at run time: a function
 // that needs a law calls it.
 ghost use Rattle.reg_alike.specs.AnswerAlike.{AlikeAnswersAlike, CompactionsAnswerAlike};
-ghost use Rattle.reg_alike.specs.GiveAlike.{CompactionsGiveAlike, EachGivesAlikeItself, GivingAlikeComposes, GivingAlikeIsSymmetric, NullsGiveNothing, SameStandingGivesAlike};
+ghost use Rattle.reg_alike.specs.GiveAlike.{CompactionsGiveAlike, NullsGiveNothing, SameStandingGivesAlike};
 ghost use Rattle.reg_alike.specs.StepAlike.{CompactionsStepAlike, StepsAlike};
 
+use reg_fold::giving_alike_is_an_equivalence;
 use reg_kept::compactions_keep_what_stands;
 use reg_set::{last_is_greatest, last_records_are_enough, records_are_ordered};
-
-/// Giving the same is an equivalence.
-pub fn giving_alike_is_an_equivalence()
-    ensures itself { EachGivesAlikeItself }
-    ensures back { GivingAlikeIsSymmetric }
-    ensures across { GivingAlikeComposes }
-{}
 
 /// Last records without a value give nothing: those that have one give the same alone.
 pub fn nulls_give_nothing()

@@ -6,6 +6,5 @@ mod laws;
 
 pub use laws::{
     alike_answers_alike, alike_steps_alike, compactions_answer_alike, compactions_give_alike,
-    compactions_step_alike, giving_alike_is_an_equivalence, nulls_give_nothing,
-    what_stands_gives_all,
+    compactions_step_alike, nulls_give_nothing, what_stands_gives_all,
 };

@@ -5,7 +5,7 @@ use Rattle.reg_records.specs.declared.record.Record.{Record}
 use Rattle.reg_topic.specs.declared.published.Item.{Item}
 use Rattle.reg_shared.specs.Held.{Held}
 use Rattle.reg_pen.specs.declared.keep.Kept.{Kept}
-use Rattle.reg_node.specs.declared.take.Take.{Take}
+use Rattle.reg_node.specs.declared.take.Draw.{Draw}
 use Rattle.reg_desk.specs.Desk.{Fronts, IsFresh, Known, LearnsFronts, ReadTheirWrites, front_of}
 use Rattle.reg_desk.proofs.Fresh.{prefix_self, prefix_trans, still_fresh}
 
@@ -48,7 +48,7 @@ module _ {K : Type 0} (keeps : K → List Record → Kept → K → Type 0) wher
       let same : front_of done.seen ≡ d.front = ap front_of d.seen in
       let node : fronts.node ≡ done.view = ap (λ (x : Fronts). x.node) s in
       let here : IsFresh first (front_of done.seen) done.view = subst (λ (w : List Item). IsFresh first w done.view) (sym same) (d.fresh f) in
-      let shown : IsPrefix done.view told.view = subst (λ (w : List Take). IsPrefix w told.view) node l.node_that in
+      let shown : IsPrefix done.view told.view = subst (λ (w : List Draw). IsPrefix w told.view) node l.node_that in
       still_fresh first (front_of done.seen) done.view after.view here (prefix_trans done.view told.view after.view shown k.shows)
 
 -- no front begins each

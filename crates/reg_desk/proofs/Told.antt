@@ -12,7 +12,7 @@ use Rattle.reg_shared.specs.Held.{Held, base_of}
 use Rattle.reg_pen.specs.Pen.{Acts, Follows, IsBehind, IsStepAfter, PenState, Submits, StillPends, item_of, counted, settled}
 use Rattle.reg_pen.specs.declared.keep.Kept.{Kept}
 use Rattle.reg_pen.specs.declared.keep.Kept.TheVariants.{Taken, Declined, Lost}
-use Rattle.reg_node.specs.declared.take.Take.{Take}
+use Rattle.reg_node.specs.declared.take.Draw.{Draw}
 use Rattle.reg_desk.specs.Desk.{DeskCommands, IsFresh, IsNext, Known, Replies, front_of}
 use Rattle.reg_desk.specs.Told.{IsTold, front_at}
 use Rattle.reg_desk.proofs.Fresh.{prefix_trans}
@@ -106,7 +106,7 @@ module _ {K : Type 0} (keeps : K → List Record → Kept → K → Type 0) wher
   is_next base before told found c reply (inr next) grows same = subst (λ (w : List Item). IsNext keeps base before c reply w) (sym (same next.grows)) next
 
   -- the view may show more before the command is submitted, and again after it
-  pub commands : (first : Held) (inside before after : Known) (c : Command) (reply : Reply) (front : List Item) (shown : List Take) → inside ≡ before → after.seen ≡ Some front
+  pub commands : (first : Held) (inside before after : Known) (c : Command) (reply : Reply) (front : List Item) (shown : List Draw) → inside ≡ before → after.seen ≡ Some front
       → after.submits ≡ counted inside.submits → IsNext keeps (base_of first) (front_of inside.seen) c reply front → IsPrefix inside.view shown → IsPrefix shown after.view
       → (after.fresh ≡ true → IsFresh first front after.view) → DeskCommands keeps first before c reply after
   commands first inside before after c reply front shown same seen counts next grows shows fresh = subst (λ (k : Known). DeskCommands keeps first k c reply after) same (record {

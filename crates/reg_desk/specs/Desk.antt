@@ -3,7 +3,7 @@ use Rattle.std.specs.Prelude.{◌≡◌, ◌⊎◌, ℕ, true, Bool, List, [], �
 use Rattle.std.specs.declared.alloc.AllocError.{AllocError}
 use mathlib.Core.List.{IsPrefix}
 use Rattle.reg_records.specs.declared.record.Record.{Record}
-use Rattle.reg_set.specs.Compaction.{IsCompactionOf}
+use Rattle.reg_kept.specs.Compaction.{IsCompactionOf}
 use Rattle.reg_set.specs.LastRecords.{last_records}
 use Rattle.reg_lookup.specs.Answers.{IsAnswer}
 use Rattle.reg_lookup.specs.declared.answered.Answer.{Answer}
@@ -13,6 +13,7 @@ use Rattle.reg_leader.specs.declared.command.Command.{Command}
 use Rattle.reg_leader.specs.declared.reply.Reply.{Reply}
 use Rattle.reg_leader.specs.declared.reply.Reply.TheVariants as replies
 use Rattle.reg_topic.specs.declared.published.Item.{Item}
+use Rattle.reg_topic.specs.Topic.{whole_log}
 use Rattle.reg_topic.specs.declared.topic.Topic.{Topic}
 use Rattle.reg_shared.specs.Held.{Held, base_of, topic_at}
 use Rattle.reg_pen.specs.Pen.{IsNoMemory, IsStepAfter, counted, item_of}
@@ -20,13 +21,13 @@ use Rattle.reg_pen.specs.Keep.{fault_of}
 use Rattle.reg_pen.specs.declared.keep.Kept.{Kept}
 use Rattle.reg_pen.specs.declared.keep.Kept.TheVariants.{Declined}
 use Rattle.reg_pen.specs.declared.keep.Lack.{Lack}
-use Rattle.reg_node.specs.Takes.{taken}
-use Rattle.reg_node.specs.declared.take.Take.{Take}
+use Rattle.reg_node.specs.Takes.{taken, taken_set}
+use Rattle.reg_node.specs.declared.take.Draw.{Draw}
 
 -- the topic's front of the last command, the front of the node's list that the view saw, the submits, and whether nothing was refused after the last one
 pub record Known : Type 0 where
   pub seen : Option (List Item)
-  pub view : List Take
+  pub view : List Draw
   pub submits : ℕ
   pub fresh : Bool
 
@@ -45,17 +46,17 @@ pub record EndsIn (base : Topic) (before : List Item) (c : Command) (reply : Rep
   pub ends : after ≡ front ++ item_of c (first ∷ rest)
 
 -- what the view was told of comes to a compaction of the log of a list that begins with the front
-pub record IsFresh (first : Held) (seen : List Item) (view : List Take) : Type 0 where
-  pub told : List Take
+pub record IsFresh (first : Held) (seen : List Item) (view : List Draw) : Type 0 where
+  pub told : List Draw
   pub front : List Item
   pub shown : IsPrefix told view
   pub later : IsPrefix seen front
-  pub whole : IsCompactionOf (taken told) (topic_at first front).log
+  pub whole : IsCompactionOf (taken_set told) (whole_log (topic_at first front))
 
 -- what answers stand on: a front of the topic's list, where there was a command, one of the node's list, and whether this shows that
 pub record Fronts : Type 0 where
   pub topic : Option (List Item)
-  pub node : List Take
+  pub node : List Draw
   pub fresh : Bool
 
 -- a desk's answers stand on what it has seen

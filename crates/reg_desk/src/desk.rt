@@ -15,7 +15,7 @@ use reg_http::Desk;
 use reg_judge::Judge;
 use reg_leader::{Command, Reply};
 use reg_lookup::{Answer, Query};
-use reg_node::{Follower, Take, Taken, View};
+use reg_node::{Draw, Follower, Taken, View};
 use reg_pen::{Keep, Pass, Pen, Submitted};
 use reg_shared::Shared;
 use reg_topic::Item;
@@ -36,8 +36,8 @@ pub struct NodeDesk<
     N: FeedName<Item, Shared>,
     S: Copies<Item, Shared, N>,
     K: Keep + Drop,
-    M: FeedName<Take, Taken>,
-    U: Copies<Take, Taken, M>,
+    M: FeedName<Draw, Taken>,
+    U: Copies<Draw, Taken, M>,
     R: Wait + Drop,
     G: Gate,
     W: Wake,
@@ -60,8 +60,8 @@ impl<
     N: FeedName<Item, Shared>,
     S: Copies<Item, Shared, N>,
     K: Keep + Drop,
-    M: FeedName<Take, Taken>,
-    U: Copies<Take, Taken, M>,
+    M: FeedName<Draw, Taken>,
+    U: Copies<Draw, Taken, M>,
     R: Wait + Drop,
     G: Gate,
     W: Wake,
@@ -81,8 +81,8 @@ impl<
     N: FeedName<Item, Shared>,
     S: Copies<Item, Shared, N>,
     K: Keep + Drop,
-    M: FeedName<Take, Taken>,
-    U: Copies<Take, Taken, M>,
+    M: FeedName<Draw, Taken>,
+    U: Copies<Draw, Taken, M>,
     R: Wait + Drop,
     G: Gate,
     W: Wake,
@@ -144,8 +144,8 @@ impl<
     N: FeedName<Item, Shared>,
     S: Copies<Item, Shared, N>,
     K: Keep + Drop,
-    M: FeedName<Take, Taken>,
-    U: Copies<Take, Taken, M>,
+    M: FeedName<Draw, Taken>,
+    U: Copies<Draw, Taken, M>,
     R: Wait + Drop,
     G: Gate,
     W: Wake,
@@ -185,8 +185,8 @@ impl<
     N: FeedName<Item, Shared>,
     S: Copies<Item, Shared, N>,
     K: Keep + Drop,
-    M: FeedName<Take, Taken>,
-    U: Copies<Take, Taken, M>,
+    M: FeedName<Draw, Taken>,
+    U: Copies<Draw, Taken, M>,
     R: Wait + Drop,
     G: Gate,
     W: Wake,

@@ -3,7 +3,7 @@ ghost use Rattle.std.specs.Prelude.{◌≡◌, true, option_map};
 ghost use Rattle.reg_desk.specs.Desk.{IsFresh, front_of};
 
 use reg_feed::{FeedName, Seen};
-use reg_node::{Take, Taken};
+use reg_node::{Draw, Taken};
 use reg_shared::Shared;
 use reg_topic::Item;
 use std::marker::Model;
@@ -11,13 +11,13 @@ use std::marker::Model;
 /// What a desk's answers stand on: a front of the topic's list, where there was a command, and one of its
 /// node's list. Where it is fresh the node's front shows the topic's.
 #[derive(Drop)]
-pub struct Standing<N: FeedName<Item, Shared>, M: FeedName<Take, Taken>> {
+pub struct Standing<N: FeedName<Item, Shared>, M: FeedName<Draw, Taken>> {
     topic: Option<Seen<Item, Shared, N>>,
-    node: Seen<Take, Taken, M>,
+    node: Seen<Draw, Taken, M>,
     fresh: bool,
 }
 
-impl<N: FeedName<Item, Shared>, M: FeedName<Take, Taken>> Model for Standing<N, M> {
+impl<N: FeedName<Item, Shared>, M: FeedName<Draw, Taken>> Model for Standing<N, M> {
     ghost use Rattle.std.specs.Prelude.{◌≡◌, true};
     ghost use Rattle.reg_desk.specs.Desk.{Fronts, IsFresh, front_of};
 
@@ -28,11 +28,11 @@ impl<N: FeedName<Item, Shared>, M: FeedName<Take, Taken>> Model for Standing<N, 
     ghost invariant = { λ s. s.fresh ≡ true → IsFresh N.first (front_of s.topic) s.node };
 }
 
-impl<N: FeedName<Item, Shared>, M: FeedName<Take, Taken>> Standing<N, M> {
+impl<N: FeedName<Item, Shared>, M: FeedName<Draw, Taken>> Standing<N, M> {
     /// What stands on these fronts.
     pub(crate) fn of(
         topic: Option<Seen<Item, Shared, N>>,
-        node: Seen<Take, Taken, M>,
+        node: Seen<Draw, Taken, M>,
         fresh: bool,
     ) -> Standing<N, M>
         requires { fresh ≡ true → IsFresh N.first (front_of topic) node }
@@ -50,7 +50,7 @@ impl<N: FeedName<Item, Shared>, M: FeedName<Take, Taken>> Standing<N, M> {
     }
 
     /// The front of the node's list.
-    pub(crate) fn node(&self) -> &Seen<Take, Taken, M>
+    pub(crate) fn node(&self) -> &Seen<Draw, Taken, M>
         ensures { result.now ≡ self.now.node }
     {
         &self.node

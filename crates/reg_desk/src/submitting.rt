@@ -190,9 +190,22 @@ fn submit_and_compact<
     let before = pen.batches();
     let submitted = pen.submit(pass, since, command, judged);
     if pen.batches() / BATCHES > before / BATCHES {
-        let _refused = pen.compact().is_err();
+        let floor = floor_for(pen);
+        let _refused = pen.compact_to(floor).is_err();
     }
     submitted
+}
+
+/// The floor of a compaction: what the next offset was at the one before, so that a delete is kept over one
+/// compaction at least; but the kept floor where few deletes were published, since a floor that rises has
+/// each node rebased.
+fn floor_for<N: FeedName<Item, Shared>, S: Copies<Item, Shared, N>, K: Keep + Drop, R: Wait + Drop>(
+    pen: &Pen<N, S, K, R>,
+) -> u64 {
+    if pen.has_many_deletes() {
+        return pen.compacted();
+    }
+    pen.floor()
 }
 
 /// The longer one of two fronts.

@@ -63,8 +63,21 @@ in_values q v (e ∷ es) h =
 abbrev pub AreAtPlaces : List (Place × Entry) → Type 0
 AreAtPlaces = AllByRecursion (λ e. IsAt e.0 e.1)
 
+-- the entry at a place of a list of them
+abbrev pub found_at : List (Place × Entry) → Place → Option Entry
+found_at es p = lookup (is_at (place_cmp p)) es
+
+abbrev pub AreFoundAtPlaces : List (Place × Entry) → Type 0
+AreFoundAtPlaces es = (p : Place) → IfSome (found_at es p) (IsAt p)
+
+pub found_own : (es : List (Place × Entry)) → AreFoundAtPlaces es → (p : Place) (e : Entry) → found_at es p ≡ Some e → place_of e ≡ p
+found_own es placed p e found = (subst (λ o. IfSome o (IsAt p)) found (placed p)).0
+
+pub all_at_places : (es : List (Place × Entry)) → IsStrictlySortedBy place_cmp (keys_of es) → AreFoundAtPlaces es → AreAtPlaces es
+all_at_places es s placed = all_found IsAt es s (λ q e found. subst (λ o. IfSome o (IsAt q)) found (placed q))
+
 pub at_places : (m : BTreeMap Place Entry) → IsOrdered place_cmp m → ArePlaced m → AreAtPlaces m.entries
-at_places m s placed = all_found IsAt m.entries s (λ q e found. subst (λ o. IfSome o (IsAt q)) found (placed q))
+at_places m s placed = all_at_places m.entries s placed
 
 before_all : (p : Place) (es : List (Place × Entry)) → AreAtPlaces es → AllByRecursion (λ q. place_cmp p q ≡ Less) (keys_of es) → AllByRecursion (λ e. place_cmp p (place_of e) ≡ Less) (values_of es)
 before_all p [] h s = tt

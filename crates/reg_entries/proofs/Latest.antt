@@ -9,28 +9,24 @@ use Rattle.std.proofs.lemmas.List.Kept.{IsStrictlySortedBy-filter}
 use Rattle.std.proofs.lemmas.Map.Entries.{option_filter}
 use Rattle.std.proofs.lemmas.Option.{same_Some}
 use Rattle.std.proofs.lemmas.Slice.Eq.{bytes_eq-Decides}
-use Rattle.std.specs.BTreeMap.{BTreeMap, IsOrdered}
-use Rattle.std.specs.Bool.{then_some}
 use Rattle.std.specs.Cmp.{IsTotalOrder}
 use Rattle.std.specs.Iterator.Adapters.{rev_source, rev_steps}
 use Rattle.std.specs.List.{filter, find, fold, reduce, AllByRecursion}
 use Rattle.std.specs.List.Sorted.{IsStrictlySortedBy}
-use Rattle.std.specs.Map.{values_of}
+use Rattle.std.specs.Map.{keys_of, values_of}
 use Rattle.std.specs.Map.Iter.{TakesLast}
-use Rattle.std.specs.Option.{option_copied, option_or}
+use Rattle.std.specs.Option.{option_or}
 use Rattle.std.specs.Ordering.{is_lt, nat_cmp, on, ord_max, ordering_reverse}
-use Rattle.std.specs.Prelude.{bytes_eq, MatchOption}
+use Rattle.std.specs.Prelude.{bytes_eq}
 use Rattle.std.specs.declared.cmp.Ordering.TheVariants.{Less}
 use Rattle.std.specs.declared.cmp.Ordering.{Ordering}
 use Rattle.std.specs.declared.iter.Rev.{Rev}
 use Rattle.reg_entries.specs.EntryOrder.{Place, place_cmp, place_of}
-use Rattle.reg_entries.specs.Index.{entry_at, ArePlaced}
 use Rattle.reg_entries.specs.Sought.{counts, latest, of_version}
 use Rattle.reg_entries.specs.declared.entry.Entry.{Entry}
 use Rattle.reg_entries.proofs.Chosen.{IsIn, all_filter, all_map, in_filter}
-use Rattle.reg_entries.proofs.Found.{all_found, at_places, in_values, not_both, rising, values_in_order}
-use Rattle.reg_entries.proofs.Listed.{by_bool, never, own_place}
-use denote.Ref.{Bor}
+use Rattle.reg_entries.proofs.Found.{AreFoundAtPlaces, all_at_places, all_found, found_at, found_own, in_values, not_both, rising, values_in_order}
+use Rattle.reg_entries.proofs.Listed.{by_bool, never}
 
 pub reverse-more : {X : Type 0} (x : X) (xs : List X) → reverse (x ∷ xs) ≡ reverse xs ++ x ∷ []
 reverse-more x xs = reverse-append (x ∷ []) xs
@@ -77,16 +73,6 @@ sorted_on f (x ∷ xs) s = (before xs s.0, sorted_on f xs s.1)
     before [] h = tt
     before (y ∷ ys) h = (h.0, before ys h.1)
 
--- what `filter` of an entry that is found, or isn't, gives
-pub filtered : (test : Entry → Bool) (R : Bor Entry → Bool → Type 0) (o r : Option (Bor Entry)) → MatchOption o (r ≡ None) (λ x. (b : Bool) × R x b × (r ≡ then_some b x)) → ((x : Bor Entry) (b : Bool) → R x b → b ≡ test x.now)
-    → option_copied r ≡ option_filter test (option_copied o)
-filtered test R None r h is = ap option_copied h
-filtered test R (Some x) r h is = ap option_copied h.2 ∙ copied h.0 ∙ ap (λ b. cond b (Some x.now) None) (is x h.0 h.1)
-  where
-    copied : (b : Bool) → option_copied (then_some b x) ≡ cond b (Some x.now) None
-    copied true = refl
-    copied false = refl
-
 module _ {X : Type 0} (p : X → Bool) where
   -- the one item that passes is found
   find_one : (x : X) (xs : List X) → AllByRecursion (λ y. p y ≡ true → y ≡ x) xs → p x ≡ true → IsIn x xs → find p xs ≡ Some x
@@ -100,9 +86,9 @@ module _ {X : Type 0} (p : X → Bool) where
   find_none [] none = refl
   find_none (y ∷ ys) none = by_bool (p y) (λ h. absurd (none.0 h)) (λ h. ap (λ b. cond b (Some y) (find p ys)) h ∙ find_none ys none.1)
 
-module _ (m : BTreeMap Place Entry) (ordered : IsOrdered place_cmp m) (placed : ArePlaced m) (s : List ℕ) (deleted : Bool) where
+module _ (m : List (Place × Entry)) (ordered : IsStrictlySortedBy place_cmp (keys_of m)) (placed : AreFoundAtPlaces m) (s : List ℕ) (deleted : Bool) where
   abbrev es : List Entry
-  es = values_of m.entries
+  es = values_of m
 
   -- the last entry of a subject that counts is the one of greatest version
   pub latest_is : find (counts deleted) (reverse (filter (λ e. bytes_eq e.subject s) es)) ≡ latest es s deleted
@@ -110,44 +96,44 @@ module _ (m : BTreeMap Place Entry) (ordered : IsOrdered place_cmp m) (placed : 
       last_is_greatest (on (λ e. e.version) nat_cmp) (on_total (λ e. e.version) nat_cmp_total) (counts deleted) (filter (λ e. bytes_eq e.subject s) es)
       (IsStrictlySortedBy-filter (on (λ e. e.version) nat_cmp) (counts deleted) (filter (λ e. bytes_eq e.subject s) es)
       (sorted_on (λ e. e.version) (filter (λ e. bytes_eq e.subject s) es)
-      (rising s (λ e. bytes_eq e.subject s) (λ e. (bytes_eq-Decides e.subject s).0) es (values_in_order m.entries (at_places m ordered placed) ordered))))
+      (rising s (λ e. bytes_eq e.subject s) (λ e. (bytes_eq-Decides e.subject s).0) es (values_in_order m (all_at_places m ordered placed) ordered))))
 
   module _ (v : ℕ) where
     -- an entry of the subject and the version is at their place
-    here : (q : Place) (e : Entry) → entry_at m q ≡ Some e → bytes_eq e.subject s ≡ true → (e.version == v) ≡ true → entry_at m (s, v) ≡ Some e
+    here : (q : Place) (e : Entry) → found_at m q ≡ Some e → bytes_eq e.subject s ≡ true → (e.version == v) ≡ true → found_at m (s, v) ≡ Some e
     here q e found subject version =
-        ap (entry_at m) (λ i. (sym ((bytes_eq-Decides e.subject s).0 subject) i, sym (number e.version v version) i)) ∙ ap (entry_at m) (own_place m placed q e found) ∙ found
+        ap (found_at m) (λ i. (sym ((bytes_eq-Decides e.subject s).0 subject) i, sym (number e.version v version) i)) ∙ ap (found_at m) (found_own m placed q e found) ∙ found
       where
         number : (a b : ℕ) → (a == b) ≡ true → a ≡ b
         number a b h = grind arith
 
     -- what is so of each entry of the subject that counts and is of the version
-    each : (P : Entry → Type 0) → ((e : Entry) → entry_at m (s, v) ≡ Some e → counts deleted e ≡ true → P e)
+    each : (P : Entry → Type 0) → ((e : Entry) → found_at m (s, v) ≡ Some e → counts deleted e ≡ true → P e)
         → AllByRecursion (λ e. (e.version == v) ≡ true → P e) (filter (counts deleted) (filter (λ e. bytes_eq e.subject s) es))
     each P f =
         all_filter (counts deleted) (λ e. (e.version == v) ≡ true → P e) (filter (λ e. bytes_eq e.subject s) es)
         (all_filter (λ e. bytes_eq e.subject s) (λ e. counts deleted e ≡ true → (e.version == v) ≡ true → P e) es
-        (all_map (λ (e : Place × Entry). e.1) (λ e. bytes_eq e.subject s ≡ true → counts deleted e ≡ true → (e.version == v) ≡ true → P e) m.entries
-        (all_found (λ q e. bytes_eq e.subject s ≡ true → counts deleted e ≡ true → (e.version == v) ≡ true → P e) m.entries ordered
+        (all_map (λ (e : Place × Entry). e.1) (λ e. bytes_eq e.subject s ≡ true → counts deleted e ≡ true → (e.version == v) ≡ true → P e) m
+        (all_found (λ q e. bytes_eq e.subject s ≡ true → counts deleted e ≡ true → (e.version == v) ≡ true → P e) m ordered
         (λ q e found subject count version. f e (here q e found subject version) count))))
 
     -- the entry at the place of a subject and a version, if it counts
-    pub of_version_is : option_filter (counts deleted) (entry_at m (s, v)) ≡ of_version es s v deleted
-    of_version_is = by_entry (entry_at m (s, v)) refl
+    pub of_version_is : option_filter (counts deleted) (found_at m (s, v)) ≡ of_version es s v deleted
+    of_version_is = by_entry (found_at m (s, v)) refl
       where
         itself : (a b : ℕ) → a ≡ b → (a == b) ≡ true
         itself a b h = grind arith
 
-        by_entry : (o : Option Entry) → entry_at m (s, v) ≡ o → option_filter (counts deleted) o ≡ of_version es s v deleted
+        by_entry : (o : Option Entry) → found_at m (s, v) ≡ o → option_filter (counts deleted) o ≡ of_version es s v deleted
         by_entry None none = sym (find_none (λ e. e.version == v) _ (each (λ _. ⊥) (λ e found count. not_both e _ found none)))
         by_entry (Some e) found =
             by_bool (counts deleted e)
             (λ count. ap (λ b. cond b (Some e) None) count
             ∙ sym (find_one (λ e. e.version == v) e _ (each (λ f. f ≡ e) (λ f at _. same_Some f e (sym at ∙ found))) (itself e.version v (ap (λ (p : Place). p.1) own))
             (in_filter (counts deleted) e (filter (λ e. bytes_eq e.subject s) es) count
-            (in_filter (λ e. bytes_eq e.subject s) e es ((bytes_eq-Decides e.subject s).1 (ap (λ (p : Place). p.0) own)) (in_values (s, v) e m.entries found)))))
+            (in_filter (λ e. bytes_eq e.subject s) e es ((bytes_eq-Decides e.subject s).1 (ap (λ (p : Place). p.0) own)) (in_values (s, v) e m found)))))
             (λ not. ap (λ b. cond b (Some e) None) not
             ∙ sym (find_none (λ e. e.version == v) _ (each (λ _. ⊥) (λ f at count. never (counts deleted e) (ap (counts deleted) (same_Some e f (sym found ∙ at)) ∙ count) not))))
           where
             own : place_of e ≡ (s, v)
-            own = own_place m placed (s, v) e found
+            own = found_own m placed (s, v) e found

@@ -15,3 +15,4 @@ pub mod Latest
 pub mod Live
 pub mod OfId
 pub mod Copies
+pub mod Shown

@@ -6,13 +6,12 @@ use Rattle.std.proofs.lemmas.Cmp.{tied_itself, nat_list_cmp_total}
 use Rattle.std.proofs.lemmas.List.Folds.{find-append}
 use Rattle.std.proofs.lemmas.List.Kept.{IsStrictlySortedBy-filter}
 use Rattle.std.proofs.lemmas.Slice.Eq.{bytes_eq-Decides}
-use Rattle.std.specs.BTreeMap.{BTreeMap, IsOrdered}
 use Rattle.std.specs.BTreeMap.Range.{entries_between, range_contains}
 use Rattle.std.specs.Cmp.Lexicographic.{slice_cmp}
 use Rattle.std.specs.FinMap.{nat_cmp-IsAntisymmetric, slice_cmp-IsAntisymmetric}
 use Rattle.std.specs.List.{filter, find, list_any, AllByRecursion}
 use Rattle.std.specs.List.Sorted.{IsStrictlySortedBy}
-use Rattle.std.specs.Map.{values_of}
+use Rattle.std.specs.Map.{keys_of, values_of}
 use Rattle.std.specs.Option.{option_map_or, option_or}
 use Rattle.std.specs.Ordering.{is_gt, is_lt, nat_cmp, on, ordering_reverse, ordering_then}
 use Rattle.std.specs.Prelude.{bytes_eq, is_some, IsSome}
@@ -20,15 +19,14 @@ use Rattle.std.specs.declared.cmp.Ordering.{Ordering}
 use Rattle.std.specs.declared.cmp.Ordering.TheVariants.{Less, Equal, Greater}
 use Rattle.std.specs.declared.ops.Bound.TheVariants.{Included, Unbounded}
 use Rattle.reg_entries.specs.EntryOrder.{Place, place_cmp, place_of, IsInOrder}
-use Rattle.reg_entries.specs.Index.{entry_at, ArePlaced, IsTop}
 use Rattle.reg_entries.specs.Sought.{has_live}
 use Rattle.reg_entries.specs.declared.entry.Entry.{Entry}
-use Rattle.reg_entries.proofs.Chosen.{IsIn, all_filter, in_filter}
-use Rattle.reg_entries.proofs.Doubled.{all_in, any_found, any_in, out_of_filter, place_of_value, same_test}
-use Rattle.reg_entries.proofs.Found.{AreAtPlaces, at_places, values_in_order}
+use Rattle.reg_entries.proofs.Chosen.{IsIn, all_filter, all_map, in_filter}
+use Rattle.reg_entries.proofs.Doubled.{all_in, any_found, any_in, out_of_filter, same_test}
+use Rattle.reg_entries.proofs.Found.{AreAtPlaces, AreFoundAtPlaces, all_at_places, all_found, found_at, found_own, values_in_order}
 use Rattle.reg_entries.proofs.Latest.{reverse-more}
 use Rattle.reg_entries.proofs.Least.{all_from}
-use Rattle.reg_entries.proofs.Listed.{by_bool, own_place}
+use Rattle.reg_entries.proofs.Listed.{by_bool}
 use Rattle.reg_entries.proofs.Meant.{squeezed}
 use Rattle.reg_entries.proofs.Topmost.{is_some_none}
 
@@ -115,28 +113,40 @@ module _ (s : List ℕ) where
           let apart = apart_before x y before (all_in (λ e. is_gt (slice_cmp nat_cmp e.subject s) ≡ false) y xs up.1 i) h in
           h ∙ sym (ap (λ b. is_live x || b) (sym rest ∙ h) ∙ or_false (is_live x) ∙ ap (λ b. b && not x.soft) apart))
 
-module _ (m : BTreeMap Place Entry) (ordered : IsOrdered place_cmp m) (placed : ArePlaced m) where
-  abbrev es : List Entry
-  es = values_of m.entries
+-- the greatest version of the subject is at o, and None where it has no entry
+abbrev pub IsTopOf : List (Place × Entry) → List ℕ → Option Place → Type 0
+IsTopOf m s None = (w : ℕ) → found_at m (s, w) ≡ None
+IsTopOf m s (Some p) = (p.0 ≡ s) × IsSome (found_at m p) × ((w : ℕ) → IsSome (found_at m (s, w)) → w ≤ p.1)
 
-  own : (q : Place) (e : Entry) → entry_at m q ≡ Some e → entry_at m (place_of e) ≡ Some e
-  own q e found = ap (entry_at m) (own_place m placed q e found) ∙ found
+module _ (m : List (Place × Entry)) (ordered : IsStrictlySortedBy place_cmp (keys_of m)) (placed : AreFoundAtPlaces m) where
+  -- an entry of the list is at a place
+  place_of_item : (e : Entry) → IsIn e (values_of m) → (q : Place) × (found_at m q ≡ Some e)
+  place_of_item e i =
+      all_in (λ e. (q : Place) × (found_at m q ≡ Some e)) e (values_of m)
+      (all_map (λ (e : Place × Entry). e.1) (λ e. (q : Place) × (found_at m q ≡ Some e)) m
+      (all_found (λ q e. (q : Place) × (found_at m q ≡ Some e)) m ordered (λ q e found. (q, found)))) i
+
+  abbrev es : List Entry
+  es = values_of m
+
+  own : (q : Place) (e : Entry) → found_at m q ≡ Some e → found_at m (place_of e) ≡ Some e
+  own q e found = ap (found_at m) (found_own m placed q e found) ∙ found
 
   -- a subject without an entry has no live one
-  pub none_live : (s : List ℕ) → IsTop m s None → has_live es (Some s) ≡ false
+  pub none_live : (s : List ℕ) → IsTopOf m s None → has_live es (Some s) ≡ false
   none_live s none =
       by_bool (list_any (is_live s) es)
       (λ h. let found = any_found (is_live s) es h in
-      let at = place_of_value m ordered found.0 found.1.0 in
+      let at = place_of_item found.0 found.1.0 in
       let same : found.0.subject ≡ s = (bytes_eq-Decides found.0.subject s).0 (left (bytes_eq found.0.subject s) _ found.1.1) in
-      absurd (is_some_none _ (none found.0.version) (ap is_some (ap (λ t. entry_at m (t, found.0.version)) (sym same) ∙ own at.0 found.0 at.1))))
+      absurd (is_some_none _ (none found.0.version) (ap is_some (ap (λ t. found_at m (t, found.0.version)) (sym same) ∙ own at.0 found.0 at.1))))
       (λ no. no)
     where
       left : (a b : Bool) → (a && b) ≡ true → a ≡ true
       left true b h = refl
       left false b h = h
 
-  module _ (p : Place) (top : IsTop m p.0 (Some p)) where
+  module _ (p : Place) (top : IsTopOf m p.0 (Some p)) where
     -- whether an entry is at the place or before it
     abbrev up_to : Entry → Bool
     up_to e = range_contains place_cmp Unbounded (Included p) (place_of e)
@@ -169,10 +179,10 @@ module _ (m : BTreeMap Place Entry) (ordered : IsOrdered place_cmp m) (placed : 
         by_order Greater is = ap is_gt (nat_list_cmp_total.antisymm e.subject p.0 ∙ ap ordering_reverse is)
 
     -- each entry of the subject is there
-    reaches : (q : Place) (e : Entry) → entry_at m q ≡ Some e → bytes_eq e.subject p.0 ≡ true → up_to e ≡ true
+    reaches : (q : Place) (e : Entry) → found_at m q ≡ Some e → bytes_eq e.subject p.0 ≡ true → up_to e ≡ true
     reaches q e found is =
         let same : e.subject ≡ p.0 = (bytes_eq-Decides e.subject p.0).0 is in
-        let bound : e.version ≤ p.1 = top.2 e.version (ap is_some (ap (λ t. entry_at m (t, e.version)) (sym same) ∙ own q e found)) in
+        let bound : e.version ≤ p.1 = top.2 e.version (ap is_some (ap (λ t. found_at m (t, e.version)) (sym same) ∙ own q e found)) in
         ap not (ap (λ t. is_lt (ordering_then (slice_cmp nat_cmp p.0 t) (nat_cmp p.1 e.version))) same ∙ ap (λ o. is_lt (ordering_then o (nat_cmp p.1 e.version))) (tied_itself nat_list_cmp_total p.0) ∙ not_less p.1 e.version bound)
       where
         not_less : (a b : ℕ) → b ≤ a → is_lt (nat_cmp a b) ≡ false
@@ -191,13 +201,13 @@ module _ (m : BTreeMap Place Entry) (ordered : IsOrdered place_cmp m) (placed : 
         back : list_any (is_live p.0) es ≡ true → list_any (is_live p.0) (filter up_to es) ≡ true
         back h =
             let found = any_found (is_live p.0) es h in
-            let at = place_of_value m ordered found.0 found.1.0 in
+            let at = place_of_item found.0 found.1.0 in
             any_in (is_live p.0) found.0 (filter up_to es) found.1.1 (in_filter up_to found.0 es (reaches at.0 found.0 at.1 (left (bytes_eq found.0.subject p.0) _ found.1.1)) found.1.0)
 
     -- the way down from the greatest version ends at a live entry of the subject exactly where it has one
-    pub live_is : option_map_or (is_of p.0) (find (stops p.0) (reverse (values_of (entries_between place_cmp Unbounded (Included p) m.entries)))) false ≡ has_live es (Some p.0)
+    pub live_is : option_map_or (is_of p.0) (find (stops p.0) (reverse (values_of (entries_between place_cmp Unbounded (Included p) m)))) false ≡ has_live es (Some p.0)
     live_is =
-        ap (λ xs. option_map_or (is_of p.0) (find (stops p.0) (reverse xs)) false) (values_between m.entries (at_places m ordered placed))
-        ∙ from_last p.0 (filter up_to es) (IsStrictlySortedBy-filter (on place_of place_cmp) up_to es (values_in_order m.entries (at_places m ordered placed) ordered))
+        ap (λ xs. option_map_or (is_of p.0) (find (stops p.0) (reverse xs)) false) (values_between m (all_at_places m ordered placed))
+        ∙ from_last p.0 (filter up_to es) (IsStrictlySortedBy-filter (on place_of place_cmp) up_to es (values_in_order m (all_at_places m ordered placed) ordered))
         (all_filter up_to (λ e. is_gt (slice_cmp nat_cmp e.subject p.0) ≡ false) es (all_from (λ e. up_to e ≡ true → is_gt (slice_cmp nat_cmp e.subject p.0) ≡ false) es (λ e i. bounded e)))
         ∙ any_between

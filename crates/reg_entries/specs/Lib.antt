@@ -1,3 +1,4 @@
+pub mod Covered
 pub mod EntryOrder
 pub mod Index
 pub mod Marked

@@ -2,6 +2,7 @@
 ghost use Rattle.std.specs.Prelude.{◌≡◌, ℕ, List, Bool, Some, false, IfOk, OnOk, OnErr, map, option_map, bytes_eq, if◌then◌else◌};
 ghost use Rattle.std.specs.FinMap as finmap;
 ghost use Rattle.std.specs.Option.{option_copied};
+ghost use Rattle.reg_entries.specs.Covered.{shown_all};
 ghost use Rattle.reg_entries.specs.EntryOrder.{Place, place_of, IsInOrder};
 ghost use Rattle.reg_entries.specs.Marked.{with_soft, marked, MarksEach};
 ghost use Rattle.reg_entries.specs.Sought.{of_subject, counting, latest, of_version, subjects, has_live, with_id, HasRisingVersions, named, greatest_id, greatest_version, id_of, two_schemas};
@@ -11,12 +12,14 @@ use crate::entry::{Entry, Mark};
 use crate::ids::list_with_id;
 use crate::lists::{
     any_live, any_live_up_to, counts, keep_counting, last_counting, list_all, list_between,
-    list_subjects, set_marks,
+    list_subjects, own_of, set_marks, shown_of, under_of,
 };
 use crate::meanings::{Meaning, mean, settle_both, settle_meaning};
 use crate::names::{At, Name, name_above, place_of};
 use crate::schemas::{Schema, first_schema, schema_at, schema_of, unlist, write_all};
+use crate::soft_delete::{SoftDeletes, delete_of};
 use crate::tops::{leave_room, settle_top};
+use crate::twin::Twin;
 use base_text::Text;
 use std::alloc::{AllocError, Global};
 use std::collections::{BTreeMap, BTreeSet};
@@ -26,10 +29,13 @@ use std::marker::Model;
 ///
 /// A place is a subject and a version. Contracts see the map from places to entries, in which each
 /// entry is at its own place.
+///
+/// What is asked of live entries takes the last soft deletes of subjects: an entry that its subject's
+/// covers is shown as soft, and no entry is touched when that changes.
 #[derive(Debug, Drop)]
 pub struct Entries {
     alloc: Global,
-    entries: BTreeMap<At, Entry>,
+    entries: BTreeMap<At, Twin>,
     names: BTreeSet<Name>,
     // Of each subject with an entry the place of its greatest version.
     tops: BTreeMap<String, At>,
@@ -43,6 +49,7 @@ pub struct Entries {
 impl Model for Entries {
     ghost use Rattle.std.specs.Coded.{coded×, coded_ℕ, coded_list};
     ghost use Rattle.std.specs.FinMap as finmap;
+    ghost use Rattle.reg_entries.specs.Covered.{shown_all};
     ghost use Rattle.reg_entries.specs.EntryOrder.{place_cmp};
     ghost use Rattle.reg_entries.specs.Index.{IsIndexed};
     ghost use Rattle.reg_entries.specs.Meanings.{AreDoubled, AreMeant};
@@ -104,6 +111,14 @@ impl Entries {
         ensures put { OnOk result (self.new ≡ finmap.insert self.old (place_of entry) entry) }
         ensures refused { OnErr result (self.new ≡ self.old) }
     {
+        self.put_twin(Twin::of(entry)?)
+    }
+
+    /// The same.
+    fn put_twin(&mut self, entry: Twin) -> Result<(), AllocError>
+        ensures put { OnOk result (self.new ≡ finmap.insert self.old (place_of entry) entry) }
+        ensures refused { OnErr result (self.new ≡ self.old) }
+    {
         let place = place_of(&entry)?;
         let new = schema_of(&entry)?;
         let old = schema_at(&self.entries, &place)?;
@@ -161,20 +176,41 @@ impl Entries {
     pub fn at(&self, place: &(Text, u32)) -> Option<&Entry>
         ensures { option_copied result ≡ finmap.get self.now place.now }
     {
-        self.entries.get(place)
+        Some(self.entries.get(place)?.own())
     }
 
-    /// All entries, by place.
+    /// All entries, by place. The only error is want of memory.
     pub fn all(&self) -> Result<Vec<&Entry>, AllocError>
         ensures all { IfOk result (λ found. map (λ e. e.now) found.items ≡ finmap.values self.now) }
         ensures in_order { IfOk result (λ found. IsInOrder (map (λ e. e.now) found.items)) }
     {
-        let found = list_all(self.alloc, &self.entries)?;
+        let twins = list_all(self.alloc, &self.entries)?;
+        let found = own_of(self.alloc, &twins)?;
         Ok(found)
     }
 
-    /// The entries of a subject, by version.
+    /// All entries under the last soft deletes, by place. The only error is want of memory.
+    pub fn all_shown(&self, deletes: &SoftDeletes) -> Result<Vec<&Entry>, AllocError>
+        ensures all { IfOk result (λ found. map (λ e. e.now) found.items ≡ shown_all deletes.now (finmap.values self.now)) }
+        ensures in_order { IfOk result (λ found. IsInOrder (map (λ e. e.now) found.items)) }
+    {
+        let twins = list_all(self.alloc, &self.entries)?;
+        let found = shown_of(self.alloc, &twins, deletes)?;
+        Ok(found)
+    }
+
+    /// The entries of a subject, by version. The only error is want of memory.
     pub fn of_subject(&self, subject: &str) -> Result<Vec<&Entry>, AllocError>
+        ensures all { IfOk result (λ found. map (λ e. e.now) found.items ≡ of_subject (finmap.values self.now) subject.now) }
+        ensures in_order { IfOk result (λ found. HasRisingVersions (map (λ e. e.now) found.items)) }
+    {
+        let twins = self.twins_of(subject)?;
+        let found = own_of(self.alloc, &twins)?;
+        Ok(found)
+    }
+
+    /// The same.
+    fn twins_of(&self, subject: &str) -> Result<Vec<&Twin>, AllocError>
         ensures all { IfOk result (λ found. map (λ e. e.now) found.items ≡ of_subject (finmap.values self.now) subject.now) }
         ensures in_order { IfOk result (λ found. HasRisingVersions (map (λ e. e.now) found.items)) }
     {
@@ -186,12 +222,18 @@ impl Entries {
 
     /// The entries of a subject that count, by version: the live ones, which are those that aren't
     /// soft, and where `deleted` is true all. The only error is want of memory.
-    pub fn counting(&self, subject: &str, deleted: bool) -> Result<Vec<&Entry>, AllocError>
-        ensures all { IfOk result (λ found. map (λ e. e.now) found.items ≡ counting (finmap.values self.now) subject.now deleted) }
+    pub fn counting(
+        &self,
+        deletes: &SoftDeletes,
+        subject: &str,
+        deleted: bool,
+    ) -> Result<Vec<&Entry>, AllocError>
+        ensures all { IfOk result (λ found. map (λ e. e.now) found.items ≡ counting (shown_all deletes.now (finmap.values self.now)) subject.now deleted) }
         ensures in_order { IfOk result (λ found. HasRisingVersions (map (λ e. e.now) found.items)) }
     {
         let _ = &self.entries;
-        let mut found = self.of_subject(subject)?;
+        let twins = self.twins_of(subject)?;
+        let mut found = under_of(self.alloc, &twins, delete_of(deletes, subject))?;
         keep_counting(&mut found, deleted);
         Ok(found)
     }
@@ -201,12 +243,18 @@ impl Entries {
     ///
     /// It goes back from the greatest version on until an entry counts, so where `deleted` is true
     /// it looks at one entry.
-    pub fn latest(&self, subject: &str, deleted: bool) -> Result<Option<&Entry>, AllocError>
-        ensures { IfOk result (λ found. option_copied found ≡ latest (finmap.values self.now) subject.now deleted) }
+    pub fn latest(
+        &self,
+        deletes: &SoftDeletes,
+        subject: &str,
+        deleted: bool,
+    ) -> Result<Option<&Entry>, AllocError>
+        ensures { IfOk result (λ found. option_copied found ≡ latest (shown_all deletes.now (finmap.values self.now)) subject.now deleted) }
     {
         let first = (Text::copy_of(self.alloc, subject)?, 0);
         let last = (Text::copy_of(self.alloc, subject)?, u32::MAX);
-        Ok(last_counting(&self.entries, &first, &last, deleted))
+        let delete = delete_of(deletes, subject);
+        Ok(last_counting(&self.entries, &first, &last, delete, deleted))
     }
 
     /// Of a subject's entries that count the one of that version. The only error is want of memory.
@@ -214,45 +262,53 @@ impl Entries {
     /// It looks at one entry.
     pub fn of_version(
         &self,
+        deletes: &SoftDeletes,
         subject: &str,
         version: u32,
         deleted: bool,
     ) -> Result<Option<&Entry>, AllocError>
-        ensures { IfOk result (λ found. option_copied found ≡ of_version (finmap.values self.now) subject.now version deleted) }
+        ensures { IfOk result (λ found. option_copied found ≡ of_version (shown_all deletes.now (finmap.values self.now)) subject.now version deleted) }
     {
         let place = (Text::copy_of(self.alloc, subject)?, version);
-        let found = self.entries.get(&place);
-        Ok(found.filter(|entry| counts(entry, deleted)))
+        let Some(twin) = self.entries.get(&place) else {
+            return Ok(None);
+        };
+        let entry = twin.shown(deletes);
+        if counts(entry, deleted) {
+            Ok(Some(entry))
+        } else {
+            Ok(None)
+        }
     }
 
     /// The subjects with an entry that counts, by their bytes. The only error is want of memory.
     ///
     /// It goes through all entries once.
-    pub fn subjects(&self, deleted: bool) -> Result<Vec<&str>, AllocError>
-        ensures { IfOk result (λ found. map (λ s. s.now) found.items ≡ subjects (finmap.values self.now) deleted) }
+    pub fn subjects(&self, deletes: &SoftDeletes, deleted: bool) -> Result<Vec<&str>, AllocError>
+        ensures { IfOk result (λ found. map (λ s. s.now) found.items ≡ subjects (shown_all deletes.now (finmap.values self.now)) deleted) }
     {
-        let found = list_subjects(self.alloc, &self.entries, deleted)?;
+        let found = list_subjects(self.alloc, &self.entries, deletes, deleted)?;
         Ok(found)
     }
 
     /// Whether a subject, or any one, has a live entry. Takes no memory.
     ///
     /// Of a subject it goes back from the greatest version on until an entry is live.
-    pub fn has_live(&self, subject: Option<&str>) -> bool
-        ensures { result ≡ has_live (finmap.values self.now) (option_map (λ s. s.now) subject.entry) }
+    pub fn has_live(&self, deletes: &SoftDeletes, subject: Option<&str>) -> bool
+        ensures { result ≡ has_live (shown_all deletes.now (finmap.values self.now)) (option_map (λ s. s.now) subject.entry) }
     {
         match subject {
-            Some(subject) => self.has_live_of(subject),
-            None => any_live(&self.entries),
+            Some(subject) => self.has_live_of(deletes, subject),
+            None => any_live(&self.entries, deletes),
         }
     }
 
     /// Whether a subject has a live entry.
-    fn has_live_of(&self, subject: &str) -> bool
-        ensures { result ≡ has_live (finmap.values self.now) (Some subject.now) }
+    fn has_live_of(&self, deletes: &SoftDeletes, subject: &str) -> bool
+        ensures { result ≡ has_live (shown_all deletes.now (finmap.values self.now)) (Some subject.now) }
     {
         match self.tops.get(subject) {
-            Some(top) => any_live_up_to(&self.entries, top),
+            Some(top) => any_live_up_to(&self.entries, top, deletes),
             None => false,
         }
     }
@@ -260,17 +316,25 @@ impl Entries {
     /// The entries with an id, soft ones too, by place. The only error is want of memory.
     ///
     /// It looks at these entries alone, by the names that the id has, and sorts them.
-    pub fn with_id(&self, id: u32) -> Result<Vec<&Entry>, AllocError>
-        ensures { IfOk result (λ found. map (λ e. e.now) found.items ≡ with_id (finmap.values self.now) id) }
+    pub fn with_id(&self, deletes: &SoftDeletes, id: u32) -> Result<Vec<&Entry>, AllocError>
+        ensures { IfOk result (λ found. map (λ e. e.now) found.items ≡ with_id (shown_all deletes.now (finmap.values self.now)) id) }
     {
-        let found = list_with_id(self.alloc, &self.entries, &self.names, id)?;
+        let twins = list_with_id(self.alloc, &self.entries, &self.names, id)?;
+        let found = shown_of(self.alloc, &twins, deletes)?;
         Ok(found)
     }
 
     /// The entry that an id names: of the entries with that id, soft ones too, the one of greatest
     /// offset; of these the one of greatest subject, by its bytes; of these the one of greatest
     /// version.
-    pub fn named(&self, id: u32) -> Option<&Entry>
+    pub fn named(&self, deletes: &SoftDeletes, id: u32) -> Option<&Entry>
+        ensures { option_copied result ≡ named (shown_all deletes.now (finmap.values self.now)) id }
+    {
+        Some(self.twin_named(id)?.shown(deletes))
+    }
+
+    /// The same.
+    fn twin_named(&self, id: u32) -> Option<&Twin>
         ensures { option_copied result ≡ named (finmap.values self.now) id }
     {
         let above = name_above(id);
@@ -312,7 +376,7 @@ impl Entries {
     {
         let last = self.names.last()?;
         let entry = self.entries.get(&last.2)?;
-        Some(entry.id)
+        Some(entry.own().id)
     }
 
     /// The greatest version of a subject's entries, soft ones too.

@@ -7,8 +7,8 @@ ghost use Rattle.reg_entries.specs.EntryOrder.{place_cmp, place_of};
 ghost use Rattle.reg_entries.specs.Index.{ArePlaced, AreNamed};
 ghost use Rattle.reg_entries.specs.Sought.{with_id};
 
-use crate::entry::Entry;
 use crate::names::{At, Name, names_of};
+use crate::twin::Twin;
 use std::alloc::{AllocError, Global};
 use std::cmp::Ordering;
 use std::collections::{BTreeMap, BTreeSet};
@@ -22,10 +22,10 @@ const OFTEN: usize = 16;
 /// that costs less than to find each of them and to sort them.
 pub(crate) fn list_with_id<'a>(
     alloc: Global,
-    entries: &'a BTreeMap<At, Entry>,
+    entries: &'a BTreeMap<At, Twin>,
     names: &BTreeSet<Name>,
     id: u32,
-) -> Result<Vec<&'a Entry>, AllocError>
+) -> Result<Vec<&'a Twin>, AllocError>
     requires ordered { IsOrdered place_cmp entries.now }
     requires placed { ArePlaced entries.now }
     requires named { AreNamed entries.now names.now }
@@ -46,24 +46,24 @@ fn is_often(all: usize, names: &BTreeSet<Name>, id: u32) -> bool {
 /// The entries with an id, by place. This goes through all entries once.
 fn list_among_all<'a>(
     alloc: Global,
-    entries: &'a BTreeMap<At, Entry>,
+    entries: &'a BTreeMap<At, Twin>,
     id: u32,
-) -> Result<Vec<&'a Entry>, AllocError>
+) -> Result<Vec<&'a Twin>, AllocError>
     ensures { IfOk result (λ found. map (λ e. e.now) found.items ≡ with_id (values entries.now) id) }
 {
     entries
         .values()
-        .filter(|entry| entry.id == id)
+        .filter(|entry| entry.own().id == id)
         .collect(alloc)
 }
 
 /// The same. This goes through the names of the id, and sorts what they name.
 fn list_by_name<'a>(
     alloc: Global,
-    entries: &'a BTreeMap<At, Entry>,
+    entries: &'a BTreeMap<At, Twin>,
     names: &BTreeSet<Name>,
     id: u32,
-) -> Result<Vec<&'a Entry>, AllocError>
+) -> Result<Vec<&'a Twin>, AllocError>
     requires ordered { IsOrdered place_cmp entries.now }
     requires placed { ArePlaced entries.now }
     requires named { AreNamed entries.now names.now }
@@ -81,9 +81,10 @@ fn list_by_name<'a>(
 }
 
 /// How two entries stand by place.
-fn by_place(one: &Entry, other: &Entry) -> Ordering
+fn by_place(one: &Twin, other: &Twin) -> Ordering
     ensures { result ≡ on place_of place_cmp one.now other.now }
 {
+    let (one, other) = (one.own(), other.own());
     one.subject
         .cmp(&other.subject)
         .then(one.version.cmp(&other.version))

@@ -9,8 +9,11 @@ mod lists;
 mod meanings;
 mod names;
 mod schemas;
+mod soft_delete;
 mod tops;
+mod twin;
 
 pub use entries::Entries;
 pub use entry::{Entry, Mark};
 pub use laws::two_schemas_is_least;
+pub use soft_delete::{SoftDelete, SoftDeletes};

@@ -6,6 +6,7 @@ ghost use Rattle.std.specs.List.{filter, find};
 ghost use Rattle.std.specs.Map.{values_of};
 ghost use Rattle.std.specs.Option.{option_copied};
 ghost use Rattle.std.specs.Ordering.{eq_by_cmp, is_gt};
+ghost use Rattle.reg_entries.specs.Covered.{shown, shown_all, under};
 ghost use Rattle.reg_entries.specs.EntryOrder.{Place, place_cmp};
 ghost use Rattle.reg_entries.specs.Index.{entry_at, ArePlaced, IsTop};
 ghost use Rattle.reg_entries.specs.Marked.{with_soft, marked};
@@ -13,6 +14,8 @@ ghost use Rattle.reg_entries.specs.Sought.{counts, subjects, has_live};
 
 use crate::entry::{Entry, Mark};
 use crate::names::At;
+use crate::soft_delete::{SoftDelete, SoftDeletes, delete_of};
+use crate::twin::Twin;
 use base_text::Text;
 use std::alloc::{AllocError, Global};
 use std::collections::BTreeMap;
@@ -21,25 +24,68 @@ use std::ops::Bound;
 /// All entries, by place.
 pub(crate) fn list_all(
     alloc: Global,
-    entries: &BTreeMap<At, Entry>,
-) -> Result<Vec<&Entry>, AllocError>
+    entries: &BTreeMap<At, Twin>,
+) -> Result<Vec<&Twin>, AllocError>
     ensures { IfOk result (λ found. map (λ e. e.now) found.items ≡ values entries.now) }
 {
     entries.values().collect(alloc)
 }
 
-/// The subjects with an entry that counts, by their bytes. This goes through all entries once.
-pub(crate) fn list_subjects(
+/// The entries of some twins, as they are.
+pub(crate) fn own_of<'a>(alloc: Global, twins: &[&'a Twin]) -> Result<Vec<&'a Entry>, AllocError>
+    ensures { IfOk result (λ found. map (λ e. e.now) found.items ≡ map (λ e. e.now) twins.now) }
+{
+    let mut found = Vec::new(alloc);
+    for twin in twins {
+        found.push(twin.own())?;
+    }
+    Ok(found)
+}
+
+/// The entries of some twins of one subject, under a soft delete of it, if there is one.
+pub(crate) fn under_of<'a>(
     alloc: Global,
-    entries: &BTreeMap<At, Entry>,
+    twins: &[&'a Twin],
+    delete: Option<SoftDelete>,
+) -> Result<Vec<&'a Entry>, AllocError>
+    ensures { IfOk result (λ found. map (λ e. e.now) found.items ≡ map (under delete) (map (λ e. e.now) twins.now)) }
+{
+    let mut found = Vec::new(alloc);
+    for twin in twins {
+        found.push(twin.under(delete))?;
+    }
+    Ok(found)
+}
+
+/// The entries of some twins, under the last soft deletes of their subjects.
+pub(crate) fn shown_of<'a>(
+    alloc: Global,
+    twins: &[&'a Twin],
+    deletes: &SoftDeletes,
+) -> Result<Vec<&'a Entry>, AllocError>
+    ensures { IfOk result (λ found. map (λ e. e.now) found.items ≡ shown_all deletes.now (map (λ e. e.now) twins.now)) }
+{
+    let mut found = Vec::new(alloc);
+    for twin in twins {
+        found.push(twin.shown(deletes))?;
+    }
+    Ok(found)
+}
+
+/// The subjects with an entry that counts under the last soft deletes, by their bytes. This goes
+/// through all entries once.
+pub(crate) fn list_subjects<'a>(
+    alloc: Global,
+    entries: &'a BTreeMap<At, Twin>,
+    deletes: &SoftDeletes,
     deleted: bool,
-) -> Result<Vec<&str>, AllocError>
-    ensures { IfOk result (λ found. map (λ s. s.now) found.items ≡ subjects (values entries.now) deleted) }
+) -> Result<Vec<&'a str>, AllocError>
+    ensures { IfOk result (λ found. map (λ s. s.now) found.items ≡ subjects (shown_all deletes.now (values entries.now)) deleted) }
 {
     let mut found: Vec<&str> = entries
         .values()
-        .filter(|entry| counts(entry, deleted))
-        .map(|entry| entry.subject.as_str())
+        .filter(|twin| counts_shown(twin, deletes, deleted))
+        .map(|twin| twin.own().subject.as_str())
         .collect(alloc)?;
     found.dedup();
     Ok(found)
@@ -48,10 +94,10 @@ pub(crate) fn list_subjects(
 /// The entries from one place to another, by place.
 pub(crate) fn list_between<'a>(
     alloc: Global,
-    entries: &'a BTreeMap<At, Entry>,
+    entries: &'a BTreeMap<At, Twin>,
     first: &At,
     last: &At,
-) -> Result<Vec<&'a Entry>, AllocError>
+) -> Result<Vec<&'a Twin>, AllocError>
     requires { is_gt (place_cmp first.now last.now) ≡ false }
     ensures { IfOk result (λ found. map (λ e. e.now) found.items ≡ values_of (entries_between place_cmp (Bound.Included first.now) (Bound.Included last.now) entries.now.entries)) }
 {
@@ -62,21 +108,22 @@ pub(crate) fn list_between<'a>(
     Ok(found)
 }
 
-/// The last entry that counts of those from one place to another. This goes back from the last one
-/// until one counts.
+/// The last entry that counts under a soft delete of those from one place to another. This goes
+/// back from the last one until one counts.
 pub(crate) fn last_counting<'a>(
-    entries: &'a BTreeMap<At, Entry>,
+    entries: &'a BTreeMap<At, Twin>,
     first: &At,
     last: &At,
+    delete: Option<SoftDelete>,
     deleted: bool,
 ) -> Option<&'a Entry>
     requires { is_gt (place_cmp first.now last.now) ≡ false }
-    ensures { option_copied result ≡ find (counts deleted) (reverse (values_of (entries_between place_cmp (Bound.Included first.now) (Bound.Included last.now) entries.now.entries))) }
+    ensures { option_copied result ≡ find (counts deleted) (reverse (map (under delete) (values_of (entries_between place_cmp (Bound.Included first.now) (Bound.Included last.now) entries.now.entries)))) }
 {
     entries
         .range((Bound::Included(first), Bound::Included(last)))
         .rev()
-        .map(|(_, entry)| entry)
+        .map(|(_, twin)| twin.under(delete))
         .find(|entry| counts(entry, deleted))
 }
 
@@ -94,25 +141,33 @@ pub(crate) fn counts(entry: &Entry, deleted: bool) -> bool
     deleted || !entry.soft
 }
 
-/// Whether one of them is live. This goes through all entries.
-pub(crate) fn any_live(entries: &BTreeMap<At, Entry>) -> bool
-    ensures { result ≡ has_live (values entries.now) None }
+/// Whether an entry counts under the last soft delete of its subject.
+fn counts_shown(twin: &Twin, deletes: &SoftDeletes, deleted: bool) -> bool
+    ensures { result ≡ counts deleted (shown deletes.now twin.now) }
 {
-    entries.values().any(|entry| !entry.soft)
+    deleted || !twin.shown(deletes).soft
 }
 
-/// Whether the subject of its greatest version's place has a live entry. This goes back from that
-/// version on until an entry is live, or of another subject.
-pub(crate) fn any_live_up_to(entries: &BTreeMap<At, Entry>, top: &At) -> bool
+/// Whether one of them is live under the last soft deletes. This goes through all entries.
+pub(crate) fn any_live(entries: &BTreeMap<At, Twin>, deletes: &SoftDeletes) -> bool
+    ensures { result ≡ has_live (shown_all deletes.now (values entries.now)) None }
+{
+    entries.values().any(|twin| !twin.shown(deletes).soft)
+}
+
+/// Whether the subject of its greatest version's place has an entry that is live under its last
+/// soft delete. This goes back from that version on until an entry is live, or of another subject.
+pub(crate) fn any_live_up_to(entries: &BTreeMap<At, Twin>, top: &At, deletes: &SoftDeletes) -> bool
     requires ordered { IsOrdered place_cmp entries.now }
     requires placed { ArePlaced entries.now }
     requires top { IsTop entries.now top.now.0 (Some top.now) }
-    ensures { result ≡ has_live (values entries.now) (Some top.now.0) }
+    ensures { result ≡ has_live (shown_all deletes.now (values entries.now)) (Some top.now.0) }
 {
+    let delete = delete_of(deletes, top.0.as_str());
     let found = entries
         .range(..=top)
         .rev()
-        .map(|(_, entry)| entry)
+        .map(|(_, twin)| twin.under(delete))
         .find(|entry| entry.subject != top.0 || !entry.soft);
     match found {
         Some(entry) => entry.subject == top.0,
@@ -121,17 +176,17 @@ pub(crate) fn any_live_up_to(entries: &BTreeMap<At, Entry>, top: &At) -> bool
 }
 
 /// Marks the entry at a place, if there is one.
-pub(crate) fn set_soft(entries: &mut BTreeMap<At, Entry>, place: &At, soft: bool)
+pub(crate) fn set_soft(entries: &mut BTreeMap<At, Twin>, place: &At, soft: bool)
     ensures at { (q : Place) → entry_at entries.new q ≡ (if eq_by_cmp place_cmp place.now q then option_map (with_soft soft) (entry_at entries.old q) else entry_at entries.old q) }
     ensures ordered { IsOrdered place_cmp entries.new }
 {
     if let Some(entry) = entries.get_mut(place) {
-        entry.soft = soft;
+        entry.set_soft(soft);
     }
 }
 
 /// Gives versions of a subject their marks.
-pub(crate) fn set_marks(entries: &mut BTreeMap<At, Entry>, subject: Text, marks: &[Mark])
+pub(crate) fn set_marks(entries: &mut BTreeMap<At, Twin>, subject: Text, marks: &[Mark])
     requires ordered { IsOrdered place_cmp entries.old }
     requires placed { ArePlaced entries.old }
     ensures marked { (p : Place) → entry_at entries.new p ≡ option_map (marked subject marks.now) (entry_at entries.old p) }

@@ -7,8 +7,8 @@ ghost use Rattle.reg_entries.specs.Meanings.{Meaning, meaning_of, meaning_cmp, I
 ghost use Rattle.reg_entries.specs.Schemas.{Schema};
 ghost use Rattle.reg_entries.specs.declared.entry.Entry.{Entry};
 
-use crate::entry::Entry;
 use crate::schemas::Schema;
+use crate::twin::Twin;
 use base_text::Text;
 use std::alloc::AllocError;
 use std::collections::BTreeSet;
@@ -23,15 +23,16 @@ pub(crate) type Meaning = (u64, Text);
 pub(crate) fn mean(
     meanings: &mut BTreeSet<Meaning>,
     doubled: &mut BTreeSet<u32>,
-    entry: &Entry,
+    entry: &Twin,
 ) -> Result<(), AllocError>
     requires { AreDoubled meanings.old doubled.old }
     ensures meant { OnOk result ((k : Meaning) → contains meaning_cmp meanings.new k ≡ cond (eq_by_cmp meaning_cmp (entry.now.id, entry.now.normal) k) true (contains meaning_cmp meanings.old k)) }
     ensures refused { OnErr result ((k : Meaning) → contains meaning_cmp meanings.new k ≡ contains meaning_cmp meanings.old k) }
     ensures doubled { AreDoubled meanings.new doubled.new }
 {
-    let id = entry.id;
-    let meaning = (u64::from(id), entry.normal.clone()?);
+    let own = entry.own();
+    let id = own.id;
+    let meaning = (u64::from(id), own.normal.clone()?);
     doubled.insert(id)?;
     let added = meanings.insert(meaning);
     settle_doubled(meanings, doubled, id);

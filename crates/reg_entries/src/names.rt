@@ -8,6 +8,7 @@ ghost use Rattle.reg_entries.specs.EntryOrder.{place_cmp, place_of};
 ghost use Rattle.reg_entries.specs.Index.{Name, name_of, name_cmp, HasAt, ArePlaced, AreNamed};
 
 use crate::entry::Entry;
+use crate::twin::Twin;
 use base_text::Text;
 use std::alloc::AllocError;
 use std::collections::btree_set::Range;
@@ -22,19 +23,22 @@ pub(crate) type At = (Text, u32);
 pub(crate) type Name = (u64, u64, At);
 
 /// The place of an entry.
-pub(crate) fn place_of(entry: &Entry) -> Result<At, AllocError>
+pub(crate) fn place_of(entry: &Twin) -> Result<At, AllocError>
     ensures place { IfOk result (λ place. place ≡ (entry.now.subject, entry.now.version)) }
     ensures fits { IfOk result (λ place. place.1 < 2 ^ 32) }
 {
+    let entry = entry.own();
     let version = entry.version;
     Ok((entry.subject.clone()?, version))
 }
 
 /// The name of an entry.
-pub(crate) fn name_of(entry: &Entry) -> Result<Name, AllocError>
+pub(crate) fn name_of(entry: &Twin) -> Result<Name, AllocError>
     ensures { IfOk result (λ name. name ≡ name_of entry.now) }
 {
-    Ok((u64::from(entry.id), entry.offset, place_of(entry)?))
+    let own = entry.own();
+    let (id, offset) = (own.id, own.offset);
+    Ok((u64::from(id), offset, place_of(entry)?))
 }
 
 /// The least name of an id.
@@ -62,7 +66,7 @@ pub(crate) fn names_of<'a>(names: &'a BTreeSet<Name>, id: u32) -> Range<'a, Name
 }
 
 /// Takes the name of an entry away.
-pub(crate) fn forget(names: &mut BTreeSet<Name>, entry: Entry)
+pub(crate) fn forget(names: &mut BTreeSet<Name>, entry: Twin)
     ensures { (n : Name) → contains name_cmp names.new n ≡ cond (eq_by_cmp name_cmp (name_of entry) n) false (contains name_cmp names.old n) }
 {
     let Entry {
@@ -71,24 +75,25 @@ pub(crate) fn forget(names: &mut BTreeSet<Name>, entry: Entry)
         id,
         offset,
         ..
-    } = entry;
+    } = entry.into_own();
     names.remove(&(u64::from(id), offset, (subject, version)));
 }
 
 /// Takes the name of an entry away, unless the entry that is now at its place has the same.
-pub(crate) fn forget_other(names: &mut BTreeSet<Name>, entry: Entry, id: u32, offset: u64)
+pub(crate) fn forget_other(names: &mut BTreeSet<Name>, entry: Twin, id: u32, offset: u64)
     ensures { (n : Name) → contains name_cmp names.new n ≡ (contains name_cmp names.old n && (not (eq_by_cmp name_cmp (name_of entry) n) || (entry.id == id && entry.offset == offset))) }
 {
-    if entry.id != id || entry.offset != offset {
+    let own = entry.own();
+    if own.id != id || own.offset != offset {
         forget(names, entry);
     }
 }
 
 /// Writes an entry and its name. An entry that was at its place goes, with its name.
 pub(crate) fn write(
-    entries: &mut BTreeMap<At, Entry>,
+    entries: &mut BTreeMap<At, Twin>,
     names: &mut BTreeSet<Name>,
-    entry: Entry,
+    entry: Twin,
 ) -> Result<(), AllocError>
     requires ordered { IsOrdered place_cmp entries.old }
     requires placed { ArePlaced entries.old }
@@ -100,7 +105,8 @@ pub(crate) fn write(
     ensures still_named { AreNamed entries.new names.new }
 {
     let place = place_of(&entry)?;
-    let (id, offset) = (entry.id, entry.offset);
+    let own = entry.own();
+    let (id, offset) = (own.id, own.offset);
     names.insert(name_of(&entry)?)?;
     match entries.insert(place, entry) {
         Ok(None) => Ok(()),

@@ -9,6 +9,7 @@ ghost use Rattle.reg_entries.specs.Schemas.{Schema, schema_of, schema_cmp, is_he
 
 use crate::entry::Entry;
 use crate::names::{At, Name, place_of, write};
+use crate::twin::Twin;
 use base_text::Text;
 use std::alloc::{AllocError, Global};
 use std::collections::{BTreeMap, BTreeSet};
@@ -17,11 +18,12 @@ use std::collections::{BTreeMap, BTreeSet};
 pub(crate) type Schema = (Text, u32, At);
 
 /// The schema of an entry.
-pub(crate) fn schema_of(entry: &Entry) -> Result<Schema, AllocError>
+pub(crate) fn schema_of(entry: &Twin) -> Result<Schema, AllocError>
     ensures { IfOk result (λ schema. schema ≡ schema_of entry.now) }
 {
-    let id = entry.id;
-    Ok((entry.normal.clone()?, id, place_of(entry)?))
+    let own = entry.own();
+    let id = own.id;
+    Ok((own.normal.clone()?, id, place_of(entry)?))
 }
 
 /// The least schema of a normal text.
@@ -33,7 +35,7 @@ pub(crate) fn first_schema(alloc: Global, normal: &str) -> Result<Schema, AllocE
 
 /// The schema of the entry at a place, if there is one.
 pub(crate) fn schema_at(
-    entries: &BTreeMap<At, Entry>,
+    entries: &BTreeMap<At, Twin>,
     place: &At,
 ) -> Result<Option<Schema>, AllocError>
     ensures { IfOk result (λ schema. schema ≡ option_map schema_of (entry_at entries.now place.now)) }
@@ -45,11 +47,14 @@ pub(crate) fn schema_at(
 }
 
 /// Whether the entry at a schema's place has that schema.
-fn has_schema(entries: &BTreeMap<At, Entry>, schema: &Schema) -> bool
+fn has_schema(entries: &BTreeMap<At, Twin>, schema: &Schema) -> bool
     ensures { result ≡ is_held entries.now schema.now }
 {
     match entries.get(&schema.2) {
-        Some(entry) => entry.id == schema.1 && entry.normal == schema.0,
+        Some(entry) => {
+            let own = entry.own();
+            own.id == schema.1 && own.normal == schema.0
+        }
         None => false,
     }
 }
@@ -58,7 +63,7 @@ fn has_schema(entries: &BTreeMap<At, Entry>, schema: &Schema) -> bool
 pub(crate) fn unlist(
     names: &mut BTreeSet<Name>,
     schemas: &mut BTreeSet<Schema>,
-    entry: Entry,
+    entry: Twin,
 ) -> Schema
     ensures schema { result ≡ schema_of entry }
     ensures unnamed { (n : Name) → contains name_cmp names.new n ≡ cond (eq_by_cmp name_cmp (name_of entry) n) false (contains name_cmp names.old n) }
@@ -71,7 +76,7 @@ pub(crate) fn unlist(
         normal,
         offset,
         ..
-    } = entry;
+    } = entry.into_own();
     let name = (u64::from(id), offset, (subject, version));
     names.remove(&name);
     let (_, _, place) = name;
@@ -83,10 +88,10 @@ pub(crate) fn unlist(
 /// Writes an entry, its name and its schema, which is the new one. An entry that was at its place
 /// goes, with its own, which is the old one.
 pub(crate) fn write_all(
-    entries: &mut BTreeMap<At, Entry>,
+    entries: &mut BTreeMap<At, Twin>,
     names: &mut BTreeSet<Name>,
     schemas: &mut BTreeSet<Schema>,
-    entry: Entry,
+    entry: Twin,
     new: &Schema,
     old: &Option<Schema>,
 ) -> Result<(), AllocError>
@@ -111,7 +116,7 @@ pub(crate) fn write_all(
 }
 
 /// Takes a schema away unless the entry at its place has it.
-fn settle(schemas: &mut BTreeSet<Schema>, entries: &BTreeMap<At, Entry>, schema: &Schema)
+fn settle(schemas: &mut BTreeSet<Schema>, entries: &BTreeMap<At, Twin>, schema: &Schema)
     ensures { (s : Schema) → contains schema_cmp schemas.new s ≡ (contains schema_cmp schemas.old s && (not (eq_by_cmp schema_cmp schema.now s) || is_held entries.now s)) }
 {
     if !has_schema(entries, schema) {
@@ -120,11 +125,7 @@ fn settle(schemas: &mut BTreeSet<Schema>, entries: &BTreeMap<At, Entry>, schema:
 }
 
 /// Takes a schema away, if there is one, unless the entry at its place has it.
-fn settle_any(
-    schemas: &mut BTreeSet<Schema>,
-    entries: &BTreeMap<At, Entry>,
-    schema: &Option<Schema>,
-)
+fn settle_any(schemas: &mut BTreeSet<Schema>, entries: &BTreeMap<At, Twin>, schema: &Option<Schema>)
     ensures { (s : Schema) → contains schema_cmp schemas.new s ≡ (contains schema_cmp schemas.old s && (not (is_that schema.now s) || is_held entries.now s)) }
 {
     if let Some(schema) = schema {

@@ -1,26 +1,25 @@
 -- A node can take all that is kept, and then took a compaction of the log.
-use Rattle.std.proofs.Common.{◌≡◌, ℕ, zero, suc, List, [], ◌∷◌, ◌++◌, Bool, true, false, ◌&&◌, ◌||◌, Option, Some, None, is_some, IfSome, slice_get, refl, sym, ◌∙◌, ap, subst}
+use Rattle.std.proofs.Common.{◌≡◌, ℕ, zero, suc, List, [], ◌∷◌, ◌++◌, Bool, true, false, ◌&&◌, ◌||◌, ◌==◌, Option, Some, None, is_some, slice_get, refl, sym, ◌∙◌, ap, subst, eq-eqb}
 use Rattle.std.specs.Cmp.{IsTotalOrder, tied_itself}
-use Rattle.std.specs.FinSet.{IsAntisymmetric, contains, contains-from_list, contains-items, from_list, items, same_set, union}
+use Rattle.std.specs.FinSet.{IsAntisymmetric, contains, contains-from_list, contains-items, contains-union, from_list, items}
 use Rattle.std.specs.List.{list_all, list_any}
+use Rattle.std.specs.Option.{option_map_or}
 use Rattle.std.specs.Ordering.{eq_by_cmp, is_eq}
 use Rattle.reg_records.specs.declared.record.Record.{Record}
-use Rattle.reg_set.specs.Compaction.{IsCompactionOf}
-use Rattle.reg_set.specs.Join.{MergingIsCommutative}
 use Rattle.reg_set.specs.RecordOrder.{record_cmp}
 use Rattle.reg_set.specs.Records.{Records}
-use Rattle.reg_topic.specs.Laws.{CompactionsTakeParts}
-use Rattle.reg_world.specs.Core.{IsNode, KeptIsCompaction, NodesAreCompactions}
-use Rattle.reg_world.specs.Happens.{Happens, is_allowed}
-use Rattle.reg_world.specs.Headline.{Took}
+use Rattle.reg_kept.specs.Floored.{Floored}
+use Rattle.reg_topic.specs.Topic.{whole_log}
+use Rattle.reg_world.specs.Happens.{Happens, floors_agree, is_allowed}
+use Rattle.reg_world.specs.Headline.{TakersOfAllCatchUp, Took}
 use Rattle.reg_world.specs.Runs.{After, Runs}
-use Rattle.reg_world.specs.State.{State, changed, has_node, taking, topic_of, with_node}
+use Rattle.reg_world.specs.State.{State, changed, has_node, no_records, rebasing, set_at, taking, topic_of, with_node}
 use Rattle.reg_world.specs.declared.event.Event.{Event}
 use Rattle.reg_world.specs.declared.event.Event.TheVariants as events
 use Rattle.reg_world.specs.declared.event.Outcome.{Outcome}
 use Rattle.reg_world.specs.declared.event.Outcome.TheVariants as outcomes
 use Rattle.reg_world.specs.declared.node.Node.{Node}
-use Rattle.reg_existence.specs.CatchingUp.{NodesMayCatchUp}
+use Rattle.reg_existence.specs.CatchingUp.{CatchesUpBy, NodesMayCatchUp, RebasedNodesMayCatchUp, take_all}
 use Rattle.reg_existence.proofs.Events.{allowed}
 
 -- one event more
@@ -40,13 +39,26 @@ some_node : (o : Option Node) → is_some o ≡ true → (n : Node) × (o ≡ So
 some_node None e = cc
 some_node (Some n) e = (n, refl)
 
-there_if_some : (P : Node → Type 0) (o : Option Node) (n : Node) → o ≡ Some n → IfSome o P → P n
-there_if_some P o n is holds = subst (λ x. IfSome x P) is holds
+set_there : (s : State) (i : ℕ) (n : Node) → slice_get s.nodes i ≡ Some n → set_at s i ≡ n.set
+set_there s i n there = ap (λ o. option_map_or (λ (m : Node). m.set) o no_records.set) there
+
+two_more : (xs : List Event) (a b : Event) → (xs ++ a ∷ []) ++ b ∷ [] ≡ xs ++ a ∷ b ∷ []
+two_more [] a b = refl
+two_more (x ∷ xs) a b = ap (λ ys. x ∷ ys) (two_more xs a b)
+
+one_more : (es : List Event) (w v : State) (e : Event) (o : Outcome) → After es w → Happens w e o v → After (es ++ e ∷ []) v
+one_more es w v e o after happens = record {
+  base = after.base;
+  adopted = after.adopted;
+  count = after.count;
+  outcomes = after.outcomes ++ o ∷ [];
+  run = runs_push _ es after.outcomes w v e o after.run happens;
+}
 
 module _ (order : IsTotalOrder record_cmp) (apart : IsAntisymmetric record_cmp) where
-  -- a set is made of its items, each of which it has
-  of_items : (s : Records) → from_list (items s) ≡ s
-  of_items s = same_set order apart (from_list (items s)) s (λ q. contains-from_list order (items s) q ∙ sym (contains-items s q))
+  -- the items of a set are what it has
+  in_items : (s : Records) (q : Record) → contains s q ≡ true → contains (from_list {R = record_cmp} (items s)) q ≡ true
+  in_items s q there = contains-from_list order (items s) q ∙ sym (contains-items s q) ∙ there
 
   itself : (r : Record) → eq_by_cmp record_cmp r r ≡ true
   itself r = ap is_eq (tied_itself order r)
@@ -72,22 +84,37 @@ module _ (order : IsTotalOrder record_cmp) (apart : IsAntisymmetric record_cmp) 
   and_true true b e f = f
   and_true false b e f = e
 
-  module _ (commutes : MergingIsCommutative) (parts : CompactionsTakeParts) (kept : KeptIsCompaction) (nodes : NodesAreCompactions) where
-    take_all : (es : List Event) (w : State) (after : After es w) (i : ℕ) → has_node w i ≡ true → (n : Node) → slice_get w.nodes i ≡ Some n
-        → (v : State) × After (es ++ events.Take i (items (topic_of w).kept) ∷ []) v × (topic_of v ≡ topic_of w) × Took v i (topic_of w).log
-    take_all es w after i has n is =
-        let all : List Record = items (topic_of w).kept in
-        let v : State = with_node w i (taking (from_list all)) in
-        let fine : is_allowed w (events.Take i all) ≡ true = and_true (has_node w i) (list_all (contains (topic_of w).kept) all) has (has_items (topic_of w).kept) in
-        let happens : Happens w (events.Take i all) outcomes.Done v = allowed w v (events.Take i all) outcomes.Done fine (refl, refl) in
-        let part : IsNode w n = there_if_some (IsNode w) (slice_get w.nodes i) n is (nodes es w after i) in
-        let joined : IsCompactionOf (union (topic_of w).kept n.took) (topic_of w).log = parts (topic_of w).kept n.took (topic_of w).log (kept es w after) part.part in
-        let same : union (topic_of w).kept n.took ≡ union n.took (from_list all) = commutes (topic_of w).kept n.took ∙ ap (union n.took) (sym (of_items (topic_of w).kept)) in (
+  module _ (all_catch_up : TakersOfAllCatchUp) where
+    takes_all : (es : List Event) (w : State) (after : After es w) (i : ℕ) → has_node w i ≡ true → (set_at w i).floor ≡ (topic_of w).kept.floor → (n : Node) → slice_get w.nodes i ≡ Some n
+        → CatchesUpBy es w i (take_all w i ∷ [])
+    takes_all es w after i has at_floor n is =
+        let kept : Records = (topic_of w).kept.records in
+        let f = taking (from_list (items kept)) in
+        let v : State = with_node w i f in
+        let fine : is_allowed w (take_all w i) ≡ true = and_true (has_node w i) (list_all (contains kept) (items kept)) has (has_items kept) in
+        let agree : floors_agree w (take_all w i) ≡ true = eq-eqb (set_at w i).floor (topic_of w).kept.floor at_floor in
+        let then : After (es ++ take_all w i ∷ []) v = one_more es w v (take_all w i) outcomes.Done after (allowed w v (take_all w i) outcomes.Done fine agree (refl, refl)) in (
           v,
-          record { base = after.base; adopted = after.adopted; count = after.count; outcomes = after.outcomes ++ outcomes.Done ∷ []; run = runs_push _ es after.outcomes w v (events.Take i all) outcomes.Done after.run happens },
+          then,
           refl,
-          record { node = taking (from_list all) n; is_there = changed_at (taking (from_list all)) i w.nodes n is; compaction = subst (λ C. IsCompactionOf C (topic_of w).log) same joined },
+          all_catch_up (es ++ take_all w i ∷ []) v then i (record {
+            node = f n;
+            is_there = changed_at f i w.nodes n is;
+            at_floor = sym (ap (λ (x : Floored). x.floor) (set_there w i n is)) ∙ at_floor;
+            all = λ r there. contains-union order n.took (from_list (items kept)) r ∙ or_true (contains n.took r) (contains (from_list (items kept)) r) (in_items kept r there);
+          }),
         )
 
     pub nodes_may_catch_up : NodesMayCatchUp
-    nodes_may_catch_up es w after i has = let (n, is) = some_node (slice_get w.nodes i) has in take_all es w after i has n is
+    nodes_may_catch_up es w after i has at_floor = let (n, is) = some_node (slice_get w.nodes i) has in takes_all es w after i has at_floor n is
+
+    pub rebased_nodes_may_catch_up : RebasedNodesMayCatchUp
+    rebased_nodes_may_catch_up es w after i has =
+        let (n, is) = some_node (slice_get w.nodes i) has in
+        let f = rebasing (topic_of w).kept in
+        let u : State = with_node w i f in
+        let there = changed_at f i w.nodes n is in
+        let then : After (es ++ events.Rebase i ∷ []) u = one_more es w u (events.Rebase i) outcomes.Done after (allowed w u (events.Rebase i) outcomes.Done has refl (refl, refl)) in
+        let at_floor : (set_at u i).floor ≡ (topic_of u).kept.floor = ap (λ (x : Floored). x.floor) (set_there u i (f n) there) in
+        let (v, last, same, took) = nodes_may_catch_up (es ++ events.Rebase i ∷ []) u then i (ap is_some there) at_floor in
+        (v, subst (λ more. After more v) (two_more es (events.Rebase i) (take_all w i)) last, same, took)

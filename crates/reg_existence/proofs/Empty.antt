@@ -1,5 +1,5 @@
 -- The topic without a record is adopted: nothing in it is closed.
-use Rattle.std.proofs.Common.{◌≡◌, true, false, ◌||◌, is_some, Some, None, Contains, refl, sym, ◌∙◌, ap}
+use Rattle.std.proofs.Common.{◌≡◌, true, false, ◌||◌, is_some, Some, None, Contains, refl, sym, ◌∙◌, ap, arith}
 use Rattle.std.specs.FinSet.{contains-empty, empty}
 use Rattle.reg_records.specs.declared.key.Key.{Key}
 use Rattle.reg_records.specs.declared.key.Key.TheVariants as keys
@@ -38,5 +38,6 @@ module _ (greatest : LastIsGreatest) (stand : EntriesAreOfPlaces) (opaque_lasts 
   empty_is_adopted = record {
     not_closed = not_closed;
     ahead = λ r there. let no : false ≡ true = sym (contains-empty record_cmp r) ∙ there in cc;
+    floor_below = omega arith;
     whole = refl;
   }

@@ -38,4 +38,4 @@ WorldsExist = (base : Topic) (count : ℕ) → IsAdopted base → (events : List
 
 -- and there is an adopted base: the topic without a record
 abbrev pub EmptyTopicIsAdopted : Type 0
-EmptyTopicIsAdopted = IsAdopted (record { log = empty; kept = empty; next = 0 })
+EmptyTopicIsAdopted = IsAdopted (record { log = empty; kept = record { records = empty; floor = 0 }; next = 0; compacted = 0 })

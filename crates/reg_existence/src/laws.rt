@@ -1,6 +1,6 @@
 // That there is what the relations speak of. What is proved here costs nothing at run time: a function
 // that needs a law calls it.
-ghost use Rattle.reg_existence.specs.CatchingUp.{NodesMayCatchUp};
+ghost use Rattle.reg_existence.specs.CatchingUp.{NodesMayCatchUp, RebasedNodesMayCatchUp};
 ghost use Rattle.reg_existence.specs.Events.{EmptyTopicIsAdopted, EventsAreSingle, EventsHappen, ListsOfEventsAreSingle, ListsOfEventsRun, NodesAnswer, WorldsExist};
 ghost use Rattle.reg_existence.specs.Steps.{AnswersExist, StepsExist};
 ghost use Rattle.reg_existence.specs.Verdicts.{LevelVerdictsExist, ReportsExist, VerdictsExist};
@@ -8,9 +8,8 @@ ghost use Rattle.reg_existence.specs.Verdicts.{LevelVerdictsExist, ReportsExist,
 use reg_fold::{entries_are_of_places, none_is_no_opaque_last, two_schemas_is_least};
 use reg_leader::steps_are_single;
 use reg_lookup::queries_have_one_answer;
-use reg_set::{last_is_greatest, merging_joins_sets, records_are_ordered};
-use reg_topic::superseded_records_may_go;
-use reg_world::every_list_of_events_is_lawful;
+use reg_set::{last_is_greatest, records_are_ordered};
+use reg_world::caught_up_nodes_answer_as_the_log;
 
 /// Two schemas are compatible, or a trail to a clash is shown; each level has a verdict on them.
 pub fn verdicts_exist()
@@ -70,12 +69,12 @@ pub fn empty_topic_is_adopted()
     two_schemas_is_least();
 }
 
-/// Whatever a node took, it may take all that is kept, and then took a compaction of the log.
+/// Whatever a node took, it may take all that is kept, and then took a compaction of the log: at the kept
+/// floor at once, and at any other once it is rebased.
 pub fn nodes_may_catch_up()
-    ensures { NodesMayCatchUp }
+    ensures at_floor { NodesMayCatchUp }
+    ensures rebased { RebasedNodesMayCatchUp }
 {
-    every_list_of_events_is_lawful();
-    merging_joins_sets();
+    caught_up_nodes_answer_as_the_log();
     records_are_ordered();
-    superseded_records_may_go();
 }

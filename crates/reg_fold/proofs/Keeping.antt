@@ -1,12 +1,12 @@
 -- What a registry keeps, as a whole.
-use Rattle.std.proofs.Common.{◌≡◌, Bool, false, ◌||◌, ◌&&◌, List, [], ◌∷◌, Some, None, option_and_then, unwrap_or, refl, sym, ap, ◌∙◌}
+use Rattle.std.proofs.Common.{◌≡◌, Bool, false, ◌||◌, ◌&&◌, List, [], ◌∷◌, Option, Some, None, option_and_then, option_map, unwrap_or, refl, sym, ap, subst, ◌∙◌}
 use Rattle.std.proofs.lemmas.Bool.{false≢true}
 use Rattle.std.proofs.lemmas.Cmp.{tied_itself}
 use Rattle.std.specs.BTreeSet.{BTreeSet, IsEmpty, IsUnchanged}
 use Rattle.std.specs.Cmp.{IsTotalOrder}
 use Rattle.std.specs.FinMap as finmap
 use Rattle.std.specs.FinSet as set
-use Rattle.std.specs.List.{AllZip, filter, filter_map, fold, list_any, reduce}
+use Rattle.std.specs.List.{AllZip, filter, list_any, reduce}
 use Rattle.std.specs.Option.{option_map_or}
 use Rattle.std.specs.Ordering.{eq_by_cmp, is_eq, ord_max}
 use Rattle.reg_records.specs.declared.key.Key.{Key}
@@ -16,22 +16,44 @@ use Rattle.reg_set.specs.LastRecords.{is_of, last}
 use Rattle.reg_set.specs.RecordOrder.{age_cmp, record_cmp}
 use Rattle.reg_set.specs.Records.{Records, in_order, records_of}
 use Rattle.reg_fold.specs.Entries.{entries, entry_map, entry_of}
-use Rattle.reg_entries.specs.EntryOrder.{place_cmp}
+use Rattle.reg_entries.specs.Covered.{shown, shown_all}
+use Rattle.reg_entries.specs.EntryOrder.{Place, place_cmp}
+use Rattle.reg_entries.specs.Marked.{with_soft}
 use Rattle.reg_fold.specs.IdMark.{id_mark, id_marked_of}
 use Rattle.reg_fold.specs.InForce.{Scope, level_of, mode_name_of, own_level, own_mode_name}
 use Rattle.reg_fold.specs.Kept.{IsKept}
 use Rattle.reg_fold.specs.Opaque.{is_opaque}
+use Rattle.reg_fold.specs.Own.{AreOwnEntries, own_entry_of}
 use Rattle.reg_fold.specs.Scopes.{kept_own}
 use Rattle.reg_fold.specs.SoftDeletes.{delete_of, own_delete}
-use Rattle.reg_fold.specs.Spots.{Spot, HasSpots, is_deleted, is_spot, spot_cmp}
+use Rattle.reg_fold.specs.Spots.{Spot, HasSpots, is_spot, spot_cmp}
+use Rattle.reg_fold.specs.Step.{EntriesAreOfLasts}
 use Rattle.reg_entries.specs.declared.entry.Entry.{Entry}
 use Rattle.reg_fold.specs.declared.index.Index.{Index}
+use Rattle.reg_fold.proofs.Own.{marked_in, own_marked}
+use Rattle.reg_fold.proofs.Shown.{values_by}
+use Rattle.reg_fold.proofs.SoftDeletes.{marked_by_own}
 use Rattle.reg_fold.proofs.Spotted.{spots-same}
 
--- the entries that are kept are those of the last records
-pub values-kept : (index : Index) → IsKept index → finmap.values index.entries ≡ entries index.last
-unfolding entries
-values-kept index kept = ap (λ (m : finmap.FinMap place_cmp Entry). finmap.values m) kept.all_entries
+module _ (index : Index) (kept : IsKept index) where
+  -- an entry is shown as its subject's last soft delete marks it
+  marked_shown : (e : Entry) → marked_in index.last e ≡ shown index.deletes.of_subjects e
+  marked_shown e = ap (λ b. with_soft (e.soft || b) e) (sym (marked_by_own index.last index.deletes kept.all_deletes e.subject e.version e.offset))
+
+  at-kept : (p : Place) → finmap.get (entry_map index.last) p ≡ option_map (shown index.deletes.of_subjects) (finmap.get index.entries p)
+  at-kept p =
+      kept.of_lasts p ∙ each (last index.last (keys.Schema p.0 p.1))
+      ∙ ap (λ (f : Entry → Entry). option_map f (option_and_then own_entry_of (last index.last (keys.Schema p.0 p.1)))) (λ i e. marked_shown e i)
+      ∙ ap (option_map (shown index.deletes.of_subjects)) (sym (kept.all_entries p))
+    where
+      each : (o : Option Record) → option_and_then (entry_of index.last) o ≡ option_map (marked_in index.last) (option_and_then own_entry_of o)
+      each None = refl
+      each (Some r) = own_marked index.last r
+
+  -- the entries that are kept, as they are shown, are those of the last records
+  pub values-kept : shown_all index.deletes.of_subjects (finmap.values index.entries) ≡ entries index.last
+  unfolding entries
+  values-kept = values_by (shown index.deletes.of_subjects) index.entries (entry_map index.last) at-kept
 
 module _ (total : IsTotalOrder record_cmp) where
   no_items : (rs : List Record) → ((q : Record) → list_any (eq_by_cmp record_cmp q) rs ≡ false) → rs ≡ []
@@ -43,10 +65,6 @@ module _ (total : IsTotalOrder record_cmp) where
   unfolding records_of
   records_of-empty = ap in_order (no_items (set.items set.empty) (λ q. sym (set.contains-items set.empty q) ∙ set.contains-empty record_cmp q))
 
-  entry_map-empty : entry_map set.empty ≡ finmap.empty
-  unfolding entry_map
-  entry_map-empty = ap (λ found. fold (λ m e. finmap.insert m (e.subject, e.version) e) finmap.empty (filter_map (entry_of set.empty) found)) records_of-empty
-
   last-empty : (key : Key) → last set.empty key ≡ None
   unfolding last
   last-empty key = ap (λ found. reduce (ord_max age_cmp) (filter (is_of key) found)) records_of-empty
@@ -56,6 +74,11 @@ module _ (total : IsTotalOrder record_cmp) where
       ap (list_any (λ k. is_eq (spot_cmp s k))) none
       ∙ sym (ap (λ rs. is_spot kind rs s) rs_are
       ∙ ap (λ o. option_map_or (λ r. kind r && eq_by_cmp spot_cmp (r.offset, s.1) s) o false) (last-empty (keys.Schema s.1.0 s.1.1)))
+
+  AreOwnEntries-empty : (m : finmap.FinMap place_cmp Entry) (rs : Records) → rs ≡ set.empty → m ≡ finmap.empty → AreOwnEntries rs m
+  AreOwnEntries-empty m rs rs_are none p =
+      ap (λ (n : finmap.FinMap place_cmp Entry). finmap.get n p) none ∙ finmap.get-empty place_cmp p
+      ∙ sym (ap (λ rs. option_and_then own_entry_of (last rs (keys.Schema p.0 p.1))) rs_are ∙ ap (option_and_then own_entry_of) (last-empty (keys.Schema p.0 p.1)))
 
   own_level-empty : (rs : Records) → rs ≡ set.empty → (q : Scope) → own_level rs q ≡ None
   unfolding own_level
@@ -75,12 +98,12 @@ module _ (total : IsTotalOrder record_cmp) where
   id_mark-empty rs rs_are = ap id_mark rs_are ∙ ap (λ o. unwrap_or (option_and_then id_marked_of o) 0) (last-empty keys.IdMark)
 
   -- without a record nothing is kept
-  pub IsKept-empty : (index : Index) → index.last ≡ set.empty → index.entries ≡ finmap.empty → IsEmpty index.unread → IsEmpty index.deleted
+  pub IsKept-empty : (index : Index) → index.last ≡ set.empty → EntriesAreOfLasts index.last → index.entries ≡ finmap.empty → IsEmpty index.unread
       → ((q : Scope) → kept_own index.deletes q ≡ None) → ((q : Scope) → kept_own index.levels q ≡ None) → ((q : Scope) → kept_own index.modes q ≡ None) → index.id_mark ≡ 0 → IsKept index
-  IsKept-empty index last_is entries_are none_unread none_deleted no_delete no_level no_mode no_mark = record {
-    all_entries = entries_are ∙ sym (ap entry_map last_is ∙ entry_map-empty);
+  IsKept-empty index last_is of_lasts entries_are none_unread no_delete no_level no_mode no_mark = record {
+    of_lasts = of_lasts;
+    all_entries = AreOwnEntries-empty index.entries index.last last_is entries_are;
     all_unread = HasSpots-empty is_opaque index.unread index.last last_is none_unread;
-    all_deleted = HasSpots-empty is_deleted index.deleted index.last last_is none_deleted;
     all_deletes = λ q. no_delete q ∙ sym (own_delete-empty index.last last_is q);
     all_levels = λ q. no_level q ∙ sym (own_level-empty index.last last_is q);
     all_modes = λ q. no_mode q ∙ sym (own_mode_name-empty index.last last_is q);
@@ -95,12 +118,12 @@ spots-copied (x ∷ xs) [] h = absurd h
 spots-copied (x ∷ xs) (y ∷ ys) h = λ i. (h.0.0 i, (h.0.1.0 i, h.0.1.1 i)) ∷ spots-copied xs ys h.1 i
 
 -- what is kept of the same records and spots is kept
-pub IsKept-same : (old new : Index) → new.last ≡ old.last → new.entries ≡ old.entries → IsUnchanged old.unread new.unread → IsUnchanged old.deleted new.deleted
+pub IsKept-same : (old new : Index) → new.last ≡ old.last → new.entries ≡ old.entries → IsUnchanged old.unread new.unread
     → ((q : Scope) → kept_own new.deletes q ≡ kept_own old.deletes q) → ((q : Scope) → kept_own new.levels q ≡ kept_own old.levels q) → ((q : Scope) → kept_own new.modes q ≡ kept_own old.modes q) → new.id_mark ≡ old.id_mark → IsKept old → IsKept new
-IsKept-same old new last_is entries_are unread deleted deletes levels modes mark kept = record {
-  all_entries = entries_are ∙ kept.all_entries ∙ sym (ap entry_map last_is);
+IsKept-same old new last_is entries_are unread deletes levels modes mark kept = record {
+  of_lasts = subst EntriesAreOfLasts (sym last_is) kept.of_lasts;
+  all_entries = λ p. ap (λ (m : finmap.FinMap place_cmp Entry). finmap.get m p) entries_are ∙ kept.all_entries p ∙ sym (ap (λ rs. option_and_then own_entry_of (last rs (keys.Schema p.0 p.1))) last_is);
   all_unread = spots-same is_opaque old.last new.last old.unread new.unread last_is unread kept.all_unread;
-  all_deleted = spots-same is_deleted old.last new.last old.deleted new.deleted last_is deleted kept.all_deleted;
   all_deletes = λ q. deletes q ∙ kept.all_deletes q ∙ sym (ap (λ rs. own_delete rs q) last_is);
   all_levels = λ q. levels q ∙ kept.all_levels q ∙ sym (ap (λ rs. own_level rs q) last_is);
   all_modes = λ q. modes q ∙ kept.all_modes q ∙ sym (ap (λ rs. own_mode_name rs q) last_is);

@@ -44,7 +44,7 @@ fold_least m n (k ∷ ks) low all has =
     lowest_right : k ≡ m → m ≤ n → min n k ≡ m
     lowest_right e low = omega arith
 
-reduce_least : (m : ℕ) (ns : List ℕ) → AllByRecursion (λ k. m ≤ k) ns → Has m ns → reduce min ns ≡ Some m
+pub reduce_least : (m : ℕ) (ns : List ℕ) → AllByRecursion (λ k. m ≤ k) ns → Has m ns → reduce min ns ≡ Some m
 reduce_least m [] all has = absurd has
 reduce_least m (n ∷ ns) all has = ap Some (fold_least m n ns all.0 all.1 has)
 
@@ -87,10 +87,10 @@ offset_below k s low =
     false≢true (sym low ∙ ap (λ o. is_gt (ordering_then o (place_cmp k.1 s.1))) (sym (nat_cmp_is k.0 s.0 Greater above))))
 
 module _ (total : IsTotalOrder record_cmp) (ties : IsAntisymmetric record_cmp) where
-  first_among : (r : Record) (rs : List Record) → among r (r ∷ rs) ≡ true
+  pub first_among : (r : Record) (rs : List Record) → among r (r ∷ rs) ≡ true
   first_among r rs = ap (λ o. is_eq o || list_any (eq_by_cmp record_cmp r) rs) (tied_itself total r)
 
-  later_among : (q r : Record) (rs : List Record) → among q rs ≡ true → among q (r ∷ rs) ≡ true
+  pub later_among : (q r : Record) (rs : List Record) → among q rs ≡ true → among q (r ∷ rs) ≡ true
   later_among q r rs h = or_later (eq_by_cmp record_cmp q r) (list_any (eq_by_cmp record_cmp q) rs) h
 
   above : (rs : List Record) (m : ℕ) → ((r : Record) → among r rs ≡ true → is_opaque r ≡ true → m ≤ r.offset) → AllByRecursion (λ k. m ≤ k) (map (λ r. r.offset) (filter is_opaque rs))

@@ -11,12 +11,13 @@ use Rattle.reg_records.specs.declared.value.Value.TheVariants as values
 use Rattle.reg_set.specs.LastRecords.{last}
 use Rattle.reg_set.specs.Records.{Records}
 use Rattle.reg_fold.specs.Marks.{covers, is_marked}
-use Rattle.reg_fold.specs.Remarked.{is_delete}
 use Rattle.reg_fold.specs.Scopes.{AreOwn, HasOwn, kept_own}
-use Rattle.reg_fold.specs.SoftDeletes.{delete_in, delete_of, is_covered, own_delete}
+use Rattle.reg_fold.specs.SoftDeletes.{delete_in, delete_of, own_delete}
 use Rattle.reg_fold.specs.Step.{IsStep}
-use Rattle.reg_fold.specs.declared.marks.SoftDelete.{SoftDelete}
+use Rattle.reg_entries.specs.Covered.{is_covered}
+use Rattle.reg_entries.specs.declared.soft_delete.SoftDelete.{SoftDelete}
 use Rattle.reg_fold.specs.declared.scoped.Scoped.{Scoped}
+use Rattle.reg_fold.proofs.Owned.{is_delete}
 
 -- the soft delete that a record is covers what its value covers
 pub covered_by : (r : Record) (version offset : ℕ) → is_covered (delete_of r) version offset ≡ option_map_or (λ value. covers r.offset value version offset) (value_of r) false

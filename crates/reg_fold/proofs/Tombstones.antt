@@ -5,7 +5,6 @@ use Rattle.std.proofs.lemmas.List.Folds.{list_all_at}
 use Rattle.std.specs.Cmp.{IsTotalOrder}
 use Rattle.std.specs.FinSet.{IsAntisymmetric, contains, contains-from_list, contains-insert, contains-union, from_list, insert, same_set, union}
 use Rattle.std.specs.List.{list_all, list_any}
-use Rattle.std.specs.Option.{option_map_or}
 use Rattle.std.specs.Ordering.{eq_by_cmp}
 use Rattle.reg_values.specs.Value.{value_of, value_of_text}
 use Rattle.reg_records.specs.declared.key.Key.{Key}
@@ -14,9 +13,8 @@ use Rattle.reg_set.specs.Join.{LastIsGreatest, LastOfLastRecords, LastRecordsOfU
 use Rattle.reg_set.specs.LastRecords.{last, last_records}
 use Rattle.reg_set.specs.RecordOrder.{record_cmp}
 use Rattle.reg_set.specs.Records.{Records}
-use Rattle.reg_fold.specs.Entries.{entry_in, entry_of}
 use Rattle.reg_fold.specs.Opaque.{is_version}
-use Rattle.reg_fold.specs.Spots.{is_deleted, says_deleted}
+use Rattle.reg_fold.specs.Own.{own_entry_in, own_entry_of}
 use Rattle.reg_fold.specs.Tombstones.{is_tombstone}
 
 first_true : (a b : Bool) → (a && b) ≡ true → a ≡ true
@@ -47,12 +45,9 @@ module _ (rs : Records) (r : Record) (tombstone : is_tombstone rs r ≡ true) wh
   says_nothing : value_of r ≡ None
   says_nothing = ap (option_and_then (value_of_text r.key)) no_value
 
-  pub gives_none : (ss : Records) → entry_of ss r ≡ None
-  unfolding entry_of
-  gives_none ss = ap (option_and_then (entry_in ss r.offset)) says_nothing
-
-  pub not_deleted : is_deleted r ≡ false
-  not_deleted = ap (λ o. option_map_or says_deleted o false) says_nothing
+  pub gives_none : own_entry_of r ≡ None
+  unfolding own_entry_of
+  gives_none = ap (option_and_then (own_entry_in r.offset)) says_nothing
 
 -- what all pass, the one at a place passes
 pub each_passes : (p : Record → Bool) (rs : List Record) (i : ℕ) (r : Record) → i < length rs → r ≡ get_or rs i r → list_all p rs ≡ true → p r ≡ true

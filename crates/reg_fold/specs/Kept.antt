@@ -1,18 +1,19 @@
 -- Private: what a registry keeps beside its last records, so that it reads each of them once.
 use Rattle.std.specs.Prelude.{◌≡◌}
-use Rattle.reg_fold.specs.Entries.{entry_map}
 use Rattle.reg_fold.specs.IdMark.{id_mark}
 use Rattle.reg_fold.specs.InForce.{own_level, own_mode_name}
 use Rattle.reg_fold.specs.Opaque.{is_opaque}
+use Rattle.reg_fold.specs.Own.{AreOwnEntries}
 use Rattle.reg_fold.specs.Scopes.{AreOwn}
 use Rattle.reg_fold.specs.SoftDeletes.{own_delete}
-use Rattle.reg_fold.specs.Spots.{HasSpots, is_deleted}
+use Rattle.reg_fold.specs.Spots.{HasSpots}
+use Rattle.reg_fold.specs.Step.{EntriesAreOfLasts}
 use Rattle.reg_fold.specs.declared.index.Index.{Index}
 
 pub record IsKept (index : Index) : Type 0 where
-  pub all_entries : index.entries ≡ entry_map index.last
+  pub of_lasts : EntriesAreOfLasts index.last
+  pub all_entries : AreOwnEntries index.last index.entries
   pub all_unread : HasSpots is_opaque index.last index.unread
-  pub all_deleted : HasSpots is_deleted index.last index.deleted
   pub all_deletes : AreOwn (own_delete index.last) index.deletes
   pub all_levels : AreOwn (own_level index.last) index.levels
   pub all_modes : AreOwn (own_mode_name index.last) index.modes

@@ -1,12 +1,13 @@
 pub mod Closed
 pub mod Entries
 pub use Rattle.reg_entries.specs.EntryOrder
+pub mod GiveAlike
 pub mod IdMark
 pub mod InForce
 pub mod Kept
 pub mod Marks
 pub mod Opaque
-pub mod Remarked
+pub mod Own
 pub mod Scopes
 pub mod SoftDeletes
 pub mod Spots

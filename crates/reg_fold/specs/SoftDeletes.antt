@@ -1,6 +1,5 @@
 -- Private: what is kept of the last soft delete of each subject. Below, rs are the last records.
-use Rattle.std.specs.Prelude.{ℕ, Bool, false, ◌&&◌, nat_le, nat_lt, Option, Some, None, option_and_then}
-use Rattle.std.specs.Option.{option_map_or}
+use Rattle.std.specs.Prelude.{ℕ, Option, Some, None, option_and_then}
 use Rattle.reg_values.specs.Value.{value_of}
 use Rattle.reg_records.specs.declared.key.Key.TheVariants as keys
 use Rattle.reg_records.specs.declared.record.Record.{Record}
@@ -9,7 +8,7 @@ use Rattle.reg_records.specs.declared.value.Value.TheVariants as values
 use Rattle.reg_set.specs.LastRecords.{last}
 use Rattle.reg_set.specs.Records.{Records}
 use Rattle.reg_fold.specs.InForce.{Scope}
-use Rattle.reg_fold.specs.declared.marks.SoftDelete.{SoftDelete}
+use Rattle.reg_entries.specs.declared.soft_delete.SoftDelete.{SoftDelete}
 
 -- the soft delete that a value at an offset is
 abbrev pub delete_in : ℕ → Value → Option SoftDelete
@@ -23,10 +22,6 @@ delete_in at (values.IdMark id) = None
 -- the soft delete that a record is
 unfoldable pub delete_of : Record → Option SoftDelete
 delete_of r = option_and_then (delete_in r.offset) (value_of r)
-
--- whether a soft delete, if there is one, covers what is at that version and offset
-abbrev pub is_covered : Option SoftDelete → ℕ → ℕ → Bool
-is_covered delete version offset = option_map_or (λ d. nat_le version d.version && nat_lt offset d.offset) delete false
 
 -- the last soft delete of a subject: what the last record of its DELETE_SUBJECT key is
 unfoldable pub own_delete : Records → Scope → Option SoftDelete

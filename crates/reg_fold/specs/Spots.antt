@@ -1,14 +1,11 @@
--- Private: where the versions of a kind are: what a registry keeps of the opaque ones, and of those that are deleted by their own values.
+-- Private: where the versions of a kind are: what a registry keeps of the opaque ones.
 use Rattle.std.specs.Prelude.{◌≡◌, ℕ, Bool, false, not, ◌&&◌, ◌==◌, Option, Some, None, option_map, if◌then◌else◌}
 use Rattle.std.specs.BTreeSet.{BTreeSet, contains}
 use Rattle.std.specs.Option.{option_map_or}
 use Rattle.std.specs.Ordering.{eq_by_cmp, nat_cmp, on, then_cmp}
 use Rattle.std.specs.declared.cmp.Ordering.{Ordering}
-use Rattle.reg_values.specs.Value.{value_of}
 use Rattle.reg_records.specs.declared.key.Key.TheVariants as keys
 use Rattle.reg_records.specs.declared.record.Record.{Record}
-use Rattle.reg_records.specs.declared.value.Value.{Value}
-use Rattle.reg_records.specs.declared.value.Value.TheVariants as values
 use Rattle.reg_set.specs.LastRecords.{last}
 use Rattle.reg_set.specs.Records.{Records}
 use Rattle.reg_entries.specs.EntryOrder.{Place, place_cmp}
@@ -26,18 +23,6 @@ is_spot kind rs s = option_map_or (λ r. kind r && eq_by_cmp spot_cmp (r.offset,
 
 abbrev pub HasSpots : (Record → Bool) → Records → BTreeSet Spot → Type 0
 HasSpots kind rs spots = (s : Spot) → contains spot_cmp spots s ≡ is_spot kind rs s
-
-abbrev pub says_deleted : Value → Bool
-says_deleted (values.Schema subject version id schema deleted) = deleted
-says_deleted (values.Config level) = false
-says_deleted (values.Mode mode) = false
-says_deleted (values.DeleteSubject subject version) = false
-says_deleted values.Noop = false
-says_deleted (values.IdMark id) = false
-
--- whether a version's own value says deleted
-abbrev pub is_deleted : Record → Bool
-is_deleted r = option_map_or says_deleted (value_of r) false
 
 -- where a record of that place is, if there is one
 abbrev pub spot_of : Option Record → Place → Option Spot

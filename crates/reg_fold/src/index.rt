@@ -1,28 +1,23 @@
 // What a registry keeps, so that one more record costs what it touches.
-ghost use Rattle.std.specs.Prelude.{◌≡◌, ◌≢◌, IsSome, IfSome, IfOk, OnOk, OnErr, Some, None, true, false, is_some};
+ghost use Rattle.std.specs.Prelude.{◌≡◌, ◌≢◌, IsSome, IfSome, IfOk, OnOk, OnErr, Some, None, true, false, is_none, is_some};
 ghost use Rattle.std.specs.FinMap as finmap;
 ghost use Rattle.std.specs.FinSet as set;
-ghost use Rattle.std.specs.List.{filter};
 ghost use Rattle.reg_records.specs.declared.key.Key.TheVariants as keys;
 ghost use Rattle.reg_set.specs.LastRecords.{last, last_records, with_last};
-ghost use Rattle.reg_fold.specs.Entries.{AreOfLasts, entries, entry_of};
+ghost use Rattle.reg_fold.specs.Entries.{AreOfLasts, entries};
+ghost use Rattle.reg_fold.specs.GiveAlike.{GiveAlike};
 ghost use Rattle.reg_fold.specs.Opaque.{is_version, opaque};
-ghost use Rattle.reg_fold.specs.Remarked.{is_changed, is_soft_after};
-ghost use Rattle.reg_fold.specs.Scopes.{kept_own};
-ghost use Rattle.reg_fold.specs.Spots.{is_deleted};
+ghost use Rattle.reg_fold.specs.Own.{own_entry_of};
 ghost use Rattle.reg_fold.specs.Step.{EntriesAreOfLasts, IsStep};
 ghost use Rattle.reg_fold.specs.Tombstones.{is_tombstone};
 ghost use Rattle.reg_entries.specs.EntryOrder.{place_of};
-ghost use Rattle.reg_entries.specs.Marked.{MarksEach};
-ghost use Rattle.reg_entries.specs.Sought.{of_subject};
 
-use crate::marks::{SoftDelete, keep_changed, marks_of};
-use crate::reading::{Reading, delete_of, id_marked_of, reading_of};
+use crate::reading::{delete_of, id_marked_of, own_entry_of};
 use crate::scoped::Scoped;
 use crate::settings::put_own;
 use crate::spots::{Spot, forget, forget_elsewhere, spot_of};
 use base_text::Text;
-use reg_entries::{Entries, Entry, Mark};
+use reg_entries::{Entries, Entry, SoftDelete};
 use reg_level_names::Level;
 use reg_records::{Key, Record};
 use reg_set::{LastRecords, last_is_greatest, last_records_are_enough, records_are_ordered};
@@ -34,12 +29,10 @@ use std::collections::BTreeSet;
 pub(crate) struct Index {
     pub(crate) alloc: Global,
     pub(crate) last: LastRecords,
-    // Those that the last records give.
+    // Those that the last records give, as their own values have them.
     pub(crate) entries: Entries,
     // Where the opaque versions are.
     pub(crate) unread: BTreeSet<Spot>,
-    // Where the versions are whose own values say deleted.
-    pub(crate) deleted: BTreeSet<Spot>,
     // Of each subject the last soft delete, as far as it can be read.
     pub(crate) deletes: Scoped<SoftDelete>,
     // Those that scopes have of their own.
@@ -61,7 +54,6 @@ impl Clone for Index {
             last: self.last.clone()?,
             entries: self.entries.clone()?,
             unread: self.unread.clone()?,
-            deleted: self.deleted.clone()?,
             deletes: self.deletes.clone()?,
             levels: self.levels.clone()?,
             modes: self.modes.clone()?,
@@ -79,12 +71,13 @@ impl Index {
         ensures empty { result.last ≡ set.empty }
     {
         records_are_ordered();
+        let last = LastRecords::new(alloc);
+        entries_are_of_lasts(&last);
         Index {
             alloc,
-            last: LastRecords::new(alloc),
+            last,
             entries: Entries::new(alloc),
             unread: BTreeSet::new(alloc),
-            deleted: BTreeSet::new(alloc),
             deletes: Scoped::new(alloc),
             levels: Scoped::new(alloc),
             modes: Scoped::new(alloc),
@@ -127,25 +120,14 @@ impl Index {
         ensures refused { OnErr result (self.new.last ≡ self.old.last) }
     {
         let place = (subject.clone()?, version);
-        match reading_of(self, given)? {
-            Some(
-                Reading {
-                    entry,
-                    deleted: false,
-                },
-            ) => self.put_entry(given, place, entry),
-            Some(
-                Reading {
-                    entry,
-                    deleted: true,
-                },
-            ) => self.put_deleted(given, place, entry),
+        match own_entry_of(self.alloc, given)? {
+            Some(entry) => self.put_entry(given, place, entry),
             None if given.value.is_some() => self.put_unread(given, place),
             None => self.put_tombstone(given, place),
         }
     }
 
-    /// Adds a version's record that gives an entry and doesn't say deleted.
+    /// Adds a version's record that gives an entry.
     fn put_entry(
         &mut self,
         given: &Record,
@@ -155,8 +137,7 @@ impl Index {
         requires kept { IsKept self.old }
         requires news { last_records (set.insert self.old.last given.now) ≢ self.old.last }
         requires of_key { given.now.key ≡ keys.Schema place.0 place.1 }
-        requires gives { entry_of self.old.last given.now ≡ Some entry }
-        requires own { is_deleted given.now ≡ false }
+        requires gives { own_entry_of given.now ≡ Some entry }
         ensures kept { IsKept self.new }
         ensures added { OnOk result (self.new.last ≡ last_records (set.insert self.old.last given.now)) }
         ensures refused { OnErr result (self.new.last ≡ self.old.last) }
@@ -164,42 +145,7 @@ impl Index {
         let before = put_with(&mut self.last, &mut self.entries, given, entry)?;
         let spot = spot_of(before, place);
         forget(&mut self.unread, &spot);
-        forget(&mut self.deleted, &spot);
         Ok(())
-    }
-
-    /// Adds a version's record that gives an entry and says deleted itself.
-    fn put_deleted(
-        &mut self,
-        given: &Record,
-        place: (Text, u32),
-        entry: Entry,
-    ) -> Result<(), AllocError>
-        requires kept { IsKept self.old }
-        requires news { last_records (set.insert self.old.last given.now) ≢ self.old.last }
-        requires of_key { given.now.key ≡ keys.Schema place.0 place.1 }
-        requires gives { entry_of self.old.last given.now ≡ Some entry }
-        requires own { is_deleted given.now ≡ true }
-        ensures kept { IsKept self.new }
-        ensures added { OnOk result (self.new.last ≡ last_records (set.insert self.old.last given.now)) }
-        ensures refused { OnErr result (self.new.last ≡ self.old.last) }
-    {
-        let here = (given.offset, (place.0.clone()?, place.1));
-        let is_new = self.deleted.insert(here)?;
-        match put_with(&mut self.last, &mut self.entries, given, entry) {
-            Ok(before) => {
-                let spot = spot_of(before, place);
-                forget(&mut self.unread, &spot);
-                forget_elsewhere(&mut self.deleted, &spot, given.offset);
-                Ok(())
-            }
-            Err(refused) => {
-                if is_new {
-                    self.deleted.remove(&(given.offset, place));
-                }
-                Err(refused)
-            }
-        }
     }
 
     /// Adds a version's record without a value.
@@ -207,9 +153,8 @@ impl Index {
         requires kept { IsKept self.old }
         requires news { last_records (set.insert self.old.last given.now) ≢ self.old.last }
         requires of_key { given.now.key ≡ keys.Schema place.0 place.1 }
-        requires gives { entry_of self.old.last given.now ≡ None }
+        requires gives { own_entry_of given.now ≡ None }
         requires no_value { is_some given.now.value ≡ false }
-        requires own { is_deleted given.now ≡ false }
         ensures kept { IsKept self.new }
         ensures added { OnOk result (self.new.last ≡ last_records (set.insert self.old.last given.now)) }
         ensures refused { OnErr result (self.new.last ≡ self.old.last) }
@@ -218,7 +163,6 @@ impl Index {
         self.entries.remove(&place);
         let spot = spot_of(before, place);
         forget(&mut self.unread, &spot);
-        forget(&mut self.deleted, &spot);
         Ok(())
     }
 
@@ -248,7 +192,23 @@ impl Index {
         self.entries.remove(&place);
         let spot = Some((offset, place));
         forget(&mut self.unread, &spot);
-        forget(&mut self.deleted, &spot);
+    }
+
+    /// Forgets the record without a value, where it is the last of its key. It takes no memory.
+    pub(crate) fn forget(&mut self, given: &Record)
+        requires kept { IsKept self.old }
+        requires no_value { is_none given.now.value ≡ true }
+        ensures kept { IsKept self.new }
+        ensures left { self.new.last ≡ set.remove self.old.last given.now }
+        ensures alike { GiveAlike self.old.last self.new.last }
+    {
+        records_are_ordered();
+        last_is_greatest();
+        self.last.is_compact();
+        entries_are_of_lasts(&self.last);
+        self.last.remove(given);
+        self.last.is_compact();
+        entries_are_of_lasts(&self.last);
     }
 
     /// Adds a version's record that has a text and can't be read.
@@ -256,9 +216,8 @@ impl Index {
         requires kept { IsKept self.old }
         requires news { last_records (set.insert self.old.last given.now) ≢ self.old.last }
         requires of_key { given.now.key ≡ keys.Schema place.0 place.1 }
-        requires gives { entry_of self.old.last given.now ≡ None }
+        requires gives { own_entry_of given.now ≡ None }
         requires has_text { is_some given.now.value ≡ true }
-        requires own { is_deleted given.now ≡ false }
         ensures kept { IsKept self.new }
         ensures added { OnOk result (self.new.last ≡ last_records (set.insert self.old.last given.now)) }
         ensures refused { OnErr result (self.new.last ≡ self.old.last) }
@@ -273,7 +232,6 @@ impl Index {
         // At one offset the earlier record was where this one is.
         let spot = spot_of(before, place);
         forget_elsewhere(&mut self.unread, &spot, given.offset);
-        forget(&mut self.deleted, &spot);
         Ok(())
     }
 
@@ -287,10 +245,7 @@ impl Index {
         ensures refused { OnErr result (self.new.last ≡ self.old.last) }
     {
         let delete = delete_of(self.alloc, given)?;
-        let marks = self.marks(delete, subject)?;
-        let name = subject.clone()?;
         let scope = Some(subject.clone()?);
-        last_is_greatest();
         put_own(
             self.alloc,
             &mut self.last,
@@ -299,22 +254,7 @@ impl Index {
             &scope,
             delete,
         )?;
-        self.entries.mark(name, &marks);
         Ok(())
-    }
-
-    /// The marks of a subject's entries once that is its last soft delete, if it has one: of those
-    /// alone that it covers and the one before doesn't, or the other way round.
-    fn marks(&self, delete: Option<SoftDelete>, subject: &Text) -> Result<Vec<Mark>, AllocError>
-        ensures { IfOk result (λ marks. MarksEach (is_soft_after self.now.deleted delete) marks.items
-            (filter (is_changed (kept_own self.now.deletes (Some subject.now)) delete)
-            (of_subject (finmap.values self.now.entries) subject.now))) }
-    {
-        let before = self.deletes.of(Some(subject.as_str())).copied();
-        let mut found = self.entries.of_subject(subject.as_str())?;
-        keep_changed(&mut found, before, delete);
-        let marks = marks_of(self.alloc, &self.deleted, &found, delete)?;
-        Ok(marks)
     }
 
     /// Adds a record that says nothing and is news.

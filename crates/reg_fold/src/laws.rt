@@ -1,6 +1,7 @@
-// The laws of entries and of opaque versions. What is proved here costs nothing at run time: a
-// function that needs a law calls it.
+// The laws of entries, of opaque versions, and of records that give the same. What is proved here
+// costs nothing at run time: a function that needs a law calls it.
 ghost use Rattle.reg_fold.specs.Entries.{EntriesAreInLimits, EntriesAreOfKeys, EntriesAreOfPlaces, EntriesAreRead};
+ghost use Rattle.reg_fold.specs.GiveAlike.{EachGivesAlikeItself, GivingAlikeComposes, GivingAlikeIsSymmetric};
 ghost use Rattle.reg_fold.specs.IdMark.{IdMarkIsInLimits};
 ghost use Rattle.reg_fold.specs.Opaque.{NoneIsNoOpaqueLast};
 ghost use Rattle.reg_fold.specs.Standing.{FoundEntriesStand};
@@ -51,3 +52,10 @@ pub fn none_is_no_opaque_last()
     last_is_greatest();
     last_records_are_enough();
 }
+
+/// Giving the same is an equivalence.
+pub fn giving_alike_is_an_equivalence()
+    ensures itself { EachGivesAlikeItself }
+    ensures back { GivingAlikeIsSymmetric }
+    ensures across { GivingAlikeComposes }
+{}

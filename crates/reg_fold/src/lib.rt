@@ -3,7 +3,6 @@
 
 mod index;
 mod laws;
-mod marks;
 mod reading;
 mod registry;
 mod scoped;
@@ -13,7 +12,7 @@ mod version_ref;
 
 pub use laws::{
     entries_are_in_limits, entries_are_of_places, entries_are_read, found_entries_stand,
-    id_mark_is_in_limits, none_is_no_opaque_last,
+    giving_alike_is_an_equivalence, id_mark_is_in_limits, none_is_no_opaque_last,
 };
 pub use reg_entries::{Entry, two_schemas_is_least};
 pub use reg_refusals::{Allow, Reason, Refusal, StoreFault};

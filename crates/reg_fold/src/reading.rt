@@ -1,39 +1,25 @@
 // What a version's record says.
-ghost use Rattle.std.specs.Prelude.{◌≡◌, [], IfOk, false, option_map};
+ghost use Rattle.std.specs.Prelude.{◌≡◌, [], IfOk};
 ghost use Rattle.std.specs.Option.{option_map_or};
-ghost use Rattle.reg_fold.specs.Entries.{entry_of};
 ghost use Rattle.reg_fold.specs.IdMark.{id_marked_of};
 ghost use Rattle.reg_fold.specs.InForce.{level_of, mode_name_of};
-ghost use Rattle.reg_fold.specs.Marks.{is_marked};
-ghost use Rattle.reg_fold.specs.Scopes.{AreOwn};
-ghost use Rattle.reg_fold.specs.SoftDeletes.{delete_of, own_delete};
-ghost use Rattle.reg_fold.specs.Spots.{is_deleted};
+ghost use Rattle.reg_fold.specs.Own.{own_entry_of};
+ghost use Rattle.reg_fold.specs.SoftDeletes.{delete_of};
 
-use crate::index::Index;
-use crate::marks::{SoftDelete, is_covered};
 use avro_schema::Schema;
 use base_text::Text;
-use reg_entries::Entry;
+use reg_entries::{Entry, SoftDelete};
 use reg_level_names::Level;
 use reg_records::{Record, Value};
 use reg_values::{Decoded, decode, decode_value};
 use std::alloc::{AllocError, Global};
 
-/// The entry of a version, and whether its own value says deleted.
-#[derive(Drop)]
-pub(crate) struct Reading {
-    pub(crate) entry: Entry,
-    pub(crate) deleted: bool,
-}
-
-/// What a record says, if it has a version's value, which is read once.
-#[tactic(auto, unfolding(crate::specs::Entries::entry_of))]
-pub(crate) fn reading_of(index: &Index, given: &Record) -> Result<Option<Reading>, AllocError>
-    requires { AreOwn (own_delete index.now.last) index.now.deletes }
-    ensures entry { IfOk result (λ found. option_map (λ reading. reading.entry) found ≡ entry_of index.now.last given.now) }
-    ensures deleted { IfOk result (λ found. option_map_or (λ reading. reading.deleted) found false ≡ is_deleted given.now) }
+/// The entry that a record gives by itself, if it has a version's value, which is read once.
+#[tactic(auto, unfolding(crate::specs::Own::own_entry_of))]
+pub(crate) fn own_entry_of(alloc: Global, given: &Record) -> Result<Option<Entry>, AllocError>
+    ensures { IfOk result (λ entry. entry ≡ own_entry_of given.now) }
 {
-    let Some(Decoded { value, schema }) = decode(index.alloc, given)? else {
+    let Some(Decoded { value, schema }) = decode(alloc, given)? else {
         return Ok(None);
     };
     match value {
@@ -44,18 +30,16 @@ pub(crate) fn reading_of(index: &Index, given: &Record) -> Result<Option<Reading
             schema: text,
             deleted,
         } => {
-            let soft = deleted || is_marked(index, &subject, version, given.offset);
-            let normal = normal_of(index.alloc, &schema, &text)?;
-            let entry = Entry {
+            let normal = normal_of(alloc, &schema, &text)?;
+            Ok(Some(Entry {
                 subject,
                 version,
                 id,
                 text,
                 normal,
                 offset: given.offset,
-                soft,
-            };
-            Ok(Some(Reading { entry, deleted }))
+                soft: deleted,
+            }))
         }
         Value::Config(_)
         | Value::Mode(_)
@@ -63,15 +47,6 @@ pub(crate) fn reading_of(index: &Index, given: &Record) -> Result<Option<Reading
         | Value::Noop
         | Value::IdMark(_) => Ok(None),
     }
-}
-
-/// Whether the last soft delete of the subject covers that version and offset.
-fn is_marked(index: &Index, subject: &Text, version: u32, offset: u64) -> bool
-    requires { AreOwn (own_delete index.now.last) index.now.deletes }
-    ensures { result ≡ is_marked index.now.last subject.now version offset }
-{
-    let delete = index.deletes.of(Some(subject.as_str())).copied();
-    is_covered(delete, version, offset)
 }
 
 /// The normal text of a schema, which is the schema's own text where the two are equal; without one

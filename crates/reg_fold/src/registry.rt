@@ -1,7 +1,7 @@
 // The registry over the last records of a set.
-ghost use Rattle.std.specs.Prelude.{◌≡◌, [], ◌∷◌, true, IfOk, OnOk, OnErr, map, option_map};
+ghost use Rattle.std.specs.Prelude.{◌≡◌, [], ◌∷◌, true, IfOk, OnOk, OnErr, if◌then◌else◌, is_none, map, option_map};
 ghost use Rattle.std.specs.FinSet as set;
-ghost use Rattle.std.specs.List.{list_all};
+ghost use Rattle.std.specs.List.{filter, list_all};
 ghost use Rattle.std.specs.Option.{option_copied};
 ghost use Rattle.reg_set.specs.Compaction.{IsCompactionOf};
 ghost use Rattle.reg_set.specs.LastRecords.{last, last_records};
@@ -9,6 +9,7 @@ ghost use Rattle.reg_set.specs.Records.{Records};
 ghost use Rattle.reg_fold.specs.Entries.{AreOfLasts, entries};
 ghost use Rattle.reg_entries.specs.EntryOrder.{IsInOrder};
 ghost use Rattle.reg_fold.specs.Closed.{id_of, is_closed, two_schemas};
+ghost use Rattle.reg_fold.specs.GiveAlike.{GiveAlike};
 ghost use Rattle.reg_fold.specs.IdMark.{id_mark, last_id};
 ghost use Rattle.reg_fold.specs.InForce.{level, own_level, own_mode_name};
 ghost use Rattle.reg_fold.specs.Opaque.{opaque};
@@ -17,6 +18,7 @@ ghost use Rattle.reg_fold.specs.Standing.{live, named, greatest_id, greatest_ver
 ghost use Rattle.reg_entries.specs.Sought.{HasRisingVersions, counting, has_live, subjects, with_id};
 
 use crate::index::Index;
+use crate::laws::giving_alike_is_an_equivalence;
 use crate::version_ref::VersionRef;
 use base_text::Text;
 use reg_entries::Entry;
@@ -230,6 +232,45 @@ impl Registry {
         Ok(())
     }
 
+    /// Forgets the record, where it is the last of its key and has no value: a key that is deleted then
+    /// has no record at all, and what is left gives the same. Any other record changes nothing. It takes
+    /// no memory.
+    pub fn forget(&mut self, given: &Record)
+        ensures left { self.new
+            ≡ (if is_none given.now.value then set.remove self.old given.now else self.old) }
+        ensures lasts { last_records self.new ≡ self.new }
+        ensures alike { GiveAlike self.old self.new }
+    {
+        giving_alike_is_an_equivalence();
+        if given.value.is_none() {
+            self.index.forget(given);
+        }
+        self.index.last.is_compact();
+    }
+
+    /// Forgets those of the records that are the last of their keys and have no value; what is left
+    /// gives the same. It takes no memory.
+    pub fn forget_all(&mut self, given: &[Record])
+        ensures left { self.new
+            ≡ set.difference self.old (set.from_list (filter (λ r. is_none r.value) given.now)) }
+        ensures lasts { last_records self.new ≡ self.new }
+        ensures alike { GiveAlike self.old self.new }
+    {
+        records_are_ordered();
+        giving_alike_is_an_equivalence();
+        for record in given {
+            self.forget(record);
+        }
+        self.index.last.is_compact();
+    }
+
+    /// The last records, one a key. The only error is want of memory.
+    pub fn records(&self) -> Result<Vec<&Record>, AllocError>
+        ensures { IfOk result (λ found. self.now ≡ set.from_list (map (λ r. r.now) found.items)) }
+    {
+        self.index.last.records(self.index.alloc)
+    }
+
     /// The last record of the key. Takes no memory.
     pub fn last(&self, key: &Key) -> Option<&Record>
         ensures { option_map (λ found. found.now) result ≡ last self.now key.now }
@@ -285,7 +326,9 @@ impl Registry {
         ensures lasts { last_records self.now ≡ self.now }
     {
         self.index.entries_given();
-        self.index.entries.all()
+        self.index
+            .entries
+            .all_shown(&self.index.deletes.of_subjects)
     }
 
     /// The live entries of a subject, which are those that aren't soft, by version, each version
@@ -296,7 +339,9 @@ impl Registry {
         ensures lasts { last_records self.now ≡ self.now }
     {
         self.index.last.is_compact();
-        self.index.entries.counting(subject, false)
+        self.index
+            .entries
+            .counting(&self.index.deletes.of_subjects, subject, false)
     }
 
     /// The entries of a subject that count, by version, each version once: the live ones, and where
@@ -305,7 +350,9 @@ impl Registry {
         ensures all { IfOk result (λ found. map (λ e. e.now) found.items ≡ counting (entries self.now) subject.now deleted) }
         ensures in_order { IfOk result (λ found. HasRisingVersions (map (λ e. e.now) found.items)) }
     {
-        self.index.entries.counting(subject, deleted)
+        self.index
+            .entries
+            .counting(&self.index.deletes.of_subjects, subject, deleted)
     }
 
     /// Of the entries of a subject that count the one that is meant. The only error is want of
@@ -319,8 +366,14 @@ impl Registry {
         ensures { IfOk result (λ found. option_copied found ≡ version_in (entries self.now) subject.now version deleted) }
     {
         match version {
-            VersionRef::Latest => self.index.entries.latest(subject, deleted),
-            VersionRef::Number(version) => self.index.entries.of_version(subject, version, deleted),
+            VersionRef::Latest => self
+                .index
+                .entries
+                .latest(&self.index.deletes.of_subjects, subject, deleted),
+            VersionRef::Number(version) => self
+                .index
+                .entries
+                .of_version(&self.index.deletes.of_subjects, subject, version, deleted),
         }
     }
 
@@ -328,14 +381,18 @@ impl Registry {
     pub fn subjects(&self, deleted: bool) -> Result<Vec<&str>, AllocError>
         ensures { IfOk result (λ found. map (λ s. s.now) found.items ≡ subjects (entries self.now) deleted) }
     {
-        self.index.entries.subjects(deleted)
+        self.index
+            .entries
+            .subjects(&self.index.deletes.of_subjects, deleted)
     }
 
     /// Whether a subject, or any one, has a live entry. Takes no memory.
     pub fn has_live(&self, subject: Option<&str>) -> bool
         ensures { result ≡ has_live (entries self.now) (option_map (λ s. s.now) subject.entry) }
     {
-        self.index.entries.has_live(subject)
+        self.index
+            .entries
+            .has_live(&self.index.deletes.of_subjects, subject)
     }
 
     /// The entries with an id, soft ones too, by subject, by its bytes, and then by version. The
@@ -343,7 +400,9 @@ impl Registry {
     pub fn with_id(&self, id: u32) -> Result<Vec<&Entry>, AllocError>
         ensures { IfOk result (λ found. map (λ e. e.now) found.items ≡ with_id (entries self.now) id) }
     {
-        self.index.entries.with_id(id)
+        self.index
+            .entries
+            .with_id(&self.index.deletes.of_subjects, id)
     }
 
     /// The entry that an id names: of the entries with that id, soft ones too, the one of greatest
@@ -352,7 +411,9 @@ impl Registry {
     pub fn by_id(&self, id: u32) -> Option<&Entry>
         ensures { option_copied result ≡ named self.now id }
     {
-        self.index.entries.named(id)
+        self.index
+            .entries
+            .named(&self.index.deletes.of_subjects, id)
     }
 
     /// The greatest id of an entry, soft ones too.

@@ -23,10 +23,11 @@ soft_are [] = refl
 soft_are (e ∷ es) =
     omega (arith, soft_are es, sum_by-cons (λ (x : Entry). cond x.soft 1 0) e.now (map (λ (e : Bor Entry). e.now) es), sum_by-cons (λ (x : Bor Entry). cond x.now.soft 1 0) e es)
 
-abbrev counts : ℕ → ℕ → ℕ → ℕ → ℕ → ℕ → ℕ → Counts
-counts records foreign next subjects live deleted ids = record {
+abbrev counts : ℕ → ℕ → ℕ → ℕ → ℕ → ℕ → ℕ → ℕ → Counts
+counts records foreign floor next subjects live deleted ids = record {
   records = records;
   foreign = foreign;
+  floor = floor;
   next = next;
   subjects = subjects;
   live = live;
@@ -35,7 +36,7 @@ counts records foreign next subjects live deleted ids = record {
 }
 
 -- counts that are equal one by one
-pub same_counts : (foreign next : ℕ) {r r' s s' l l' d d' i i' : ℕ} → r ≡ r' → s ≡ s' → l ≡ l' → d ≡ d' → i ≡ i' → counts r foreign next s l d i ≡ counts r' foreign next s' l' d' i'
-same_counts foreign next {r' = r'} {s = s} {s' = s'} {l = l} {l' = l'} {d = d} {d' = d'} {i = i} a b e f g =
-    ap (λ (n : ℕ). counts n foreign next s l d i) a ∙ ap (λ (n : ℕ). counts r' foreign next n l d i) b ∙ ap (λ (n : ℕ). counts r' foreign next s' n d i) e
-    ∙ ap (λ (n : ℕ). counts r' foreign next s' l' n i) f ∙ ap (λ (n : ℕ). counts r' foreign next s' l' d' n) g
+pub same_counts : (foreign floor next : ℕ) {r r' s s' l l' d d' i i' : ℕ} → r ≡ r' → s ≡ s' → l ≡ l' → d ≡ d' → i ≡ i' → counts r foreign floor next s l d i ≡ counts r' foreign floor next s' l' d' i'
+same_counts foreign floor next {r' = r'} {s = s} {s' = s'} {l = l} {l' = l'} {d = d} {d' = d'} {i = i} a b e f g =
+    ap (λ (n : ℕ). counts n foreign floor next s l d i) a ∙ ap (λ (n : ℕ). counts r' foreign floor next n l d i) b ∙ ap (λ (n : ℕ). counts r' foreign floor next s' n d i) e
+    ∙ ap (λ (n : ℕ). counts r' foreign floor next s' l' n i) f ∙ ap (λ (n : ℕ). counts r' foreign floor next s' l' d' n) g

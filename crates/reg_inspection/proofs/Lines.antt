@@ -1,5 +1,5 @@
 -- The lines of a log, and the keytypes of those that are foreign.
-use Rattle.std.proofs.Common.{◌≡◌, ◌⊎◌, ⊎_elim, ◌+◌, ◌-◌, ◌<◌, ◌==◌, ℕ, Bool, true, false, cond, List, [], ◌∷◌, ◌++◌, length, map, drop, take, Option, Some, Ok, refl, sym, ap, ◌∙◌, arith, append_assoc, append-nil, length-append, if◌then◌else◌}
+use Rattle.std.proofs.Common.{◌≡◌, ◌⊎◌, ⊎_elim, ◌+◌, ◌-◌, ◌<◌, ◌==◌, ℕ, Bool, true, false, cond, List, [], ◌∷◌, ◌++◌, length, map, drop, take, Option, Some, Ok, Err, decimal, true≢false, subst, refl, sym, ap, ◌∙◌, arith, append_assoc, append-nil, length-append, if◌then◌else◌}
 use Rattle.std.proofs.lemmas.Bool.Decides.{nat_tests}
 use Rattle.std.proofs.lemmas.List.{drop_at, take_all, take_at}
 use Rattle.std.proofs.lemmas.List.Splits.{slice_split_at}
@@ -8,9 +8,12 @@ use Rattle.std.specs.List.{count_by, filter}
 use Rattle.std.specs.Option.{option_map_or}
 use Rattle.std.specs.Result.{result_ok}
 use Rattle.std.specs.declared.result.Result.{Result}
-use Rattle.reg_journal.specs.Lines.{Say, text_of}
+use Rattle.reg_journal.specs.Lines.{Say, SaysFloor, text_of}
 use Rattle.reg_keeping.specs.Fronts.{Front, HasLines}
+use Rattle.reg_records.proofs.Floors.{is_floor_line-mark, not_floor_line, one_line as one_line_of}
+use Rattle.reg_records.specs.Floor.{floor_mark, is_floor_line}
 use Rattle.reg_records.specs.Line.{is_line_feed, reading}
+use Rattle.reg_records.specs.Pieces.{HasNoLineFeed}
 use Rattle.reg_records.specs.Log.{is_foreign, records_in}
 use Rattle.reg_records.specs.declared.line.LineError.{LineError}
 use Rattle.reg_records.specs.declared.record.Read.{Read}
@@ -40,9 +43,9 @@ lines_are tail ends (line ∷ lines) (r ∷ read) say =
 
 -- what stands behind the lines of a log has no line of it
 pub behind_lines : (text rest : List ℕ) (lines : List (List ℕ)) → (text ≡ text_of lines ++ 10 ∷ rest) ⊎ ((text ≡ text_of lines) × (rest ≡ []))
-    → (tail : List ℕ) × (text ≡ text_of lines ++ tail) × (log_lines tail ≡ [])
+    → (tail : List ℕ) × (text ≡ text_of lines ++ tail) × (log_lines tail ≡ []) × (is_floor_line tail ≡ false)
 behind_lines text rest lines ends =
-    ⊎_elim (λ whole. (10 ∷ rest, whole, refl)) (λ whole. ([], whole.0 ∙ sym (append-nil (text_of lines)), refl)) ends
+    ⊎_elim (λ whole. (10 ∷ rest, whole, refl, refl)) (λ whole. ([], whole.0 ∙ sym (append-nil (text_of lines)), refl, refl)) ends
 
 -- ---- the keytypes of foreign lines
 
@@ -56,6 +59,30 @@ one_more line lines = at_front (is_foreign_line line) line (filter is_foreign_li
 one_line : (b : Bool) (line : List ℕ) → map keytype_in (cond b (line ∷ []) []) ≡ cond b (keytype_in line ∷ []) []
 one_line true line = refl
 one_line false line = refl
+
+-- the line of a floor is none of these
+not_foreign : (line : List ℕ) → is_floor_line line ≡ true → is_foreign_line line ≡ false
+not_foreign line begins = of_reading (reading line) refl
+  where
+    of_reading : (r : Result Read LineError) → reading line ≡ r → option_map_or is_foreign (result_ok r) false ≡ false
+    of_reading (Ok read) is = absurd (true≢false (sym begins ∙ not_floor_line line read is))
+    of_reading (Err e) is = refl
+
+pub behind_front : (front others : List (List ℕ)) (floor : ℕ) (read : List Read) (tail : List ℕ) → log_lines tail ≡ [] → SaysFloor front floor → Say others read
+    → foreign_keytypes (log_lines (text_of (front ++ others) ++ tail)) ≡ foreign_keytypes others
+behind_front [] others floor read tail ends is say = ap foreign_keytypes (lines_are tail ends others read say)
+behind_front (line ∷ []) others floor read tail ends is say =
+    let text = text_of others ++ tail in
+    let free : HasNoLineFeed line = subst HasNoLineFeed (sym is.0) (one_line_of floor is.1) in
+    let begins : is_floor_line line ≡ true = ap is_floor_line is.0 ∙ is_floor_line-mark (decimal floor) in
+    let lines : log_lines (text_of (line ∷ others) ++ tail) ≡ line ∷ others =
+    ap log_lines (append_assoc line (10 ∷ text_of others) tail)
+    ∙ ap before_empty (slice_split_at is_line_feed line 10 text free refl)
+    ∙ ap (λ (b : Bool). cond b [] (line ∷ log_lines text)) (has_some line (omega (arith, ap length is.0, length-append floor_mark (decimal floor))))
+    ∙ ap (λ (l : List (List ℕ)). line ∷ l) (lines_are tail ends others read say) in
+    ap foreign_keytypes lines ∙ one_more line others
+    ∙ ap (λ (b : Bool). map keytype_in (cond b (line ∷ []) []) ++ foreign_keytypes others) (not_foreign line begins)
+behind_front (line ∷ next ∷ front) others floor read tail ends is say = absurd is
 
 -- of a line that says this
 pub keytype_of_line : (line : List ℕ) (read : Read) → reading line ≡ Ok read → foreign_keytypes (line ∷ []) ≡ cond (is_foreign read) (keytype_in line ∷ []) []

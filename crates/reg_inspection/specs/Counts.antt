@@ -1,7 +1,7 @@
 -- What a log holds, in numbers.
 use Rattle.std.specs.Prelude.{ℕ, List, true, not, count_by, length}
 use Rattle.std.specs.FinSet.{from_list}
-use Rattle.reg_records.specs.Log.{is_foreign, next_after, records_in}
+use Rattle.reg_records.specs.Log.{is_foreign, next_of, records_in}
 use Rattle.reg_records.specs.declared.log.Log.{Log}
 use Rattle.reg_records.specs.declared.record.Read.{Read}
 use Rattle.reg_set.specs.LastRecords.{last_records}
@@ -16,11 +16,12 @@ use Rattle.reg_inspection.specs.declared.counts.Counts.{Counts}
 abbrev pub lasts_in : List Read → Records
 lasts_in read = last_records (from_list (records_in read))
 
--- the records, the foreign lines and the next offset of what lines say, and of the entries es the subjects, the live and the soft-deleted ones, and the ids
-abbrev pub counts_by : ℕ → ℕ → ℕ → List Entry → Counts
-counts_by records foreign next es = record {
+-- the records, the foreign lines, the floor and the next offset of what lines say, and of the entries es the subjects, the live and the soft-deleted ones, and the ids
+abbrev pub counts_by : ℕ → ℕ → ℕ → ℕ → List Entry → Counts
+counts_by records foreign floor next es = record {
   records = records;
   foreign = foreign;
+  floor = floor;
   next = next;
   subjects = length (subjects es true);
   live = count_by (λ e. not e.soft) es;
@@ -30,8 +31,8 @@ counts_by records foreign next es = record {
 
 -- of a log, where es are its entries
 abbrev pub counts_in : Log → List Entry → Counts
-counts_in log es = counts_by (length log.records.items) log.foreign log.next es
+counts_in log es = counts_by (length log.records.items) log.foreign log.floor log.next es
 
--- of what lines say
-abbrev pub counts_of : List Read → Counts
-counts_of read = counts_by (length (records_in read)) (count_by is_foreign read) (next_after read) (entries (lasts_in read))
+-- of a floor and what lines say
+abbrev pub counts_of : ℕ → List Read → Counts
+counts_of floor read = counts_by (length (records_in read)) (count_by is_foreign read) floor (next_of floor read) (entries (lasts_in read))

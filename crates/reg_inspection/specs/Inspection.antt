@@ -1,7 +1,7 @@
 -- What an inspection of a log says.
 use Rattle.std.specs.Prelude.{◌≡◌, ℕ, List, Bool, Ok, Option, string_bytes}
 use Rattle.std.specs.Io.KnownBytes.{Appends}
-use Rattle.reg_records.specs.Log.{LogText, log_of, next_after}
+use Rattle.reg_records.specs.Log.{LogText, log_of, next_of}
 use Rattle.reg_records.specs.declared.record.Read.{Read}
 use Rattle.reg_inspection.specs.Counts.{counts_of, lasts_in}
 use Rattle.reg_inspection.specs.Foreign.{foreign_tally}
@@ -10,30 +10,30 @@ use Rattle.reg_inspection.specs.Report.{report_text}
 use Rattle.reg_inspection.specs.declared.inspecting.Description.{Description}
 use Rattle.reg_inspection.specs.declared.inspection.Inspection.{Inspection}
 
--- the counts, the foreign lines and the obstacles of the log that a text is, whose lines say this
-pub record IsInspectionOf (text : List ℕ) (read : List Read) (found : Inspection) : Type 0 where
-  pub counts : found.counts ≡ counts_of read
+-- the counts, the foreign lines and the obstacles of the log that a text is, whose lines say that floor and this
+pub record IsInspectionOf (text : List ℕ) (floor : ℕ) (read : List Read) (found : Inspection) : Type 0 where
+  pub counts : found.counts ≡ counts_of floor read
   pub foreign : found.foreign.entries ≡ foreign_tally text
-  pub obstacles : found.obstacles.items ≡ obstacles (lasts_in read) (next_after read)
+  pub obstacles : found.obstacles.items ≡ obstacles (lasts_in read) (next_of floor read)
 
 -- what is written of that log
-abbrev pub report_of : List ℕ → List Read → List ℕ
-report_of text read = report_text (counts_of read) (foreign_tally text) (obstacles (lasts_in read) (next_after read))
+abbrev pub report_of : List ℕ → ℕ → List Read → List ℕ
+report_of text floor read = report_text (counts_of floor read) (foreign_tally text) (obstacles (lasts_in read) (next_of floor read))
 
 -- whether a topic can begin with what its lines say
-abbrev pub is_taken : List Read → Bool
-is_taken read = can_begin (lasts_in read) (next_after read)
+abbrev pub is_taken : ℕ → List Read → Bool
+is_taken floor read = can_begin (lasts_in read) (next_of floor read)
 
 -- Private: the text for a log, and whether it is taken over
 pub record Describes (text : List ℕ) (found : Description) : Type 0 where
   pub log : LogText
   pub read : log_of text ≡ Ok log
-  pub said : string_bytes found.text ≡ report_of text log.reads
-  pub taken : found.taken ≡ is_taken log.reads
+  pub said : string_bytes found.text ≡ report_of text log.floor log.reads
+  pub taken : found.taken ≡ is_taken log.floor log.reads
 
 -- the input is a log whose report was written, and the answer is whether it is taken over
 pub record Reports (input : List ℕ) (taken : Bool) (old new : Option (List ℕ)) : Type 0 where
   pub log : LogText
   pub read : log_of input ≡ Ok log
-  pub written : Appends old new (report_of input log.reads)
-  pub answer : taken ≡ is_taken log.reads
+  pub written : Appends old new (report_of input log.floor log.reads)
+  pub answer : taken ≡ is_taken log.floor log.reads

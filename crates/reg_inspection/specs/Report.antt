@@ -9,8 +9,10 @@ use Rattle.reg_inspection.specs.declared.obstacle.Obstacle.{Obstacle}
 use Rattle.reg_inspection.specs.declared.obstacle.Obstacle.TheVariants as kinds
 
 -- what the lines of a log are
-abbrev pub lines_text : ℕ → ℕ → ℕ → List ℕ
-lines_text records foreign next = codes "records: " ++ decimal records ++ codes "\nforeign lines: " ++ decimal foreign ++ codes "\nnext offset: " ++ decimal next ++ codes "\n"
+abbrev pub lines_text : ℕ → ℕ → ℕ → ℕ → List ℕ
+lines_text records foreign floor next =
+    codes "records: " ++ decimal records ++ codes "\nforeign lines: " ++ decimal foreign ++ codes "\nfloor: " ++ decimal floor
+    ++ codes "\nnext offset: " ++ decimal next ++ codes "\n"
 
 -- what its versions are
 abbrev pub versions_text : ℕ → ℕ → ℕ → ℕ → List ℕ
@@ -19,7 +21,7 @@ versions_text subjects live deleted ids =
     ++ codes "\nids: " ++ decimal ids ++ codes "\n"
 
 abbrev pub counts_text : Counts → List ℕ
-counts_text c = lines_text c.records c.foreign c.next ++ versions_text c.subjects c.live c.deleted c.ids
+counts_text c = lines_text c.records c.foreign c.floor c.next ++ versions_text c.subjects c.live c.deleted c.ids
 
 -- what stands behind an obstacle's text: its cause, where it has one
 abbrev pub cause_part : Obstacle → List ℕ

@@ -17,7 +17,9 @@ pub struct Counts {
     pub records: u64,
     /// Its lines whose key is none known here.
     pub foreign: u64,
-    /// One more than the greatest offset of its lines, or 0.
+    /// The offset that its first line says as its floor, or 0.
+    pub floor: u64,
+    /// The next offset: the greater of the floor and of one more than the greatest offset of its lines.
     pub next: u64,
     /// The subjects with a version, soft-deleted ones too.
     pub subjects: u64,
@@ -44,6 +46,7 @@ pub(crate) fn counts_of(
     Ok(Counts {
         records: log.records.len() as u64,
         foreign: log.foreign,
+        floor: log.floor,
         next: log.next,
         subjects: count_subjects(registry)?,
         live: found.len() as u64 - deleted,

@@ -11,7 +11,7 @@ ghost use Rattle.reg_inspection.specs.Foreign.{foreign_keytypes, foreign_tally, 
 
 use base_text::Text;
 use reg_journal::lines_are_logs;
-use reg_keeping::line_at;
+use reg_keeping::{floor_len, line_at};
 use reg_records::{Log, Read, lines_are_of_the_grammar, parse, text_at};
 use serde_json::Value as Json;
 use std::alloc::{AllocError, Global};
@@ -23,12 +23,13 @@ pub(crate) fn foreign_in(
     text: &[u8],
     log: &Log,
 ) -> Result<BTreeMap<Option<Text>, u64>, AllocError>
-    ensures { (found : LogText) → log_of text.now ≡ Ok found → IsLogOf found.reads log.now
+    ensures { (found : LogText) → log_of text.now ≡ Ok found → IsLogOf found.floor found.reads log.now
         → IfOk result (λ tally. tally.entries ≡ foreign_tally text.now) }
 {
     lines_are_logs();
     let count = (log.records.len() as u64).saturating_add(log.foreign);
-    let keytypes = keytypes_in(alloc, text, count)?;
+    let (_, lines) = text.split_at(floor_len(text));
+    let keytypes = keytypes_in(alloc, lines, count)?;
     tally_of(alloc, &keytypes)
 }
 

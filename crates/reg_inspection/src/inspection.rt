@@ -49,7 +49,7 @@ impl Inspection {
 /// Reads a log, and says what it holds and what keeps it from being taken over. What follows the log's empty line is
 /// left out.
 pub fn inspected(alloc: Global, text: &[u8]) -> Result<Inspection, LogError>
-    ensures inspected { IfOk result (λ found. (log : LogText) × (log_of text.now ≡ Ok log) × IsInspectionOf text.now log.reads found) }
+    ensures inspected { IfOk result (λ found. (log : LogText) × (log_of text.now ≡ Ok log) × IsInspectionOf text.now log.floor log.reads found) }
     ensures fault { IfErr result (HasFault text.now) }
 {
     let log = read_log(alloc, &mut Device::new(text))?;
@@ -63,7 +63,8 @@ fn inspection_of(
     log: &Log,
     foreign: BTreeMap<Option<Text>, u64>,
 ) -> Result<Inspection, AllocError>
-    ensures { (text : List ℕ) (read : List Read) → IsLogOf read log.now → foreign.entries ≡ foreign_tally text → IfOk result (IsInspectionOf text read) }
+    ensures { (text : List ℕ) (floor : ℕ) (read : List Read) → IsLogOf floor read log.now → foreign.entries ≡ foreign_tally text
+        → IfOk result (IsInspectionOf text floor read) }
 {
     let (last, registry) = lasts_of(alloc, &log.records)?;
     let entries = registry.entries()?;
@@ -78,7 +79,13 @@ fn inspection_of(
 fn counts_text(alloc: Global, counts: &Counts) -> Result<String, AllocError>
     ensures { IfOk result (λ text. string_bytes text ≡ counts_text counts.now) }
 {
-    let mut text = lines_text(alloc, counts.records, counts.foreign, counts.next)?;
+    let mut text = lines_text(
+        alloc,
+        counts.records,
+        counts.foreign,
+        counts.floor,
+        counts.next,
+    )?;
     let versions = versions_text(
         alloc,
         counts.subjects,
@@ -90,10 +97,18 @@ fn counts_text(alloc: Global, counts: &Counts) -> Result<String, AllocError>
     Ok(text)
 }
 
-fn lines_text(alloc: Global, records: u64, foreign: u64, next: u64) -> Result<String, AllocError>
-    ensures { IfOk result (λ text. string_bytes text ≡ lines_text records foreign next) }
+fn lines_text(
+    alloc: Global,
+    records: u64,
+    foreign: u64,
+    floor: u64,
+    next: u64,
+) -> Result<String, AllocError>
+    ensures { IfOk result (λ text. string_bytes text ≡ lines_text records foreign floor next) }
 {
-    format!(in alloc; "records: {records}\nforeign lines: {foreign}\nnext offset: {next}\n")
+    format!(in alloc;
+        "records: {records}\nforeign lines: {foreign}\nfloor: {floor}\nnext offset: {next}\n"
+    )
 }
 
 fn versions_text(

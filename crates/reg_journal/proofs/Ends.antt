@@ -1,10 +1,10 @@
 -- Where the empty line of a file stands, and one LF more.
-use Rattle.std.proofs.Common.{◌≡◌, ⊎_elim, ◌<◌, ◌≤◌, ◌+◌, ◌-◌, ℕ, zero, suc, List, [], ◌∷◌, ◌++◌, length, take, drop, Result, Ok, Err, refl, sym, ap, subst, ◌∙◌, arith, append_assoc, append-nil, length-append, count_by, if◌then◌else◌, false, ◌==◌}
+use Rattle.std.proofs.Common.{◌≡◌, ⊎_elim, ◌<◌, ◌≤◌, ◌+◌, ◌-◌, ℕ, zero, suc, List, [], ◌∷◌, ◌++◌, length, take, drop, Result, Ok, Err, refl, sym, ap, subst, ◌∙◌, arith, append_assoc, append-nil, length-append, count_by, cond, if◌then◌else◌, false, ◌==◌}
 use Rattle.std.proofs.lemmas.Bool.Decides.{nat_tests}
 use Rattle.std.proofs.lemmas.List.Sums.{sum_by-cons}
-use Rattle.std.specs.Result.{result_map_both}
 use Rattle.std.proofs.lemmas.List.{take_at, take_all, drop_all}
 use Rattle.std.specs.Prelude.{IfOk}
+use Rattle.reg_records.specs.Floor.{is_floor_line}
 use Rattle.reg_records.specs.Log.{IsLogOf, LogText, log_of, records_in, is_foreign}
 use Rattle.reg_records.specs.declared.limits.TheConstants.{LOG_LINES}
 use Rattle.reg_records.specs.declared.record.Read.{Read}
@@ -12,11 +12,11 @@ use Rattle.reg_records.specs.declared.record.Read.TheVariants as reads
 use Rattle.reg_journal.specs.Disk.{Keeps, Only, Holds}
 use Rattle.reg_journal.specs.Journal.{IsSettled}
 use Rattle.reg_journal.specs.Found.{HasNoEmptyLine, IsFound}
-use Rattle.reg_journal.specs.Lines.{said, text_of, Say}
+use Rattle.reg_journal.specs.Lines.{Said, said, text_of, SayLog}
 use Rattle.reg_journal.specs.declared.opening.Found.{Found}
 use Rattle.reg_journal.specs.declared.opening.OpenError.{OpenError}
 use Rattle.reg_journal.proofs.Gates.{kept_front}
-use Rattle.reg_journal.proofs.Logs.{Outcome, shape, said_by_lines}
+use Rattle.reg_journal.proofs.Logs.{lines_told, said_by_lines, said_in, whole}
 
 -- each line is a record's or foreign
 pub counted : (read : List Read) → length read ≡ length (records_in read) + count_by is_foreign read
@@ -42,11 +42,13 @@ filled xs is = grind (arith, nat_tests)
 pub record Ended (file : List ℕ) (log : LogText) : Type 0 where
   pub lines : List (List ℕ)
   pub parts : file ≡ text_of lines ++ 10 ∷ take (length log.rest - 1) log.rest
-  pub say : Say lines log.reads
-  pub few : length log.reads ≤ LOG_LINES
+  pub say : SayLog lines log.floor log.reads
+  pub few : length lines ≤ LOG_LINES
   pub size : length file ≡ length (text_of lines) + length log.rest
+  -- how many they are
+  pub told : length lines ≡ length log.reads + cond (is_floor_line (file ++ 10 ∷ [])) 1 0
 
-ended_by : (file : List ℕ) (log : LogText) (lines : List (List ℕ)) (rest : List ℕ) → Say lines log.reads → length log.reads ≤ LOG_LINES → rest ≡ log.rest → 0 < length rest
+ended_by : (file : List ℕ) (log : LogText) (lines : List (List ℕ)) (rest : List ℕ) → SayLog lines log.floor log.reads → length lines ≤ LOG_LINES → rest ≡ log.rest → 0 < length rest
     → file ++ 10 ∷ [] ≡ text_of lines ++ 10 ∷ rest → Ended file log
 ended_by file log lines [] say few same some is = absurd (omega arith)
 ended_by file log lines (b ∷ rest) say few same some is = record {
@@ -55,33 +57,33 @@ ended_by file log lines (b ∷ rest) say few same some is = record {
   say = say;
   few = few;
   size = omega (arith, ap length is, ap length same, length-append file (10 ∷ []), length-append (text_of lines) (10 ∷ b ∷ rest));
+  told = lines_told lines log.floor log.reads (b ∷ rest) say ∙ ap (λ (t : List ℕ). length log.reads + cond (is_floor_line t) 1 0) (sym is);
 }
 
 -- with an LF more, something is left behind an empty line
 pub ended : (file : List ℕ) (log : LogText) → log_of (file ++ 10 ∷ []) ≡ Ok log → 0 < length log.rest → Ended file log
 ended file log is some =
-    let s = shape (file ++ 10 ∷ []) log is in
+    let s = whole (file ++ 10 ∷ []) log is in
     ⊎_elim
-    (λ whole. ended_by file log s.lines log.rest s.say (omega (arith, s.few)) refl some whole)
+    (λ parts. ended_by file log s.lines log.rest s.say s.few refl some parts)
     (λ none. absurd (omega (arith, ap length none.1, some)))
     s.whole
 
 -- one LF more says nothing more
 pub said_more : (file : List ℕ) (log : LogText) → log_of file ≡ Ok log → said (file ++ 10 ∷ []) ≡ said file
 said_more file log is =
-    let s = shape file log is in
-    let before : said file ≡ Ok log.reads = ap (λ (found : Outcome). result_map_both (λ (l : LogText). l.reads) (λ fault. fault) found) is in
-    let few : length log.reads ≤ LOG_LINES = omega (arith, s.few) in
+    let s = whole file log is in
+    let before : said file ≡ Ok (record { floor = log.floor; reads = log.reads }) = ap said_in is in
     ⊎_elim
-    (λ whole. ap said (ap (λ (l : List ℕ). l ++ 10 ∷ []) whole ∙ append_assoc (text_of s.lines) (10 ∷ log.rest) (10 ∷ []))
-    ∙ said_by_lines s.lines log.reads (log.rest ++ 10 ∷ []) s.say few ∙ sym before)
-    (λ none. ap said (ap (λ (l : List ℕ). l ++ 10 ∷ []) none.0) ∙ said_by_lines s.lines log.reads [] s.say few ∙ sym before)
+    (λ parts. ap said (ap (λ (l : List ℕ). l ++ 10 ∷ []) parts ∙ append_assoc (text_of s.lines) (10 ∷ log.rest) (10 ∷ []))
+    ∙ said_by_lines s.lines log.floor log.reads (log.rest ++ 10 ∷ []) s.say s.few ∙ sym before)
+    (λ none. ap said (ap (λ (l : List ℕ). l ++ 10 ∷ []) none.0) ∙ said_by_lines s.lines log.floor log.reads [] s.say s.few ∙ sym before)
     s.whole
 
 -- a file that has an empty line
 module _ (file : List ℕ) (found : Found) (is : IsFound file found) where
-  pub said_found : said file ≡ Ok is.read
-  said_found = ap said is.parts ∙ said_by_lines is.lines is.read found.behind.items is.say is.few
+  pub said_found : said file ≡ Ok (record { floor = is.floor; reads = is.read })
+  said_found = ap said is.parts ∙ said_by_lines is.lines is.floor is.read found.behind.items is.say is.few
 
   pub end_within : found.end + 1 ≤ length file
   end_within = omega (arith, ap length is.parts, length-append (text_of is.lines) (10 ∷ found.behind.items), is.ends)
@@ -91,7 +93,7 @@ module _ (file : List ℕ) (found : Found) (is : IsFound file found) where
   kept_says c keeps =
       let before = text_of is.lines in
       let front : c ≡ before ++ 10 ∷ drop (found.end + 1) c = kept_front before (found.end + 1) found.behind.items c (omega (arith, is.ends)) (subst (λ f. Keeps (found.end + 1) f c) is.parts keeps) in
-      ap said front ∙ said_by_lines is.lines is.read (drop (found.end + 1) c) is.say is.few ∙ sym said_found
+      ap said front ∙ said_by_lines is.lines is.floor is.read (drop (found.end + 1) c) is.say is.few ∙ sym said_found
 
   front : take (found.end + 1) file ≡ text_of is.lines ++ 10 ∷ []
   front =
@@ -100,12 +102,13 @@ module _ (file : List ℕ) (found : Found) (is : IsFound file found) where
       ∙ take_at (before ++ 10 ∷ []) found.behind.items (found.end + 1) (omega (arith, length-append before (10 ∷ []), is.ends))
 
   pub cut_says : (new : List ℕ) → new ≡ take (found.end + 1) file → said new ≡ said file
-  cut_says new cut = ap said (cut ∙ front) ∙ said_by_lines is.lines is.read [] is.say is.few ∙ sym said_found
+  cut_says new cut = ap said (cut ∙ front) ∙ said_by_lines is.lines is.floor is.read [] is.say is.few ∙ sym said_found
 
   pub cut_settles : {D : Type 0} (seen : D → List ℕ) (may_leave : D → List ℕ → Type 0) (disk : D)
       → seen disk ≡ take (found.end + 1) file → Only (seen disk) (may_leave disk) → IsSettled seen may_leave disk found.end found.lines
   cut_settles seen may_leave disk cut only = record {
     lines = is.lines;
+    floor = is.floor;
     read = is.read;
     file = cut ∙ front;
     say = is.say;
@@ -125,9 +128,9 @@ written_past file bytes c n is holds =
 
 -- nothing is left: with one LF more the file is a log
 pub nothing_left : (file : List ℕ) (log : LogText) → log_of (file ++ 10 ∷ []) ≡ Ok log → HasNoEmptyLine file
-nothing_left file log is = (log.reads, ap (λ (found : Outcome). result_map_both (λ (l : LogText). l.reads) (λ fault. fault) found) is)
+nothing_left file log is = (record { floor = log.floor; reads = log.reads }, ap said_in is)
 
 -- a file in which something was found says it
-pub says_found : (file : List ℕ) (r : Result Found OpenError) → IfOk r (IsFound file) → IfOk r (λ found. (read : List Read) × (said file ≡ Ok read) × IsLogOf read found.log)
-says_found file (Ok found) is = (is.read, said_found file found is, is.is_log)
+pub says_found : (file : List ℕ) (r : Result Found OpenError) → IfOk r (IsFound file) → IfOk r (λ found. (says : Said) × (said file ≡ Ok says) × IsLogOf says.floor says.reads found.log)
+says_found file (Ok found) is = (record { floor = is.floor; reads = is.read }, said_found file found is, is.is_log)
 says_found file (Err e) is = tt

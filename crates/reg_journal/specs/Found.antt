@@ -5,7 +5,7 @@ use Rattle.reg_records.specs.declared.limits.TheConstants.{LOG_LINES}
 use Rattle.reg_records.specs.declared.log.LogError.{LogError}
 use Rattle.reg_records.specs.declared.log.LogError.TheVariants as logs
 use Rattle.reg_records.specs.declared.record.Read.{Read}
-use Rattle.reg_journal.specs.Lines.{said, text_of, Say}
+use Rattle.reg_journal.specs.Lines.{Said, said, text_of, SayLog}
 use Rattle.reg_journal.specs.declared.opening.Found.{Found}
 use Rattle.reg_journal.specs.declared.opening.OpenError.{OpenError}
 use Rattle.reg_journal.specs.declared.opening.OpenError.TheVariants.{Log, NoEmptyLine, Failed, OutOfMemory}
@@ -13,13 +13,14 @@ use Rattle.reg_journal.specs.declared.opening.OpenError.TheVariants.{Log, NoEmpt
 -- the file is lines of this log, which end at `end`, an empty line, and what was found behind it
 pub record IsFound (file : List ℕ) (found : Found) : Type 0 where
   pub lines : List (List ℕ)
+  pub floor : ℕ
   pub read : List Read
   pub parts : file ≡ text_of lines ++ 10 ∷ found.behind.items
-  pub say : Say lines read
+  pub say : SayLog lines floor read
   pub ends : found.end ≡ length (text_of lines)
-  pub counts : found.lines ≡ length read
-  pub few : length read ≤ LOG_LINES
-  pub is_log : IsLogOf read found.log
+  pub counts : found.lines ≡ length lines
+  pub few : length lines ≤ LOG_LINES
+  pub is_log : IsLogOf floor read found.log
 
 -- the text's first fault is that one
 abbrev pub HasFault : List ℕ → LogError → Type 0
@@ -29,7 +30,7 @@ HasFault text logs.OutOfMemory = ⊤
 
 -- the file is a log without an empty line, once an LF ends its last line
 abbrev pub HasNoEmptyLine : List ℕ → Type 0
-HasNoEmptyLine file = (read : List Read) × (said (file ++ 10 ∷ []) ≡ Ok read)
+HasNoEmptyLine file = (says : Said) × (said (file ++ 10 ∷ []) ≡ Ok says)
 
 -- why nothing was found; an LF at the end of the file is taken as given
 abbrev pub IsLookRefusal : List ℕ → OpenError → Type 0

@@ -1,9 +1,10 @@
 // The log of a file that has an empty line, and what stands behind that line.
-ghost use Rattle.std.specs.Prelude.{◌≡◌, ◌^◌, ◌<◌, IfErr, IfOk};
+ghost use Rattle.std.specs.Prelude.{◌≡◌, ◌^◌, ◌<◌, IfErr, IfOk, if◌then◌else◌};
+ghost use Rattle.reg_records.specs.Floor.{is_floor_line};
 ghost use Rattle.reg_journal.specs.Found.{IsFound, IsLookRefusal};
 
 use crate::opening::{Found, OpenError};
-use reg_records::{Device, Log, LogError, read_log};
+use reg_records::{Device, Log, LogError, is_floor_line, read_log};
 use std::alloc::{AllocFailed, Global};
 
 /// Reads the log of a file, and finds the empty line behind it.
@@ -23,11 +24,18 @@ pub(crate) fn read_ended(alloc: Global, bytes: Vec<u8>) -> Result<Found, OpenErr
     }
     let behind = left[..left.len() - 1].to_vec(alloc)?;
     let end = bytes.len() - left.len() - 1;
-    let lines = log.records.len() as u64 + log.foreign;
+    let lines = log.records.len() as u64 + log.foreign + floor_lines(&bytes);
     Ok(Found {
         log,
         end,
         lines,
         behind,
     })
+}
+
+/// How many lines of a log say its floor, in a text that begins with it: one or none.
+fn floor_lines(text: &[u8]) -> u64
+    ensures { result ≡ (if is_floor_line text.now then 1 else 0) }
+{
+    if is_floor_line(text) { 1 } else { 0 }
 }

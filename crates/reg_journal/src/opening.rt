@@ -1,10 +1,9 @@
 // Opening a file that a crash may have left.
 ghost use Rattle.std.specs.Prelude.{◌≡◌, ◌⊎◌, ◌++◌, ◌^◌, ◌<◌, [], ◌∷◌, List, ℕ, Ok, length, false, IfErr, IfOk, OnOk};
 ghost use Rattle.reg_records.specs.Log.{IsLogOf};
-ghost use Rattle.reg_records.specs.declared.record.Read.{Read};
 ghost use Rattle.reg_journal.specs.Disk.{Only, Keeps, LeavesOnly};
 ghost use Rattle.reg_journal.specs.Found.{IsFound, IsLookRefusal, IsUnchanged, LeavesFile};
-ghost use Rattle.reg_journal.specs.Lines.{said};
+ghost use Rattle.reg_journal.specs.Lines.{Said, said};
 ghost use Rattle.reg_journal.specs.Journal.{IsSettled, IsReady};
 
 use crate::disk::{Disk, DiskError};
@@ -87,7 +86,7 @@ pub struct Found {
 pub fn look<D: Disk>(alloc: Global, disk: &mut D) -> Result<Found, OpenError>
     requires { D.is_modelled → D.known disk.old }
     ensures found { D.is_modelled → IfOk result (IsFound (D.seen disk.old)) }
-    ensures log { D.is_modelled → IfOk result (λ found. (read : List Read) × (said (D.seen disk.old) ≡ Ok read) × IsLogOf read found.log) }
+    ensures log { D.is_modelled → IfOk result (λ found. (says : Said) × (said (D.seen disk.old) ≡ Ok says) × IsLogOf says.floor says.reads found.log) }
     ensures within { IfOk result (λ found. found.end < 2 ^ 63) }
     ensures same { D.is_modelled → OnOk result (IsUnchanged D.known D.seen disk.old disk.new) }
     ensures durable { D.is_modelled → OnOk result (Only (D.seen disk.new) (D.may_leave disk.new)) }
@@ -120,7 +119,7 @@ pub fn cut_behind<D: Disk>(disk: &mut D, found: &Found) -> Result<(), OpenError>
 /// Reads the log of a file, and cuts off what a crash has left behind its empty line. It may crash too.
 pub fn recover<D: Disk>(alloc: Global, disk: &mut D) -> Result<Found, OpenError>
     requires { D.is_modelled → D.known disk.old }
-    ensures log { D.is_modelled → IfOk result (λ found. (read : List Read) × (said (D.seen disk.old) ≡ Ok read) × IsLogOf read found.log) }
+    ensures log { D.is_modelled → IfOk result (λ found. (says : Said) × (said (D.seen disk.old) ≡ Ok says) × IsLogOf says.floor says.reads found.log) }
     ensures same { D.is_modelled → OnOk result (D.known disk.new × (said (D.seen disk.new) ≡ said (D.seen disk.old))) }
     ensures settled { D.is_modelled → IfOk result (λ found. IsSettled D.seen D.may_leave disk.new found.end found.lines) }
 
@@ -136,7 +135,7 @@ pub fn recover<D: Disk>(alloc: Global, disk: &mut D) -> Result<Found, OpenError>
 /// The log of a file, and the journal that adds to it.
 pub fn open<D: Disk + Drop>(alloc: Global, disk: D) -> Result<(Log, Journal<D>), OpenError>
     requires { D.is_modelled → D.known disk }
-    ensures log { D.is_modelled → IfOk result (λ found. (read : List Read) × (said (D.seen disk) ≡ Ok read) × IsLogOf read found.0) }
+    ensures log { D.is_modelled → IfOk result (λ found. (says : Said) × (said (D.seen disk) ≡ Ok says) × IsLogOf says.floor says.reads found.0) }
     ensures same { D.is_modelled → IfOk result (λ found. D.known found.1.disk × (said (D.seen found.1.disk) ≡ said (D.seen disk))) }
     ensures ready { D.is_modelled → IfOk result (λ found. IsReady D.known D.seen D.may_leave found.1) }
     ensures any_moment { D.is_modelled → IfOk result (λ found. LeavesOnly D.moment D.left_since disk found.1.disk

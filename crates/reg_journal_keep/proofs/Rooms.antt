@@ -3,7 +3,7 @@ use Rattle.std.proofs.Common.{◌≡◌, inl, ⊎_elim, ℕ, Bool, true, false, 
 use Rattle.std.specs.Result.{result_map_both}
 use Rattle.reg_journal.specs.Disk.{LeavesOnly}
 use Rattle.reg_journal.specs.Journal.{IsSettled}
-use Rattle.reg_journal.specs.Lines.{EndedLinesAreRead, IsBeforeOrAfter, said}
+use Rattle.reg_journal.specs.Lines.{EndedLinesAreRead, IsBeforeOrAfter, Said, said}
 use Rattle.reg_journal.specs.Refusals.{is_refusal}
 use Rattle.reg_journal.specs.declared.journal.AppendError.{AppendError}
 use Rattle.reg_journal.specs.declared.journal.AppendError.TheVariants as errors
@@ -13,24 +13,23 @@ use Rattle.reg_keeping.specs.InPlace.{IsBeforeOrCompacted}
 use Rattle.reg_keeping.specs.Said.{CompactedFilesSayIt, EachSaysItsOwnCompaction, SaysCompaction}
 use Rattle.reg_records.specs.Log.{LogText, log_of}
 use Rattle.reg_records.specs.declared.log.LogFault.{LogFault}
-use Rattle.reg_records.specs.declared.record.Read.{Read}
 use Rattle.reg_records.specs.declared.record.Record.{Record}
 use Rattle.reg_journal_keep.specs.Keeping.{Ends, MakesRoom, SaysCompactionOrMore, kept_of, says_compaction}
 
-abbrev of_log : Result LogText (ℕ × LogFault) → Result (List Read) (ℕ × LogFault)
-of_log found = result_map_both (λ (log : LogText). log.reads) (λ fault. fault) found
+abbrev of_log : Result LogText (ℕ × LogFault) → Result Said (ℕ × LogFault)
+of_log found = result_map_both (λ (log : LogText). record { floor = log.floor; reads = log.reads }) (λ fault. fault) found
 
 module _ {D : Type 0} (seen : D → List ℕ) (may_leave : D → List ℕ → Type 0) (ended : EndedLinesAreRead) (itself : EachSaysItsOwnCompaction) (disk : D) (end count : ℕ) (s : IsSettled seen may_leave disk end count) where
   -- a settled file says a compaction of itself
   pub says_itself : SaysCompaction (said (seen disk)) (said (seen disk))
   says_itself =
-      let says : said (seen disk) ≡ Ok s.read = ap of_log (ap log_of s.file ∙ ended s.lines s.read [] s.say s.few) in
-      subst (λ (found : Result (List Read) (ℕ × LogFault)). SaysCompaction found found) (sym says) (itself s.read)
+      let says : said (seen disk) ≡ Ok (record { floor = s.floor; reads = s.read }) = ap of_log (ap log_of s.file ∙ ended s.lines s.floor s.read [] s.say s.few) in
+      subst (λ (found : Result Said (ℕ × LogFault)). SaysCompaction found found) (sym says) (itself (record { floor = s.floor; reads = s.read }))
 
   pub says_left : CompactedFilesSayIt → (file : List ℕ) → IsBeforeOrCompacted (seen disk) file → SaysCompaction (said (seen disk)) (said file)
   says_left compacted file left =
       ⊎_elim
-      (λ same. subst (λ (found : Result (List Read) (ℕ × LogFault)). SaysCompaction (said (seen disk)) found) (sym same) says_itself)
+      (λ same. subst (λ (found : Result Said (ℕ × LogFault)). SaysCompaction (said (seen disk)) found) (sym same) says_itself)
       (λ is. compacted (seen disk) file is)
       left
 
@@ -59,6 +58,12 @@ module _ {D : Type 0} (known : D → Type 0) (seen : D → List ℕ) (may_leave 
     (ended : EndedLinesAreRead) (itself : EachSaysItsOwnCompaction) (j : Journal D) (ready : known j.disk × IsSettled seen may_leave j.disk j.end j.lines) where
   pub says_same : SaysCompaction (said (seen j.disk)) (said (seen j.disk))
   says_same = says_itself seen may_leave ended itself j.disk j.end j.lines ready.1
+
+  pub moments_same : ((file : List ℕ) → left_since j.disk (moment j.disk) file → may_leave j.disk file)
+      → LeavesOnly moment left_since j.disk j.disk (says_compaction (said (seen j.disk)))
+  moments_same only =
+      started moment left_since j.disk (says_compaction (said (seen j.disk)))
+      (λ file left. says_on_disk seen may_leave ended itself j.disk j.end j.lines ready.1 file (only file left))
 
   pub leaves_same : (batch : List Record) → ((file : List ℕ) → left_since j.disk (moment j.disk) file → may_leave j.disk file)
       → LeavesOnly moment left_since j.disk j.disk (SaysCompactionOrMore (said (seen j.disk)) batch)

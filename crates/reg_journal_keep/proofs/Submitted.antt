@@ -1,7 +1,7 @@
 -- What a submit leaves in the file.
 use Rattle.std.proofs.Common.{◌≡◌, ⊎_elim, ℕ, Bool, true, false, List, [], ◌∷◌, ◌++◌, Option, Result, Ok, Err, refl, sym, ap, subst, subst₂, ◌∙◌, append_assoc, append-nil, true≢false}
 use Rattle.std.specs.Borrow.{Bor}
-use Rattle.reg_journal.specs.Lines.{batch_reads, said, with_batch}
+use Rattle.reg_journal.specs.Lines.{Said, batch_reads, said, with_batch}
 use Rattle.reg_journal.specs.declared.journal.Journal.{Journal}
 use Rattle.reg_keeping.specs.Said.{BatchesFollowCompactions, SaidCompactionsCompose, SaysCompaction}
 use Rattle.reg_leader.specs.declared.command.Command.{Command}
@@ -24,16 +24,18 @@ reads_of_both : (a b : List Record) → batch_reads (a ++ b) ≡ batch_reads a +
 reads_of_both [] b = refl
 reads_of_both (r ∷ a) b = ap (λ (l : List Read). reads.Record r ∷ l) (reads_of_both a b)
 
-both_said : (a b : List Record) (s : Result (List Read) (ℕ × LogFault)) → with_batch b (with_batch a s) ≡ with_batch (a ++ b) s
-both_said a b (Ok read) = ap Ok (append_assoc read (batch_reads a) (batch_reads b) ∙ ap (λ (l : List Read). read ++ l) (sym (reads_of_both a b)))
+both_said : (a b : List Record) (s : Result Said (ℕ × LogFault)) → with_batch b (with_batch a s) ≡ with_batch (a ++ b) s
+both_said a b (Ok says) =
+    ap (λ (l : List Read). Ok (record says { reads = l }))
+    (append_assoc says.reads (batch_reads a) (batch_reads b) ∙ ap (λ (l : List Read). says.reads ++ l) (sym (reads_of_both a b)))
 both_said a b (Err e) = refl
 
 batched_both : (xs ys : List Item) → batched (xs ++ ys) ≡ batched xs ++ batched ys
 batched_both [] ys = refl
 batched_both (items.Commit commit ∷ xs) ys = ap (λ (l : List Record). commit.batch ++ l) (batched_both xs ys) ∙ sym (append_assoc commit.batch (batched xs) (batched ys))
-batched_both (items.Compaction dropped ∷ xs) ys = batched_both xs ys
+batched_both (items.Compaction c ∷ xs) ys = batched_both xs ys
 
-module _ {D : Type 0} (across : SaidCompactionsCompose) (follow : BatchesFollowCompactions) (is_modelled : Type 0) (moment : D → ℕ) (left_since : D → ℕ → List ℕ → Type 0) (seen : D → List ℕ) (modelled : is_modelled) (first : Result (List Read) (ℕ × LogFault)) where
+module _ {D : Type 0} (across : SaidCompactionsCompose) (follow : BatchesFollowCompactions) (is_modelled : Type 0) (moment : D → ℕ) (left_since : D → ℕ → List ℕ → Type 0) (seen : D → List ℕ) (modelled : is_modelled) (first : Result Said (ℕ × LogFault)) where
   abbrev says_items : List Item → Journal D → Type 0
   says_items is keep = SaysCompaction (with_batch (batched is) first) (said (seen keep.disk))
 

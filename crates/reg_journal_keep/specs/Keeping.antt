@@ -1,7 +1,7 @@
 -- What a keep over a file does with a batch.
 use Rattle.std.specs.Prelude.{◌≡◌, ℕ, List, Result, true, false}
 use Rattle.reg_journal.specs.Disk.{LeavesOnly}
-use Rattle.reg_journal.specs.Lines.{IsBeforeOrAfter, said, with_batch}
+use Rattle.reg_journal.specs.Lines.{IsBeforeOrAfter, Said, said, with_batch}
 use Rattle.reg_journal.specs.declared.journal.AppendError.{AppendError}
 use Rattle.reg_journal.specs.declared.journal.AppendError.TheVariants as errors
 use Rattle.reg_journal.specs.declared.journal.Journal.{Journal}
@@ -10,7 +10,6 @@ use Rattle.reg_pen.specs.declared.keep.Kept.{Kept}
 use Rattle.reg_pen.specs.declared.keep.Kept.TheVariants.{Taken, Declined, Lost}
 use Rattle.reg_pen.specs.declared.keep.Lack.TheVariants as lacks
 use Rattle.reg_records.specs.declared.log.LogFault.{LogFault}
-use Rattle.reg_records.specs.declared.record.Read.{Read}
 use Rattle.reg_records.specs.declared.record.Record.{Record}
 
 -- what became of a batch that isn't acknowledged: nothing of it is there, or it may be there or not
@@ -23,12 +22,12 @@ kept_of errors.Failed = Lost
 kept_of errors.Broken = Lost
 
 -- the file says a compaction of what was said before
-abbrev pub says_compaction : Result (List Read) (ℕ × LogFault) → List ℕ → Type 0
+abbrev pub says_compaction : Result Said (ℕ × LogFault) → List ℕ → Type 0
 says_compaction before file = SaysCompaction before (said file)
 
 -- the file says a compaction of what was said before, without the batch or with all of it behind
-abbrev pub SaysCompactionOrMore : Result (List Read) (ℕ × LogFault) → List Record → List ℕ → Type 0
-SaysCompactionOrMore before batch file = (kept : Result (List Read) (ℕ × LogFault)) × SaysCompaction before kept × IsBeforeOrAfter kept batch file
+abbrev pub SaysCompactionOrMore : Result Said (ℕ × LogFault) → List Record → List ℕ → Type 0
+SaysCompactionOrMore before batch file = (kept : Result Said (ℕ × LogFault)) × SaysCompaction before kept × IsBeforeOrAfter kept batch file
 
 -- unless the journal is broken then, its file says a compaction of what it said
 abbrev pub MakesRoom : {D : Type 0} → Type 0 → (D → List ℕ) → Journal D → Journal D → Type 0
@@ -38,7 +37,7 @@ MakesRoom is_modelled seen old new = is_modelled → new.is_broken ≡ false →
 abbrev pub Ends : {D : Type 0} → Type 0 → (D → List ℕ) → Journal D → List Record → Kept → Journal D → Type 0
 Ends is_modelled seen old batch Taken new =
     (new.is_broken ≡ false)
-    × (is_modelled → (kept : Result (List Read) (ℕ × LogFault)) × SaysCompaction (said (seen old.disk)) kept × (said (seen new.disk) ≡ with_batch batch kept))
+    × (is_modelled → (kept : Result Said (ℕ × LogFault)) × SaysCompaction (said (seen old.disk)) kept × (said (seen new.disk) ≡ with_batch batch kept))
 Ends is_modelled seen old batch (Declined lack) new = (new.is_broken ≡ false) × (is_modelled → SaysCompaction (said (seen old.disk)) (said (seen new.disk)))
 Ends is_modelled seen old batch Lost new = new.is_broken ≡ true
 

@@ -1,5 +1,5 @@
 mod Compacts
-mod Fronts
+pub mod Fronts
 mod Kept
 mod Lasts
 mod Offsets

@@ -63,12 +63,24 @@ same_next read out t is top part =
     (λ found. omega (arith, found.1, is, above 0 out t top, above 0 read found.0 (part found.0 found.2)))
     (attained 0 out)
 
+-- what has no other offsets comes before no later one
+pub no_later : (read out : List Read) → ((o : ℕ) → HasAt o out → HasAt o read) → next_after out ≤ next_after read
+no_later read out part =
+    ⊎_elim
+    (λ none. omega (arith, none))
+    (λ found. omega (arith, found.1, above 0 read found.0 (part found.0 found.2)))
+    (attained 0 out)
+
 pub has_top : (read : List Read) (t : ℕ) → next_after read ≡ suc t → HasAt t read
 has_top read t is =
     ⊎_elim
     (λ none. absurd (omega (arith, none, is)))
     (λ found. let same : found.0 ≡ t = omega (arith, found.1, is) in subst (λ (o : ℕ). HasAt o read) same found.2)
     (attained 0 read)
+
+-- no line has the offset of the next one or a later one
+pub none_at : (read : List Read) (t : ℕ) → next_after read ≤ t → HasAt t read → ⊥
+none_at read t le has = absurd (omega (arith, le, above 0 read t has))
 
 pub below_top : (read : List Read) (t o : ℕ) → next_after read ≡ suc t → HasAt o read → o ≤ t
 below_top read t o is has = omega (arith, is, above 0 read o has)
@@ -153,3 +165,17 @@ carried t (line ∷ lines) (reads.Foreign offset ∷ read) c say has =
 
     differs : (o t : ℕ) → o ≡ t → nat_eq o t ≡ false → ⊥
     differs o t is not = grind (arith, nat_tests)
+
+-- where no line has it, none is carried
+pub none_carried_at : (t : ℕ) (lines : List (List ℕ)) (read : List Read) (c : Option (List ℕ)) → (HasAt t read → ⊥) → carried_by (Some t) lines read c ≡ c
+none_carried_at t [] read c not = refl
+none_carried_at t (line ∷ lines) [] c not = refl
+none_carried_at t (line ∷ lines) (reads.Record r ∷ read) c not = none_carried_at t lines read c (λ later. not (inr later))
+none_carried_at t (line ∷ lines) (reads.Foreign offset ∷ read) c not =
+    elim (nat_eq offset t) as (λ b. nat_eq offset t ≡ b → carried_by (Some t) lines read (cond b (Some (line ++ 10 ∷ [])) c) ≡ c) [
+      | true ↦ λ is. absurd (not (inl (equals offset t is)))
+      | false ↦ λ is. none_carried_at t lines read c (λ later. not (inr later))
+    ] refl
+  where
+    equals : (o t : ℕ) → nat_eq o t ≡ true → o ≡ t
+    equals o t is = grind (arith, nat_tests)

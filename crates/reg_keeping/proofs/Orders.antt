@@ -1,5 +1,5 @@
 -- What stays the same when lines are put into another order.
-use Rattle.std.proofs.Common.{◌≡◌, ◌<◌, ◌+◌, ℕ, suc, max, Bool, true, false, ◌||◌, List, [], ◌∷◌, length, map, Option, Some, None, Ok, refl, sym, ap, subst, ◌∙◌, arith, length-append}
+use Rattle.std.proofs.Common.{◌≡◌, ◌<◌, ◌+◌, ℕ, suc, max, Bool, true, false, ◌||◌, List, [], ◌∷◌, ◌++◌, length, map, Option, Some, None, Ok, refl, sym, ap, subst, ◌∙◌, arith, length-append}
 use Rattle.std.proofs.lemmas.Bool.Decides.{nat_tests}
 use Rattle.std.proofs.lemmas.List.Elements.{All-cons, All-head, All-nil, All-tail}
 use Rattle.std.proofs.lemmas.List.Sorted.{All-permutation, length_permutation, list_any-IsPermutation, sum_by-IsPermutation}
@@ -13,9 +13,9 @@ use Rattle.std.specs.Ordering.{eq_by_cmp}
 use Rattle.std.specs.Prelude.{nat_lt}
 use Rattle.std.specs.Result.{result_unwrap_or}
 use Rattle.std.specs.declared.result.Result.{Result}
-use Rattle.reg_journal.specs.Lines.{LinesAreRead, Say, text_of}
+use Rattle.reg_journal.specs.Lines.{LinesAreRead, Say, SayLog, text_of}
 use Rattle.reg_records.specs.Line.{reading}
-use Rattle.reg_records.specs.Log.{LogText, log_of, next_after, offset_in, record_in, records_in}
+use Rattle.reg_records.specs.Log.{LogText, log_of, next_after, next_of, offset_in, record_in, records_in}
 use Rattle.reg_records.specs.Pieces.{HasNoLineFeed}
 use Rattle.reg_records.specs.declared.line.LineError.{LineError}
 use Rattle.reg_records.specs.declared.log.LogFault.{LogFault}
@@ -25,6 +25,7 @@ use Rattle.reg_records.specs.declared.record.Record.{Record}
 use Rattle.reg_set.specs.RecordOrder.{record_cmp}
 use Rattle.reg_keeping.specs.Compacted.{IsCompacted, IsLines}
 use Rattle.reg_keeping.specs.Sorted.{IsSortedCompaction, Reorders, read_of}
+use Rattle.reg_keeping.proofs.Fronts.{text_of-append}
 
 -- a line that says something
 abbrev pub IsLine : List ℕ → Type 0
@@ -116,35 +117,47 @@ map_map : (f : Read → ℕ) (lines : List (List ℕ)) → map f (map read_of li
 map_map f [] = refl
 map_map f (line ∷ lines) = ap (λ (l : List ℕ). f (read_of line) ∷ l) (map_map f lines)
 
-reads_of : (a b : LogText) → ◌≡◌ {A = Result LogText (ℕ × LogFault)} (Ok a) (Ok b) → a.reads ≡ b.reads
-reads_of a b same = ap (λ (r : Result LogText (ℕ × LogFault)). (result_unwrap_or r a).reads) same
+same_log : (a b : LogText) → ◌≡◌ {A = Result LogText (ℕ × LogFault)} (Ok a) (Ok b) → a ≡ b
+same_log a b same = ap (λ (r : Result LogText (ℕ × LogFault)). result_unwrap_or r a) same
 
--- a compaction in another order is one
-pub sorted_compaction : IsTotalOrder record_cmp → IsAntisymmetric record_cmp → LinesAreRead → (input text output : List ℕ) (is : IsCompacted input text) (l : IsLines text) → Reorders l.lines output
-    → IsSortedCompaction input output
+-- a compaction whose lines stand in another order behind a floor's is one
+pub sorted_compaction : IsTotalOrder record_cmp → IsAntisymmetric record_cmp → LinesAreRead → (input text output : List ℕ) (is : IsCompacted input text) (l : IsLines text)
+    → Reorders l.say.front l.say.others output → IsSortedCompaction input output
 sorted_compaction total apart law input text output is l r =
-    let said = all_say l.lines l.read l.say in
-    let ordered = All-permutation IsLine l.lines r.ordered r.same said.0 in
+    let s = l.say in
+    let said = all_say s.others l.read s.say in
+    let ordered = All-permutation IsLine s.others r.ordered r.same said.0 in
     let read : List Read = map read_of r.ordered in
-    let says = say_all r.ordered ordered in
-    let count : length read ≡ length l.read = length_map r.ordered ∙ length_permutation l.lines r.ordered r.same ∙ sym (length_map l.lines) ∙ ap length (sym said.1) in
-    let was : is.out.reads ≡ l.read =
-    reads_of is.out (record { reads = l.read; rest = [] }) (sym is.read_back ∙ ap log_of l.parts ∙ law l.lines l.read l.say l.few) in
-    let back : is.out.reads ≡ map read_of l.lines = was ∙ said.1 in
+    let lines : List (List ℕ) = s.front ++ r.ordered in
+    let says : SayLog lines l.floor read = record { front = s.front; others = r.ordered; parts = refl; floor = s.floor; say = say_all r.ordered ordered } in
+    let count : length lines ≡ length l.lines =
+    omega (arith, length-append s.front r.ordered, length-append s.front s.others, ap length s.parts, length_permutation s.others r.ordered r.same) in
+    let was : is.out ≡ record { floor = l.floor; reads = l.read; rest = [] } =
+    same_log is.out (record { floor = l.floor; reads = l.read; rest = [] }) (sym is.read_back ∙ ap log_of l.parts ∙ law l.lines l.floor l.read l.say l.few) in
+    let back : is.out.reads ≡ map read_of s.others = ap (λ (o : LogText). o.reads) was ∙ said.1 in
+    let floor : is.out.floor ≡ l.floor = ap (λ (o : LogText). o.floor) was in
     record {
       compacted = record {
         log = is.log;
         read = is.read;
-        out = record { reads = read; rest = [] };
-        read_back = ap log_of r.parts ∙ law r.ordered read says (omega (arith, count, l.few));
+        out = record { floor = l.floor; reads = read; rest = [] };
+        read_back = ap log_of r.parts ∙ law lines l.floor read says (omega (arith, count, l.few));
         whole = refl;
-        lasts = same_records total apart l.lines r.ordered r.same ∙ ap (λ (x : List Read). from_list (records_in x)) (sym back) ∙ is.lasts;
-        next = same_next l.lines r.ordered r.same ∙ ap next_after (sym back) ∙ is.next;
-        small = omega (arith, ap length r.parts, same_size l.lines r.ordered r.same, ap length l.parts, is.small);
+        floor = sym floor ∙ is.floor;
+        lasts = same_records total apart s.others r.ordered r.same ∙ ap (λ (x : List Read). from_list (records_in x)) (sym back) ∙ is.lasts;
+        next = ap (λ (n : ℕ). max l.floor n) (same_next s.others r.ordered r.same ∙ ap next_after (sym back)) ∙ ap (λ (f : ℕ). next_of f is.out.reads) (sym floor) ∙ is.next;
+        small = omega (
+          arith,
+          ap length r.parts,
+          ap length (text_of-append s.front r.ordered),
+          length-append (text_of s.front) (text_of r.ordered),
+          same_size s.others r.ordered r.same,
+          ap length l.parts,
+          ap (λ (ls : List (List ℕ)). length (text_of ls)) s.parts,
+          ap length (text_of-append s.front s.others),
+          length-append (text_of s.front) (text_of s.others),
+          is.small,
+        );
       };
       sorted = subst IsNonDecreasing (sym (map_map offset_in r.ordered)) r.sorted;
     }
-  where
-    length_map : (lines : List (List ℕ)) → length (map read_of lines) ≡ length lines
-    length_map [] = refl
-    length_map (line ∷ lines) = ap suc (length_map lines)

@@ -73,17 +73,17 @@ in_order : (ps : List Piece) → All HasOffset ps → IsNonDecreasingBy (λ (p :
 in_order ps all up = subst IsNonDecreasing (sym (offsets_are ps all)) (rising ps up)
 
 -- pieces that stand in their order, and those that were put into it
-pub stays : (lines : List (List ℕ)) (text : List ℕ) (ps : List Piece) → text ≡ text_of lines → lines_of ps ≡ lines → All HasOffset ps → IsNonDecreasingBy (λ (p : Piece). p.offset) ps → Reorders lines text
-stays lines text ps parts are all up = record {
+pub stays : (front lines : List (List ℕ)) (text : List ℕ) (ps : List Piece) → text ≡ text_of (front ++ lines) → lines_of ps ≡ lines → All HasOffset ps → IsNonDecreasingBy (λ (p : Piece). p.offset) ps → Reorders front lines text
+stays front lines text ps parts are all up = record {
   ordered = lines;
   same = IsPermutation-refl lines;
   parts = parts;
   sorted = subst (λ (l : List (List ℕ)). IsNonDecreasing (map offset_at l)) are (in_order ps all up);
 }
 
-pub moved : (lines : List (List ℕ)) (text : List ℕ) (ps qs : List Piece) → text ≡ text_of (lines_of qs) → lines_of ps ≡ lines → All HasOffset ps → IsPermutation ps qs → IsNonDecreasingBy (λ (p : Piece). p.offset) qs
-    → Reorders lines text
-moved lines text ps qs parts are all same up = record {
+pub moved : (front lines : List (List ℕ)) (text : List ℕ) (ps qs : List Piece) → text ≡ text_of (front ++ lines_of qs) → lines_of ps ≡ lines → All HasOffset ps → IsPermutation ps qs → IsNonDecreasingBy (λ (p : Piece). p.offset) qs
+    → Reorders front lines text
+moved front lines text ps qs parts are all same up = record {
   ordered = lines_of qs;
   same = subst (λ (l : List (List ℕ)). IsPermutation l (lines_of qs)) are (IsPermutation-map (λ (p : Piece). p.line.now) ps qs same);
   parts = parts;
@@ -173,17 +173,19 @@ pub text_push : (lines : List (List ℕ)) (line : List ℕ) → text_of (lines +
 text_push [] line = refl
 text_push (l ∷ lines) line = ap (λ (t : List ℕ). l ++ 10 ∷ t) (text_push lines line) ∙ sym (append_assoc l (10 ∷ text_of lines) (line ++ 10 ∷ []))
 
-pub joined_more : (ps : List Piece) (i : ℕ) (d : Piece) (old longer new : List ℕ) → i < length ps → old ≡ text_of (lines_of (take i ps)) → longer ≡ old ++ (get_or ps i d).line.now → new ≡ longer ++ 10 ∷ []
-    → new ≡ text_of (lines_of (take (i + 1) ps))
-joined_more ps i d old longer new within was line ends =
+pub joined_more : (front : List ℕ) (ps : List Piece) (i : ℕ) (d : Piece) (old longer new : List ℕ) → i < length ps → old ≡ front ++ text_of (lines_of (take i ps)) → longer ≡ old ++ (get_or ps i d).line.now → new ≡ longer ++ 10 ∷ []
+    → new ≡ front ++ text_of (lines_of (take (i + 1) ps))
+joined_more front ps i d old longer new within was line ends =
     let p : Piece = get_or ps i d in
     ends
     ∙ ap (λ (t : List ℕ). t ++ 10 ∷ []) line
     ∙ append_assoc old p.line.now (10 ∷ [])
     ∙ ap (λ (t : List ℕ). t ++ (p.line.now ++ 10 ∷ [])) was
-    ∙ sym (text_push (lines_of (take i ps)) p.line.now)
+    ∙ append_assoc front (text_of (lines_of (take i ps))) (p.line.now ++ 10 ∷ [])
+    ∙ ap (λ (t : List ℕ). front ++ t)
+    (sym (text_push (lines_of (take i ps)) p.line.now)
     ∙ ap text_of (sym (map-append (λ (p : Piece). p.line.now) (take i ps) (p ∷ [])))
-    ∙ ap (λ (l : List Piece). text_of (lines_of l)) (sym (take_more ps i d within))
+    ∙ ap (λ (l : List Piece). text_of (lines_of l)) (sym (take_more ps i d within)))
 
 pub of_pairs : (m n : ℕ) (r s : Read) → ◌≡◌ {A = Option (ℕ × Read)} (Some (m, r)) (Some (n, s)) → (m ≡ n) × (r ≡ s)
 of_pairs m n r s is =

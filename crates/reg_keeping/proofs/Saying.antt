@@ -1,5 +1,5 @@
 -- What a compaction says, and with batches behind it.
-use Rattle.std.proofs.Common.{◌≡◌, ◌++◌, ◌||◌, ℕ, suc, List, Result, Ok, max, refl, sym, ap, ap₂, subst, subst₂, ◌∙◌}
+use Rattle.std.proofs.Common.{◌≡◌, ◌++◌, ◌||◌, ℕ, suc, List, [], ◌∷◌, Result, Ok, max, refl, sym, ap, ap₂, subst, subst₂, ◌∙◌, arith}
 use Rattle.std.proofs.lemmas.List.Folds.{list_any-append}
 use Rattle.std.proofs.lemmas.List.Sums.{fold-append}
 use Rattle.std.specs.Cmp.{IsTotalOrder}
@@ -7,8 +7,8 @@ use Rattle.std.specs.FinSet.{IsAntisymmetric, contains-from_list, contains-union
 use Rattle.std.specs.Ordering.{eq_by_cmp}
 use Rattle.std.specs.Prelude.{Bool, fold}
 use Rattle.std.specs.Result.{result_map_both}
-use Rattle.reg_journal.specs.Lines.{batch_reads, with_batch}
-use Rattle.reg_records.specs.Log.{LogText, next_after, offset_in, records_in}
+use Rattle.reg_journal.specs.Lines.{Said, batch_reads, with_batch}
+use Rattle.reg_records.specs.Log.{LogText, next_after, next_of, offset_in, records_in}
 use Rattle.reg_records.specs.declared.log.LogFault.{LogFault}
 use Rattle.reg_records.specs.declared.record.Read.{Read}
 use Rattle.reg_records.specs.declared.record.Record.{Record}
@@ -18,45 +18,58 @@ use Rattle.reg_set.specs.RecordOrder.{record_cmp}
 use Rattle.reg_set.specs.Records.{Records}
 use Rattle.reg_keeping.specs.Said.{BatchesFollowCompactions, CompactedFilesSayIt, EachSaysItsOwnCompaction, SaidCompactionsCompose}
 
-abbrev Said : Type 0
-Said = Result (List Read) (ℕ × LogFault)
+abbrev Outcome : Type 0
+Outcome = Result Said (ℕ × LogFault)
 
-abbrev of_log : Result LogText (ℕ × LogFault) → Said
-of_log found = result_map_both (λ (log : LogText). log.reads) (λ fault. fault) found
+abbrev of_log : Result LogText (ℕ × LogFault) → Outcome
+of_log found = result_map_both (λ (log : LogText). record { floor = log.floor; reads = log.reads }) (λ fault. fault) found
 
 abbrev set_of : List Read → Records
 set_of read = from_list (records_in read)
 
 pub of_compacted : LastRecordsAreCompaction → CompactedFilesSayIt
 of_compacted least file output is = record {
-  whole = is.log.reads;
-  left = is.out.reads;
+  whole = record { floor = is.log.floor; reads = is.log.reads };
+  left = record { floor = is.out.floor; reads = is.out.reads };
   said_before = ap of_log is.read;
   said_now = ap of_log is.read_back;
+  floor = is.floor;
   records = subst (λ (s : Records). IsCompactionOf s (set_of is.log.reads)) (sym is.lasts) (least (set_of is.log.reads));
   next = is.next;
 }
 
 pub of_itself : EachIsItsOwnCompaction → EachSaysItsOwnCompaction
-of_itself itself read = record { whole = read; left = read; said_before = refl; said_now = refl; records = itself (set_of read); next = refl }
+of_itself itself says = record { whole = says; left = says; said_before = refl; said_now = refl; floor = refl; records = itself (set_of says.reads); next = refl }
 
-one_read : (s : Said) (a b : List Read) → s ≡ Ok a → s ≡ Ok b → a ≡ b
-one_read s a b p q = cc
+one_said : (s : Outcome) (a b : Said) → s ≡ Ok a → s ≡ Ok b → a ≡ b
+one_said s a b p q = cc
 
 pub of_across : CompactionsCompose → SaidCompactionsCompose
 of_across compose first next last a b =
-    let same : b.whole ≡ a.left = one_read next b.whole a.left b.said_before a.said_now in
+    let same : b.whole ≡ a.left = one_said next b.whole a.left b.said_before a.said_now in
     record {
       whole = a.whole;
       left = b.left;
       said_before = a.said_before;
       said_now = b.said_now;
-      records = compose (set_of b.left) (set_of a.left) (set_of a.whole) (subst (λ (l : List Read). IsCompactionOf (set_of b.left) (set_of l)) same b.records) a.records;
-      next = b.next ∙ ap next_after same ∙ a.next;
+      floor = b.floor ∙ ap (λ (l : Said). l.floor) same ∙ a.floor;
+      records = compose (set_of b.left.reads) (set_of a.left.reads) (set_of a.whole.reads)
+          (subst (λ (l : Said). IsCompactionOf (set_of b.left.reads) (set_of l.reads)) same b.records) a.records;
+      next = b.next ∙ ap (λ (l : Said). next_of l.floor l.reads) same ∙ a.next;
     }
 
-next_behind : (read more : List Read) → next_after (read ++ more) ≡ fold (λ next r. max next (suc (offset_in r))) (next_after read) more
-next_behind read more = fold-append (λ next r. max next (suc (offset_in r))) 0 read more
+abbrev next_from : ℕ → List Read → ℕ
+next_from n read = fold (λ next r. max next (suc (offset_in r))) n read
+
+next_from-max : (floor n : ℕ) (more : List Read) → max floor (next_from n more) ≡ next_from (max floor n) more
+next_from-max floor n [] = refl
+next_from-max floor n (r ∷ more) =
+    next_from-max floor (max n (suc (offset_in r))) more
+    ∙ let same : max floor (max n (suc (offset_in r))) ≡ max (max floor n) (suc (offset_in r)) = omega arith in ap (λ (k : ℕ). next_from k more) same
+
+next_behind : (floor : ℕ) (read more : List Read) → next_of floor (read ++ more) ≡ next_from (next_of floor read) more
+next_behind floor read more =
+    ap (λ (n : ℕ). max floor n) (fold-append (λ next r. max next (suc (offset_in r))) 0 read more) ∙ next_from-max floor (next_after read) more
 
 module _ (total : IsTotalOrder record_cmp) (apart : IsAntisymmetric record_cmp) (adds : (read : List Read) (batch : List Record) → records_in (read ++ batch_reads batch) ≡ records_in read ++ batch) where
   both : (xs ys : List Record) → from_list {R = record_cmp} (xs ++ ys) ≡ union (from_list xs) (from_list ys)
@@ -71,14 +84,17 @@ module _ (total : IsTotalOrder record_cmp) (apart : IsAntisymmetric record_cmp) 
   with_its_batch read batch = sym (both (records_in read) batch) ∙ ap (λ (l : List Record). from_list l) (sym (adds read batch))
 
   pub of_batches : CompactionsUnite → EachIsItsOwnCompaction → BatchesFollowCompactions
-  of_batches unite itself batch before now is = record {
-    whole = is.whole ++ batch_reads batch;
-    left = is.left ++ batch_reads batch;
-    said_before = ap (λ (s : Said). with_batch batch s) is.said_before;
-    said_now = ap (λ (s : Said). with_batch batch s) is.said_now;
-    records = subst₂ IsCompactionOf (with_its_batch is.left batch) (with_its_batch is.whole batch)
-        (unite (set_of is.left) (set_of is.whole) (from_list batch) (from_list batch) is.records (itself (from_list batch)));
-    next = next_behind is.left (batch_reads batch)
-        ∙ ap (λ (n : ℕ). fold (λ next r. max next (suc (offset_in r))) n (batch_reads batch)) is.next
-        ∙ sym (next_behind is.whole (batch_reads batch));
-  }
+  of_batches unite itself batch before now is =
+      let add : Said → Said = λ says. record says { reads = says.reads ++ batch_reads batch } in
+      record {
+        whole = add is.whole;
+        left = add is.left;
+        said_before = ap (λ (s : Outcome). with_batch batch s) is.said_before;
+        said_now = ap (λ (s : Outcome). with_batch batch s) is.said_now;
+        floor = is.floor;
+        records = subst₂ IsCompactionOf (with_its_batch is.left.reads batch) (with_its_batch is.whole.reads batch)
+            (unite (set_of is.left.reads) (set_of is.whole.reads) (from_list batch) (from_list batch) is.records (itself (from_list batch)));
+        next = next_behind is.left.floor is.left.reads (batch_reads batch)
+            ∙ ap (λ (n : ℕ). next_from n (batch_reads batch)) is.next
+            ∙ sym (next_behind is.whole.floor is.whole.reads (batch_reads batch));
+      }

@@ -1,5 +1,5 @@
 -- A compaction whose lines stand in the order of their offsets.
-use Rattle.std.specs.Prelude.{◌≡◌, ℕ, List, map}
+use Rattle.std.specs.Prelude.{◌≡◌, ℕ, List, ◌++◌, map}
 use Rattle.std.specs.List.Sorted.{IsNonDecreasing, IsPermutation}
 use Rattle.std.specs.Result.{result_unwrap_or}
 use Rattle.reg_journal.specs.Lines.{text_of}
@@ -10,7 +10,7 @@ use Rattle.reg_records.specs.declared.record.Read.TheVariants as reads
 use Rattle.reg_keeping.specs.Compacted.{IsCompacted}
 use Rattle.reg_keeping.specs.declared.sorting.Piece.{Piece}
 
--- the output is what compacting makes of the input, and the offsets of its lines don't fall
+-- the output is what compacting makes of the input, and the offsets of its lines don't fall, but for a floor's
 pub record IsSortedCompaction (input output : List ℕ) : Type 0 where
   pub compacted : IsCompacted input output
   pub sorted : IsNonDecreasing (map offset_in compacted.out.reads)
@@ -19,11 +19,11 @@ pub record IsSortedCompaction (input output : List ℕ) : Type 0 where
 abbrev pub read_of : List ℕ → Read
 read_of line = result_unwrap_or (reading line) (reads.Foreign 0)
 
--- Private: the output is the lines in the order of their offsets
-pub record Reorders (lines : List (List ℕ)) (output : List ℕ) : Type 0 where
+-- Private: the output is the front, and the lines behind it in the order of their offsets
+pub record Reorders (front lines : List (List ℕ)) (output : List ℕ) : Type 0 where
   pub ordered : List (List ℕ)
   pub same : IsPermutation lines ordered
-  pub parts : output ≡ text_of ordered
+  pub parts : output ≡ text_of (front ++ ordered)
   pub sorted : IsNonDecreasing (map (λ line. offset_in (read_of line)) ordered)
 
 -- Private: the piece's offset is its line's

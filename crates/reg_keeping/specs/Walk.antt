@@ -31,11 +31,11 @@ abbrev pub kept_reads : Records → List Read → List Read
 kept_reads waiting [] = []
 kept_reads waiting (read ∷ more) = if is_kept waiting read then read ∷ kept_reads (waiting_after waiting read) more else kept_reads (waiting_after waiting read) more
 
--- the offset is the log's greatest
+-- the line has that offset
 abbrev pub is_at : Option ℕ → Read → Bool
 is_at top read = option_map_or (nat_eq (offset_in read)) top false
 
--- whether a line is kept that has the greatest offset
+-- whether a line is kept that has that offset
 abbrev pub top_after : Option ℕ → Records → List Read → Bool → Bool
 top_after top waiting [] before = before
 top_after top waiting (read ∷ more) before = top_after top (waiting_after waiting read) more (before || (is_kept waiting read && is_at top read))
@@ -52,7 +52,7 @@ carried_by top (line ∷ lines) (read ∷ more) carried = carried_by top lines m
 abbrev pub carried_in : Walk → Option (List ℕ)
 carried_in walk = option_map (λ v. v.items) walk.carried
 
--- what it has kept, and the foreign line where no line that was kept has the greatest offset
+-- what it has kept, and the foreign line where no line that was kept has that offset
 abbrev pub finished : Walk → List ℕ
 finished walk = walk.text.items ++ (if walk.has_top then [] else unwrap_or (carried_in walk) [])
 

@@ -6,6 +6,7 @@ ghost use Rattle.reg_set.specs.LastRecords.{last_records};
 ghost use Rattle.reg_keeping.specs.Begun.{Begins};
 ghost use Rattle.reg_keeping.specs.Compacted.{IsCompacted, IsLines};
 
+use crate::cutting::floor_len;
 use crate::walk::Walk;
 use reg_journal::lines_are_logs;
 use reg_records::{Device, LogError, Record, read_log};
@@ -15,8 +16,8 @@ use reg_set::{
 };
 use std::alloc::{AllocError, Global};
 
-/// The lines of a log that have its last records, as they stand there, and a foreign line where that alone has the
-/// log's greatest offset. What follows the log's empty line is left out.
+/// The lines of a log that have its last records, as they stand there, behind the line of its floor, and a foreign line
+/// where that alone has the offset before the log's next one. What follows the log's empty line is left out.
 pub fn compacted(alloc: Global, log: &[u8]) -> Result<Vec<u8>, LogError>
     ensures compacted { IfOk result (λ text. IsCompacted log.now text.items) }
     ensures lines { IfOk result (λ text. IsLines text.items) }
@@ -31,13 +32,14 @@ pub fn compacted(alloc: Global, log: &[u8]) -> Result<Vec<u8>, LogError>
         top,
         count,
     } = begin(alloc, log)?;
+    let (front, lines) = log.split_at(floor_len(log));
     let mut walk = Walk {
         waiting,
-        text: Vec::new(alloc),
+        text: front.to_vec(alloc)?,
         has_top: false,
         carried: None,
     };
-    walk.take_lines(alloc, log, count, top)?;
+    walk.take_lines(alloc, lines, count, top)?;
     Ok(walk.finish()?)
 }
 
@@ -45,8 +47,9 @@ pub fn compacted(alloc: Global, log: &[u8]) -> Result<Vec<u8>, LogError>
 #[derive(Drop)]
 pub(crate) struct Begun {
     pub waiting: LastRecords,
-    /// The greatest offset of its lines, if it has any.
+    /// The offset before its next one, unless that is 0.
     pub top: Option<u64>,
+    /// How many lines it has, but for its floor's.
     pub count: u64,
 }
 

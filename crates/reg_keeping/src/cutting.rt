@@ -3,8 +3,9 @@ ghost use Rattle.std.specs.Prelude.{◌≡◌, ◌≤◌, ◌<◌, ◌+◌, ◌+
 ghost use Rattle.reg_records.specs.Line.{is_line_feed, reading};
 ghost use Rattle.reg_records.specs.Pieces.{HasNoLineFeed};
 ghost use Rattle.reg_records.specs.declared.record.Read.{Read};
+ghost use Rattle.reg_keeping.specs.Fronts.{floor_len};
 
-use reg_records::{Read, ReadLineError, read_line};
+use reg_records::{Read, ReadLineError, is_floor_line, read_line};
 use std::alloc::{AllocError, Global};
 
 /// How many bytes the line at the front of a text takes with its LF, and what it says; none where it has no LF or
@@ -22,6 +23,20 @@ pub fn line_at(alloc: Global, text: &[u8]) -> Result<Option<(usize, Read)>, Allo
         Ok(read) => Ok(Some((end + 1, read))),
         Err(ReadLineError::Line(_)) => Ok(None),
         Err(ReadLineError::OutOfMemory) => Err(AllocError),
+    }
+}
+
+/// How many bytes the line of a log's floor takes with its LF; 0 where its first line says none.
+pub fn floor_len(log: &[u8]) -> usize
+    ensures len { result ≡ floor_len log.now }
+    ensures within { result ≤ length log.now }
+{
+    if !is_floor_line(log) {
+        return 0;
+    }
+    match line_len(log) {
+        Some(end) => end + 1,
+        None => 0,
     }
 }
 

@@ -14,7 +14,7 @@ mod walk;
 mod words;
 
 pub use compacting::compacted;
-pub use cutting::line_at;
+pub use cutting::{floor_len, line_at};
 pub use filter::{FilterError, compact, filter_error, read_input, write_output};
 pub use in_place::{CompactError, compact_journal, compact_superseded};
 pub use laws::compactions_stand_for_logs;

@@ -1,10 +1,9 @@
 // Opening a log in a file, where nothing is cut off that isn't kept elsewhere.
 ghost use Rattle.std.specs.Prelude.{◌≡◌, ◌⊎◌, ◌<◌, List, Ok, length, IfOk, OnOk};
 ghost use Rattle.reg_records.specs.Log.{IsLogOf};
-ghost use Rattle.reg_records.specs.declared.record.Read.{Read};
 ghost use Rattle.reg_journal.specs.Disk.{LeavesOnly, Only};
 ghost use Rattle.reg_journal.specs.Journal.{IsSettled};
-ghost use Rattle.reg_journal.specs.Lines.{said};
+ghost use Rattle.reg_journal.specs.Lines.{Said, said};
 
 use reg_journal::{Disk, Found, OpenError, cut_behind, look};
 use std::alloc::Global;
@@ -16,7 +15,7 @@ pub fn open_aside<D: Disk, A: Disk>(
     aside: &mut A,
 ) -> Result<Found, OpenError>
     requires { D.is_modelled → D.known disk.old }
-    ensures log { D.is_modelled → IfOk result (λ found. (read : List Read) × (said (D.seen disk.old) ≡ Ok read) × IsLogOf read found.log) }
+    ensures log { D.is_modelled → IfOk result (λ found. (says : Said) × (said (D.seen disk.old) ≡ Ok says) × IsLogOf says.floor says.reads found.log) }
     ensures same { D.is_modelled → OnOk result (D.known disk.new × (said (D.seen disk.new) ≡ said (D.seen disk.old))) }
     ensures settled { D.is_modelled → IfOk result (λ found. IsSettled D.seen D.may_leave disk.new found.end found.lines) }
 

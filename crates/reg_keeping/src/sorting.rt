@@ -1,15 +1,15 @@
 // The lines of a text in the order of their offsets.
-ghost use Rattle.std.specs.Prelude.{◌≡◌, ◌↔◌, ◌≤◌, ℕ, List, All, IsTrue, IfErr, IfOk, OnOk, length, map};
+ghost use Rattle.std.specs.Prelude.{◌≡◌, ◌↔◌, ◌≤◌, ◌++◌, ℕ, List, All, IsTrue, IfErr, IfOk, OnOk, length, map};
 ghost use Rattle.std.specs.List.Sorted.{IsNonDecreasingBy, IsPermutation};
 ghost use Rattle.std.specs.Option.{option_map_or};
 ghost use Rattle.reg_journal.specs.Found.{HasFault};
-ghost use Rattle.reg_journal.specs.Lines.{Say, text_of};
+ghost use Rattle.reg_journal.specs.Lines.{Say, SaysFloor, text_of};
 ghost use Rattle.reg_records.specs.Log.{offset_in};
 ghost use Rattle.reg_records.specs.declared.record.Read.{Read};
 ghost use Rattle.reg_keeping.specs.Sorted.{HasOffset, IsSortedCompaction, Reorders};
 
 use crate::compacting::compacted;
-use crate::cutting::line_at;
+use crate::cutting::{floor_len, line_at};
 use reg_journal::lines_are_logs;
 use reg_records::{LogError, Read};
 use reg_set::records_are_ordered;
@@ -22,7 +22,7 @@ pub(crate) struct Piece<'a> {
     pub line: &'a [u8],
 }
 
-/// What compacting leaves of a log, with its lines in the order of their offsets.
+/// What compacting leaves of a log, with its lines in the order of their offsets, behind the line of its floor.
 pub fn compacted_in_order(alloc: Global, log: &[u8]) -> Result<Vec<u8>, LogError>
     ensures compacted { IfOk result (λ text. IsSortedCompaction log.now text.items) }
     ensures fault { IfErr result (HasFault log.now) }
@@ -36,17 +36,18 @@ pub fn compacted_in_order(alloc: Global, log: &[u8]) -> Result<Vec<u8>, LogError
     }
 }
 
-/// The lines of a text in the order of their offsets, unless they stand so already.
+/// The lines of a text in the order of their offsets, behind a floor's, unless they stand so already.
 fn reordered(alloc: Global, text: &[u8]) -> Result<Option<Vec<u8>>, AllocError>
-    ensures { (lines : List (List ℕ)) (read : List Read) → text.now ≡ text_of lines → Say lines read
-        → IfOk result (λ found. Reorders lines (option_map_or (λ v. v.items) found text.now)) }
+    ensures { (front lines : List (List ℕ)) (floor : ℕ) (read : List Read) → text.now ≡ text_of (front ++ lines) → SaysFloor front floor → Say lines read
+        → IfOk result (λ found. Reorders front lines (option_map_or (λ v. v.items) found text.now)) }
 {
-    let mut pieces = pieces_of(alloc, text, text.len())?;
+    let (front, lines) = text.split_at(floor_len(text));
+    let mut pieces = pieces_of(alloc, lines, lines.len())?;
     if rise(&pieces) {
         return Ok(None);
     }
     sort(&mut pieces)?;
-    Ok(Some(joined(alloc, &pieces)?))
+    Ok(Some(joined(alloc, front, &pieces)?))
 }
 
 /// The lines of a text of no more bytes than that.
@@ -93,11 +94,11 @@ fn sort(pieces: &mut Vec<Piece<'_>>) -> Result<(), AllocError>
     Ok(())
 }
 
-/// The lines, each with its LF.
-fn joined(alloc: Global, pieces: &[Piece<'_>]) -> Result<Vec<u8>, AllocError>
-    ensures { IfOk result (λ text. text.items ≡ text_of (map (λ p. p.line.now) pieces.now)) }
+/// The lines behind that front, each with its LF.
+fn joined(alloc: Global, front: &[u8], pieces: &[Piece<'_>]) -> Result<Vec<u8>, AllocError>
+    ensures { IfOk result (λ text. text.items ≡ front.now ++ text_of (map (λ p. p.line.now) pieces.now)) }
 {
-    let mut text = Vec::new(alloc);
+    let mut text = front.to_vec(alloc)?;
     for piece in pieces {
         text.extend_from_slice(piece.line)?;
         text.push(b'\n')?;

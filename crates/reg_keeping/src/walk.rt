@@ -15,16 +15,16 @@ use std::alloc::{AllocError, Global};
 pub(crate) struct Walk {
     /// The last records that no line was kept for yet.
     pub waiting: LastRecords,
-    /// The lines that were kept.
+    /// The line of the log's floor, if it has one, and the lines that were kept.
     pub text: Vec<u8>,
-    /// Whether one of them has the log's greatest offset.
+    /// Whether one of them has the offset before the log's next one.
     pub has_top: bool,
     /// A foreign line that has it.
     pub carried: Option<Vec<u8>>,
 }
 
 impl Walk {
-    /// Takes the lines at the front of a text, as many as that, of a log with that greatest offset.
+    /// Takes the lines at the front of a text, as many as that, of a log with that offset before its next one.
     pub(crate) fn take_lines(
         &mut self,
         alloc: Global,
@@ -61,7 +61,7 @@ impl Walk {
         Ok(Some(len))
     }
 
-    /// The lines that were kept, and the foreign line where it alone has the greatest offset.
+    /// The lines that were kept, and the foreign line where it alone has that offset.
     pub(crate) fn finish(self) -> Result<Vec<u8>, AllocError>
         ensures { IfOk result (λ text. text.items ≡ finished self) }
     {

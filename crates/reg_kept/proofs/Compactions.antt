@@ -1,6 +1,6 @@
 -- Compactions of sets with floors, from the laws of last records.
 use Rattle.std.proofs.Common.{◌≡◌, ◌≤◌, ◌<◌, ℕ, min, Bool, true, false, not, ◌⊎◌, inl, inr, ⊎_elim, Option, None, Some, IfSome, is_none, is_some, nat_le, nat_lt, refl, sym, ap, subst, ◌∙◌, unwrap_or, arith}
-use Rattle.std.proofs.lemmas.Bool.{false≢true, leb-true, lt-ltb, ltb-true}
+use Rattle.std.proofs.lemmas.Bool.{false≢true, le-leb, leb-true, lt-ltb, ltb-true}
 use Rattle.std.proofs.lemmas.Bool.Decides.{leb_tells}
 use Rattle.std.proofs.lemmas.Map.Keys.{le_from_is_le}
 use Rattle.std.specs.Cmp.{IsTotalOrder, nat_cmp_is}
@@ -11,7 +11,7 @@ use Rattle.std.specs.declared.cmp.Ordering.{Ordering}
 use Rattle.std.specs.declared.cmp.Ordering.TheVariants.{Less, Equal, Greater}
 use Rattle.reg_records.specs.declared.key.Key.{Key}
 use Rattle.reg_records.specs.declared.record.Record.{Record}
-use Rattle.reg_set.specs.Join.{LastIsGreatest, NoLastIsNoRecord}
+use Rattle.reg_set.specs.Join.{LastIsGreatest, LastRecordsOfUnion, NoLastIsNoRecord}
 use Rattle.reg_set.specs.LastRecords.{is_last, last, last_records}
 use Rattle.reg_set.specs.RecordOrder.{age_cmp, record_cmp, value_cmp}
 use Rattle.reg_set.specs.Records.{Records}
@@ -19,7 +19,7 @@ use Rattle.reg_set.specs.Compaction.{IsGone, deletes_below}
 use Rattle.reg_kept.specs.Compaction.{IsCompactionOf, standing}
 use Rattle.reg_kept.specs.Floored.{Floored}
 use Rattle.reg_kept.specs.Floors.{below, compacted_to, from_floor, merged, rebased}
-use Rattle.reg_kept.specs.Laws.{CompactedToFloorIsCompaction, CompactionsCompose, CompactionsUnite, EachIsItsOwnCompaction, LastOfCompaction, LaterRecordsMayJoin, RebasingKeepsLasts, StandingOfCompaction}
+use Rattle.reg_kept.specs.Laws.{CompactedToFloorIsCompaction, CompactionsCompose, CompactionsUnite, EachIsItsOwnCompaction, LastOfCompaction, LastRecordsOfRebased, LaterRecordsMayJoin, RebasingKeepsLasts, StandingOfCompaction}
 use Rattle.reg_kept.proofs.Sets.{first_of, second_of, in_either, in_left, in_part, in_right, itself, of_part, one_set, passes_of_part, same_record}
 
 -- what holds where there is a value
@@ -281,3 +281,37 @@ module _ (greatest : LastIsGreatest) (none : NoLastIsNoRecord) where
                     | inr low ↦ le_of_offset q r (let h = low.1 in omega arith)
                   ];
             })
+
+    -- the last records from a floor on are those of the records from there on
+    lasts_from : (f : ℕ) (own : Records) → from_floor f (last_records own) ≡ last_records (from_floor f own)
+    lasts_from f own =
+        one_set total apart (from_floor f (last_records own)) (last_records (from_floor f own))
+        (λ q h.
+        let is = last_records-last own q (of_part total apart (last_records own) (is_high f) q h) in
+        let here = in_part total apart own (is_high f) q (in_set own q.key q is) (passes_of_part total apart (last_records own) (is_high f) q h) in
+        last-last_records (from_floor f own) q (last_of_part (from_floor f own) own (of_part total apart own (is_high f)) q.key q is here))
+        (λ q h.
+        let is = last_records-last (from_floor f own) q h in
+        let inside = in_set (from_floor f own) q.key q is in
+        let high = passes_of_part total apart own (is_high f) q inside in
+        in_part total apart (last_records own) (is_high f) q (was_last q is inside high) high)
+      where
+        was_last : (q : Record) → last (from_floor f own) q.key ≡ Some q → contains (from_floor f own) q ≡ true → is_high f q ≡ true → contains (last_records own) q ≡ true
+        was_last q is inside high =
+            elim (last own q.key) as (λ o. last own q.key ≡ o → contains (last_records own) q ≡ true) [
+              | None ↦ λ e. absurd (no_record own q.key e q (of_part total apart own (is_high f) q inside) refl)
+              | Some r ↦ λ e.
+                  let later : q.offset ≤ r.offset = offset_upto own q.key r q e (of_part total apart own (is_high f) q inside) refl in
+                  let from : f ≤ q.offset = leb-true f q.offset high in
+                  let own_key = is_last_at_own_key own q.key r e in
+                  let same_key : r.key ≡ q.key = key_is own q.key r e in
+                  let there = in_part total apart own (is_high f) r (in_set own q.key r e) (le-leb f r.offset (omega arith)) in
+                  let again : last (from_floor f own) q.key ≡ Some r = last_of_part (from_floor f own) own (of_part total apart own (is_high f)) q.key r e there in
+                  let one : q ≡ r = ap (λ o. unwrap_or o q) (sym is ∙ again) in
+                  subst (λ x. contains (last_records own) x ≡ true) (sym one) (last-last_records own r own_key)
+            ] refl
+
+    pub last_records_of_rebased : LastRecordsOfUnion → LastRecordsOfRebased
+    last_records_of_rebased unite own other =
+        let others = below other.floor other.records in
+        ap (λ s. last_records (union s others)) (lasts_from other.floor own) ∙ unite (from_floor other.floor own) others

@@ -1,8 +1,8 @@
 -- What may leave a set that has a floor.
-use Rattle.std.proofs.Common.{◌≡◌, ℕ, ◌≤◌, Bool, true, false, not, ◌&&◌, ◌||◌, ◌⊎◌, inl, inr, List, is_none, refl, sym, ap, ◌∙◌}
+use Rattle.std.proofs.Common.{◌≡◌, ℕ, ◌≤◌, Bool, true, false, not, ◌&&◌, ◌||◌, ◌⊎◌, inl, inr, List, is_none, refl, sym, ap, subst, ◌∙◌, arith}
 use Rattle.std.proofs.lemmas.Bool.{false≢true, lt-ltb, ltb-true}
 use Rattle.std.specs.Cmp.{IsTotalOrder}
-use Rattle.std.specs.FinSet.{IsAntisymmetric, contains, from_list, contains-difference, contains-from_list}
+use Rattle.std.specs.FinSet.{IsAntisymmetric, contains, from_list, contains-difference, contains-from_list, same_set}
 use Rattle.std.specs.List.{AllByRecursion, list_any}
 use Rattle.std.specs.Ordering.{eq_by_cmp}
 use Rattle.reg_records.specs.declared.record.Record.{Record}
@@ -13,8 +13,8 @@ use Rattle.reg_set.specs.Records.{Records}
 use Rattle.reg_set.specs.Compaction.{IsGone, deletes_below, is_gone}
 use Rattle.reg_kept.specs.Compaction.{IsCompactionOf}
 use Rattle.reg_kept.specs.Floored.{Floored}
-use Rattle.reg_kept.specs.Floors.{may_leave, without}
-use Rattle.reg_kept.specs.Laws.{DropsLeaveCompactions}
+use Rattle.reg_kept.specs.Floors.{compacted_to, may_leave, without}
+use Rattle.reg_kept.specs.Laws.{CompactedToFloorIsCompaction, CompactingDropsWhatMayLeave, DropsLeaveCompactions}
 use Rattle.reg_kept.proofs.Compactions.{compaction_from, in_set, is_last_at_own_key, is_last-last, last-is_last, lasts_in, none_is}
 use Rattle.reg_kept.proofs.Sets.{all_from_any, all_from_each, at_any, both, each_from_all, first_of, second_of}
 
@@ -89,3 +89,22 @@ drops_leave_compactions greatest none total apart R floor dropped rises = (
   λ h. (each_is_kept greatest none total apart R floor dropped h, compaction_of_drops greatest none total apart R floor dropped rises h),
   λ h. drops_of_compaction greatest none total apart R floor dropped h.0 h.1,
 )
+
+-- what is kept and isn't dropped is what stays
+stays_alone : (k c : Bool) → (c ≡ true → k ≡ true) → (k && not (k && not c)) ≡ c
+stays_alone true true f = refl
+stays_alone true false f = refl
+stays_alone false true f = f refl
+stays_alone false false f = refl
+
+pub compacting_drops : LastIsGreatest → NoLastIsNoRecord → IsTotalOrder record_cmp → IsAntisymmetric record_cmp → CompactedToFloorIsCompaction → CompactingDropsWhatMayLeave
+compacting_drops greatest none total apart to_floor floor kept dropped is =
+    let whole : Floored = record { records = kept; floor = 0 } in
+    let c : IsCompactionOf (record { records = compacted_to floor kept; floor = floor }) whole = to_floor whole floor (omega arith) in
+    let same : without kept dropped ≡ compacted_to floor kept = same_set total apart (without kept dropped) (compacted_to floor kept) (λ q.
+    contains-difference total kept (from_list dropped) q
+    ∙ ap (λ b. contains kept q && not b) (is q)
+    ∙ stays_alone (contains kept q) (contains (compacted_to floor kept) q) (c.is_below_floor.is_part q)) in
+    let inside = each_from_all (contains kept) dropped (all_from_any total apart (contains kept) dropped (λ q there.
+    first_of (contains kept q) _ (sym (is q) ∙ contains-from_list total dropped q ∙ there))) in
+    (drops_of_compaction greatest none total apart whole floor dropped inside (subst (λ s. IsCompactionOf (record { records = s; floor = floor }) whole) (sym same) c), same)

@@ -1,4 +1,6 @@
 pub mod Compactions
 pub mod Drops
+pub mod Equality
 pub mod Examples
+pub mod Left
 pub mod Sets

@@ -1,10 +1,11 @@
 -- What merging, compacting and rebasing sets with floors keep.
-use Rattle.std.specs.Prelude.{◌≡◌, ◌⊎◌, ◌↔◌, ◌≤◌, ℕ, min, List, true, None, IfSome}
-use Rattle.std.specs.FinSet.{contains, union}
+use Rattle.std.specs.Prelude.{◌≡◌, ◌⊎◌, ◌↔◌, ◌≤◌, ◌&&◌, ℕ, min, not, List, true, None, IfSome}
+use Rattle.std.specs.FinSet.{contains, from_list, union}
 use Rattle.std.specs.List.{AllByRecursion}
 use Rattle.reg_records.specs.declared.key.Key.{Key}
 use Rattle.reg_records.specs.declared.record.Record.{Record}
 use Rattle.reg_set.specs.LastRecords.{last, last_records}
+use Rattle.reg_set.specs.RecordOrder.{record_cmp}
 use Rattle.reg_set.specs.Records.{Records}
 use Rattle.reg_kept.specs.Compaction.{IsCompactionOf, KeepsLasts, standing}
 use Rattle.reg_kept.specs.Floored.{Floored}
@@ -61,6 +62,12 @@ DropsLeaveCompactions = (R : Floored) (floor : ℕ) (dropped : List Record) → 
     ↔ (AllByRecursion (λ r. contains R.records r ≡ true) dropped
     × IsCompactionOf (record { records = without R.records dropped; floor = floor }) R)
 
+-- the records that compacting to a floor drops may leave, and what it keeps is left
+abbrev pub CompactingDropsWhatMayLeave : Type 0
+CompactingDropsWhatMayLeave = (floor : ℕ) (kept : Records) (dropped : List Record)
+    → ((r : Record) → contains (from_list {R = record_cmp} dropped) r ≡ (contains kept r && not (contains (compacted_to floor kept) r)))
+    → (may_leave floor kept dropped ≡ true) × (without kept dropped ≡ compacted_to floor kept)
+
 -- sets that keep each last record may be merged
 abbrev pub KeepingLastsUnites : Type 0
 KeepingLastsUnites = (C R D S : Records) → KeepsLasts C R → KeepsLasts D S → KeepsLasts (union C D) (union R S)
@@ -68,3 +75,7 @@ KeepingLastsUnites = (C R D S : Records) → KeepsLasts C R → KeepsLasts D S �
 -- and rebased, where the wholes are rebased likewise
 abbrev pub RebasingKeepsLasts : Type 0
 RebasingKeepsLasts = (C R : Records) (other : Floored) → KeepsLasts C R → KeepsLasts (rebased C other) (rebased R other)
+
+-- the last records of a rebased set are those of its last records, rebased likewise
+abbrev pub LastRecordsOfRebased : Type 0
+LastRecordsOfRebased = (own : Records) (other : Floored) → last_records (rebased (last_records own) other) ≡ last_records (rebased own other)

@@ -1,12 +1,13 @@
 // A set of records with a floor.
-ghost use Rattle.std.specs.Prelude.{◌≡◌, ◌≢◌, ◌↔◌, ◌<◌, ◌≤◌, IfOk, IsErrOf, IsOkUnless, IsTrue, OnErr, OnOk, option_map};
+ghost use Rattle.std.specs.Prelude.{◌≡◌, ◌≢◌, ◌↔◌, ◌<◌, ◌≤◌, ◌&&◌, Some, None, IfOk, IsErrOf, IsOkUnless, IsTrue, OnErr, OnOk, nat_le, option_map, if◌then◌else◌};
 ghost use Rattle.std.specs.FinSet as set;
 ghost use Rattle.reg_kept.specs.Compaction.{IsCompactionOf};
 ghost use Rattle.reg_kept.specs.Floored.{Floored};
-ghost use Rattle.reg_kept.specs.Floors.{compacted_to, merged, rebased};
+ghost use Rattle.reg_kept.specs.Floors.{compacted_to, may_leave, merged, rebased, without};
 ghost use Rattle.reg_set.specs.LastRecords.{last, last_records};
 ghost use Rattle.reg_set.specs.Records.{is_in_order, records_of};
 
+use crate::dropping::{may_leave, without};
 use crate::errors::{FloorError, MergeError};
 use crate::laws::last_records_are_compactions;
 use crate::parts::{below, compacted_to, from_floor};
@@ -120,6 +121,16 @@ impl KeptSet {
         self.set.take(given)
     }
 
+    /// Adds the records of a plain set. The floor stays; as `take`, it doesn't look at it. The only
+    /// error is want of memory; the set is then as it was.
+    pub fn add(&mut self, more: &RecordSet) -> Result<(), AllocError>
+        ensures added { OnOk result
+            (self.new ≡ record self.old { records = set.union self.old.records more.now }) }
+        ensures refused { OnErr result (self.new ≡ self.old) }
+    {
+        self.set.merge(more)
+    }
+
     /// Adds the records of the other set. Refuses a set of another floor; the only other error is
     /// want of memory. After an error the set is as it was.
     pub fn merge(&mut self, other: &KeptSet) -> Result<(), MergeError>
@@ -168,6 +179,25 @@ impl KeptSet {
         self.set = compacted_to(&self.set, floor)?;
         self.floor = floor;
         Ok(())
+    }
+
+    /// What stays of the set without those records, with that floor. `None` where the floor is below the
+    /// set's own, or where the records may not leave: one isn't in the set, or is the last of its key
+    /// and more than a delete below that floor of which nothing else stays. What stays is else a
+    /// compaction of the set. The only error is want of memory.
+    pub fn without(&self, floor: u64, dropped: &[Record]) -> Result<Option<KeptSet>, AllocError>
+        ensures { IfOk result (λ left. left
+            ≡ (if nat_le self.now.floor floor && may_leave floor self.now.records dropped.now
+            then Some (record { records = without self.now.records dropped.now; floor = floor }) else None)) }
+    {
+        if floor < self.floor {
+            return Ok(None);
+        }
+        let left = without(&self.set, dropped)?;
+        if !may_leave(floor, &self.set, &left, dropped) {
+            return Ok(None);
+        }
+        Ok(Some(KeptSet { set: left, floor }))
     }
 
     /// Takes on the floor of the other set, and the records that it has below it, in place of the own

@@ -1,6 +1,6 @@
 // The laws of merging, compacting and rebasing sets with floors. What is proved here costs nothing at
 // run time: a function that needs a law calls it.
-ghost use Rattle.reg_kept.specs.Laws.{MergingIsCommutative, MergingIsAssociative, MergingIsIdempotent, EachIsItsOwnCompaction, CompactionsCompose, LastRecordsAreCompaction, CompactedToFloorIsCompaction, LastOfCompaction, StandingOfCompaction, CompactionsUnite, LaterRecordsMayJoin, DropsLeaveCompactions, KeepingLastsUnites, RebasingKeepsLasts};
+ghost use Rattle.reg_kept.specs.Laws.{MergingIsCommutative, MergingIsAssociative, MergingIsIdempotent, EachIsItsOwnCompaction, CompactionsCompose, LastRecordsAreCompaction, CompactedToFloorIsCompaction, LastOfCompaction, StandingOfCompaction, CompactionsUnite, LaterRecordsMayJoin, DropsLeaveCompactions, CompactingDropsWhatMayLeave, KeepingLastsUnites, LastRecordsOfRebased, RebasingKeepsLasts};
 
 use reg_set::{
     last_is_greatest, last_records_are_enough, last_records_of_unions, merging_joins_sets as joins,
@@ -62,10 +62,21 @@ pub fn drops_leave_compactions()
     last_is_greatest();
 }
 
-/// Sets that keep each last record of what was taken keep them in a merge and over a rebase.
+/// The records that compacting to a floor drops may leave, and what it keeps is left.
+pub fn compacting_drops_what_may_leave()
+    ensures { CompactingDropsWhatMayLeave }
+{
+    records_are_ordered();
+    last_is_greatest();
+    last_records_are_compactions();
+}
+
+/// Sets that keep each last record of what was taken keep them in a merge and over a rebase, of which
+/// the last records alone count.
 pub fn rebasing_keeps_lasts()
     ensures union { KeepingLastsUnites }
     ensures rebased { RebasingKeepsLasts }
+    ensures lasts { LastRecordsOfRebased }
 {
     records_are_ordered();
     last_is_greatest();

@@ -1,6 +1,7 @@
 //! Sets of records that a compaction may take deletes from, below a floor.
 #![tactic(auto)]
 
+mod dropping;
 mod errors;
 mod kept_set;
 mod laws;
@@ -9,6 +10,7 @@ mod parts;
 pub use errors::{FloorError, MergeError};
 pub use kept_set::{KeptSet, is_compaction_of};
 pub use laws::{
-    compactions_compose, compactions_keep_what_stands, compactions_unite, drops_leave_compactions,
-    last_records_are_compactions, merging_joins_sets, rebasing_keeps_lasts,
+    compacting_drops_what_may_leave, compactions_compose, compactions_keep_what_stands,
+    compactions_unite, drops_leave_compactions, last_records_are_compactions, merging_joins_sets,
+    rebasing_keeps_lasts,
 };

@@ -6,8 +6,10 @@ use Rattle.reg_set.specs.Join.{LastRecordsOfInsert}
 use Rattle.reg_set.specs.LastRecords.{is_last, last_records}
 use Rattle.reg_set.specs.RecordOrder.{record_cmp}
 use Rattle.reg_set.specs.Records.{Records}
-use Rattle.reg_node.specs.Takes.{TakesFoldToLastRecords, lasts_with_take, with_take}
-use Rattle.reg_node.specs.declared.take.Take.{Take}
+use Rattle.reg_kept.specs.Laws.{LastRecordsOfRebased}
+use Rattle.reg_node.specs.Takes.{DrawsFoldToLastRecords, base_in, lasts_with_draw, with_draw}
+use Rattle.reg_node.specs.declared.take.Draw.{Draw}
+use Rattle.reg_node.specs.declared.take.Draw.TheVariants as draws
 
 module _ (order : IsTotalOrder record_cmp) (apart : IsAntisymmetric record_cmp) where
   none_of_none : last_records empty ≡ empty
@@ -15,9 +17,14 @@ module _ (order : IsTotalOrder record_cmp) (apart : IsAntisymmetric record_cmp) 
   none_of_none = same_set order apart (last_records empty) empty (λ q.
       contains-retain empty (is_last empty) q (λ x e. ap (is_last empty) (sym (apart q x e))) ∙ (ap (λ b. b && is_last empty q) (contains-empty record_cmp q) ∙ sym (contains-empty record_cmp q)))
 
-  folds : LastRecordsOfInsert → (s : Records) (ts : List Take) → fold lasts_with_take (last_records s) ts ≡ last_records (fold with_take s ts)
-  folds of_insert s [] = refl
-  folds of_insert s (t ∷ ts) = ap (λ rs. fold lasts_with_take rs ts) (of_insert s t.kept) ∙ folds of_insert (with_take s t) ts
+  module _ (of_insert : LastRecordsOfInsert) (of_rebased : LastRecordsOfRebased) where
+    with_one : (s : Records) (d : Draw) → lasts_with_draw (last_records s) d ≡ last_records (with_draw s d)
+    with_one s (draws.Take t) = of_insert s t.kept
+    with_one s (draws.Rebase r) = of_rebased s (base_in r)
 
-  pub takes_fold : LastRecordsOfInsert → TakesFoldToLastRecords
-  takes_fold of_insert takes = ap (λ rs. fold lasts_with_take rs takes) (sym none_of_none) ∙ folds of_insert empty takes
+    folds : (s : Records) (ds : List Draw) → fold lasts_with_draw (last_records s) ds ≡ last_records (fold with_draw s ds)
+    folds s [] = refl
+    folds s (d ∷ ds) = ap (λ rs. fold lasts_with_draw rs ds) (with_one s d) ∙ folds (with_draw s d) ds
+
+    pub draws_fold : DrawsFoldToLastRecords
+    draws_fold ds = ap (λ rs. fold lasts_with_draw rs ds) (sym none_of_none) ∙ folds empty ds

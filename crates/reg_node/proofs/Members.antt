@@ -1,9 +1,10 @@
 -- Members of sets that lists make.
-use Rattle.std.proofs.Common.{◌≡◌, Bool, true, false, ◌&&◌, ◌||◌, List, [], ◌∷◌, refl, sym, ap, subst, ◌∙◌}
+use Rattle.std.proofs.Common.{◌≡◌, ℕ, ◌+◌, ◌<◌, Bor, Bool, true, false, ◌&&◌, ◌||◌, List, [], ◌∷◌, ◌++◌, length, get_or, map, take, refl, sym, ap, subst, ◌∙◌}
+use Rattle.std.proofs.lemmas.List.{map-append, take_more}
 use Rattle.std.proofs.lemmas.Bool.{false≢true}
 use Rattle.std.proofs.lemmas.Cmp.{tied_itself}
 use Rattle.std.specs.Cmp.{Equal-is, IsTotalOrder}
-use Rattle.std.specs.FinSet.{contains, from_list, contains-from_list, IsAntisymmetric}
+use Rattle.std.specs.FinSet.{contains, from_list, insert, contains-from_list, from_list_push, IsAntisymmetric}
 use Rattle.std.specs.List.{AllByRecursion, list_all, list_any}
 use Rattle.std.specs.Ordering.{eq_by_cmp, is_eq}
 use Rattle.reg_records.specs.declared.record.Record.{Record}
@@ -13,7 +14,7 @@ pub both_true : (a b : Bool) → (a && b) ≡ true → (a ≡ true) × (b ≡ tr
 both_true true b h = (refl, h)
 both_true false b h = absurd (false≢true h)
 
-both : {a b : Bool} → a ≡ true → b ≡ true → (a && b) ≡ true
+pub both : {a b : Bool} → a ≡ true → b ≡ true → (a && b) ≡ true
 both {b = b} e f = ap (λ a. a && b) e ∙ f
 
 pub or_left : (a b : Bool) → a ≡ true → (a || b) ≡ true
@@ -57,3 +58,11 @@ module _ (order : IsTotalOrder record_cmp) (apart : IsAntisymmetric record_cmp) 
   -- what holds of each of a list's records holds of the members of its set
   pub each_of : (P : Record → Type 0) (rs : List Record) (r : Record) → AllByRecursion P rs → contains (from_list {R = record_cmp} rs) r ≡ true → P r
   each_of P rs r all within = one_in P rs r all (sym (contains-from_list order rs r) ∙ within)
+
+  -- the set of records that are lent, with one more
+  pub lent-more : (xs : List (Bor Record)) (i : ℕ) (r : Bor Record) → i < length xs → r ≡ get_or xs i r → insert (from_list {R = record_cmp} (map (λ (x : Bor Record). x.now) (take i xs))) r.now ≡ from_list (map (λ (x : Bor Record). x.now) (take (i + 1) xs))
+  lent-more xs i r within at =
+      sym (from_list_push order apart (map (λ (x : Bor Record). x.now) (take i xs)) r.now)
+      ∙ ap (λ (rs : List Record). from_list rs) (sym (map-append (λ (x : Bor Record). x.now) (take i xs) (r ∷ [])))
+      ∙ ap (λ (y : Bor Record). from_list (map (λ (x : Bor Record). x.now) (take i xs ++ y ∷ []))) at
+      ∙ ap (λ (ys : List (Bor Record)). from_list (map (λ (x : Bor Record). x.now) ys)) (sym (take_more xs i r within))

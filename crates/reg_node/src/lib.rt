@@ -5,11 +5,12 @@ mod against;
 mod case;
 mod follower;
 mod laws;
+mod news;
 mod take;
 mod view;
 
 pub use case::Case;
 pub use follower::Follower;
-pub use laws::takes_fold_to_last_records;
-pub use take::{Take, Taken};
+pub use laws::draws_fold_to_last_records;
+pub use take::{Draw, Rebase, Take, Taken};
 pub use view::View;

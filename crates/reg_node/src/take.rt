@@ -1,10 +1,16 @@
 // What nodes take from the topic.
-ghost use Rattle.std.specs.Prelude.{◌≡◌};
+ghost use Rattle.std.specs.Prelude.{◌≡◌, IfOk, OnErr, OnOk};
 ghost use Rattle.std.specs.FinSet.{empty};
+ghost use Rattle.reg_kept.specs.Floors.{rebased};
+ghost use Rattle.reg_node.specs.Takes.{base_in};
+ghost use Rattle.reg_set.specs.LastRecords.{last_records};
 
+use base_text::Listed;
 use reg_feed::{FeedName, Fold};
 use reg_fold::Registry;
+use reg_kept::KeptSet;
 use reg_records::Record;
+use reg_set::{RecordSet, records_are_ordered};
 use std::alloc::{AllocError, Global};
 use std::marker::{Brand, Model};
 
@@ -15,9 +21,29 @@ pub struct Take {
     pub kept: Record,
 }
 
+/// A node's records below a floor give way to the kept ones, with the number of the topic's items that it
+/// had read.
+#[derive(Debug, Drop, Clone)]
+pub struct Rebase {
+    pub read: u64,
+    /// The kept set's floor.
+    pub floor: u64,
+    /// The kept records below it.
+    pub below: Listed<Record>,
+}
+
+/// What a node drew from the topic.
+#[derive(Debug, Drop, Clone)]
+pub enum Draw {
+    Take(Take),
+    Rebase(Rebase),
+}
+
 /// What lookups read of all that a node took: the last records. Contracts see these.
 #[derive(Drop)]
 pub struct Taken {
+    // Held, since taking in a draw is given none.
+    alloc: Global,
     registry: Registry,
 }
 
@@ -39,6 +65,7 @@ impl Taken {
         ensures { result ≡ empty }
     {
         Taken {
+            alloc,
             registry: Registry::empty(alloc),
         }
     }
@@ -49,20 +76,52 @@ impl Taken {
     {
         &self.registry
     }
+
+    /// Puts the records that a rebase brings in the place of those below its floor. The only error is
+    /// want of memory; all is then as it was.
+    fn rebase(&mut self, rebase: &Rebase) -> Result<(), AllocError>
+        ensures rebased { OnOk result (self.new ≡ last_records (rebased self.old (base_in rebase.now))) }
+        ensures refused { OnErr result (self.new ≡ self.old) }
+    {
+        let below = RecordSet::of(self.alloc, rebase.below.as_slice())?;
+        let mut own = KeptSet::of(set_of(self.alloc, &self.registry)?, 0);
+        match own.rebase(&KeptSet::of(below, rebase.floor)) {
+            Ok(()) => {}
+            Err(_refused) => return Err(AllocError),
+        }
+        self.registry = Registry::of_set(self.alloc, own.set())?;
+        Ok(())
+    }
 }
 
-impl Fold<Take> for Taken {
-    ghost use Rattle.reg_node.specs.Takes.{lasts_with_take};
+/// The last records of a registry, as a set. The only error is want of memory.
+fn set_of(alloc: Global, registry: &Registry) -> Result<RecordSet, AllocError>
+    ensures { IfOk result (λ set. set ≡ registry.now) }
+{
+    records_are_ordered();
+    let records = registry.records()?;
+    let mut found = RecordSet::new(alloc);
+    for record in &records {
+        found.take(record)?;
+    }
+    Ok(found)
+}
 
-    ghost applied = { lasts_with_take };
+impl Fold<Draw> for Taken {
+    ghost use Rattle.reg_node.specs.Takes.{lasts_with_draw};
 
-    fn take_item(&mut self, item: &Take) -> Result<(), AllocError> {
-        self.registry.apply(&item.kept)
+    ghost applied = { lasts_with_draw };
+
+    fn take_item(&mut self, item: &Draw) -> Result<(), AllocError> {
+        match item {
+            Draw::Take(take) => self.registry.apply(&take.kept),
+            Draw::Rebase(rebase) => self.rebase(rebase),
+        }
     }
 }
 
 /// A node's feed. A program that makes one picks both at its call.
-impl FeedName<Take, Taken> for Brand {
+impl FeedName<Draw, Taken> for Brand {
     ghost use Rattle.std.specs.FinSet.{empty};
 
     ghost book = { record { number = 0; log_name = 0; cells_name = 0 } };
@@ -75,6 +134,7 @@ impl Clone for Taken {
 
     fn clone(&self) -> Result<Taken, AllocError> {
         Ok(Taken {
+            alloc: self.alloc,
             registry: self.registry.clone()?,
         })
     }

@@ -12,8 +12,8 @@ ghost use Rattle.reg_node.specs.Takes.{taken};
 
 use crate::against::Against;
 use crate::case::Case;
-use crate::laws::takes_fold_to_last_records;
-use crate::take::{Take, Taken};
+use crate::laws::draws_fold_to_last_records;
+use crate::take::{Draw, Taken};
 use avro_schema::Schema;
 use base_text::Text;
 use reg_feed::{Copies, FeedName, FeedReader, Seen};
@@ -28,25 +28,25 @@ use std::marker::Model;
 /// What answers queries on one node. Contracts see it as the front of the node's list that it saw or
 /// was told of.
 #[derive(Drop)]
-pub struct View<M: FeedName<Take, Taken>, U: Copies<Take, Taken, M>> {
+pub struct View<M: FeedName<Draw, Taken>, U: Copies<Draw, Taken, M>> {
     alloc: Global,
-    reader: FeedReader<Take, Taken, M, U>,
+    reader: FeedReader<Draw, Taken, M, U>,
 }
 
-impl<M: FeedName<Take, Taken>, U: Copies<Take, Taken, M>> Model for View<M, U> {
+impl<M: FeedName<Draw, Taken>, U: Copies<Draw, Taken, M>> Model for View<M, U> {
     ghost use Rattle.std.specs.FinSet.{empty};
     ghost use Rattle.std.specs.Prelude.{◌≡◌, List};
-    ghost use Rattle.reg_node.specs.declared.take.Take.{Take};
+    ghost use Rattle.reg_node.specs.declared.take.Draw.{Draw};
 
-    ghost Value = { List Take };
+    ghost Value = { List Draw };
 
     ghost view = { λ v. v.reader };
 
     ghost invariant = { λ v. M.first ≡ empty };
 }
 
-impl<M: FeedName<Take, Taken>, U: Copies<Take, Taken, M>> View<M, U> {
-    pub(crate) fn new(alloc: Global, reader: FeedReader<Take, Taken, M, U>) -> View<M, U>
+impl<M: FeedName<Draw, Taken>, U: Copies<Draw, Taken, M>> View<M, U> {
+    pub(crate) fn new(alloc: Global, reader: FeedReader<Draw, Taken, M, U>) -> View<M, U>
         requires { M.first ≡ empty }
         ensures { result ≡ reader }
     {
@@ -54,14 +54,14 @@ impl<M: FeedName<Take, Taken>, U: Copies<Take, Taken, M>> View<M, U> {
     }
 
     /// The front of the node's list that it saw or was told of.
-    pub fn seen(&self) -> &Seen<Take, Taken, M>
+    pub fn seen(&self) -> &Seen<Draw, Taken, M>
         ensures { result.now ≡ self.now }
     {
         self.reader.seen()
     }
 
     /// Its front becomes the longer of the two.
-    pub fn learn(&mut self, told: &Seen<Take, Taken, M>)
+    pub fn learn(&mut self, told: &Seen<Draw, Taken, M>)
         ensures one { (self.new ≡ self.old) ⊎ (self.new ≡ told.now) }
         ensures this { IsPrefix self.old self.new }
         ensures that { IsPrefix told.now self.new }
@@ -121,9 +121,9 @@ impl<M: FeedName<Take, Taken>, U: Copies<Take, Taken, M>> View<M, U> {
 }
 
 /// The answer of a check.
-fn check<M: FeedName<Take, Taken>, U: Copies<Take, Taken, M>>(
+fn check<M: FeedName<Draw, Taken>, U: Copies<Draw, Taken, M>>(
     alloc: Global,
-    reader: &mut FeedReader<Take, Taken, M, U>,
+    reader: &mut FeedReader<Draw, Taken, M, U>,
     subject: &Text,
     which: Option<VersionRef>,
     text: &Text,
@@ -138,9 +138,9 @@ fn check<M: FeedName<Take, Taken>, U: Copies<Take, Taken, M>>(
 }
 
 /// What a check is answered on.
-fn copy_grounds<M: FeedName<Take, Taken>, U: Copies<Take, Taken, M>>(
+fn copy_grounds<M: FeedName<Draw, Taken>, U: Copies<Draw, Taken, M>>(
     alloc: Global,
-    reader: &mut FeedReader<Take, Taken, M, U>,
+    reader: &mut FeedReader<Draw, Taken, M, U>,
     subject: &str,
     which: Option<VersionRef>,
 ) -> Result<Grounds, AllocError>
@@ -148,7 +148,7 @@ fn copy_grounds<M: FeedName<Take, Taken>, U: Copies<Take, Taken, M>>(
     ensures grounds { IfOk result (λ grounds. grounds ≡ checked_on (last_records (taken reader.new)) subject.now which) }
     ensures longer { IsPrefix reader.old reader.new }
 {
-    takes_fold_to_last_records();
+    draws_fold_to_last_records();
     let found = reader.read(
         |taken| -> Result<Grounds, AllocError>
             ensures { IfOk result (λ grounds. grounds ≡ checked_on taken.now subject.entry.now which) }
@@ -161,9 +161,9 @@ fn copy_grounds<M: FeedName<Take, Taken>, U: Copies<Take, Taken, M>>(
 }
 
 /// What is to be judged of a registration, if its text is a schema's.
-fn copy_case<M: FeedName<Take, Taken>, U: Copies<Take, Taken, M>>(
+fn copy_case<M: FeedName<Draw, Taken>, U: Copies<Draw, Taken, M>>(
     alloc: Global,
-    reader: &mut FeedReader<Take, Taken, M, U>,
+    reader: &mut FeedReader<Draw, Taken, M, U>,
     subject: &Text,
     text: &Text,
 ) -> Result<Option<Case>, AllocError>
@@ -181,16 +181,16 @@ fn copy_case<M: FeedName<Take, Taken>, U: Copies<Take, Taken, M>>(
 }
 
 /// What a new schema is judged against.
-fn copy_against<M: FeedName<Take, Taken>, U: Copies<Take, Taken, M>>(
+fn copy_against<M: FeedName<Draw, Taken>, U: Copies<Draw, Taken, M>>(
     alloc: Global,
-    reader: &mut FeedReader<Take, Taken, M, U>,
+    reader: &mut FeedReader<Draw, Taken, M, U>,
     subject: &Text,
 ) -> Result<Against, AllocError>
     requires { M.first ≡ empty }
     ensures against { IfOk result (λ made. made ≡ against (last_records (taken reader.new)) subject.now) }
     ensures longer { IsPrefix reader.old reader.new }
 {
-    takes_fold_to_last_records();
+    draws_fold_to_last_records();
     let found = reader.read(
         |taken| -> Result<Against, AllocError>
             ensures { IfOk result (λ made. made ≡ against taken.now subject.entry.now) }
@@ -202,16 +202,16 @@ fn copy_against<M: FeedName<Take, Taken>, U: Copies<Take, Taken, M>>(
     }
 }
 
-fn look<M: FeedName<Take, Taken>, U: Copies<Take, Taken, M>>(
+fn look<M: FeedName<Draw, Taken>, U: Copies<Draw, Taken, M>>(
     alloc: Global,
-    reader: &mut FeedReader<Take, Taken, M, U>,
+    reader: &mut FeedReader<Draw, Taken, M, U>,
     query: &Query,
 ) -> Result<Answer, AllocError>
     requires { M.first ≡ empty }
     ensures answered { IfOk result (IsAnswer (last_records (taken reader.new)) query.now) }
     ensures longer { IsPrefix reader.old reader.new }
 {
-    takes_fold_to_last_records();
+    draws_fold_to_last_records();
     let found = reader.read(
         |taken| -> Result<Answer, AllocError>
             ensures { IfOk result (IsAnswer taken.now query.entry.now) }

@@ -1,4 +1,5 @@
 pub mod Acting
+pub mod Ahead
 pub mod Batches
 pub mod Begun
 pub mod Prefixes

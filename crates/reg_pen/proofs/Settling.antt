@@ -1,5 +1,5 @@
 -- A pen whose pending items are published, and one that an item is held for.
-use Rattle.std.proofs.Common.{◌≡◌, Bool, Option, None, option_to_list, List, [], ◌∷◌, ◌++◌, refl, sym, subst, ◌∙◌}
+use Rattle.std.proofs.Common.{◌≡◌, Bool, Option, None, option_to_list, List, [], ◌∷◌, ◌++◌, refl, sym, ap, subst, ◌∙◌}
 use Rattle.std.proofs.lemmas.List.{append-nil}
 use Rattle.reg_topic.specs.Laws.{LawfulListsGoOn}
 use Rattle.reg_topic.specs.Topic.{IsLawful, MayFollow, after_items}
@@ -36,3 +36,7 @@ state_of published pending lost keep = record { published = published; pending =
 
 pub same_state : {K : Type 0} (xs xs' ys ys' : List Item) (lost : Bool) (k k' : K) → xs ≡ xs' → ys ≡ ys' → k ≡ k' → state_of xs ys lost k ≡ state_of xs' ys' lost k'
 same_state xs xs' ys ys' lost k k' a b c = cc
+
+-- where nothing is pending, all is published
+pub all_published : (xs ys zs : List Item) → xs ≡ zs → ys ≡ [] → xs ++ ys ≡ zs
+all_published xs ys zs whole none = ap (λ (w : List Item). xs ++ w) none ∙ (append-nil xs ∙ whole)

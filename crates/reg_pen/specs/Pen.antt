@@ -1,5 +1,5 @@
 -- What a pen holds, and what a submit does.
-use Rattle.std.specs.Prelude.{◌≡◌, ⊤, ◌⊎◌, ℕ, suc, ◌+◌, ◌-◌, ◌^◌, ◌<◌, min, Bool, true, false, List, [], ◌∷◌, ◌++◌, length, Option, Some, None}
+use Rattle.std.specs.Prelude.{◌≡◌, ⊤, ◌⊎◌, ℕ, suc, ◌+◌, ◌-◌, ◌^◌, ◌<◌, ◌≤◌, min, Bool, true, false, List, [], ◌∷◌, ◌++◌, length, Option, Some, None}
 use Rattle.std.specs.Borrow.{Bor}
 use mathlib.Core.List.{IsPrefix}
 use Rattle.reg_records.specs.declared.record.Record.{Record}
@@ -9,12 +9,15 @@ use Rattle.reg_leader.specs.Step.{IsStep}
 use Rattle.reg_leader.specs.declared.command.Command.{Command}
 use Rattle.reg_leader.specs.declared.reply.Reply.{Reply}
 use Rattle.reg_leader.specs.declared.reply.Reply.TheVariants as replies
-use Rattle.reg_set.specs.LastRecords.{last_records}
-use Rattle.reg_topic.specs.Topic.{IsAdopted, IsLawful, MayFollow, after_items, may_drop, registry_of, without}
+use Rattle.reg_kept.specs.Floors.{compacted_to, without}
+use Rattle.reg_topic.specs.Topic.{IsAdopted, IsLawful, MayFollow, after_items, may_compact, registry_of}
+use Rattle.reg_topic.specs.declared.published.Compaction.{Compaction}
 use Rattle.reg_topic.specs.declared.published.Item.{Item}
 use Rattle.reg_topic.specs.declared.published.Item.TheVariants as items
 use Rattle.reg_topic.specs.declared.topic.Topic.{Topic}
 use Rattle.reg_pen.specs.Keep.{fault_of}
+use Rattle.reg_pen.specs.declared.compact_error.CompactError.{CompactError}
+use Rattle.reg_pen.specs.declared.compact_error.CompactError.TheVariants as refused
 use Rattle.reg_pen.specs.declared.keep.Kept.{Kept}
 use Rattle.reg_pen.specs.declared.keep.Kept.TheVariants.{Taken, Declined, Lost}
 
@@ -33,7 +36,7 @@ counted n = min (n + 1) (2 ^ 64 - 1)
 abbrev pub batches : List Item → ℕ
 batches [] = 0
 batches (items.Commit commit ∷ is) = suc (batches is)
-batches (items.Compaction dropped ∷ is) = batches is
+batches (items.Compaction c ∷ is) = batches is
 
 -- nothing is pending, or one item that may follow
 abbrev pub Pends : Topic → List Item → Type 0
@@ -74,7 +77,7 @@ Follows Lost is replied unsettled l reply m = (reply ≡ unsettled) × (m ≡ re
 -- the reply where the pending item is refused again, or is lost: the offset of a batch
 abbrev pub StillPends : List Item → Reply → Type 0
 StillPends (items.Commit commit ∷ []) reply = (first : Record) × (rest : List Record) × (commit.batch ≡ first ∷ rest) × (reply ≡ replies.Unsettled first.offset)
-StillPends (items.Compaction dropped ∷ []) reply = IsNoMemory reply
+StillPends (items.Compaction c ∷ []) reply = IsNoMemory reply
 StillPends _ reply = ⊥
 
 -- the front is longer than the published list
@@ -112,21 +115,36 @@ module _ {K : Type 0} (keeps : K → List Record → Kept → K → Type 0) wher
       (IsAhead since l.published × IsNoMemory reply × (m ≡ l))
       ⊎ (IsBehind since l.published × (StillPends l.pending reply × (m ≡ l) ⊎ (l.lost ≡ false) × Acts base (settled l) c reply m))
 
--- the records may be dropped, and leave the last records alone
-pub record LeavesLasts (t : Topic) (dropped : List Record) : Type 0 where
-  pub may_go : may_drop t.kept dropped ≡ true
-  pub lasts_stay : without t.kept dropped ≡ last_records t.kept
+-- the topic with what is pending
+abbrev pub with_pending : {K : Type 0} → Topic → PenState K → Topic
+with_pending base l = after_items base (l.published ++ l.pending)
 
--- what is pending is published, where no batch is lost, and then a compaction that leaves the last records alone
-abbrev pub Compacts : {K : Type 0} → Topic → PenState K → PenState K → Type 0
-Compacts base l m =
-    (dropped : List Record) × (l.lost ≡ false) × LeavesLasts (after_items base (settled l).published) dropped
-    × (m ≡ record (settled l) { published = (settled l).published ++ items.Compaction dropped ∷ [] })
+-- the compaction may be, and leaves what compacting to its floor does
+pub record CompactsTo (t : Topic) (c : Compaction) : Type 0 where
+  pub may_be : may_compact t c ≡ true
+  pub rest : without t.kept.records c.dropped ≡ compacted_to c.floor t.kept.records
+
+-- what is pending is published, where no batch is lost, and then a compaction to that floor
+abbrev pub Compacts : {K : Type 0} → Topic → ℕ → PenState K → PenState K → Type 0
+Compacts base floor l m =
+    (dropped : List Record) × (l.lost ≡ false) × CompactsTo (with_pending base l) (record { floor = floor; dropped = dropped })
+    × (m ≡ record (settled l) { published = (settled l).published ++ items.Compaction (record { floor = floor; dropped = dropped }) ∷ [] })
 
 -- nothing is done; or, where no batch is lost, what is pending is published, and the compaction may be pending then
-abbrev pub LeavesCompaction : {K : Type 0} → Topic → PenState K → PenState K → Type 0
-LeavesCompaction base l m =
+abbrev pub LeavesCompaction : {K : Type 0} → Topic → ℕ → PenState K → PenState K → Type 0
+LeavesCompaction base floor l m =
     (m ≡ l)
     ⊎ ((l.lost ≡ false) × (m ≡ settled l))
-    ⊎ ((dropped : List Record) × (l.lost ≡ false) × LeavesLasts (after_items base (settled l).published) dropped
-    × (m ≡ record (settled l) { pending = items.Compaction dropped ∷ [] }))
+    ⊎ ((dropped : List Record) × (l.lost ≡ false) × CompactsTo (with_pending base l) (record { floor = floor; dropped = dropped })
+    × (m ≡ record (settled l) { pending = items.Compaction (record { floor = floor; dropped = dropped }) ∷ [] }))
+
+-- the floor may be set where what is pending is published: it doesn't fall, and isn't ahead of the next offset
+abbrev pub MaySetFloor : Topic → ℕ → Type 0
+MaySetFloor t floor = (t.kept.floor ≤ floor) × (floor ≤ t.next)
+
+-- why a compaction to a floor isn't published
+abbrev pub IsCompactRefusal : {K : Type 0} → Topic → ℕ → PenState K → CompactError → PenState K → Type 0
+IsCompactRefusal base floor l (refused.FloorBelow kept) m = (kept ≡ (with_pending base l).kept.floor) × (floor < kept) × (m ≡ l)
+IsCompactRefusal base floor l (refused.FloorAhead next) m =
+    (next ≡ (with_pending base l).next) × ((with_pending base l).kept.floor ≤ floor) × (next < floor) × (m ≡ l)
+IsCompactRefusal base floor l refused.Unsettled m = MaySetFloor (with_pending base l) floor × LeavesCompaction base floor l m

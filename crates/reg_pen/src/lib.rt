@@ -1,11 +1,13 @@
 //! The topic's pen: commands come one after the other, and each batch is lent to a keep and then published.
 #![tactic(auto)]
 
+mod compact_error;
 mod keep;
 mod open_error;
 mod pass;
 mod pen;
 
+pub use compact_error::CompactError;
 pub use keep::{Keep, Kept, Lack, MemoryAlone};
 pub use open_error::OpenError;
 pub use pass::Pass;

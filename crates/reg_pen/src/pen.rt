@@ -5,24 +5,30 @@ ghost use Rattle.std.specs.FinSet.{from_list};
 ghost use Rattle.reg_set.specs.LastRecords.{last_records};
 ghost use Rattle.reg_leader.specs.Adoption.{HasPlace};
 ghost use Rattle.reg_leader.specs.Outcome.{IsOutOfMemory};
-ghost use Rattle.reg_topic.specs.Topic.{IsAdopted, MayCommit, MayFollow, owed_by, registry_of, topic_from};
+ghost use Rattle.reg_fold.specs.GiveAlike.{GiveAlike};
+ghost use Rattle.reg_kept.specs.Floors.{compacted_to, without};
+ghost use Rattle.reg_topic.specs.Topic.{IsAdopted, MayCommit, MayFollow, after_items, may_compact, owed_by, registry_of, topic_from};
 ghost use Rattle.reg_shared.specs.Held.{base_of, held_of, topic_at};
 ghost use Rattle.reg_pen.specs.Opening.{IsKeepRefusal, IsOpenRefusal, KeepsDue};
-ghost use Rattle.reg_pen.specs.Pen.{Acts, Compacts, Follows, IsAhead, IsBehind, IsNoMemory, IsStepAfter, LeavesCompaction, LeavesLasts, Submits, StillPends, batches, counted, settled};
-ghost use Rattle.reg_pen.specs.Pending.{IsClear, IsFirst, IsPending, batches_in, is_lost, reply_of};
+ghost use Rattle.reg_pen.specs.Pen.{Acts, Compacts, CompactsTo, Follows, IsAhead, IsBehind, IsCompactRefusal, IsNoMemory, IsStepAfter, LeavesCompaction, MaySetFloor, Submits, StillPends, batches, counted, settled, with_pending};
+ghost use Rattle.reg_pen.specs.Pending.{EndsByLimit, IsClear, IsFirst, IsPending, after, batches_in, is_lost, reply_of};
 ghost use Rattle.reg_pen.specs.declared.keep.Kept.{Kept};
 
+use crate::compact_error::CompactError;
 use crate::keep::{Keep, Kept};
 use crate::open_error::OpenError;
 use crate::pass::Pass;
 use base_text::Listed;
+use reg_alike::alike_steps_alike;
 use reg_feed::{Copies, FeedName, FeedReader, FeedWriter, NoPlace, Seen, Stored, Unnamed, feed};
 use reg_fold::{Refusal, Registry, StoreFault};
 use reg_leader::{Command, Decision, Reply, decide};
 use reg_levels::Judged;
 use reg_records::{Log, Record};
 use reg_shared::{Shared, kept_gives_registry, published_lists_fold};
-use reg_topic::{Commit, Item, adopted_logs_begin, lawful_items_follow};
+use reg_topic::{
+    Commit, Compaction, Item, adopted_logs_begin, commits_follow, lawful_items_follow,
+};
 use std::alloc::{AllocError, Global};
 use std::marker::Model;
 use std::sync::Wait;
@@ -63,6 +69,9 @@ pub struct Pen<
     pending: Pending,
     // How many batches were published.
     committed: u64,
+    // The kept set's floor and the next offset, with what is pending.
+    floor: u64,
+    next: u64,
 }
 
 impl<N: FeedName<Item, Shared>, S: Copies<Item, Shared, N>, K: Keep + Drop, R: Wait + Drop> Model
@@ -70,13 +79,15 @@ impl<N: FeedName<Item, Shared>, S: Copies<Item, Shared, N>, K: Keep + Drop, R: W
     ghost use Rattle.std.specs.Prelude.{◌≡◌, ◌++◌, option_to_list};
     ghost use Rattle.reg_shared.specs.Held.{base_of};
     ghost use Rattle.reg_pen.specs.Pen.{IsPen, PenState, batches};
-    ghost use Rattle.reg_pen.specs.Pending.{IsPending, is_lost};
+    ghost use Rattle.reg_pen.specs.Pending.{AreOf, IsPending, is_lost};
+    ghost use Rattle.reg_topic.specs.Topic.{after_items};
 
     ghost Value = { PenState K };
 
     ghost view = { λ p. record { published = p.writer.value.0; pending = p.writer.value.1 ++ option_to_list p.held; lost = is_lost p.pending; keep = p.keep } };
 
-    ghost invariant = { λ p. IsPen (base_of N.first) p.writer.value.0 (p.writer.value.1 ++ option_to_list p.held) × IsPending p.pending (p.writer.value.1 ++ option_to_list p.held) × (p.committed ≡ batches p.writer.value.0) };
+    ghost invariant = { λ p. IsPen (base_of N.first) p.writer.value.0 (p.writer.value.1 ++ option_to_list p.held) × IsPending p.pending (p.writer.value.1 ++ option_to_list p.held) × (p.committed ≡ batches p.writer.value.0)
+        × AreOf (after_items (base_of N.first) (p.writer.value.0 ++ (p.writer.value.1 ++ option_to_list p.held))) p.floor p.next };
 }
 
 /// A pen with the passes to submit to it.
@@ -106,7 +117,7 @@ pub fn open<N: FeedName<Item, Shared>, K: Keep + Drop, R: Wait + Drop>(
     passes: u32,
     readers: usize,
 ) -> Result<Opened<N, Stored<Item, Shared, N>, K, R>, OpenError>
-    requires name { (list.reached.book ≡ N.book) × (N.first ≡ held_of (topic_from base.now.records.items base.now.next)) }
+    requires name { (list.reached.book ≡ N.book) × (N.first ≡ held_of (topic_from base.now.records.items base.now.next base.now.floor)) }
     requires readers { (0 < readers) × (readers < 2 ^ 32) }
     ensures begun { IfOk result (λ opened. opened.pen ≡ record { published = []; pending = []; lost = false; keep = opened.pen.keep }) }
     ensures kept { IfOk result (λ opened. KeepsDue K.keeps keep (owed_by base.now.records.items base.now.next) opened.pen.keep) }
@@ -122,6 +133,8 @@ pub fn open<N: FeedName<Item, Shared>, K: Keep + Drop, R: Wait + Drop>(
     let passes = new_passes(alloc, passes)?;
     let mut keep = keep;
     lend_due(&mut keep, &begun.due)?;
+    let shared = writer.value();
+    let (floor, next) = (shared.floor(), shared.next());
     let pen = Pen {
         alloc,
         writer,
@@ -129,6 +142,8 @@ pub fn open<N: FeedName<Item, Shared>, K: Keep + Drop, R: Wait + Drop>(
         held: None,
         pending: Pending::Nothing,
         committed: 0,
+        floor,
+        next,
     };
     Ok(Opened { pen, passes })
 }
@@ -201,29 +216,75 @@ impl<N: FeedName<Item, Shared>, S: Copies<Item, Shared, N>, K: Keep + Drop, R: W
         self.committed
     }
 
-    /// The registry over the published log, on which a command is decided where nothing is pending.
-    /// Takes no memory.
+    /// A registry that gives the same as the one over the published log, by which a command is decided
+    /// where nothing is pending. Takes no memory.
     pub fn registry(&self) -> &Registry
-        ensures { result.now ≡ registry_of (topic_at N.first self.now.published) }
+        ensures { GiveAlike result.now (registry_of (topic_at N.first self.now.published)) }
     {
         published_lists_fold();
         kept_gives_registry();
         self.writer.value().registry()
     }
 
-    /// Publishes what is pending, and then a compaction that leaves the last records alone, which isn't
-    /// lent to the keep. It is refused where the keep lost a batch, with nothing changed, and where
-    /// memory is; at most what was pending is then published, and the compaction may be pending.
+    /// What the next offset was at the last compaction that is published; where there is none, the floor
+    /// that the topic began with. Takes no memory.
+    pub fn compacted(&self) -> u64
+        ensures { result ≡ (topic_at N.first self.now.published).compacted }
+    {
+        published_lists_fold();
+        self.writer.value().compacted()
+    }
+
+    /// The floor of the published kept set. Takes no memory.
+    pub fn floor(&self) -> u64
+        ensures { result ≡ (topic_at N.first self.now.published).kept.floor }
+    {
+        published_lists_fold();
+        self.writer.value().floor()
+    }
+
+    /// Whether so many deletes were published since the floor rose that it pays to raise it again: nodes are
+    /// rebased then, which costs what is kept. No contract speaks of it.
+    pub fn has_many_deletes(&self) -> bool {
+        self.writer.value().has_many_deletes()
+    }
+
+    /// Publishes what is pending, and then a compaction to that floor, which isn't lent to the keep: it
+    /// leaves the last record of each key, and nothing of a key whose last record deletes it below the
+    /// floor.
+    ///
+    /// A floor that is below that of the kept set, or ahead of the next offset, is refused with nothing
+    /// changed, where what is pending counts already. It is refused too where the keep lost a batch, with
+    /// nothing changed, and where memory is; at most what was pending is then published, and the
+    /// compaction may be pending.
     #[tactic(auto, using(crate::proofs::Prefixes::grown, crate::proofs::Prefixes::prefix_self, crate::proofs::Prefixes::prefix_trans))]
-    pub fn compact(&mut self) -> Result<(), AllocError>
-        ensures compacted { OnOk result (Compacts (base_of N.first) self.old self.new) }
-        ensures refused { OnErr result (LeavesCompaction (base_of N.first) self.old self.new) }
+    pub fn compact_to(&mut self, floor: u64) -> Result<(), CompactError>
+        ensures compacted { OnOk result (Compacts (base_of N.first) floor self.old self.new) }
+        ensures refused { IfErr result (λ error. IsCompactRefusal (base_of N.first) floor self.old error self.new) }
         ensures grows { IsPrefix self.old.published self.new.published }
     {
+        self.may_set(floor)?;
         if !self.settle() {
-            return Err(AllocError);
+            return Err(CompactError::Unsettled);
         }
-        self.drop_superseded()
+        match self.drop_to(floor) {
+            Ok(()) => Ok(()),
+            Err(AllocError) => Err(CompactError::Unsettled),
+        }
+    }
+
+    /// Whether the floor may be set once what is pending is published.
+    fn may_set(&self, floor: u64) -> Result<(), CompactError>
+        ensures may { OnOk result (MaySetFloor (with_pending (base_of N.first) self.now) floor) }
+        ensures refused { IfErr result (λ error. (error ≢ CompactError.Unsettled) × IsCompactRefusal (base_of N.first) floor self.now error self.now) }
+    {
+        if floor < self.floor {
+            return Err(CompactError::FloorBelow(self.floor));
+        }
+        if self.next < floor {
+            return Err(CompactError::FloorAhead(self.next));
+        }
+        Ok(())
     }
 
     /// A reader of the topic's list that has seen nothing, from which a node's follower takes. It may
@@ -235,28 +296,32 @@ impl<N: FeedName<Item, Shared>, S: Copies<Item, Shared, N>, K: Keep + Drop, R: W
         self.writer.reader()
     }
 
-    /// Publishes a compaction, where nothing is pending.
+    /// Publishes a compaction to a floor that may be set, where nothing is pending.
     #[tactic(auto, using(crate::proofs::Prefixes::grown, crate::proofs::Prefixes::prefix_self))]
-    fn drop_superseded(&mut self) -> Result<(), AllocError>
-        requires { IsClear self.old }
-        ensures compacted { OnOk result (Compacts (base_of N.first) self.old self.new) }
-        ensures refused { OnErr result (LeavesCompaction (base_of N.first) self.old self.new) }
+    fn drop_to(&mut self, floor: u64) -> Result<(), AllocError>
+        requires clear { IsClear self.old }
+        requires may { MaySetFloor (topic_at N.first self.old.published) floor }
+        ensures compacted { OnOk result (Compacts (base_of N.first) floor self.old self.new) }
+        ensures refused { OnErr result (LeavesCompaction (base_of N.first) floor self.old self.new) }
         ensures grows { IsPrefix self.old.published self.new.published }
     {
-        let dropped = self.superseded()?;
-        self.hold(Item::Compaction(Listed::from(dropped)), Pending::Compaction);
+        let compaction = self.compaction_to(floor)?;
+        self.hold(Item::Compaction(compaction), Pending::Compaction);
         if !self.settle() {
             return Err(AllocError);
         }
         Ok(())
     }
 
-    /// The kept records that aren't the last of their keys.
-    fn superseded(&self) -> Result<Vec<Record>, AllocError>
-        ensures { IfOk result (λ found. LeavesLasts (topic_at N.first self.now.published) found.items) }
+    /// The compaction to a floor that may be set.
+    fn compaction_to(&self, floor: u64) -> Result<Compaction, AllocError>
+        requires { MaySetFloor (topic_at N.first self.now.published) floor }
+        ensures to { IfOk result (λ compaction. CompactsTo (topic_at N.first self.now.published) compaction) }
+        ensures floor { IfOk result (λ compaction. compaction.floor ≡ floor) }
     {
         published_lists_fold();
-        self.writer.value().superseded()
+        let dropped = Listed::from(self.writer.value().dropped_to(floor)?);
+        Ok(Compaction { floor, dropped })
     }
 
     /// Whether the published list begins with the front. If not, the front is longer.
@@ -311,6 +376,9 @@ impl<N: FeedName<Item, Shared>, S: Copies<Item, Shared, N>, K: Keep + Drop, R: W
         requires pending { IsPending pending (item ∷ []) }
         ensures { self.new ≡ record self.old { pending = item ∷ []; lost = is_lost pending } }
     {
+        lawful_items_follow();
+        commits_follow();
+        (self.floor, self.next) = after(&item, self.floor, self.next);
         self.held = Some(item);
         self.pending = pending;
     }
@@ -321,6 +389,7 @@ impl<N: FeedName<Item, Shared>, S: Copies<Item, Shared, N>, K: Keep + Drop, R: W
     {
         published_lists_fold();
         kept_gives_registry();
+        alike_steps_alike();
         let shared = self.writer.value();
         decide(
             self.alloc,
@@ -372,6 +441,17 @@ impl<N: FeedName<Item, Shared>, S: Copies<Item, Shared, N>, K: Keep + Drop, R: W
                 reply
             }
         }
+    }
+}
+
+/// The floor and the next offset after an item that may follow.
+fn after(item: &Item, floor: u64, next: u64) -> (u64, u64)
+    requires { EndsByLimit item.now next }
+    ensures { result ≡ after item.now floor next }
+{
+    match item {
+        Item::Commit(commit) => (floor, next + commit.batch.as_slice().len() as u64),
+        Item::Compaction(compaction) => (compaction.floor, next),
     }
 }
 

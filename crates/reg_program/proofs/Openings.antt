@@ -1,5 +1,5 @@
 -- The topic that a log is, and what is promised over it.
-use Rattle.std.proofs.Common.{◌≡◌, ◌⊎◌, ◌<◌, ◌||◌, ℕ, Bool, true, false, List, [], ◌∷◌, All, refl, sym, ap, ◌∙◌, inl, inr, arith, Option, None, Some, IfSome}
+use Rattle.std.proofs.Common.{◌≡◌, ◌⊎◌, ◌<◌, ◌≤◌, ◌||◌, ℕ, Bool, true, false, List, [], ◌∷◌, All, refl, sym, ap, ◌∙◌, inl, inr, arith, Option, None, Some, IfSome}
 use Rattle.std.specs.Prelude.{Ok, count_by}
 use Rattle.std.proofs.lemmas.Bool.{false≢true}
 use Rattle.std.proofs.lemmas.List.Elements.{All-head, All-tail}
@@ -7,7 +7,7 @@ use Rattle.std.specs.Cmp.{Equal-is, IsTotalOrder}
 use Rattle.std.specs.FinSet.{IsAntisymmetric, contains-from_list, from_list}
 use Rattle.std.specs.List.{list_any}
 use Rattle.std.specs.Ordering.{eq_by_cmp}
-use Rattle.reg_records.specs.Log.{IsLogOf, LogText, is_foreign, log_of, records_in}
+use Rattle.reg_records.specs.Log.{IsLogOf, LogText, is_foreign, log_of}
 use Rattle.reg_records.specs.declared.log.Log.{Log}
 use Rattle.reg_records.specs.declared.record.Record.{Record}
 use Rattle.reg_set.specs.LastRecords.{last_records}
@@ -36,33 +36,34 @@ module _ (order : IsTotalOrder record_cmp) (apart : IsAntisymmetric record_cmp) 
   ]
 
   -- records below the next offset begin an adopted topic, where they take commands
-  pub adopted : (rs : List Record) (next : ℕ) → All (λ r. r.offset < next) rs → IsAdoptedIfOpen (plain_topic rs next)
-  adopted rs next all not_closed = record {
+  pub adopted : (rs : List Record) (next floor : ℕ) → All (λ r. r.offset < next) rs → floor ≤ next → IsAdoptedIfOpen (plain_topic rs next floor)
+  adopted rs next floor all low not_closed = record {
     not_closed = not_closed;
     ahead = λ q h. below_list next rs all q (sym (contains-from_list order rs q) ∙ h);
+    floor_below = low;
     whole = refl;
   }
 
 -- a log that holds what its lines say
-pub same_topic : (log : Log) (found : LogText) → IsLogOf found.reads log → plain_topic log.records.items log.next ≡ topic_of found
-same_topic log found is = ap (λ (rs : List Record). plain_topic rs log.next) is.records ∙ ap (λ n. plain_topic (records_in found.reads) n) is.next
+pub same_topic : (log : Log) (found : LogText) → IsLogOf found.floor found.reads log → plain_topic log.records.items log.next log.floor ≡ topic_of found
+same_topic log found is = λ i. plain_topic (is.records i) (is.next i) (is.floor i)
 
 -- what the lines of a log say, of which it is known what they are
 read_of : (log : Log) (input left : Option (List ℕ))
-    → IfSome input (λ text. (found : LogText) × (log_of text ≡ Ok found) × IsLogOf found.reads log × (left ≡ Some found.rest))
-    → IfSome input (λ text. (found : LogText) × (log_of text ≡ Ok found) × (plain_topic log.records.items log.next ≡ topic_of found)
+    → IfSome input (λ text. (found : LogText) × (log_of text ≡ Ok found) × IsLogOf found.floor found.reads log × (left ≡ Some found.rest))
+    → IfSome input (λ text. (found : LogText) × (log_of text ≡ Ok found) × (plain_topic log.records.items log.next log.floor ≡ topic_of found)
     × (log.foreign ≡ count_by is_foreign found.reads) × (left ≡ Some found.rest))
 read_of log None left read = tt
 read_of log (Some text) left (found, reads, is, rest) = (found, reads, same_topic log found is, is.foreign, rest)
 
 pub opens : IsTotalOrder record_cmp → IsAntisymmetric record_cmp → (log : Log) (input left : Option (List ℕ)) (desk : FoldDesk)
     → desk.registry ≡ last_records (from_list log.records.items) → desk.next ≡ log.next
-    → IfSome input (λ text. (found : LogText) × (log_of text ≡ Ok found) × IsLogOf found.reads log × (left ≡ Some found.rest))
+    → IfSome input (λ text. (found : LogText) × (log_of text ≡ Ok found) × IsLogOf found.floor found.reads log × (left ≡ Some found.rest))
     → IsOpened input left log.foreign desk
 opens order apart log input left desk registry next read = (
-  plain_topic log.records.items log.next,
+  plain_topic log.records.items log.next log.floor,
   record { registry = registry; next = next; lawful = tt },
-  adopted order apart log.records.items log.next log.ahead,
+  adopted order apart log.records.items log.next log.floor log.ahead log.above,
   read_of log input left read,
 )
 

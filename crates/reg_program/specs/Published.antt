@@ -9,7 +9,7 @@ use Rattle.reg_leader.specs.declared.reply.Reply.TheVariants as replies
 use Rattle.reg_lookup.specs.Answers.{IsAnswer}
 use Rattle.reg_lookup.specs.declared.answered.Answer.{Answer}
 use Rattle.reg_lookup.specs.declared.query.Query.{Query}
-use Rattle.reg_records.specs.Log.{LogText, next_after, records_in}
+use Rattle.reg_records.specs.Log.{LogText, next_of, records_in}
 use Rattle.reg_records.specs.declared.record.Record.{Record}
 use Rattle.reg_refusals.specs.Refusal.{no_memory}
 use Rattle.reg_topic.specs.Promises.{IdsAreForGood, MetLevels}
@@ -18,9 +18,9 @@ use Rattle.reg_topic.specs.declared.published.Item.{Item}
 use Rattle.reg_topic.specs.declared.published.Item.TheVariants as items
 use Rattle.reg_topic.specs.declared.topic.Topic.{Topic}
 
--- the topic over a log: its records, and the offset after its greatest
+-- the topic over a log: its records, the next offset, and its floor
 abbrev pub topic_of : LogText → Topic
-topic_of log = plain_topic (records_in log.reads) (next_after log.reads)
+topic_of log = plain_topic (records_in log.reads) (next_of log.floor log.reads) log.floor
 
 -- what a command publishes: its batch, unless that has no record
 abbrev pub commits : Command → List Record → List Item

@@ -1,5 +1,5 @@
 -- Where a reader's text ends, as its bytes are given.
-use Rattle.std.proofs.Common.{◌≡◌, ◌⊎◌, ◌+◌, ◌++◌, ℕ, List, Some, None, refl, sym, ap, ◌∙◌, inl, inr, arith, length, length-append}
+use Rattle.std.proofs.Common.{◌≡◌, ◌⊎◌, ◌+◌, ℕ, List, Some, None, refl, sym, ap, ◌∙◌, inl, inr, arith, length, length-append}
 use Rattle.std.specs.Prelude.{Option, option_map}
 use Rattle.std.specs.Io.KnownBytes.{Consumes, Keeps}
 use Rattle.reg_records.specs.Device.{KeepsEnd, bytes_in, counted_by, inner_of, place_of}

@@ -10,7 +10,7 @@ use Rattle.reg_records.specs.declared.line.LineError.TheVariants.{BadTabs}
 use Rattle.reg_records.specs.Line.{is_tab, is_line_feed, is_free_of, line_of, reading_of}
 use Rattle.reg_records.proofs.Tabs.{count_by-none, count_by-after_first}
 
-not_true-false : (b : Bool) → not b ≡ true → b ≡ false
+pub not_true-false : (b : Bool) → not b ≡ true → b ≡ false
 not_true-false true e = absurd cc
 not_true-false false e = refl
 
@@ -39,7 +39,7 @@ module _ (p : ℕ → Bool) where
       let parts = and_parts (not (p x)) _ h in
       rw parts.0 (omega (arith, position_or_len-seam xs t ys parts.1 e))
 
-  All-free : (xs : List ℕ) → is_free_of p xs ≡ true → All (λ x. p x ≡ false) xs
+  pub All-free : (xs : List ℕ) → is_free_of p xs ≡ true → All (λ x. p x ≡ false) xs
   All-free xs h = λ k d below. not_true-false _ (AllPass-from_list_all (λ b. not (p b)) xs h k d below)
 
   pub count_by-free : (xs : List ℕ) → is_free_of p xs ≡ true → count_by p xs ≡ 0

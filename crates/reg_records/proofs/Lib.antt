@@ -1,4 +1,5 @@
 pub mod Ends
+pub mod Floors
 mod Lines
 mod Logs
 mod Tabs

@@ -20,6 +20,7 @@ line_error_name line.BadOffset = codes "BadOffset"
 
 abbrev pub log_fault_name : LogFault → List ℕ
 log_fault_name (fault.Line e) = line_error_name e
+log_fault_name fault.BadFloor = codes "BadFloor"
 log_fault_name fault.TooManyLines = codes "TooManyLines"
 
 abbrev pub read_line_error_text : ReadLineError → List ℕ

@@ -1,5 +1,6 @@
 pub mod Device
 pub mod Errors
+pub mod Floor
 pub mod Json
 pub mod Key
 pub mod Line

@@ -1,9 +1,10 @@
--- A log is the lines of a text up to an empty line or the end of the text.
+-- A log is the lines of a text up to an empty line or the end of the text; the first may say its floor.
 use Rattle.std.specs.Prelude.{◌≡◌, ◌⊎◌, ℕ, suc, ◌+◌, ◌*◌, ◌≤◌, max, List, [], ◌∷◌, ◌++◌, Bool, ◌==◌, nat_lt, length, count_by, fold, Option, Some, None, is_none, IfSome, OnSome, Result, Ok, Err, if◌then◌else◌}
 use Rattle.std.specs.List.{filter_map, join_with_byte, slice_split}
 use Rattle.std.specs.Result.{result_map_both}
 use Rattle.std.specs.Io.KnownBytes.{Consumes, IsAtEnd}
 use Rattle.reg_records.specs.Device.{BeganAfter, HasReadMore, all_reads_of, counted, faults_of, reads_of}
+use Rattle.reg_records.specs.Floor.{is_floor_line, floor_reading}
 use Rattle.reg_records.specs.Line.{is_line_feed, reading}
 use Rattle.reg_records.specs.declared.device.Device.{Device}
 use Rattle.reg_records.specs.declared.log.Log.{Log}
@@ -18,8 +19,9 @@ use Rattle.reg_records.specs.declared.record.Record.{Record}
 use Rattle.reg_records.specs.declared.record.Read.{Read}
 use Rattle.reg_records.specs.declared.record.Read.TheVariants as reads
 
--- what the lines of a log say, in their order, and the bytes after its empty line
+-- what the lines of a log say: its floor, 0 where none says one, and what the others say, in their order; and the bytes after its empty line
 pub record LogText : Type 0 where
+  pub floor : ℕ
   pub reads : List Read
   pub rest : List ℕ
 
@@ -30,14 +32,25 @@ line_then number (Ok read) more = result_map_both (λ (log : LogText). record lo
 
 -- the log that begins with the line of that number; a line past the most that a log has is one too many, whatever it says, and the last line has no LF
 abbrev pub log_from : ℕ → List (List ℕ) → Result LogText (ℕ × LogFault)
-log_from number [] = Ok (record { reads = []; rest = [] })
-log_from number (line ∷ lines) = if length line == 0 then Ok (record { reads = []; rest = join_with_byte 10 lines })
+log_from number [] = Ok (record { floor = 0; reads = []; rest = [] })
+log_from number (line ∷ lines) = if length line == 0 then Ok (record { floor = 0; reads = []; rest = join_with_byte 10 lines })
     else (if nat_lt LOG_LINES number then Err (number, faults.TooManyLines)
     else line_then number (if length lines == 0 then Err Truncated else reading line) (log_from (suc number) lines))
 
+-- the floor that the first line says, before what the lines after it say
+abbrev pub floor_then : Result ℕ LogFault → Result LogText (ℕ × LogFault) → Result LogText (ℕ × LogFault)
+floor_then (Err fault) more = Err (1, fault)
+floor_then (Ok floor) more = result_map_both (λ (log : LogText). record log { floor = floor }) (λ fault. fault) more
+
+-- the log of some lines: where the first one begins as a floor's, it says the floor
+abbrev pub log_at : List (List ℕ) → Result LogText (ℕ × LogFault)
+log_at [] = log_from 1 []
+log_at (line ∷ lines) = if is_floor_line line then floor_then (if length lines == 0 then Err (faults.Line Truncated) else floor_reading line) (log_from 2 lines)
+    else log_from 1 (line ∷ lines)
+
 -- the log at the front of a text, whose lines are what stands before, between and after its LFs, or the number of its first line that has a fault, and the fault
 abbrev pub log_of : List ℕ → Result LogText (ℕ × LogFault)
-log_of text = log_from 1 (slice_split is_line_feed text)
+log_of text = log_at (slice_split is_line_feed text)
 
 abbrev pub record_in : Read → Option Record
 record_in (reads.Record r) = Some r
@@ -58,11 +71,16 @@ records_in read = filter_map record_in read
 abbrev pub next_after : List Read → ℕ
 next_after read = fold (λ next r. max next (suc (offset_in r))) 0 read
 
--- the log holds what its lines say
-pub record IsLogOf (read : List Read) (log : Log) : Type 0 where
+-- the next offset: the greater of the floor and of one more than the greatest offset
+abbrev pub next_of : ℕ → List Read → ℕ
+next_of floor read = max floor (next_after read)
+
+-- the log holds that floor, and what its lines say
+pub record IsLogOf (given : ℕ) (read : List Read) (log : Log) : Type 0 where
   pub records : log.records.items ≡ records_in read
   pub foreign : log.foreign ≡ count_by is_foreign read
-  pub next : log.next ≡ next_after read
+  pub floor : log.floor ≡ given
+  pub next : log.next ≡ next_of given read
 
 -- a fault was counted, or none was and the last line took as many reads as one may, made since
 abbrev pub LosesLine : {R : Type 0} → Device R → Device R → Type 0

@@ -2,6 +2,7 @@
 #![tactic(auto)]
 
 mod device;
+mod floor;
 mod key;
 mod limits;
 mod line;
@@ -18,6 +19,7 @@ mod value_text;
 mod write;
 
 pub use device::Device;
+pub use floor::{floors_are_of_the_grammar, is_floor_line, write_floor};
 pub use key::{Key, written_keys_are_apart};
 pub use limits::{
     LINE_LIMIT, LINE_READS, LOG_LINES, NUMBER_LIMIT, OFFSET_LIMIT, limits_are_as_written,

@@ -161,7 +161,7 @@ fn parts_of(line: &[u8]) -> Result<(u64, &str, &str), LineError>
 }
 
 /// The text that the bytes are, if they are UTF-8.
-fn text_of(line: &[u8]) -> Option<&str>
+pub(crate) fn text_of(line: &[u8]) -> Option<&str>
     ensures { MatchOption result (is_utf8 line.now ≡ false)
         (λ text. (is_utf8 line.now ≡ true) × (text.now ≡ line.now)) }
 {
@@ -193,7 +193,7 @@ pub(crate) fn is_free_of(bytes: &[u8], byte: u8) -> bool
 }
 
 /// The offset that a field spells, within the limit.
-fn offset_of(field: &str) -> Option<u64>
+pub(crate) fn offset_of(field: &str) -> Option<u64>
     ensures value { result ≡ offset_of field.now }
     ensures within { IfSome result (λ offset. offset ≤ OFFSET_LIMIT) }
 {

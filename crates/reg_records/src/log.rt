@@ -1,5 +1,5 @@
 // Logs: the lines of a topic, up to an empty line or the end of the input.
-ghost use Rattle.std.specs.Prelude.{◌≡◌, All, ◌<◌};
+ghost use Rattle.std.specs.Prelude.{◌≡◌, All, ◌<◌, ◌≤◌};
 
 use crate::limits::{LOG_LINES, OFFSET_LIMIT};
 use crate::line::LineError;
@@ -15,15 +15,20 @@ pub struct Log {
     pub records: Vec<Record>,
     /// How many of its lines have a key that is none known here.
     pub foreign: u64,
-    /// One more than the greatest offset of its lines, or 0.
+    /// The offset that its first line says as its floor, or 0.
+    pub floor: u64,
+    /// The next offset: the greater of the floor and of one more than the greatest offset of its lines.
     pub next: u64,
     pub ghost ahead: { All (λ r. r.offset < next) records.items },
+    pub ghost above: { floor ≤ next },
 }
 
 /// What is wrong with a line of a log.
 #[derive(Clone, Copy, Debug, PartialEq, Eq)]
 pub enum LogFault {
     Line(LineError),
+    /// The first line begins with `floor` and a TAB, and what stands behind isn't an offset alone.
+    BadFloor,
     /// The log has more than `LOG_LINES` lines.
     TooManyLines,
 }
@@ -48,6 +53,7 @@ impl LogFault {
     {
         match self {
             LogFault::Line(e) => e.name(),
+            LogFault::BadFloor => "BadFloor",
             LogFault::TooManyLines => "TooManyLines",
         }
     }
@@ -94,19 +100,29 @@ impl From<AllocError> for LogError {
 }
 
 impl Log {
-    ghost use Rattle.std.specs.Prelude.{[], ◌≤◌, OnOk};
+    ghost use Rattle.std.specs.Prelude.{[], OnOk};
     ghost use Rattle.reg_records.specs.Log.{IsLogOf, offset_in};
     ghost use Rattle.reg_records.specs.LogSteps.{AddsRead};
 
     /// A log without lines.
     pub(crate) fn new(alloc: Global) -> Log
-        ensures { IsLogOf [] result }
+        ensures { IsLogOf 0 [] result }
     {
         Log {
             records: Vec::new(alloc),
             foreign: 0,
+            floor: 0,
             next: 0,
         }
+    }
+
+    /// Sets the floor of a log without lines.
+    pub(crate) fn begin_at(&mut self, floor: u64)
+        requires { IsLogOf 0 [] self.old }
+        ensures { IsLogOf floor [] self.new }
+    {
+        self.next = floor;
+        self.floor = floor;
     }
 
     /// Adds what a line says.

@@ -1,13 +1,15 @@
 // Reading a log line by line.
-ghost use Rattle.std.specs.Prelude.{◌≡◌, ◌<◌, ◌≤◌, ◌+◌, ℕ, List, length, IfOk, IfErr, OnOk, IfSome, Some, Ok, nat_lt, if◌then◌else◌};
+ghost use Rattle.std.specs.Prelude.{◌≡◌, ◌<◌, ◌≤◌, ◌+◌, ℕ, List, [], length, true, IfOk, IfErr, OnOk, IfSome, MatchOption, Some, Ok, nat_lt, if◌then◌else◌};
 ghost use Rattle.reg_records.specs.Device.{KeepsEnd, KeepsReads, bytes_in, faults_of, reads_of, source_of};
+ghost use Rattle.reg_records.specs.Floor.{floor_reading, is_floor_line};
 ghost use Rattle.reg_records.specs.Line.{IsFaultOf, reading};
 ghost use Rattle.reg_records.specs.Log.{LogText, log_of, IsLogOf, IsLogRefusal, ReadsFewTimes, offset_in};
-ghost use Rattle.reg_records.specs.LogSteps.{StepsLog, IsStepRefusal, IsLineRefusal};
+ghost use Rattle.reg_records.specs.LogSteps.{BeginsLog, IsFirstRefusal, IsLineRefusal, IsStepRefusal, IsTakeRefusal, StartsLog, StepsLog, TakesLogLine};
 ghost use Rattle.reg_records.specs.Pieces.{Holds};
 
 use crate::device::Device;
-use crate::limits::{LINE_READS, LOG_LINES, OFFSET_LIMIT};
+use crate::floor::{floor_in, is_floor_line};
+use crate::limits::{LINE_LIMIT, LINE_READS, LOG_LINES, OFFSET_LIMIT};
 use crate::line::{LineError, ReadLineError, read_whole_line};
 use crate::line_reader::{NextLine, take_line};
 use crate::log::{Log, LogError, LogFault};
@@ -16,28 +18,54 @@ use crate::record::Read;
 use std::alloc::Global;
 use std::io::BufRead;
 
-/// Reads the log at the front of `reader`: lines up to an empty line or the end of the input. What
-/// stands after the empty line is left unread.
+/// Reads the log at the front of `reader`: lines up to an empty line or the end of the input, of which
+/// the first may say the log's floor. What stands after the empty line is left unread.
 ///
 /// A line past its limit is read to its LF, its bytes dropped, before its fault is told. The count of
 /// reads begins anew at each line.
 pub fn read_log<R: BufRead>(alloc: Global, reader: &mut Device<R>) -> Result<Log, LogError>
     ensures read { IfOk result (λ log. IfSome (bytes_in R.remaining reader.old) (λ text. (found : LogText)
-        × (log_of text ≡ Ok found) × IsLogOf found.reads log × (bytes_in R.remaining reader.new ≡ Some found.rest))) }
+        × (log_of text ≡ Ok found) × IsLogOf found.floor found.reads log × (bytes_in R.remaining reader.new ≡ Some found.rest))) }
     ensures refused { IfErr result
         (IsLogRefusal reader.old reader.new (bytes_in R.remaining reader.old) (bytes_in R.remaining reader.new)) }
     ensures faults { OnOk result (faults_of reader.new ≡ faults_of reader.old) }
     ensures end { OnOk result (KeepsEnd R.remaining reader.old reader.new) }
     ensures bound { reads_of reader.new ≤ LINE_READS }
     ensures counted { OnOk result (KeepsReads reader.old reader.new) }
-    ensures reads { IfOk result (λ log. ReadsFewTimes reader.old reader.new (length log.records.items + log.foreign + 1)) }
+    ensures reads { IfOk result (λ log. ReadsFewTimes reader.old reader.new (length log.records.items + log.foreign + 2)) }
 {
     let mut log = Log::new(alloc);
-    let mut number = 1;
-    while read_next(alloc, reader, number, &mut log)? {
-        number += 1;
+    if read_first(alloc, reader, &mut log)? {
+        let mut number = 2;
+        while read_next(alloc, reader, number, &mut log)? {
+            number += 1;
+        }
     }
     Ok(log)
+}
+
+/// Reads the first line into a log without lines, and tells whether the log goes on.
+fn read_first<R: BufRead>(
+    alloc: Global,
+    reader: &mut Device<R>,
+    log: &mut Log,
+) -> Result<bool, LogError>
+    requires { IsLogOf 0 [] log.old }
+    ensures step { IfOk result
+        (StartsLog (source_of R.remaining reader.old) (source_of R.remaining reader.new) log.new) }
+    ensures refused { IfErr result
+        (IsLogRefusal reader.old reader.new (bytes_in R.remaining reader.old) (bytes_in R.remaining reader.new)) }
+    ensures faults { OnOk result (faults_of reader.new ≡ faults_of reader.old) }
+    ensures end { OnOk result (KeepsEnd R.remaining reader.old reader.new) }
+    ensures bound { reads_of reader.new ≤ LINE_READS }
+    ensures reads { KeepsReads reader.old reader.new }
+    ensures few { ReadsFewTimes reader.old reader.new 1 }
+{
+    let Some(line) = take_numbered(alloc, reader, 1)? else {
+        return Ok(false);
+    };
+    begin(alloc, &line, log)?;
+    Ok(true)
 }
 
 /// Reads the line of that number into the log, and tells whether the log goes on.
@@ -59,20 +87,67 @@ fn read_next<R: BufRead>(
     ensures reads { KeepsReads reader.old reader.new }
     ensures few { ReadsFewTimes reader.old reader.new 1 }
 {
+    let Some(line) = take_numbered(alloc, reader, number)? else {
+        return Ok(false);
+    };
+    let read = read_numbered(alloc, number, &line)?;
+    log.add(read)?;
+    Ok(true)
+}
+
+/// Takes the line of that number, which has some bytes; `None` is the end of the log.
+fn take_numbered<R: BufRead>(
+    alloc: Global,
+    reader: &mut Device<R>,
+    number: u64,
+) -> Result<Option<LineBuffer>, LogError>
+    ensures taken { IfOk result (TakesLogLine (source_of R.remaining reader.old) (source_of R.remaining reader.new)) }
+    ensures refused { IfErr result
+        (IsTakeRefusal number reader.old reader.new (bytes_in R.remaining reader.old) (bytes_in R.remaining reader.new)) }
+    ensures faults { OnOk result (faults_of reader.new ≡ faults_of reader.old) }
+    ensures end { OnOk result (KeepsEnd R.remaining reader.old reader.new) }
+    ensures bound { reads_of reader.new ≤ LINE_READS }
+    ensures reads { KeepsReads reader.old reader.new }
+    ensures few { ReadsFewTimes reader.old reader.new 1 }
+{
     let Some(next) = take_line(alloc, reader)? else {
         return Err(LogError::ReadFault { line: number });
     };
     let line = match next {
-        NextLine::End => return Ok(false),
+        NextLine::End => return Ok(None),
         NextLine::Unended => return Err(fault_at(number, LineError::Truncated)),
         NextLine::Line(line) => line,
     };
     if line.is_empty() {
-        return Ok(false);
+        return Ok(None);
     }
-    let read = read_numbered(alloc, number, &line)?;
-    log.add(read)?;
-    Ok(true)
+    Ok(Some(line))
+}
+
+/// Begins a log with what its first line says, which may be its floor.
+fn begin(alloc: Global, line: &LineBuffer, log: &mut Log) -> Result<(), LogError>
+    requires { IsLogOf 0 [] log.old }
+    ensures said { (bytes : List ℕ) → Holds line.now bytes → OnOk result (BeginsLog bytes log.new) }
+    ensures refused { (bytes : List ℕ) → Holds line.now bytes → IfErr result (IsFirstRefusal bytes) }
+{
+    match floor_of(line) {
+        Some(Ok(floor)) => log.begin_at(floor),
+        Some(Err(fault)) => return Err(LogError::Fault { line: 1, fault }),
+        None => log.add(read_numbered(alloc, 1, line)?)?,
+    }
+    Ok(())
+}
+
+/// What a line says that begins as a floor's does; one that is too long is `None`.
+fn floor_of(line: &LineBuffer) -> Option<Result<u64, LogFault>>
+    ensures { (bytes : List ℕ) → Holds line.now bytes → MatchOption result
+        (is_floor_line bytes ≡ true → LINE_LIMIT < length bytes)
+        (λ said. (is_floor_line bytes ≡ true) × (said ≡ floor_reading bytes)) }
+{
+    match line.within_limit() {
+        Some(bytes) if is_floor_line(bytes) => Some(floor_in(bytes)),
+        _ => None,
+    }
 }
 
 /// What the line of that number says.

@@ -9,14 +9,17 @@ use Rattle.reg_leader.specs.Step.{IsStep}
 use Rattle.reg_leader.specs.declared.command.Command.{Command}
 use Rattle.reg_leader.specs.declared.reply.Reply.{Reply}
 use Rattle.reg_leader.specs.declared.reply.Reply.TheVariants as replies
-use Rattle.reg_topic.specs.Topic.{MayFollow, after_item, after_items, may_drop, registry_of}
+use Rattle.reg_topic.specs.Topic.{MayFollow, after_item, after_items, may_compact, registry_of}
+use Rattle.reg_topic.specs.declared.published.Compaction.{Compaction}
 use Rattle.reg_topic.specs.declared.published.Item.{Item}
 use Rattle.reg_topic.specs.declared.published.Item.TheVariants as items
 use Rattle.reg_topic.specs.declared.topic.Topic.{Topic}
-use Rattle.reg_pen.specs.Pen.{Acts, Compacts, Follows, IsNoMemory, IsPen, LeavesCompaction, Pends, PenState, StillPends, Submits, item_of, settled}
+use Rattle.reg_pen.specs.Pen.{Acts, Compacts, Follows, IsCompactRefusal, IsNoMemory, IsPen, LeavesCompaction, Pends, PenState, StillPends, Submits, item_of, settled}
+use Rattle.reg_pen.specs.declared.compact_error.CompactError.{CompactError}
+use Rattle.reg_pen.specs.declared.compact_error.CompactError.TheVariants as refused
 use Rattle.reg_pen.specs.declared.keep.Kept.{Kept}
 use Rattle.reg_pen.specs.declared.keep.Kept.TheVariants.{Taken, Declined, Lost}
-use Rattle.reg_running.specs.Calls.{ActsAddUp, ActsAreLawful, Added, CompactionsAreActs, IsNoOutcome, IsToldOf, LawfulListsAreOfActs, SubmitsAreActs}
+use Rattle.reg_running.specs.Calls.{ActsAddUp, ActsAreLawful, Added, CompactionsAreActs, CompactsOrNot, IsNoOutcome, IsToldOf, LawfulListsAreOfActs, SubmitsAreActs}
 use Rattle.reg_running.specs.Running.{Act, AreActs, Carried, Dropped, items_of, published}
 
 -- acts, and more acts
@@ -39,8 +42,8 @@ carries : (count node : ℕ) (base : Topic) (before after : List Item) (command 
     → Added count base before after (Carried node command reply batch ∷ [])
 carries count node base before after command reply batch there step e = record { are = ((there, step), tt); list = e ∙ ap (λ l. before ++ l) (sym (append-nil (item_of command batch))) }
 
-drops : (count : ℕ) (base : Topic) (before after : List Item) (records : List Record) → may_drop (after_items base before).kept records ≡ true → after ≡ before ++ items.Compaction records ∷ [] → Added count base before after (Dropped records ∷ [])
-drops count base before after records may e = record { are = (may, tt); list = e }
+drops : (count : ℕ) (base : Topic) (before after : List Item) (c : Compaction) → may_compact (after_items base before) c ≡ true → after ≡ before ++ items.Compaction c ∷ [] → Added count base before after (Dropped c ∷ [])
+drops count base before after c may e = record { are = (may, tt); list = e }
 
 -- an item that may follow is published by an act
 commit_act : (count node : ℕ) (base : Topic) (before after : List Item) (command : Command) (reply : Reply) (batch : List Record) → node < count → (batch ≡ [] → ⊥)
@@ -51,7 +54,7 @@ commit_act count node base before after command reply (r ∷ rs) there writes st
 
 item_act : (count node : ℕ) (base : Topic) (before after : List Item) (i : Item) → node < count → MayFollow (after_items base before) i → after ≡ before ++ i ∷ [] → (acts : List Act) × Added count base before after acts
 item_act count node base before after (items.Commit commit) there may e = commit_act count node base before after commit.command may.reply commit.batch there may.writes may.step e
-item_act count node base before after (items.Compaction records) there may e = (Dropped records ∷ [], drops count base before after records may e)
+item_act count node base before after (items.Compaction c) there may e = (Dropped c ∷ [], drops count base before after c may e)
 
 -- what was pending is published by acts
 pending_acts : (count node : ℕ) (base : Topic) (before : List Item) (pending : List Item) → node < count → Pends (after_items base before) pending → (acts : List Act) × Added count base before (before ++ pending) acts
@@ -65,9 +68,9 @@ no_outcome reply e = subst IsNoOutcome (sym e) tt
 still_none : (pending : List Item) (reply : Reply) → StillPends pending reply → IsNoOutcome reply
 still_none [] reply h = absurd h
 still_none (items.Commit commit ∷ []) reply h = subst IsNoOutcome (sym h.3) tt
-still_none (items.Compaction records ∷ []) reply h = no_outcome reply h
+still_none (items.Compaction c ∷ []) reply h = no_outcome reply h
 still_none (items.Commit commit ∷ j ∷ is) reply h = absurd h
-still_none (items.Compaction records ∷ j ∷ is) reply h = absurd h
+still_none (items.Compaction c ∷ j ∷ is) reply h = absurd h
 
 module _ {K : Type 0} (count node : ℕ) (there : node < count) (base : Topic) where
   -- what a call adds where the batch follows so
@@ -111,23 +114,32 @@ module _ {K : Type 0} (count node : ℕ) (there : node < count) (base : Topic) w
   submits_so keeps since l m command reply pen (inr (behind, inr acts)) =
       behind_pending l.published (l.published ++ l.pending) m command reply (pending_acts count node base l.published l.pending there pen.pends) (acts_so keeps (settled l) m command reply acts.1)
 
-  compacts_so : (l m : PenState K) → IsPen base l.published l.pending → Compacts base l m ⊎ LeavesCompaction base l m → (acts : List Act) × Added count base l.published m.published acts
-  compacts_so l m pen (inl done) =
-      let p = pending_acts count node base l.published l.pending there pen.pends in (
-        p.0 ++ Dropped done.0 ∷ [],
-        added_more count base l.published (l.published ++ l.pending) m.published p.0 (Dropped done.0 ∷ []) p.1 (drops count base (l.published ++ l.pending) m.published done.0 done.2.may_go (ap (λ (s : PenState K). s.published) done.3)),
-      )
-  compacts_so l m pen (inr (inl same)) = ([], added_none count base l.published m.published (ap (λ (s : PenState K). s.published) same))
-  compacts_so l m pen (inr (inr (inl settles))) =
+  leaves_so : (floor : ℕ) (l m : PenState K) → IsPen base l.published l.pending → LeavesCompaction base floor l m → (acts : List Act) × Added count base l.published m.published acts
+  leaves_so floor l m pen (inl same) = ([], added_none count base l.published m.published (ap (λ (s : PenState K). s.published) same))
+  leaves_so floor l m pen (inr (inl settles)) =
       let p = pending_acts count node base l.published l.pending there pen.pends in (p.0, subst (λ is. Added count base l.published is p.0) (sym (ap (λ (s : PenState K). s.published) settles.1)) p.1)
-  compacts_so l m pen (inr (inr (inr waits))) =
+  leaves_so floor l m pen (inr (inr waits)) =
       let p = pending_acts count node base l.published l.pending there pen.pends in (p.0, subst (λ is. Added count base l.published is p.0) (sym (ap (λ (s : PenState K). s.published) waits.3)) p.1)
+
+  refused_so : (floor : ℕ) (l m : PenState K) (error : CompactError) → IsPen base l.published l.pending → IsCompactRefusal base floor l error m → (acts : List Act) × Added count base l.published m.published acts
+  refused_so floor l m (refused.FloorBelow kept) pen h = ([], added_none count base l.published m.published (ap (λ (s : PenState K). s.published) h.2))
+  refused_so floor l m (refused.FloorAhead next) pen h = ([], added_none count base l.published m.published (ap (λ (s : PenState K). s.published) h.3))
+  refused_so floor l m refused.Unsettled pen h = leaves_so floor l m pen h.1
+
+  compacts_so : (floor : ℕ) (l m : PenState K) → IsPen base l.published l.pending → CompactsOrNot base floor l m → (acts : List Act) × Added count base l.published m.published acts
+  compacts_so floor l m pen (inl done) =
+      let p = pending_acts count node base l.published l.pending there pen.pends in
+      let c : Compaction = record { floor = floor; dropped = done.0 } in (
+        p.0 ++ Dropped c ∷ [],
+        added_more count base l.published (l.published ++ l.pending) m.published p.0 (Dropped c ∷ []) p.1 (drops count base (l.published ++ l.pending) m.published c done.2.may_be (ap (λ (s : PenState K). s.published) done.3)),
+      )
+  compacts_so floor l m pen (inr h) = refused_so floor l m h.0 pen h.1
 
 pub submits_are_acts : {K : Type 0} (keeps : K → List Record → Kept → K → Type 0) → SubmitsAreActs keeps
 submits_are_acts keeps base since l m command reply count node there pen h = submits_so count node there base keeps since l m command reply pen h
 
 pub compactions_are_acts : (K : Type 0) → CompactionsAreActs K
-compactions_are_acts K base l m count some pen h = compacts_so count 0 some base l m pen h
+compactions_are_acts K base floor l m count some pen h = compacts_so count 0 some base floor l m pen h
 
 -- Lawful lists.
 pub lists_are_of_acts : LawfulListsAreOfActs
@@ -147,4 +159,4 @@ acts_are_lawful base (Carried node command reply (r ∷ rs) ∷ acts) count h = 
   record { reply = reply; step = h.0.1; writes = λ e. cc },
   acts_are_lawful (after_item base (items.Commit (record { command = command; batch = r ∷ rs }))) acts count h.1,
 )
-acts_are_lawful base (Dropped records ∷ acts) count h = (h.0, acts_are_lawful (after_item base (items.Compaction records)) acts count h.1)
+acts_are_lawful base (Dropped c ∷ acts) count h = (h.0, acts_are_lawful (after_item base (items.Compaction c)) acts count h.1)

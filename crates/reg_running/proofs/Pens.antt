@@ -9,10 +9,12 @@ use Rattle.reg_leader.specs.declared.reply.Reply.TheVariants as replies
 use Rattle.reg_topic.specs.Topic.{IsLawful, after_item, after_items, registry_of}
 use Rattle.reg_topic.specs.declared.published.Item.{Item}
 use Rattle.reg_topic.specs.declared.topic.Topic.{Topic}
-use Rattle.reg_pen.specs.Pen.{Acts, Compacts, Follows, IsPen, LeavesCompaction, Pends, PenState, Submits, item_of, settled}
+use Rattle.reg_pen.specs.Pen.{Acts, Follows, IsCompactRefusal, IsPen, LeavesCompaction, Pends, PenState, Submits, item_of, settled}
+use Rattle.reg_pen.specs.declared.compact_error.CompactError.{CompactError}
+use Rattle.reg_pen.specs.declared.compact_error.CompactError.TheVariants as refused
 use Rattle.reg_pen.specs.declared.keep.Kept.{Kept}
 use Rattle.reg_pen.specs.declared.keep.Kept.TheVariants.{Taken, Declined, Lost}
-use Rattle.reg_running.specs.Calls.{Added, CallsKeepPens}
+use Rattle.reg_running.specs.Calls.{Added, CallsKeepPens, CompactsOrNot}
 use Rattle.reg_running.specs.Running.{Act, published}
 use Rattle.reg_running.proofs.Acts.{acts_are_lawful, compactions_are_acts, submits_are_acts}
 
@@ -47,26 +49,34 @@ module _ {K : Type 0} (base : Topic) where
   submits_pend keeps since l m command reply pends (inr (behind, inl still)) = subst (PendsRight base) (sym still.1) pends
   submits_pend keeps since l m command reply pends (inr (behind, inr acts)) = acts_pend keeps (settled l) m command reply tt acts.1
 
-  compacts_pend : (l m : PenState K) → PendsRight base l → Compacts base l m ⊎ LeavesCompaction base l m → PendsRight base m
-  compacts_pend l m pends (inl done) = subst (PendsRight base) (sym done.3) tt
-  compacts_pend l m pends (inr (inl same)) = subst (PendsRight base) (sym same) pends
-  compacts_pend l m pends (inr (inr (inl settles))) = subst (PendsRight base) (sym settles.1) tt
-  compacts_pend l m pends (inr (inr (inr waits))) = subst (PendsRight base) (sym waits.3) waits.2.may_go
+  leaves_pend : (floor : ℕ) (l m : PenState K) → PendsRight base l → LeavesCompaction base floor l m → PendsRight base m
+  leaves_pend floor l m pends (inl same) = subst (PendsRight base) (sym same) pends
+  leaves_pend floor l m pends (inr (inl settles)) = subst (PendsRight base) (sym settles.1) tt
+  leaves_pend floor l m pends (inr (inr waits)) = subst (PendsRight base) (sym waits.3) waits.2.may_be
 
-  calls_so : (keeps : K → List Record → Kept → K → Type 0) (since : Option (Bor (List Item))) (l m : PenState K) (command : Command) (reply : Reply) → IsPen base l.published l.pending
-      → Submits keeps base since l command reply m ⊎ Compacts base l m ⊎ LeavesCompaction base l m → IsPen base m.published m.pending
-  calls_so keeps since l m command reply pen (inl submits) =
+  refused_pend : (floor : ℕ) (l m : PenState K) (error : CompactError) → PendsRight base l → IsCompactRefusal base floor l error m → PendsRight base m
+  refused_pend floor l m (refused.FloorBelow kept) pends h = subst (PendsRight base) (sym h.2) pends
+  refused_pend floor l m (refused.FloorAhead next) pends h = subst (PendsRight base) (sym h.3) pends
+  refused_pend floor l m refused.Unsettled pends h = leaves_pend floor l m pends h.1
+
+  compacts_pend : (floor : ℕ) (l m : PenState K) → PendsRight base l → CompactsOrNot base floor l m → PendsRight base m
+  compacts_pend floor l m pends (inl done) = subst (PendsRight base) (sym done.3) tt
+  compacts_pend floor l m pends (inr h) = refused_pend floor l m h.0 pends h.1
+
+  calls_so : (keeps : K → List Record → Kept → K → Type 0) (since : Option (Bor (List Item))) (l m : PenState K) (command : Command) (reply : Reply) (floor : ℕ) → IsPen base l.published l.pending
+      → Submits keeps base since l command reply m ⊎ CompactsOrNot base floor l m → IsPen base m.published m.pending
+  calls_so keeps since l m command reply floor pen (inl submits) =
       let acts = submits_are_acts keeps base since l m command reply 1 0 (omega arith) pen submits in record {
         adopted = pen.adopted;
         lawful = still_lawful 1 base l.published m.published acts.0 pen.lawful acts.1;
         pends = submits_pend keeps since l m command reply pen.pends submits;
       }
-  calls_so keeps since l m command reply pen (inr compacts) =
-      let acts = compactions_are_acts K base l m 1 (omega arith) pen compacts in record {
+  calls_so keeps since l m command reply floor pen (inr compacts) =
+      let acts = compactions_are_acts K base floor l m 1 (omega arith) pen compacts in record {
         adopted = pen.adopted;
         lawful = still_lawful 1 base l.published m.published acts.0 pen.lawful acts.1;
-        pends = compacts_pend l m pen.pends compacts;
+        pends = compacts_pend floor l m pen.pends compacts;
       }
 
 pub calls_keep_pens : {K : Type 0} (keeps : K → List Record → Kept → K → Type 0) → CallsKeepPens keeps
-calls_keep_pens keeps base since l m command reply pen h = calls_so base keeps since l m command reply pen h
+calls_keep_pens keeps base since l m command reply floor pen h = calls_so base keeps since l m command reply floor pen h

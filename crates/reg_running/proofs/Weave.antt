@@ -6,10 +6,12 @@ use Rattle.std.specs.List.{AllByRecursion}
 use mathlib.Core.List.{IsPrefix}
 use Rattle.reg_topic.specs.declared.published.Item.{Item}
 use Rattle.reg_shared.specs.Held.{Held}
-use Rattle.reg_node.specs.Takes.{AreDrawn}
-use Rattle.reg_running.specs.Running.{Act, Carried, Dropped, Deed, Drew, Told, IsRunningNode, items_of, published, takes}
-use Rattle.reg_running.specs.Woven.{ByNode, ByPen, Done, AreInPlace, RunningNodesAreWoven, acts_in, deeds_of}
-use Rattle.reg_running.proofs.Drawn.{all_upto, behind, both_parts, drawn_behind, drawn_longer, upto}
+use Rattle.std.specs.FinSet.{empty}
+use Rattle.reg_set.specs.Records.{Records}
+use Rattle.reg_node.specs.Takes.{AreDrawn, floor_with, with_draw}
+use Rattle.reg_running.specs.Running.{Act, Carried, Dropped, Deed, Drew, Told, IsRunningNode, items_of, published, draws}
+use Rattle.reg_running.specs.Woven.{ByNode, ByPen, Done, AreInPlace, RunningNodesAreWoven, acts_in, deeds_of, read_of}
+use Rattle.reg_running.proofs.Drawn.{AnyDrawn, all_upto, behind, both_parts, drawn_behind, drawn_longer, read_is, upto}
 use Rattle.reg_running.proofs.Lists.{at_most, other_deeds, own_deeds, prefix_length}
 
 abbrev deeds_done : ℕ → ℕ → List (List Deed) → List Done
@@ -84,31 +86,33 @@ behind_at read (suc i) (ds ∷ lists) = behind_at read i lists
 one_item : (a : Act) → length (items_of a) ≤ 1
 one_item (Carried node command reply []) = omega arith
 one_item (Carried node command reply (r ∷ rs)) = omega arith
-one_item (Dropped records) = omega arith
+one_item (Dropped c) = omega arith
 
 module _ (first : Held) (g : List Item) where
   -- what each node has yet to do is drawn behind that front
   abbrev AllDrawn : List Item → List (List Deed) → Type 0
-  AllDrawn from lists = AllByRecursion (λ ds. AreDrawn first from (takes ds) g) lists
+  AllDrawn from lists = AllByRecursion (λ ds. AnyDrawn first from (draws ds) g) lists
 
   upto_at : (from : List Item) (read i : ℕ) (lists : List (List Deed)) → length g ≤ read → AllDrawn from lists → upto read (get_or lists i []) ≡ get_or lists i []
   upto_at from read i [] h all = refl
-  upto_at from read zero (ds ∷ lists) h all = all_upto first read from g ds h all.0
+  upto_at from read zero (ds ∷ lists) h all = all_upto first all.0.0 all.0.1 read from g ds h all.0.2
   upto_at from read (suc i) (ds ∷ lists) h all = upto_at from read i lists h all.1
 
   all_behind : (from next : List Item) (read : ℕ) (lists : List (List Deed)) → IsPrefix next g → length next ≤ suc read → AllDrawn from lists → AllDrawn next (map (behind read) lists)
   all_behind from next read [] p h all = tt
-  all_behind from next read (ds ∷ lists) p h all = (drawn_behind first read from next g ds p h all.0, all_behind from next read lists p h all.1)
+  all_behind from next read (ds ∷ lists) p h all = (drawn_behind first all.0.0 all.0.1 read from next g ds p h all.0.2, all_behind from next read lists p h all.1)
 
-  -- the takes up to there are in their place
-  deeds_in_place : (from : List Item) (read node : ℕ) (ds : List Deed) (rest : List Done) → read ≡ length from → AreDrawn first from (takes ds) g → AreInPlace read rest → AreInPlace read (map (ByNode node) (upto read ds) ++ rest)
-  deeds_in_place from read node [] rest is d places = places
-  deeds_in_place from read node (Told query answer ∷ ds) rest is d places = deeds_in_place from read node ds rest is d places
-  deeds_in_place from read node (Drew t ∷ ds) rest is d places =
-      elim (nat_le t.read read) as (λ b. nat_le t.read read ≡ b → AreInPlace read (map (ByNode node) (if b then Drew t ∷ upto read ds else []) ++ rest)) [
+  -- the draws up to there are in their place
+  deeds_in_place : (s : Records) (floor : ℕ) (from : List Item) (read node : ℕ) (ds : List Deed) (rest : List Done) → read ≡ length from → AreDrawn first s floor from (draws ds) g → AreInPlace read rest
+      → AreInPlace read (map (ByNode node) (upto read ds) ++ rest)
+  deeds_in_place s floor from read node [] rest is d places = places
+  deeds_in_place s floor from read node (Told query answer ∷ ds) rest is d places = deeds_in_place s floor from read node ds rest is d places
+  deeds_in_place s floor from read node (Drew t ∷ ds) rest is d places =
+      elim (nat_le (read_of t) read) as (λ b. nat_le (read_of t) read ≡ b → AreInPlace read (map (ByNode node) (if b then Drew t ∷ upto read ds else []) ++ rest)) [
         | true ↦ λ low.
-            let place : t.read ≡ read = omega (arith, at_most t.read read low, d.2, is, prefix_length from d.0 d.1) in
-            (place, deeds_in_place d.0 read node ds rest (omega (arith, place, d.2)) d.4 places)
+            let at = read_is first d.0 s floor t d.2 in
+            let place : read_of t ≡ read = omega (arith, at_most (read_of t) read low, at, is, prefix_length from d.0 d.1) in
+            (place, deeds_in_place (with_draw s t) (floor_with floor t) d.0 read node ds rest (omega (arith, place, at)) d.3 places)
         | false ↦ λ _. places
       ] refl
 
@@ -116,7 +120,7 @@ module _ (first : Held) (g : List Item) where
   all_in_place from read node [] rest is all places = places
   all_in_place from read node (ds ∷ lists) rest is all places =
       subst (AreInPlace read) (sym (append_assoc (map (ByNode node) (upto read ds)) (deeds_done read (suc node) lists) rest))
-      (deeds_in_place from read node ds (deeds_done read (suc node) lists ++ rest) is all.0 (all_in_place from read (suc node) lists rest is all.1 places))
+      (deeds_in_place all.0.0 all.0.1 from read node ds (deeds_done read (suc node) lists ++ rest) is all.0.2 (all_in_place from read (suc node) lists rest is all.1 places))
 
   -- all that was done from a front on
   woven_so : (acts : List Act) (from : List Item) (read : ℕ) (lists : List (List Deed)) → read ≡ length from → g ≡ from ++ published acts → AllDrawn from lists
@@ -142,7 +146,7 @@ module _ (first : Held) (g : List Item) where
 
 all_drawn : (first : Held) (g : List Item) (lists : List (List Deed)) → AllByRecursion (IsRunningNode first g) lists → AllDrawn first g [] lists
 all_drawn first g [] h = tt
-all_drawn first g (ds ∷ lists) h = (drawn_longer first [] h.0.front g (takes ds) h.0.drawn h.0.read, all_drawn first g lists h.1)
+all_drawn first g (ds ∷ lists) h = ((empty, 0, drawn_longer first empty 0 [] h.0.front g (draws ds) h.0.drawn h.0.read), all_drawn first g lists h.1)
 
 pub are_woven : RunningNodesAreWoven
 are_woven r h =

@@ -4,28 +4,29 @@ use Rattle.std.proofs.lemmas.Bool.Decides.{eqb_tells}
 use Rattle.std.proofs.lemmas.List.{append-nil}
 use Rattle.std.proofs.lemmas.List.Sums.{fold-append}
 use Rattle.std.specs.Cmp.{IsTotalOrder}
-use Rattle.std.specs.FinSet.{contains, from_list, IsAntisymmetric}
+use Rattle.std.specs.FinSet.{empty, IsAntisymmetric}
 use Rattle.std.specs.List.{AllByRecursion}
 use mathlib.Core.List.{IsPrefix}
 use Rattle.reg_set.specs.RecordOrder.{record_cmp}
 use Rattle.reg_topic.specs.Topic.{after_item, after_items}
 use Rattle.reg_topic.specs.declared.published.Item.{Item}
 use Rattle.reg_shared.specs.Held.{Held, base_of, topic_at}
-use Rattle.reg_node.specs.Takes.{AreDrawn}
-use Rattle.reg_node.specs.declared.take.Take.{Take}
-use Rattle.reg_world.specs.State.{changed, no_records, taking}
+use Rattle.reg_node.specs.Takes.{AreDrawn, IsDraw, floor_with, with_draw}
+use Rattle.reg_node.specs.declared.take.Draw.{Draw}
+use Rattle.reg_world.specs.State.{changed, no_records}
 use Rattle.reg_world.specs.declared.node.Node.{Node}
-use Rattle.reg_running.specs.Running.{Act, AreActs, AreAnswers, Deed, Drew, Told, IsRunningNode, Running, items_of, published, takes}
-use Rattle.reg_running.specs.Woven.{ByNode, ByPen, Done, AreInPlace, HappensInTurn, IsWoven, RunningNodesAreAWorld, acts_in, deeds_of}
-use Rattle.reg_running.proofs.Drawn.{drawn_longer, last_front}
+use Rattle.reg_running.specs.Running.{Act, AreActs, AreAnswers, Deed, Drew, Told, IsRunningNode, Running, items_of, published, draws}
+use Rattle.reg_running.specs.Woven.{ByNode, ByPen, Done, AreInPlace, HappensInTurn, IsWoven, RunningNodesAreAWorld, acts_in, deeds_of, read_of}
+use Rattle.reg_running.proofs.Drawn.{drawn_longer, last_front, read_is}
 use Rattle.reg_running.proofs.Lists.{other_deeds, own_deeds, prefix_shorter, prefix_whole}
-use Rattle.reg_running.proofs.Steps.{act_happens, answer_happens, changed_count, changed_one, changed_other, state_of, take_happens, with_deeds, with_one}
+use Rattle.reg_running.proofs.Steps.{act_happens, answer_happens, changed_count, changed_one, changed_other, draw_happens, drawing, state_of, with_deeds, with_one}
 
 -- what a node has yet to do is drawn from fronts of that list, and its answers are right
 pub record Fits (first : Held) (g : List Item) (n : Node) (deeds : List Deed) : Type 0 where
   pub from : List Item
-  pub drawn : AreDrawn first from (takes deeds) g
-  pub answers : AreAnswers n.set deeds
+  pub drawn : AreDrawn first n.set.records n.set.floor from (draws deeds) g
+  pub answers : AreAnswers n.set.records deeds
+  pub same : n.took ≡ n.set.records
 
 -- so does each node
 abbrev pub AllFit : Held → List Item → List Node → List Done → Type 0
@@ -46,27 +47,27 @@ an_element (n ∷ nodes) zero h = (n, refl)
 an_element (n ∷ nodes) (suc i) h = an_element nodes i (omega arith)
 
 module _ (order : IsTotalOrder record_cmp) (apart : IsAntisymmetric record_cmp) (first : Held) (g : List Item) where
-  -- a take in its place is of a record kept there
-  kept_there : (from : List Item) (n : Node) (t : Take) (deeds : List Deed) → IsPrefix from g → t.read ≡ length from → Fits first g n (Drew t ∷ deeds) → contains (topic_at first from).kept t.kept ≡ true
-  kept_there from n t deeds p place fits =
+  -- a draw in its place is from the front there
+  drawn_there : (from : List Item) (n : Node) (t : Draw) (deeds : List Deed) → IsPrefix from g → read_of t ≡ length from → Fits first g n (Drew t ∷ deeds) → IsDraw first from n.set.records n.set.floor t
+  drawn_there from n t deeds p place fits =
       let d = fits.drawn in
-      let q : IsPrefix d.0 g = last_front first d.0 g (takes deeds) d.4 in
-      let same : from ≡ d.0 = prefix_whole from d.0 (prefix_shorter from d.0 g p q (omega (arith, place, d.2))) (omega (arith, place, d.2)) in
-      subst (λ f. contains (topic_at first f).kept t.kept ≡ true) (sym same) d.3
+      let at = read_is first d.0 n.set.records n.set.floor t d.2 in
+      let q : IsPrefix d.0 g = last_front first (with_draw n.set.records t) (floor_with n.set.floor t) d.0 g (draws deeds) d.3 in
+      let same : from ≡ d.0 = prefix_whole from d.0 (prefix_shorter from d.0 g p q (omega (arith, place, at))) (omega (arith, place, at)) in
+      subst (λ f. IsDraw first f n.set.records n.set.floor t) (sym same) d.2
 
-  -- the nodes after one of them drew a take
-  still_fit : (nodes : List Node) (i : ℕ) (n : Node) (t : Take) (done : List Done) → slice_get nodes i ≡ Some n → AllFit first g nodes (ByNode i (Drew t) ∷ done)
-      → AllFit first g (changed i (taking (from_list (t.kept ∷ []))) nodes) done
-  still_fit nodes i n t done there fits j m at = elim (eqb_tells i j) [
+  -- the nodes after one of them drew
+  still_fit : (nodes : List Node) (i : ℕ) (n : Node) (t : Draw) (done : List Done) (f : Node → Node) → f n ≡ with_deeds n (Drew t ∷ []) → slice_get nodes i ≡ Some n
+      → AllFit first g nodes (ByNode i (Drew t) ∷ done) → AllFit first g (changed i f nodes) done
+  still_fit nodes i n t done f one there fits j m at = elim (eqb_tells i j) [
     | inl same ↦
-        let now : slice_get (changed i (taking (from_list (t.kept ∷ []))) nodes) j ≡ Some (with_deeds n (Drew t ∷ [])) =
-        subst (λ k. slice_get (changed i (taking (from_list (t.kept ∷ []))) nodes) k ≡ Some (with_deeds n (Drew t ∷ []))) same.1
-        (changed_one (taking (from_list (t.kept ∷ []))) nodes i n there ∙ ap (λ x. Some x) (with_one order apart n t)) in
+        let now : slice_get (changed i f nodes) j ≡ Some (with_deeds n (Drew t ∷ [])) =
+        subst (λ k. slice_get (changed i f nodes) k ≡ Some (with_deeds n (Drew t ∷ []))) same.1 (changed_one f nodes i n there ∙ ap (λ x. Some x) one) in
         let is : with_deeds n (Drew t ∷ []) ≡ m = some_same (with_deeds n (Drew t ∷ [])) m (sym now ∙ at) in
         let was : Fits first g n (Drew t ∷ deeds_of j done) = subst (λ ds. Fits first g n ds) (own_deeds i j (Drew t) done same.1) (fits j n (subst (λ k. slice_get nodes k ≡ Some n) same.1 there)) in
-        subst (λ x. Fits first g x (deeds_of j done)) is (record { from = was.drawn.0; drawn = was.drawn.4; answers = was.answers })
+        subst (λ x. Fits first g x (deeds_of j done)) is (record { from = was.drawn.0; drawn = was.drawn.3; answers = was.answers; same = ap (λ s. with_draw s t) was.same })
     | inr other ↦
-        subst (λ ds. Fits first g m ds) (other_deeds i j (Drew t) done other.1) (fits j m (sym (changed_other (taking (from_list (t.kept ∷ []))) nodes i j other.1) ∙ at))
+        subst (λ ds. Fits first g m ds) (other_deeds i j (Drew t) done other.1) (fits j m (sym (changed_other f nodes i j other.1) ∙ at))
   ]
 
   -- the nodes after one of them told an answer
@@ -74,22 +75,21 @@ module _ (order : IsTotalOrder record_cmp) (apart : IsAntisymmetric record_cmp) 
   fit_after_answer nodes i query answer done fits j m at = elim (eqb_tells i j) [
     | inl same ↦
         let was : Fits first g m (Told query answer ∷ deeds_of j done) = subst (λ ds. Fits first g m ds) (own_deeds i j (Told query answer) done same.1) (fits j m at) in
-        record { from = was.from; drawn = was.drawn; answers = was.answers.1 }
+        record { from = was.from; drawn = was.drawn; answers = was.answers.1; same = was.same }
     | inr other ↦ subst (λ ds. Fits first g m ds) (other_deeds i j (Told query answer) done other.1) (fits j m at)
   ]
 
-  each_after_take : (nodes ends : List Node) (i : ℕ) (n : Node) (t : Take) (done : List Done) → slice_get nodes i ≡ Some n
-      → ((j : ℕ) (m : Node) → slice_get (changed i (taking (from_list (t.kept ∷ []))) nodes) j ≡ Some m → slice_get ends j ≡ Some (with_deeds m (deeds_of j done)))
+  each_after_draw : (nodes ends : List Node) (i : ℕ) (n : Node) (t : Draw) (done : List Done) (f : Node → Node) → f n ≡ with_deeds n (Drew t ∷ []) → slice_get nodes i ≡ Some n
+      → ((j : ℕ) (m : Node) → slice_get (changed i f nodes) j ≡ Some m → slice_get ends j ≡ Some (with_deeds m (deeds_of j done)))
       → (j : ℕ) (m : Node) → slice_get nodes j ≡ Some m → slice_get ends j ≡ Some (with_deeds m (deeds_of j (ByNode i (Drew t) ∷ done)))
-  each_after_take nodes ends i n t done there each j m at = elim (eqb_tells i j) [
+  each_after_draw nodes ends i n t done f one there each j m at = elim (eqb_tells i j) [
     | inl same ↦
         let is : n ≡ m = some_same n m (sym (subst (λ k. slice_get nodes k ≡ Some n) same.1 there) ∙ at) in
-        let now : slice_get (changed i (taking (from_list (t.kept ∷ []))) nodes) j ≡ Some (with_deeds m (Drew t ∷ [])) =
-        subst (λ k. slice_get (changed i (taking (from_list (t.kept ∷ []))) nodes) k ≡ Some (with_deeds m (Drew t ∷ []))) same.1
-        (changed_one (taking (from_list (t.kept ∷ []))) nodes i n there ∙ (ap (λ x. Some x) (with_one order apart n t) ∙ ap (λ x. Some (with_deeds x (Drew t ∷ []))) is)) in
+        let now : slice_get (changed i f nodes) j ≡ Some (with_deeds m (Drew t ∷ [])) =
+        subst (λ k. slice_get (changed i f nodes) k ≡ Some (with_deeds m (Drew t ∷ []))) same.1
+        (changed_one f nodes i n there ∙ (ap (λ x. Some x) one ∙ ap (λ x. Some (with_deeds x (Drew t ∷ []))) is)) in
         each j (with_deeds m (Drew t ∷ [])) now ∙ ap (λ ds. Some (with_deeds m ds)) (sym (own_deeds i j (Drew t) done same.1))
-    | inr other ↦
-        each j m (changed_other (taking (from_list (t.kept ∷ []))) nodes i j other.1 ∙ at) ∙ ap (λ ds. Some (with_deeds m ds)) (sym (other_deeds i j (Drew t) done other.1))
+    | inr other ↦ each j m (changed_other f nodes i j other.1 ∙ at) ∙ ap (λ ds. Some (with_deeds m ds)) (sym (other_deeds i j (Drew t) done other.1))
   ]
 
   each_after_answer : (nodes ends : List Node) (i : ℕ) (query : _) (answer : _) (done : List Done)
@@ -138,16 +138,18 @@ module _ (order : IsTotalOrder record_cmp) (apart : IsAntisymmetric record_cmp) 
       let n = an_element nodes i (within i (Drew t) [] (done ++ rest) refl) in
       let fit : Fits first g n.0 (Drew t ∷ deeds_of i (done ++ rest)) = subst (λ ds. Fits first g n.0 ds) (own_deeds i i (Drew t) (done ++ rest) refl) (fits i n.0 n.1) in
       let front : IsPrefix from g = (published (acts_in (done ++ rest)), sym all) in
-      let kept = kept_there from n.0 t (deeds_of i (done ++ rest)) front (places.0 ∙ is) fit in
-      let after : List Node = changed i (taking (from_list (t.kept ∷ []))) nodes in
-      let count : length after ≡ length nodes = changed_count (taking (from_list (t.kept ∷ []))) nodes i in
+      let is_draw = drawn_there from n.0 t (deeds_of i (done ++ rest)) front (places.0 ∙ is) fit in
+      let f : Node → Node = drawing first from nodes t in
+      let one : f n.0 ≡ with_deeds n.0 (Drew t ∷ []) = with_one order apart first from nodes n.0 t fit.same is_draw in
+      let after : List Node = changed i f nodes in
+      let count : length after ≡ length nodes = changed_count f nodes i in
       let there = leads done rest from after read is all (subst (λ c. AreActs c (topic_at first from) (acts_in (done ++ rest))) (sym count) are) places.1
       (λ j deed before more e. subst (λ c. j < c) (sym count) (within j deed (ByNode i (Drew t) ∷ before) more (ap (λ l. ByNode i (Drew t) ∷ l) e)))
-      (still_fit nodes i n.0 t (done ++ rest) n.1 fits) in
+      (still_fit nodes i n.0 t (done ++ rest) f one n.1 fits) in
       record {
         ends = there.ends;
-        happens = (state_of first from after, take_happens first from nodes i n.0 t n.1 kept, there.happens);
-        each = each_after_take nodes there.ends i n.0 t done n.1 there.each;
+        happens = (state_of first from after, draw_happens first from nodes i n.0 t n.1 is_draw, there.happens);
+        each = each_after_draw nodes there.ends i n.0 t done f one n.1 there.each;
       }
 
 -- Nodes begin with nothing.
@@ -204,7 +206,7 @@ are_a_world order apart r h done rest woven =
     let there = begins_with count i n at in
     let node : IsRunningNode r.first g (get_or r.nodes i []) = node_there (IsRunningNode r.first g) r.nodes i h.nodes there.0 in
     subst (λ x. Fits r.first g x (deeds_of i (done ++ rest))) there.1
-    (subst (λ ds. Fits r.first g no_records ds) (sym (woven.deeds i)) (record { from = []; drawn = drawn_longer r.first [] node.front g (takes (get_or r.nodes i [])) node.drawn node.read; answers = node.answers })) in
+    (subst (λ ds. Fits r.first g no_records ds) (sym (woven.deeds i)) (record { from = []; drawn = drawn_longer r.first empty 0 [] node.front g (draws (get_or r.nodes i [])) node.drawn node.read; answers = node.answers; same = refl })) in
     let there = leads order apart r.first g done rest [] nodes 0 refl goes acts woven.places (λ i deed before after e. subst (λ c. i < c) (sym (so_many count)) (by_a_node r (done ++ rest) woven i deed before after e)) fits in (
       state_of r.first (published (acts_in done)) there.ends,
       record {

@@ -15,11 +15,12 @@ use Rattle.reg_topic.specs.Topic.{IsLawful, after_items}
 use Rattle.reg_topic.specs.declared.published.Item.{Item}
 use Rattle.reg_topic.specs.declared.topic.Topic.{Topic}
 use Rattle.reg_shared.specs.Held.{Held}
-use Rattle.reg_pen.specs.Pen.{Compacts, IsPen, LeavesCompaction, PenState, Submits}
+use Rattle.reg_pen.specs.Pen.{Compacts, IsCompactRefusal, IsPen, PenState, Submits}
+use Rattle.reg_pen.specs.declared.compact_error.CompactError.{CompactError}
 use Rattle.reg_pen.specs.declared.keep.Kept.{Kept}
-use Rattle.reg_node.specs.Takes.{AreDrawn, taken}
-use Rattle.reg_node.specs.declared.take.Take.{Take}
-use Rattle.reg_running.specs.Running.{Act, AreActs, Carried, Deed, Drew, IsRunningNode, Told, published, takes}
+use Rattle.reg_node.specs.Takes.{AreDrawnFrom, taken}
+use Rattle.reg_node.specs.declared.take.Draw.{Draw}
+use Rattle.reg_running.specs.Running.{Act, AreActs, Carried, Deed, Drew, IsRunningNode, Told, published, draws}
 
 -- these acts, done by a pen with so many nodes, made the one list the other
 pub record Added (count : ℕ) (base : Topic) (before after : List Item) (acts : List Act) : Type 0 where
@@ -46,15 +47,18 @@ SubmitsAreActs {K} keeps = (base : Topic) (since : Option (Bor (List Item))) (l 
     → node < count → IsPen base l.published l.pending → Submits keeps base since l command reply m
     → (acts : List Act) × Added count base l.published m.published acts × IsToldOf acts node command reply
 
--- a compaction, which is done or refused
+-- a compaction to a floor is done or refused
+abbrev pub CompactsOrNot : {K : Type 0} → Topic → ℕ → PenState K → PenState K → Type 0
+CompactsOrNot base floor l m = Compacts base floor l m ⊎ ((error : CompactError) × IsCompactRefusal base floor l error m)
+
 abbrev pub CompactionsAreActs : Type 0 → Type 0
-CompactionsAreActs K = (base : Topic) (l m : PenState K) (count : ℕ) → 0 < count → IsPen base l.published l.pending → Compacts base l m ⊎ LeavesCompaction base l m
+CompactionsAreActs K = (base : Topic) (floor : ℕ) (l m : PenState K) (count : ℕ) → 0 < count → IsPen base l.published l.pending → CompactsOrNot base floor l m
     → (acts : List Act) × Added count base l.published m.published acts
 
 -- what a pen keeps stays so at each call, so it holds of each pen that was opened over an adopted base
 abbrev pub CallsKeepPens : {K : Type 0} → (K → List Record → Kept → K → Type 0) → Type 0
-CallsKeepPens {K} keeps = (base : Topic) (since : Option (Bor (List Item))) (l m : PenState K) (command : Command) (reply : Reply) → IsPen base l.published l.pending
-    → Submits keeps base since l command reply m ⊎ Compacts base l m ⊎ LeavesCompaction base l m → IsPen base m.published m.pending
+CallsKeepPens {K} keeps = (base : Topic) (since : Option (Bor (List Item))) (l m : PenState K) (command : Command) (reply : Reply) (floor : ℕ) → IsPen base l.published l.pending
+    → Submits keeps base since l command reply m ⊎ CompactsOrNot base floor l m → IsPen base m.published m.pending
 
 -- each lawful list is published by acts, and these publish nothing else
 abbrev pub LawfulListsAreOfActs : Type 0
@@ -65,9 +69,9 @@ ActsAreLawful = (base : Topic) (acts : List Act) (count : ℕ) → AreActs count
 
 -- a follower's list that is drawn from a front of the topic's list is that of a node
 abbrev pub FollowersAreNodes : Type 0
-FollowersAreNodes = (first : Held) (items front : List Item) (list : List Take) → IsPrefix front items → AreDrawn first [] list front → IsRunningNode first items (map Drew list) × (takes (map Drew list) ≡ list)
+FollowersAreNodes = (first : Held) (items front : List Item) (list : List Draw) → IsPrefix front items → AreDrawnFrom first list front → IsRunningNode first items (map Drew list) × (draws (map Drew list) ≡ list)
 
 -- an answer of a view that saw a front of its node's list is one that the node told then
 abbrev pub ViewsTellForNodes : Type 0
-ViewsTellForNodes = (first : Held) (items : List Item) (deeds : List Deed) (seen : List Take) (query : Query) (answer : Answer) → IsRunningNode first items deeds → IsPrefix seen (takes deeds) → IsAnswer (last_records (taken seen)) query answer
-    → (before after : List Deed) × (deeds ≡ before ++ after) × (takes before ≡ seen) × IsRunningNode first items (before ++ Told query answer ∷ after)
+ViewsTellForNodes = (first : Held) (items : List Item) (deeds : List Deed) (seen : List Draw) (query : Query) (answer : Answer) → IsRunningNode first items deeds → IsPrefix seen (draws deeds) → IsAnswer (last_records (taken seen)) query answer
+    → (before after : List Deed) × (deeds ≡ before ++ after) × (draws before ≡ seen) × IsRunningNode first items (before ++ Told query answer ∷ after)

@@ -5,14 +5,15 @@ ghost use Rattle.reg_running.specs.Calls.{ActsAddUp, ActsAreLawful, CallsKeepPen
 ghost use Rattle.reg_running.specs.Claims.{ClaimsHoldAtEachMoment, MomentsAreAfterEvents, RunningNodesAnswerAlike, RunningNodesKeepPromises, SameAnswersAtMoments};
 ghost use Rattle.reg_running.specs.Woven.{RunningNodesAreAWorld, RunningNodesAreWoven};
 
+use reg_alike::compactions_answer_alike;
 use reg_lookup::queries_have_one_answer;
 use reg_pen::Keep;
-use reg_set::{last_records_are_enough, records_are_ordered};
+use reg_set::records_are_ordered;
 use reg_topic::{lawful_lists_keep_ids, lawful_lists_meet_levels};
 use reg_world::{ids_name_one_schema, nodes_answer_alike, registered_versions_meet_levels};
 
 /// What the pen and the nodes did is a list of a world's events, with the outcomes that the callers
-/// got, each take directly after the last item that its pull had read.
+/// got, each draw directly after the last item that its pull had read.
 pub fn running_nodes_are_a_world()
     ensures world { RunningNodesAreAWorld }
     ensures woven { RunningNodesAreWoven }
@@ -36,7 +37,7 @@ pub fn running_nodes_keep_the_headline()
 pub fn running_nodes_answer_alike()
     ensures { RunningNodesAnswerAlike }
 {
-    last_records_are_enough();
+    compactions_answer_alike();
     queries_have_one_answer();
 }
 
@@ -73,7 +74,7 @@ pub fn lawful_lists_are_of_acts()
     ensures lawful { ActsAreLawful }
 {}
 
-/// What a follower takes and its views answer are a node's deeds.
+/// What a follower draws and its views answer are a node's deeds.
 pub fn followers_do_deeds()
     ensures followers { FollowersAreNodes }
     ensures views { ViewsTellForNodes }

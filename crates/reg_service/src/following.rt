@@ -1,6 +1,6 @@
 // A node's follower, for the thread that follows the topic.
 use reg_feed::{Copies, FeedName};
-use reg_node::{Follower, Take, Taken};
+use reg_node::{Draw, Follower, Taken};
 use reg_serve::Follow;
 use reg_shared::Shared;
 use reg_topic::Item;
@@ -13,8 +13,8 @@ pub(crate) struct Following<
     'a,
     N: FeedName<Item, Shared>,
     S: Copies<Item, Shared, N>,
-    M: FeedName<Take, Taken>,
-    U: Copies<Take, Taken, M>,
+    M: FeedName<Draw, Taken>,
+    U: Copies<Draw, Taken, M>,
     R: Wait + Drop,
 > {
     pub(crate) rt: &'a R,
@@ -26,8 +26,8 @@ impl<
     'a,
     N: FeedName<Item, Shared>,
     S: Copies<Item, Shared, N>,
-    M: FeedName<Take, Taken>,
-    U: Copies<Take, Taken, M>,
+    M: FeedName<Draw, Taken>,
+    U: Copies<Draw, Taken, M>,
     R: Wait + Drop,
 > Follow for Following<'a, N, S, M, U, R> {
     fn follow(&self) {

@@ -14,7 +14,7 @@ use crate::size::Size;
 use reg_connection::Limits;
 use reg_desk::Gate;
 use reg_feed::{Copies, FeedName, Stored, Unnamed};
-use reg_node::{Take, Taken};
+use reg_node::{Draw, Taken};
 use reg_pen::{Keep, MemoryAlone, Pen, open};
 use reg_records::{Device, Log, read_log};
 use reg_serve::Latch;
@@ -102,7 +102,7 @@ fn serve_topic<
     keep: K,
     entrance: &mut E,
 ) -> Result<(), StartFault>
-    requires name { (list.reached.book ≡ N.book) × (N.first ≡ held_of (topic_from base.records.items base.next)) }
+    requires name { (list.reached.book ≡ N.book) × (N.first ≡ held_of (topic_from base.records.items base.next base.floor)) }
 {
     let readers = common.nodes.clamp(1, NODES_LIMIT);
     let passes = common.workers.saturating_mul(readers as u32);
@@ -147,7 +147,7 @@ fn add_first<
     N: FeedName<Item, Shared> + Send + Sync,
     S: Copies<Item, Shared, N> + Send + Sync,
     K: Keep + Send + Drop,
-    L: FeedName<Take, Taken> + Send + Sync,
+    L: FeedName<Draw, Taken> + Send + Sync,
     R: Threads + Wait + Clock + Net + Sync + Send + Copy + Drop,
     G: Gate + Sync,
     E: Entrance,
@@ -155,7 +155,7 @@ fn add_first<
     common: &'x Common<'x, R, G>,
     pen: &'x Mutex<Pen<N, S, K, R>>,
     seats: Seats<N, S>,
-    list: Unnamed<Take>,
+    list: Unnamed<Draw>,
     entrance: &mut E,
 ) -> Result<(), StartFault>
     requires { (list.reached.book ≡ L.book) × (L.first ≡ empty) }
@@ -165,7 +165,7 @@ fn add_first<
     if common.nodes <= 1 {
         return hold_one(common, pen, seats.passes, first, entrance);
     }
-    add_second::<N, S, K, L, Stored<Take, Taken, L>, Brand, R, G, E>(
+    add_second::<N, S, K, L, Stored<Draw, Taken, L>, Brand, R, G, E>(
         common,
         pen,
         seats,
@@ -181,9 +181,9 @@ fn add_second<
     N: FeedName<Item, Shared> + Send + Sync,
     S: Copies<Item, Shared, N> + Send + Sync,
     K: Keep + Send + Drop,
-    L: FeedName<Take, Taken> + Send + Sync,
-    T: Copies<Take, Taken, L> + Send + Sync,
-    M: FeedName<Take, Taken> + Send + Sync,
+    L: FeedName<Draw, Taken> + Send + Sync,
+    T: Copies<Draw, Taken, L> + Send + Sync,
+    M: FeedName<Draw, Taken> + Send + Sync,
     R: Threads + Wait + Clock + Net + Sync + Send + Copy + Drop,
     G: Gate + Sync,
     E: Entrance,
@@ -192,7 +192,7 @@ fn add_second<
     pen: &'x Mutex<Pen<N, S, K, R>>,
     seats: Seats<N, S>,
     first: Parts<N, S, L, T, R>,
-    list: Unnamed<Take>,
+    list: Unnamed<Draw>,
     entrance: &mut E,
 ) -> Result<(), StartFault>
     requires { (list.reached.book ≡ M.book) × (M.first ≡ empty) }
@@ -202,7 +202,7 @@ fn add_second<
     if common.nodes <= 2 {
         return hold_two(common, pen, seats.passes, first, second, entrance);
     }
-    add_third::<N, S, K, L, T, M, Stored<Take, Taken, M>, Brand, R, G, E>(
+    add_third::<N, S, K, L, T, M, Stored<Draw, Taken, M>, Brand, R, G, E>(
         common,
         pen,
         seats,
@@ -219,11 +219,11 @@ fn add_third<
     N: FeedName<Item, Shared> + Send + Sync,
     S: Copies<Item, Shared, N> + Send + Sync,
     K: Keep + Send + Drop,
-    L: FeedName<Take, Taken> + Send + Sync,
-    T: Copies<Take, Taken, L> + Send + Sync,
-    M: FeedName<Take, Taken> + Send + Sync,
-    U: Copies<Take, Taken, M> + Send + Sync,
-    O: FeedName<Take, Taken> + Send + Sync,
+    L: FeedName<Draw, Taken> + Send + Sync,
+    T: Copies<Draw, Taken, L> + Send + Sync,
+    M: FeedName<Draw, Taken> + Send + Sync,
+    U: Copies<Draw, Taken, M> + Send + Sync,
+    O: FeedName<Draw, Taken> + Send + Sync,
     R: Threads + Wait + Clock + Net + Sync + Send + Copy + Drop,
     G: Gate + Sync,
     E: Entrance,
@@ -233,7 +233,7 @@ fn add_third<
     seats: Seats<N, S>,
     first: Parts<N, S, L, T, R>,
     second: Parts<N, S, M, U, R>,
-    list: Unnamed<Take>,
+    list: Unnamed<Draw>,
     entrance: &mut E,
 ) -> Result<(), StartFault>
     requires { (list.reached.book ≡ O.book) × (O.first ≡ empty) }

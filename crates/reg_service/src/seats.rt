@@ -1,5 +1,5 @@
 // What the nodes have of the topic, and what one of them is made of.
-ghost use Rattle.std.specs.Prelude.{◌≡◌};
+ghost use Rattle.std.specs.Prelude.{◌≡◌, ◌≤◌};
 ghost use Rattle.std.specs.FinSet.{empty};
 
 use crate::common::Common;
@@ -7,7 +7,7 @@ use crate::error::StartFault;
 use reg_desk::{Gate, NodeDesk, Wake};
 use reg_feed::{Copies, FeedName, FeedReader, Stored, Unnamed, feed};
 use reg_judge::Judge;
-use reg_node::{Follower, Take, Taken, View};
+use reg_node::{Draw, Follower, Taken, View};
 use reg_pen::{Keep, Pass, Pen};
 use reg_shared::Shared;
 use reg_topic::Item;
@@ -29,6 +29,8 @@ pub(crate) struct Seats<N: FeedName<Item, Shared>, S: Copies<Item, Shared, N>> {
     pub(crate) passes: Vec<Pass<N>>,
     /// One a node.
     pub(crate) readers: Vec<FeedReader<Item, Shared, N, S>>,
+    // The topic began with a floor no higher than its next offset.
+    pub(crate) ghost low: { N.first.kept.floor ≤ N.first.next },
 }
 
 /// A node's follower, and a view for each worker.
@@ -36,8 +38,8 @@ pub(crate) struct Seats<N: FeedName<Item, Shared>, S: Copies<Item, Shared, N>> {
 pub(crate) struct Parts<
     N: FeedName<Item, Shared>,
     S: Copies<Item, Shared, N>,
-    M: FeedName<Take, Taken>,
-    U: Copies<Take, Taken, M>,
+    M: FeedName<Draw, Taken>,
+    U: Copies<Draw, Taken, M>,
     R: Wait + Drop,
 > {
     pub(crate) follower: Follower<N, S, M, U, R>,
@@ -48,20 +50,20 @@ pub(crate) struct Parts<
 pub(crate) fn make_parts<
     N: FeedName<Item, Shared>,
     S: Copies<Item, Shared, N>,
-    M: FeedName<Take, Taken>,
+    M: FeedName<Draw, Taken>,
     R: Wait + Copy + Drop,
     G,
 >(
     common: &Common<'_, R, G>,
     seats: &mut Seats<N, S>,
-    list: Unnamed<Take>,
-) -> Result<Parts<N, S, M, Stored<Take, Taken, M>, R>, StartFault>
+    list: Unnamed<Draw>,
+) -> Result<Parts<N, S, M, Stored<Draw, Taken, M>, R>, StartFault>
     requires { (list.reached.book ≡ M.book) × (M.first ≡ empty) }
 {
     let alloc = common.alloc;
     let topic = seats.readers.pop().ok_or(StartFault::NoPlace)?;
     let workers = common.workers.max(1);
-    let out = feed::<Take, Taken, M, R>(
+    let out = feed::<Draw, Taken, M, R>(
         *common.rt,
         alloc,
         list,
@@ -85,8 +87,8 @@ pub(crate) fn make_desks<
     N: FeedName<Item, Shared>,
     S: Copies<Item, Shared, N>,
     K: Keep + Drop,
-    M: FeedName<Take, Taken>,
-    U: Copies<Take, Taken, M>,
+    M: FeedName<Draw, Taken>,
+    U: Copies<Draw, Taken, M>,
     R: Wait + Drop,
     G: Gate,
     W: Wake,

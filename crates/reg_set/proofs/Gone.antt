@@ -1,5 +1,5 @@
 -- Compactions that may lack deleted keys, and the tests that tell them.
-use Rattle.std.proofs.Common.{◌≡◌, ℕ, Bool, true, ◌&&◌, ◌||◌, ◌⊎◌, inl, inr, Option, None, Some, IfSome, is_none, nat_lt, refl, sym, ap, subst, ◌∙◌}
+use Rattle.std.proofs.Common.{◌≡◌, ℕ, Bool, true, ◌⊎◌, inl, inr, Option, None, Some, IfSome, is_none, refl, sym, ap, subst, ◌∙◌}
 use Rattle.std.proofs.lemmas.Bool.{false≢true, lt-ltb, ltb-true}
 use Rattle.std.specs.FinSet.{contains}
 use Rattle.std.specs.List.{list_all}

@@ -12,4 +12,5 @@ mod Listed
 mod OneEach
 mod Orders
 mod Places
+mod Removed
 mod Unions

@@ -111,19 +111,19 @@ module _ (S : Records) (r : Record) where
 
 -- the records of other keys
 module _ (S : Records) (key : Key) where
-  abbrev others : Records
+  abbrev pub others : Records
   others = retain S (λ r. not (is_of key r))
 
   contains-others : (q : Record) → contains others q ≡ (contains S q && not (is_of key q))
   contains-others q = contains-retain S (λ r. not (is_of key r)) q (λ x e. ap (λ r. not (is_of key r)) (sym (record_cmp-ties q x e)))
 
-  from_others : (q : Record) → contains others q ≡ true → contains S q ≡ true
+  pub from_others : (q : Record) → contains others q ≡ true → contains S q ≡ true
   from_others q h = first_of _ _ (sym (contains-others q) ∙ h)
 
-  apart_in_others : (q : Record) → contains others q ≡ true → q.key ≡ key → ⊥
+  pub apart_in_others : (q : Record) → contains others q ≡ true → q.key ≡ key → ⊥
   apart_in_others q h same = false≢true (ap not (sym (is_of-of key q same)) ∙ second_of _ _ (sym (contains-others q) ∙ h))
 
-  in_others : (q : Record) → contains S q ≡ true → (q.key ≡ key → ⊥) → contains others q ≡ true
+  pub in_others : (q : Record) → contains S q ≡ true → (q.key ≡ key → ⊥) → contains others q ≡ true
   in_others q h apart =
       let other : not (is_of key q) ≡ true =
       elim (is_of key q) as (λ b. is_of key q ≡ b → not b ≡ true) [ true ↦ λ e. absurd (apart (is_of-is key q e)) | false ↦ λ _. refl ] refl in

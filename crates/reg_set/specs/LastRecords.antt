@@ -1,5 +1,5 @@
 -- The last record of each key.
-use Rattle.std.specs.Prelude.{◌≡◌, Bool, true, false, not, Option}
+use Rattle.std.specs.Prelude.{◌≡◌, ◌⊎◌, Bool, true, false, not, Option, Some, None}
 use Rattle.std.specs.FinSet.{contains, insert, retain}
 use Rattle.std.specs.List.{filter, reduce}
 use Rattle.std.specs.Option.{option_map_or}
@@ -34,3 +34,7 @@ pub record IsGreatestOf (s : Records) (key : Key) (r : Record) : Type 0 where
   pub is_in_set : contains s r ≡ true
   pub is_of_key : r.key ≡ key
   pub is_greatest : (q : Record) → contains s q ≡ true → q.key ≡ key → is_le (age_cmp q r) ≡ true
+
+-- each key has the last record that it had, or that was r, and it has none now
+abbrev pub LosesAtMost : Record → Records → Records → Type 0
+LosesAtMost r before after = (key : Key) → (last after key ≡ last before key) ⊎ ((last before key ≡ Some r) × (last after key ≡ None))

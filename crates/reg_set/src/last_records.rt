@@ -5,7 +5,7 @@ ghost use Rattle.std.specs.FinSet as set;
 ghost use Rattle.std.specs.List.Sorted.{IsStrictlySortedBy};
 ghost use Rattle.std.specs.Ordering.{is_lt};
 ghost use Rattle.reg_set.specs.Index.{last_at};
-ghost use Rattle.reg_set.specs.LastRecords.{last, last_records, with_last};
+ghost use Rattle.reg_set.specs.LastRecords.{LosesAtMost, last, last_records, with_last};
 ghost use Rattle.reg_set.specs.RecordOrder.{age_cmp, key_cmp};
 
 use crate::record_set::RecordSet;
@@ -134,6 +134,18 @@ impl LastRecords {
         ensures { self.new ≡ with_last self.old key.now before }
     {
         replace(&mut self.by_key, key, before);
+    }
+
+    /// Removes the record, where it is the last of its key: the key then has none. Any other record
+    /// changes nothing. It takes no memory.
+    pub fn remove(&mut self, given: &Record)
+        ensures removed { self.new ≡ set.remove self.old given.now }
+        ensures lasts { LosesAtMost given.now self.old self.new }
+    {
+        if self.contains(given) {
+            self.is_compact();
+            self.put_back(&given.key, None);
+        }
     }
 
     /// The records, one a key, by the derived order of keys. The only error is want of memory.

@@ -1,20 +1,17 @@
 -- The kept records: the last ones, and older ones beside them.
 use Rattle.std.proofs.Common.{◌≡◌, ℕ, Bool, true, false, ◌&&◌, ◌||◌, not, List, [], ◌∷◌, ◌++◌, refl, sym, ap, ◌∙◌}
-use Rattle.std.specs.Bool.{nat_le}
+use Rattle.std.specs.Bool.{nat_le, nat_lt}
 use Rattle.std.proofs.lemmas.Bool.{false≢true}
 use Rattle.std.specs.Cmp.{IsTotalOrder}
-use Rattle.std.specs.FinSet.{contains, from_list, union, IsAntisymmetric, contains-difference, contains-union, same_set}
-use Rattle.std.specs.List.{filter, list_all, list_any}
-use Rattle.std.specs.Ordering.{eq_by_cmp}
+use Rattle.std.specs.FinSet.{contains, from_list, union, IsAntisymmetric, contains-union, same_set}
+use Rattle.std.specs.List.{filter, list_all}
 use Rattle.reg_records.specs.declared.record.Record.{Record}
 use Rattle.reg_set.specs.LastRecords.{is_last, last_records}
 use Rattle.reg_set.specs.RecordOrder.{record_cmp}
 use Rattle.reg_set.specs.Records.{Records}
-use Rattle.reg_topic.specs.Topic.{may_drop, without}
-use Rattle.reg_shared.specs.Held.{IsSince}
+use Rattle.reg_shared.specs.Held.{IsBelow, IsSince}
 use Rattle.reg_shared.specs.Kept.{kept_of}
-use Rattle.reg_shared.proofs.Equality.{equal}
-use Rattle.reg_shared.proofs.Members.{filtered, in_lasts, in_list, joined, right, superseded_go}
+use Rattle.reg_shared.proofs.Members.{filtered, in_lasts, in_list, joined, right}
 
 -- Tests of one record: whether it is among those by offset, kept, a last one, an older one, gone.
 found_kept : (b f k : Bool) → (k ≡ true → b ≡ true) → ((b && f) && k) ≡ (k && f)
@@ -49,6 +46,14 @@ gone_stays_gone false true true h = refl
 gone_stays_gone false true false h = refl
 gone_stays_gone false false g h = refl
 
+found_below : (b f k : Bool) → (k ≡ true → b ≡ true) → (b && (f && k)) ≡ (k && f)
+found_below true true true h = refl
+found_below true false true h = refl
+found_below false f true h = absurd (false≢true (h refl))
+found_below true true false h = refl
+found_below true false false h = refl
+found_below false f false h = refl
+
 all_there : (l b il : Bool) → l ≡ (b && il) → (l || (b && not l)) ≡ b
 all_there true true il e = refl
 all_there true false il e = absurd (false≢true (sym e))
@@ -80,58 +85,13 @@ module _ (order : IsTotalOrder record_cmp) (apart : IsAntisymmetric record_cmp) 
       ∙ ap (λ b. (contains (from_list {R = record_cmp} by_offset) r && nat_le from r.offset) && b) (sym (is_kept lasts older r))
       ∙ found_kept (contains (from_list {R = record_cmp} by_offset) r) (nat_le from r.offset) (contains (kept_of lasts older) r) (among r)
 
-  -- what a compaction drops
-  pub older_go : (lasts : Records) (older : List Record) → lasts ≡ last_records (kept_of lasts older)
-      → may_drop (kept_of lasts older) (filter (λ r. not (contains lasts r)) older) ≡ true
-  older_go lasts older same =
-      ap (λ (l : Records). may_drop (kept_of lasts older) (filter (λ r. not (contains l r)) older)) same
-      ∙ superseded_go order apart (kept_of lasts older) older (λ q any. is_kept lasts older q ∙ right (contains lasts q) _ (in_list order apart older q ∙ any))
-
-  pub lasts_stay : (lasts : Records) (older : List Record) → lasts ≡ last_records (kept_of lasts older)
-      → without (kept_of lasts older) (filter (λ r. not (contains lasts r)) older) ≡ last_records (kept_of lasts older)
-  lasts_stay lasts older same =
-      let ds = filter (λ r. not (contains lasts r)) older in
-      same_set order apart (without (kept_of lasts older) ds) lasts (λ q.
-      contains-difference order (kept_of lasts older) (from_list ds) q
-      ∙ ap (λ b. b && not (contains (from_list {R = record_cmp} ds) q)) (is_kept lasts older q)
-      ∙ ap (λ b. (contains lasts q || contains (from_list {R = record_cmp} older) q) && not b) (filtered order apart (λ r. not (contains lasts r)) older q)
-      ∙ only_lasts (contains lasts q) (contains (from_list {R = record_cmp} older) q))
-      ∙ same
-
-  -- the test of what may be dropped
-  pub may_drop_is : (lasts : Records) (older ds : List Record) → lasts ≡ last_records (kept_of lasts older)
-      → list_all (λ r. contains (from_list {R = record_cmp} older) r && not (contains lasts r)) ds ≡ may_drop (kept_of lasts older) ds
-  may_drop_is lasts older ds same =
-      let k : Records = kept_of lasts older in
-      all_same (λ r. contains (from_list {R = record_cmp} older) r && not (contains lasts r)) (λ r. contains k r && not (is_last k r)) (λ r.
-      may_go_both (contains k r) (is_last k r) (contains lasts r) (contains (from_list {R = record_cmp} older) r) (is_kept lasts older r)
-      (ap (λ (l : Records). contains l r) same ∙ in_lasts order apart k r)) ds
-
-  all_of : (p : Record → Bool) (rs : List Record) (r : Record) → list_all p rs ≡ true → list_any (eq_by_cmp record_cmp r) rs ≡ true → p r ≡ true
-  all_of p [] r all any = absurd (false≢true any)
-  all_of p (d ∷ ds) r all any =
-      elim (eq_by_cmp record_cmp r d) as (λ b. eq_by_cmp record_cmp r d ≡ b → (b || list_any (eq_by_cmp record_cmp r) ds) ≡ true → p r ≡ true) [
-        | true ↦ λ e _. ap p (equal order apart r d e) ∙ first_true (p d) (list_all p ds) all
-        | false ↦ λ _ rest. all_of p ds r (second_true (p d) (list_all p ds) all) rest
-      ] refl any
-    where
-      first_true : (a b : Bool) → (a && b) ≡ true → a ≡ true
-      first_true true b e = refl
-      first_true false b e = absurd (false≢true e)
-
-  -- what stays where they are dropped
-  pub dropped_is : (lasts : Records) (older ds : List Record) → list_all (λ r. contains (from_list {R = record_cmp} older) r && not (contains lasts r)) ds ≡ true
-      → kept_of lasts (filter (λ r. not (contains (from_list {R = record_cmp} ds) r) && not (contains lasts r)) older) ≡ without (kept_of lasts older) ds
-  dropped_is lasts older ds may =
-      let gone : Records = from_list ds in
-      same_set order apart _ (without (kept_of lasts older) ds) (λ q.
-      is_kept lasts (filter (λ r. not (contains gone r) && not (contains lasts r)) older) q
-      ∙ ap (λ b. contains lasts q || b) (filtered order apart (λ r. not (contains gone r) && not (contains lasts r)) older q)
-      ∙ gone_stays_gone (contains lasts q) (contains (from_list {R = record_cmp} older) q) (contains gone q) (λ h.
-      not_false (contains lasts q) (second_true (contains (from_list {R = record_cmp} older) q) (not (contains lasts q))
-      (all_of (λ r. contains (from_list {R = record_cmp} older) r && not (contains lasts r)) ds q may (sym (in_list order apart ds q) ∙ h))))
-      ∙ ap (λ b. b && not (contains gone q)) (sym (is_kept lasts older q))
-      ∙ sym (contains-difference order (kept_of lasts older) gone q))
+  pub below_is : (lasts : Records) (older by_offset found : List Record) (upto : ℕ) → ((r : Record) → contains (kept_of lasts older) r ≡ true → contains (from_list {R = record_cmp} by_offset) r ≡ true)
+      → found ≡ filter (λ r. nat_lt r.offset upto && (contains lasts r || contains (from_list {R = record_cmp} older) r)) by_offset → IsBelow (kept_of lasts older) upto found
+  below_is lasts older by_offset found upto among is = λ r.
+      ap (λ l. contains (from_list {R = record_cmp} l) r) is
+      ∙ filtered order apart (λ q. nat_lt q.offset upto && (contains lasts q || contains (from_list {R = record_cmp} older) q)) by_offset r
+      ∙ ap (λ b. contains (from_list {R = record_cmp} by_offset) r && (nat_lt r.offset upto && b)) (sym (is_kept lasts older r))
+      ∙ found_below (contains (from_list {R = record_cmp} by_offset) r) (nat_lt r.offset upto) (contains (kept_of lasts older) r) (among r)
 
   -- what is older among some records, beside their last ones
   pub adopted_is : (lasts : Records) (rs : List Record) → lasts ≡ last_records (from_list rs) → kept_of lasts (filter (λ r. not (contains lasts r)) rs) ≡ from_list rs

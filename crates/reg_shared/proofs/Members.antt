@@ -1,5 +1,5 @@
 -- Members of sets that lists of records make.
-use Rattle.std.proofs.Common.{◌≡◌, ℕ, ◌<◌, Bool, true, false, ◌&&◌, ◌||◌, not, cond, List, [], ◌∷◌, ◌++◌, refl, sym, ap, subst, ◌∙◌, All}
+use Rattle.std.proofs.Common.{◌≡◌, ℕ, ◌<◌, Bool, true, false, ◌&&◌, ◌||◌, List, [], ◌∷◌, ◌++◌, refl, sym, ap, subst, ◌∙◌, All}
 use Rattle.std.proofs.lemmas.Bool.{false≢true}
 use Rattle.std.proofs.lemmas.List.Elements.{All-head, All-tail}
 use Rattle.std.proofs.lemmas.List.Folds.{list_any-append}
@@ -14,7 +14,6 @@ use Rattle.reg_records.specs.declared.record.Record.{Record}
 use Rattle.reg_set.specs.LastRecords.{is_last, last_records}
 use Rattle.reg_set.specs.RecordOrder.{record_cmp}
 use Rattle.reg_set.specs.Records.{Records}
-use Rattle.reg_topic.specs.Topic.{may_drop}
 use Rattle.reg_shared.proofs.Equality.{eq-by_cmp, equal}
 
 and_swap : (a b : Bool) → (a && b) ≡ (b && a)
@@ -75,22 +74,6 @@ module _ (order : IsTotalOrder record_cmp) (apart : IsAntisymmetric record_cmp) 
   pub in_lasts : (s : Records) (q : Record) → contains (last_records s) q ≡ (contains s q && is_last s q)
   unfolding last_records
   in_lasts s q = contains-retain s (is_last s) q (λ x e. ap (is_last s) (sym (apart q x e)))
-
-  not_last : (s : Records) (r : Record) → contains s r ≡ true → not (contains (last_records s) r) ≡ not (is_last s r)
-  not_last s r here = ap not (in_lasts s r ∙ ap (λ b. b && is_last s r) here)
-
-  -- the records of a set that aren't the last of their keys
-  pub superseded_go : (s : Records) (rs : List Record) → ((q : Record) → list_any (eq_by_cmp record_cmp q) rs ≡ true → contains s q ≡ true)
-      → may_drop s (filter (λ r. not (contains (last_records s) r)) rs) ≡ true
-  superseded_go s [] within = refl
-  superseded_go s (r ∷ rs) within =
-      let p : Record → Bool = λ r. not (contains (last_records s) r) in
-      let here : contains s r ≡ true = within r (ap (λ b. b || list_any (eq_by_cmp record_cmp r) rs) (itself r)) in
-      let rest = superseded_go s rs (λ q any. within q (right (eq_by_cmp record_cmp q r) _ any)) in
-      elim (p r) as (λ b. p r ≡ b → may_drop s (cond b (r ∷ filter p rs) (filter p rs)) ≡ true) [
-        | true ↦ λ e. both (both here (sym (not_last s r here) ∙ e)) rest
-        | false ↦ λ _. rest
-      ] refl
 
   -- what a search by `==` finds
   pub stands : (rs : List Record) (r : Record) → list_any (λ q. (equality.ghosts).eq q r) rs ≡ contains (from_list {R = record_cmp} rs) r

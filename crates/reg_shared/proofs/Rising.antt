@@ -1,5 +1,5 @@
 -- Records that stand by offset.
-use Rattle.std.proofs.Common.{◌≡◌, ℕ, suc, ◌+◌, ◌<◌, ◌≤◌, ◌==◌, Bool, true, false, ◌&&◌, not, cond, List, [], ◌∷◌, ◌++◌, length, get_or, drop, refl, sym, ap, ◌∙◌, arith}
+use Rattle.std.proofs.Common.{◌≡◌, ℕ, suc, ◌+◌, ◌<◌, ◌≤◌, ◌==◌, Bool, true, false, ◌&&◌, not, cond, List, [], ◌∷◌, ◌++◌, length, get_or, take, drop, refl, sym, ap, ◌∙◌, arith, is_none}
 use Prim.Native.Nat.{zero}
 use Rattle.std.specs.Bool.{nat_lt, nat_le}
 use Rattle.std.proofs.lemmas.Bool.{false≢true}
@@ -12,6 +12,7 @@ use Rattle.std.specs.Ordering.{is_lt, nat_cmp, ordering_then}
 use Rattle.std.specs.declared.cmp.Ordering.{Ordering}
 use Rattle.reg_leader.specs.OneStep.{goes_on}
 use Rattle.reg_records.specs.declared.record.Record.{Record}
+use Rattle.reg_set.specs.Compaction.{deletes_below}
 use Rattle.reg_set.specs.RecordOrder.{record_cmp}
 use Rattle.reg_set.specs.Records.{is_in_order}
 use Rattle.reg_shared.specs.Kept.{IsRising}
@@ -110,3 +111,36 @@ from_point p q other (x ∷ xs) (suc k) le low high =
     let here : q x ≡ false = other x ∙ ap not (low 0 x (omega arith)) in
     let rest = from_point p q other xs k (omega arith) (λ i d lt. low (suc i) d (omega arith)) (λ i d l m. high (suc i) d (omega arith) (omega arith)) in
     rest ∙ ap (λ b. cond b (x ∷ filter q xs) (filter q xs)) (sym here)
+
+take_none : (xs : List Record) → take 0 xs ≡ []
+take_none [] = refl
+take_none (x ∷ xs) = refl
+
+pub to_point : (p : Record → Bool) → (xs : List Record) (k : ℕ) → k ≤ length xs
+    → ((i : ℕ) (d : Record) → i < k → p (get_or xs i d) ≡ true) → ((i : ℕ) (d : Record) → k ≤ i → i < length xs → p (get_or xs i d) ≡ false) → take k xs ≡ filter p xs
+to_point p [] zero le low high = refl
+to_point p [] (suc k) le low high = absurd (omega arith)
+to_point p (x ∷ xs) zero le low high =
+    let here : p x ≡ false = high 0 x (omega arith) (omega arith) in
+    let rest = to_point p xs 0 (omega arith) (λ i d lt. absurd (omega arith)) (λ i d l m. high (suc i) d (omega arith) (omega arith)) in
+    sym (take_none xs) ∙ rest ∙ ap (λ b. cond b (x ∷ filter p xs) (filter p xs)) (sym here)
+to_point p (x ∷ xs) (suc k) le low high =
+    let here : p x ≡ true = low 0 x (omega arith) in
+    let rest = to_point p xs k (omega arith) (λ i d lt. low (suc i) d (omega arith)) (λ i d l m. high (suc i) d (omega arith) (omega arith)) in
+    ap (λ ys. x ∷ ys) rest ∙ ap (λ b. cond b (x ∷ filter p xs) (filter p xs)) (sym here)
+
+no_delete : (n g : Bool) → ((n && false) && g) ≡ false
+no_delete true g = refl
+no_delete false g = refl
+
+-- what deletes its key below the floor stands below it
+pub below_twice : (floor : ℕ) (f : Record → Bool) (xs : List Record)
+    → filter (λ r. deletes_below floor r && f r) (filter (λ r. nat_lt r.offset floor) xs) ≡ filter (λ r. deletes_below floor r && f r) xs
+below_twice floor f [] = refl
+below_twice floor f (x ∷ xs) =
+    let p : Record → Bool = λ r. deletes_below floor r && f r in
+    let ys = filter (λ r. nat_lt r.offset floor) xs in
+    elim (nat_lt x.offset floor) as (λ b. nat_lt x.offset floor ≡ b → filter p (cond b (x ∷ ys) ys) ≡ cond (p x) (x ∷ filter p xs) (filter p xs)) [
+      | true ↦ λ e. ap (λ zs. cond (p x) (x ∷ zs) zs) (below_twice floor f xs)
+      | false ↦ λ e. below_twice floor f xs ∙ ap (λ b. cond b (x ∷ filter p xs) (filter p xs)) (sym (ap (λ b. (is_none x.value && b) && f x) e ∙ no_delete (is_none x.value) (f x)))
+    ] refl

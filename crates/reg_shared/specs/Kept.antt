@@ -1,8 +1,9 @@
 -- Private: how what is held is stored.
-use Rattle.std.specs.Prelude.{◌≡◌, ◌≤◌, ◌<◌, ℕ, List, [], ◌∷◌, ◌++◌, true, option_to_list}
+use Rattle.std.specs.Prelude.{◌≡◌, ◌≤◌, ◌<◌, ℕ, List, [], ◌∷◌, ◌++◌, Bool, true, option_to_list, if◌then◌else◌}
 use Rattle.std.specs.FinSet.{contains, from_list, union}
 use Rattle.std.specs.List.{AllByRecursion}
 use Rattle.reg_records.specs.declared.record.Record.{Record}
+use Rattle.reg_set.specs.Compaction.{is_gone}
 use Rattle.reg_set.specs.LastRecords.{last, last_records}
 use Rattle.reg_set.specs.RecordOrder.{record_cmp}
 use Rattle.reg_set.specs.Records.{Records}
@@ -15,6 +16,10 @@ kept_of lasts older = union lasts (from_list older)
 abbrev pub lasts_at : Records → List Record → List Record
 lasts_at lasts [] = []
 lasts_at lasts (r ∷ rs) = option_to_list (last lasts r.key) ++ lasts_at lasts rs
+
+-- whether a record may leave: a last one that deletes its key below the floor, of which none is left, or an older one
+abbrev pub may_go : Records → Records → Records → ℕ → Record → Bool
+may_go lasts older left floor r = if contains lasts r then is_gone floor left r else contains older r
 
 -- no record stands before one of a smaller offset
 abbrev pub IsRising : List Record → Type 0

@@ -2,10 +2,11 @@
 ghost use Rattle.std.specs.Prelude.{[], true, ◌≡◌, ◌++◌, ◌&&◌, ◌||◌, IfOk, OnErr, OnOk, not, nat_le, nat_lt};
 ghost use Rattle.std.specs.FinSet.{contains, from_list, union};
 ghost use Rattle.std.specs.List.{filter, list_all};
+ghost use Rattle.reg_set.specs.Compaction.{deletes_below, is_gone};
 ghost use Rattle.reg_set.specs.LastRecords.{last_records};
 ghost use Rattle.reg_set.specs.RecordOrder.{record_cmp};
 ghost use Rattle.reg_set.specs.Records.{Records};
-ghost use Rattle.reg_shared.specs.Kept.{IsRising, lasts_at};
+ghost use Rattle.reg_shared.specs.Kept.{IsRising, lasts_at, may_go};
 
 use reg_fold::Registry;
 use reg_records::Record;
@@ -23,6 +24,19 @@ pub(crate) fn since(by_offset: &[Record], from: u64) -> &[Record]
         { record.offset < from },
     );
     &by_offset[start..]
+}
+
+/// The records below an offset.
+pub(crate) fn until(by_offset: &[Record], upto: u64) -> &[Record]
+    requires { IsRising by_offset.now }
+    ensures { result.now ≡ filter (λ r. nat_lt r.offset upto) by_offset.now }
+{
+    let end = by_offset.partition_point(
+        |record: &Record| -> bool
+            ensures { result ≡ nat_lt record.now.offset upto }
+        { record.offset < upto },
+    );
+    &by_offset[..end]
 }
 
 /// Whether the record is the last of its key, or among the older ones.
@@ -54,6 +68,26 @@ pub(crate) fn copy_kept(
     Ok(found)
 }
 
+/// Copies of those of the records that are kept and below an offset. The only error is want of memory.
+pub(crate) fn copy_below(
+    alloc: Global,
+    registry: &Registry,
+    older: &[Record],
+    records: &[Record],
+    upto: u64,
+) -> Result<Vec<Record>, AllocError>
+    ensures { IfOk result (λ found. found.items
+        ≡ filter (λ r. nat_lt r.offset upto && (contains registry.now r || contains (from_list {R = record_cmp} older.now) r)) records.now) }
+{
+    let mut found = Vec::new(alloc);
+    for record in records {
+        if record.offset < upto && is_kept(registry, older, record) {
+            found.push(registry.copy_of(record)?)?;
+        }
+    }
+    Ok(found)
+}
+
 /// Copies of the records that aren't the last of their keys. The only error is want of memory.
 pub(crate) fn copy_older(
     alloc: Global,
@@ -71,25 +105,88 @@ pub(crate) fn copy_older(
     Ok(found)
 }
 
-/// Whether each of the records is among the older ones, and none is the last of its key.
-pub(crate) fn may_drop(registry: &Registry, older: &RecordSet, dropped: &[Record]) -> bool
-    ensures { result ≡ list_all (λ r. contains older.now r && not (contains registry.now r)) dropped.now }
+/// Copies of those of the records that are last ones and delete their keys below the floor. The only error
+/// is want of memory.
+pub(crate) fn copy_deletes(
+    alloc: Global,
+    registry: &Registry,
+    records: &[Record],
+    floor: u64,
+) -> Result<Vec<Record>, AllocError>
+    ensures { IfOk result (λ found. found.items ≡ filter (λ r. deletes_below floor r && contains registry.now r) records.now) }
 {
-    for given in dropped {
-        let among = older.contains(given);
-        let last = registry.contains(given);
-        if !among || last {
-            return false;
+    let mut found = Vec::new(alloc);
+    for record in records {
+        if deletes_below(record, floor) && registry.contains(record) {
+            found.push(record.clone()?)?;
         }
     }
-    true
+    Ok(found)
 }
 
-/// Leaves those of the older records that aren't gone, and aren't the last of their keys.
-pub(crate) fn drop_all(registry: &Registry, older: &mut Vec<Record>, gone: &RecordSet)
-    ensures { older.new.items ≡ filter (λ r. not (contains gone.now r) && not (contains registry.now r)) older.old.items }
+/// Whether the record deletes its key, and stands below the floor.
+fn deletes_below(given: &Record, floor: u64) -> bool
+    ensures { result ≡ deletes_below floor given.now }
 {
-    older.retain(|record| !gone.contains(record) && !registry.contains(record));
+    given.value.is_none() && given.offset < floor
+}
+
+/// Copies of the older records that aren't gone, and aren't the last of their keys. The only error is
+/// want of memory.
+pub(crate) fn copy_left(
+    alloc: Global,
+    registry: &Registry,
+    older: &[Record],
+    gone: &RecordSet,
+) -> Result<Vec<Record>, AllocError>
+    ensures { IfOk result (λ left. left.items ≡ filter (λ r. not (contains gone.now r) && not (contains registry.now r)) older.now) }
+{
+    let mut left = Vec::new(alloc);
+    for record in older {
+        if !gone.contains(record) && !registry.contains(record) {
+            left.push(record.clone()?)?;
+        }
+    }
+    Ok(left)
+}
+
+/// Whether the records may leave, where those older ones are left then, and that is the floor.
+pub(crate) fn may_leave(
+    registry: &Registry,
+    older: &RecordSet,
+    left: &RecordSet,
+    floor: u64,
+    dropped: &[Record],
+) -> bool
+    ensures { result ≡ list_all (may_go registry.now older.now left.now floor) dropped.now }
+{
+    dropped
+        .iter()
+        .all(|given| may_go(registry, older, left, floor, given))
+}
+
+/// Whether the record may leave: it is a last one that deletes its key below the floor, of which none is
+/// left, or an older one.
+fn may_go(
+    registry: &Registry,
+    older: &RecordSet,
+    left: &RecordSet,
+    floor: u64,
+    given: &Record,
+) -> bool
+    ensures { result ≡ may_go registry.now older.now left.now floor given.now }
+{
+    if registry.contains(given) {
+        return is_gone(left, floor, given);
+    }
+    older.contains(given)
+}
+
+/// Whether the record deletes its key below the floor, and none of its key is left.
+fn is_gone(left: &RecordSet, floor: u64, given: &Record) -> bool
+    ensures { result ≡ is_gone floor left.now given.now }
+{
+    deletes_below(given, floor) && left.last(&given.key).is_none()
 }
 
 /// Leaves the last records alone.

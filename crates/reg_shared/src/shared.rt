@@ -1,32 +1,39 @@
 // What the topic's list folds to.
-ghost use Rattle.std.specs.Prelude.{◌≡◌, ◌<◌, true, false, IfErr, IfOk, OnErr, OnOk};
+ghost use Rattle.std.specs.Prelude.{◌≡◌, ◌<◌, ◌≤◌, true, false, IfErr, IfOk, OnErr, OnOk};
 ghost use Rattle.std.specs.FinSet.{from_list};
 ghost use Rattle.std.specs.List.{AllByRecursion};
 ghost use Rattle.reg_fold.specs.Closed.{is_closed};
 ghost use Rattle.reg_set.specs.LastRecords.{last_records};
 ghost use Rattle.reg_leader.specs.Adoption.{HasPlace, IsAdoptRefusal};
-ghost use Rattle.reg_topic.specs.Topic.{follows, may_drop, owed_by, plain_topic, topic_from, without};
-ghost use Rattle.reg_shared.specs.Held.{IsSince, held_after_batch, held_after_drop, held_of};
+ghost use Rattle.reg_kept.specs.Floors.{compacted_to, may_leave, without};
+ghost use Rattle.reg_topic.specs.Topic.{follows, may_compact, owed_by, plain_topic, topic_from};
+ghost use Rattle.reg_shared.specs.Held.{IsBelow, IsSince, base_of, held_after_batch, held_after_compaction, held_of};
 
 use crate::kept::{
-    are_none, copy_kept, copy_older, drop_all, grow, keep_lasts, may_drop, push_all, since,
+    are_none, copy_below, copy_deletes, copy_kept, copy_left, copy_older, grow, keep_lasts,
+    may_leave, push_all, since, until,
 };
 use reg_feed::{FeedName, Fold};
 use reg_fold::Registry;
+use reg_kept::compacting_drops_what_may_leave;
 use reg_leader::{AdoptError, Adopted, adopt};
 use reg_records::{Log, Record};
 use reg_set::{
     RecordSet, last_is_greatest, last_records_are_enough, merging_joins_sets, records_are_ordered,
 };
-use reg_topic::{Item, allowed_drops_leave_compactions, follows};
+use reg_topic::{Compaction, Item, follows};
 use std::alloc::{AllocError, Global};
 use std::marker::{Brand, Model};
 
 /// How many dropped records there may be among those by offset, at least, before they go.
 const DROPPED: usize = 64;
 
-/// The kept set of a topic and its next offset, with the registry over the last records. A commit
-/// and a compaction cost what they hold. Contracts see the kept set and the next offset.
+/// How many deletes may be kept, at least, before they are many.
+const DELETES: usize = 64;
+
+/// The kept set of a topic with its floor and its next offset, with the registry over the last records. A
+/// commit costs what it holds. Contracts see the kept set, the next offset, and what that was at the last
+/// compaction.
 #[derive(Drop)]
 pub struct Shared {
     // Held, since taking in an item is given none.
@@ -38,7 +45,13 @@ pub struct Shared {
     by_offset: Vec<Record>,
     // How many were dropped since only kept ones stood there.
     dropped: usize,
+    // How many records without a value joined since the floor rose, and before the last compaction.
+    deletes: usize,
+    // How many joined since.
+    new_deletes: usize,
+    floor: u64,
     next: u64,
+    compacted: u64,
 }
 
 /// What a topic begins with.
@@ -58,7 +71,7 @@ impl Model for Shared {
 
     ghost coded = { held_code };
 
-    ghost view = { λ s. record { kept = kept_of s.registry s.older.items; next = s.next } };
+    ghost view = { λ s. record { kept = record { records = kept_of s.registry s.older.items; floor = s.floor }; next = s.next; compacted = s.compacted } };
 
     ghost invariant = { λ s. IsShared s.registry s.older.items s.by_offset.items s.next };
 }
@@ -67,7 +80,7 @@ impl Shared {
     /// What is held of the topic that begins with a log, and with the mark of ids that the log owes,
     /// unless it takes no commands.
     pub fn adopt(alloc: Global, base: &Log) -> Result<Begun, AdoptError>
-        ensures held { IfOk result (λ begun. begun.shared ≡ held_of (topic_from base.now.records.items base.now.next)) }
+        ensures held { IfOk result (λ begun. begun.shared ≡ held_of (topic_from base.now.records.items base.now.next base.now.floor)) }
         ensures due { IfOk result (λ begun. begun.due.items ≡ owed_by base.now.records.items base.now.next) }
         ensures place { OnOk result (HasPlace (last_records (from_list base.now.records.items)) base.now.next) }
         ensures takes_commands { OnOk result (is_closed (last_records (from_list base.now.records.items)) ≡ false) }
@@ -90,7 +103,7 @@ impl Shared {
     ) -> Result<Shared, AllocError>
         requires log { log.now ≡ from_list base.now.records.items }
         requires registry { registry ≡ last_records log.now }
-        ensures { IfOk result (λ shared. shared ≡ held_of (plain_topic base.now.records.items base.now.next)) }
+        ensures { IfOk result (λ shared. shared ≡ held_of (plain_topic base.now.records.items base.now.next base.now.floor)) }
     {
         records_are_ordered();
         last_records_are_enough();
@@ -102,13 +115,17 @@ impl Shared {
             older,
             by_offset,
             dropped: 0,
+            deletes: count_deletes(&base.records),
+            new_deletes: 0,
+            floor: base.floor,
             next: base.next,
+            compacted: base.floor,
         })
     }
 
     /// The registry over the last records.
     pub fn registry(&self) -> &Registry
-        ensures { result.now ≡ last_records self.now.kept }
+        ensures { result.now ≡ last_records self.now.kept.records }
     {
         &self.registry
     }
@@ -120,9 +137,30 @@ impl Shared {
         self.next
     }
 
+    /// The floor of the kept set.
+    pub fn floor(&self) -> u64
+        ensures { result ≡ self.now.kept.floor }
+    {
+        self.floor
+    }
+
+    /// What the offset of the next record was at the last compaction; where there was none, the floor
+    /// that the topic began with.
+    pub fn compacted(&self) -> u64
+        ensures { result ≡ self.now.compacted }
+    {
+        self.compacted
+    }
+
+    /// Whether so many records without a value joined before the last compaction, and since the floor rose, that
+    /// it pays to raise it: nodes are rebased then, which costs what is kept. No contract speaks of it.
+    pub fn has_many_deletes(&self) -> bool {
+        self.deletes > DELETES && self.deletes > self.by_offset.len() / 4
+    }
+
     /// Copies of the kept records at or above an offset. The only error is want of memory.
     pub fn since(&self, from: u64) -> Result<Vec<Record>, AllocError>
-        ensures all { IfOk result (λ found. IsSince self.now.kept from found.items) }
+        ensures all { IfOk result (λ found. IsSince self.now.kept.records from found.items) }
         ensures below { IfOk result (λ found. AllByRecursion (λ r. r.offset < self.now.next) found.items) }
     {
         records_are_ordered();
@@ -131,14 +169,33 @@ impl Shared {
         Ok(found)
     }
 
-    /// The kept records that aren't the last of their keys: those that a compaction drops. The only
-    /// error is want of memory.
-    pub fn superseded(&self) -> Result<Vec<Record>, AllocError>
-        ensures may_go { IfOk result (λ found. may_drop self.now.kept found.items ≡ true) }
-        ensures lasts_stay { IfOk result (λ found. without self.now.kept found.items ≡ last_records self.now.kept) }
+    /// Copies of the kept records below an offset. The only error is want of memory.
+    pub fn below(&self, upto: u64) -> Result<Vec<Record>, AllocError>
+        ensures { IfOk result (λ found. IsBelow self.now.kept.records upto found.items) }
     {
         records_are_ordered();
-        let found = copy_older(self.alloc, &self.registry, &self.older)?;
+        let found = copy_below(
+            self.alloc,
+            &self.registry,
+            &self.older,
+            &self.by_offset,
+            upto,
+        )?;
+        Ok(found)
+    }
+
+    /// The kept records that a compaction to that floor drops: those that aren't the last of their keys,
+    /// and the last ones that delete their keys below it. The only error is want of memory.
+    pub fn dropped_to(&self, floor: u64) -> Result<Vec<Record>, AllocError>
+        ensures may_go { IfOk result (λ found. may_leave floor self.now.kept.records found.items ≡ true) }
+        ensures rest { IfOk result (λ found. without self.now.kept.records found.items ≡ compacted_to floor self.now.kept.records) }
+    {
+        records_are_ordered();
+        compacting_drops_what_may_leave();
+        let mut found = copy_older(self.alloc, &self.registry, &self.older)?;
+        let below = until(&self.by_offset, floor);
+        let mut deletes = copy_deletes(self.alloc, &self.registry, below, floor)?;
+        found.append(&mut deletes)?;
         Ok(found)
     }
 
@@ -161,25 +218,49 @@ impl Shared {
             &mut self.by_offset,
             batch,
         )?;
+        self.new_deletes = self.new_deletes.saturating_add(count_deletes(batch));
         self.next += batch.len() as u64;
         Ok(())
     }
 
-    /// Drops the records. The only error is want of memory; all is then as it was.
-    fn drop_records(&mut self, dropped: &[Record]) -> Result<(), AllocError>
-        ensures dropped { OnOk result (self.new ≡ held_after_drop (may_drop self.old.kept dropped.now) self.old dropped.now) }
+    /// Takes in a compaction. The only error is want of memory; all is then as it was.
+    fn take_compaction(&mut self, compaction: &Compaction) -> Result<(), AllocError>
+        ensures taken { OnOk result (self.new
+            ≡ held_after_compaction (may_compact (base_of self.old) compaction.now) self.old compaction.now) }
+        ensures refused { OnErr result (self.new ≡ self.old) }
+    {
+        if compaction.floor < self.floor || self.next < compaction.floor {
+            return Ok(());
+        }
+        self.drop_records(compaction)
+    }
+
+    /// Takes in a compaction whose floor may be set.
+    fn drop_records(&mut self, compaction: &Compaction) -> Result<(), AllocError>
+        requires rises { self.old.kept.floor ≤ compaction.now.floor }
+        requires ahead { compaction.now.floor ≤ self.old.next }
+        ensures taken { OnOk result (self.new
+            ≡ held_after_compaction (may_compact (base_of self.old) compaction.now) self.old compaction.now) }
         ensures refused { OnErr result (self.new ≡ self.old) }
     {
         records_are_ordered();
-        allowed_drops_leave_compactions();
-        last_records_are_enough();
+        last_is_greatest();
+        let dropped = compaction.dropped.as_slice();
         let older = RecordSet::of(self.alloc, &self.older)?;
         let gone = RecordSet::of(self.alloc, dropped)?;
-        if !may_drop(&self.registry, &older, dropped) {
+        let left = copy_left(self.alloc, &self.registry, &self.older, &gone)?;
+        let rest = RecordSet::of(self.alloc, &left)?;
+        if !may_leave(&self.registry, &older, &rest, compaction.floor, dropped) {
             return Ok(());
         }
-        drop_all(&self.registry, &mut self.older, &gone);
+        self.older = left;
+        self.registry.forget_all(dropped);
         self.dropped = self.dropped.saturating_add(dropped.len());
+        let before = deletes_left(self.deletes, self.floor < compaction.floor);
+        self.deletes = before.saturating_add(self.new_deletes);
+        self.new_deletes = 0;
+        self.floor = compaction.floor;
+        self.compacted = self.next;
         Ok(())
     }
 
@@ -206,8 +287,8 @@ impl Fold<Item> for Shared {
     fn take_item(&mut self, item: &Item) -> Result<(), AllocError> {
         match item {
             Item::Commit(commit) => self.take_batch(commit.batch.as_slice()),
-            Item::Compaction(dropped) => {
-                self.drop_records(dropped.as_slice())?;
+            Item::Compaction(compaction) => {
+                self.take_compaction(compaction)?;
                 self.trim();
                 Ok(())
             }
@@ -221,7 +302,7 @@ impl FeedName<Item, Shared> for Brand {
 
     ghost book = { record { number = 0; log_name = 0; cells_name = 0 } };
 
-    ghost first = { record { kept = empty; next = 0 } };
+    ghost first = { record { kept = record { records = empty; floor = 0 }; next = 0; compacted = 0 } };
 }
 
 impl Clone for Shared {
@@ -238,7 +319,24 @@ impl Clone for Shared {
             older,
             by_offset,
             dropped: self.dropped,
+            deletes: self.deletes,
+            new_deletes: self.new_deletes,
+            floor: self.floor,
             next: self.next,
+            compacted: self.compacted,
         })
     }
+}
+
+/// How many of the records have no value.
+fn count_deletes(records: &[Record]) -> usize {
+    records
+        .iter()
+        .filter(|record| record.value.is_none())
+        .count()
+}
+
+/// How many of the deletes that were counted are left by a compaction.
+fn deletes_left(count: usize, rises: bool) -> usize {
+    if rises { 0 } else { count }
 }

@@ -11,12 +11,13 @@ use Rattle.reg_set.specs.RecordOrder.{record_cmp}
 use Rattle.reg_set.specs.Records.{Records}
 use Rattle.reg_leader.specs.OneStep.{BatchesEndByTheLimit, BatchesGoOn}
 use Rattle.reg_topic.specs.Laws.{LogIsWhatWasPublished}
-use Rattle.reg_topic.specs.Topic.{MayCommit, MayFollow, after_batch, after_drop, after_item, follows, may_drop, published_by, records_of_item, registry_of}
+use Rattle.reg_topic.specs.Topic.{MayCommit, MayFollow, after_batch, after_compaction, after_item, follows, may_compact, published_by, records_of_item, registry_of}
 use Rattle.reg_topic.specs.declared.published.Commit.{Commit}
+use Rattle.reg_topic.specs.declared.published.Compaction.{Compaction}
 use Rattle.reg_topic.specs.declared.published.Item.{Item}
 use Rattle.reg_topic.specs.declared.published.Item.TheVariants as items
 use Rattle.reg_topic.specs.declared.topic.Topic.{Topic}
-use Rattle.reg_topic.proofs.Compactions.{both}
+use Rattle.reg_topic.proofs.Bools.{both}
 
 or-false : (a : Bool) → a ≡ (a || false)
 or-false true = refl
@@ -51,13 +52,13 @@ module _ (order : IsTotalOrder record_cmp) (apart : IsAntisymmetric record_cmp) 
     log-batch true t batch e = refl
     log-batch false t batch e = cc
 
-    log-drop : (b : Bool) (t : Topic) (ds : List Record) → (after_drop b t ds).log ≡ union t.log (from_list [])
-    log-drop true t ds = with_none t.log
-    log-drop false t ds = with_none t.log
+    log-compaction : (b : Bool) (t : Topic) (c : Compaction) → (after_compaction b t c).log ≡ union t.log (from_list [])
+    log-compaction true t c = with_none t.log
+    log-compaction false t c = with_none t.log
 
     log-item : (t : Topic) (i : Item) → MayFollow t i → (after_item t i).log ≡ union t.log (from_list (records_of_item i))
     log-item t (items.Commit commit) m = log-batch (follows t.next commit.batch) t commit.batch (follows-commit t commit m)
-    log-item t (items.Compaction ds) m = log-drop (may_drop t.kept ds) t ds
+    log-item t (items.Compaction c) m = log-compaction (may_compact t c) t c
 
     pub log_is_published : LogIsWhatWasPublished
     log_is_published t [] l = with_none t.log

@@ -1,11 +1,10 @@
 pub mod Beginnings
+pub mod Bools
 pub mod Compactions
-pub mod Equality
 pub mod Gains
 pub mod GoesOn
-pub mod Left
 pub mod Marks
+pub mod More
 pub mod Offsets
 pub mod Promises
-pub mod Superseded
 pub mod Topics

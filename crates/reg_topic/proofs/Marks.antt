@@ -26,8 +26,8 @@ use Rattle.reg_fold.specs.Opaque.{NoneIsNoOpaqueLast, is_opaque, is_version, opa
 use Rattle.reg_fold.specs.Standing.{greatest_id}
 use Rattle.reg_rules.specs.Writings.{id_marked, numbered}
 use Rattle.reg_leader.specs.Adoption.{adopting}
-use Rattle.reg_topic.proofs.Compactions.{equal}
-use Rattle.reg_topic.proofs.Offsets.{either}
+use Rattle.reg_topic.proofs.Bools.{either}
+use Rattle.reg_topic.proofs.Offsets.{equal}
 
 -- the records are of the mark's key
 abbrev pub AreMarks : List Record → Type 0

@@ -13,11 +13,12 @@ use Rattle.reg_leader.specs.OneStep.{BatchesGoOn, StepsMeetLevels}
 use Rattle.reg_leader.specs.StayOpen.{StepsStayOpen, last_after}
 use Rattle.reg_leader.specs.Taken.{AreBelow, EntriesTakeIds, IsTaken, StepsKeepTaken}
 use Rattle.reg_topic.specs.Promises.{LawfulListsKeepIds, LawfulListsMeetLevels, LawfulListsStayOpen}
-use Rattle.reg_topic.specs.Topic.{IsAdopted, IsLawful, MayFollow, after_batch, after_drop, after_item, after_items, follows, may_drop, registry_of}
+use Rattle.reg_topic.specs.Topic.{IsAdopted, IsLawful, MayFollow, after_batch, after_compaction, after_item, after_items, follows, may_compact, registry_of}
+use Rattle.reg_topic.specs.declared.published.Compaction.{Compaction}
 use Rattle.reg_topic.specs.declared.published.Item.{Item}
 use Rattle.reg_topic.specs.declared.published.Item.TheVariants as items
 use Rattle.reg_topic.specs.declared.topic.Topic.{Topic}
-use Rattle.reg_topic.proofs.Offsets.{below_batch, below_drop}
+use Rattle.reg_topic.proofs.Offsets.{below_batch, below_compaction}
 use Rattle.reg_topic.proofs.Topics.{after_more, lawful_at, lawful_parts}
 
 -- the entry stood in the log after those items
@@ -53,18 +54,18 @@ module _ (order : IsTotalOrder record_cmp) (apart : IsAntisymmetric record_cmp) 
   open_batch true t batch more h = more
   open_batch false t batch more h = h
 
-  open_drop : (b : Bool) (t : Topic) (ds : List Record) → is_closed (registry_of t) ≡ false → is_closed (registry_of (after_drop b t ds)) ≡ false
-  open_drop true t ds h = h
-  open_drop false t ds h = h
+  open_compaction : (b : Bool) (t : Topic) (c : Compaction) → is_closed (registry_of t) ≡ false → is_closed (registry_of (after_compaction b t c)) ≡ false
+  open_compaction true t c h = h
+  open_compaction false t c h = h
 
   steady_item : (t : Topic) (i : Item) → MayFollow t i → IsSteady t → IsSteady (after_item t i)
   steady_item t (items.Commit commit) m h = record {
     not_closed = open_batch (follows t.next commit.batch) t commit.batch (stay t.log t.next commit.command m.reply commit.batch h.not_closed m.step) h.not_closed;
     below = below_batch order apart (follows t.next commit.batch) t commit.batch (λ _. go (registry_of t) t.next commit.command m.reply commit.batch m.step) h.below;
   }
-  steady_item t (items.Compaction ds) m h = record {
-    not_closed = open_drop (may_drop t.kept ds) t ds h.not_closed;
-    below = below_drop (may_drop t.kept ds) t ds h.below;
+  steady_item t (items.Compaction c) m h = record {
+    not_closed = open_compaction (may_compact t c) t c h.not_closed;
+    below = below_compaction (may_compact t c) t c h.below;
   }
 
   steady_items : (t : Topic) (is : List Item) → IsLawful t is → IsSteady t → IsSteady (after_items t is)
@@ -79,14 +80,14 @@ module _ (order : IsTotalOrder record_cmp) (apart : IsAntisymmetric record_cmp) 
     taken_batch true t batch id normal more h = more
     taken_batch false t batch id normal more h = h
 
-    taken_drop : (b : Bool) (t : Topic) (ds : List Record) (id : ℕ) (normal : List ℕ) → IsTaken (registry_of t) id normal → IsTaken (registry_of (after_drop b t ds)) id normal
-    taken_drop true t ds id normal h = h
-    taken_drop false t ds id normal h = h
+    taken_compaction : (b : Bool) (t : Topic) (c : Compaction) (id : ℕ) (normal : List ℕ) → IsTaken (registry_of t) id normal → IsTaken (registry_of (after_compaction b t c)) id normal
+    taken_compaction true t c id normal h = h
+    taken_compaction false t c id normal h = h
 
     taken_item : (t : Topic) (i : Item) (id : ℕ) (normal : List ℕ) → MayFollow t i → IsSteady t → IsTaken (registry_of t) id normal → IsTaken (registry_of (after_item t i)) id normal
     taken_item t (items.Commit commit) id normal m s h =
         taken_batch (follows t.next commit.batch) t commit.batch id normal (keep t.log t.next commit.command m.reply commit.batch s.not_closed s.below m.step id normal h) h
-    taken_item t (items.Compaction ds) id normal m s h = taken_drop (may_drop t.kept ds) t ds id normal h
+    taken_item t (items.Compaction c) id normal m s h = taken_compaction (may_compact t c) t c id normal h
 
     taken_items : (t : Topic) (is : List Item) (id : ℕ) (normal : List ℕ) → IsLawful t is → IsSteady t → IsTaken (registry_of t) id normal → IsTaken (registry_of (after_items t is)) id normal
     taken_items t [] id normal l s h = h

@@ -1,26 +1,35 @@
 -- What is true of topics and of lists of items.
-use Rattle.std.specs.Prelude.{◌≡◌, ◌<◌, ◌↔◌, ℕ, List, [], ◌∷◌, ◌++◌, All, true, false, ◌&&◌, not}
+use Rattle.std.specs.Prelude.{◌≡◌, ◌<◌, ◌≤◌, ◌↔◌, ℕ, List, [], ◌∷◌, ◌++◌, All, true, false}
 use Rattle.std.specs.FinSet.{contains, from_list, union}
 use Rattle.std.specs.List.{AllByRecursion}
 use Rattle.reg_records.specs.declared.record.Record.{Record}
-use Rattle.reg_set.specs.Compaction.{IsCompactionOf}
-use Rattle.reg_set.specs.LastRecords.{is_last, last_records}
-use Rattle.reg_set.specs.RecordOrder.{record_cmp}
+use Rattle.reg_set.specs.LastRecords.{last_records}
 use Rattle.reg_set.specs.Records.{Records}
+use Rattle.reg_kept.specs.Compaction.{IsCompactionOf, KeepsLasts}
 use Rattle.reg_fold.specs.Closed.{is_closed}
-use Rattle.reg_topic.specs.Topic.{IsAdopted, IsLawful, MayCommit, MayFollow, after_item, after_items, follows, may_drop, published_by, topic_from, without}
+use Rattle.reg_topic.specs.Topic.{IsAdopted, IsLawful, MayCommit, MayFollow, after_item, after_items, follows, left_by, may_compact, published_by, topic_from, whole_log}
 use Rattle.reg_topic.specs.declared.published.Commit.{Commit}
+use Rattle.reg_topic.specs.declared.published.Compaction.{Compaction}
 use Rattle.reg_topic.specs.declared.published.Item.{Item}
 use Rattle.reg_topic.specs.declared.topic.Topic.{Topic}
 
--- records may be dropped exactly where they are kept and what stays is a compaction of the kept set
+-- a compaction may be exactly where its floor doesn't fall and isn't ahead of the next offset, its records are kept, and what stays is a
+-- compaction of the kept set
 abbrev pub AllowedDropsLeaveCompactions : Type 0
-AllowedDropsLeaveCompactions = (kept : Records) (dropped : List Record) → (may_drop kept dropped ≡ true)
-    ↔ (AllByRecursion (λ r. contains kept r ≡ true) dropped × IsCompactionOf (without kept dropped) kept)
+AllowedDropsLeaveCompactions = (t : Topic) (c : Compaction) → (may_compact t c ≡ true)
+    ↔ ((t.kept.floor ≤ c.floor) × (c.floor ≤ t.next) × AllByRecursion (λ r. contains t.kept.records r ≡ true) c.dropped × IsCompactionOf (left_by t c) t.kept)
 
--- where the kept set is a compaction of the log, it stays so, after lawful items and others
+-- where the floor isn't above the next offset, and the kept set is a compaction of the log, it stays so, after lawful items and others
 abbrev pub KeptStaysCompaction : Type 0
-KeptStaysCompaction = (t : Topic) (is : List Item) → IsCompactionOf t.kept t.log → IsCompactionOf (after_items t is).kept (after_items t is).log
+KeptStaysCompaction = (t : Topic) (is : List Item) → t.kept.floor ≤ t.next → IsCompactionOf t.kept (whole_log t)
+    → IsCompactionOf (after_items t is).kept (whole_log (after_items t is))
+
+-- the floor stays there, and never falls
+abbrev pub FloorsStayBelow : Type 0
+FloorsStayBelow = (t : Topic) (is : List Item) → t.kept.floor ≤ t.next → (after_items t is).kept.floor ≤ (after_items t is).next
+
+abbrev pub FloorsRise : Type 0
+FloorsRise = (t : Topic) (is : List Item) → t.kept.floor ≤ (after_items t is).kept.floor
 
 -- a log only grows
 abbrev pub LogsGrow : Type 0
@@ -58,15 +67,12 @@ LawfulListsJoin = (t : Topic) (is js : List Item) → IsLawful t (is ++ js) ↔ 
 abbrev pub CommitsFollow : Type 0
 CommitsFollow = (t : Topic) (commit : Commit) → MayCommit t commit → follows t.next commit.batch ≡ true
 
--- records of which none is at or past the next offset, and that aren't closed, begin an adopted topic: the mark that they owe leaves it open
+-- records of which none is at or past the next offset, and that aren't closed, begin an adopted topic, with a floor that isn't above it:
+-- the mark that they owe leaves it open
 abbrev pub AdoptedLogsBegin : Type 0
-AdoptedLogsBegin = (rs : List Record) (next : ℕ) → All (λ r. r.offset < next) rs → is_closed (last_records (from_list rs)) ≡ false → IsAdopted (topic_from rs next)
+AdoptedLogsBegin = (rs : List Record) (next floor : ℕ) → All (λ r. r.offset < next) rs → floor ≤ next → is_closed (last_records (from_list rs)) ≡ false
+    → IsAdopted (topic_from rs next floor)
 
--- a compaction, together with a part of the whole, is a compaction of the whole
-abbrev pub CompactionsTakeParts : Type 0
-CompactionsTakeParts = (C P R : Records) → IsCompactionOf C R → ((r : Record) → contains P r ≡ true → contains R r ≡ true) → IsCompactionOf (union C P) R
-
--- those of the kept records that are no last ones may be dropped, and what stays are the last ones
-abbrev pub SupersededMayGo : Type 0
-SupersededMayGo = (kept : Records) (dropped : List Record) → ((r : Record) → contains (from_list {R = record_cmp} dropped) r ≡ (contains kept r && not (is_last kept r)))
-    → (may_drop kept dropped ≡ true) × (without kept dropped ≡ last_records kept)
+-- a set that keeps each last record still does with more of the whole
+abbrev pub MoreKeepsLasts : Type 0
+MoreKeepsLasts = (C P R : Records) → KeepsLasts C R → ((r : Record) → contains P r ≡ true → contains R r ≡ true) → KeepsLasts (union C P) R

@@ -1,23 +1,21 @@
 // The laws of topics. What is proved here costs nothing at run time: a function that needs a law
 // calls it.
-ghost use Rattle.reg_topic.specs.Laws.{AdoptedLogsBegin, AllowedDropsLeaveCompactions, CommitsFollow, CompactionsTakeParts, ItemsAreFoldedInTurn, KeptStaysCompaction, LawfulItemsFollow, LawfulListsGoOn, LawfulListsJoin, ListsAreFoldedInTurn, LogIsWhatWasPublished, LogsGrow, LogsGrowOverLists, SupersededMayGo};
+ghost use Rattle.reg_topic.specs.Laws.{AdoptedLogsBegin, AllowedDropsLeaveCompactions, CommitsFollow, FloorsRise, FloorsStayBelow, ItemsAreFoldedInTurn, KeptStaysCompaction, LawfulItemsFollow, LawfulListsGoOn, LawfulListsJoin, ListsAreFoldedInTurn, LogIsWhatWasPublished, LogsGrow, LogsGrowOverLists, MoreKeepsLasts};
 ghost use Rattle.reg_topic.specs.Promises.{LawfulListsKeepIds, LawfulListsMeetLevels, LawfulListsStayOpen};
 
 use reg_fold::{entries_are_of_places, none_is_no_opaque_last, two_schemas_is_least};
+use reg_kept::{compactions_compose, compactions_unite, drops_leave_compactions};
 use reg_leader::{
     batches_end_by_the_limit, batches_go_on, steps_keep_taken, steps_meet_levels, steps_stay_open,
 };
-use reg_set::{
-    compactions_compose, last_is_greatest, last_records_are_enough, last_records_of_unions,
-    merging_joins_sets, records_are_ordered,
-};
+use reg_set::{last_is_greatest, last_records_are_enough, merging_joins_sets, records_are_ordered};
 
-/// Records may be dropped exactly where they are kept and what stays is a compaction of what was.
+/// A compaction may be published exactly where its floor doesn't fall and isn't ahead of the next
+/// offset, its records are kept, and what stays is a compaction of what was.
 pub fn allowed_drops_leave_compactions()
     ensures { AllowedDropsLeaveCompactions }
 {
-    records_are_ordered();
-    compactions_compose();
+    drops_leave_compactions();
 }
 
 /// A kept set that is a compaction of its log stays so, after whatever items, and logs only grow.
@@ -28,8 +26,15 @@ pub fn kept_sets_are_compactions()
 {
     records_are_ordered();
     compactions_compose();
-    last_records_of_unions();
+    compactions_unite();
+    allowed_drops_leave_compactions();
 }
+
+/// A kept set's floor never falls, and where it isn't above the next offset it stays so.
+pub fn floors_stay_below()
+    ensures below { FloorsStayBelow }
+    ensures rise { FloorsRise }
+{}
 
 /// Items follow on those before them.
 pub fn lawful_items_follow()
@@ -66,11 +71,9 @@ pub fn adopted_logs_begin()
     two_schemas_is_least();
 }
 
-/// A compaction with a part of the whole is one too; what is superseded may go, and leaves the last
-/// records.
-pub fn superseded_records_may_go()
-    ensures parts { CompactionsTakeParts }
-    ensures may_go { SupersededMayGo }
+/// A set that keeps each last record still does with more of the whole.
+pub fn more_keeps_lasts()
+    ensures { MoreKeepsLasts }
 {
     records_are_ordered();
 }

@@ -10,10 +10,17 @@ pub struct Commit {
     pub batch: Listed<Record>,
 }
 
+/// Records that leave the kept set, which then has that floor: a key whose last record deletes it below
+/// that may be missing as a whole.
+#[derive(Debug, Drop, Clone)]
+pub struct Compaction {
+    pub floor: u64,
+    pub dropped: Listed<Record>,
+}
+
 /// What can be published.
 #[derive(Debug, Drop, Clone)]
 pub enum Item {
     Commit(Commit),
-    /// Records that leave the kept set.
-    Compaction(Listed<Record>),
+    Compaction(Compaction),
 }

@@ -1,14 +1,13 @@
 // What a list of items comes to.
-ghost use Rattle.std.specs.Prelude.{◌≡◌, ◌+◌, ◌≤◌, suc, length, IfOk, OnOk, OnErr, if◌then◌else◌};
-ghost use Rattle.std.specs.FinSet.{contains, insert};
-ghost use Rattle.reg_set.specs.LastRecords.{is_last};
+ghost use Rattle.std.specs.Prelude.{◌≡◌, ◌+◌, ◌≤◌, suc, length, IfOk, OnOk, OnErr};
 ghost use Rattle.reg_records.specs.declared.limits.TheConstants.{OFFSET_LIMIT};
 ghost use Rattle.reg_leader.specs.OneStep.{goes_on};
-ghost use Rattle.reg_topic.specs.Topic.{after_batch, after_drop, after_item, follows, may_drop, plain_topic, without};
+ghost use Rattle.reg_topic.specs.Topic.{after_batch, after_compaction, after_item, follows, may_compact, plain_topic};
 
-use crate::published::Item;
+use crate::published::{Compaction, Item};
+use reg_kept::KeptSet;
 use reg_records::{Log, OFFSET_LIMIT, Record};
-use reg_set::{RecordSet, records_are_ordered};
+use reg_set::RecordSet;
 use std::alloc::{AllocError, Global};
 
 /// A log and its kept set.
@@ -16,23 +15,26 @@ use std::alloc::{AllocError, Global};
 pub struct Topic {
     /// All records that were ever published.
     pub log: RecordSet,
-    /// Those that were not compacted away.
-    pub kept: RecordSet,
+    /// Those that were not compacted away, with the floor below which deletes may have been.
+    pub kept: KeptSet,
     /// The offset of the next record.
     pub next: u64,
+    /// What `next` was at the last compaction; where there was none, the floor of the base.
+    pub compacted: u64,
 }
 
 impl Topic {
-    /// The topic of a log's records alone, which are all kept: the mark of ids that the log owes isn't
-    /// there yet. The only error is want of memory.
+    /// The topic of a log's records alone, which are all kept, with its floor: the mark of ids that the
+    /// log owes isn't there yet. The only error is want of memory.
     pub fn of_log(alloc: Global, base: &Log) -> Result<Topic, AllocError>
-        ensures { IfOk result (λ topic. topic ≡ plain_topic base.now.records.items base.now.next) }
+        ensures { IfOk result (λ topic. topic ≡ plain_topic base.now.records.items base.now.next base.now.floor) }
     {
         let log = RecordSet::of(alloc, &base.records)?;
         Ok(Topic {
-            kept: log.clone()?,
+            kept: KeptSet::of(log.clone()?, base.floor),
             log,
             next: base.next,
+            compacted: base.floor,
         })
     }
 
@@ -44,15 +46,22 @@ impl Topic {
     {
         match item {
             Item::Commit(commit) => self.publish_batch(alloc, commit.batch.as_slice()),
-            Item::Compaction(dropped) => self.drop_records(alloc, dropped.as_slice()),
+            Item::Compaction(compaction) => self.publish_compaction(compaction),
         }
     }
 
-    /// Whether the records may leave the kept set: each is kept, and none is the last of its key.
-    pub fn may_drop(&self, dropped: &[Record]) -> bool
-        ensures { result ≡ may_drop self.now.kept dropped.now }
+    /// Whether the kept set may have that floor without those records: the floor doesn't fall, isn't
+    /// ahead of the next offset, and what stays is a compaction. The only error is want of memory.
+    pub fn may_compact(&self, compaction: &Compaction) -> Result<bool, AllocError>
+        ensures { IfOk result (λ may. may ≡ may_compact self.now compaction.now) }
     {
-        dropped.iter().all(|given| self.kept.contains(given) && !is_last(&self.kept, given))
+        if self.next < compaction.floor {
+            return Ok(false);
+        }
+        let left = self
+            .kept
+            .without(compaction.floor, compaction.dropped.as_slice())?;
+        Ok(left.is_some())
     }
 
     /// Publishes a batch, as `publish` does a commit of it.
@@ -66,18 +75,26 @@ impl Topic {
         let batch_set = RecordSet::of(alloc, batch)?;
         let mut log = self.log.clone()?;
         log.merge(&batch_set)?;
-        self.kept.merge(&batch_set)?;
+        self.kept.add(&batch_set)?;
         self.log = log;
         self.next += batch.len() as u64;
         Ok(())
     }
 
-    fn drop_records(&mut self, alloc: Global, dropped: &[Record]) -> Result<(), AllocError>
-        ensures dropped { OnOk result (self.new ≡ after_drop (may_drop self.old.kept dropped.now) self.old dropped.now) }
+    /// Publishes a compaction; one that may not be changes nothing.
+    fn publish_compaction(&mut self, compaction: &Compaction) -> Result<(), AllocError>
+        ensures compacted { OnOk result (self.new ≡ after_compaction (may_compact self.old compaction.now) self.old compaction.now) }
         ensures refused { OnErr result (self.new ≡ self.old) }
     {
-        if self.may_drop(dropped) {
-            self.kept = without(alloc, &self.kept, dropped)?;
+        if self.next < compaction.floor {
+            return Ok(());
+        }
+        if let Some(left) = self
+            .kept
+            .without(compaction.floor, compaction.dropped.as_slice())?
+        {
+            self.kept = left;
+            self.compacted = self.next;
         }
         Ok(())
     }
@@ -106,42 +123,4 @@ fn goes_on(next: u64, batch: &[Record]) -> bool
         expected += 1;
     }
     true
-}
-
-/// Whether the record is the last of its key.
-fn is_last(kept: &RecordSet, given: &Record) -> bool
-    ensures { result ≡ is_last kept.now given.now }
-{
-    records_are_ordered();
-    match kept.last(&given.key) {
-        Some(last) => *last == *given,
-        None => false,
-    }
-}
-
-/// What stays of a set without those records. The only error is want of memory.
-fn without(alloc: Global, kept: &RecordSet, dropped: &[Record]) -> Result<RecordSet, AllocError>
-    ensures { IfOk result (λ left. left ≡ without kept.now dropped.now) }
-{
-    records_are_ordered();
-    let gone = RecordSet::of(alloc, dropped)?;
-    let records = kept.records()?;
-    let mut left = RecordSet::new(alloc);
-    for record in &records {
-        take_unless_gone(&mut left, &gone, record)?;
-    }
-    Ok(left)
-}
-
-fn take_unless_gone(
-    left: &mut RecordSet,
-    gone: &RecordSet,
-    given: &Record,
-) -> Result<(), AllocError>
-    ensures { OnOk result (left.new ≡ (if contains gone.now given.now then left.old else insert left.old given.now)) }
-{
-    if !gone.contains(given) {
-        left.take(given)?;
-    }
-    Ok(())
 }

@@ -20,10 +20,10 @@ batch_registry true t u batch registry e after is = is ∙ ap registry_of (sym a
 batch_registry false t u batch registry e after is = absurd (false≢true e)
 
 -- the topic that a base begins is that of its records alone with what is due
-pub begun_is : (base : List Record) (next : ℕ) (plain begun : Topic) (due : List Record) → plain ≡ plain_topic base next → due ≡ adopting (last_records plain.log) plain.next
-    → begun ≡ after_batch (follows plain.next due) plain due → begun ≡ topic_from base next
+pub begun_is : (base : List Record) (next floor : ℕ) (plain begun : Topic) (due : List Record) → plain ≡ plain_topic base next floor → due ≡ adopting (last_records plain.log) plain.next
+    → begun ≡ after_batch (follows plain.next due) plain due → begun ≡ topic_from base next floor
 unfolding topic_from
-begun_is base next plain begun due is owes after =
+begun_is base next floor plain begun due is owes after =
     after
     ∙ ap (λ (ds : List Record). after_batch (follows plain.next ds) plain ds) owes
     ∙ ap (λ (t : Topic). after_batch (follows t.next (adopting (last_records t.log) t.next)) t (adopting (last_records t.log) t.next)) is

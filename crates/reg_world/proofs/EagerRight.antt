@@ -17,7 +17,7 @@ use Rattle.reg_records.specs.declared.limits.TheConstants.{OFFSET_LIMIT}
 use Rattle.reg_records.specs.declared.record.Record.{Record}
 use Rattle.reg_records.specs.declared.value.Value.{Value}
 use Rattle.reg_records.specs.declared.value.Value.TheVariants as values
-use Rattle.reg_set.specs.Join.{LastRecordsOfCompaction}
+use Rattle.reg_alike.specs.GiveAlike.{CompactionsGiveAlike}
 use Rattle.reg_set.specs.LastRecords.{last_records}
 use Rattle.reg_set.specs.RecordOrder.{record_cmp}
 use Rattle.reg_set.specs.Records.{Records}
@@ -28,7 +28,8 @@ use Rattle.reg_fold.specs.Entries.{EntriesAreOfKeys, EntriesAreOfPlaces, entries
 use Rattle.reg_fold.specs.Standing.{greatest_version}
 use Rattle.reg_leader.specs.Deletes.{DeletesNameGreatest, IsSoftDelete, is_delete}
 use Rattle.reg_leader.specs.OneStep.{BatchesEndByTheLimit, BatchesGoOn, goes_on}
-use Rattle.reg_topic.specs.Topic.{IsLawful, after_batch, after_drop, after_item, after_items, follows, may_drop, published_by, records_of_item, registry_of}
+use Rattle.reg_topic.specs.Topic.{IsLawful, after_batch, after_compaction, after_item, after_items, follows, may_compact, published_by, records_of_item, registry_of, whole_log}
+use Rattle.reg_topic.specs.declared.published.Compaction.{Compaction}
 use Rattle.reg_topic.specs.declared.published.Item.{Item}
 use Rattle.reg_topic.specs.declared.published.Item.TheVariants as items
 use Rattle.reg_topic.specs.declared.topic.Topic.{Topic}
@@ -38,23 +39,19 @@ use Rattle.reg_world.specs.State.{topic_of}
 use Rattle.reg_world.proofs.EagerFolding.{Fits, all_records}
 use Rattle.reg_world.proofs.EagerPlaces.{at_place, first_or_rest, found-some, head, tail}
 use Rattle.reg_world.proofs.EagerSteps.{IsFit, seen, there_seen}
-use Rattle.reg_world.proofs.Sound.{either}
+use Rattle.reg_world.proofs.Bools.{both_true, either}
 use Rattle.reg_world.proofs.Tops.{LastLaws, equal}
 
 -- what is known of the crates below, beside last records
 pub record EagerLaws : Type 0 where
   pub last : LastLaws
-  pub same : LastRecordsOfCompaction
+  pub alike : CompactionsGiveAlike
   pub keyed : EntriesAreOfKeys
   pub stand : EntriesAreOfPlaces
   pub read : (offset : ℕ) (k : Key) (v : Value) → IsValueOf k v → value_of (record { offset = offset; key = k; value = written_value v }) ≡ Some v
   pub go_on : BatchesGoOn
   pub ends : BatchesEndByTheLimit
   pub deletes : DeletesNameGreatest
-
-both_true : (a b : Bool) → (a && b) ≡ true → (a ≡ true) × (b ≡ true)
-both_true true b h = (refl, h)
-both_true false b h = absurd (false≢true h)
 
 -- Lists.
 filter_in : {A : Type 0} (p : A → Bool) (xs : List A) (x : A) → Contains xs x → p x ≡ true → Contains (filter p xs) x
@@ -171,9 +168,9 @@ module _ (l : EagerLaws) where
   joins n batch on (inl none) some = absurd (some none)
   joins n batch on (inr ends) some = ap (λ b. b && nat_le (n + length batch) (suc OFFSET_LIMIT)) on ∙ le-leb (n + length batch) (suc OFFSET_LIMIT) ends
 
-  drop_log : (t : Topic) (ds : List Record) (b : Bool) → ((after_drop b t ds).log ≡ t.log) × ((after_drop b t ds).next ≡ t.next)
-  drop_log t ds true = (refl, refl)
-  drop_log t ds false = (refl, refl)
+  compaction_log : (t : Topic) (c : Compaction) (b : Bool) → ((after_compaction b t c).log ≡ t.log) × ((after_compaction b t c).next ≡ t.next)
+  compaction_log t c true = (refl, refl)
+  compaction_log t c false = (refl, refl)
 
   all_items : (t : Topic) (is : List Item) (p : Place) → IsLawful t is → Below t.log t.next → after_records p (seen t.log p) (published_by is) ≡ seen (after_items t is).log p
   all_items t [] p lawful below = refl
@@ -187,11 +184,11 @@ module _ (l : EagerLaws) where
       ∙ after-append p (seen t.log p) commit.batch (published_by is)
       ∙ ap (λ o. after_records p o (published_by is)) (all_records l.last t.log commit.batch p f ∙ ap (λ (u : Topic). seen u.log p) (sym after))
       ∙ all_items (after_item t (items.Commit commit)) is p lawful.1 (subst (λ (u : Topic). Below u.log u.next) (sym after) (below_batch t commit.batch on below))
-  all_items t (items.Compaction ds ∷ is) p lawful below =
-      let same = drop_log t ds (may_drop t.kept ds) in
-      ap (after_records p (seen t.log p)) (flat_map-cons records_of_item (items.Compaction ds) is)
+  all_items t (items.Compaction c ∷ is) p lawful below =
+      let same = compaction_log t c (may_compact t c) in
+      ap (after_records p (seen t.log p)) (flat_map-cons records_of_item (items.Compaction c) is)
       ∙ ap (λ log. after_records p (seen log p) (published_by is)) (sym same.0)
-      ∙ all_items (after_item t (items.Compaction ds)) is p lawful.1 (λ q h. subst (λ n. q.offset < n) (sym same.1) (below q (ap (λ log. contains log q) (sym same.0) ∙ h)))
+      ∙ all_items (after_item t (items.Compaction c)) is p lawful.1 (λ q h. subst (λ n. q.offset < n) (sym same.1) (below q (ap (λ log. contains log q) (sym same.0) ∙ h)))
 
   -- the entry at a place, by the entries and by the last records
   by_seen : (log : Records) (p : Place) → standing_at p (entries (last_records log)) ≡ seen log p
@@ -203,4 +200,4 @@ module _ (l : EagerLaws) where
       ap (λ o. after_records p o (published_by w.items)) (by_seen w.base.log p)
       ∙ all_items w.base w.items p h.1 h.0.ahead
       ∙ sym (by_seen (topic_of w).log p)
-      ∙ ap (λ rs. standing_at p (entries rs)) (sym (l.same part (topic_of w).log compaction))
+      ∙ ap (standing_at p) (sym (l.alike part (whole_log (topic_of w)) compaction).entries_alike)

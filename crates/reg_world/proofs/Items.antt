@@ -1,27 +1,22 @@
 -- An item that may follow is an event that happens.
-use Rattle.std.proofs.Common.{◌≡◌, ◌≢◌, true, List, [], ◌∷◌, None, MatchBool, refl, sym, ap, subst}
+use Rattle.std.proofs.Common.{◌≡◌, ◌≢◌, true, List, [], ◌∷◌, None, refl, sym, ap, subst}
 use Rattle.reg_records.specs.declared.record.Record.{Record}
 use Rattle.reg_leader.specs.Step.{IsStep}
-use Rattle.reg_topic.specs.Topic.{may_drop, registry_of}
+use Rattle.reg_topic.specs.Topic.{may_compact, registry_of}
 use Rattle.reg_leader.specs.declared.command.Command.{Command}
 use Rattle.reg_leader.specs.declared.reply.Reply.{Reply}
 use Rattle.reg_topic.specs.declared.published.Item.TheVariants as items
-use Rattle.reg_world.specs.Happens.{Does, Happens, Steps, is_allowed, told}
+use Rattle.reg_world.specs.Happens.{Steps, told}
 use Rattle.reg_world.specs.State.{State, publish, settle, settled, topic_of}
 use Rattle.reg_world.specs.Threads.{ItemsHappen}
-use Rattle.reg_world.specs.declared.event.Event.{Event}
 use Rattle.reg_world.specs.declared.event.Event.TheVariants as events
 use Rattle.reg_world.specs.declared.event.Fate.TheVariants.{Published}
-use Rattle.reg_world.specs.declared.event.Outcome.{Outcome}
 use Rattle.reg_world.specs.declared.event.Outcome.TheVariants as outcomes
+use Rattle.reg_world.proofs.Steps.{allowed}
 
 -- nothing is unsettled
 same_state : (s : State) → s.unsettled ≡ None → s ≡ settled s
 same_state s none = sym (ap (λ u. settle u s) none)
-
-happens_allowed : (s t : State) (e : Event) (o : Outcome) → is_allowed s e ≡ true → Does s e o t → Happens s e o t
-unfolding Happens
-happens_allowed s t e o fine d = subst (λ b. MatchBool b (Does s e o t) ((o ≡ outcomes.NotAllowed) × (t ≡ s))) (sym fine) d
 
 replied : (reply : Reply) → outcomes.Replied reply ≢ outcomes.NotAllowed
 replied reply e = cc
@@ -34,11 +29,11 @@ steps s command reply (r ∷ rs) writes step = record { reply = reply; batch = r
 pub items_happen : ItemsHappen
 items_happen s node (items.Commit commit) none fine may = (
   outcomes.Replied (told Published may.reply commit.batch),
-  happens_allowed s _ (events.Command node commit.command Published) _ fine (subst (λ w. Steps w commit.command Published (outcomes.Replied (told Published may.reply commit.batch)) (publish s (items.Commit commit))) (same_state s none) (steps s commit.command may.reply commit.batch may.writes may.step)),
+  allowed s _ (events.Command node commit.command Published) _ fine refl (subst (λ w. Steps w commit.command Published (outcomes.Replied (told Published may.reply commit.batch)) (publish s (items.Commit commit))) (same_state s none) (steps s commit.command may.reply commit.batch may.writes may.step)),
   replied _,
 )
-items_happen s node (items.Compaction dropped) none fine may = (
+items_happen s node (items.Compaction c) none fine may = (
   outcomes.Done,
-  happens_allowed s _ (events.Compact dropped) outcomes.Done (subst (λ w. may_drop (topic_of w).kept dropped ≡ true) (same_state s none) may) (refl, ap (λ w. publish w (items.Compaction dropped)) (same_state s none)),
+  allowed s _ (events.CompactTo c.floor c.dropped) outcomes.Done (subst (λ w. may_compact (topic_of w) c ≡ true) (same_state s none) may) refl (refl, ap (λ w. publish w (items.Compaction c)) (same_state s none)),
   (λ e. cc),
 )

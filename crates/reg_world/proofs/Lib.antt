@@ -1,5 +1,6 @@
 pub mod Answers
 pub mod Begun
+pub mod Bools
 pub mod Courses
 pub mod EagerFolding
 pub mod EagerMaps
@@ -7,8 +8,11 @@ pub mod EagerPlaces
 pub mod EagerRight
 pub mod EagerSteps
 pub mod EagerWorld
+pub mod Floors
 pub mod Items
+pub mod Lasts
 pub mod Merging
+pub mod Nodes
 pub mod Refused
 pub mod Sound
 pub mod Stays

@@ -1,22 +1,22 @@
 -- Merging.
 use Rattle.std.proofs.Common.{◌≡◌, sym, ap, subst}
-use Rattle.std.specs.FinSet.{union}
-use Rattle.reg_set.specs.Join.{CompactionsUnite, LastRecordsOfCompaction, MergingIsAssociative, MergingIsCommutative, MergingIsIdempotent}
-use Rattle.reg_set.specs.LastRecords.{last_records}
-use Rattle.reg_set.specs.Records.{Records}
+use Rattle.reg_kept.specs.Floored.{Floored}
+use Rattle.reg_kept.specs.Floors.{merged}
+use Rattle.reg_kept.specs.Laws.{CompactionsUnite, MergingIsAssociative, MergingIsCommutative, MergingIsIdempotent}
+use Rattle.reg_alike.specs.AnswerAlike.{CompactionsAnswerAlike}
+use Rattle.reg_lookup.specs.Answers.{IsAnswerOver}
 use Rattle.reg_world.specs.Headline.{AnswerAlike, Merging}
-use Rattle.reg_lookup.specs.Answers.{IsAnswer}
 
-alike : (R S : Records) → last_records R ≡ last_records S → AnswerAlike R S
-alike R S e query answer = (subst (λ rs. IsAnswer rs query answer) e, subst (λ rs. IsAnswer rs query answer) (sym e))
+alike : (R S : Floored) → R ≡ S → AnswerAlike R S
+alike R S e query answer = (subst (λ (x : Floored). IsAnswerOver x.records query answer) e, subst (λ (x : Floored). IsAnswerOver x.records query answer) (sym e))
 
-pub merging : MergingIsCommutative → MergingIsAssociative → MergingIsIdempotent → CompactionsUnite → LastRecordsOfCompaction → Merging
-merging commutes associates repeats unite same = record {
+pub merging : MergingIsCommutative → MergingIsAssociative → MergingIsIdempotent → CompactionsUnite → CompactionsAnswerAlike → Merging
+merging commutes associates repeats unite answer_alike = record {
   commutative = commutes;
   associative = associates;
   idempotent = repeats;
-  answers_commute = λ R S. alike (union R S) (union S R) (ap last_records (commutes R S));
-  answers_associate = λ R S T. alike (union (union R S) T) (union R (union S T)) (ap last_records (associates R S T));
-  answers_repeat = λ R. alike (union R R) R (ap last_records (repeats R));
-  compactions = λ C R D S c d. alike (union C D) (union R S) (same (union C D) (union R S) (unite C R D S c d));
+  answers_commute = λ R S one_floor. alike (merged R S) (merged S R) (commutes R S one_floor);
+  answers_associate = λ R S T. alike (merged (merged R S) T) (merged R (merged S T)) (associates R S T);
+  answers_repeat = λ R. alike (merged R R) R (repeats R);
+  compactions = λ C R D S one_floor same c d. answer_alike _ _ (unite C R D S one_floor same c d);
 }

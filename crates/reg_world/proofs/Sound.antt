@@ -1,41 +1,31 @@
 -- What every event keeps.
-use Rattle.std.proofs.Common.{◌≡◌, ◌⊎◌, inl, inr, ℕ, suc, zero, Bool, true, false, ◌||◌, List, [], ◌∷◌, ◌++◌, Option, Some, None, IfSome, slice_get, replicate, refl, sym, subst, ◌∙◌}
-use Rattle.std.proofs.lemmas.Bool.{false≢true}
-use Rattle.std.specs.FinSet.{contains, empty, contains-empty, contains-union}
+use Rattle.std.proofs.Common.{◌≡◌, ◌≤◌, ℕ, suc, zero, List, [], ◌∷◌, ◌++◌, Option, Some, None, IfSome, slice_get, replicate, refl, sym, subst, arith}
 use Rattle.std.specs.List.{AllByRecursion}
-use Rattle.reg_records.specs.declared.record.Record.{Record}
-use Rattle.reg_set.specs.Compaction.{IsCompactionOf}
-use Rattle.reg_set.specs.RecordOrder.{record_cmp}
 use Rattle.reg_set.specs.Records.{Records}
-use Rattle.reg_topic.specs.Topic.{IsAdopted, IsLawful, MayCommit, MayFollow, after_items}
+use Rattle.reg_kept.specs.Compaction.{IsCompactionOf, KeepsLasts}
+use Rattle.reg_topic.specs.Topic.{IsAdopted, IsLawful, MayCommit, MayFollow, after_items, whole_log}
 use Rattle.reg_topic.specs.declared.published.Commit.{Commit}
 use Rattle.reg_topic.specs.declared.published.Item.{Item}
 use Rattle.reg_topic.specs.declared.published.Item.TheVariants as items
 use Rattle.reg_topic.specs.declared.topic.Topic.{Topic}
+use Rattle.reg_world.specs.Core.{IsNodeOf}
 use Rattle.reg_world.specs.LowerLaws.{LowerLaws}
-use Rattle.reg_world.specs.State.{State, changed, compacted, no_records, publish, settle, settled, start, taking, topic_of, with_node}
+use Rattle.reg_world.specs.State.{State, changed, no_records, publish, settle, settled, start, topic_of, with_node}
 use Rattle.reg_world.specs.declared.node.Node.{Node}
-
--- a node whose set is a compaction of what it took, a part of that log
-pub record IsNodeOf (log : Records) (node : Node) : Type 0 where
-  pub compaction : IsCompactionOf node.set node.took
-  pub part : (r : Record) → contains node.took r ≡ true → contains log r ≡ true
+use Rattle.reg_world.proofs.Lasts.{keeps_compacted}
+use Rattle.reg_world.proofs.Nodes.{node-empty, node-item}
 
 pub record IsSound (s : State) : Type 0 where
   pub adopted : IsAdopted s.base
   pub lawful : IsLawful s.base s.items
   pub pending : IfSome s.unsettled (MayCommit (topic_of s))
-  pub nodes : AllByRecursion (IsNodeOf (topic_of s).log) s.nodes
-
-pub either : (a b : Bool) → (a || b) ≡ true → (a ≡ true) ⊎ (b ≡ true)
-either true b h = inl refl
-either false b h = inr h
+  pub nodes : AllByRecursion (IsNodeOf (topic_of s)) s.nodes
 
 -- Nodes.
-pub all_changed : (P : Node → Type 0) (f : Node → Node) → ((n : Node) → P n → P (f n)) → (i : ℕ) (ns : List Node) → AllByRecursion P ns → AllByRecursion P (changed i f ns)
-all_changed P f h i [] a = tt
-all_changed P f h zero (n ∷ ns) a = (h n a.0, a.1)
-all_changed P f h (suc i) (n ∷ ns) a = (a.0, all_changed P f h i ns a.1)
+pub all_changed : (P : Node → Type 0) (f : Node → Node) (i : ℕ) (ns : List Node) → ((n : Node) → slice_get ns i ≡ Some n → P n → P (f n)) → AllByRecursion P ns → AllByRecursion P (changed i f ns)
+all_changed P f i [] h a = tt
+all_changed P f zero (n ∷ ns) h a = (h n refl a.0, a.1)
+all_changed P f (suc i) (n ∷ ns) h a = (a.0, all_changed P f i ns h a.1)
 
 pub all_kept : (P Q : Node → Type 0) → ((n : Node) → P n → Q n) → (ns : List Node) → AllByRecursion P ns → AllByRecursion Q ns
 all_kept P Q h [] a = tt
@@ -56,27 +46,17 @@ settle-none None s e = e
 settle-none (Some commit) s e = refl
 
 module _ (l : LowerLaws) where
-  pub kept : (s : State) → IsSound s → IsCompactionOf (topic_of s).kept (topic_of s).log
-  kept s h = l.kept s.base s.items (subst (λ k. IsCompactionOf k s.base.log) (sym h.adopted.whole) (l.itself s.base.log))
+  -- the kept set that a base begins with is its log
+  base_kept : (base : Topic) → IsAdopted base → IsCompactionOf base.kept (whole_log base)
+  base_kept base adopted =
+      let same : KeepsLasts base.kept.records base.log = subst (λ k. KeepsLasts k base.log) (sym adopted.whole) (l.keeps_own base.log) in
+      keeps_compacted base.kept.records base.log base.kept.floor 0 (omega arith) same
 
-  -- a node after each of its events
-  pub node-empty : (log : Records) → IsNodeOf log no_records
-  node-empty log = record {
-    compaction = l.itself empty;
-    part = λ r h. absurd (false≢true (sym (contains-empty record_cmp r) ∙ h));
-  }
+  pub kept : (s : State) → IsSound s → IsCompactionOf (topic_of s).kept (whole_log (topic_of s))
+  kept s h = l.kept s.base s.items h.adopted.floor_below (base_kept s.base h.adopted)
 
-  pub node-taking : (log more : Records) → ((r : Record) → contains more r ≡ true → contains log r ≡ true) → (n : Node) → IsNodeOf log n → IsNodeOf log (taking more n)
-  node-taking log more part n h = record {
-    compaction = l.unite n.set n.took more more h.compaction (l.itself more);
-    part = λ r e. elim (either (contains n.took r) (contains more r) (sym (contains-union l.order n.took more r) ∙ e)) [
-      | inl old ↦ h.part r old
-      | inr new ↦ part r new
-    ];
-  }
-
-  pub node-compacted : (log : Records) (n : Node) → IsNodeOf log n → IsNodeOf log (compacted n)
-  node-compacted log n h = record { compaction = l.across _ n.set n.took (l.least n.set) h.compaction; part = h.part }
+  low : (s : State) → IsSound s → (topic_of s).kept.floor ≤ (topic_of s).next
+  low s h = l.below s.base s.items h.adopted.floor_below
 
   -- an item that may follow
   sound-add : (s : State) (i : Item) (unsettled : Option Commit) → IsSound s → MayFollow (topic_of s) i → IfSome unsettled (MayCommit (after_items s.base (s.items ++ i ∷ [])))
@@ -85,10 +65,8 @@ module _ (l : LowerLaws) where
     adopted = h.adopted;
     lawful = l.go_on s.base s.items i h.lawful m;
     pending = pending;
-    nodes = all_kept (IsNodeOf (topic_of s).log) (IsNodeOf (after_items s.base (s.items ++ i ∷ [])).log) (λ n k. record {
-      compaction = k.compaction;
-      part = λ r e. subst (λ (t : Topic). contains t.log r ≡ true) (sym (l.in_turn s.base s.items i)) (l.grows (topic_of s) i r (k.part r e));
-    }) s.nodes h.nodes;
+    nodes = all_kept (IsNodeOf (topic_of s)) (IsNodeOf (after_items s.base (s.items ++ i ∷ [])))
+        (λ n k. subst (λ (t : Topic). IsNodeOf t n) (sym (l.in_turn s.base s.items i)) (node-item l (topic_of s) i (low s h) n k)) s.nodes h.nodes;
   }
 
   pub sound-publish : (s : State) (i : Item) → s.unsettled ≡ None → IsSound s → MayFollow (topic_of s) i → IsSound (publish s i)
@@ -101,8 +79,8 @@ module _ (l : LowerLaws) where
   pub sound-settled : (s : State) → IsSound s → IsSound (settled s)
   sound-settled s h = sound-settle s.unsettled s refl h
 
-  pub sound-node : (s : State) (i : ℕ) (f : Node → Node) → ((n : Node) → IsNodeOf (topic_of s).log n → IsNodeOf (topic_of s).log (f n)) → IsSound s → IsSound (with_node s i f)
-  sound-node s i f g h = record { adopted = h.adopted; lawful = h.lawful; pending = h.pending; nodes = all_changed (IsNodeOf (topic_of s).log) f g i s.nodes h.nodes }
+  pub sound-node : (s : State) (i : ℕ) (f : Node → Node) → ((n : Node) → slice_get s.nodes i ≡ Some n → IsNodeOf (topic_of s) n → IsNodeOf (topic_of s) (f n)) → IsSound s → IsSound (with_node s i f)
+  sound-node s i f g h = record { adopted = h.adopted; lawful = h.lawful; pending = h.pending; nodes = all_changed (IsNodeOf (topic_of s)) f i s.nodes g h.nodes }
 
   pub sound-start : (base : Topic) (count : ℕ) → IsAdopted base → IsSound (start base count)
-  sound-start base count h = record { adopted = h; lawful = tt; pending = tt; nodes = all_equal (IsNodeOf base.log) no_records (node-empty base.log) count }
+  sound-start base count h = record { adopted = h; lawful = tt; pending = tt; nodes = all_equal (IsNodeOf base) no_records (node-empty l base) count }

@@ -1,34 +1,35 @@
 -- Each event, and so each list of events, keeps a world sound.
-use Rattle.std.proofs.Common.{◌≡◌, ◌≢◌, ℕ, Bool, true, false, ◌&&◌, ◌||◌, List, [], ◌∷◌, Some, None, IfSome, MatchBool, slice_get, refl, sym, ap, subst, ◌∙◌}
+use Rattle.std.proofs.Common.{◌≡◌, ◌≢◌, inl, inr, ℕ, true, false, ◌||◌, ◌==◌, List, [], ◌∷◌, Some, None, slice_get, refl, sym, ap, subst, ◌∙◌, eqb-true}
 use Rattle.std.proofs.lemmas.Bool.{false≢true}
 use Rattle.std.specs.Cmp.{Equal-is}
-use Rattle.std.specs.FinSet.{contains, empty, from_list, contains-empty, contains-from_list}
+use Rattle.std.specs.FinSet.{contains, from_list, contains-from_list}
 use Rattle.std.specs.List.{list_all, list_any}
-use Rattle.std.specs.Option.{option_map_or}
 use Rattle.std.specs.Ordering.{eq_by_cmp}
 use Rattle.reg_records.specs.declared.record.Record.{Record}
 use Rattle.reg_set.specs.RecordOrder.{record_cmp}
 use Rattle.reg_set.specs.Records.{Records}
+use Rattle.reg_kept.specs.Floored.{Floored}
 use Rattle.reg_leader.specs.Step.{IsStep}
 use Rattle.reg_topic.specs.Topic.{registry_of}
 use Rattle.reg_leader.specs.declared.command.Command.{Command}
 use Rattle.reg_leader.specs.declared.reply.Reply.{Reply}
 use Rattle.reg_topic.specs.declared.published.Item.TheVariants as items
-use Rattle.reg_world.specs.Happens.{Does, Happens, is_allowed, with_batch}
+use Rattle.reg_world.specs.Core.{IsNodeOf}
+use Rattle.reg_world.specs.Happens.{Does, Happens, at_floor, floors_agree, is_allowed, with_batch}
 use Rattle.reg_world.specs.LowerLaws.{LowerLaws}
 use Rattle.reg_world.specs.Runs.{After, Runs}
-use Rattle.reg_world.specs.State.{State, compacted, no_records, records_at, settled, taking, topic_of}
+use Rattle.reg_world.specs.State.{State, compacted, has_node, no_records, rebasing, set_at, settled, taking, topic_of, with_node}
 use Rattle.reg_world.specs.declared.event.Event.{Event}
 use Rattle.reg_world.specs.declared.event.Event.TheVariants as events
 use Rattle.reg_world.specs.declared.event.Fate.{Fate}
 use Rattle.reg_world.specs.declared.event.Fate.TheVariants.{Published, Unsettled, Lost}
 use Rattle.reg_world.specs.declared.event.Outcome.{Outcome}
-use Rattle.reg_world.specs.declared.event.Outcome.TheVariants as outcomes
-use Rattle.reg_world.proofs.Sound.{IsNodeOf, IsSound, at_index, kept, node-compacted, node-empty, node-taking, settle-none, sound-node, sound-publish, sound-settled, sound-start}
-
-both_true : (a b : Bool) → (a && b) ≡ true → (a ≡ true) × (b ≡ true)
-both_true true b h = (refl, h)
-both_true false b h = absurd (false≢true h)
+use Rattle.reg_world.specs.declared.node.Node.{Node}
+use Rattle.reg_world.proofs.Bools.{both_true}
+use Rattle.reg_world.proofs.Lasts.{of_some}
+use Rattle.reg_world.proofs.Nodes.{node-compacted, node-empty, node-merging, node-rebasing, node-taking}
+use Rattle.reg_world.proofs.Sound.{IsSound, at_index, kept, settle-none, sound-node, sound-publish, sound-settled, sound-start}
+use Rattle.reg_world.proofs.Steps.{node-there, set_there, went}
 
 cons-not-nil : {A : Type 0} (x : A) (xs : List A) → x ∷ xs ≢ []
 cons-not-nil x xs e = cc
@@ -59,38 +60,49 @@ module _ (l : LowerLaws) where
         | false ↦ λ _ rest. all_in kept ds r parts.1 rest
       ] refl any
 
-  -- what a node has is a part of the log
-  part_at : (s : State) (i : ℕ) → IsSound s → (r : Record) → contains (records_at s i) r ≡ true → contains (topic_of s).log r ≡ true
-  part_at s i h r =
-      elim (slice_get s.nodes i) as (λ o. IfSome o (IsNodeOf (topic_of s).log) → contains (option_map_or (λ node. node.set) o empty) r ≡ true → contains (topic_of s).log r ≡ true) [
-        | None ↦ λ _ e. absurd (false≢true (sym (contains-empty record_cmp r) ∙ e))
-        | Some n ↦ λ k e. k.part r (k.compaction.is_part r e)
-      ] (at_index (IsNodeOf (topic_of s).log) s.nodes i h.nodes)
+  pub node_at : (s : State) (i : ℕ) (n : Node) → slice_get s.nodes i ≡ Some n → IsSound s → IsNodeOf (topic_of s) n
+  node_at s i n there h = of_some (slice_get s.nodes i) (IsNodeOf (topic_of s)) n (at_index (IsNodeOf (topic_of s)) s.nodes i h.nodes) there
 
-  sound-does : (s t : State) (e : Event) (o : Outcome) → is_allowed s e ≡ true → Does s e o t → IsSound s → IsSound t
-  sound-does s t (events.Command node command fate) o fine d h =
+  sound-taking : (s : State) (node : ℕ) (records : List Record) → list_all (contains (topic_of s).kept.records) records ≡ true → ((set_at s node).floor == (topic_of s).kept.floor) ≡ true
+      → IsSound s → IsSound (with_node s node (taking (from_list records)))
+  sound-taking s node records all agree h =
+      sound-node l s node (taking (from_list records)) (λ n there k.
+      node-taking l (topic_of s) (kept l s h) (from_list records) (λ r e. all_in (topic_of s).kept.records records r all (sym (contains-from_list l.order records r) ∙ e)) n
+      (sym (ap (λ (x : Floored). x.floor) (set_there s node n there)) ∙ eqb-true _ _ agree) k) h
+
+  sound-merging : (s : State) (node other : ℕ) → has_node s other ≡ true → ((set_at s node).floor == (set_at s other).floor) ≡ true
+      → IsSound s → IsSound (with_node s node (taking (set_at s other).records))
+  sound-merging s node other has agree h =
+      let (m, there) = node-there s other has in
+      let its = set_there s other m there in
+      sound-node l s node (taking (set_at s other).records) (λ n here k.
+      subst (λ (x : Floored). IsNodeOf (topic_of s) (taking x.records n)) (sym its)
+      (node-merging l (topic_of s) n m (sym (ap (λ (x : Floored). x.floor) (set_there s node n here)) ∙ eqb-true _ _ agree ∙ ap (λ (x : Floored). x.floor) its) (node_at s other m there h) k)) h
+
+  sound-does : (s t : State) (e : Event) (o : Outcome) → is_allowed s e ≡ true → floors_agree s e ≡ true → Does s e o t → IsSound s → IsSound t
+  sound-does s t (events.Command node command fate) o fine agree d h =
       subst Stays (sym d.state) (sound-batch (settled s) fate command d.reply d.batch (settle-none s.unsettled s refl) (sound-settled l s h) d.step)
-  sound-does s t (events.Compact dropped) o fine d h =
-      subst Stays (sym d.1) (sound-publish l (settled s) (items.Compaction dropped) (settle-none s.unsettled s refl) (sound-settled l s h) fine)
-  sound-does s t (events.Take node records) o fine d h =
-      let all = (both_true _ _ fine).1 in
-      subst Stays (sym d.1) (sound-node l s node (taking (from_list records)) (node-taking l (topic_of s).log (from_list records)
-      (λ r e. (kept l s h).is_part r (all_in (topic_of s).kept records r all (sym (contains-from_list l.order records r) ∙ e)))) h)
-  sound-does s t (events.CompactNode node) o fine d h =
-      subst Stays (sym d.1) (sound-node l s node compacted (node-compacted l (topic_of s).log) h)
-  sound-does s t (events.MergeFrom node other) o fine d h =
-      subst Stays (sym d.1) (sound-node l s node (taking (records_at s other)) (node-taking l (topic_of s).log (records_at s other) (part_at s other h)) h)
-  sound-does s t (events.Restart node) o fine d h =
-      subst Stays (sym d.1) (sound-node l s node (λ _. no_records) (λ n k. node-empty l (topic_of s).log) h)
-  sound-does s t (events.Lookup node query) o fine d h = subst Stays (sym d.3) h
+  sound-does s t (events.Compact dropped) o fine agree d h =
+      subst Stays (sym d.1) (sound-publish l (settled s) (items.Compaction (at_floor (topic_of (settled s)).kept.floor dropped)) (settle-none s.unsettled s refl) (sound-settled l s h) fine)
+  sound-does s t (events.CompactTo floor dropped) o fine agree d h =
+      subst Stays (sym d.1) (sound-publish l (settled s) (items.Compaction (at_floor floor dropped)) (settle-none s.unsettled s refl) (sound-settled l s h) fine)
+  sound-does s t (events.Take node records) o fine agree d h = subst Stays (sym d.1) (sound-taking s node records (both_true _ _ fine).1 agree h)
+  sound-does s t (events.CompactNode node) o fine agree d h =
+      subst Stays (sym d.1) (sound-node l s node compacted (λ n there k. node-compacted l (topic_of s) (kept l s h) n k) h)
+  sound-does s t (events.MergeFrom node other) o fine agree d h = subst Stays (sym d.1) (sound-merging s node other (both_true _ _ fine).1 agree h)
+  sound-does s t (events.Rebase node) o fine agree d h =
+      subst Stays (sym d.1) (sound-node l s node (rebasing (topic_of s).kept) (λ n there k. node-rebasing l (topic_of s) (kept l s h) n k) h)
+  sound-does s t (events.Restart node) o fine agree d h =
+      subst Stays (sym d.1) (sound-node l s node (λ _. no_records) (λ n there k. node-empty l (topic_of s)) h)
+  sound-does s t (events.Lookup node query) o fine agree d h = subst Stays (sym d.3) h
 
   pub sound-happens : (s t : State) (e : Event) (o : Outcome) → Happens s e o t → IsSound s → IsSound t
-  unfolding Happens
   sound-happens s t e o happens h =
-      elim (is_allowed s e) as (λ b. is_allowed s e ≡ b → MatchBool b (Does s e o t) ((o ≡ outcomes.NotAllowed) × (t ≡ s)) → IsSound t) [
-        | true ↦ λ fine d. sound-does s t e o fine d h
-        | false ↦ λ no d. subst Stays (sym d.1) h
-      ] refl happens
+      elim (went s t e o happens) [
+        | inl did ↦ sound-does s t e o did.fine did.agree did.does h
+        | inr (inl differed) ↦ subst Stays (sym differed.same) h
+        | inr (inr refused) ↦ subst Stays (sym refused.same) h
+      ]
 
   pub sound-runs : (s t : State) (es : List Event) (os : List Outcome) → Runs s es os t → IsSound s → IsSound t
   sound-runs s t [] [] run h = subst Stays (sym run) h

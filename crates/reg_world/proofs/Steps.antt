@@ -1,20 +1,66 @@
--- What an event does, and what settling does.
-use Rattle.std.proofs.Common.{◌≡◌, ℕ, suc, zero, Bool, true, false, ◌&&◌, List, [], ◌∷◌, Some, None, MatchBool, is_some, slice_get, set, refl, sym, ap, subst, ◌∙◌}
-use Rattle.reg_topic.specs.declared.published.Item.TheVariants as items
-use Rattle.reg_world.specs.Happens.{Does, Happens, is_allowed}
-use Rattle.reg_world.specs.State.{State, changed, has_node, with_node}
+-- What an event does, or why it does nothing.
+use Rattle.std.proofs.Common.{◌≡◌, ◌⊎◌, inl, inr, ℕ, suc, zero, true, false, List, [], ◌∷◌, Option, Some, None, MatchBool, is_some, slice_get, set, refl, sym, ap, subst, ◌∙◌}
+use Rattle.std.proofs.lemmas.Bool.{false≢true}
+use Rattle.std.specs.Option.{option_map_or}
+use Rattle.reg_kept.specs.Floored.{Floored}
+use Rattle.reg_world.specs.Happens.{Does, Happens, floors_agree, is_allowed}
+use Rattle.reg_world.specs.State.{State, changed, has_node, no_records, set_at, with_node}
 use Rattle.reg_world.specs.declared.event.Event.{Event}
 use Rattle.reg_world.specs.declared.event.Outcome.{Outcome}
 use Rattle.reg_world.specs.declared.event.Outcome.TheVariants as outcomes
 use Rattle.reg_world.specs.declared.node.Node.{Node}
 
-pub allowed : (s t : State) (e : Event) (o : Outcome) → is_allowed s e ≡ true → Does s e o t → Happens s e o t
+-- the three ways that an event can go
+pub record Did (s t : State) (e : Event) (o : Outcome) : Type 0 where
+  pub fine : is_allowed s e ≡ true
+  pub agree : floors_agree s e ≡ true
+  pub does : Does s e o t
+
+pub record Differed (s t : State) (e : Event) (o : Outcome) : Type 0 where
+  pub fine : is_allowed s e ≡ true
+  pub differ : floors_agree s e ≡ false
+  pub told : o ≡ outcomes.FloorsDiffer
+  pub same : t ≡ s
+
+pub record Refused (s t : State) (e : Event) (o : Outcome) : Type 0 where
+  pub no : is_allowed s e ≡ false
+  pub told : o ≡ outcomes.NotAllowed
+  pub same : t ≡ s
+
+abbrev pub Went : State → State → Event → Outcome → Type 0
+Went s t e o = Did s t e o ⊎ Differed s t e o ⊎ Refused s t e o
+
+pub went : (s t : State) (e : Event) (o : Outcome) → Happens s e o t → Went s t e o
 unfolding Happens
-allowed s t e o fine d = subst (λ b. MatchBool b (Does s e o t) ((o ≡ outcomes.NotAllowed) × (t ≡ s))) (sym fine) d
+went s t e o happens =
+    elim (is_allowed s e) as (λ b. is_allowed s e ≡ b
+    → MatchBool b (MatchBool (floors_agree s e) (Does s e o t) ((o ≡ outcomes.FloorsDiffer) × (t ≡ s))) ((o ≡ outcomes.NotAllowed) × (t ≡ s)) → Went s t e o) [
+      | true ↦ λ fine h.
+          elim (floors_agree s e) as (λ b. floors_agree s e ≡ b → MatchBool b (Does s e o t) ((o ≡ outcomes.FloorsDiffer) × (t ≡ s)) → Went s t e o) [
+            | true ↦ λ agree d. inl (record { fine = fine; agree = agree; does = d })
+            | false ↦ λ differ d. inr (inl (record { fine = fine; differ = differ; told = d.0; same = d.1 }))
+          ] refl h
+      | false ↦ λ no d. inr (inr (record { no = no; told = d.0; same = d.1 }))
+    ] refl happens
+
+pub allowed : (s t : State) (e : Event) (o : Outcome) → is_allowed s e ≡ true → floors_agree s e ≡ true → Does s e o t → Happens s e o t
+unfolding Happens
+allowed s t e o fine agree d =
+    subst (λ b. MatchBool b (MatchBool (floors_agree s e) (Does s e o t) ((o ≡ outcomes.FloorsDiffer) × (t ≡ s))) ((o ≡ outcomes.NotAllowed) × (t ≡ s))) (sym fine)
+    (subst (λ b. MatchBool b (Does s e o t) ((o ≡ outcomes.FloorsDiffer) × (t ≡ s))) (sym agree) d)
+
+pub differing : (s t : State) (e : Event) → is_allowed s e ≡ true → floors_agree s e ≡ false → t ≡ s → Happens s e outcomes.FloorsDiffer t
+unfolding Happens
+differing s t e fine differ same =
+    let told : outcomes.FloorsDiffer ≡ outcomes.FloorsDiffer = refl in
+    subst (λ b. MatchBool b (MatchBool (floors_agree s e) (Does s e outcomes.FloorsDiffer t) ((outcomes.FloorsDiffer ≡ outcomes.FloorsDiffer) × (t ≡ s))) ((outcomes.FloorsDiffer ≡ outcomes.NotAllowed) × (t ≡ s))) (sym fine)
+    (subst (λ b. MatchBool b (Does s e outcomes.FloorsDiffer t) ((outcomes.FloorsDiffer ≡ outcomes.FloorsDiffer) × (t ≡ s))) (sym differ) (told, same))
 
 pub not_allowed : (s t : State) (e : Event) → is_allowed s e ≡ false → t ≡ s → Happens s e outcomes.NotAllowed t
 unfolding Happens
-not_allowed s t e refused same = subst (λ b. MatchBool b (Does s e outcomes.NotAllowed t) ((outcomes.NotAllowed ≡ outcomes.NotAllowed) × (t ≡ s))) (sym refused) (refl, same)
+not_allowed s t e refused same =
+    let told : outcomes.NotAllowed ≡ outcomes.NotAllowed = refl in
+    subst (λ b. MatchBool b (MatchBool (floors_agree s e) (Does s e outcomes.NotAllowed t) ((outcomes.NotAllowed ≡ outcomes.FloorsDiffer) × (t ≡ s))) ((outcomes.NotAllowed ≡ outcomes.NotAllowed) × (t ≡ s))) (sym refused) (told, same)
 
 -- Nodes.
 pub node-set : (f : Node → Node) (i : ℕ) (ns : List Node) (n : Node) → slice_get ns i ≡ Some n → set ns i (f n) ≡ changed i f ns
@@ -32,8 +78,12 @@ no_node s i none = ap is_some none
 pub a_node : (s : State) (i : ℕ) (n : Node) → slice_get s.nodes i ≡ Some n → has_node s i ≡ true
 a_node s i n there = ap is_some there
 
-pub and-true : {a b : Bool} → a ≡ true → b ≡ true → (a && b) ≡ true
-and-true {b = b} e f = ap (λ a. a && b) e ∙ f
+some_node : (o : Option Node) → is_some o ≡ true → (n : Node) × (o ≡ Some n)
+some_node None e = absurd (false≢true e)
+some_node (Some n) e = (n, refl)
 
-pub and-false : {a b : Bool} → a ≡ true → b ≡ false → (a && b) ≡ false
-and-false {b = b} e f = ap (λ a. a && b) e ∙ f
+pub node-there : (s : State) (i : ℕ) → has_node s i ≡ true → (n : Node) × (slice_get s.nodes i ≡ Some n)
+node-there s i has = some_node (slice_get s.nodes i) has
+
+pub set_there : (s : State) (i : ℕ) (n : Node) → slice_get s.nodes i ≡ Some n → set_at s i ≡ n.set
+set_there s i n there = ap (λ o. option_map_or (λ (m : Node). m.set) o no_records.set) there

@@ -12,7 +12,7 @@ use Rattle.reg_set.specs.Join.{LastIsGreatest, LastOfLastRecords, NoLastIsNoReco
 use Rattle.reg_set.specs.LastRecords.{last}
 use Rattle.reg_set.specs.RecordOrder.{age_cmp, record_cmp, value_cmp}
 use Rattle.reg_set.specs.Records.{Records}
-use Rattle.reg_world.proofs.Sound.{either}
+use Rattle.reg_world.proofs.Bools.{either}
 
 -- what is known of last records
 pub record LastLaws : Type 0 where

@@ -3,12 +3,12 @@ use Rattle.std.proofs.Common.{◌≡◌, ◌⊎◌, inl, inr, Bool, true, false,
 use Rattle.std.proofs.lemmas.Bool.{false≢true}
 use Rattle.reg_records.specs.declared.record.Record.{Record}
 use Rattle.reg_leader.specs.declared.command.Command.{Command}
-use Rattle.reg_topic.specs.Topic.{MayCommit, after_batch, may_drop}
+use Rattle.reg_topic.specs.Topic.{MayCommit, after_batch, may_compact}
 use Rattle.reg_topic.specs.declared.published.Commit.{Commit}
 use Rattle.reg_topic.specs.declared.published.Item.{Item}
 use Rattle.reg_topic.specs.declared.published.Item.TheVariants as items
 use Rattle.reg_world.specs.Core.{UnsettledComesFirst, UnsettledCounts, UnsettledGoesOn, settles_first}
-use Rattle.reg_world.specs.Happens.{Does, Happens, Steps, is_allowed, with_batch}
+use Rattle.reg_world.specs.Happens.{Does, Happens, Steps, at_floor, floors_agree, is_allowed, with_batch}
 use Rattle.reg_world.specs.LowerLaws.{LowerLaws}
 use Rattle.reg_world.specs.State.{State, publish, settle, settled, topic_of}
 use Rattle.reg_world.specs.declared.event.Event.{Event}
@@ -20,7 +20,7 @@ use Rattle.reg_world.specs.declared.event.Outcome.TheVariants as outcomes
 use Rattle.reg_world.specs.declared.node.Node.{Node}
 use Rattle.reg_world.proofs.Sound.{settle-none}
 use Rattle.reg_world.proofs.Stays.{sound-after}
-use Rattle.reg_world.proofs.Steps.{allowed}
+use Rattle.reg_world.proofs.Steps.{allowed, went}
 
 where_some : {P : Commit → Type 0} (u : Option Commit) → ((c : Commit) → u ≡ Some c → P c) → IfSome u P
 where_some None h = tt
@@ -59,29 +59,44 @@ left_as s t x is listed left = (ap (λ (y : State). y.items) is ∙ listed, ap (
 does_first : (s t : State) (e : Event) (o : Outcome) (commit : Commit) → s.unsettled ≡ Some commit → Does s e o t → MatchBool (settles_first e) (IsFirst s t commit) (IsLeft s t)
 does_first s t (events.Command node command fate) o commit is d =
     first_of s t commit is (subst (λ (x : State). OneMore (settle s.unsettled s).items x.items) (sym d.state) (of_batch (settle s.unsettled s) fate command d.batch))
-does_first s t (events.Compact dropped) o commit is d = first_of s t commit is (inr (items.Compaction dropped, ap (λ (x : State). x.items) d.1))
+does_first s t (events.Compact dropped) o commit is d =
+    first_of s t commit is (inr (items.Compaction (at_floor (topic_of (settled s)).kept.floor dropped), ap (λ (x : State). x.items) d.1))
+does_first s t (events.CompactTo floor dropped) o commit is d = first_of s t commit is (inr (items.Compaction (at_floor floor dropped), ap (λ (x : State). x.items) d.1))
 does_first s t (events.Take node records) o commit is d = left_as s t _ d.1 refl refl
 does_first s t (events.CompactNode node) o commit is d = left_as s t _ d.1 refl refl
 does_first s t (events.MergeFrom node other) o commit is d = left_as s t _ d.1 refl refl
+does_first s t (events.Rebase node) o commit is d = left_as s t _ d.1 refl refl
 does_first s t (events.Restart node) o commit is d = left_as s t _ d.1 refl refl
 does_first s t (events.Lookup node query) o commit is d = left_as s t _ d.3 refl refl
 
 -- where the event settles and is allowed, or not
-and_allowed : (A B : Type 0) (a : Bool) → MatchBool a A B → MatchBool (a && true) A B
-and_allowed A B true h = h
-and_allowed A B false h = h
+and_allowed : (A B : Type 0) (a b : Bool) → b ≡ true → MatchBool a A B → MatchBool (a && b) A B
+and_allowed A B true b e h = subst (λ c. MatchBool c A B) (sym e) h
+and_allowed A B false b e h = h
 
-and_not : (A B : Type 0) (a : Bool) → B → MatchBool (a && false) A B
-and_not A B true h = h
-and_not A B false h = h
+and_not : (A B : Type 0) (a b : Bool) → b ≡ false → B → MatchBool (a && b) A B
+and_not A B true b e h = subst (λ c. MatchBool c A B) (sym e) h
+and_not A B false b e h = h
+
+-- what settles brings no two sets together
+settles_alone : (s : State) (e : Event) → floors_agree s e ≡ false → settles_first e ≡ false
+settles_alone s (events.Command node command fate) differ = absurd (false≢true (sym differ))
+settles_alone s (events.Compact dropped) differ = absurd (false≢true (sym differ))
+settles_alone s (events.CompactTo floor dropped) differ = absurd (false≢true (sym differ))
+settles_alone s (events.Take node records) differ = refl
+settles_alone s (events.CompactNode node) differ = refl
+settles_alone s (events.MergeFrom node other) differ = refl
+settles_alone s (events.Rebase node) differ = refl
+settles_alone s (events.Restart node) differ = refl
+settles_alone s (events.Lookup node query) differ = refl
 
 pub unsettled_comes_first : UnsettledComesFirst
-unfolding Happens
 unsettled_comes_first s t e o happens = where_some s.unsettled (λ commit is.
-    elim (is_allowed s e) as (λ b. MatchBool b (Does s e o t) ((o ≡ outcomes.NotAllowed) × (t ≡ s)) → MatchBool (settles_first e && b) (IsFirst s t commit) (IsLeft s t)) [
-      | true ↦ λ d. and_allowed (IsFirst s t commit) (IsLeft s t) (settles_first e) (does_first s t e o commit is d)
-      | false ↦ λ d. and_not (IsFirst s t commit) (IsLeft s t) (settles_first e) (left_as s t s d.1 refl refl)
-    ] happens)
+    elim (went s t e o happens) as (λ _. MatchBool (settles_first e && is_allowed s e) (IsFirst s t commit) (IsLeft s t)) [
+      | inl did ↦ and_allowed (IsFirst s t commit) (IsLeft s t) (settles_first e) (is_allowed s e) did.fine (does_first s t e o commit is did.does)
+      | inr (inl differed) ↦ subst (λ a. MatchBool (a && is_allowed s e) (IsFirst s t commit) (IsLeft s t)) (sym (settles_alone s e differed.differ)) (left_as s t s differed.same refl refl)
+      | inr (inr refused) ↦ and_not (IsFirst s t commit) (IsLeft s t) (settles_first e) (is_allowed s e) refused.no (left_as s t s refused.same refl refl)
+    ])
 
 -- what is settled stays as it is when it is settled again
 same_nodes : (u : Option Commit) (s : State) → (settle u s).nodes ≡ s.nodes
@@ -93,10 +108,12 @@ settled_once s = ap (λ u. settle u (settled s)) (settle-none s.unsettled s refl
 
 allowed_alike : (s : State) (e : Event) → settles_first e ≡ true → is_allowed s e ≡ is_allowed (settled s) e
 allowed_alike s (events.Command node command fate) first = ap (λ (ns : List Node). is_some (slice_get ns node)) (sym (same_nodes s.unsettled s))
-allowed_alike s (events.Compact dropped) first = ap (λ (x : State). may_drop (topic_of x).kept dropped) (sym (settled_once s))
+allowed_alike s (events.Compact dropped) first = ap (λ (x : State). may_compact (topic_of x) (at_floor (topic_of x).kept.floor dropped)) (sym (settled_once s))
+allowed_alike s (events.CompactTo floor dropped) first = ap (λ (x : State). may_compact (topic_of x) (at_floor floor dropped)) (sym (settled_once s))
 allowed_alike s (events.Take node records) first = absurd (false≢true first)
 allowed_alike s (events.CompactNode node) first = absurd (false≢true first)
 allowed_alike s (events.MergeFrom node other) first = absurd (false≢true first)
+allowed_alike s (events.Rebase node) first = absurd (false≢true first)
 allowed_alike s (events.Restart node) first = absurd (false≢true first)
 allowed_alike s (events.Lookup node query) first = absurd (false≢true first)
 
@@ -104,24 +121,38 @@ does_alike : (s : State) (e : Event) (o : Outcome) (t : State) → settles_first
 does_alike s (events.Command node command fate) o t first =
     let at : State → Type 0 = λ x. Steps x command fate o t in (subst at (sym (settled_once s)), subst at (settled_once s))
 does_alike s (events.Compact dropped) o t first =
-    let at : State → Type 0 = λ x. (o ≡ outcomes.Done) × (t ≡ publish x (items.Compaction dropped)) in (subst at (sym (settled_once s)), subst at (settled_once s))
+    let at : State → Type 0 = λ x. (o ≡ outcomes.Done) × (t ≡ publish x (items.Compaction (at_floor (topic_of x).kept.floor dropped))) in (subst at (sym (settled_once s)), subst at (settled_once s))
+does_alike s (events.CompactTo floor dropped) o t first =
+    let at : State → Type 0 = λ x. (o ≡ outcomes.Done) × (t ≡ publish x (items.Compaction (at_floor floor dropped))) in (subst at (sym (settled_once s)), subst at (settled_once s))
 does_alike s (events.Take node records) o t first = absurd (false≢true first)
 does_alike s (events.CompactNode node) o t first = absurd (false≢true first)
 does_alike s (events.MergeFrom node other) o t first = absurd (false≢true first)
+does_alike s (events.Rebase node) o t first = absurd (false≢true first)
 does_alike s (events.Restart node) o t first = absurd (false≢true first)
 does_alike s (events.Lookup node query) o t first = absurd (false≢true first)
 
-done_of : (s t : State) (e : Event) (o : Outcome) → is_allowed s e ≡ true → Happens s e o t → Does s e o t
-unfolding Happens
-done_of s t e o fine happens = subst (λ b. MatchBool b (Does s e o t) ((o ≡ outcomes.NotAllowed) × (t ≡ s))) fine happens
+agree_first : (s : State) (e : Event) → settles_first e ≡ true → floors_agree s e ≡ true
+agree_first s e first =
+    elim (floors_agree s e) as (λ b. floors_agree s e ≡ b → b ≡ true) [
+      | true ↦ λ _. refl
+      | false ↦ λ differ. absurd (false≢true (sym (settles_alone s e differ) ∙ first))
+    ] refl
+
+done_of : (s t : State) (e : Event) (o : Outcome) → settles_first e ≡ true → is_allowed s e ≡ true → Happens s e o t → Does s e o t
+done_of s t e o first fine happens =
+    elim (went s t e o happens) as (λ _. Does s e o t) [
+      | inl did ↦ did.does
+      | inr (inl differed) ↦ absurd (false≢true (sym differed.differ ∙ agree_first s e first))
+      | inr (inr refused) ↦ absurd (false≢true (sym refused.no ∙ fine))
+    ]
 
 pub unsettled_counts : UnsettledCounts
 unsettled_counts s e first =
     let same = allowed_alike s e first in (
       same,
       λ fine o t. (
-        (λ happens. allowed (settled s) t e o (sym same ∙ fine) ((does_alike s e o t first).0 (done_of s t e o fine happens))),
-        (λ happens. allowed s t e o fine ((does_alike s e o t first).1 (done_of (settled s) t e o (sym same ∙ fine) happens))),
+        (λ happens. allowed (settled s) t e o (sym same ∙ fine) (agree_first (settled s) e first) ((does_alike s e o t first).0 (done_of s t e o first fine happens))),
+        (λ happens. allowed s t e o fine (agree_first s e first) ((does_alike s e o t first).1 (done_of (settled s) t e o first (sym same ∙ fine) happens))),
       ),
     )
 

@@ -1,12 +1,15 @@
 -- What holds after every list of events, beside the headline.
-use Rattle.std.specs.Prelude.{◌≡◌, ◌↔◌, ℕ, List, ◌∷◌, ◌++◌, Bool, true, false, ◌&&◌, IfSome, MatchBool, slice_get}
+use Rattle.std.specs.Prelude.{◌≡◌, ◌⊎◌, ◌↔◌, ◌<◌, ◌≤◌, ℕ, List, ◌∷◌, ◌++◌, Bool, true, false, ◌&&◌, None, Some, IfSome, MatchBool, slice_get}
 use Rattle.std.specs.FinSet.{contains, from_list, union}
+use Rattle.reg_records.specs.declared.key.Key.{Key}
 use Rattle.reg_records.specs.declared.record.Record.{Record}
-use Rattle.reg_set.specs.Compaction.{IsCompactionOf}
-use Rattle.reg_topic.specs.Topic.{IsAdopted, IsLawful, MayCommit, after_batch, published_by}
+use Rattle.reg_set.specs.LastRecords.{last}
+use Rattle.reg_kept.specs.Compaction.{IsCompactionOf, KeepsLasts}
+use Rattle.reg_topic.specs.Topic.{IsAdopted, IsLawful, MayCommit, after_batch, published_by, whole_log}
 use Rattle.reg_topic.specs.declared.published.Item.{Item}
 use Rattle.reg_topic.specs.declared.published.Item.TheVariants as items
-use Rattle.reg_world.specs.Happens.{Happens, is_allowed}
+use Rattle.reg_topic.specs.declared.topic.Topic.{Topic}
+use Rattle.reg_world.specs.Happens.{Happens, floors_agree, is_allowed}
 use Rattle.reg_world.specs.Runs.{After}
 use Rattle.reg_world.specs.State.{State, settled, topic_of}
 use Rattle.reg_world.specs.declared.event.Event.{Event}
@@ -31,30 +34,43 @@ NoItemIsSkipped = (events : List Event) (w : State) → After events w → HasAl
 
 -- the kept set is a compaction of the log
 abbrev pub KeptIsCompaction : Type 0
-KeptIsCompaction = (events : List Event) (w : State) → After events w → IsCompactionOf (topic_of w).kept (topic_of w).log
+KeptIsCompaction = (events : List Event) (w : State) → After events w → IsCompactionOf (topic_of w).kept (whole_log (topic_of w))
 
--- each node's set is a compaction of what it took, which is a part of the log
-pub record IsNode (w : State) (node : Node) : Type 0 where
-  pub compaction : IsCompactionOf node.set node.took
-  pub part : (r : Record) → contains node.took r ≡ true → contains (topic_of w).log r ≡ true
+-- a node's set keeps each last record of what it took, a part of the log, at a floor that isn't ahead of the kept one
+pub record IsNodeOf (t : Topic) (node : Node) : Type 0 where
+  pub lasts : KeepsLasts node.set.records node.took
+  pub part : (r : Record) → contains node.took r ≡ true → contains t.log r ≡ true
+  pub not_ahead : node.set.floor ≤ t.kept.floor
+  -- of a key that the log deletes below the node's floor, nothing stands at the node but behind that delete
+  pub none_is_back : (r : Record) → last t.log r.key ≡ Some r → r.value ≡ None → r.offset < node.set.floor
+      → (last node.set.records r.key ≡ None) ⊎ (contains node.set.records r ≡ true)
+  -- at the kept floor it has each kept last record below that
+  pub has_lower : node.set.floor ≡ t.kept.floor → (key : Key) → IfSome (last t.kept.records key) (λ r. r.offset < node.set.floor → contains node.set.records r ≡ true)
 
 abbrev pub HasNodes : State → Type 0
-HasNodes w = (i : ℕ) → IfSome (slice_get w.nodes i) (IsNode w)
+HasNodes w = (i : ℕ) → IfSome (slice_get w.nodes i) (IsNodeOf (topic_of w))
 
 abbrev pub NodesAreCompactions : Type 0
 NodesAreCompactions = (events : List Event) (w : State) → After events w → HasNodes w
 
--- an event is refused exactly where it isn't allowed, and then changes nothing
+-- which events are refused: one that isn't allowed, and else one between unequal floors; either changes nothing
+pub record IsRefusedExactly (s t : State) (e : Event) (o : Outcome) : Type 0 where
+  pub not_allowed : (o ≡ outcomes.NotAllowed) ↔ (is_allowed s e ≡ false)
+  pub floors_differ : (o ≡ outcomes.FloorsDiffer) ↔ ((is_allowed s e ≡ true) × (floors_agree s e ≡ false))
+  pub unchanged : (o ≡ outcomes.NotAllowed) ⊎ (o ≡ outcomes.FloorsDiffer) → t ≡ s
+
 abbrev pub RefusedExactly : Type 0
-RefusedExactly = (s t : State) (e : Event) (o : Outcome) → Happens s e o t → ((o ≡ outcomes.NotAllowed) ↔ (is_allowed s e ≡ false)) × (o ≡ outcomes.NotAllowed → t ≡ s)
+RefusedExactly = (s t : State) (e : Event) (o : Outcome) → Happens s e o t → IsRefusedExactly s t e o
 
 -- whether the event settles first what isn't settled, where it is allowed
 abbrev pub settles_first : Event → Bool
 settles_first (events.Command node command fate) = true
 settles_first (events.Compact dropped) = true
+settles_first (events.CompactTo floor dropped) = true
 settles_first (events.Take node records) = false
 settles_first (events.CompactNode node) = false
 settles_first (events.MergeFrom node other) = false
+settles_first (events.Rebase node) = false
 settles_first (events.Restart node) = false
 settles_first (events.Lookup node query) = false
 

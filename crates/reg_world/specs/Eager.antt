@@ -8,14 +8,14 @@ use Rattle.reg_records.specs.declared.key.Key.TheVariants as keys
 use Rattle.reg_records.specs.declared.record.Record.{Record}
 use Rattle.reg_records.specs.declared.value.Value.{Value}
 use Rattle.reg_records.specs.declared.value.Value.TheVariants as values
-use Rattle.reg_set.specs.Compaction.{IsCompactionOf}
 use Rattle.reg_set.specs.LastRecords.{last_records}
-use Rattle.reg_set.specs.Records.{Records}
+use Rattle.reg_kept.specs.Compaction.{IsCompactionOf}
+use Rattle.reg_kept.specs.Floored.{Floored}
 use Rattle.reg_entries.specs.EntryOrder.{Place, place_cmp, place_of}
 use Rattle.reg_entries.specs.Marked.{with_soft}
 use Rattle.reg_entries.specs.declared.entry.Entry.{Entry}
 use Rattle.reg_fold.specs.Entries.{entries, normal_of}
-use Rattle.reg_topic.specs.Topic.{published_by, registry_of}
+use Rattle.reg_topic.specs.Topic.{published_by, registry_of, whole_log}
 use Rattle.reg_topic.specs.declared.published.Item.{Item}
 use Rattle.reg_topic.specs.declared.topic.Topic.{Topic}
 use Rattle.reg_world.specs.Runs.{After}
@@ -81,9 +81,9 @@ eager_after base items place = after_records place (standing_at place (entries (
 abbrev pub eager : State → Place → Option Entry
 eager w place = eager_after w.base w.items place
 
--- that is, with its soft mark, the entry of the log there, and of each compaction of the log
+-- that is, with its soft mark, the entry of the log there, and of each compaction of the log, at whatever floor
 abbrev pub IsFoldedEagerly : State → Type 0
-IsFoldedEagerly w = (place : Place) (part : Records) → IsCompactionOf part (topic_of w).log → eager w place ≡ standing_at place (entries (last_records part))
+IsFoldedEagerly w = (place : Place) (part : Floored) → IsCompactionOf part (whole_log (topic_of w)) → eager w place ≡ standing_at place (entries (last_records part.records))
 
 abbrev pub EagerFoldingIsRight : Type 0
 EagerFoldingIsRight = (events : List Event) (w : State) → After events w → IsFoldedEagerly w

@@ -1,17 +1,17 @@
 -- What an event does to a state, and its outcome.
-use Rattle.std.specs.Prelude.{◌≡◌, List, [], ◌∷◌, Bool, ◌&&◌, MatchBool}
+use Rattle.std.specs.Prelude.{◌≡◌, ℕ, List, [], ◌∷◌, Bool, true, ◌&&◌, ◌==◌, MatchBool}
 use Rattle.std.specs.FinSet.{contains, from_list}
 use Rattle.std.specs.List.{list_all}
 use Rattle.reg_records.specs.declared.record.Record.{Record}
-use Rattle.reg_set.specs.LastRecords.{last_records}
 use Rattle.reg_leader.specs.Step.{IsStep}
-use Rattle.reg_topic.specs.Topic.{may_drop, registry_of}
+use Rattle.reg_topic.specs.Topic.{may_compact, registry_of}
 use Rattle.reg_leader.specs.declared.command.Command.{Command}
 use Rattle.reg_leader.specs.declared.reply.Reply.{Reply}
 use Rattle.reg_leader.specs.declared.reply.Reply.TheVariants as replies
+use Rattle.reg_topic.specs.declared.published.Compaction.{Compaction}
 use Rattle.reg_topic.specs.declared.published.Item.TheVariants as items
-use Rattle.reg_lookup.specs.Answers.{IsAnswer}
-use Rattle.reg_world.specs.State.{State, compacted, has_node, leave_unsettled, no_records, publish, records_at, settled, taking, topic_of, with_node}
+use Rattle.reg_lookup.specs.Answers.{IsAnswerOver}
+use Rattle.reg_world.specs.State.{State, compacted, has_node, leave_unsettled, no_records, publish, rebasing, set_at, settled, taking, topic_of, with_node}
 use Rattle.reg_world.specs.declared.event.Event.{Event}
 use Rattle.reg_world.specs.declared.event.Event.TheVariants as events
 use Rattle.reg_world.specs.declared.event.Fate.{Fate}
@@ -20,15 +20,33 @@ use Rattle.reg_world.specs.declared.event.Outcome.{Outcome}
 use Rattle.reg_world.specs.declared.event.Outcome.TheVariants as outcomes
 use Rattle.reg_lookup.specs.declared.answered.Answer.{Answer}
 
--- whether the event is allowed: its nodes are there, it drops kept records alone and no last one, it takes kept records alone
+-- records leave the kept set, which then has that floor
+abbrev pub at_floor : ℕ → List Record → Compaction
+at_floor floor dropped = record { floor = floor; dropped = dropped }
+
+-- whether the event is allowed: its nodes are there, its compaction may be, it takes kept records alone
 abbrev pub is_allowed : State → Event → Bool
 is_allowed s (events.Command node command fate) = has_node s node
-is_allowed s (events.Compact dropped) = may_drop (topic_of (settled s)).kept dropped
-is_allowed s (events.Take node records) = has_node s node && list_all (contains (topic_of s).kept) records
+is_allowed s (events.Compact dropped) = may_compact (topic_of (settled s)) (at_floor (topic_of (settled s)).kept.floor dropped)
+is_allowed s (events.CompactTo floor dropped) = may_compact (topic_of (settled s)) (at_floor floor dropped)
+is_allowed s (events.Take node records) = has_node s node && list_all (contains (topic_of s).kept.records) records
 is_allowed s (events.CompactNode node) = has_node s node
 is_allowed s (events.MergeFrom node other) = has_node s node && has_node s other
+is_allowed s (events.Rebase node) = has_node s node
 is_allowed s (events.Restart node) = has_node s node
 is_allowed s (events.Lookup node query) = has_node s node
+
+-- whether the two sets that the event brings together have one floor
+abbrev pub floors_agree : State → Event → Bool
+floors_agree s (events.Command node command fate) = true
+floors_agree s (events.Compact dropped) = true
+floors_agree s (events.CompactTo floor dropped) = true
+floors_agree s (events.Take node records) = (set_at s node).floor == (topic_of s).kept.floor
+floors_agree s (events.CompactNode node) = true
+floors_agree s (events.MergeFrom node other) = (set_at s node).floor == (set_at s other).floor
+floors_agree s (events.Rebase node) = true
+floors_agree s (events.Restart node) = true
+floors_agree s (events.Lookup node query) = true
 
 -- the reply that the caller gets
 abbrev pub told : Fate → Reply → List Record → Reply
@@ -52,16 +70,20 @@ pub record Steps (s : State) (command : Command) (fate : Fate) (o : Outcome) (t 
   pub outcome : o ≡ outcomes.Replied (told fate reply batch)
   pub state : t ≡ with_batch s fate command batch
 
--- what an event that is allowed does
+-- what an event does that is allowed, at sets of one floor
 abbrev pub Does : State → Event → Outcome → State → Type 0
 Does s (events.Command node command fate) o t = Steps (settled s) command fate o t
-Does s (events.Compact dropped) o t = (o ≡ outcomes.Done) × (t ≡ publish (settled s) (items.Compaction dropped))
+Does s (events.Compact dropped) o t = (o ≡ outcomes.Done) × (t ≡ publish (settled s) (items.Compaction (at_floor (topic_of (settled s)).kept.floor dropped)))
+Does s (events.CompactTo floor dropped) o t = (o ≡ outcomes.Done) × (t ≡ publish (settled s) (items.Compaction (at_floor floor dropped)))
 Does s (events.Take node records) o t = (o ≡ outcomes.Done) × (t ≡ with_node s node (taking (from_list records)))
 Does s (events.CompactNode node) o t = (o ≡ outcomes.Done) × (t ≡ with_node s node compacted)
-Does s (events.MergeFrom node other) o t = (o ≡ outcomes.Done) × (t ≡ with_node s node (taking (records_at s other)))
+Does s (events.MergeFrom node other) o t = (o ≡ outcomes.Done) × (t ≡ with_node s node (taking (set_at s other).records))
+Does s (events.Rebase node) o t = (o ≡ outcomes.Done) × (t ≡ with_node s node (rebasing (topic_of s).kept))
 Does s (events.Restart node) o t = (o ≡ outcomes.Done) × (t ≡ with_node s node (λ _. no_records))
-Does s (events.Lookup node query) o t = (answer : Answer) × IsAnswer (last_records (records_at s node)) query answer × (o ≡ outcomes.Answered answer) × (t ≡ s)
+Does s (events.Lookup node query) o t = (answer : Answer) × IsAnswerOver (set_at s node).records query answer × (o ≡ outcomes.Answered answer) × (t ≡ s)
 
--- one that isn't changes nothing
+-- one that isn't allowed changes nothing, and no more does one between unequal floors
 unfoldable pub Happens : State → Event → Outcome → State → Type 0
-Happens s e o t = MatchBool (is_allowed s e) (Does s e o t) ((o ≡ outcomes.NotAllowed) × (t ≡ s))
+Happens s e o t =
+    MatchBool (is_allowed s e) (MatchBool (floors_agree s e) (Does s e o t) ((o ≡ outcomes.FloorsDiffer) × (t ≡ s)))
+    ((o ≡ outcomes.NotAllowed) × (t ≡ s))

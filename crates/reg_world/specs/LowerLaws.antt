@@ -1,22 +1,34 @@
 -- Private: the laws of the crates below that the claims rest on.
 use Rattle.std.specs.Cmp.{IsTotalOrder}
 use Rattle.std.specs.FinSet.{IsAntisymmetric}
-use Rattle.reg_set.specs.Join.{CompactionsCompose, CompactionsUnite, EachIsItsOwnCompaction, LastRecordsAreCompaction, LastRecordsOfCompaction}
+use Rattle.reg_set.specs.Join.{LastIsGreatest, LastOfLastRecords, NoLastIsNoRecord}
+use Rattle.reg_set.specs.Join as of_sets
 use Rattle.reg_set.specs.RecordOrder.{record_cmp}
-use Rattle.reg_topic.specs.Laws.{CommitsFollow, ItemsAreFoldedInTurn, KeptStaysCompaction, LawfulItemsFollow, LawfulListsGoOn, LogIsWhatWasPublished, LogsGrow}
+use Rattle.reg_kept.specs.Laws.{CompactionsCompose, KeepingLastsUnites, LastOfCompaction, RebasingKeepsLasts}
+use Rattle.reg_alike.specs.AnswerAlike.{CompactionsAnswerAlike}
+use Rattle.reg_topic.specs.Laws.{AllowedDropsLeaveCompactions, CommitsFollow, FloorsStayBelow, ItemsAreFoldedInTurn, KeptStaysCompaction, LawfulListsGoOn, LogIsWhatWasPublished}
 
 pub record LowerLaws : Type 0 where
   pub order : IsTotalOrder record_cmp
   pub apart : IsAntisymmetric record_cmp
-  pub itself : EachIsItsOwnCompaction
+  -- of plain sets
+  pub greatest : LastIsGreatest
+  pub none : NoLastIsNoRecord
+  pub lasts : LastOfLastRecords
+  pub keeps_own : of_sets.EachIsItsOwnCompaction
+  pub keeps_across : of_sets.CompactionsCompose
+  pub keeps_least : of_sets.LastRecordsAreCompaction
+  -- of sets with floors
   pub across : CompactionsCompose
-  pub unite : CompactionsUnite
-  pub least : LastRecordsAreCompaction
-  pub same : LastRecordsOfCompaction
+  pub last_of : LastOfCompaction
+  pub unite : KeepingLastsUnites
+  pub rebase : RebasingKeepsLasts
+  pub alike : CompactionsAnswerAlike
+  -- of topics
   pub kept : KeptStaysCompaction
-  pub grows : LogsGrow
+  pub drops : AllowedDropsLeaveCompactions
+  pub below : FloorsStayBelow
   pub in_turn : ItemsAreFoldedInTurn
   pub go_on : LawfulListsGoOn
-  pub follow : LawfulItemsFollow
   pub commits : CommitsFollow
   pub whole : LogIsWhatWasPublished

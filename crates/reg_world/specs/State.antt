@@ -4,6 +4,8 @@ use Rattle.std.specs.FinSet.{empty, union}
 use Rattle.std.specs.Option.{option_map_or}
 use Rattle.reg_set.specs.LastRecords.{last_records}
 use Rattle.reg_set.specs.Records.{Records}
+use Rattle.reg_kept.specs.Floored.{Floored}
+use Rattle.reg_kept.specs.Floors.{rebased}
 use Rattle.reg_topic.specs.Topic.{after_items}
 use Rattle.reg_topic.specs.declared.published.Commit.{Commit}
 use Rattle.reg_topic.specs.declared.published.Item.{Item}
@@ -44,20 +46,24 @@ leave_unsettled s commit = record { base = s.base; items = s.items; unsettled = 
 
 -- Nodes.
 abbrev pub no_records : Node
-no_records = record { set = empty; took = empty }
+no_records = record { set = record { records = empty; floor = 0 }; took = empty }
 
 abbrev pub taking : Records → Node → Node
-taking more node = record { set = union node.set more; took = union node.took more }
+taking more node = record { set = record node.set { records = union node.set.records more }; took = union node.took more }
 
 abbrev pub compacted : Node → Node
-compacted node = record { set = last_records node.set; took = node.took }
+compacted node = record { set = record node.set { records = last_records node.set.records }; took = node.took }
+
+-- own records from the kept floor on, and the kept ones below it: of the set, and of what was taken
+abbrev pub rebasing : Floored → Node → Node
+rebasing kept node = record { set = record { records = rebased node.set.records kept; floor = kept.floor }; took = rebased node.took kept }
 
 abbrev pub has_node : State → ℕ → Bool
 has_node s i = is_some (slice_get s.nodes i)
 
--- the records that a node has
-abbrev pub records_at : State → ℕ → Records
-records_at s i = option_map_or (λ node. node.set) (slice_get s.nodes i) empty
+-- the set that a node has
+abbrev pub set_at : State → ℕ → Floored
+set_at s i = option_map_or (λ node. node.set) (slice_get s.nodes i) no_records.set
 
 -- the nodes with the i-th one changed
 abbrev pub changed : ℕ → (Node → Node) → List Node → List Node

@@ -14,7 +14,7 @@ use Rattle.reg_world.specs.declared.event.Outcome.TheVariants as outcomes
 -- the event that an item is, at a node that has no part in it
 abbrev pub event_of : ℕ → Item → Event
 event_of node (items.Commit commit) = events.Command node commit.command Published
-event_of node (items.Compaction dropped) = events.Compact dropped
+event_of node (items.Compaction c) = events.CompactTo c.floor c.dropped
 
 -- an item that may follow is an event that happens and publishes it
 abbrev pub ItemsHappen : Type 0

@@ -6,10 +6,10 @@ ghost use Rattle.reg_refusals.specs.Refusal.{no_memory};
 ghost use Rattle.reg_leader.specs.Outcome.{IsOutOfMemory};
 ghost use Rattle.reg_leader.specs.Step.{IsStep};
 ghost use Rattle.reg_leader.specs.declared.reply.Reply.TheVariants as replies;
-ghost use Rattle.reg_topic.specs.Topic.{follows, may_drop, registry_of};
+ghost use Rattle.reg_topic.specs.Topic.{follows, may_compact, registry_of};
 ghost use Rattle.reg_topic.specs.declared.published.Item.TheVariants as published;
 ghost use Rattle.reg_world.specs.Happens.{Happens, told, with_batch};
-ghost use Rattle.reg_world.specs.State.{leave_unsettled, no_records, publish, settled, settling, start, topic_of};
+ghost use Rattle.reg_world.specs.State.{leave_unsettled, no_records, publish, rebasing, settled, settling, start, topic_of};
 ghost use Rattle.reg_world.specs.declared.event.Event.TheVariants as events;
 
 use crate::event::{Event, Fate, Outcome};
@@ -17,11 +17,12 @@ use crate::folding::{Decided, Folded};
 use crate::node::Node;
 use base_text::Listed;
 use reg_fold::{Refusal, Registry, StoreFault};
+use reg_kept::KeptSet;
 use reg_leader::{Command, Decision, Reply, batches_end_by_the_limit, batches_go_on, decide};
 use reg_lookup::{Query, answer};
 use reg_records::Record;
 use reg_set::RecordSet;
-use reg_topic::{Commit, Item, Topic, lawful_items_follow};
+use reg_topic::{Commit, Compaction, Item, Topic, lawful_items_follow};
 use std::alloc::{AllocError, Global};
 use std::marker::Model;
 
@@ -116,9 +117,11 @@ impl Cluster {
                 fate,
             } => self.command(*node, command, *fate),
             Event::Compact(dropped) => self.compact(dropped),
+            Event::CompactTo { floor, dropped } => self.compact_to(*floor, dropped),
             Event::Take { node, records } => self.take(*node, records),
             Event::CompactNode(node) => self.compact_node(*node),
             Event::MergeFrom { node, other } => self.merge_from(*node, *other),
+            Event::Rebase(node) => self.rebase(*node),
             Event::Restart(node) => self.restart(*node),
             Event::Lookup { node, query } => self.lookup(*node, query),
         }
@@ -194,11 +197,22 @@ impl Cluster {
         ensures happens { IfOk result (λ outcome. Happens self.old (events.Compact dropped.now) outcome self.new) }
         ensures refused { OnErr result (self.new ≡ self.old) }
     {
-        let may = self.may_drop(dropped.as_slice())?;
+        lawful_items_follow();
+        let floor = self.kept_floor()?;
+        self.compact_to(floor, dropped)
+    }
+
+    fn compact_to(&mut self, floor: u64, dropped: &Listed<Record>) -> Result<Outcome, AllocError>
+        ensures happens { IfOk result (λ outcome. Happens self.old (events.CompactTo floor dropped.now) outcome self.new) }
+        ensures refused { OnErr result (self.new ≡ self.old) }
+    {
+        let dropped = dropped.clone()?;
+        let compaction = Compaction { floor, dropped };
+        let may = self.may_compact(&compaction)?;
         if !may {
             return Ok(Outcome::NotAllowed);
         }
-        self.publish_compaction(dropped.clone()?)?;
+        self.publish_compaction(compaction)?;
         Ok(Outcome::Done)
     }
 
@@ -210,18 +224,27 @@ impl Cluster {
         if !are_kept {
             return Ok(Outcome::NotAllowed);
         }
-        self.take_kept(node, records)
+        let floor = self.kept_floor()?;
+        self.take_kept(node, records, floor)
     }
 
-    /// Joins records that are kept to the node's.
-    fn take_kept(&mut self, node: usize, records: &Listed<Record>) -> Result<Outcome, AllocError>
-        requires { list_all (contains (topic_of self.old).kept) records.now ≡ true }
+    /// Joins records that are kept to the node's, where that has the kept floor.
+    fn take_kept(
+        &mut self,
+        node: usize,
+        records: &Listed<Record>,
+        floor: u64,
+    ) -> Result<Outcome, AllocError>
+        requires { (list_all (contains (topic_of self.old).kept.records) records.now ≡ true) × (floor ≡ (topic_of self.old).kept.floor) }
         ensures happens { IfOk result (λ outcome. Happens self.old (events.Take node records.now) outcome self.new) }
         ensures refused { OnErr result (self.new ≡ self.old) }
     {
         let Some(taker) = self.node(node) else {
             return Ok(Outcome::NotAllowed);
         };
+        if taker.set.floor() != floor {
+            return Ok(Outcome::FloorsDiffer);
+        }
         let more = RecordSet::of(*self.items.allocator(), records.as_slice())?;
         let taker = taker.taking(&more)?;
         self.nodes[node] = taker;
@@ -250,9 +273,36 @@ impl Cluster {
         let Some(giver) = self.node(other) else {
             return Ok(Outcome::NotAllowed);
         };
-        let taker = taker.taking(&giver.set)?;
+        if taker.set.floor() != giver.set.floor() {
+            return Ok(Outcome::FloorsDiffer);
+        }
+        let taker = taker.taking(giver.set.set())?;
         self.nodes[node] = taker;
         Ok(Outcome::Done)
+    }
+
+    fn rebase(&mut self, node: usize) -> Result<Outcome, AllocError>
+        ensures happens { IfOk result (λ outcome. Happens self.old (events.Rebase node) outcome self.new) }
+        ensures refused { OnErr result (self.new ≡ self.old) }
+    {
+        let Some(rebased) = self.rebased(node)? else {
+            return Ok(Outcome::NotAllowed);
+        };
+        self.nodes[node] = rebased;
+        Ok(Outcome::Done)
+    }
+
+    /// The node, where it is there, rebased on the kept set.
+    fn rebased(&mut self, node: usize) -> Result<Option<Node>, AllocError>
+        ensures told { IfOk result (λ found. found ≡ option_map (rebasing (topic_of self.old).kept) (slice_get self.old.nodes node)) }
+        ensures same { self.new ≡ self.old }
+    {
+        let alloc = *self.items.allocator();
+        self.folded.catch_up(alloc, &self.items)?;
+        match self.nodes.get(node) {
+            Some(found) => Ok(Some(found.rebasing(&self.folded.topic.kept)?)),
+            None => Ok(None),
+        }
     }
 
     fn restart(&mut self, node: usize) -> Result<Outcome, AllocError>
@@ -274,7 +324,7 @@ impl Cluster {
             return Ok(Outcome::NotAllowed);
         };
         let alloc = *self.items.allocator();
-        let registry = Registry::of_set(alloc, &found.set)?;
+        let registry = Registry::of_set(alloc, found.set.set())?;
         Ok(Outcome::Answered(answer(alloc, &registry, query)?))
     }
 
@@ -284,27 +334,37 @@ impl Cluster {
         self.nodes.get(node)
     }
 
-    /// Whether the records may leave the kept set, once what isn't settled is.
-    fn may_drop(&mut self, dropped: &[Record]) -> Result<bool, AllocError>
-        ensures told { IfOk result (λ may. may ≡ may_drop (topic_of (settled self.old)).kept dropped.now) }
+    /// Whether the compaction may be, once what isn't settled is.
+    fn may_compact(&mut self, compaction: &Compaction) -> Result<bool, AllocError>
+        ensures told { IfOk result (λ may. may ≡ may_compact (topic_of (settled self.old)) compaction.now) }
         ensures same { self.new ≡ self.old }
     {
         lawful_items_follow();
         let alloc = *self.items.allocator();
         self.folded.catch_up(alloc, &self.items)?;
         match &self.unsettled {
-            None => Ok(self.folded.topic.may_drop(dropped)),
+            None => self.folded.topic.may_compact(compaction),
             Some(commit) => {
                 let mut topic = self.folded.topic.clone()?;
                 topic.publish_batch(alloc, commit.batch.as_slice())?;
-                Ok(topic.may_drop(dropped))
+                topic.may_compact(compaction)
             }
         }
     }
 
+    /// The floor of the kept set. A batch doesn't change it.
+    fn kept_floor(&mut self) -> Result<u64, AllocError>
+        ensures told { IfOk result (λ floor. floor ≡ (topic_of self.old).kept.floor) }
+        ensures same { self.new ≡ self.old }
+    {
+        let alloc = *self.items.allocator();
+        self.folded.catch_up(alloc, &self.items)?;
+        Ok(self.folded.topic.kept.floor())
+    }
+
     /// Whether the records are kept.
     fn are_kept(&mut self, records: &[Record]) -> Result<bool, AllocError>
-        ensures told { IfOk result (λ are. are ≡ list_all (contains (topic_of self.old).kept) records.now) }
+        ensures told { IfOk result (λ are. are ≡ list_all (contains (topic_of self.old).kept.records) records.now) }
         ensures same { self.new ≡ self.old }
     {
         let alloc = *self.items.allocator();
@@ -350,16 +410,16 @@ impl Cluster {
         Ok(())
     }
 
-    /// Publishes the commit that isn't settled, and then that the records leave the kept set. No
-    /// last record changes by it.
-    fn publish_compaction(&mut self, dropped: Listed<Record>) -> Result<(), AllocError>
-        ensures published { OnOk result (self.new ≡ publish (settled self.old) (published.Compaction dropped)) }
+    /// Publishes the commit that isn't settled, and then the compaction. The log stays as it is, and with
+    /// it the registry that commands step from.
+    fn publish_compaction(&mut self, compaction: Compaction) -> Result<(), AllocError>
+        ensures published { OnOk result (self.new ≡ publish (settled self.old) (published.Compaction compaction)) }
         ensures refused { OnErr result (self.new ≡ self.old) }
     {
         lawful_items_follow();
         self.items.reserve(2)?;
         put_settling(&mut self.items, &mut self.unsettled);
-        self.items.push_reserved(Item::Compaction(dropped));
+        self.items.push_reserved(Item::Compaction(compaction));
         Ok(())
     }
 }
@@ -394,8 +454,8 @@ fn first_offset(batch: &Listed<Record>) -> Option<u64>
     batch.as_slice().first().map(|record| record.offset)
 }
 
-fn are_all_in(kept: &RecordSet, records: &[Record]) -> bool
-    ensures { result ≡ list_all (contains kept.now) records.now }
+fn are_all_in(kept: &KeptSet, records: &[Record]) -> bool
+    ensures { result ≡ list_all (contains kept.now.records) records.now }
 {
     records.iter().all(|record| kept.contains(record))
 }

@@ -24,9 +24,14 @@ pub enum Event {
         command: Command,
         fate: Fate,
     },
-    /// What wasn't settled is published, and then these records leave the kept set. Whether they may is
-    /// judged with that published.
+    /// What wasn't settled is published, and then these records leave the kept set, whose floor stays.
+    /// Whether they may is judged with that published.
     Compact(Listed<Record>),
+    /// As `Compact`, and the kept set has that floor then.
+    CompactTo {
+        floor: u64,
+        dropped: Listed<Record>,
+    },
     /// The node takes these records, which are kept.
     Take {
         node: usize,
@@ -39,7 +44,9 @@ pub enum Event {
         node: usize,
         other: usize,
     },
-    /// The node loses what it has.
+    /// The node takes on the kept set's floor, and the kept records below it in place of its own.
+    Rebase(usize),
+    /// The node loses what it has. Its floor is 0 then.
     Restart(usize),
     Lookup {
         node: usize,
@@ -53,6 +60,9 @@ pub enum Outcome {
     Replied(Reply),
     Answered(Answer),
     Done,
-    /// A node isn't there, a record isn't kept, or a last record would be dropped. Nothing changed.
+    /// A node isn't there, a record isn't kept, the floor would fall or be ahead of the next offset, or
+    /// what would stay is no compaction at that floor. Nothing changed.
     NotAllowed,
+    /// It is allowed, but the sets that it brings together have unequal floors. Nothing changed.
+    FloorsDiffer,
 }

@@ -2,20 +2,26 @@
 // that needs a law calls it.
 ghost use Rattle.reg_world.specs.Core.{KeptIsCompaction, LogIsLawful, NoItemIsSkipped, NodesAreCompactions, RefusedExactly, UnsettledComesFirst, UnsettledCounts, UnsettledGoesOn};
 ghost use Rattle.reg_world.specs.Eager.{EagerFoldingIsRight};
-ghost use Rattle.reg_world.specs.Headline.{AnswersAreOfTheSet, CaughtUpNodesAnswerAsTheLog, Ids, Levels, Merging, SameAnswers, TakersOfAllCatchUp, WorldsKeepTheHeadline};
+ghost use Rattle.reg_world.specs.Headline.{AnswersAreOfTheSet, CaughtUpNodesAnswerAsTheLog, Ids, Levels, Merging, NodesCatchUp, SameAnswers, TakersOfAllCatchUp, WorldsKeepTheHeadline};
 ghost use Rattle.reg_world.specs.LowerLaws.{LowerLaws};
 ghost use Rattle.reg_world.specs.Threads.{ItemsHappen};
 
+use reg_alike::{compactions_answer_alike, compactions_give_alike};
 use reg_fold::entries_are_of_places;
+use reg_kept::{
+    compactions_compose, compactions_keep_what_stands, compactions_unite, merging_joins_sets,
+    rebasing_keeps_lasts,
+};
 use reg_leader::{batches_end_by_the_limit, batches_go_on, deletes_name_greatest};
 use reg_lookup::queries_have_one_answer;
 use reg_set::{
-    compactions_compose, last_is_greatest, last_records_are_enough, last_records_of_unions,
-    merging_joins_sets, records_are_ordered,
+    compactions_compose as plain_compactions_compose, last_is_greatest, last_records_are_enough,
+    records_are_ordered,
 };
 use reg_topic::{
-    commits_follow, kept_sets_are_compactions, lawful_items_follow, lawful_lists_keep_ids,
-    lawful_lists_meet_levels, log_is_what_was_published,
+    allowed_drops_leave_compactions, commits_follow, floors_stay_below, kept_sets_are_compactions,
+    lawful_items_follow, lawful_lists_keep_ids, lawful_lists_meet_levels,
+    log_is_what_was_published,
 };
 use reg_values::written_values_read_back;
 
@@ -24,17 +30,23 @@ fn lower_laws()
     ensures { LowerLaws }
 {
     records_are_ordered();
+    last_is_greatest();
     last_records_are_enough();
-    last_records_of_unions();
+    plain_compactions_compose();
     compactions_compose();
+    compactions_keep_what_stands();
+    rebasing_keeps_lasts();
+    compactions_answer_alike();
     kept_sets_are_compactions();
+    allowed_drops_leave_compactions();
+    floors_stay_below();
     lawful_items_follow();
     commits_follow();
     log_is_what_was_published();
 }
 
 /// After every list of events the log is lawful, with all that was published, the kept set is a
-/// compaction of it, and each node's set is one of what it took.
+/// compaction of it, and each node's set is one of what it took, at a floor that isn't ahead.
 pub fn every_list_of_events_is_lawful()
     ensures log { LogIsLawful }
     ensures whole { NoItemIsSkipped }
@@ -44,7 +56,8 @@ pub fn every_list_of_events_is_lawful()
     lower_laws();
 }
 
-/// An event is refused exactly where it isn't allowed, and then changes nothing.
+/// An event is refused exactly where it isn't allowed or brings together sets of unequal floors, and
+/// then changes nothing.
 pub fn events_are_refused_exactly()
     ensures { RefusedExactly }
 {}
@@ -70,10 +83,12 @@ pub fn nodes_answer_alike()
     queries_have_one_answer();
 }
 
-/// A node that took all that is kept, or any compaction of the log, answers as the whole log does.
+/// A node that took a compaction of the log answers as the whole log does, and so does one at the kept
+/// floor that took all that is kept, or that has the last kept record of each key.
 pub fn caught_up_nodes_answer_as_the_log()
     ensures all { TakersOfAllCatchUp }
     ensures answers { CaughtUpNodesAnswerAsTheLog }
+    ensures lasts { NodesCatchUp }
 {
     lower_laws();
 }
@@ -95,12 +110,13 @@ pub fn registered_versions_meet_levels()
 }
 
 /// Taken one after the other, the records of the log give the entries of the log, and of each
-/// compaction of it, with their soft marks.
+/// compaction of it, at whatever floor, with their soft marks.
 pub fn eager_folding_is_right()
     ensures { EagerFoldingIsRight }
 {
     batches_end_by_the_limit();
     batches_go_on();
+    compactions_give_alike();
     deletes_name_greatest();
     entries_are_of_places();
     every_list_of_events_is_lawful();
@@ -110,13 +126,13 @@ pub fn eager_folding_is_right()
     written_values_read_back();
 }
 
-/// Merging is commutative, associative and idempotent, and so are answers.
+/// Merging at equal floors is commutative, associative and idempotent, and so are answers.
 pub fn merging_answers_alike()
     ensures { Merging }
 {
     merging_joins_sets();
-    last_records_are_enough();
-    last_records_of_unions();
+    compactions_unite();
+    compactions_answer_alike();
 }
 
 /// An item that may follow is an event that happens and publishes it.

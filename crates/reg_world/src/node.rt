@@ -1,40 +1,43 @@
 // A node of a world.
 ghost use Rattle.std.specs.Prelude.{◌≡◌, IfOk};
-ghost use Rattle.reg_world.specs.State.{compacted, no_records, taking};
+ghost use Rattle.reg_kept.specs.Floors.{rebased};
+ghost use Rattle.reg_world.specs.State.{compacted, no_records, rebasing, taking};
 
+use reg_kept::KeptSet;
 use reg_set::RecordSet;
 use std::alloc::{AllocError, Global};
 
 /// A node's set, beside all records that joined it since its last restart.
 #[derive(Debug, Drop)]
 pub struct Node {
-    pub set: RecordSet,
+    pub set: KeptSet,
+    /// Where the set was rebased, what was taken was too.
     pub took: RecordSet,
 }
 
 impl Node {
-    /// A node without records.
+    /// A node without records, at the floor 0.
     pub(crate) fn new(alloc: Global) -> Node
         ensures { result ≡ no_records }
     {
         Node {
-            set: RecordSet::new(alloc),
+            set: KeptSet::new(alloc),
             took: RecordSet::new(alloc),
         }
     }
 
-    /// The node with those records too.
+    /// The node with those records too. Its floor stays.
     pub(crate) fn taking(&self, more: &RecordSet) -> Result<Node, AllocError>
         ensures { IfOk result (λ node. node ≡ taking more.now self.now) }
     {
         let mut set = self.set.clone()?;
-        set.merge(more)?;
+        set.add(more)?;
         let mut took = self.took.clone()?;
         took.merge(more)?;
         Ok(Node { set, took })
     }
 
-    /// The node with its last records alone.
+    /// The node with its last records alone. Its floor stays.
     pub(crate) fn compacted(&self) -> Result<Node, AllocError>
         ensures { IfOk result (λ node. node ≡ compacted self.now) }
     {
@@ -42,5 +45,30 @@ impl Node {
         set.compact();
         let took = self.took.clone()?;
         Ok(Node { set, took })
+    }
+
+    /// The node at the floor of the kept set, with the kept records below it in place of its own, and
+    /// in place of what it took there.
+    pub(crate) fn rebasing(&self, kept: &KeptSet) -> Result<Node, AllocError>
+        ensures { IfOk result (λ node. node ≡ rebasing kept.now self.now) }
+    {
+        let set = rebased(self.set.set(), kept)?;
+        let took = rebased(&self.took, kept)?;
+        Ok(Node {
+            set,
+            took: took.set().clone()?,
+        })
+    }
+}
+
+/// Those records from the kept set's floor on, and the kept ones below it, at that floor.
+fn rebased(own: &RecordSet, kept: &KeptSet) -> Result<KeptSet, AllocError>
+    ensures { IfOk result (λ found. found ≡ record { records = rebased own.now kept.now; floor = kept.now.floor }) }
+{
+    let mut found = KeptSet::of(own.clone()?, 0);
+    match found.rebase(kept) {
+        Ok(()) => Ok(found),
+        // No floor is below 0, so that it is memory that was refused.
+        Err(_refused) => Err(AllocError),
     }
 }

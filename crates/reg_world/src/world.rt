@@ -1,5 +1,5 @@
 // A world: what a list of events leads to.
-ghost use Rattle.std.specs.Prelude.{◌≡◌, ◌↔◌, ◌+◌, ◌++◌, ◌∷◌, [], false, Some, IfOk, IfErr, OnErr, OnOk, length};
+ghost use Rattle.std.specs.Prelude.{◌≡◌, ◌↔◌, ◌+◌, ◌++◌, ◌∷◌, [], false, true, Some, IfOk, IfErr, OnErr, OnOk, length};
 ghost use Rattle.std.specs.FinSet.{from_list};
 ghost use Rattle.std.specs.List.{Contains};
 ghost use Rattle.reg_set.specs.LastRecords.{last_records};
@@ -10,7 +10,7 @@ ghost use Rattle.reg_fold.specs.Entries.{entries};
 ghost use Rattle.reg_leader.specs.Adoption.{HasPlace, IsAdoptRefusal};
 ghost use Rattle.reg_topic.specs.Topic.{after_batch, follows, registry_of, topic_from};
 ghost use Rattle.reg_world.specs.Eager.{eager};
-ghost use Rattle.reg_world.specs.Happens.{Happens, is_allowed};
+ghost use Rattle.reg_world.specs.Happens.{Happens, floors_agree, is_allowed};
 ghost use Rattle.reg_world.specs.Headline.{IsReached, KeepsTheHeadline};
 ghost use Rattle.reg_world.specs.Runs.{IsStopped, Runs};
 ghost use Rattle.reg_world.specs.State.{start, topic_of};
@@ -22,9 +22,9 @@ use crate::eager::{fold_eagerly, listed};
 use crate::event::{Event, Outcome};
 use crate::laws::{eager_folding_is_right, events_are_refused_exactly, worlds_keep_the_headline};
 use reg_fold::{Entry, Registry, entries_are_of_places};
+use reg_kept::compactions_compose;
 use reg_leader::{AdoptError, Adopted, adopt};
 use reg_records::{Log, Record};
-use reg_set::compactions_compose;
 use reg_topic::{Topic, adopted_logs_begin, follows};
 use std::alloc::{AllocError, Global};
 use std::error::Error;
@@ -35,8 +35,9 @@ use std::marker::Model;
 ///
 /// Wherever the events lead, the log is lawful, with all that was published, the kept set is a
 /// compaction of it, each node answers as the set does of which it took a compaction, so as the log
-/// if it took all that is kept, an id names one schema for good, each registered version met its
-/// level, and the log's records, taken one after the other, give its entries.
+/// if it has the kept floor and took all that is kept, or has the last kept record of each key, an id
+/// names one schema for good, each registered version met its level, and the log's records, taken one
+/// after the other, give its entries.
 #[derive(Debug, Drop)]
 pub struct World {
     cluster: Cluster,
@@ -79,7 +80,7 @@ impl World {
     /// A world over a base, whose nodes have no record. Its topic begins with the base and the mark of
     /// ids that the base owes. A base that isn't adopted is refused.
     pub fn start(alloc: Global, nodes: usize, base: &Log) -> Result<World, AdoptError>
-        ensures start { IfOk result (λ w. w ≡ start (topic_from base.now.records.items base.now.next) nodes) }
+        ensures start { IfOk result (λ w. w ≡ start (topic_from base.now.records.items base.now.next base.now.floor) nodes) }
         ensures place { OnOk result (HasPlace (last_records (from_list base.now.records.items)) base.now.next) }
         ensures adopted { OnOk result (is_closed (last_records (from_list base.now.records.items)) ≡ false) }
         ensures keeps { IfOk result KeepsTheHeadline }
@@ -102,6 +103,8 @@ impl World {
         ensures happens { IfOk result (λ outcome. Happens self.old event.now outcome self.new) }
         ensures not_allowed { IfOk result (λ outcome. (outcome ≡ Outcome.NotAllowed)
             ↔ (is_allowed self.old event.now ≡ false)) }
+        ensures floors_differ { IfOk result (λ outcome. (outcome ≡ Outcome.FloorsDiffer)
+            ↔ ((is_allowed self.old event.now ≡ true) × (floors_agree self.old event.now ≡ false))) }
         ensures keeps { KeepsTheHeadline self.new }
         ensures refused { OnErr result (self.new ≡ self.old) }
     {

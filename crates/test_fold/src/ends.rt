@@ -6,7 +6,7 @@ use std::alloc::{AllocError, Global};
 
 /// Logs without a request, and what is said of them: the text on standard error, the status, and how
 /// many bytes are written.
-static ENDS: [(&str, &str); 16] = [
+static ENDS: [(&str, &str); 24] = [
     ("", "0 0"),
     ("\n", "0 0"),
     ("7\t{\"keytype\":\"NOOP\"}\tnull\n", "0 0"),
@@ -52,6 +52,17 @@ static ENDS: [(&str, &str); 16] = [
     (
         "9223372036854775808\t{\"keytype\":\"NOOP\"}\tnull\n\n",
         "line 1: BadOffset\n2 0",
+    ),
+    ("floor\t3\n\n", "0 0"),
+    ("floor\t3", "line 1: Truncated\n2 0"),
+    ("floor\t03\n\n", "line 1: BadFloor\n2 0"),
+    ("floor\t3\t\n\n", "line 1: BadFloor\n2 0"),
+    ("floor\t\n\n", "line 1: BadFloor\n2 0"),
+    ("floor\t9223372036854775808\n\n", "line 1: BadFloor\n2 0"),
+    ("floor 3\n\n", "line 1: BadTabs\n2 0"),
+    (
+        "7\t{\"keytype\":\"NOOP\"}\tnull\nfloor\t3\n\n",
+        "line 2: BadTabs\n2 0",
     ),
 ];
 

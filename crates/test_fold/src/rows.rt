@@ -53,6 +53,18 @@ a removal that comes before its version
 4|{"keytype":"SCHEMA","subject":"s","version":1,"magic":1}|{"subject":"s","version":1,"id":1,"schema":"\"string\"","deleted":false}
 GET /subjects/s/versions => 404 {"error_code":40401,"message":"Subject not found"}
 
+a floor, and nothing behind it
+floor|3
+POST /subjects/s/versions {"schema":"\"int\""} => 200 {"id":1}
+GET /subjects/s/versions => 200 [1]
+
+a floor, and a removal whose version was forgotten
+floor|10
+4|{"keytype":"SCHEMA","subject":"s","version":1,"magic":1}|null
+12|{"keytype":"CONFIG","subject":null,"magic":0}|{"compatibilityLevel":"FULL"}
+GET /subjects/s/versions => 404 {"error_code":40401,"message":"Subject not found"}
+GET /config => 200 {"compatibilityLevel":"FULL"}
+
 a soft delete, and a version after it
 1|{"keytype":"SCHEMA","subject":"s","version":1,"magic":1}|{"subject":"s","version":1,"id":1,"schema":"\"string\"","deleted":false}
 2|{"keytype":"SCHEMA","subject":"s","version":2,"magic":1}|{"subject":"s","version":2,"id":2,"schema":"\"int\"","deleted":false}

@@ -4,7 +4,7 @@ use std::alloc::Global;
 use std::test::Fail;
 
 /// A log, and what is left of it: lines are parted by `|`, and their fields by `;`.
-const ROWS: [(&str, &str); 11] = [
+const ROWS: [(&str, &str); 16] = [
     ("", ""),
     ("|", ""),
     ("0;{'keytype':'NOOP'};null|", "0;{'keytype':'NOOP'};null|"),
@@ -43,10 +43,25 @@ const ROWS: [(&str, &str); 11] = [
     ),
     // What follows the empty line is no part of the log.
     ("0;x;y||1;x;y|", "0;x;y|"),
+    // The line of the floor stays; a foreign line goes where the floor is the next offset without it.
+    ("floor;3|", "floor;3|"),
+    (
+        "floor;0|0;{'keytype':'NOOP'};null|",
+        "floor;0|0;{'keytype':'NOOP'};null|",
+    ),
+    (
+        "floor;2|0;{'keytype':'NOOP'};null|1;x;y|",
+        "floor;2|0;{'keytype':'NOOP'};null|1;x;y|",
+    ),
+    (
+        "floor;3|0;{'keytype':'NOOP'};null|1;x;y|",
+        "floor;3|0;{'keytype':'NOOP'};null|",
+    ),
+    ("floor;9|0;x;y||1;x;y|", "floor;9|"),
 ];
 
 /// Logs whose offsets don't rise, and what is left of them: in its place, and in the order of the offsets.
-const UNORDERED: [(&str, &str, &str); 4] = [
+const UNORDERED: [(&str, &str, &str); 5] = [
     (
         "7;{'keytype':'MODE'};a|2;{'keytype':'NOOP'};null|",
         "7;{'keytype':'MODE'};a|2;{'keytype':'NOOP'};null|",
@@ -63,6 +78,12 @@ const UNORDERED: [(&str, &str, &str); 4] = [
         "5;{'keytype':'NOOP'};null|5;{'keytype':'MODE'};a|10;{'keytype':'CONFIG','subject':'s'};b|1;{'keytype':'CONFIG'};b|",
         "5;{'keytype':'NOOP'};null|5;{'keytype':'MODE'};a|10;{'keytype':'CONFIG','subject':'s'};b|1;{'keytype':'CONFIG'};b|",
         "1;{'keytype':'CONFIG'};b|5;{'keytype':'NOOP'};null|5;{'keytype':'MODE'};a|10;{'keytype':'CONFIG','subject':'s'};b|",
+    ),
+    // The line of the floor stays the first.
+    (
+        "floor;5|7;{'keytype':'MODE'};a|2;{'keytype':'NOOP'};null|",
+        "floor;5|7;{'keytype':'MODE'};a|2;{'keytype':'NOOP'};null|",
+        "floor;5|2;{'keytype':'NOOP'};null|7;{'keytype':'MODE'};a|",
     ),
     // A foreign line that stays has the greatest offset, so it is the last.
     (

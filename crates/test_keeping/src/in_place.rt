@@ -9,7 +9,7 @@ use std::alloc::Global;
 use std::test::Fail;
 
 /// A file, what is left of it, and how many lines that has.
-const ROWS: [(&str, &str, u64); 6] = [
+const ROWS: [(&str, &str, u64); 7] = [
     ("|", "|", 0),
     (
         "0;{'keytype':'NOOP'};null||",
@@ -32,6 +32,11 @@ const ROWS: [(&str, &str, u64); 6] = [
         1,
     ),
     ("4;x;y||", "4;x;y||", 1),
+    (
+        "floor;9|0;{'keytype':'MODE'};a|2;{'keytype':'MODE'};b|3;x;y||",
+        "floor;9|2;{'keytype':'MODE'};b||",
+        2,
+    ),
 ];
 
 /// The journal of a file.

@@ -5,11 +5,12 @@ use reg_keeping::open_aside;
 use std::test::Fail;
 
 /// A file, how many lines were found, what is left of it, and what the other one has then.
-const ROWS: [(&str, u64, &str, &str); 4] = [
+const ROWS: [(&str, u64, &str, &str); 5] = [
     ("|", 0, "|", "old"),
     ("0;x;y||", 1, "0;x;y||", "old"),
     ("0;x;y||1;x", 1, "0;x;y||", "1;x"),
     ("0;x;y|||1;x;y|", 1, "0;x;y||", "|1;x;y|"),
+    ("floor;3|0;x;y||1;x", 2, "floor;3|0;x;y||", "1;x"),
 ];
 
 /// Files that aren't opened, and whether an empty line alone is missing.

@@ -35,10 +35,19 @@ impl Beside {
         replied(alloc, &outcome)
     }
 
-    /// Whether these records may be dropped; then they are.
-    pub(crate) fn compact(&mut self, dropped: Vec<Record>) -> Result<bool, AllocError> {
-        let event = Event::Compact(Listed::from(dropped));
+    /// Whether these records may be dropped at that floor; then they are.
+    pub(crate) fn compact(&mut self, floor: u64, dropped: Vec<Record>) -> Result<bool, AllocError> {
+        let event = Event::CompactTo {
+            floor,
+            dropped: Listed::from(dropped),
+        };
         let outcome = self.world.step(&event)?;
+        Ok(matches!(outcome, Outcome::Done))
+    }
+
+    /// Whether the node may be rebased; then it is.
+    pub(crate) fn rebase(&mut self, node: usize) -> Result<bool, AllocError> {
+        let outcome = self.world.step(&Event::Rebase(node))?;
         Ok(matches!(outcome, Outcome::Done))
     }
 

@@ -1,5 +1,5 @@
 // A desk on the first of two nodes.
-ghost use Rattle.std.specs.Prelude.{◌≡◌};
+ghost use Rattle.std.specs.Prelude.{◌≡◌, ◌≤◌};
 ghost use Rattle.std.specs.FinSet.{empty};
 
 use crate::nodes::{Asked, Node, Peer, make_node};
@@ -12,7 +12,7 @@ use reg_http::{Desk, reply_answer};
 use reg_judge::Judge;
 use reg_leader::Command;
 use reg_lookup::{Answer, Query};
-use reg_node::{Follower, Take, Taken, View};
+use reg_node::{Draw, Follower, Taken, View};
 use reg_pen::{MemoryAlone, Pass, Pen};
 use reg_records::Record;
 use reg_shared::Shared;
@@ -54,8 +54,8 @@ impl<
     'a,
     N: FeedName<Item, Shared>,
     S: Copies<Item, Shared, N>,
-    M: FeedName<Take, Taken>,
-    U: Copies<Take, Taken, M>,
+    M: FeedName<Draw, Taken>,
+    U: Copies<Draw, Taken, M>,
     R: Wait + Drop,
     G: Gate,
 > Asked for NodeDesk<'a, N, S, MemoryAlone, M, U, R, G, NoWake> {
@@ -68,8 +68,8 @@ impl<
     'a,
     N: FeedName<Item, Shared>,
     S: Copies<Item, Shared, N>,
-    M: FeedName<Take, Taken>,
-    U: Copies<Take, Taken, M>,
+    M: FeedName<Draw, Taken>,
+    U: Copies<Draw, Taken, M>,
     R: Wait + Drop,
     G: Gate,
 > Worker for NodeDesk<'a, N, S, MemoryAlone, M, U, R, G, NoWake> {
@@ -99,10 +99,10 @@ pub(crate) fn run_desk<
     'x,
     N: FeedName<Item, Shared>,
     S: Copies<Item, Shared, N>,
-    L: FeedName<Take, Taken>,
-    T: Copies<Take, Taken, L>,
-    M: FeedName<Take, Taken>,
-    U: Copies<Take, Taken, M>,
+    L: FeedName<Draw, Taken>,
+    T: Copies<Draw, Taken, L>,
+    M: FeedName<Draw, Taken>,
+    U: Copies<Draw, Taken, M>,
     R: Wait + RandomSource + Drop + Copy,
 >(
     alloc: Global,
@@ -131,8 +131,8 @@ fn at_desk<
     'a,
     N: FeedName<Item, Shared>,
     S: Copies<Item, Shared, N>,
-    M: FeedName<Take, Taken>,
-    U: Copies<Take, Taken, M>,
+    M: FeedName<Draw, Taken>,
+    U: Copies<Draw, Taken, M>,
     R: Wait + RandomSource + Drop,
 >(
     alloc: Global,
@@ -209,8 +209,8 @@ fn write_answer<A: Asked>(
 fn finish<
     N: FeedName<Item, Shared>,
     S: Copies<Item, Shared, N>,
-    M: FeedName<Take, Taken>,
-    U: Copies<Take, Taken, M>,
+    M: FeedName<Draw, Taken>,
+    U: Copies<Draw, Taken, M>,
     R: Wait + Drop + Copy,
 >(
     alloc: Global,
@@ -221,7 +221,9 @@ fn finish<
     second: Node<N, S, M, U, R>,
     seen: Seen<Item, Shared, N>,
     out: String,
-) -> Result<String, Fail> {
+) -> Result<String, Fail>
+    requires { N.first.kept.floor ≤ N.first.next }
+{
     let mut out = out;
     let batches = batches_of(&rt, pen);
     write_kept(topic, batches, &mut out)?;
@@ -264,8 +266,8 @@ fn write_records(records: &[Record], batches: u64, out: &mut String) -> Result<(
 fn catch_up<
     N: FeedName<Item, Shared>,
     S: Copies<Item, Shared, N>,
-    M: FeedName<Take, Taken>,
-    U: Copies<Take, Taken, M>,
+    M: FeedName<Draw, Taken>,
+    U: Copies<Draw, Taken, M>,
     R: Wait + Drop,
 >(
     alloc: Global,
@@ -299,7 +301,9 @@ fn add_anew<N: FeedName<Item, Shared>, S: Copies<Item, Shared, N>, R: Wait + Dro
     rt: R,
     readers: Vec<FeedReader<Item, Shared, N, S>>,
     out: String,
-) -> Result<String, Fail> {
+) -> Result<String, Fail>
+    requires { N.first.kept.floor ≤ N.first.next }
+{
     let mut out = out;
     let anew = make_anew::<N, S, Brand, R>(alloc, rt, readers, Unnamed::new())?;
     out.push_str(anew.as_str())?;
@@ -310,15 +314,16 @@ fn add_anew<N: FeedName<Item, Shared>, S: Copies<Item, Shared, N>, R: Wait + Dro
 fn make_anew<
     N: FeedName<Item, Shared>,
     S: Copies<Item, Shared, N>,
-    M: FeedName<Take, Taken>,
+    M: FeedName<Draw, Taken>,
     R: Wait + Drop + Copy,
 >(
     alloc: Global,
     rt: R,
     readers: Vec<FeedReader<Item, Shared, N, S>>,
-    list: Unnamed<Take>,
+    list: Unnamed<Draw>,
 ) -> Result<String, Fail>
-    requires { (list.reached.book ≡ M.book) × (M.first ≡ empty) }
+    requires name { (list.reached.book ≡ M.book) × (M.first ≡ empty) }
+    requires floor { N.first.kept.floor ≤ N.first.next }
 {
     let mut readers = readers;
     let mut out = String::new(alloc);

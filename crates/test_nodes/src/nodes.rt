@@ -1,10 +1,10 @@
 // A node of one view, and what tests do with it.
-ghost use Rattle.std.specs.Prelude.{◌≡◌};
+ghost use Rattle.std.specs.Prelude.{◌≡◌, ◌≤◌};
 ghost use Rattle.std.specs.FinSet.{empty};
 
 use reg_feed::{Copies, FeedName, FeedReader, Seen, Stored, Unnamed, feed};
 use reg_lookup::{Answer, Query};
-use reg_node::{Follower, Take, Taken, View};
+use reg_node::{Draw, Follower, Taken, View};
 use reg_shared::Shared;
 use reg_topic::Item;
 use std::alloc::{AllocError, Global};
@@ -29,8 +29,8 @@ pub(crate) trait Peer: Asked {
 pub(crate) struct Node<
     N: FeedName<Item, Shared>,
     S: Copies<Item, Shared, N>,
-    M: FeedName<Take, Taken>,
-    U: Copies<Take, Taken, M>,
+    M: FeedName<Draw, Taken>,
+    U: Copies<Draw, Taken, M>,
     R: Wait + Drop,
 > {
     pub(crate) follower: Follower<N, S, M, U, R>,
@@ -41,18 +41,19 @@ pub(crate) struct Node<
 pub(crate) fn make_node<
     N: FeedName<Item, Shared>,
     S: Copies<Item, Shared, N>,
-    M: FeedName<Take, Taken>,
+    M: FeedName<Draw, Taken>,
     R: Wait + Drop,
 >(
     alloc: Global,
     rt: R,
     readers: &mut Vec<FeedReader<Item, Shared, N, S>>,
-    list: Unnamed<Take>,
-) -> Result<Node<N, S, M, Stored<Take, Taken, M>, R>, AllocError>
-    requires { (list.reached.book ≡ M.book) × (M.first ≡ empty) }
+    list: Unnamed<Draw>,
+) -> Result<Node<N, S, M, Stored<Draw, Taken, M>, R>, AllocError>
+    requires name { (list.reached.book ≡ M.book) × (M.first ≡ empty) }
+    requires floor { N.first.kept.floor ≤ N.first.next }
 {
     let topic = readers.pop().ok_or(AllocError)?;
-    let out = feed::<Take, Taken, M, R>(rt, alloc, list, Taken::new(alloc), 2)?;
+    let out = feed::<Draw, Taken, M, R>(rt, alloc, list, Taken::new(alloc), 2)?;
     let mut follower = Follower::new(topic, Box::new(alloc, out)?);
     let Ok(view) = follower.view() else {
         return Err(AllocError);
@@ -63,8 +64,8 @@ pub(crate) fn make_node<
 impl<
     N: FeedName<Item, Shared>,
     S: Copies<Item, Shared, N>,
-    M: FeedName<Take, Taken>,
-    U: Copies<Take, Taken, M>,
+    M: FeedName<Draw, Taken>,
+    U: Copies<Draw, Taken, M>,
     R: Wait + Drop,
 > Node<N, S, M, U, R> {
     /// Its next take is from a list of the topic that begins with that front.
@@ -76,8 +77,8 @@ impl<
 impl<
     N: FeedName<Item, Shared>,
     S: Copies<Item, Shared, N>,
-    M: FeedName<Take, Taken>,
-    U: Copies<Take, Taken, M>,
+    M: FeedName<Draw, Taken>,
+    U: Copies<Draw, Taken, M>,
     R: Wait + Drop,
 > Asked for Node<N, S, M, U, R> {
     fn answer_to(&mut self, alloc: Global, query: &Query) -> Result<Answer, AllocError> {
@@ -88,8 +89,8 @@ impl<
 impl<
     N: FeedName<Item, Shared>,
     S: Copies<Item, Shared, N>,
-    M: FeedName<Take, Taken>,
-    U: Copies<Take, Taken, M>,
+    M: FeedName<Draw, Taken>,
+    U: Copies<Draw, Taken, M>,
     R: Wait + Drop,
 > Peer for Node<N, S, M, U, R> {
     fn take(&mut self) -> Result<u64, AllocError> {

@@ -11,7 +11,7 @@ use reg_leader::Command;
 use reg_level_names::Level;
 use reg_lookup::Query;
 use reg_modes::Mode;
-use reg_node::{Take, Taken};
+use reg_node::{Draw, Taken};
 use reg_pen::{MemoryAlone, Pen};
 use reg_records::Log;
 use reg_shared::Shared;
@@ -141,14 +141,17 @@ fn submit<P: Source>(
 }
 
 /// Publishes a compaction; whether the world allows it.
-fn compact<P: Source>(source: &mut P, beside: &mut Beside) -> Result<bool, AllocError> {
-    let dropped = source.superseded()?;
-    source.compact()?;
-    beside.compact(dropped)
+fn compact<P: Source>(
+    draws: &mut Draws,
+    source: &mut P,
+    beside: &mut Beside,
+) -> Result<bool, AllocError> {
+    let (floor, dropped) = source.compact(draws.below(2) == 0)?;
+    beside.compact(floor, dropped)
 }
 
-/// Lets the node take what is new, where in the world it takes all that is kept; whether that is
-/// allowed.
+/// Lets the node draw what is new, where in the world it is rebased and takes all that is kept; whether
+/// that is allowed.
 fn take<P: Source, A: Peer>(
     source: &mut P,
     node: &mut A,
@@ -157,7 +160,9 @@ fn take<P: Source, A: Peer>(
 ) -> Result<bool, AllocError> {
     let _takes = node.take()?;
     let kept = source.kept()?;
-    beside.take(place, kept)
+    let may_rebase = beside.rebase(place)?;
+    let may_take = beside.take(place, kept)?;
+    Ok(may_rebase && may_take)
 }
 
 /// Asks the node; whether the answer is that of the world.
@@ -207,7 +212,7 @@ fn step<P: Source, A: Peer, B: Peer, C: Peer>(
     beside: &mut Beside,
 ) -> Result<bool, AllocError> {
     match draws.below(13) {
-        0 => compact(source, beside),
+        0 => compact(draws, source, beside),
         1 | 2 => visit(alloc, draws, source, first, 0, beside),
         3 | 4 => visit(alloc, draws, source, second, 1, beside),
         5 | 6 => visit(alloc, draws, source, third, 2, beside),
@@ -242,12 +247,12 @@ pub(crate) fn run_draws<
     'x,
     N: FeedName<Item, Shared>,
     S: Copies<Item, Shared, N>,
-    L: FeedName<Take, Taken>,
-    T: Copies<Take, Taken, L>,
-    M: FeedName<Take, Taken>,
-    U: Copies<Take, Taken, M>,
-    O: FeedName<Take, Taken>,
-    V: Copies<Take, Taken, O>,
+    L: FeedName<Draw, Taken>,
+    T: Copies<Draw, Taken, L>,
+    M: FeedName<Draw, Taken>,
+    U: Copies<Draw, Taken, M>,
+    O: FeedName<Draw, Taken>,
+    V: Copies<Draw, Taken, O>,
     R: Wait + Drop,
 >(
     alloc: Global,

@@ -15,14 +15,12 @@ pub(crate) trait Source {
     /// Submits a command, and gives the answer that its reply has.
     fn submit(&mut self, alloc: Global, command: &Command) -> Result<Answer, AllocError>;
 
-    /// Publishes a compaction.
-    fn compact(&mut self) -> Result<(), AllocError>;
+    /// Publishes a compaction, which may raise the floor to what the next offset was at the one before.
+    /// Gives its floor, and the records that it drops.
+    fn compact(&mut self, rises: bool) -> Result<(u64, Vec<Record>), AllocError>;
 
     /// All records that are kept.
     fn kept(&mut self) -> Result<Vec<Record>, AllocError>;
-
-    /// The kept records that a compaction drops.
-    fn superseded(&mut self) -> Result<Vec<Record>, AllocError>;
 }
 
 /// A topic's pen with a pass, and a reader of the topic.
@@ -45,16 +43,18 @@ impl<'x, N: FeedName<Item, Shared>, S: Copies<Item, Shared, N>, R: Wait + Drop> 
         lock_and_submit(alloc, &self.rt, self.pen, &mut self.pass, command)
     }
 
-    fn compact(&mut self) -> Result<(), AllocError> {
-        lock_and_compact(&self.rt, self.pen)
+    fn compact(&mut self, rises: bool) -> Result<(u64, Vec<Record>), AllocError> {
+        let floor = floor_for(&self.rt, self.pen, rises);
+        let dropped = self
+            .topic
+            .read(|shared| shared.dropped_to(floor))
+            .ok_or(AllocError)??;
+        lock_and_compact(&self.rt, self.pen, floor)?;
+        Ok((floor, dropped))
     }
 
     fn kept(&mut self) -> Result<Vec<Record>, AllocError> {
         read_kept(&mut self.topic)
-    }
-
-    fn superseded(&mut self) -> Result<Vec<Record>, AllocError> {
-        read_superseded(&mut self.topic)
     }
 }
 
@@ -65,19 +65,26 @@ pub(crate) fn read_kept<N: FeedName<Item, Shared>, S: Copies<Item, Shared, N>>(
     topic.read(|shared| shared.since(0)).ok_or(AllocError)?
 }
 
-/// The kept records that a compaction drops.
-fn read_superseded<N: FeedName<Item, Shared>, S: Copies<Item, Shared, N>>(
-    topic: &mut FeedReader<Item, Shared, N, S>,
-) -> Result<Vec<Record>, AllocError> {
-    topic.read(|shared| shared.superseded()).ok_or(AllocError)?
+/// The kept floor, or what the next offset was at the last compaction.
+fn floor_for<N: FeedName<Item, Shared>, S: Copies<Item, Shared, N>, R: Wait + Drop>(
+    rt: &R,
+    pen: &Mutex<Pen<N, S, MemoryAlone, R>>,
+    rises: bool,
+) -> u64 {
+    let pen = pen.lock(rt);
+    if rises { pen.compacted() } else { pen.floor() }
 }
 
 fn lock_and_compact<N: FeedName<Item, Shared>, S: Copies<Item, Shared, N>, R: Wait + Drop>(
     rt: &R,
     pen: &Mutex<Pen<N, S, MemoryAlone, R>>,
+    floor: u64,
 ) -> Result<(), AllocError> {
     let mut pen = pen.lock(rt);
-    pen.compact()
+    match pen.compact_to(floor) {
+        Ok(()) => Ok(()),
+        Err(_refused) => Err(AllocError),
+    }
 }
 
 fn lock_and_submit<N: FeedName<Item, Shared>, S: Copies<Item, Shared, N>, R: Wait + Drop>(

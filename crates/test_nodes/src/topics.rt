@@ -1,6 +1,6 @@
 // A topic with three nodes. Each feed has a name of its own, which is picked where the function that is
 // generic in it is called; so each node's feed has a function of its own, each calling the next.
-ghost use Rattle.std.specs.Prelude.{◌≡◌};
+ghost use Rattle.std.specs.Prelude.{◌≡◌, ◌≤◌};
 ghost use Rattle.std.specs.FinSet.{empty};
 ghost use Rattle.reg_topic.specs.Topic.{topic_from};
 ghost use Rattle.reg_shared.specs.Held.{held_of};
@@ -10,7 +10,7 @@ use crate::nodes::{Node, make_node};
 use crate::random::run_draws;
 use reg_feed::{Copies, FeedName, FeedReader, Stored, Unnamed};
 use reg_leader::Command;
-use reg_node::{Take, Taken};
+use reg_node::{Draw, Taken};
 use reg_pen::{MemoryAlone, Pass, Pen, open};
 use reg_records::{Device, Log, read_log};
 use reg_shared::Shared;
@@ -44,6 +44,8 @@ pub(crate) struct Seats<N: FeedName<Item, Shared>, S: Copies<Item, Shared, N>> {
     pub(crate) topic: FeedReader<Item, Shared, N, S>,
     /// One a node that isn't made yet.
     pub(crate) readers: Vec<FeedReader<Item, Shared, N, S>>,
+    // The topic began with a floor no higher than its next offset.
+    pub(crate) ghost low: { N.first.kept.floor ≤ N.first.next },
 }
 
 /// Does the task in a topic of its own, and tells what came of it.
@@ -65,7 +67,7 @@ fn run_topic<N: FeedName<Item, Shared>, R: Wait + RandomSource + Drop + Copy>(
     base: &Log,
     task: &Task,
 ) -> Result<String, Fail>
-    requires { (list.reached.book ≡ N.book) × (N.first ≡ held_of (topic_from base.now.records.items base.now.next)) }
+    requires { (list.reached.book ≡ N.book) × (N.first ≡ held_of (topic_from base.now.records.items base.now.next base.now.floor)) }
 {
     let opened = open::<N, MemoryAlone, R>(rt, alloc, list, base, MemoryAlone, 1, READERS)?;
     let mut pen = opened.pen;
@@ -87,7 +89,9 @@ fn seats_of<N: FeedName<Item, Shared>, S: Copies<Item, Shared, N>, R: Wait + Dro
     alloc: Global,
     pen: &mut Pen<N, S, MemoryAlone, R>,
     passes: Vec<Pass<N>>,
-) -> Result<Seats<N, S>, Fail> {
+) -> Result<Seats<N, S>, Fail>
+    requires { N.first.kept.floor ≤ N.first.next }
+{
     let mut passes = passes;
     let mut readers = Vec::new(alloc);
     for _node in 0..NODES {
@@ -106,14 +110,14 @@ fn run_first<
     'x,
     N: FeedName<Item, Shared>,
     S: Copies<Item, Shared, N>,
-    L: FeedName<Take, Taken>,
+    L: FeedName<Draw, Taken>,
     R: Wait + RandomSource + Drop + Copy,
 >(
     alloc: Global,
     rt: R,
     pen: &'x Mutex<Pen<N, S, MemoryAlone, R>>,
     seats: Seats<N, S>,
-    list: Unnamed<Take>,
+    list: Unnamed<Draw>,
     base: &Log,
     task: &Task,
 ) -> Result<String, Fail>
@@ -121,7 +125,7 @@ fn run_first<
 {
     let mut seats = seats;
     let first = make_node::<N, S, L, R>(alloc, rt, &mut seats.readers, list)?;
-    run_second::<N, S, L, Stored<Take, Taken, L>, Brand, R>(
+    run_second::<N, S, L, Stored<Draw, Taken, L>, Brand, R>(
         alloc,
         rt,
         pen,
@@ -137,9 +141,9 @@ fn run_second<
     'x,
     N: FeedName<Item, Shared>,
     S: Copies<Item, Shared, N>,
-    L: FeedName<Take, Taken>,
-    T: Copies<Take, Taken, L>,
-    M: FeedName<Take, Taken>,
+    L: FeedName<Draw, Taken>,
+    T: Copies<Draw, Taken, L>,
+    M: FeedName<Draw, Taken>,
     R: Wait + RandomSource + Drop + Copy,
 >(
     alloc: Global,
@@ -147,7 +151,7 @@ fn run_second<
     pen: &'x Mutex<Pen<N, S, MemoryAlone, R>>,
     seats: Seats<N, S>,
     first: Node<N, S, L, T, R>,
-    list: Unnamed<Take>,
+    list: Unnamed<Draw>,
     base: &Log,
     task: &Task,
 ) -> Result<String, Fail>
@@ -158,7 +162,7 @@ fn run_second<
     if let Task::Commands(commands) = task {
         return run_desk(alloc, rt, pen, seats, first, second, commands);
     }
-    run_third::<N, S, L, T, M, Stored<Take, Taken, M>, Brand, R>(
+    run_third::<N, S, L, T, M, Stored<Draw, Taken, M>, Brand, R>(
         alloc,
         rt,
         pen,
@@ -175,11 +179,11 @@ fn run_third<
     'x,
     N: FeedName<Item, Shared>,
     S: Copies<Item, Shared, N>,
-    L: FeedName<Take, Taken>,
-    T: Copies<Take, Taken, L>,
-    M: FeedName<Take, Taken>,
-    U: Copies<Take, Taken, M>,
-    O: FeedName<Take, Taken>,
+    L: FeedName<Draw, Taken>,
+    T: Copies<Draw, Taken, L>,
+    M: FeedName<Draw, Taken>,
+    U: Copies<Draw, Taken, M>,
+    O: FeedName<Draw, Taken>,
     R: Wait + RandomSource + Drop + Copy,
 >(
     alloc: Global,
@@ -188,7 +192,7 @@ fn run_third<
     seats: Seats<N, S>,
     first: Node<N, S, L, T, R>,
     second: Node<N, S, M, U, R>,
-    list: Unnamed<Take>,
+    list: Unnamed<Draw>,
     base: &Log,
     task: &Task,
 ) -> Result<String, Fail>

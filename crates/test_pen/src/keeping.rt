@@ -100,7 +100,7 @@ fn change_levels<N: FeedName<Item, Shared>, S: Copies<Item, Shared, N>, R: Wait 
     for _turn in 0..turns {
         replies.push(submit(alloc, pen, pass, unseen.as_ref(), &command)?)?;
     }
-    let is_compacted = pen.compact().is_ok();
+    let is_compacted = pen.compact_to(0).is_ok();
     let kept = kept_offsets(alloc, pen)?;
     Ok(Course {
         replies,
@@ -117,7 +117,7 @@ fn run_topic<N: FeedName<Item, Shared>, R: Wait + Drop>(
     keep: Turning,
     turns: u64,
 ) -> Result<Result<Course, OpenError>, Fail>
-    requires { (list.reached.book ≡ N.book) × (N.first ≡ held_of (topic_from base.now.records.items base.now.next)) }
+    requires { (list.reached.book ≡ N.book) × (N.first ≡ held_of (topic_from base.now.records.items base.now.next base.now.floor)) }
 {
     match open::<N, Turning, R>(rt, alloc, list, base, keep, 1, 1) {
         Ok(opened) => {

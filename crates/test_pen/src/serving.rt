@@ -96,7 +96,7 @@ fn run_topic<N: FeedName<Item, Shared>, K: Keep + Drop, R: Wait + Drop>(
     base: &Log,
     keep: K,
 ) -> Result<Served, Fail>
-    requires { (list.reached.book ≡ N.book) × (N.first ≡ held_of (topic_from base.now.records.items base.now.next)) }
+    requires { (list.reached.book ≡ N.book) × (N.first ≡ held_of (topic_from base.now.records.items base.now.next base.now.floor)) }
 {
     let Opened { pen, mut passes } = open::<N, K, R>(rt, alloc, list, base, keep, 1, 1)?;
     let Some(pass) = passes.pop() else {

@@ -2,4 +2,6 @@
 #![tactic(auto)]
 
 #[cfg(test)]
+mod floors;
+#[cfg(test)]
 mod records;

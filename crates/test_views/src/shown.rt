@@ -1,6 +1,6 @@
 // A node's view of a topic in which commands were done. Each feed has a name of its own, which is picked
 // where the function that is generic in it is called.
-ghost use Rattle.std.specs.Prelude.{◌≡◌};
+ghost use Rattle.std.specs.Prelude.{◌≡◌, ◌≤◌};
 ghost use Rattle.std.specs.FinSet.{empty};
 ghost use Rattle.reg_topic.specs.Topic.{topic_from};
 ghost use Rattle.reg_shared.specs.Held.{held_of};
@@ -9,7 +9,7 @@ use reg_feed::{Copies, FeedName, FeedReader, Seen, Stored, Unnamed, feed};
 use reg_judge::Judge;
 use reg_leader::Command;
 use reg_levels::Judged;
-use reg_node::{Case, Follower, Take, Taken, View};
+use reg_node::{Case, Draw, Follower, Taken, View};
 use reg_pen::{MemoryAlone, Opened, Pass, Pen, open};
 use reg_records::{Device, Log, read_log};
 use reg_shared::Shared;
@@ -49,7 +49,7 @@ fn in_topic<N: FeedName<Item, Shared>, R: Wait + Drop + Copy>(
     asked: &Command,
     judge: &mut Judge,
 ) -> Result<Shown, Fail>
-    requires { (list.reached.book ≡ N.book) × (N.first ≡ held_of (topic_from base.now.records.items base.now.next)) }
+    requires { (list.reached.book ≡ N.book) × (N.first ≡ held_of (topic_from base.now.records.items base.now.next base.now.floor)) }
 {
     let opened = open::<N, MemoryAlone, R>(rt, alloc, list, base, MemoryAlone, 1, 1)?;
     let Opened { pen, passes } = opened;
@@ -75,19 +75,20 @@ fn submit_all<N: FeedName<Item, Shared>, S: Copies<Item, Shared, N>, R: Wait + D
 fn at_node<
     N: FeedName<Item, Shared>,
     S: Copies<Item, Shared, N>,
-    M: FeedName<Take, Taken>,
+    M: FeedName<Draw, Taken>,
     R: Wait + Drop,
 >(
     alloc: Global,
     rt: R,
     topic: FeedReader<Item, Shared, N, S>,
-    list: Unnamed<Take>,
+    list: Unnamed<Draw>,
     asked: &Command,
     judge: &mut Judge,
 ) -> Result<Shown, Fail>
-    requires { (list.reached.book ≡ M.book) × (M.first ≡ empty) }
+    requires name { (list.reached.book ≡ M.book) × (M.first ≡ empty) }
+    requires floor { N.first.kept.floor ≤ N.first.next }
 {
-    let out = feed::<Take, Taken, M, R>(rt, alloc, list, Taken::new(alloc), 1)?;
+    let out = feed::<Draw, Taken, M, R>(rt, alloc, list, Taken::new(alloc), 1)?;
     let mut follower = Follower::new(topic, Box::new(alloc, out)?);
     follower.pull()?;
     let _told = follower.publish()?;
@@ -95,7 +96,7 @@ fn at_node<
     Ok(show(&mut view, asked, judge))
 }
 
-fn show<M: FeedName<Take, Taken>, U: Copies<Take, Taken, M>>(
+fn show<M: FeedName<Draw, Taken>, U: Copies<Draw, Taken, M>>(
     view: &mut View<M, U>,
     asked: &Command,
     judge: &mut Judge,

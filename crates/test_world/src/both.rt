@@ -63,6 +63,20 @@ impl Both {
         Ok(self.step(alloc, words)?.is_some())
     }
 
+    /// Whether the lookup of those words gives the answer of the whole log, where its node has the kept
+    /// floor and the last kept record of each key.
+    pub(crate) fn keep_up(&mut self, alloc: Global, words: &str) -> Result<bool, Fail> {
+        let event = event_of(alloc, words, &self.plain.written)?;
+        match &event {
+            Event::Lookup { node, query } if self.plain.is_caught_up(*node) => {
+                let expected = self.plain.answer_of_log(alloc, query)?;
+                let found = step_text(alloc, &mut self.world, &event)?;
+                Ok(found.as_str() == expected.as_str())
+            }
+            _ => Ok(true),
+        }
+    }
+
     /// Whether the log, its records taken one after the other, has the entries of a registry over all
     /// that was published.
     pub(crate) fn have_same_entries(&self, alloc: Global) -> Result<bool, AllocError> {

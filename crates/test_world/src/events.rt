@@ -41,6 +41,15 @@ fn records_at(alloc: Global, places: &str, known: &[Record]) -> Result<Listed<Re
     Ok(Listed::from(found))
 }
 
+fn compact_to_event(alloc: Global, rest: &str, known: &[Record]) -> Result<Event, Fail> {
+    let (floor, places) = cut(rest);
+    let floor = floor.parse::<u64>()?;
+    Ok(Event::CompactTo {
+        floor,
+        dropped: records_at(alloc, places, known)?,
+    })
+}
+
 fn take_event(alloc: Global, rest: &str, known: &[Record]) -> Result<Event, Fail> {
     let (node, places) = cut(rest);
     let node = node.parse::<usize>()?;
@@ -125,9 +134,11 @@ pub(crate) fn event_of(alloc: Global, words: &str, known: &[Record]) -> Result<E
     match kind {
         "command" => command_event(alloc, rest),
         "compact" => Ok(Event::Compact(records_at(alloc, rest, known)?)),
+        "compact_to" => compact_to_event(alloc, rest, known),
         "take" => take_event(alloc, rest, known),
         "compact_node" => Ok(Event::CompactNode(rest.parse::<usize>()?)),
         "merge" => merge_event(rest),
+        "rebase" => Ok(Event::Rebase(rest.parse::<usize>()?)),
         "restart" => Ok(Event::Restart(rest.parse::<usize>()?)),
         "lookup" => lookup_event(alloc, rest),
         _ => Err(Fail::from("an event")),

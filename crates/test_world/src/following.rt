@@ -44,7 +44,12 @@ command 0 published import u 9 7 boolean => id 9
 command 0 published import u 9 - boolean => id 9
 command 0 lost import u 9 8 boolean => unsettled 27
 command 0 published set_mode * READWRITE => mode READWRITE
-command 0 published register s double => id 10"#;
+command 0 published register s double => id 10
+compact_to 6 => done
+command 0 published noop => nothing
+compact_to 25 => done
+command 0 published register s float => id 11
+command 0 published noop => nothing"#;
 
 // What is asked of each node after each event.
 static QUERIES: [&str; 12] = [
@@ -78,8 +83,20 @@ fn kept_places(
     Ok(places)
 }
 
+/// Rebases the node where it hasn't the kept floor.
+fn come_to_floor(alloc: Global, both: &mut Both, node: usize) -> Result<bool, Fail> {
+    if both.plain.is_at_floor(node) {
+        return Ok(true);
+    }
+    let words = format!(in alloc; "rebase {node}")?;
+    both.gives(alloc, words.as_str(), "done")
+}
+
 /// Takes what is kept in so many pieces.
 fn take_in(alloc: Global, both: &mut Both, node: usize, pieces: usize) -> Result<bool, Fail> {
+    if !come_to_floor(alloc, both, node)? {
+        return Ok(false);
+    }
     for piece in 0..pieces {
         let places = kept_places(alloc, both, pieces, piece)?;
         let words = format!(in alloc; "take {node}{places}")?;
@@ -90,13 +107,18 @@ fn take_in(alloc: Global, both: &mut Both, node: usize, pieces: usize) -> Result
     Ok(true)
 }
 
+/// The second node takes from the first one.
+fn merge(alloc: Global, both: &mut Both) -> Result<bool, Fail> {
+    Ok(come_to_floor(alloc, both, 1)? && both.gives(alloc, "merge 1 0", "done")?)
+}
+
 /// The second node compacts what it took, begins anew, or takes from the first one, by turns.
 fn follow_by_turns(alloc: Global, both: &mut Both, turn: usize) -> Result<bool, Fail> {
     match turn % 5 {
         0 => Ok(both.gives(alloc, "restart 1", "done")? && take_in(alloc, both, 1, 30)?),
         1 => Ok(take_in(alloc, both, 1, 1)? && both.gives(alloc, "compact_node 1", "done")?),
-        2 => both.gives(alloc, "merge 1 0", "done"),
-        3 => Ok(both.gives(alloc, "restart 1", "done")? && both.gives(alloc, "merge 1 0", "done")?),
+        2 => merge(alloc, both),
+        3 => Ok(both.gives(alloc, "restart 1", "done")? && merge(alloc, both)?),
         _ => Ok(take_in(alloc, both, 1, 2)? && both.gives(alloc, "merge 1 1", "done")?),
     }
 }

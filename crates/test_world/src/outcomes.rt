@@ -8,6 +8,8 @@ use std::alloc::{AllocError, Global};
 
 pub(crate) static NOT_ALLOWED: &str = "not allowed";
 
+pub(crate) static FLOORS_DIFFER: &str = "floors differ";
+
 fn versions_text(alloc: Global, versions: &Listed<u32>) -> Result<String, AllocError> {
     let mut text = String::from_str(alloc, "versions")?;
     for version in versions.as_slice() {
@@ -53,5 +55,6 @@ pub(crate) fn outcome_text(alloc: Global, outcome: &Outcome) -> Result<String, A
         Outcome::Answered(answer) => answer_text(alloc, answer),
         Outcome::Done => String::from_str(alloc, "done"),
         Outcome::NotAllowed => String::from_str(alloc, NOT_ALLOWED),
+        Outcome::FloorsDiffer => String::from_str(alloc, FLOORS_DIFFER),
     }
 }

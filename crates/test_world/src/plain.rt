@@ -1,6 +1,6 @@
 // A topic and its nodes as plain lists of records: what is published, what is kept, and all that each
 // node took. Answers and replies are those of registries over these lists.
-use crate::outcomes::{NOT_ALLOWED, answer_text, reply_text, unsettled_text};
+use crate::outcomes::{FLOORS_DIFFER, NOT_ALLOWED, answer_text, reply_text, unsettled_text};
 use base_text::Text;
 use reg_fold::Registry;
 use reg_leader::{Command, Decision, decide};
@@ -15,9 +15,18 @@ pub(crate) struct Plain {
     pub written: Vec<Record>,
     pub log: Vec<Record>,
     kept: Vec<Record>,
+    /// The kept floor.
+    pub floor: u64,
     unsettled: Vec<Record>,
-    next: u64,
-    nodes: Vec<Vec<Record>>,
+    pub next: u64,
+    nodes: Vec<Taker>,
+}
+
+/// What a node took, at its floor.
+#[derive(Drop)]
+struct Taker {
+    took: Vec<Record>,
+    floor: u64,
 }
 
 fn push_all(to: &mut Vec<Record>, from: &[Record]) -> Result<(), AllocError> {
@@ -100,12 +109,30 @@ fn not_allowed(alloc: Global) -> Result<String, AllocError> {
     String::from_str(alloc, NOT_ALLOWED)
 }
 
+fn floors_differ(alloc: Global) -> Result<String, AllocError> {
+    String::from_str(alloc, FLOORS_DIFFER)
+}
+
+/// Whether the record deletes its key below the floor.
+fn deletes_below(given: &Record, floor: u64) -> bool {
+    given.value.is_none() && given.offset < floor
+}
+
+/// Whether the record may go from all those where those are left: it isn't its key's last one, or it
+/// deletes its key below the floor, and nothing is left of that.
+fn may_go(given: &Record, all: &[Record], left: &[Record], floor: u64) -> bool {
+    let is_forgotten = deletes_below(given, floor)
+        && !left.iter().any(|found| found.key == given.key);
+    is_among(all, given) && (is_passed(all, given) || is_forgotten)
+}
+
 impl Plain {
     pub(crate) fn start(alloc: Global, base: &Log, count: usize) -> Result<Plain, AllocError> {
         let mut plain = Plain {
             written: Vec::new(alloc),
             log: Vec::new(alloc),
             kept: Vec::new(alloc),
+            floor: base.floor,
             unsettled: Vec::new(alloc),
             next: base.next,
             nodes: Vec::new(alloc),
@@ -122,7 +149,8 @@ impl Plain {
         push_all(&mut self.kept, base)?;
         self.stand(&due, Fate::Published)?;
         for _ in 0..count {
-            self.nodes.push(Vec::new(alloc))?;
+            let took = Vec::new(alloc);
+            self.nodes.push(Taker { took, floor: 0 })?;
         }
         Ok(())
     }
@@ -143,10 +171,12 @@ impl Plain {
                 command,
                 fate,
             } => self.command(alloc, *node, command, *fate),
-            Event::Compact(dropped) => self.compact(alloc, dropped.as_slice()),
+            Event::Compact(dropped) => self.compact(alloc, self.floor, dropped.as_slice()),
+            Event::CompactTo { floor, dropped } => self.compact(alloc, *floor, dropped.as_slice()),
             Event::Take { node, records } => self.take(alloc, *node, records.as_slice()),
             Event::CompactNode(node) => self.compact_node(alloc, *node),
             Event::MergeFrom { node, other } => self.merge(alloc, *node, *other),
+            Event::Rebase(node) => self.rebase(alloc, *node),
             Event::Restart(node) => self.restart(alloc, *node),
             Event::Lookup { node, query } => self.lookup(alloc, *node, query),
         }
@@ -211,17 +241,38 @@ impl Plain {
         }
     }
 
-    fn may_drop(&self, given: &Record) -> bool {
-        let is_there = is_among(&self.kept, given) || is_among(&self.unsettled, given);
-        is_there && (is_passed(&self.kept, given) || is_passed(&self.unsettled, given))
+    /// Whether the records may leave what is kept, with what isn't settled, at that floor.
+    fn may_compact(
+        &self,
+        alloc: Global,
+        floor: u64,
+        dropped: &[Record],
+    ) -> Result<bool, AllocError> {
+        let next = self.next.saturating_add(self.unsettled.len() as u64);
+        let mut all = Vec::new(alloc);
+        push_all(&mut all, &self.kept)?;
+        push_all(&mut all, &self.unsettled)?;
+        let mut left = Vec::new(alloc);
+        push_all(&mut left, &all)?;
+        left.retain(|found| !is_among(dropped, found));
+        let may_all_go = dropped
+            .iter()
+            .all(|given| may_go(given, &all, &left, floor));
+        Ok(self.floor <= floor && floor <= next && may_all_go)
     }
 
-    fn compact(&mut self, alloc: Global, dropped: &[Record]) -> Result<String, AllocError> {
-        if dropped.iter().any(|given| !self.may_drop(given)) {
+    fn compact(
+        &mut self,
+        alloc: Global,
+        floor: u64,
+        dropped: &[Record],
+    ) -> Result<String, AllocError> {
+        if !self.may_compact(alloc, floor, dropped)? {
             return not_allowed(alloc);
         }
         self.settle()?;
         self.kept.retain(|found| !is_among(dropped, found));
+        self.floor = floor;
         done(alloc)
     }
 
@@ -233,7 +284,8 @@ impl Plain {
     ) -> Result<String, AllocError> {
         let are_kept = records.iter().all(|given| is_among(&self.kept, given));
         match self.nodes.get_mut(node) {
-            Some(list) if are_kept => join(list, records)?,
+            Some(taker) if are_kept && taker.floor == self.floor => join(&mut taker.took, records)?,
+            Some(_) if are_kept => return floors_differ(alloc),
             _ => return not_allowed(alloc),
         }
         done(alloc)
@@ -249,29 +301,89 @@ impl Plain {
 
     fn merge(&mut self, alloc: Global, node: usize, other: usize) -> Result<String, AllocError> {
         let mut more = Vec::new(alloc);
-        match self.nodes.get(other) {
-            Some(list) => push_all(&mut more, list)?,
+        let floor = match self.nodes.get(other) {
+            Some(giver) => {
+                push_all(&mut more, &giver.took)?;
+                giver.floor
+            }
             None => return not_allowed(alloc),
-        }
+        };
         match self.nodes.get_mut(node) {
-            Some(list) => join(list, &more)?,
+            Some(taker) if taker.floor == floor => join(&mut taker.took, &more)?,
+            Some(_) => return floors_differ(alloc),
             None => return not_allowed(alloc),
         }
+        done(alloc)
+    }
+
+    /// What the node took below the kept floor goes, and what is kept there comes.
+    fn rebase(&mut self, alloc: Global, node: usize) -> Result<String, AllocError> {
+        let floor = self.floor;
+        let Some(taker) = self.nodes.get_mut(node) else {
+            return not_allowed(alloc);
+        };
+        taker.took.retain(|found| found.offset >= floor);
+        for given in &self.kept {
+            if given.offset < floor {
+                taker.took.push(given.clone()?)?;
+            }
+        }
+        taker.floor = floor;
         done(alloc)
     }
 
     fn restart(&mut self, alloc: Global, node: usize) -> Result<String, AllocError> {
         match self.nodes.get_mut(node) {
-            Some(list) => list.clear(),
+            Some(taker) => {
+                taker.took.clear();
+                taker.floor = 0;
+            }
             None => return not_allowed(alloc),
         }
         done(alloc)
     }
 
+    /// Whether the node has the kept floor.
+    pub(crate) fn is_at_floor(&self, node: usize) -> bool {
+        match self.nodes.get(node) {
+            Some(taker) => taker.floor == self.floor,
+            None => false,
+        }
+    }
+
+    /// Whether the node has the kept floor, and the last kept record of each key.
+    pub(crate) fn is_caught_up(&self, node: usize) -> bool {
+        match self.nodes.get(node) {
+            Some(taker) => {
+                taker.floor == self.floor
+                    && self.kept.iter().all(|given| is_passed(&self.kept, given)
+                        || is_among(&taker.took, given))
+            }
+            None => false,
+        }
+    }
+
+    /// The answer over the whole log, in words.
+    pub(crate) fn answer_of_log(&self, alloc: Global, query: &Query) -> Result<String, AllocError> {
+        let registry = registry_of(alloc, &self.log)?;
+        answer_over(alloc, &registry, query)
+    }
+
+    /// Whether the record at that place is kept, and may go where all others may that do at that floor.
+    pub(crate) fn may_leave(&self, place: usize, floor: u64) -> bool {
+        match self.written.get(place) {
+            Some(found) => {
+                is_among(&self.kept, found)
+                    && (is_passed(&self.kept, found) || deletes_below(found, floor))
+            }
+            None => false,
+        }
+    }
+
     fn lookup(&self, alloc: Global, node: usize, query: &Query) -> Result<String, AllocError> {
         match self.nodes.get(node) {
-            Some(list) => {
-                let registry = registry_of(alloc, list)?;
+            Some(taker) => {
+                let registry = registry_of(alloc, &taker.took)?;
                 answer_over(alloc, &registry, query)
             }
             None => not_allowed(alloc),

@@ -8,7 +8,8 @@ use std::alloc::{AllocError, Global};
 use std::test::Fail;
 
 // A line is drawn, and of each of its words, whose alternatives stand between bars, one. `@` is the
-// places of up to seven records, and `%` of up to two.
+// places of up to seven records, and `%` of up to two; `^` is a floor, and `^!` a floor with the places of
+// all that may leave what is kept there.
 
 static BASES: &str = r#"S 0|1|2|3|4|5|6|7|8 r|s|t 1|2|3 1 int
 S 0|1|2|3|4|5|6|7|8 r|s|t 1|2|3 2 long
@@ -30,6 +31,8 @@ I 0|1|2|3|4|5|6|7|8 9|-|-
 O 0|1|2|3|4|5|6|7|8
 U|S|S|S|S|S 0|1|2|3|4|5|6|7|8 r|s|t 1|2|3 1|1|1|2 int"#;
 
+static FLOORS: &str = "F 0|1|2|3|4|5|6|7|8|10";
+
 static HEADS: &str =
     "command 0|1|2|0|1|2|0|1|2|3 published|published|published|published|unsettled|lost";
 
@@ -50,6 +53,11 @@ noop"#;
 
 static OTHERS: &str = r#"compact %
 compact %
+compact_to ^ %
+compact_to ^!
+compact_to ^!
+rebase 0|1|2|0|1|2|0|1|2|3
+rebase 0|1|2|0|1|2|0|1|2|3
 take 0|1|2|0|1|2|0|1|2|3 @
 take 0|1|2|0|1|2|0|1|2|3 @
 take 0|1|2|0|1|2|0|1|2|3 @
@@ -103,6 +111,29 @@ fn write_places(
     Ok(())
 }
 
+/// Mostly one between the kept floor and the next offset.
+fn floor(draws: &mut Draws, both: &Both) -> u64 {
+    let least = both.plain.floor.saturating_sub(1);
+    let more = both.plain.next.saturating_sub(least).saturating_add(3);
+    least.saturating_add(draws.below(more))
+}
+
+fn write_floor(out: &mut String, draws: &mut Draws, both: &Both) -> Result<(), AllocError> {
+    let floor = floor(draws, both);
+    write!(out, " {floor}")
+}
+
+fn write_leaving(out: &mut String, draws: &mut Draws, both: &Both) -> Result<(), AllocError> {
+    let floor = floor(draws, both);
+    write!(out, " {floor}")?;
+    for place in 0..both.plain.written.len() {
+        if both.plain.may_leave(place, floor) {
+            write!(out, " {place}")?;
+        }
+    }
+    Ok(())
+}
+
 fn write_word(out: &mut String, word: &str) -> Result<(), AllocError> {
     if !out.is_empty() {
         out.push(' ')?;
@@ -121,6 +152,8 @@ fn write_words(
         match both {
             Some(both) if word == "@" => write_places(out, draws, both, 8)?,
             Some(both) if word == "%" => write_places(out, draws, both, 3)?,
+            Some(both) if word == "^" => write_floor(out, draws, both)?,
+            Some(both) if word == "^!" => write_leaving(out, draws, both)?,
             _ => write_word(out, part(word, "|", draws))?,
         }
     }
@@ -135,6 +168,10 @@ fn drawn_record(alloc: Global, draws: &mut Draws) -> Result<String, AllocError> 
 
 fn drawn_base(alloc: Global, draws: &mut Draws) -> Result<String, AllocError> {
     let mut base = String::new(alloc);
+    if draws.below(2) == 0 {
+        write_words(&mut base, draws, None, FLOORS)?;
+        base.push('\n')?;
+    }
     for _ in 0..draws.below(14) {
         let words = drawn_record(alloc, draws)?;
         write!(base, "{words}\n")?;
@@ -161,7 +198,7 @@ fn drawn_lookup(alloc: Global, draws: &mut Draws) -> Result<String, AllocError> 
 }
 
 /// The first of so many events that has another outcome, or after which the log has other entries or
-/// a lookup another answer.
+/// a lookup another answer: than the plain one, or, at a node that is caught up, than the log.
 fn other_event(
     alloc: Global,
     draws: &mut Draws,
@@ -174,7 +211,7 @@ fn other_event(
             return Ok(Some(words));
         }
         let words = drawn_lookup(alloc, draws)?;
-        if !both.agree(alloc, words.as_str())? {
+        if !both.agree(alloc, words.as_str())? || !both.keep_up(alloc, words.as_str())? {
             return Ok(Some(words));
         }
     }

@@ -3,7 +3,7 @@
 // subject and version without a value; `U` one whose value can't be read; `D` a subject and the
 // greatest version of a soft delete; `C` and `M` a scope and the name of a level or a mode, where `*`
 // is all subjects and `-` no value; `I` the id up to which ids were given away, or `-`; `O` is a
-// record of no meaning.
+// record of no meaning. A first line may be `F` and a floor.
 use reg_records::{Device, Log, LogError, read_log};
 use std::alloc::{AllocError, Global};
 
@@ -106,6 +106,9 @@ fn write_fields(out: &mut String, kind: &str, rest: &str) -> Result<(), AllocErr
 fn write_line(out: &mut String, words: &str) -> Result<(), AllocError> {
     let (kind, rest) = cut(words);
     let (offset, rest) = cut(rest);
+    if kind == "F" {
+        return write!(out, "floor\t{offset}\n");
+    }
     write!(out, "{offset}\t")?;
     write_fields(out, kind, rest)?;
     out.push('\n')

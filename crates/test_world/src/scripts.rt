@@ -1,6 +1,6 @@
 // Lists of events, with their outcomes.
 use crate::events::event_of;
-use crate::outcomes::{NOT_ALLOWED, outcome_text};
+use crate::outcomes::{FLOORS_DIFFER, NOT_ALLOWED, outcome_text};
 use crate::records::log_of;
 use crate::worlds::{outcome_of, world_of, world_over};
 use reg_leader::AdoptError;
@@ -19,7 +19,7 @@ struct Script {
     lines: &'static str,
 }
 
-static SCRIPTS: [Script; 9] = [
+static SCRIPTS: [Script; 13] = [
     Script {
         what: "two nodes",
         nodes: 2,
@@ -358,6 +358,140 @@ compact 3 => not allowed
 compact 1 2 => done"#,
     },
     Script {
+        what: "a delete below the floor is forgotten",
+        nodes: 3,
+        base: r#"S 4 s 1 1 int
+N 9 s 1
+C 12 * FULL"#,
+        lines: r#"take 0 0 1 2 => done
+take 1 0 => done
+compact_to 9 1 => not allowed
+compact_to 9 0 1 => not allowed
+compact_to 10 1 => not allowed
+compact_to 14 0 => not allowed
+compact_to 9 0 => done
+take 0 1 2 => floors differ
+take 0 => floors differ
+take 0 0 => not allowed
+take 3 => not allowed
+compact 1 => not allowed
+compact_to 10 1 => done
+compact_to 5 => not allowed
+compact_to 9 => not allowed
+take 1 2 => floors differ
+take 1 1 => not allowed
+lookup 1 versions s => 200 [1]
+lookup 0 versions+ s => 404 {"error_code":40401,"message":"Subject not found"}
+rebase 3 => not allowed
+rebase 1 => done
+lookup 1 subjects+ => 200 []
+merge 1 0 => floors differ
+merge 0 1 => floors differ
+merge 0 3 => not allowed
+merge 0 2 => done
+lookup 1 level * => 200 {"compatibilityLevel":"BACKWARD"}
+take 1 2 => done
+lookup 1 level * => 200 {"compatibilityLevel":"FULL"}
+lookup 1 versions+ s => 404 {"error_code":40401,"message":"Subject not found"}
+rebase 0 => done
+merge 0 1 => done
+lookup 0 level * => 200 {"compatibilityLevel":"FULL"}
+lookup 0 versions+ s => 404 {"error_code":40401,"message":"Subject not found"}
+restart 0 => done
+merge 0 1 => floors differ
+merge 0 2 => done
+take 0 2 => floors differ
+rebase 0 => done
+rebase 2 => done
+take 0 2 => done
+compact_node 0 => done
+merge 2 0 => done
+lookup 2 level * => 200 {"compatibilityLevel":"FULL"}
+compact_to 13 => done
+rebase 2 => done
+lookup 2 level * => 200 {"compatibilityLevel":"FULL"}
+compact_to 14 => not allowed"#,
+    },
+    Script {
+        what: "a compaction at the kept floor",
+        nodes: 2,
+        base: r#"S 4 s 1 1 int
+S 5 t 1 2 long
+N 8 t 1
+N 9 s 1
+S 10 u 1 3 bytes
+N 11 u 1"#,
+        lines: r#"compact_to 10 => done
+rebase 0 => done
+lookup 0 subjects+ => 200 []
+compact 3 => not allowed
+compact 2 1 => done
+compact 4 5 => not allowed
+compact 5 => not allowed
+rebase 1 => done
+lookup 1 subjects+ => 200 []
+compact 4 => done
+compact 3 0 => done
+compact_to 10 5 => not allowed
+compact_to 12 5 => done
+take 0 => floors differ
+rebase 0 => done
+lookup 0 subjects+ => 200 []
+take 0 => done
+lookup 0 versions t => 404 {"error_code":40401,"message":"Subject not found"}"#,
+    },
+    Script {
+        what: "a floor after what isn't settled",
+        nodes: 2,
+        base: "",
+        lines: r#"command 0 published register s int => id 1
+S 0 s 1 1 int
+take 0 0 => done
+take 1 0 => done
+command 0 published delete s 1 => version 1
+X 1 s 1 1 int
+command 0 unsettled delete+ s 1 => unsettled 2
+I 2 1
+N 3 s 1
+compact_to 5 => not allowed
+compact_to 3 0 1 3 => not allowed
+take 1 1 => done
+compact_to 4 0 1 3 => done
+take 0 2 => floors differ
+rebase 0 => done
+take 0 2 => done
+lookup 0 subjects+ => 200 []
+lookup 1 versions+ s => 200 [1]
+command 0 published register s int => id 2
+S 4 s 1 2 int
+take 0 4 => done
+lookup 0 versions s => 200 [1]
+take 1 4 => floors differ
+rebase 1 => done
+lookup 1 subjects+ => 200 []
+merge 1 0 => done
+lookup 1 versions s => 200 [1]"#,
+    },
+    Script {
+        what: "a base with a floor",
+        nodes: 2,
+        base: "F 3",
+        lines: r#"take 0 => floors differ
+command 0 published register s int => id 1
+S 3 s 1 1 int
+take 0 0 => floors differ
+compact_to 2 => not allowed
+rebase 0 => done
+take 0 0 => done
+lookup 0 versions s => 200 [1]
+merge 1 0 => floors differ
+rebase 1 => done
+merge 1 0 => done
+lookup 1 versions s => 200 [1]
+restart 1 => done
+take 1 0 => floors differ"#,
+    },
+    Script {
         what: "the last offset",
         nodes: 1,
         base: "O 9223372036854775806",
@@ -418,7 +552,8 @@ fn first_other_line(
         let Some((words, expected)) = line.split_once(" => ") else {
             continue;
         };
-        let is_left_out = expected == NOT_ALLOWED && !with_refused;
+        let is_refused = expected == NOT_ALLOWED || expected == FLOORS_DIFFER;
+        let is_left_out = is_refused && !with_refused;
         if !is_left_out && !goes(alloc, world, known, words, expected)? {
             return Ok(Some(line));
         }

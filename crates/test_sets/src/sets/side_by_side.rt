@@ -97,7 +97,8 @@ impl<'a> Both<'a> {
             are_put_alike
                 && self.set.take(record)? == taken
                 && is_news == (taken == Taken::Fresh)
-                && self.have_one_last(record, line),
+                && self.have_one_last(record, line)
+                && self.remove(record, line)?,
         )
     }
 
@@ -112,6 +113,20 @@ impl<'a> Both<'a> {
         let is_told = is_of_line(before.as_ref(), last) && self.lasts.contains(record);
         self.lasts.put_back(&record.key, before);
         Ok(is_told && is_of_line(self.lasts.last(&record.key), last))
+    }
+
+    /// Removes a record from the last ones and puts it again, and tells whether its key was without one
+    /// meanwhile; a record that isn't a last one removes no other.
+    fn remove(&mut self, record: &Record, line: Line<'a>) -> Result<bool, AllocError> {
+        let stood = self.lasts.contains(record);
+        self.lasts.remove(record);
+        let left = self.lasts.last(&record.key);
+        if !stood {
+            return Ok(is_of_line(left, self.plain.last(line.key)));
+        }
+        let is_gone = left.is_none();
+        self.lasts.put(record)?;
+        Ok(is_gone)
     }
 
     fn have_one_last(&self, record: &Record, line: Line<'a>) -> bool {

@@ -1,7 +1,6 @@
-use Rattle.std.proofs.Common.{◌≡◌, None, Some, ap, ◌∙◌, rules}
+use Rattle.std.proofs.Common.{◌≡◌, None, Some, ap, subst, ◌∙◌, rules}
 use Rattle.std.specs.Prelude.{is_some}
-use Rattle.reg_entries.specs.Index.{entry_at}
-use Rattle.reg_entries.specs.Marked.{with_soft}
+use Rattle.reg_entries.specs.Index.{HasAt, entry_at}
 use Rattle.reg_entries.proofs.Marks.{soft_at, soft_nowhere}
 use Rattle.reg_entries.proofs.lists.set_soft.Goals as goal
 
@@ -9,9 +8,10 @@ pub returns-in-Some-clause-at : goal.returns-in-Some-clause-at
 returns-in-Some-clause-at c =
     let m = c.args.entries.now in
     let e = c.in-Some.entry.now in
-    let w = with_soft c.args.soft e in
+    let w = c.set_soft.new.self in
+    let n = c.get_mut.follows.lender w in
     let found : entry_at m c.args.place.now ≡ Some e = search rules in
-    soft_at m (c.get_mut.follows.lender w) c.args.place.now c.args.soft e found ((c.get_mut.follows.holds w).3 (ap is_some found)).0
+    soft_at m n c.args.place.now c.args.soft e found (subst (λ f. HasAt m n c.args.place.now (Some f)) c.set_soft.ensures ((c.get_mut.follows.holds w).3 (ap is_some found)).0)
 
 pub returns-in_default-clause-at : goal.returns-in_default-clause-at
 returns-in_default-clause-at c = λ q.

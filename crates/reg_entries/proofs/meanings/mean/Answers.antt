@@ -10,7 +10,7 @@ returns-in_err-added-clause-doubled c =
     let ids = c.in_ok-insert.ensures.updates.0 in
     let before = c.args.doubled.now in
     let mid = c.insert.new.self in
-    let id = c.args.entry.now.id in
+    let id = c.own-own.result.now.id in
     doubled_settled c.args.meanings.now c.insert-added.new.self before mid c.settle_doubled.new.doubled id c.requires
     (λ k apart. ap (list_any (is_at (meaning_cmp k))) c.in_err-added.ensures.err)
     (id_others before mid id true ids)
@@ -22,7 +22,7 @@ returns-clause-doubled c =
     let ids = c.in_ok-insert.ensures.updates.0 in
     let before = c.args.doubled.now in
     let mid = c.insert.new.self in
-    let id = c.args.entry.now.id in
+    let id = c.own-own.result.now.id in
     doubled_settled c.args.meanings.now c.insert-added.new.self before mid c.settle_doubled.new.doubled id c.requires
     (λ k apart. added_others c.insert-added.new.self c.args.meanings.now (c.from.result, c.in_ok-clone.field-0) c.in_ok-added.ensures.updates.0 k (λ same. apart (same ∙ c.from.ensures)))
     (id_others before mid id true ids)

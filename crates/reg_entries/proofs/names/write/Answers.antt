@@ -1,4 +1,4 @@
-use Rattle.std.proofs.Common.{◌≡◌, ◌<◌, ◌^◌, true, false, cond, List, Some, None, ap, subst, sym, ◌∙◌, rules}
+use Rattle.std.proofs.Common.{◌≡◌, ◌&&◌, ◌||◌, ◌==◌, not, ◌<◌, ◌^◌, true, false, cond, List, Some, None, ap, subst, sym, ◌∙◌, rules}
 use Rattle.std.specs.BTreeMap.{is_at}
 use Rattle.std.specs.BTreeSet.{contains}
 use Rattle.std.specs.Map.{lookup}
@@ -46,7 +46,9 @@ returns-in-Ok-Some-clause-still_named c =
     let was : entry_at m (place_of e) ≡ Some c.in-Ok-Some.old = ap (entry_at m) (sym c.in_ok-place.ensures.place) ∙ sym c.in-Ok-Some.ensures.old ∙ some_here in
     let added : (x : Name) → contains name_cmp c.insert.new.self x ≡ cond (eq_by_cmp name_cmp (name_of e) x) true (contains name_cmp c.args.names.now x) =
     subst (λ y. (x : Name) → contains name_cmp c.insert.new.self x ≡ cond (eq_by_cmp name_cmp y x) true (contains name_cmp c.args.names.now x)) c.in_ok-name_of.ensures c.in_ok-insert.ensures.updates.0 in
-    named-over m c.insert-2.new.self c.args.names.now c.requires.placed c.requires.named e at c.insert.new.self c.forget_other.new.names c.in-Ok-Some.old was added c.forget_other.ensures
+    let others : (x : Name) → contains name_cmp c.forget_other.new.names x ≡ (contains name_cmp c.insert.new.self x && (not (eq_by_cmp name_cmp (name_of c.in-Ok-Some.old) x) || (c.in-Ok-Some.old.id == e.id && c.in-Ok-Some.old.offset == e.offset))) =
+    subst (λ (o : Entry). (x : Name) → contains name_cmp c.forget_other.new.names x ≡ (contains name_cmp c.insert.new.self x && (not (eq_by_cmp name_cmp (name_of c.in-Ok-Some.old) x) || (c.in-Ok-Some.old.id == o.id && c.in-Ok-Some.old.offset == o.offset)))) c.own-own.ensures c.forget_other.ensures in
+    named-over m c.insert-2.new.self c.args.names.now c.requires.placed c.requires.named e at c.insert.new.self c.forget_other.new.names c.in-Ok-Some.old was added others
 
 pub returns-in-Err-clause-still_named : goal.returns-in-Err-clause-still_named
 returns-in-Err-clause-still_named c = λ n.

@@ -8,7 +8,7 @@ pub returns : goal.returns
 returns c =
     let found = c.args.found.now in
     let records : c.len.result ≡ length c.args.log.now.records.items = omega (arith, c.len.ensures, c.args.log.now.records.ok.0) in
-    same_counts c.args.log.now.foreign c.args.log.now.next
+    same_counts c.args.log.now.foreign c.args.log.now.floor c.args.log.now.next
     records
     c.in_ok-count_subjects.ensures
     (ap (λ (n : ℕ). length found - n) c.count_soft-deleted.ensures ∙ sym (live_are found) ∙ ap (λ (l : List Entry). count_by (λ (e : Entry). not e.soft) l) c.requires.found)

@@ -1,5 +1,5 @@
 use Rattle.std.proofs.Common.{ap, ◌∙◌, ℕ, List, Option}
-use Rattle.reg_records.specs.Log.{next_after}
+use Rattle.reg_records.specs.Log.{next_of}
 use Rattle.reg_inspection.specs.Counts.{counts_of, lasts_in}
 use Rattle.reg_inspection.specs.Foreign.{foreign_tally}
 use Rattle.reg_inspection.specs.Report.{report_text}
@@ -17,7 +17,7 @@ returns-clause-described c =
       read = is.1;
       said = c.in_ok-text.ensures
           ∙ ap (λ (n : Counts). report_text n found.foreign.entries found.obstacles.items) is.2.counts
-          ∙ ap (λ (es : List (Option (List ℕ) × ℕ)). report_text (counts_of is.0.reads) es found.obstacles.items) is.2.foreign
-          ∙ ap (λ (os : List Obstacle). report_text (counts_of is.0.reads) (foreign_tally c.args.log.now) os) is.2.obstacles;
-      taken = c.is_taken.ensures ∙ nothing_is_taken c.no_obstacle_is_open.ensures (lasts_in is.0.reads) (next_after is.0.reads) found.obstacles.items is.2.obstacles;
+          ∙ ap (λ (es : List (Option (List ℕ) × ℕ)). report_text (counts_of is.0.floor is.0.reads) es found.obstacles.items) is.2.foreign
+          ∙ ap (λ (os : List Obstacle). report_text (counts_of is.0.floor is.0.reads) (foreign_tally c.args.log.now) os) is.2.obstacles;
+      taken = c.is_taken.ensures ∙ nothing_is_taken c.no_obstacle_is_open.ensures (lasts_in is.0.reads) (next_of is.0.floor is.0.reads) found.obstacles.items is.2.obstacles;
     }

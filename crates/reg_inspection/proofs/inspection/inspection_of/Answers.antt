@@ -11,7 +11,7 @@ use Rattle.reg_inspection.specs.Obstacles.{obstacles}
 use Rattle.reg_inspection.proofs.inspection.inspection_of.Goals as goal
 
 pub returns : goal.returns
-returns c text read is foreign =
+returns c text floor read is foreign =
     let log = c.args.log.now in
     let same = ap (λ (l : List Record). last_records (from_list l)) (c.deref.ensures.value ∙ is.records) in
     let set : c.in_ok-last.last ≡ lasts_in read = c.in_ok-last.ensures.set ∙ same in
@@ -19,9 +19,10 @@ returns c text read is foreign =
     let es = entries (lasts_in read) in
     record {
       counts = c.in_ok-counts_of.ensures ∙ ap (λ (rs : Records). counts_in log (entries rs)) over
-          ∙ ap (λ (l : List Record). counts_by (length l) log.foreign log.next es) is.records
-          ∙ ap (λ (n : ℕ). counts_by (length (records_in read)) n log.next es) is.foreign
-          ∙ ap (λ (n : ℕ). counts_by (length (records_in read)) (count_by is_foreign read) n es) is.next;
+          ∙ ap (λ (l : List Record). counts_by (length l) log.foreign log.floor log.next es) is.records
+          ∙ ap (λ (n : ℕ). counts_by (length (records_in read)) n log.floor log.next es) is.foreign
+          ∙ ap (λ (f : ℕ). counts_by (length (records_in read)) (count_by is_foreign read) f log.next es) is.floor
+          ∙ ap (λ (n : ℕ). counts_by (length (records_in read)) (count_by is_foreign read) floor n es) is.next;
       foreign = foreign;
       obstacles = c.in_ok-obstacles_in.ensures ∙ ap (λ (rs : Records). obstacles rs log.next) set ∙ ap (obstacles (lasts_in read)) is.next;
     }

@@ -1,10 +1,11 @@
-use Rattle.std.proofs.Common.{◌≡◌, ◌≤◌, List, length, sym, ap, ◌∙◌, arith, rules}
+use Rattle.std.proofs.Common.{◌≡◌, ◌≤◌, List, length, sym, ap, ◌∙◌, arith, rules, length-append}
 use Rattle.std.specs.FinSet.{from_list}
 use Rattle.reg_records.specs.Log.{log_of, records_in}
 use Rattle.reg_records.specs.declared.limits.TheConstants.{LOG_LINES}
 use Rattle.reg_records.specs.declared.record.Record.{Record}
 use Rattle.reg_set.specs.LastRecords.{last_records}
 use Rattle.reg_keeping.specs.Begun.{before}
+use Rattle.reg_keeping.proofs.Fronts.{Say-length}
 use Rattle.reg_keeping.proofs.Sizes.{counted, one_before}
 use Rattle.reg_keeping.proofs.compacting.begin.Goals as goal
 
@@ -12,7 +13,8 @@ pub overflow_add-result : goal.overflow_add-result
 overflow_add-result c =
     let found = c.in_ok-read.ensures.read in
     let records : length c.in_ok-read.read.records.items ≡ length (records_in found.0.reads) = ap length found.2.records in
-    let few : length found.0.reads ≤ LOG_LINES = (c.lines_are_logs.ensures.lines c.new.result.inner.now found.0 found.1).2 in
+    let (lines, say, most, whole) = c.lines_are_logs.ensures.lines c.new.result.inner.now found.0 found.1 in
+    let few : length found.0.reads ≤ LOG_LINES = omega (arith, most, ap length say.parts, length-append say.front say.others, Say-length say.others found.0.reads say.say) in
     omega (arith, c.len.ensures, records, counted found.0.reads, found.2.foreign, few)
 
 pub returns-clause-begun : goal.returns-clause-begun

@@ -1,59 +1,38 @@
-use Rattle.std.proofs.Common.{◌≤◌, ⊎_elim, [], ◌∷◌, ℕ, List, length, refl, sym, ap, subst, ◌∙◌, arith, append-nil, length-append}
+use Rattle.std.proofs.Common.{◌≡◌, ◌≤◌, ◌++◌, List, ℕ, length, take, drop, refl, ap, ◌∙◌, arith, rules, length-append}
 use Rattle.reg_journal.specs.Lines.{text_of}
-use Rattle.reg_keeping.specs.Compacted.{IsCompacted, IsLines}
 use Rattle.reg_keeping.specs.Fronts.{HasLines}
-use Rattle.reg_keeping.proofs.Compacts.{walked}
+use Rattle.reg_keeping.proofs.Compacts.{is_compacted, is_lines, walked}
+use Rattle.reg_keeping.proofs.Fronts.{behind, split_behind, split_front}
 use Rattle.reg_keeping.proofs.compacting.compacted.Goals as goal
 
-pub returns-clause-compacted : goal.returns-clause-compacted
-returns-clause-compacted c =
-    let text = c.args.log.now in
+pub returns : goal.returns
+returns c =
+    let input : List ℕ = c.args.log.now in
     let b = c.in_ok-waiting.ensures.begun in
-    let found = c.lines_are_logs.ensures.lines text b.log b.read in
-    let lines = found.0 in
-    let has : HasLines text lines b.log.reads c.in_ok-waiting.field-0.count =
-    ⊎_elim
-    (λ whole. record { tail = 10 ∷ b.log.rest; parts = whole; say = found.1; counts = b.count })
-    (λ whole. record { tail = []; parts = whole.0 ∙ sym (append-nil (text_of lines)); say = found.1; counts = b.count })
-    found.3 in
-    let small : length (text_of lines) ≤ length text = omega (arith, ap length has.parts, length-append (text_of lines) has.tail) in
-    let ordered = c.records_are_ordered.ensures in
-    let left = walked ordered.all ordered.apart ordered.keys ordered.keys_apart c.last_is_greatest.ensures.greatest c.last_is_greatest.ensures.none c.last_records_are_enough.ensures.least
-    c.lines_are_logs.ensures.read b.log.reads lines found.1 found.2 c.in_ok-waiting.field-0.top _ c.take_lines.new.self (b.top) (b.waiting) c.new.ensures.items refl refl (c.in_ok-take_lines.ensures lines b.log.reads has) in
-    let is = c.in_ok-finish.ensures in
-    let done : IsCompacted text (Rattle.reg_keeping.specs.Walk.finished c.take_lines.new.self) = record {
-      log = b.log;
-      read = b.read;
-      out = left.out;
-      read_back = left.read_back;
-      whole = left.ends;
-      lasts = left.records;
-      next = left.next;
-      small = omega (arith, left.small, small);
-    } in
-    subst (λ (t : List ℕ). IsCompacted text t) (sym is) done
-
-pub returns-clause-lines : goal.returns-clause-lines
-returns-clause-lines c =
-    let text = c.args.log.now in
-    let b = c.in_ok-waiting.ensures.begun in
-    let found = c.lines_are_logs.ensures.lines text b.log b.read in
-    let lines = found.0 in
-    let has : HasLines text lines b.log.reads c.in_ok-waiting.field-0.count =
-    ⊎_elim
-    (λ whole. record { tail = 10 ∷ b.log.rest; parts = whole; say = found.1; counts = b.count })
-    (λ whole. record { tail = []; parts = whole.0 ∙ sym (append-nil (text_of lines)); say = found.1; counts = b.count })
-    found.3 in
-    let small : length (text_of lines) ≤ length text = omega (arith, ap length has.parts, length-append (text_of lines) has.tail) in
-    let ordered = c.records_are_ordered.ensures in
-    let left = walked ordered.all ordered.apart ordered.keys ordered.keys_apart c.last_is_greatest.ensures.greatest c.last_is_greatest.ensures.none c.last_records_are_enough.ensures.least
-    c.lines_are_logs.ensures.read b.log.reads lines found.1 found.2 c.in_ok-waiting.field-0.top _ c.take_lines.new.self (b.top) (b.waiting) c.new.ensures.items refl refl (c.in_ok-take_lines.ensures lines b.log.reads has) in
-    let is = c.in_ok-finish.ensures in
-    let done : IsLines (Rattle.reg_keeping.specs.Walk.finished c.take_lines.new.self) = record {
-      lines = left.left;
-      read = left.out.reads;
-      parts = left.parts;
-      say = left.says;
-      few = left.fit;
-    } in
-    subst IsLines (sym is) done
+    let log = b.log in
+    let (lines, s, few, ends) = c.lines_are_logs.ensures.lines input log b.read in
+    let (tail, all, plain) = behind input lines log.rest ends in
+    let parts : input ≡ text_of (s.front ++ s.others) ++ tail = all ∙ ap (λ (ls : List (List ℕ)). text_of ls ++ tail) s.parts in
+    let copied : c.in_ok-to_vec.field-0.items ≡ c.split_at.result.0.now = search rules in
+    let front : c.in_ok-to_vec.field-0.items ≡ text_of s.front =
+    copied ∙ c.split_at.ensures.front ∙ ap (λ (n : ℕ). take n input) c.floor_len.ensures.len
+    ∙ split_front s.front s.others log.floor log.reads tail input s.floor s.say plain parts in
+    let back : c.split_at.result.1.now ≡ text_of s.others ++ tail =
+    c.split_at.ensures.back ∙ ap (λ (n : ℕ). drop n input) c.floor_len.ensures.len
+    ∙ split_behind s.front s.others log.floor log.reads tail input s.floor s.say plain parts in
+    let has : HasLines c.split_at.result.1.now s.others log.reads c.in_ok-waiting.field-0.count = record { tail = tail; parts = back; say = s.say; counts = b.count } in
+    let within : length (text_of lines) ≤ length input = omega (arith, ap length all, length-append (text_of lines) tail) in
+    let o = c.records_are_ordered.ensures in
+    let greatest = c.last_is_greatest.ensures.greatest in
+    let none = c.last_is_greatest.ensures.none in
+    let least = c.last_records_are_enough.ensures.least in
+    let read = c.lines_are_logs.ensures.read in
+    let (text, left, is) = walked o.all o.apart o.keys o.keys_apart greatest none least log.floor log.reads s.others s.say c.in_ok-waiting.field-0.top _ c.take_lines.new.self
+    b.top b.waiting refl refl (c.in_ok-take_lines.ensures s.others log.reads has) in
+    let output : List ℕ = c.in_ok-finish.field-0.items in
+    let joined : output ≡ text_of s.front ++ text = c.in_ok-finish.ensures ∙ is ∙ ap (λ (t : List ℕ). t ++ text) front in
+    record {
+      compacted = is_compacted o.all o.apart o.keys o.keys_apart greatest none least log.floor log.reads s.others s.say read input log lines s.front b.read few s.parts s.floor refl refl within text output left joined;
+      lines = is_lines o.all o.apart o.keys o.keys_apart greatest none least log.floor log.reads s.others s.say read input log lines s.front b.read few s.parts s.floor refl refl within text output left joined;
+      fault = search rules;
+    }

@@ -3,7 +3,6 @@ use Rattle.std.proofs.lemmas.Result.{IfOk-weaker}
 use Rattle.reg_set.specs.LastRecords.{last_records}
 use Rattle.reg_lookup.specs.Answers.{IsAnswer}
 use Rattle.reg_lookup.specs.Checked.{checked_on}
-use Rattle.reg_lookup.specs.declared.query.Query.{Query}
 use Rattle.reg_lookup.specs.declared.query.Query.TheVariants.{Check}
 use Rattle.reg_node.specs.Takes.{taken}
 use Rattle.reg_node.proofs.view.check.Goals as goal

@@ -13,7 +13,7 @@ returns c =
         none = c.last_is_greatest.ensures.none;
         lasts = c.last_records_are_enough.ensures.last_of_last;
       };
-      same = c.last_records_are_enough.ensures.last_records;
+      alike = c.compactions_give_alike.ensures;
       keyed = c.entries_are_of_places.ensures.keys;
       stand = c.entries_are_of_places.ensures.stand;
       read = c.written_values_read_back.ensures;

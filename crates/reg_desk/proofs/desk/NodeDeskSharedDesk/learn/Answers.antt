@@ -1,7 +1,7 @@
 use Rattle.std.proofs.Common.{◌≡◌, true, List, Option, Some, ap, subst, ◌∙◌}
 use mathlib.Core.List.{IsPrefix}
 use Rattle.reg_topic.specs.declared.published.Item.{Item}
-use Rattle.reg_node.specs.declared.take.Take.{Take}
+use Rattle.reg_node.specs.declared.take.Draw.{Draw}
 use Rattle.reg_desk.specs.Desk.{IsFresh, Known, front_of}
 use Rattle.reg_desk.proofs.Learnt.{nothing_known, stays_learnt, takes_learnt}
 use Rattle.reg_desk.proofs.desk.NodeDeskSharedDesk.learn.Goals as goal
@@ -16,8 +16,8 @@ returns-then-is_news g c =
     c.fresh-self-inside.ensures
     (ap (λ (k : Known). k.submits) c.self.view_is)
     (subst (λ (w : Option (List Item)). IsPrefix (front_of c.args.self.now.seen) (front_of w)) topic (subst (λ (w : List Item). IsPrefix w c.in-Some.topic.now) before known))
-    (subst (λ (w : List Take). IsPrefix w c.learn.new.self) (ap (λ (k : Known). k.view) c.self.view_is) c.learn.ensures.this)
-    (subst (λ (w : List Take). IsPrefix w c.learn.new.self) c.node.ensures c.learn.ensures.that)
+    (subst (λ (w : List Draw). IsPrefix w c.learn.new.self) (ap (λ (k : Known). k.view) c.self.view_is) c.learn.ensures.this)
+    (subst (λ (w : List Draw). IsPrefix w c.learn.new.self) c.node.ensures c.learn.ensures.that)
     c.in-Some.ensures.shown
 
 pub returns-else-is_news : goal.returns-else-is_news
@@ -30,8 +30,8 @@ returns-else-is_news g c =
     (ap (λ (k : Known). k.fresh) c.self.view_is)
     (ap (λ (k : Known). k.submits) c.self.view_is)
     (subst (λ (w : Option (List Item)). IsPrefix (front_of w) (front_of c.args.self.now.seen)) topic (subst (λ (w : List Item). IsPrefix c.in-Some.topic.now w) before known))
-    (subst (λ (w : List Take). IsPrefix w c.learn.new.self) (ap (λ (k : Known). k.view) c.self.view_is) c.learn.ensures.this)
-    (subst (λ (w : List Take). IsPrefix w c.learn.new.self) c.node.ensures c.learn.ensures.that)
+    (subst (λ (w : List Draw). IsPrefix w c.learn.new.self) (ap (λ (k : Known). k.view) c.self.view_is) c.learn.ensures.this)
+    (subst (λ (w : List Draw). IsPrefix w c.learn.new.self) c.node.ensures c.learn.ensures.that)
     (subst (λ (k : Known). k.fresh ≡ true → IsFresh g.N.FeedName.first (front_of k.seen) k.view) c.self.view_is c.self.invariant)
 
 pub returns-in_default : goal.returns-in_default
@@ -41,6 +41,6 @@ returns-in_default g c =
     (ap (λ (k : Known). k.fresh) c.self.view_is)
     (ap (λ (k : Known). k.submits) c.self.view_is)
     (nothing_known c.args.standing.now.topic (front_of c.args.self.now.seen) c.in_default.ensures.front)
-    (subst (λ (w : List Take). IsPrefix w c.learn.new.self) (ap (λ (k : Known). k.view) c.self.view_is) c.learn.ensures.this)
-    (subst (λ (w : List Take). IsPrefix w c.learn.new.self) c.node.ensures c.learn.ensures.that)
+    (subst (λ (w : List Draw). IsPrefix w c.learn.new.self) (ap (λ (k : Known). k.view) c.self.view_is) c.learn.ensures.this)
+    (subst (λ (w : List Draw). IsPrefix w c.learn.new.self) c.node.ensures c.learn.ensures.that)
     (subst (λ (k : Known). k.fresh ≡ true → IsFresh g.N.FeedName.first (front_of k.seen) k.view) c.self.view_is c.self.invariant)

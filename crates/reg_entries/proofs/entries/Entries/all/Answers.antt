@@ -1,4 +1,4 @@
-use Rattle.std.proofs.Common.{sym, ap, subst, ◌∙◌}
+use Rattle.std.proofs.Common.{map, sym, ap, subst, ◌∙◌}
 use Rattle.std.specs.FinMap as finmap
 use Rattle.reg_entries.specs.EntryOrder.{IsInOrder}
 use Rattle.reg_entries.proofs.Found.{at_places, values_in_order}
@@ -6,10 +6,12 @@ use Rattle.reg_entries.proofs.Views.{values-view}
 use Rattle.reg_entries.proofs.entries.Entries.all.Goals as goal
 
 pub returns-clause-all : goal.returns-clause-all
-returns-clause-all c = c.in_ok-found.ensures ∙ sym (values-view c.self.inside.entries c.self.invariant.0.ordered) ∙ ap finmap.values c.self.view_is
+returns-clause-all c =
+    c.in_ok-found.ensures ∙ ap (map (λ e. e.now)) c.deref.ensures.value ∙ c.in_ok-twins.ensures
+    ∙ sym (values-view c.self.inside.entries c.self.invariant.0.ordered) ∙ ap finmap.values c.self.view_is
 
 pub returns-clause-in_order : goal.returns-clause-in_order
 returns-clause-in_order c =
     let m = c.self.inside.entries in
     let i = c.self.invariant.0 in
-    subst IsInOrder (sym c.in_ok-found.ensures) (values_in_order m.entries (at_places m i.ordered i.placed) i.ordered)
+    subst IsInOrder (sym (c.in_ok-found.ensures ∙ ap (map (λ e. e.now)) c.deref.ensures.value ∙ c.in_ok-twins.ensures)) (values_in_order m.entries (at_places m i.ordered i.placed) i.ordered)

@@ -3,16 +3,25 @@ use Rattle.std.proofs.lemmas.Slice.Eq.{bytes_eq-Decides}
 use Rattle.std.specs.FinMap as finmap
 use Rattle.std.specs.List.{filter}
 use Rattle.std.specs.Map.{values_of}
-use Rattle.reg_entries.specs.Sought.{counts, counting, HasRisingVersions}
-use Rattle.reg_entries.proofs.Found.{at_places, filter_filter, left_of, map_filter, values_in_order, versions_rise}
+use Rattle.reg_entries.specs.Covered.{shown_all, under}
+use Rattle.reg_entries.specs.Sought.{counts, counting, of_subject, HasRisingVersions}
+use Rattle.reg_entries.proofs.Found.{filter_filter, left_of, map_filter, versions_rise}
+use Rattle.reg_entries.proofs.Shown.{in_order_shown, under_subject}
 use Rattle.reg_entries.proofs.Views.{values-view}
 use Rattle.reg_entries.proofs.entries.Entries.counting.Goals as goal
 
 all_here : goal.returns-clause-all
 all_here c =
+    let s = c.args.subject.now in
+    let deletes = c.args.deletes.now in
+    let es = finmap.values c.args.self.now in
     ap (map (λ e. e.now)) c.keep_counting.ensures
     ∙ map_filter (λ e. e.now) (counts c.args.deleted) c.in_ok-found.found.items
-    ∙ ap (filter (counts c.args.deleted)) c.in_ok-found.ensures.all
+    ∙ ap (filter (counts c.args.deleted))
+    (c.in_ok-found.ensures
+    ∙ ap (map (under c.delete_of.result)) (ap (map (λ e. e.now)) c.deref.ensures.value ∙ c.in_ok-twins.ensures.all)
+    ∙ (λ i. map (under (c.delete_of.ensures i)) (of_subject es s))
+    ∙ under_subject deletes s es)
 
 pub returns-clause-all : goal.returns-clause-all
 returns-clause-all c = all_here c
@@ -23,8 +32,9 @@ returns-clause-in_order c =
     let s = c.args.subject.now in
     let i = c.self.invariant.0 in
     let deleted = c.args.deleted in
-    let es = values_of m.entries in
+    let deletes = c.args.deletes.now in
+    let es = shown_all deletes (values_of m.entries) in
     let rise : HasRisingVersions (filter (λ e. bytes_eq e.subject s && counts deleted e) es) =
-    versions_rise s (λ e. bytes_eq e.subject s && counts deleted e) (λ e h. (bytes_eq-Decides e.subject s).0 (left_of _ _ h)) es (values_in_order m.entries (at_places m i.ordered i.placed) i.ordered) in
+    versions_rise s (λ e. bytes_eq e.subject s && counts deleted e) (λ e h. (bytes_eq-Decides e.subject s).0 (left_of _ _ h)) es (in_order_shown deletes m i.ordered i.placed) in
     let here : HasRisingVersions (counting es s deleted) = subst HasRisingVersions (sym (filter_filter (λ e. bytes_eq e.subject s) (counts deleted) es)) rise in
-    subst HasRisingVersions (sym (all_here c ∙ ap (λ es. counting es s deleted) (sym (ap finmap.values c.self.view_is) ∙ values-view m i.ordered))) here
+    subst HasRisingVersions (sym (all_here c ∙ ap (λ es. counting (shown_all deletes es) s deleted) (sym (ap finmap.values c.self.view_is) ∙ values-view m i.ordered))) here

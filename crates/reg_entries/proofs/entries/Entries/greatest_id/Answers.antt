@@ -1,6 +1,7 @@
-use Rattle.std.proofs.Common.{sym, ap, ◌∙◌}
+use Rattle.std.proofs.Common.{Some, sym, ap, ◌∙◌}
 use Rattle.std.specs.FinMap as finmap
 use Rattle.reg_entries.specs.Sought.{greatest_id}
+use Rattle.reg_entries.specs.declared.entry.Entry.{Entry}
 use Rattle.reg_entries.proofs.Queries.{greatest_id_none, greatest_id_some, no_name, some_at_name}
 use Rattle.reg_entries.proofs.Views.{values-view}
 use Rattle.reg_entries.proofs.entries.Entries.greatest_id.Goals as goal
@@ -20,5 +21,6 @@ returns-in_err-entry c =
 pub returns : goal.returns
 returns c =
     let a = c.self.inside in
-    greatest_id_some a.entries a.names a.tops c.self.invariant.0 c.in_ok-last.last.now c.in_ok-entry.entry.now c.in_ok-last.ensures.member (sym c.in_ok-entry.ensures.value) c.in_ok-last.ensures.greatest
+    ap (λ (e : Entry). Some e.id) c.own.ensures
+    ∙ greatest_id_some a.entries a.names a.tops c.self.invariant.0 c.in_ok-last.last.now c.in_ok-entry.entry.now c.in_ok-last.ensures.member (sym c.in_ok-entry.ensures.value) c.in_ok-last.ensures.greatest
     ∙ ap greatest_id (sym (values-view a.entries c.self.invariant.0.ordered) ∙ ap finmap.values c.self.view_is)

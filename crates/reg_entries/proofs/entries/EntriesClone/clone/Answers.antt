@@ -1,17 +1,12 @@
-use Rattle.std.proofs.Common.{◌≡◌, ap, ◌∙◌, rules}
+use Rattle.std.proofs.Common.{◌≡◌, ap, ◌∙◌}
 use Rattle.std.specs.FinMap as finmap
-use Rattle.reg_entries.specs.declared.entry.Entry.{Entry}
-use Rattle.reg_entries.specs.contracts.entry.EntryClone.TheImpl as entry_clone
 use Rattle.reg_entries.proofs.Copies.{AreDoubled-copied, AreListed-copied, AreMeant-copied, IsIndexed-copied, entries-copied, ids-copied, meanings-copied, names-copied, tops-copied}
 use Rattle.reg_entries.proofs.entries.EntriesClone.clone.Goals as goal
-
-entry_copy : (a b : Entry) → (entry_clone.ghosts).is_clone a b → b ≡ a
-entry_copy a b h = search rules
 
 pub invariant_of-result : goal.invariant_of-result
 invariant_of-result c =
     let kept = c.self.inside in
-    let same = entries-copied _ entry_copy kept.entries.entries c.in_ok-clone.field-0.entries c.in_ok-clone.ensures.cases in
+    let same = entries-copied (λ a b. b ≡ a) (λ a b same. same) kept.entries.entries c.in_ok-clone.field-0.entries c.in_ok-clone.ensures.cases in
     let schemas = names-copied kept.schemas.keys c.in_ok-clone-4.field-0.keys c.in_ok-clone-4.ensures.cases in
     let meanings = meanings-copied kept.meanings.keys c.in_ok-clone-5.field-0.keys c.in_ok-clone-5.ensures.cases in
     let doubled = ids-copied kept.doubled.keys c.in_ok-clone-6.field-0.keys c.in_ok-clone-6.ensures.cases in (
@@ -26,4 +21,4 @@ invariant_of-result c =
 
 pub returns : goal.returns
 returns c =
-    record { cases = ap finmap.from_entries (entries-copied _ entry_copy c.self.inside.entries.entries c.in_ok-clone.field-0.entries c.in_ok-clone.ensures.cases) ∙ c.self.view_is }
+    record { cases = ap finmap.from_entries (entries-copied (λ a b. b ≡ a) (λ a b same. same) c.self.inside.entries.entries c.in_ok-clone.field-0.entries c.in_ok-clone.ensures.cases) ∙ c.self.view_is }

@@ -1,11 +1,9 @@
 use Rattle.std.proofs.Common.{ap, sym, unwrap_or, ◌∙◌}
 use Rattle.reg_fold.specs.Opaque.{is_opaque, is_version}
-use Rattle.reg_fold.specs.Remarked.{is_delete}
-use Rattle.reg_fold.specs.Spots.{is_deleted}
-use Rattle.reg_fold.proofs.Owned.{is_config, is_mode, levels-stay, mark-changes, modes-stay}
+use Rattle.reg_fold.proofs.Own.{own-other}
+use Rattle.reg_fold.proofs.Owned.{is_delete, is_config, is_mode, levels-stay, mark-changes, modes-stay}
 use Rattle.reg_fold.proofs.SoftDeletes.{deletes-stay}
 use Rattle.reg_fold.proofs.Spotted.{spots-other}
-use Rattle.reg_fold.proofs.Steps.{entries-other}
 use Rattle.reg_fold.proofs.index.Index.apply_id_mark.Goals as goal
 
 pub returns-clause-kept : goal.returns-clause-kept
@@ -16,9 +14,9 @@ returns-clause-kept c =
     let step = c.in_ok-put_last.ensures.step in
     let no_version = ap is_version c.requires.of_key in
     record {
-      all_entries = c.requires.kept.all_entries ∙ sym (entries-other old.last after r step no_version (ap is_delete c.requires.of_key));
+      of_lasts = step.from_after;
+      all_entries = own-other old.last after r step old.entries c.requires.kept.all_entries no_version;
       all_unread = spots-other is_opaque old.last after r step no_version old.unread c.requires.kept.all_unread;
-      all_deleted = spots-other is_deleted old.last after r step no_version old.deleted c.requires.kept.all_deleted;
       all_deletes = deletes-stay old.last after r step old.deletes c.requires.kept.all_deletes (ap is_delete c.requires.of_key);
       all_levels = levels-stay old.last after r step old.levels c.requires.kept.all_levels (ap is_config c.requires.of_key);
       all_modes = modes-stay old.last after r step old.modes c.requires.kept.all_modes (ap is_mode c.requires.of_key);

@@ -1,16 +1,12 @@
-use Rattle.std.proofs.Common.{◌≡◌, Some, ap, sym, ◌∙◌}
-use Rattle.std.specs.FinMap as finmap
+use Rattle.std.proofs.Common.{◌≡◌, Some, subst, ap, sym, ◌∙◌}
 use Rattle.reg_records.specs.declared.key.Key.TheVariants as keys
-use Rattle.reg_entries.specs.EntryOrder.{place_cmp}
-use Rattle.reg_entries.specs.declared.entry.Entry.{Entry}
 use Rattle.reg_fold.specs.Opaque.{is_opaque, is_version}
-use Rattle.reg_fold.specs.Remarked.{is_delete}
-use Rattle.reg_fold.specs.Spots.{is_deleted}
-use Rattle.reg_fold.proofs.Owned.{is_config, is_id_mark, is_mode, levels-stay, mark-stays, modes-stay}
+use Rattle.reg_fold.specs.Own.{AreOwnEntries}
+use Rattle.reg_fold.proofs.Own.{own-removed}
+use Rattle.reg_fold.proofs.Owned.{is_delete, is_config, is_id_mark, is_mode, levels-stay, mark-stays, modes-stay}
 use Rattle.reg_fold.proofs.SoftDeletes.{deletes-stay}
 use Rattle.reg_fold.proofs.Spotted.{spots-forgotten, without_text}
-use Rattle.reg_fold.proofs.Steps.{entries-removed}
-use Rattle.reg_fold.proofs.Tombstones.{gives_none, has_last, has_no_value, is_of_version, not_deleted}
+use Rattle.reg_fold.proofs.Tombstones.{gives_none, has_last, has_no_value, is_of_version}
 use Rattle.reg_fold.proofs.index.Index.bury_news.Goals as goal
 
 pub put_over-before-requires-clause-there : goal.put_over-before-requires-clause-there
@@ -29,10 +25,9 @@ returns-clause-kept c =
     let last = c.put_over-before.ensures in
     let of_key : r.key ≡ keys.Schema place.0 place.1 = sym last.of_key ∙ c.place_in-place.ensures in
     record {
-      all_entries = c.remove.ensures ∙ ap (λ (m : finmap.FinMap place_cmp Entry). finmap.remove m place) c.requires.kept.all_entries
-          ∙ sym (entries-removed old.last after r last.step place of_key (gives_none old.last r c.requires.tombstone old.last));
+      of_lasts = last.step.from_after;
+      all_entries = subst (AreOwnEntries after) (sym c.remove.ensures) (own-removed old.last after r last.step old.entries c.requires.kept.all_entries place of_key (gives_none old.last r c.requires.tombstone));
       all_unread = spots-forgotten is_opaque old.last after r last.step place of_key (Some c.put_over-before.result) (sym last.before) old.unread c.requires.kept.all_unread (without_text r (has_no_value old.last r c.requires.tombstone)) c.forget.new.spots c.forget.ensures;
-      all_deleted = spots-forgotten is_deleted old.last after r last.step place of_key (Some c.put_over-before.result) (sym last.before) old.deleted c.requires.kept.all_deleted (not_deleted old.last r c.requires.tombstone) c.forget-2.new.spots c.forget-2.ensures;
       all_deletes = deletes-stay old.last after r last.step old.deletes c.requires.kept.all_deletes (ap is_delete of_key);
       all_levels = levels-stay old.last after r last.step old.levels c.requires.kept.all_levels (ap is_config of_key);
       all_modes = modes-stay old.last after r last.step old.modes c.requires.kept.all_modes (ap is_mode of_key);

@@ -1,15 +1,12 @@
 use Rattle.std.proofs.Common.{ap, sym, subst, true, ℕ, List, ◌∙◌}
 use Rattle.std.specs.BTreeSet.{Updates}
-use Rattle.std.specs.FinMap as finmap
-use Rattle.reg_entries.specs.EntryOrder.{place_cmp}
-use Rattle.reg_entries.specs.declared.entry.Entry.{Entry}
 use Rattle.reg_fold.specs.Opaque.{is_opaque}
-use Rattle.reg_fold.specs.Remarked.{is_delete}
-use Rattle.reg_fold.specs.Spots.{Forgets, elsewhere, is_deleted, spot_cmp}
-use Rattle.reg_fold.proofs.Owned.{is_config, is_id_mark, is_mode, levels-stay, mark-stays, modes-stay}
+use Rattle.reg_fold.specs.Own.{AreOwnEntries}
+use Rattle.reg_fold.specs.Spots.{Forgets, elsewhere, spot_cmp}
+use Rattle.reg_fold.proofs.Own.{own-removed, own_none}
+use Rattle.reg_fold.proofs.Owned.{is_delete, is_config, is_id_mark, is_mode, levels-stay, mark-stays, modes-stay}
 use Rattle.reg_fold.proofs.SoftDeletes.{deletes-stay}
-use Rattle.reg_fold.proofs.Spotted.{spots-forgotten, spots-put, unreadable}
-use Rattle.reg_fold.proofs.Steps.{entries-removed}
+use Rattle.reg_fold.proofs.Spotted.{spots-put, unreadable}
 use Rattle.reg_fold.proofs.index.Index.put_unread.Goals as goal
 
 pub returns-clause-kept : goal.returns-clause-kept
@@ -22,13 +19,11 @@ returns-clause-kept c =
     let put : Updates spot_cmp old.unread c.insert.new.self (r.offset, place) true =
     subst (λ (s : List ℕ). Updates spot_cmp old.unread c.insert.new.self (r.offset, (s, place.1)) true) c.in_ok-clone.ensures.cases c.in_default.ensures.updates in
     record {
-      all_entries = c.remove.ensures ∙ ap (λ (m : finmap.FinMap place_cmp Entry). finmap.remove m place) c.requires.kept.all_entries
-          ∙ sym (entries-removed old.last after r last.step place c.requires.of_key c.requires.gives);
+      of_lasts = last.step.from_after;
+      all_entries = subst (AreOwnEntries after) (sym c.remove.ensures) (own-removed old.last after r last.step old.entries c.requires.kept.all_entries place c.requires.of_key c.requires.gives);
       all_unread = spots-put is_opaque old.last after r last.step place c.requires.of_key c.in_ok-before.before last.before old.unread c.requires.kept.all_unread
-          (unreadable old.last r place c.requires.of_key c.requires.has_text c.requires.gives) c.insert.new.self c.forget_elsewhere.new.spots put
+          (unreadable old.last r place c.requires.of_key c.requires.has_text (own_none old.last r c.requires.gives)) c.insert.new.self c.forget_elsewhere.new.spots put
           (subst (λ o. Forgets (elsewhere o r.offset) c.insert.new.self c.forget_elsewhere.new.spots) c.spot_of-spot.ensures c.forget_elsewhere.ensures);
-      all_deleted = spots-forgotten is_deleted old.last after r last.step place c.requires.of_key c.in_ok-before.before last.before old.deleted c.requires.kept.all_deleted
-          c.requires.own c.forget.new.spots (subst (λ o. Forgets o old.deleted c.forget.new.spots) c.spot_of-spot.ensures c.forget.ensures);
       all_deletes = deletes-stay old.last after r last.step old.deletes c.requires.kept.all_deletes (ap is_delete c.requires.of_key);
       all_levels = levels-stay old.last after r last.step old.levels c.requires.kept.all_levels (ap is_config c.requires.of_key);
       all_modes = modes-stay old.last after r last.step old.modes c.requires.kept.all_modes (ap is_mode c.requires.of_key);

@@ -1,12 +1,12 @@
-use Rattle.std.proofs.Common.{rules, ◌≡◌, ℕ, ◌<◌, List, [], ◌++◌, length, sym, ap, subst, ◌∙◌, append_assoc}
-use Rattle.std.proofs.lemmas.List.{nil_from_length}
+use Rattle.std.proofs.Common.{rules, ◌≡◌, ◌≢◌, ℕ, max, List, [], ◌++◌, Option, None, length, sym, ap, subst, ◌∙◌, append_assoc}
+use Rattle.std.proofs.lemmas.List.{append-nil}
 use Rattle.reg_records.specs.declared.record.Record.{Record}
 use Rattle.reg_topic.specs.declared.published.Item.{Item}
 use Rattle.reg_shared.specs.Held.{held_of, topic_at}
 use Rattle.reg_node.specs.Caught.{IsCaught, IsCaughtUp, IsNews}
-use Rattle.reg_node.specs.Takes.{Pulls, takes_of}
-use Rattle.reg_node.specs.declared.take.Take.{Take}
-use Rattle.reg_node.proofs.Drawn.{more_behind}
+use Rattle.reg_node.specs.Takes.{Pulls, draws_of, floor_of}
+use Rattle.reg_node.specs.declared.take.Draw.{Draw}
+use Rattle.reg_node.proofs.Drawn.{floor_after, more_behind}
 use Rattle.reg_node.proofs.follower.Follower.pull.Goals as goal
 
 pub invariant_of-self : goal.invariant_of-self
@@ -15,46 +15,64 @@ invariant_of-self g c =
     let front : List Item = c.read_news.new.topic in
     let before = c.self.inside.out.value in
     let rest = c.self.inside.rest.items in
-    let takes : List Take = before.0 ++ (before.1 ++ rest) in
-    let caught : IsCaught first front takes c.self.inside.upto = c.followers_catch_up.ensures.stays first c.self.inside.topic front takes c.self.inside.upto c.read_news.ensures.longer c.self.invariant.1 in
-    (c.self.invariant.0, caught)
+    let ds : List Draw = before.0 ++ (before.1 ++ rest) in
+    let caught : IsCaught first front ds c.self.inside.upto = c.followers_catch_up.ensures.stays first c.self.inside.topic front ds c.self.inside.upto c.read_news.ensures.longer c.self.invariant.2 in
+    (c.self.invariant.0, c.self.invariant.1, caught, c.self.invariant.3)
 
-pub invariant_of-self-then-is_empty : goal.invariant_of-self-then-is_empty
-invariant_of-self-then-is_empty g c =
+pub invariant_of-self-then-is_nothing : goal.invariant_of-self-then-is_nothing
+invariant_of-self-then-is_nothing g c =
     let first = g.N.FeedName.first in
     let front : List Item = c.read_news.new.topic in
     let before = c.self.inside.out.value in
     let rest = c.self.inside.rest.items in
-    let takes : List Take = before.0 ++ (before.1 ++ rest) in
-    let caught : IsCaught first front takes c.self.inside.upto = c.followers_catch_up.ensures.stays first c.self.inside.topic front takes c.self.inside.upto c.read_news.ensures.longer c.self.invariant.1 in
-    let zero : length c.in_ok-found.found.records.items ≡ 0 = search rules in
-    let news : IsNews (held_of (topic_at first front)) c.self.inside.upto [] = subst (IsNews (held_of (topic_at first front)) c.self.inside.upto) (nil_from_length c.in_ok-found.found.records.items zero) c.in_ok-found.ensures.news in
-    let now : IsCaughtUp first front takes = c.followers_catch_up.ensures.no_news first front takes c.self.inside.upto caught news in
-    (c.self.invariant.0, subst (IsCaught first front takes) (sym {A = ℕ} c.in_ok-found.ensures.next) now.caught)
+    let ds : List Draw = before.0 ++ (before.1 ++ rest) in
+    let caught : IsCaught first front ds c.self.inside.upto = c.followers_catch_up.ensures.stays first c.self.inside.topic front ds c.self.inside.upto c.read_news.ensures.longer c.self.invariant.2 in
+    let records : List Record = c.in_ok-found.found.records.items in
+    let below : Option (List Record) = c.in_ok-found.found.below in
+    let news : IsNews (held_of (topic_at first front)) (floor_of ds) c.self.inside.upto below records =
+    subst (λ (f : ℕ). IsNews (held_of (topic_at first front)) f c.self.inside.upto below records) c.self.invariant.3 c.in_ok-found.ensures.news in
+    let found = c.followers_catch_up.ensures.news first front ds c.self.inside.upto below records c.self.invariant.1 caught news in
+    let no_base : below ≡ None = search rules in
+    let no_record : records ≡ [] = search rules in
+    let kept = (topic_at first front).kept in
+    let none : draws_of (length front) kept.floor below records ≡ [] = λ i. draws_of (length front) kept.floor (no_base i) (no_record i) in
+    let now : IsCaughtUp first front ds = subst (IsCaughtUp first front) (ap (λ (w : List Draw). ds ++ w) none ∙ append-nil ds) found.0 in
+    (c.self.invariant.0, c.self.invariant.1, subst (IsCaught first front ds) (sym {A = ℕ} c.in_ok-found.ensures.next) now.caught, c.self.invariant.3)
 
-pub returns-then-is_empty-clause-compaction : goal.returns-then-is_empty-clause-compaction
-returns-then-is_empty-clause-compaction g c =
+pub returns-then-is_nothing-clause-compaction : goal.returns-then-is_nothing-clause-compaction
+returns-then-is_nothing-clause-compaction g c =
     let first = g.N.FeedName.first in
     let front : List Item = c.read_news.new.topic in
     let before = c.self.inside.out.value in
     let rest = c.self.inside.rest.items in
-    let takes : List Take = before.0 ++ (before.1 ++ rest) in
-    let caught : IsCaught first front takes c.self.inside.upto = c.followers_catch_up.ensures.stays first c.self.inside.topic front takes c.self.inside.upto c.read_news.ensures.longer c.self.invariant.1 in
-    let zero : length c.in_ok-found.found.records.items ≡ 0 = search rules in
-    let news : IsNews (held_of (topic_at first front)) c.self.inside.upto [] = subst (IsNews (held_of (topic_at first front)) c.self.inside.upto) (nil_from_length c.in_ok-found.found.records.items zero) c.in_ok-found.ensures.news in
-    let now : IsCaughtUp first front takes = c.followers_catch_up.ensures.no_news first front takes c.self.inside.upto caught news in
+    let ds : List Draw = before.0 ++ (before.1 ++ rest) in
+    let caught : IsCaught first front ds c.self.inside.upto = c.followers_catch_up.ensures.stays first c.self.inside.topic front ds c.self.inside.upto c.read_news.ensures.longer c.self.invariant.2 in
+    let records : List Record = c.in_ok-found.found.records.items in
+    let below : Option (List Record) = c.in_ok-found.found.below in
+    let news : IsNews (held_of (topic_at first front)) (floor_of ds) c.self.inside.upto below records =
+    subst (λ (f : ℕ). IsNews (held_of (topic_at first front)) f c.self.inside.upto below records) c.self.invariant.3 c.in_ok-found.ensures.news in
+    let found = c.followers_catch_up.ensures.news first front ds c.self.inside.upto below records c.self.invariant.1 caught news in
+    let no_base : below ≡ None = search rules in
+    let no_record : records ≡ [] = search rules in
+    let kept = (topic_at first front).kept in
+    let none : draws_of (length front) kept.floor below records ≡ [] = λ i. draws_of (length front) kept.floor (no_base i) (no_record i) in
+    let now : IsCaughtUp first front ds = subst (IsCaughtUp first front) (ap (λ (w : List Draw). ds ++ w) none ∙ append-nil ds) found.0 in
     now.compaction
 
-pub invariant_of-self-in_err-add_takes : goal.invariant_of-self-in_err-add_takes
-invariant_of-self-in_err-add_takes g c =
+pub invariant_of-self-in_err-add_draws : goal.invariant_of-self-in_err-add_draws
+invariant_of-self-in_err-add_draws g c =
     let first = g.N.FeedName.first in
     let front : List Item = c.read_news.new.topic in
     let before = c.self.inside.out.value in
     let rest = c.self.inside.rest.items in
-    let takes : List Take = before.0 ++ (before.1 ++ rest) in
-    let caught : IsCaught first front takes c.self.inside.upto = c.followers_catch_up.ensures.stays first c.self.inside.topic front takes c.self.inside.upto c.read_news.ensures.longer c.self.invariant.1 in
-    let same : rest ≡ c.add_takes.new.takes.items = sym {A = List Take} c.in_err-add_takes.ensures.refused in
-    (c.self.invariant.0, subst (λ (w : List Take). IsCaught first front (before.0 ++ (before.1 ++ w)) c.self.inside.upto) same caught)
+    let ds : List Draw = before.0 ++ (before.1 ++ rest) in
+    let caught : IsCaught first front ds c.self.inside.upto = c.followers_catch_up.ensures.stays first c.self.inside.topic front ds c.self.inside.upto c.read_news.ensures.longer c.self.invariant.2 in
+    let same : rest ≡ c.add_draws.new.draws.items = sym {A = List Draw} c.in_err-add_draws.ensures.refused in (
+      c.self.invariant.0,
+      c.self.invariant.1,
+      subst (λ (w : List Draw). IsCaught first front (before.0 ++ (before.1 ++ w)) c.self.inside.upto) same caught,
+      subst (λ (w : List Draw). c.self.inside.floor ≡ floor_of (before.0 ++ (before.1 ++ w))) same c.self.invariant.3,
+    )
 
 pub invariant_of-self-2 : goal.invariant_of-self-2
 invariant_of-self-2 g c =
@@ -62,16 +80,27 @@ invariant_of-self-2 g c =
     let front : List Item = c.read_news.new.topic in
     let before = c.self.inside.out.value in
     let rest = c.self.inside.rest.items in
-    let takes : List Take = before.0 ++ (before.1 ++ rest) in
-    let caught : IsCaught first front takes c.self.inside.upto = c.followers_catch_up.ensures.stays first c.self.inside.topic front takes c.self.inside.upto c.read_news.ensures.longer c.self.invariant.1 in
+    let ds : List Draw = before.0 ++ (before.1 ++ rest) in
+    let caught : IsCaught first front ds c.self.inside.upto = c.followers_catch_up.ensures.stays first c.self.inside.topic front ds c.self.inside.upto c.read_news.ensures.longer c.self.invariant.2 in
     let records : List Record = c.in_ok-found.found.records.items in
-    let more : List Take = takes_of (length front) records in
+    let below : Option (List Record) = c.in_ok-found.found.below in
+    let news : IsNews (held_of (topic_at first front)) (floor_of ds) c.self.inside.upto below records =
+    subst (λ (f : ℕ). IsNews (held_of (topic_at first front)) f c.self.inside.upto below records) c.self.invariant.3 c.in_ok-found.ensures.news in
+    let found = c.followers_catch_up.ensures.news first front ds c.self.inside.upto below records c.self.invariant.1 caught news in
+    let kept = (topic_at first front).kept in
+    let more : List Draw = draws_of (length front) kept.floor below records in
     let read : c.len-read.result ≡ length front = search rules in
-    let after : List Take = c.add_takes.new.takes.items in
-    let added : after ≡ rest ++ more = c.in_ok-add_takes.ensures.added ∙ ap (λ (n : ℕ). rest ++ takes_of n records) read in
-    let found = c.followers_catch_up.ensures.news first front takes c.self.inside.upto records caught c.in_ok-found.ensures.news in
-    let now : IsCaughtUp first front (before.0 ++ (before.1 ++ after)) = subst (IsCaughtUp first front) (more_behind before.0 before.1 rest more after added) found.0 in
-    (c.self.invariant.0, subst (IsCaught first front (before.0 ++ (before.1 ++ after))) (sym {A = ℕ} c.in_ok-found.ensures.next) now.caught)
+    let floor : c.in_ok-found.found.floor ≡ kept.floor = c.in_ok-found.ensures.floor in
+    let after : List Draw = c.add_draws.new.draws.items in
+    let added : after ≡ rest ++ more = c.in_ok-add_draws.ensures.added ∙ (λ i. rest ++ draws_of (read i) (floor i) below records) in
+    let same = more_behind before.0 before.1 rest more after added in
+    let now : IsCaughtUp first front (before.0 ++ (before.1 ++ after)) = subst (IsCaughtUp first front) same found.0 in
+    let is_floor : floor_of (ds ++ more) ≡ kept.floor = floor_after kept ds (length front) below records news.basis in (
+      c.self.invariant.0,
+      c.self.invariant.1,
+      subst (IsCaught first front (before.0 ++ (before.1 ++ after))) (sym {A = ℕ} c.in_ok-found.ensures.next) now.caught,
+      floor ∙ (sym is_floor ∙ ap floor_of same),
+    )
 
 pub returns-clause-pulled : goal.returns-clause-pulled
 returns-clause-pulled g c =
@@ -79,25 +108,34 @@ returns-clause-pulled g c =
     let front : List Item = c.read_news.new.topic in
     let before = c.self.inside.out.value in
     let rest = c.self.inside.rest.items in
-    let takes : List Take = before.0 ++ (before.1 ++ rest) in
-    let caught : IsCaught first front takes c.self.inside.upto = c.followers_catch_up.ensures.stays first c.self.inside.topic front takes c.self.inside.upto c.read_news.ensures.longer c.self.invariant.1 in
+    let ds : List Draw = before.0 ++ (before.1 ++ rest) in
+    let caught : IsCaught first front ds c.self.inside.upto = c.followers_catch_up.ensures.stays first c.self.inside.topic front ds c.self.inside.upto c.read_news.ensures.longer c.self.invariant.2 in
     let records : List Record = c.in_ok-found.found.records.items in
-    let more : List Take = takes_of (length front) records in
+    let below : Option (List Record) = c.in_ok-found.found.below in
+    let news : IsNews (held_of (topic_at first front)) (floor_of ds) c.self.inside.upto below records =
+    subst (λ (f : ℕ). IsNews (held_of (topic_at first front)) f c.self.inside.upto below records) c.self.invariant.3 c.in_ok-found.ensures.news in
+    let found = c.followers_catch_up.ensures.news first front ds c.self.inside.upto below records c.self.invariant.1 caught news in
+    let kept = (topic_at first front).kept in
+    let more : List Draw = draws_of (length front) kept.floor below records in
     let read : c.len-read.result ≡ length front = search rules in
-    let after : List Take = c.add_takes.new.takes.items in
-    let added : after ≡ rest ++ more = c.in_ok-add_takes.ensures.added ∙ ap (λ (n : ℕ). rest ++ takes_of n records) read in
-    let found = c.followers_catch_up.ensures.news first front takes c.self.inside.upto records caught c.in_ok-found.ensures.news in
-    let some : 0 < length records = search rules in
-    let pending : before.1 ++ after ≡ (before.1 ++ rest) ++ more = ap (λ (w : List Take). before.1 ++ w) added ∙ sym {A = List Take} (append_assoc before.1 rest more) in
+    let floor : c.in_ok-found.found.floor ≡ kept.floor = c.in_ok-found.ensures.floor in
+    let after : List Draw = c.add_draws.new.draws.items in
+    let added : after ≡ rest ++ more = c.in_ok-add_draws.ensures.added ∙ (λ i. rest ++ draws_of (read i) (floor i) below records) in
+    let same = more_behind before.0 before.1 rest more after added in
+    let now : IsCaughtUp first front (before.0 ++ (before.1 ++ after)) = subst (IsCaughtUp first front) same found.0 in
+    let pending : before.1 ++ after ≡ (before.1 ++ rest) ++ more = ap (λ (w : List Draw). before.1 ++ w) added ∙ sym {A = List Draw} (append_assoc before.1 rest more) in
+    let some : (read floor : ℕ) → draws_of read floor below records ≢ [] = search rules in
     let pulls : Pulls first front (before.0, before.1 ++ rest) (before.0, before.1 ++ after) = record {
+      below = below;
+      basis = news.basis;
       records = records;
-      from = c.self.inside.upto;
-      since = c.in_ok-found.ensures.news.since;
-      some = some;
+      from = max c.self.inside.upto kept.floor;
+      since = news.since;
+      some = some (length front) kept.floor;
       new = found.1;
-      pending = ap (λ (w : List Take). (before.0, w)) pending;
+      pending = ap (λ (w : List Draw). (before.0, w)) pending;
     } in
-    subst (λ (l : List Item × (List Take × List Take)). Pulls first front l.1 (before.0, before.1 ++ after)) c.self.view_is pulls
+    subst (λ (l : List Item × (List Draw × List Draw)). Pulls first front l.1 (before.0, before.1 ++ after)) c.self.view_is pulls
 
 pub returns-clause-compaction : goal.returns-clause-compaction
 returns-clause-compaction g c =
@@ -105,13 +143,19 @@ returns-clause-compaction g c =
     let front : List Item = c.read_news.new.topic in
     let before = c.self.inside.out.value in
     let rest = c.self.inside.rest.items in
-    let takes : List Take = before.0 ++ (before.1 ++ rest) in
-    let caught : IsCaught first front takes c.self.inside.upto = c.followers_catch_up.ensures.stays first c.self.inside.topic front takes c.self.inside.upto c.read_news.ensures.longer c.self.invariant.1 in
+    let ds : List Draw = before.0 ++ (before.1 ++ rest) in
+    let caught : IsCaught first front ds c.self.inside.upto = c.followers_catch_up.ensures.stays first c.self.inside.topic front ds c.self.inside.upto c.read_news.ensures.longer c.self.invariant.2 in
     let records : List Record = c.in_ok-found.found.records.items in
-    let more : List Take = takes_of (length front) records in
+    let below : Option (List Record) = c.in_ok-found.found.below in
+    let news : IsNews (held_of (topic_at first front)) (floor_of ds) c.self.inside.upto below records =
+    subst (λ (f : ℕ). IsNews (held_of (topic_at first front)) f c.self.inside.upto below records) c.self.invariant.3 c.in_ok-found.ensures.news in
+    let found = c.followers_catch_up.ensures.news first front ds c.self.inside.upto below records c.self.invariant.1 caught news in
+    let kept = (topic_at first front).kept in
+    let more : List Draw = draws_of (length front) kept.floor below records in
     let read : c.len-read.result ≡ length front = search rules in
-    let after : List Take = c.add_takes.new.takes.items in
-    let added : after ≡ rest ++ more = c.in_ok-add_takes.ensures.added ∙ ap (λ (n : ℕ). rest ++ takes_of n records) read in
-    let found = c.followers_catch_up.ensures.news first front takes c.self.inside.upto records caught c.in_ok-found.ensures.news in
-    let now : IsCaughtUp first front (before.0 ++ (before.1 ++ after)) = subst (IsCaughtUp first front) (more_behind before.0 before.1 rest more after added) found.0 in
+    let floor : c.in_ok-found.found.floor ≡ kept.floor = c.in_ok-found.ensures.floor in
+    let after : List Draw = c.add_draws.new.draws.items in
+    let added : after ≡ rest ++ more = c.in_ok-add_draws.ensures.added ∙ (λ i. rest ++ draws_of (read i) (floor i) below records) in
+    let same = more_behind before.0 before.1 rest more after added in
+    let now : IsCaughtUp first front (before.0 ++ (before.1 ++ after)) = subst (IsCaughtUp first front) same found.0 in
     now.compaction

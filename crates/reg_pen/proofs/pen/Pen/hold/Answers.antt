@@ -1,7 +1,10 @@
-use Rattle.std.proofs.Common.{rules, ◌≡◌, [], ◌∷◌, ◌++◌, option_to_list}
+use Rattle.std.proofs.Common.{rules, ◌≡◌, ℕ, List, [], ◌∷◌, ◌++◌, option_to_list, sym, subst}
+use Rattle.std.proofs.lemmas.List.{append-nil}
+use Rattle.reg_topic.specs.declared.published.Item.{Item}
 use Rattle.reg_topic.specs.Topic.{MayFollow, after_items}
 use Rattle.reg_shared.specs.Held.{base_of}
-use Rattle.reg_pen.specs.Pending.{is_lost}
+use Rattle.reg_pen.specs.Pending.{AreOf, after, is_lost}
+use Rattle.reg_pen.proofs.Ahead.{are_after_one, ends}
 use Rattle.reg_pen.proofs.Settling.{held_alone, held_pen, same_state}
 use Rattle.reg_pen.proofs.pen.Pen.hold.Goals as goal
 
@@ -11,7 +14,16 @@ invariant_of-self g c =
     let clear : s.writer.value.1 ++ option_to_list s.held ≡ [] = search rules in
     let may : MayFollow (after_items (base_of g.N.FeedName.first) s.writer.value.0) c.args.item = search rules in
     let held = held_pen (base_of g.N.FeedName.first) s.writer.value.0 s.writer.value.1 (option_to_list s.held) c.args.item c.args.pending c.self.invariant.0 clear may c.requires.pending in
-    (held.0, held.1, c.self.invariant.2)
+    let xs : List Item = s.writer.value.0 in
+    let here : AreOf (after_items (base_of g.N.FeedName.first) xs) s.floor s.next =
+    subst (λ (ys : List Item). AreOf (after_items (base_of g.N.FeedName.first) ys) s.floor s.next) (append-nil xs)
+    (subst (λ (ys : List Item). AreOf (after_items (base_of g.N.FeedName.first) (xs ++ ys)) s.floor s.next) clear c.self.invariant.3) in
+    let turn = c.lawful_items_follow.ensures.in_turn in
+    let ahead = are_after_one c.commits_follow.ensures turn (base_of g.N.FeedName.first) xs c.args.item s.floor s.next may here in
+    let alone : s.writer.value.1 ++ c.args.item ∷ [] ≡ c.args.item ∷ [] = held_alone s.writer.value.1 (option_to_list s.held) c.args.item clear in
+    let now : AreOf (after_items (base_of g.N.FeedName.first) (xs ++ (s.writer.value.1 ++ c.args.item ∷ []))) (after c.args.item s.floor s.next).0 (after c.args.item s.floor s.next).1 =
+    subst (λ (ys : List Item). AreOf (after_items (base_of g.N.FeedName.first) (xs ++ ys)) (after c.args.item s.floor s.next).0 (after c.args.item s.floor s.next).1) (sym alone) ahead in
+    (held.0, held.1, c.self.invariant.2, subst (λ (p : ℕ × ℕ). AreOf (after_items (base_of g.N.FeedName.first) (xs ++ (s.writer.value.1 ++ c.args.item ∷ []))) p.0 p.1) (sym c.after.ensures) now)
 
 pub returns : goal.returns
 returns g c =
@@ -21,3 +33,14 @@ returns g c =
     let published : s.writer.value.0 ≡ c.args.self.now.published = search rules in
     let keep : s.keep ≡ c.args.self.now.keep = search rules in
     same_state s.writer.value.0 c.args.self.now.published (s.writer.value.1 ++ c.args.item ∷ []) (c.args.item ∷ []) (is_lost c.args.pending) s.keep c.args.self.now.keep published alone keep
+
+pub after-requires : goal.after-requires
+after-requires g c =
+    let s = c.self.inside in
+    let clear : s.writer.value.1 ++ option_to_list s.held ≡ [] = search rules in
+    let may : MayFollow (after_items (base_of g.N.FeedName.first) s.writer.value.0) c.args.item = search rules in
+    let xs : List Item = s.writer.value.0 in
+    let here : AreOf (after_items (base_of g.N.FeedName.first) xs) s.floor s.next =
+    subst (λ (ys : List Item). AreOf (after_items (base_of g.N.FeedName.first) ys) s.floor s.next) (append-nil xs)
+    (subst (λ (ys : List Item). AreOf (after_items (base_of g.N.FeedName.first) (xs ++ ys)) s.floor s.next) clear c.self.invariant.3) in
+    ends c.commits_follow.ensures (after_items (base_of g.N.FeedName.first) xs) c.args.item s.floor s.next may here

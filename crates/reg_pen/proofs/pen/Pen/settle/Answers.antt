@@ -2,9 +2,10 @@ use Rattle.std.proofs.Common.{rules, ◌≡◌, ◌+◌, List, [], ◌++◌, Non
 use Rattle.reg_topic.specs.declared.published.Item.{Item}
 use Rattle.reg_shared.specs.Held.{base_of}
 use Rattle.reg_pen.specs.Pen.{IsPen, batches}
-use Rattle.reg_pen.specs.Pending.{batches_in}
+use Rattle.reg_topic.specs.Topic.{after_items}
+use Rattle.reg_pen.specs.Pending.{AreOf, batches_in}
 use Rattle.reg_pen.proofs.Batches.{batches_length, with_pending}
-use Rattle.reg_pen.proofs.Settling.{handed_over, none_pending, settled_pen}
+use Rattle.reg_pen.proofs.Settling.{all_published as all, handed_over, none_pending, settled_pen}
 use Rattle.reg_pen.proofs.pen.Pen.settle.Goals as goal
 
 pub with_batch-self-inside-requires : goal.with_batch-self-inside-requires
@@ -32,5 +33,9 @@ invariant_of-self-2 g c =
     let clear = none_pending c.publish.new.self.1 c.hand_over.new.held rest none in
     let count : c.with_batch-self-inside.result ≡ batches (xs ++ ys) =
     c.with_batch-self-inside.ensures ∙ (ap (λ n. n + batches_in c.self.inside.pending) c.self.invariant.2 ∙ sym (with_pending c.self.inside.pending xs ys c.self.invariant.1)) in
-    let pen = settled_pen c.lawful_items_follow.ensures.go_on (base_of g.N.FeedName.first) xs ys c.self.invariant.0 in
-    (subst (λ (w : List Item). IsPen (base_of g.N.FeedName.first) c.publish.new.self.0 w) (sym clear) (subst (λ (w : List Item). IsPen (base_of g.N.FeedName.first) w []) (sym whole) pen), clear, count ∙ ap batches (sym whole))
+    let pen = settled_pen c.lawful_items_follow.ensures.go_on (base_of g.N.FeedName.first) xs ys c.self.invariant.0 in (
+      subst (λ (w : List Item). IsPen (base_of g.N.FeedName.first) c.publish.new.self.0 w) (sym clear) (subst (λ (w : List Item). IsPen (base_of g.N.FeedName.first) w []) (sym whole) pen),
+      clear,
+      count ∙ ap batches (sym whole),
+      subst (λ (w : List Item). AreOf (after_items (base_of g.N.FeedName.first) w) c.self.inside.floor c.self.inside.next) (sym (all c.publish.new.self.0 (c.publish.new.self.1 ++ option_to_list c.hand_over.new.held) (xs ++ ys) whole clear)) c.self.invariant.3,
+    )

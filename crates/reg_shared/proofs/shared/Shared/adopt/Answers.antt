@@ -13,7 +13,7 @@ pub returns-clause-held : goal.returns-clause-held
 returns-clause-held c =
     let b = c.args.base.now in
     let log : c.in_ok-log.log ≡ from_list b.records.items = c.in_ok-log.ensures ∙ ap from_list c.deref.ensures.value in
-    held_begun b.records.items b.next c.in_ok-shared.shared c.take_batch.new.self _ c.in_ok-shared.ensures
+    held_begun b.records.items b.next b.floor c.in_ok-shared.shared c.take_batch.new.self _ c.in_ok-shared.ensures
     (c.deref-2.ensures.value ∙ (c.in_ok-registry.ensures.due ∙ ap (λ (s : Records). adopting (last_records s) b.next) log))
     c.in_ok-take_batch.ensures.taken
 

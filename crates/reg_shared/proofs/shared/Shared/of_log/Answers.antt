@@ -39,4 +39,4 @@ returns c =
     let are : lasts ≡ last_records (from_list rs) = c.requires.registry ∙ ap last_records c.in_ok-by_offset.ensures.members in
     let older = c.in_ok-older.ensures ∙ ap (filter (λ r. not (contains lasts r))) c.deref.ensures.value in
     let kept : kept_of lasts c.in_ok-older.older.items ≡ from_list rs = ap (kept_of lasts) older ∙ adopted_is o.all o.apart lasts rs are in
-    ap (λ (k : Records). let h : Held = record { kept = k; next = b.next } in h) (kept ∙ (sym c.in_ok-by_offset.ensures.members ∙ log))
+    ap (λ (k : Records). let h : Held = record { kept = record { records = k; floor = b.floor }; next = b.next; compacted = b.floor } in h) (kept ∙ (sym c.in_ok-by_offset.ensures.members ∙ log))

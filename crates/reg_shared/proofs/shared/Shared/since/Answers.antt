@@ -21,7 +21,7 @@ returns-clause-all c =
     c.in_ok-found.ensures
     ∙ (ap (λ (l : List Record). filter (λ r. contains lasts r || contains (from_list {R = record_cmp} l) r) c.since-later.result.now) c.deref-2.ensures.value
     ∙ ap (filter (λ r. contains lasts r || contains (from_list {R = record_cmp} older) r)) later) in
-    subst (λ (h : Held). IsSince h.kept c.args.from c.in_ok-found.found.items) c.self.view_is
+    subst (λ (h : Held). IsSince h.kept.records c.args.from c.in_ok-found.found.items) c.self.view_is
     (since_is o.all o.apart lasts older xs c.in_ok-found.found.items c.args.from c.self.invariant.among is)
 
 pub returns-clause-below : goal.returns-clause-below

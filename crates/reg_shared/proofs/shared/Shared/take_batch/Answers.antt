@@ -50,6 +50,6 @@ returns-clause-taken c =
     ap (kept_of c.grow.new.registry) c.in_ok-grow.ensures.older
     ∙ grown_is o.all o.apart o.keys o.keys_apart c.last_is_greatest.ensures.greatest c.merging_joins_sets.ensures.last c.last_records_are_enough.ensures.last_of_last
     whole lasts c.grow.new.registry older batch refl c.self.invariant.of_kept after in
-    let here : Held = record { kept = whole; next = next } in
-    let there : Held = record { kept = kept_of c.grow.new.registry c.grow.new.older.items; next = next + length batch } in
+    let here : Held = record { kept = record { records = whole; floor = c.self.inside.floor }; next = next; compacted = c.self.inside.compacted } in
+    let there : Held = record { kept = record { records = kept_of c.grow.new.registry c.grow.new.older.items; floor = c.self.inside.floor }; next = next + length batch; compacted = c.self.inside.compacted } in
     subst (λ (h : Held). there ≡ held_after_batch (follows h.next batch) h batch) c.self.view_is (held_grown here batch (follows next batch) (kept_of c.grow.new.registry c.grow.new.older.items) go kept)

@@ -1,0 +1,120 @@
+// What is new in the kept set of some published list of the topic.
+ghost use Rattle.std.specs.Prelude.{◌≡◌, ◌≢◌, ◌+◌, ◌≤◌, ◌++◌, ℕ, [], None, IfOk, MatchBool, OnErr, OnOk, length};
+ghost use Rattle.std.specs.VecDeque.{deque_capacity, deque_len};
+ghost use mathlib.Core.List.{IsPrefix};
+ghost use Rattle.reg_shared.specs.Held.{IsBelow, held_of, topic_at};
+ghost use Rattle.reg_node.specs.Caught.{IsNews};
+ghost use Rattle.reg_node.specs.Takes.{IsBasis, draws_of, takes_of};
+
+use crate::take::{Draw, Rebase, Take};
+use base_text::Listed;
+use reg_feed::{Copies, FeedName, FeedReader};
+use reg_records::Record;
+use reg_shared::{Shared, published_lists_fold};
+use reg_topic::Item;
+use std::alloc::AllocError;
+use std::collections::VecDeque;
+
+/// What is to be drawn: the kept records below the kept floor, for a rebase, where the floors differ, and
+/// those that are new, with the next offset and that floor beside them.
+#[derive(Drop)]
+pub(crate) struct News {
+    pub(crate) below: Option<Listed<Record>>,
+    pub(crate) records: Vec<Record>,
+    pub(crate) next: u64,
+    pub(crate) floor: u64,
+}
+
+impl News {
+    /// Whether nothing is to be drawn.
+    #[tactic(auto, using(crate::proofs::Drawn::draws_none))]
+    pub(crate) fn is_nothing(&self) -> bool
+        ensures { MatchBool result ((self.now.below ≡ None) × (self.now.records.items ≡ []))
+            ((read floor : ℕ) → draws_of read floor self.now.below self.now.records.items ≢ []) }
+    {
+        match &self.below {
+            Some(_base) => false,
+            None => self.records.is_empty(),
+        }
+    }
+}
+
+/// What is new for a node that has that floor, from an offset on. The only error is want of memory, or
+/// that the pen is gone.
+pub(crate) fn read_news<N: FeedName<Item, Shared>, S: Copies<Item, Shared, N>>(
+    topic: &mut FeedReader<Item, Shared, N, S>,
+    from: u64,
+    floor: u64,
+) -> Result<News, AllocError>
+    ensures news { IfOk result (λ news. IsNews (held_of (topic_at N.first topic.new)) floor from news.below news.records.items) }
+    ensures next { IfOk result (λ news. news.next ≡ (topic_at N.first topic.new).next) }
+    ensures floor { IfOk result (λ news. news.floor ≡ (topic_at N.first topic.new).kept.floor) }
+    ensures longer { IsPrefix topic.old topic.new }
+{
+    published_lists_fold();
+    let found = topic.read(
+        |shared| -> Result<News, AllocError>
+            ensures { IfOk result (λ news. IsNews shared.now floor from news.below news.records.items
+                × (news.next ≡ shared.now.next) × (news.floor ≡ shared.now.kept.floor)) }
+        { copy_news(shared, from, floor) },
+    );
+    match found {
+        Some(news) => news,
+        None => Err(AllocError),
+    }
+}
+
+/// What is new from an offset on. The only error is want of memory.
+fn copy_news(shared: &Shared, from: u64, floor: u64) -> Result<News, AllocError>
+    ensures { IfOk result (λ news. IsNews shared.now floor from news.below news.records.items
+        × (news.next ≡ shared.now.next) × (news.floor ≡ shared.now.kept.floor)) }
+{
+    let below = copy_below(shared, floor)?;
+    Ok(News {
+        below,
+        records: shared.since(from.max(shared.floor()))?,
+        next: shared.next(),
+        floor: shared.floor(),
+    })
+}
+
+/// The kept records below the kept floor, if that isn't the given one. The only error is want of memory.
+fn copy_below(shared: &Shared, floor: u64) -> Result<Option<Listed<Record>>, AllocError>
+    ensures { IfOk result (λ below. IsBasis shared.now.kept floor below) }
+{
+    if shared.floor() == floor {
+        return Ok(None);
+    }
+    let below = shared.below(shared.floor())?;
+    Ok(Some(Listed::from(below)))
+}
+
+/// Adds a rebase, if there are records for one, and a take of each record behind them, or nothing. The
+/// only error is want of memory.
+pub(crate) fn add_draws(
+    draws: &mut VecDeque<Draw>,
+    read: u64,
+    floor: u64,
+    below: Option<Listed<Record>>,
+    records: Vec<Record>,
+) -> Result<(), AllocError>
+    ensures added { OnOk result (draws.new.items ≡ draws.old.items ++ draws_of read floor below records.items) }
+    ensures refused { OnErr result (draws.new.items ≡ draws.old.items) }
+{
+    draws.reserve(records.len() + 1)?;
+    if let Some(below) = below {
+        draws.push_back_reserved(Draw::Rebase(Rebase { read, floor, below }));
+    }
+    push_takes(draws, read, records);
+    Ok(())
+}
+
+/// Adds a take of each record behind them, where there is room.
+fn push_takes(draws: &mut VecDeque<Draw>, read: u64, records: Vec<Record>)
+    requires { deque_len draws.old + length records.items ≤ deque_capacity draws.old }
+    ensures { draws.new.items ≡ draws.old.items ++ takes_of read records.items }
+{
+    for kept in records {
+        draws.push_back_reserved(Draw::Take(Take { read, kept }));
+    }
+}

@@ -1,0 +1,10 @@
+use Rattle.std.proofs.Common.{◌≡◌, ◌++◌, ◌&&◌, drop}
+use Rattle.std.specs.FinSet.{contains}
+use Rattle.std.specs.List.{filter}
+use Rattle.reg_set.specs.Compaction.{deletes_below}
+use Rattle.reg_shared.proofs.kept.copy_deletes.Given as goal
+
+abbrev pub invariant-loop-record : goal.invariant-loop-record
+invariant-loop-record l =
+    l.found.items ++ filter (λ r. deletes_below l.floor r && contains l.registry r) (drop l.record-index l.records)
+    ≡ filter (λ r. deletes_below l.floor r && contains l.registry r) l.records
