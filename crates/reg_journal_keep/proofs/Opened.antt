@@ -1,5 +1,5 @@
 -- What opening a pen leaves in the file.
-use Rattle.std.proofs.Common.{◌≡◌, ℕ, List, [], ◌∷◌, ◌++◌, Result, Ok, Err, refl, sym, ap, subst₂, ◌∙◌, append-nil}
+use Rattle.std.proofs.Common.{◌≡◌, ℕ, List, [], ◌∷◌, Result, Ok, Err, refl, sym, ap, subst₂, ◌∙◌, append-nil}
 use Rattle.reg_journal.specs.Lines.{Said, said, with_batch}
 use Rattle.reg_journal.specs.declared.journal.Journal.{Journal}
 use Rattle.reg_keeping.specs.Said.{BatchesFollowCompactions, EachSaysItsOwnCompaction, SaysCompaction}
@@ -23,5 +23,5 @@ opened itself follow is_modelled moment left_since seen modelled whole old new (
     let now = keeps.ends.1 modelled in
     subst₂ SaysCompaction
     (ap (with_batch (r ∷ rs)) is ∙ sym (no_more (with_batch (r ∷ rs) (Ok whole))))
-    (sym now.2)
-    (follow (r ∷ rs) (said (seen old.disk)) now.0 now.1)
+    (sym now.3)
+    (follow (r ∷ rs) (said (seen old.disk)) now.0 now.1 now.2)

@@ -1,16 +1,19 @@
 -- What making room and appending leave of a journal.
-use Rattle.std.proofs.Common.{◌≡◌, inl, ⊎_elim, ℕ, Bool, true, false, List, [], Result, Ok, Err, refl, sym, ap, subst, ◌∙◌}
+use Rattle.std.proofs.Common.{◌≡◌, ◌≤◌, inl, ⊎_elim, ℕ, Bool, true, false, List, [], ◌∷◌, Option, Some, Result, Ok, Err, arith, refl, sym, ap, subst, ◌∙◌}
+use Rattle.std.proofs.lemmas.List.Elements.{All-cons, All-head, All-nil, All-tail}
+use Rattle.std.specs.List.{All}
+use Rattle.std.specs.Prelude.{IfOk}
 use Rattle.std.specs.Result.{result_map_both}
 use Rattle.reg_journal.specs.Disk.{LeavesOnly}
 use Rattle.reg_journal.specs.Journal.{IsSettled}
-use Rattle.reg_journal.specs.Lines.{EndedLinesAreRead, IsBeforeOrAfter, Said, said}
+use Rattle.reg_journal.specs.Lines.{EndedLinesAreRead, IsBeforeOrAfter, Said, said, with_batch}
 use Rattle.reg_journal.specs.Refusals.{is_refusal}
 use Rattle.reg_journal.specs.declared.journal.AppendError.{AppendError}
 use Rattle.reg_journal.specs.declared.journal.AppendError.TheVariants as errors
 use Rattle.reg_journal.specs.declared.journal.Journal.{Journal}
 use Rattle.reg_journal.proofs.Moments.{joined, started, weaker}
 use Rattle.reg_keeping.specs.InPlace.{IsBeforeOrCompacted}
-use Rattle.reg_keeping.specs.Said.{CompactedFilesSayIt, EachSaysItsOwnCompaction, SaysCompaction}
+use Rattle.reg_keeping.specs.Said.{CompactedFilesSayIt, EachSaysItsOwnCompaction, IsFromFloor, SaysCompaction}
 use Rattle.reg_records.specs.Log.{LogText, log_of}
 use Rattle.reg_records.specs.declared.log.LogFault.{LogFault}
 use Rattle.reg_records.specs.declared.record.Record.{Record}
@@ -26,32 +29,73 @@ module _ {D : Type 0} (seen : D → List ℕ) (may_leave : D → List ℕ → Ty
       let says : said (seen disk) ≡ Ok (record { floor = s.floor; reads = s.read }) = ap of_log (ap log_of s.file ∙ ended s.lines s.floor s.read [] s.say s.few) in
       subst (λ (found : Result Said (ℕ × LogFault)). SaysCompaction found found) (sym says) (itself (record { floor = s.floor; reads = s.read }))
 
-  pub says_left : CompactedFilesSayIt → (file : List ℕ) → IsBeforeOrCompacted (seen disk) file → SaysCompaction (said (seen disk)) (said file)
-  says_left compacted file left =
+  pub says_left : CompactedFilesSayIt → (floor : Option ℕ) (file : List ℕ) → IsBeforeOrCompacted floor (seen disk) file → SaysCompaction (said (seen disk)) (said file)
+  says_left compacted floor file left =
       ⊎_elim
       (λ same. subst (λ (found : Result Said (ℕ × LogFault)). SaysCompaction (said (seen disk)) found) (sym same) says_itself)
-      (λ is. compacted (seen disk) file is)
+      (λ is. compacted floor (seen disk) file is)
       left
 
   -- what a crash leaves of it
   pub says_on_disk : (file : List ℕ) → may_leave disk file → SaysCompaction (said (seen disk)) (said file)
   says_on_disk file left = subst (λ (f : List ℕ). SaysCompaction (said (seen disk)) (said f)) (sym (s.durable file left)) says_itself
 
--- what compacting in place leaves of a journal, which contracts see as another one
+-- what compacting in place leaves of a journal
 module _ {D : Type 0} (known : D → Type 0) (seen : D → List ℕ) (may_leave : D → List ℕ → Type 0) (moment : D → ℕ) (left_since : D → ℕ → List ℕ → Type 0)
-    (ended : EndedLinesAreRead) (itself : EachSaysItsOwnCompaction) (compacted : CompactedFilesSayIt) (inside view new : Journal D) (is : inside ≡ view)
-    (ready : known inside.disk × IsSettled seen may_leave inside.disk inside.end inside.lines) where
-  left_of : (file : List ℕ) → IsBeforeOrCompacted (seen inside.disk) file → SaysCompaction (said (seen inside.disk)) (said file)
-  left_of file left = says_left seen may_leave ended itself inside.disk inside.end inside.lines ready.1 compacted file left
+    (ended : EndedLinesAreRead) (itself : EachSaysItsOwnCompaction) (compacted : CompactedFilesSayIt) (floor : Option ℕ) (old new : Journal D)
+    (ready : known old.disk × IsSettled seen may_leave old.disk old.end old.lines) where
+  left_of : (file : List ℕ) → IsBeforeOrCompacted floor (seen old.disk) file → SaysCompaction (said (seen old.disk)) (said file)
+  left_of file left = says_left seen may_leave ended itself old.disk old.end old.lines ready.1 compacted floor file left
 
-  pub room_left : IsBeforeOrCompacted (seen inside.disk) (seen new.disk) → SaysCompaction (said (seen view.disk)) (said (seen new.disk))
-  room_left left = subst (λ (j : Journal D). SaysCompaction (said (seen j.disk)) (said (seen new.disk))) is (left_of (seen new.disk) left)
+  pub room_left : IsBeforeOrCompacted floor (seen old.disk) (seen new.disk) → SaysCompaction (said (seen old.disk)) (said (seen new.disk))
+  room_left left = left_of (seen new.disk) left
 
-  pub moments_left : LeavesOnly moment left_since inside.disk new.disk (IsBeforeOrCompacted (seen inside.disk))
-      → LeavesOnly moment left_since view.disk new.disk (says_compaction (said (seen view.disk)))
+  pub moments_left : LeavesOnly moment left_since old.disk new.disk (IsBeforeOrCompacted floor (seen old.disk))
+      → LeavesOnly moment left_since old.disk new.disk (says_compaction (said (seen old.disk)))
   moments_left leaves =
-      subst (λ (j : Journal D). LeavesOnly moment left_since j.disk new.disk (says_compaction (said (seen j.disk)))) is
-      (weaker moment left_since inside.disk new.disk (IsBeforeOrCompacted (seen inside.disk)) (says_compaction (said (seen inside.disk))) leaves left_of)
+      weaker moment left_since old.disk new.disk (IsBeforeOrCompacted floor (seen old.disk)) (says_compaction (said (seen old.disk))) leaves left_of
+
+-- ---- the floor that is said
+
+abbrev Outcome : Type 0
+Outcome = Result Said (ℕ × LogFault)
+
+abbrev IsUpTo : ℕ → Outcome → Type 0
+IsUpTo floor found = IfOk found (λ says. says.floor ≤ floor)
+
+-- compacting to a floor leaves none that is higher
+pub floor_left : (floor asked : ℕ) (before file : List ℕ) → asked ≤ floor → IsBeforeOrCompacted (Some asked) before file → IsUpTo floor (said before) → IsUpTo floor (said file)
+floor_left floor asked before file most left low =
+    ⊎_elim
+    (λ same. subst (λ (found : Outcome). IsUpTo floor found) (sym same) low)
+    (λ is. ⊎_elim
+    (λ to. subst (λ (found : Outcome). IsUpTo floor found) (sym (ap of_log to.read_back)) (omega (arith, to.floor, most)))
+    (λ own.
+    let it = own.1 in
+    let was : it.log.floor ≤ floor = subst (λ (found : Outcome). IsUpTo floor found) (ap of_log it.read) low in
+    subst (λ (found : Outcome). IsUpTo floor found) (sym (ap of_log it.read_back)) (omega (arith, it.floor, was)))
+    is)
+    left
+
+-- a batch behind it says none
+pub floor_behind : (floor : ℕ) (batch : List Record) (before now : Outcome) → now ≡ with_batch batch before → IsUpTo floor before → IsUpTo floor now
+floor_behind floor batch (Ok says) now is low = subst (λ (found : Outcome). IsUpTo floor found) (sym is) low
+floor_behind floor batch (Err fault) now is low = subst (λ (found : Outcome). IsUpTo floor found) (sym is) tt
+
+pub floor_up : (low high : ℕ) (found : Outcome) → low ≤ high → IsUpTo low found → IsUpTo high found
+floor_up low high (Ok says) most is = omega (arith, most, is)
+floor_up low high (Err fault) most is = tt
+
+all_from : (low high : ℕ) (batch : List Record) → low ≤ high → All (λ r. high ≤ r.offset) batch → All (λ r. low ≤ r.offset) batch
+all_from low high [] most all = All-nil (λ r. low ≤ r.offset)
+all_from low high (r ∷ batch) most all =
+    let first : high ≤ r.offset = All-head (λ r. high ≤ r.offset) r batch all in
+    All-cons (λ r. low ≤ r.offset) r batch (omega (arith, first, most)) (all_from low high batch most (All-tail (λ r. high ≤ r.offset) r batch all))
+
+-- none of a batch from the known floor on is below the floor that is said
+pub from_floor : (floor : ℕ) (batch : List Record) (found : Outcome) → All (λ r. floor ≤ r.offset) batch → IsUpTo floor found → IsFromFloor batch found
+from_floor floor batch (Ok says) all low = all_from says.floor floor batch low all
+from_floor floor batch (Err fault) all low = tt
 
 -- nothing was done
 module _ {D : Type 0} (known : D → Type 0) (seen : D → List ℕ) (may_leave : D → List ℕ → Type 0) (moment : D → ℕ) (left_since : D → ℕ → List ℕ → Type 0)

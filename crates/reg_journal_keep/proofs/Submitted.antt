@@ -51,8 +51,8 @@ module _ {D : Type 0} (across : SaidCompactionsCompose) (follow : BatchesFollowC
       subst₂ SaysCompaction
       (both_said (batched published) batch first
       ∙ ap (λ (l : List Record). with_batch l first) (ap (λ (l : List Record). batched published ++ l) (sym same) ∙ sym (batched_both published is)))
-      (sym now.2)
-      (follow batch (with_batch (batched published) first) now.0 before)
+      (sym now.3)
+      (follow batch (with_batch (batched published) first) now.0 before now.2)
 
   -- what becomes of a batch that is lent, where nothing is pending
   lent : (kept : Kept) (keep : Journal D) (published : List Item) (old : Journal D) (is : List Item) (batch : List Record) (replied unsettled reply : Reply) (m : PenState (Journal D))

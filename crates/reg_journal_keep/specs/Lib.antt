@@ -1,3 +1,4 @@
 pub mod Keeping
 pub mod Published
 pub mod Room
+pub mod Upkeep

@@ -3,7 +3,7 @@ use Rattle.std.specs.Prelude.{ℕ, ◌+◌, ◌-◌, ◌*◌, ◌/◌, max, min,
 use Rattle.reg_records.specs.declared.limits.TheConstants.{LOG_LINES}
 use Rattle.reg_journal_keep.specs.declared.room.Room.{Room}
 
--- the lines are counted again where there are a quarter more, and twice as many as weren't superseded
+-- the lines are counted again where there are a quarter more, and twice as many as would have stayed
 abbrev pub next_count : ℕ → ℕ → ℕ
 next_count kept lines = max (min (lines + lines / 4) (2 ^ 64 - 1)) (min (kept * 2) (2 ^ 64 - 1))
 

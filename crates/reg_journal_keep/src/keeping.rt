@@ -1,51 +1,52 @@
 // A keep that appends each batch to a log in a file.
-ghost use Rattle.std.specs.Prelude.{◌≡◌, ◌↔◌, All, IsTrue, true, false};
+ghost use Rattle.std.specs.Prelude.{◌≡◌, ◌↔◌, ◌≤◌, All, IsTrue, true, false};
 ghost use Rattle.reg_records.specs.Written.{HasLine};
 ghost use Rattle.reg_journal.specs.Disk.{LeavesOnly};
 ghost use Rattle.reg_journal.specs.Journal.{IsReady};
 ghost use Rattle.reg_journal.specs.Lines.{said};
-ghost use Rattle.reg_journal_keep.specs.Keeping.{KeepsFile, MakesRoom, kept_of, says_compaction};
+ghost use Rattle.reg_journal_keep.specs.Keeping.{HasFloorUpTo, KeepsFile, MakesRoom, kept_of, says_compaction};
 
-use crate::room::Room;
+use crate::upkeep::{Upkeep, make_room};
 use reg_journal::{AppendError, Journal, Renewable, lines_are_logs};
-use reg_keeping::{CompactError, compact_superseded, compactions_stand_for_logs};
+use reg_keeping::{CompactError, compactions_stand_for_logs};
 use reg_pen::{Keep, Kept, Lack};
 use reg_records::{Record, has_line};
 use std::alloc::Global;
 use std::marker::Model;
 
 /// A keep over a journal: a batch that is taken stands in the file, and is on the disk. The file is compacted where
-/// many of its lines are superseded. Contracts see the journal.
+/// many of its lines would go: those that others supersede, and deletes that were there before the compaction before.
+/// Contracts see the journal.
 #[derive(Drop)]
 pub struct FileKeep<D: Renewable + Drop> {
     alloc: Global,
     journal: Journal<D>,
-    room: Room,
-    fault: Option<CompactError>,
+    upkeep: Upkeep,
 }
 
 impl<D: Renewable + Drop> Model for FileKeep<D> {
     ghost use Rattle.reg_journal.specs.Journal.{IsReady};
     ghost use Rattle.reg_journal.specs.declared.journal.Journal.{Journal};
+    ghost use Rattle.reg_journal_keep.specs.Keeping.{HasFloorUpTo};
 
     ghost Value = { Journal D };
 
     ghost view = { λ k. k.journal };
 
-    ghost invariant = { λ k. D.is_modelled → IsReady D.known D.seen D.may_leave k.journal };
+    ghost invariant = { λ k. D.is_modelled → IsReady D.known D.seen D.may_leave k.journal × HasFloorUpTo D.seen k.upkeep.floor k.journal };
 }
 
 impl<D: Renewable + Drop> FileKeep<D> {
-    /// A keep over a journal.
-    pub fn new(alloc: Global, journal: Journal<D>) -> FileKeep<D>
-        requires { D.is_modelled → IsReady D.known D.seen D.may_leave journal }
+    /// A keep over a journal whose file has that floor and that next offset.
+    pub fn new(alloc: Global, journal: Journal<D>, floor: u64, next: u64) -> FileKeep<D>
+        requires ready { D.is_modelled → IsReady D.known D.seen D.may_leave journal }
+        requires floor { D.is_modelled → HasFloorUpTo D.seen floor journal }
         ensures { result ≡ journal }
     {
         FileKeep {
             alloc,
             journal,
-            room: Room::new(),
-            fault: None,
+            upkeep: Upkeep::new(floor, next),
         }
     }
 
@@ -58,7 +59,7 @@ impl<D: Renewable + Drop> FileKeep<D> {
 
     /// Why the file couldn't be compacted when that was tried last, if it couldn't.
     pub fn compaction_fault(&self) -> Option<CompactError> {
-        self.fault
+        self.upkeep.fault
     }
 
     /// Compacts the file where that is due before a batch of so many lines is appended. A crash at any moment leaves a
@@ -68,24 +69,7 @@ impl<D: Renewable + Drop> FileKeep<D> {
         ensures any_moment { D.is_modelled → self.old.is_broken ≡ false → LeavesOnly D.moment D.left_since self.old.disk self.new.disk (says_compaction (said (D.seen self.old.disk))) }
         ensures broken { self.old.is_broken ≡ true → self.new ≡ self.old }
     {
-        if self.journal.is_broken {
-            return;
-        }
-        lines_are_logs();
-        compactions_stand_for_logs();
-        let Some(least) = self.room.due(self.journal.lines, lines) else {
-            return;
-        };
-        match compact_superseded(self.alloc, &mut self.journal, least) {
-            Ok(kept) => {
-                self.room = Room::counted(kept, self.journal.lines);
-                self.fault = None;
-            }
-            Err(error) => {
-                self.room.wait();
-                self.fault = Some(error);
-            }
-        }
+        make_room(self.alloc, &mut self.journal, &mut self.upkeep, lines);
     }
 }
 
@@ -98,12 +82,20 @@ impl<D: Renewable + Drop> Keep for FileKeep<D> {
         if self.journal.is_broken {
             return Kept::Lost;
         }
-        if !have_lines(batch) {
+        if !have_lines(batch) || !are_from(batch, self.upkeep.floor) {
             return Kept::Declined(Lack::Numbers);
         }
-        self.make_room(batch.len() as u64);
+        make_room(
+            self.alloc,
+            &mut self.journal,
+            &mut self.upkeep,
+            batch.len() as u64,
+        );
         match self.journal.append(self.alloc, batch) {
-            Ok(()) => Kept::Taken,
+            Ok(()) => {
+                self.upkeep.append(batch);
+                Kept::Taken
+            }
             Err(error) => kept_of(error),
         }
     }
@@ -114,6 +106,13 @@ fn have_lines(batch: &[Record]) -> bool
     ensures { IsTrue result ↔ All HasLine batch.now }
 {
     batch.iter().all(|given| has_line(given))
+}
+
+/// Whether no record is below the floor.
+fn are_from(batch: &[Record], floor: u64) -> bool
+    ensures { IsTrue result ↔ All (λ r. floor ≤ r.offset) batch.now }
+{
+    batch.iter().all(|given| floor <= given.offset)
 }
 
 /// What became of a batch that isn't acknowledged.

@@ -4,6 +4,7 @@
 mod keeping;
 mod laws;
 mod room;
+mod upkeep;
 
 pub use keeping::FileKeep;
 pub use laws::{opens_keep_the_file, submits_keep_the_file};

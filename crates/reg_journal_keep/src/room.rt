@@ -1,6 +1,7 @@
-// When the file of a keep is compacted. To count the lines that are superseded takes a reading of the whole file, so
-// what was counted last is used as long as it tells enough: a line that no other supersedes has a key of its own, and
-// no key ever goes, so later there are never fewer of them.
+// When the file of a keep is compacted. To count the lines that would go takes a reading of the whole file, so what was
+// counted last is used as long as it tells enough: of the keys whose lines would stay none goes before the floor to which
+// the file is compacted rises, so until then there are never fewer such lines. A compaction raises it, and then nothing is
+// known of the deletes that were kept.
 ghost use Rattle.std.specs.Prelude.{◌≡◌};
 ghost use Rattle.reg_journal_keep.specs.Room.{due, due_now, next_count, tenth, waited};
 
@@ -15,7 +16,7 @@ const PATIENCE: u64 = 1_000;
 /// What is known of a file's lines.
 #[derive(Clone, Copy, Debug, PartialEq, Eq)]
 pub(crate) struct Room {
-    /// How many of them weren't superseded when they were counted last.
+    /// How many of them would stay, at least.
     pub kept: u64,
     /// Of how many lines they are counted again.
     pub again: u64,
@@ -35,7 +36,7 @@ impl Room {
         }
     }
 
-    /// So many lines were left or found that no other supersedes, and the file has so many now.
+    /// So many lines would stay, of which the file has so many.
     pub(crate) fn counted(kept: u64, lines: u64) -> Room
         ensures { result ≡ record { kept = kept; again = next_count kept lines; patience = 0 } }
     {
@@ -46,6 +47,16 @@ impl Room {
         }
     }
 
+    /// So many lines were left by a compaction, which raised the floor of the next one.
+    pub(crate) fn left(lines: u64) -> Room
+        ensures { result ≡ record { kept = 0; again = next_count lines lines; patience = 0 } }
+    {
+        Room {
+            kept: 0,
+            ..Room::counted(lines, lines)
+        }
+    }
+
     /// A compaction failed.
     pub(crate) fn wait(&mut self)
         ensures { self.new ≡ record self.old { patience = 1000 } }
@@ -53,8 +64,8 @@ impl Room {
         self.patience = PATIENCE;
     }
 
-    /// How many of a file's lines have to be superseded for it to be compacted before a batch of so many more; none
-    /// where they aren't to be counted now.
+    /// How many of a file's lines would have to go for it to be compacted before a batch of so many more; none where
+    /// they aren't to be counted now.
     pub(crate) fn due(&mut self, lines: u64, more: u64) -> Option<u64>
         ensures due { result ≡ due self.old lines more }
         ensures waited { self.new ≡ waited self.old }

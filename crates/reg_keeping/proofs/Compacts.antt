@@ -1,56 +1,42 @@
 -- What a walk over a log leaves is a compaction.
-use Rattle.std.proofs.Common.{◌≡◌, ◌≤◌, ◌<◌, ◌-◌, ◌==◌, ◌⊎◌, inl, inr, ⊎_elim, ℕ, suc, zero, Bool, true, false, cond, List, [], ◌∷◌, ◌++◌, length, Option, Some, None, Ok, refl, sym, ap, subst, ◌∙◌, arith, append_assoc, append-nil, length-append, if◌then◌else◌, max}
+use Rattle.std.proofs.Common.{◌≡◌, ◌≤◌, ◌<◌, ◌-◌, ◌⊎◌, inl, inr, ⊎_elim, ℕ, suc, zero, Bool, true, false, cond, List, [], ◌∷◌, ◌++◌, length, Option, Some, None, Ok, refl, sym, ap, subst, ◌∙◌, arith, append_assoc, append-nil, length-append, if◌then◌else◌, count_by, ◌+◌}
 use Rattle.std.proofs.lemmas.Bool.{or_cases, or_left, or_right, false≢true}
 use Rattle.std.proofs.lemmas.Bool.Decides.{nat_tests}
 use Rattle.std.specs.Cmp.{IsTotalOrder}
 use Rattle.std.specs.FinSet.{IsAntisymmetric, contains, contains-from_list, from_list, same_set}
 use Rattle.std.specs.List.{list_any}
 use Rattle.std.specs.Option.{unwrap_or}
-use Rattle.std.specs.Ordering.{eq_by_cmp, is_le, ordering_then, nat_cmp}
-use Rattle.std.specs.declared.cmp.Ordering.{Ordering}
-use Rattle.std.specs.declared.cmp.Ordering.TheVariants.{Less, Equal, Greater}
+use Rattle.std.specs.Ordering.{eq_by_cmp}
 use Rattle.std.specs.Prelude.{nat_eq, nat_lt}
 use Rattle.reg_journal.specs.Lines.{LinesAreRead, Say, SayLog, SaysFloor, text_of}
+use Rattle.reg_records.specs.Line.{is_line_feed}
 use Rattle.reg_records.specs.Log.{LogText, log_of, next_after, next_of, records_in}
 use Rattle.reg_records.specs.declared.limits.TheConstants.{LOG_LINES}
 use Rattle.reg_records.specs.declared.record.Read.{Read}
 use Rattle.reg_records.specs.declared.record.Read.TheVariants as reads
 use Rattle.reg_records.specs.declared.record.Record.{Record}
-use Rattle.reg_set.specs.Join.{LastIsGreatest, LastRecordsAreCompaction, NoLastIsNoRecord}
-use Rattle.reg_set.specs.LastRecords.{last, last_records}
-use Rattle.reg_set.specs.RecordOrder.{age_cmp, key_cmp, record_cmp}
+use Rattle.reg_set.specs.LastRecords.{last_records}
+use Rattle.reg_set.specs.RecordOrder.{key_cmp, record_cmp}
 use Rattle.reg_set.specs.Records.{Records}
+use Rattle.reg_kept.specs.Floors.{compacted_to}
 use Rattle.reg_keeping.specs.Begun.{before}
 use Rattle.reg_keeping.specs.Compacted.{IsCompacted, IsLines}
+use Rattle.reg_keeping.specs.CompactedTo.{IsCompactedTo, floor_lines}
 use Rattle.reg_keeping.specs.Walk.{Walks, carried_by, carried_in, finished, kept_lines, kept_reads, top_after}
 use Rattle.reg_keeping.specs.declared.walk.Walk.{Walk}
 use Rattle.reg_keeping.proofs.Fronts.{Say-length, text_of-append}
+use Rattle.reg_keeping.proofs.Full.{all_kept}
 use Rattle.reg_keeping.proofs.Kept.{Has, has_kept, kept_has, kept_say}
-use Rattle.reg_keeping.proofs.Lasts.{lasts_have_one, same_itself, same_record}
-use Rattle.reg_keeping.proofs.Offsets.{HasAt, HasForeignAt, IsCarried, at_top, below_top, carried, foreign_or_record, has_top, kept_at, no_later, no_lines, none_at, none_carried_at, not_at_top, record_at, same_next}
+use Rattle.reg_keeping.proofs.Lasts.{HasOneAKey, same_itself, same_record}
+use Rattle.reg_keeping.proofs.Offsets.{HasAt, HasForeignAt, IsCarried, above_it, at_top, below_top, carried, foreign_at, foreign_or_record, foreign_there, has_top, kept_at, no_later, no_lines, none_carried_at, not_at_top, record_at, same_next}
 use Rattle.reg_keeping.proofs.Walked.{none_carried, none_kept, none_on_top}
+use Rattle.reg_keeping.proofs.Counts.{all_counted}
 use Rattle.reg_keeping.proofs.Sizes.{count_of, no_longer, no_more, size_of}
 
-both_ways : (a b : Bool) → (a ≡ true → b ≡ true) → (b ≡ true → a ≡ true) → a ≡ b
+pub both_ways : (a b : Bool) → (a ≡ true → b ≡ true) → (b ≡ true → a ≡ true) → a ≡ b
 both_ways true b to back = sym (to refl)
 both_ways false true to back = back refl
 both_ways false false to back = refl
-
--- the age of a record tells its offset
-first_le : (m n : ℕ) (o : Ordering) → is_le (ordering_then (nat_cmp m n) o) ≡ true → m ≤ n
-first_le m n o is =
-    elim (nat_lt m n) as (λ b. nat_lt m n ≡ b → is_le (ordering_then (cond b Less (cond (m == n) Equal Greater)) o) ≡ true → m ≤ n) [
-      | true ↦ λ t is. let lt : m < n = grind (arith, nat_tests) in omega arith
-      | false ↦ λ t is.
-          elim (m == n) as (λ b. (m == n) ≡ b → is_le (ordering_then (cond b Equal Greater) o) ≡ true → m ≤ n) [
-            | true ↦ λ e is. let same : m ≡ n = grind (arith, nat_tests) in omega arith
-            | false ↦ λ e is. absurd (false≢true is)
-          ] refl is
-    ] refl is
-
-older : (q r : Record) → is_le (age_cmp q r) ≡ true → q.offset ≤ r.offset
-unfolding age_cmp
-older q r is = first_le q.offset r.offset _ is
 
 -- a kept line, and one more
 say_push : (lines : List (List ℕ)) (read : List Read) (line : List ℕ) (r : Read) → Say lines read → Say (line ∷ []) (r ∷ []) → Say (lines ++ line ∷ []) (read ++ r ∷ [])
@@ -108,58 +94,43 @@ module _ (total : IsTotalOrder record_cmp) (apart : IsAntisymmetric record_cmp) 
       (λ later. inr (of_set read q later))
       (or_cases _ _ is)
 
-  set_has : (read : List Read) (q : Record) → contains (from_list {R = record_cmp} (records_in read)) q ≡ true → Has read q
+  pub set_has : (read : List Read) (q : Record) → contains (from_list {R = record_cmp} (records_in read)) q ≡ true → Has read q
   set_has read q is = of_set read q (sym (contains-from_list total (records_in read) q) ∙ is)
 
-  has_set : (read : List Read) (q : Record) → Has read q → contains (from_list {R = record_cmp} (records_in read)) q ≡ true
+  pub has_set : (read : List Read) (q : Record) → Has read q → contains (from_list {R = record_cmp} (records_in read)) q ≡ true
   has_set read q has = contains-from_list total (records_in read) q ∙ in_set read q has
 
-  module _ (greatest : LastIsGreatest) (none : NoLastIsNoRecord) (least : LastRecordsAreCompaction)
-      (floor : ℕ) (read : List Read) (lines : List (List ℕ)) (say : Say lines read) where
-    abbrev whole : Records
-    whole = from_list (records_in read)
-
-    abbrev lasts : Records
-    lasts = last_records whole
-
+  -- records that wait, one for each key, to be kept of a log whose floor rises from the start
+  module _ (start floor : ℕ) (read : List Read) (lines : List (List ℕ)) (say : Say lines read) (waiting : Records) (one : HasOneAKey waiting)
+      (part : (q : Record) → contains waiting q ≡ true → Has read q)
+      (covers : (r : Record) → Has read r → ((q : Record) × (contains waiting q ≡ true) × (r.offset ≤ q.offset)) ⊎ (r.offset < floor))
+      (rises : start ≤ floor) (ahead : floor ≤ next_of start read) where
     abbrev kept : List Read
-    kept = kept_reads lasts read
+    kept = kept_reads waiting read
 
     abbrev of_lines : List (List ℕ)
-    of_lines = kept_lines lasts lines read
+    of_lines = kept_lines waiting lines read
 
-    kept_lasts : from_list (records_in kept) ≡ lasts
-    kept_lasts =
-        same_set total apart (from_list (records_in kept)) lasts
+    kept_waiting : from_list (records_in kept) ≡ waiting
+    kept_waiting =
+        same_set total apart (from_list (records_in kept)) waiting
         (λ q. both_ways _ _
-        (λ is. (kept_has total apart keys keys_apart lasts read q (set_has kept q is)).0)
-        (λ is. has_set kept q (has_kept total apart keys keys_apart lasts read q (lasts_have_one total apart keys keys_apart whole) is (set_has read q ((least whole).is_part q is)))))
+        (λ is. (kept_has total apart keys keys_apart waiting read q (set_has kept q is)).0)
+        (λ is. has_set kept q (has_kept total apart keys keys_apart waiting read q one is (part q is))))
 
-    -- for each record a last one of no smaller offset is kept
-    later_kept : (r : Record) → Has read r → (q : Record) × Has kept q × (r.offset ≤ q.offset)
-    later_kept r has =
-        elim (last whole r.key) as (λ o. last whole r.key ≡ o → (q : Record) × Has kept q × (r.offset ≤ q.offset)) [
-          | None ↦ λ is. absurd (none whole r (has_set read r has) is)
-          | Some q ↦ λ is.
-              let fact = (greatest whole r.key q).0 is in
-              let in_lasts : contains lasts q ≡ true = subst (λ (o : Option Record). Rattle.std.specs.Prelude.IfSome o (λ p. contains lasts p ≡ true)) is ((least whole).has_lasts r.key) in (
-                q,
-                has_kept total apart keys keys_apart lasts read q (lasts_have_one total apart keys keys_apart whole) in_lasts (set_has read q ((least whole).is_part q in_lasts)),
-                older r q (fact.is_greatest r (has_set read r has) refl),
-              )
-        ] refl
-
-    -- where no kept line has the greatest offset, a foreign one has it
-    foreign_top : (t : ℕ) → next_after read ≡ suc t → (HasAt t kept → ⊥) → HasForeignAt t read
-    foreign_top t is not =
+    -- where the floor is below the next offset and no kept line has the greatest offset, a foreign one has it
+    foreign_top : (t : ℕ) → next_after read ≡ suc t → floor ≤ t → (HasAt t kept → ⊥) → HasForeignAt t read
+    foreign_top t is below not =
         ⊎_elim
         (λ foreign. foreign)
-        (λ found.
-        let later = later_kept found.0 found.1 in
-        let at = record_at kept later.0 later.1 in
-        let le : later.0.offset ≤ t = below_top read t later.0.offset is (kept_at lasts read later.0.offset at) in
+        (λ found. ⊎_elim
+        (λ later.
+        let at = record_at kept later.0 (has_kept total apart keys keys_apart waiting read later.0 one later.1 (part later.0 later.1)) in
+        let le : later.0.offset ≤ t = below_top read t later.0.offset is (kept_at waiting read later.0.offset at) in
         let same : later.0.offset ≡ t = omega (arith, later.2, found.2, le) in
         absurd (not (subst (λ (o : ℕ). HasAt o kept) same at)))
+        (λ under. absurd (omega (arith, under, found.2, below)))
+        (covers found.0 found.1))
         (foreign_or_record t read (has_top read t is))
 
     -- the text is lines that stand for those of the log
@@ -168,145 +139,186 @@ module _ (total : IsTotalOrder record_cmp) (apart : IsAntisymmetric record_cmp) 
       pub out : List Read
       pub parts : text ≡ text_of left
       pub says : Say left out
-      pub records : from_list (records_in out) ≡ lasts
-      pub next : next_of floor out ≡ next_of floor read
+      pub records : from_list (records_in out) ≡ waiting
+      pub next : next_of floor out ≡ next_of start read
       pub small : length text ≤ length (text_of lines)
       pub few : length out ≤ length read
+      pub all : length out ≡ length read → (q : Record) → Has read q → contains waiting q ≡ true
 
-    with_top : (t : ℕ) → next_after read ≡ suc t → HasAt t kept → Leaves (text_of of_lines ++ [])
-    with_top t is at = record {
-      left = of_lines;
-      out = kept;
-      parts = append-nil (text_of of_lines);
-      says = kept_say lasts lines read say;
-      records = kept_lasts;
-      next = ap (λ n. max floor n) (same_next read kept t is at (λ o has. kept_at lasts read o has));
-      small = omega (arith, no_longer t lasts lines read None say, ap length (append-nil (text_of of_lines)));
-      few = omega (arith, no_more t lasts lines read None say);
-    }
+    -- a line of the log has the offset before the next one
+    next_is : (t : ℕ) → next_of start read ≡ suc t → HasAt t read → next_after read ≡ suc t
+    next_is t is at = omega (arith, is, above_it read t at)
 
-    with_foreign : (t : ℕ) → next_after read ≡ suc t → (c : Option (List ℕ)) → carried_by (Some t) lines read None ≡ c → IsCarried t c → Leaves (text_of of_lines ++ unwrap_or c [])
-    with_foreign t is c same it =
-        let one : Say (it.0 ∷ []) (reads.Foreign t ∷ []) = (it.2, it.3, it.4, tt) in
+    with_top : (t : ℕ) → next_of start read ≡ suc t → HasAt t kept → Leaves (text_of of_lines ++ [])
+    with_top t is at =
+        let after = next_is t is (kept_at waiting read t at) in
+        record {
+          left = of_lines;
+          out = kept;
+          parts = append-nil (text_of of_lines);
+          says = kept_say waiting lines read say;
+          records = kept_waiting;
+          next = omega (arith, same_next read kept t after at (λ o has. kept_at waiting read o has), after, is, ahead);
+          small = omega (arith, no_longer t waiting lines read None say, ap length (append-nil (text_of of_lines)));
+          few = omega (arith, no_more t waiting lines read None say);
+          all = λ same. all_kept total apart keys keys_apart t waiting lines read None say (omega (arith, same));
+        }
+
+    with_foreign : (t : ℕ) → next_of start read ≡ suc t → HasForeignAt t read → (c : Option (List ℕ)) → carried_by (Some t) lines read None ≡ c → IsCarried t c → Leaves (text_of of_lines ++ unwrap_or c [])
+    with_foreign t is foreign c same it =
+        let one_line : Say (it.0 ∷ []) (reads.Foreign t ∷ []) = (it.2, it.3, it.4, tt) in
         let text : text_of of_lines ++ unwrap_or c [] ≡ text_of (of_lines ++ it.0 ∷ []) = ap (λ (o : Option (List ℕ)). text_of of_lines ++ unwrap_or o []) it.1 ∙ sym (text_push of_lines it.0) in
         let carries : carried_by (Some t) lines read None ≡ Some (it.0 ++ 10 ∷ []) = same ∙ it.1 in
-        let most = no_more t lasts lines read None say in
-        let size = no_longer t lasts lines read None say in
+        let most = no_more t waiting lines read None say in
+        let size = no_longer t waiting lines read None say in
+        let at = foreign_at read t foreign in
+        let after = next_is t is at in
         record {
           left = of_lines ++ it.0 ∷ [];
           out = kept ++ reads.Foreign t ∷ [];
           parts = text;
-          says = say_push of_lines kept it.0 (reads.Foreign t) (kept_say lasts lines read say) one;
-          records = ap (λ (l : List Record). from_list l) (foreign_push kept t) ∙ kept_lasts;
-          next = ap (λ n. max floor n) (same_next read (kept ++ reads.Foreign t ∷ []) t is (pushed_at kept t)
-              (λ o has. ⊎_elim (λ there. kept_at lasts read o there) (λ here. subst (λ (p : ℕ). HasAt p read) here (has_top read t is)) (pushed_part kept t o has)));
+          says = say_push of_lines kept it.0 (reads.Foreign t) (kept_say waiting lines read say) one_line;
+          records = ap (λ (l : List Record). from_list l) (foreign_push kept t) ∙ kept_waiting;
+          next = omega (
+            arith,
+            same_next read (kept ++ reads.Foreign t ∷ []) t after (pushed_at kept t)
+                (λ o has. ⊎_elim (λ there. kept_at waiting read o there) (λ here. subst (λ (p : ℕ). HasAt p read) here at) (pushed_part kept t o has)),
+            after,
+            is,
+            ahead,
+          );
           small = omega (arith, size, ap size_of carries, ap length text, ap length (text_push of_lines it.0), length-append (text_of of_lines) (it.0 ++ 10 ∷ []));
           few = omega (arith, most, ap count_of carries, length-append kept (reads.Foreign t ∷ []));
+          all = λ same_length. all_kept total apart keys keys_apart t waiting lines read None say (omega (arith, same_length, ap count_of carries, length-append kept (reads.Foreign t ∷ [])));
         }
 
-    with_line : (t : ℕ) → next_after read ≡ suc t → Leaves (text_of of_lines ++ cond (top_after (Some t) lasts read false) [] (unwrap_or (carried_by (Some t) lines read None) []))
-    with_line t is =
-        elim (top_after (Some t) lasts read false) as (λ b. top_after (Some t) lasts read false ≡ b → Leaves (text_of of_lines ++ cond b [] (unwrap_or (carried_by (Some t) lines read None) []))) [
-          | true ↦ λ top. with_top t is (⊎_elim (λ none. absurd (false≢true none)) (λ at. at) (at_top t lasts read false top))
-          | false ↦ λ top.
-              let not = (not_at_top t lasts read false top).1 in
-              with_foreign t is (carried_by (Some t) lines read None) refl (carried t lines read None say (inl (foreign_top t is not)))
-        ] refl
-
-    -- where the floor is the next offset, no line need have the one before
-    with_floor : (t : ℕ) → floor ≡ suc t → next_after read ≤ t → Leaves (text_of of_lines ++ cond (top_after (Some t) lasts read false) [] (unwrap_or (carried_by (Some t) lines read None) []))
-    with_floor t is below =
-        let no_line = none_carried_at t lines read None (none_at read t below) in
-        let text : text_of of_lines ++ cond (top_after (Some t) lasts read false) [] (unwrap_or (carried_by (Some t) lines read None) []) ≡ text_of of_lines =
-        ap (λ (o : Option (List ℕ)). text_of of_lines ++ cond (top_after (Some t) lasts read false) [] (unwrap_or o [])) no_line
-        ∙ either_way (top_after (Some t) lasts read false) (text_of of_lines) ∙ append-nil (text_of of_lines) in
-        let later = no_later read kept (λ o has. kept_at lasts read o has) in
+    -- where neither has it, the floor is the next offset
+    with_none : (t : ℕ) → next_of start read ≡ suc t → (HasAt t kept → ⊥) → (HasForeignAt t read → ⊥) → (c : Option (List ℕ)) → carried_by (Some t) lines read None ≡ c → c ≡ None → Leaves (text_of of_lines ++ unwrap_or c [])
+    with_none t is not no_foreign c same no_line =
+        let text : text_of of_lines ++ unwrap_or c [] ≡ text_of of_lines = ap (λ (o : Option (List ℕ)). text_of of_lines ++ unwrap_or o []) no_line ∙ append-nil (text_of of_lines) in
+        let later = no_later read kept (λ o has. kept_at waiting read o has) in
+        let at_floor : floor ≡ suc t =
+        elim (nat_lt t floor) as (λ b. nat_lt t floor ≡ b → floor ≡ suc t) [
+          | true ↦ λ test. let past : t < floor = grind (arith, nat_tests) in omega (arith, past, ahead, is)
+          | false ↦ λ test.
+              let below : floor ≤ t = grind (arith, nat_tests) in
+              let after : next_after read ≡ suc t = omega (arith, is, rises, below) in
+              absurd (no_foreign (foreign_top t after below not))
+        ] refl in
         record {
           left = of_lines;
           out = kept;
           parts = text;
-          says = kept_say lasts lines read say;
-          records = kept_lasts;
-          next = omega (arith, is, below, later);
-          small = omega (arith, no_longer t lasts lines read None say, ap length text);
-          few = omega (arith, no_more t lasts lines read None say);
+          says = kept_say waiting lines read say;
+          records = kept_waiting;
+          next = omega (arith, is, at_floor, later);
+          small = omega (arith, no_longer t waiting lines read None say, ap length text);
+          few = omega (arith, no_more t waiting lines read None say);
+          all = λ same_length. all_kept total apart keys keys_apart t waiting lines read None say (omega (arith, same_length));
         }
 
-    leaves : (t : ℕ) → next_of floor read ≡ suc t → Leaves (text_of of_lines ++ cond (top_after (Some t) lasts read false) [] (unwrap_or (carried_by (Some t) lines read None) []))
+    leaves : (t : ℕ) → next_of start read ≡ suc t → Leaves (text_of of_lines ++ cond (top_after (Some t) waiting read false) [] (unwrap_or (carried_by (Some t) lines read None) []))
     leaves t is =
-        elim (nat_lt t (next_after read)) as (λ b. nat_lt t (next_after read) ≡ b → Leaves (text_of of_lines ++ cond (top_after (Some t) lasts read false) [] (unwrap_or (carried_by (Some t) lines read None) []))) [
-          | true ↦ λ test. let past : t < next_after read = grind (arith, nat_tests) in with_line t (omega (arith, is, past))
-          | false ↦ λ test. let below : next_after read ≤ t = grind (arith, nat_tests) in with_floor t (omega (arith, is, below)) below
+        elim (top_after (Some t) waiting read false) as (λ b. top_after (Some t) waiting read false ≡ b → Leaves (text_of of_lines ++ cond b [] (unwrap_or (carried_by (Some t) lines read None) []))) [
+          | true ↦ λ top. with_top t is (⊎_elim (λ none. absurd (false≢true none)) (λ at. at) (at_top t waiting read false top))
+          | false ↦ λ top. ⊎_elim
+              (λ foreign. with_foreign t is foreign (carried_by (Some t) lines read None) refl (carried t lines read None say (inl foreign)))
+              (λ none. with_none t is (not_at_top t waiting read false top).1 none (carried_by (Some t) lines read None) refl (none_carried_at t lines read None none))
+              (foreign_there t read)
         ] refl
 
     -- a log without lines leaves nothing
-    leaves_none : (top : Option ℕ) → next_of floor read ≡ 0 → Leaves (text_of of_lines ++ cond (top_after top lasts read false) [] (unwrap_or (carried_by top lines read None) []))
+    leaves_none : (top : Option ℕ) → next_of start read ≡ 0 → Leaves (text_of of_lines ++ cond (top_after top waiting read false) [] (unwrap_or (carried_by top lines read None) []))
     leaves_none top is =
         let empty : read ≡ [] = no_lines read (omega (arith, is)) in
         let no_length : length read ≡ 0 = ap length empty in
-        let no_kept : kept ≡ [] = ap (λ (rs : List Read). kept_reads lasts rs) empty in
-        let text : text_of of_lines ++ cond (top_after top lasts read false) [] (unwrap_or (carried_by top lines read None) []) ≡ [] =
-        ap (λ (ls : List (List ℕ)). text_of ls ++ cond (top_after top lasts read false) [] (unwrap_or (carried_by top lines read None) [])) (none_kept lasts lines read say no_length)
-        ∙ ap (λ b. cond b [] (unwrap_or (carried_by top lines read None) [])) (none_on_top top lasts read false no_length)
+        let no_kept : kept ≡ [] = ap (λ (rs : List Read). kept_reads waiting rs) empty in
+        let text : text_of of_lines ++ cond (top_after top waiting read false) [] (unwrap_or (carried_by top lines read None) []) ≡ [] =
+        ap (λ (ls : List (List ℕ)). text_of ls ++ cond (top_after top waiting read false) [] (unwrap_or (carried_by top lines read None) [])) (none_kept waiting lines read say no_length)
+        ∙ ap (λ b. cond b [] (unwrap_or (carried_by top lines read None) [])) (none_on_top top waiting read false no_length)
         ∙ ap (λ (o : Option (List ℕ)). unwrap_or o []) (none_carried top lines read None no_length) in
         record {
           left = [];
           out = [];
           parts = text;
           says = tt;
-          records = ap (λ (rs : List Read). from_list (records_in rs)) (sym no_kept) ∙ kept_lasts;
-          next = ap (λ (rs : List Read). next_of floor rs) (sym empty);
+          records = ap (λ (rs : List Read). from_list (records_in rs)) (sym no_kept) ∙ kept_waiting;
+          next = omega (arith, is, ahead);
           small = omega (arith, ap length text);
           few = omega arith;
+          all = λ none q has. absurd (subst (λ (rs : List Read). Has rs q) empty has);
         }
 
-    leaves_all : (top : Option ℕ) (n : ℕ) → next_of floor read ≡ n → top ≡ before n → Leaves (text_of of_lines ++ cond (top_after top lasts read false) [] (unwrap_or (carried_by top lines read None) []))
+    leaves_all : (top : Option ℕ) (n : ℕ) → next_of start read ≡ n → top ≡ before n → Leaves (text_of of_lines ++ cond (top_after top waiting read false) [] (unwrap_or (carried_by top lines read None) []))
     leaves_all top zero is at = leaves_none top is
     leaves_all top (suc t) is at =
-        subst (λ (o : Option ℕ). Leaves (text_of of_lines ++ cond (top_after o lasts read false) [] (unwrap_or (carried_by o lines read None) [])))
+        subst (λ (o : Option ℕ). Leaves (text_of of_lines ++ cond (top_after o waiting read false) [] (unwrap_or (carried_by o lines read None) [])))
         (sym (at ∙ before_suc t))
         (leaves t is)
 
-    pub walked : (top : Option ℕ) (old new : Walk) → top ≡ before (next_of floor read) → old.waiting ≡ lasts → old.has_top ≡ false → carried_in old ≡ None
+    pub walked : (top : Option ℕ) (old new : Walk) → top ≡ before (next_of start read) → old.waiting ≡ waiting → old.has_top ≡ false → carried_in old ≡ None
         → Walks top lines read old new → (text : List ℕ) × Leaves text × (finished new ≡ old.text.items ++ text)
     walked top old new at waits no_top no_line walks =
         let text = text_of of_lines in
         let kept_text : new.text.items ≡ old.text.items ++ text =
         walks.text ∙ ap (λ (w : Records). old.text.items ++ text_of (kept_lines w lines read)) waits in
-        let has : new.has_top ≡ top_after top lasts read false =
-        walks.has_top ∙ ap (λ (w : Records). top_after top w read old.has_top) waits ∙ ap (λ (b : Bool). top_after top lasts read b) no_top in
+        let has : new.has_top ≡ top_after top waiting read false =
+        walks.has_top ∙ ap (λ (w : Records). top_after top w read old.has_top) waits ∙ ap (λ (b : Bool). top_after top waiting read b) no_top in
         let line : carried_in new ≡ carried_by top lines read None = walks.carried ∙ ap (λ (c : Option (List ℕ)). carried_by top lines read c) no_line in (
-          text ++ cond (top_after top lasts read false) [] (unwrap_or (carried_by top lines read None) []),
-          leaves_all top (next_of floor read) refl at,
+          text ++ cond (top_after top waiting read false) [] (unwrap_or (carried_by top lines read None) []),
+          leaves_all top (next_of start read) refl at,
           ap (λ (l : List ℕ). l ++ cond new.has_top [] (unwrap_or (carried_in new) [])) kept_text
               ∙ ap (λ (b : Bool). (old.text.items ++ text) ++ cond b [] (unwrap_or (carried_in new) [])) has
-              ∙ ap (λ (c : Option (List ℕ)). (old.text.items ++ text) ++ cond (top_after top lasts read false) [] (unwrap_or c [])) line
-              ∙ append_assoc old.text.items text (cond (top_after top lasts read false) [] (unwrap_or (carried_by top lines read None) [])),
+              ∙ ap (λ (c : Option (List ℕ)). (old.text.items ++ text) ++ cond (top_after top waiting read false) [] (unwrap_or c [])) line
+              ∙ append_assoc old.text.items text (cond (top_after top waiting read false) [] (unwrap_or (carried_by top lines read None) [])),
         )
 
-    -- behind the line of the floor, that is a compaction of the log
-    module _ (are_read : LinesAreRead) (input : List ℕ) (log : LogText) (all front : List (List ℕ)) (is : log_of input ≡ Ok log) (few : length all ≤ LOG_LINES)
-        (parts : all ≡ front ++ lines) (says_floor : SaysFloor front floor) (floor_is : log.floor ≡ floor) (reads_are : log.reads ≡ read)
-        (within : length (text_of all) ≤ length input) (text output : List ℕ) (l : Leaves text) (joined : output ≡ text_of front ++ text) where
+    -- behind the line of the floor they are a log
+    module _ (are_read : LinesAreRead) (front : List (List ℕ)) (says_floor : SaysFloor front floor) (text output : List ℕ) (l : Leaves text) (joined : output ≡ text_of front ++ text) where
       of_front : output ≡ text_of (front ++ l.left)
       of_front = joined ∙ ap (λ (t : List ℕ). text_of front ++ t) l.parts ∙ sym (text_of-append front l.left)
-
-      count : length (front ++ l.left) ≤ LOG_LINES
-      count = omega (arith, few, ap length parts, length-append front lines, length-append front l.left, Say-length lines read say, Say-length l.left l.out l.says, l.few)
 
       say_all : SayLog (front ++ l.left) floor l.out
       say_all = record { front = front; others = l.left; parts = refl; floor = says_floor; say = l.says }
 
-      pub is_compacted : IsCompacted input output
-      is_compacted = record {
+      -- as many lines as it has LFs
+      pub counted : count_by is_line_feed output ≡ length front + length l.out
+      counted = omega (
+        arith,
+        ap (λ (t : List ℕ). count_by is_line_feed t) of_front,
+        all_counted (front ++ l.left) floor l.out say_all,
+        length-append front l.left,
+        Say-length l.left l.out l.says,
+      )
+
+      fits : length front + length l.out ≤ LOG_LINES → length (front ++ l.left) ≤ LOG_LINES
+      fits count = omega (arith, count, length-append front l.left, Say-length l.left l.out l.says)
+
+      pub is_lines : length front + length l.out ≤ LOG_LINES → IsLines output
+      is_lines count = record {
+        lines = front ++ l.left;
+        floor = floor;
+        read = l.out;
+        parts = of_front;
+        say = say_all;
+        few = fits count;
+      }
+
+      reads_back : length front + length l.out ≤ LOG_LINES → log_of output ≡ Ok (record { floor = floor; reads = l.out; rest = [] })
+      reads_back count = ap log_of of_front ∙ are_read (front ++ l.left) floor l.out say_all (fits count)
+
+      -- a compaction of a log, of which it keeps the last records
+      pub is_compacted : (input : List ℕ) (log : LogText) (all : List (List ℕ)) → log_of input ≡ Ok log → all ≡ front ++ lines → length all ≤ LOG_LINES → length (text_of all) ≤ length input
+          → start ≡ log.floor → floor ≡ log.floor → read ≡ log.reads → waiting ≡ last_records (from_list (records_in log.reads)) → IsCompacted input output
+      is_compacted input log all is parts most within starts floor_is reads_are waits = record {
         log = log;
         read = is;
         out = record { floor = floor; reads = l.out; rest = [] };
-        read_back = ap log_of of_front ∙ are_read (front ++ l.left) floor l.out say_all count;
+        read_back = reads_back (omega (arith, most, ap length parts, length-append front lines, Say-length lines read say, l.few));
         whole = refl;
-        floor = sym floor_is;
-        lasts = l.records ∙ ap (λ (rs : List Read). last_records (from_list (records_in rs))) (sym reads_are);
-        next = l.next ∙ ap (λ (f : ℕ). next_of f read) (sym floor_is) ∙ ap (λ (rs : List Read). next_of log.floor rs) (sym reads_are);
+        floor = floor_is;
+        lasts = l.records ∙ waits;
+        next = l.next ∙ ap (λ (f : ℕ). next_of f read) starts ∙ ap (λ (rs : List Read). next_of log.floor rs) reads_are;
         small = omega (
           arith,
           l.small,
@@ -319,5 +331,26 @@ module _ (total : IsTotalOrder record_cmp) (apart : IsAntisymmetric record_cmp) 
         );
       }
 
-      pub is_lines : IsLines output
-      is_lines = record { lines = front ++ l.left; floor = floor; read = l.out; parts = of_front; say = say_all; few = count }
+      -- one to a floor
+      pub is_compacted_to : (input : List ℕ) (log : LogText) → log_of input ≡ Ok log → length front + length l.out ≤ LOG_LINES → length (text_of lines) ≤ length input
+          → front ≡ floor_lines floor → start ≡ log.floor → read ≡ log.reads → waiting ≡ compacted_to floor (from_list (records_in log.reads)) → IsCompactedTo floor input output
+      is_compacted_to input log is count within front_is starts reads_are waits = record {
+        log = log;
+        read = is;
+        rises = omega (arith, starts, rises);
+        within = omega (arith, ahead, ap (λ (f : ℕ). next_of f read) starts, ap (λ (rs : List Read). next_of log.floor rs) reads_are);
+        out = record { floor = floor; reads = l.out; rest = [] };
+        read_back = reads_back count;
+        whole = refl;
+        floor = refl;
+        lasts = l.records ∙ waits;
+        next = l.next ∙ ap (λ (f : ℕ). next_of f read) starts ∙ ap (λ (rs : List Read). next_of log.floor rs) reads_are;
+        small = omega (
+          arith,
+          l.small,
+          within,
+          ap length joined,
+          length-append (text_of front) text,
+          ap (λ (ls : List (List ℕ)). length (text_of ls)) front_is,
+        );
+      }

@@ -32,7 +32,7 @@ kept_say w (line ∷ lines) (r ∷ read) say =
 
 module _ (total : IsTotalOrder record_cmp) (apart : IsAntisymmetric record_cmp) (keys : IsTotalOrder key_cmp) (keys_apart : IsAntisymmetric key_cmp) where
   -- what waits after a line waited before it
-  waited : (w : Records) (r q : Record) → contains (waiting_after w (reads.Record r)) q ≡ true → contains w q ≡ true
+  pub waited : (w : Records) (r q : Record) → contains (waiting_after w (reads.Record r)) q ≡ true → contains w q ≡ true
   waited w r q h =
       elim (contains w r) as (λ b. contains (cond b (with_last w r.key None) w) q ≡ true → contains w q ≡ true) [
         | true ↦ λ h. (and_parts (contains w q) (not (is_of r.key q)) (sym (contains-without total apart keys keys_apart w r.key q) ∙ h)).0

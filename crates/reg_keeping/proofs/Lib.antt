@@ -1,5 +1,8 @@
 mod Compacts
+mod Counts
+mod Drops
 pub mod Fronts
+mod Full
 mod Kept
 mod Lasts
 mod Offsets
@@ -8,4 +11,5 @@ mod Pieces
 mod Saying
 mod Shrinks
 mod Sizes
+mod ToFloor
 mod Walked

@@ -78,9 +78,8 @@ has_top read t is =
     (λ found. let same : found.0 ≡ t = omega (arith, found.1, is) in subst (λ (o : ℕ). HasAt o read) same found.2)
     (attained 0 read)
 
--- no line has the offset of the next one or a later one
-pub none_at : (read : List Read) (t : ℕ) → next_after read ≤ t → HasAt t read → ⊥
-none_at read t le has = absurd (omega (arith, le, above 0 read t has))
+pub above_it : (read : List Read) (o : ℕ) → HasAt o read → suc o ≤ next_after read
+above_it read o has = above 0 read o has
 
 pub below_top : (read : List Read) (t o : ℕ) → next_after read ≡ suc t → HasAt o read → o ≤ t
 below_top read t o is has = omega (arith, is, above 0 read o has)
@@ -166,11 +165,32 @@ carried t (line ∷ lines) (reads.Foreign offset ∷ read) c say has =
     differs : (o t : ℕ) → o ≡ t → nat_eq o t ≡ false → ⊥
     differs o t is not = grind (arith, nat_tests)
 
--- where no line has it, none is carried
-pub none_carried_at : (t : ℕ) (lines : List (List ℕ)) (read : List Read) (c : Option (List ℕ)) → (HasAt t read → ⊥) → carried_by (Some t) lines read c ≡ c
+-- a foreign line is a line
+pub foreign_at : (read : List Read) (t : ℕ) → HasForeignAt t read → HasAt t read
+foreign_at [] t has = absurd has
+foreign_at (reads.Record r ∷ read) t has = inr (foreign_at read t has)
+foreign_at (reads.Foreign offset ∷ read) t has = ⊎_elim (λ is. inl is) (λ later. inr (foreign_at read t later)) has
+
+pub foreign_there : (t : ℕ) (read : List Read) → HasForeignAt t read ⊎ (HasForeignAt t read → ⊥)
+foreign_there t [] = inr (λ has. has)
+foreign_there t (reads.Record r ∷ read) = foreign_there t read
+foreign_there t (reads.Foreign offset ∷ read) =
+    elim (nat_eq offset t) as (λ b. nat_eq offset t ≡ b → ((offset ≡ t) ⊎ HasForeignAt t read) ⊎ ((offset ≡ t) ⊎ HasForeignAt t read → ⊥)) [
+      | true ↦ λ is. inl (inl (equals offset t is))
+      | false ↦ λ is. ⊎_elim (λ later. inl (inr later)) (λ none. inr (λ has. ⊎_elim (λ here. differs offset t here is) none has)) (foreign_there t read)
+    ] refl
+  where
+    equals : (o t : ℕ) → nat_eq o t ≡ true → o ≡ t
+    equals o t is = grind (arith, nat_tests)
+
+    differs : (o t : ℕ) → o ≡ t → nat_eq o t ≡ false → ⊥
+    differs o t is not = grind (arith, nat_tests)
+
+-- where no foreign line has it, none is carried
+pub none_carried_at : (t : ℕ) (lines : List (List ℕ)) (read : List Read) (c : Option (List ℕ)) → (HasForeignAt t read → ⊥) → carried_by (Some t) lines read c ≡ c
 none_carried_at t [] read c not = refl
 none_carried_at t (line ∷ lines) [] c not = refl
-none_carried_at t (line ∷ lines) (reads.Record r ∷ read) c not = none_carried_at t lines read c (λ later. not (inr later))
+none_carried_at t (line ∷ lines) (reads.Record r ∷ read) c not = none_carried_at t lines read c not
 none_carried_at t (line ∷ lines) (reads.Foreign offset ∷ read) c not =
     elim (nat_eq offset t) as (λ b. nat_eq offset t ≡ b → carried_by (Some t) lines read (cond b (Some (line ++ 10 ∷ [])) c) ≡ c) [
       | true ↦ λ is. absurd (not (inl (equals offset t is)))

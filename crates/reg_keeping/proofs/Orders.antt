@@ -24,7 +24,8 @@ use Rattle.reg_records.specs.declared.record.Read.TheVariants as reads
 use Rattle.reg_records.specs.declared.record.Record.{Record}
 use Rattle.reg_set.specs.RecordOrder.{record_cmp}
 use Rattle.reg_keeping.specs.Compacted.{IsCompacted, IsLines}
-use Rattle.reg_keeping.specs.Sorted.{IsSortedCompaction, Reorders, read_of}
+use Rattle.reg_keeping.specs.CompactedTo.{IsCompactedTo}
+use Rattle.reg_keeping.specs.Sorted.{IsSortedCompaction, IsSortedCompactionTo, Reorders, read_of}
 use Rattle.reg_keeping.proofs.Fronts.{text_of-append}
 
 -- a line that says something
@@ -120,10 +121,20 @@ map_map f (line ∷ lines) = ap (λ (l : List ℕ). f (read_of line) ∷ l) (map
 same_log : (a b : LogText) → ◌≡◌ {A = Result LogText (ℕ × LogFault)} (Ok a) (Ok b) → a ≡ b
 same_log a b same = ap (λ (r : Result LogText (ℕ × LogFault)). result_unwrap_or r a) same
 
--- a compaction whose lines stand in another order behind a floor's is one
-pub sorted_compaction : IsTotalOrder record_cmp → IsAntisymmetric record_cmp → LinesAreRead → (input text output : List ℕ) (is : IsCompacted input text) (l : IsLines text)
-    → Reorders l.say.front l.say.others output → IsSortedCompaction input output
-sorted_compaction total apart law input text output is l r =
+-- what a log's text says whose lines stand in another order behind a floor's
+record SaysTheSame (out : LogText) (text output : List ℕ) : Type 0 where
+  now : LogText
+  read_back : log_of output ≡ Ok now
+  whole : now.rest ≡ []
+  floor : now.floor ≡ out.floor
+  records : from_list {R = record_cmp} (records_in now.reads) ≡ from_list (records_in out.reads)
+  next : next_of now.floor now.reads ≡ next_of out.floor out.reads
+  size : length output ≡ length text
+  sorted : IsNonDecreasing (map offset_in now.reads)
+
+says_the_same : IsTotalOrder record_cmp → IsAntisymmetric record_cmp → LinesAreRead → (out : LogText) (text output : List ℕ) → log_of text ≡ Ok out → (l : IsLines text)
+    → Reorders l.say.front l.say.others output → SaysTheSame out text output
+says_the_same total apart law out text output is l r =
     let s = l.say in
     let said = all_say s.others l.read s.say in
     let ordered = All-permutation IsLine s.others r.ordered r.same said.0 in
@@ -132,32 +143,68 @@ sorted_compaction total apart law input text output is l r =
     let says : SayLog lines l.floor read = record { front = s.front; others = r.ordered; parts = refl; floor = s.floor; say = say_all r.ordered ordered } in
     let count : length lines ≡ length l.lines =
     omega (arith, length-append s.front r.ordered, length-append s.front s.others, ap length s.parts, length_permutation s.others r.ordered r.same) in
-    let was : is.out ≡ record { floor = l.floor; reads = l.read; rest = [] } =
-    same_log is.out (record { floor = l.floor; reads = l.read; rest = [] }) (sym is.read_back ∙ ap log_of l.parts ∙ law l.lines l.floor l.read l.say l.few) in
-    let back : is.out.reads ≡ map read_of s.others = ap (λ (o : LogText). o.reads) was ∙ said.1 in
-    let floor : is.out.floor ≡ l.floor = ap (λ (o : LogText). o.floor) was in
+    let was : out ≡ record { floor = l.floor; reads = l.read; rest = [] } =
+    same_log out (record { floor = l.floor; reads = l.read; rest = [] }) (sym is ∙ ap log_of l.parts ∙ law l.lines l.floor l.read l.say l.few) in
+    let back : out.reads ≡ map read_of s.others = ap (λ (o : LogText). o.reads) was ∙ said.1 in
+    let floor : out.floor ≡ l.floor = ap (λ (o : LogText). o.floor) was in
+    record {
+      now = record { floor = l.floor; reads = read; rest = [] };
+      read_back = ap log_of r.parts ∙ law lines l.floor read says (omega (arith, count, l.few));
+      whole = refl;
+      floor = sym floor;
+      records = same_records total apart s.others r.ordered r.same ∙ ap (λ (x : List Read). from_list (records_in x)) (sym back);
+      next = ap (λ (n : ℕ). max l.floor n) (same_next s.others r.ordered r.same ∙ ap next_after (sym back)) ∙ ap (λ (f : ℕ). next_of f out.reads) (sym floor);
+      size = omega (
+        arith,
+        ap length r.parts,
+        ap length (text_of-append s.front r.ordered),
+        length-append (text_of s.front) (text_of r.ordered),
+        same_size s.others r.ordered r.same,
+        ap length l.parts,
+        ap (λ (ls : List (List ℕ)). length (text_of ls)) s.parts,
+        ap length (text_of-append s.front s.others),
+        length-append (text_of s.front) (text_of s.others),
+      );
+      sorted = subst IsNonDecreasing (sym (map_map offset_in r.ordered)) r.sorted;
+    }
+
+-- a compaction whose lines stand in another order is one
+pub sorted_compaction : IsTotalOrder record_cmp → IsAntisymmetric record_cmp → LinesAreRead → (input text output : List ℕ) (is : IsCompacted input text) (l : IsLines text)
+    → Reorders l.say.front l.say.others output → IsSortedCompaction input output
+sorted_compaction total apart law input text output is l r =
+    let it = says_the_same total apart law is.out text output is.read_back l r in
     record {
       compacted = record {
         log = is.log;
         read = is.read;
-        out = record { floor = l.floor; reads = read; rest = [] };
-        read_back = ap log_of r.parts ∙ law lines l.floor read says (omega (arith, count, l.few));
-        whole = refl;
-        floor = sym floor ∙ is.floor;
-        lasts = same_records total apart s.others r.ordered r.same ∙ ap (λ (x : List Read). from_list (records_in x)) (sym back) ∙ is.lasts;
-        next = ap (λ (n : ℕ). max l.floor n) (same_next s.others r.ordered r.same ∙ ap next_after (sym back)) ∙ ap (λ (f : ℕ). next_of f is.out.reads) (sym floor) ∙ is.next;
-        small = omega (
-          arith,
-          ap length r.parts,
-          ap length (text_of-append s.front r.ordered),
-          length-append (text_of s.front) (text_of r.ordered),
-          same_size s.others r.ordered r.same,
-          ap length l.parts,
-          ap (λ (ls : List (List ℕ)). length (text_of ls)) s.parts,
-          ap length (text_of-append s.front s.others),
-          length-append (text_of s.front) (text_of s.others),
-          is.small,
-        );
+        out = it.now;
+        read_back = it.read_back;
+        whole = it.whole;
+        floor = it.floor ∙ is.floor;
+        lasts = it.records ∙ is.lasts;
+        next = it.next ∙ is.next;
+        small = omega (arith, it.size, is.small);
       };
-      sorted = subst IsNonDecreasing (sym (map_map offset_in r.ordered)) r.sorted;
+      sorted = it.sorted;
+    }
+
+pub sorted_compaction_to : IsTotalOrder record_cmp → IsAntisymmetric record_cmp → LinesAreRead → (given : ℕ) (input text output : List ℕ) (is : IsCompactedTo given input text) (l : IsLines text)
+    → Reorders l.say.front l.say.others output → IsSortedCompactionTo given input output
+sorted_compaction_to total apart law given input text output is l r =
+    let it = says_the_same total apart law is.out text output is.read_back l r in
+    record {
+      compacted = record {
+        log = is.log;
+        read = is.read;
+        rises = is.rises;
+        within = is.within;
+        out = it.now;
+        read_back = it.read_back;
+        whole = it.whole;
+        floor = it.floor ∙ is.floor;
+        lasts = it.records ∙ is.lasts;
+        next = it.next ∙ is.next;
+        small = omega (arith, it.size, is.small);
+      };
+      sorted = it.sorted;
     }

@@ -1,66 +1,24 @@
 -- What a journal's file is once it is compacted.
-use Rattle.std.proofs.Common.{◌≡◌, ◌+◌, ◌-◌, ◌++◌, ℕ, Bool, false, List, [], ◌∷◌, Ok, Err, length, take, refl, sym, ap, subst, ◌∙◌, arith, length-append, count_by, if◌then◌else◌, true≢false}
+use Rattle.std.proofs.Common.{◌≡◌, inl, inr, ⊎_elim, Option, Some, None, ◌+◌, ◌-◌, ◌++◌, ℕ, false, List, [], ◌∷◌, Ok, Err, length, take, sym, ap, subst, ◌∙◌, arith, length-append, count_by, true≢false}
 use Rattle.std.proofs.lemmas.List.{take_at}
-use Rattle.std.proofs.lemmas.List.Elements.{All-head, All-tail}
-use Rattle.std.proofs.lemmas.List.Sums.{sum_by-append, sum_by-cons}
-use Rattle.std.specs.FinSet.{from_list}
 use Rattle.reg_journal.specs.Disk.{Only}
 use Rattle.reg_journal.specs.Journal.{IsSettled}
-use Rattle.reg_journal.specs.Lines.{EndedLinesAreRead, LinesAreRead, Say, SayLog, SaysFloor, text_of}
+use Rattle.reg_journal.specs.Lines.{EndedLinesAreRead, LinesAreRead, text_of}
 use Rattle.reg_journal.specs.Renewal.{LeavesDisk}
 use Rattle.reg_journal.specs.declared.disk.DiskError.TheVariants as disks
 use Rattle.reg_journal.specs.declared.renewal.RenewError.{RenewError}
 use Rattle.reg_journal.specs.declared.renewal.RenewError.TheVariants as renewals
-use Rattle.reg_records.proofs.Floors.{one_line}
 use Rattle.reg_records.specs.Line.{is_line_feed}
-use Rattle.reg_records.specs.Log.{LogText, log_of, next_of, records_in}
-use Rattle.reg_records.specs.Pieces.{HasNoLineFeed}
+use Rattle.reg_records.specs.Log.{LogText, log_of}
 use Rattle.reg_records.specs.declared.log.LogFault.{LogFault}
-use Rattle.reg_records.specs.declared.record.Read.{Read}
-use Rattle.reg_set.specs.LastRecords.{last_records}
-use Rattle.reg_keeping.proofs.Fronts.{Say-length, text_of-append}
-use Rattle.reg_keeping.specs.Compacted.{HasKept, IsCompacted, IsLines}
+use Rattle.reg_keeping.proofs.Counts.{all_counted}
+use Rattle.reg_keeping.specs.Compacted.{IsCompacted, IsLines}
+use Rattle.reg_keeping.specs.CompactedTo.{HasKept, IsCompactedBy, IsCompactedTo, LacksFloor}
 use Rattle.reg_keeping.specs.InPlace.{breaks, renew_refusal}
 use Rattle.reg_keeping.specs.Shrunk.{IsNoShrinking, ShrinksTo}
 use Rattle.reg_keeping.specs.declared.in_place.CompactError.{CompactError}
 use Rattle.reg_keeping.specs.declared.in_place.CompactError.TheVariants.{Changed}
 use Rattle.reg_keeping.specs.declared.shrinking.Shrunk.{Shrunk}
-
-none_in : (line : List ℕ) → HasNoLineFeed line → count_by is_line_feed line ≡ 0
-none_in [] free = refl
-none_in (b ∷ line) free =
-    let here : is_line_feed b ≡ false = All-head (λ x. is_line_feed x ≡ false) b line free in
-    omega (arith, sum_by-cons (λ x. if is_line_feed x then 1 else 0) b line, ap {B = ℕ} (λ (t : Bool). if t then 1 else 0) here, none_in line (All-tail (λ x. is_line_feed x ≡ false) b line free))
-
--- a line more has one LF more
-lf_counted : (lines : List (List ℕ)) (read : List Read) → Say lines read → count_by is_line_feed (text_of lines) ≡ length read
-lf_counted [] [] say = refl
-lf_counted [] (r ∷ read) say = absurd say
-lf_counted (line ∷ lines) [] say = absurd say
-lf_counted (line ∷ lines) (r ∷ read) say =
-    let rest = text_of lines in
-    omega (arith, sum_by-append (λ b. if is_line_feed b then 1 else 0) line (10 ∷ rest), sum_by-cons (λ b. if is_line_feed b then 1 else 0) 10 rest, none_in line say.1, lf_counted lines read say.3)
-
-front_counted : (front : List (List ℕ)) (floor : ℕ) → SaysFloor front floor → count_by is_line_feed (text_of front) ≡ length front
-front_counted [] floor is = refl
-front_counted (line ∷ []) floor is =
-    let free : HasNoLineFeed line = subst HasNoLineFeed (sym is.0) (one_line floor is.1) in
-    omega (arith, sum_by-append (λ b. if is_line_feed b then 1 else 0) line (10 ∷ []), none_in line free)
-front_counted (line ∷ next ∷ front) floor is = absurd is
-
-all_counted : (lines : List (List ℕ)) (floor : ℕ) (read : List Read) → SayLog lines floor read → count_by is_line_feed (text_of lines) ≡ length lines
-all_counted lines floor read s =
-    let split = ap text_of s.parts ∙ text_of-append s.front s.others in
-    omega (
-      arith,
-      ap (λ (t : List ℕ). count_by is_line_feed t) split,
-      sum_by-append (λ b. if is_line_feed b then 1 else 0) (text_of s.front) (text_of s.others),
-      front_counted s.front floor s.floor,
-      lf_counted s.others read s.say,
-      Say-length s.others read s.say,
-      ap length s.parts,
-      length-append s.front s.others,
-    )
 
 same_log : (text : List ℕ) (a b : LogText) → log_of text ≡ Ok a → log_of text ≡ Ok b → a ≡ b
 same_log text a b p q = cc
@@ -112,48 +70,77 @@ module _ (are_read : LinesAreRead) (ended_are_read : EndedLinesAreRead) {D : Typ
     durable = λ c left. s.durable c (crash c left) ∙ sym is;
   }
 
-  module _ (shrunk : Shrunk) (it : ShrinksTo (seen disk) end shrunk) where
+  -- behind an empty line the same is read, of what was written
+  module _ (text : List ℕ) (lines : IsLines text) where
+    out_of : (out : LogText) → log_of text ≡ Ok out → out ≡ record { floor = lines.floor; reads = lines.read; rest = [] }
+    out_of out is = same_log text out (record { floor = lines.floor; reads = lines.read; rest = [] }) is (ap log_of lines.parts ∙ are_read lines.lines lines.floor lines.read lines.say lines.few)
+
+    log_is : (log : LogText) → log_of (take end (seen disk)) ≡ Ok log → log ≡ record { floor = s.floor; reads = s.read; rest = [] }
+    log_is log is = same_log (take end (seen disk)) log (record { floor = s.floor; reads = s.read; rest = [] }) is reads
+
+    ended : text ++ 10 ∷ [] ≡ text_of lines.lines ++ 10 ∷ []
+    ended = ap (λ (t : List ℕ). t ++ 10 ∷ []) lines.parts
+
+    read_whole : (log : LogText) → log_of (take end (seen disk)) ≡ Ok log → log_of (seen disk) ≡ Ok log
+    read_whole log is = ap log_of s.file ∙ ended_are_read s.lines s.floor s.read [] s.say s.few ∙ ap Ok (sym (log_is log is))
+
+    read_back : (out : LogText) → log_of text ≡ Ok out → log_of (text ++ 10 ∷ []) ≡ Ok out
+    read_back out is = ap log_of ended ∙ ended_are_read lines.lines lines.floor lines.read [] lines.say lines.few ∙ ap Ok (sym (out_of out is))
+
+    at_own : IsCompacted (take end (seen disk)) text → IsCompacted (seen disk) (text ++ 10 ∷ [])
+    at_own c = record {
+      log = c.log;
+      read = read_whole c.log c.read;
+      out = c.out;
+      read_back = read_back c.out c.read_back;
+      whole = c.whole;
+      floor = c.floor;
+      lasts = c.lasts;
+      next = c.next;
+      small = omega (arith, c.small, length-append text (10 ∷ []), size, ap length before, s.ends);
+    }
+
+    to_floor : (floor : ℕ) → IsCompactedTo floor (take end (seen disk)) text → IsCompactedTo floor (seen disk) (text ++ 10 ∷ [])
+    to_floor floor c = record {
+      log = c.log;
+      read = read_whole c.log c.read;
+      rises = c.rises;
+      within = c.within;
+      out = c.out;
+      read_back = read_back c.out c.read_back;
+      whole = c.whole;
+      floor = c.floor;
+      lasts = c.lasts;
+      next = c.next;
+      small = omega (arith, c.small, length-append text (10 ∷ []), size, ap length before, s.ends);
+    }
+
+    lacks : (floor : ℕ) → LacksFloor (take end (seen disk)) floor → LacksFloor (seen disk) floor
+    lacks floor why =
+        ⊎_elim
+        (λ off. inl (off.0, read_whole off.0 off.1, off.2))
+        (λ full. inr (record { log = full.log; read = read_whole full.log full.read; rises = full.rises; within = full.within; has_line = full.has_line; full = full.full; stay = full.stay }))
+        why
+
+    by : (floor : Option ℕ) → IsCompactedBy floor (take end (seen disk)) text → IsCompactedBy floor (seen disk) (text ++ 10 ∷ [])
+    by None c = at_own c
+    by (Some floor) c = ⊎_elim (λ it. inl (to_floor floor it)) (λ own. inr (lacks floor own.0, at_own own.1)) c
+
+  module _ (floor : Option ℕ) (shrunk : Shrunk) (it : ShrinksTo floor (seen disk) end shrunk) where
     abbrev lines : IsLines it.text
     lines = it.is_lines
 
-    out_is : it.compacted.out ≡ record { floor = lines.floor; reads = lines.read; rest = [] }
-    out_is = same_log it.text it.compacted.out (record { floor = lines.floor; reads = lines.read; rest = [] }) it.compacted.read_back (ap log_of lines.parts ∙ are_read lines.lines lines.floor lines.read lines.say lines.few)
-
-    log_is : it.compacted.log ≡ record { floor = s.floor; reads = s.read; rest = [] }
-    log_is = same_log (take end (seen disk)) it.compacted.log (record { floor = s.floor; reads = s.read; rest = [] }) it.compacted.read reads
-
-    pub bytes : shrunk.bytes.items ≡ text_of lines.lines ++ 10 ∷ []
+    bytes : shrunk.bytes.items ≡ text_of lines.lines ++ 10 ∷ []
     bytes = it.bytes ∙ ap (λ (t : List ℕ). t ++ 10 ∷ []) lines.parts
 
-    lasts : from_list (records_in lines.read) ≡ last_records (from_list (records_in s.read))
-    lasts =
-        ap (λ (l : LogText). from_list (records_in l.reads)) (sym out_is) ∙ it.compacted.lasts
-        ∙ ap (λ (l : LogText). last_records (from_list (records_in l.reads))) log_is
-
-    floor : lines.floor ≡ s.floor
-    floor = ap (λ (l : LogText). l.floor) (sym out_is) ∙ it.compacted.floor ∙ ap (λ (l : LogText). l.floor) log_is
-
-    next : next_of lines.floor lines.read ≡ next_of s.floor s.read
-    next = ap (λ (l : LogText). next_of l.floor l.reads) (sym out_is) ∙ it.compacted.next ∙ ap (λ (l : LogText). next_of l.floor l.reads) log_is
-
-    pub whole : IsCompacted (seen disk) shrunk.bytes.items
-    whole = record {
-      log = record { floor = s.floor; reads = s.read; rest = [] };
-      read = ap log_of s.file ∙ ended_are_read s.lines s.floor s.read [] s.say s.few;
-      out = record { floor = lines.floor; reads = lines.read; rest = [] };
-      read_back = ap log_of bytes ∙ ended_are_read lines.lines lines.floor lines.read [] lines.say lines.few;
-      whole = refl;
-      floor = floor;
-      lasts = lasts;
-      next = next;
-      small = omega (arith, it.compacted.small, ap length it.bytes, length-append it.text (10 ∷ []), size, ap length before, s.ends);
-    }
+    pub whole : IsCompactedBy floor (seen disk) shrunk.bytes.items
+    whole = subst (λ (t : List ℕ). IsCompactedBy floor (seen disk) t) (sym it.bytes) (by it.text lines floor it.compacted)
 
     kept_count : length lines.lines ≡ shrunk.kept
     kept_count = omega (arith, it.kept, ap (λ (t : List ℕ). count_by is_line_feed t) lines.parts, all_counted lines.lines lines.floor lines.read lines.say)
 
-    pub has_kept : HasKept (seen disk) shrunk.kept
-    has_kept = (it.text, subst (λ (t : List ℕ). IsCompacted (seen disk) t) it.bytes whole, sym it.kept)
+    pub has_kept : HasKept floor (seen disk) shrunk.kept
+    has_kept = (it.text, by it.text lines floor it.compacted, sym it.kept)
 
     pub settles : (new : D) (end' : ℕ) → seen new ≡ shrunk.bytes.items → Only (seen new) (may_leave new) → end' ≡ length shrunk.bytes.items - 1 → IsSettled seen may_leave new end' shrunk.kept
     settles new end' is only ends = record {

@@ -1,8 +1,7 @@
 -- What compacting makes of a log.
-use Rattle.std.specs.Prelude.{◌≡◌, ◌≤◌, ℕ, List, [], ◌∷◌, ◌++◌, length, count_by, Ok}
+use Rattle.std.specs.Prelude.{◌≡◌, ◌≤◌, ℕ, List, [], length, Ok}
 use Rattle.std.specs.FinSet.{from_list}
 use Rattle.reg_journal.specs.Lines.{SayLog, text_of}
-use Rattle.reg_records.specs.Line.{is_line_feed}
 use Rattle.reg_records.specs.Log.{LogText, log_of, next_of, records_in}
 use Rattle.reg_records.specs.declared.limits.TheConstants.{LOG_LINES}
 use Rattle.reg_records.specs.declared.record.Read.{Read}
@@ -28,7 +27,3 @@ pub record IsLines (text : List ℕ) : Type 0 where
   pub parts : text ≡ text_of lines
   pub say : SayLog lines floor read
   pub few : length lines ≤ LOG_LINES
-
--- a compaction of the file is so many lines, and an empty one behind them
-abbrev pub HasKept : List ℕ → ℕ → Type 0
-HasKept file kept = (text : List ℕ) × IsCompacted file (text ++ 10 ∷ []) × (count_by is_line_feed text ≡ kept)

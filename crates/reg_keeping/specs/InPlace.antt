@@ -1,18 +1,18 @@
 -- What compacting does to a journal and its file.
-use Rattle.std.specs.Prelude.{◌≡◌, ◌⊎◌, ℕ, List, Bool, true, false}
+use Rattle.std.specs.Prelude.{◌≡◌, ◌⊎◌, ℕ, List, Bool, true, false, Option}
 use Rattle.reg_journal.specs.Lines.{said}
 use Rattle.reg_journal.specs.declared.disk.DiskError.{DiskError}
 use Rattle.reg_journal.specs.declared.disk.DiskError.TheVariants as disks
 use Rattle.reg_journal.specs.declared.journal.Journal.{Journal}
 use Rattle.reg_journal.specs.declared.renewal.RenewError.{RenewError}
 use Rattle.reg_journal.specs.declared.renewal.RenewError.TheVariants as renewals
-use Rattle.reg_keeping.specs.Compacted.{IsCompacted}
+use Rattle.reg_keeping.specs.CompactedTo.{IsCompactedBy}
 use Rattle.reg_keeping.specs.declared.in_place.CompactError.{CompactError}
 use Rattle.reg_keeping.specs.declared.in_place.CompactError.TheVariants.{OutOfMemory, Failed, Changed, Lost, Broken}
 
 -- the file says what was said before, or is a compaction of the file before
-abbrev pub IsBeforeOrCompacted : List ℕ → List ℕ → Type 0
-IsBeforeOrCompacted before file = (said file ≡ said before) ⊎ IsCompacted before file
+abbrev pub IsBeforeOrCompacted : Option ℕ → List ℕ → List ℕ → Type 0
+IsBeforeOrCompacted floor before file = (said file ≡ said before) ⊎ IsCompactedBy floor before file
 
 -- no batch is taken any more
 abbrev pub breaks : CompactError → Bool
@@ -30,8 +30,8 @@ pub record IsAsItWas {D : Type 0} (is_modelled : Type 0) (seen : D → List ℕ)
   pub is_broken : new.is_broken ≡ old.is_broken
 
 -- the file is a compaction of what it was, of so many lines
-pub record IsShrunk {D : Type 0} (is_modelled : Type 0) (seen : D → List ℕ) (old : Journal D) (kept : ℕ) (new : Journal D) : Type 0 where
-  pub compacted : is_modelled → IsCompacted (seen old.disk) (seen new.disk)
+pub record IsShrunk {D : Type 0} (is_modelled : Type 0) (seen : D → List ℕ) (floor : Option ℕ) (old : Journal D) (kept : ℕ) (new : Journal D) : Type 0 where
+  pub compacted : is_modelled → IsCompactedBy floor (seen old.disk) (seen new.disk)
   pub lines : new.lines ≡ kept
   pub is_broken : new.is_broken ≡ false
 

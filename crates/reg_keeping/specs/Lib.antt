@@ -1,5 +1,6 @@
 pub mod Begun
 pub mod Compacted
+pub mod CompactedTo
 pub mod Filter
 pub mod Fronts
 pub mod InPlace

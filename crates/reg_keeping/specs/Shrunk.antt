@@ -1,17 +1,18 @@
 -- Private: what compacting makes of the bytes of a journal's file.
-use Rattle.std.specs.Prelude.{◌≡◌, ⊤, ℕ, ◌+◌, List, [], ◌∷◌, ◌++◌, length, take, count_by, Err}
+use Rattle.std.specs.Prelude.{◌≡◌, ⊤, ℕ, ◌+◌, List, [], ◌∷◌, ◌++◌, length, take, count_by, Option, Err}
 use Rattle.reg_records.specs.Line.{is_line_feed}
 use Rattle.reg_records.specs.Log.{log_of}
 use Rattle.reg_records.specs.declared.log.LogFault.{LogFault}
-use Rattle.reg_keeping.specs.Compacted.{IsCompacted, IsLines}
+use Rattle.reg_keeping.specs.Compacted.{IsLines}
+use Rattle.reg_keeping.specs.CompactedTo.{IsCompactedBy}
 use Rattle.reg_keeping.specs.declared.in_place.CompactError.{CompactError}
 use Rattle.reg_keeping.specs.declared.in_place.CompactError.TheVariants.{OutOfMemory, Failed, Changed, Lost, Broken}
 use Rattle.reg_keeping.specs.declared.shrinking.Shrunk.{Shrunk}
 
 -- a compaction of what stands before `end`, and an empty line
-pub record ShrinksTo (file : List ℕ) (end : ℕ) (shrunk : Shrunk) : Type 0 where
+pub record ShrinksTo (floor : Option ℕ) (file : List ℕ) (end : ℕ) (shrunk : Shrunk) : Type 0 where
   pub text : List ℕ
-  pub compacted : IsCompacted (take end file) text
+  pub compacted : IsCompactedBy floor (take end file) text
   pub is_lines : IsLines text
   pub bytes : shrunk.bytes.items ≡ text ++ 10 ∷ []
   pub kept : shrunk.kept ≡ count_by is_line_feed text

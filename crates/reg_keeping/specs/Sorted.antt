@@ -8,11 +8,17 @@ use Rattle.reg_records.specs.Log.{offset_in}
 use Rattle.reg_records.specs.declared.record.Read.{Read}
 use Rattle.reg_records.specs.declared.record.Read.TheVariants as reads
 use Rattle.reg_keeping.specs.Compacted.{IsCompacted}
+use Rattle.reg_keeping.specs.CompactedTo.{IsCompactedTo}
 use Rattle.reg_keeping.specs.declared.sorting.Piece.{Piece}
 
 -- the output is what compacting makes of the input, and the offsets of its lines don't fall, but for a floor's
 pub record IsSortedCompaction (input output : List ℕ) : Type 0 where
   pub compacted : IsCompacted input output
+  pub sorted : IsNonDecreasing (map offset_in compacted.out.reads)
+
+-- so it is of compacting to a floor
+pub record IsSortedCompactionTo (floor : ℕ) (input output : List ℕ) : Type 0 where
+  pub compacted : IsCompactedTo floor input output
   pub sorted : IsNonDecreasing (map offset_in compacted.out.reads)
 
 -- Private: what a line says, if it says something

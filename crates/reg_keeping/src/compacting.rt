@@ -68,7 +68,7 @@ fn begin(alloc: Global, log: &[u8]) -> Result<Begun, LogError>
 }
 
 /// The last records of the set of some records.
-fn lasts_of(alloc: Global, records: &[Record]) -> Result<LastRecords, AllocError>
+pub(crate) fn lasts_of(alloc: Global, records: &[Record]) -> Result<LastRecords, AllocError>
     ensures { IfOk result (λ lasts. lasts ≡ last_records (from_list records.now)) }
 {
     records_are_ordered();

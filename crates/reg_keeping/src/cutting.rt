@@ -1,5 +1,5 @@
 // One line of a text.
-ghost use Rattle.std.specs.Prelude.{◌≡◌, ◌≤◌, ◌<◌, ◌+◌, ◌++◌, ◌∷◌, ℕ, List, Ok, Some, IfOk, IfSome, length, position};
+ghost use Rattle.std.specs.Prelude.{◌≡◌, ◌≤◌, ◌<◌, ◌+◌, ◌++◌, ◌∷◌, ℕ, List, Ok, Some, IfOk, IfSome, count_by, length, position};
 ghost use Rattle.reg_records.specs.Line.{is_line_feed, reading};
 ghost use Rattle.reg_records.specs.Pieces.{HasNoLineFeed};
 ghost use Rattle.reg_records.specs.declared.record.Read.{Read};
@@ -45,4 +45,17 @@ fn line_len(text: &[u8]) -> Option<usize>
     ensures { result ≡ position is_line_feed text.now }
 {
     text.iter().position(|b| *b == b'\n')
+}
+
+/// How many LFs a text has.
+pub(crate) fn count_lines(text: &[u8]) -> u64
+    ensures { result ≡ count_by is_line_feed text.now }
+{
+    let mut count: u64 = 0;
+    for b in text {
+        if *b == b'\n' {
+            count += 1;
+        }
+    }
+    count
 }

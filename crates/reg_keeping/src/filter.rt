@@ -1,12 +1,14 @@
 // A filter from a reader to a writer.
-ghost use Rattle.std.specs.Prelude.{◌≡◌, List, ℕ, IfErr, IfOk, IfSome, OnErr, OnOk};
+ghost use Rattle.std.specs.Prelude.{◌≡◌, ◌≤◌, List, ℕ, IfErr, IfOk, IfSome, OnErr, OnOk};
 ghost use Rattle.std.specs.Io.KnownBytes.{Appends};
 ghost use Rattle.reg_journal.specs.Found.{HasFault};
-ghost use Rattle.reg_keeping.specs.Filter.{IsFilterRefusal, IsNoReading, filter_error_of};
-ghost use Rattle.reg_keeping.specs.Sorted.{IsSortedCompaction};
+ghost use Rattle.reg_records.specs.declared.limits.TheConstants.{OFFSET_LIMIT};
+ghost use Rattle.reg_keeping.specs.Filter.{IsFilterRefusal, IsFilterRefusalTo, IsNoReading, filter_error_of, filter_error_to};
+ghost use Rattle.reg_keeping.specs.Sorted.{IsSortedCompaction, IsSortedCompactionTo};
 ghost use Rattle.reg_keeping.specs.declared.filter.FilterError.TheVariants.{WriteFault};
 
-use crate::sorting::compacted_in_order;
+use crate::sorting::{compacted_in_order, compacted_to_in_order};
+use crate::to_floor::ToFloorError;
 use reg_records::{LogError, LogFault};
 use std::alloc::Global;
 use std::error::Error;
@@ -22,6 +24,12 @@ pub enum FilterError {
     ReadFault,
     /// The writer failed. A part of the output may have been written.
     WriteFault,
+    /// The floor is lower than the log's, which is this one. Nothing was written.
+    FloorBelow(u64),
+    /// The floor is above the log's next offset, which is this one. Nothing was written.
+    FloorAhead(u64),
+    /// With the floor's line the log would have more lines than a log may have. Nothing was written.
+    NoRoom,
     /// The log didn't find room. Nothing was written.
     OutOfMemory,
 }
@@ -35,7 +43,10 @@ impl FilterError {
         ensures { result ≡ exit_status self }
     {
         match self {
-            FilterError::Log { line: _, fault: _ } => 2,
+            FilterError::Log { line: _, fault: _ }
+            | FilterError::FloorBelow(_)
+            | FilterError::FloorAhead(_)
+            | FilterError::NoRoom => 2,
             FilterError::ReadFault | FilterError::WriteFault | FilterError::OutOfMemory => 1,
         }
     }
@@ -52,6 +63,9 @@ impl fmt::Display for FilterError {
             FilterError::Log { line, fault } => write!(f, "line {line}: {fault}"),
             FilterError::ReadFault => write!(f, "ReadFault"),
             FilterError::WriteFault => write!(f, "WriteFault"),
+            FilterError::FloorBelow(own) => write!(f, "below the floor {own}"),
+            FilterError::FloorAhead(next) => write!(f, "ahead of the next offset {next}"),
+            FilterError::NoRoom => write!(f, "no room for the floor"),
             FilterError::OutOfMemory => write!(f, "OutOfMemory"),
         }
     }
@@ -74,6 +88,25 @@ pub fn compact<R: Read, W: Write>(
     match compacted_in_order(alloc, &input) {
         Ok(output) => write_output(writer, &output),
         Err(e) => Err(filter_error(e)),
+    }
+}
+
+/// Reads a log to the end of the input, and writes what compacting it to a floor leaves, as `compact` does.
+pub fn compact_to<R: Read, W: Write>(
+    alloc: Global,
+    floor: u64,
+    reader: &mut R,
+    writer: &mut W,
+) -> Result<(), FilterError>
+    requires { floor ≤ OFFSET_LIMIT }
+    ensures written { OnOk result (IfSome (R.remaining reader.old) (λ input. (out : List ℕ) × IsSortedCompactionTo floor input out
+        × Appends (W.contents writer.old) (W.contents writer.new) out)) }
+    ensures refused { IfErr result (IsFilterRefusalTo floor (R.remaining reader.old) (W.contents writer.old) (W.contents writer.new)) }
+{
+    let input = read_input(alloc, reader)?;
+    match compacted_to_in_order(alloc, &input, floor) {
+        Ok(output) => write_output(writer, &output),
+        Err(e) => Err(to_floor_error(e)),
     }
 }
 
@@ -114,5 +147,17 @@ pub fn filter_error(e: LogError) -> FilterError
         LogError::Fault { line, fault } => FilterError::Log { line, fault },
         LogError::ReadFault { line: _ } => FilterError::ReadFault,
         LogError::OutOfMemory => FilterError::OutOfMemory,
+    }
+}
+
+/// Why a filter ends whose log wasn't compacted to a floor.
+fn to_floor_error(e: ToFloorError) -> FilterError
+    ensures { result ≡ filter_error_to e }
+{
+    match e {
+        ToFloorError::Log(e) => filter_error(e),
+        ToFloorError::FloorBelow(own) => FilterError::FloorBelow(own),
+        ToFloorError::FloorAhead(next) => FilterError::FloorAhead(next),
+        ToFloorError::NoRoom => FilterError::NoRoom,
     }
 }

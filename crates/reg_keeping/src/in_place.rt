@@ -1,8 +1,10 @@
 // Compacting the file of a journal, in its place.
-ghost use Rattle.std.specs.Prelude.{◌≡◌, ◌≢◌, ◌≤◌, ◌<◌, ◌-◌, true, false, Err, IfErr, IfOk};
+ghost use Rattle.std.specs.Prelude.{◌≡◌, ◌≢◌, ◌≤◌, ◌<◌, ◌-◌, true, false, None, Err, IfErr, IfOk, IfSome};
 ghost use Rattle.reg_journal.specs.Disk.{LeavesOnly};
 ghost use Rattle.reg_journal.specs.Journal.{IsReady};
-ghost use Rattle.reg_keeping.specs.Compacted.{HasKept, IsCompacted};
+ghost use Rattle.reg_records.specs.declared.limits.TheConstants.{OFFSET_LIMIT};
+ghost use Rattle.reg_keeping.specs.Compacted.{IsCompacted};
+ghost use Rattle.reg_keeping.specs.CompactedTo.{HasKept};
 ghost use Rattle.reg_keeping.specs.InPlace.{IsAsItWas, IsBeforeOrCompacted, IsShrunk, breaks};
 
 use crate::shrinking::{Shrunk, read_shrunk};
@@ -86,34 +88,36 @@ pub fn compact_journal<D: Renewable>(
 
     // A crash at any moment of the call leaves a file that says what it said before, or a compaction of it.
     ensures any_moment { D.is_modelled → journal.old.is_broken ≡ false → LeavesOnly D.moment D.left_since journal.old.disk journal.new.disk
-        (IsBeforeOrCompacted (D.seen journal.old.disk)) }
+        (IsBeforeOrCompacted None (D.seen journal.old.disk)) }
 
     ensures refused { IfErr result (λ e. breaks e ≡ false → IsAsItWas D.is_modelled D.seen journal.old journal.new) }
     ensures unsettled { IfErr result (λ e. breaks e ≡ true → journal.new.is_broken ≡ true) }
     ensures changed { D.is_modelled → IfErr result (λ e. e ≢ CompactError.Changed) }
     ensures broken { journal.old.is_broken ≡ true → (result ≡ Err CompactError.Broken) × (journal.new ≡ journal.old) }
 {
-    compact_superseded(alloc, journal, 0)
+    compact_superseded(alloc, journal, 0, None)
 }
 
-/// Compacts the file of a journal, in its place, where at least so many of its lines are superseded, and tells how many
-/// aren't.
+/// Compacts the file of a journal, in its place, where at least so many of its lines would go, and tells how many
+/// wouldn't. It compacts to that floor, or, where the file can't have it or none is asked for, at the file's own.
 pub fn compact_superseded<D: Renewable>(
     alloc: Global,
     journal: &mut Journal<D>,
     least: u64,
+    floor: Option<u64>,
 ) -> Result<u64, CompactError>
     requires ready { D.is_modelled → IsReady D.known D.seen D.may_leave journal.old }
-    ensures kept { D.is_modelled → IfOk result (HasKept (D.seen journal.old.disk)) }
+    requires floor { IfSome floor (λ f. f ≤ OFFSET_LIMIT) }
+    ensures kept { D.is_modelled → IfOk result (HasKept floor (D.seen journal.old.disk)) }
     ensures few { IfOk result (λ kept. journal.old.lines - kept < least → IsAsItWas D.is_modelled D.seen journal.old journal.new) }
-    ensures many { IfOk result (λ kept. least ≤ journal.old.lines - kept → IsShrunk D.is_modelled D.seen journal.old kept journal.new) }
+    ensures many { IfOk result (λ kept. least ≤ journal.old.lines - kept → IsShrunk D.is_modelled D.seen floor journal.old kept journal.new) }
     ensures ready { D.is_modelled → IsReady D.known D.seen D.may_leave journal.new }
 
     // Unless the journal is broken then, its file says what it said before, or a compaction of it; a crash at any moment
     // of the call leaves such a file.
-    ensures left { D.is_modelled → journal.new.is_broken ≡ false → IsBeforeOrCompacted (D.seen journal.old.disk) (D.seen journal.new.disk) }
+    ensures left { D.is_modelled → journal.new.is_broken ≡ false → IsBeforeOrCompacted floor (D.seen journal.old.disk) (D.seen journal.new.disk) }
     ensures any_moment { D.is_modelled → journal.old.is_broken ≡ false → LeavesOnly D.moment D.left_since journal.old.disk journal.new.disk
-        (IsBeforeOrCompacted (D.seen journal.old.disk)) }
+        (IsBeforeOrCompacted floor (D.seen journal.old.disk)) }
 
     ensures refused { IfErr result (λ e. breaks e ≡ false → IsAsItWas D.is_modelled D.seen journal.old journal.new) }
     ensures unsettled { IfErr result (λ e. breaks e ≡ true → journal.new.is_broken ≡ true) }
@@ -124,7 +128,7 @@ pub fn compact_superseded<D: Renewable>(
         return Err(CompactError::Broken);
     }
     lines_are_logs();
-    let Shrunk { bytes, kept } = match read_shrunk(alloc, &mut journal.disk, journal.end) {
+    let Shrunk { bytes, kept } = match read_shrunk(alloc, &mut journal.disk, journal.end, floor) {
         Ok(shrunk) => shrunk,
         Err(error) => {
             journal.is_broken = error.breaks();

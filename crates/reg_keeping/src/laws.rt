@@ -2,12 +2,11 @@
 ghost use Rattle.reg_keeping.specs.Said.{BatchesFollowCompactions, CompactedFilesSayIt, EachSaysItsOwnCompaction, SaidCompactionsCompose};
 
 use reg_journal::batches_add_records;
-use reg_set::{
-    compactions_compose, last_records_are_enough, last_records_of_unions, records_are_ordered,
-};
+use reg_kept::{compactions_compose, compactions_unite, last_records_are_compactions};
+use reg_set::records_are_ordered;
 
-/// What a compacted file says may stand for what the whole one said: also with batches behind it, and once it is
-/// compacted again.
+/// What a compacted file says may stand for what the whole one said: also with batches from its floor on behind it, and
+/// once it is compacted again.
 pub fn compactions_stand_for_logs()
     ensures compacted { CompactedFilesSayIt }
     ensures itself { EachSaysItsOwnCompaction }
@@ -16,7 +15,7 @@ pub fn compactions_stand_for_logs()
 {
     batches_add_records();
     records_are_ordered();
-    last_records_are_enough();
-    last_records_of_unions();
+    last_records_are_compactions();
+    compactions_unite();
     compactions_compose();
 }

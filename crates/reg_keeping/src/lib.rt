@@ -1,5 +1,5 @@
-//! Filters over logs in files: what compacting leaves of a log, also in the place of a journal's file, and the words of
-//! their program.
+//! Filters over logs in files: what compacting leaves of a log, also to a floor and in the place of a journal's file, and
+//! the words of their program.
 #![tactic(auto)]
 
 mod compacting;
@@ -10,14 +10,16 @@ mod laws;
 mod opening;
 mod shrinking;
 mod sorting;
+mod to_floor;
 mod walk;
 mod words;
 
 pub use compacting::compacted;
 pub use cutting::{floor_len, line_at};
-pub use filter::{FilterError, compact, filter_error, read_input, write_output};
+pub use filter::{FilterError, compact, compact_to, filter_error, read_input, write_output};
 pub use in_place::{CompactError, compact_journal, compact_superseded};
 pub use laws::compactions_stand_for_logs;
 pub use opening::open_aside;
-pub use sorting::compacted_in_order;
+pub use sorting::{compacted_in_order, compacted_to_in_order};
+pub use to_floor::{ToFloorError, compacted_to};
 pub use words::{Command, USAGE, command_of};

@@ -6,10 +6,13 @@ ghost use Rattle.reg_journal.specs.Found.{HasFault};
 ghost use Rattle.reg_journal.specs.Lines.{Say, SaysFloor, text_of};
 ghost use Rattle.reg_records.specs.Log.{offset_in};
 ghost use Rattle.reg_records.specs.declared.record.Read.{Read};
-ghost use Rattle.reg_keeping.specs.Sorted.{HasOffset, IsSortedCompaction, Reorders};
+ghost use Rattle.reg_records.specs.declared.limits.TheConstants.{OFFSET_LIMIT};
+ghost use Rattle.reg_keeping.specs.CompactedTo.{IsToFloorRefusal};
+ghost use Rattle.reg_keeping.specs.Sorted.{HasOffset, IsSortedCompaction, IsSortedCompactionTo, Reorders};
 
 use crate::compacting::compacted;
 use crate::cutting::{floor_len, line_at};
+use crate::to_floor::{ToFloorError, compacted_to};
 use reg_journal::lines_are_logs;
 use reg_records::{LogError, Read};
 use reg_set::records_are_ordered;
@@ -30,6 +33,27 @@ pub fn compacted_in_order(alloc: Global, log: &[u8]) -> Result<Vec<u8>, LogError
     lines_are_logs();
     records_are_ordered();
     let text = compacted(alloc, log)?;
+    Ok(in_order(alloc, text)?)
+}
+
+/// What compacting to a floor leaves of a log, with its lines in the order of their offsets, behind the line of the
+/// floor.
+pub fn compacted_to_in_order(alloc: Global, log: &[u8], floor: u64) -> Result<Vec<u8>, ToFloorError>
+    requires { floor ≤ OFFSET_LIMIT }
+    ensures compacted { IfOk result (λ text. IsSortedCompactionTo floor log.now text.items) }
+    ensures refused { IfErr result (IsToFloorRefusal log.now floor) }
+{
+    lines_are_logs();
+    records_are_ordered();
+    let text = compacted_to(alloc, log, floor)?;
+    Ok(in_order(alloc, text)?)
+}
+
+/// A text with its lines in the order of their offsets, behind a floor's.
+fn in_order(alloc: Global, text: Vec<u8>) -> Result<Vec<u8>, AllocError>
+    ensures { (front lines : List (List ℕ)) (floor : ℕ) (read : List Read) → text.items ≡ text_of (front ++ lines) → SaysFloor front floor → Say lines read
+        → IfOk result (λ sorted. Reorders front lines sorted.items) }
+{
     match reordered(alloc, &text)? {
         Some(sorted) => Ok(sorted),
         None => Ok(text),

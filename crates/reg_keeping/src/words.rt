@@ -1,6 +1,12 @@
 // What the words of the command line ask for.
-ghost use Rattle.std.specs.Prelude.{◌≡◌, map, string_bytes};
-ghost use Rattle.reg_keeping.specs.Words.{command_of, command_named};
+ghost use Rattle.std.specs.Prelude.{◌≡◌, ◌≤◌, IfSome, map, string_bytes};
+ghost use Rattle.std.specs.Char.{is_ascii_digit};
+ghost use Rattle.std.specs.List.{list_all};
+ghost use Rattle.reg_records.specs.Line.{is_decimal, offset_of};
+ghost use Rattle.reg_records.specs.declared.limits.TheConstants.{OFFSET_LIMIT};
+ghost use Rattle.reg_keeping.specs.Words.{HasFloorInLimits, command_at, command_from, command_named, command_of, command_over, command_to};
+
+use reg_records::OFFSET_LIMIT;
 
 /// What the words of the command line ask for.
 #[derive(Clone, Copy, Debug, PartialEq, Eq)]
@@ -8,10 +14,19 @@ pub enum Command {
     /// The log of a file is to be served. Behind the word stand the file, an address with a port, and how many nodes
     /// and workers there are.
     Keep,
+    /// The lines of a kept log are to be written as they are acknowledged. Behind the word stands the file.
+    Tail,
+    /// So too, from that offset on.
+    TailFrom(u64),
+    /// The lines of the input are to be served by nodes that only read. Behind the word stand an address with a port,
+    /// and how many nodes and workers there are.
+    Follow,
     /// It is to be said what a log holds.
     Check,
     /// A log is to be compacted.
     Compact,
+    /// A log is to be compacted to that floor.
+    CompactTo(u64),
     /// How to use the program is to be written.
     Help,
     /// The words are no command: how to use the program is to be said.
@@ -21,29 +36,31 @@ pub enum Command {
 /// How to use the program, a line a command.
 pub const USAGE: &str = "usage: registrylog COMMAND\n\
 keep FILE ADDRESS:PORT NODES WORKERS  serves the log of a file, by nodes at the port and those after it\n\
+tail FILE [OFFSET]                    writes the lines of a kept log from that offset on, and each more once it is kept\n\
+follow ADDRESS:PORT NODES WORKERS     reads lines as they come, and serves them, by nodes that do no commands\n\
 check                                 reads a log, and writes what it holds and what keeps it from being served\n\
 compact                               reads a log, and writes the lines of its last records\n\
+compact FLOOR                         so too, without deletes below the offset FLOOR, which becomes the log's floor\n\
 help                                  writes this\n";
 
 /// What the words ask for, of which the first is the program's name.
 pub fn command_of(words: &[String]) -> Command
-    ensures { result ≡ command_of (map string_bytes words.now) }
+    ensures command { result ≡ command_of (map string_bytes words.now) }
+    ensures within { HasFloorInLimits result }
 {
     match words {
         [_, word] => command_named(word.as_str()),
-        [_, word, _, _, _, _] => {
-            if word.as_str() == "keep" {
-                Command::Keep
-            } else {
-                Command::Usage
-            }
-        }
+        [_, word, given] => command_to(word.as_str(), given.as_str()),
+        [_, word, _, offset] => command_from(word.as_str(), offset.as_str()),
+        [_, word, _, _, _] => command_at(word.as_str()),
+        [_, word, _, _, _, _] => command_over(word.as_str()),
         _ => Command::Usage,
     }
 }
 
 fn command_named(word: &str) -> Command
-    ensures { result ≡ command_named word.now }
+    ensures command { result ≡ command_named word.now }
+    ensures within { HasFloorInLimits result }
 {
     if word == "check" {
         return Command::Check;
@@ -55,4 +72,86 @@ fn command_named(word: &str) -> Command
         return Command::Help;
     }
     Command::Usage
+}
+
+fn command_to(word: &str, given: &str) -> Command
+    ensures command { result ≡ command_to word.now given.now }
+    ensures within { HasFloorInLimits result }
+{
+    if word == "tail" {
+        return Command::Tail;
+    }
+    if word != "compact" {
+        return Command::Usage;
+    }
+    match floor_of(given) {
+        Some(floor) => Command::CompactTo(floor),
+        None => Command::Usage,
+    }
+}
+
+fn command_from(word: &str, offset: &str) -> Command
+    ensures command { result ≡ command_from word.now offset.now }
+    ensures within { HasFloorInLimits result }
+{
+    if word != "tail" {
+        return Command::Usage;
+    }
+    match floor_of(offset) {
+        Some(offset) => Command::TailFrom(offset),
+        None => Command::Usage,
+    }
+}
+
+fn command_at(word: &str) -> Command
+    ensures command { result ≡ command_at word.now }
+    ensures within { HasFloorInLimits result }
+{
+    if word == "follow" {
+        Command::Follow
+    } else {
+        Command::Usage
+    }
+}
+
+fn command_over(word: &str) -> Command
+    ensures command { result ≡ command_over word.now }
+    ensures within { HasFloorInLimits result }
+{
+    if word == "keep" {
+        Command::Keep
+    } else {
+        Command::Usage
+    }
+}
+
+/// The offset that a word spells, within the limit.
+fn floor_of(word: &str) -> Option<u64>
+    ensures value { result ≡ offset_of word.now }
+    ensures within { IfSome result (λ offset. offset ≤ OFFSET_LIMIT) }
+{
+    if !is_decimal(word) {
+        return None;
+    }
+    match word.parse::<u64>() {
+        Ok(offset) if offset <= OFFSET_LIMIT => Some(offset),
+        _ => None,
+    }
+}
+
+/// Whether a word is decimal digits without a leading zero, but for `0` itself.
+fn is_decimal(word: &str) -> bool
+    ensures { result ≡ is_decimal word.now }
+{
+    let digits = word.as_bytes();
+    if digits.is_empty() || (digits.len() > 1 && digits[0] == b'0') {
+        return false;
+    }
+    has_only_digits(digits)
+}
+
+fn has_only_digits(bytes: &[u8]) -> bool
+    ensures { result ≡ list_all is_ascii_digit bytes.now }
+{
+    bytes.iter().all(|b| b.is_ascii_digit())
 }

@@ -46,7 +46,8 @@ impl<M: FeedName<Draw, Taken>, U: Copies<Draw, Taken, M>> Model for View<M, U> {
 }
 
 impl<M: FeedName<Draw, Taken>, U: Copies<Draw, Taken, M>> View<M, U> {
-    pub(crate) fn new(alloc: Global, reader: FeedReader<Draw, Taken, M, U>) -> View<M, U>
+    /// A view that reads a node's list, which begins with nothing.
+    pub fn new(alloc: Global, reader: FeedReader<Draw, Taken, M, U>) -> View<M, U>
         requires { M.first ≡ empty }
         ensures { result ≡ reader }
     {

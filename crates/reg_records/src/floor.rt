@@ -22,8 +22,9 @@ pub fn is_floor_line(line: &[u8]) -> bool
     line.starts_with(FLOOR_MARK)
 }
 
-/// The floor that such a line says, without its LF.
-pub(crate) fn floor_in(line: &[u8]) -> Result<u64, LogFault>
+/// The floor that such a line says, without its LF. A line that is too long, isn't UTF-8 or has no offset
+/// within the limit behind the TAB is refused, by the first of these faults.
+pub fn read_floor(line: &[u8]) -> Result<u64, LogFault>
     requires { is_floor_line line.now ≡ true }
     ensures { result ≡ floor_reading line.now }
 {

@@ -19,7 +19,7 @@ mod value_text;
 mod write;
 
 pub use device::Device;
-pub use floor::{floors_are_of_the_grammar, is_floor_line, write_floor};
+pub use floor::{floors_are_of_the_grammar, is_floor_line, read_floor, write_floor};
 pub use key::{Key, written_keys_are_apart};
 pub use limits::{
     LINE_LIMIT, LINE_READS, LOG_LINES, NUMBER_LIMIT, OFFSET_LIMIT, limits_are_as_written,

@@ -8,7 +8,7 @@ ghost use Rattle.reg_records.specs.LogSteps.{BeginsLog, IsFirstRefusal, IsLineRe
 ghost use Rattle.reg_records.specs.Pieces.{Holds};
 
 use crate::device::Device;
-use crate::floor::{floor_in, is_floor_line};
+use crate::floor::{is_floor_line, read_floor};
 use crate::limits::{LINE_LIMIT, LINE_READS, LOG_LINES, OFFSET_LIMIT};
 use crate::line::{LineError, ReadLineError, read_whole_line};
 use crate::line_reader::{NextLine, take_line};
@@ -145,7 +145,7 @@ fn floor_of(line: &LineBuffer) -> Option<Result<u64, LogFault>>
         (λ said. (is_floor_line bytes ≡ true) × (said ≡ floor_reading bytes)) }
 {
     match line.within_limit() {
-        Some(bytes) if is_floor_line(bytes) => Some(floor_in(bytes)),
+        Some(bytes) if is_floor_line(bytes) => Some(read_floor(bytes)),
         _ => None,
     }
 }

@@ -3,7 +3,7 @@ use Rattle.std.specs.Prelude.{ℕ, List, ◌++◌, Option, Some, None, nat_lt, �
 use Rattle.reg_refusals.specs.Reason.{reason_text, lack_text}
 use Rattle.reg_refusals.specs.declared.reason.StoreFault.TheVariants.{Memory}
 use Rattle.reg_refusals.specs.declared.refusal.Refusal.{Refusal}
-use Rattle.reg_refusals.specs.declared.refusal.Refusal.TheVariants.{BadRequest, NotFound, MethodNotAllowed, LengthRequired, PayloadTooLarge, UnsupportedMediaType, HeadTooLarge, SubjectNotFound, VersionNotFound, SchemaNotFound, SubjectSoftDeleted, SubjectNotSoftDeleted, VersionSoftDeleted, VersionNotSoftDeleted, SubjectHasNoLevel, SubjectHasNoMode, Incompatible, InvalidSchema, InvalidVersion, InvalidLevel, InvalidMode, NotPermitted, Store}
+use Rattle.reg_refusals.specs.declared.refusal.Refusal.TheVariants.{BadRequest, NotFound, MethodNotAllowed, LengthRequired, PayloadTooLarge, UnsupportedMediaType, HeadTooLarge, SubjectNotFound, VersionNotFound, SchemaNotFound, SubjectSoftDeleted, SubjectNotSoftDeleted, VersionSoftDeleted, VersionNotSoftDeleted, SubjectHasNoLevel, SubjectHasNoMode, Incompatible, InvalidSchema, InvalidVersion, InvalidLevel, InvalidMode, NotPermitted, FollowsLog, Store}
 
 abbrev pub code_of : Refusal → ℕ
 code_of BadRequest = 400
@@ -28,6 +28,7 @@ code_of InvalidVersion = 42202
 code_of InvalidLevel = 42203
 code_of InvalidMode = 42204
 code_of (NotPermitted reason) = 42205
+code_of FollowsLog = 50003
 code_of (Store fault) = 50001
 
 -- the first three digits of the code
@@ -58,6 +59,7 @@ reason_of InvalidVersion = None
 reason_of InvalidLevel = None
 reason_of InvalidMode = None
 reason_of (NotPermitted reason) = Some (reason_text reason)
+reason_of FollowsLog = None
 reason_of (Store fault) = Some (lack_text fault)
 
 abbrev pub message_of : Refusal → List ℕ
@@ -83,6 +85,7 @@ message_of InvalidVersion = codes "Invalid version"
 message_of InvalidLevel = codes "Invalid compatibility level"
 message_of InvalidMode = codes "Invalid mode"
 message_of (NotPermitted reason) = codes "Operation not permitted: " ++ reason_text reason
+message_of FollowsLog = codes "This node follows a log: commands go to its writer"
 message_of (Store fault) = codes "Store error: " ++ lack_text fault
 
 -- memory was refused

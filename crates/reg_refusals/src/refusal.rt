@@ -57,6 +57,8 @@ pub enum Refusal {
     InvalidMode,
     /// The operation isn't permitted.
     NotPermitted(Reason),
+    /// The node reads a log that another process writes, and takes no commands.
+    FollowsLog,
     /// The registry's own fault.
     Store(StoreFault),
 }
@@ -90,6 +92,7 @@ impl Refusal {
             Refusal::InvalidLevel => 42203,
             Refusal::InvalidMode => 42204,
             Refusal::NotPermitted(_) => 42205,
+            Refusal::FollowsLog => 50003,
             Refusal::Store(_) => 50001,
         }
     }
@@ -121,7 +124,7 @@ impl Refusal {
             | Refusal::InvalidLevel
             | Refusal::InvalidMode
             | Refusal::NotPermitted(_) => 422,
-            Refusal::Store(_) => 500,
+            Refusal::FollowsLog | Refusal::Store(_) => 500,
         }
     }
 
@@ -163,6 +166,7 @@ impl Refusal {
             Refusal::InvalidLevel => "Invalid compatibility level",
             Refusal::InvalidMode => "Invalid mode",
             Refusal::NotPermitted(reason) => not_permitted(*reason),
+            Refusal::FollowsLog => "This node follows a log: commands go to its writer",
             Refusal::Store(fault) => store_error(*fault),
         }
     }
@@ -236,6 +240,7 @@ impl Clone for Refusal {
             Refusal::InvalidLevel => Refusal::InvalidLevel,
             Refusal::InvalidMode => Refusal::InvalidMode,
             Refusal::NotPermitted(reason) => Refusal::NotPermitted(*reason),
+            Refusal::FollowsLog => Refusal::FollowsLog,
             Refusal::Store(fault) => Refusal::Store(*fault),
         })
     }

@@ -69,7 +69,7 @@ impl<'a, T: Drop> Doorkeeper<'a, T> {
         })
     }
 
-    /// Keeps the door; with a limit, until so many connections were closed.
+    /// Keeps the door until the hall is closed; with a limit, until so many connections were closed.
     pub(crate) fn keep<R: Wait + Clock>(
         &mut self,
         rt: &R,
@@ -78,10 +78,8 @@ impl<'a, T: Drop> Doorkeeper<'a, T> {
         limit: Option<u64>,
     ) {
         for _ in rt.forever() {
-            if let Some(limit) = limit {
-                if self.places.closed() >= limit {
-                    break;
-                }
+            if self.is_done(limit) {
+                break;
             }
             self.wait(rt, poll, events);
             self.tell_time(rt);
@@ -94,6 +92,16 @@ impl<'a, T: Drop> Doorkeeper<'a, T> {
             self.look_for_late();
             self.lighten();
         }
+    }
+
+    /// Whether the door is kept no longer.
+    fn is_done(&self, limit: Option<u64>) -> bool {
+        if let Some(limit) = limit {
+            if self.places.closed() >= limit {
+                return true;
+            }
+        }
+        self.hall.is_closed()
     }
 
     /// Waits for events.

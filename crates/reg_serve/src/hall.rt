@@ -41,6 +41,8 @@ pub(crate) struct Hall<T: Drop> {
     asleep: AtomicBool,
     /// How many workers wait for a connection.
     idle: AtomicUsize,
+    /// Whether the node is to end, whatever connections it has.
+    closed: AtomicBool,
     /// Whose turn it is to write.
     pub(crate) turns: Turns<T>,
 }
@@ -73,6 +75,7 @@ impl<T: Drop> Hall<T> {
             waker,
             asleep: AtomicBool::new(false),
             idle: AtomicUsize::new(0),
+            closed: AtomicBool::new(false),
             turns: Turns::new(alloc, workers, connections)?,
         };
         Ok((hall, poll))
@@ -81,6 +84,16 @@ impl<T: Drop> Hall<T> {
     /// Hands a connection to the workers. `false` where it is lost.
     pub(crate) fn hand<R: Wait>(&self, rt: &R, connection: Connection<TcpStream, T>) -> bool {
         self.to_workers.send(rt, Job::Attend(connection)).is_ok()
+    }
+
+    /// The node is to end. Wakes the doorkeeper.
+    pub(crate) fn close(&self) {
+        self.closed.store(true, Ordering::SeqCst);
+        let _woken = self.waker.wake();
+    }
+
+    pub(crate) fn is_closed(&self) -> bool {
+        self.closed.load(Ordering::SeqCst)
     }
 
     /// Lets so many workers end.

@@ -5,9 +5,11 @@
 mod doorkeeper;
 mod hall;
 mod latch;
+mod listening;
 mod nodes;
 mod turns;
 mod worker;
 
 pub use latch::Latch;
+pub use listening::{ListenError, listen};
 pub use nodes::{Follow, Node, StartError, begin, open_node};

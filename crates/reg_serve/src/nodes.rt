@@ -25,6 +25,9 @@ pub trait Follow {
     /// Brings what is new of the topic to the node.
     fn follow(&self);
 
+    /// Whether the node is to end, though its clients go on. It is asked after each call of `follow`.
+    fn is_over(&self) -> bool;
+
     /// Whoever makes the topic grow unparks it; nobody else parks on it.
     fn grown(&self) -> &Parker;
 }
@@ -77,8 +80,9 @@ impl From<AllocError> for StartError {
 }
 
 /// Starts a node's threads, which wait at the latch: the doorkeeper, a worker for each desk, and the
-/// follower. With a limit the node ends once so many of its connections were closed. Fails where a thread
-/// can't be made, or the memory that it begins with; those that were made still wait at the latch.
+/// follower. The node ends once its follower says that it is over, and with a limit once so many of its
+/// connections were closed. Fails where a thread can't be made, or the memory that it begins with; those
+/// that were made still wait at the latch.
 pub fn open_node<
     's,
     E,
@@ -174,6 +178,9 @@ fn follow_at<R: Wait, T: Drop, F: Follow + Drop>(rt: &R, latch: &Latch, node: &N
         }
         node.follower.grown().park_timeout(rt, within);
         node.follower.follow();
+        if node.follower.is_over() {
+            node.hall.close();
+        }
     }
 }
 

@@ -1,9 +1,8 @@
 // How nodes are reached.
 use crate::error::StartFault;
 use std::alloc::Global;
-use std::io::ErrorKind;
 use std::mem;
-use std::net::{IpAddr, Net, TcpListener, TcpStream};
+use std::net::TcpListener;
 
 /// What stands before the nodes.
 pub trait Entrance {
@@ -37,38 +36,5 @@ impl Entrance for Listening {
 
     fn ready(&mut self) -> bool {
         true
-    }
-}
-
-/// Listens at so many ports of an address, from the first one on.
-pub fn listen<R: Net<Listener = TcpListener, Stream = TcpStream>>(
-    rt: &R,
-    alloc: Global,
-    address: IpAddr,
-    port: u64,
-    nodes: u64,
-) -> Result<Vec<TcpListener>, StartFault> {
-    let mut listeners = Vec::new(alloc);
-    for k in 0..nodes {
-        listeners.push(listen_at(rt, address, port.saturating_add(k))?)?;
-    }
-    Ok(listeners)
-}
-
-fn listen_at<R: Net<Listener = TcpListener, Stream = TcpStream>>(
-    rt: &R,
-    address: IpAddr,
-    port: u64,
-) -> Result<TcpListener, StartFault> {
-    let Ok(number) = u16::try_from(port) else {
-        let kind = ErrorKind::InvalidInput;
-        return Err(StartFault::Port { port, kind });
-    };
-    match TcpListener::bind(rt, (address, number)) {
-        Ok(listener) => Ok(listener),
-        Err(e) => {
-            let kind = e.kind();
-            Err(StartFault::Port { port, kind })
-        }
     }
 }

@@ -4,7 +4,7 @@ use reg_judge::JudgeError;
 use reg_leader::AdoptError;
 use reg_pen::{Lack, OpenError};
 use reg_records::LogError;
-use reg_serve::StartError;
+use reg_serve::{ListenError, StartError};
 use std::alloc::{AllocError, AllocFailed};
 use std::io::{self, ErrorKind};
 use thiserror::Error;
@@ -50,6 +50,15 @@ impl From<NoPlace> for StartFault {
 impl From<StartError> for StartFault {
     fn from(_refused: StartError) -> StartFault {
         StartFault::OutOfMemory
+    }
+}
+
+impl From<ListenError> for StartFault {
+    fn from(refused: ListenError) -> StartFault {
+        match refused {
+            ListenError::OutOfMemory => StartFault::OutOfMemory,
+            ListenError::Port { port, kind } => StartFault::Port { port, kind },
+        }
     }
 }
 

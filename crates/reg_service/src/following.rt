@@ -38,6 +38,11 @@ impl<
         }
     }
 
+    // The topic goes on as long as the process.
+    fn is_over(&self) -> bool {
+        false
+    }
+
     fn grown(&self) -> &Parker {
         self.grown
     }

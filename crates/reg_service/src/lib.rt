@@ -13,7 +13,7 @@ mod running;
 mod seats;
 mod size;
 
-pub use entrance::{Entrance, Listening, listen};
+pub use entrance::{Entrance, Listening};
 pub use error::StartFault;
 pub use gate::NoGate;
 pub use nodes::{NODES_LIMIT, serve_log, serve_nodes};

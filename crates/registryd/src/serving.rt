@@ -1,5 +1,6 @@
 // Nodes that serve until the program is stopped.
-use reg_service::{Entrance, NoGate, Size, StartFault, listen, serve_nodes};
+use reg_serve::listen;
+use reg_service::{Entrance, NoGate, Size, StartFault, serve_nodes};
 use std::alloc::Global;
 use std::io::{Eprint, Print};
 use std::net::{IpAddr, Ipv4Addr, Net, TcpListener, TcpStream};
@@ -58,7 +59,7 @@ struct Ports<R: Drop> {
 impl<R: Net<Listener = TcpListener, Stream = TcpStream> + Print + Drop> Entrance for Ports<R> {
     fn listen(&mut self) -> Result<Vec<TcpListener>, StartFault> {
         let address = IpAddr::V4(Ipv4Addr::LOCALHOST);
-        listen(&self.rt, self.alloc, address, self.port, self.nodes)
+        Ok(listen(&self.rt, self.alloc, address, self.port, self.nodes)?)
     }
 
     fn ready(&mut self) -> bool {

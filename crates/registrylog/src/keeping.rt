@@ -2,24 +2,24 @@
 use crate::fault::KeepFault;
 use crate::opening::{Locked, lock, open_or_make, settle};
 use crate::telling::Telling;
-use crate::words::Asked;
+use crate::words::Place;
 use reg_inspection::obstacles;
 use reg_journal::{Journal, StoredFile, look};
 use reg_journal_keep::FileKeep;
 use reg_records::Log;
-use reg_service::{Entrance, Size, StartFault, listen};
+use reg_serve::listen;
+use reg_service::{Entrance, Size, StartFault};
 use std::alloc::Global;
 use std::fs::{File, Files};
 use std::io::Eprint;
-use std::net::{Net, SocketAddr, TcpListener, TcpStream};
+use std::net::{Net, TcpListener, TcpStream};
 
 /// The way to the nodes.
 #[derive(Drop)]
 pub(crate) struct Door<R: Drop> {
     rt: R,
     alloc: Global,
-    address: SocketAddr,
-    nodes: u64,
+    place: Place,
     /// What was read of the log: its records, its next offset, and its bytes.
     records: u64,
     next: u64,
@@ -28,8 +28,9 @@ pub(crate) struct Door<R: Drop> {
 
 impl<R: Net<Listener = TcpListener, Stream = TcpStream> + Eprint + Drop> Entrance for Door<R> {
     fn listen(&mut self) -> Result<Vec<TcpListener>, StartFault> {
-        let port = u64::from(self.address.port());
-        listen(&self.rt, self.alloc, self.address.ip(), port, self.nodes)
+        let Place { address, nodes, .. } = self.place;
+        let port = u64::from(address.port());
+        Ok(listen(&self.rt, self.alloc, address.ip(), port, nodes)?)
     }
 
     fn ready(&mut self) -> bool {
@@ -56,10 +57,15 @@ pub(crate) struct Opened<R: Files<File = File> + Eprint + Drop> {
 pub(crate) fn open_log<R: Files<File = File> + Eprint + Copy + Drop>(
     rt: R,
     alloc: Global,
-    asked: &Asked<'_>,
+    file: &str,
+    place: Place,
 ) -> Result<Opened<R>, KeepFault> {
-    let Locked { path, file, lock } = lock(&rt, alloc, asked.file)?;
-    let mut disk = StoredFile::new(alloc, rt, path.as_str(), file)?;
+    let Locked {
+        path,
+        file: opened,
+        lock,
+    } = lock(&rt, alloc, file)?;
+    let mut disk = StoredFile::new(alloc, rt, path.as_str(), opened)?;
     disk.remove_unfinished()?;
     let found = settle(rt, alloc, &mut disk, path.as_str())?;
     let journal = Journal {
@@ -68,20 +74,20 @@ pub(crate) fn open_log<R: Files<File = File> + Eprint + Copy + Drop>(
         lines: found.lines,
         is_broken: false,
     };
-    let mut keep = Telling::new(rt, FileKeep::new(alloc, journal));
+    let (floor, next) = (found.log.floor, found.log.next);
+    let mut keep = Telling::new(rt, FileKeep::new(alloc, journal, floor, next));
     keep.make_room();
     let door = Door {
         rt,
         alloc,
-        address: asked.address,
-        nodes: asked.nodes,
+        place,
         records: found.log.records.len() as u64,
         next: found.log.next,
         bytes: (found.end as u64).saturating_add(1),
     };
     let size = Size {
-        nodes: usize::try_from(asked.nodes).unwrap_or(1),
-        workers: u32::try_from(asked.workers).unwrap_or(1),
+        nodes: usize::try_from(place.nodes).unwrap_or(1),
+        workers: u32::try_from(place.workers).unwrap_or(1),
         limit: None,
     };
     let log = found.log;

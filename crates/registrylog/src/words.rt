@@ -1,19 +1,18 @@
-// The words behind `keep`.
+// The words behind `keep` and `follow`.
 use std::net::SocketAddr;
 
-/// What is to be served, and where.
+/// Where nodes listen, and how many there are.
 #[derive(Clone, Copy)]
-pub(crate) struct Asked<'a> {
-    pub(crate) file: &'a str,
+pub(crate) struct Place {
     /// Where the first node listens; each other one at the port after that of the one before it.
     pub(crate) address: SocketAddr,
     pub(crate) nodes: u64,
     pub(crate) workers: u64,
 }
 
-/// A file, an address of the machine with a port, 1 to 3 nodes and 1 to 16 workers of each.
-pub(crate) fn read_words(words: &[String]) -> Option<Asked<'_>> {
-    let [_, _, file, address, nodes, workers] = words else {
+/// An address of the machine with a port, 1 to 3 nodes and 1 to 16 workers of each.
+pub(crate) fn read_place(words: &[String]) -> Option<Place> {
+    let [address, nodes, workers] = words else {
         return None;
     };
     let address: SocketAddr = address.as_str().parse().ok()?;
@@ -23,8 +22,7 @@ pub(crate) fn read_words(words: &[String]) -> Option<Asked<'_>> {
     if port == 0 || port.saturating_add(nodes) > 65_536 {
         return None;
     }
-    Some(Asked {
-        file: file.as_str(),
+    Some(Place {
         address,
         nodes,
         workers,

@@ -6,6 +6,8 @@ mod compactions;
 #[cfg(test)]
 mod faults;
 #[cfg(test)]
+mod floors;
+#[cfg(test)]
 mod in_place;
 #[cfg(test)]
 mod openings;

@@ -3,7 +3,7 @@ use reg_refusals::{Allow, Reason, Refusal, StoreFault};
 use std::alloc::{AllocError, Global};
 
 /// Refusals, each with its code, status, reason, or `-` where its code has but one, and message.
-const REFUSALS: [(Refusal, &str); 34] = [
+const REFUSALS: [(Refusal, &str); 35] = [
     (Refusal::BadRequest, "400 400 - | Bad Request"),
     (Refusal::NotFound, "404 404 - | Not Found"),
     (
@@ -89,6 +89,10 @@ const REFUSALS: [(Refusal, &str); 34] = [
     (
         Refusal::NotPermitted(Reason::IdIsNotAboveMark),
         "42205 422 id is not above the mark | Operation not permitted: id is not above the mark",
+    ),
+    (
+        Refusal::FollowsLog,
+        "50003 500 - | This node follows a log: commands go to its writer",
     ),
     (
         Refusal::Store(StoreFault::Memory),

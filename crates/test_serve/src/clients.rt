@@ -300,3 +300,33 @@ fn a_body_that_was_left_unread_is_taken_before_the_close(rt: HostRuntime) -> io:
     assert!(rt; told);
     Ok(())
 }
+
+/// Whether a client is answered, and whether its connection and a silent one are closed once the node is over.
+fn outlive<R: Net<Stream = TcpStream>>(
+    rt: &R,
+    alloc: Global,
+    address: SocketAddr,
+    ledger: &Ledger,
+) -> io::Result<(bool, bool)> {
+    let mut streams = connect_all(rt, alloc, address, 2, b"")?;
+    let answered = is_answered(rt, alloc, address)?;
+    ledger.over.store(true, Ordering::SeqCst);
+    let mut closed = true;
+    for stream in streams.iter_mut() {
+        closed = is_closed(alloc, stream) && closed;
+    }
+    Ok((answered, closed))
+}
+
+#[test]
+fn a_node_that_is_over_closes_its_connections(rt: HostRuntime) -> io::Result<()> {
+    let alloc = rt.alloc();
+    for workers in 1..=2 {
+        let ledger = Ledger::new(0);
+        let told = with_node(&rt, alloc, patient(), workers, 1_000, &ledger, |address| {
+            outlive(&rt, alloc, address, &ledger)
+        })?;
+        assert_eq!(rt; told, (true, true));
+    }
+    Ok(())
+}

@@ -11,7 +11,7 @@ use reg_lookup::{Answer, Query};
 use std::alloc::{AllocError, Global};
 use std::cell::Cell;
 use std::io::{self, ErrorKind};
-use std::sync::atomic::{AtomicU64, Ordering};
+use std::sync::atomic::{AtomicBool, AtomicU64, Ordering};
 use std::thread;
 use std::time::{Clock, Duration};
 
@@ -86,6 +86,8 @@ impl Stream for FakeStream<'_> {
 pub struct Ledger {
     pub commands: AtomicU64,
     pub held: AtomicU64,
+    /// Whether the node is to end.
+    pub over: AtomicBool,
 }
 
 impl Ledger {
@@ -93,6 +95,7 @@ impl Ledger {
         Ledger {
             commands: AtomicU64::new(0),
             held: AtomicU64::new(held),
+            over: AtomicBool::new(false),
         }
     }
 }

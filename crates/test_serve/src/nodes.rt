@@ -15,12 +15,17 @@ use std::time::Clock;
 #[derive(Drop)]
 pub struct Counting<'a> {
     pub calls: &'a AtomicU64,
+    pub ledger: &'a Ledger,
     pub grown: Parker,
 }
 
 impl Follow for Counting<'_> {
     fn follow(&self) {
         self.calls.fetch_add(1, Ordering::SeqCst);
+    }
+
+    fn is_over(&self) -> bool {
+        self.ledger.over.load(Ordering::SeqCst)
     }
 
     fn grown(&self) -> &Parker {
@@ -83,6 +88,7 @@ pub fn with_node<
     let calls = AtomicU64::new(0);
     let following = Counting {
         calls: &calls,
+        ledger,
         grown: Parker::new(),
     };
     let node = Node::new(rt, alloc, &listener, following, workers as usize, limits)?;

@@ -1,8 +1,16 @@
-use Rattle.std.proofs.Common.{◌≡◌, ◌≤◌, ◌++◌, List, ℕ, length, take, drop, refl, ap, ◌∙◌, arith, rules, length-append}
+use Rattle.std.proofs.Common.{◌≡◌, ◌≤◌, ◌<◌, ◌⊎◌, inl, ◌++◌, List, ℕ, true, length, take, drop, refl, ap, ◌∙◌, arith, rules, length-append}
+use Rattle.std.specs.FinSet.{contains, from_list}
 use Rattle.reg_journal.specs.Lines.{text_of}
+use Rattle.reg_records.specs.Log.{next_of, records_in}
+use Rattle.reg_records.specs.declared.record.Record.{Record}
+use Rattle.reg_set.specs.LastRecords.{last_records}
+use Rattle.reg_set.specs.Records.{Records}
 use Rattle.reg_keeping.specs.Fronts.{HasLines}
-use Rattle.reg_keeping.proofs.Compacts.{is_compacted, is_lines, walked}
-use Rattle.reg_keeping.proofs.Fronts.{behind, split_behind, split_front}
+use Rattle.reg_keeping.proofs.Compacts.{has_set, is_compacted, is_lines, set_has, walked}
+use Rattle.reg_keeping.proofs.Drops.{later_last}
+use Rattle.reg_keeping.proofs.Fronts.{behind, split_behind, split_front, Say-length}
+use Rattle.reg_keeping.proofs.Kept.{Has}
+use Rattle.reg_keeping.proofs.Lasts.{lasts_have_one}
 use Rattle.reg_keeping.proofs.compacting.compacted.Goals as goal
 
 pub returns : goal.returns
@@ -27,12 +35,21 @@ returns c =
     let none = c.last_is_greatest.ensures.none in
     let least = c.last_records_are_enough.ensures.least in
     let read = c.lines_are_logs.ensures.read in
-    let (text, left, is) = walked o.all o.apart o.keys o.keys_apart greatest none least log.floor log.reads s.others s.say c.in_ok-waiting.field-0.top _ c.take_lines.new.self
+    let whole : Records = from_list (records_in log.reads) in
+    let one = lasts_have_one o.all o.apart o.keys o.keys_apart whole in
+    let part : (q : Record) → contains (last_records whole) q ≡ true → Has log.reads q = λ q is. set_has o.all o.apart o.keys o.keys_apart log.reads q ((least whole).is_part q is) in
+    let covers : (r : Record) → Has log.reads r → ((q : Record) × (contains (last_records whole) q ≡ true) × (r.offset ≤ q.offset)) ⊎ (r.offset < log.floor) =
+    λ r has. inl (later_last o.all o.apart o.keys o.keys_apart least greatest none whole r (has_set o.all o.apart o.keys o.keys_apart log.reads r has)) in
+    let rises : log.floor ≤ log.floor = omega arith in
+    let ahead : log.floor ≤ next_of log.floor log.reads = omega arith in
+    let (text, left, is) = walked o.all o.apart o.keys o.keys_apart log.floor log.floor log.reads s.others s.say (last_records whole) one part covers rises ahead c.in_ok-waiting.field-0.top _ c.take_lines.new.self
     b.top b.waiting refl refl (c.in_ok-take_lines.ensures s.others log.reads has) in
     let output : List ℕ = c.in_ok-finish.field-0.items in
     let joined : output ≡ text_of s.front ++ text = c.in_ok-finish.ensures ∙ is ∙ ap (λ (t : List ℕ). t ++ text) front in
     record {
-      compacted = is_compacted o.all o.apart o.keys o.keys_apart greatest none least log.floor log.reads s.others s.say read input log lines s.front b.read few s.parts s.floor refl refl within text output left joined;
-      lines = is_lines o.all o.apart o.keys o.keys_apart greatest none least log.floor log.reads s.others s.say read input log lines s.front b.read few s.parts s.floor refl refl within text output left joined;
+      compacted = is_compacted o.all o.apart o.keys o.keys_apart log.floor log.floor log.reads s.others s.say (last_records whole) one part covers rises ahead read s.front s.floor text output left joined
+          input log lines b.read s.parts few within refl refl refl refl;
+      lines = is_lines o.all o.apart o.keys o.keys_apart log.floor log.floor log.reads s.others s.say (last_records whole) one part covers rises ahead read s.front s.floor text output left joined
+          (omega (arith, few, ap length s.parts, length-append s.front s.others, Say-length s.others log.reads s.say, left.few));
       fault = search rules;
     }

@@ -1,0 +1,110 @@
+// Where lines end, and why they aren't followed any more.
+use reg_intake::IntakeError;
+use reg_records::LogFault;
+use reg_serve::{ListenError, StartError};
+use std::alloc::{AllocError, AllocFailed};
+use std::error::Error;
+use std::fmt;
+use std::io::{self, ErrorKind};
+
+/// Where the lines of a log end.
+#[derive(Clone, Copy, Debug, PartialEq, Eq)]
+pub enum LinesEnd {
+    /// The input ended behind a whole line.
+    Input,
+    /// The input ended within a line, which isn't taken.
+    Unfinished,
+    /// An empty line ended the log. What stands behind it is left.
+    EmptyLine,
+}
+
+/// Why lines aren't followed, or no longer.
+#[derive(Clone, Copy, Debug, PartialEq, Eq)]
+pub enum FollowError {
+    /// The first line that has a fault; lines count from 1.
+    Fault { line: u64, fault: LogFault },
+    /// The reader failed.
+    ReadFault,
+    /// Memory, a thread, a descriptor or a place for a reader was refused.
+    OutOfMemory,
+    /// A node can't listen at its port.
+    Port { port: u64, kind: ErrorKind },
+}
+
+impl FollowError {
+    /// The exit status of a program that ends with it.
+    pub fn status(self) -> u8 {
+        match self {
+            FollowError::Fault { line: _, fault: _ } => 2,
+            FollowError::ReadFault
+            | FollowError::OutOfMemory
+            | FollowError::Port { port: _, kind: _ } => 1,
+        }
+    }
+}
+
+impl fmt::Display for FollowError {
+    fn fmt<W: fmt::Write>(&self, f: &mut fmt::Formatter<W>) -> fmt::Result {
+        match *self {
+            FollowError::Fault { line, fault } => write!(f, "line {line}: {fault}"),
+            FollowError::ReadFault => write!(f, "ReadFault"),
+            FollowError::OutOfMemory => write!(f, "OutOfMemory"),
+            FollowError::Port { port, kind } => write!(f, "port {port}: {kind:?}"),
+        }
+    }
+}
+
+impl Error for FollowError {}
+
+impl From<IntakeError> for FollowError {
+    ghost use Rattle.std.specs.Prelude.{◌≡◌};
+    ghost use Rattle.reg_follow.specs.Following.{follow_error_of};
+
+    ghost from_gives = { λ error e. e ≡ follow_error_of error };
+
+    fn from(error: IntakeError) -> FollowError {
+        match error {
+            IntakeError::Fault { line, fault } => FollowError::Fault { line, fault },
+            IntakeError::OutOfMemory => FollowError::OutOfMemory,
+        }
+    }
+}
+
+impl From<AllocError> for FollowError {
+    ghost use Rattle.std.specs.Prelude.{◌≡◌};
+    ghost use Rattle.reg_follow.specs.declared.ended.FollowError.TheVariants.{OutOfMemory};
+
+    ghost from_gives = { λ _ e. e ≡ OutOfMemory };
+
+    fn from(_refused: AllocError) -> FollowError {
+        FollowError::OutOfMemory
+    }
+}
+
+impl<T: Drop> From<AllocFailed<T>> for FollowError {
+    fn from(_refused: AllocFailed<T>) -> FollowError {
+        FollowError::OutOfMemory
+    }
+}
+
+impl From<ListenError> for FollowError {
+    fn from(refused: ListenError) -> FollowError {
+        match refused {
+            ListenError::OutOfMemory => FollowError::OutOfMemory,
+            ListenError::Port { port, kind } => FollowError::Port { port, kind },
+        }
+    }
+}
+
+impl From<StartError> for FollowError {
+    fn from(_refused: StartError) -> FollowError {
+        FollowError::OutOfMemory
+    }
+}
+
+/// A node's poll or its listener's options were refused, or no thread could be made.
+impl From<io::Error> for FollowError {
+    fn from(_refused: io::Error) -> FollowError {
+        FollowError::OutOfMemory
+    }
+}

@@ -1,0 +1,180 @@
+// What takes the lines of a log as they come, and publishes their records to a node's views.
+ghost use Rattle.std.specs.Prelude.{◌≡◌, ◌<◌, ◌++◌, List, ℕ, [], length, IfErr, IfOk, MatchBool, OnErr, OnOk};
+ghost use Rattle.std.specs.FinSet.{empty};
+ghost use Rattle.reg_records.specs.declared.record.Read.{Read};
+ghost use Rattle.reg_follow.specs.Following.{Adds, ComesTo, GoesOn, HasTaken, IsStopped, TakesLine, published};
+
+use reg_feed::{Copies, FeedName, FeedWriter, NoPlace};
+use reg_intake::{Came, Incoming, IntakeError};
+use reg_node::{Draw, Take, Taken, View};
+use reg_records::Read;
+use std::alloc::{AllocError, Global};
+use std::marker::Model;
+use std::sync::Wait;
+
+/// How many lines are taken at a time at most.
+const LINES_AT_ONCE: u64 = 1_000;
+
+/// Why no more lines were taken at a time.
+#[derive(Clone, Copy, Debug, PartialEq, Eq)]
+pub enum Stop {
+    /// So many lines are enough for one time.
+    Full,
+    /// The next line isn't whole.
+    Waits,
+    /// An empty line ends the log.
+    Ended,
+}
+
+/// Takes the lines of a log as they come, and publishes their records to a node's views, each as a take at a
+/// topic of which nothing was read.
+///
+/// Contracts see the bytes that no line was read of, beside the published draws and the pending ones.
+#[derive(Drop)]
+pub struct Intake<M: FeedName<Draw, Taken>, U: Copies<Draw, Taken, M>, R: Wait + Drop> {
+    alloc: Global,
+    incoming: Incoming,
+    // In a `Box`, since a struct that holds a `FeedWriter` itself gets no generated drop.
+    out: Box<FeedWriter<Draw, Taken, M, U, R>>,
+}
+
+impl<M: FeedName<Draw, Taken>, U: Copies<Draw, Taken, M>, R: Wait + Drop> Model
+    for Intake<M, U, R> {
+    ghost use Rattle.std.specs.FinSet.{empty};
+    ghost use Rattle.std.specs.Prelude.{◌≡◌};
+    ghost use Rattle.reg_follow.specs.Following.{Following};
+
+    ghost Value = { Following };
+
+    ghost view = { λ i. record { unread = i.incoming; published = i.out.value.0; pending = i.out.value.1 } };
+
+    ghost invariant = { λ i. M.first ≡ empty };
+}
+
+impl<M: FeedName<Draw, Taken>, U: Copies<Draw, Taken, M>, R: Wait + Drop> Intake<M, U, R> {
+    /// One that begins with nothing, and publishes by that writer.
+    pub fn new(alloc: Global, out: Box<FeedWriter<Draw, Taken, M, U, R>>) -> Intake<M, U, R>
+        requires { (out.value ≡ ([], [])) × (M.first ≡ empty) }
+        ensures { HasTaken [] [] result }
+    {
+        Intake {
+            alloc,
+            incoming: Incoming::new(alloc),
+            out,
+        }
+    }
+
+    /// How many lines were read, up to `u64::MAX`.
+    pub fn count(&self) -> u64
+        ensures { result ≡ self.now.unread.count }
+    {
+        self.incoming.count()
+    }
+
+    /// Whether bytes came that no line was read of.
+    pub fn has_unread(&self) -> bool
+        ensures { MatchBool result (0 < length self.now.unread.bytes) (self.now.unread.bytes ≡ []) }
+    {
+        !self.incoming.is_empty()
+    }
+
+    /// A view of the node. It may be refused at any call.
+    pub fn view(&mut self) -> Result<View<M, U>, NoPlace>
+        ensures new { IfOk result (λ v. v ≡ []) }
+        ensures same { self.new ≡ self.old }
+    {
+        let reader = self.out.reader()?;
+        Ok(View::new(self.alloc, reader))
+    }
+
+    /// Takes bytes that came behind those before. The only error is want of memory; all is then as it was.
+    pub fn take(&mut self, bytes: &[u8]) -> Result<(), AllocError>
+        ensures taken { (text : List ℕ) (read : List Read) → HasTaken text read self.old → OnOk result (HasTaken (text ++ bytes.now) read self.new) }
+        ensures list { (self.new.published ≡ self.old.published) × (self.new.pending ≡ self.old.pending) }
+        ensures refused { OnErr result (self.new ≡ self.old) }
+    {
+        self.incoming.take(bytes)
+    }
+
+    /// Reads lines that are whole, 1,000 at most, and publishes their records, all at once. It may wait for
+    /// views that read an older list.
+    ///
+    /// After an error a line may have been read whose record isn't published; no record behind it is.
+    pub fn publish_lines(&mut self) -> Result<Stop, IntakeError>
+        ensures taken { (text : List ℕ) (read : List Read) → HasTaken text read self.old → IfOk result (λ stop. GoesOn text read stop self.new × (self.new.pending ≡ [])) }
+        ensures refused { (text : List ℕ) (read : List Read) → HasTaken text read self.old → IfErr result (λ e. IsStopped text read e self.new) }
+    {
+        let stop = self.append_lines()?;
+        match self.publish() {
+            Ok(()) => Ok(stop),
+            Err(AllocError) => Err(IntakeError::OutOfMemory),
+        }
+    }
+
+    /// Publishes what is pending.
+    fn publish(&mut self) -> Result<(), AllocError>
+        ensures published { OnOk result (self.new ≡ published self.old) }
+        ensures refused { OnErr result (self.new ≡ self.old) }
+    {
+        if self.out.has_pending() {
+            self.out.publish()?;
+        }
+        Ok(())
+    }
+
+    /// Reads lines that are whole, 1,000 at most, and appends their records.
+    fn append_lines(&mut self) -> Result<Stop, IntakeError>
+        ensures taken { (text : List ℕ) (read : List Read) → HasTaken text read self.old → IfOk result (λ stop. GoesOn text read stop self.new) }
+        ensures refused { (text : List ℕ) (read : List Read) → HasTaken text read self.old → IfErr result (λ e. IsStopped text read e self.new) }
+    {
+        for _line in 0..LINES_AT_ONCE {
+            match self.append_line() {
+                Ok(None) => {}
+                Ok(Some(stop)) => return Ok(stop),
+                Err(error) => return Err(error),
+            }
+        }
+        Ok(Stop::Full)
+    }
+
+    /// Reads the next line and appends its record; where it isn't whole, or is empty, says so.
+    fn append_line(&mut self) -> Result<Option<Stop>, IntakeError>
+        ensures taken { (text : List ℕ) (read : List Read) → HasTaken text read self.old → IfOk result (λ stop. TakesLine text read stop self.new) }
+        ensures refused { (text : List ℕ) (read : List Read) → HasTaken text read self.old → IfErr result (λ e. IsStopped text read e self.new) }
+    {
+        match self.next_line()? {
+            Came::Line(read) => match self.append(read) {
+                Ok(()) => Ok(None),
+                Err(AllocError) => Err(IntakeError::OutOfMemory),
+            },
+            Came::Floor => Ok(None),
+            Came::End => Ok(Some(Stop::Ended)),
+            Came::Nothing => Ok(Some(Stop::Waits)),
+        }
+    }
+
+    /// Reads the next line, if it is whole.
+    fn next_line(&mut self) -> Result<Came, IntakeError>
+        ensures came { (text : List ℕ) (read : List Read) → HasTaken text read self.old → IfOk result (λ came. ComesTo text read came self.new) }
+        ensures refused { (text : List ℕ) (read : List Read) → HasTaken text read self.old → IfErr result (λ e. IsStopped text read e self.new) }
+    {
+        self.incoming.next()
+    }
+
+    /// Appends the record that a line says, if it says one.
+    fn append(&mut self, read: Read) -> Result<(), AllocError>
+        ensures added { OnOk result (Adds self.old read self.new) }
+        ensures refused { OnErr result (self.new ≡ self.old) }
+    {
+        match read {
+            Read::Foreign(_) => Ok(()),
+            Read::Record(kept) => {
+                let take = Take { read: 0, kept };
+                match self.out.append(Draw::Take(take)) {
+                    Ok(()) => Ok(()),
+                    Err(_refused) => Err(AllocError),
+                }
+            }
+        }
+    }
+}

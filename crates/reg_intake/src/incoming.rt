@@ -1,0 +1,167 @@
+// Bytes of a log as they come, and the lines that are whole.
+ghost use Rattle.std.specs.Prelude.{◌≡◌, ◌≤◌, ◌<◌, ◌++◌, ◌∷◌, ◌&&◌, ℕ, List, [], length, nat_eq, position, Ok, IfErr, IfOk, MatchBool, MatchOption, OnErr, OnOk};
+ghost use Rattle.reg_records.specs.Floor.{is_floor_line};
+ghost use Rattle.reg_records.specs.Line.{is_line_feed};
+ghost use Rattle.reg_records.specs.Pieces.{HasNoLineFeed};
+ghost use Rattle.reg_records.specs.declared.record.Read.{Read};
+ghost use Rattle.reg_intake.specs.Intake.{Comes, HasRead, IsLineFault, IsRefusal, said_at, with_bytes};
+
+use crate::fault::IntakeError;
+use reg_records::{
+    LINE_LIMIT, LineError, LogFault, Read, ReadLineError, is_floor_line, read_floor, read_line,
+};
+use std::alloc::{AllocError, Global};
+use std::marker::Model;
+
+/// What came next of a log.
+#[derive(Debug, Drop)]
+pub enum Came {
+    /// A line, which says this.
+    Line(Read),
+    /// The first line, which says the log's floor.
+    Floor,
+    /// The empty line, which ends the log. It stays where it is.
+    End,
+    /// No whole line has come.
+    Nothing,
+}
+
+/// Bytes of a log that came, of which each whole line is read once. Contracts see the bytes that no line was
+/// read of, and how many lines were read.
+#[derive(Drop)]
+pub struct Incoming {
+    alloc: Global,
+    held: Vec<u8>,
+    /// How many of the bytes that are held were read.
+    passed: usize,
+    /// How many lines were read, up to `u64::MAX`.
+    count: u64,
+    ghost within: { passed ≤ length held.items },
+}
+
+impl Model for Incoming {
+    ghost use Rattle.std.specs.Prelude.{drop};
+    ghost use Rattle.reg_intake.specs.Intake.{Unread};
+
+    ghost Value = { Unread };
+
+    ghost view = { λ i. record { bytes = drop i.passed i.held.items; count = i.count } };
+}
+
+impl Incoming {
+    /// Nothing has come.
+    pub fn new(alloc: Global) -> Incoming
+        ensures { HasRead [] [] result }
+    {
+        Incoming {
+            alloc,
+            held: Vec::new(alloc),
+            passed: 0,
+            count: 0,
+        }
+    }
+
+    /// How many lines were read, up to `u64::MAX`.
+    pub fn count(&self) -> u64
+        ensures { result ≡ self.now.count }
+    {
+        self.count
+    }
+
+    /// Whether a line was read of each byte that came.
+    pub fn is_empty(&self) -> bool
+        ensures { MatchBool result (self.now.bytes ≡ []) (0 < length self.now.bytes) }
+    {
+        self.unread().is_empty()
+    }
+
+    fn unread(&self) -> &[u8]
+        ensures { result.now ≡ self.now.bytes }
+    {
+        &self.held[self.passed..]
+    }
+
+    /// Takes bytes that came behind those before. The only error is want of memory; all is then as it was.
+    pub fn take(&mut self, bytes: &[u8]) -> Result<(), AllocError>
+        ensures taken { OnOk result (self.new ≡ with_bytes self.old bytes.now) }
+        ensures read { (text : List ℕ) (read : List Read) → HasRead text read self.old → OnOk result (HasRead (text ++ bytes.now) read self.new) }
+        ensures refused { OnErr result (self.new ≡ self.old) }
+    {
+        let rest = self.unread();
+        let mut held = Vec::with_capacity(self.alloc, rest.len().saturating_add(bytes.len()))?;
+        held.extend_from_slice(rest)?;
+        held.extend_from_slice(bytes)?;
+        self.held = held;
+        self.passed = 0;
+        Ok(())
+    }
+
+    /// Reads the next line, if it is whole. A line past its limit is refused before its LF has come. After an
+    /// error all is as it was, and the next call gives the same error, unless memory was refused.
+    pub fn next(&mut self) -> Result<Came, IntakeError>
+        ensures came { (text : List ℕ) (read : List Read) → HasRead text read self.old → IfOk result (λ came. Comes text read self.old came self.new) }
+        ensures refused { IfErr result (IsRefusal self.old) }
+        ensures same { OnErr result (self.new ≡ self.old) }
+    {
+        let rest = self.unread();
+        let Some(len) = line_len(rest) else {
+            if rest.len() > LINE_LIMIT {
+                return Err(IntakeError::Fault {
+                    line: self.count.saturating_add(1),
+                    fault: LogFault::Line(LineError::TooLong),
+                });
+            }
+            return Ok(Came::Nothing);
+        };
+        if len == 0 {
+            return Ok(Came::End);
+        }
+        let came = came_at(self.alloc, &rest[..len + 1], self.count)?;
+        self.passed += len + 1;
+        self.count = self.count.saturating_add(1);
+        Ok(came)
+    }
+}
+
+/// How many bytes stand before the first LF, where there is one.
+fn line_len(bytes: &[u8]) -> Option<usize>
+    ensures { MatchOption result (HasNoLineFeed bytes.now) (λ len. (line : List ℕ) × (rest : List ℕ)
+        × (bytes.now ≡ line ++ 10 ∷ rest) × HasNoLineFeed line × (len ≡ length line)) }
+{
+    first_line_feed(bytes)
+}
+
+fn first_line_feed(bytes: &[u8]) -> Option<usize>
+    ensures { result ≡ position is_line_feed bytes.now }
+{
+    bytes.iter().position(|b| *b == b'\n')
+}
+
+/// What a line with its LF says, or what is wrong with it; so many lines stand before it.
+fn came_at(alloc: Global, bytes: &[u8], before: u64) -> Result<Came, IntakeError>
+    ensures came { (line : List ℕ) → bytes.now ≡ line ++ 10 ∷ [] → HasNoLineFeed line → IfOk result (λ came. said_at before line ≡ Ok came) }
+    ensures refused { (line : List ℕ) → bytes.now ≡ line ++ 10 ∷ [] → HasNoLineFeed line → IfErr result (IsLineFault before line) }
+{
+    let line = &bytes[..bytes.len().saturating_sub(1)];
+    if says_floor(before, line) {
+        return match read_floor(line) {
+            Ok(_floor) => Ok(Came::Floor),
+            Err(fault) => Err(IntakeError::Fault { line: 1, fault }),
+        };
+    }
+    match read_line(alloc, bytes) {
+        Ok(read) => Ok(Came::Line(read)),
+        Err(ReadLineError::Line(fault)) => Err(IntakeError::Fault {
+            line: before.saturating_add(1),
+            fault: LogFault::Line(fault),
+        }),
+        Err(ReadLineError::OutOfMemory) => Err(IntakeError::OutOfMemory),
+    }
+}
+
+/// Whether a line says a floor, or should: so many lines stand before it.
+fn says_floor(before: u64, line: &[u8]) -> bool
+    ensures { result ≡ (nat_eq before 0 && is_floor_line line.now) }
+{
+    before == 0 && is_floor_line(line)
+}

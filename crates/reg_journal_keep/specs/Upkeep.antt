@@ -1,0 +1,19 @@
+-- Private: what a keep knows of its file.
+use Rattle.std.specs.Prelude.{ℕ, ◌+◌, ◌-◌, ◌^◌, max, min, List, fold, nat_lt, None, if◌then◌else◌}
+use Rattle.reg_records.specs.declared.record.Record.{Record}
+use Rattle.reg_journal_keep.specs.Room.{next_count}
+use Rattle.reg_journal_keep.specs.declared.upkeep.Upkeep.{Upkeep}
+
+-- that floor and that next offset
+abbrev pub at_first : ℕ → ℕ → Upkeep
+at_first floor next = record { room = record { kept = 0; again = 0; patience = 0 }; floor = floor; next = next; fault = None }
+
+-- the next offset behind a batch
+abbrev pub next_behind : ℕ → List Record → ℕ
+next_behind next batch = fold (λ n r. max n (min (r.offset + 1) (2 ^ 64 - 1))) next batch
+
+-- where the file was compacted, its floor rises to the next offset at the next compaction, and nothing is known of the deletes that stay
+abbrev pub after_count : Upkeep → ℕ → ℕ → ℕ → Upkeep
+after_count upkeep kept lines least = if nat_lt (lines - kept) least
+    then record upkeep { room = record { kept = kept; again = next_count kept lines; patience = 0 }; fault = None }
+    else record upkeep { room = record { kept = 0; again = next_count kept kept; patience = 0 }; floor = max upkeep.floor upkeep.next; fault = None }

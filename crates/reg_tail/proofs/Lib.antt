@@ -1,0 +1,6 @@
+mod Fronts
+mod Gathers
+mod Given
+mod Lines
+mod Looks
+mod Texts

@@ -1,0 +1,115 @@
+// Reading a file from its beginning, and what was appended to it since.
+ghost use Rattle.std.specs.Prelude.{◌≡◌, ◌<◌, ◌++◌, ℕ, List, drop, length, IfErr, IfOk, OnOk};
+ghost use Rattle.reg_tail.specs.Front.{HasNoFloorAbove};
+ghost use Rattle.reg_tail.specs.Gathered.{BeginsFrom};
+ghost use Rattle.reg_tail.specs.Source.{Stand};
+ghost use Rattle.reg_tail.specs.Tail.{GoesOn, HasGiven, IsBeginRefusal, IsMoreRefusal, IsNoReading};
+ghost use Rattle.reg_tail.specs.declared.error.TailError.TheVariants.{SyncFault};
+
+use crate::error::TailError;
+use crate::front::front_of;
+use crate::gathered::Gathered;
+use crate::source::Source;
+use crate::tail::Tail;
+use reg_journal::DiskError;
+use std::alloc::Global;
+
+impl Tail {
+    /// Reads a file from its beginning. The text is the lines from that offset on, each with its LF; from 0 on it is all
+    /// lines, that of the floor among them. A floor above another offset is an error.
+    pub fn begin<S: Source>(
+        alloc: Global,
+        source: &mut S,
+        from: u64,
+    ) -> Result<(Tail, Vec<u8>), TailError>
+        ensures given { S.known source.old → IfOk result (λ begun. HasGiven begun.0 (S.seen source.new) begun.1.items) }
+        ensures from { IfOk result (λ begun. begun.0.from ≡ from) }
+        ensures floor { S.known source.old → OnOk result (HasNoFloorAbove from (S.seen source.new)) }
+        ensures synced { S.known source.old → IfOk result (λ begun. 0 < length begun.1.items
+            → (c : List ℕ) → S.may_leave source.new c → Stand (S.seen source.new) c) }
+        ensures known { S.known source.old → OnOk result (S.known source.new) }
+        ensures refused { S.known source.old → IfErr result (IsBeginRefusal from (S.seen source.new)) }
+    {
+        let file = read(alloc, source, 0)?;
+        let begun = begin_at(alloc, &file, from)?;
+        let place = begun.tail.place;
+        let Gathered { tail, text } = begun.take_lines(alloc, &file[place..])?;
+        sync(source, &text)?;
+        Ok((tail, text))
+    }
+
+    /// Reads what was appended since. The text is those lines from its offset on, each with its LF; none where there are
+    /// none. At `Err` the tail stands where it stood. A line that says a floor has a fault: none is appended.
+    pub fn more<S: Source>(&mut self, alloc: Global, source: &mut S) -> Result<Vec<u8>, TailError>
+        ensures given { S.known source.old → IfOk result (λ text. GoesOn (S.seen source.new) self.old self.new text.items) }
+        ensures whole { S.known source.old → (before : List ℕ) → HasGiven self.old (S.seen source.old) before
+            → IfOk result (λ text. HasGiven self.new (S.seen source.new) (before ++ text.items)) }
+        ensures synced { S.known source.old → IfOk result (λ text. 0 < length text.items
+            → (c : List ℕ) → S.may_leave source.new c → Stand (S.seen source.new) c) }
+        ensures known { S.known source.old → OnOk result (S.known source.new) }
+        ensures refused { S.known source.old → IfErr result (IsMoreRefusal (S.seen source.new) self.old) }
+        ensures unchanged { IfErr result (λ _. self.new ≡ self.old) }
+    {
+        let piece = read(alloc, source, self.place)?;
+        let begun = Gathered {
+            tail: *self,
+            text: Vec::new(alloc),
+        };
+        let Gathered { tail, text } = begun.take_lines(alloc, &piece)?;
+        sync(source, &text)?;
+        *self = tail;
+        Ok(text)
+    }
+}
+
+/// A tail behind the line of a file's floor, which is given from offset 0 on.
+fn begin_at(alloc: Global, file: &[u8], from: u64) -> Result<Gathered, TailError>
+    ensures begun { IfOk result (BeginsFrom from file.now) }
+    ensures refused { IfErr result (IsBeginRefusal from file.now) }
+{
+    let front = match front_of(file) {
+        Ok(front) => front,
+        Err(fault) => return Err(TailError::Line { line: 1, fault }),
+    };
+    if from > 0 && from < front.floor {
+        return Err(TailError::Floor(front.floor));
+    }
+    let given = if from > 0 { 0 } else { front.len };
+    let text = file[..given].to_vec(alloc)?;
+    let tail = Tail {
+        place: front.len,
+        lines: front.lines,
+        from,
+        next: from.max(front.floor),
+    };
+    Ok(Gathered { tail, text })
+}
+
+/// Reads a file from a place on.
+fn read<S: Source>(alloc: Global, source: &mut S, place: usize) -> Result<Vec<u8>, TailError>
+    ensures bytes { S.known source.old → IfOk result (λ bytes. bytes.items ≡ drop place (S.seen source.new)) }
+    ensures stand { S.known source.old → S.known source.new × Stand (S.seen source.old) (S.seen source.new) }
+    ensures refused { IfErr result IsNoReading }
+{
+    match source.read_from(alloc, place) {
+        Ok(bytes) => Ok(bytes),
+        Err(DiskError::OutOfMemory) => Err(TailError::OutOfMemory),
+        Err(DiskError::Failed) => Err(TailError::ReadFault),
+    }
+}
+
+/// Syncs a file of which a text is given. For none it isn't touched.
+fn sync<S: Source>(source: &mut S, text: &[u8]) -> Result<(), TailError>
+    ensures synced { S.known source.old → OnOk result (0 < length text.now
+        → (c : List ℕ) → S.may_leave source.new c → Stand (S.seen source.old) c) }
+    ensures seen { S.known source.old → OnOk result (S.known source.new × (S.seen source.new ≡ S.seen source.old)) }
+    ensures refused { IfErr result (λ e. e ≡ SyncFault) }
+{
+    if text.is_empty() {
+        return Ok(());
+    }
+    match source.sync() {
+        Ok(()) => Ok(()),
+        Err(_) => Err(TailError::SyncFault),
+    }
+}

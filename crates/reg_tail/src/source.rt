@@ -1,0 +1,33 @@
+// A file that another process writes, as its reader sees it.
+ghost use Rattle.std.specs.Prelude.{◌≡◌, List, ℕ, drop, IfOk, OnOk};
+ghost use Rattle.reg_tail.specs.Source.{Stand};
+
+use reg_journal::DiskError;
+use std::alloc::Global;
+
+/// A file to which another process appends. Each clause speaks of a file that is known.
+///
+/// Of the writer it is assumed that lines which stand before the file's empty line never change, and that a read returns
+/// the file as it was at one moment, as far as its empty line. `Journal` writes so: a batch's lines stand behind the
+/// empty line until one byte in that line's place opens them.
+pub trait Source {
+    /// Whether the clauses say what this file does: its writer keeps its lines, and no sync of it has failed since the
+    /// machine started. Of a file of the system no contract can say what it holds.
+    ghost known: { Self → Type 0 };
+
+    /// The bytes of the file when it was read last.
+    ghost seen: { Self → List ℕ };
+
+    /// What a crash at this moment may leave of the file.
+    ghost may_leave: { Self → List ℕ → Type 0 };
+
+    /// The bytes from a place on; none where the file ends before it.
+    fn read_from(&mut self, alloc: Global, place: usize) -> Result<Vec<u8>, DiskError>
+        ensures bytes { known self.old → IfOk result (λ bytes. bytes.items ≡ drop place (seen self.new)) }
+        ensures stand { known self.old → known self.new × Stand (seen self.old) (seen self.new) };
+
+    /// After it, a crash leaves a file that has the lines which were read.
+    fn sync(&mut self) -> Result<(), DiskError>
+        ensures synced { known self.old → OnOk result ((c : List ℕ) → may_leave self.new c → Stand (seen self.old) c) }
+        ensures seen { known self.old → OnOk result (known self.new × (seen self.new ≡ seen self.old)) };
+}
