@@ -1,5 +1,5 @@
 // The kept records: the last ones, which the registry holds, and older ones beside them.
-ghost use Rattle.std.specs.Prelude.{[], true, ◌≡◌, ◌++◌, ◌&&◌, ◌||◌, IfOk, OnErr, OnOk, not, nat_le, nat_lt};
+ghost use Rattle.std.specs.Prelude.{[], true, ◌≡◌, ◌++◌, ◌&&◌, ◌||◌, IfOk, IfSome, OnErr, OnOk, not, nat_le, nat_lt};
 ghost use Rattle.std.specs.FinSet.{contains, from_list, union};
 ghost use Rattle.std.specs.List.{filter, list_all};
 ghost use Rattle.reg_set.specs.Compaction.{deletes_below, is_gone};
@@ -12,6 +12,9 @@ use reg_fold::Registry;
 use reg_records::Record;
 use reg_set::{RecordSet, records_are_ordered};
 use std::alloc::{AllocError, Global};
+
+/// So many records are sought in a list of others one by one; more in their set.
+const FEW: usize = 8;
 
 /// The records at or above an offset.
 pub(crate) fn since(by_offset: &[Record], from: u64) -> &[Record]
@@ -39,14 +42,46 @@ pub(crate) fn until(by_offset: &[Record], upto: u64) -> &[Record]
     &by_offset[..end]
 }
 
-/// Whether the record is the last of its key, or among the older ones.
-fn is_kept(registry: &Registry, older: &[Record], given: &Record) -> bool
+/// Older records of which many are sought: their set, or none where a few are.
+fn sought_among(
+    alloc: Global,
+    older: &[Record],
+    count: usize,
+) -> Result<Option<RecordSet>, AllocError>
+    ensures { IfOk result (λ found. IfSome found (λ set. set ≡ from_list older.now)) }
+{
+    if count <= FEW {
+        return Ok(None);
+    }
+    Ok(Some(RecordSet::of(alloc, older)?))
+}
+
+/// Whether the record is the last of its key, or among the older ones, whose set may be given beside them.
+fn is_kept(registry: &Registry, older: &[Record], set: &Option<RecordSet>, given: &Record) -> bool
+    requires { IfSome set.now (λ set. set ≡ from_list older.now) }
     ensures { result ≡ (contains registry.now given.now || contains (from_list {R = record_cmp} older.now) given.now) }
 {
-    records_are_ordered();
     let last = registry.contains(given);
-    let among = older.contains(given);
+    let among = is_among(older, set, given);
     last || among
+}
+
+/// Whether the record is among the older ones, whose set may be given beside them.
+fn is_among(older: &[Record], set: &Option<RecordSet>, given: &Record) -> bool
+    requires { IfSome set.now (λ set. set ≡ from_list older.now) }
+    ensures { result ≡ contains (from_list {R = record_cmp} older.now) given.now }
+{
+    match set {
+        Some(set) => set.contains(given),
+        None => is_listed(older, given),
+    }
+}
+
+fn is_listed(older: &[Record], given: &Record) -> bool
+    ensures { result ≡ contains (from_list {R = record_cmp} older.now) given.now }
+{
+    records_are_ordered();
+    older.contains(given)
 }
 
 /// Copies of those of the records that are kept. The only error is want of memory.
@@ -59,9 +94,10 @@ pub(crate) fn copy_kept(
     ensures { IfOk result (λ found. found.items
         ≡ filter (λ r. contains registry.now r || contains (from_list {R = record_cmp} older.now) r) records.now) }
 {
+    let set = sought_among(alloc, older, records.len())?;
     let mut found = Vec::new(alloc);
     for record in records {
-        if is_kept(registry, older, record) {
+        if is_kept(registry, older, &set, record) {
             found.push(registry.copy_of(record)?)?;
         }
     }
@@ -79,9 +115,10 @@ pub(crate) fn copy_below(
     ensures { IfOk result (λ found. found.items
         ≡ filter (λ r. nat_lt r.offset upto && (contains registry.now r || contains (from_list {R = record_cmp} older.now) r)) records.now) }
 {
+    let set = sought_among(alloc, older, records.len())?;
     let mut found = Vec::new(alloc);
     for record in records {
-        if record.offset < upto && is_kept(registry, older, record) {
+        if record.offset < upto && is_kept(registry, older, &set, record) {
             found.push(registry.copy_of(record)?)?;
         }
     }
