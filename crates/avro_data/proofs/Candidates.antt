@@ -1,5 +1,6 @@
 -- Whatever a round makes ready uses a type that the round before gave its sample.
-use Rattle.std.proofs.Common.{◌≡◌, ℕ, suc, ◌+◌, ◌<◌, List, length, Bool, true, false, nat_le, cond, Contains, Option, Some, None, IsSome, slice_get, refl, sym, ◌∙◌, ap, subst, arith}
+use Rattle.std.proofs.Common.{◌≡◌, ℕ, suc, ◌+◌, ◌<◌, List, length, Bool, true, false, nat_le, cond, Contains}
+use Rattle.std.proofs.Common.{Option, Some, None, IsSome, slice_get, refl, sym, ◌∙◌, ap, subst, arith}
 use Rattle.std.specs.Option.{option_or}
 use Rattle.std.specs.Global.{Vec}
 use Rattle.std.proofs.lemmas.Bool.Decides.{nat_tests}

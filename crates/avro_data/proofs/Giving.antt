@@ -1,5 +1,6 @@
 -- One round: what its candidates are given, one after another.
-use Rattle.std.proofs.Common.{◌≡◌, ◌⊎◌, inl, inr, ℕ, zero, suc, ◌+◌, ◌<◌, ◌≤◌, List, [], ◌∷◌, ◌++◌, length, set, Contains, Option, Some, None, is_some, option_map, slice_get, refl, sym, ◌∙◌, ap, subst, arith, length-append}
+use Rattle.std.proofs.Common.{◌≡◌, ◌⊎◌, inl, inr, ℕ, zero, suc, ◌+◌, ◌<◌, ◌≤◌, List, [], ◌∷◌, ◌++◌, length, set, Contains, Option}
+use Rattle.std.proofs.Common.{Some, None, is_some, option_map, slice_get, refl, sym, ◌∙◌, ap, subst, arith, length-append}
 use Rattle.std.proofs.lemmas.List.Elements.{Contains-append_left, Contains-append_right}
 use Rattle.std.proofs.lemmas.List.{length-set}
 use Rattle.std.proofs.lemmas.Bool.{cases_eq}
@@ -8,7 +9,8 @@ use Rattle.avro_schema.specs.declared.node.Node.{Node}
 use Rattle.avro_data.specs.declared.outline.Outline.{Outline}
 use Rattle.avro_data.specs.declared.outline.Given.{Given}
 use Rattle.avro_data.specs.Outlines.{outlined}
-use Rattle.avro_data.specs.Rounds.{by_round, by_table, given_count, AreNew, AreRounds, ready, next_given, outline_in, outline_now, IsNext, AreCandidates}
+use Rattle.avro_data.specs.Rounds.{by_round, by_table, given_count, AreNew, AreRounds, ready}
+use Rattle.avro_data.specs.Rounds.{next_given, outline_in, outline_now, IsNext, AreCandidates}
 use Rattle.avro_data.proofs.Options.{set_same, set_other, here, contains_at, same_id}
 use Rattle.avro_data.proofs.RoundLaws.{next_early}
 

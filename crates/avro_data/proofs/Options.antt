@@ -1,5 +1,6 @@
 -- Options and lists, as far as the rounds need them.
-use Rattle.std.proofs.Common.{◌≡◌, ℕ, zero, suc, ◌<◌, List, [], ◌∷◌, length, set, Contains, Option, Some, None, is_some, option_map, slice_get, false, replicate, refl, ap, arith}
+use Rattle.std.proofs.Common.{◌≡◌, ℕ, zero, suc, ◌<◌, List, [], ◌∷◌, length, set, Contains, Option, Some}
+use Rattle.std.proofs.Common.{None, is_some, option_map, slice_get, false, replicate, refl, ap, arith}
 use Rattle.std.specs.Option.{option_or}
 use Rattle.avro_schema.specs.declared.node.NodeId.{NodeId}
 

@@ -1,5 +1,6 @@
 -- The outline of what a type is given follows from the outlines of what it is given of.
-use Rattle.std.proofs.Common.{◌≡◌, ℕ, suc, ◌+◌, ◌≤◌, min, max, List, [], ◌∷◌, Contains, map, Option, Some, None, IsSome, is_some, option_map, option_and_then, refl, sym, ◌∙◌, ap, arith}
+use Rattle.std.proofs.Common.{◌≡◌, ℕ, suc, ◌+◌, ◌≤◌, min, max, List, [], ◌∷◌, Contains, map, Option, Some, None}
+use Rattle.std.proofs.Common.{IsSome, is_some, option_map, option_and_then, refl, sym, ◌∙◌, ap, arith}
 use Rattle.std.specs.Option.{option_or}
 use Rattle.avro_schema.specs.declared.node.NodeId.{NodeId}
 use Rattle.avro_schema.specs.declared.node.Field.{Field}

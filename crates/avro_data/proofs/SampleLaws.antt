@@ -1,5 +1,6 @@
 -- What a sample says of its type's values, and its outline of its size.
-use Rattle.std.proofs.Common.{◌≡◌, ℕ, ◌+◌, min, List, Bool, true, false, ◌||◌, nat_lt, Option, Some, None, IfSome, IfNone, is_some, option_map, refl, sym, ◌∙◌, ap, arith}
+use Rattle.std.proofs.Common.{◌≡◌, ℕ, ◌+◌, min, List, Bool, true, false, ◌||◌, nat_lt, Option, Some}
+use Rattle.std.proofs.Common.{None, IfSome, IfNone, is_some, option_map, refl, sym, ◌∙◌, ap, arith}
 use Rattle.std.specs.Option.{option_map_or}
 use Rattle.std.proofs.lemmas.Bool.Decides.{nat_tests}
 use Rattle.avro_schema.specs.declared.node.NodeId.{NodeId}

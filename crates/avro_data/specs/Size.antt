@@ -1,7 +1,9 @@
 -- How large a value is.
 use Rattle.std.specs.Prelude.{ℕ, ◌+◌, max, nat_lt, Bool, ◌||◌}
 use Rattle.avro_data.specs.declared.limits.TheConstants.{MOST_PARTS, MOST_LEVELS}
-use Rattle.avro_data.specs.Value.{Value, leaf, symbol, list_of, map_of, branch, fields_of, by_default, Values, no_values, value, Members, no_members, member}
+use Rattle.avro_data.specs.Value.{Value, leaf, symbol, list_of, map_of, branch, fields_of}
+use Rattle.avro_data.specs.Value.{by_default, Values, no_values, value, Members}
+use Rattle.avro_data.specs.Value.{no_members, member}
 
 -- the number of values in a value, itself counted
 abbrev mutual

@@ -1,5 +1,6 @@
 -- Values that are read one after another.
-use Rattle.std.proofs.Common.{◌≡◌, ℕ, List, [], ◌∷◌, ◌++◌, map, nat_cmp, Less, Greater, Option, Some, None, option_map, option_and_then, slice_get, Vec, Global, rules, refl, sym, ◌∙◌, ap, subst, append_assoc}
+use Rattle.std.proofs.Common.{◌≡◌, ℕ, List, [], ◌∷◌, ◌++◌, map, nat_cmp, Less, Greater, Option, Some, None, option_map}
+use Rattle.std.proofs.Common.{option_and_then, slice_get, Vec, Global, rules, refl, sym, ◌∙◌, ap, subst, append_assoc}
 use Rattle.std.proofs.lemmas.Cmp.{nat_list_cmp_total}
 use Rattle.std.proofs.lemmas.List.{map-append}
 use Rattle.std.specs.Cmp.Lexicographic.{slice_cmp}

@@ -1,5 +1,7 @@
 -- What the table and the tests of a value say at one pair.
-use Rattle.std.proofs.Common.{◌≡◌, ℕ, zero, suc, ◌+◌, List, [], ◌∷◌, map, Bool, true, false, not, ◌&&◌, ◌||◌, cond, Option, Some, None, IsSome, is_some, Result, Ok, Err, option_map, option_and_then, find, filter_map, slice_get, bytes_eq, refl, sym, ◌∙◌, ap}
+use Rattle.std.proofs.Common.{◌≡◌, ℕ, zero, suc, ◌+◌, List, [], ◌∷◌, map, Bool, true, false, not, ◌&&◌, ◌||◌, cond, Option, Some, None}
+use Rattle.std.proofs.Common.{IsSome, is_some, Result, Ok, Err, option_map, option_and_then, find, filter_map, slice_get, bytes_eq, refl}
+use Rattle.std.proofs.Common.{sym, ◌∙◌, ap}
 use Rattle.std.specs.List.{enumerate_from, cons_option}
 use Rattle.std.specs.Option.{option_map_or}
 use Rattle.std.specs.Result.{result_err}

@@ -1,5 +1,8 @@
 -- Whether values have readings, for many types of the reader's at a time.
-use Rattle.std.proofs.Common.{◌≡◌, ℕ, zero, suc, ◌+◌, ◌<◌, List, [], ◌∷◌, ◌++◌, drop, length, Bool, true, false, not, ◌&&◌, ◌||◌, cond, Option, Some, None, is_some, option_map, option_and_then, unwrap_or, find, position, slice_get, bytes_eq, eqb, set, replicate, append_assoc, refl, sym, ◌∙◌, ap, subst, arith}
+use Rattle.std.proofs.Common.{◌≡◌, ℕ, zero, suc, ◌+◌, ◌<◌, List, [], ◌∷◌, ◌++◌, drop, length, Bool, true, false, not, ◌&&◌}
+use Rattle.std.proofs.Common.{◌||◌, cond, Option, Some, None, is_some, option_map, option_and_then, unwrap_or, find}
+use Rattle.std.proofs.Common.{position, slice_get, bytes_eq, eqb, set, replicate, append_assoc, refl, sym, ◌∙◌, ap}
+use Rattle.std.proofs.Common.{subst, arith}
 use Rattle.std.specs.List.{enumerate_from, list_all, list_any, position_from, Contains, dedup}
 use Rattle.std.specs.List.Sorted.{IsPermutation}
 use Rattle.std.proofs.lemmas.Iterator.Adapters.{position_from-zero}
@@ -21,15 +24,19 @@ use Rattle.avro_resolve.specs.declared.obligations.Pair.{Pair}
 use Rattle.avro_resolve.specs.Match.{matches}
 use Rattle.avro_resolve.specs.Pairing.{partner}
 use Rattle.avro_resolve.specs.Table.{clash_of}
-use Rattle.avro_data.specs.Value.{Value, leaf, symbol, list_of, map_of, branch, fields_of, Values, no_values, value, Members, no_members, member}
+use Rattle.avro_data.specs.Value.{Value, leaf, symbol, list_of, map_of, branch, fields_of}
+use Rattle.avro_data.specs.Value.{Values, no_values, value, Members, no_members, member}
 use Rattle.avro_data.specs.View.{view, members_view}
 use Rattle.avro_readings.proofs.Along.{Entry}
 use Rattle.avro_data.specs.Fits.{fits, fields_fit}
-use Rattle.avro_readings.specs.Reads.{pair, bars, branch_at, field_read, fields_read, Parts, of_leaf, of_symbol, of_items, of_values, of_fields, row_read, unless_barred, through, at_pair, reads, items_read, values_read, named_read}
+use Rattle.avro_readings.specs.Reads.{pair, bars, branch_at, field_read, fields_read, Parts, of_leaf, of_symbol, of_items, of_values}
+use Rattle.avro_readings.specs.Reads.{of_fields, row_read, unless_barred, through, at_pair, reads, items_read, values_read, named_read}
 use Rattle.avro_readings.proofs.AtPair.{and_left, and_right}
 use Rattle.avro_readings.proofs.Yes.{first_named}
 use Rattle.avro_readings.specs.Steps.{both_leaves, symbol_at, fields_at}
-use Rattle.avro_readings.specs.Readable.{pair_of, inner_at, place_read, field_passes, lists_pass, value_at, all_read, behind, row_type, inner_type, inner_types, fields_type, type_passes, place_reads}
+use Rattle.avro_readings.specs.Readable.{pair_of, inner_at, place_read, field_passes, lists_pass, value_at, all_read}
+use Rattle.avro_readings.specs.Readable.{behind, row_type, inner_type, inner_types, fields_type}
+use Rattle.avro_readings.specs.Readable.{type_passes, place_reads}
 
 -- ---- tests
 

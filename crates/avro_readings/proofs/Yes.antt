@@ -1,5 +1,6 @@
 -- Where two schemas are compatible, each value of the writer's has a reading: by recursion on the value.
-use Rattle.std.proofs.Common.{◌≡◌, ◌≢◌, ℕ, suc, List, [], ◌∷◌, Bool, true, false, ◌&&◌, cond, Option, Some, None, IsSome, is_some, Result, Ok, option_map, option_and_then, find, filter_map, slice_get, bytes_eq, refl, sym, ◌∙◌, ap, subst}
+use Rattle.std.proofs.Common.{◌≡◌, ◌≢◌, ℕ, suc, List, [], ◌∷◌, Bool, true, false, ◌&&◌, cond, Option, Some, None, IsSome, is_some, Result}
+use Rattle.std.proofs.Common.{Ok, option_map, option_and_then, find, filter_map, slice_get, bytes_eq, refl, sym, ◌∙◌, ap, subst}
 use Rattle.std.specs.List.{enumerate_from, cons_option}
 use Rattle.std.specs.Result.{result_err, result_unwrap_or}
 use Rattle.std.proofs.lemmas.Slice.Eq.{bytes_eq-Decides}
@@ -21,11 +22,17 @@ use Rattle.avro_resolve.specs.Match.{matches}
 use Rattle.avro_resolve.specs.Pairing.{partner}
 use Rattle.avro_resolve.specs.Table.{obligation, to_reader_branch, plain_row, row, outcome, clash_of, obligations}
 use Rattle.avro_resolve.specs.Trails.{roots, AreCompatibleAt, AreCompatibleByObligations}
-use Rattle.avro_data.specs.Value.{Value, leaf, symbol, list_of, map_of, branch, fields_of, by_default, Values, no_values, value, Members, no_members, member}
+use Rattle.avro_data.specs.Value.{Value, leaf, symbol, list_of, map_of, branch, fields_of}
+use Rattle.avro_data.specs.Value.{by_default, Values, no_values, value, Members}
+use Rattle.avro_data.specs.Value.{no_members, member}
 use Rattle.avro_data.specs.Fits.{fits, items_fit, values_fit, fields_fit}
-use Rattle.avro_readings.specs.Reads.{pair, bars, branch_at, field_read, fields_read, Parts, of_leaf, of_symbol, of_items, of_values, of_fields, row_read, unless_barred, through, at_pair, reads, items_read, values_read, named_read}
+use Rattle.avro_readings.specs.Reads.{pair, bars, branch_at, field_read, fields_read, Parts, of_leaf, of_symbol, of_items, of_values}
+use Rattle.avro_readings.specs.Reads.{of_fields, row_read, unless_barred, through, at_pair, reads, items_read, values_read, named_read}
 use Rattle.avro_readings.specs.Worth.{CompatibleIsReadable}
-use Rattle.avro_readings.proofs.AtPair.{and_left, and_right, mapped, chained, found_at, branch_owed, to_partner, field_owed, symbol_peaceful, array_peaceful, map_peaceful, record_peaceful, leaf_peaceful, leaf_type, symbol_type, array_type, map_type, fit_at, union_type, record_type}
+use Rattle.avro_readings.proofs.AtPair.{and_left, and_right, mapped, chained, found_at, branch_owed, to_partner}
+use Rattle.avro_readings.proofs.AtPair.{field_owed, symbol_peaceful, array_peaceful, map_peaceful}
+use Rattle.avro_readings.proofs.AtPair.{record_peaceful, leaf_peaceful, leaf_type, symbol_type, array_type}
+use Rattle.avro_readings.proofs.AtPair.{map_type, fit_at, union_type, record_type}
 
 -- ---- fields by name
 

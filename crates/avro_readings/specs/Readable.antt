@@ -1,5 +1,6 @@
 -- Private: whether many types of the reader's read one value, without making its readings.
-use Rattle.std.specs.Prelude.{ℕ, zero, suc, ◌+◌, List, [], ◌∷◌, Bool, true, false, ◌&&◌, if◌then◌else◌, Option, Some, None, is_some, option_map, option_and_then, find, position, slice_get, bytes_eq}
+use Rattle.std.specs.Prelude.{ℕ, zero, suc, ◌+◌, List, [], ◌∷◌, Bool, true, false, ◌&&◌, if◌then◌else◌, Option, Some}
+use Rattle.std.specs.Prelude.{None, is_some, option_map, option_and_then, find, position, slice_get, bytes_eq}
 use Rattle.std.specs.List.{enumerate_from, list_all}
 use Rattle.std.specs.Option.{option_map_or}
 use Rattle.avro_schema.specs.declared.node.NodeId.{NodeId}
@@ -49,7 +50,9 @@ module _ (r w : List Node) where
 
   -- the reader's type, behind its union
   abbrev pub behind : Option Node → Pair → Option NodeId
-  behind (Some (kind.Union bs)) p = option_and_then (λ b. if bars (clash_of r w (pair b.1 p.writer)) then None else Some b.1) (find (λ b. matches r w b.1 p.writer) (enumerate_from 0 bs))
+  behind (Some (kind.Union bs)) p = option_and_then
+      (λ b. if bars (clash_of r w (pair b.1 p.writer)) then None else Some b.1)
+      (find (λ b. matches r w b.1 p.writer) (enumerate_from 0 bs))
   behind _ p = Some p.reader
 
   -- the same, at a pair at which values can be read
@@ -66,7 +69,8 @@ module _ (r w : List Node) where
 
   -- the reader's fields at a pair, where it reads a record as a record
   abbrev pub fields_type : Pair → Option (List Field)
-  fields_type p = option_and_then (λ t. option_map (λ found. found.0) (fields_at (slice_get r t.index) (slice_get w p.writer.index))) (row_type p)
+  fields_type p = option_and_then
+      (λ t. option_map (λ found. found.0) (fields_at (slice_get r t.index) (slice_get w p.writer.index))) (row_type p)
 
   -- whether all fields of one of the reader's types pass the tests of the places that they read
   abbrev pub type_passes : (ℕ → ℕ → Bool) → List Field → Pair → Bool
@@ -74,4 +78,5 @@ module _ (r w : List Node) where
 
   -- whether a type of the reader's reads the field that was written at a place
   abbrev pub place_reads : List Field → Members → ℕ → ℕ → Bool
-  place_reads gs ms k i = is_some (option_and_then (λ g. option_and_then (λ v. reads r w (pair_of i g.node) v) (value_at ms k)) (slice_get gs k))
+  place_reads gs ms k i = is_some
+      (option_and_then (λ g. option_and_then (λ v. reads r w (pair_of i g.node) v) (value_at ms k)) (slice_get gs k))

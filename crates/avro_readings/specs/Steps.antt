@@ -8,7 +8,9 @@ use Rattle.avro_schema.specs.Names.{has_text}
 use Rattle.avro_resolve.specs.declared.obligations.Pair.{Pair}
 use Rattle.avro_resolve.specs.Pairing.{partner}
 use Rattle.avro_data.specs.Value.{Value, leaf, symbol, list_of, map_of, branch, fields_of, by_default, Values, value, Members, member}
-use Rattle.avro_readings.specs.Reads.{pair, Parts, of_leaf, of_symbol, of_items, of_values, of_fields, field_read, fields_read, row_read, through, items_read, values_read, named_read}
+use Rattle.avro_readings.specs.Reads.{pair, Parts, of_leaf, of_symbol, of_items, of_values, of_fields}
+use Rattle.avro_readings.specs.Reads.{field_read, fields_read, row_read, through, items_read}
+use Rattle.avro_readings.specs.Reads.{values_read, named_read}
 
 -- whether both have leaves
 abbrev pub both_leaves : Option Node → Option Node → Bool

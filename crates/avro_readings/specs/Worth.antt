@@ -20,7 +20,8 @@ pub record IsRead (r w : List Node) (v read : Value) : Type 0 where
 abbrev pub IsReadRefusal : List Node → List Node → Value → ReadError → Type 0
 IsReadRefusal r w v Unfit = fits w roots.writer v ≡ false
 IsReadRefusal r w v Unreadable = (fits w roots.writer v ≡ true) × (reads r w roots v ≡ None)
-IsReadRefusal r w v TooLarge = (fits w roots.writer v ≡ true) × (read : Value) × (reads r w roots v ≡ Some read) × (is_too_large read ≡ true)
+IsReadRefusal r w v TooLarge = (fits w roots.writer v ≡ true) × (read : Value) × (reads r w roots v ≡ Some read)
+    × (is_too_large read ≡ true)
 IsReadRefusal r w v OutOfMemory = Unit {0}
 
 -- Where two schemas are compatible, every value of the writer's has a reading.

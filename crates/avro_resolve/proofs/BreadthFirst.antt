@@ -1,5 +1,8 @@
 -- Why a search breadth first finds the trail that is shown.
-use Rattle.std.proofs.Common.{◌≡◌, ℕ, zero, suc, ◌+◌, ◌*◌, ◌/◌, ◌%◌, ◌<◌, ◌≤◌, List, [], ◌∷◌, ◌++◌, length, map, reverse, Bool, true, false, ◌||◌, ◌&&◌, eqb, ◌⊎◌, inl, inr, Option, Some, None, Ok, Err, IsSome, option_map, option_and_then, slice_get, refl, sym, ◌∙◌, ap, subst, arith, append_assoc, append-nil, length-append}
+use Rattle.std.proofs.Common.{◌≡◌, ℕ, zero, suc, ◌+◌, ◌*◌, ◌/◌, ◌%◌, ◌<◌, ◌≤◌, List, [], ◌∷◌, ◌++◌, length, map, reverse, Bool}
+use Rattle.std.proofs.Common.{true, false, ◌||◌, ◌&&◌, eqb, ◌⊎◌, inl, inr, Option, Some, None, Ok, Err, IsSome, option_map}
+use Rattle.std.proofs.Common.{option_and_then, slice_get, refl, sym, ◌∙◌, ap, subst, arith, append_assoc}
+use Rattle.std.proofs.Common.{append-nil, length-append}
 use Rattle.std.specs.List.{list_any, IsDistinct}
 use Rattle.std.proofs.lemmas.Bool.{eqb-true, eq-eqb}
 use Rattle.std.proofs.lemmas.Cmp.{nat_eq_equiv}
@@ -23,8 +26,11 @@ use Rattle.std.specs.Result.{result_err}
 use Rattle.avro_resolve.proofs.Rows.{owed_in}
 use Rattle.avro_resolve.specs.Trails.{roots, trail_from, trail_along, ComesFirst, AreCompatible, IsShown}
 use Rattle.avro_resolve.specs.Seen.{same_pair}
-use Rattle.avro_resolve.specs.Search.{is_reached, unless_reached, with_entry, entry_from, expanded, from_at, hop_numbered, hop_at, IsStep, IsWayBack, LeadsBack}
-use Rattle.avro_resolve.proofs.Order.{ComesFirst_refl, ComesFirst_trans, ComesFirst-append, ComesFirst-longer, Before, Before-weaker, Before-children, Before-siblings, Before_trans, Before-root}
+use Rattle.avro_resolve.specs.Search.{is_reached, unless_reached, with_entry, entry_from, expanded}
+use Rattle.avro_resolve.specs.Search.{from_at, hop_numbered, hop_at, IsStep, IsWayBack, LeadsBack}
+use Rattle.avro_resolve.proofs.Order.{ComesFirst_refl, ComesFirst_trans, ComesFirst-append, ComesFirst-longer}
+use Rattle.avro_resolve.proofs.Order.{Before, Before-weaker, Before-children, Before-siblings}
+use Rattle.avro_resolve.proofs.Order.{Before_trans, Before-root}
 use Rattle.avro_resolve.proofs.Rows.{IsWithin, obligations_within}
 use Rattle.avro_resolve.proofs.Hops.{end_at, after_hop}
 use Rattle.avro_resolve.proofs.Searching.{same_pair-≡}

@@ -1,5 +1,6 @@
 -- Worked pairs of schemas.
-use Rattle.std.proofs.Common.{◌≡◌, ℕ, List, [], ◌∷◌, ◌++◌, Some, None, IsSome, zero, suc, inl, inr, arith, option_map, unwrap_or, codes, refl}
+use Rattle.std.proofs.Common.{◌≡◌, ℕ, List, [], ◌∷◌, ◌++◌, Some, None, IsSome, zero, suc}
+use Rattle.std.proofs.Common.{inl, inr, arith, option_map, unwrap_or, codes, refl}
 use Rattle.std.specs.Fmt.{digits}
 use Rattle.serde_json.proofs.OnLiterals.{serde_json_on_literals}
 use Rattle.avro_schema.specs.declared.node.Node.{Node}

@@ -1,5 +1,8 @@
 -- Where hops lead: what the obligations of a pair say of one hop, and that a trail is what its hops lead to.
-use Rattle.std.proofs.Common.{◌≡◌, ◌≢◌, ◌↔◌, IsTrue, is_some, find, filter, length, drop, get_or, add-one, drop-cons, ℕ, zero, suc, ◌+◌, ◌<◌, List, [], ◌∷◌, Bool, true, false, Option, Some, None, Result, Ok, Err, option_map, option_and_then, filter_map, map, slice_get, cond, eqb, refl, sym, ◌∙◌, ap, subst, arith}
+use Rattle.std.proofs.Common.{◌≡◌, ◌≢◌, ◌↔◌, IsTrue, is_some, find, filter, length, drop, get_or, add-one, drop-cons, ℕ}
+use Rattle.std.proofs.Common.{zero, suc, ◌+◌, ◌<◌, List, [], ◌∷◌, Bool, true, false, Option, Some, None, Result, Ok, Err}
+use Rattle.std.proofs.Common.{option_map, option_and_then, filter_map, map, slice_get, cond, eqb, refl, sym, ◌∙◌, ap}
+use Rattle.std.proofs.Common.{subst, arith}
 use Rattle.std.specs.List.{enumerate_from, cons_option}
 use Rattle.std.specs.Option.{option_map_or}
 use Rattle.std.proofs.lemmas.Bool.{eqb-true, eq-eqb}
@@ -20,7 +23,9 @@ use Rattle.avro_resolve.specs.Table.{to_fields, clash_of, obligations}
 use Rattle.avro_resolve.proofs.Rows.{owed_in}
 use Rattle.avro_resolve.specs.Trails.{roots, trail_from, IsTrail, HopsNameOne}
 use Rattle.avro_resolve.specs.Follow.{same_hop, owed_by, pair_by}
-use Rattle.avro_resolve.proofs.Rows.{to_writer_branch, to_writer_branches, to_field, to_partner, IsWithin, obligations_within, hops_name_one}
+use Rattle.avro_resolve.proofs.Rows.{to_writer_branch, to_writer_branches, to_field}
+use Rattle.avro_resolve.proofs.Rows.{to_partner, IsWithin}
+use Rattle.avro_resolve.proofs.Rows.{obligations_within, hops_name_one}
 
 -- ---- a writer's branches
 

@@ -1,5 +1,7 @@
 -- How the first branch that matches is found by an index.
-use Rattle.std.proofs.Common.{◌≡◌, ◌≢◌, leb, ℕ, suc, ◌+◌, ◌<◌, ◌≤◌, List, [], ◌∷◌, ◌++◌, length, find, filter, take, get_or, add-one, append-nil, is_some, is_none, All, Bool, true, false, ◌||◌, eqb, cond, Option, Some, None, slice_get, refl, sym, ◌∙◌, ap, subst, arith}
+use Rattle.std.proofs.Common.{◌≡◌, ◌≢◌, leb, ℕ, suc, ◌+◌, ◌<◌, ◌≤◌, List, [], ◌∷◌, ◌++◌, length, find, filter, take, get_or, add-one}
+use Rattle.std.proofs.Common.{append-nil, is_some, is_none, All, Bool, true, false, ◌||◌, eqb, cond, Option, Some, None, slice_get, refl}
+use Rattle.std.proofs.Common.{sym, ◌∙◌, ap, subst, arith}
 use Rattle.std.specs.BTreeMap.{BTreeMap, get, is_at}
 use Rattle.std.specs.Map.{lookup}
 use Rattle.std.specs.Cmp.{IsTotalOrder}

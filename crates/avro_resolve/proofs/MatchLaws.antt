@@ -1,5 +1,6 @@
 -- Why `matches` looks far enough, and that it does so array by array and map by map.
-use Rattle.std.proofs.Common.{◌≡◌, ◌≢◌, ℕ, zero, suc, ◌+◌, ◌-◌, ◌<◌, ◌≤◌, List, [], ◌∷◌, length, Bool, true, false, ◌||◌, ◌&&◌, is_some, bytes_eq, inl, inr, Option, Some, None, slice_get, refl, sym, ap, ◌∙◌, arith}
+use Rattle.std.proofs.Common.{◌≡◌, ◌≢◌, ℕ, zero, suc, ◌+◌, ◌-◌, ◌<◌, ◌≤◌, List, [], ◌∷◌, length, Bool, true, false, ◌||◌, ◌&&◌}
+use Rattle.std.proofs.Common.{is_some, bytes_eq, inl, inr, Option, Some, None, slice_get, refl, sym, ap, ◌∙◌, arith}
 use Rattle.std.specs.List.{list_any}
 use Rattle.std.proofs.lemmas.Slice.Eq.{bytes_eq-Decides}
 use Rattle.std.proofs.lemmas.Bool.{eq-eqb}
@@ -15,7 +16,8 @@ use Rattle.avro_schema.specs.Names.{same_name}
 use Rattle.avro_schema.specs.Faults.{same_primitive}
 use Rattle.avro_resolve.proofs.Sound.{part_below}
 use Rattle.avro_resolve.specs.Inward.{inner_types}
-use Rattle.avro_resolve.specs.Match.{both, nodes_match, matches_within, matches, names_match, promotions, primitives_match, IsByCases, EachMatchesItself}
+use Rattle.avro_resolve.specs.Match.{both, nodes_match, matches_within, matches, names_match}
+use Rattle.avro_resolve.specs.Match.{promotions, primitives_match, IsByCases, EachMatchesItself}
 
 -- a is what the array or the map is of
 abbrev pub IsOf : NodeId → Option Node → Type 0

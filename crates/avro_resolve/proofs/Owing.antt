@@ -1,5 +1,7 @@
 -- Which pairs a pair owes, step by step.
-use Rattle.std.proofs.Common.{◌≡◌, ℕ, zero, suc, ◌+◌, ◌-◌, ◌<◌, ◌≤◌, List, [], ◌∷◌, ◌++◌, length, drop, map, find, filter_map, true, false, ◌&&◌, cond, ⊎_elim, Some, None, Ok, Err, is_none, option_map, get_or, slice_get, append_assoc, append-nil, refl, sym, ◌∙◌, ap, subst, arith}
+use Rattle.std.proofs.Common.{◌≡◌, ℕ, zero, suc, ◌+◌, ◌-◌, ◌<◌, ◌≤◌, List, [], ◌∷◌, ◌++◌, length, drop, map, find, filter_map, true, false}
+use Rattle.std.proofs.Common.{◌&&◌, cond, ⊎_elim, Some, None, Ok, Err, is_none, option_map, get_or, slice_get, append_assoc, append-nil}
+use Rattle.std.proofs.Common.{refl, sym, ◌∙◌, ap, subst, arith}
 use Rattle.std.specs.List.{AllWithin, cons_option, enumerate_from}
 use Rattle.std.proofs.lemmas.Bool.{cases_lt}
 use Rattle.std.proofs.lemmas.Option.{slice_get_read}

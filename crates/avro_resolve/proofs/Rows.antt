@@ -1,5 +1,7 @@
 -- What follows from the rows of the table: obligations stay within the two schemas, and no two of a pair have one hop.
-use Rattle.std.proofs.Common.{◌≡◌, ◌≢◌, ℕ, zero, suc, ◌+◌, ◌<◌, List, [], ◌∷◌, length, Bool, true, false, not, cond, ◌==◌, Option, Some, None, Result, Ok, Err, is_some, option_map, find, filter_map, map, slice_get, bytes_eq, refl, sym, ◌∙◌, ap, subst, arith}
+use Rattle.std.proofs.Common.{◌≡◌, ◌≢◌, ℕ, zero, suc, ◌+◌, ◌<◌, List, [], ◌∷◌, length, Bool, true, false, not, cond, ◌==◌, Option, Some}
+use Rattle.std.proofs.Common.{None, Result, Ok, Err, is_some, option_map, find, filter_map, map, slice_get, bytes_eq, refl, sym, ◌∙◌, ap}
+use Rattle.std.proofs.Common.{subst, arith}
 use Rattle.std.specs.List.{enumerate_from, cons_option, position_or_len}
 use Rattle.std.specs.Option.{option_map_or}
 use Rattle.std.proofs.lemmas.List.Folds.{find_at}

@@ -1,5 +1,8 @@
 -- What the search keeps, step by step.
-use Rattle.std.proofs.Common.{◌≡◌, ℕ, ◌+◌, ◌<◌, ◌≤◌, List, [], ◌∷◌, ◌++◌, length, take, drop, drop-cons, add-one, map, find, filter_map, Bool, true, false, ◌&&◌, ◌||◌, cond, eqb, arith, not, Option, Some, None, Result, Ok, Err, is_some, is_none, option_map, option_and_then, get_or, append_assoc, append-nil, slice_get, refl, sym, ◌∙◌, ap, subst}
+use Rattle.std.proofs.Common.{◌≡◌, ℕ, ◌+◌, ◌<◌, ◌≤◌, List, [], ◌∷◌, ◌++◌, length, take, drop, drop-cons, add-one, map, find}
+use Rattle.std.proofs.Common.{filter_map, Bool, true, false, ◌&&◌, ◌||◌, cond, eqb, arith, not, Option, Some, None, Result, Ok, Err}
+use Rattle.std.proofs.Common.{is_some, is_none, option_map, option_and_then, get_or, append_assoc, append-nil, slice_get, refl, sym}
+use Rattle.std.proofs.Common.{◌∙◌, ap, subst}
 use Rattle.std.proofs.lemmas.Bool.{eqb-true}
 use Rattle.std.specs.List.{cons_option, enumerate_from}
 use Rattle.std.proofs.lemmas.List.{take_all, take-append-le, length-take}
@@ -20,7 +23,9 @@ use Rattle.avro_resolve.proofs.Rows.{owed_in}
 use Rattle.avro_resolve.specs.declared.search.Step.{Step}
 use Rattle.avro_resolve.specs.declared.search.Entry.{Entry}
 use Rattle.avro_resolve.specs.Seen.{same_pair, is_seen, IsFair}
-use Rattle.avro_resolve.specs.Search.{is_reached, AgreesWith, unless_reached, with_entry, entry_from, expanded, from_at, hop_numbered, hop_at, IsStep, IsWayBack}
+use Rattle.avro_resolve.specs.Search.{is_reached, AgreesWith, unless_reached, with_entry}
+use Rattle.avro_resolve.specs.Search.{entry_from, expanded, from_at, hop_numbered, hop_at}
+use Rattle.avro_resolve.specs.Search.{IsStep, IsWayBack}
 use Rattle.avro_resolve.specs.declared.seen.Seen.{Seen}
 use Rattle.avro_schema.specs.declared.node.Field.{Field}
 use Rattle.avro_schema.specs.declared.node.Node.{Node}

@@ -1,5 +1,8 @@
 -- What is known of the reader's fields that are found from the writer's side, and of those that are passed over.
-use Rattle.std.proofs.Common.{drop, ◌≡◌, ◌≢◌, ℕ, zero, suc, ◌+◌, ◌-◌, ◌<◌, ◌≤◌, eqb, inl, inr, ◌⊎◌, List, [], ◌∷◌, length, map, filter, filter_map, Bool, true, false, All, Option, Some, None, is_some, option_and_then, option_copied, is_none, get_or, slice_get, bytes_eq, refl, sym, ◌∙◌, ap, subst, arith, ⊎_elim, cond, not, ◌++◌}
+use Rattle.std.proofs.Common.{drop, ◌≡◌, ◌≢◌, ℕ, zero, suc, ◌+◌, ◌-◌, ◌<◌, ◌≤◌, eqb, inl, inr, ◌⊎◌, List, [], ◌∷◌, length, map}
+use Rattle.std.proofs.Common.{filter, filter_map, Bool, true, false, All, Option, Some, None, is_some, option_and_then}
+use Rattle.std.proofs.Common.{option_copied, is_none, get_or, slice_get, bytes_eq, refl, sym, ◌∙◌, ap, subst, arith, ⊎_elim}
+use Rattle.std.proofs.Common.{cond, not, ◌++◌}
 use Rattle.std.specs.List.{cons_option, AllWithin}
 use Rattle.std.specs.Borrow.{Bor}
 use Rattle.std.specs.BTreeMap.{BTreeMap, get, is_at}
@@ -14,7 +17,9 @@ use Rattle.std.specs.declared.cmp.Ordering.{Ordering}
 use Rattle.std.specs.declared.cmp.Ordering.TheVariants.{Less, Equal}
 use Rattle.std.proofs.lemmas.Bool.{cases_lt, eqb-true}
 use Rattle.std.proofs.lemmas.List.{drop_all}
-use Rattle.std.proofs.lemmas.List.Elements.{All-append, All-cons, All-contains, All-contains_itself, All-head, All-map, All-nil, All-push, All-tail, All-weaker, Contains-append_left, Contains-append_right}
+use Rattle.std.proofs.lemmas.List.Elements.{All-append, All-cons, All-contains, All-contains_itself, All-head, All-map}
+use Rattle.std.proofs.lemmas.List.Elements.{All-nil, All-push, All-tail, All-weaker}
+use Rattle.std.proofs.lemmas.List.Elements.{Contains-append_left, Contains-append_right}
 use Rattle.std.proofs.lemmas.Option.{slice_get_past, slice_get_read}
 use Rattle.std.proofs.lemmas.Slice.Eq.{bytes_eq-Decides}
 use Rattle.std.specs.List.{Contains}
@@ -22,7 +27,9 @@ use Rattle.avro_schema.specs.declared.node.Field.{Field}
 use Rattle.avro_schema.specs.Defaults.{field_named}
 use Rattle.avro_resolve.specs.Pairing.{partner}
 use Rattle.avro_schema.specs.Sound.{HaveDistinctNames}
-use Rattle.avro_resolve.specs.Sieve.{names_of, held, at_place, Before, DoRise, HasAt, Holders, IsAbsent, IsAbsentUpto, IsAddedTo, IsAfter, IsFound, IsPassed, IsSieve, Name, NoneOf, NoneUpto, AreFound, AreFoundUpto, AreHolders, AreOthers, AreSieves, fields_in}
+use Rattle.avro_resolve.specs.Sieve.{names_of, held, at_place, Before, DoRise, HasAt, Holders, IsAbsent, IsAbsentUpto, IsAddedTo, IsAfter}
+use Rattle.avro_resolve.specs.Sieve.{IsFound, IsPassed, IsSieve, Name, NoneOf, NoneUpto, AreFound, AreFoundUpto, AreHolders, AreOthers}
+use Rattle.avro_resolve.specs.Sieve.{AreSieves, fields_in}
 use Rattle.avro_resolve.specs.declared.sieve.Found.{Found}
 use Rattle.avro_resolve.specs.declared.sieve.Holder.{Holder}
 use Rattle.avro_resolve.specs.declared.sieve.Sieve.{Sieve}

@@ -1,5 +1,6 @@
 -- Which types match, whatever their parts resolve to (Avro 1.11, "Schema Resolution").
-use Rattle.std.specs.Prelude.{◌≡◌, ◌<◌, ℕ, zero, suc, List, [], ◌∷◌, length, Bool, true, false, ◌&&◌, ◌||◌, ◌==◌, Option, Some, slice_get, bytes_eq}
+use Rattle.std.specs.Prelude.{◌≡◌, ◌<◌, ℕ, zero, suc, List, [], ◌∷◌, length, Bool, true}
+use Rattle.std.specs.Prelude.{false, ◌&&◌, ◌||◌, ◌==◌, Option, Some, slice_get, bytes_eq}
 use Rattle.std.specs.List.{list_any}
 use Rattle.avro_schema.specs.declared.node.FullName.{FullName}
 use Rattle.avro_schema.specs.declared.node.NodeId.{NodeId}

@@ -1,5 +1,6 @@
 -- Private: what the search keeps, the pairs that were reached, in the order in which they were.
-use Rattle.std.specs.Prelude.{◌≡◌, ◌<◌, ℕ, ◌+◌, List, [], ◌∷◌, ◌++◌, length, Bool, true, false, Option, Some, None, option_map, option_and_then, slice_get}
+use Rattle.std.specs.Prelude.{◌≡◌, ◌<◌, ℕ, ◌+◌, List, [], ◌∷◌, ◌++◌, length, Bool, true, false}
+use Rattle.std.specs.Prelude.{Option, Some, None, option_map, option_and_then, slice_get}
 use Rattle.std.specs.List.{list_any}
 use Rattle.avro_schema.specs.declared.node.Node.{Node}
 use Rattle.avro_resolve.specs.declared.trail.Hop.{Hop}

@@ -1,5 +1,6 @@
 -- Private: which pairs were seen.
-use Rattle.std.specs.Prelude.{◌≡◌, ℕ, ◌/◌, ◌%◌, List, Bool, false, ◌&&◌, ◌||◌, ◌==◌, cond, Option, Some, None, unwrap_or, slice_get, slice_set}
+use Rattle.std.specs.Prelude.{◌≡◌, ℕ, ◌/◌, ◌%◌, List, Bool, false, ◌&&◌, ◌||◌, ◌==◌, cond}
+use Rattle.std.specs.Prelude.{Option, Some, None, unwrap_or, slice_get, slice_set}
 use Rattle.std.specs.Int.{bit_at}
 use Rattle.std.specs.Ordering.{nat_cmp, ordering_then}
 use Rattle.std.specs.BTreeMap.{BTreeMap, get}

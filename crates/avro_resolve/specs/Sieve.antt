@@ -1,5 +1,6 @@
 -- Private: which fields of a reader's record have a partner, found from the writer's side.
-use Rattle.std.specs.Prelude.{◌≡◌, ◌≢◌, ◌<◌, ◌≤◌, ℕ, ◌⊎◌, List, [], ◌∷◌, ◌++◌, length, true, Option, Some, None, All, IsSome, is_some, option_and_then, suc, get_or, slice_get}
+use Rattle.std.specs.Prelude.{◌≡◌, ◌≢◌, ◌<◌, ◌≤◌, ℕ, ◌⊎◌, List, [], ◌∷◌, ◌++◌, length, true, Option, Some}
+use Rattle.std.specs.Prelude.{None, All, IsSome, is_some, option_and_then, suc, get_or, slice_get}
 use Rattle.std.specs.Global.{Vec}
 use Rattle.std.specs.Borrow.{Bor}
 use Rattle.std.specs.Cmp.Lexicographic.{slice_cmp}
@@ -55,7 +56,12 @@ IsAddedTo old new h = (new ≡ old ++ h ∷ []) ⊎ ((new ≡ old) × (IsAbsent 
 pub record AreHolders (fs : List Field) (i j : ℕ) (m : Holders) : Type 0 where
   pub named : (n : Name) → All (HasAt fs n.now) (held m n)
   pub before : (n : Name) → All (λ h. Before h.field h.rank i j) (held m n)
-  pub whole : (k r : ℕ) (f : Field) (n : Name) → slice_get fs k ≡ Some f → slice_get (names_of f) r ≡ Some n.now → Before k r i j → IsAbsentUpto k r (held m n) → ⊥
+  pub whole : (k r : ℕ) (f : Field) (n : Name)
+      → slice_get fs k ≡ Some f
+      → slice_get (names_of f) r ≡ Some n.now
+      → Before k r i j
+      → IsAbsentUpto k r (held m n)
+      → ⊥
 
 -- a place after the names of its field
 abbrev pub IsAfter : List Field → Holder → Type 0
@@ -94,12 +100,21 @@ IsFound reader writer x = (f : Field) × (slice_get reader x.holder.field ≡ So
 -- all that can't be passed over for the writer's fields before place p
 pub record AreFoundUpto (reader writer : List Field) (p : ℕ) (xs : List Found) : Type 0 where
   pub each : All (IsFound reader writer) xs
-  pub whole : (k r q : ℕ) (f g : Field) → slice_get reader k ≡ Some f → slice_get writer q ≡ Some g → q < p → slice_get (names_of f) r ≡ Some g.name → NoneUpto k r xs → ⊥
+  pub whole : (k r q : ℕ) (f g : Field)
+      → slice_get reader k ≡ Some f
+      → slice_get writer q ≡ Some g
+      → q < p
+      → slice_get (names_of f) r ≡ Some g.name
+      → NoneUpto k r xs
+      → ⊥
   pub lacking : (k : ℕ) (f : Field) → slice_get reader k ≡ Some f → NoneOf k xs → is_some f.default ≡ true
 
 -- by number, and of one field the first name first
 abbrev pub DoRise : List Found → Type 0
-DoRise xs = (i j : ℕ) (d : Found) → i ≤ j → j < length xs → Before (get_or xs i d).holder.field (get_or xs i d).holder.rank (get_or xs j d).holder.field (suc (get_or xs j d).holder.rank)
+DoRise xs = (i j : ℕ) (d : Found)
+    → i ≤ j
+    → j < length xs
+    → Before (get_or xs i d).holder.field (get_or xs i d).holder.rank (get_or xs j d).holder.field (suc (get_or xs j d).holder.rank)
 
 -- all that can't be passed over
 pub record AreFound (reader writer : List Field) (xs : List Found) : Type 0 where

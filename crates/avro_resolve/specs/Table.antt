@@ -11,7 +11,8 @@
 -- | all others         | always                                                    |                               |
 --
 -- A pair either clashes, `Err`, or has obligations, perhaps none, `Ok`.
-use Rattle.std.specs.Prelude.{ℕ, List, [], ◌∷◌, map, Bool, true, false, not, ◌==◌, if◌then◌else◌, Option, Some, is_some, option_map, Result, Ok, Err, find, filter_map, slice_get}
+use Rattle.std.specs.Prelude.{ℕ, List, [], ◌∷◌, map, Bool, true, false, not, ◌==◌, if◌then◌else◌, Option}
+use Rattle.std.specs.Prelude.{Some, is_some, option_map, Result, Ok, Err, find, filter_map, slice_get}
 use Rattle.std.specs.List.{enumerate_from}
 use Rattle.std.specs.Option.{option_map_or}
 use Rattle.std.specs.Result.{result_err, result_unwrap_or}
@@ -51,7 +52,8 @@ to_fields reader writer =
 -- by the reader's symbols, whether it has a default, and the writer's symbols
 abbrev pub with_symbols : List (List ℕ) → Bool → List (List ℕ) → Result (List Obligation) ClashKind
 with_symbols reader true writer = Ok []
-with_symbols reader false writer = option_map_or (λ s. Err (clash.MissingEnumSymbols s)) (find (λ s. not (has_text reader s)) writer) (Ok [])
+with_symbols reader false writer = option_map_or (λ s. Err (clash.MissingEnumSymbols s))
+    (find (λ s. not (has_text reader s)) writer) (Ok [])
 
 -- ---- the table
 
@@ -60,7 +62,8 @@ abbrev pub plain_row : Node → Node → Result (List Obligation) ClashKind
 plain_row (kind.Array i) (kind.Array j) = Ok (obligation hop.Items i j ∷ [])
 plain_row (kind.Map i) (kind.Map j) = Ok (obligation hop.Values i j ∷ [])
 plain_row (kind.Record m al fs) (kind.Record n bl gs) = if names_match m al n then to_fields fs gs else Err clash.NameMismatch
-plain_row (kind.Enum m al ss d) (kind.Enum n bl ts e) = if names_match m al n then with_symbols ss (is_some d) ts else Err clash.NameMismatch
+plain_row (kind.Enum m al ss d) (kind.Enum n bl ts e) = if names_match m al n then with_symbols ss (is_some d) ts
+    else Err clash.NameMismatch
 plain_row (kind.Fixed m al s) (kind.Fixed n bl t) =
     if names_match m al n then (if s == t then Ok [] else Err clash.FixedSizeMismatch) else Err clash.NameMismatch
 plain_row (kind.Primitive p) (kind.Primitive q) = if primitives_match p q then Ok [] else Err clash.TypeMismatch

@@ -1,5 +1,6 @@
 -- Trails from the pair of roots to a clash, and the one that is shown.
-use Rattle.std.specs.Prelude.{◌≡◌, ◌<◌, ◌↔◌, ℕ, List, [], ◌∷◌, length, ◌⊎◌, Option, Some, None, IsSome, option_map, option_and_then, slice_get}
+use Rattle.std.specs.Prelude.{◌≡◌, ◌<◌, ◌↔◌, ℕ, List, [], ◌∷◌, length, ◌⊎◌, Option, Some}
+use Rattle.std.specs.Prelude.{None, IsSome, option_map, option_and_then, slice_get}
 use Rattle.avro_schema.specs.declared.node.Node.{Node}
 use Rattle.avro_resolve.specs.declared.trail.Trail.{Trail}
 use Rattle.avro_resolve.specs.declared.obligations.Pair.{Pair}
@@ -16,7 +17,8 @@ module _ (r w : List Node) where
   abbrev pub trail_from : Pair → List ℕ → Option Trail
   trail_from p [] = option_map (λ c. record { hops = []; kind = c }) (clash_of r w p)
   trail_from p (k ∷ ks) =
-      option_and_then (λ o. option_map (λ (t : Trail). record t { hops = o.hop ∷ t.hops }) (trail_from o.pair ks)) (slice_get (obligations r w p) k)
+      option_and_then (λ o. option_map (λ (t : Trail). record t { hops = o.hop ∷ t.hops }) (trail_from o.pair ks))
+      (slice_get (obligations r w p) k)
 
   abbrev pub trail_along : List ℕ → Option Trail
   trail_along ks = trail_from roots ks
@@ -33,7 +35,8 @@ module _ (r w : List Node) where
 
 -- A pair is compatible exactly where it has no clash and each of its obligations is compatible.
 abbrev pub AreCompatibleByObligations : List Node → List Node → Type 0
-AreCompatibleByObligations r w = (p : Pair) → AreCompatibleAt r w p ↔ ((clash_of r w p ≡ None) × ((k : ℕ) (o : Obligation) → slice_get (obligations r w p) k ≡ Some o → AreCompatibleAt r w o.pair))
+AreCompatibleByObligations r w = (p : Pair) → AreCompatibleAt r w p
+    ↔ ((clash_of r w p ≡ None) × ((k : ℕ) (o : Obligation) → slice_get (obligations r w p) k ≡ Some o → AreCompatibleAt r w o.pair))
 
 -- dictionary order
 abbrev pub InOrder : List ℕ → List ℕ → Type 0
@@ -51,4 +54,8 @@ IsShown r w t = (ks : List ℕ) × (trail_along r w ks ≡ Some t) × ((ls : Lis
 
 -- A hop of a pair names exactly one of its obligations.
 abbrev pub HopsNameOne : List Node → List Node → Type 0
-HopsNameOne r w = (p : Pair) (k l : ℕ) (a b : Obligation) → slice_get (obligations r w p) k ≡ Some a → slice_get (obligations r w p) l ≡ Some b → a.hop ≡ b.hop → k ≡ l
+HopsNameOne r w = (p : Pair) (k l : ℕ) (a b : Obligation)
+    → slice_get (obligations r w p) k ≡ Some a
+    → slice_get (obligations r w p) l ≡ Some b
+    → a.hop ≡ b.hop
+    → k ≡ l

@@ -1,5 +1,6 @@
 -- Branches and fields, one after another.
-use Rattle.std.proofs.Common.{◌≡◌, inl, inr, ℕ, ◌+◌, List, [], ◌∷◌, ◌++◌, Bool, true, false, ◌&&◌, not, Contains, refl, sym, ◌∙◌, ap, subst, arith, append_assoc, bytes_eq, map}
+use Rattle.std.proofs.Common.{◌≡◌, inl, inr, ℕ, ◌+◌, List, [], ◌∷◌, ◌++◌, Bool, true, false, ◌&&◌, not}
+use Rattle.std.proofs.Common.{Contains, refl, sym, ◌∙◌, ap, subst, arith, append_assoc, bytes_eq, map}
 use Rattle.std.specs.List.{list_all, list_any}
 use Rattle.std.proofs.lemmas.List.{append-nil}
 use Rattle.std.proofs.lemmas.List.Elements.{Contains-append_cases}
@@ -13,10 +14,15 @@ use Rattle.avro_schema.specs.Names.{is_name}
 use Rattle.avro_schema.specs.Form.{Form, Forms, no_forms, and_form, Fields, no_fields, and_field, FieldHeading}
 use Rattle.avro_schema.specs.Places.{count, forms_count, fields_count, places, places_of_forms, places_of_fields, Definition, definitions}
 use Rattle.avro_schema.specs.Nodes.{node_id, branches, field_list, field_at}
-use Rattle.avro_schema.specs.Faults.{unless, kind_in_union, kinds, fits_union, fits_fields, field_headings, is_formed, if_written, are_written, field_name, field_list_faults}
+use Rattle.avro_schema.specs.Faults.{unless, kind_in_union, kinds, fits_union, fits_fields, field_headings}
+use Rattle.avro_schema.specs.Faults.{is_formed, if_written, are_written, field_name, field_list_faults}
 use Rattle.avro_schema.specs.Schema.{IsRefusalBy}
-use Rattle.avro_schema.specs.Building.{opened, HasMet, Reads, faults_in, type_faults, branches_faults, fields_faults, field_faults, are_formed, has_distinct_names, IsTypeRead, IsFieldRead, AreBranchesRead, AreFieldsRead}
-use Rattle.avro_schema.proofs.Later.{From, From-weaker, SameAlong-type, node_id-later, kind_of-later, definitions_of_forms-from, definitions_of_fields-from}
+use Rattle.avro_schema.specs.Building.{opened, HasMet, Reads, faults_in, type_faults, branches_faults, fields_faults}
+use Rattle.avro_schema.specs.Building.{field_faults, are_formed, has_distinct_names, IsTypeRead, IsFieldRead}
+use Rattle.avro_schema.specs.Building.{AreBranchesRead, AreFieldsRead}
+use Rattle.avro_schema.proofs.Later.{From, From-weaker, SameAlong-type, node_id-later}
+use Rattle.avro_schema.proofs.Later.{kind_of-later}
+use Rattle.avro_schema.proofs.Later.{definitions_of_forms-from, definitions_of_fields-from}
 use Rattle.avro_schema.proofs.Reading.{weaken, left, right, unless_too, definitions-append, Reads-append, opened-type, in_head, in_tail}
 use Rattle.avro_schema.proofs.Types.{and_parts}
 

@@ -1,5 +1,7 @@
 -- What the builder's functions return, from what they call.
-use Rattle.std.proofs.Common.{◌≡◌, ℕ, zero, suc, drop, get_or, codes, ◌+◌, ◌≤◌, ◌<◌, List, [], ◌∷◌, ◌++◌, length, set, Bool, true, false, ◌&&◌, map, bytes_eq, None, Result, IfOk, refl, sym, ◌∙◌, ap, subst, arith, length-set, option_map, option_and_then, Option, Some, is_some}
+use Rattle.std.proofs.Common.{◌≡◌, ℕ, zero, suc, drop, get_or, codes, ◌+◌, ◌≤◌, ◌<◌, List, [], ◌∷◌, ◌++◌, length, set, Bool, true, false}
+use Rattle.std.proofs.Common.{◌&&◌, map, bytes_eq, None, Result, IfOk, refl, sym, ◌∙◌, ap, subst, arith, length-set, option_map}
+use Rattle.std.proofs.Common.{option_and_then, Option, Some, is_some}
 use Rattle.std.specs.List.{list_all}
 use Rattle.std.specs.Option.{option_map_or}
 use Rattle.std.specs.Result.{IfErr}
@@ -25,20 +27,27 @@ use Rattle.std.proofs.Math.Seq.{set-append_seam}
 use Rattle.avro_schema.specs.Names.{joined, all_distinct, is_name}
 use Rattle.json_tree.specs.View.{view, items_view}
 use Rattle.json_tree.specs.declared.tree.Json.{Json}
-use Rattle.avro_schema.specs.Form.{by_name, form, forms, fields_of_items, field_heading_of, type_in, Form, Forms, Fields, FieldHeading, Heading, no_forms, and_form, and_field, no_fields, ill_fields, array_of, map_of, union_of, record_of, enum_of, fixed_of, strings}
+use Rattle.avro_schema.specs.Form.{by_name, form, forms, fields_of_items, field_heading_of, type_in, Form, Forms, Fields, FieldHeading}
+use Rattle.avro_schema.specs.Form.{Heading, no_forms, and_form, and_field, no_fields, ill_fields, array_of, map_of, union_of, record_of}
+use Rattle.avro_schema.specs.Form.{enum_of, fixed_of, strings}
 use Rattle.avro_schema.specs.Places.{count, place, places, definition_used, Definition, definitions, defined}
 use Rattle.avro_schema.specs.Nodes.{field_list}
 use Rattle.avro_schema.specs.Faults.{kind_in_union, fits_union, field_headings, field_name, is_formed, if_written}
 use Rattle.avro_schema.specs.Schema.{IsRefusalBy}
 use Rattle.avro_schema.specs.DefinedNames.{number_of, AreDefined, IsNumbered}
 use Rattle.avro_schema.specs.Branches.{may_stand, branch_kind, StandsFor}
-use Rattle.avro_schema.specs.Building.{full_of, names_of, Before, Keeps, OpensType, HasSymbols, HasSize, nodes_of, opened, HasMet, IsTypeRead, AreBranchesRead, AreFieldsRead, branches_faults, fields_faults, ReadsType, RefusesType, ReadsBranches, ReadsFields, ReadsField, RefusesField, has_distinct_names, HasNames, form_in}
+use Rattle.avro_schema.specs.Building.{full_of, names_of, Before, Keeps, OpensType, HasSymbols, HasSize, nodes_of, opened}
+use Rattle.avro_schema.specs.Building.{HasMet, IsTypeRead, AreBranchesRead, AreFieldsRead, branches_faults, fields_faults}
+use Rattle.avro_schema.specs.Building.{ReadsType, RefusesType, ReadsBranches, ReadsFields, ReadsField, RefusesField}
+use Rattle.avro_schema.specs.Building.{has_distinct_names, HasNames, form_in}
 use Rattle.avro_schema.proofs.Reading.{left, alone, from_to, opens_none, unless-nil}
 use Rattle.avro_schema.proofs.KindLemmas.{fits_not, fits_more}
 use Rattle.avro_schema.proofs.KindLemmas as lone
 use Rattle.avro_schema.proofs.BranchLemmas.{AreFor, are_still, are_more, same_standing, kind_read}
 use Rattle.avro_schema.proofs.ObjectForms.{items_view-drop, type_in-get}
-use Rattle.avro_schema.proofs.Along.{BranchesAlong, FieldsAlong, TestsAlong, all_kinds, first_kind, branches_start, branches_step, branches_refused, branches_end, fields_step, fields_refused, fields_end, tests_step}
+use Rattle.avro_schema.proofs.Along.{BranchesAlong, FieldsAlong, TestsAlong, all_kinds, first_kind, branches_start}
+use Rattle.avro_schema.proofs.Along.{branches_step, branches_refused, branches_end, fields_step, fields_refused}
+use Rattle.avro_schema.proofs.Along.{fields_end, tests_step}
 use Rattle.avro_schema.proofs.Types.{opened-more, definition_of, read_array, read_map, read_union, read_record, read_enum, read_fixed}
 
 pub type_ok : {E : Type 0} (r : Result NodeId E) (a b : Builder) (ns : List ℕ) (f g : Form) → g ≡ f → IfOk r (ReadsType a b ns f) → IfOk r (ReadsType a b ns g)

@@ -1,5 +1,6 @@
 -- The kinds of branches, where a name stands as the node that it names.
-use Rattle.std.proofs.Common.{◌≡◌, ℕ, ◌<◌, List, [], ◌∷◌, ◌++◌, length, Bool, true, false, ◌&&◌, ◌||◌, not, cond, Option, Some, None, is_some, is_none, option_map, find, bytes_eq, nat_lt, slice_get, refl, sym, ◌∙◌, ap, subst, arith}
+use Rattle.std.proofs.Common.{◌≡◌, ℕ, ◌<◌, List, [], ◌∷◌, ◌++◌, length, Bool, true, false, ◌&&◌, ◌||◌, not, cond, Option, Some, None}
+use Rattle.std.proofs.Common.{is_some, is_none, option_map, find, bytes_eq, nat_lt, slice_get, refl, sym, ◌∙◌, ap, subst, arith}
 use Rattle.std.specs.List.{list_any, cons_option}
 use Rattle.std.specs.Option.{option_or, option_map_or}
 use Rattle.std.proofs.lemmas.Bool.{lt-ltb, le-ltb, false≢true}
@@ -19,7 +20,9 @@ use Rattle.avro_schema.specs.Names.{has_dot, joined, full_text}
 use Rattle.avro_schema.specs.Form.{Heading, Form, plain, by_name, record_of, enum_of, array_of, map_of, union_of, fixed_of, ill_formed}
 use Rattle.avro_schema.specs.Places.{own_namespace, place, places, Definition, definitions, defined, defined_by, definition_used}
 use Rattle.avro_schema.specs.Nodes.{node_at}
-use Rattle.avro_schema.specs.Faults.{if_written, is_union_kind, same_kind, kind_named, kind_in_union, written_faults, heading_faults, faults_at}
+use Rattle.avro_schema.specs.Faults.{if_written, is_union_kind, same_kind, kind_named}
+use Rattle.avro_schema.specs.Faults.{kind_in_union, written_faults}
+use Rattle.avro_schema.specs.Faults.{heading_faults, faults_at}
 use Rattle.avro_schema.specs.DefinedNames.{node_named}
 use Rattle.avro_schema.specs.Branches.{same_branch, is_union_branch, may_stand, kind_of_node, branch_kind, StandsFor}
 use Rattle.avro_schema.specs.Building.{Before, nodes_of, opened, HasMet, IsTypeRead}

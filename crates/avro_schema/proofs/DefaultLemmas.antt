@@ -1,5 +1,7 @@
 -- Defaults of several records, and members by name.
-use Rattle.std.proofs.Common.{◌≡◌, ◌≢◌, ℕ, zero, suc, ◌+◌, ◌<◌, ◌≤◌, Bool, true, false, ◌&&◌, ◌||◌, cond, is_none, List, [], ◌∷◌, ◌++◌, length, get_or, drop, map, filter, flat_map, not, Option, Some, None, is_some, option_map, refl, sym, ap, ◌∙◌, arith}
+use Rattle.std.proofs.Common.{◌≡◌, ◌≢◌, ℕ, zero, suc, ◌+◌, ◌<◌, ◌≤◌, Bool, true, false, ◌&&◌, ◌||◌, cond, is_none, List, [], ◌∷◌, ◌++◌}
+use Rattle.std.proofs.Common.{length, get_or, drop, map, filter, flat_map, not, Option, Some, None, is_some, option_map, refl, sym, ap}
+use Rattle.std.proofs.Common.{◌∙◌, arith}
 use Rattle.std.proofs.lemmas.List.{map-append}
 use Rattle.std.proofs.lemmas.List.Elements.{filter-append}
 use Rattle.avro_schema.specs.declared.node.Field.{Field}
@@ -9,7 +11,9 @@ use Rattle.avro_schema.specs.declared.node.Node.TheVariants as kind
 use Rattle.serde_json.specs.Data.{Data, object, Members}
 use Rattle.serde_json.specs.Find.{get_member}
 use Rattle.avro_schema.specs.declared.node.NodeId.{NodeId}
-use Rattle.avro_schema.specs.Defaults.{takes, an_object, default_type, default_fits, values_fit, fields_fit, absent_have_defaults, has_good_default, bad_defaults}
+use Rattle.avro_schema.specs.Defaults.{takes, an_object, default_type, default_fits, values_fit}
+use Rattle.avro_schema.specs.Defaults.{fields_fit, absent_have_defaults}
+use Rattle.avro_schema.specs.Defaults.{has_good_default, bad_defaults}
 use Rattle.avro_schema.specs.Required.{required_in, have_all}
 use Rattle.avro_schema.specs.Sound.{fields_of_node}
 

@@ -1,5 +1,6 @@
 -- Definitions that open later change nothing of what stands before them, so one pass finds the same nodes and the same faults.
-use Rattle.std.proofs.Common.{◌≡◌, ℕ, suc, length-append, ◌+◌, ◌≤◌, List, [], ◌∷◌, ◌++◌, length, ◌&&◌, cond, Option, Some, None, is_none, option_and_then, refl, sym, ◌∙◌, ap, arith, filter_map, bytes_eq}
+use Rattle.std.proofs.Common.{◌≡◌, ℕ, suc, length-append, ◌+◌, ◌≤◌, List, [], ◌∷◌, ◌++◌, length, ◌&&◌, cond, Option}
+use Rattle.std.proofs.Common.{Some, None, is_none, option_and_then, refl, sym, ◌∙◌, ap, arith, filter_map, bytes_eq}
 use Rattle.std.specs.Option.{option_or}
 use Rattle.std.specs.List.{cons_option, flat_map}
 use Rattle.std.proofs.lemmas.Bool.{le-ltb}
@@ -9,10 +10,15 @@ use Rattle.std.proofs.lemmas.List.Concat.{flat_map-append}
 use Rattle.avro_schema.specs.declared.node.Node.TheVariants as kind
 use Rattle.avro_schema.specs.declared.error.SchemaError.TheVariants as fault
 use Rattle.avro_schema.specs.Names.{joined, full_text}
-use Rattle.avro_schema.specs.Form.{Heading, Form, plain, by_name, record_of, enum_of, array_of, map_of, union_of, fixed_of, ill_formed, Forms, no_forms, and_form, Fields, no_fields, ill_fields, and_field}
-use Rattle.avro_schema.specs.Places.{count, forms_count, fields_count, own_namespace, Place, place, places, type_name, places_in, places_of_forms, places_of_fields, Definition, heading_in, definitions, defined, defined_by, definition_used}
+use Rattle.avro_schema.specs.Form.{Heading, Form, plain, by_name, record_of, enum_of, array_of, map_of, union_of}
+use Rattle.avro_schema.specs.Form.{fixed_of, ill_formed, Forms, no_forms, and_form, Fields, no_fields}
+use Rattle.avro_schema.specs.Form.{ill_fields, and_field}
+use Rattle.avro_schema.specs.Places.{count, forms_count, fields_count, own_namespace, Place, place, places, type_name, places_in}
+use Rattle.avro_schema.specs.Places.{places_of_forms, places_of_fields, Definition, heading_in, definitions, defined}
+use Rattle.avro_schema.specs.Places.{defined_by, definition_used}
 use Rattle.avro_schema.specs.Nodes.{type_aliases, field_at, node_id, branches, field_list, node_of, node_at}
-use Rattle.avro_schema.specs.Faults.{unless, fits_union, kind_in_union, kinds, if_written, heading_faults, field_list_faults, symbols_faults, size_faults, faults_of, faults_at}
+use Rattle.avro_schema.specs.Faults.{unless, fits_union, kind_in_union, kinds, if_written, heading_faults}
+use Rattle.avro_schema.specs.Faults.{field_list_faults, symbols_faults, size_faults, faults_of, faults_at}
 
 -- each of the definitions opens at node n or after it
 abbrev pub From : ℕ → List Definition → Type 0

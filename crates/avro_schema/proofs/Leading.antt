@@ -1,5 +1,6 @@
 -- Where the nodes of a schema lead to.
-use Rattle.std.proofs.Common.{◌≡◌, ◌≢◌, inl, inr, ◌⊎◌, ℕ, zero, suc, ◌+◌, ◌<◌, ◌≤◌, List, [], ◌∷◌, ◌++◌, length, map, true, false, ◌&&◌, All, filter_map, slice_get, Option, Some, None, is_some, bytes_eq, refl, sym, ◌∙◌, ap, subst, arith}
+use Rattle.std.proofs.Common.{◌≡◌, ◌≢◌, inl, inr, ◌⊎◌, ℕ, zero, suc, ◌+◌, ◌<◌, ◌≤◌, List, [], ◌∷◌, ◌++◌, length, map, true, false, ◌&&◌}
+use Rattle.std.proofs.Common.{All, filter_map, slice_get, Option, Some, None, is_some, bytes_eq, refl, sym, ◌∙◌, ap, subst, arith}
 use Rattle.std.specs.List.{flat_map, list_all, list_any}
 use Rattle.std.specs.Option.{option_map_or}
 use Rattle.std.proofs.lemmas.List.Elements.{filter_map-append, All-nil, All-cons}
@@ -9,10 +10,15 @@ use Rattle.avro_schema.specs.declared.node.Node.{Node}
 use Rattle.avro_schema.specs.declared.node.Node.TheVariants as kind
 use Rattle.avro_schema.specs.declared.node.NodeId.{NodeId}
 use Rattle.avro_schema.specs.Names.{all_distinct}
-use Rattle.avro_schema.specs.Form.{Heading, Form, plain, by_name, record_of, enum_of, array_of, map_of, union_of, fixed_of, ill_formed, Forms, no_forms, and_form, Fields, no_fields, ill_fields, and_field}
-use Rattle.avro_schema.specs.Places.{count, forms_count, fields_count, Place, places, places_of_forms, places_of_fields, type_name, Definition, definition_used}
+use Rattle.avro_schema.specs.Form.{Heading, Form, plain, by_name, record_of, enum_of, array_of, map_of, union_of}
+use Rattle.avro_schema.specs.Form.{fixed_of, ill_formed, Forms, no_forms, and_form, Fields, no_fields}
+use Rattle.avro_schema.specs.Form.{ill_fields, and_field}
+use Rattle.avro_schema.specs.Places.{count, forms_count, fields_count, Place, places}
+use Rattle.avro_schema.specs.Places.{places_of_forms, places_of_fields, type_name}
+use Rattle.avro_schema.specs.Places.{Definition, definition_used}
 use Rattle.avro_schema.specs.Nodes.{node_id, branches, field_list, node_of, node_at}
-use Rattle.avro_schema.specs.Faults.{unless, faults_of, faults_at, is_union_kind, same_kind, fits_union, kind_in_union, kinds, fits_fields, field_list_faults, heading_faults, are_written, is_formed, field_headings}
+use Rattle.avro_schema.specs.Faults.{unless, faults_of, faults_at, is_union_kind, same_kind, fits_union, kind_in_union, kinds}
+use Rattle.avro_schema.specs.Faults.{fits_fields, field_list_faults, heading_faults, are_written, is_formed, field_headings}
 use Rattle.avro_schema.specs.Sound.{inner, fields_of_node, parts_of_node, HaveDistinctNames}
 use Rattle.avro_schema.proofs.Later.{count-type}
 use Rattle.avro_schema.proofs.Numbered.{HasName, Stands, stands_front, stands_rest}

@@ -1,5 +1,7 @@
 -- The names that were defined, found by the number of their namespace, beside the definitions.
-use Rattle.std.proofs.Common.{◌≡◌, ℕ, zero, suc, ◌+◌, List, [], ◌∷◌, ◌++◌, length, Bool, true, false, ◌&&◌, ◌||◌, ◌==◌, cond, Option, Some, None, option_map, option_and_then, find, bytes_eq, refl, sym, ◌∙◌, ap, arith, String, slice_get, set, inl, inr, ◌⊎◌}
+use Rattle.std.proofs.Common.{◌≡◌, ℕ, zero, suc, ◌+◌, List, [], ◌∷◌, ◌++◌, length, Bool, true, false, ◌&&◌, ◌||◌, ◌==◌, cond, Option, Some}
+use Rattle.std.proofs.Common.{None, option_map, option_and_then, find, bytes_eq, refl, sym, ◌∙◌, ap, arith, String, slice_get, set, inl}
+use Rattle.std.proofs.Common.{inr, ◌⊎◌}
 use Rattle.std.specs.Option.{option_or}
 use Rattle.std.specs.BTreeMap.{BTreeMap, get_by_text}
 use Rattle.std.proofs.lemmas.Bool.{false_from_ne_true, false≢true}

@@ -1,12 +1,17 @@
 -- Each type that has a node stands at its own number.
-use Rattle.std.proofs.Common.{◌≡◌, inl, inr, ◌⊎◌, ℕ, suc, ◌+◌, ◌<◌, List, [], ◌∷◌, ◌++◌, length, Bool, true, false, ◌&&◌, nat_lt, bytes_eq, cond, find, filter_map, slice_get, Option, Some, None, refl, sym, ◌∙◌, ap, subst, arith}
+use Rattle.std.proofs.Common.{◌≡◌, inl, inr, ◌⊎◌, ℕ, suc, ◌+◌, ◌<◌, List, [], ◌∷◌, ◌++◌, length, Bool, true, false, ◌&&◌, nat_lt}
+use Rattle.std.proofs.Common.{bytes_eq, cond, find, filter_map, slice_get, Option, Some, None, refl, sym, ◌∙◌, ap, subst, arith}
 use Rattle.std.specs.List.{cons_option}
 use Rattle.std.specs.Option.{option_or}
 use Rattle.avro_schema.specs.declared.node.FullName.{FullName}
 use Rattle.avro_schema.specs.declared.node.Node.{Node}
 use Rattle.avro_schema.specs.Names.{has_dot, joined}
-use Rattle.avro_schema.specs.Form.{Heading, Form, plain, by_name, record_of, enum_of, array_of, map_of, union_of, fixed_of, ill_formed, Forms, no_forms, and_form, Fields, no_fields, ill_fields, and_field}
-use Rattle.avro_schema.specs.Places.{count, Place, place, places, places_of_forms, places_of_fields, type_name, Definition, definitions, defined_by, defined, definition_used}
+use Rattle.avro_schema.specs.Form.{Heading, Form, plain, by_name, record_of, enum_of, array_of, map_of, union_of}
+use Rattle.avro_schema.specs.Form.{fixed_of, ill_formed, Forms, no_forms, and_form, Fields, no_fields}
+use Rattle.avro_schema.specs.Form.{ill_fields, and_field}
+use Rattle.avro_schema.specs.Places.{count, Place, place, places, places_of_forms, places_of_fields}
+use Rattle.avro_schema.specs.Places.{type_name, Definition, definitions, defined_by}
+use Rattle.avro_schema.specs.Places.{defined, definition_used}
 use Rattle.avro_schema.specs.Nodes.{node_of, node_at, name_in}
 use Rattle.avro_schema.proofs.Later.{count-type}
 

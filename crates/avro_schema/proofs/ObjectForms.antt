@@ -1,16 +1,19 @@
 -- What `get` finds of an object, beside what a form reads of it.
-use Rattle.std.proofs.Common.{◌≡◌, ℕ, zero, suc, ◌<◌, ◌≤◌, List, [], ◌∷◌, length, get_or, drop, Bool, true, false, ◌||◌, Option, Some, None, option_and_then, Ordering, Less, Equal, Greater, is_eq, codes, nat_cmp, refl, sym, ◌∙◌, ap, subst, arith}
+use Rattle.std.proofs.Common.{◌≡◌, ℕ, zero, suc, ◌<◌, ◌≤◌, List, [], ◌∷◌, length, get_or, drop, Bool, true, false, ◌||◌, Option, Some, None}
+use Rattle.std.proofs.Common.{option_and_then, Ordering, Less, Equal, Greater, is_eq, codes, nat_cmp, refl, sym, ◌∙◌, ap, subst, arith}
 use Rattle.std.specs.Cmp.Lexicographic.{slice_cmp}
 use Rattle.std.specs.Ordering.{match_ordering}
 use Rattle.std.proofs.lemmas.Map.Text.{is_eq-slice_cmp}
-use Rattle.serde_json.specs.Data.{Data, null, boolean, number, string, array, object, Items, item, Members, no_members, member, depth, items_depth, members_depth}
+use Rattle.serde_json.specs.Data.{Data, null, boolean, number, string, array, object, Items, item}
+use Rattle.serde_json.specs.Data.{Members, no_members, member, depth, items_depth, members_depth}
 use Rattle.serde_json.specs.Find.{get, get_member, as_str, as_array}
 use Rattle.json_tree.specs.View.{view, items_view}
 use Rattle.serde_json.specs.Written.{has_float, items_have_float, members_have_float}
 use Rattle.json_tree.specs.declared.tree.Json.{Json}
 use Rattle.avro_schema.specs.declared.word.TypeWord.{TypeWord}
 use Rattle.avro_schema.specs.declared.word.TypeWord.TheVariants as word
-use Rattle.avro_schema.specs.Form.{Form, Fields, ill_formed, form, form_at, fields_at, fields_in, type_in, type_word, string_at, object_of, object_of_word, record_of, array_of, map_of, heading_of}
+use Rattle.avro_schema.specs.Form.{Form, Fields, ill_formed, form, form_at, fields_at, fields_in, type_in, type_word}
+use Rattle.avro_schema.specs.Form.{string_at, object_of, object_of_word, record_of, array_of, map_of, heading_of}
 use Rattle.avro_schema.specs.Plain.{IsOrderly, ItemsAreOrderly, MembersAreOrderly, IsPlain}
 use Rattle.avro_schema.specs.Building.{form_or_ill, form_in, fields_or_ill, items_at, is_object}
 

@@ -1,5 +1,7 @@
 -- What the builder holds after one type and then another, and which faults stand.
-use Rattle.std.proofs.Common.{◌≡◌, inl, inr, ℕ, ◌+◌, ◌≤◌, List, [], ◌∷◌, ◌++◌, length, set, Bool, true, false, nat_le, Some, None, option_and_then, Contains, refl, sym, ◌∙◌, ap, subst, arith, filter_map, append_assoc, length-append, length-set}
+use Rattle.std.proofs.Common.{◌≡◌, inl, inr, ℕ, ◌+◌, ◌≤◌, List, [], ◌∷◌, ◌++◌, length, set, Bool, true, false, nat_le, Some, None}
+use Rattle.std.proofs.Common.{option_and_then, Contains, refl, sym, ◌∙◌, ap, subst, arith, filter_map, append_assoc}
+use Rattle.std.proofs.Common.{length-append, length-set}
 use Rattle.std.specs.List.{cons_option, flat_map}
 use Rattle.std.proofs.lemmas.List.{append-nil}
 use Rattle.std.proofs.lemmas.List.Elements.{filter_map-append, Contains-append_left, Contains-append_right, Contains-append_cases}

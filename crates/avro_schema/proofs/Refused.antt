@@ -1,5 +1,6 @@
 -- Which faults stand where a kind of type is refused.
-use Rattle.std.proofs.Common.{◌≡◌, inl, inr, ℕ, ◌+◌, ◌≤◌, List, [], ◌∷◌, ◌++◌, Bool, true, false, ◌&&◌, Option, Some, None, is_some, is_none, Contains, refl, sym, ◌∙◌, ap, subst, arith, unwrap_or, bytes_eq}
+use Rattle.std.proofs.Common.{◌≡◌, inl, inr, ℕ, ◌+◌, ◌≤◌, List, [], ◌∷◌, ◌++◌, Bool, true, false, ◌&&◌, Option, Some, None}
+use Rattle.std.proofs.Common.{is_some, is_none, Contains, refl, sym, ◌∙◌, ap, subst, arith, unwrap_or, bytes_eq}
 use Rattle.std.specs.List.{flat_map, list_all}
 use Rattle.std.proofs.lemmas.List.{append-nil}
 use Rattle.std.proofs.lemmas.List.Elements.{Contains-append_left, Contains-append_right, Contains-append_cases}
@@ -10,12 +11,19 @@ use Rattle.avro_schema.specs.declared.error.SchemaError.{SchemaError}
 use Rattle.avro_schema.specs.declared.error.SchemaError.TheVariants as fault
 use Rattle.avro_schema.specs.declared.heading.TypeNames.{TypeNames}
 use Rattle.avro_schema.specs.declared.node.FullName.{FullName}
-use Rattle.avro_schema.specs.Form.{Heading, Form, Forms, Fields, by_name, record_of, enum_of, fixed_of, array_of, map_of, union_of, ill_formed, ill_fields, FieldHeading}
+use Rattle.avro_schema.specs.Form.{Heading, Form, Forms, Fields, by_name, record_of, enum_of, fixed_of}
+use Rattle.avro_schema.specs.Form.{array_of, map_of, union_of, ill_formed, ill_fields, FieldHeading}
 use Rattle.avro_schema.specs.Names.{is_name, is_type_name, is_full_name, all_distinct, has_text}
-use Rattle.avro_schema.specs.Places.{count, forms_count, fields_count, type_name, places_of_fields, Definition, definitions, defined, definition_used}
-use Rattle.avro_schema.specs.Faults.{unless, are_written, is_formed, field_headings, fits_fields, faults_at, heading_faults, written_faults, symbols_faults, size_faults, field_list_faults, fits_enum, if_written, field_name}
+use Rattle.avro_schema.specs.Places.{count, forms_count, fields_count, type_name}
+use Rattle.avro_schema.specs.Places.{places_of_fields, Definition, definitions}
+use Rattle.avro_schema.specs.Places.{defined, definition_used}
+use Rattle.avro_schema.specs.Faults.{unless, are_written, is_formed, field_headings, fits_fields, faults_at, heading_faults}
+use Rattle.avro_schema.specs.Faults.{written_faults, symbols_faults, size_faults, field_list_faults, fits_enum}
+use Rattle.avro_schema.specs.Faults.{if_written, field_name}
 use Rattle.avro_schema.specs.Schema.{IsRefusalBy}
-use Rattle.avro_schema.specs.Building.{full_of, opening_faults, too_many, type_faults, branches_faults, fields_faults, has_distinct_names, HasNames, field_faults}
+use Rattle.avro_schema.specs.Building.{full_of, opening_faults, too_many, type_faults}
+use Rattle.avro_schema.specs.Building.{branches_faults, fields_faults, has_distinct_names}
+use Rattle.avro_schema.specs.Building.{HasNames, field_faults}
 use Rattle.avro_schema.proofs.Later.{From, type-from, heading_faults-later}
 use Rattle.avro_schema.proofs.Reading.{weaken, left, alone, in_parts, in_own, in_count, right, unless_too}
 use Rattle.avro_schema.proofs.Types.{definition_of, defined_by-names, new-names, defined_first}

@@ -1,5 +1,6 @@
 -- What holds of the nodes of every schema that was read.
-use Rattle.std.proofs.Common.{◌≡◌, ℕ, ◌<◌, ◌≤◌, ◌⊎◌, List, [], ◌∷◌, ◌++◌, length, Bool, true, false, cond, not, nat_le, Option, Some, None, is_some, option_map, slice_get, refl, ap, subst, arith, zero-add}
+use Rattle.std.proofs.Common.{◌≡◌, ℕ, ◌<◌, ◌≤◌, ◌⊎◌, List, [], ◌∷◌, ◌++◌, length, Bool, true, false, cond, not, nat_le}
+use Rattle.std.proofs.Common.{Option, Some, None, is_some, option_map, slice_get, refl, ap, subst, arith, zero-add}
 use Rattle.std.specs.Option.{option_or, option_map_or}
 use Rattle.serde_json.specs.Data.{Data}
 use Rattle.serde_json.specs.Read.{read}

@@ -1,5 +1,7 @@
 -- What is read and refused of each kind of type.
-use Rattle.std.proofs.Common.{◌≡◌, ℕ, ◌+◌, List, [], ◌∷◌, ◌++◌, length, set, Bool, true, false, ◌&&◌, cond, find, Option, Some, None, is_some, is_none, option_map, option_and_then, unwrap_or, refl, sym, ◌∙◌, ap, subst, arith, bytes_eq, append_assoc, length-append}
+use Rattle.std.proofs.Common.{◌≡◌, ℕ, ◌+◌, List, [], ◌∷◌, ◌++◌, length, set, Bool, true, false, ◌&&◌, cond, find, Option, Some, None}
+use Rattle.std.proofs.Common.{is_some, is_none, option_map, option_and_then, unwrap_or, refl, sym, ◌∙◌, ap, subst, arith, bytes_eq}
+use Rattle.std.proofs.Common.{append_assoc, length-append}
 use Rattle.std.specs.List.{cons_option, list_all}
 use Rattle.std.proofs.lemmas.Bool.{lt-ltb}
 use Rattle.std.proofs.lemmas.List.{append-nil}
@@ -15,11 +17,16 @@ use Rattle.avro_schema.specs.declared.builder.Builder.{Builder}
 use Rattle.avro_schema.specs.declared.symbols.Symbols.{Symbols}
 use Rattle.avro_schema.specs.Names.{full_text, is_name}
 use Rattle.avro_schema.specs.Form.{Heading, Form, Forms, Fields, record_of, enum_of, fixed_of, array_of, map_of, union_of}
-use Rattle.avro_schema.specs.Places.{own_namespace, type_name, Place, place, places, places_of_forms, places_of_fields, Definition, heading_in, definitions, defined, defined_by}
+use Rattle.avro_schema.specs.Places.{own_namespace, type_name, Place, place, places, places_of_forms}
+use Rattle.avro_schema.specs.Places.{places_of_fields, Definition, heading_in, definitions}
+use Rattle.avro_schema.specs.Places.{defined, defined_by}
 use Rattle.avro_schema.specs.Nodes.{node_at, node_id, branches, field_list, type_aliases}
-use Rattle.avro_schema.specs.Faults.{if_written, fits_union, kinds, faults_at, heading_faults, field_list_faults, fits_enum, are_written, is_formed, field_headings}
+use Rattle.avro_schema.specs.Faults.{if_written, fits_union, kinds, faults_at, heading_faults}
+use Rattle.avro_schema.specs.Faults.{field_list_faults, fits_enum, are_written}
+use Rattle.avro_schema.specs.Faults.{is_formed, field_headings}
 use Rattle.avro_schema.specs.DefinedNames.{node_named}
-use Rattle.avro_schema.specs.Building.{full_of, Before, nodes_of, opened, HasMet, Reads, IsTypeRead, AreBranchesRead, AreFieldsRead, are_formed, has_distinct_names, HasNames, HasSymbols, HasSize}
+use Rattle.avro_schema.specs.Building.{full_of, Before, nodes_of, opened, HasMet, Reads, IsTypeRead, AreBranchesRead}
+use Rattle.avro_schema.specs.Building.{AreFieldsRead, are_formed, has_distinct_names, HasNames, HasSymbols, HasSize}
 use Rattle.avro_schema.proofs.Later.{From, defined-later, definitions_of_fields-from}
 use Rattle.avro_schema.proofs.Reading.{unless-nil, nil-append, to, from_to, closes, opens_one}
 

@@ -1,5 +1,6 @@
 -- Private: what the builder holds before and after each type that it reads.
-use Rattle.std.specs.Prelude.{◌≡◌, ◌<◌, ◌≤◌, ℕ, ◌+◌, List, [], ◌∷◌, ◌++◌, length, Bool, true, false, ◌&&◌, nat_le, Option, Some, None, is_some, option_map, option_and_then, unwrap_or, codes, filter_map, flat_map, map, set, bytes_eq}
+use Rattle.std.specs.Prelude.{◌≡◌, ◌<◌, ◌≤◌, ℕ, ◌+◌, List, [], ◌∷◌, ◌++◌, length, Bool, true, false, ◌&&◌, nat_le, Option, Some, None}
+use Rattle.std.specs.Prelude.{is_some, option_map, option_and_then, unwrap_or, codes, filter_map, flat_map, map, set, bytes_eq}
 use Rattle.std.specs.List.{list_all}
 use Rattle.avro_schema.specs.declared.error.SchemaError.{SchemaError}
 use Rattle.avro_schema.specs.declared.error.SchemaError.TheVariants as fault
@@ -17,10 +18,15 @@ use Rattle.avro_schema.specs.declared.symbols.Symbols.{Symbols}
 use Rattle.serde_json.specs.Data.{Num, Data, Items}
 use Rattle.serde_json.specs.Find.{get, as_str, as_array, as_object, as_number, as_u64}
 use Rattle.avro_schema.specs.Names.{has_dot, joined, full_text, all_distinct, is_name}
-use Rattle.avro_schema.specs.Form.{Heading, FieldHeading, Form, Forms, Fields, record_of, enum_of, fixed_of, array_of, map_of, ill_formed, ill_fields, form, fields_of_items, heading_of, strings_in}
-use Rattle.avro_schema.specs.Places.{count, forms_count, fields_count, own_namespace, type_name, Place, places, places_of_forms, places_of_fields, Definition, definitions, defined}
+use Rattle.avro_schema.specs.Form.{Heading, FieldHeading, Form, Forms, Fields, record_of, enum_of, fixed_of, array_of}
+use Rattle.avro_schema.specs.Form.{map_of, ill_formed, ill_fields, form, fields_of_items, heading_of, strings_in}
+use Rattle.avro_schema.specs.Places.{count, forms_count, fields_count, own_namespace, type_name, Place}
+use Rattle.avro_schema.specs.Places.{places, places_of_forms, places_of_fields, Definition}
+use Rattle.avro_schema.specs.Places.{definitions, defined}
 use Rattle.avro_schema.specs.Nodes.{type_aliases, field_at, node_id, branches, field_list, node_at}
-use Rattle.avro_schema.specs.Faults.{unless, fits_union, fits_enum, kinds, written_faults, heading_faults, size_faults, field_list_faults, faults_at, field_headings, field_name, is_formed, if_written, are_written}
+use Rattle.avro_schema.specs.Faults.{unless, fits_union, fits_enum, kinds, written_faults, heading_faults, size_faults}
+use Rattle.avro_schema.specs.Faults.{field_list_faults, faults_at, field_headings, field_name, is_formed}
+use Rattle.avro_schema.specs.Faults.{if_written, are_written}
 use Rattle.avro_schema.specs.Schema.{IsRefusalBy}
 use Rattle.avro_schema.specs.DefinedNames.{node_named, AreDefined, IsNumbered, KeepsNumbers}
 use Rattle.avro_schema.specs.declared.limits.TheConstants.{MOST_NODES}
@@ -78,7 +84,8 @@ abbrev pub faults_in : List Definition → List Place → ℕ → List SchemaErr
 faults_in ds ps n = too_many n ++ flat_map (faults_at (ds ++ definitions ps)) ps
 
 abbrev pub IsTypeRead : List Definition → List ℕ → Form → Builder → Builder → NodeId → Type 0
-IsTypeRead ds ns f old new i = let ps = places ns (opened old) f in Reads ds ps old new × (i ≡ node_id (ds ++ definitions ps) ns (opened old) f)
+IsTypeRead ds ns f old new i = let ps = places ns (opened old) f in Reads ds ps old new
+    × (i ≡ node_id (ds ++ definitions ps) ns (opened old) f)
 
 abbrev pub type_faults : List Definition → List ℕ → Form → ℕ → List SchemaError
 type_faults ds ns f n = faults_in ds (places ns n f) (n + count f)
@@ -86,7 +93,8 @@ type_faults ds ns f n = faults_in ds (places ns n f) (n + count f)
 abbrev pub AreBranchesRead : List Definition → List ℕ → Forms → Builder → Builder → List NodeId → Type 0
 AreBranchesRead ds ns fs old new is =
     let ps = places_of_forms ns (opened old) fs in
-    Reads ds ps old new × (is ≡ branches (ds ++ definitions ps) ns (opened old) fs) × (fits_union (kinds (ds ++ definitions ps) ns (opened old) fs) ≡ true)
+    Reads ds ps old new × (is ≡ branches (ds ++ definitions ps) ns (opened old) fs)
+    × (fits_union (kinds (ds ++ definitions ps) ns (opened old) fs) ≡ true)
 
 abbrev pub branches_faults : List Definition → List ℕ → Forms → ℕ → List SchemaError
 branches_faults ds ns fs n =
@@ -95,7 +103,8 @@ branches_faults ds ns fs n =
 
 -- each field by itself is as it should be
 abbrev pub are_formed : Fields → Bool
-are_formed fs = are_written fs && list_all is_formed (field_headings fs) && list_all (λ h. if_written (list_all is_name) h.aliases) (field_headings fs)
+are_formed fs = are_written fs && list_all is_formed (field_headings fs)
+    && list_all (λ h. if_written (list_all is_name) h.aliases) (field_headings fs)
 
 abbrev pub AreFieldsRead : List Definition → List ℕ → Fields → Builder → Builder → List Field → Type 0
 AreFieldsRead ds ns fs old new gs =
@@ -115,7 +124,8 @@ field_faults h = unless (is_formed h) fault.BadForm ++ unless (if_written (list_
 abbrev pub IsFieldRead : List Definition → List ℕ → FieldHeading → Form → Builder → Builder → Field → Type 0
 IsFieldRead ds ns h f old new g =
     let ps = places ns (opened old) f in
-    Reads ds ps old new × (g ≡ field_at h (node_id (ds ++ definitions ps) ns (opened old) f)) × (is_formed h && if_written (list_all is_name) h.aliases ≡ true)
+    Reads ds ps old new × (g ≡ field_at h (node_id (ds ++ definitions ps) ns (opened old) f))
+    × (is_formed h && if_written (list_all is_name) h.aliases ≡ true)
 
 -- ---- the same whatever was met before; no node is lost, and no number of a namespace
 
@@ -123,25 +133,29 @@ abbrev pub Keeps : Builder → Builder → Type 0
 Keeps old new = KeepsNumbers old.names new.names
 
 abbrev pub ReadsType : Builder → Builder → List ℕ → Form → NodeId → Type 0
-ReadsType old new ns f i = (opened old ≤ opened new) × ((ds : List Definition) → HasMet old ds → IsTypeRead ds ns f old new i) × Keeps old new
+ReadsType old new ns f i = (opened old ≤ opened new)
+    × ((ds : List Definition) → HasMet old ds → IsTypeRead ds ns f old new i) × Keeps old new
 
 abbrev pub RefusesType : Builder → List ℕ → Form → SchemaError → Type 0
 RefusesType old ns f e = (ds : List Definition) → HasMet old ds → IsRefusalBy (type_faults ds ns f (opened old)) e
 
 abbrev pub ReadsBranches : Builder → Builder → List ℕ → Forms → List NodeId → Type 0
-ReadsBranches old new ns fs is = (opened old ≤ opened new) × ((ds : List Definition) → HasMet old ds → AreBranchesRead ds ns fs old new is) × Keeps old new
+ReadsBranches old new ns fs is = (opened old ≤ opened new)
+    × ((ds : List Definition) → HasMet old ds → AreBranchesRead ds ns fs old new is) × Keeps old new
 
 abbrev pub RefusesBranches : Builder → List ℕ → Forms → SchemaError → Type 0
 RefusesBranches old ns fs e = (ds : List Definition) → HasMet old ds → IsRefusalBy (branches_faults ds ns fs (opened old)) e
 
 abbrev pub ReadsFields : Builder → Builder → List ℕ → Fields → List Field → Type 0
-ReadsFields old new ns fs gs = (opened old ≤ opened new) × ((ds : List Definition) → HasMet old ds → AreFieldsRead ds ns fs old new gs) × Keeps old new
+ReadsFields old new ns fs gs = (opened old ≤ opened new)
+    × ((ds : List Definition) → HasMet old ds → AreFieldsRead ds ns fs old new gs) × Keeps old new
 
 abbrev pub RefusesFields : Builder → List ℕ → Fields → SchemaError → Type 0
 RefusesFields old ns fs e = (ds : List Definition) → HasMet old ds → IsRefusalBy (fields_faults ds ns fs (opened old)) e
 
 abbrev pub ReadsField : Builder → Builder → List ℕ → FieldHeading → Form → Field → Type 0
-ReadsField old new ns h f g = (opened old ≤ opened new) × ((ds : List Definition) → HasMet old ds → IsFieldRead ds ns h f old new g) × Keeps old new
+ReadsField old new ns h f g = (opened old ≤ opened new)
+    × ((ds : List Definition) → HasMet old ds → IsFieldRead ds ns h f old new g) × Keeps old new
 
 abbrev pub RefusesField : Builder → List ℕ → FieldHeading → Form → SchemaError → Type 0
 RefusesField old ns h f e = (ds : List Definition) → HasMet old ds → IsRefusalBy (field_faults h ++ type_faults ds ns f (opened old)) e
@@ -217,7 +231,9 @@ pub record OpensType (old new : Builder) (ns : List ℕ) (h : Heading) (r : Open
   pub inside : r.namespace.text ≡ r.name.namespace
   pub numbered : IsNumbered new.names r.namespace
   pub keeps : Keeps old new
-  pub met : (ds : List Definition) → HasMet old ds → HasMet new (ds ++ record { name = full_of r.name; node = r.index } ∷ []) × (defined ds r.index (full_of r.name) ≡ None)
+  pub met : (ds : List Definition)
+      → HasMet old ds
+      → HasMet new (ds ++ record { name = full_of r.name; node = r.index } ∷ []) × (defined ds r.index (full_of r.name) ≡ None)
 
 -- what is wrong with a heading, or one node too many
 abbrev pub opening_faults : List Definition → List ℕ → Heading → ℕ → List SchemaError

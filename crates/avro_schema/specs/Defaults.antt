@@ -1,8 +1,10 @@
 -- Which defaults are values of their fields' types (Avro 1.11, "Records").
-use Rattle.std.specs.Prelude.{ℕ, ◌^◌, ◌-◌, List, [], ◌∷◌, Bool, true, false, ◌&&◌, ◌||◌, not, pos, negsuc, int_le, Option, Some, None, is_some, option_and_then, find, filter, map, flat_map, slice_get, bytes_eq}
+use Rattle.std.specs.Prelude.{ℕ, ◌^◌, ◌-◌, List, [], ◌∷◌, Bool, true, false, ◌&&◌, ◌||◌, not, pos, negsuc, int_le, Option}
+use Rattle.std.specs.Prelude.{Some, None, is_some, option_and_then, find, filter, map, flat_map, slice_get, bytes_eq}
 use Rattle.std.specs.List.{list_all}
 use Rattle.std.specs.Option.{option_map_or}
-use Rattle.serde_json.specs.Data.{Num, Data, null, boolean, number, string, array, object, Items, no_items, item, Members, no_members, member}
+use Rattle.serde_json.specs.Data.{Num, Data, null, boolean, number, string, array, object}
+use Rattle.serde_json.specs.Data.{Items, no_items, item, Members, no_members, member}
 use Rattle.serde_json.specs.Find.{get_member, is_float, as_integer}
 use Rattle.avro_schema.specs.declared.node.NodeId.{NodeId}
 use Rattle.avro_schema.specs.declared.node.Field.{Field}
@@ -20,7 +22,8 @@ fits_bits bits n = option_map_or (λ z. int_le (negsuc (2 ^ bits - 1)) z && int_
 
 -- ---- which JSON values a type takes
 
--- What a JSON value is, with the tests of what is in it: whether an array's items are defaults of a type, an object's members of a type, or the members of fields' names of the fields.
+-- What a JSON value is, with the tests of what is in it: whether an array's items are defaults of a
+-- type, an object's members of a type, or the members of fields' names of the fields.
 pub data Shape : Type 0 where
   a_null : Shape
   a_truth_value : Shape
@@ -77,7 +80,8 @@ module _ (nodes : List Node) where
     default_fits i (number n) = takes (default_type nodes i) (a_number n)
     default_fits i (string s) = takes (default_type nodes i) a_string
     default_fits i (array ds) = takes (default_type nodes i) (an_array (λ j. items_fit j ds))
-    default_fits i (object ms) = takes (default_type nodes i) (an_object (λ j. values_fit j ms) (λ fs. fields_fit fs ms && absent_have_defaults ms fs))
+    default_fits i (object ms) = takes (default_type nodes i)
+        (an_object (λ j. values_fit j ms) (λ fs. fields_fit fs ms && absent_have_defaults ms fs))
 
     pub items_fit : NodeId → Items → Bool
     items_fit i no_items = true

@@ -1,5 +1,6 @@
 -- Private: the full names that were defined so far, found by the number of their namespace and their last part.
-use Rattle.std.specs.Prelude.{◌≡◌, ◌<◌, ℕ, List, ◌∷◌, false, length, Option, Some, None, option_map, option_and_then, find, slice_get, bytes_eq}
+use Rattle.std.specs.Prelude.{◌≡◌, ◌<◌, ℕ, List, ◌∷◌, false, length, Option, Some, None}
+use Rattle.std.specs.Prelude.{option_map, option_and_then, find, slice_get, bytes_eq}
 use Rattle.std.specs.BTreeMap.{get_by_text}
 use Rattle.avro_schema.specs.declared.defined_names.DefinedNames.{DefinedNames}
 use Rattle.avro_schema.specs.declared.defined_names.Namespace.{Namespace}

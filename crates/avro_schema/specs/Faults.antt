@@ -1,5 +1,6 @@
 -- What is wrong with a schema. Each rule is stated with the fault that stands where it is broken.
-use Rattle.std.specs.Prelude.{ℕ, ◌+◌, List, [], ◌∷◌, ◌++◌, map, Bool, true, false, ◌&&◌, not, nat_le, if◌then◌else◌, Option, is_some, is_none, unwrap_or, flat_map, bytes_eq}
+use Rattle.std.specs.Prelude.{ℕ, ◌+◌, List, [], ◌∷◌, ◌++◌, map, Bool, true, false, ◌&&◌, not, nat_le}
+use Rattle.std.specs.Prelude.{if◌then◌else◌, Option, is_some, is_none, unwrap_or, flat_map, bytes_eq}
 use Rattle.std.specs.List.{list_any, list_all}
 use Rattle.std.specs.Option.{option_map_or}
 use denote.Enum.Bare.{sameb}
@@ -12,7 +13,8 @@ use Rattle.avro_schema.specs.Kinds as kind
 use Rattle.avro_schema.specs.declared.node.Primitive.{Primitive}
 use Rattle.avro_schema.specs.contracts.node.Primitive.{the_type}
 use Rattle.avro_schema.specs.Names.{is_name, is_full_name, is_type_name, full_text, all_distinct, has_text}
-use Rattle.avro_schema.specs.Form.{Heading, FieldHeading, Form, plain, by_name, record_of, enum_of, array_of, map_of, union_of, fixed_of, ill_formed, Forms, no_forms, and_form, Fields, no_fields, ill_fields, and_field}
+use Rattle.avro_schema.specs.Form.{Heading, FieldHeading, Form, plain, by_name, record_of, enum_of, array_of, map_of, union_of}
+use Rattle.avro_schema.specs.Form.{fixed_of, ill_formed, Forms, no_forms, and_form, Fields, no_fields, ill_fields, and_field}
 use Rattle.avro_schema.specs.Places.{count, own_namespace, Place, places, Definition, definitions, defined, defined_by, definition_used}
 use Rattle.avro_schema.specs.declared.limits.TheConstants.{GREATEST_SIZE}
 

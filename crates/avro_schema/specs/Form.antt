@@ -8,7 +8,8 @@ use Rattle.avro_schema.specs.declared.word.TypeWord.{TypeWord}
 use Rattle.avro_schema.specs.declared.word.TypeWord.TheVariants.{Record, Enum, Fixed, Array, Map, Error, Other}
 use Rattle.avro_schema.specs.Names.{primitive_named}
 
--- What a named type is written with. A name or aliases that are missing or wrongly formed are None, and so is a namespace that is no string.
+-- What a named type is written with. A name or aliases that are missing or wrongly
+-- formed are None, and so is a namespace that is no string.
 pub record Heading : Type 0 where
   pub name : Option (List ℕ)
   pub namespace : Option (List ℕ)
@@ -67,7 +68,8 @@ field_heading_of d = record { name = string_at (codes "name") d; aliases = alias
 -- ---- what a text says
 
 abbrev pub words : List (List ℕ × TypeWord)
-words = (codes "record", Record) ∷ (codes "enum", Enum) ∷ (codes "fixed", Fixed) ∷ (codes "array", Array) ∷ (codes "map", Map) ∷ (codes "error", Error) ∷ []
+words = (codes "record", Record) ∷ (codes "enum", Enum) ∷ (codes "fixed", Fixed) ∷ (codes "array", Array)
+    ∷ (codes "map", Map) ∷ (codes "error", Error) ∷ []
 
 -- what the text of an object's `type` says
 abbrev pub type_word : List ℕ → TypeWord
@@ -82,7 +84,8 @@ form_of_name s = elim (primitive_named s) [ None ↦ by_name s | Some p ↦ plai
 -- an object d whose `type` is the text s, where `type_at` and `fields_at` read the member of a name
 abbrev pub object_of_word : TypeWord → List ℕ → Data → (List ℕ → Form) → (List ℕ → Fields) → Form
 object_of_word Record s d type_at fields_at = record_of (heading_of d) (fields_at (codes "fields"))
-object_of_word Enum s d type_at fields_at = enum_of (heading_of d) (option_and_then strings_in (get (codes "symbols") d)) (get (codes "default") d)
+object_of_word Enum s d type_at fields_at = enum_of (heading_of d)
+    (option_and_then strings_in (get (codes "symbols") d)) (get (codes "default") d)
 object_of_word Fixed s d type_at fields_at = fixed_of (heading_of d) (option_and_then as_number (get (codes "size") d))
 object_of_word Array s d type_at fields_at = array_of (type_at (codes "items"))
 object_of_word Map s d type_at fields_at = map_of (type_at (codes "values"))

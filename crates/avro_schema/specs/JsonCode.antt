@@ -5,7 +5,8 @@ use base.Stored.{coded_unit}
 use mathlib.Core.Logic.{inl, inr}
 use mathlib.Core.Path.{◌∙◌, ap}
 use Rattle.std.specs.Float.Ieee.{nan, inf, fin}
-use Rattle.serde_json.specs.Data.{Num, unsigned, negative, float, Data, null, boolean, number, string, array, object, Items, no_items, item, Members, no_members, member}
+use Rattle.serde_json.specs.Data.{Num, unsigned, negative, float, Data, null, boolean, number, string}
+use Rattle.serde_json.specs.Data.{array, object, Items, no_items, item, Members, no_members, member}
 
 -- ---- numbers
 
@@ -28,7 +29,8 @@ same_float (inf sign) = refl
 same_float (fin sign mantissa exponent) = refl
 
 abbrev pub float_code : Coded Float
-float_code = code_by FloatParts (coded⊎ coded_unit (coded⊎ coded_bool (coded× coded_bool (coded× coded_ℕ coded_ℤ)))) float_parts of_float_parts same_float
+float_code = code_by FloatParts
+    (coded⊎ coded_unit (coded⊎ coded_bool (coded× coded_bool (coded× coded_ℕ coded_ℤ)))) float_parts of_float_parts same_float
 
 abbrev pub NumParts : Type 0
 NumParts = ℕ ⊎ (ℤ ⊎ Float)
@@ -107,7 +109,8 @@ same_step end_members = refl
 abbrev pub step_code : Coded Step
 step_code =
     code_by StepParts
-    (coded⊎ coded_unit (coded⊎ coded_bool (coded⊎ num_code (coded⊎ (coded_list coded_ℕ) (coded⊎ coded_unit (coded⊎ coded_unit (coded⊎ coded_unit (coded⊎ coded_unit (coded⊎ (coded_list coded_ℕ) coded_unit)))))))))
+    (coded⊎ coded_unit (coded⊎ coded_bool (coded⊎ num_code (coded⊎ (coded_list coded_ℕ)
+    (coded⊎ coded_unit (coded⊎ coded_unit (coded⊎ coded_unit (coded⊎ coded_unit (coded⊎ (coded_list coded_ℕ) coded_unit)))))))))
     step_parts of_step_parts same_step
 
 -- ---- the steps that build a value, before others

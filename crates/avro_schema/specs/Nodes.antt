@@ -8,7 +8,8 @@ use Rattle.avro_schema.specs.declared.node.Field.{Field}
 use Rattle.avro_schema.specs.declared.node.Node.{Node}
 use Rattle.avro_schema.specs.declared.node.Node.TheVariants as kind
 use Rattle.avro_schema.specs.Names.{full_name}
-use Rattle.avro_schema.specs.Form.{Heading, FieldHeading, Form, plain, by_name, record_of, enum_of, array_of, map_of, union_of, fixed_of, ill_formed, Forms, no_forms, and_form, Fields, and_field}
+use Rattle.avro_schema.specs.Form.{Heading, FieldHeading, Form, plain, by_name, record_of, enum_of, array_of, map_of}
+use Rattle.avro_schema.specs.Form.{union_of, fixed_of, ill_formed, Forms, no_forms, and_form, Fields, and_field}
 use Rattle.avro_schema.specs.Places.{count, type_name, Place, places, Definition, definitions, definition_used}
 
 -- an alias without a dot takes the namespace of its type
@@ -36,7 +37,8 @@ module _ (ds : List Definition) where
   node_of ns n (plain p) = Some (kind.Primitive p)
   node_of ns n (by_name s) = None
   node_of ns n (record_of h fs) = let m = type_name ns h in Some (kind.Record m (type_aliases m h) (field_list m.namespace (n + 1) fs))
-  node_of ns n (enum_of h ss d) = let m = type_name ns h in Some (kind.Enum m (type_aliases m h) (unwrap_or ss []) (option_and_then as_str d))
+  node_of ns n (enum_of h ss d) = let m = type_name ns h in Some
+      (kind.Enum m (type_aliases m h) (unwrap_or ss []) (option_and_then as_str d))
   node_of ns n (fixed_of h s) = let m = type_name ns h in Some (kind.Fixed m (type_aliases m h) (unwrap_or (option_and_then as_u64 s) 0))
   node_of ns n (array_of f) = Some (kind.Array (node_id ns (n + 1) f))
   node_of ns n (map_of f) = Some (kind.Map (node_id ns (n + 1) f))

@@ -1,9 +1,12 @@
 -- The types that a schema writes, one after another, and the definitions among them (Avro 1.11, "Names").
-use Rattle.std.specs.Prelude.{ℕ, ◌+◌, List, [], ◌∷◌, ◌++◌, ◌&&◌, nat_lt, if◌then◌else◌, Option, Some, None, option_map, option_and_then, unwrap_or, find, filter_map, bytes_eq}
+use Rattle.std.specs.Prelude.{ℕ, ◌+◌, List, [], ◌∷◌, ◌++◌, ◌&&◌, nat_lt, if◌then◌else◌, Option, Some, None}
+use Rattle.std.specs.Prelude.{option_map, option_and_then, unwrap_or, find, filter_map, bytes_eq}
 use Rattle.std.specs.Option.{option_or}
 use Rattle.avro_schema.specs.declared.node.FullName.{FullName}
 use Rattle.avro_schema.specs.Names.{has_dot, full_name, full_text, joined}
-use Rattle.avro_schema.specs.Form.{Heading, Form, plain, by_name, record_of, enum_of, array_of, map_of, union_of, fixed_of, ill_formed, Forms, no_forms, and_form, Fields, and_field}
+use Rattle.avro_schema.specs.Form.{Heading, Form, plain, by_name, record_of, enum_of, array_of, map_of}
+use Rattle.avro_schema.specs.Form.{union_of, fixed_of, ill_formed, Forms, no_forms, and_form}
+use Rattle.avro_schema.specs.Form.{Fields, and_field}
 
 -- ---- nodes are numbered in the order in which they open
 

@@ -1,6 +1,7 @@
 -- Private: what JSON values that were read from a text are, where no number in them is a float.
 use Rattle.std.specs.Prelude.{◌≡◌, ◌<◌, ◌≤◌, ◌^◌, pos, negsuc, false}
-use Rattle.serde_json.specs.Data.{Num, unsigned, negative, float, Data, null, boolean, number, string, array, object, Items, no_items, item, Members, no_members, member, depth}
+use Rattle.serde_json.specs.Data.{Num, unsigned, negative, float, Data, null, boolean, number, string}
+use Rattle.serde_json.specs.Data.{array, object, Items, no_items, item, Members, no_members, member, depth}
 use Rattle.serde_json.specs.Read.{max_depth}
 use Rattle.serde_json.specs.Written.{has_float}
 use Rattle.json_tree.specs.Members.{IsInOrder}

@@ -1,11 +1,14 @@
 -- What a schema's text means, or the faults in it. The way from a text to its nodes:
 -- `read` gives the JSON data that a text writes, if any;
 -- Form.antt the form of the type that the data writes, before any name is looked up;
--- Places.antt the types in a form, in the order in which they open, each with the namespace that applies to it and the number of nodes before it, and the definitions among them;
+-- Places.antt the types in a form, in the order in which they open, each with the namespace that
+-- applies to it and the number of nodes before it, and the definitions among them;
 -- Nodes.antt the node of each place, with the uses looked up among the definitions;
 -- Faults.antt what is wrong at each place.
--- A text means a schema exactly where its list of faults is empty. Names.antt says what names are, Defaults.antt which defaults are valid, Sound.antt what holds of the nodes of every schema.
-use Rattle.std.specs.Prelude.{◌≢◌, ℕ, List, [], ◌∷◌, ◌++◌, length, Bool, true, false, not, nat_le, Option, None, option_map, is_some, Contains, codes}
+-- A text means a schema exactly where its list of faults is empty. Names.antt says what names are,
+-- Defaults.antt which defaults are valid, Sound.antt what holds of the nodes of every schema.
+use Rattle.std.specs.Prelude.{◌≢◌, ℕ, List, [], ◌∷◌, ◌++◌, length, Bool, true, false, not}
+use Rattle.std.specs.Prelude.{nat_le, Option, None, option_map, is_some, Contains, codes}
 use Rattle.std.specs.Option.{option_map_or}
 use Rattle.serde_json.specs.Data.{Data}
 use Rattle.serde_json.specs.Read.{read}
@@ -48,7 +51,8 @@ pub record Meaning : Type 0 where
   pub normal_text : List ℕ
 
 abbrev pub data_faults : Data → List SchemaError
-data_faults d = unless (not (has_float d)) fault.FloatNumber ++ unless (nat_le (count (form d)) MOST_NODES) fault.TooManyNodes ++ form_faults (form d)
+data_faults d = unless (not (has_float d)) fault.FloatNumber
+    ++ unless (nat_le (count (form d)) MOST_NODES) fault.TooManyNodes ++ form_faults (form d)
 
 -- the faults of a text
 abbrev pub faults : List ℕ → List SchemaError

@@ -1,9 +1,11 @@
 -- What is written for tokens, and the commas and colons between them, is no longer than the text that they were read from.
-use Rattle.std.proofs.Common.{◌≡◌, ℕ, zero, suc, ◌+◌, ◌<◌, ◌≤◌, Bool, true, false, cond, ◌==◌, List, [], ◌∷◌, length, Option, Some, None, refl, sym, ◌∙◌, subst, arith, length-append}
+use Rattle.std.proofs.Common.{◌≡◌, ℕ, zero, suc, ◌+◌, ◌<◌, ◌≤◌, Bool, true, false, cond, ◌==◌, List, [], ◌∷◌}
+use Rattle.std.proofs.Common.{length, Option, Some, None, refl, sym, ◌∙◌, subst, arith, length-append}
 use Rattle.json.specs.Token.{Token}
 use Rattle.json.specs.Text.{content, plain}
 use Rattle.json.specs.Word.{word}
-use Rattle.json.specs.Lex.{Lexeme, token, comma, colon, Class, quote, backslash, operator, space, other, class, operator_lexeme, string_token, lex, lex_byte, between, in_word, in_string}
+use Rattle.json.specs.Lex.{Lexeme, token, comma, colon, Class, quote, backslash, operator, space, other, class}
+use Rattle.json.specs.Lex.{operator_lexeme, string_token, lex, lex_byte, between, in_word, in_string}
 use Rattle.json.specs.Print.{token_text, escape}
 use Rattle.compact_length.proofs.Words.{Ended, ended_word, passes_byte}
 use Rattle.compact_length.proofs.Strings.{IfClosed, closed}

@@ -1,10 +1,12 @@
 -- A string with its shortest escapes is no longer than what the lexer passes for it.
-use Rattle.std.proofs.Common.{◌≡◌, ℕ, suc, ◌+◌, ◌/◌, ◌%◌, ◌<◌, ◌≤◌, Bool, true, false, cond, ◌&&◌, ◌||◌, ◌==◌, nat_lt, List, [], ◌∷◌, ◌++◌, length, Option, Some, None, option_and_then, inl, inr, ◌⊎◌, refl, sym, ap, ◌∙◌, subst, arith, length-append}
+use Rattle.std.proofs.Common.{◌≡◌, ℕ, suc, ◌+◌, ◌/◌, ◌%◌, ◌<◌, ◌≤◌, Bool, true, false, cond, ◌&&◌, ◌||◌, ◌==◌, nat_lt, List, [], ◌∷◌, ◌++◌}
+use Rattle.std.proofs.Common.{length, Option, Some, None, option_and_then, inl, inr, ◌⊎◌, refl, sym, ap, ◌∙◌, subst, arith, length-append}
 use Rattle.std.proofs.lemmas.Bool.{false≢true, ne_eqb, eqb-true, le-ltb, ltb-false, and_parts}
 use Rattle.std.proofs.lemmas.Grind.{flat_map-append}
 use Rattle.std.specs.Prelude.{⊤}
 use Rattle.std.specs.Char.{is_digit, encode_utf8}
-use Rattle.json.specs.Text.{code_unit, short_escape, is_high_surrogate, is_low_surrogate, surrogate_pair, Within, plain, after_backslash, after_u, after_high, prepend, content}
+use Rattle.json.specs.Text.{code_unit, short_escape, is_high_surrogate, is_low_surrogate, surrogate_pair}
+use Rattle.json.specs.Text.{Within, plain, after_backslash, after_u, after_high, prepend, content}
 use Rattle.json.specs.Word.{is_operator, is_space}
 use Rattle.json.specs.Lex.{Lexeme, Mode, quote, backslash, operator, space, other, lex, lex_byte, between, in_string, in_escape}
 use Rattle.json.specs.Print.{escape_byte, escape}
@@ -82,7 +84,8 @@ later_longest s y l x n p q = omega arith
 after_longest : (whole first s left y x n : ℕ) → whole ≡ first + s → s + left < y + 0 → first + y ≤ x + n → whole + left < x + n
 after_longest whole first s left y x n e p q = omega arith
 
--- The lexer, which is in mode m at xs, passes over the rest of a string with the content s and goes on at r. The content's text takes no more than n bytes beyond those.
+-- The lexer, which is in mode m at xs, passes over the rest of a string with the content s and
+-- goes on at r. The content's text takes no more than n bytes beyond those.
 pub record Closes (m : Mode) (xs : List ℕ) (n : ℕ) (s : List ℕ) : Type 0 where
   pub left : List ℕ
   pub lexed : lex m xs ≡ lex between left

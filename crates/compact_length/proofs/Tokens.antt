@@ -2,7 +2,8 @@
 use Rattle.std.proofs.Common.{◌≡◌, ℕ, ◌+◌, ◌≤◌, Bool, true, false, List, [], ◌∷◌, length, refl, arith, length-append}
 use Rattle.std.proofs.lemmas.Bool.{false≢true}
 use Rattle.json.specs.Token.{Token}
-use Rattle.json.specs.Lex.{Lexeme, token, comma, colon, Place, fresh, after_value, after_comma, after_key, begins_colon, place_token, punctuate, tokens, lex, between}
+use Rattle.json.specs.Lex.{Lexeme, token, comma, colon, Place, fresh, after_value, after_comma}
+use Rattle.json.specs.Lex.{after_key, begins_colon, place_token, punctuate, tokens, lex, between}
 use Rattle.json.specs.Print.{token_text, ends, quoted}
 use Rattle.compact_length.proofs.Lexemes.{paid, cost, cost-lex}
 

@@ -1,5 +1,6 @@
 -- Members in order, and where one more is put among them.
-use Rattle.std.proofs.Common.{◌≡◌, ℕ, zero, suc, List, [], ◌∷◌, ◌++◌, get_or, set, length, Bor, Ordering, Less, Equal, Greater, nat_cmp, is_lt, is_eq, false, bytes_eq, refl, ap, ◌∙◌, subst, ◌-◌, ◌<◌, ◌≤◌, arith}
+use Rattle.std.proofs.Common.{◌≡◌, ℕ, zero, suc, List, [], ◌∷◌, ◌++◌, get_or, set, length, Bor, Ordering, Less, Equal}
+use Rattle.std.proofs.Common.{Greater, nat_cmp, is_lt, is_eq, false, bytes_eq, refl, ap, ◌∙◌, subst, ◌-◌, ◌<◌, ◌≤◌, arith}
 use Rattle.std.proofs.lemmas.Cmp.{nat_list_cmp_total, tied_itself}
 use Rattle.std.proofs.lemmas.Map.Text.{is_eq-slice_cmp}
 use Rattle.std.specs.Cmp.Lexicographic.{slice_cmp}

@@ -1,5 +1,6 @@
 -- A value, level by level, and the members of an object by their names.
-use Rattle.std.proofs.Common.{◌≡◌, ℕ, List, [], ◌∷◌, Vec, Global, rules, Option, Some, Ordering, Less, Equal, Greater, nat_cmp, is_eq, true, false, bytes_eq, Bor, refl, ◌∙◌}
+use Rattle.std.proofs.Common.{◌≡◌, ℕ, List, [], ◌∷◌, Vec, Global, rules, Option, Some, Ordering, Less}
+use Rattle.std.proofs.Common.{Equal, Greater, nat_cmp, is_eq, true, false, bytes_eq, Bor, refl, ◌∙◌}
 use Rattle.std.proofs.lemmas.Cmp.{nat_list_cmp_total, tied_itself}
 use Rattle.std.proofs.lemmas.Map.Text.{is_eq-slice_cmp}
 use Rattle.std.specs.Cmp.Lexicographic.{slice_cmp}

@@ -1,5 +1,6 @@
 -- A name whose slot is empty is none of the names.
-use Rattle.std.proofs.Common.{◌≡◌, ℕ, ◌<◌, List, false, length, get_or, set, None, position, bytes_eq, ⊎_elim, sym, ap, subst, ◌∙◌, Bool, true, refl, arith}
+use Rattle.std.proofs.Common.{◌≡◌, ℕ, ◌<◌, List, false, length, get_or, set, None, position}
+use Rattle.std.proofs.Common.{bytes_eq, ⊎_elim, sym, ap, subst, ◌∙◌, Bool, true, refl, arith}
 use Rattle.std.proofs.lemmas.Bool.{cases_eq}
 use Rattle.std.proofs.lemmas.Grind.{get_or-set_at}
 use Rattle.std.proofs.lemmas.List.{get_or-set_other}

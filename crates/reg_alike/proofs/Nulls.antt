@@ -1,5 +1,6 @@
 -- Last records without a value give nothing.
-use Rattle.std.proofs.Common.{◌≡◌, ℕ, Bool, true, false, cond, ◌&&◌, ◌||◌, List, [], ◌∷◌, map, Option, Some, None, is_none, is_some, option_and_then, unwrap_or, refl, sym, ap, ◌∙◌}
+use Rattle.std.proofs.Common.{◌≡◌, ℕ, Bool, true, false, cond, ◌&&◌, ◌||◌, List, [], ◌∷◌, map, Option, Some}
+use Rattle.std.proofs.Common.{None, is_none, is_some, option_and_then, unwrap_or, refl, sym, ap, ◌∙◌}
 use Rattle.std.specs.Prelude.{fold, min}
 use Rattle.std.specs.FinMap as finmap
 use Rattle.std.specs.List.{cons_option, filter, filter_map, reduce}

@@ -1,5 +1,6 @@
 -- Where two sets of last records give the same, each command takes the same course.
-use Rattle.std.proofs.Common.{◌≡◌, ℕ, suc, max, List, [], ◌∷◌, map, Bool, true, false, ◌&&◌, ◌||◌, ◌==◌, not, nat_lt, Option, Some, None, is_some, unwrap_or, refl, sym, subst}
+use Rattle.std.proofs.Common.{◌≡◌, ℕ, suc, max, List, [], ◌∷◌, map, Bool, true, false, ◌&&◌, ◌||◌, ◌==◌}
+use Rattle.std.proofs.Common.{not, nat_lt, Option, Some, None, is_some, unwrap_or, refl, sym, subst}
 use Rattle.std.specs.Prelude.{if◌then◌else◌}
 use Rattle.std.specs.List.{filter}
 use Rattle.std.specs.Option.{option_map_or}
@@ -22,7 +23,8 @@ use Rattle.reg_rules.specs.Tests as test
 use Rattle.reg_rules.specs.Tests.{refuse_if, refuse_unless}
 use Rattle.reg_rules.specs.Writings.{deleted_up_to, id_marked, level_cleared, level_set, mode_cleared, mode_set, no_operation, removed}
 use Rattle.reg_leader.specs.Course.{Refused, Does, IfMet, IsOutcome, ◌▸◌, where_found}
-use Rattle.reg_leader.specs.Step.{IsStep, course_of, delete_all, delete_entry, import_as, is_there, mark_over, marked, no_version, where_read, writes}
+use Rattle.reg_leader.specs.Step.{IsStep, course_of, delete_all, delete_entry, import_as}
+use Rattle.reg_leader.specs.Step.{is_there, mark_over, marked, no_version, where_read, writes}
 use Rattle.reg_leader.specs.declared.command.Command.{Command}
 use Rattle.reg_leader.specs.declared.command.Command.TheVariants as commands
 use Rattle.reg_leader.specs.declared.reply.Reply.TheVariants as replies

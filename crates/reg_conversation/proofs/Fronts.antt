@@ -1,5 +1,6 @@
 -- What is answered of a whole request is answered of every text that goes on after it.
-use Rattle.std.proofs.Common.{◌≡◌, ◌⊎◌, ◌++◌, [], List, ℕ, Bool, true, false, Some, None, refl, sym, ap, subst, ◌∙◌, inl, inr, arith, append-nil, length, length-append, take, drop}
+use Rattle.std.proofs.Common.{◌≡◌, ◌⊎◌, ◌++◌, [], List, ℕ, Bool, true, false, Some, None, refl, sym, ap}
+use Rattle.std.proofs.Common.{subst, ◌∙◌, inl, inr, arith, append-nil, length, length-append, take, drop}
 use Rattle.std.specs.Prelude.{IfOk, IfErr, IfSome, Option, Result, Ok, Err, nat_le}
 use Rattle.std.specs.declared.alloc.AllocError.{AllocError}
 use Rattle.std.proofs.lemmas.List.{append_assoc, take-append-drop, take-append-le}

@@ -1,5 +1,6 @@
 -- The responses to a text that comes in pieces.
-use Rattle.std.proofs.Common.{◌≡◌, ◌<◌, ◌≤◌, ◌+◌, ◌++◌, ◌∷◌, [], List, ℕ, Bool, true, false, sym, ap, subst, ◌∙◌, append-nil, length, take, take_all, drop, get_or}
+use Rattle.std.proofs.Common.{◌≡◌, ◌<◌, ◌≤◌, ◌+◌, ◌++◌, ◌∷◌, [], List, ℕ, Bool, true, false, sym, ap}
+use Rattle.std.proofs.Common.{subst, ◌∙◌, append-nil, length, take, take_all, drop, get_or}
 use Rattle.std.specs.Prelude.{Option, Result}
 use Rattle.std.specs.Borrow.{Bor}
 use Rattle.std.specs.declared.alloc.AllocError.{AllocError}

@@ -19,7 +19,9 @@ use Rattle.reg_http.specs.Serve.{all_of, Answers}
 use Rattle.reg_http.specs.declared.serving.ServeError.{ServeError}
 use Rattle.reg_http.specs.declared.serving.ServeError.TheVariants as errors
 use Rattle.reg_http.proofs.Runs.{Answers-more}
-use Rattle.reg_conversation.specs.Conversation.{AnswersHeld, AnswersSome, AnswersWhole, FailsFirst, HasConversed, RepliesAll, Stops, left_of}
+use Rattle.reg_conversation.specs.Conversation.{AnswersHeld, AnswersSome, AnswersWhole}
+use Rattle.reg_conversation.specs.Conversation.{FailsFirst, HasConversed, RepliesAll}
+use Rattle.reg_conversation.specs.Conversation.{Stops, left_of}
 
 all_of-append : (outs more : List (List ℕ)) → all_of (outs ++ more) ≡ all_of outs ++ all_of more
 all_of-append outs more = flat_map-append (λ o. o) outs more

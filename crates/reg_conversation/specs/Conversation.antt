@@ -53,12 +53,14 @@ module _ {D : Type 0} (asks : D → Query → Result Answer AllocError → D →
   abbrev pub RepliesAll : D → List ℕ → Option (List ℕ) → Option (List ℕ) → D → Type 0
   RepliesAll old text before after new =
       (outs : List (List ℕ)) × (left : Option (List ℕ)) × Answers asks commands old (Some text) outs new left × IsOver asks commands left
-      × (length outs ≤ REQUESTS_LIMIT → IsOutput asks commands old text (length outs) (all_of outs) new) × Appends before after (all_of outs)
+      × (length outs ≤ REQUESTS_LIMIT → IsOutput asks commands old text (length outs) (all_of outs) new)
+      × Appends before after (all_of outs)
 
   -- the responses to some first requests of a text were written, and nothing of the next one
   abbrev pub StopsAfter : D → List ℕ → Option (List ℕ) → Option (List ℕ) → D → Type 0
   StopsAfter old text before after new =
-      (outs : List (List ℕ)) × (rest : List ℕ) × Answers asks commands old (Some text) outs new (Some rest) × Appends before after (all_of outs)
+      (outs : List (List ℕ)) × (rest : List ℕ) × Answers asks commands old (Some text) outs new (Some rest)
+      × Appends before after (all_of outs)
 
   -- why the first request of a text wasn't answered: nothing was done or written, or its response was written in part
   abbrev pub FailsFirst : {W : Type 0} → Device W → Device W → D → List ℕ → Option (List ℕ) → Option (List ℕ) → D → ServeError → Type 0

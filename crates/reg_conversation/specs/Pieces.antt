@@ -19,7 +19,18 @@ text_of pieces = flat_map (λ piece. piece.now) pieces
 
 module _ {D : Type 0} (asks : D → Query → Result Answer AllocError → D → Type 0) (commands : D → Command → Reply → D → Type 0) where
   -- why a piece wasn't answered: it was lost, and nothing else changed; or the text that goes on with it was answered in part
-  abbrev pub LosesPiece : {W : Type 0} → Device W → Device W → D → List ℕ → List ℕ → Option (List ℕ) → Option (List ℕ) → List ℕ → D → PieceError → Type 0
+  abbrev pub LosesPiece : {W : Type 0}
+      → Device W
+      → Device W
+      → D
+      → List ℕ
+      → List ℕ
+      → Option (List ℕ)
+      → Option (List ℕ)
+      → List ℕ
+      → D
+      → PieceError
+      → Type 0
   LosesPiece writer writer' old held piece before after held' new errors.NoMemory = (writer' ≡ writer) × (new ≡ old) × (held' ≡ held)
   LosesPiece writer writer' old held piece before after held' new (errors.Failed e) =
       (more : List ℕ) → Stops asks commands writer writer' old ((held ++ piece) ++ more) before after new e

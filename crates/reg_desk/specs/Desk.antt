@@ -24,7 +24,8 @@ use Rattle.reg_pen.specs.declared.keep.Lack.{Lack}
 use Rattle.reg_node.specs.Takes.{taken, taken_set}
 use Rattle.reg_node.specs.declared.take.Draw.{Draw}
 
--- the topic's front of the last command, the front of the node's list that the view saw, the submits, and whether nothing was refused after the last one
+-- the topic's front of the last command, the front of the node's list that the view saw,
+-- the submits, and whether nothing was refused after the last one
 pub record Known : Type 0 where
   pub seen : Option (List Item)
   pub view : List Draw
@@ -95,7 +96,8 @@ module _ {K : Type 0} (keeps : K → List Record → Kept → K → Type 0) wher
     pub lent : keeps keep (first ∷ rest) (Declined lack) keep'
     pub told : reply ≡ replies.Refused (refusals.Store (fault_of lack))
 
-  -- what the reply says: a step that wrote nothing, one that wrote the last item, a batch that isn't settled, one that was declined, or refused memory
+  -- what the reply says: a step that wrote nothing, one that wrote the last item, a batch
+  -- that isn't settled, one that was declined, or refused memory
   abbrev pub Replies : Topic → List Item → Command → Reply → List Item → Type 0
   Replies base before c reply after =
       IsStepAfter base after c reply []

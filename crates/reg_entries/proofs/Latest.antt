@@ -1,5 +1,6 @@
 -- The last of a subject's entries that counts, and the one of a version.
-use Rattle.std.proofs.Common.{◌≡◌, ◌==◌, ℕ, Bool, true, false, cond, inl, inr, List, [], ◌∷◌, ◌++◌, length, map, reverse, Option, Some, None, refl, sym, ap, subst, ◌∙◌, arith}
+use Rattle.std.proofs.Common.{◌≡◌, ◌==◌, ℕ, Bool, true, false, cond, inl, inr, List, [], ◌∷◌, ◌++◌, length}
+use Rattle.std.proofs.Common.{map, reverse, Option, Some, None, refl, sym, ap, subst, ◌∙◌, arith}
 use Rattle.std.proofs.lemmas.Cmp.{nat_cmp_total, on_total}
 use Rattle.std.proofs.lemmas.Iterator.{YieldsList}
 use Rattle.std.proofs.lemmas.Iterator.Consumers.{YieldsList-from_shown}
@@ -25,7 +26,8 @@ use Rattle.reg_entries.specs.EntryOrder.{Place, place_cmp, place_of}
 use Rattle.reg_entries.specs.Sought.{counts, latest, of_version}
 use Rattle.reg_entries.specs.declared.entry.Entry.{Entry}
 use Rattle.reg_entries.proofs.Chosen.{IsIn, all_filter, all_map, in_filter}
-use Rattle.reg_entries.proofs.Found.{AreFoundAtPlaces, all_at_places, all_found, found_at, found_own, in_values, not_both, rising, values_in_order}
+use Rattle.reg_entries.proofs.Found.{AreFoundAtPlaces, all_at_places, all_found, found_at}
+use Rattle.reg_entries.proofs.Found.{found_own, in_values, not_both, rising, values_in_order}
 use Rattle.reg_entries.proofs.Listed.{by_bool, never}
 
 pub reverse-more : {X : Type 0} (x : X) (xs : List X) → reverse (x ∷ xs) ≡ reverse xs ++ x ∷ []

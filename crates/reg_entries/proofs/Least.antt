@@ -1,5 +1,6 @@
 -- The laws of ids that have two schemas.
-use Rattle.std.proofs.Common.{◌≡◌, ℕ, ◌≤◌, ◌<◌, true, not, min, ◌⊎◌, inl, inr, ⊎_elim, List, [], ◌∷◌, map, Some, None, refl, sym, subst, ◌∙◌, arith}
+use Rattle.std.proofs.Common.{◌≡◌, ℕ, ◌≤◌, ◌<◌, true, not, min, ◌⊎◌, inl, inr, ⊎_elim, List}
+use Rattle.std.proofs.Common.{[], ◌∷◌, map, Some, None, refl, sym, subst, ◌∙◌, arith}
 use Rattle.std.proofs.lemmas.Bool.{cases_lt}
 use Rattle.std.proofs.lemmas.List.Elements.{All-contains, All-contains_itself, All-from_recursion, recursion_from_All}
 use Rattle.std.specs.List.{filter, fold, reduce, AllByRecursion, Contains}

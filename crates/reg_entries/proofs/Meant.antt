@@ -1,5 +1,6 @@
 -- What ids mean, where schemas come and go.
-use Rattle.std.proofs.Common.{◌≡◌, ◌⊎◌, inl, inr, ⊎_elim, ℕ, ◌+◌, ◌<◌, ◌≤◌, Bool, true, false, cond, not, ◌&&◌, ◌==◌, List, [], ◌∷◌, map, length, option_map, Option, Some, None, refl, sym, ap, subst, ◌∙◌, arith}
+use Rattle.std.proofs.Common.{◌≡◌, ◌⊎◌, inl, inr, ⊎_elim, ℕ, ◌+◌, ◌<◌, ◌≤◌, Bool, true, false, cond, not, ◌&&◌, ◌==◌, List}
+use Rattle.std.proofs.Common.{[], ◌∷◌, map, length, option_map, Option, Some, None, refl, sym, ap, subst, ◌∙◌, arith}
 use Rattle.std.proofs.lemmas.Bool.{false≢true}
 use Rattle.std.proofs.lemmas.Bool.Decides.{nat_tests}
 use Rattle.std.proofs.lemmas.Cmp.{tied_itself, nat_cmp_total, nat_list_cmp_total, on_total, then_total}
@@ -24,7 +25,9 @@ use Rattle.std.specs.declared.cmp.Ordering.TheVariants.{Less, Equal, Greater}
 use Rattle.std.specs.declared.ops.Bound.TheVariants.{Included, Excluded}
 use Rattle.reg_entries.specs.EntryOrder.{Place, place_cmp, place_of}
 use Rattle.reg_entries.specs.Index.{entry_at, ArePlaced}
-use Rattle.reg_entries.specs.Meanings.{Meaning, meaning_of, meaning_cmp, IsMeant, IsMeaningOf, AreMeant, HasTwo, AreDoubled, SettlesDoubled, SettlesMeaning}
+use Rattle.reg_entries.specs.Meanings.{Meaning, meaning_of, meaning_cmp, IsMeant, IsMeaningOf}
+use Rattle.reg_entries.specs.Meanings.{AreMeant, HasTwo, AreDoubled}
+use Rattle.reg_entries.specs.Meanings.{SettlesDoubled, SettlesMeaning}
 use Rattle.reg_entries.specs.Schemas.{Schema, schema_of, schema_cmp, is_held, is_that, AreListed}
 use Rattle.reg_entries.specs.Sought.{shares_its_id, two_schemas}
 use Rattle.reg_entries.specs.declared.entry.Entry.{Entry}

@@ -1,5 +1,6 @@
 -- Entries under the soft deletes of their subjects: what is asked of them is asked of a map that has them.
-use Rattle.std.proofs.Common.{◌≡◌, ℕ, Bool, true, false, cond, not, ◌||◌, ◌==◌, List, [], ◌∷◌, map, Option, Some, None, option_map, reverse, refl, sym, ap, subst, ◌∙◌}
+use Rattle.std.proofs.Common.{◌≡◌, ℕ, Bool, true, false, cond, not, ◌||◌, ◌==◌, List, [], ◌∷◌, map}
+use Rattle.std.proofs.Common.{Option, Some, None, option_map, reverse, refl, sym, ap, subst, ◌∙◌}
 use Rattle.std.proofs.lemmas.Slice.Eq.{bytes_eq-Decides}
 use Rattle.std.specs.BTreeMap.{BTreeMap, IsOrdered, get_by_text, is_at}
 use Rattle.std.specs.BTreeMap.Range.{entries_between, range_contains}

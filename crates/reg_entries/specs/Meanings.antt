@@ -28,7 +28,8 @@ AreMeant schemas meanings = (k : Meaning) → (contains meaning_cmp meanings k �
 
 -- the id has two texts
 abbrev pub HasTwo : BTreeSet Meaning → ℕ → Type 0
-HasTwo meanings id = (t : List ℕ) × (u : List ℕ) × (contains meaning_cmp meanings (id, t) ≡ true) × (contains meaning_cmp meanings (id, u) ≡ true) × ¬ (t ≡ u)
+HasTwo meanings id = (t : List ℕ) × (u : List ℕ) × (contains meaning_cmp meanings (id, t) ≡ true)
+    × (contains meaning_cmp meanings (id, u) ≡ true) × ¬ (t ≡ u)
 
 -- the doubled ids are those that have two texts
 abbrev pub AreDoubled : BTreeSet Meaning → BTreeSet ℕ → Type 0
@@ -36,11 +37,13 @@ AreDoubled meanings doubled = (id : ℕ) → (contains nat_cmp doubled id ≡ tr
 
 -- n is doubled, without the id where it has no two texts
 abbrev pub SettlesDoubled : BTreeSet Meaning → ℕ → BTreeSet ℕ → BTreeSet ℕ → Type 0
-SettlesDoubled meanings id doubled n = (i : ℕ) → (contains nat_cmp n i ≡ true) ↔ ((contains nat_cmp doubled i ≡ true) × (i ≡ id → HasTwo meanings i))
+SettlesDoubled meanings id doubled n = (i : ℕ) → (contains nat_cmp n i ≡ true)
+    ↔ ((contains nat_cmp doubled i ≡ true) × (i ≡ id → HasTwo meanings i))
 
 -- n is meanings, without k where no schema has it
 abbrev pub SettlesMeaning : BTreeSet Schema → Meaning → BTreeSet Meaning → BTreeSet Meaning → Type 0
-SettlesMeaning schemas k meanings n = (l : Meaning) → (contains meaning_cmp n l ≡ true) ↔ ((contains meaning_cmp meanings l ≡ true) × (l ≡ k → IsMeant schemas l))
+SettlesMeaning schemas k meanings n = (l : Meaning) → (contains meaning_cmp n l ≡ true)
+    ↔ ((contains meaning_cmp meanings l ≡ true) × (l ≡ k → IsMeant schemas l))
 
 -- k is the meaning of one schema, or of the other, if there is one
 abbrev pub IsMeaningOf : Schema → Option Schema → Meaning → Type 0

@@ -51,7 +51,8 @@ with_id es id = filter (λ e. e.id == id) es
 abbrev pub HasRisingVersions : List Entry → Type 0
 HasRisingVersions es = IsStrictlyIncreasing (map (λ e. e.version) es)
 
--- of the entries with the id, soft ones too, the one of greatest offset; of these the one of greatest subject by bytes, then of greatest version
+-- of the entries with the id, soft ones too, the one of greatest offset; of these the
+-- one of greatest subject by bytes, then of greatest version
 abbrev pub named : List Entry → ℕ → Option Entry
 named es id = reduce (ord_max naming_cmp) (with_id es id)
 

@@ -10,7 +10,8 @@ HasTwoSchemas es id = (e : Entry) × (f : Entry) × Contains es e × Contains es
 
 -- no id has two exactly where any two entries of one id have one normal text
 abbrev pub NoneIsOneTextEach : Type 0
-NoneIsOneTextEach = (es : List Entry) → (two_schemas es ≡ None) ↔ ((e f : Entry) → Contains es e → Contains es f → e.id ≡ f.id → e.normal ≡ f.normal)
+NoneIsOneTextEach = (es : List Entry) → (two_schemas es ≡ None)
+    ↔ ((e f : Entry) → Contains es e → Contains es f → e.id ≡ f.id → e.normal ≡ f.normal)
 
 -- the answer is an id exactly where it has two and no smaller id has
 abbrev pub SomeIsLeastOfTwo : Type 0

@@ -1,6 +1,8 @@
 -- Some number of hops is enough: what leads to a clash at all leads to one within it. There are finitely many pairs, so with more
 -- and more hops no more of them come to lead to one some time.
-use Rattle.std.proofs.Common.{◌≡◌, ℕ, zero, suc, ◌+◌, ◌*◌, ◌/◌, ◌%◌, ◌<◌, ◌≤◌, List, [], ◌∷◌, length, Bool, true, false, ◌||◌, cond, ◌⊎◌, inl, inr, Option, Some, None, IsSome, is_some, option_map, option_and_then, slice_get, refl, sym, ◌∙◌, ap, subst, arith, mul_comm}
+use Rattle.std.proofs.Common.{◌≡◌, ℕ, zero, suc, ◌+◌, ◌*◌, ◌/◌, ◌%◌, ◌<◌, ◌≤◌, List, [], ◌∷◌, length, Bool, true, false, ◌||◌, cond, ◌⊎◌}
+use Rattle.std.proofs.Common.{inl, inr, Option, Some, None, IsSome, is_some, option_map, option_and_then, slice_get, refl, sym, ◌∙◌, ap}
+use Rattle.std.proofs.Common.{subst, arith, mul_comm}
 use Rattle.std.specs.List.{list_any}
 use Rattle.std.specs.Result.{result_err}
 use Rattle.std.proofs.lemmas.Nat.{mul-add-lt, div-mul-add, mod-mul-add}

@@ -1,5 +1,6 @@
 -- A node can take all that is kept, and then took a compaction of the log.
-use Rattle.std.proofs.Common.{◌≡◌, ℕ, zero, suc, List, [], ◌∷◌, ◌++◌, Bool, true, false, ◌&&◌, ◌||◌, ◌==◌, Option, Some, None, is_some, slice_get, refl, sym, ◌∙◌, ap, subst, eq-eqb}
+use Rattle.std.proofs.Common.{◌≡◌, ℕ, zero, suc, List, [], ◌∷◌, ◌++◌, Bool, true, false, ◌&&◌, ◌||◌, ◌==◌}
+use Rattle.std.proofs.Common.{Option, Some, None, is_some, slice_get, refl, sym, ◌∙◌, ap, subst, eq-eqb}
 use Rattle.std.specs.Cmp.{IsTotalOrder, tied_itself}
 use Rattle.std.specs.FinSet.{IsAntisymmetric, contains, contains-from_list, contains-items, contains-union, from_list, items}
 use Rattle.std.specs.List.{list_all, list_any}

@@ -1,5 +1,6 @@
 -- There is a verdict on each two schemas.
-use Rattle.std.proofs.Common.{◌≡◌, ◌+◌, ◌<◌, ℕ, zero, suc, List, length, Bool, true, false, ◌⊎◌, inl, inr, Option, Some, None, IsSome, refl, sym, ◌∙◌, arith}
+use Rattle.std.proofs.Common.{◌≡◌, ◌+◌, ◌<◌, ℕ, zero, suc, List, length, Bool, true, false, ◌⊎◌}
+use Rattle.std.proofs.Common.{inl, inr, Option, Some, None, IsSome, refl, sym, ◌∙◌, arith}
 use Rattle.avro_schema.specs.declared.node.Node.{Node}
 use Rattle.avro_resolve.specs.declared.resolving.Verdict.{Verdict}
 use Rattle.avro_resolve.specs.declared.resolving.Verdict.TheVariants.{Compatible, Clash}

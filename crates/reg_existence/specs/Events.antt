@@ -30,11 +30,17 @@ EventsAreSingle = (s : State) (e : Event) (o other : Outcome) (t u : State) → 
 
 -- so a list of events leads to one state, with the same outcomes
 abbrev pub ListsOfEventsAreSingle : Type 0
-ListsOfEventsAreSingle = (s : State) (es : List Event) (os others : List Outcome) (t u : State) → Runs s es os t → Runs s es others u → (os ≡ others) × (t ≡ u)
+ListsOfEventsAreSingle = (s : State) (es : List Event) (os others : List Outcome) (t u : State)
+    → Runs s es os t
+    → Runs s es others u
+    → (os ≡ others) × (t ≡ u)
 
 -- there is a world after each list of events, over each adopted base and with each number of nodes
 abbrev pub WorldsExist : Type 0
-WorldsExist = (base : Topic) (count : ℕ) → IsAdopted base → (events : List Event) → (w : State) × (after : After events w) × (after.base ≡ base) × (after.count ≡ count)
+WorldsExist = (base : Topic) (count : ℕ)
+    → IsAdopted base
+    → (events : List Event)
+    → (w : State) × (after : After events w) × (after.base ≡ base) × (after.count ≡ count)
 
 -- and there is an adopted base: the topic without a record
 abbrev pub EmptyTopicIsAdopted : Type 0

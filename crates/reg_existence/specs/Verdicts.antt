@@ -16,7 +16,8 @@ VerdictsExist = (r w : List Node) → (verdict : Verdict) × IsVerdict r w verdi
 
 -- each level has a verdict on a schema and its old versions
 abbrev pub LevelVerdictsExist : Type 0
-LevelVerdictsExist = (level : Level) (new : List Node) (olds : List Version) → (verdict : LevelVerdict) × IsLevelVerdict level new olds verdict
+LevelVerdictsExist = (level : Level) (new : List Node) (olds : List Version)
+    → (verdict : LevelVerdict) × IsLevelVerdict level new olds verdict
 
 -- a check of texts has a report: the level is met, or there is a message of the first required pair that clashes
 abbrev pub ReportsExist : Type 0

@@ -1,5 +1,6 @@
 -- What stands at the front of a text, where the first empty line and the end of the body are found, and where they aren't.
-use Rattle.std.proofs.Common.{◌≡◌, ◌<◌, ◌≤◌, ◌+◌, ◌-◌, ◌++◌, ◌∷◌, [], List, ℕ, Bool, true, false, suc, if◌then◌else◌, ◌⊎◌, Some, None, refl, sym, ap, subst, ◌∙◌, inl, inr, arith, length, length-append, take, drop, get_or, append-nil, zero}
+use Rattle.std.proofs.Common.{◌≡◌, ◌<◌, ◌≤◌, ◌+◌, ◌-◌, ◌++◌, ◌∷◌, [], List, ℕ, Bool, true, false, suc, if◌then◌else◌, ◌⊎◌, Some, None}
+use Rattle.std.proofs.Common.{refl, sym, ap, subst, ◌∙◌, inl, inr, arith, length, length-append, take, drop, get_or, append-nil, zero}
 use Rattle.std.specs.Prelude.{Result, Ok, Err, Option, IfSome, not, nat_lt, codes}
 use Rattle.std.specs.Str.Parse.{digits_value}
 use Rattle.std.proofs.lemmas.List.{append_assoc, take-append-drop, length-take-le}

@@ -1,5 +1,6 @@
 -- A last record without a value may be forgotten: what is left gives the same.
-use Rattle.std.proofs.Common.{◌≡◌, ℕ, Bool, true, false, not, ◌&&◌, ◌||◌, ⊎_elim, List, Option, Some, None, is_none, is_some, option_and_then, option_map, unwrap_or, refl, sym, ap, ◌∙◌}
+use Rattle.std.proofs.Common.{◌≡◌, ℕ, Bool, true, false, not, ◌&&◌, ◌||◌, ⊎_elim, List, Option, Some, None}
+use Rattle.std.proofs.Common.{is_none, is_some, option_and_then, option_map, unwrap_or, refl, sym, ap, ◌∙◌}
 use Rattle.std.proofs.lemmas.Bool.{false≢true}
 use Rattle.std.specs.BTreeSet.{BTreeSet}
 use Rattle.std.specs.Cmp.{IsTotalOrder}

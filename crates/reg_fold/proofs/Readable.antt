@@ -1,5 +1,6 @@
 -- Each entry's text is a schema's, and its normal text is that schema's.
-use Rattle.std.proofs.Common.{◌≡◌, ℕ, ◌<◌, zero, suc, true, List, [], ◌∷◌, length, get_or, map, is_some, option_map, Option, Some, None, option_and_then, refl, subst, arith}
+use Rattle.std.proofs.Common.{◌≡◌, ℕ, ◌<◌, zero, suc, true, List, [], ◌∷◌, length, get_or, map, is_some}
+use Rattle.std.proofs.Common.{option_map, Option, Some, None, option_and_then, refl, subst, arith}
 use Rattle.std.proofs.lemmas.Bool.{false≢true}
 use Rattle.std.specs.FinMap as finmap
 use Rattle.std.specs.List.{AllByRecursion}

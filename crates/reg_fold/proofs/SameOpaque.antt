@@ -1,5 +1,6 @@
 -- Sets with the same opaque records have the same least offset of one.
-use Rattle.std.proofs.Common.{◌≡◌, ℕ, ◌≤◌, true, false, cond, inl, inr, ⊎_elim, List, [], ◌∷◌, map, min, refl, sym, subst, ◌∙◌, nat_le, arith}
+use Rattle.std.proofs.Common.{◌≡◌, ℕ, ◌≤◌, true, false, cond, inl, inr, ⊎_elim, List, []}
+use Rattle.std.proofs.Common.{◌∷◌, map, min, refl, sym, subst, ◌∙◌, nat_le, arith}
 use Rattle.std.proofs.lemmas.Bool.Decides.{nat_tests}
 use Rattle.std.specs.Cmp.{IsTotalOrder}
 use Rattle.std.specs.FinSet.{IsAntisymmetric, contains}

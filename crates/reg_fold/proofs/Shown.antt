@@ -1,5 +1,6 @@
 -- The entries as they are shown: what is asked of them that no soft delete changes.
-use Rattle.std.proofs.Common.{◌≡◌, ℕ, Bool, true, false, not, ◌&&◌, ◌||◌, ◌==◌, T, cond, List, [], ◌∷◌, map, max, min, Some, option_map, refl, sym, ap, subst, ◌∙◌}
+use Rattle.std.proofs.Common.{◌≡◌, ℕ, Bool, true, false, not, ◌&&◌, ◌||◌, ◌==◌, T, cond, List, []}
+use Rattle.std.proofs.Common.{◌∷◌, map, max, min, Some, option_map, refl, sym, ap, subst, ◌∙◌}
 use Rattle.std.specs.BTreeMap.{BTreeMap}
 use Rattle.std.specs.FinMap as finmap
 use Rattle.std.specs.FinMap.Entries.{below_all, find, is_sorted}

@@ -1,5 +1,6 @@
 -- Which entries stand by the last records, and which records are opaque.
-use Rattle.std.proofs.Common.{◌≡◌, ◌↔◌, ◌⊎◌, inl, inr, ℕ, Bool, true, false, List, [], ◌∷◌, map, min, Some, None, Contains, option_and_then, refl, sym, ap, subst, ◌∙◌}
+use Rattle.std.proofs.Common.{◌≡◌, ◌↔◌, ◌⊎◌, inl, inr, ℕ, Bool, true, false, List, [], ◌∷◌, map, min}
+use Rattle.std.proofs.Common.{Some, None, Contains, option_and_then, refl, sym, ap, subst, ◌∙◌}
 use Rattle.std.proofs.lemmas.Bool.{false≢true}
 use Rattle.std.specs.Cmp.{IsTotalOrder}
 use Rattle.std.specs.FinMap as finmap
@@ -18,7 +19,9 @@ use Rattle.reg_set.specs.LastRecords.{last, last_records}
 use Rattle.reg_set.specs.RecordOrder.{record_cmp}
 use Rattle.reg_set.specs.Records.{Records, records_of}
 use Rattle.reg_entries.specs.declared.entry.Entry.{Entry}
-use Rattle.reg_fold.specs.Entries.{EntriesAreInLimits, EntriesAreOfKeys, EntriesAreOfPlaces, IsOfLast, entries, entry_in, entry_map, entry_of}
+use Rattle.reg_fold.specs.Entries.{EntriesAreInLimits, EntriesAreOfKeys}
+use Rattle.reg_fold.specs.Entries.{EntriesAreOfPlaces, IsOfLast, entries, entry_in}
+use Rattle.reg_fold.specs.Entries.{entry_map, entry_of}
 use Rattle.reg_fold.specs.Opaque.{NoneIsNoOpaqueLast, is_opaque, opaque}
 use Rattle.reg_fold.proofs.Least.{Has, among, none_opaque, there}
 use Rattle.reg_fold.proofs.OfLasts.{are_of_lasts, last_of_itself, last_records-last_records}

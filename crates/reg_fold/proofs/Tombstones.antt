@@ -1,9 +1,11 @@
 -- Tombstones of versions that have a record: they give nothing, and stay tombstones.
-use Rattle.std.proofs.Common.{◌≡◌, ◌<◌, ℕ, Bool, true, false, ◌&&◌, ◌||◌, List, [], ◌∷◌, length, get_or, Option, Some, None, IsSome, is_none, is_some, option_and_then, refl, sym, ap, ◌∙◌}
+use Rattle.std.proofs.Common.{◌≡◌, ◌<◌, ℕ, Bool, true, false, ◌&&◌, ◌||◌, List, [], ◌∷◌, length, get_or, Option}
+use Rattle.std.proofs.Common.{Some, None, IsSome, is_none, is_some, option_and_then, refl, sym, ap, ◌∙◌}
 use Rattle.std.proofs.lemmas.Bool.{false≢true}
 use Rattle.std.proofs.lemmas.List.Folds.{list_all_at}
 use Rattle.std.specs.Cmp.{IsTotalOrder}
-use Rattle.std.specs.FinSet.{IsAntisymmetric, contains, contains-from_list, contains-insert, contains-union, from_list, insert, same_set, union}
+use Rattle.std.specs.FinSet.{IsAntisymmetric, contains, contains-from_list, contains-insert}
+use Rattle.std.specs.FinSet.{contains-union, from_list, insert, same_set, union}
 use Rattle.std.specs.List.{list_all, list_any}
 use Rattle.std.specs.Ordering.{eq_by_cmp}
 use Rattle.reg_values.specs.Value.{value_of, value_of_text}

@@ -60,7 +60,9 @@ AreOfLasts rs es = (e : Entry) → Contains es e ↔ IsOfLast rs e
 
 -- each entry's text means a schema, whose normal text is the entry's
 abbrev pub EntriesAreRead : Type 0
-EntriesAreRead = (rs : Records) (e : Entry) → Contains (entries rs) e → option_map (λ meaning. meaning.normal_text) (schema_of e.text) ≡ Some e.normal
+EntriesAreRead = (rs : Records) (e : Entry)
+    → Contains (entries rs) e
+    → option_map (λ meaning. meaning.normal_text) (schema_of e.text) ≡ Some e.normal
 
 -- the entry of a record has the subject and the version of its key
 abbrev pub EntriesAreOfKeys : Type 0
@@ -69,7 +71,8 @@ EntriesAreOfKeys = (rs : Records) (r : Record) (e : Entry) → entry_of rs r ≡
 -- an entry stands exactly where the last record of its subject and version gives it
 abbrev pub EntriesAreOfPlaces : Type 0
 EntriesAreOfPlaces = (whole : Records) (e : Entry)
-    → Contains (entries (last_records whole)) e ↔ ((r : Record) × (last whole (keys.Schema e.subject e.version) ≡ Some r) × (entry_of (last_records whole) r ≡ Some e))
+    → Contains (entries (last_records whole)) e
+    ↔ ((r : Record) × (last whole (keys.Schema e.subject e.version) ≡ Some r) × (entry_of (last_records whole) r ≡ Some e))
 
 -- the version and the id of each entry are within their limits
 abbrev pub EntriesAreInLimits : Type 0

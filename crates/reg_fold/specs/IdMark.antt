@@ -1,4 +1,5 @@
--- The id up to which ids were given away, as far as the records say. Below, rs are the last records. (Marks of soft deletes are another thing.)
+-- The id up to which ids were given away, as far as the records say. Below, rs are
+-- the last records. (Marks of soft deletes are another thing.)
 use Rattle.std.specs.Prelude.{◌≤◌, ℕ, max, Bool, nat_lt, Option, Some, None, option_and_then, unwrap_or}
 use Rattle.reg_records.specs.declared.key.Key.TheVariants as keys
 use Rattle.reg_records.specs.declared.limits.TheConstants.{NUMBER_LIMIT}

@@ -20,4 +20,5 @@ covers at (values.IdMark id) version offset = false
 -- whether the last record of the subject's DELETE_SUBJECT key marks what is at that version and offset
 unfoldable pub is_marked : Records → List ℕ → ℕ → ℕ → Bool
 is_marked rs subject version offset =
-    option_map_or (λ r. option_map_or (λ value. covers r.offset value version offset) (value_of r) false) (last rs (keys.DeleteSubject subject)) false
+    option_map_or (λ r. option_map_or (λ value. covers r.offset value version offset) (value_of r) false)
+    (last rs (keys.DeleteSubject subject)) false

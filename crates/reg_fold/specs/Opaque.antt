@@ -21,4 +21,5 @@ opaque rs = reduce min (map (λ r. r.offset) (filter is_opaque (records_of rs)))
 
 -- there is none exactly where no key's last record is opaque
 abbrev pub NoneIsNoOpaqueLast : Type 0
-NoneIsNoOpaqueLast = (whole : Records) → (opaque (last_records whole) ≡ None) ↔ ((key : Key) (r : Record) → last whole key ≡ Some r → is_opaque r ≡ false)
+NoneIsNoOpaqueLast = (whole : Records) → (opaque (last_records whole) ≡ None)
+    ↔ ((key : Key) (r : Record) → last whole key ≡ Some r → is_opaque r ≡ false)

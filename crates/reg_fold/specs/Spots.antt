@@ -30,7 +30,8 @@ spot_of before place = option_map (λ r. (r.offset, place)) before
 
 -- the set without the spot, if there is one
 abbrev pub Forgets : Option Spot → BTreeSet Spot → BTreeSet Spot → Type 0
-Forgets spot old new = (s : Spot) → contains spot_cmp new s ≡ (contains spot_cmp old s && not (option_map_or (λ t. eq_by_cmp spot_cmp t s) spot false))
+Forgets spot old new = (s : Spot)
+    → contains spot_cmp new s ≡ (contains spot_cmp old s && not (option_map_or (λ t. eq_by_cmp spot_cmp t s) spot false))
 
 -- the spot, unless it is at that offset
 abbrev pub elsewhere : Option Spot → ℕ → Option Spot

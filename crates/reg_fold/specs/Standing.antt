@@ -11,7 +11,8 @@ use Rattle.reg_fold.specs.declared.version_ref.VersionRef.TheVariants.{Latest, N
 abbrev pub live : Records → List ℕ → List Entry
 live rs subject = sought.live_of (entries rs) subject
 
--- of the entries with the id, soft ones too, the one of greatest offset; of these the one of greatest subject by bytes, then of greatest version
+-- of the entries with the id, soft ones too, the one of greatest offset; of these the
+-- one of greatest subject by bytes, then of greatest version
 abbrev pub named : Records → ℕ → Option Entry
 named rs id = sought.named (entries rs) id
 
@@ -30,4 +31,6 @@ version_in es subject (Number version) deleted = sought.of_version es subject ve
 
 -- the entry that is found of a subject is one of the entries
 abbrev pub FoundEntriesStand : Type 0
-FoundEntriesStand = (es : List Entry) (subject : List ℕ) (which : VersionRef) (deleted : Bool) (e : Entry) → version_in es subject which deleted ≡ Some e → Contains es e
+FoundEntriesStand = (es : List Entry) (subject : List ℕ) (which : VersionRef) (deleted : Bool) (e : Entry)
+    → version_in es subject which deleted ≡ Some e
+    → Contains es e

@@ -1,7 +1,9 @@
 -- What nodes that follow lines have of them.
-use Rattle.std.proofs.Common.{◌≡◌, ◌≤◌, ◌||◌, ℕ, Bool, true, false, List, [], ◌∷◌, ◌++◌, length, take, fold, refl, sym, ap, ◌∙◌, arith, length-append}
+use Rattle.std.proofs.Common.{◌≡◌, ◌≤◌, ◌||◌, ℕ, Bool, true, false, List, [], ◌∷◌, ◌++◌}
+use Rattle.std.proofs.Common.{length, take, fold, refl, sym, ap, ◌∙◌, arith, length-append}
 use Rattle.std.specs.Cmp.{IsTotalOrder}
-use Rattle.std.specs.FinSet.{IsAntisymmetric, contains, contains-empty, contains-from_list, contains-insert, empty, from_list, insert, same_set}
+use Rattle.std.specs.FinSet.{IsAntisymmetric, contains, contains-empty, contains-from_list}
+use Rattle.std.specs.FinSet.{contains-insert, empty, from_list, insert, same_set}
 use Rattle.std.specs.List.{list_any}
 use Rattle.std.specs.Ordering.{eq_by_cmp}
 use mathlib.Core.List.{IsPrefix}

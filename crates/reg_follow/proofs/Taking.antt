@@ -1,5 +1,6 @@
 -- How lines are taken one after the other.
-use Rattle.std.proofs.Common.{◌≡◌, ℕ, List, [], ◌∷◌, ◌++◌, Result, Ok, Err, IfErr, OnErr, refl, sym, ap, subst, ◌∙◌, append_assoc, append-nil, option_to_list}
+use Rattle.std.proofs.Common.{◌≡◌, ℕ, List, [], ◌∷◌, ◌++◌, Result, Ok, Err, IfErr, OnErr, refl}
+use Rattle.std.proofs.Common.{sym, ap, subst, ◌∙◌, append_assoc, append-nil, option_to_list}
 use mathlib.Core.List.{IsPrefix}
 use Rattle.reg_records.specs.Log.{record_in, records_in}
 use Rattle.reg_records.specs.Pieces.{HasNoLineFeed}

@@ -1,5 +1,6 @@
 -- What a node has of the lines of a log that it follows.
-use Rattle.std.specs.Prelude.{◌≡◌, ◌⊎◌, ◌<◌, ◌≤◌, ⊤, ℕ, List, [], ◌∷◌, ◌++◌, Bool, length, IfOk, OnSome, Option, Some, None, Result, option_to_list}
+use Rattle.std.specs.Prelude.{◌≡◌, ◌⊎◌, ◌<◌, ◌≤◌, ⊤, ℕ, List, [], ◌∷◌, ◌++◌, Bool, length}
+use Rattle.std.specs.Prelude.{IfOk, OnSome, Option, Some, None, Result, option_to_list}
 use Rattle.std.specs.declared.alloc.AllocError.{AllocError}
 use Rattle.std.specs.FinSet.{from_list}
 use Rattle.std.specs.Io.KnownBytes.{Consumes, IsAtEnd, Keeps}
@@ -149,5 +150,9 @@ pub record Publishes (text : List ℕ) (read : List Read) (goes_on : Bool) (new 
 -- from a front is what the log of its lines answers
 pub record AnswersAreOfFirstLines (read : List Read) (list : List Draw) : Type 0 where
   pub begins : IsOfFirst read 0 []
-  pub later : (n : ℕ) (front after : List Draw) → IsOfFirst read n front → IsPrefix front after → IsPrefix after list → (m : ℕ) × (n ≤ m) × IsOfFirst read m after
+  pub later : (n : ℕ) (front after : List Draw)
+      → IsOfFirst read n front
+      → IsPrefix front after
+      → IsPrefix after list
+      → (m : ℕ) × (n ≤ m) × IsOfFirst read m after
   pub answers : (n : ℕ) (front : List Draw) → IsOfFirst read n front → taken front ≡ from_list (records_of_first n read)

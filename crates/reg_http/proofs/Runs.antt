@@ -1,12 +1,14 @@
 -- The responses to the first requests of a text, and one more.
-use Rattle.std.proofs.Common.{◌≡◌, ◌≤◌, ◌<◌, ◌+◌, ℕ, List, [], ◌∷◌, ◌++◌, refl, sym, ap, subst, ◌∙◌, inl, inr, arith, append-nil, length, length-append, IfSome, Some, None, true, false}
+use Rattle.std.proofs.Common.{◌≡◌, ◌≤◌, ◌<◌, ◌+◌, ℕ, List, [], ◌∷◌, ◌++◌, refl, sym, ap, subst, ◌∙◌, inl, inr}
+use Rattle.std.proofs.Common.{arith, append-nil, length, length-append, IfSome, Some, None, true, false}
 use Rattle.std.specs.Prelude.{Bool, IfErr, Option, Result, Ok, Err, option_map, unwrap_or}
 use Rattle.std.proofs.lemmas.Option.{none-some}
 use Rattle.std.specs.Io.KnownBytes.{Appends, Keeps}
 use Rattle.std.specs.declared.alloc.AllocError.{AllocError}
 use Rattle.std.proofs.KnownBytes.{Appends-nil, Appends-trans, Appends-kept}
 use Rattle.std.proofs.lemmas.Grind.{flat_map-append}
-use Rattle.reg_records.specs.Device.{BeganAt, KeepsEnd, all_interruptions_of, all_reads_of, begun_of, bytes_in, counted, counted_by, faults_of, place_of, reads_of}
+use Rattle.reg_records.specs.Device.{BeganAt, KeepsEnd, all_interruptions_of, all_reads_of, begun_of}
+use Rattle.reg_records.specs.Device.{bytes_in, counted, counted_by, faults_of, place_of, reads_of}
 use Rattle.reg_lookup.specs.declared.answered.Answer.{Answer}
 use Rattle.reg_leader.specs.declared.command.Command.{Command}
 use Rattle.reg_leader.specs.declared.reply.Reply.{Reply}
@@ -16,7 +18,8 @@ use Rattle.reg_messages.specs.Reading.{TakesShort}
 use Rattle.reg_messages.specs.Taking.{CountsReads, LosesReader}
 use Rattle.reg_responses.specs.Writing.{AppendsFront}
 use Rattle.reg_responses.proofs.Written.{IsLostSince-later, LosesWriter-later}
-use Rattle.reg_http.specs.Serve.{LosesRequest, ReadsForRequests, all_of, Answers, AnswersFirst, IsOutput, IsPart, IsServeRefusal, StopsBetween, StopsIn}
+use Rattle.reg_http.specs.Serve.{LosesRequest, ReadsForRequests, all_of, Answers, AnswersFirst}
+use Rattle.reg_http.specs.Serve.{IsOutput, IsPart, IsServeRefusal, StopsBetween, StopsIn}
 use Rattle.reg_http.specs.ServeSteps.{HasAnswered, IsStepRefusal, Steps}
 use Rattle.reg_http.specs.declared.limits.TheConstants.{REQUESTS_LIMIT}
 use Rattle.reg_http.specs.declared.serving.Next.{Next}

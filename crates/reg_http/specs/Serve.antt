@@ -1,5 +1,6 @@
 -- The responses to the requests of a text.
-use Rattle.std.specs.Prelude.{◌≡◌, ◌⊎◌, ◌≤◌, ◌<◌, ◌+◌, ◌*◌, ⊤, ℕ, List, [], ◌∷◌, ◌++◌, Bool, true, false, ◌||◌, length, Option, Some, None, IfSome, IsOk, Result, Ok, Err, if◌then◌else◌}
+use Rattle.std.specs.Prelude.{◌≡◌, ◌⊎◌, ◌≤◌, ◌<◌, ◌+◌, ◌*◌, ⊤, ℕ, List, [], ◌∷◌, ◌++◌, Bool, true, false, ◌||◌}
+use Rattle.std.specs.Prelude.{length, Option, Some, None, IfSome, IsOk, Result, Ok, Err, if◌then◌else◌}
 use Rattle.std.specs.List.{flat_map}
 use Rattle.std.specs.Io.KnownBytes.{Appends}
 use Rattle.std.specs.declared.alloc.AllocError.{AllocError}
@@ -129,7 +130,16 @@ module _ {D : Type 0} (asks : D → Query → Result Answer AllocError → D →
 
   -- the responses to all requests that the reader gave whole were written whole, fewer than one call may answer; what it gave after
   -- them is short of a request, from whose front on the reads were counted
-  abbrev pub StopsBetween : {R : Type 0} → Device R → Device R → D → List ℕ → Option (List ℕ) → Option (List ℕ) → Option (List ℕ) → D → Type 0
+  abbrev pub StopsBetween : {R : Type 0}
+      → Device R
+      → Device R
+      → D
+      → List ℕ
+      → Option (List ℕ)
+      → Option (List ℕ)
+      → Option (List ℕ)
+      → D
+      → Type 0
   StopsBetween reader reader' old text left before after new =
       (outs : List (List ℕ)) × (rest : List ℕ) × Answers old (Some text) outs new (Some rest)
       × TakesShort rest left × Appends before after (all_of outs) × (length outs < REQUESTS_LIMIT)

@@ -71,14 +71,17 @@ module _ {D : Type 0} (asks : D → Query → Result Answer AllocError → D →
   Steps old text before after left new nexts.Closed =
       (out : List ℕ) × AnswersFirst asks commands old (Some text) out new None × Appends before after out
   Steps old text before after left new nexts.More =
-      (out : List ℕ) × (rest : List ℕ) × (left ≡ Some rest) × AnswersFirst asks commands old (Some text) out new (Some rest) × Appends before after out
+      (out : List ℕ) × (rest : List ℕ) × (left ≡ Some rest)
+      × AnswersFirst asks commands old (Some text) out new (Some rest) × Appends before after out
 
   -- why one request wasn't answered; its reads were counted from its front on
   abbrev pub IsStepRefusal : {R W : Type 0} → Device R → Device R → Device W → Device W
       → Option (List ℕ) → Option (List ℕ) → Option (List ℕ) → Option (List ℕ) → D → D → ServeError → Type 0
   IsStepRefusal reader reader' writer writer' input left before after old new errors.ReadFault =
-      LosesRequest reader reader' × (faults_of writer' ≡ faults_of writer) × IfSome input (λ text. TakesShort text left) × (new ≡ old) × Keeps before after
+      LosesRequest reader reader' × (faults_of writer' ≡ faults_of writer) × IfSome input (λ text. TakesShort text left)
+      × (new ≡ old) × Keeps before after
       × (begun_of reader' ≡ place_of reader)
   IsStepRefusal reader reader' writer writer' input left before after old new errors.WriteFault =
       LosesWriter writer writer' × IsLostSince writer writer' × (faults_of reader' ≡ faults_of reader)
-      × IfSome input (λ text. (out : List ℕ) × (rest : Option (List ℕ)) × AnswersFirst asks commands old (Some text) out new rest × AppendsFront before after out)
+      × IfSome input (λ text. (out : List ℕ) × (rest : Option (List ℕ))
+      × AnswersFirst asks commands old (Some text) out new rest × AppendsFront before after out)

@@ -10,7 +10,9 @@ use Rattle.reg_entries.specs.Sought.{with_id}
 use Rattle.reg_entries.specs.TwoSchemas.{HasTwoSchemas}
 use Rattle.reg_entries.specs.declared.entry.Entry.{Entry}
 use Rattle.reg_inspection.specs.Shared.{SharedIdsNameTwo, SharedIdsRise, are_apart, ids_of, shared_ids}
-use Rattle.reg_inspection.proofs.Members.{IsIn, any_found, any_in, by_bool, contains_in, in_contains, in_filter, in_map, out_of_filter, same_test}
+use Rattle.reg_inspection.proofs.Members.{IsIn, any_found, any_in, by_bool, contains_in}
+use Rattle.reg_inspection.proofs.Members.{in_contains, in_filter, in_map}
+use Rattle.reg_inspection.proofs.Members.{out_of_filter, same_test}
 use Rattle.reg_inspection.proofs.Rising.{rising_in, rising_rises}
 
 number : (a b : ℕ) → (a == b) ≡ true → a ≡ b

@@ -1,5 +1,6 @@
 -- Nothing keeps a log from being taken over exactly where a topic can begin with it.
-use Rattle.std.proofs.Common.{◌≡◌, ℕ, Bool, true, false, not, min, cond, ◌||◌, ◌&&◌, if◌then◌else◌, inl, List, [], ◌∷◌, ◌++◌, map, Option, Some, None, option_and_then, option_map, refl, sym, ap, subst, ◌∙◌}
+use Rattle.std.proofs.Common.{◌≡◌, ℕ, Bool, true, false, not, min, cond, ◌||◌, ◌&&◌, if◌then◌else◌, inl, List, [], ◌∷◌}
+use Rattle.std.proofs.Common.{◌++◌, map, Option, Some, None, option_and_then, option_map, refl, sym, ap, subst, ◌∙◌}
 use Rattle.std.proofs.lemmas.Bool.{false≢true}
 use Rattle.std.specs.List.{cons_option, filter, filter_map, reduce}
 use Rattle.std.specs.Prelude.{bytes_eq, is_some}

@@ -1,5 +1,6 @@
 -- Why a version's record can't be read.
-use Rattle.std.specs.Prelude.{◌≡◌, ℕ, List, true, not, Option, Some, None, is_none, is_some, option_and_then, bytes_eq, codes, if◌then◌else◌}
+use Rattle.std.specs.Prelude.{◌≡◌, ℕ, List, true, not, Option, Some, None, is_none}
+use Rattle.std.specs.Prelude.{is_some, option_and_then, bytes_eq, codes, if◌then◌else◌}
 use Rattle.std.specs.Option.{option_map_or, option_or}
 use Rattle.serde_json.specs.Data.{Data}
 use Rattle.serde_json.specs.Find.{get, as_object}
@@ -16,12 +17,14 @@ use Rattle.reg_inspection.specs.declared.cause.Cause.TheVariants as causes
 
 -- the cause that a type of schemas is, which isn't Avro
 abbrev pub type_cause : List ℕ → Cause
-type_cause name = if bytes_eq name (codes "PROTOBUF") then causes.Protobuf else (if bytes_eq name (codes "JSON") then causes.JsonSchema else causes.OtherType)
+type_cause name = if bytes_eq name (codes "PROTOBUF") then causes.Protobuf
+    else (if bytes_eq name (codes "JSON") then causes.JsonSchema else causes.OtherType)
 
 -- what a version's value has that an Avro schema that stands alone has not
 abbrev pub beyond_avro : Data → Option Cause
 beyond_avro d =
-    if not (is_absent_or is_avro_name (get (codes "schemaType") d)) then Some (option_map_or type_cause (text_at (codes "schemaType") d) causes.OtherType)
+    if not (is_absent_or is_avro_name (get (codes "schemaType") d))
+    then Some (option_map_or type_cause (text_at (codes "schemaType") d) causes.OtherType)
     else (if not (is_absent_or is_empty_list (get (codes "references") d)) then Some causes.References
     else (if not (option_map_or is_null (get (codes "metadata") d) true) then Some causes.Metadata
     else (if not (option_map_or is_null (get (codes "ruleSet") d) true) then Some causes.Rules else None)))
@@ -55,7 +58,9 @@ version_in keys.IdMark = None
 
 -- the first cause that keeps a version's text from being read, if it has a text
 abbrev pub cause_of : Record → Option Cause
-cause_of r = option_and_then (λ v. option_and_then (λ text. option_map_or (cause_in v.0 v.1) (read text) (Some causes.NotJson)) r.value) (version_in r.key)
+cause_of r = option_and_then
+    (λ v. option_and_then (λ text. option_map_or (cause_in v.0 v.1) (read text) (Some causes.NotJson)) r.value)
+    (version_in r.key)
 
 -- a record has a cause exactly where it is opaque
 abbrev pub CausesAreOfOpaque : Type 0

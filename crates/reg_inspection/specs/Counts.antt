@@ -16,7 +16,8 @@ use Rattle.reg_inspection.specs.declared.counts.Counts.{Counts}
 abbrev pub lasts_in : List Read → Records
 lasts_in read = last_records (from_list (records_in read))
 
--- the records, the foreign lines, the floor and the next offset of what lines say, and of the entries es the subjects, the live and the soft-deleted ones, and the ids
+-- the records, the foreign lines, the floor and the next offset of what lines say, and of the
+-- entries es the subjects, the live and the soft-deleted ones, and the ids
 abbrev pub counts_by : ℕ → ℕ → ℕ → ℕ → List Entry → Counts
 counts_by records foreign floor next es = record {
   records = records;

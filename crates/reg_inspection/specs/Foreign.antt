@@ -1,5 +1,6 @@
 -- The foreign lines of a log, by the keytypes of their keys.
-use Rattle.std.specs.Prelude.{◌↔◌, ℕ, List, [], ◌∷◌, Bool, false, ◌==◌, length, map, count_by, codes, Option, option_and_then, if◌then◌else◌}
+use Rattle.std.specs.Prelude.{◌↔◌, ℕ, List, [], ◌∷◌, Bool, false, ◌==◌, length, map}
+use Rattle.std.specs.Prelude.{count_by, codes, Option, option_and_then, if◌then◌else◌}
 use Rattle.std.specs.Cmp.Lexicographic.{slice_cmp}
 use Rattle.std.specs.List.{Contains, filter, slice_get, slice_split}
 use Rattle.std.specs.List.Sorted.{IsStrictlySortedBy}
@@ -57,4 +58,5 @@ TalliesRise = (keytypes : List (Option (List ℕ))) → IsStrictlySortedBy keyty
 
 -- a keytype is in a tally exactly where it was tallied
 abbrev pub TalliesHaveEach : Type 0
-TalliesHaveEach = (keytypes : List (Option (List ℕ))) (keytype : Option (List ℕ)) → Contains (keys_of (tally_of keytypes)) keytype ↔ Contains keytypes keytype
+TalliesHaveEach = (keytypes : List (Option (List ℕ))) (keytype : Option (List ℕ)) → Contains (keys_of (tally_of keytypes)) keytype
+    ↔ Contains keytypes keytype

@@ -1,5 +1,6 @@
 -- What keeps a log from being taken over. Below, rs are the last records.
-use Rattle.std.specs.Prelude.{◌≡◌, ◌↔◌, ℕ, List, [], ◌∷◌, ◌++◌, Bool, true, not, ◌==◌, ◌&&◌, nat_le, nat_lt, Option, option_and_then, option_map, map, codes, decimal, if◌then◌else◌}
+use Rattle.std.specs.Prelude.{◌≡◌, ◌↔◌, ℕ, List, [], ◌∷◌, ◌++◌, Bool, true, not, ◌==◌, ◌&&◌, nat_le, nat_lt}
+use Rattle.std.specs.Prelude.{Option, option_and_then, option_map, map, codes, decimal, if◌then◌else◌}
 use Rattle.std.specs.List.{filter_map, list_all}
 use Rattle.json.specs.Print.{quoted}
 use Rattle.reg_records.specs.declared.record.Record.{Record}
@@ -46,7 +47,8 @@ abbrev pub shown : List ℕ → List ℕ
 shown text = if is_plain text then text else quoted text
 
 abbrev pub opaque_text : ℕ → List ℕ → ℕ → List ℕ
-opaque_text offset subject version = codes "opaque record at " ++ decimal offset ++ codes ": subject " ++ shown subject ++ codes ", version " ++ decimal version
+opaque_text offset subject version = codes "opaque record at " ++ decimal offset ++ codes ": subject " ++ shown subject
+    ++ codes ", version " ++ decimal version
 
 -- its text, without the cause
 abbrev pub obstacle_text : Obstacle → List ℕ

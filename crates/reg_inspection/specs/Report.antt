@@ -17,7 +17,8 @@ lines_text records foreign floor next =
 -- what its versions are
 abbrev pub versions_text : ℕ → ℕ → ℕ → ℕ → List ℕ
 versions_text subjects live deleted ids =
-    codes "subjects: " ++ decimal subjects ++ codes "\nlive versions: " ++ decimal live ++ codes "\nsoft-deleted versions: " ++ decimal deleted
+    codes "subjects: " ++ decimal subjects ++ codes "\nlive versions: " ++ decimal live
+    ++ codes "\nsoft-deleted versions: " ++ decimal deleted
     ++ codes "\nids: " ++ decimal ids ++ codes "\n"
 
 abbrev pub counts_text : Counts → List ℕ

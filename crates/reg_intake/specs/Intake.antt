@@ -1,5 +1,6 @@
 -- Lines of a log as they come.
-use Rattle.std.specs.Prelude.{◌≡◌, ◌⊎◌, ◌<◌, ◌≤◌, ⊤, ℕ, ◌^◌, ◌-◌, ◌++◌, ◌∷◌, ◌&&◌, List, [], length, take, min, nat_eq, codes, Result, Ok, Err, if◌then◌else◌}
+use Rattle.std.specs.Prelude.{◌≡◌, ◌⊎◌, ◌<◌, ◌≤◌, ⊤, ℕ, ◌^◌, ◌-◌, ◌++◌, ◌∷◌, ◌&&◌, List, []}
+use Rattle.std.specs.Prelude.{length, take, min, nat_eq, codes, Result, Ok, Err, if◌then◌else◌}
 use Rattle.std.specs.Result.{result_map_both}
 use Rattle.reg_journal.specs.Lines.{SayLog, text_of}
 use Rattle.reg_records.specs.Device.{counted}
@@ -56,7 +57,8 @@ IsLineFault before line OutOfMemory = ⊤
 -- the line at the front has that fault; one without an LF is too long as soon as it has too many bytes
 abbrev pub HasFaultAtFront : Unread → LogFault → Type 0
 HasFaultAtFront s fault =
-    ((line : List ℕ) × (rest : List ℕ) × (s.bytes ≡ line ++ 10 ∷ rest) × HasNoLineFeed line × (0 < length line) × (said_at s.count line ≡ Err fault))
+    ((line : List ℕ) × (rest : List ℕ) × (s.bytes ≡ line ++ 10 ∷ rest) × HasNoLineFeed line × (0 < length line)
+    × (said_at s.count line ≡ Err fault))
     ⊎ (HasNoLineFeed s.bytes × (LINE_LIMIT < length s.bytes) × (fault ≡ faults.Line TooLong))
 
 -- the next line has that fault, and that number; or memory was refused
@@ -75,5 +77,8 @@ records_of_first n read = records_in (take n read)
 
 -- the first records, so many, and no fewer than those of the first lines, are those of no fewer first lines
 abbrev pub FirstRecordsAreOfFirstLines : Type 0
-FirstRecordsAreOfFirstLines = (read : List Read) (n k : ℕ) → n ≤ length read → length (records_of_first n read) ≤ k → k ≤ length (records_in read)
+FirstRecordsAreOfFirstLines = (read : List Read) (n k : ℕ)
+    → n ≤ length read
+    → length (records_of_first n read) ≤ k
+    → k ≤ length (records_in read)
     → (m : ℕ) × (n ≤ m) × (m ≤ length read) × (take k (records_in read) ≡ records_of_first m read)

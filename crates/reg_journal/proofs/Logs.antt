@@ -1,5 +1,7 @@
 -- What read_log reads of lines and an empty one, and what it has read where it was content.
-use Rattle.std.proofs.Common.{◌≡◌, ◌⊎◌, inl, inr, ⊎_elim, ◌<◌, ◌≤◌, ◌+◌, ◌==◌, ℕ, suc, Bool, cond, true, false, List, [], ◌∷◌, ◌++◌, length, Result, Ok, Err, refl, sym, ap, subst, ◌∙◌, arith, append_assoc, append-nil, decimal, length-append, nat_lt, true≢false}
+use Rattle.std.proofs.Common.{◌≡◌, ◌⊎◌, inl, inr, ⊎_elim, ◌<◌, ◌≤◌, ◌+◌, ◌==◌, ℕ, suc, Bool, cond, true, false, List, [], ◌∷◌, ◌++◌, length}
+use Rattle.std.proofs.Common.{Result, Ok, Err, refl, sym, ap, subst, ◌∙◌, arith, append_assoc, append-nil, decimal, length-append}
+use Rattle.std.proofs.Common.{nat_lt, true≢false}
 use Rattle.std.specs.Prelude.{⊤}
 use Rattle.std.specs.Result.{result_map_both}
 use Rattle.std.specs.List.{slice_split, onto_first, join_with_byte}

@@ -70,7 +70,9 @@ LinesAreRead = (lines : List (List ℕ)) (floor : ℕ) (read : List Read) → Sa
 
 -- so are lines with an empty line and more behind them
 abbrev pub EndedLinesAreRead : Type 0
-EndedLinesAreRead = (lines : List (List ℕ)) (floor : ℕ) (read : List Read) (rest : List ℕ) → SayLog lines floor read → length lines ≤ LOG_LINES
+EndedLinesAreRead = (lines : List (List ℕ)) (floor : ℕ) (read : List Read) (rest : List ℕ)
+    → SayLog lines floor read
+    → length lines ≤ LOG_LINES
     → log_of (text_of lines ++ 10 ∷ rest) ≡ Ok (record { floor = floor; reads = read; rest = rest })
 
 -- a log is lines that say what it says, with an empty line and more behind them, or nothing

@@ -33,12 +33,15 @@ SaysCompactionOrMore before batch file = (kept : Result Said (ℕ × LogFault)) 
 abbrev pub MakesRoom : {D : Type 0} → Type 0 → (D → List ℕ) → Journal D → Journal D → Type 0
 MakesRoom is_modelled seen old new = is_modelled → new.is_broken ≡ false → SaysCompaction (said (seen old.disk)) (said (seen new.disk))
 
--- what the journal's file says after what became of a batch: a compaction of what it said, and all of a batch that was taken behind it, none of it below the floor that is said
+-- what the journal's file says after what became of a batch: a compaction of what it said, and all
+-- of a batch that was taken behind it, none of it below the floor that is said
 abbrev pub Ends : {D : Type 0} → Type 0 → (D → List ℕ) → Journal D → List Record → Kept → Journal D → Type 0
 Ends is_modelled seen old batch Taken new =
     (new.is_broken ≡ false)
-    × (is_modelled → (kept : Result Said (ℕ × LogFault)) × SaysCompaction (said (seen old.disk)) kept × IsFromFloor batch kept × (said (seen new.disk) ≡ with_batch batch kept))
-Ends is_modelled seen old batch (Declined lack) new = (new.is_broken ≡ false) × (is_modelled → SaysCompaction (said (seen old.disk)) (said (seen new.disk)))
+    × (is_modelled → (kept : Result Said (ℕ × LogFault)) × SaysCompaction (said (seen old.disk)) kept
+    × IsFromFloor batch kept × (said (seen new.disk) ≡ with_batch batch kept))
+Ends is_modelled seen old batch (Declined lack) new = (new.is_broken ≡ false)
+    × (is_modelled → SaysCompaction (said (seen old.disk)) (said (seen new.disk)))
 Ends is_modelled seen old batch Lost new = new.is_broken ≡ true
 
 -- a batch that is taken stands in the file, whole, behind what was said or a compaction of it; of one that is declined

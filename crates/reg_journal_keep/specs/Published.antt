@@ -17,4 +17,5 @@ batched (items.Compaction c ∷ is) = batched is
 
 -- unless a batch is lost, the file says a compaction of what it said at first with the batches that are published or pending
 abbrev pub SaysPublished : {D : Type 0} → (D → List ℕ) → Result Said (ℕ × LogFault) → PenState (Journal D) → Type 0
-SaysPublished seen first l = l.lost ≡ false → SaysCompaction (with_batch (batched (l.published ++ l.pending)) first) (said (seen l.keep.disk))
+SaysPublished seen first l = l.lost ≡ false
+    → SaysCompaction (with_batch (batched (l.published ++ l.pending)) first) (said (seen l.keep.disk))

@@ -1,5 +1,6 @@
 -- What stays true of the entries of a cache.
-use Rattle.std.proofs.Common.{◌≡◌, Bool, true, inl, inr, List, [], ◌∷◌, ◌++◌, Some, Result, Ok, Err, MatchResult, IfOk, OnOk, OnErr, is_ok, sym, subst}
+use Rattle.std.proofs.Common.{◌≡◌, Bool, true, inl, inr, List, [], ◌∷◌, ◌++◌, Some, Result, Ok}
+use Rattle.std.proofs.Common.{Err, MatchResult, IfOk, OnOk, OnErr, is_ok, sym, subst}
 use Rattle.std.specs.Map.{lookup, lookup_entry, remove_entry}
 use Rattle.std.proofs.lemmas.List.Elements.{Contains-push_cases}
 use Rattle.lru.specs.LruCache.{LruCache, put_entries}

@@ -1,5 +1,6 @@
 -- A pair that is put among the entries of a cache is used.
-use Rattle.std.proofs.Common.{◌≡◌, ◌-◌, Bool, true, false, List, [], ◌∷◌, Option, Some, None, cond, is_some, take, refl, sym, ap, ◌∙◌, String, ◌&&◌, ◌||◌}
+use Rattle.std.proofs.Common.{◌≡◌, ◌-◌, Bool, true, false, List, [], ◌∷◌, Option, Some, None}
+use Rattle.std.proofs.Common.{cond, is_some, take, refl, sym, ap, ◌∙◌, String, ◌&&◌, ◌||◌}
 use Rattle.std.specs.Prelude.{string_eq}
 use Rattle.std.specs.Option.{option_map_or}
 use Rattle.std.specs.Map.{lookup_entry, remove_entry}

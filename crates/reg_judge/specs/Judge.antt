@@ -1,5 +1,6 @@
 -- What a judge keeps, and what a judgement changes of it.
-use Rattle.std.specs.Prelude.{◌≡◌, ◌≤◌, ◌-◌, ◌⊎◌, ◌&&◌, ⊤, ℕ, List, [], ◌∷◌, Bool, true, cond, bytes_eq, codes, take, map, reverse, flat_map}
+use Rattle.std.specs.Prelude.{◌≡◌, ◌≤◌, ◌-◌, ◌⊎◌, ◌&&◌, ⊤, ℕ, List, [], ◌∷◌, Bool, true}
+use Rattle.std.specs.Prelude.{cond, bytes_eq, codes, take, map, reverse, flat_map}
 use Rattle.std.specs.List.{list_any}
 use Rattle.avro_resolve.specs.Trails.{AreCompatible}
 use Rattle.reg_level_names.specs.declared.level.Level.{Level}

@@ -1,5 +1,7 @@
 -- What a walk over a log leaves is a compaction.
-use Rattle.std.proofs.Common.{◌≡◌, ◌≤◌, ◌<◌, ◌-◌, ◌⊎◌, inl, inr, ⊎_elim, ℕ, suc, zero, Bool, true, false, cond, List, [], ◌∷◌, ◌++◌, length, Option, Some, None, Ok, refl, sym, ap, subst, ◌∙◌, arith, append_assoc, append-nil, length-append, if◌then◌else◌, count_by, ◌+◌}
+use Rattle.std.proofs.Common.{◌≡◌, ◌≤◌, ◌<◌, ◌-◌, ◌⊎◌, inl, inr, ⊎_elim, ℕ, suc, zero, Bool, true, false, cond, List, [], ◌∷◌, ◌++◌, length}
+use Rattle.std.proofs.Common.{Option, Some, None, Ok, refl, sym, ap, subst, ◌∙◌, arith, append_assoc, append-nil, length-append}
+use Rattle.std.proofs.Common.{if◌then◌else◌, count_by, ◌+◌}
 use Rattle.std.proofs.lemmas.Bool.{or_cases, or_left, or_right, false≢true}
 use Rattle.std.proofs.lemmas.Bool.Decides.{nat_tests}
 use Rattle.std.specs.Cmp.{IsTotalOrder}
@@ -28,7 +30,9 @@ use Rattle.reg_keeping.proofs.Fronts.{Say-length, text_of-append}
 use Rattle.reg_keeping.proofs.Full.{all_kept}
 use Rattle.reg_keeping.proofs.Kept.{Has, has_kept, kept_has, kept_say}
 use Rattle.reg_keeping.proofs.Lasts.{HasOneAKey, same_itself, same_record}
-use Rattle.reg_keeping.proofs.Offsets.{HasAt, HasForeignAt, IsCarried, above_it, at_top, below_top, carried, foreign_at, foreign_or_record, foreign_there, has_top, kept_at, no_later, no_lines, none_carried_at, not_at_top, record_at, same_next}
+use Rattle.reg_keeping.proofs.Offsets.{HasAt, HasForeignAt, IsCarried, above_it, at_top, below_top, carried, foreign_at, foreign_or_record}
+use Rattle.reg_keeping.proofs.Offsets.{foreign_there, has_top, kept_at, no_later, no_lines, none_carried_at, not_at_top}
+use Rattle.reg_keeping.proofs.Offsets.{record_at, same_next}
 use Rattle.reg_keeping.proofs.Walked.{none_carried, none_kept, none_on_top}
 use Rattle.reg_keeping.proofs.Counts.{all_counted}
 use Rattle.reg_keeping.proofs.Sizes.{count_of, no_longer, no_more, size_of}

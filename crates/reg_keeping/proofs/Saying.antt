@@ -1,5 +1,6 @@
 -- What a compaction says, and with batches behind it.
-use Rattle.std.proofs.Common.{◌≡◌, ◌≤◌, ⊎_elim, Some, None, true, ◌++◌, ◌||◌, ℕ, suc, List, [], ◌∷◌, Result, Ok, max, refl, sym, ap, ap₂, subst, subst₂, ◌∙◌, arith}
+use Rattle.std.proofs.Common.{◌≡◌, ◌≤◌, ⊎_elim, Some, None, true, ◌++◌, ◌||◌, ℕ, suc, List, [], ◌∷◌}
+use Rattle.std.proofs.Common.{Result, Ok, max, refl, sym, ap, ap₂, subst, subst₂, ◌∙◌, arith}
 use Rattle.std.proofs.lemmas.Bool.{or_cases, false≢true}
 use Rattle.std.proofs.lemmas.List.Elements.{All-head, All-tail}
 use Rattle.std.proofs.lemmas.List.Folds.{list_any-append}
@@ -16,12 +17,16 @@ use Rattle.reg_records.specs.declared.log.LogFault.{LogFault}
 use Rattle.reg_records.specs.declared.record.Read.{Read}
 use Rattle.reg_records.specs.declared.record.Record.{Record}
 use Rattle.reg_kept.specs.Compaction.{IsCompactionOf}
-use Rattle.reg_kept.specs.Laws.{CompactedToFloorIsCompaction, CompactionsCompose, EachIsItsOwnCompaction, LaterRecordsMayJoin, LastRecordsAreCompaction}
+use Rattle.reg_kept.specs.Laws.{CompactedToFloorIsCompaction, CompactionsCompose}
+use Rattle.reg_kept.specs.Laws.{EachIsItsOwnCompaction}
+use Rattle.reg_kept.specs.Laws.{LaterRecordsMayJoin, LastRecordsAreCompaction}
 use Rattle.reg_set.specs.RecordOrder.{key_cmp, record_cmp}
 use Rattle.reg_set.specs.Records.{Records}
 use Rattle.reg_keeping.specs.Compacted.{IsCompacted}
 use Rattle.reg_keeping.specs.CompactedTo.{IsCompactedTo}
-use Rattle.reg_keeping.specs.Said.{BatchesFollowCompactions, CompactedFilesSayIt, EachSaysItsOwnCompaction, IsFromFloor, SaidCompactionsCompose, SaysCompaction, floored}
+use Rattle.reg_keeping.specs.Said.{BatchesFollowCompactions, CompactedFilesSayIt}
+use Rattle.reg_keeping.specs.Said.{EachSaysItsOwnCompaction, IsFromFloor, SaidCompactionsCompose}
+use Rattle.reg_keeping.specs.Said.{SaysCompaction, floored}
 use Rattle.reg_keeping.proofs.Lasts.{same_record}
 
 abbrev Outcome : Type 0

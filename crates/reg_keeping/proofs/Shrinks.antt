@@ -1,5 +1,6 @@
 -- What a journal's file is once it is compacted.
-use Rattle.std.proofs.Common.{◌≡◌, inl, inr, ⊎_elim, Option, Some, None, ◌+◌, ◌-◌, ◌++◌, ℕ, false, List, [], ◌∷◌, Ok, Err, length, take, sym, ap, subst, ◌∙◌, arith, length-append, count_by, true≢false}
+use Rattle.std.proofs.Common.{◌≡◌, inl, inr, ⊎_elim, Option, Some, None, ◌+◌, ◌-◌, ◌++◌, ℕ, false, List, [], ◌∷◌, Ok}
+use Rattle.std.proofs.Common.{Err, length, take, sym, ap, subst, ◌∙◌, arith, length-append, count_by, true≢false}
 use Rattle.std.proofs.lemmas.List.{take_at}
 use Rattle.reg_journal.specs.Disk.{Only}
 use Rattle.reg_journal.specs.Journal.{IsSettled}

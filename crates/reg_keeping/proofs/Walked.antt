@@ -1,5 +1,6 @@
 -- How a walk goes on.
-use Rattle.std.proofs.Common.{◌≡◌, ◌<◌, ◌+◌, ℕ, Bool, true, false, cond, List, [], ◌∷◌, ◌++◌, length, Option, Some, refl, sym, ap, ◌∙◌, arith, append_assoc, append-nil, take, drop, ◌-◌, length-append}
+use Rattle.std.proofs.Common.{◌≡◌, ◌<◌, ◌+◌, ℕ, Bool, true, false, cond, List, [], ◌∷◌, ◌++◌, length, Option, Some}
+use Rattle.std.proofs.Common.{refl, sym, ap, ◌∙◌, arith, append_assoc, append-nil, take, drop, ◌-◌, length-append}
 use Rattle.std.proofs.lemmas.List.{drop_at, take_all, take_at}
 use Rattle.std.specs.Option.{option_map_or}
 use Rattle.reg_journal.specs.Lines.{Say, text_of}

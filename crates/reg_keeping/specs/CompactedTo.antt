@@ -1,5 +1,6 @@
 -- What compacting a log to a floor makes of it, or why it isn't compacted.
-use Rattle.std.specs.Prelude.{◌≡◌, ◌⊎◌, ◌≤◌, ◌<◌, ℕ, ◌+◌, List, [], ◌∷◌, ◌++◌, length, count_by, nat_eq, Option, Some, None, Ok, if◌then◌else◌}
+use Rattle.std.specs.Prelude.{◌≡◌, ◌⊎◌, ◌≤◌, ◌<◌, ℕ, ◌+◌, List, [], ◌∷◌, ◌++◌, length}
+use Rattle.std.specs.Prelude.{count_by, nat_eq, Option, Some, None, Ok, if◌then◌else◌}
 use Rattle.std.specs.FinSet.{from_list}
 use Rattle.reg_journal.specs.Found.{HasFault}
 use Rattle.reg_journal.specs.Lines.{text_of}
@@ -16,7 +17,8 @@ use Rattle.reg_keeping.specs.declared.to_floor.ToFloorError.TheVariants.{Log, Fl
 abbrev pub floor_lines : ℕ → List (List ℕ)
 floor_lines floor = if nat_eq floor 0 then [] else floor_text floor ∷ []
 
--- the output is a log with the given floor, which the input may have, whose records are those that compacting to it keeps of the input's, and whose next offset is the same, in no more bytes than the input and the floor's line
+-- the output is a log with the given floor, which the input may have, whose records are those that compacting to it keeps of
+-- the input's, and whose next offset is the same, in no more bytes than the input and the floor's line
 pub record IsCompactedTo (given : ℕ) (input output : List ℕ) : Type 0 where
   pub log : LogText
   pub read : log_of input ≡ Ok log
@@ -30,7 +32,8 @@ pub record IsCompactedTo (given : ℕ) (input output : List ℕ) : Type 0 where
   pub next : next_of out.floor out.reads ≡ next_of log.floor log.reads
   pub small : length output ≤ length (text_of (floor_lines given)) + length input
 
--- the log may have that floor, and the floor has a line, but the log has as many other lines as a log may have, and each of their records stays
+-- the log may have that floor, and the floor has a line, but the log has as many
+-- other lines as a log may have, and each of their records stays
 pub record HasNoRoom (text : List ℕ) (given : ℕ) : Type 0 where
   pub log : LogText
   pub read : log_of text ≡ Ok log
@@ -44,12 +47,14 @@ pub record HasNoRoom (text : List ℕ) (given : ℕ) : Type 0 where
 abbrev pub IsToFloorRefusal : List ℕ → ℕ → ToFloorError → Type 0
 IsToFloorRefusal text given (Log e) = HasFault text e
 IsToFloorRefusal text given (FloorBelow own) = (log : LogText) × (log_of text ≡ Ok log) × (own ≡ log.floor) × (given < own)
-IsToFloorRefusal text given (FloorAhead next) = (log : LogText) × (log_of text ≡ Ok log) × (next ≡ next_of log.floor log.reads) × (next < given)
+IsToFloorRefusal text given (FloorAhead next) = (log : LogText) × (log_of text ≡ Ok log)
+    × (next ≡ next_of log.floor log.reads) × (next < given)
 IsToFloorRefusal text given NoRoom = HasNoRoom text given
 
 -- the log can't have that floor: it is lower than its own, or above its next offset, or there is no room for its line
 abbrev pub LacksFloor : List ℕ → ℕ → Type 0
-LacksFloor text given = ((log : LogText) × (log_of text ≡ Ok log) × ((given < log.floor) ⊎ (next_of log.floor log.reads < given))) ⊎ HasNoRoom text given
+LacksFloor text given = ((log : LogText) × (log_of text ≡ Ok log) × ((given < log.floor) ⊎ (next_of log.floor log.reads < given)))
+    ⊎ HasNoRoom text given
 
 -- a compaction to the floor that is asked for; where none is, or the log can't have it, one at its own
 abbrev pub IsCompactedBy : Option ℕ → List ℕ → List ℕ → Type 0

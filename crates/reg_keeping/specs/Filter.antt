@@ -7,7 +7,11 @@ use Rattle.reg_records.specs.declared.log.LogError.{LogError}
 use Rattle.reg_records.specs.declared.log.LogError.TheVariants as logs
 use Rattle.reg_keeping.specs.CompactedTo.{IsToFloorRefusal}
 use Rattle.reg_keeping.specs.declared.filter.FilterError.{FilterError}
-use Rattle.reg_keeping.specs.declared.filter.FilterError.TheVariants.{Log, ReadFault, WriteFault, FloorBelow, FloorAhead, NoRoom, OutOfMemory}
+use Rattle.reg_keeping.specs.declared.filter.FilterError.TheVariants.{Log, ReadFault}
+use Rattle.reg_keeping.specs.declared.filter.FilterError.TheVariants.{WriteFault}
+use Rattle.reg_keeping.specs.declared.filter.FilterError.TheVariants.{FloorBelow}
+use Rattle.reg_keeping.specs.declared.filter.FilterError.TheVariants.{FloorAhead}
+use Rattle.reg_keeping.specs.declared.filter.FilterError.TheVariants.{NoRoom, OutOfMemory}
 use Rattle.reg_keeping.specs.declared.to_floor.ToFloorError.{ToFloorError}
 use Rattle.reg_keeping.specs.declared.to_floor.ToFloorError.TheVariants as floors
 
@@ -26,8 +30,10 @@ abbrev pub IsFilterRefusalTo : ℕ → Option (List ℕ) → Option (List ℕ) �
 IsFilterRefusalTo floor input old new (Log line fault) = IsFilterRefusal input old new (Log line fault)
 IsFilterRefusalTo floor input old new ReadFault = IsFilterRefusal input old new ReadFault
 IsFilterRefusalTo floor input old new WriteFault = IsFilterRefusal input old new WriteFault
-IsFilterRefusalTo floor input old new (FloorBelow own) = IfSome input (λ text. IsToFloorRefusal text floor (floors.FloorBelow own)) × Keeps old new
-IsFilterRefusalTo floor input old new (FloorAhead next) = IfSome input (λ text. IsToFloorRefusal text floor (floors.FloorAhead next)) × Keeps old new
+IsFilterRefusalTo floor input old new (FloorBelow own) = IfSome input (λ text. IsToFloorRefusal text floor (floors.FloorBelow own))
+    × Keeps old new
+IsFilterRefusalTo floor input old new (FloorAhead next) = IfSome input (λ text. IsToFloorRefusal text floor (floors.FloorAhead next))
+    × Keeps old new
 IsFilterRefusalTo floor input old new NoRoom = IfSome input (λ text. IsToFloorRefusal text floor floors.NoRoom) × Keeps old new
 IsFilterRefusalTo floor input old new OutOfMemory = IsFilterRefusal input old new OutOfMemory
 

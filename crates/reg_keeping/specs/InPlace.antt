@@ -30,7 +30,8 @@ pub record IsAsItWas {D : Type 0} (is_modelled : Type 0) (seen : D → List ℕ)
   pub is_broken : new.is_broken ≡ old.is_broken
 
 -- the file is a compaction of what it was, of so many lines
-pub record IsShrunk {D : Type 0} (is_modelled : Type 0) (seen : D → List ℕ) (floor : Option ℕ) (old : Journal D) (kept : ℕ) (new : Journal D) : Type 0 where
+pub record IsShrunk {D : Type 0} (is_modelled : Type 0) (seen : D → List ℕ) (floor : Option ℕ) (old : Journal D)
+    (kept : ℕ) (new : Journal D) : Type 0 where
   pub compacted : is_modelled → IsCompactedBy floor (seen old.disk) (seen new.disk)
   pub lines : new.lines ≡ kept
   pub is_broken : new.is_broken ≡ false

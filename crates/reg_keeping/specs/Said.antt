@@ -36,9 +36,14 @@ EachSaysItsOwnCompaction = (says : Said) → SaysCompaction (Ok says) (Ok says)
 
 -- a compaction of a compaction is one of the whole
 abbrev pub SaidCompactionsCompose : Type 0
-SaidCompactionsCompose = (first next last : Result Said (ℕ × LogFault)) → SaysCompaction first next → SaysCompaction next last → SaysCompaction first last
+SaidCompactionsCompose = (first next last : Result Said (ℕ × LogFault))
+    → SaysCompaction first next
+    → SaysCompaction next last
+    → SaysCompaction first last
 
 -- a batch may be added to a compaction in place of the whole, where none of it is below the compaction's floor
 abbrev pub BatchesFollowCompactions : Type 0
-BatchesFollowCompactions = (batch : List Record) (before now : Result Said (ℕ × LogFault)) → SaysCompaction before now → IsFromFloor batch now
+BatchesFollowCompactions = (batch : List Record) (before now : Result Said (ℕ × LogFault))
+    → SaysCompaction before now
+    → IsFromFloor batch now
     → SaysCompaction (with_batch batch before) (with_batch batch now)

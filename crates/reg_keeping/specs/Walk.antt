@@ -1,5 +1,6 @@
 -- Private: what a walk over the lines of a log keeps.
-use Rattle.std.specs.Prelude.{◌≡◌, ℕ, List, [], ◌∷◌, ◌++◌, Bool, false, ◌&&◌, ◌||◌, Option, Some, None, nat_eq, option_map, unwrap_or, if◌then◌else◌}
+use Rattle.std.specs.Prelude.{◌≡◌, ℕ, List, [], ◌∷◌, ◌++◌, Bool, false, ◌&&◌, ◌||◌, Option}
+use Rattle.std.specs.Prelude.{Some, None, nat_eq, option_map, unwrap_or, if◌then◌else◌}
 use Rattle.std.specs.FinSet.{contains}
 use Rattle.std.specs.Option.{option_map_or}
 use Rattle.reg_journal.specs.Lines.{text_of}
@@ -25,11 +26,13 @@ abbrev pub kept_lines : Records → List (List ℕ) → List Read → List (List
 kept_lines waiting [] more = []
 kept_lines waiting (line ∷ lines) [] = []
 kept_lines waiting (line ∷ lines) (read ∷ more) =
-    if is_kept waiting read then line ∷ kept_lines (waiting_after waiting read) lines more else kept_lines (waiting_after waiting read) lines more
+    if is_kept waiting read then line
+    ∷ kept_lines (waiting_after waiting read) lines more else kept_lines (waiting_after waiting read) lines more
 
 abbrev pub kept_reads : Records → List Read → List Read
 kept_reads waiting [] = []
-kept_reads waiting (read ∷ more) = if is_kept waiting read then read ∷ kept_reads (waiting_after waiting read) more else kept_reads (waiting_after waiting read) more
+kept_reads waiting (read ∷ more) = if is_kept waiting read then read
+    ∷ kept_reads (waiting_after waiting read) more else kept_reads (waiting_after waiting read) more
 
 -- the line has that offset
 abbrev pub is_at : Option ℕ → Read → Bool
@@ -38,7 +41,8 @@ is_at top read = option_map_or (nat_eq (offset_in read)) top false
 -- whether a line is kept that has that offset
 abbrev pub top_after : Option ℕ → Records → List Read → Bool → Bool
 top_after top waiting [] before = before
-top_after top waiting (read ∷ more) before = top_after top (waiting_after waiting read) more (before || (is_kept waiting read && is_at top read))
+top_after top waiting (read ∷ more) before = top_after top (waiting_after waiting read) more
+    (before || (is_kept waiting read && is_at top read))
 
 -- a foreign line that has it, with its LF
 abbrev pub carried_after : Option ℕ → List ℕ → Read → Option (List ℕ) → Option (List ℕ)

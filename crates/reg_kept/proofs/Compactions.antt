@@ -1,5 +1,6 @@
 -- Compactions of sets with floors, from the laws of last records.
-use Rattle.std.proofs.Common.{◌≡◌, ◌≤◌, ◌<◌, ℕ, min, Bool, true, false, not, ◌⊎◌, inl, inr, ⊎_elim, Option, None, Some, IfSome, is_none, is_some, nat_le, nat_lt, refl, sym, ap, subst, ◌∙◌, unwrap_or, arith}
+use Rattle.std.proofs.Common.{◌≡◌, ◌≤◌, ◌<◌, ℕ, min, Bool, true, false, not, ◌⊎◌, inl, inr, ⊎_elim, Option, None, Some}
+use Rattle.std.proofs.Common.{IfSome, is_none, is_some, nat_le, nat_lt, refl, sym, ap, subst, ◌∙◌, unwrap_or, arith}
 use Rattle.std.proofs.lemmas.Bool.{false≢true, le-leb, leb-true, lt-ltb, ltb-true}
 use Rattle.std.proofs.lemmas.Bool.Decides.{leb_tells}
 use Rattle.std.proofs.lemmas.Map.Keys.{le_from_is_le}
@@ -19,8 +20,11 @@ use Rattle.reg_set.specs.Compaction.{IsGone, deletes_below}
 use Rattle.reg_kept.specs.Compaction.{IsCompactionOf, standing}
 use Rattle.reg_kept.specs.Floored.{Floored}
 use Rattle.reg_kept.specs.Floors.{below, compacted_to, from_floor, merged, rebased}
-use Rattle.reg_kept.specs.Laws.{CompactedToFloorIsCompaction, CompactionsCompose, CompactionsUnite, EachIsItsOwnCompaction, LastOfCompaction, LastRecordsOfRebased, LaterRecordsMayJoin, RebasingKeepsLasts, StandingOfCompaction}
-use Rattle.reg_kept.proofs.Sets.{first_of, second_of, in_either, in_left, in_part, in_right, itself, of_part, one_set, passes_of_part, same_record}
+use Rattle.reg_kept.specs.Laws.{CompactedToFloorIsCompaction, CompactionsCompose, CompactionsUnite, EachIsItsOwnCompaction}
+use Rattle.reg_kept.specs.Laws.{LastOfCompaction, LastRecordsOfRebased, LaterRecordsMayJoin}
+use Rattle.reg_kept.specs.Laws.{RebasingKeepsLasts, StandingOfCompaction}
+use Rattle.reg_kept.proofs.Sets.{first_of, second_of, in_either, in_left, in_part, in_right}
+use Rattle.reg_kept.proofs.Sets.{itself, of_part, one_set, passes_of_part, same_record}
 
 -- what holds where there is a value
 pub if_some : {X : Type 0} (o : Option X) (P : X → Type 0) → ((x : X) → o ≡ Some x → P x) → IfSome o P

@@ -4,7 +4,8 @@ use Rattle.std.proofs.lemmas.Bool.{false≢true}
 use Rattle.std.proofs.lemmas.Cmp.{tied_itself}
 use Rattle.std.proofs.lemmas.Map.Views.{any-filter_same}
 use Rattle.std.specs.Cmp.{IsTotalOrder}
-use Rattle.std.specs.FinSet.{IsAntisymmetric, contains, from_list, retain, union, contains-from_list, contains-retain, contains-union, same_set}
+use Rattle.std.specs.FinSet.{IsAntisymmetric, contains, from_list, retain, union}
+use Rattle.std.specs.FinSet.{contains-from_list, contains-retain, contains-union, same_set}
 use Rattle.std.specs.List.{AllByRecursion, filter, list_all, list_any}
 use Rattle.std.specs.Ordering.{eq_by_cmp, is_eq}
 use Rattle.std.specs.declared.cmp.Ordering.{Ordering}

@@ -78,4 +78,5 @@ RebasingKeepsLasts = (C R : Records) (other : Floored) → KeepsLasts C R → Ke
 
 -- the last records of a rebased set are those of its last records, rebased likewise
 abbrev pub LastRecordsOfRebased : Type 0
-LastRecordsOfRebased = (own : Records) (other : Floored) → last_records (rebased (last_records own) other) ≡ last_records (rebased own other)
+LastRecordsOfRebased = (own : Records) (other : Floored)
+    → last_records (rebased (last_records own) other) ≡ last_records (rebased own other)

@@ -1,5 +1,6 @@
 -- What is chosen among the elements of a list has what all of them have.
-use Rattle.std.proofs.Common.{◌≡◌, ◌⊎◌, inl, inr, ⊎_elim, ℕ, ◌≤◌, min, max, Bool, true, false, cond, nat_le, List, [], ◌∷◌, map, fold, Some, None, All, find, refl, sym, subst, ◌∙◌, arith}
+use Rattle.std.proofs.Common.{◌≡◌, ◌⊎◌, inl, inr, ⊎_elim, ℕ, ◌≤◌, min, max, Bool, true, false, cond, nat_le}
+use Rattle.std.proofs.Common.{List, [], ◌∷◌, map, fold, Some, None, All, find, refl, sym, subst, ◌∙◌, arith}
 use Rattle.std.proofs.lemmas.Bool.{false≢true}
 use Rattle.std.proofs.lemmas.List.Elements.{All-nil, All-cons, All-head, All-tail}
 use Rattle.std.specs.List.{filter, reduce}

@@ -1,5 +1,6 @@
 -- Whether a subject has a live entry, told by a list of its entries.
-use Rattle.std.proofs.Common.{◌≡◌, ℕ, ◌==◌, ◌&&◌, ◌||◌, not, bytes_eq, cond, Bool, true, false, List, [], ◌∷◌, length, map, Some, refl, sym, ap, ◌∙◌}
+use Rattle.std.proofs.Common.{◌≡◌, ℕ, ◌==◌, ◌&&◌, ◌||◌, not, bytes_eq, cond, Bool, true}
+use Rattle.std.proofs.Common.{false, List, [], ◌∷◌, length, map, Some, refl, sym, ap, ◌∙◌}
 use Rattle.std.proofs.Math.Dec.{eqb-suc-zero}
 use Rattle.std.proofs.lemmas.List.{length-map}
 use Rattle.std.specs.List.{filter, list_any}

@@ -1,5 +1,6 @@
 -- Which schemas ids name in a registry that isn't closed.
-use Rattle.std.proofs.Common.{◌≡◌, ℕ, suc, ◌≤◌, max, min, Bool, true, false, ◌==◌, ◌||◌, not, is_some, List, map, bytes_eq, Option, Some, None, All, Contains, unwrap_or, refl, sym, ap, ◌∙◌, arith, eq-eqb, eqb-true}
+use Rattle.std.proofs.Common.{◌≡◌, ℕ, suc, ◌≤◌, max, min, Bool, true, false, ◌==◌, ◌||◌, not, is_some, List, map, bytes_eq}
+use Rattle.std.proofs.Common.{Option, Some, None, All, Contains, unwrap_or, refl, sym, ap, ◌∙◌, arith, eq-eqb, eqb-true}
 use Rattle.std.proofs.lemmas.Bool.{false≢true}
 use Rattle.std.proofs.lemmas.List.Elements.{All-contains, All-contains_itself, All-filter, All-map, filter_passes}
 use Rattle.std.proofs.lemmas.Slice.Eq.{bytes_eq-Decides}

@@ -1,5 +1,6 @@
 -- Which kinds of batches there are: one version, perhaps after a mark; removals after a mark; or records of other keys.
-use Rattle.std.proofs.Common.{◌≡◌, ◌⊎◌, inl, inr, ℕ, suc, ◌<◌, nat_lt, ◌==◌, ◌||◌, Bool, true, false, cond, List, [], ◌∷◌, ◌++◌, map, Option, Some, None, is_some, unwrap_or, Contains, eqb-true, arith, option_map, refl, sym, ◌∙◌}
+use Rattle.std.proofs.Common.{◌≡◌, ◌⊎◌, inl, inr, ℕ, suc, ◌<◌, nat_lt, ◌==◌, ◌||◌, Bool, true, false, cond, List, [], ◌∷◌, ◌++◌, map}
+use Rattle.std.proofs.Common.{Option, Some, None, is_some, unwrap_or, Contains, eqb-true, arith, option_map, refl, sym, ◌∙◌}
 use Rattle.std.proofs.lemmas.Bool.{false≢true, ltb-true, or_cases}
 use Rattle.std.specs.List.{AllByRecursion, filter}
 use Rattle.avro_schema.specs.Schema.{Meaning, schema_of}
@@ -27,7 +28,8 @@ use Rattle.reg_rules.specs.Writings.{removed}
 use Rattle.reg_rules.specs.declared.writing.Writing.{Writing}
 use Rattle.reg_set.specs.Records.{Records}
 use Rattle.reg_leader.specs.Course.{Course}
-use Rattle.reg_leader.specs.Step.{course_of, delete_all, delete_entry, delete_subject, delete_version, import_as, import_register, mark_over, marked, register, writes}
+use Rattle.reg_leader.specs.Step.{course_of, delete_all, delete_entry, delete_subject, delete_version}
+use Rattle.reg_leader.specs.Step.{import_as, import_register, mark_over, marked, register, writes}
 use Rattle.reg_leader.specs.declared.command.Command.{Command}
 use Rattle.reg_leader.specs.declared.command.Command.TheVariants as commands
 use Rattle.reg_leader.specs.declared.reply.Reply.{Reply}

@@ -1,4 +1,5 @@
--- Which sets of records a topic can begin with, and what it begins with beside them. Below, rs are the last records and next is the next offset.
+-- Which sets of records a topic can begin with, and what it begins with beside them.
+-- Below, rs are the last records and next is the next offset.
 use Rattle.std.specs.Prelude.{◌≡◌, ◌<◌, ◌≤◌, ⊤, ℕ, List, [], ◌∷◌, true, false, Some, None, codes, unwrap_or, if◌then◌else◌}
 use Rattle.reg_fold.specs.Closed.{is_closed, two_schemas}
 use Rattle.reg_fold.specs.IdMark.{needs_mark}

@@ -23,7 +23,8 @@ is_delete keys.IdMark = false
 pub record IsSoftDelete (rs : Records) (n : ℕ) (batch : List Record) : Type 0 where
   pub subject : List ℕ
   pub greatest : ℕ
-  pub one_record : batch ≡ record { offset = n; key = keys.DeleteSubject subject; value = written_value (values.DeleteSubject subject greatest) } ∷ []
+  pub one_record : batch
+      ≡ record { offset = n; key = keys.DeleteSubject subject; value = written_value (values.DeleteSubject subject greatest) } ∷ []
   pub is_greatest : greatest_version rs subject ≡ Some greatest
   pub greatest_fits : IsVersionOrId greatest
 

@@ -27,7 +27,12 @@ pub record IsOneVersion (rs : Records) (n : ℕ) (batch : List Record) : Type 0 
   pub deleted : Bool
   pub first : List Record
   pub are_quiet : All IsQuiet first
-  pub one_record : batch ≡ first ++ record { offset = n + length first; key = keys.Schema subject version; value = written_value (values.Schema subject version id text deleted) } ∷ []
+  pub one_record : batch ≡ first ++ record {
+    offset = n + length first;
+    key = keys.Schema subject version;
+    value = written_value
+        (values.Schema subject version id text deleted);
+  } ∷ []
   pub version_fits : IsVersionOrId version
   pub id_fits : IsVersionOrId id
   pub schema : Meaning
@@ -39,4 +44,6 @@ IsHarmless rs n batch = All IsQuiet batch ⊎ IsOneVersion rs n batch
 
 -- whatever a command writes is harmless
 abbrev pub StepsAreHarmless : Type 0
-StepsAreHarmless = (rs : Records) (n : ℕ) (c : Command) (reply : Reply) (batch : List Record) → IsStep rs n c reply batch → IsHarmless rs n batch
+StepsAreHarmless = (rs : Records) (n : ℕ) (c : Command) (reply : Reply) (batch : List Record)
+    → IsStep rs n c reply batch
+    → IsHarmless rs n batch

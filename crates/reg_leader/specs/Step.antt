@@ -23,7 +23,9 @@ use Rattle.reg_leader.specs.Course.{Course, Refused, Does, IfMet, IsOutcome, ◌
 use Rattle.reg_rules.specs.Standing.{has_schema, id_for, is_of, newest, next_version, standing, texts_of, version_meant}
 use Rattle.reg_rules.specs.Tests as test
 use Rattle.reg_rules.specs.Tests.{refuse_if, refuse_unless}
-use Rattle.reg_rules.specs.Writings.{deleted_again, deleted_up_to, id_marked, level_cleared, level_set, mode_cleared, mode_set, no_operation, removed, version_of}
+use Rattle.reg_rules.specs.Writings.{deleted_again, deleted_up_to, id_marked, level_cleared}
+use Rattle.reg_rules.specs.Writings.{level_set, mode_cleared, mode_set, no_operation}
+use Rattle.reg_rules.specs.Writings.{removed, version_of}
 use Rattle.reg_rules.specs.declared.writing.Writing.{Writing}
 use Rattle.reg_leader.specs.declared.command.Command.{Command}
 use Rattle.reg_leader.specs.declared.command.Command.TheVariants as commands
@@ -137,7 +139,8 @@ module _ (rs : Records) (n : ℕ) where
       test.is_open rs
       ▸ test.has_offset n
       ▸ writing (mode rs (Some subject))
-      ▸ where_found (own_level rs (Some subject)) (λ level. Does (replies.LevelRemoved level) (level_cleared subject ∷ [])) (Refused refusals.SubjectHasNoLevel)
+      ▸ where_found (own_level rs (Some subject))
+      (λ level. Does (replies.LevelRemoved level) (level_cleared subject ∷ [])) (Refused refusals.SubjectHasNoLevel)
 
   abbrev pub set_mode : Scope → Mode → Bool → Course
   set_mode scope mode force =
@@ -150,7 +153,8 @@ module _ (rs : Records) (n : ℕ) where
   clear_mode subject =
       test.is_open rs
       ▸ test.has_offset n
-      ▸ where_found (own_mode rs (Some subject)) (λ mode. Does (replies.ModeRemoved mode) (mode_cleared subject ∷ [])) (Refused refusals.SubjectHasNoMode)
+      ▸ where_found (own_mode rs (Some subject)) (λ mode. Does (replies.ModeRemoved mode) (mode_cleared subject ∷ []))
+      (Refused refusals.SubjectHasNoMode)
 
   abbrev pub no_op : Course
   no_op = test.is_open rs ▸ test.has_offset n ▸ Does replies.Nothing (no_operation ∷ [])

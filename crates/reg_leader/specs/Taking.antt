@@ -39,7 +39,8 @@ Takes course (Err refusal) = (refusal ≡ no_memory) ⊎ IsRefusal course refusa
 
 -- what follows for a schema that is to be registered and isn't live
 abbrev pub if_met : Records → List ℕ → List ℕ → Course
-if_met rs subject normal = IfMet (level rs (Some subject)) normal (texts_of (live rs subject)) (writes [] subject normal (id_for rs normal) (next_version rs subject))
+if_met rs subject normal = IfMet (level rs (Some subject)) normal (texts_of (live rs subject))
+    (writes [] subject normal (id_for rs normal) (next_version rs subject))
 
 -- what comes before that
 abbrev pub before : Records → ℕ → List ℕ → List ℕ → (List ℕ → Course) → Course
@@ -49,9 +50,12 @@ before rs n subject text checked =
     ▸ test.is_open rs
     ▸ test.has_offset n
     ▸ registering (mode rs (Some subject)) false
-    ▸ where_found (newest (filter (has_schema schema.normal_text) (live rs subject))) (λ same. Does (replies.Id same.id) []) (checked schema.normal_text))
+    ▸ where_found (newest (filter (has_schema schema.normal_text) (live rs subject)))
+    (λ same. Does (replies.Id same.id) []) (checked schema.normal_text))
 
 abbrev pub IsBefore : Records → ℕ → List ℕ → List ℕ → Result Settled Refusal → Type 0
 IsBefore rs n subject text (Ok (found.Live id)) = (checked : List ℕ → Course) → before rs n subject text checked ≡ Does (replies.Id id) []
-IsBefore rs n subject text (Ok (found.New schema)) = (checked : List ℕ → Course) → before rs n subject text checked ≡ checked schema.normal_text
-IsBefore rs n subject text (Err refusal) = (refusal ≡ no_memory) ⊎ ((checked : List ℕ → Course) → before rs n subject text checked ≡ Refused refusal)
+IsBefore rs n subject text (Ok (found.New schema)) = (checked : List ℕ → Course)
+    → before rs n subject text checked ≡ checked schema.normal_text
+IsBefore rs n subject text (Err refusal) = (refusal ≡ no_memory)
+    ⊎ ((checked : List ℕ → Course) → before rs n subject text checked ≡ Refused refusal)

@@ -1,5 +1,6 @@
 -- The old versions that a level looks at decide.
-use Rattle.std.proofs.Common.{◌≡◌, ℕ, zero, suc, ◌<◌, Bool, true, false, not, cond, List, [], ◌∷◌, length, map, reverse, drop, get_or, Some, None, option_map, refl, sym, ap, subst, ◌∙◌, flat_map, arith}
+use Rattle.std.proofs.Common.{◌≡◌, ℕ, zero, suc, ◌<◌, Bool, true, false, not, cond, List, [], ◌∷◌, length, map, reverse}
+use Rattle.std.proofs.Common.{drop, get_or, Some, None, option_map, refl, sym, ap, subst, ◌∙◌, flat_map, arith}
 use Rattle.std.proofs.lemmas.List.{drop-map, length-map}
 use Rattle.std.specs.List.{find}
 use Rattle.avro_schema.specs.Schema.{is_schema}

@@ -1,5 +1,6 @@
 -- What a schema is checked against.
-use Rattle.std.proofs.Common.{◌≡◌, ◌<◌, ℕ, [], ◌∷◌, List, Bor, true, false, not, cond, is_some, All, None, Some, Ok, Err, IfErr, Result, map, option_map, bytes_eq, refl, sym, ap, subst, ◌∙◌, arith}
+use Rattle.std.proofs.Common.{◌≡◌, ◌<◌, ℕ, [], ◌∷◌, List, Bor, true, false, not, cond, is_some, All, None, Some, Ok}
+use Rattle.std.proofs.Common.{Err, IfErr, Result, map, option_map, bytes_eq, refl, sym, ap, subst, ◌∙◌, arith}
 use Rattle.std.proofs.lemmas.Bool.{false≢true}
 use Rattle.std.proofs.lemmas.List.Elements.{All-cons, All-contains_itself, All-filter, All-head, All-nil, All-tail, All-weaker}
 use Rattle.std.proofs.lemmas.Simd.{map-map}

@@ -1,5 +1,7 @@
 -- What is written piece by piece inside of a JSON string.
-use Rattle.std.proofs.Common.{◌≡◌, ◌<◌, ◌+◌, ◌∙◌, ℕ, List, [], ◌∷◌, ◌++◌, Option, Some, None, MatchOption, ◌≢◌, Bor, option_copied, Bool, true, false, not, ◌&&◌, nat_eq, nat_le, length, take, drop, get_or, refl, ap, sym, append_assoc, append-nil, string_bytes}
+use Rattle.std.proofs.Common.{◌≡◌, ◌<◌, ◌+◌, ◌∙◌, ℕ, List, [], ◌∷◌, ◌++◌, Option, Some, None, MatchOption, ◌≢◌, Bor, option_copied, Bool}
+use Rattle.std.proofs.Common.{true, false, not, ◌&&◌, nat_eq, nat_le, length, take, drop, get_or, refl, ap, sym, append_assoc}
+use Rattle.std.proofs.Common.{append-nil, string_bytes}
 use Rattle.std.specs.Fmt.{WritesInCalls}
 use Rattle.std.specs.List.{FoldsTo, concat}
 use Rattle.std.proofs.lemmas.Bool.{eq-eqb, leb-true}

@@ -1,5 +1,6 @@
 -- The versions that a level looks at decide a check.
-use Rattle.std.proofs.Common.{◌≡◌, ℕ, Bor, zero, suc, ◌+◌, ◌-◌, ◌<◌, Bool, true, false, not, cond, List, [], ◌∷◌, length, map, reverse, drop, Some, None, Ok, Err, Result, option_map, refl, sym, ap, subst, ◌∙◌, flat_map, arith}
+use Rattle.std.proofs.Common.{◌≡◌, ℕ, Bor, zero, suc, ◌+◌, ◌-◌, ◌<◌, Bool, true, false, not, cond, List, [], ◌∷◌, length, map}
+use Rattle.std.proofs.Common.{reverse, drop, Some, None, Ok, Err, Result, option_map, refl, sym, ap, subst, ◌∙◌, flat_map, arith}
 use Rattle.std.proofs.lemmas.Simd.{map-map}
 use Rattle.std.proofs.lemmas.List.{drop-map, length-drop, length-map}
 use Rattle.std.specs.List.{find, slice_index}

@@ -20,7 +20,8 @@ level_if_any rs (Some subject) true = Some (level rs (Some subject))
 level_if_any rs (Some subject) false = own_level rs (Some subject)
 
 abbrev pub level_found : Records → Scope → Bool → Result (List ℕ) Refusal
-level_found rs subject default_global = found_map (λ l. level_body (level_text l)) (ok_or (level_if_any rs subject default_global) SubjectHasNoLevel)
+level_found rs subject default_global = found_map (λ l. level_body (level_text l))
+    (ok_or (level_if_any rs subject default_global) SubjectHasNoLevel)
 
 -- the same for modes
 abbrev pub mode_if_any : Records → Scope → Bool → Option Mode
@@ -29,4 +30,5 @@ mode_if_any rs (Some subject) true = Some (mode rs (Some subject))
 mode_if_any rs (Some subject) false = own_mode rs (Some subject)
 
 abbrev pub mode_found : Records → Scope → Bool → Result (List ℕ) Refusal
-mode_found rs subject default_global = found_map (λ m. mode_body (mode_text m)) (ok_or (mode_if_any rs subject default_global) SubjectHasNoMode)
+mode_found rs subject default_global = found_map (λ m. mode_body (mode_text m))
+    (ok_or (mode_if_any rs subject default_global) SubjectHasNoMode)

@@ -1,5 +1,6 @@
 -- What is read of a message whose head was taken.
-use Rattle.std.proofs.Common.{◌≡◌, ◌<◌, ◌++◌, List, [], ℕ, Bool, true, false, Some, None, IfSome, refl, sym, ap, subst, ◌∙◌, arith, length, length-append, take, drop, inr}
+use Rattle.std.proofs.Common.{◌≡◌, ◌<◌, ◌++◌, List, [], ℕ, Bool, true, false, Some, None, IfSome, refl}
+use Rattle.std.proofs.Common.{sym, ap, subst, ◌∙◌, arith, length, length-append, take, drop, inr}
 use Rattle.std.specs.Prelude.{Err, IfOk, IsOk, Ok, OnErr, Option, Result, nat_le}
 use Rattle.std.specs.Io.KnownBytes.{Consumes}
 use Rattle.std.proofs.KnownBytes.{Consumes-trans}

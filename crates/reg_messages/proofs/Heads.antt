@@ -1,5 +1,6 @@
 -- Where the head at the front of some bytes ends.
-use Rattle.std.proofs.Common.{append-nil, length-append, ◌≡◌, ◌++◌, ◌∷◌, [], List, ℕ, true, false, Some, None, refl, sym, ◌∙◌, subst, Bool, ◌&&◌, ◌+◌, ◌-◌, ◌≤◌, suc, cond, ap, arith, length, take, drop, take_all, ◌<◌, if◌then◌else◌}
+use Rattle.std.proofs.Common.{append-nil, length-append, ◌≡◌, ◌++◌, ◌∷◌, [], List, ℕ, true, false, Some, None, refl, sym, ◌∙◌, subst}
+use Rattle.std.proofs.Common.{Bool, ◌&&◌, ◌+◌, ◌-◌, ◌≤◌, suc, cond, ap, arith, length, take, drop, take_all, ◌<◌, if◌then◌else◌}
 use Rattle.std.proofs.lemmas.List.{append_assoc}
 use Rattle.std.proofs.lemmas.List.{drop_all, take-append-drop, take-append-le}
 use Rattle.std.proofs.lemmas.List.Folds.{list_all-append}
@@ -9,7 +10,9 @@ use Rattle.std.specs.Prelude.{nat_eq, nat_le, nat_lt, ◌||◌}
 use Rattle.reg_refusals.specs.declared.refusal.Refusal.TheVariants as refusals
 use Rattle.reg_messages.specs.declared.limits.TheConstants.{HEAD_LIMIT}
 use Rattle.reg_messages.specs.HeadReading.{HasNoEnd}
-use Rattle.reg_messages.specs.Head.{ends_in_empty_line, cut_after, cut_head, front_of, has_few_lines, head, no_head, over, is_skipped, skipped_len, within_limit}
+use Rattle.reg_messages.specs.Head.{ends_in_empty_line, cut_after, cut_head, front_of}
+use Rattle.reg_messages.specs.Head.{has_few_lines, head, no_head, over, is_skipped}
+use Rattle.reg_messages.specs.Head.{skipped_len, within_limit}
 
 -- one byte more
 pub HasNoEnd-more : (before bytes whole : List ℕ) (b : ℕ) → HasNoEnd before bytes → whole ≡ before ++ (bytes ++ b ∷ [])

@@ -1,5 +1,6 @@
 -- The head of a request (RFC 9112), and the bytes of a text that it takes.
-use Rattle.std.specs.Prelude.{◌≤◌, ℕ, List, [], ◌∷◌, ◌++◌, Bool, ◌&&◌, ◌||◌, ◌==◌, nat_eq, nat_le, nat_lt, length, take, drop, count_by, Option, Some, None, if◌then◌else◌, ◌+◌}
+use Rattle.std.specs.Prelude.{◌≤◌, ℕ, List, [], ◌∷◌, ◌++◌, Bool, ◌&&◌, ◌||◌, ◌==◌, nat_eq, nat_le, nat_lt}
+use Rattle.std.specs.Prelude.{length, take, drop, count_by, Option, Some, None, if◌then◌else◌, ◌+◌}
 use Rattle.std.specs.List.{ends_with, list_all, prefix_len}
 use Rattle.std.specs.Option.{option_map_or}
 use Rattle.httparse.specs.Grammar.{RequestHead, ReadsRequest}
@@ -50,7 +51,8 @@ has_few_lines bytes = nat_le (count_by is_line_feed bytes) (HEAD_LINES + 1)
 unfoldable pub front_of : List ℕ → Front
 front_of text =
     if list_all is_skipped text && nat_le (length text) HEAD_LIMIT then over
-    else option_map_or (λ (bytes, after). if has_few_lines bytes then head bytes (after ++ drop HEAD_LIMIT text) else no_head refusals.HeadTooLarge)
+    else option_map_or
+    (λ (bytes, after). if has_few_lines bytes then head bytes (after ++ drop HEAD_LIMIT text) else no_head refusals.HeadTooLarge)
     (cut_head (drop (skipped_len (within_limit text)) (within_limit text)))
     (no_head (if nat_lt (length text) HEAD_LIMIT then refusals.BadRequest else refusals.HeadTooLarge))
 

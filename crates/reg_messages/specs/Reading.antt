@@ -25,7 +25,8 @@ TakesShort text left = (part : List ℕ) × Consumes (Some text) left part × Is
 abbrev pub IsRefusedAt : List ℕ → Refusal → Type 0
 IsRefusedAt text refusal = (front_of text ≡ no_head refusal)
     ⊎ ((bytes : List ℕ) × (after : List ℕ) × (front_of text ≡ head bytes after)
-    × ((IsNoHead bytes × (refusal ≡ refusals.BadRequest)) ⊎ ((h : RequestHead) × IsHead bytes h × (told_length (fields_of h) ≡ Err refusal))))
+    × ((IsNoHead bytes × (refusal ≡ refusals.BadRequest))
+    ⊎ ((h : RequestHead) × IsHead bytes h × (told_length (fields_of h) ≡ Err refusal))))
 
 -- a head stands at the front, whose body has a known end, and what is left stands after the body
 abbrev pub HasHead : List ℕ → Option (List ℕ) → List ℕ → RequestHead → List ℕ → Type 0

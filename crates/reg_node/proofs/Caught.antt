@@ -1,11 +1,13 @@
 -- What a node took is a compaction of the topic's log.
-use Rattle.std.proofs.Common.{◌≡◌, ◌≢◌, ◌⊎◌, inl, inr, ℕ, max, ◌<◌, ◌≤◌, Bool, true, false, ◌&&◌, ◌||◌, List, [], ◌∷◌, ◌++◌, Option, Some, None, IfSome, fold, length, refl, sym, ap, subst, ◌∙◌, arith}
+use Rattle.std.proofs.Common.{◌≡◌, ◌≢◌, ◌⊎◌, inl, inr, ℕ, max, ◌<◌, ◌≤◌, Bool, true, false, ◌&&◌, ◌||◌, List, [], ◌∷◌}
+use Rattle.std.proofs.Common.{◌++◌, Option, Some, None, IfSome, fold, length, refl, sym, ap, subst, ◌∙◌, arith}
 use Rattle.std.specs.Bool.{nat_le, nat_lt}
 use Rattle.std.proofs.lemmas.Bool.{false≢true, le-leb, leb-true, lt-ltb, ltb-true}
 use Rattle.std.proofs.lemmas.Bool.Decides.{leb_tells}
 use Rattle.std.proofs.lemmas.List.Sums.{fold-append}
 use Rattle.std.specs.Cmp.{IsTotalOrder}
-use Rattle.std.specs.FinSet.{contains, empty, from_list, insert, contains-empty, contains-from_list, contains-insert, contains-retain, contains-union, IsAntisymmetric, same_set}
+use Rattle.std.specs.FinSet.{contains, empty, from_list, insert, contains-empty, contains-from_list}
+use Rattle.std.specs.FinSet.{contains-insert, contains-retain, contains-union, IsAntisymmetric, same_set}
 use Rattle.std.specs.List.{AllByRecursion, list_all, list_any}
 use Rattle.std.proofs.lemmas.Map.Keys.{le_from_is_le}
 use Rattle.std.specs.Ordering.{eq_by_cmp, is_le, ordering_then}

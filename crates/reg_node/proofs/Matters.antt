@@ -1,5 +1,6 @@
 -- What is judged.
-use Rattle.std.proofs.Common.{◌≡◌, ◌↔◌, ℕ, Bor, ◌+◌, ◌<◌, Bool, true, IsTrue, List, length, map, get_or, take, Some, sym, ap, subst, ◌∙◌, arith}
+use Rattle.std.proofs.Common.{◌≡◌, ◌↔◌, ℕ, Bor, ◌+◌, ◌<◌, Bool, true, IsTrue, List, length}
+use Rattle.std.proofs.Common.{map, get_or, take, Some, sym, ap, subst, ◌∙◌, arith}
 use Rattle.std.proofs.lemmas.List.{take_more_same, get_or-map, length-map}
 use Rattle.std.proofs.lemmas.Simd.{map-map}
 use Rattle.std.specs.List.Sorted.{IsStrictlyIncreasing}

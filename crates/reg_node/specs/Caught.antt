@@ -14,7 +14,8 @@ use Rattle.reg_shared.specs.Held.{Held, IsSince, held_of, topic_at}
 use Rattle.reg_node.specs.Takes.{AreDrawnFrom, IsBasis, draws_of, floor_of, taken, taken_set}
 use Rattle.reg_node.specs.declared.take.Draw.{Draw}
 
--- the draws are from fronts of that one. All that was taken is below an offset that the topic has reached, and so is the floor; each last record below it was taken, or deletes its key below the floor, and none of its key was
+-- the draws are from fronts of that one. All that was taken is below an offset that the topic has reached, and so is the
+-- floor; each last record below it was taken, or deletes its key below the floor, and none of its key was
 pub record IsCaught (first : Held) (front : List Item) (ds : List Draw) (upto : ℕ) : Type 0 where
   pub drawn : AreDrawnFrom first ds front
   pub reached : upto ≤ (topic_at first front).next
@@ -24,7 +25,8 @@ pub record IsCaught (first : Held) (front : List Item) (ds : List Draw) (upto : 
   pub lasts : (key : Key) (r : Record) → last (topic_at first front).log key ≡ Some r → r.offset < upto
       → (contains (taken ds) r ≡ true) ⊎ IsGone (floor_of ds) (taken ds) r
 
--- what is drawn then: records for a rebase, where the floors differ, and those that are kept from both offset and floor on, below the next offset
+-- what is drawn then: records for a rebase, where the floors differ, and those that
+-- are kept from both offset and floor on, below the next offset
 pub record IsNews (held : Held) (floor upto : ℕ) (below : Option (List Record)) (records : List Record) : Type 0 where
   pub basis : IsBasis held.kept floor below
   pub since : IsSince held.kept.records (max upto held.kept.floor) records
@@ -37,10 +39,15 @@ pub record IsCaughtUp (first : Held) (front : List Item) (ds : List Draw) : Type
 
 -- it stays so while the topic's list goes on
 abbrev pub CaughtStays : Type 0
-CaughtStays = (first : Held) (f g : List Item) (ds : List Draw) (upto : ℕ) → IsPrefix f g → IsCaught first f ds upto → IsCaught first g ds upto
+CaughtStays = (first : Held) (f g : List Item) (ds : List Draw) (upto : ℕ)
+    → IsPrefix f g
+    → IsCaught first f ds upto
+    → IsCaught first g ds upto
 
 -- where the floor began no higher than the next offset, the draws of what is new are enough, and none of it was there before
 abbrev pub NewsCatchUp : Type 0
-NewsCatchUp = (first : Held) (front : List Item) (ds : List Draw) (upto : ℕ) (below : Option (List Record)) (records : List Record) → first.kept.floor ≤ first.next
+NewsCatchUp = (first : Held) (front : List Item) (ds : List Draw) (upto : ℕ) (below : Option (List Record)) (records : List Record)
+    → first.kept.floor ≤ first.next
     → IsCaught first front ds upto → IsNews (held_of (topic_at first front)) (floor_of ds) upto below records
-    → IsCaughtUp first front (ds ++ draws_of (length front) (topic_at first front).kept.floor below records) × (list_any (contains (taken ds)) records ≡ false)
+    → IsCaughtUp first front (ds ++ draws_of (length front) (topic_at first front).kept.floor below records)
+    × (list_any (contains (taken ds)) records ≡ false)

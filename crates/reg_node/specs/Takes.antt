@@ -50,12 +50,14 @@ DrawsFoldToLastRecords = (ds : List Draw) → fold lasts_with_draw empty ds ≡ 
 -- a draw from a front of the topic's list, with that front's length, at a node with those records and that floor: a take of a kept
 -- record where the floors are equal, or a rebase on the kept set
 abbrev pub IsDraw : Held → List Item → Records → ℕ → Draw → Type 0
-IsDraw first f s floor (draws.Take t) = (t.read ≡ length f) × (floor ≡ (topic_at first f).kept.floor) × (contains (topic_at first f).kept.records t.kept ≡ true)
+IsDraw first f s floor (draws.Take t) = (t.read ≡ length f) × (floor ≡ (topic_at first f).kept.floor)
+    × (contains (topic_at first f).kept.records t.kept ≡ true)
 IsDraw first f s floor (draws.Rebase r) =
     (r.read ≡ length f) × (floor ≤ r.floor) × (r.floor ≡ (topic_at first f).kept.floor)
     × (with_draw s (draws.Rebase r) ≡ rebased s (topic_at first f).kept)
 
--- each is drawn from a front of the topic's list. Each of these fronts begins with the one before, the first with the front given first; the front given last begins with them all
+-- each is drawn from a front of the topic's list. Each of these fronts begins with the one before, the
+-- first with the front given first; the front given last begins with them all
 abbrev pub AreDrawn : Held → Records → ℕ → List Item → List Draw → List Item → Type 0
 AreDrawn first s floor from [] upto = IsPrefix from upto
 AreDrawn first s floor from (d ∷ ds) upto =
@@ -79,7 +81,8 @@ abbrev pub IsBasis : Floored → ℕ → Option (List Record) → Type 0
 IsBasis kept floor None = floor ≡ kept.floor
 IsBasis kept floor (Some below) = (floor ≢ kept.floor) × IsBelow kept.records kept.floor below
 
--- draws are pending besides, from the front that is then seen: a rebase, where its kept set has another floor, and a take of each record of its kept set from some offset on. There is one, and no record that was there before
+-- draws are pending besides, from the front that is then seen: a rebase, where its kept set has another floor, and a take of
+-- each record of its kept set from some offset on. There is one, and no record that was there before
 pub record Pulls (first : Held) (front : List Item) (before after : List Draw × List Draw) : Type 0 where
   pub below : Option (List Record)
   pub basis : IsBasis (topic_at first front).kept (floor_of (before.0 ++ before.1)) below

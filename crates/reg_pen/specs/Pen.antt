@@ -1,5 +1,6 @@
 -- What a pen holds, and what a submit does.
-use Rattle.std.specs.Prelude.{◌≡◌, ⊤, ◌⊎◌, ℕ, suc, ◌+◌, ◌-◌, ◌^◌, ◌<◌, ◌≤◌, min, Bool, true, false, List, [], ◌∷◌, ◌++◌, length, Option, Some, None}
+use Rattle.std.specs.Prelude.{◌≡◌, ⊤, ◌⊎◌, ℕ, suc, ◌+◌, ◌-◌, ◌^◌, ◌<◌, ◌≤◌, min, Bool, true}
+use Rattle.std.specs.Prelude.{false, List, [], ◌∷◌, ◌++◌, length, Option, Some, None}
 use Rattle.std.specs.Borrow.{Bor}
 use mathlib.Core.List.{IsPrefix}
 use Rattle.reg_records.specs.declared.record.Record.{Record}
@@ -66,17 +67,20 @@ IsStepAfter base is c reply batch = IsStep (registry_of (after_items base is)) (
 abbrev pub IsNoMemory : Reply → Type 0
 IsNoMemory reply = reply ≡ replies.Refused no_memory
 
--- what follows on what became of a batch: the item, the step's reply, and the reply while the batch is unsettled; a batch that is taken is published or left pending
+-- what follows on what became of a batch: the item, the step's reply, and the reply while the
+-- batch is unsettled; a batch that is taken is published or left pending
 abbrev pub Follows : {K : Type 0} → Kept → List Item → Reply → Reply → PenState K → Reply → PenState K → Type 0
 Follows Taken is replied unsettled l reply m =
     ((reply ≡ replied) × (m ≡ record { published = l.published ++ is; pending = []; lost = false; keep = l.keep }))
     ⊎ ((reply ≡ unsettled) × (m ≡ record { published = l.published; pending = is; lost = false; keep = l.keep }))
 Follows (Declined lack) is replied unsettled l reply m = (reply ≡ replies.Refused (refusals.Store (fault_of lack))) × (m ≡ l)
-Follows Lost is replied unsettled l reply m = (reply ≡ unsettled) × (m ≡ record { published = l.published; pending = is; lost = true; keep = l.keep })
+Follows Lost is replied unsettled l reply m = (reply ≡ unsettled)
+    × (m ≡ record { published = l.published; pending = is; lost = true; keep = l.keep })
 
 -- the reply where the pending item is refused again, or is lost: the offset of a batch
 abbrev pub StillPends : List Item → Reply → Type 0
-StillPends (items.Commit commit ∷ []) reply = (first : Record) × (rest : List Record) × (commit.batch ≡ first ∷ rest) × (reply ≡ replies.Unsettled first.offset)
+StillPends (items.Commit commit ∷ []) reply = (first : Record) × (rest : List Record) × (commit.batch ≡ first ∷ rest)
+    × (reply ≡ replies.Unsettled first.offset)
 StillPends (items.Compaction c ∷ []) reply = IsNoMemory reply
 StillPends _ reply = ⊥
 
@@ -109,7 +113,8 @@ module _ {K : Type 0} (keeps : K → List Record → Kept → K → Type 0) wher
       ⊎ Lends base l c reply m
       ⊎ (IsNoMemory reply × (m ≡ l))
 
-  -- what a submit does: nothing, for a front that is ahead, or where the pending item is refused again or lost; else that item is settled first
+  -- what a submit does: nothing, for a front that is ahead, or where the pending item
+  -- is refused again or lost; else that item is settled first
   abbrev pub Submits : Topic → Option (Bor (List Item)) → PenState K → Command → Reply → PenState K → Type 0
   Submits base since l c reply m =
       (IsAhead since l.published × IsNoMemory reply × (m ≡ l))

@@ -16,7 +16,8 @@ use Rattle.reg_requests.specs.Asked.{asked_of}
 use Rattle.reg_requests.specs.declared.asked.Asked.{Asked}
 use Rattle.reg_requests.specs.declared.asked.Asked.TheVariants as asked
 use Rattle.reg_http.specs.Requests.{request_of}
-use Rattle.reg_http.specs.Serve.{Answers, AnswersFirst, AnswersFront, AnswersHead, Does, IsOutput, IsOver, IsServeRefusal, LacksMemory, Refuses, StopsBetween, StopsIn, StopsInNext}
+use Rattle.reg_http.specs.Serve.{Answers, AnswersFirst, AnswersFront, AnswersHead, Does, IsOutput, IsOver}
+use Rattle.reg_http.specs.Serve.{IsServeRefusal, LacksMemory, Refuses, StopsBetween, StopsIn, StopsInNext}
 use Rattle.reg_http.specs.declared.limits.TheConstants.{REQUESTS_LIMIT}
 use Rattle.reg_http.specs.declared.serving.ServeError.{ServeError}
 use Rattle.reg_http.specs.declared.serving.ServeError.TheVariants as errors

@@ -43,7 +43,8 @@ IsLogRefused remaining reader reader' error =
 -- a reader that has read its log without a fault, which that topic is of, and stands where the requests begin
 abbrev pub HasReadLog : {R : Type 0} → (R → Option (List ℕ)) → Device R → Device R → Topic → Type 0
 HasReadLog remaining reader mid base =
-    IfSome (bytes_in remaining reader) (λ input. (log : LogText) × (log_of input ≡ Ok log) × (base ≡ topic_of log) × (bytes_in remaining mid ≡ Some log.rest))
+    IfSome (bytes_in remaining reader)
+    (λ input. (log : LogText) × (log_of input ≡ Ok log) × (base ≡ topic_of log) × (bytes_in remaining mid ≡ Some log.rest))
     × KeepsEnd remaining reader mid × (faults_of mid ≡ faults_of reader) × KeepsReads reader mid
 
 -- how a fold ends where serving its requests does
@@ -67,7 +68,8 @@ module _ {R W : Type 0} (remaining : R → Option (List ℕ)) (contents : W → 
   -- why no more was done, what was written by then, and what the devices counted
   abbrev pub IsFoldRefusal : Device R → Device R → Device W → Device W → FoldError → Type 0
   IsFoldRefusal reader reader' writer writer' error =
-      (IsLogRefused remaining reader reader' error × (faults_of writer' ≡ faults_of writer) × Keeps (bytes_in contents writer) (bytes_in contents writer'))
+      (IsLogRefused remaining reader reader' error × (faults_of writer' ≡ faults_of writer)
+      × Keeps (bytes_in contents writer) (bytes_in contents writer'))
       ⊎ EndsServing reader reader' writer writer' error
 
 module _ {W : Type 0} (writes : W → List ℕ → Result ℕ Error → W → Type 0) (flushes : W → Result ⊤ Error → W → Type 0) where

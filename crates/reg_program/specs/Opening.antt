@@ -15,4 +15,5 @@ IsAdoptedIfOpen base = is_closed (registry_of base) ≡ false → IsAdopted base
 -- the desk is over a topic, which is that of the log at the front of the input; that log's foreign lines, and what is left of the input
 abbrev pub IsOpened : Option (List ℕ) → Option (List ℕ) → ℕ → FoldDesk → Type 0
 IsOpened input left foreign desk = (base : Topic) × IsDeskAt base [] desk × IsAdoptedIfOpen base
-    × IfSome input (λ text. (log : LogText) × (log_of text ≡ Ok log) × (base ≡ topic_of log) × (foreign ≡ count_by is_foreign log.reads) × (left ≡ Some log.rest))
+    × IfSome input (λ text. (log : LogText) × (log_of text ≡ Ok log) × (base ≡ topic_of log)
+    × (foreign ≡ count_by is_foreign log.reads) × (left ≡ Some log.rest))

@@ -35,7 +35,9 @@ module _ (base : Topic) where
   -- a command is a step from exactly all that was published, and publishes its batch; or memory was refused, and nothing is published
   abbrev pub commands : List Item → Command → Reply → List Item → Type 0
   commands old command reply new =
-      ((batch : List Record) × IsStep (registry_of (after_items base old)) (after_items base old).next command reply batch × (new ≡ old ++ commits command batch))
+      ((batch : List Record)
+      × IsStep (registry_of (after_items base old)) (after_items base old).next command reply batch
+      × (new ≡ old ++ commits command batch))
       ⊎ ((reply ≡ replies.Refused no_memory) × (new ≡ old))
 
 -- What was published over a topic: each batch is what its command writes from exactly all records before. Where the topic takes

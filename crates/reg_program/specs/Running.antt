@@ -25,7 +25,8 @@ abbrev pub FoldGives : {R W : Type 0} → (R → Option (List ℕ)) → (W → O
     → (W → List ℕ → Result ℕ Error → W → Type 0) → (W → Result ⊤ Error → W → Type 0)
     → Device R → Device R → Device W → Device W → Ended → Type 0
 FoldGives remaining contents writes flushes reader reader' writer writer' (ends.Folded folded) =
-    IfSome (bytes_in remaining reader) (λ input. (out : List ℕ) × Folds input folded out × Appends (bytes_in contents writer) (bytes_in contents writer') out)
+    IfSome (bytes_in remaining reader)
+    (λ input. (out : List ℕ) × Folds input folded out × Appends (bytes_in contents writer) (bytes_in contents writer') out)
     × (faults_of reader' ≡ faults_of reader) × (faults_of writer' ≡ faults_of writer)
     × (reads_of reader' ≤ REQUEST_READS) × (interruptions_of writer' ≤ INTERRUPTION_LIMIT)
     × EndsAfter writes flushes folded.requests writer writer'
@@ -37,7 +38,8 @@ FoldGives remaining contents writes flushes reader reader' writer writer' ended 
 abbrev pub SketchGives : {R W : Type 0} → (R → Option (List ℕ)) → (W → Option (List ℕ))
     → Device R → Device R → Device W → Device W → Ended → Type 0
 SketchGives remaining contents reader reader' writer writer' ends.Sketched =
-    IfSome (bytes_in remaining reader) (λ input. (out : List ℕ) × Sketches input out × Appends (bytes_in contents writer) (bytes_in contents writer') out)
+    IfSome (bytes_in remaining reader)
+    (λ input. (out : List ℕ) × Sketches input out × Appends (bytes_in contents writer) (bytes_in contents writer') out)
     × LeavesRest (bytes_in remaining reader) (bytes_in remaining reader')
     × (faults_of reader' ≡ faults_of reader) × (faults_of writer' ≡ faults_of writer) × (interruptions_of writer' ≡ 0)
 SketchGives remaining contents reader reader' writer writer' (ends.Unsketched error) = IsSketchRefusal reader reader' writer writer'

@@ -24,7 +24,8 @@ HasFault input (kinds.Schema fault) = (text : List ℕ) × (front_text input ≡
 
 -- what is written for an input: the sketch of the schema in its first line, the reader's, and of that in its second, the writer's
 abbrev pub Sketches : List ℕ → List ℕ → Type 0
-Sketches input out = (r : Meaning) × (w : Meaning) × SpellsSchema input r × SpellsSchema (after_front input) w × IsSketch r.nodes w.nodes out
+Sketches input out = (r : Meaning) × (w : Meaning) × SpellsSchema input r × SpellsSchema (after_front input) w
+    × IsSketch r.nodes w.nodes out
 
 -- what stands after the two lines is left
 abbrev pub LeavesRest : Option (List ℕ) → Option (List ℕ) → Type 0
@@ -34,7 +35,8 @@ LeavesRest old new = IfSome old (λ input. new ≡ Some (after_front (after_fron
 abbrev pub HasOneSketch : List ℕ → Type 0
 HasOneSketch input = (s t : List ℕ) → Sketches input s → Sketches input t → s ≡ t
 
--- why there is no sketch: the reader's schema is none, or the writer's; or the reader of the input is lost in one of the lines, or there is no room
+-- why there is no sketch: the reader's schema is none, or the writer's; or the reader
+-- of the input is lost in one of the lines, or there is no room
 abbrev pub HasNoSketch : {R : Type 0} → Device R → Device R → Option (List ℕ) → SketchError → Type 0
 HasNoSketch reader reader' input (errors.Reader fault) =
     (faults_of reader' ≡ faults_of reader) × IfSome input (λ text. HasFault text fault)

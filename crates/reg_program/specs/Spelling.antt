@@ -20,7 +20,8 @@ IsTextRefused text errors.OutOfMemory = ⊤
 
 -- why no schema was read from the line at the front of an input
 abbrev pub IsSpellingRefusal : {R : Type 0} → Device R → Device R → Option (List ℕ) → SpellingError → Type 0
-IsSpellingRefusal before after input (errors.Fault fault) = (faults_of after ≡ faults_of before) × IfSome input (λ text. HasFault text fault)
+IsSpellingRefusal before after input (errors.Fault fault) = (faults_of after ≡ faults_of before)
+    × IfSome input (λ text. HasFault text fault)
 IsSpellingRefusal before after input errors.ReadFault = LosesLine before after
 IsSpellingRefusal before after input errors.OutOfMemory = faults_of after ≡ faults_of before
 

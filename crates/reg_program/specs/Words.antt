@@ -1,5 +1,6 @@
 -- What the words of the command line ask for.
-use Rattle.std.specs.Prelude.{ℕ, ◌+◌, ◌∷◌, [], List, Bool, false, ◌&&◌, not, Option, Some, None, length, codes, bytes_eq, nat_eq, nat_le, if◌then◌else◌}
+use Rattle.std.specs.Prelude.{ℕ, ◌+◌, ◌∷◌, [], List, Bool, false, ◌&&◌, not, Option, Some, None}
+use Rattle.std.specs.Prelude.{length, codes, bytes_eq, nat_eq, nat_le, if◌then◌else◌}
 use Rattle.std.specs.Char.{is_ascii_digit}
 use Rattle.std.specs.List.{list_all}
 use Rattle.std.specs.Str.Parse.{digits_value}
@@ -24,11 +25,13 @@ serving _ _ _ = commands.Usage
 
 -- `fold` and `sketch` are commands without more words
 abbrev pub command_named : List ℕ → Command
-command_named word = if bytes_eq word (codes "fold") then commands.Fold else (if bytes_eq word (codes "sketch") then commands.Sketch else commands.Usage)
+command_named word = if bytes_eq word (codes "fold") then commands.Fold
+    else (if bytes_eq word (codes "sketch") then commands.Sketch else commands.Usage)
 
 -- after the program's name stands `fold` or `sketch` alone, or `serve`, a port, 1 to 3 nodes and 1 to 16 workers
 abbrev pub command_of : List (List ℕ) → Command
 command_of (name ∷ word ∷ []) = command_named word
 command_of (name ∷ word ∷ port ∷ nodes ∷ workers ∷ []) =
-    if bytes_eq word (codes "serve") then serving (number_in (1, 65535) port) (number_in (1, 3) nodes) (number_in (1, 16) workers) else commands.Usage
+    if bytes_eq word (codes "serve") then serving (number_in (1, 65535) port) (number_in (1, 3) nodes) (number_in (1, 16) workers)
+    else commands.Usage
 command_of words = commands.Usage

@@ -1,5 +1,6 @@
 -- The fields of a line stand between its TABs.
-use Rattle.std.proofs.Common.{◌≡◌, ℕ, suc, ◌+◌, ◌<◌, Bool, true, false, cond, not, ◌&&◌, List, [], ◌∷◌, ◌++◌, length, take, Some, inl, inr, refl, sym, ap, ◌∙◌, ◌==◌, subst, arith, length-append}
+use Rattle.std.proofs.Common.{◌≡◌, ℕ, suc, ◌+◌, ◌<◌, Bool, true, false, cond, not, ◌&&◌, List, [], ◌∷◌, ◌++◌, length}
+use Rattle.std.proofs.Common.{take, Some, inl, inr, refl, sym, ap, ◌∙◌, ◌==◌, subst, arith, length-append}
 use Rattle.std.specs.Prelude.{All, Err, count_by, position}
 use Rattle.std.specs.List.{position_or_len, before_first, after_first, slice_split}
 use Rattle.std.proofs.lemmas.Bool.{and_parts, not_from_true, lt-ltb, cases_lt, eqb-true, eqb-false, false≢true, ne_eqb}

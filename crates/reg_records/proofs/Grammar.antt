@@ -1,19 +1,25 @@
 -- The reading of a line is that of the grammar.
-use Rattle.std.proofs.Common.{◌≡◌, ℕ, zero, suc, ◌≤◌, ◌<◌, ◌^◌, ◌==◌, Bool, true, false, cond, not, ◌&&◌, List, length, get_or, nat_lt, decimal, Option, Some, None, Result, Ok, Err, refl, sym, ap, ◌∙◌, arith, rules, eq-eqb}
+use Rattle.std.proofs.Common.{◌≡◌, ℕ, zero, suc, ◌≤◌, ◌<◌, ◌^◌, ◌==◌, Bool, true, false, cond, not, ◌&&◌, List, length, get_or}
+use Rattle.std.proofs.Common.{nat_lt, decimal, Option, Some, None, Result, Ok, Err, refl, sym, ap, ◌∙◌, arith, rules, eq-eqb}
 use Rattle.std.specs.Option.{option_map_or}
 use Rattle.std.specs.Char.{is_ascii_digit}
 use Rattle.std.specs.List.{list_all, slice_split}
 use Rattle.std.specs.Prelude.{count_by}
 use Rattle.std.specs.Str.Parse.{digits_value}
-use Rattle.std.proofs.lemmas.Bool.{and_parts, and_from, and_right, not_from_false, ne_eqb, eqb-true, eqb-false, le-leb, leb-true, le-ltb, ltb-false}
-use Rattle.std.proofs.lemmas.Fmt.{decimal_digit, decimal_nonempty, first_decimal, digits_decimal, digits_value-decimal, decimal-digits_value}
+use Rattle.std.proofs.lemmas.Bool.{and_parts, and_from, and_right, not_from_false, ne_eqb}
+use Rattle.std.proofs.lemmas.Bool.{eqb-true, eqb-false, le-leb, leb-true, le-ltb, ltb-false}
+use Rattle.std.proofs.lemmas.Fmt.{decimal_digit, decimal_nonempty, first_decimal}
+use Rattle.std.proofs.lemmas.Fmt.{digits_decimal}
+use Rattle.std.proofs.lemmas.Fmt.{digits_value-decimal, decimal-digits_value}
 use Rattle.std.proofs.lemmas.Str.Parse.{IsNumeralModel, numerals_by_value}
 use Rattle.reg_records.specs.declared.line.LineError.{LineError}
 use Rattle.reg_records.specs.declared.line.LineError.TheVariants.{BadOffset, BadTabs}
 use Rattle.reg_records.specs.declared.limits.TheConstants.{OFFSET_LIMIT, LINE_LIMIT}
 use Rattle.reg_records.specs.declared.record.Read.{Read}
 use Rattle.reg_records.specs.Line.{is_tab, is_decimal, offset_of, read_at, reading_of, reading, line_of, IsLine, Spells}
-use Rattle.reg_records.proofs.Fields.{offset_field, key_field, value_field, slice_split-line_of, slice_split-fields, reading_of-bad_tabs, has_fields}
+use Rattle.reg_records.proofs.Fields.{offset_field, key_field, value_field}
+use Rattle.reg_records.proofs.Fields.{slice_split-line_of, slice_split-fields}
+use Rattle.reg_records.proofs.Fields.{reading_of-bad_tabs, has_fields}
 use Rattle.reg_records.proofs.Controls.{are_shown-decimal, is_free_of-are_shown}
 
 own : IsNumeralModel (λ ds. list_all is_ascii_digit ds ≡ true) (digits_value 10)

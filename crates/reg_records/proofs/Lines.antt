@@ -1,5 +1,6 @@
 -- How the bytes that were taken for a line grow.
-use Rattle.std.proofs.Common.{◌≡◌, ◌<◌, ◌≤◌, ◌+◌, inl, inr, List, ℕ, [], ◌∷◌, ◌++◌, length, take, None, Some, OnSome, IsTrue, false, cond, nat_lt, sym, ap, subst, ◌∙◌, refl, arith, append_assoc, length-append}
+use Rattle.std.proofs.Common.{◌≡◌, ◌<◌, ◌≤◌, ◌+◌, inl, inr, List, ℕ, [], ◌∷◌, ◌++◌, length, take, None, Some, OnSome}
+use Rattle.std.proofs.Common.{IsTrue, false, cond, nat_lt, sym, ap, subst, ◌∙◌, refl, arith, append_assoc, length-append}
 use Rattle.std.specs.Io.KnownBytes.{Consumes, Keeps, IsAtEnd}
 use Rattle.std.proofs.KnownBytes.{Consumes-trans, Consumes-kept}
 use Rattle.std.proofs.lemmas.List.Elements.{All-append, All-from_get_or}

@@ -1,5 +1,7 @@
 -- What a line is to the log that it begins.
-use Rattle.std.proofs.Common.{◌≡◌, ◌<◌, ◌≤◌, ◌+◌, ◌*◌, ◌==◌, ℕ, suc, Bool, cond, true, false, List, [], ◌∷◌, ◌++◌, length, None, Some, IfSome, OnSome, inl, inr, Result, Ok, Err, refl, sym, ap, ◌∙◌, arith, append_assoc, append-nil, nat_lt, decimal, length-append}
+use Rattle.std.proofs.Common.{◌≡◌, ◌<◌, ◌≤◌, ◌+◌, ◌*◌, ◌==◌, ℕ, suc, Bool, cond, true, false, List, [], ◌∷◌, ◌++◌, length, None, Some}
+use Rattle.std.proofs.Common.{IfSome, OnSome, inl, inr, Result, Ok, Err, refl, sym, ap, ◌∙◌, arith, append_assoc, append-nil, nat_lt}
+use Rattle.std.proofs.Common.{decimal, length-append}
 use Rattle.std.specs.Prelude.{Option, count_by, max}
 use Rattle.std.specs.Option.{option_to_list}
 use Rattle.std.specs.Result.{result_map_both}
@@ -17,8 +19,11 @@ use Rattle.reg_records.specs.Device.{all_reads_of, counted_by, faults_of, place_
 use Rattle.reg_records.proofs.Floors.{floor_reading-text, is_floor_line-mark, one_line}
 use Rattle.reg_records.specs.Floor.{floor_mark, floor_reading, floor_text, is_floor_line}
 use Rattle.reg_records.specs.Line.{is_line_feed, reading}
-use Rattle.reg_records.specs.Log.{LogText, floor_then, log_at, log_from, log_of, line_then, record_in, records_in, is_foreign, offset_in, next_after, AreWholeLines, IsLogOf, IsLogRefusal, LosesLine, ReadsFewTimes, TakesLastLine}
-use Rattle.reg_records.specs.LogSteps.{AddsRead, BeginsLog, IsFirstRefusal, IsLineRefusal, IsStepRefusal, IsTakeRefusal, first_then, lines_then}
+use Rattle.reg_records.specs.Log.{LogText, floor_then, log_at, log_from, log_of, line_then, record_in, records_in, is_foreign}
+use Rattle.reg_records.specs.Log.{offset_in, next_after, AreWholeLines, IsLogOf, IsLogRefusal, LosesLine}
+use Rattle.reg_records.specs.Log.{ReadsFewTimes, TakesLastLine}
+use Rattle.reg_records.specs.LogSteps.{AddsRead, BeginsLog, IsFirstRefusal, IsLineRefusal}
+use Rattle.reg_records.specs.LogSteps.{IsStepRefusal, IsTakeRefusal, first_then, lines_then}
 use Rattle.reg_records.specs.declared.device.Device.{Device}
 use Rattle.reg_records.specs.declared.log.Log.{Log}
 use Rattle.reg_records.specs.declared.log.LogError.{LogError}

@@ -1,5 +1,6 @@
 -- The text that is written for a key reads back.
-use Rattle.std.proofs.Common.{◌≡◌, ◌≤◌, ℕ, List, [], Option, Some, None, cond, option_map, option_and_then, codes, sym, ap, ◌∙◌, append-nil, arith}
+use Rattle.std.proofs.Common.{◌≡◌, ◌≤◌, ℕ, List, [], Option, Some, None, cond, option_map}
+use Rattle.std.proofs.Common.{option_and_then, codes, sym, ap, ◌∙◌, append-nil, arith}
 use Rattle.std.proofs.lemmas.Bool.{le-leb}
 use Rattle.std.specs.Prelude.{bytes_eq}
 use Rattle.json.specs.Json as json

@@ -1,5 +1,6 @@
 -- What a line that was taken is to the input that it begins.
-use Rattle.std.proofs.Common.{◌≡◌, ℕ, List, [], ◌∷◌, ◌++◌, None, Some, IfSome, OnSome, inl, inr, Result, Err, refl, sym, ap, ◌∙◌, append_assoc, append-nil}
+use Rattle.std.proofs.Common.{◌≡◌, ℕ, List, [], ◌∷◌, ◌++◌, None, Some, IfSome, OnSome, inl, inr}
+use Rattle.std.proofs.Common.{Result, Err, refl, sym, ap, ◌∙◌, append_assoc, append-nil}
 use Rattle.std.specs.Prelude.{Option, drop}
 use Rattle.std.specs.List.{slice_split, join_with_byte}
 use Rattle.std.specs.Io.KnownBytes.{Consumes, Keeps, IsAtEnd}

@@ -1,5 +1,6 @@
 -- What a device counts, and the bytes of the reader or the writer in it.
-use Rattle.std.specs.Prelude.{◌≡◌, ◌≢◌, ◌⊎◌, ℕ, suc, ◌+◌, ◌-◌, ◌^◌, ◌<◌, ◌≤◌, min, List, length, Option, None, option_map, Result, Ok, Err, MatchResult}
+use Rattle.std.specs.Prelude.{◌≡◌, ◌≢◌, ◌⊎◌, ℕ, suc, ◌+◌, ◌-◌, ◌^◌, ◌<◌, ◌≤◌, min, List, length}
+use Rattle.std.specs.Prelude.{Option, None, option_map, Result, Ok, Err, MatchResult}
 use Rattle.std.specs.Io.KnownBytes.{Consumes}
 use Rattle.std.specs.IoError.{error_kind}
 use Rattle.std.specs.declared.io.Error.{Error}
@@ -106,10 +107,12 @@ CountsFault old new answer = MatchResult answer (λ _. new.faults ≡ old.faults
 -- an interruption of a write or a flush is counted, and any other answer begins the count in a row anew
 abbrev pub CountsInterruption : {T A : Type 0} → Device T → Device T → Result A Error → Type 0
 CountsInterruption old new answer = MatchResult answer (λ _. (new.interruptions ≡ 0) × (new.all_interruptions ≡ old.all_interruptions))
-    (λ e. (error_kind e ≡ Interrupted → (new.interruptions ≡ counted old.interruptions) × (new.all_interruptions ≡ counted old.all_interruptions))
+    (λ e. (error_kind e ≡ Interrupted
+    → (new.interruptions ≡ counted old.interruptions) × (new.all_interruptions ≡ counted old.all_interruptions))
     × (error_kind e ≢ Interrupted → (new.interruptions ≡ 0) × (new.all_interruptions ≡ old.all_interruptions)))
 
 -- the count of faults after a write, where taking no byte of a piece that has some is a fault too
 abbrev pub CountsWrite : {T : Type 0} → Device T → Device T → List ℕ → Result ℕ Error → Type 0
-CountsWrite old new piece (Ok n) = (n ≡ 0 → 0 < length piece → new.faults ≡ counted old.faults) × ((n ≡ 0 → length piece ≡ 0) → new.faults ≡ old.faults)
+CountsWrite old new piece (Ok n) = (n ≡ 0 → 0 < length piece → new.faults ≡ counted old.faults)
+    × ((n ≡ 0 → length piece ≡ 0) → new.faults ≡ old.faults)
 CountsWrite old new piece (Err e) = CountsFault {A = ℕ} old new (Err e)

@@ -1,5 +1,6 @@
 -- What a member of a JSON object says; a value that is no object has no member.
-use Rattle.std.specs.Prelude.{ℕ, List, ◌&&◌, ◌==◌, Bool, false, Option, Some, None, option_and_then, nat_le, bytes_eq, is_some, if◌then◌else◌}
+use Rattle.std.specs.Prelude.{ℕ, List, ◌&&◌, ◌==◌, Bool, false, Option, Some, None}
+use Rattle.std.specs.Prelude.{option_and_then, nat_le, bytes_eq, is_some, if◌then◌else◌}
 use Rattle.std.specs.Option.{option_map_or}
 use Rattle.serde_json.specs.Data.{Data}
 use Rattle.serde_json.specs.Find.{get, as_null, as_str, as_number, as_u64}

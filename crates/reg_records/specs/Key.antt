@@ -14,7 +14,8 @@ schema_key d = option_and_then (λ subject. option_map (keys.Schema subject) (nu
 
 -- the scope of a level or a mode: the global one where the subject is absent or null, and a subject where it is a string
 abbrev pub scope_in : Data → Option (Option (List ℕ))
-scope_in d = option_map_or (λ found. if is_null found then Some None else option_map Some (as_str found)) (get (codes "subject") d) (Some None)
+scope_in d = option_map_or (λ found. if is_null found then Some None else option_map Some (as_str found))
+    (get (codes "subject") d) (Some None)
 
 -- the key of that kind; the other members don't count
 abbrev pub key_of_kind : List ℕ → Data → Option Key

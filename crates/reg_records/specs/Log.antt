@@ -1,5 +1,6 @@
 -- A log is the lines of a text up to an empty line or the end of the text; the first may say its floor.
-use Rattle.std.specs.Prelude.{◌≡◌, ◌⊎◌, ℕ, suc, ◌+◌, ◌*◌, ◌≤◌, max, List, [], ◌∷◌, ◌++◌, Bool, ◌==◌, nat_lt, length, count_by, fold, Option, Some, None, is_none, IfSome, OnSome, Result, Ok, Err, if◌then◌else◌}
+use Rattle.std.specs.Prelude.{◌≡◌, ◌⊎◌, ℕ, suc, ◌+◌, ◌*◌, ◌≤◌, max, List, [], ◌∷◌, ◌++◌, Bool, ◌==◌, nat_lt, length}
+use Rattle.std.specs.Prelude.{count_by, fold, Option, Some, None, is_none, IfSome, OnSome, Result, Ok, Err, if◌then◌else◌}
 use Rattle.std.specs.List.{filter_map, join_with_byte, slice_split}
 use Rattle.std.specs.Result.{result_map_both}
 use Rattle.std.specs.Io.KnownBytes.{Consumes, IsAtEnd}
@@ -19,7 +20,8 @@ use Rattle.reg_records.specs.declared.record.Record.{Record}
 use Rattle.reg_records.specs.declared.record.Read.{Read}
 use Rattle.reg_records.specs.declared.record.Read.TheVariants as reads
 
--- what the lines of a log say: its floor, 0 where none says one, and what the others say, in their order; and the bytes after its empty line
+-- what the lines of a log say: its floor, 0 where none says one, and what the
+-- others say, in their order; and the bytes after its empty line
 pub record LogText : Type 0 where
   pub floor : ℕ
   pub reads : List Read
@@ -30,7 +32,8 @@ abbrev pub line_then : ℕ → Result Read LineError → Result LogText (ℕ × 
 line_then number (Err fault) more = Err (number, faults.Line fault)
 line_then number (Ok read) more = result_map_both (λ (log : LogText). record log { reads = read ∷ log.reads }) (λ fault. fault) more
 
--- the log that begins with the line of that number; a line past the most that a log has is one too many, whatever it says, and the last line has no LF
+-- the log that begins with the line of that number; a line past the most that a log has
+-- is one too many, whatever it says, and the last line has no LF
 abbrev pub log_from : ℕ → List (List ℕ) → Result LogText (ℕ × LogFault)
 log_from number [] = Ok (record { floor = 0; reads = []; rest = [] })
 log_from number (line ∷ lines) = if length line == 0 then Ok (record { floor = 0; reads = []; rest = join_with_byte 10 lines })
@@ -45,10 +48,12 @@ floor_then (Ok floor) more = result_map_both (λ (log : LogText). record log { f
 -- the log of some lines: where the first one begins as a floor's, it says the floor
 abbrev pub log_at : List (List ℕ) → Result LogText (ℕ × LogFault)
 log_at [] = log_from 1 []
-log_at (line ∷ lines) = if is_floor_line line then floor_then (if length lines == 0 then Err (faults.Line Truncated) else floor_reading line) (log_from 2 lines)
+log_at (line ∷ lines) = if is_floor_line line
+    then floor_then (if length lines == 0 then Err (faults.Line Truncated) else floor_reading line) (log_from 2 lines)
     else log_from 1 (line ∷ lines)
 
--- the log at the front of a text, whose lines are what stands before, between and after its LFs, or the number of its first line that has a fault, and the fault
+-- the log at the front of a text, whose lines are what stands before, between and after its
+-- LFs, or the number of its first line that has a fault, and the fault
 abbrev pub log_of : List ℕ → Result LogText (ℕ × LogFault)
 log_of text = log_at (slice_split is_line_feed text)
 

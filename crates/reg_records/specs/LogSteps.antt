@@ -1,5 +1,6 @@
 -- Private: how a log is read line by line.
-use Rattle.std.specs.Prelude.{◌≡◌, ⊤, ℕ, suc, ◌+◌, ◌<◌, ◌≤◌, max, List, [], ◌∷◌, ◌++◌, length, Bool, true, false, Option, None, Some, IfSome, OnSome, Result, Ok, Err, count_by, nat_lt, if◌then◌else◌}
+use Rattle.std.specs.Prelude.{◌≡◌, ⊤, ℕ, suc, ◌+◌, ◌<◌, ◌≤◌, max, List, [], ◌∷◌, ◌++◌, length, Bool, true, false}
+use Rattle.std.specs.Prelude.{Option, None, Some, IfSome, OnSome, Result, Ok, Err, count_by, nat_lt, if◌then◌else◌}
 use Rattle.std.specs.Option.{option_to_list}
 use Rattle.std.specs.List.{slice_split}
 use Rattle.std.specs.Result.{result_map_both}
@@ -7,7 +8,9 @@ use Rattle.std.specs.Io.KnownBytes.{Consumes, IsAtEnd}
 use Rattle.reg_records.specs.Device.{Source, Takes, faults_of}
 use Rattle.reg_records.specs.Floor.{is_floor_line, floor_reading}
 use Rattle.reg_records.specs.Line.{is_line_feed, reading}
-use Rattle.reg_records.specs.Log.{LogText, log_from, log_of, floor_then, line_then, record_in, is_foreign, offset_in, IsLogOf, TakesLastLine}
+use Rattle.reg_records.specs.Log.{LogText, log_from, log_of, floor_then, line_then}
+use Rattle.reg_records.specs.Log.{record_in, is_foreign, offset_in}
+use Rattle.reg_records.specs.Log.{IsLogOf, TakesLastLine}
 use Rattle.reg_records.specs.Pieces.{HasNoLineFeed, Holds, LeavesLine}
 use Rattle.reg_records.specs.declared.pieces.LineBuffer.{LineBuffer}
 use Rattle.reg_records.specs.declared.device.Device.{Device}
@@ -29,7 +32,8 @@ pub record AddsRead (old : Log) (read : Read) (new : Log) : Type 0 where
 
 -- a line was taken that has some bytes, for which the buffer stands, or the log has ended
 abbrev pub TakesLogLine : Source → Source → Option LineBuffer → Type 0
-TakesLogLine old new (Some buffer) = (line : List ℕ) × HasNoLineFeed line × (0 < length line) × Takes old new (line ++ 10 ∷ []) × Holds buffer line
+TakesLogLine old new (Some buffer) = (line : List ℕ) × HasNoLineFeed line × (0 < length line)
+    × Takes old new (line ++ 10 ∷ []) × Holds buffer line
 TakesLogLine old new None = IfSome old.known (λ text. (rest : List ℕ)
     × ((number : ℕ) → log_from number (slice_split is_line_feed text) ≡ Ok (record { floor = 0; reads = []; rest = rest }))
     × (log_of text ≡ Ok (record { floor = 0; reads = []; rest = rest })) × (new.known ≡ Some rest))
@@ -48,7 +52,8 @@ first_then line more = if is_floor_line line then floor_then (floor_reading line
 
 -- that floor and these lines, before what the lines after them say
 abbrev pub lines_then : ℕ → List Read → Result LogText (ℕ × LogFault) → Result LogText (ℕ × LogFault)
-lines_then floor read more = result_map_both (λ (log : LogText). record { floor = floor; reads = read ++ log.reads; rest = log.rest }) (λ fault. fault) more
+lines_then floor read more = result_map_both
+    (λ (log : LogText). record { floor = floor; reads = read ++ log.reads; rest = log.rest }) (λ fault. fault) more
 
 -- what a log's first line makes of it: its floor, or one line; no line after it says a floor
 abbrev pub BeginsLog : List ℕ → Log → Type 0
@@ -57,7 +62,8 @@ BeginsLog line log = (floor : ℕ) × (read : List Read) × IsLogOf floor read l
 
 -- why a first line that was taken whole says nothing
 abbrev pub IsFirstRefusal : List ℕ → LogError → Type 0
-IsFirstRefusal bytes (errors.Fault line fault) = (line ≡ 1) × ((more : Result LogText (ℕ × LogFault)) → first_then bytes more ≡ Err (1, fault))
+IsFirstRefusal bytes (errors.Fault line fault) = (line ≡ 1)
+    × ((more : Result LogText (ℕ × LogFault)) → first_then bytes more ≡ Err (1, fault))
 IsFirstRefusal bytes (errors.ReadFault line) = ⊥
 IsFirstRefusal bytes errors.OutOfMemory = ⊤
 

@@ -53,8 +53,10 @@ abbrev pub CountsPiece : {R : Type 0} → Device R → Device R → Piece → Ty
 CountsPiece old new (Ended len) = faults_of new ≡ faults_of old
 CountsPiece old new (More len) = faults_of new ≡ faults_of old
 CountsPiece old new NoMore = faults_of new ≡ faults_of old
-CountsPiece old new (Failed kind) = (kind ≡ Interrupted → faults_of new ≡ faults_of old) × (kind ≢ Interrupted → faults_of new ≡ counted (faults_of old))
+CountsPiece old new (Failed kind) = (kind ≡ Interrupted → faults_of new ≡ faults_of old)
+    × (kind ≢ Interrupted → faults_of new ≡ counted (faults_of old))
 
 -- no whole line was taken, since the reader was lost, whose reads were counted from the line's front on; what was taken has no LF
 abbrev pub LeavesLine : {R : Type 0} → Device R → Device R → Option (List ℕ) → Option (List ℕ) → Type 0
-LeavesLine before after old new = LosesLine before after × BeganAfter before after 0 × (line : List ℕ) × HasNoLineFeed line × Consumes old new line
+LeavesLine before after old new = LosesLine before after × BeganAfter before after 0 × (line : List ℕ)
+    × HasNoLineFeed line × Consumes old new line

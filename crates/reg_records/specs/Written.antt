@@ -1,5 +1,6 @@
 -- What is written for a key and a value, compact JSON with its members in this order, and for a record.
-use Rattle.std.specs.Prelude.{◌≡◌, ◌<◌, ◌≤◌, ◌^◌, ⊤, ℕ, List, true, false, Option, Some, None, IfSome, option_map, unwrap_or, bytes_eq, codes, decimal}
+use Rattle.std.specs.Prelude.{◌≡◌, ◌<◌, ◌≤◌, ◌^◌, ⊤, ℕ, List, true, false, Option, Some, None}
+use Rattle.std.specs.Prelude.{IfSome, option_map, unwrap_or, bytes_eq, codes, decimal}
 use Rattle.std.specs.Option.{ForSome, option_map_or}
 use Rattle.serde_json.specs.Data.{unsigned, Data, null, boolean, number, string, object, Members, no_members, member}
 use Rattle.serde_json.specs.Written.{compact_text}

@@ -1,7 +1,9 @@
 -- The reasons of the codes that have several.
 use Rattle.std.specs.Prelude.{ℕ, List, codes}
 use Rattle.reg_refusals.specs.declared.reason.Reason.{Reason}
-use Rattle.reg_refusals.specs.declared.reason.Reason.TheVariants.{Readonly, IdNeedsImport, ImportNeedsId, IdNamesAnotherSchema, VersionIsOccupied, ScopeIsNotEmpty, InvalidId, VersionNeedsImport, IdIsNotAboveMark}
+use Rattle.reg_refusals.specs.declared.reason.Reason.TheVariants.{Readonly, IdNeedsImport, ImportNeedsId}
+use Rattle.reg_refusals.specs.declared.reason.Reason.TheVariants.{IdNamesAnotherSchema, VersionIsOccupied, ScopeIsNotEmpty}
+use Rattle.reg_refusals.specs.declared.reason.Reason.TheVariants.{InvalidId, VersionNeedsImport, IdIsNotAboveMark}
 use Rattle.reg_refusals.specs.declared.reason.StoreFault.{StoreFault}
 use Rattle.reg_refusals.specs.declared.reason.StoreFault.TheVariants.{Memory, OpaqueRecord, TwoSchemas, NumbersUsedUp, Unsettled}
 

@@ -3,7 +3,13 @@ use Rattle.std.specs.Prelude.{ℕ, List, ◌++◌, Option, Some, None, nat_lt, �
 use Rattle.reg_refusals.specs.Reason.{reason_text, lack_text}
 use Rattle.reg_refusals.specs.declared.reason.StoreFault.TheVariants.{Memory}
 use Rattle.reg_refusals.specs.declared.refusal.Refusal.{Refusal}
-use Rattle.reg_refusals.specs.declared.refusal.Refusal.TheVariants.{BadRequest, NotFound, MethodNotAllowed, LengthRequired, PayloadTooLarge, UnsupportedMediaType, HeadTooLarge, SubjectNotFound, VersionNotFound, SchemaNotFound, SubjectSoftDeleted, SubjectNotSoftDeleted, VersionSoftDeleted, VersionNotSoftDeleted, SubjectHasNoLevel, SubjectHasNoMode, Incompatible, InvalidSchema, InvalidVersion, InvalidLevel, InvalidMode, NotPermitted, FollowsLog, Store}
+use Rattle.reg_refusals.specs.declared.refusal.Refusal.TheVariants.{BadRequest, NotFound, MethodNotAllowed, LengthRequired}
+use Rattle.reg_refusals.specs.declared.refusal.Refusal.TheVariants.{PayloadTooLarge, UnsupportedMediaType, HeadTooLarge}
+use Rattle.reg_refusals.specs.declared.refusal.Refusal.TheVariants.{SubjectNotFound, VersionNotFound, SchemaNotFound}
+use Rattle.reg_refusals.specs.declared.refusal.Refusal.TheVariants.{SubjectSoftDeleted, SubjectNotSoftDeleted, VersionSoftDeleted}
+use Rattle.reg_refusals.specs.declared.refusal.Refusal.TheVariants.{VersionNotSoftDeleted, SubjectHasNoLevel, SubjectHasNoMode}
+use Rattle.reg_refusals.specs.declared.refusal.Refusal.TheVariants.{Incompatible, InvalidSchema, InvalidVersion, InvalidLevel}
+use Rattle.reg_refusals.specs.declared.refusal.Refusal.TheVariants.{InvalidMode, NotPermitted, FollowsLog, Store}
 
 abbrev pub code_of : Refusal → ℕ
 code_of BadRequest = 400

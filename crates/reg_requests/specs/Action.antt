@@ -1,5 +1,6 @@
 -- What a request asks, once its path, its method and its body are known.
-use Rattle.std.specs.Prelude.{ℕ, List, Bool, ◌&&◌, ◌||◌, nat_lt, nat_le, length, bytes_eq, codes, Option, Some, None, ok_or, option_map, Result, Ok, if◌then◌else◌}
+use Rattle.std.specs.Prelude.{ℕ, List, Bool, ◌&&◌, ◌||◌, nat_lt, nat_le, length, bytes_eq, codes}
+use Rattle.std.specs.Prelude.{Option, Some, None, ok_or, option_map, Result, Ok, if◌then◌else◌}
 use Rattle.std.specs.Char.{is_ascii_digit}
 use Rattle.std.specs.List.{list_all}
 use Rattle.std.specs.Option.{option_map_or}
@@ -66,17 +67,22 @@ abbrev pub action_asks : Action → Given → Result Asked Refusal
 action_asks actions.SchemaById given = by_id given (λ id. queries.SchemaById id)
 action_asks actions.IdVersions given = by_id given (λ id. queries.IdVersions id (deleted given))
 action_asks actions.Subjects given = Ok (asked.Query (queries.Subjects (deleted given)))
-action_asks actions.Lookup given = map_ok (λ text. asked.Query (queries.Lookup (subject_in given) text (deleted given))) (schema_in given.object)
+action_asks actions.Lookup given = map_ok (λ text. asked.Query (queries.Lookup (subject_in given) text (deleted given)))
+    (schema_in given.object)
 action_asks actions.DeleteSubject given = Ok (asked.Command (commands.DeleteSubject (subject_in given) (switch given (codes "permanent"))))
 action_asks actions.Versions given = Ok (asked.Query (queries.Versions (subject_in given) (deleted given)))
 action_asks actions.Register given = map_ok asked.Command (registration_in (subject_in given) given.object)
 action_asks actions.Version given = Ok (asked.Query (queries.Version (subject_in given) (version_ref given) (deleted given)))
-action_asks actions.DeleteVersion given = Ok (asked.Command (commands.DeleteVersion (subject_in given) (version_ref given) (switch given (codes "permanent"))))
+action_asks actions.DeleteVersion given = Ok
+    (asked.Command (commands.DeleteVersion (subject_in given) (version_ref given) (switch given (codes "permanent"))))
 action_asks actions.VersionSchema given = Ok (asked.Query (queries.VersionSchema (subject_in given) (version_ref given) (deleted given)))
-action_asks actions.Check given = map_ok (λ text. asked.Query (queries.Check (subject_in given) given.version text (switch given (codes "verbose")))) (schema_in given.object)
+action_asks actions.Check given = map_ok
+    (λ text. asked.Query (queries.Check (subject_in given) given.version text (switch given (codes "verbose"))))
+    (schema_in given.object)
 action_asks actions.Level given = Ok (asked.Query (queries.Level given.subject (switch given (codes "defaultToGlobal"))))
 action_asks actions.SetLevel given = map_ok (λ level. asked.Command (commands.SetLevel given.subject level)) (level_in given.object)
 action_asks actions.ClearLevel given = Ok (asked.Command (commands.ClearLevel (subject_in given)))
 action_asks actions.Mode given = Ok (asked.Query (queries.Mode given.subject (switch given (codes "defaultToGlobal"))))
-action_asks actions.SetMode given = map_ok (λ mode. asked.Command (commands.SetMode given.subject mode (switch given (codes "force")))) (mode_in given.object)
+action_asks actions.SetMode given = map_ok
+    (λ mode. asked.Command (commands.SetMode given.subject mode (switch given (codes "force")))) (mode_in given.object)
 action_asks actions.ClearMode given = Ok (asked.Command (commands.ClearMode (subject_in given)))

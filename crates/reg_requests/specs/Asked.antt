@@ -1,5 +1,6 @@
 -- What a request asks, or the first of the tests that refuses it.
-use Rattle.std.specs.Prelude.{ℕ, List, Bool, true, false, ◌&&◌, ◌||◌, not, bytes_eq, codes, Option, Some, None, option_and_then, unwrap_or, is_none, Result, Ok, Err, if◌then◌else◌}
+use Rattle.std.specs.Prelude.{ℕ, List, Bool, true, false, ◌&&◌, ◌||◌, not, bytes_eq, codes, Option, Some}
+use Rattle.std.specs.Prelude.{None, option_and_then, unwrap_or, is_none, Result, Ok, Err, if◌then◌else◌}
 use Rattle.std.specs.Option.{option_map_or}
 use Rattle.serde_json.specs.Data.{Data, null}
 use Rattle.reg_fold.specs.declared.version_ref.VersionRef.{VersionRef}

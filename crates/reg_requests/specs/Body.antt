@@ -1,5 +1,6 @@
 -- What the JSON object in a body says.
-use Rattle.std.specs.Prelude.{ℕ, ℤ, pos, negsuc, List, Bool, true, false, ◌||◌, ◌==◌, codes, Option, Some, None, ok_or, option_map, option_and_then, is_some, Result, Ok, Err, if◌then◌else◌}
+use Rattle.std.specs.Prelude.{ℕ, ℤ, pos, negsuc, List, Bool, true, false, ◌||◌, ◌==◌, codes, Option, Some, None}
+use Rattle.std.specs.Prelude.{ok_or, option_map, option_and_then, is_some, Result, Ok, Err, if◌then◌else◌}
 use Rattle.std.specs.Option.{option_map_or}
 use Rattle.std.specs.Str.{is_utf8}
 use Rattle.serde_json.specs.Data.{Data, Num, unsigned, negative, float}

@@ -44,7 +44,8 @@ module _ {W : Type 0} (writes : W → List ℕ → Result ℕ Error → W → Ty
 
   -- the writer's last call answered that error
   abbrev pub HasFailed : Device W → Error → Type 0
-  HasFailed after e = (before : W) × (flushes before (Err e) (inner_of after) ⊎ ((bytes : List ℕ) × writes before bytes (Err e) (inner_of after)))
+  HasFailed after e = (before : W)
+      × (flushes before (Err e) (inner_of after) ⊎ ((bytes : List ℕ) × writes before bytes (Err e) (inner_of after)))
 
   -- the writer's last call took none of some bytes
   abbrev pub HasTakenNone : Device W → Type 0

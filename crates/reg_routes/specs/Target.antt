@@ -1,5 +1,6 @@
 -- The path and the query of a target.
-use Rattle.std.specs.Prelude.{ℕ, zero, suc, List, Bool, ◌&&◌, ◌==◌, nat_eq, codes, Option, Some, None, option_map, ok_or, Result, Ok, if◌then◌else◌}
+use Rattle.std.specs.Prelude.{ℕ, zero, suc, List, Bool, ◌&&◌, ◌==◌, nat_eq, codes, Option}
+use Rattle.std.specs.Prelude.{Some, None, option_map, ok_or, Result, Ok, if◌then◌else◌}
 use Rattle.std.specs.List.{before_first, after_first, starts_with}
 use Rattle.std.specs.Str.{is_utf8}
 use Rattle.percent_encoding.specs.Percent.{percent_decode}

@@ -1,5 +1,6 @@
 -- What a verdict tells by its message, and that entries' texts are schemas'.
-use Rattle.std.proofs.Common.{◌≡◌, ℕ, List, [], ◌∷◌, true, false, not, cond, is_some, Option, Some, None, All, Contains, option_map, bytes_eq, refl, sym, ap, subst, ◌∙◌, inl, inr}
+use Rattle.std.proofs.Common.{◌≡◌, ℕ, List, [], ◌∷◌, true, false, not, cond, is_some, Option, Some, None}
+use Rattle.std.proofs.Common.{All, Contains, option_map, bytes_eq, refl, sym, ap, subst, ◌∙◌, inl, inr}
 use Rattle.std.proofs.lemmas.List.Elements.{All-nil, All-cons, All-head, All-tail, All-weaker, All-filter, All-contains_itself}
 use Rattle.std.specs.List.{find}
 use Rattle.avro_schema.specs.Schema.{Meaning, schema_of, is_schema}

@@ -34,7 +34,8 @@ abbrev pub version_meant : Records → List ℕ → VersionRef → Option Entry
 version_meant rs subject Latest = version_in (entries rs) subject Latest false
 version_meant rs subject (Number version) = version_in (entries rs) subject (Number version) true
 
--- the id of a schema that is registered: the least that an entry has it under, else one more than the greatest that is marked or that an entry has, or 1
+-- the id of a schema that is registered: the least that an entry has it under, else one
+-- more than the greatest that is marked or that an entry has, or 1
 abbrev pub id_for : Records → List ℕ → ℕ
 id_for rs normal = unwrap_or (id_of rs normal) (suc (last_id rs))
 
@@ -42,7 +43,8 @@ id_for rs normal = unwrap_or (id_of rs normal) (suc (last_id rs))
 abbrev pub next_version : Records → List ℕ → ℕ
 next_version rs subject = option_map_or suc (greatest_version rs subject) 1
 
--- whether the id names another schema: the entry that it names, which may be soft, has another one. In a registry that takes commands all entries of an id have one schema.
+-- whether the id names another schema: the entry that it names, which may be soft, has another
+-- one. In a registry that takes commands all entries of an id have one schema.
 abbrev pub names_another : Records → ℕ → List ℕ → Bool
 names_another rs id normal = option_map_or (λ e. not (has_schema normal e)) (named rs id) false
 

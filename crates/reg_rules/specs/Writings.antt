@@ -13,7 +13,11 @@ use Rattle.reg_fold.specs.InForce.{Scope}
 pub use Rattle.reg_rules.specs.declared.writing.Writing.{Writing}
 
 abbrev pub version_of : List ℕ → ℕ → ℕ → List ℕ → Writing
-version_of subject version id text = record { key = keys.Schema subject version; value = Some (values.Schema subject version id text false) }
+version_of subject version id text = record {
+  key = keys.Schema subject version;
+  value = Some
+      (values.Schema subject version id text false);
+}
 
 -- an entry's record again, as a deleted one, with the text that it holds
 abbrev pub deleted_again : Entry → Writing

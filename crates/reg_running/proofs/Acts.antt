@@ -14,12 +14,16 @@ use Rattle.reg_topic.specs.declared.published.Compaction.{Compaction}
 use Rattle.reg_topic.specs.declared.published.Item.{Item}
 use Rattle.reg_topic.specs.declared.published.Item.TheVariants as items
 use Rattle.reg_topic.specs.declared.topic.Topic.{Topic}
-use Rattle.reg_pen.specs.Pen.{Acts, Compacts, Follows, IsCompactRefusal, IsNoMemory, IsPen, LeavesCompaction, Pends, PenState, StillPends, Submits, item_of, settled}
+use Rattle.reg_pen.specs.Pen.{Acts, Compacts, Follows, IsCompactRefusal, IsNoMemory, IsPen}
+use Rattle.reg_pen.specs.Pen.{LeavesCompaction, Pends, PenState, StillPends, Submits}
+use Rattle.reg_pen.specs.Pen.{item_of, settled}
 use Rattle.reg_pen.specs.declared.compact_error.CompactError.{CompactError}
 use Rattle.reg_pen.specs.declared.compact_error.CompactError.TheVariants as refused
 use Rattle.reg_pen.specs.declared.keep.Kept.{Kept}
 use Rattle.reg_pen.specs.declared.keep.Kept.TheVariants.{Taken, Declined, Lost}
-use Rattle.reg_running.specs.Calls.{ActsAddUp, ActsAreLawful, Added, CompactionsAreActs, CompactsOrNot, IsNoOutcome, IsToldOf, LawfulListsAreOfActs, SubmitsAreActs}
+use Rattle.reg_running.specs.Calls.{ActsAddUp, ActsAreLawful, Added, CompactionsAreActs}
+use Rattle.reg_running.specs.Calls.{CompactsOrNot, IsNoOutcome, IsToldOf}
+use Rattle.reg_running.specs.Calls.{LawfulListsAreOfActs, SubmitsAreActs}
 use Rattle.reg_running.specs.Running.{Act, AreActs, Carried, Dropped, items_of, published}
 
 -- acts, and more acts

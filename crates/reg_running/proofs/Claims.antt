@@ -14,7 +14,9 @@ use Rattle.reg_shared.specs.Held.{Held, base_of}
 use Rattle.reg_node.specs.Takes.{taken, taken_set, with_draw}
 use Rattle.reg_world.specs.Headline.{AnswersAreOfTheSet, Ids, Levels, SameAnswers}
 use Rattle.reg_running.specs.Calls.{ActsAreLawful}
-use Rattle.reg_running.specs.Claims.{ClaimsHoldAtEachMoment, MomentsAreAfterEvents, SameAnswersAtMoments, RunningNodesAnswerAlike, RunningNodesKeepPromises}
+use Rattle.reg_running.specs.Claims.{ClaimsHoldAtEachMoment, MomentsAreAfterEvents}
+use Rattle.reg_running.specs.Claims.{SameAnswersAtMoments}
+use Rattle.reg_running.specs.Claims.{RunningNodesAnswerAlike, RunningNodesKeepPromises}
 use Rattle.reg_running.specs.Running.{AreAnswers, Deed, Drew, Told, IsRunningNode, published, draws}
 use Rattle.reg_running.specs.Woven.{event_of, outcome_of}
 

@@ -1,8 +1,10 @@
 -- What one act or one deed does to a world.
-use Rattle.std.proofs.Common.{◌≡◌, ℕ, zero, suc, ◌<◌, ◌==◌, true, false, Bool, ◌&&◌, ◌||◌, List, [], ◌∷◌, ◌++◌, None, Some, MatchBool, is_some, slice_get, length, fold, refl, sym, ap, subst, ◌∙◌, arith, eq-eqb}
+use Rattle.std.proofs.Common.{◌≡◌, ℕ, zero, suc, ◌<◌, ◌==◌, true, false, Bool, ◌&&◌, ◌||◌, List, [], ◌∷◌, ◌++◌, None, Some}
+use Rattle.std.proofs.Common.{MatchBool, is_some, slice_get, length, fold, refl, sym, ap, subst, ◌∙◌, arith, eq-eqb}
 use Rattle.std.proofs.lemmas.List.{append-nil}
 use Rattle.std.specs.Cmp.{IsTotalOrder}
-use Rattle.std.specs.FinSet.{contains, empty, from_list, insert, union, contains-from_list, contains-insert, contains-union, IsAntisymmetric, same_set}
+use Rattle.std.specs.FinSet.{contains, empty, from_list, insert, union, contains-from_list}
+use Rattle.std.specs.FinSet.{contains-insert, contains-union, IsAntisymmetric, same_set}
 use Rattle.std.specs.Option.{option_map_or}
 use Rattle.std.specs.Ordering.{eq_by_cmp}
 use Rattle.reg_records.specs.declared.record.Record.{Record}

@@ -1,5 +1,6 @@
 -- What was done, in such an order, is a list of a world's events.
-use Rattle.std.proofs.Common.{◌≡◌, ◌⊎◌, inl, inr, ℕ, zero, suc, ◌+◌, ◌<◌, ◌≤◌, true, List, [], ◌∷◌, ◌++◌, None, Some, slice_get, length, get_or, replicate, refl, sym, ap, subst, ◌∙◌, append_assoc, length-append, arith}
+use Rattle.std.proofs.Common.{◌≡◌, ◌⊎◌, inl, inr, ℕ, zero, suc, ◌+◌, ◌<◌, ◌≤◌, true, List, [], ◌∷◌, ◌++◌, None, Some, slice_get}
+use Rattle.std.proofs.Common.{length, get_or, replicate, refl, sym, ap, subst, ◌∙◌, append_assoc, length-append, arith}
 use Rattle.std.proofs.lemmas.Bool.Decides.{eqb_tells}
 use Rattle.std.proofs.lemmas.List.{append-nil}
 use Rattle.std.proofs.lemmas.List.Sums.{fold-append}
@@ -16,10 +17,14 @@ use Rattle.reg_node.specs.declared.take.Draw.{Draw}
 use Rattle.reg_world.specs.State.{changed, no_records}
 use Rattle.reg_world.specs.declared.node.Node.{Node}
 use Rattle.reg_running.specs.Running.{Act, AreActs, AreAnswers, Deed, Drew, Told, IsRunningNode, Running, items_of, published, draws}
-use Rattle.reg_running.specs.Woven.{ByNode, ByPen, Done, AreInPlace, HappensInTurn, IsWoven, RunningNodesAreAWorld, acts_in, deeds_of, read_of}
+use Rattle.reg_running.specs.Woven.{ByNode, ByPen, Done, AreInPlace, HappensInTurn}
+use Rattle.reg_running.specs.Woven.{IsWoven, RunningNodesAreAWorld, acts_in}
+use Rattle.reg_running.specs.Woven.{deeds_of, read_of}
 use Rattle.reg_running.proofs.Drawn.{drawn_longer, last_front, read_is}
 use Rattle.reg_running.proofs.Lists.{other_deeds, own_deeds, prefix_shorter, prefix_whole}
-use Rattle.reg_running.proofs.Steps.{act_happens, answer_happens, changed_count, changed_one, changed_other, draw_happens, drawing, state_of, with_deeds, with_one}
+use Rattle.reg_running.proofs.Steps.{act_happens, answer_happens, changed_count, changed_one}
+use Rattle.reg_running.proofs.Steps.{changed_other, draw_happens, drawing, state_of}
+use Rattle.reg_running.proofs.Steps.{with_deeds, with_one}
 
 -- what a node has yet to do is drawn from fronts of that list, and its answers are right
 pub record Fits (first : Held) (g : List Item) (n : Node) (deeds : List Deed) : Type 0 where

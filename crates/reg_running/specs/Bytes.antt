@@ -21,7 +21,10 @@ SameBytes = (events others : List Event) (w v : State) → After events w → Af
 
 -- so do running nodes that had taken compactions of one set when they were asked
 abbrev pub RunningNodesWriteAlike : Type 0
-RunningNodesWriteAlike = (r q : Running) → IsRunning r → IsRunning q → (i j : ℕ) (before after others rest : List Deed) (query : Query) (one other : Answer) (whole : Floored)
+RunningNodesWriteAlike = (r q : Running)
+    → IsRunning r
+    → IsRunning q
+    → (i j : ℕ) (before after others rest : List Deed) (query : Query) (one other : Answer) (whole : Floored)
     → get_or r.nodes i [] ≡ before ++ Told query one ∷ after → get_or q.nodes j [] ≡ others ++ Told query other ∷ rest
     → IsCompactionOf (taken_set (draws before)) whole → IsCompactionOf (taken_set (draws others)) whole
     → (closes : Bool) → answer_text closes one ≡ answer_text closes other

@@ -29,7 +29,10 @@ pub record Added (count : ℕ) (base : Topic) (before after : List Item) (acts :
 
 -- calls one after the other add their acts one after the other
 abbrev pub ActsAddUp : Type 0
-ActsAddUp = (count : ℕ) (base : Topic) (before mid after : List Item) (acts more : List Act) → Added count base before mid acts → Added count base mid after more → Added count base before after (acts ++ more)
+ActsAddUp = (count : ℕ) (base : Topic) (before mid after : List Item) (acts more : List Act)
+    → Added count base before mid acts
+    → Added count base mid after more
+    → Added count base before after (acts ++ more)
 
 -- memory or the keep refused the command, or its batch, or one before it, isn't settled
 abbrev pub IsNoOutcome : Reply → Type 0
@@ -39,11 +42,13 @@ IsNoOutcome _ = ⊥
 
 -- the caller got the outcome of the last act, or none
 abbrev pub IsToldOf : List Act → ℕ → Command → Reply → Type 0
-IsToldOf acts node command reply = ((before : List Act) × (batch : List Record) × (acts ≡ before ++ Carried node command reply batch ∷ [])) ⊎ IsNoOutcome reply
+IsToldOf acts node command reply =
+    ((before : List Act) × (batch : List Record) × (acts ≡ before ++ Carried node command reply batch ∷ [])) ⊎ IsNoOutcome reply
 
 -- a submit of a node: what was pending may be published by it, and then its own command is carried out, with the reply that its caller got
 abbrev pub SubmitsAreActs : {K : Type 0} → (K → List Record → Kept → K → Type 0) → Type 0
-SubmitsAreActs {K} keeps = (base : Topic) (since : Option (Bor (List Item))) (l m : PenState K) (command : Command) (reply : Reply) (count node : ℕ)
+SubmitsAreActs {K} keeps = (base : Topic) (since : Option (Bor (List Item))) (l m : PenState K) (command : Command)
+    (reply : Reply) (count node : ℕ)
     → node < count → IsPen base l.published l.pending → Submits keeps base since l command reply m
     → (acts : List Act) × Added count base l.published m.published acts × IsToldOf acts node command reply
 
@@ -52,26 +57,40 @@ abbrev pub CompactsOrNot : {K : Type 0} → Topic → ℕ → PenState K → Pen
 CompactsOrNot base floor l m = Compacts base floor l m ⊎ ((error : CompactError) × IsCompactRefusal base floor l error m)
 
 abbrev pub CompactionsAreActs : Type 0 → Type 0
-CompactionsAreActs K = (base : Topic) (floor : ℕ) (l m : PenState K) (count : ℕ) → 0 < count → IsPen base l.published l.pending → CompactsOrNot base floor l m
+CompactionsAreActs K = (base : Topic) (floor : ℕ) (l m : PenState K) (count : ℕ)
+    → 0 < count
+    → IsPen base l.published l.pending
+    → CompactsOrNot base floor l m
     → (acts : List Act) × Added count base l.published m.published acts
 
 -- what a pen keeps stays so at each call, so it holds of each pen that was opened over an adopted base
 abbrev pub CallsKeepPens : {K : Type 0} → (K → List Record → Kept → K → Type 0) → Type 0
-CallsKeepPens {K} keeps = (base : Topic) (since : Option (Bor (List Item))) (l m : PenState K) (command : Command) (reply : Reply) (floor : ℕ) → IsPen base l.published l.pending
+CallsKeepPens {K} keeps = (base : Topic) (since : Option (Bor (List Item))) (l m : PenState K) (command : Command)
+    (reply : Reply) (floor : ℕ) → IsPen base l.published l.pending
     → Submits keeps base since l command reply m ⊎ CompactsOrNot base floor l m → IsPen base m.published m.pending
 
 -- each lawful list is published by acts, and these publish nothing else
 abbrev pub LawfulListsAreOfActs : Type 0
-LawfulListsAreOfActs = (base : Topic) (items : List Item) (count : ℕ) → 0 < count → IsLawful base items → (acts : List Act) × AreActs count base acts × (published acts ≡ items)
+LawfulListsAreOfActs = (base : Topic) (items : List Item) (count : ℕ)
+    → 0 < count
+    → IsLawful base items
+    → (acts : List Act) × AreActs count base acts × (published acts ≡ items)
 
 abbrev pub ActsAreLawful : Type 0
 ActsAreLawful = (base : Topic) (acts : List Act) (count : ℕ) → AreActs count base acts → IsLawful base (published acts)
 
 -- a follower's list that is drawn from a front of the topic's list is that of a node
 abbrev pub FollowersAreNodes : Type 0
-FollowersAreNodes = (first : Held) (items front : List Item) (list : List Draw) → IsPrefix front items → AreDrawnFrom first list front → IsRunningNode first items (map Drew list) × (draws (map Drew list) ≡ list)
+FollowersAreNodes = (first : Held) (items front : List Item) (list : List Draw)
+    → IsPrefix front items
+    → AreDrawnFrom first list front
+    → IsRunningNode first items (map Drew list) × (draws (map Drew list) ≡ list)
 
 -- an answer of a view that saw a front of its node's list is one that the node told then
 abbrev pub ViewsTellForNodes : Type 0
-ViewsTellForNodes = (first : Held) (items : List Item) (deeds : List Deed) (seen : List Draw) (query : Query) (answer : Answer) → IsRunningNode first items deeds → IsPrefix seen (draws deeds) → IsAnswer (last_records (taken seen)) query answer
-    → (before after : List Deed) × (deeds ≡ before ++ after) × (draws before ≡ seen) × IsRunningNode first items (before ++ Told query answer ∷ after)
+ViewsTellForNodes = (first : Held) (items : List Item) (deeds : List Deed) (seen : List Draw) (query : Query) (answer : Answer)
+    → IsRunningNode first items deeds
+    → IsPrefix seen (draws deeds)
+    → IsAnswer (last_records (taken seen)) query answer
+    → (before after : List Deed) × (deeds ≡ before ++ after) × (draws before ≡ seen)
+    × IsRunningNode first items (before ++ Told query answer ∷ after)

@@ -27,12 +27,26 @@ abbrev pub ClaimsHoldAtEachMoment : Type 0
 ClaimsHoldAtEachMoment = (r : Running) → IsRunning r → (done : List Done) (w : State) → IsMoment r done w → KeepsTheHeadline w
 
 abbrev pub SameAnswersAtMoments : Type 0
-SameAnswersAtMoments = (r q : Running) → IsRunning r → IsRunning q → (done others : List Done) (w v : State) → IsMoment r done w → IsMoment q others v
-    → (i j : ℕ) (whole : Floored) → Took w i whole → Took v j whole → (query : Query) (one other : Answer) → Gives w i query one → Gives v j query other → one ≡ other
+SameAnswersAtMoments = (r q : Running)
+    → IsRunning r
+    → IsRunning q
+    → (done others : List Done) (w v : State)
+    → IsMoment r done w
+    → IsMoment q others v
+    → (i j : ℕ) (whole : Floored)
+    → Took w i whole
+    → Took v j whole
+    → (query : Query) (one other : Answer)
+    → Gives w i query one
+    → Gives v j query other
+    → one ≡ other
 
 -- Same answers: nodes, of one running registry or of two, that had taken compactions of one set when they were asked told one answer.
 abbrev pub RunningNodesAnswerAlike : Type 0
-RunningNodesAnswerAlike = (r q : Running) → IsRunning r → IsRunning q → (i j : ℕ) (before after others rest : List Deed) (query : Query) (one other : Answer) (whole : Floored)
+RunningNodesAnswerAlike = (r q : Running)
+    → IsRunning r
+    → IsRunning q
+    → (i j : ℕ) (before after others rest : List Deed) (query : Query) (one other : Answer) (whole : Floored)
     → get_or r.nodes i [] ≡ before ++ Told query one ∷ after → get_or q.nodes j [] ≡ others ++ Told query other ∷ rest
     → IsCompactionOf (taken_set (draws before)) whole → IsCompactionOf (taken_set (draws others)) whole → one ≡ other
 

@@ -81,7 +81,8 @@ pub record IsMoment (r : Running) (done : List Done) (w : State) : Type 0 where
   pub settled : w.unsettled ≡ None
   pub nodes : (i : ℕ) → i < length r.nodes → slice_get w.nodes i ≡ Some (node_of (deeds_of i done))
 
--- Running nodes are a world: all that was done, in each such order, is a list of a world's events with the outcomes that the callers got, and so is each beginning of it.
+-- Running nodes are a world: all that was done, in each such order, is a list of a world's events
+-- with the outcomes that the callers got, and so is each beginning of it.
 abbrev pub RunningNodesAreAWorld : Type 0
 RunningNodesAreAWorld = (r : Running) → IsRunning r → (done rest : List Done) → IsWoven r (done ++ rest) → (w : State) × IsMoment r done w
 

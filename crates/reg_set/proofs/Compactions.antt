@@ -12,7 +12,9 @@ use Rattle.reg_set.specs.RecordOrder.{record_cmp}
 use Rattle.reg_set.specs.Records.{Records, records_of}
 use Rattle.reg_set.specs.Compaction.{IsCompactionOf}
 use Rattle.reg_set.specs.LastRecords.{last, is_last, last_records}
-use Rattle.reg_set.specs.Join.{LastOfLastRecords, LastOfCompaction, CompactionsCompose, CompactionsUnite, DropsLeaveCompactions, EachIsItsOwnCompaction, LastRecordsAreCompaction, LastRecordsOfCompaction, LastRecordsOfInsert, LastRecordsOfUnion}
+use Rattle.reg_set.specs.Join.{LastOfLastRecords, LastOfCompaction, CompactionsCompose, CompactionsUnite, DropsLeaveCompactions}
+use Rattle.reg_set.specs.Join.{EachIsItsOwnCompaction, LastRecordsAreCompaction, LastRecordsOfCompaction}
+use Rattle.reg_set.specs.Join.{LastRecordsOfInsert, LastRecordsOfUnion}
 use Rattle.reg_set.proofs.Orders.{record_cmp-total, record_cmp-ties}
 use Rattle.reg_set.proofs.InOrder.{both, first_of, second_of, contains-records_of}
 use Rattle.reg_set.proofs.Lasts.{equal, at_any, last-some, last-none, last-greatest, last-absent}

@@ -1,5 +1,6 @@
 -- Lists joined to sets, and the last records of both.
-use Rattle.std.proofs.Common.{◌≡◌, ℕ, suc, zero, ◌+◌, ◌<◌, Bool, true, ⊎_elim, List, [], ◌∷◌, ◌++◌, length, get_or, take, Some, None, refl, sym, ap, ◌∙◌}
+use Rattle.std.proofs.Common.{◌≡◌, ℕ, suc, zero, ◌+◌, ◌<◌, Bool, true, ⊎_elim, List, [], ◌∷◌}
+use Rattle.std.proofs.Common.{◌++◌, length, get_or, take, Some, None, refl, sym, ap, ◌∙◌}
 use Rattle.std.proofs.lemmas.List.{take_more}
 use Rattle.std.proofs.lemmas.Bool.{false≢true}
 use Rattle.std.specs.BTreeMap.{keys}
@@ -23,7 +24,9 @@ use Rattle.reg_set.proofs.Lasts.{at_any, is_of-is, IsGreatestOf-one, last-some}
 use Rattle.reg_set.proofs.Listed.{Entries, at_place, of_one_key, of_that_key, place_of}
 use Rattle.reg_set.proofs.OneEach.{compact_from}
 use Rattle.reg_set.proofs.Orders.{record_cmp-total, record_cmp-ties}
-use Rattle.reg_set.proofs.Unions.{one_set, in_either, in_insert, in_left, insert-itself, insert-union, from_list-both, merging_is_associative, same_answers}
+use Rattle.reg_set.proofs.Unions.{one_set, in_either, in_insert, in_left, insert-itself}
+use Rattle.reg_set.proofs.Unions.{insert-union, from_list-both}
+use Rattle.reg_set.proofs.Unions.{merging_is_associative, same_answers}
 
 abbrev is_same : Record → Record → Bool
 is_same r q = eq_by_cmp record_cmp r q

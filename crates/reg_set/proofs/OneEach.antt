@@ -1,5 +1,6 @@
 -- Sets that have one record of each key, which are those of last records.
-use Rattle.std.proofs.Common.{◌≡◌, Bool, true, false, cond, not, ◌&&◌, ⊎_elim, Option, Some, None, IfSome, IsSome, refl, sym, ap, subst, ◌∙◌, rules}
+use Rattle.std.proofs.Common.{◌≡◌, Bool, true, false, cond, not, ◌&&◌, ⊎_elim, Option, Some}
+use Rattle.std.proofs.Common.{None, IfSome, IsSome, refl, sym, ap, subst, ◌∙◌, rules}
 use Rattle.std.proofs.lemmas.Bool.{false≢true}
 use Rattle.std.proofs.lemmas.Cmp.{tied_itself}
 use Rattle.std.specs.FinSet.{contains, insert, retain, contains-retain}
@@ -13,7 +14,9 @@ use Rattle.reg_set.specs.Join.{later}
 use Rattle.reg_set.specs.LastRecords.{is_of, last, last_records, with_last}
 use Rattle.reg_set.specs.RecordOrder.{age_cmp, key_cmp}
 use Rattle.reg_set.specs.Records.{Records}
-use Rattle.reg_set.proofs.Compactions.{contains-last_records, last_records-last, last-last_records, last_of_last_records, last_records_are_compaction, last_records_of_compaction}
+use Rattle.reg_set.proofs.Compactions.{contains-last_records, last_records-last, last-last_records}
+use Rattle.reg_set.proofs.Compactions.{last_of_last_records}
+use Rattle.reg_set.proofs.Compactions.{last_records_are_compaction, last_records_of_compaction}
 use Rattle.reg_set.proofs.Indexed.{is_later, last-fresh, last-other, key_cmp-itself, at_key}
 use Rattle.reg_set.proofs.InOrder.{both, first_of, second_of}
 use Rattle.reg_set.proofs.Lasts.{equal, both_le, turn_lt, is_of-is, is_of-of, last-some, last-none, last-greatest, last-absent}

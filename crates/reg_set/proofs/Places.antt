@@ -1,5 +1,6 @@
 -- Where a record stands among records in order.
-use Rattle.std.proofs.Common.{◌≡◌, ℕ, suc, zero, ◌+◌, ◌<◌, Bool, true, false, ◌||◌, List, [], ◌∷◌, ◌++◌, length, get_or, take, drop, refl, sym, ap, ◌∙◌, add-one, arith}
+use Rattle.std.proofs.Common.{◌≡◌, ℕ, suc, zero, ◌+◌, ◌<◌, Bool, true, false, ◌||◌, List, [], ◌∷◌, ◌++◌}
+use Rattle.std.proofs.Common.{length, get_or, take, drop, refl, sym, ap, ◌∙◌, add-one, arith}
 use Rattle.std.proofs.lemmas.Bool.{false≢true}
 use Rattle.std.proofs.lemmas.Cmp.{tied_itself}
 use Rattle.std.proofs.lemmas.List.{take-append-drop, drop_more}
@@ -12,7 +13,9 @@ use Rattle.reg_records.specs.declared.record.Record.{Record}
 use Rattle.reg_set.specs.RecordOrder.{record_cmp}
 use Rattle.reg_set.specs.Records.{is_in_order, placed}
 use Rattle.reg_set.proofs.Orders.{record_cmp-total, record_cmp-ties}
-use Rattle.reg_set.proofs.InOrder.{both, first_of, second_of, less, turned, before_all, none_of_later, any_placed, is_in_order-placed, one_order, ties_alike}
+use Rattle.reg_set.proofs.InOrder.{both, first_of, second_of, less, turned, before_all}
+use Rattle.reg_set.proofs.InOrder.{none_of_later, any_placed, is_in_order-placed}
+use Rattle.reg_set.proofs.InOrder.{one_order, ties_alike}
 use Rattle.reg_set.proofs.Lasts.{at_any, equal}
 
 neither_left : (a b : Bool) → (a || b) ≡ false → a ≡ false

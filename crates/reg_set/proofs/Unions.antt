@@ -1,7 +1,10 @@
 -- Unions of sets of records, and their last records.
-use Rattle.std.proofs.Common.{◌≡◌, ℕ, ◌+◌, ◌<◌, List, [], ◌∷◌, ◌++◌, length, get_or, map, take, Bool, true, false, cond, ◌||◌, ◌⊎◌, inl, inr, ⊎_elim, Some, None, refl, sym, ap, ◌∙◌}
+use Rattle.std.proofs.Common.{◌≡◌, ℕ, ◌+◌, ◌<◌, List, [], ◌∷◌, ◌++◌, length, get_or, map, take, Bool, true}
+use Rattle.std.proofs.Common.{false, cond, ◌||◌, ◌⊎◌, inl, inr, ⊎_elim, Some, None, refl, sym, ap, ◌∙◌}
 use Rattle.std.proofs.lemmas.Bool.{false≢true}
-use Rattle.std.specs.FinSet.{contains, empty, from_list, insert, union, contains-empty, contains-insert, contains-union, contains-from_list, from_list_push, same_set}
+use Rattle.std.specs.FinSet.{contains, empty, from_list, insert, union, contains-empty}
+use Rattle.std.specs.FinSet.{contains-insert, contains-union, contains-from_list}
+use Rattle.std.specs.FinSet.{from_list_push, same_set}
 use Rattle.std.proofs.lemmas.List.{take_more}
 use Rattle.std.proofs.lemmas.List.Folds.{list_any-append}
 use Rattle.std.proofs.lemmas.List.Sorted.{list_any-IsPermutation}

@@ -20,7 +20,9 @@ KeptGivesRegistry = (first : Held) (is : List Item) → first.kept.floor ≤ fir
 
 -- what items add to the log is at or above the next offset before them
 abbrev pub LaterRecordsAreNews : Type 0
-LaterRecordsAreNews = (t : Topic) (is : List Item) (r : Record) → contains (after_items t is).log r ≡ true → (contains t.log r ≡ true) ⊎ (t.next ≤ r.offset)
+LaterRecordsAreNews = (t : Topic) (is : List Item) (r : Record)
+    → contains (after_items t is).log r ≡ true
+    → (contains t.log r ≡ true) ⊎ (t.next ≤ r.offset)
 
 -- the next offset never falls
 abbrev pub OffsetsRise : Type 0

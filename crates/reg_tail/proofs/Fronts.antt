@@ -1,5 +1,6 @@
 -- The line of a file's floor.
-use Rattle.std.proofs.Common.{◌≡◌, ◌+◌, ◌==◌, ℕ, Bool, cond, true, false, List, [], ◌∷◌, length, take, decimal, Some, None, Result, Ok, Err, refl, sym, ap, subst, ◌∙◌, arith, append_assoc, length-append}
+use Rattle.std.proofs.Common.{◌≡◌, ◌+◌, ◌==◌, ℕ, Bool, cond, true, false, List, [], ◌∷◌, length, take, decimal, Some}
+use Rattle.std.proofs.Common.{None, Result, Ok, Err, refl, sym, ap, subst, ◌∙◌, arith, append_assoc, length-append}
 use Rattle.std.proofs.lemmas.Bool.{true≢false}
 use Rattle.std.specs.Prelude.{position}
 use Rattle.reg_records.proofs.Floors.{floor_reading-text, is_floor_line-mark, is_floor_line-text, of_reading, one_line}

@@ -1,5 +1,6 @@
 -- How the lines of a piece are gathered.
-use Rattle.std.proofs.Common.{◌≡◌, ◌⊎◌, ⊎_elim, ◌+◌, ℕ, suc, max, Bool, cond, true, false, List, [], ◌∷◌, ◌++◌, length, take, refl, sym, ap, ◌∙◌, arith, append_assoc, append-nil, length-append, nat_le}
+use Rattle.std.proofs.Common.{◌≡◌, ◌⊎◌, ⊎_elim, ◌+◌, ℕ, suc, max, Bool, cond, true, false, List, [], ◌∷◌, ◌++◌, length}
+use Rattle.std.proofs.Common.{take, refl, sym, ap, ◌∙◌, arith, append_assoc, append-nil, length-append, nat_le}
 use Rattle.reg_journal.specs.Lines.{Say, text_of}
 use Rattle.reg_records.specs.Log.{log_from, offset_in}
 use Rattle.reg_records.specs.declared.record.Read.{Read}

@@ -1,12 +1,15 @@
 -- One look behind the other.
-use Rattle.std.proofs.Common.{◌≡◌, ℕ, List, [], ◌∷◌, ◌++◌, length, take, arith, cond, true, false, max, nat_eq, nat_le, ◌<◌, ◌≤◌, suc, refl, sym, ap, subst, ◌∙◌, append_assoc}
+use Rattle.std.proofs.Common.{◌≡◌, ℕ, List, [], ◌∷◌, ◌++◌, length, take, arith, cond, true, false, max}
+use Rattle.std.proofs.Common.{nat_eq, nat_le, ◌<◌, ◌≤◌, suc, refl, sym, ap, subst, ◌∙◌, append_assoc}
 use Rattle.std.proofs.lemmas.Bool.{ne_eqb}
 use Rattle.std.proofs.lemmas.Bool.Decides.{nat_tests}
 use Rattle.std.proofs.lemmas.List.{take_at}
 use Rattle.reg_records.specs.Log.{next_after, offset_in}
 use Rattle.reg_journal.specs.Lines.{Say, text_of}
 use Rattle.reg_records.specs.declared.record.Read.{Read}
-use Rattle.reg_tail.specs.Looks.{AllIsGivenFromZero, Follow, Look, LooksGiveTheFile, PassedLinesAreNotGivenAgain, PassedLinesStand, last_look, texts_of}
+use Rattle.reg_tail.specs.Looks.{AllIsGivenFromZero, Follow, Look, LooksGiveTheFile}
+use Rattle.reg_tail.specs.Looks.{PassedLinesAreNotGivenAgain, PassedLinesStand}
+use Rattle.reg_tail.specs.Looks.{last_look, texts_of}
 use Rattle.reg_tail.specs.Tail.{HasGiven, front_from, lines_from}
 use Rattle.reg_tail.specs.declared.tail.Tail.{Tail}
 use Rattle.reg_tail.proofs.Given.{given_on}

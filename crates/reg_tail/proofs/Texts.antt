@@ -1,5 +1,7 @@
 -- Lines behind lines.
-use Rattle.std.proofs.Common.{◌≡◌, ◌<◌, ◌≤◌, ◌+◌, ◌-◌, Option, Some, None, Ok, bytes_eq, codes, ℕ, suc, max, Bool, cond, true, false, decimal, List, [], ◌∷◌, ◌++◌, length, take, drop, refl, sym, ap, subst, ◌∙◌, arith, append_assoc, length-append, nat_le}
+use Rattle.std.proofs.Common.{◌≡◌, ◌<◌, ◌≤◌, ◌+◌, ◌-◌, Option, Some, None, Ok, bytes_eq, codes, ℕ, suc, max, Bool, cond, true, false}
+use Rattle.std.proofs.Common.{decimal, List, [], ◌∷◌, ◌++◌, length, take, drop, refl, sym, ap, subst, ◌∙◌, arith, append_assoc}
+use Rattle.std.proofs.Common.{length-append, nat_le}
 use Rattle.std.specs.List.{fold}
 use Rattle.std.proofs.lemmas.List.{drop_at, take_all, take_at}
 use Rattle.std.proofs.lemmas.List.Sums.{fold-append}

@@ -30,7 +30,9 @@ pub record BeginsAs (file : List ℕ) (front : Front) : Type 0 where
   pub len : front.len ≡ length (text_of lines)
   pub count : front.lines ≡ length lines
   pub only : (floor : ℕ) → HasFloor file floor → front.floor ≡ floor
-  pub faults : (line : ℕ) (fault : LogFault) → log_from (suc (length lines)) (slice_split is_line_feed rest) ≡ Err (line, fault) → log_of file ≡ Err (line, fault)
+  pub faults : (line : ℕ) (fault : LogFault)
+      → log_from (suc (length lines)) (slice_split is_line_feed rest) ≡ Err (line, fault)
+      → log_of file ≡ Err (line, fault)
 
 -- the line of its floor has that fault
 abbrev pub HasFloorFault : List ℕ → LogFault → Type 0

@@ -35,7 +35,9 @@ pub record BeginsFrom (asked : ℕ) (file : List ℕ) (begun : Gathered) : Type 
   pub parts : file ≡ text_of lines ++ rest
   pub says : SaysFloor lines floor
   pub fits : HasNoFloorAbove asked file
-  pub faults : (line : ℕ) (fault : LogFault) → log_from (suc (length lines)) (slice_split is_line_feed rest) ≡ Err (line, fault) → log_of file ≡ Err (line, fault)
+  pub faults : (line : ℕ) (fault : LogFault)
+      → log_from (suc (length lines)) (slice_split is_line_feed rest) ≡ Err (line, fault)
+      → log_of file ≡ Err (line, fault)
   pub given : begun.text.items ≡ text_of (front_from asked lines)
   pub place : begun.tail.place ≡ length (text_of lines)
   pub count : begun.tail.lines ≡ length lines

@@ -30,7 +30,8 @@ texts_of look (next ∷ more) = look.text ++ texts_of next more
 -- together they gave the lines of the whole file from the first's offset on: none was left out, and none came twice
 abbrev pub LooksGiveTheFile : Type 0
 LooksGiveTheFile = (look : Look) (more : List Look) → HasGiven look.tail look.file look.text → Follow look more
-    → HasGiven (last_look look more).tail (last_look look more).file (texts_of look more) × ((last_look look more).tail.from ≡ look.tail.from)
+    → HasGiven (last_look look more).tail (last_look look more).file (texts_of look more)
+    × ((last_look look more).tail.from ≡ look.tail.from)
 
 -- from offset 0 on, that is all that stands before its empty line
 abbrev pub AllIsGivenFromZero : Type 0
@@ -43,6 +44,7 @@ PassedLinesStand = (tail : Tail) (file text c : List ℕ) → HasGiven tail file
 -- in a file that took another's place, lines below the offset from which it is given aren't given again: where they stand at the front, as
 -- those that a compaction left, what is given is those behind them from that offset on
 abbrev pub PassedLinesAreNotGivenAgain : Type 0
-PassedLinesAreNotGivenAgain = (tail : Tail) (file text : List ℕ) (has : HasGiven tail file text) (left added : List (List ℕ)) (read next : List Read) → 0 < tail.from
+PassedLinesAreNotGivenAgain = (tail : Tail) (file text : List ℕ) (has : HasGiven tail file text)
+    (left added : List (List ℕ)) (read next : List Read) → 0 < tail.from
     → has.say.others ≡ left ++ added → has.read ≡ read ++ next → Say left read → next_after read ≤ tail.from
     → text ≡ text_of (lines_from tail.from added next)

@@ -11,4 +11,7 @@ AreLines (line ∷ lines) = (0 < length line) × HasNoLineFeed line × AreLines 
 
 -- the lines before the old file's empty line stand at the front of the new one
 abbrev pub Stand : List ℕ → List ℕ → Type 0
-Stand old new = (lines : List (List ℕ)) (rest : List ℕ) → AreLines lines → old ≡ text_of lines ++ 10 ∷ rest → Keeps (length (text_of lines)) old new
+Stand old new = (lines : List (List ℕ)) (rest : List ℕ)
+    → AreLines lines
+    → old ≡ text_of lines ++ 10 ∷ rest
+    → Keeps (length (text_of lines)) old new

@@ -14,7 +14,8 @@ use Rattle.reg_tail.specs.declared.tail.Tail.{Tail}
 abbrev pub lines_from : ℕ → List (List ℕ) → List Read → List (List ℕ)
 lines_from from [] more = []
 lines_from from (line ∷ lines) [] = []
-lines_from from (line ∷ lines) (read ∷ more) = if nat_le from (offset_in read) then line ∷ lines_from from lines more else lines_from from lines more
+lines_from from (line ∷ lines) (read ∷ more) = if nat_le from (offset_in read) then line
+    ∷ lines_from from lines more else lines_from from lines more
 
 -- the line of the floor, where the file is asked for from offset 0 on
 abbrev pub front_from : ℕ → List (List ℕ) → List (List ℕ)

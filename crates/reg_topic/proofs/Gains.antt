@@ -11,7 +11,8 @@ use Rattle.reg_set.specs.RecordOrder.{record_cmp}
 use Rattle.reg_set.specs.Records.{Records}
 use Rattle.reg_leader.specs.OneStep.{BatchesEndByTheLimit, BatchesGoOn}
 use Rattle.reg_topic.specs.Laws.{LogIsWhatWasPublished}
-use Rattle.reg_topic.specs.Topic.{MayCommit, MayFollow, after_batch, after_compaction, after_item, follows, may_compact, published_by, records_of_item, registry_of}
+use Rattle.reg_topic.specs.Topic.{MayCommit, MayFollow, after_batch, after_compaction, after_item}
+use Rattle.reg_topic.specs.Topic.{follows, may_compact, published_by, records_of_item, registry_of}
 use Rattle.reg_topic.specs.declared.published.Commit.{Commit}
 use Rattle.reg_topic.specs.declared.published.Compaction.{Compaction}
 use Rattle.reg_topic.specs.declared.published.Item.{Item}

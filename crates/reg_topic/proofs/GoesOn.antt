@@ -1,5 +1,6 @@
 -- Whether a batch goes on, record by record.
-use Rattle.std.proofs.Common.{◌≡◌, ◌≢◌, ℕ, suc, ◌+◌, ◌<◌, ◌≤◌, ◌==◌, ◌&&◌, true, false, List, length, get_or, drop, refl, sym, ap, ◌∙◌, eq-eqb, eqb-true}
+use Rattle.std.proofs.Common.{◌≡◌, ◌≢◌, ℕ, suc, ◌+◌, ◌<◌, ◌≤◌, ◌==◌, ◌&&◌, true, false, List}
+use Rattle.std.proofs.Common.{length, get_or, drop, refl, sym, ap, ◌∙◌, eq-eqb, eqb-true}
 use Rattle.std.proofs.lemmas.List.{at_drop_more, at_drop_all}
 use Rattle.reg_records.specs.declared.record.Record.{Record}
 use Rattle.reg_leader.specs.OneStep.{goes_on}

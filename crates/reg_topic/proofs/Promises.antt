@@ -13,7 +13,8 @@ use Rattle.reg_leader.specs.OneStep.{BatchesGoOn, StepsMeetLevels}
 use Rattle.reg_leader.specs.StayOpen.{StepsStayOpen, last_after}
 use Rattle.reg_leader.specs.Taken.{AreBelow, EntriesTakeIds, IsTaken, StepsKeepTaken}
 use Rattle.reg_topic.specs.Promises.{LawfulListsKeepIds, LawfulListsMeetLevels, LawfulListsStayOpen}
-use Rattle.reg_topic.specs.Topic.{IsAdopted, IsLawful, MayFollow, after_batch, after_compaction, after_item, after_items, follows, may_compact, registry_of}
+use Rattle.reg_topic.specs.Topic.{IsAdopted, IsLawful, MayFollow, after_batch, after_compaction}
+use Rattle.reg_topic.specs.Topic.{after_item, after_items, follows, may_compact, registry_of}
 use Rattle.reg_topic.specs.declared.published.Compaction.{Compaction}
 use Rattle.reg_topic.specs.declared.published.Item.{Item}
 use Rattle.reg_topic.specs.declared.published.Item.TheVariants as items

@@ -1,5 +1,6 @@
 -- What every list of items keeps, and what lawful ones do.
-use Rattle.std.proofs.Common.{◌≡◌, ◌+◌, ◌≤◌, Bool, true, false, ◌&&◌, ◌||◌, List, [], ◌∷◌, ◌++◌, nat_le, suc, length, refl, sym, ap, ◌∙◌, arith}
+use Rattle.std.proofs.Common.{◌≡◌, ◌+◌, ◌≤◌, Bool, true, false, ◌&&◌, ◌||◌, List, [], ◌∷◌}
+use Rattle.std.proofs.Common.{◌++◌, nat_le, suc, length, refl, sym, ap, ◌∙◌, arith}
 use Rattle.std.specs.Cmp.{IsTotalOrder}
 use Rattle.std.specs.FinSet.{contains, from_list, IsAntisymmetric, contains-from_list, contains-union}
 use Rattle.reg_records.specs.declared.record.Record.{Record}
@@ -8,8 +9,10 @@ use Rattle.reg_kept.specs.Compaction.{IsCompactionOf}
 use Rattle.reg_kept.specs.Laws.{CompactionsCompose, LaterRecordsMayJoin}
 use Rattle.reg_leader.specs.OneStep.{goes_on}
 use Rattle.reg_records.specs.declared.limits.TheConstants.{OFFSET_LIMIT}
-use Rattle.reg_topic.specs.Laws.{AllowedDropsLeaveCompactions, FloorsRise, FloorsStayBelow, ItemsAreFoldedInTurn, KeptStaysCompaction, LawfulItemsFollow, LawfulListsGoOn, LawfulListsJoin, ListsAreFoldedInTurn, LogsGrow, LogsGrowOverLists}
-use Rattle.reg_topic.specs.Topic.{IsLawful, after_batch, after_compaction, after_item, after_items, follows, left_by, may_compact, whole_log}
+use Rattle.reg_topic.specs.Laws.{AllowedDropsLeaveCompactions, FloorsRise, FloorsStayBelow, ItemsAreFoldedInTurn, KeptStaysCompaction}
+use Rattle.reg_topic.specs.Laws.{LawfulItemsFollow, LawfulListsGoOn, LawfulListsJoin, ListsAreFoldedInTurn, LogsGrow, LogsGrowOverLists}
+use Rattle.reg_topic.specs.Topic.{IsLawful, after_batch, after_compaction, after_item}
+use Rattle.reg_topic.specs.Topic.{after_items, follows, left_by, may_compact, whole_log}
 use Rattle.reg_topic.specs.declared.published.Compaction.{Compaction}
 use Rattle.reg_topic.specs.declared.published.Item.{Item}
 use Rattle.reg_topic.specs.declared.published.Item.TheVariants as items

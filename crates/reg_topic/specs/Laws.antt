@@ -7,7 +7,8 @@ use Rattle.reg_set.specs.LastRecords.{last_records}
 use Rattle.reg_set.specs.Records.{Records}
 use Rattle.reg_kept.specs.Compaction.{IsCompactionOf, KeepsLasts}
 use Rattle.reg_fold.specs.Closed.{is_closed}
-use Rattle.reg_topic.specs.Topic.{IsAdopted, IsLawful, MayCommit, MayFollow, after_item, after_items, follows, left_by, may_compact, published_by, topic_from, whole_log}
+use Rattle.reg_topic.specs.Topic.{IsAdopted, IsLawful, MayCommit, MayFollow, after_item, after_items}
+use Rattle.reg_topic.specs.Topic.{follows, left_by, may_compact, published_by, topic_from, whole_log}
 use Rattle.reg_topic.specs.declared.published.Commit.{Commit}
 use Rattle.reg_topic.specs.declared.published.Compaction.{Compaction}
 use Rattle.reg_topic.specs.declared.published.Item.{Item}
@@ -17,7 +18,8 @@ use Rattle.reg_topic.specs.declared.topic.Topic.{Topic}
 -- compaction of the kept set
 abbrev pub AllowedDropsLeaveCompactions : Type 0
 AllowedDropsLeaveCompactions = (t : Topic) (c : Compaction) → (may_compact t c ≡ true)
-    ↔ ((t.kept.floor ≤ c.floor) × (c.floor ≤ t.next) × AllByRecursion (λ r. contains t.kept.records r ≡ true) c.dropped × IsCompactionOf (left_by t c) t.kept)
+    ↔ ((t.kept.floor ≤ c.floor) × (c.floor ≤ t.next) × AllByRecursion (λ r. contains t.kept.records r ≡ true) c.dropped
+    × IsCompactionOf (left_by t c) t.kept)
 
 -- where the floor isn't above the next offset, and the kept set is a compaction of the log, it stays so, after lawful items and others
 abbrev pub KeptStaysCompaction : Type 0
@@ -49,7 +51,9 @@ LawfulListsGoOn = (t : Topic) (is : List Item) (i : Item) → IsLawful t is → 
 
 -- each item of a lawful list may follow on those before it
 abbrev pub LawfulItemsFollow : Type 0
-LawfulItemsFollow = (t : Topic) (before after : List Item) (i : Item) → IsLawful t (before ++ i ∷ after) → MayFollow (after_items t before) i
+LawfulItemsFollow = (t : Topic) (before after : List Item) (i : Item)
+    → IsLawful t (before ++ i ∷ after)
+    → MayFollow (after_items t before) i
 
 -- the log is the first one with all that lawful items published
 abbrev pub LogIsWhatWasPublished : Type 0
@@ -70,7 +74,10 @@ CommitsFollow = (t : Topic) (commit : Commit) → MayCommit t commit → follows
 -- records of which none is at or past the next offset, and that aren't closed, begin an adopted topic, with a floor that isn't above it:
 -- the mark that they owe leaves it open
 abbrev pub AdoptedLogsBegin : Type 0
-AdoptedLogsBegin = (rs : List Record) (next floor : ℕ) → All (λ r. r.offset < next) rs → floor ≤ next → is_closed (last_records (from_list rs)) ≡ false
+AdoptedLogsBegin = (rs : List Record) (next floor : ℕ)
+    → All (λ r. r.offset < next) rs
+    → floor ≤ next
+    → is_closed (last_records (from_list rs)) ≡ false
     → IsAdopted (topic_from rs next floor)
 
 -- a set that keeps each last record still does with more of the whole

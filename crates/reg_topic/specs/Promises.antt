@@ -16,7 +16,10 @@ use Rattle.reg_topic.specs.declared.topic.Topic.{Topic}
 
 -- over an adopted base the registry isn't closed
 abbrev pub LawfulListsStayOpen : Type 0
-LawfulListsStayOpen = (base : Topic) (is : List Item) → IsAdopted base → IsLawful base is → is_closed (registry_of (after_items base is)) ≡ false
+LawfulListsStayOpen = (base : Topic) (is : List Item)
+    → IsAdopted base
+    → IsLawful base is
+    → is_closed (registry_of (after_items base is)) ≡ false
 
 -- two entries of one id that stood at any two moments since the base have one schema: a moment is after a front of the list
 abbrev pub IdsAreForGood : Topic → List Item → Type 0
@@ -33,7 +36,8 @@ WasPublished is before c batch = (after : List Item) × (is ≡ before ++ items.
 
 -- each version that was registered without an id met the level then in force against the versions then live
 abbrev pub MetLevels : Topic → List Item → Type 0
-MetLevels base is = (before : List Item) (subject text : List ℕ) (batch : List Record) → WasPublished is before (commands.Register subject text) batch
+MetLevels base is = (before : List Item) (subject text : List ℕ) (batch : List Record)
+    → WasPublished is before (commands.Register subject text) batch
     → RegistersWhatMeets (registry_of (after_items base before)) (after_items base before).next subject text batch
 
 abbrev pub LawfulListsMeetLevels : Type 0

@@ -40,7 +40,8 @@ after_batch true t batch = record t {
 }
 after_batch false t batch = t
 
--- whether the kept set may have that floor without those records: it doesn't fall, isn't ahead of the next offset, and what stays is a compaction
+-- whether the kept set may have that floor without those records: it doesn't fall,
+-- isn't ahead of the next offset, and what stays is a compaction
 abbrev pub may_compact : Topic → Compaction → Bool
 may_compact t c = nat_le t.kept.floor c.floor && nat_le c.floor t.next && may_leave c.floor t.kept.records c.dropped
 

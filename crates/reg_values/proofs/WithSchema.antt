@@ -1,5 +1,6 @@
 -- A value and its schema.
-use Rattle.std.proofs.Common.{◌≡◌, ◌∙◌, ℕ, Bool, true, false, ◌&&◌, List, Option, Some, None, option_and_then, option_map, is_some, codes, IfOk, IfSome, Result, refl, ap, sym, subst, if◌then◌else◌}
+use Rattle.std.proofs.Common.{◌≡◌, ◌∙◌, ℕ, Bool, true, false, ◌&&◌, List, Option, Some, None, option_and_then}
+use Rattle.std.proofs.Common.{option_map, is_some, codes, IfOk, IfSome, Result, refl, ap, sym, subst, if◌then◌else◌}
 use Rattle.std.specs.declared.alloc.AllocError.{AllocError}
 use Rattle.std.proofs.lemmas.Result.{IfOk-weaker}
 use Rattle.serde_json.specs.Data.{Data}

@@ -20,6 +20,7 @@ IsValueOf key (values.DeleteSubject subject version) = (key ≡ DeleteSubject su
 IsValueOf key values.Noop = ⊥
 IsValueOf key (values.IdMark id) = (key ≡ IdMark) × IsVersionOrId id
 
--- what is read under a key may stand under it: a version's value names the subject and the version of its key; only no operation has no text
+-- what is read under a key may stand under it: a version's value names the subject
+-- and the version of its key; only no operation has no text
 abbrev pub ValuesAreOfKeys : Type 0
 ValuesAreOfKeys = (r : Record) (v : Value) → value_of r ≡ Some v → IsValueOf r.key v ⊎ ((r.key ≡ Noop) × (v ≡ values.Noop))

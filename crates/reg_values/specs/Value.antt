@@ -1,5 +1,6 @@
 -- The value that a record's text gives, which its key has a say in.
-use Rattle.std.specs.Prelude.{List, ℕ, Bool, true, false, ◌&&◌, ◌||◌, Option, Some, None, is_none, option_map, option_and_then, bytes_eq, codes, if◌then◌else◌}
+use Rattle.std.specs.Prelude.{List, ℕ, Bool, true, false, ◌&&◌, ◌||◌, Option, Some, None, is_none}
+use Rattle.std.specs.Prelude.{option_map, option_and_then, bytes_eq, codes, if◌then◌else◌}
 use Rattle.std.specs.Option.{option_map_or}
 use Rattle.serde_json.specs.Data.{Data}
 use Rattle.serde_json.specs.Find.{get, get_item, as_bool, as_str, as_array}

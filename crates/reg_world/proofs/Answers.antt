@@ -12,7 +12,9 @@ use Rattle.reg_topic.specs.Promises.{LawfulListsKeepIds, LawfulListsMeetLevels}
 use Rattle.reg_topic.specs.Topic.{whole_log}
 use Rattle.reg_world.specs.Core.{IsNodeOf, KeptIsCompaction, LogIsLawful, NoItemIsSkipped, NodesAreCompactions}
 use Rattle.reg_world.specs.Happens.{Happens}
-use Rattle.reg_world.specs.Headline.{AnswersAreOfTheSet, AnswersAsTheLog, CaughtUpNodesAnswerAsTheLog, Gives, HasKeptLasts, Ids, Levels, NodesCatchUp, SameAnswers, TakersOfAllCatchUp, Took, taken_by}
+use Rattle.reg_world.specs.Headline.{AnswersAreOfTheSet, AnswersAsTheLog, CaughtUpNodesAnswerAsTheLog, Gives}
+use Rattle.reg_world.specs.Headline.{HasKeptLasts, Ids, Levels, NodesCatchUp, SameAnswers, TakersOfAllCatchUp}
+use Rattle.reg_world.specs.Headline.{Took, taken_by}
 use Rattle.reg_lookup.specs.Answers.{HaveOneAnswer, IsAnswer, IsAnswerOver}
 use Rattle.reg_world.specs.LowerLaws.{LowerLaws}
 use Rattle.reg_world.specs.State.{State, set_at, topic_of}
@@ -21,7 +23,9 @@ use Rattle.reg_world.specs.declared.event.Outcome.TheVariants as outcomes
 use Rattle.reg_lookup.specs.declared.answered.Answer.{Answer}
 use Rattle.reg_lookup.specs.declared.query.Query.{Query}
 use Rattle.reg_world.specs.declared.node.Node.{Node}
-use Rattle.reg_world.proofs.Lasts.{IsPart, if_some, in_set, key_is, last_absent, last_of_part, last_some, lasts_in, no_record, of_some, own_last}
+use Rattle.reg_world.proofs.Lasts.{IsPart, if_some, in_set, key_is, last_absent}
+use Rattle.reg_world.proofs.Lasts.{last_of_part, last_some, lasts_in, no_record}
+use Rattle.reg_world.proofs.Lasts.{of_some, own_last}
 use Rattle.reg_world.proofs.Nodes.{node-compaction, node-part}
 use Rattle.reg_world.proofs.Sound.{IsSound, at_index, kept}
 use Rattle.reg_world.proofs.Stays.{node_at, sound-after}

@@ -1,5 +1,7 @@
 -- Maps of entries by place, as the body folds them.
-use Rattle.std.proofs.Common.{◌≡◌, ◌<◌, ◌≤◌, ◌+◌, ◌↔◌, ◌&&◌, inl, inr, ℕ, Bool, true, false, cond, ◌||◌, nat_le, bytes_eq, length, get_or, take, drop, List, [], ◌∷◌, ◌++◌, map, Option, Some, None, Contains, option_and_then, refl, sym, ap, subst, ◌∙◌, find, arith}
+use Rattle.std.proofs.Common.{◌≡◌, ◌<◌, ◌≤◌, ◌+◌, ◌↔◌, ◌&&◌, inl, inr, ℕ, Bool, true, false, cond, ◌||◌, nat_le, bytes_eq, length, get_or}
+use Rattle.std.proofs.Common.{take, drop, List, [], ◌∷◌, ◌++◌, map, Option, Some, None, Contains, option_and_then, refl, sym, ap, subst}
+use Rattle.std.proofs.Common.{◌∙◌, find, arith}
 use Rattle.std.proofs.lemmas.List.{take_all, take_more, take-append-drop}
 use Rattle.std.proofs.lemmas.List.Concat.{flat_map-cons}
 use Rattle.std.proofs.lemmas.List.Elements.{Contains-append_left, Contains-get_or}

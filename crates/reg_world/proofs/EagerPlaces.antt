@@ -1,5 +1,6 @@
 -- The entry of a list that is at a place.
-use Rattle.std.proofs.Common.{◌≡◌, ◌⊎◌, inl, inr, suc, zero, true, false, cond, List, [], ◌∷◌, Option, Some, None, Contains, option_and_then, refl, sym, ap, subst, ◌∙◌, arith}
+use Rattle.std.proofs.Common.{◌≡◌, ◌⊎◌, inl, inr, suc, zero, true, false, cond, List, [], ◌∷◌, Option}
+use Rattle.std.proofs.Common.{Some, None, Contains, option_and_then, refl, sym, ap, subst, ◌∙◌, arith}
 use Rattle.std.proofs.lemmas.Bool.{false≢true}
 use Rattle.std.proofs.lemmas.Cmp.{nat_cmp_total, nat_list_cmp_total, on_total, then_total, tied_itself}
 use Rattle.std.specs.Cmp.{Equal-is, IsTotalOrder}

@@ -1,5 +1,7 @@
 -- Taken one after the other, the records of a log give the log's entries.
-use Rattle.std.proofs.Common.{◌≡◌, ◌≢◌, ◌⊎◌, inl, inr, ℕ, suc, ◌+◌, ◌<◌, ◌≤◌, Bool, true, false, cond, ◌&&◌, ◌==◌, max, nat_le, fold, length, List, [], ◌∷◌, ◌++◌, All, map, Option, Some, Contains, bytes_eq, refl, sym, ap, subst, ◌∙◌, arith, eqb-true}
+use Rattle.std.proofs.Common.{◌≡◌, ◌≢◌, ◌⊎◌, inl, inr, ℕ, suc, ◌+◌, ◌<◌, ◌≤◌, Bool, true, false, cond, ◌&&◌, ◌==◌, max, nat_le, fold}
+use Rattle.std.proofs.Common.{length, List, [], ◌∷◌, ◌++◌, All, map, Option, Some, Contains, bytes_eq, refl, sym, ap, subst, ◌∙◌}
+use Rattle.std.proofs.Common.{arith, eqb-true}
 use Rattle.std.proofs.lemmas.Bool.{false≢true, le-leb}
 use Rattle.std.proofs.lemmas.List.Concat.{flat_map-cons}
 use Rattle.std.proofs.lemmas.List.Elements.{All-head, All-tail}
@@ -28,7 +30,8 @@ use Rattle.reg_fold.specs.Entries.{EntriesAreOfKeys, EntriesAreOfPlaces, entries
 use Rattle.reg_fold.specs.Standing.{greatest_version}
 use Rattle.reg_leader.specs.Deletes.{DeletesNameGreatest, IsSoftDelete, is_delete}
 use Rattle.reg_leader.specs.OneStep.{BatchesEndByTheLimit, BatchesGoOn, goes_on}
-use Rattle.reg_topic.specs.Topic.{IsLawful, after_batch, after_compaction, after_item, after_items, follows, may_compact, published_by, records_of_item, registry_of, whole_log}
+use Rattle.reg_topic.specs.Topic.{IsLawful, after_batch, after_compaction, after_item, after_items, follows}
+use Rattle.reg_topic.specs.Topic.{may_compact, published_by, records_of_item, registry_of, whole_log}
 use Rattle.reg_topic.specs.declared.published.Compaction.{Compaction}
 use Rattle.reg_topic.specs.declared.published.Item.{Item}
 use Rattle.reg_topic.specs.declared.published.Item.TheVariants as items

@@ -1,5 +1,6 @@
 -- What each event keeps of a node, and what that says of one that is caught up.
-use Rattle.std.proofs.Common.{◌≡◌, ◌⊎◌, inl, inr, ℕ, suc, ◌<◌, ◌≤◌, ◌+◌, ◌==◌, Bool, true, false, ◌&&◌, ◌||◌, List, [], ◌∷◌, Some, None, IfSome, length, nat_le, nat_lt, refl, sym, ap, ◌∙◌, arith, eqb-true}
+use Rattle.std.proofs.Common.{◌≡◌, ◌⊎◌, inl, inr, ℕ, suc, ◌<◌, ◌≤◌, ◌+◌, ◌==◌, Bool, true, false, ◌&&◌, ◌||◌, List, []}
+use Rattle.std.proofs.Common.{◌∷◌, Some, None, IfSome, length, nat_le, nat_lt, refl, sym, ap, ◌∙◌, arith, eqb-true}
 use Rattle.std.proofs.lemmas.Bool.{false≢true, leb-true, lt-ltb}
 use Rattle.std.specs.Cmp.{Equal-is}
 use Rattle.std.specs.FinSet.{contains, empty, from_list, union, contains-empty, contains-from_list}
@@ -26,7 +27,8 @@ use Rattle.reg_world.specs.LowerLaws.{LowerLaws}
 use Rattle.reg_world.specs.State.{compacted, no_records, rebasing, taking}
 use Rattle.reg_world.specs.declared.node.Node.{Node}
 use Rattle.reg_world.proofs.Bools.{both_true, either}
-use Rattle.reg_world.proofs.Lasts.{IsPart, if_some, in_either, in_left, in_part, in_right, in_set, joined_of, keeps_compacted, last_absent, last_of_part, last_of_whole, lasts_in, no_record, of_part, of_some, offset_upto}
+use Rattle.reg_world.proofs.Lasts.{IsPart, if_some, in_either, in_left, in_part, in_right, in_set, joined_of, keeps_compacted}
+use Rattle.reg_world.proofs.Lasts.{last_absent, last_of_part, last_of_whole, lasts_in, no_record, of_part, of_some, offset_upto}
 
 abbrev is_low : ℕ → Record → Bool
 is_low floor r = nat_lt r.offset floor

@@ -1,5 +1,6 @@
 -- What every event keeps.
-use Rattle.std.proofs.Common.{◌≡◌, ◌≤◌, ℕ, suc, zero, List, [], ◌∷◌, ◌++◌, Option, Some, None, IfSome, slice_get, replicate, refl, sym, subst, arith}
+use Rattle.std.proofs.Common.{◌≡◌, ◌≤◌, ℕ, suc, zero, List, [], ◌∷◌, ◌++◌, Option, Some, None}
+use Rattle.std.proofs.Common.{IfSome, slice_get, replicate, refl, sym, subst, arith}
 use Rattle.std.specs.List.{AllByRecursion}
 use Rattle.reg_set.specs.Records.{Records}
 use Rattle.reg_kept.specs.Compaction.{IsCompactionOf, KeepsLasts}

@@ -1,5 +1,6 @@
 -- What an event does, or why it does nothing.
-use Rattle.std.proofs.Common.{◌≡◌, ◌⊎◌, inl, inr, ℕ, suc, zero, true, false, List, [], ◌∷◌, Option, Some, None, MatchBool, is_some, slice_get, set, refl, sym, ap, subst, ◌∙◌}
+use Rattle.std.proofs.Common.{◌≡◌, ◌⊎◌, inl, inr, ℕ, suc, zero, true, false, List, [], ◌∷◌, Option, Some}
+use Rattle.std.proofs.Common.{None, MatchBool, is_some, slice_get, set, refl, sym, ap, subst, ◌∙◌}
 use Rattle.std.proofs.lemmas.Bool.{false≢true}
 use Rattle.std.specs.Option.{option_map_or}
 use Rattle.reg_kept.specs.Floored.{Floored}

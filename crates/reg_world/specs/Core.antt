@@ -1,5 +1,6 @@
 -- What holds after every list of events, beside the headline.
-use Rattle.std.specs.Prelude.{◌≡◌, ◌⊎◌, ◌↔◌, ◌<◌, ◌≤◌, ℕ, List, ◌∷◌, ◌++◌, Bool, true, false, ◌&&◌, None, Some, IfSome, MatchBool, slice_get}
+use Rattle.std.specs.Prelude.{◌≡◌, ◌⊎◌, ◌↔◌, ◌<◌, ◌≤◌, ℕ, List, ◌∷◌, ◌++◌, Bool, true}
+use Rattle.std.specs.Prelude.{false, ◌&&◌, None, Some, IfSome, MatchBool, slice_get}
 use Rattle.std.specs.FinSet.{contains, from_list, union}
 use Rattle.reg_records.specs.declared.key.Key.{Key}
 use Rattle.reg_records.specs.declared.record.Record.{Record}
@@ -45,7 +46,9 @@ pub record IsNodeOf (t : Topic) (node : Node) : Type 0 where
   pub none_is_back : (r : Record) → last t.log r.key ≡ Some r → r.value ≡ None → r.offset < node.set.floor
       → (last node.set.records r.key ≡ None) ⊎ (contains node.set.records r ≡ true)
   -- at the kept floor it has each kept last record below that
-  pub has_lower : node.set.floor ≡ t.kept.floor → (key : Key) → IfSome (last t.kept.records key) (λ r. r.offset < node.set.floor → contains node.set.records r ≡ true)
+  pub has_lower : node.set.floor ≡ t.kept.floor
+      → (key : Key)
+      → IfSome (last t.kept.records key) (λ r. r.offset < node.set.floor → contains node.set.records r ≡ true)
 
 abbrev pub HasNodes : State → Type 0
 HasNodes w = (i : ℕ) → IfSome (slice_get w.nodes i) (IsNodeOf (topic_of w))
@@ -77,14 +80,19 @@ settles_first (events.Lookup node query) = false
 -- a command or compaction that is allowed publishes first what isn't settled; whatever else happens publishes nothing, and leaves it so
 abbrev pub UnsettledComesFirst : Type 0
 UnsettledComesFirst = (s t : State) (e : Event) (o : Outcome) → Happens s e o t → IfSome s.unsettled (λ commit.
-    MatchBool (settles_first e && is_allowed s e) ((rest : List Item) × (t.items ≡ s.items ++ items.Commit commit ∷ rest)) ((t.items ≡ s.items) × (t.unsettled ≡ s.unsettled))
+    MatchBool (settles_first e && is_allowed s e)
+    ((rest : List Item) × (t.items ≡ s.items ++ items.Commit commit ∷ rest))
+    ((t.items ≡ s.items) × (t.unsettled ≡ s.unsettled))
     )
 
 -- such an event is allowed exactly where it is once that is published, and what happens, where it is allowed, is what happens then
 abbrev pub UnsettledCounts : Type 0
 UnsettledCounts = (s : State) (e : Event) → settles_first e ≡ true
-    → (is_allowed s e ≡ is_allowed (settled s) e) × (is_allowed s e ≡ true → (o : Outcome) (t : State) → Happens s e o t ↔ Happens (settled s) e o t)
+    → (is_allowed s e ≡ is_allowed (settled s) e)
+    × (is_allowed s e ≡ true → (o : Outcome) (t : State) → Happens s e o t ↔ Happens (settled s) e o t)
 
 -- and it isn't skipped then: its batch joins the log and the kept set
 abbrev pub UnsettledGoesOn : Type 0
-UnsettledGoesOn = (events : List Event) (w : State) → After events w → IfSome w.unsettled (λ commit. topic_of (settled w) ≡ after_batch true (topic_of w) commit.batch)
+UnsettledGoesOn = (events : List Event) (w : State)
+    → After events w
+    → IfSome w.unsettled (λ commit. topic_of (settled w) ≡ after_batch true (topic_of w) commit.batch)

@@ -1,5 +1,7 @@
 -- Taking the records of a log one after the other, as a follower of the topic is usually described.
-use Rattle.std.specs.Prelude.{◌≡◌, ℕ, List, true, ◌&&◌, nat_le, Option, Some, None, option_map, option_and_then, find, fold, bytes_eq, if◌then◌else◌}
+use Rattle.std.specs.Prelude.{◌≡◌, ℕ, List, true, ◌&&◌, nat_le, Option, Some, None}
+use Rattle.std.specs.Prelude.{option_map, option_and_then, find, fold}
+use Rattle.std.specs.Prelude.{bytes_eq, if◌then◌else◌}
 use Rattle.std.specs.Option.{option_map_or}
 use Rattle.std.specs.Ordering.{eq_by_cmp}
 use Rattle.reg_values.specs.Value.{value_of}
@@ -48,7 +50,8 @@ abbrev pub marked_with : Value → Entry → Entry
 marked_with (values.Schema subject version id schema deleted) e = e
 marked_with (values.Config level) e = e
 marked_with (values.Mode mode) e = e
-marked_with (values.DeleteSubject subject greatest) e = if bytes_eq e.subject subject && nat_le e.version greatest then with_soft true e else e
+marked_with (values.DeleteSubject subject greatest) e = if bytes_eq e.subject subject
+    && nat_le e.version greatest then with_soft true e else e
 marked_with values.Noop e = e
 marked_with (values.IdMark id) e = e
 
@@ -56,7 +59,8 @@ marked_with (values.IdMark id) e = e
 abbrev pub marked_by : Record → Entry → Entry
 marked_by r e = option_map_or (λ value. marked_with value e) (value_of r) e
 
--- what stands at a place after a record of that key, where found stood before it: a version's record puts its own, a soft delete marks what stands
+-- what stands at a place after a record of that key, where found stood before it: a
+-- version's record puts its own, a soft delete marks what stands
 abbrev pub after_key : Key → Place → Option Entry → Record → Option Entry
 after_key (keys.Schema subject version) place found r = if eq_by_cmp place_cmp place (subject, version) then put_by r else found
 after_key (keys.Config scope) place found r = found
@@ -73,7 +77,8 @@ after_records place found rs = fold (λ found r. after_key r.key place found r) 
 abbrev pub standing_at : Place → List Entry → Option Entry
 standing_at place es = find (λ e. eq_by_cmp place_cmp place (place_of e)) es
 
--- what stands at a place after all that some items published, in its order, which is that of the offsets, where the entries of the base stood before
+-- what stands at a place after all that some items published, in its order, which is
+-- that of the offsets, where the entries of the base stood before
 abbrev pub eager_after : Topic → List Item → Place → Option Entry
 eager_after base items place = after_records place (standing_at place (entries (registry_of base))) (published_by items)
 
@@ -83,7 +88,9 @@ eager w place = eager_after w.base w.items place
 
 -- that is, with its soft mark, the entry of the log there, and of each compaction of the log, at whatever floor
 abbrev pub IsFoldedEagerly : State → Type 0
-IsFoldedEagerly w = (place : Place) (part : Floored) → IsCompactionOf part (whole_log (topic_of w)) → eager w place ≡ standing_at place (entries (last_records part.records))
+IsFoldedEagerly w = (place : Place) (part : Floored)
+    → IsCompactionOf part (whole_log (topic_of w))
+    → eager w place ≡ standing_at place (entries (last_records part.records))
 
 abbrev pub EagerFoldingIsRight : Type 0
 EagerFoldingIsRight = (events : List Event) (w : State) → After events w → IsFoldedEagerly w

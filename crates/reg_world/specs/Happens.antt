@@ -11,7 +11,9 @@ use Rattle.reg_leader.specs.declared.reply.Reply.TheVariants as replies
 use Rattle.reg_topic.specs.declared.published.Compaction.{Compaction}
 use Rattle.reg_topic.specs.declared.published.Item.TheVariants as items
 use Rattle.reg_lookup.specs.Answers.{IsAnswerOver}
-use Rattle.reg_world.specs.State.{State, compacted, has_node, leave_unsettled, no_records, publish, rebasing, set_at, settled, taking, topic_of, with_node}
+use Rattle.reg_world.specs.State.{State, compacted, has_node, leave_unsettled, no_records}
+use Rattle.reg_world.specs.State.{publish, rebasing, set_at, settled, taking}
+use Rattle.reg_world.specs.State.{topic_of, with_node}
 use Rattle.reg_world.specs.declared.event.Event.{Event}
 use Rattle.reg_world.specs.declared.event.Event.TheVariants as events
 use Rattle.reg_world.specs.declared.event.Fate.{Fate}
@@ -73,14 +75,16 @@ pub record Steps (s : State) (command : Command) (fate : Fate) (o : Outcome) (t 
 -- what an event does that is allowed, at sets of one floor
 abbrev pub Does : State → Event → Outcome → State → Type 0
 Does s (events.Command node command fate) o t = Steps (settled s) command fate o t
-Does s (events.Compact dropped) o t = (o ≡ outcomes.Done) × (t ≡ publish (settled s) (items.Compaction (at_floor (topic_of (settled s)).kept.floor dropped)))
+Does s (events.Compact dropped) o t = (o ≡ outcomes.Done)
+    × (t ≡ publish (settled s) (items.Compaction (at_floor (topic_of (settled s)).kept.floor dropped)))
 Does s (events.CompactTo floor dropped) o t = (o ≡ outcomes.Done) × (t ≡ publish (settled s) (items.Compaction (at_floor floor dropped)))
 Does s (events.Take node records) o t = (o ≡ outcomes.Done) × (t ≡ with_node s node (taking (from_list records)))
 Does s (events.CompactNode node) o t = (o ≡ outcomes.Done) × (t ≡ with_node s node compacted)
 Does s (events.MergeFrom node other) o t = (o ≡ outcomes.Done) × (t ≡ with_node s node (taking (set_at s other).records))
 Does s (events.Rebase node) o t = (o ≡ outcomes.Done) × (t ≡ with_node s node (rebasing (topic_of s).kept))
 Does s (events.Restart node) o t = (o ≡ outcomes.Done) × (t ≡ with_node s node (λ _. no_records))
-Does s (events.Lookup node query) o t = (answer : Answer) × IsAnswerOver (set_at s node).records query answer × (o ≡ outcomes.Answered answer) × (t ≡ s)
+Does s (events.Lookup node query) o t = (answer : Answer) × IsAnswerOver (set_at s node).records query answer
+    × (o ≡ outcomes.Answered answer) × (t ≡ s)
 
 -- one that isn't allowed changes nothing, and no more does one between unequal floors
 unfoldable pub Happens : State → Event → Outcome → State → Type 0

@@ -39,7 +39,8 @@ Gives w i query answer = Happens w (events.Lookup i query) (outcomes.Answered an
 
 -- each node gives exactly the answers of the set of which it took a compaction
 abbrev pub GivesAnswersOfSets : State → Type 0
-GivesAnswersOfSets w = (i : ℕ) (whole : Floored) → Took w i whole → (query : Query) (answer : Answer) → Gives w i query answer ↔ IsAnswerOver whole.records query answer
+GivesAnswersOfSets w = (i : ℕ) (whole : Floored) → Took w i whole → (query : Query) (answer : Answer) → Gives w i query answer
+    ↔ IsAnswerOver whole.records query answer
 
 -- After any list of events, a node that took a set of records, or a compaction of it, gives exactly
 -- the answers of that set.
@@ -49,7 +50,12 @@ AnswersAreOfTheSet = (events : List Event) (w : State) → After events w → Gi
 -- Same answers: nodes that took the same set of records, in any order, pieces and repeats, before or
 -- after compactions, at whatever floors, here or in a world of other events, answer each query alike.
 abbrev pub SameAnswers : Type 0
-SameAnswers = (events others : List Event) (w v : State) → After events w → After others v → (i j : ℕ) (whole : Floored) → Took w i whole → Took v j whole
+SameAnswers = (events others : List Event) (w v : State)
+    → After events w
+    → After others v
+    → (i j : ℕ) (whole : Floored)
+    → Took w i whole
+    → Took v j whole
     → (query : Query) (one other : Answer) → Gives w i query one → Gives v j query other → one ≡ other
 
 -- the i-th node is at the kept floor, and took, since its restart, each record that is kept now
@@ -70,7 +76,11 @@ AnswersAsTheLog w i = (query : Query) (answer : Answer) → Gives w i query answ
 -- Caught up: after any list of events, a node that took a compaction of the log gives exactly the
 -- answers of the whole log.
 abbrev pub CaughtUpNodesAnswerAsTheLog : Type 0
-CaughtUpNodesAnswerAsTheLog = (events : List Event) (w : State) → After events w → (i : ℕ) → Took w i (whole_log (topic_of w)) → AnswersAsTheLog w i
+CaughtUpNodesAnswerAsTheLog = (events : List Event) (w : State)
+    → After events w
+    → (i : ℕ)
+    → Took w i (whole_log (topic_of w))
+    → AnswersAsTheLog w i
 
 -- the node is at the kept floor, and has the last kept record of each key
 pub record HasKeptLasts (w : State) (node : Node) : Type 0 where
@@ -79,7 +89,10 @@ pub record HasKeptLasts (w : State) (node : Node) : Type 0 where
 
 -- its set is a compaction of the log, and it answers as that does
 abbrev pub CatchesUp : State → Type 0
-CatchesUp w = (i : ℕ) (node : Node) → slice_get w.nodes i ≡ Some node → HasKeptLasts w node → IsCompactionOf node.set (whole_log (topic_of w)) × AnswersAsTheLog w i
+CatchesUp w = (i : ℕ) (node : Node)
+    → slice_get w.nodes i ≡ Some node
+    → HasKeptLasts w node
+    → IsCompactionOf node.set (whole_log (topic_of w)) × AnswersAsTheLog w i
 
 -- After any list of events, each such node does.
 abbrev pub NodesCatchUp : Type 0

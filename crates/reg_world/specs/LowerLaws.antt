@@ -6,7 +6,9 @@ use Rattle.reg_set.specs.Join as of_sets
 use Rattle.reg_set.specs.RecordOrder.{record_cmp}
 use Rattle.reg_kept.specs.Laws.{CompactionsCompose, KeepingLastsUnites, LastOfCompaction, RebasingKeepsLasts}
 use Rattle.reg_alike.specs.AnswerAlike.{CompactionsAnswerAlike}
-use Rattle.reg_topic.specs.Laws.{AllowedDropsLeaveCompactions, CommitsFollow, FloorsStayBelow, ItemsAreFoldedInTurn, KeptStaysCompaction, LawfulListsGoOn, LogIsWhatWasPublished}
+use Rattle.reg_topic.specs.Laws.{AllowedDropsLeaveCompactions, CommitsFollow, FloorsStayBelow}
+use Rattle.reg_topic.specs.Laws.{ItemsAreFoldedInTurn, KeptStaysCompaction}
+use Rattle.reg_topic.specs.Laws.{LawfulListsGoOn, LogIsWhatWasPublished}
 
 pub record LowerLaws : Type 0 where
   pub order : IsTotalOrder record_cmp

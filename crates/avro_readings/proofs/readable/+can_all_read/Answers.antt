@@ -1,4 +1,5 @@
-use Rattle.std.proofs.Common.{◌≡◌, ℕ, ◌+◌, ◌≤◌, ◌&&◌, List, [], ◌∷◌, true, false, Bool, not, drop, map, length, Some, None, option_map, option_copied, slice_get, unwrap_or, sym, ap, ◌∙◌, subst, arith, rules}
+use Rattle.std.proofs.Common.{◌≡◌, ℕ, ◌+◌, ◌≤◌, ◌&&◌, List, [], ◌∷◌, true, false, Bool, not, drop, map, length, Some, None}
+use Rattle.std.proofs.Common.{option_map, option_copied, slice_get, unwrap_or, sym, ap, ◌∙◌, subst, arith, rules}
 use Rattle.std.specs.Result.{IfOk}
 use Rattle.std.specs.List.{list_all}
 use Rattle.std.specs.Option.{option_map_or, IfSome}
@@ -13,7 +14,9 @@ use Rattle.avro_readings.specs.Reads.{branch_at}
 use Rattle.avro_readings.specs.Readable.{all_read, lists_pass, place_reads}
 use Rattle.avro_readings.proofs.Along.{Entry}
 use Rattle.avro_readings.proofs.AtPair.{and_right}
-use Rattle.avro_readings.proofs.ReadableLaws.{all_items, all_values, all_lists, all_maps, all_records, all_branches, one_item, one_value, no_items, no_members_left, fit_length, value_of, place_passes, none_past}
+use Rattle.avro_readings.proofs.ReadableLaws.{all_items, all_values, all_lists, all_maps, all_records, all_branches}
+use Rattle.avro_readings.proofs.ReadableLaws.{one_item, one_value, no_items, no_members_left, fit_length, value_of}
+use Rattle.avro_readings.proofs.ReadableLaws.{place_passes, none_past}
 use Rattle.avro_readings.proofs.readable.+can_all_read.Goals as goal
 
 pub can_all_read-returns-then-is_any_barred : goal.can_all_read-returns-then-is_any_barred

@@ -1,4 +1,5 @@
-use Rattle.std.proofs.Common.{◌≡◌, ◌+◌, ◌∷◌, ◌++◌, [], drop, map, Some, None, Err, IfOk, IfErr, option_map, position, bytes_eq, rules, sym, ap, ◌∙◌, subst, arith}
+use Rattle.std.proofs.Common.{◌≡◌, ◌+◌, ◌∷◌, ◌++◌, [], drop, map, Some, None, Err, IfOk, IfErr}
+use Rattle.std.proofs.Common.{option_map, position, bytes_eq, rules, sym, ap, ◌∙◌, subst, arith}
 use Rattle.std.proofs.lemmas.List.{drop_more, drop_all}
 use Rattle.std.specs.BTreeMap.{insert_entry}
 use Rattle.std.specs.Cmp.Lexicographic.{slice_cmp}
@@ -8,7 +9,9 @@ use Rattle.avro_readings.specs.Reads as spec
 use Rattle.avro_readings.specs.Room.{value_room, values_room, IsHalt}
 use Rattle.avro_readings.proofs.MemberLaws.{named_found, named_none}
 use Rattle.avro_readings.specs.Steps.{values_before, members_before, row_reading, through_union, all_fields_read}
-use Rattle.avro_readings.proofs.Along.{Entry, seen, IsCopied, values_all, members_all, next_last, next_copied, items_step, values_step, fields_step}
+use Rattle.avro_readings.proofs.Along.{Entry, seen, IsCopied, values_all, members_all}
+use Rattle.avro_readings.proofs.Along.{next_last, next_copied, items_step}
+use Rattle.avro_readings.proofs.Along.{values_step, fields_step}
 use Rattle.avro_readings.proofs.RoomLaws.{full, row_halt, items_halt, values_halt, fields_halt, items_taken, members_taken}
 use Rattle.avro_readings.proofs.reading.+read.Goals as goal
 

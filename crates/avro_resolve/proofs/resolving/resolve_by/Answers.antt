@@ -4,7 +4,9 @@ use Rattle.avro_resolve.specs.Row.{clash_of_cause}
 use Rattle.avro_resolve.specs.Search.{expanded, IsWayBack, LeadsBack}
 use Rattle.avro_resolve.specs.Table.{outcome, obligations}
 use Rattle.avro_resolve.proofs.Rows.{owed_in}
-use Rattle.avro_resolve.proofs.BreadthFirst.{leads_back, searched_first, searched_within, searched_clash, searched_next, searched_few, searched_all, length-expanded}
+use Rattle.avro_resolve.proofs.BreadthFirst.{leads_back, searched_first, searched_within}
+use Rattle.avro_resolve.proofs.BreadthFirst.{searched_clash, searched_next, searched_few}
+use Rattle.avro_resolve.proofs.BreadthFirst.{searched_all, length-expanded}
 use Rattle.avro_resolve.proofs.Searching.{clashes_when, owes_when}
 use Rattle.avro_resolve.specs.Sieve.{AreSieves}
 use Rattle.avro_resolve.proofs.resolving.resolve_by.Goals as goal

@@ -1,4 +1,5 @@
-use Rattle.std.proofs.Common.{◌≡◌, ◌∙◌, ◌++◌, ◌∷◌, [], ◌+◌, ℕ, List, Option, None, Some, drop, option_map, option_and_then, append_assoc, refl, sym, ap, arith}
+use Rattle.std.proofs.Common.{◌≡◌, ◌∙◌, ◌++◌, ◌∷◌, [], ◌+◌, ℕ, List, Option, None, Some, drop}
+use Rattle.std.proofs.Common.{option_map, option_and_then, append_assoc, refl, sym, ap, arith}
 use Rattle.std.proofs.lemmas.List.{append-nil}
 use Rattle.json_tree.specs.View.{items_view}
 use Rattle.avro_schema.specs.Form.{strings}

@@ -1,4 +1,5 @@
-use Rattle.std.proofs.Common.{◌≡◌, ◌∙◌, ◌&&◌, sym, ap, subst, ℕ, List, Option, true, false, bytes_eq, Some, option_map, option_and_then, codes, refl}
+use Rattle.std.proofs.Common.{◌≡◌, ◌∙◌, ◌&&◌, sym, ap, subst, ℕ, List, Option, true, false}
+use Rattle.std.proofs.Common.{bytes_eq, Some, option_map, option_and_then, codes, refl}
 use Rattle.std.specs.List.{list_all}
 use Rattle.std.specs.Option.{option_map_or}
 use Rattle.serde_json.specs.Data.{Data}

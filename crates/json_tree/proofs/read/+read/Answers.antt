@@ -11,7 +11,9 @@ use Rattle.json_tree.specs.Members.{IsInOrder}
 use Rattle.json_tree.specs.View.{view, members_view}
 use Rattle.json_tree.specs.declared.tree.Json.{String, Number, Bool, Null, the_lemmas}
 use Rattle.json_tree.proofs.Views.{view-Array, view-Object, members_view-insert_entry}
-use Rattle.json_tree.proofs.Reading.{converted-array, converted-object, item_read, item_refused, items_over, member_read, member_refused, key_refused, members_over, items_before, items_before-no_items, one_more_item, none_before}
+use Rattle.json_tree.proofs.Reading.{converted-array, converted-object, item_read, item_refused, items_over, member_read}
+use Rattle.json_tree.proofs.Reading.{member_refused, key_refused, members_over, items_before, items_before-no_items}
+use Rattle.json_tree.proofs.Reading.{one_more_item, none_before}
 use Rattle.json_tree.proofs.read.+read.Goals as goal
 
 pub read-returns-in_err-token-clause-err : goal.read-returns-in_err-token-clause-err

@@ -1,7 +1,9 @@
 use Rattle.std.proofs.Common.{ap, inr, refl, ◌∙◌, arith}
 use Rattle.reg_records.proofs.Ends.{ends_then}
 use Rattle.reg_http.proofs.Ended.{EndsAfter-begun, EndsAfter-closed, EndsAfter-more, EndsAfter-over, EndsRefused-step}
-use Rattle.reg_http.proofs.Runs.{began_here, IsPart-full, HasAnswered-begun, HasAnswered-more, IsPart-over, IsPart-closed, IsServeRefusal-step}
+use Rattle.reg_http.proofs.Runs.{began_here, IsPart-full, HasAnswered-begun}
+use Rattle.reg_http.proofs.Runs.{HasAnswered-more, IsPart-over}
+use Rattle.reg_http.proofs.Runs.{IsPart-closed, IsServeRefusal-step}
 use Rattle.reg_http.proofs.serving.serve_part.Goals as goal
 
 pub loop-requests-init : goal.loop-requests-init

@@ -1,5 +1,7 @@
 use Rattle.std.proofs.Common.{◌≡◌, ◌≤◌, ◌<◌, ◌+◌, ◌*◌}
-use Rattle.reg_records.specs.Device.{KeepsEnd, all_interruptions_of, all_reads_of, bytes_in, counted_by, faults_of, interruptions_of, reads_of}
+use Rattle.reg_records.specs.Device.{KeepsEnd, all_interruptions_of, all_reads_of}
+use Rattle.reg_records.specs.Device.{bytes_in, counted_by, faults_of}
+use Rattle.reg_records.specs.Device.{interruptions_of, reads_of}
 use Rattle.reg_messages.specs.declared.limits.TheConstants.{REQUEST_READS}
 use Rattle.reg_responses.specs.declared.limits.TheConstants.{INTERRUPTION_LIMIT}
 use Rattle.reg_http.specs.Ends.{EndsAfter}

@@ -1,4 +1,5 @@
-use Rattle.std.proofs.Common.{◌≡◌, ◌-◌, ◌≤◌, ◌+◌, ◌++◌, true, false, [], length, map, take, drop, refl, sym, ap, subst, ◌∙◌, append-nil, arith, rules}
+use Rattle.std.proofs.Common.{◌≡◌, ◌-◌, ◌≤◌, ◌+◌, ◌++◌, true, false, [], length, map, take}
+use Rattle.std.proofs.Common.{drop, refl, sym, ap, subst, ◌∙◌, append-nil, arith, rules}
 use Rattle.std.proofs.lemmas.List.{drop_all, take_all}
 use Rattle.reg_levels.specs.RequiredPairs.{directions}
 use Rattle.reg_judge.specs.Kept.{AreVerdicts, IsRun, IsVerdictOf, LeadsTo, asked, asked_from, pairs_of, texts_of}

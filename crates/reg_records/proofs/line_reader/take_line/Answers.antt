@@ -5,7 +5,9 @@ use Rattle.std.proofs.lemmas.List.Elements.{All-append, All-nil}
 use Rattle.reg_records.specs.Line.{is_line_feed}
 use Rattle.reg_records.specs.Pieces.{Holds}
 use Rattle.reg_records.proofs.Ends.{end_taken}
-use Rattle.reg_records.proofs.Lines.{length-of_nonempty, TakesPart-more, TakesPart-kept, Consumes-ended, IsAtEnd-after, IsAtEnd-before, Keeps-none_taken, place-ended, place-more}
+use Rattle.reg_records.proofs.Lines.{length-of_nonempty, TakesPart-more, TakesPart-kept, Consumes-ended}
+use Rattle.reg_records.proofs.Lines.{IsAtEnd-after, IsAtEnd-before, Keeps-none_taken}
+use Rattle.reg_records.proofs.Lines.{place-ended, place-more}
 use Rattle.reg_records.proofs.line_reader.take_line.Goals.{then-is_empty, else-is_empty, in-More, in-Failed-Interrupted}
 use Rattle.reg_records.proofs.line_reader.take_line.Goals as goal
 

@@ -1,4 +1,5 @@
-use Rattle.std.proofs.Common.{◌≡◌, List, ℕ, ◌+◌, ◌<◌, [], ◌∷◌, true, map, fold, take, drop, take_all, length, get_or, refl, ap, sym, subst, ◌∙◌, Bor}
+use Rattle.std.proofs.Common.{◌≡◌, List, ℕ, ◌+◌, ◌<◌, [], ◌∷◌, true, map, fold, take, drop}
+use Rattle.std.proofs.Common.{take_all, length, get_or, refl, ap, sym, subst, ◌∙◌, Bor}
 use Rattle.std.specs.Prelude.{Bool, false, ◌&&◌}
 use Rattle.std.proofs.lemmas.List.{drop_more, map_more}
 use Rattle.std.proofs.lemmas.List.Sums.{fold-append}

@@ -1,6 +1,8 @@
 use Rattle.std.proofs.Common.{rules, refl, ◌≡◌, ◌≤◌, ◌<◌, inl, inr, ◌⊎◌, take, ◌∙◌, arith}
 use Rattle.reg_tail.proofs.Given.{fits, given_front}
-use Rattle.reg_tail.proofs.reading.begin_at.Goals.{else-from-gt0-via-then-from-gt0+else-from-front, else-from-gt0-via-else-from-gt0, then-from-gt0-2, else-from-gt0-2}
+use Rattle.reg_tail.proofs.reading.begin_at.Goals.{else-from-gt0-via-then-from-gt0+else-from-front}
+use Rattle.reg_tail.proofs.reading.begin_at.Goals.{else-from-gt0-via-else-from-gt0}
+use Rattle.reg_tail.proofs.reading.begin_at.Goals.{then-from-gt0-2, else-from-gt0-2}
 use Rattle.reg_tail.proofs.reading.begin_at.Goals as goal
 
 pub returns-in-Err-clause-refused : goal.returns-in-Err-clause-refused

@@ -7,7 +7,9 @@ use Rattle.avro_resolve.proofs.Hops.{drop_at}
 use Rattle.avro_resolve.proofs.Searching.{none_if, added_pair, added_none, added_lacking, added_all, entries_all}
 use Rattle.avro_resolve.proofs.Sieving.{any_default, added_to, added_rest, earlier_more, found_first, found_inside, no_found}
 use Rattle.avro_resolve.proofs.search.Search.reach_found.Goals as goal
-use Rattle.avro_resolve.proofs.search.Search.reach_found.Goals.{then-x-next+in-Some+in_ok-reach, then-x-next+in_default+else-is_none, else-x-next}
+use Rattle.avro_resolve.proofs.search.Search.reach_found.Goals.{then-x-next+in-Some+in_ok-reach}
+use Rattle.avro_resolve.proofs.search.Search.reach_found.Goals.{}
+use Rattle.avro_resolve.proofs.search.Search.reach_found.Goals.{then-x-next+in_default+else-is_none, else-x-next}
 
 pub returns-then-is_none-clause-clash : goal.returns-then-is_none-clause-clash
 returns-then-is_none-clause-clash c =

@@ -1,22 +1,33 @@
-use Rattle.std.proofs.Common.{◌≡◌, ◌≤◌, ◌<◌, ◌∙◌, ◌+◌, ◌++◌, ◌∷◌, [], ℕ, suc, List, length, drop, get_or, map, true, false, bytes_eq, refl, sym, ap, subst, arith, codes}
+use Rattle.std.proofs.Common.{◌≡◌, ◌≤◌, ◌<◌, ◌∙◌, ◌+◌, ◌++◌, ◌∷◌, [], ℕ, suc, List, length, drop}
+use Rattle.std.proofs.Common.{get_or, map, true, false, bytes_eq, refl, sym, ap, subst, arith, codes}
 use Rattle.std.proofs.lemmas.Result.{IfOk-weaker, IfErr-weaker}
 use Rattle.serde_json.specs.Data.{depth, items_depth}
 use Rattle.json_tree.specs.View.{view, items_view}
 use Rattle.avro_schema.specs.declared.error.SchemaError.TheVariants as fault
 use Rattle.avro_schema.specs.declared.word.TypeWord.TheVariants as word
-use Rattle.avro_schema.specs.Form.{Fields, ill_fields, union_of, form, forms, form_of_name, fields_of_items, field_heading_of, heading_of, record_of}
+use Rattle.avro_schema.specs.Form.{Fields, ill_fields, union_of, form, forms, form_of_name}
+use Rattle.avro_schema.specs.Form.{fields_of_items, field_heading_of, heading_of, record_of}
 use Rattle.avro_schema.specs.Plain.{IsPlain}
 use Rattle.avro_schema.specs.Schema.{IsRefusalBy}
 use Rattle.avro_schema.specs.Names.{all_distinct}
 use Rattle.avro_schema.specs.Faults.{unless, field_list_faults}
 use Rattle.avro_schema.specs.Branches.{HoldsKinds, branch_kind, may_stand}
-use Rattle.avro_schema.specs.Building.{nodes_of, names_of, ClosesRecord, ReadsType, opened, form_in, written_fields, fields_or_ill, array_in, map_in, record_in, enum_in, fixed_in, RefusesType, RefusesField, ReadsFields, RefusesFields, RefusesBranches, AreBranchesRead, AreFieldsRead, branches_faults, fields_faults, type_faults, field_faults}
+use Rattle.avro_schema.specs.Building.{nodes_of, names_of, ClosesRecord, ReadsType, opened, form_in, written_fields, fields_or_ill}
+use Rattle.avro_schema.specs.Building.{array_in, map_in, record_in, enum_in, fixed_in, RefusesType, RefusesField, ReadsFields}
+use Rattle.avro_schema.specs.Building.{RefusesFields, RefusesBranches, AreBranchesRead, AreFieldsRead, branches_faults, fields_faults}
+use Rattle.avro_schema.specs.Building.{type_faults, field_faults}
 use Rattle.avro_schema.proofs.Reading.{left, right}
 use Rattle.avro_schema.proofs.Types.{opened-more, definition_of}
-use Rattle.avro_schema.proofs.Refused.{refused_open, refused_opening_record, refused_ill_formed, refused_array, refused_map, refused_union, refused_list, refused_no_fields, refused_same_names, refused_fields}
+use Rattle.avro_schema.proofs.Refused.{refused_open, refused_opening_record, refused_ill_formed, refused_array, refused_map}
+use Rattle.avro_schema.proofs.Refused.{refused_union, refused_list, refused_no_fields, refused_same_names, refused_fields}
 use Rattle.avro_schema.proofs.Lookups.{exit_err}
-use Rattle.avro_schema.proofs.ObjectForms.{get-depth, get-plain, items_at-depth, items_at-plain, item-depth, item-plain, inner_type, worded_type}
-use Rattle.avro_schema.proofs.Answering.{type_ok, type_err, still_there, array_read, map_read, union_read, record_read, defined_at, tested_names, BranchesFit, fit_start, keeps_from, keeps_same, branches_next, branches_no, branches_twice, branches_done, fields_next, fields_no, fields_done, tests_read, next_forms, next_fields, no_forms_left, no_fields_left}
+use Rattle.avro_schema.proofs.ObjectForms.{get-depth, get-plain, items_at-depth}
+use Rattle.avro_schema.proofs.ObjectForms.{items_at-plain, item-depth, item-plain}
+use Rattle.avro_schema.proofs.ObjectForms.{inner_type, worded_type}
+use Rattle.avro_schema.proofs.Answering.{type_ok, type_err, still_there, array_read, map_read, union_read, record_read, defined_at}
+use Rattle.avro_schema.proofs.Answering.{tested_names, BranchesFit, fit_start, keeps_from, keeps_same, branches_next, branches_no}
+use Rattle.avro_schema.proofs.Answering.{branches_twice, branches_done, fields_next, fields_no, fields_done, tests_read, next_forms}
+use Rattle.avro_schema.proofs.Answering.{next_fields, no_forms_left, no_fields_left}
 use Rattle.avro_schema.proofs.Along.{FieldsAlong, fields_start, tests_start}
 use Rattle.avro_schema.proofs.builder.Builder.+types.Goals as goal
 

@@ -1,4 +1,5 @@
-use Rattle.std.proofs.Common.{rules, ◌≡◌, ◌∙◌, sym, ap, length, Some, cond, bytes_eq, string_bytes, option_and_then, slice_get, arith, length-append}
+use Rattle.std.proofs.Common.{rules, ◌≡◌, ◌∙◌, sym, ap, length, Some, cond, bytes_eq}
+use Rattle.std.proofs.Common.{string_bytes, option_and_then, slice_get, arith, length-append}
 use Rattle.std.specs.BTreeMap.{get_by_text}
 use Rattle.std.proofs.lemmas.Map.Text.{btree_map_updates_text}
 use Rattle.avro_schema.specs.DefinedNames.{number_of}

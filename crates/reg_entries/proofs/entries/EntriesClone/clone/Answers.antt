@@ -1,6 +1,7 @@
 use Rattle.std.proofs.Common.{◌≡◌, ap, ◌∙◌}
 use Rattle.std.specs.FinMap as finmap
-use Rattle.reg_entries.proofs.Copies.{AreDoubled-copied, AreListed-copied, AreMeant-copied, IsIndexed-copied, entries-copied, ids-copied, meanings-copied, names-copied, tops-copied}
+use Rattle.reg_entries.proofs.Copies.{AreDoubled-copied, AreListed-copied, AreMeant-copied, IsIndexed-copied}
+use Rattle.reg_entries.proofs.Copies.{entries-copied, ids-copied, meanings-copied, names-copied, tops-copied}
 use Rattle.reg_entries.proofs.entries.EntriesClone.clone.Goals as goal
 
 pub invariant_of-result : goal.invariant_of-result

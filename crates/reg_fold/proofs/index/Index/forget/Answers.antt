@@ -1,6 +1,8 @@
 use Rattle.std.proofs.Common.{sym, ◌∙◌}
 use Rattle.reg_fold.specs.Opaque.{is_opaque}
-use Rattle.reg_fold.proofs.Forgotten.{deletes-left, entries_given-left, levels-left, mark-left, modes-left, none_opaque, nothing, opaque-left, own-left, spots-left}
+use Rattle.reg_fold.proofs.Forgotten.{deletes-left, entries_given-left, levels-left, mark-left}
+use Rattle.reg_fold.proofs.Forgotten.{modes-left, none_opaque, nothing, opaque-left}
+use Rattle.reg_fold.proofs.Forgotten.{own-left, spots-left}
 use Rattle.reg_fold.proofs.index.Index.forget.Goals as goal
 
 pub returns-clause-kept : goal.returns-clause-kept

@@ -7,7 +7,9 @@ use Rattle.reg_journal.specs.declared.journal.Journal.{Journal}
 use Rattle.reg_pen.specs.declared.keep.Kept.{Kept}
 use Rattle.reg_journal_keep.specs.Keeping.{Ends, MakesRoom, says_compaction}
 use Rattle.reg_journal_keep.specs.declared.upkeep.Upkeep.{Upkeep}
-use Rattle.reg_journal_keep.proofs.Rooms.{at_any_moment, ends_refused, error_of, floor_behind, floor_up, from_floor, leaves_same, says_same, sound_of}
+use Rattle.reg_journal_keep.proofs.Rooms.{at_any_moment, ends_refused, error_of, floor_behind}
+use Rattle.reg_journal_keep.proofs.Rooms.{floor_up, from_floor, leaves_same}
+use Rattle.reg_journal_keep.proofs.Rooms.{says_same, sound_of}
 use Rattle.reg_journal_keep.proofs.keeping.FileKeepKeep.keep.Goals as goal
 
 pub returns-then-not-have_lines : goal.returns-then-not-have_lines

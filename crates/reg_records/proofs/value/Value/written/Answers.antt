@@ -2,7 +2,9 @@ use Rattle.std.proofs.Common.{◌≡◌, ◌∙◌, ◌++◌, ℕ, List, Some, c
 use Rattle.json.specs.Print.{escape_byte, quoted}
 use Rattle.reg_records.specs.declared.value.Value.TheVariants.{Config, Mode}
 use Rattle.reg_records.specs.Written.{written_value}
-use Rattle.reg_records.proofs.value.Value.written.Goals.{in-Schema+in_ok-text-in-Schema, in-Config+in_ok-text-in-Config, in-Mode+in_ok-text-in-Mode, in-DeleteSubject+in_ok-text-in-DeleteSubject, in-IdMark+in_ok-text-in-IdMark}
+use Rattle.reg_records.proofs.value.Value.written.Goals.{in-Schema+in_ok-text-in-Schema, in-Config+in_ok-text-in-Config}
+use Rattle.reg_records.proofs.value.Value.written.Goals.{in-Mode+in_ok-text-in-Mode}
+use Rattle.reg_records.proofs.value.Value.written.Goals.{in-DeleteSubject+in_ok-text-in-DeleteSubject, in-IdMark+in_ok-text-in-IdMark}
 use Rattle.reg_records.proofs.value.Value.written.Goals as goal
 
 config_text : (level : List ℕ) → Some (codes "{\"" ++ codes "compatibilityLevel" ++ codes "\":" ++ quoted level ++ codes "}") ≡ written_value (Config level)
