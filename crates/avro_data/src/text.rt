@@ -11,7 +11,7 @@ use std::collections::BTreeMap;
 impl Data {
     /// Appends the value's text: `leaf`, a symbol, `[a,b]`, `{KEY=a}` in byte order of the keys,
     /// `#k a` for branch `k`, `(NAME=a,NAME=b)`, `default`. Keys and symbols stand as they are, so
-    /// it is a text for people. The only error is want of memory.
+    /// it is a text for people. The only error is out of memory.
     pub fn push_text(&self, out: &mut String) -> Result<(), AllocError>
         ensures { OnOk result (string_bytes out.new ≡ string_bytes out.old ++ value_text (view self.now)) }
     {

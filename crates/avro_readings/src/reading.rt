@@ -301,7 +301,7 @@ fn read_fields(
 }
 
 /// A reader's field: the writer's that it is paired with, or its default. Whether the members have the
-/// names of the writer's fields is told.
+/// names of the writer's fields is reported.
 #[cycle(read)]
 fn read_field(
     alloc: Global,

@@ -55,7 +55,7 @@ ghost use Rattle.avro_resolve.specs.Verdict.{IsVerdict, HaveOneVerdict};
 /// Resolves a reader's schema `r` against a writer's schema `w` (Avro 1.11, "Schema Resolution").
 ///
 /// Whether a field has a default counts, and not whether the default is valid. The only error is
-/// want of memory.
+/// out of memory.
 pub fn resolve(alloc: Global, r: &Schema, w: &Schema) -> Result<Verdict, AllocError>
     ensures verdict { IfOk result (IsVerdict r.now.nodes w.now.nodes) }
     ensures one_verdict { HaveOneVerdict r.now.nodes w.now.nodes }

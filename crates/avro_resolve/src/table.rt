@@ -34,7 +34,7 @@ pub enum Cause<'a> {
 }
 
 impl Cause<'_> {
-    /// What a clash is told as.
+    /// What a clash is reported as.
     pub fn kind(self) -> Result<ClashKind, AllocError>
         ensures { IfOk result (λ kind. kind ≡ clash_of_cause self.entry) }
     {
@@ -316,7 +316,7 @@ fn primitive_row<'a>(reader: Primitive, writer: Primitive) -> Row<'a>
     }
 }
 
-/// The row of a reader's union and a writer's type that is none: its first branch that matches.
+/// The row of a reader's union and a writer's type that isn't one: its first branch that matches.
 fn branch_row<'a>(
     r: &'a Schema,
     i: NodeId,

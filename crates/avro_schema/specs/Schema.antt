@@ -41,7 +41,7 @@ error_name fault.TooManyNodes = codes "TooManyNodes"
 error_name fault.TooLong = codes "TooLong"
 error_name fault.OutOfMemory = codes "out of memory"
 
--- an answer for want of memory, or one of the faults es
+-- the answer that memory was refused, or one of the faults es
 abbrev pub IsRefusalBy : List SchemaError → SchemaError → Type 0
 IsRefusalBy es e = e ≢ fault.OutOfMemory → Contains es e
 

@@ -28,7 +28,7 @@ impl Model for DefaultValue {
 }
 
 impl DefaultValue {
-    /// A copy of a JSON value. The only error is want of memory.
+    /// A copy of a JSON value. The only error is out of memory.
     pub(crate) fn copy_of(alloc: Global, json: &Json<'_>) -> Result<DefaultValue, AllocError>
         requires { IsPlain (tree_view json.now) }
         ensures { IfOk result (λ default. default ≡ tree_view json.now) }

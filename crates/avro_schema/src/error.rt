@@ -1,4 +1,4 @@
-// Why a text is no schema, and which default is none.
+// Why a text is not a schema, and which default isn't valid.
 use base_text::Text;
 use std::alloc::{AllocError, AllocFailed};
 use std::error::Error;
@@ -20,7 +20,7 @@ pub enum SchemaError {
     Unknown(Text),
     /// A union holds a union, or two types of one kind or of one full name.
     BadUnion,
-    /// An enum's symbols are no distinct names, or its default is none of them.
+    /// An enum's symbols are not distinct names, or its default is not one of them.
     BadEnum,
     /// A fixed type's size is no whole number from 0 to `GREATEST_SIZE`.
     BadFixed,

@@ -16,7 +16,7 @@ pub(crate) fn string_at<'a>(value: &Json<'a>, name: &str) -> Option<&'a str>
     value.get(name).and_then(Json::as_str)
 }
 
-/// The texts of an array of strings, or None where the value is none.
+/// The texts of an array of strings, or None where the value is not such an array.
 fn strings_in(alloc: Global, value: &Json<'_>) -> Result<Option<Vec<Text>>, AllocError>
     ensures { IfOk result (λ o. option_map (λ v. v.items) o ≡ spec.strings_in (view value.now)) }
 {
@@ -33,7 +33,7 @@ fn strings_in(alloc: Global, value: &Json<'_>) -> Result<Option<Vec<Text>>, Allo
     Ok(Some(texts))
 }
 
-/// The texts of the array of strings that a member is, or None where it is none.
+/// The texts of the array of strings that a member is, or None where it is not one.
 pub(crate) fn strings_at(
     alloc: Global,
     value: &Json<'_>,

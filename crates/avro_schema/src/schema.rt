@@ -87,7 +87,7 @@ impl Schema {
         })
     }
 
-    /// Reads a schema's text where it is one. The only error is want of memory.
+    /// Reads a schema's text where it is one. The only error is out of memory.
     pub fn read_if_any(alloc: Global, text: &str) -> Result<Option<Schema>, AllocError>
         ensures { IfOk result (λ found. found ≡ schema_of text.now) }
     {
@@ -113,7 +113,7 @@ impl Schema {
         &self.normal
     }
 
-    /// A copy of the normal text. The only error is want of memory.
+    /// A copy of the normal text. The only error is out of memory.
     pub fn normal_text(&self) -> Result<String, AllocError>
         ensures text { IfOk result (λ s. string_bytes s ≡ self.now.normal_text) }
         ensures reads_back { schema_of self.now.normal_text ≡ Some self.now }

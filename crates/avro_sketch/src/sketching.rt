@@ -26,7 +26,7 @@ use std::alloc::{AllocError, Global};
 /// these limits, or `unreadable`.
 ///
 /// A clash says that a value of the writer's may be unreadable; the sample may have a reading all the
-/// same. Whether defaults are valid doesn't count. The only error is want of memory.
+/// same. Whether defaults are valid doesn't count. The only error is out of memory.
 pub fn sketch_text(alloc: Global, r: &Schema, w: &Schema) -> Result<String, AllocError>
     ensures sketch { IfOk result (λ text. IsSketch r.now.nodes w.now.nodes (string_bytes text)) }
     ensures one_sketch { HaveOneSketch r.now.nodes w.now.nodes }

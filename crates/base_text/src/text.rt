@@ -38,7 +38,7 @@ impl Text {
         Text { shared: None }
     }
 
-    /// A copy of `text`. The only error is want of memory.
+    /// A copy of `text`. The only error is out of memory.
     pub fn copy_of(alloc: Global, text: &str) -> Result<Text, AllocError>
         ensures { IfOk result (λ t. t ≡ text.now) }
     {
@@ -47,7 +47,7 @@ impl Text {
         })
     }
 
-    /// The text that a string holds, whose bytes stay where they are. The only error is want of memory.
+    /// The text that a string holds, whose bytes stay where they are. The only error is out of memory.
     pub fn of_string(string: String) -> Result<Text, AllocError>
         ensures { IfOk result (λ t. t ≡ string_bytes string) }
     {

@@ -11,7 +11,7 @@ use base_text::Text;
 use std::alloc::{AllocError, Global};
 
 /// The places in the order of the names, or None where two items have one name. The only error is
-/// want of memory.
+/// out of memory.
 pub(crate) fn index_of<T: Named>(
     alloc: Global,
     items: &[T],

@@ -12,7 +12,7 @@ use std::alloc::{AllocError, Global};
 const SLOTS_FOR_ITEM: usize = 6;
 
 /// Slots for the items: in the slot of each name is the place of an item of that slot, counted
-/// from 1, and in the others 0. The only error is want of memory.
+/// from 1, and in the others 0. The only error is out of memory.
 pub(crate) fn slots_of<T: Named>(alloc: Global, items: &[T]) -> Result<Vec<u32>, AllocError>
     ensures { IfOk result (λ slots. spec.HaveSlots slots.items (map T.name items.now)) }
 {

@@ -9,7 +9,7 @@ use Rattle.reg_node.specs.declared.take.Draw.{Draw}
 use Rattle.reg_desk.specs.Desk.{Fronts, IsFresh, Known, LearnsFronts, ReadTheirWrites, front_of}
 use Rattle.reg_desk.proofs.Fresh.{prefix_self, prefix_trans, still_fresh}
 
--- the topic's front stays, and goes as far as the one that is told
+-- the topic's front stays, and goes as far as the one that is reported
 pub stays_learnt : (first : Held) (before after : Known) (fronts : Fronts) → after.seen ≡ before.seen → after.fresh ≡ before.fresh → after.submits ≡ before.submits
     → IsPrefix (front_of fronts.topic) (front_of before.seen) → IsPrefix before.view after.view → IsPrefix fronts.node after.view
     → (before.fresh ≡ true → IsFresh first (front_of before.seen) before.view) → LearnsFronts first before fronts after
@@ -25,7 +25,7 @@ stays_learnt first before after fronts same fresh submits known this that shown 
   stays_fresh = λ yes _. fresh ∙ yes;
 }
 
--- the topic's front is the one that is told, which goes farther
+-- the topic's front is the one that is reported, which goes farther
 pub takes_learnt : (first : Held) (before after : Known) (fronts : Fronts) → after.seen ≡ fronts.topic → after.fresh ≡ fronts.fresh → after.submits ≡ before.submits
     → IsPrefix (front_of before.seen) (front_of fronts.topic) → IsPrefix before.view after.view → IsPrefix fronts.node after.view
     → (fronts.fresh ≡ true → IsFresh first (front_of fronts.topic) fronts.node) → LearnsFronts first before fronts after

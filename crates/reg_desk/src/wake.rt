@@ -1,4 +1,4 @@
-// What is told that the topic may have grown.
+// Who is woken when the topic may have grown.
 
 /// Called after each command, so that what follows the topic on other nodes pulls soon.
 pub trait Wake {

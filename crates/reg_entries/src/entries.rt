@@ -106,7 +106,7 @@ impl Entries {
     }
 
     /// Puts the entry at its place, where it takes the place of what is there. The only error is
-    /// want of memory; all is then as it was.
+    /// out of memory; all is then as it was.
     pub fn put(&mut self, entry: Entry) -> Result<(), AllocError>
         ensures put { OnOk result (self.new ≡ finmap.insert self.old (place_of entry) entry) }
         ensures refused { OnErr result (self.new ≡ self.old) }
@@ -179,7 +179,7 @@ impl Entries {
         Some(self.entries.get(place)?.own())
     }
 
-    /// All entries, by place. The only error is want of memory.
+    /// All entries, by place. The only error is out of memory.
     pub fn all(&self) -> Result<Vec<&Entry>, AllocError>
         ensures all { IfOk result (λ found. map (λ e. e.now) found.items ≡ finmap.values self.now) }
         ensures in_order { IfOk result (λ found. IsInOrder (map (λ e. e.now) found.items)) }
@@ -189,7 +189,7 @@ impl Entries {
         Ok(found)
     }
 
-    /// All entries under the last soft deletes, by place. The only error is want of memory.
+    /// All entries under the last soft deletes, by place. The only error is out of memory.
     pub fn all_shown(&self, deletes: &SoftDeletes) -> Result<Vec<&Entry>, AllocError>
         ensures all { IfOk result (λ found. map (λ e. e.now) found.items ≡ shown_all deletes.now (finmap.values self.now)) }
         ensures in_order { IfOk result (λ found. IsInOrder (map (λ e. e.now) found.items)) }
@@ -199,7 +199,7 @@ impl Entries {
         Ok(found)
     }
 
-    /// The entries of a subject, by version. The only error is want of memory.
+    /// The entries of a subject, by version. The only error is out of memory.
     pub fn of_subject(&self, subject: &str) -> Result<Vec<&Entry>, AllocError>
         ensures all { IfOk result (λ found. map (λ e. e.now) found.items ≡ of_subject (finmap.values self.now) subject.now) }
         ensures in_order { IfOk result (λ found. HasRisingVersions (map (λ e. e.now) found.items)) }
@@ -221,7 +221,7 @@ impl Entries {
     }
 
     /// The entries of a subject that count, by version: the live ones, which are those that aren't
-    /// soft, and where `deleted` is true all. The only error is want of memory.
+    /// soft, and where `deleted` is true all. The only error is out of memory.
     pub fn counting(
         &self,
         deletes: &SoftDeletes,
@@ -257,7 +257,7 @@ impl Entries {
         Ok(last_counting(&self.entries, &first, &last, delete, deleted))
     }
 
-    /// Of a subject's entries that count the one of that version. The only error is want of memory.
+    /// Of a subject's entries that count the one of that version. The only error is out of memory.
     ///
     /// It looks at one entry.
     pub fn of_version(
@@ -281,7 +281,7 @@ impl Entries {
         }
     }
 
-    /// The subjects with an entry that counts, by their bytes. The only error is want of memory.
+    /// The subjects with an entry that counts, by their bytes. The only error is out of memory.
     ///
     /// It goes through all entries once.
     pub fn subjects(&self, deletes: &SoftDeletes, deleted: bool) -> Result<Vec<&str>, AllocError>
@@ -313,7 +313,7 @@ impl Entries {
         }
     }
 
-    /// The entries with an id, soft ones too, by place. The only error is want of memory.
+    /// The entries with an id, soft ones too, by place. The only error is out of memory.
     ///
     /// It looks at these entries alone, by the names that the id has, and sorts them.
     pub fn with_id(&self, deletes: &SoftDeletes, id: u32) -> Result<Vec<&Entry>, AllocError>

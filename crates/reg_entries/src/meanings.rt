@@ -18,7 +18,7 @@ use std::ops::Bound;
 /// An id and a normal text of its entries.
 pub(crate) type Meaning = (u64, Text);
 
-/// Adds the id and the normal text of an entry. The only error is want of memory; the meanings are
+/// Adds the id and the normal text of an entry. The only error is out of memory; the meanings are
 /// then as they were.
 pub(crate) fn mean(
     meanings: &mut BTreeSet<Meaning>,

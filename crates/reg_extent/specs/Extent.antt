@@ -37,7 +37,7 @@ LacksHead over = ⊤
 LacksHead (no_head refusal) = refusal ≡ refusals.BadRequest
 LacksHead (head bytes after) = ⊥
 
--- the bytes are none, or begin with one that isn't skipped
+-- there are no bytes, or they begin with one that isn't skipped
 abbrev pub BeginsKept : List ℕ → Type 0
 BeginsKept [] = ⊤
 BeginsKept (b ∷ bytes) = is_skipped b ≡ false

@@ -81,7 +81,7 @@ fn len_without_head(size: usize, blank: &[u8], rest: &[u8]) -> Option<usize>
 }
 
 /// How many bytes without an empty line are too many for a head. As many as a head may have, but skipped
-/// ones alone, are none yet.
+/// ones alone, aren't one yet.
 fn refused_len(rest: &[u8]) -> usize
     ensures blank { length rest.now ≡ 0 → result ≡ HEAD_LIMIT + 1 }
     ensures begun { 0 < length rest.now → result ≡ HEAD_LIMIT }

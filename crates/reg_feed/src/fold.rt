@@ -7,7 +7,7 @@ use std::alloc::AllocError;
 pub trait Fold<T> {
     ghost applied: { Self → T → Self };
 
-    /// The only error is want of memory; the value is then as it was.
+    /// The only error is out of memory; the value is then as it was.
     fn take_item(&mut self, item: &T) -> Result<(), AllocError>
         ensures taken { OnOk result (self.new ≡ applied self.old item.now) }
         ensures refused { OnErr result (self.new ≡ self.old) };

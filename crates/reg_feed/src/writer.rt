@@ -64,7 +64,7 @@ impl<T: Drop, V: Fold<T> + Drop, N: FeedName<T, V>, S: Copies<T, V, N>, R: Wait 
     ghost invariant = { λ w. (w.origin ≡ []) × GrowsTo (S.list w.writer.writer.desk.shown.value) (drop w.writer.writer.behind w.writer.writer.log.items ++ option_to_list w.next) w.whole };
 }
 
-/// A feed whose list has no item, with places for so many readers. The only error is want of memory.
+/// A feed whose list has no item, with places for so many readers. The only error is out of memory.
 pub fn feed<T: Drop, V: Fold<T> + Clone + Drop, N: FeedName<T, V>, R: Wait + Drop>(
     rt: R,
     alloc: Global,
@@ -91,7 +91,7 @@ pub fn feed<T: Drop, V: Fold<T> + Clone + Drop, N: FeedName<T, V>, R: Wait + Dro
     })
 }
 
-/// Brings an item into the log of the copies, if there is one. The only error is want of memory; all
+/// Brings an item into the log of the copies, if there is one. The only error is out of memory; all
 /// is then as it was.
 fn hand_over<T: Drop, V: Fold<T> + Drop, N: FeedName<T, V>, S: Copies<T, V, N>, R: Wait + Drop>(
     writer: &mut WriteHandle<S, Op<T, V, N>, R>,
@@ -145,7 +145,7 @@ impl<T: Drop, V: Fold<T> + Drop, N: FeedName<T, V>, S: Copies<T, V, N>, R: Wait 
     }
 
     /// Publishes the pending items, all at once. It may wait for readers of an older list. The only
-    /// error is want of memory; the items then stay pending.
+    /// error is out of memory; the items then stay pending.
     pub fn publish(&mut self) -> Result<(), AllocError>
         ensures published { OnOk result (self.new ≡ (self.old.0 ++ self.old.1, [])) }
         ensures refused { OnErr result (self.new ≡ self.old) }

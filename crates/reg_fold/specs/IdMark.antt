@@ -24,7 +24,7 @@ id_marked_in (values.IdMark id) = Some id
 unfoldable pub id_marked_of : Record → Option ℕ
 id_marked_of r = option_and_then id_marked_in (value_of r)
 
--- the mark: the id of the ID_MARK key's last record; 0 where there is none, or none that can be read
+-- the mark: the id of the ID_MARK key's last record; 0 where there is none, or it can't be read
 unfoldable pub id_mark : Records → ℕ
 id_mark rs = unwrap_or (option_and_then id_marked_of (last rs keys.IdMark)) 0
 

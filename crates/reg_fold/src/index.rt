@@ -85,7 +85,7 @@ impl Index {
         }
     }
 
-    /// Adds a record. The only error is want of memory; the last records are then as they were.
+    /// Adds a record. The only error is out of memory; the last records are then as they were.
     pub(crate) fn apply(&mut self, given: &Record) -> Result<(), AllocError>
         requires { IsKept self.old }
         ensures kept { IsKept self.new }
@@ -309,7 +309,7 @@ impl Index {
 }
 
 /// Makes a version's record that is news the last of its key, puts its entry, and gives the record
-/// before. The only error is want of memory; all is then as it was.
+/// before. The only error is out of memory; all is then as it was.
 fn put_with(
     lasts: &mut LastRecords,
     entries: &mut Entries,

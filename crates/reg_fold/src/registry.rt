@@ -75,7 +75,7 @@ impl Registry {
     }
 
     /// The registry over a set of records, which is that over each compaction of it. The only error
-    /// is want of memory.
+    /// is out of memory.
     pub fn of_set(alloc: Global, set: &RecordSet) -> Result<Registry, AllocError>
         ensures lasts { IfOk result (λ registry. registry ≡ last_records set.now) }
         ensures compactions { IfOk result (λ registry.
@@ -100,7 +100,7 @@ impl Registry {
     }
 
     /// Adds a record, in any order of arrival: a registry over a set becomes the registry over that
-    /// set with the record. The only error is want of memory; the registry is then as it was.
+    /// set with the record. The only error is out of memory; the registry is then as it was.
     pub fn apply(&mut self, given: &Record) -> Result<(), AllocError>
         ensures added { OnOk result (self.new ≡ last_records (set.insert self.old given.now)) }
         ensures whole { OnOk result ((whole : Records) → self.old ≡ last_records whole
@@ -111,7 +111,7 @@ impl Registry {
         self.index.apply(given)
     }
 
-    /// Adds all records or none, in any order of arrival. The only error is want of memory; the
+    /// Adds all records or none, in any order of arrival. The only error is out of memory; the
     /// registry is then as it was.
     ///
     /// It costs what the records cost where all but the first are tombstones of versions that have a
@@ -162,7 +162,7 @@ impl Registry {
             && self.last(&given.key).is_some()
     }
 
-    /// Adds a record, and then tombstones, or none of them. The only error is want of memory; the
+    /// Adds a record, and then tombstones, or none of them. The only error is out of memory; the
     /// registry is then as it was.
     fn apply_before(&mut self, first: &Record, tombstones: &[Record]) -> Result<(), AllocError>
         requires { list_all (is_tombstone self.old) tombstones.now ≡ true }
@@ -207,7 +207,7 @@ impl Registry {
         self.index.bury(tombstone);
     }
 
-    /// Adds all records or none. The only error is want of memory; the registry is then as it was.
+    /// Adds all records or none. The only error is out of memory; the registry is then as it was.
     fn apply_to_copy(&mut self, records: &[Record]) -> Result<(), AllocError>
         ensures added { OnOk result (self.new
             ≡ last_records (set.union self.old (set.from_list records.now))) }
@@ -219,7 +219,7 @@ impl Registry {
         Ok(())
     }
 
-    /// Adds all records. The only error is want of memory; some may then have been added.
+    /// Adds all records. The only error is out of memory; some may then have been added.
     fn apply_each(&mut self, records: &[Record]) -> Result<(), AllocError>
         ensures { OnOk result (self.new
             ≡ last_records (set.union self.old (set.from_list records.now))) }
@@ -264,7 +264,7 @@ impl Registry {
         self.index.last.is_compact();
     }
 
-    /// The last records, one a key. The only error is want of memory.
+    /// The last records, one a key. The only error is out of memory.
     pub fn records(&self) -> Result<Vec<&Record>, AllocError>
         ensures { IfOk result (λ found. self.now ≡ set.from_list (map (λ r. r.now) found.items)) }
     {
@@ -280,7 +280,7 @@ impl Registry {
 
     /// A copy of a record, whose value brings along the text that the entry at its place has, if there
     /// is one: who reads a version's record then shares the text with this registry. The only error is
-    /// want of memory.
+    /// out of memory.
     pub fn copy_of(&self, given: &Record) -> Result<Record, AllocError>
         ensures { IfOk result (λ copy. copy ≡ given.now) }
     {
@@ -298,7 +298,7 @@ impl Registry {
         })
     }
 
-    /// The text of the entry at a version's place. The only error is want of memory.
+    /// The text of the entry at a version's place. The only error is out of memory.
     fn text_at(&self, key: &Key) -> Result<Option<&Text>, AllocError> {
         let Key::Schema { subject, version } = key else {
             return Ok(None);
@@ -318,7 +318,7 @@ impl Registry {
     }
 
     /// The entries, by subject, by its bytes, and then by version, each version of a subject once.
-    /// The only error is want of memory.
+    /// The only error is out of memory.
     pub fn entries(&self) -> Result<Vec<&Entry>, AllocError>
         ensures all { IfOk result (λ found. map (λ e. e.now) found.items ≡ entries self.now) }
         ensures in_order { IfOk result (λ found. IsInOrder (map (λ e. e.now) found.items)) }
@@ -332,7 +332,7 @@ impl Registry {
     }
 
     /// The live entries of a subject, which are those that aren't soft, by version, each version
-    /// once. The only error is want of memory.
+    /// once. The only error is out of memory.
     pub fn live(&self, subject: &str) -> Result<Vec<&Entry>, AllocError>
         ensures all { IfOk result (λ found. map (λ e. e.now) found.items ≡ live self.now subject.now) }
         ensures in_order { IfOk result (λ found. HasRisingVersions (map (λ e. e.now) found.items)) }
@@ -345,7 +345,7 @@ impl Registry {
     }
 
     /// The entries of a subject that count, by version, each version once: the live ones, and where
-    /// `deleted` is true the soft ones too. The only error is want of memory.
+    /// `deleted` is true the soft ones too. The only error is out of memory.
     pub fn counting(&self, subject: &str, deleted: bool) -> Result<Vec<&Entry>, AllocError>
         ensures all { IfOk result (λ found. map (λ e. e.now) found.items ≡ counting (entries self.now) subject.now deleted) }
         ensures in_order { IfOk result (λ found. HasRisingVersions (map (λ e. e.now) found.items)) }
@@ -377,7 +377,7 @@ impl Registry {
         }
     }
 
-    /// The subjects with an entry that counts, by their bytes. The only error is want of memory.
+    /// The subjects with an entry that counts, by their bytes. The only error is out of memory.
     pub fn subjects(&self, deleted: bool) -> Result<Vec<&str>, AllocError>
         ensures { IfOk result (λ found. map (λ s. s.now) found.items ≡ subjects (entries self.now) deleted) }
     {
@@ -396,7 +396,7 @@ impl Registry {
     }
 
     /// The entries with an id, soft ones too, by subject, by its bytes, and then by version. The
-    /// only error is want of memory.
+    /// only error is out of memory.
     pub fn with_id(&self, id: u32) -> Result<Vec<&Entry>, AllocError>
         ensures { IfOk result (λ found. map (λ e. e.now) found.items ≡ with_id (entries self.now) id) }
     {
@@ -447,7 +447,7 @@ impl Registry {
     }
 
     /// The least id of an entry of the schema with that normal text, soft ones too. The only error
-    /// is want of memory.
+    /// is out of memory.
     pub fn id_of(&self, normal: &str) -> Result<Option<u32>, AllocError>
         ensures { IfOk result (λ id. id ≡ id_of self.now normal.now) }
     {
@@ -504,7 +504,7 @@ impl Registry {
     }
 }
 
-/// Copies of the records. The only error is want of memory.
+/// Copies of the records. The only error is out of memory.
 fn copies_of(alloc: Global, records: &[Record]) -> Result<Vec<Record>, AllocError>
     ensures { IfOk result (λ copies. copies.items ≡ records.now) }
 {

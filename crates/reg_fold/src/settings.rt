@@ -70,7 +70,7 @@ impl Index {
 }
 
 /// Makes a record that is news the last of its key, and gives the scope its own, or takes away what
-/// it has. The only error is want of memory; all is then as it was.
+/// it has. The only error is out of memory; all is then as it was.
 pub(crate) fn put_own<T: Drop>(
     alloc: Global,
     lasts: &mut LastRecords,

@@ -87,7 +87,7 @@ impl<M: FeedName<Draw, Taken>, U: Copies<Draw, Taken, M>, R: Wait + Drop> Intake
         Ok(View::new(self.alloc, reader))
     }
 
-    /// Takes bytes that came behind those before. The only error is want of memory; all is then as it was.
+    /// Takes bytes that came behind those before. The only error is out of memory; all is then as it was.
     pub fn take(&mut self, bytes: &[u8]) -> Result<(), AllocError>
         ensures taken { (text : List ℕ) (read : List Read) → HasTaken text read self.old → OnOk result (HasTaken (text ++ bytes.now) read self.new) }
         ensures list { (self.new.published ≡ self.old.published) × (self.new.pending ≡ self.old.pending) }

@@ -18,7 +18,7 @@ pub trait Desk {
     /// The desk before, a command, what is replied, and the desk after.
     ghost commands: { Self → Command → Reply → Self → Type 0 };
 
-    /// The answer to a query. The only error is want of memory.
+    /// The answer to a query. The only error is out of memory.
     fn ask(&mut self, alloc: Global, query: &Query) -> Result<Answer, AllocError>
         ensures { asks self.old query.now result self.new };
 

@@ -24,7 +24,7 @@ before_empty (line ∷ lines) = if length line == 0 then [] else line ∷ before
 abbrev pub log_lines : List ℕ → List (List ℕ)
 log_lines text = before_empty (slice_split is_line_feed text)
 
--- whether the key of a line is none that is known here
+-- whether the key of a line is of no kind known here
 abbrev pub is_foreign_line : List ℕ → Bool
 is_foreign_line line = option_map_or is_foreign (result_ok (reading line)) false
 

@@ -12,7 +12,7 @@ use std::alloc::{AllocError, Global};
 use std::error::Error;
 use std::fmt;
 
-/// Why a version's record can't be read; the first in this order is told.
+/// Why a version's record can't be read; the first in this order is reported.
 #[derive(Clone, Copy, Debug, PartialEq, Eq)]
 pub enum Cause {
     /// Its text is no JSON object.
@@ -37,7 +37,7 @@ pub enum Cause {
     Id,
     /// Its mark of deletion is neither true nor false.
     Deleted,
-    /// Its schema isn't there, or is none of Avro.
+    /// Its schema isn't there, or isn't an Avro schema.
     Schema,
 }
 
@@ -80,7 +80,7 @@ impl Cause {
 }
 
 /// Why a version's record can't be read; none where it can be, and for a record without a text or of another
-/// key. The only error is want of memory.
+/// key. The only error is out of memory.
 pub fn cause_of(alloc: Global, given: &Record) -> Result<Option<Cause>, AllocError>
     ensures { IfOk result (λ cause. cause ≡ cause_of given.now) }
 {

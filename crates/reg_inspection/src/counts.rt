@@ -15,7 +15,7 @@ use std::collections::BTreeSet;
 pub struct Counts {
     /// Its records, superseded ones too.
     pub records: u64,
-    /// Its lines whose key is none known here.
+    /// Its lines whose key is of no kind known here.
     pub foreign: u64,
     /// The offset that its first line says as its floor, or 0.
     pub floor: u64,

@@ -28,7 +28,7 @@ pub struct Inspection {
 
 impl Inspection {
     /// Its text, a line a fact: the counts, each as `NAME: NUMBER`, then the foreign lines by their keytypes, likewise,
-    /// then the obstacles, those of versions with their causes. The only error is want of memory.
+    /// then the obstacles, those of versions with their causes. The only error is out of memory.
     pub fn report(&self, alloc: Global) -> Result<String, AllocError>
         ensures { IfOk result (λ text. string_bytes text ≡ report_text self.now.counts self.now.foreign.entries self.now.obstacles.items) }
     {

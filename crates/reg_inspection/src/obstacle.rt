@@ -37,7 +37,7 @@ impl Obstacle {
     ghost use Rattle.std.specs.Prelude.{◌≡◌, IfOk, string_bytes};
     ghost use Rattle.reg_inspection.specs.Obstacles.{obstacle_text};
 
-    /// What it is, without the cause: a line without its LF. The only error is want of memory.
+    /// What it is, without the cause: a line without its LF. The only error is out of memory.
     pub fn text(&self, alloc: Global) -> Result<String, AllocError>
         ensures { IfOk result (λ text. string_bytes text ≡ obstacle_text self.now) }
     {
@@ -87,7 +87,7 @@ fn is_plain(text: &str) -> bool
 
 /// All that keeps a log from being taken over: the versions whose last records can't be read, by their offsets,
 /// then the ids that name two schemas, in ascending order, then that a mark of ids is due without an offset left for
-/// it. There is nothing exactly where the log is adopted. The only error is want of memory.
+/// it. There is nothing exactly where the log is adopted. The only error is out of memory.
 pub fn obstacles(alloc: Global, log: &Log) -> Result<Vec<Obstacle>, AllocError>
     ensures all { IfOk result (λ found. found.items ≡ obstacles (last_records (from_list log.now.records.items)) log.now.next) }
     ensures none { IfOk result (λ found. (found.items ≡ []) ↔ (can_begin (last_records (from_list log.now.records.items)) log.now.next ≡ true)) }

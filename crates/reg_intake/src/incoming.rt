@@ -81,7 +81,7 @@ impl Incoming {
         &self.held[self.passed..]
     }
 
-    /// Takes bytes that came behind those before. The only error is want of memory; all is then as it was.
+    /// Takes bytes that came behind those before. The only error is out of memory; all is then as it was.
     pub fn take(&mut self, bytes: &[u8]) -> Result<(), AllocError>
         ensures taken { OnOk result (self.new ≡ with_bytes self.old bytes.now) }
         ensures read { (text : List ℕ) (read : List Read) → HasRead text read self.old → OnOk result (HasRead (text ++ bytes.now) read self.new) }

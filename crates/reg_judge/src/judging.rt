@@ -20,7 +20,7 @@ pub(crate) struct Run {
 
 /// Whether a new schema meets a level against old versions, all of which the level looks at.
 ///
-/// The only error is want of memory.
+/// The only error is out of memory.
 pub(crate) fn judge_each(
     alloc: Global,
     kept: &Verdicts,

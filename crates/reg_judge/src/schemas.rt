@@ -17,7 +17,7 @@ pub(crate) type Schemas = LruCache<String, KeptSchema, RandomState>;
 
 /// The schema of a text, taken from those that are kept, or read; `None` where there is none.
 ///
-/// The only error is want of memory.
+/// The only error is out of memory.
 pub(crate) fn take(
     alloc: Global,
     kept: &mut Schemas,

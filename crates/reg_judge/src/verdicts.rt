@@ -17,7 +17,7 @@ pub(crate) type Verdicts = LruCache<Pair, Verdict, RandomState>;
 
 /// The verdict on two schemas, as it is kept, or made.
 ///
-/// The only error is want of memory.
+/// The only error is out of memory.
 pub(crate) fn verdict_on(
     alloc: Global,
     kept: &Verdicts,

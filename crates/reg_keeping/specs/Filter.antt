@@ -25,7 +25,7 @@ IsFilterRefusal input old new (FloorAhead next) = ⊥
 IsFilterRefusal input old new NoRoom = ⊥
 IsFilterRefusal input old new OutOfMemory = Keeps old new
 
--- so where a log is compacted to a floor; one that it can't have is told, and nothing was written then
+-- so where a log is compacted to a floor; one that it can't have is reported, and nothing was written then
 abbrev pub IsFilterRefusalTo : ℕ → Option (List ℕ) → Option (List ℕ) → Option (List ℕ) → FilterError → Type 0
 IsFilterRefusalTo floor input old new (Log line fault) = IsFilterRefusal input old new (Log line fault)
 IsFilterRefusalTo floor input old new ReadFault = IsFilterRefusal input old new ReadFault

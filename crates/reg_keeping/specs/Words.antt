@@ -1,4 +1,4 @@
--- What the words of the command line ask for.
+-- What the arguments ask for.
 use Rattle.std.specs.Prelude.{◌≤◌, ⊤, ℕ, [], ◌∷◌, List, codes, bytes_eq, if◌then◌else◌}
 use Rattle.std.specs.Option.{option_map_or}
 use Rattle.reg_records.specs.Line.{offset_of}

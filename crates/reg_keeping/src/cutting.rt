@@ -9,7 +9,7 @@ use reg_records::{Read, ReadLineError, is_floor_line, read_line};
 use std::alloc::{AllocError, Global};
 
 /// How many bytes the line at the front of a text takes with its LF, and what it says; none where it has no LF or
-/// a fault. The only error is want of memory.
+/// a fault. The only error is out of memory.
 pub fn line_at(alloc: Global, text: &[u8]) -> Result<Option<(usize, Read)>, AllocError>
     ensures some { IfOk result (λ found. IfSome found (λ it. 0 < it.0)) }
     ensures within { IfOk result (λ found. IfSome found (λ it. it.0 ≤ length text.now)) }

@@ -1,4 +1,4 @@
-// What the words of the command line ask for.
+// What the arguments ask for.
 ghost use Rattle.std.specs.Prelude.{◌≡◌, ◌≤◌, IfSome, map, string_bytes};
 ghost use Rattle.std.specs.Char.{is_ascii_digit};
 ghost use Rattle.std.specs.List.{list_all};
@@ -8,7 +8,7 @@ ghost use Rattle.reg_keeping.specs.Words.{HasFloorInLimits, command_at, command_
 
 use reg_records::OFFSET_LIMIT;
 
-/// What the words of the command line ask for.
+/// What the arguments ask for.
 #[derive(Clone, Copy, Debug, PartialEq, Eq)]
 pub enum Command {
     /// The log of a file is to be served. Behind the word stand the file, an address with a port, and how many nodes

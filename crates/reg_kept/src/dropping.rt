@@ -10,7 +10,7 @@ use reg_records::Record;
 use reg_set::{RecordSet, records_are_ordered};
 use std::alloc::AllocError;
 
-/// What stays of a set without those records. The only error is want of memory.
+/// What stays of a set without those records. The only error is out of memory.
 pub(crate) fn without(set: &RecordSet, dropped: &[Record]) -> Result<RecordSet, AllocError>
     ensures { IfOk result (λ left. left ≡ without set.now dropped.now) }
 {

@@ -97,7 +97,7 @@ impl KeptSet {
     }
 
     /// Copies of the records, by offset, then by key, then no value before a text, then by the text's
-    /// bytes. The only error is want of memory.
+    /// bytes. The only error is out of memory.
     pub fn records(&self) -> Result<Vec<Record>, AllocError>
         ensures all { IfOk result (λ found. found.items ≡ records_of self.now.records) }
         ensures in_order { IfOk result (λ found. IsTrue (is_in_order found.items)) }
@@ -107,7 +107,7 @@ impl KeptSet {
     }
 
     /// Adds the record, and says what that did. It doesn't look at the floor: a record below it may
-    /// bring back what a forgotten delete had removed. The only error is want of memory; the set is
+    /// bring back what a forgotten delete had removed. The only error is out of memory; the set is
     /// then as it was.
     pub fn take(&mut self, given: &Record) -> Result<Taken, AllocError>
         ensures added { OnOk result
@@ -122,7 +122,7 @@ impl KeptSet {
     }
 
     /// Adds the records of a plain set. The floor stays; as `take`, it doesn't look at it. The only
-    /// error is want of memory; the set is then as it was.
+    /// error is out of memory; the set is then as it was.
     pub fn add(&mut self, more: &RecordSet) -> Result<(), AllocError>
         ensures added { OnOk result
             (self.new ≡ record self.old { records = set.union self.old.records more.now }) }
@@ -132,7 +132,7 @@ impl KeptSet {
     }
 
     /// Adds the records of the other set. Refuses a set of another floor; the only other error is
-    /// want of memory. After an error the set is as it was.
+    /// out of memory. After an error the set is as it was.
     pub fn merge(&mut self, other: &KeptSet) -> Result<(), MergeError>
         ensures merged { OnOk result (self.new ≡ merged self.old other.now) }
         ensures at_one_floor { self.old.floor ≡ other.now.floor
@@ -162,7 +162,7 @@ impl KeptSet {
 
     /// Leaves the last record of each key alone, and nothing of a key whose last record has no value
     /// and stands below the floor. That floor is then the set's. Refuses a floor below the set's own;
-    /// the only other error is want of memory. After an error the set is as it was.
+    /// the only other error is out of memory. After an error the set is as it was.
     pub fn compact_to(&mut self, floor: u64) -> Result<(), FloorError>
         ensures left { OnOk result
             (self.new ≡ record { records = compacted_to floor self.old.records; floor = floor }) }
@@ -184,7 +184,7 @@ impl KeptSet {
     /// What stays of the set without those records, with that floor. `None` where the floor is below the
     /// set's own, or where the records may not leave: one isn't in the set, or is the last of its key
     /// and more than a delete below that floor of which nothing else stays. What stays is else a
-    /// compaction of the set. The only error is want of memory.
+    /// compaction of the set. The only error is out of memory.
     pub fn without(&self, floor: u64, dropped: &[Record]) -> Result<Option<KeptSet>, AllocError>
         ensures { IfOk result (λ left. left
             ≡ (if nat_le self.now.floor floor && may_leave floor self.now.records dropped.now
@@ -201,7 +201,7 @@ impl KeptSet {
     }
 
     /// Takes on the floor of the other set, and the records that it has below it, in place of the own
-    /// ones below it. Refuses a floor below the set's own; the only other error is want of memory.
+    /// ones below it. Refuses a floor below the set's own; the only other error is out of memory.
     /// After an error the set is as it was.
     pub fn rebase(&mut self, other: &KeptSet) -> Result<(), FloorError>
         ensures rebased { OnOk result (self.new

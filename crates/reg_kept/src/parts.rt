@@ -22,7 +22,7 @@ pub(crate) fn compacted_to(set: &RecordSet, floor: u64) -> Result<RecordSet, All
     set_of(&found)
 }
 
-/// The records below the floor. The only error is want of memory.
+/// The records below the floor. The only error is out of memory.
 pub(crate) fn below(set: &RecordSet, floor: u64) -> Result<RecordSet, AllocError>
     ensures { IfOk result (λ found. found ≡ below floor set.now) }
 {
@@ -32,7 +32,7 @@ pub(crate) fn below(set: &RecordSet, floor: u64) -> Result<RecordSet, AllocError
     set_of(&found)
 }
 
-/// The records at the floor and above. The only error is want of memory.
+/// The records at the floor and above. The only error is out of memory.
 pub(crate) fn from_floor(set: &RecordSet, floor: u64) -> Result<RecordSet, AllocError>
     ensures { IfOk result (λ found. found ≡ from_floor floor set.now) }
 {
@@ -67,7 +67,7 @@ pub(crate) fn deletes_below(given: &Record, floor: u64) -> bool
     given.value.is_none() && given.offset < floor
 }
 
-/// The set of those records. The only error is want of memory.
+/// The set of those records. The only error is out of memory.
 fn set_of(records: &Vec<Record>) -> Result<RecordSet, AllocError>
     ensures { IfOk result (λ found. found ≡ from_list records.now.items) }
 {

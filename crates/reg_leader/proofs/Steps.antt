@@ -34,7 +34,7 @@ pub batches_end_by_the_limit : BatchesEndByTheLimit
 unfolding IsStep
 batches_end_by_the_limit rs n c reply batch step = outcome-ends n (course_of rs n c) reply batch step
 
--- where each pair is compatible nothing is told
+-- where each pair is compatible nothing is reported
 met_passes : (ps : List Required) → All IsCompatible ps → IsVerdictOn ps passed
 met_passes [] all = refl
 met_passes (p ∷ ps) all = inl (All-head IsCompatible p ps all, met_passes ps (All-tail IsCompatible p ps all))

@@ -44,7 +44,7 @@ IsRefused refusal reply batch = (reply ≡ replies.Refused refusal) × (batch �
 abbrev pub incompatible : List ℕ → Refusal
 incompatible message = refusals.Incompatible (codes "Incompatible with " ++ message)
 
--- what is replied, and the records that are written from the offset n on; of a level that isn't met the first clash is told
+-- what is replied, and the records that are written from the offset n on; of a level that isn't met the first clash is reported
 abbrev pub IsOutcome : ℕ → Course → Reply → List Record → Type 0
 IsOutcome n (Refused refusal) reply batch = IsRefused refusal reply batch
 IsOutcome n (Does does ws) reply batch = if_offsets_last (nat_le (n + length ws) (suc OFFSET_LIMIT)) does (numbered n ws) ≡ (reply, batch)

@@ -79,7 +79,7 @@ fn register_new(
 }
 
 /// The id of a schema that is registered: the least that an entry has it under, else one more than
-/// the greatest that is marked or that an entry has, or 1. The only error is want of memory.
+/// the greatest that is marked or that an entry has, or 1. The only error is out of memory.
 fn id_for(registry: &Registry, normal: &Text) -> Result<u64, AllocError>
     ensures { IfOk result (λ id. id ≡ id_for registry.now normal.now) }
 {

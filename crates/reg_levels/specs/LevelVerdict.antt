@@ -20,7 +20,7 @@ passed = record { ok = true; version = None; direction = None; trail = None }
 abbrev pub failed : Required → Trail → LevelVerdict
 failed p trail = record { ok = false; version = Some p.version; direction = Some p.direction; trail = Some trail }
 
--- Of the first pair that clashes the trail is told; where none does, nothing is.
+-- Of the first pair that clashes the trail is reported; where none does, nothing is.
 abbrev pub IsVerdictOn : List Required → LevelVerdict → Type 0
 IsVerdictOn [] v = v ≡ passed
 IsVerdictOn (p ∷ ps) v =

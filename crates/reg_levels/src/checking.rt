@@ -12,8 +12,8 @@ use std::alloc::{AllocError, Global};
 
 /// Whether a new schema meets a level against the old versions, which stand by ascending version.
 ///
-/// Where it doesn't, the first pair that clashes is told, from the greatest version down and
-/// `Backward` before `Forward`. The only error is want of memory.
+/// Where it doesn't, the first pair that clashes is reported, from the greatest version down and
+/// `Backward` before `Forward`. The only error is out of memory.
 pub fn check(
     alloc: Global,
     level: Level,

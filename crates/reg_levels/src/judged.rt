@@ -111,7 +111,7 @@ fn judge(
     check_texts(alloc, level, &new, olds)
 }
 
-/// A copy of the versions and texts. The only error is want of memory.
+/// A copy of the versions and texts. The only error is out of memory.
 pub fn copy_of(alloc: Global, olds: &[(u32, &str)]) -> Result<Listed<(u32, Text)>, AllocError>
     ensures { IfOk result (λ copy. copy ≡ map (λ old. (old.0, old.1.now)) olds.now) }
 {

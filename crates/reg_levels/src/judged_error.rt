@@ -3,7 +3,7 @@ use std::alloc::{AllocError, AllocFailed};
 use std::error::Error;
 use std::fmt;
 
-/// Why nothing was judged. The new text's fault is told before an old one's.
+/// Why nothing was judged. The new text's fault is reported before an old one's.
 #[derive(Clone, Copy, Debug, PartialEq, Eq)]
 pub enum JudgedError {
     /// The new text is no schema's.

@@ -38,7 +38,7 @@ pub fn check_texts(
 
 /// The same, where each old text is known to be a schema's: those alone are read of which the level
 /// looks at the versions, one after the other from the greatest down, up to one that clashes. The only
-/// error is want of memory.
+/// error is out of memory.
 pub fn check_read_texts(
     alloc: Global,
     level: Level,
@@ -86,7 +86,7 @@ fn check_text(
     check_version(alloc, level, new, old.0, &schema)
 }
 
-/// The schema of a text that is known to be one's. The only error is want of memory.
+/// The schema of a text that is known to be one's. The only error is out of memory.
 fn read_known(alloc: Global, text: &str) -> Result<Schema, AllocError>
     requires { is_schema text.now ≡ true }
     ensures { IfOk result (λ schema. schema.nodes ≡ nodes_in text.now) }

@@ -9,7 +9,7 @@ use avro_resolve::Trail;
 use base_text::Text;
 use std::alloc::{AllocError, Global};
 
-/// Whether a level is met. Where it isn't, the first required pair that clashes is told: its
+/// Whether a level is met. Where it isn't, the first required pair that clashes is reported: its
 /// version, its direction and its trail. Where it is, these are `None`.
 #[derive(Debug, Drop)]
 pub struct LevelVerdict {
@@ -20,9 +20,9 @@ pub struct LevelVerdict {
 }
 
 impl LevelVerdict {
-    /// `version V, DIRECTION, at TRAIL: CLASH` of the pair that is told; `None` where none is.
+    /// `version V, DIRECTION, at TRAIL: CLASH` of the pair that is reported; `None` where none is.
     ///
-    /// The only error is want of memory.
+    /// The only error is out of memory.
     pub fn message(&self, alloc: Global) -> Result<Option<Text>, AllocError>
         ensures { IfOk result (λ m. m ≡ message.message_of self.now) }
     {

@@ -17,7 +17,7 @@ use base_text::Text;
 use reg_fold::Registry;
 use std::alloc::{AllocError, Global};
 
-/// The answer to a query; a refusal is one too. The only error is want of memory.
+/// The answer to a query; a refusal is one too. The only error is out of memory.
 ///
 /// A registry over a set of records answers as one over a compaction of that set does, to the byte.
 pub fn answer(alloc: Global, registry: &Registry, query: &Query) -> Result<Answer, AllocError>

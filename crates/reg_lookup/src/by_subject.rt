@@ -25,7 +25,7 @@ pub(crate) fn versions(
     Ok(versions_body(alloc, &found)?)
 }
 
-/// The list of the subjects with a version that counts. The only error is want of memory.
+/// The list of the subjects with a version that counts. The only error is out of memory.
 pub(crate) fn subjects(
     alloc: Global,
     registry: &Registry,

@@ -51,7 +51,7 @@ impl Model for Grounds {
 
 impl Grounds {
     /// What a check of a subject is answered on, against its live versions, or the one of them that is
-    /// named. The only error is want of memory.
+    /// named. The only error is out of memory.
     pub fn of(
         alloc: Global,
         registry: &Registry,
@@ -75,7 +75,7 @@ impl Grounds {
     }
 
     /// The answer whether a schema may follow, over each registry that it could be taken from. A schema
-    /// that can't be read is refused first. The only error is want of memory.
+    /// that can't be read is refused first. The only error is out of memory.
     pub fn answer(self, alloc: Global, text: &str, verbose: bool) -> Result<Answer, AllocError>
         ensures { IfOk result (λ a. (rs : Records) (subject : List ℕ) (which : Option VersionRef)
             → self ≡ checked_on rs subject which → IsAnswer rs (Check subject which text.now verbose) a) }
@@ -85,7 +85,7 @@ impl Grounds {
     }
 }
 
-/// The answer of a check over a registry. The only error is want of memory.
+/// The answer of a check over a registry. The only error is out of memory.
 pub(crate) fn check_answer(
     alloc: Global,
     registry: &Registry,
@@ -139,7 +139,7 @@ fn verdict_on(
     }
 }
 
-/// The verdict of a level on a schema. The only error is want of memory.
+/// The verdict of a level on a schema. The only error is out of memory.
 fn check_each(
     alloc: Global,
     level: Level,

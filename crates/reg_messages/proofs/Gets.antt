@@ -38,7 +38,7 @@ pub short-body : (start mid new : Option (List ℕ)) (taken bytes : List ℕ) (h
 short-body start mid new taken bytes h took known is (body, few, more) =
     short-known start new (taken ++ body) (Consumes-trans start mid new taken body took more) (subst IsShort (sym (known body)) (h, is, few))
 
--- what is left after as many bytes as were told
+-- what is left after as many bytes as were stated
 left-whole : (len : ℕ) (bytes x y : List ℕ) → length bytes ≡ len → x ≡ bytes ++ y → Some y ≡ Some (drop len x)
 left-whole len bytes x y many is = sym (ap Some (ap (λ n. drop n x) (sym many) ∙ ap (λ t. drop (length bytes) t) is ∙ drop-append_seam bytes y))
 

@@ -9,11 +9,11 @@ abbrev pub TakesAll : Option (List ℕ) → Option (List ℕ) → ℕ → Bool �
 TakesAll old new len true = (bytes : List ℕ) × (length bytes ≡ len) × Consumes old new bytes
 TakesAll old new len false = (bytes : List ℕ) × (length bytes < len) × Consumes old new bytes × IsAtEnd new
 
--- before the reader was lost it gave fewer bytes than were told
+-- before the reader was lost it gave fewer bytes than were stated
 abbrev pub LosesBody : Option (List ℕ) → Option (List ℕ) → ℕ → Type 0
 LosesBody old new len = (bytes : List ℕ) × (length bytes < len) × Consumes old new bytes
 
--- the bytes that were told, the end before them, or either of the two where memory was refused
+-- the bytes that were stated, the end before them, or either of the two where memory was refused
 abbrev pub TakesBody : Option (List ℕ) → Option (List ℕ) → ℕ → Body → Type 0
 TakesBody old new len (bodies.Whole bytes) = (length bytes ≡ len) × Consumes old new bytes
 TakesBody old new len bodies.Short = TakesAll old new len false

@@ -38,7 +38,7 @@ length_of (value ∷ []) =
     else (if nat_lt BODY_LIMIT (digits_value 10 value) then Err refusals.PayloadTooLarge else Ok (Some (digits_value 10 value)))
 length_of (value ∷ other ∷ more) = Err refusals.BadRequest
 
--- the length of the body that the fields tell, where they tell one
+-- the length of the body that the fields state, where they state one
 abbrev pub told_length : List Field → Result (Option ℕ) Refusal
 told_length fields =
     if nat_lt 0 (length (values_of (codes "transfer-encoding") fields)) then Err refusals.LengthRequired

@@ -12,7 +12,7 @@ use reg_records::Device;
 use std::alloc::Global;
 use std::io::Read;
 
-/// What stood where a body was told.
+/// What stood where a body was stated.
 #[derive(Debug, Drop)]
 pub(crate) enum Body {
     Whole(Listed<u8>),
@@ -22,7 +22,7 @@ pub(crate) enum Body {
     Dropped,
 }
 
-/// Takes the body, of which so many bytes are told.
+/// Takes the body, of which so many bytes are stated.
 #[tactic(auto, using(crate::proofs::Counts::counts_then, reg_records::proofs::Ends::ends_then))]
 pub(crate) fn take_body<R: Read>(
     alloc: Global,

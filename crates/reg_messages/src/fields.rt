@@ -8,9 +8,9 @@ use crate::field::Fields;
 use crate::limits::BODY_LIMIT;
 use reg_refusals::Refusal;
 
-/// The length in bytes of the body that the fields tell, where they tell one (RFC 9112, section 6).
+/// The length in bytes of the body that the fields state, where they state one (RFC 9112, section 6).
 /// Refused with `LengthRequired` where a transfer coding is named, with `BadRequest` where several
-/// lengths are told or one that is no number, and with `PayloadTooLarge` past the limit.
+/// lengths are stated or one that is not a number, and with `PayloadTooLarge` past the limit.
 pub fn told_length<'f, F: Fields<'f>>(fields: F) -> Result<Option<u64>, Refusal>
     ensures { result ≡ told_length (F.fields fields) }
 {
@@ -47,7 +47,7 @@ pub fn find_value<'f, F: Fields<'f>>(fields: F, name: &str) -> Option<(&'f [u8],
     None
 }
 
-/// The length that the only value of Content-Length tells; refused where it is no number, or past the
+/// The length that the only value of Content-Length tells; refused where it is not a number, or past the
 /// limit.
 fn length_in(value: &[u8]) -> Result<Option<u64>, Refusal>
     ensures { result ≡ length_of (value.now ∷ []) }

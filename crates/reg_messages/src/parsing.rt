@@ -40,7 +40,7 @@ pub(crate) fn head_in(bytes: &[u8]) -> Option<Head>
     }
 }
 
-/// The method of a head, whose bytes are a token: the only error is want of memory.
+/// The method of a head, whose bytes are a token: the only error is out of memory.
 pub(crate) fn method_in(alloc: Global, bytes: &[u8]) -> Result<Method, AllocError>
     requires token { IsToken bytes.now }
     ensures { IfOk result (λ method. method ≡ bytes.now) }
@@ -52,7 +52,7 @@ pub(crate) fn method_in(alloc: Global, bytes: &[u8]) -> Result<Method, AllocErro
     }
 }
 
-/// The target of a head, whose bytes are UTF-8: the only error is want of memory.
+/// The target of a head, whose bytes are UTF-8: the only error is out of memory.
 pub(crate) fn target_in(alloc: Global, bytes: &[u8]) -> Result<Text, AllocError>
     requires text { IsUtf8 bytes.now }
     ensures { IfOk result (λ target. target ≡ bytes.now) }

@@ -1,4 +1,4 @@
-// Reading a message: its head, and the body that its fields tell.
+// Reading a message: its head, and the body that its fields state.
 ghost use Rattle.std.specs.Prelude.{◌≡◌, ◌<◌, ◌≤◌, ℕ, List, Option, IfOk, IfSome, OnErr, OnOk, IsOk};
 ghost use Rattle.std.specs.Io.KnownBytes.{Consumes};
 ghost use Rattle.httparse.specs.Grammar.{RequestHead};
@@ -129,7 +129,7 @@ fn read_body<R: Read>(
 }
 
 /// How many bytes the body has that a head tells; none where the bytes are no head, and where what its
-/// fields tell is refused.
+/// fields state is refused.
 pub fn body_len(bytes: &[u8]) -> usize
     ensures told { (h : RequestHead) → IsHead bytes.now h → result ≡ body_length (fields_of h) }
     ensures some { 0 < result → (h : RequestHead) × IsHead bytes.now h × (result ≡ body_length (fields_of h)) }
@@ -167,7 +167,7 @@ fn wants_close(bytes: &[u8], head: &Head) -> bool
     head.spans.version == 0 || asks_to_close(fields_in(bytes, head))
 }
 
-/// The message of a head and what stood where its body was told.
+/// The message of a head and what stood where its body was stated.
 fn got_of(alloc: Global, bytes: &[u8], head: &Head, body: Body, wants: bool) -> Got
     requires within { IsHeadWithin bytes.now head.now }
     requires texts { HasTexts bytes.now head.now }
@@ -194,7 +194,7 @@ fn got_with(alloc: Global, bytes: &[u8], head: &Head, body: Option<Listed<u8>>, 
     }
 }
 
-/// The same; the only error is want of memory.
+/// The same; the only error is out of memory.
 fn message_in(
     alloc: Global,
     bytes: &[u8],

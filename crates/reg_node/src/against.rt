@@ -52,7 +52,7 @@ impl Against {
     }
 
     /// Whether a new schema of the subject is judged against the same over a registry. The only error
-    /// is want of memory.
+    /// is out of memory.
     pub(crate) fn stands(&self, registry: &Registry, subject: &Text) -> Result<bool, AllocError>
         ensures { IfOk result (λ yes. (yes ≡ true) ↔ (against registry.now subject.now ≡ self.now)) }
     {

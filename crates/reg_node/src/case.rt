@@ -57,14 +57,14 @@ impl Case {
         }
     }
 
-    /// Whether it is the case of the same registration over a registry. The only error is want of memory.
+    /// Whether it is the case of the same registration over a registry. The only error is out of memory.
     pub fn stands(&self, registry: &Registry) -> Result<bool, AllocError>
         ensures { IfOk result (λ yes. (yes ≡ true) ↔ (against registry.now self.now.subject ≡ self.now.standing)) }
     {
         self.against.stands(registry, &self.subject)
     }
 
-    /// The case of the same registration over another registry. The only error is want of memory.
+    /// The case of the same registration over another registry. The only error is out of memory.
     pub fn anew(self, registry: &Registry) -> Result<Case, AllocError>
         ensures { IfOk result (λ case. case ≡ record self { standing = against registry.now self.subject }) }
     {

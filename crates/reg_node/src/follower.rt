@@ -117,7 +117,7 @@ impl<
     /// Draws what is new in the kept set of some published list of the topic that begins with all
     /// that was seen or learnt, and says whether anything was: where the floors differ, it is rebased on
     /// that set first. All that is then taken, once it is published, is a compaction of that list's log.
-    /// The only error is want of memory, or that the pen is gone.
+    /// The only error is out of memory, or that the pen is gone.
     pub fn pull(&mut self) -> Result<bool, AllocError>
         ensures longer { IsPrefix self.old.0 self.new.0 }
         ensures published { self.new.1.0 ≡ self.old.1.0 }
@@ -145,7 +145,7 @@ impl<
         Ok(true)
     }
 
-    /// Publishes what was taken, and gives the node's whole list. The only error is want of memory;
+    /// Publishes what was taken, and gives the node's whole list. The only error is out of memory;
     /// all is then as it was.
     pub fn publish(&mut self) -> Result<Seen<Draw, Taken, M>, AllocError>
         ensures published { OnOk result (self.new ≡ (self.old.0, (self.old.1.0 ++ self.old.1.1, []))) }
@@ -171,7 +171,7 @@ impl<
     }
 }
 
-/// Appends the draws to a node's list. The only error is want of memory; those that weren't appended
+/// Appends the draws to a node's list. The only error is out of memory; those that weren't appended
 /// then stay where they are.
 fn append_all<M: FeedName<Draw, Taken>, U: Copies<Draw, Taken, M>, R: Wait + Drop>(
     out: &mut FeedWriter<Draw, Taken, M, U, R>,

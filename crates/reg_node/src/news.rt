@@ -39,7 +39,7 @@ impl News {
     }
 }
 
-/// What is new for a node that has that floor, from an offset on. The only error is want of memory, or
+/// What is new for a node that has that floor, from an offset on. The only error is out of memory, or
 /// that the pen is gone.
 pub(crate) fn read_news<N: FeedName<Item, Shared>, S: Copies<Item, Shared, N>>(
     topic: &mut FeedReader<Item, Shared, N, S>,
@@ -64,7 +64,7 @@ pub(crate) fn read_news<N: FeedName<Item, Shared>, S: Copies<Item, Shared, N>>(
     }
 }
 
-/// What is new from an offset on. The only error is want of memory.
+/// What is new from an offset on. The only error is out of memory.
 fn copy_news(shared: &Shared, from: u64, floor: u64) -> Result<News, AllocError>
     ensures { IfOk result (λ news. IsNews shared.now floor from news.below news.records.items
         × (news.next ≡ shared.now.next) × (news.floor ≡ shared.now.kept.floor)) }
@@ -78,7 +78,7 @@ fn copy_news(shared: &Shared, from: u64, floor: u64) -> Result<News, AllocError>
     })
 }
 
-/// The kept records below the kept floor, if that isn't the given one. The only error is want of memory.
+/// The kept records below the kept floor, if that isn't the given one. The only error is out of memory.
 fn copy_below(shared: &Shared, floor: u64) -> Result<Option<Listed<Record>>, AllocError>
     ensures { IfOk result (λ below. IsBasis shared.now.kept floor below) }
 {
@@ -90,7 +90,7 @@ fn copy_below(shared: &Shared, floor: u64) -> Result<Option<Listed<Record>>, All
 }
 
 /// Adds a rebase, if there are records for one, and a take of each record behind them, or nothing. The
-/// only error is want of memory.
+/// only error is out of memory.
 pub(crate) fn add_draws(
     draws: &mut VecDeque<Draw>,
     read: u64,

@@ -78,7 +78,7 @@ impl Taken {
     }
 
     /// Puts the records that a rebase brings in the place of those below its floor. The only error is
-    /// want of memory; all is then as it was.
+    /// out of memory; all is then as it was.
     fn rebase(&mut self, rebase: &Rebase) -> Result<(), AllocError>
         ensures rebased { OnOk result (self.new ≡ last_records (rebased self.old (base_in rebase.now))) }
         ensures refused { OnErr result (self.new ≡ self.old) }
@@ -94,7 +94,7 @@ impl Taken {
     }
 }
 
-/// The last records of a registry, as a set. The only error is want of memory.
+/// The last records of a registry, as a set. The only error is out of memory.
 fn set_of(alloc: Global, registry: &Registry) -> Result<RecordSet, AllocError>
     ensures { IfOk result (λ set. set ≡ registry.now) }
 {

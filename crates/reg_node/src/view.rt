@@ -72,7 +72,7 @@ impl<M: FeedName<Draw, Taken>, U: Copies<Draw, Taken, M>> View<M, U> {
 
     /// The answer over what the node took by some published list that begins with all that this view
     /// saw or was told of; that list is then what it saw. It waits for nobody. The only error is
-    /// want of memory, or that the follower is gone.
+    /// out of memory, or that the follower is gone.
     ///
     /// What a check is answered on is copied, and then answered on, so that a long check holds nobody
     /// up.

@@ -16,7 +16,7 @@ use Rattle.reg_program.specs.declared.ended.Ended.TheVariants as ends
 use Rattle.reg_program.specs.declared.words.Command.{Command}
 use Rattle.reg_program.specs.declared.words.Command.TheVariants as commands
 
--- standard error is told how the program ends, and the status is that end's
+-- standard error says how the program ends, and the status is that end's
 abbrev pub EndsAs : {E : Type 0} → (E → Option (List ℕ)) → Device E → Device E → ℕ → Ended → Type 0
 EndsAs contents errors errors' status ended = Tells contents errors errors' (errors_written ended) × (status ≡ exit_status ended)
 

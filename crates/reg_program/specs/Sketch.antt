@@ -35,7 +35,7 @@ LeavesRest old new = IfSome old (λ input. new ≡ Some (after_front (after_fron
 abbrev pub HasOneSketch : List ℕ → Type 0
 HasOneSketch input = (s t : List ℕ) → Sketches input s → Sketches input t → s ≡ t
 
--- why there is no sketch: the reader's schema is none, or the writer's; or the reader
+-- why there is no sketch: the reader's text is not a schema, or the writer's; or the reader
 -- of the input is lost in one of the lines, or there is no room
 abbrev pub HasNoSketch : {R : Type 0} → Device R → Device R → Option (List ℕ) → SketchError → Type 0
 HasNoSketch reader reader' input (errors.Reader fault) =

@@ -1,4 +1,4 @@
--- What is told on standard error.
+-- What is reported on standard error.
 use Rattle.std.specs.Prelude.{◌⊎◌, ℕ, List, Option, decimal}
 use Rattle.std.specs.List.{flat_map}
 use Rattle.reg_records.specs.declared.device.Device.{Device}

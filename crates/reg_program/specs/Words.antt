@@ -1,4 +1,4 @@
--- What the words of the command line ask for.
+-- What the arguments ask for.
 use Rattle.std.specs.Prelude.{ℕ, ◌+◌, ◌∷◌, [], List, Bool, false, ◌&&◌, not, Option, Some, None}
 use Rattle.std.specs.Prelude.{length, codes, bytes_eq, nat_eq, nat_le, if◌then◌else◌}
 use Rattle.std.specs.Char.{is_ascii_digit}

@@ -24,7 +24,7 @@ use std::io::BufRead;
 /// What a fold did.
 #[derive(Clone, Copy, Debug, PartialEq, Eq)]
 pub struct Folded {
-    /// How many lines of the log have a key that is none known here.
+    /// How many lines of the log have a key of no kind known here.
     pub foreign: u64,
     /// How many responses were written.
     pub requests: u64,

@@ -1,4 +1,4 @@
-// The program: what its words ask for is done, and how that ended is told.
+// The program: what its arguments ask for is done, and how that ended is reported.
 ghost use Rattle.std.specs.Prelude.{map, string_bytes};
 ghost use Rattle.reg_program.specs.Running.{EndsAs, FoldGives, Runs, SketchGives};
 ghost use Rattle.reg_program.specs.Words.{command_of};
@@ -12,10 +12,10 @@ use reg_records::{Device, Output};
 use std::alloc::Global;
 use std::io::{BufRead, Write};
 
-/// Does what the words of the command line ask for, tells on `errors` how that ended, and returns the
+/// Does what the arguments ask for, tells on `errors` how that ended, and returns the
 /// exit status.
 ///
-/// Where the words are no command nothing is read or written but what `errors` is told. `serve` is
+/// Where the arguments are not a command nothing is read, and only `errors` is written to. `serve` is
 /// called where the words ask for nodes that serve, with the first port, the number of nodes and the
 /// number of workers of a node; its result is the status then, and it tells of its end by itself. A
 /// fault of `errors` changes no status.

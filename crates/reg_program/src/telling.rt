@@ -1,4 +1,4 @@
-// What is told on standard error.
+// What is reported on standard error.
 ghost use Rattle.std.specs.Prelude.{◌≡◌, ◌++◌, [], codes, decimal};
 ghost use Rattle.reg_records.specs.Device.{interruptions_of};
 ghost use Rattle.reg_responses.specs.Writing.{Writes};
@@ -13,7 +13,7 @@ use reg_records::Device;
 use reg_responses::{WriteFault, write_whole};
 use std::io::Write;
 
-/// A part of what is told.
+/// A part of what is reported.
 #[derive(Clone, Copy)]
 pub(crate) enum Part {
     Text(&'static str),

@@ -1,4 +1,4 @@
-// What the words of the command line ask for.
+// What the arguments ask for.
 ghost use Rattle.std.specs.Prelude.{◌≡◌, ◌≤◌, ◌&&◌, map, nat_le, string_bytes};
 ghost use Rattle.reg_program.specs.Words.{command_named, command_of, is_plain, number_in, serving};
 
@@ -11,7 +11,7 @@ const NODES: (u64, u64) = (1, 3);
 
 const WORKERS: (u64, u64) = (1, 16);
 
-/// What the words of the command line ask for.
+/// What the arguments ask for.
 #[derive(Clone, Copy, Debug, PartialEq, Eq)]
 pub enum Command {
     Fold,

@@ -99,7 +99,7 @@ IsInterruptedMore before after n = counted_by n (all_interruptions_of before) �
 abbrev pub CountsBytes : {T : Type 0} → Device T → Device T → Result ℕ Error → Type 0
 CountsBytes old new answer = MatchResult answer (λ n. new.place ≡ counted_by n old.place) (λ _. new.place ≡ old.place)
 
--- the count rose where the answer was a fault, and there alone; an interruption is none
+-- the count rose where the answer was a fault, and there alone; an interruption isn't one
 abbrev pub CountsFault : {T A : Type 0} → Device T → Device T → Result A Error → Type 0
 CountsFault old new answer = MatchResult answer (λ _. new.faults ≡ old.faults)
     (λ e. (error_kind e ≡ Interrupted → new.faults ≡ old.faults) × (error_kind e ≢ Interrupted → new.faults ≡ counted old.faults))

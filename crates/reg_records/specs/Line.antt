@@ -29,7 +29,7 @@ is_decimal field = not (length field == 0) && not (nat_lt 1 (length field) && (s
 abbrev pub offset_of : List ℕ → Option ℕ
 offset_of field = if is_decimal field && nat_le (digits_value 10 field) OFFSET_LIMIT then Some (digits_value 10 field) else None
 
--- a line whose key is none that is known here is foreign; the value `null`, those four bytes alone, is none
+-- a line whose key is of no kind known here is foreign; the value `null`, those four bytes alone, is no value
 abbrev pub read_at : ℕ → List ℕ → List ℕ → Read
 read_at offset key value = let text : Option (List ℕ) = if bytes_eq value (codes "null") then None else Some value in
     option_map_or (λ found. reads.Record (record { offset = offset; key = found; value = text })) (key_of key) (reads.Foreign offset)
@@ -69,7 +69,7 @@ pub record IsLine (line : List ℕ) (offset : ℕ) (key value : List ℕ) : Type
 abbrev pub Spells : List ℕ → Read → Type 0
 Spells line read = (offset : ℕ) × (key : List ℕ) × (value : List ℕ) × IsLine line offset key value × (read ≡ read_at offset key value)
 
--- the refusal is that fault; want of memory is none
+-- the refusal is that fault; out of memory is not one
 abbrev pub IsFaultOf : Result Read LineError → ReadLineError → Type 0
 IsFaultOf given (errors.Line fault) = given ≡ Err fault
 IsFaultOf given errors.OutOfMemory = ⊤

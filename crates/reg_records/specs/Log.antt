@@ -27,7 +27,7 @@ pub record LogText : Type 0 where
   pub reads : List Read
   pub rest : List ℕ
 
--- what a line says, before what the lines after it say; the first fault is told with its line's number
+-- what a line says, before what the lines after it say; the first fault is reported with its line's number
 abbrev pub line_then : ℕ → Result Read LineError → Result LogText (ℕ × LogFault) → Result LogText (ℕ × LogFault)
 line_then number (Err fault) more = Err (number, faults.Line fault)
 line_then number (Ok read) more = result_map_both (λ (log : LogText). record log { reads = read ∷ log.reads }) (λ fault. fault) more

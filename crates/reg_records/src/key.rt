@@ -34,7 +34,7 @@ pub enum Key {
 
 impl Key {
     /// The JSON text that is written for the key, without spaces and with its members in a fixed
-    /// order. The only error is want of memory.
+    /// order. The only error is out of memory.
     pub fn written(&self, alloc: Global) -> Result<Text, AllocError>
         ensures { IfOk result (λ text. text ≡ written_key self.now) }
     {
@@ -59,7 +59,7 @@ impl Key {
     }
 }
 
-/// The key that a text is; `None` where it is none that is known here.
+/// The key that a text is; `None` where it is of no kind known here.
 pub(crate) fn key_of(alloc: Global, text: &str) -> Result<Option<Key>, AllocError>
     ensures { IfOk result (λ key. key ≡ key_of text.now) }
 {

@@ -16,7 +16,7 @@ use std::alloc::{AllocError, Global};
 use std::error::Error;
 use std::fmt;
 
-/// Why a line was refused; the first fault in this order is told.
+/// Why a line was refused; the first fault in this order is reported.
 #[derive(Clone, Copy, Debug, PartialEq, Eq)]
 pub enum LineError {
     /// The input ends before the line's LF.

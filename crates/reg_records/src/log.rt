@@ -13,7 +13,7 @@ use std::fmt;
 pub struct Log {
     /// The records of its lines, in their order.
     pub records: Vec<Record>,
-    /// How many of its lines have a key that is none known here.
+    /// How many of its lines have a key of no kind known here.
     pub foreign: u64,
     /// The offset that its first line says as its floor, or 0.
     pub floor: u64,

@@ -21,7 +21,7 @@ use std::io::BufRead;
 /// Reads the log at the front of `reader`: lines up to an empty line or the end of the input, of which
 /// the first may say the log's floor. What stands after the empty line is left unread.
 ///
-/// A line past its limit is read to its LF, its bytes dropped, before its fault is told. The count of
+/// A line past its limit is read to its LF, its bytes dropped, before its fault is reported. The count of
 /// reads begins anew at each line.
 pub fn read_log<R: BufRead>(alloc: Global, reader: &mut Device<R>) -> Result<Log, LogError>
     ensures read { IfOk result (λ log. IfSome (bytes_in R.remaining reader.old) (λ text. (found : LogText)

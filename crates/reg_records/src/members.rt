@@ -13,7 +13,7 @@ use json::Writer;
 use serde_json::Value as Json;
 use std::alloc::{AllocError, Global};
 
-/// The JSON value that a text is; `None` where it is none.
+/// The JSON value that a text is; `None` where it isn't JSON.
 pub fn parse(alloc: Global, text: &str) -> Result<Option<Json>, AllocError>
     ensures { IfOk result (λ found. option_map view found ≡ read text.now) }
 {
@@ -67,7 +67,7 @@ pub fn has_number_at(json: &Json, name: &str, number: u32) -> bool
     }
 }
 
-/// The JSON string of a text, between its quotes (RFC 8259, section 7). The only error is want of memory.
+/// The JSON string of a text, between its quotes (RFC 8259, section 7). The only error is out of memory.
 pub fn quoted(alloc: Global, text: &str) -> Result<String, AllocError>
     ensures { IfOk result (λ written. string_bytes written ≡ quoted text.now) }
 {

@@ -17,6 +17,6 @@ pub struct Record {
 #[derive(Debug, Drop, PartialEq, Eq)]
 pub enum Read {
     Record(Record),
-    /// A line whose key is none that is known here, with its offset.
+    /// A line whose key is of no kind known here, with its offset.
     Foreign(u64),
 }

@@ -37,7 +37,7 @@ impl From<AllocError> for TextLineError {
 /// Reads the line at the front of `reader`, a UTF-8 text of at most `LINE_LIMIT` bytes before its LF.
 /// What stands after the LF is left unread.
 ///
-/// A line past its limit is read to its LF, its bytes dropped, before its fault is told. The count of
+/// A line past its limit is read to its LF, its bytes dropped, before its fault is reported. The count of
 /// reads begins anew.
 pub fn read_text_line<R: BufRead>(
     alloc: Global,

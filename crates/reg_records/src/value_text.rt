@@ -28,7 +28,7 @@ impl Model for ValueText {
 }
 
 impl ValueText {
-    /// The text that a string holds. The only error is want of memory.
+    /// The text that a string holds. The only error is out of memory.
     pub(crate) fn of_string(string: String) -> Result<ValueText, AllocError>
         ensures { IfOk result (λ text. text ≡ string_bytes string) }
     {
@@ -39,7 +39,7 @@ impl ValueText {
     }
 
     /// The text that a string holds, which brings the text of its schema along. The only error is
-    /// want of memory.
+    /// out of memory.
     pub(crate) fn with_schema(string: String, schema: &Text) -> Result<ValueText, AllocError>
         ensures { IfOk result (λ text. text ≡ string_bytes string) }
     {
@@ -49,7 +49,7 @@ impl ValueText {
         })
     }
 
-    /// The same text, which brings that text of its schema along. The only error is want of memory.
+    /// The same text, which brings that text of its schema along. The only error is out of memory.
     pub fn bringing(&self, schema: &Text) -> Result<ValueText, AllocError>
         ensures { IfOk result (λ text. text ≡ self.now) }
     {
@@ -67,7 +67,7 @@ impl ValueText {
     }
 
     /// The text of the schema that was read in this one: what was brought along, if it is that text,
-    /// and else a copy. The only error is want of memory.
+    /// and else a copy. The only error is out of memory.
     pub fn share(&self, alloc: Global, schema: &str) -> Result<Text, AllocError>
         ensures { IfOk result (λ text. text ≡ schema.now) }
     {

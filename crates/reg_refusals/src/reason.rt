@@ -17,7 +17,7 @@ pub enum Reason {
     VersionIsOccupied,
     /// IMPORT is set without force, and the scope has a live version.
     ScopeIsNotEmpty,
-    /// The id that is given is none.
+    /// The id that is given is not an id.
     InvalidId,
     /// A version is given without an id.
     VersionNeedsImport,

@@ -49,7 +49,7 @@ pub enum Refusal {
     Incompatible(Text),
     /// The text is no schema's, or a default of it is invalid.
     InvalidSchema,
-    /// The version is none.
+    /// The version in the path is not a version.
     InvalidVersion,
     /// The name is no level's.
     InvalidLevel,

@@ -46,7 +46,7 @@ names_version routes.VersionSchema = true
 names_version routes.CheckOne = true
 names_version other = false
 
--- the JSON object of a body, `None` where it is none; a method that takes no body has null in its place
+-- the JSON object of a body, `None` where it is not an object; a method that takes no body has null in its place
 abbrev pub object_in : List ℕ → List ℕ → Option Data
 object_in method body = if takes_body method then body_of body else Some null
 
@@ -84,7 +84,7 @@ asked_of_parts r route action =
     or_closing (λ subject. or_closing (asked_of_texts r route action subject) (text_part (path_of r.target) (number_place route)))
     (text_part (path_of r.target) (subject_place route))
 
--- a length is told, and the type is accepted, where the method takes a body
+-- a length is stated, and the type is accepted, where the method takes a body
 abbrev pub asked_of_action : Request → Option ℕ → Route → Action → Asked
 asked_of_action r told route action =
     if takes_body r.method && is_none told then closing refusals.LengthRequired

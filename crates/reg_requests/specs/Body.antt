@@ -68,11 +68,11 @@ number_or refusal left_out name d =
     if is_left_out left_out (get name d) then Ok None
     else ok_or (option_map (λ n. Some n) (number_at name d)) refusal
 
--- the id that a registration asks for: absent, null or -1 is none
+-- the id that a registration asks for: absent, null or -1 asks for no id
 abbrev pub id_in : Data → Result (Option ℕ) Refusal
 id_in d = number_or (refusals.NotPermitted reasons.InvalidId) is_minus_one_number (codes "id") d
 
--- the version that a registration asks for: absent, null, -1 or 0 is none
+-- the version that a registration asks for: absent, null, -1 or 0 asks for no version
 abbrev pub version_in : Data → Result (Option ℕ) Refusal
 version_in d = number_or refusals.InvalidVersion is_no_version (codes "version") d
 

@@ -82,7 +82,7 @@ fn asked_of_route(
     }
 }
 
-/// Where the method takes a body, its length is told and its type is accepted.
+/// Where the method takes a body, its length is stated and its type is accepted.
 fn asked_of_action(
     alloc: Global,
     request: &Request,

@@ -14,10 +14,10 @@ use reg_values::is_plain_avro;
 use serde_json::Value;
 use std::alloc::{AllocError, Global};
 
-/// What is read, or why it is refused; the only error is want of memory.
+/// What is read, or why it is refused; the only error is out of memory.
 pub(crate) type Found<T> = Result<Result<T, Refusal>, AllocError>;
 
-/// The JSON object that a body is; `None` where it is none.
+/// The JSON object that a body is; `None` where it is not an object.
 #[tactic(auto, unfolding(crate::specs::Body::body_of))]
 pub(crate) fn object_in(alloc: Global, body: &[u8]) -> Result<Option<Value>, AllocError>
     ensures { IfOk result (λ found. option_map view found ≡ body_of body.now) }

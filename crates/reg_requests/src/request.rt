@@ -23,7 +23,7 @@ pub struct Request {
 
 impl Request {
     /// What the request asks, or why it is refused: the first test that it fails. The only error is
-    /// want of memory.
+    /// out of memory.
     pub fn route(&self, alloc: Global) -> Result<Asked, AllocError>
         ensures { IfOk result (λ asked. asked ≡ asked_of self.now) }
     {

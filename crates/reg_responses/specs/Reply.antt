@@ -18,7 +18,7 @@ id_body id = compact_text (object (member (codes "id") (number_data id) no_membe
 abbrev pub member_body : List ℕ → List ℕ → List ℕ
 member_body name text = compact_text (object (member name (string text) no_members))
 
--- the answer to a reply; a level that was set is told under another name than one that was removed
+-- the answer to a reply; a level that was set is reported under another name than one that was removed
 unfoldable pub reply_answer : Reply → Answer
 reply_answer (replies.Id id) = answer_with (Ok (id_body id))
 reply_answer (replies.Version version) = answer_with (Ok (compact_text (number_data version)))

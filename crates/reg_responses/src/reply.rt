@@ -12,7 +12,7 @@ use reg_lookup::Answer;
 use reg_refusals::{Refusal, StoreFault};
 use std::alloc::{AllocError, Global};
 
-/// The answer to a reply; a refusal is one too. The only error is want of memory.
+/// The answer to a reply; a refusal is one too. The only error is out of memory.
 #[tactic(auto, unfolding(crate::specs::Reply::reply_answer))]
 pub fn reply_answer(alloc: Global, reply: &Reply) -> Result<Answer, AllocError>
     ensures { IfOk result (λ answer. answer ≡ reply_answer reply.now) }

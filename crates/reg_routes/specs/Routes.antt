@@ -45,7 +45,7 @@ offers_of routes.SubjectMode = (codes "GET", actions.Mode) ∷ (codes "PUT", act
 abbrev pub action_of : Route → List ℕ → Option Action
 action_of route method = option_map (λ offer. offer.1) (find (λ offer. bytes_eq offer.0 method) (offers_of route))
 
--- the methods that a path offers, in the order in which they are told
+-- the methods that a path offers, in the order in which they are reported
 abbrev pub methods_of : Route → List (List ℕ)
 methods_of route = map (λ offer. offer.0) (offers_of route)
 

@@ -41,7 +41,7 @@ pub struct Paths {
 }
 
 impl Paths {
-    /// The only error is want of memory.
+    /// The only error is out of memory.
     pub fn new(alloc: Global) -> Result<Paths, AllocError> {
         match router_of_paths(alloc) {
             Ok(router) => Ok(Paths { router }),
@@ -61,7 +61,7 @@ impl Paths {
     }
 }
 
-/// A router of all paths. The only error is want of memory.
+/// A router of all paths. The only error is out of memory.
 #[tactic(auto, unfolding(crate::specs::Router::path_rows))]
 fn router_of_paths(alloc: Global) -> Result<Router<Route>, AllocError>
     ensures { IfOk result (λ router. router ≡ path_rows) }
@@ -69,7 +69,7 @@ fn router_of_paths(alloc: Global) -> Result<Router<Route>, AllocError>
     router_of(alloc, &PATHS)
 }
 
-/// A router of these paths, added in turn. The only error is want of memory.
+/// A router of these paths, added in turn. The only error is out of memory.
 fn router_of(alloc: Global, paths: &[(&str, Route)]) -> Result<Router<Route>, AllocError>
     requires { all_can_be_added [] (map (λ path. (path.0.now, path.1)) paths.now) ≡ true }
     ensures { IfOk result (λ router. router ≡ fold with_path [] (map (λ path. (path.0.now, path.1)) paths.now)) }
@@ -81,7 +81,7 @@ fn router_of(alloc: Global, paths: &[(&str, Route)]) -> Result<Router<Route>, Al
     Ok(router)
 }
 
-/// Adds a path with its route. The only error is want of memory.
+/// Adds a path with its route. The only error is out of memory.
 fn add(router: &mut Router<Route>, path: &str, route: Route) -> Result<(), AllocError>
     requires { can_be_added router.old (path.now, route) ≡ true }
     ensures { OnOk result (router.new ≡ with_path router.old (path.now, route)) }

@@ -6,7 +6,7 @@ use form_urlencoded::parse;
 use std::alloc::{AllocError, Global};
 
 /// Whether some pair of the query, decoded as a form's, is that name with the value `true`. Both
-/// are compared with case. The only error is want of memory.
+/// are compared with case. The only error is out of memory.
 pub fn has_switch(alloc: Global, query: &[u8], name: &str) -> Result<bool, AllocError>
     ensures { IfOk result (λ on. on ≡ has_switch name.now query.now) }
 {

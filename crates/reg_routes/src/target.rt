@@ -33,7 +33,7 @@ pub fn query_of(target: &str) -> &[u8]
 }
 
 /// The text that the part of a path stands for, where a part of that number is asked for; refused
-/// with `BadRequest` where its escapes give no UTF-8. The only error is want of memory.
+/// with `BadRequest` where its escapes give no UTF-8. The only error is out of memory.
 pub fn text_part(
     alloc: Global,
     path: &str,

@@ -44,7 +44,7 @@ abbrev pub if_not_opaque : Bool → Permit → Permit
 if_not_opaque true else = Err (refusals.Store faults.OpaqueRecord)
 if_not_opaque false else = else
 
--- the registry isn't closed; where it is for both causes, the opaque record is told
+-- the registry isn't closed; where it is for both causes, the opaque record is reported
 abbrev pub is_open : Records → Permit
 is_open rs = if_not_opaque (is_some (opaque rs)) (refuse_if (is_some (two_schemas rs)) (refusals.Store faults.TwoSchemas))
 

@@ -17,7 +17,7 @@ use reg_levels::{Judged, LevelVerdict, check_read_texts};
 use std::alloc::{AllocError, Global};
 
 /// The message of the first pair that clashes, by the judgement if it fits, else by a new one;
-/// `None` where the level is met. The only error is want of memory.
+/// `None` where the level is met. The only error is out of memory.
 pub fn clash_of(
     alloc: Global,
     registry: &Registry,
@@ -53,7 +53,7 @@ fn fitting<'a>(
     }
 }
 
-/// The verdict on a schema. The only error is want of memory.
+/// The verdict on a schema. The only error is out of memory.
 fn checked(
     alloc: Global,
     level: Level,

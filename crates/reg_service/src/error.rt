@@ -69,7 +69,7 @@ impl From<io::Error> for StartFault {
     }
 }
 
-/// A judge of so many schemas and verdicts as a desk has is refused for want of memory alone.
+/// A judge of so many schemas and verdicts as a desk has is refused only where memory is.
 impl From<JudgeError> for StartFault {
     fn from(_refused: JudgeError) -> StartFault {
         StartFault::OutOfMemory
@@ -97,7 +97,7 @@ impl From<OpenError> for StartFault {
     }
 }
 
-/// An empty log is refused for want of memory alone.
+/// An empty log is refused only where memory is.
 impl From<LogError> for StartFault {
     fn from(_refused: LogError) -> StartFault {
         StartFault::OutOfMemory

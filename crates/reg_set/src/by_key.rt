@@ -45,7 +45,7 @@ pub(crate) fn take_in(
     }
 }
 
-/// Puts the record at its key, which has none. The only error is want of memory; all is then as it
+/// Puts the record at its key, which has none. The only error is out of memory; all is then as it
 /// was.
 fn add_key(
     alloc: Global,
@@ -76,7 +76,7 @@ pub(crate) fn leave_lasts(by_key: &mut BTreeMap<Key, Vec<Record>>)
     });
 }
 
-/// Copies of all records, key by key. The only error is want of memory.
+/// Copies of all records, key by key. The only error is out of memory.
 pub(crate) fn copy_all(
     alloc: Global,
     by_key: &BTreeMap<Key, Vec<Record>>,
@@ -96,7 +96,7 @@ fn push_copies(found: &mut Vec<Record>, records: &[Record]) -> Result<(), AllocE
     found.extend_from_slice(records)
 }
 
-/// The last record of each key. The only error is want of memory.
+/// The last record of each key. The only error is out of memory.
 pub(crate) fn lasts_of(
     alloc: Global,
     by_key: &BTreeMap<Key, Vec<Record>>,
@@ -111,7 +111,7 @@ pub(crate) fn lasts_of(
     Ok(lasts)
 }
 
-/// Adds the records to the set. An error is want of memory; some were added then, maybe.
+/// Adds the records to the set. An error is out of memory; some were added then, maybe.
 pub(crate) fn add_all(
     into: &mut RecordSet,
     by_key: &BTreeMap<Key, Vec<Record>>,

@@ -59,7 +59,7 @@ impl LastRecords {
         }
     }
 
-    /// Those of a set. The only error is want of memory.
+    /// Those of a set. The only error is out of memory.
     pub fn of(set: &RecordSet) -> Result<LastRecords, AllocError>
         ensures { IfOk result (λ found. found ≡ last_records set.now) }
     {
@@ -95,7 +95,7 @@ impl LastRecords {
     }
 
     /// Adds the record, unless its key has that one or a later one, and gives the record that it
-    /// took the place of. The only error is want of memory; all is then as it was.
+    /// took the place of. The only error is out of memory; all is then as it was.
     pub fn put(&mut self, given: &Record) -> Result<Option<Record>, AllocError>
         ensures added { OnOk result (self.new ≡ last_records (set.insert self.old given.now)) }
         ensures there { OnOk result (IsSome (last self.new given.now.key)) }
@@ -148,7 +148,7 @@ impl LastRecords {
         }
     }
 
-    /// The records, one a key, by the derived order of keys. The only error is want of memory.
+    /// The records, one a key, by the derived order of keys. The only error is out of memory.
     pub fn records(&self, alloc: Global) -> Result<Vec<&Record>, AllocError>
         ensures all { IfOk result (λ found. self.now
             ≡ set.from_list (map (λ r. r.now) found.items)) }

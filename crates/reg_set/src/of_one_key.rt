@@ -48,7 +48,7 @@ pub(crate) fn leave_last(records: &mut Vec<Record>)
     }
 }
 
-/// Adds the last of a key's records to the last ones. The only error is want of memory.
+/// Adds the last of a key's records to the last ones. The only error is out of memory.
 pub(crate) fn put_last(
     lasts: &mut LastRecords,
     _key: &Key,

@@ -81,7 +81,7 @@ impl RecordSet {
         }
     }
 
-    /// The set of those records. The only error is want of memory.
+    /// The set of those records. The only error is out of memory.
     pub fn of(alloc: Global, records: &[Record]) -> Result<RecordSet, AllocError>
         ensures { IfOk result (λ found. found ≡ set.from_list records.now) }
     {
@@ -89,7 +89,7 @@ impl RecordSet {
         set_of(alloc, found)
     }
 
-    /// Adds the record, and says what that did. The only error is want of memory; the set is then
+    /// Adds the record, and says what that did. The only error is out of memory; the set is then
     /// as it was.
     pub fn take(&mut self, given: &Record) -> Result<Taken, AllocError>
         ensures added { OnOk result (self.new ≡ set.insert self.old given.now) }
@@ -113,7 +113,7 @@ impl RecordSet {
         }
     }
 
-    /// The last record of each key. The only error is want of memory.
+    /// The last record of each key. The only error is out of memory.
     pub(crate) fn lasts(&self) -> Result<LastRecords, AllocError>
         ensures { IfOk result (λ lasts. lasts ≡ last_records self.now) }
     {
@@ -123,7 +123,7 @@ impl RecordSet {
 
     /// Copies of the records, by offset, then by key, then no value before a text, then by the text's
     /// bytes. Keys are ordered by kind, then by subject, by its bytes, and then by version. The only
-    /// error is want of memory.
+    /// error is out of memory.
     pub fn records(&self) -> Result<Vec<Record>, AllocError>
         ensures all { IfOk result (λ found. found.items ≡ records_of self.now) }
         ensures in_order { IfOk result (λ found. IsTrue (is_in_order found.items)) }
@@ -144,7 +144,7 @@ impl RecordSet {
         }
     }
 
-    /// Adds the records of the other set. The only error is want of memory; the set is then as it
+    /// Adds the records of the other set. The only error is out of memory; the set is then as it
     /// was.
     pub fn merge(&mut self, other: &RecordSet) -> Result<(), AllocError>
         ensures merged { OnOk result (self.new ≡ set.union self.old other.now) }
@@ -168,7 +168,7 @@ impl RecordSet {
     }
 }
 
-/// The set of those records. The only error is want of memory.
+/// The set of those records. The only error is out of memory.
 fn set_of(alloc: Global, records: Vec<&Record>) -> Result<RecordSet, AllocError>
     ensures { IfOk result (λ found. found ≡ set.from_list (map (λ r. r.now) records.entry.items)) }
 {

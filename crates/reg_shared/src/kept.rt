@@ -84,7 +84,7 @@ fn is_listed(older: &[Record], given: &Record) -> bool
     older.contains(given)
 }
 
-/// Copies of those of the records that are kept. The only error is want of memory.
+/// Copies of those of the records that are kept. The only error is out of memory.
 pub(crate) fn copy_kept(
     alloc: Global,
     registry: &Registry,
@@ -104,7 +104,7 @@ pub(crate) fn copy_kept(
     Ok(found)
 }
 
-/// Copies of those of the records that are kept and below an offset. The only error is want of memory.
+/// Copies of those of the records that are kept and below an offset. The only error is out of memory.
 pub(crate) fn copy_below(
     alloc: Global,
     registry: &Registry,
@@ -125,7 +125,7 @@ pub(crate) fn copy_below(
     Ok(found)
 }
 
-/// Copies of the records that aren't the last of their keys. The only error is want of memory.
+/// Copies of the records that aren't the last of their keys. The only error is out of memory.
 pub(crate) fn copy_older(
     alloc: Global,
     registry: &Registry,
@@ -143,7 +143,7 @@ pub(crate) fn copy_older(
 }
 
 /// Copies of those of the records that are last ones and delete their keys below the floor. The only error
-/// is want of memory.
+/// is out of memory.
 pub(crate) fn copy_deletes(
     alloc: Global,
     registry: &Registry,
@@ -169,7 +169,7 @@ fn deletes_below(given: &Record, floor: u64) -> bool
 }
 
 /// Copies of the older records that aren't gone, and aren't the last of their keys. The only error is
-/// want of memory.
+/// out of memory.
 pub(crate) fn copy_left(
     alloc: Global,
     registry: &Registry,
@@ -240,7 +240,7 @@ pub(crate) fn are_none(records: &[Record]) -> bool
     records.is_empty()
 }
 
-/// Adds copies of all records behind them, or none. The only error is want of memory.
+/// Adds copies of all records behind them, or none. The only error is out of memory.
 pub(crate) fn push_all(records: &mut Vec<Record>, batch: &[Record]) -> Result<(), AllocError>
     ensures added { OnOk result (records.new.items ≡ records.old.items ++ batch.now) }
     ensures refused { OnErr result (records.new.items ≡ records.old.items) }
@@ -248,7 +248,7 @@ pub(crate) fn push_all(records: &mut Vec<Record>, batch: &[Record]) -> Result<()
     records.extend_from_slice(batch)
 }
 
-/// Copies of the last records of the batch's keys. The only error is want of memory.
+/// Copies of the last records of the batch's keys. The only error is out of memory.
 fn copy_lasts(
     alloc: Global,
     registry: &Registry,
@@ -266,7 +266,7 @@ fn copy_lasts(
 }
 
 /// Adds the batch to all three, or to none: what was last before it joins the older records. The
-/// only error is want of memory.
+/// only error is out of memory.
 pub(crate) fn grow(
     alloc: Global,
     registry: &mut Registry,

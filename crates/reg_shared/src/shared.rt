@@ -94,7 +94,7 @@ impl Shared {
     }
 
     /// What is held of a log's records alone, of which those are the set and the registry. The only
-    /// error is want of memory.
+    /// error is out of memory.
     fn of_log(
         alloc: Global,
         base: &Log,
@@ -158,7 +158,7 @@ impl Shared {
         self.deletes > DELETES && self.deletes > self.by_offset.len() / 4
     }
 
-    /// Copies of the kept records at or above an offset. The only error is want of memory.
+    /// Copies of the kept records at or above an offset. The only error is out of memory.
     pub fn since(&self, from: u64) -> Result<Vec<Record>, AllocError>
         ensures all { IfOk result (λ found. IsSince self.now.kept.records from found.items) }
         ensures below { IfOk result (λ found. AllByRecursion (λ r. r.offset < self.now.next) found.items) }
@@ -169,7 +169,7 @@ impl Shared {
         Ok(found)
     }
 
-    /// Copies of the kept records below an offset. The only error is want of memory.
+    /// Copies of the kept records below an offset. The only error is out of memory.
     pub fn below(&self, upto: u64) -> Result<Vec<Record>, AllocError>
         ensures { IfOk result (λ found. IsBelow self.now.kept.records upto found.items) }
     {
@@ -185,7 +185,7 @@ impl Shared {
     }
 
     /// The kept records that a compaction to that floor drops: those that aren't the last of their keys,
-    /// and the last ones that delete their keys below it. The only error is want of memory.
+    /// and the last ones that delete their keys below it. The only error is out of memory.
     pub fn dropped_to(&self, floor: u64) -> Result<Vec<Record>, AllocError>
         ensures may_go { IfOk result (λ found. may_leave floor self.now.kept.records found.items ≡ true) }
         ensures rest { IfOk result (λ found. without self.now.kept.records found.items ≡ compacted_to floor self.now.kept.records) }
@@ -199,7 +199,7 @@ impl Shared {
         Ok(found)
     }
 
-    /// Takes in a batch. The only error is want of memory; all is then as it was.
+    /// Takes in a batch. The only error is out of memory; all is then as it was.
     fn take_batch(&mut self, batch: &[Record]) -> Result<(), AllocError>
         ensures taken { OnOk result (self.new ≡ held_after_batch (follows self.old.next batch.now) self.old batch.now) }
         ensures refused { OnErr result (self.new ≡ self.old) }
@@ -223,7 +223,7 @@ impl Shared {
         Ok(())
     }
 
-    /// Takes in a compaction. The only error is want of memory; all is then as it was.
+    /// Takes in a compaction. The only error is out of memory; all is then as it was.
     fn take_compaction(&mut self, compaction: &Compaction) -> Result<(), AllocError>
         ensures taken { OnOk result (self.new
             ≡ held_after_compaction (may_compact (base_of self.old) compaction.now) self.old compaction.now) }

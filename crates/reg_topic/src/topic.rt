@@ -25,7 +25,7 @@ pub struct Topic {
 
 impl Topic {
     /// The topic of a log's records alone, which are all kept, with its floor: the mark of ids that the
-    /// log owes isn't there yet. The only error is want of memory.
+    /// log owes isn't there yet. The only error is out of memory.
     pub fn of_log(alloc: Global, base: &Log) -> Result<Topic, AllocError>
         ensures { IfOk result (λ topic. topic ≡ plain_topic base.now.records.items base.now.next base.now.floor) }
     {
@@ -38,7 +38,7 @@ impl Topic {
         })
     }
 
-    /// Publishes an item; one that can't follow changes nothing. The only error is want of memory;
+    /// Publishes an item; one that can't follow changes nothing. The only error is out of memory;
     /// the topic is then as it was.
     pub fn publish(&mut self, alloc: Global, item: &Item) -> Result<(), AllocError>
         ensures published { OnOk result (self.new ≡ after_item self.old item.now) }
@@ -51,7 +51,7 @@ impl Topic {
     }
 
     /// Whether the kept set may have that floor without those records: the floor doesn't fall, isn't
-    /// ahead of the next offset, and what stays is a compaction. The only error is want of memory.
+    /// ahead of the next offset, and what stays is a compaction. The only error is out of memory.
     pub fn may_compact(&self, compaction: &Compaction) -> Result<bool, AllocError>
         ensures { IfOk result (λ may. may ≡ may_compact self.now compaction.now) }
     {

@@ -38,7 +38,7 @@ impl Decoded {
 }
 
 /// The value that a record's text gives; `None` for a record without text, and for one whose text
-/// can't be read as a value of its key. The only error is want of memory.
+/// can't be read as a value of its key. The only error is out of memory.
 pub fn decode_value(alloc: Global, given: &Record) -> Result<Option<Value>, AllocError>
     ensures { IfOk result (λ value. value ≡ value_of given.now) }
 {

@@ -104,7 +104,7 @@ impl Cluster {
         &self.items
     }
 
-    /// Does what the event says, where it is allowed. The only error is want of memory; all is then
+    /// Does what the event says, where it is allowed. The only error is out of memory; all is then
     /// as it was.
     pub(crate) fn step(&mut self, event: &Event) -> Result<Outcome, AllocError>
         ensures happens { IfOk result (λ outcome. Happens self.old event.now outcome self.new) }

@@ -25,7 +25,7 @@ use reg_values::{Decoded, decode, decode_value, values_are_of_keys};
 use std::alloc::{AllocError, Global};
 
 /// What stands after all that the items published, taken record by record, where the entries of the
-/// base stood before. The only error is want of memory.
+/// base stood before. The only error is out of memory.
 pub(crate) fn fold_eagerly(
     alloc: Global,
     base: &Topic,
@@ -40,7 +40,7 @@ pub(crate) fn fold_eagerly(
     Ok(standing)
 }
 
-/// A copy of each entry, by place. The only error is want of memory.
+/// A copy of each entry, by place. The only error is out of memory.
 pub(crate) fn listed(alloc: Global, standing: &Entries) -> Result<Vec<Entry>, AllocError>
     ensures { IfOk result (λ found. found.items ≡ finmap.values standing.now) }
 {

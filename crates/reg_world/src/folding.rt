@@ -20,7 +20,7 @@ pub(crate) struct Decided {
 }
 
 impl Decided {
-    /// Adds a batch. The only error is want of memory; all is then as it was.
+    /// Adds a batch. The only error is out of memory; all is then as it was.
     pub(crate) fn add(&mut self, batch: &[Record]) -> Result<(), AllocError>
         requires { self.old.next + length batch.now ≤ suc OFFSET_LIMIT }
         ensures registry { OnOk result ((log : Records) → self.old.registry ≡ last_records log
@@ -43,7 +43,7 @@ pub(crate) struct Folded {
 }
 
 impl Folded {
-    /// Folds the items that are left. The only error is want of memory; some may then be left.
+    /// Folds the items that are left. The only error is out of memory; some may then be left.
     pub(crate) fn catch_up(&mut self, alloc: Global, items: &[Item]) -> Result<(), AllocError>
         requires { self.old.count ≤ length items.now }
         ensures within { self.new.count ≤ length items.now }

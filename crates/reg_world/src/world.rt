@@ -97,7 +97,7 @@ impl World {
         Ok(world)
     }
 
-    /// Does what the event says, where it is allowed. The only error is want of memory; the world
+    /// Does what the event says, where it is allowed. The only error is out of memory; the world
     /// is then as it was.
     pub fn step(&mut self, event: &Event) -> Result<Outcome, AllocError>
         ensures happens { IfOk result (λ outcome. Happens self.old event.now outcome self.new) }
@@ -138,7 +138,7 @@ impl World {
 
     /// The entries of the log, by subject, by its bytes, and then by version. The log's records are
     /// taken one after the other, each version's as it comes, and a soft delete marks what stands
-    /// then. The only error is want of memory.
+    /// then. The only error is out of memory.
     ///
     /// They are those of a registry over the log, which looks at last records alone.
     pub fn eager_entries(&self) -> Result<Vec<Entry>, AllocError>
@@ -174,7 +174,7 @@ impl World {
 }
 
 /// Publishes what is due, and adds it to the registry over the topic's log. What doesn't go on at
-/// the next offset changes nothing. The only error is want of memory.
+/// the next offset changes nothing. The only error is out of memory.
 fn publish_due(
     alloc: Global,
     topic: &mut Topic,

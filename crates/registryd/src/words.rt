@@ -1,11 +1,11 @@
-// The words of the command line, and the program's standard streams.
+// The arguments, and the program's standard streams.
 use reg_program::run;
 use reg_records::Device;
 use std::alloc::Global;
 use std::env::{self, Env};
 use std::io::{self, BufReader, BufWriter, ErrorKind, Input, Print, Write};
 
-/// Does what the words of the command line ask for, and returns the exit status. Where memory for the
+/// Does what the arguments ask for, and returns the exit status. Where memory for the
 /// words or for the buffers of the streams is refused nothing is done.
 pub(crate) fn run_words<
     R: Env + Input + Print + Alloc<A = Global>,
@@ -21,7 +21,7 @@ pub(crate) fn run_words<
     Ok(run(alloc, &words, &mut reader, &mut writer, &mut errors, serve))
 }
 
-/// The words of the command line, or none, which are no command, where one isn't UTF-8.
+/// The arguments; where one isn't UTF-8 there are none, which is not a command.
 fn read_words<R: Env + Alloc<A = Global>>(rt: &R, alloc: Global) -> io::Result<Vec<String>> {
     match env::args(rt) {
         Ok(words) => Ok(words.collect(alloc)?),

@@ -68,7 +68,7 @@ fn push_nodes(text: &mut String, schema: &Schema) -> Result<(), AllocError> {
     Ok(())
 }
 
-// The nodes and the field whose default is none, or the fault.
+// The nodes and the field whose default isn't valid, or the fault.
 fn described(alloc: Global, text: &str) -> Result<String, AllocError> {
     match &Schema::read(alloc, text) {
         Ok(schema) => {
@@ -98,7 +98,7 @@ static ROWS: [Row; 21] = [
         r#"{"type":"record","name":"R","namespace":"n","fields":[{"name":"a","type":{"type":"record","name":"m.S","fields":[{"name":"b","type":{"type":"fixed","name":"F","size":1}}]}},{"name":"c","type":{"type":"fixed","name":"F","size":1}},{"name":"d","type":["F","m.F"]}]}"#,
         "record n|R a:1 c:3 d:4; record m|S b:2; fixed m|F; fixed n|F; union 3 2; ",
     ),
-    // the null namespace is written, and is none's
+    // the null namespace is written, and belongs to no name
     (
         r#"{"type":"record","name":"R","namespace":"n","fields":[{"name":"a","type":{"type":"fixed","name":"F","namespace":"","size":1}},{"name":"b","type":{"type":"fixed","name":"F","size":1}},{"name":"c","type":"F"},{"name":"d","type":"n.F"}]}"#,
         "record n|R a:1 b:2 c:2 d:2; fixed |F; fixed n|F; ",

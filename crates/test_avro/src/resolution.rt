@@ -128,7 +128,7 @@ static RECORDS: [Row; 13] = [
         r#"{"type":"record","name":"R","fields":[{"name":"a","type":"int"}]}"#,
         COMPATIBLE,
     ),
-    // A missing default is told before what the other fields resolve to.
+    // A missing default is reported before what the other fields resolve to.
     (
         r#"{"type":"record","name":"R","fields":[{"name":"a","type":"int"},{"name":"b","type":"int"}]}"#,
         r#"{"type":"record","name":"R","fields":[{"name":"a","type":"string"}]}"#,

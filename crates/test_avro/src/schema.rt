@@ -5,7 +5,7 @@ use std::alloc::{AllocError, Global};
 // A text, and its answer.
 type Row = (&'static str, &'static str);
 
-// The number of nodes, the field whose default is none, or the fault.
+// The number of nodes, the field whose default isn't valid, or the fault.
 fn answer(alloc: Global, text: &str) -> Result<String, AllocError> {
     match &Schema::read(alloc, text) {
         Ok(schema) => answer_of(alloc, schema),
@@ -651,7 +651,7 @@ fn is_schema(alloc: Global, text: &str) -> Result<bool, AllocError> {
     Ok(Schema::read_if_any(alloc, text)?.is_some())
 }
 
-// Where a text is a schema's, and where it is none.
+// Where a text is a schema's, and where it isn't.
 #[test]
 fn reads_a_schema_if_there_is_one(rt: HostRuntime) {
     for (text, expected) in &PRIMITIVE_TYPES {

@@ -34,7 +34,7 @@ const NOT_OFFERED: &str =
 const CHUNKED: &str =
     "HTTP/1.1 411 Length Required\r\nContent-Type: application/vnd.schemaregistry.v1+json\r\nContent-Length: 46\r\nConnection: close\r\n\r\n{\"error_code\":411,\"message\":\"Length Required\"}";
 
-/// A type that is none of the registry's.
+/// A type that isn't one of the registry's.
 const FORM: &str =
     "HTTP/1.1 415 Unsupported Media Type\r\nContent-Type: application/vnd.schemaregistry.v1+json\r\nContent-Length: 53\r\nConnection: close\r\n\r\n{\"error_code\":415,\"message\":\"Unsupported Media Type\"}";
 

@@ -32,7 +32,7 @@ fn is_outcome(outcome: &Outcome, said: &str, written: &str, faults: u64) -> bool
         && outcome.faults == faults
 }
 
-/// Whether an input that ends after so many bytes is told so: in the log by its line, in a request by
+/// Whether an input that ends after so many bytes is reported as such: in the log by its line, in a request by
 /// a response.
 fn ends_at(alloc: Global, input: &str, bytes: usize, size: usize) -> Result<bool, AllocError> {
     let front = input.as_bytes().get(..bytes).unwrap_or(b"");

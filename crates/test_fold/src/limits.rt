@@ -1,4 +1,4 @@
-// Inputs at the limits and one past them, and what is told and written.
+// Inputs at the limits and one past them, and what is reported and written.
 //
 // A row is the bytes of an input, the text on standard error with the status, and the responses, parted
 // by ` => `, in the writing of the table of raw requests.
@@ -34,7 +34,7 @@ static COUNTS: &str =
 ^n<65536*GET /mode HTTP/1.1||> => 0 => <65536*HTTP/1.1 200 OK|Content-Type: application/vnd.schemaregistry.v1+json|Content-Length: 20||{"mode":"READWRITE"}>
 ^n<65537*GET /mode HTTP/1.1||> => 0 => <65536*HTTP/1.1 200 OK|Content-Type: application/vnd.schemaregistry.v1+json|Content-Length: 20||{"mode":"READWRITE"}>"#;
 
-/// The bytes of the responses, each given by what is told, or all byte for byte.
+/// The bytes of the responses, each given by what is reported, or all byte for byte.
 fn output_of(alloc: Global, told: &str) -> Result<Vec<u8>, Fail> {
     if told.starts_with("<") {
         let mut out = Vec::new(alloc);

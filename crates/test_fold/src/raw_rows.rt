@@ -133,7 +133,7 @@ PUT /config HTTP/1.1|Content-Length: 1048576||{"compatibility":"FULL"}        <6
 PUT /config HTTP/1.1|Content-Length: 1048577||{"compatibility":"FULL"}         <65534*                >GET /config HTTP/1.1|| => 413
 GET /config HTTP/1.1|Content-Length: 1048577||<65536*0123456789abcdef>xGET /mode HTTP/1.1|| => 413"#;
 
-/// Two faults at once, where the first test that fails is told, and the bodies of the last test.
+/// Two faults at once, where the first test that fails is reported, and the bodies of the last test.
 pub static ORDERS: &str = r#"GET /nowhere HTTP/1.1|Host : a|Transfer-Encoding: chunked|| => 400
 GET /nowhere HTTP/1.1|Host : a|Content-Length: 1048577|| => 400
 GET /nowhere HTTP/1.1|Transfer-Encoding: chunked|Content-Length: x|| => 411

@@ -111,7 +111,7 @@ fn body_of(alloc: Global, code: &str, rest: &str) -> Result<String, AllocError> 
     }
 }
 
-/// Adds the response of a code and what is told with it.
+/// Adds the response of a code and what is reported with it.
 fn push_response(out: &mut String, alloc: Global, told: &str) -> Result<(), AllocError> {
     let (code, rest) = told
         .trim_start_matches("close ")

@@ -1,4 +1,4 @@
-// Whole runs of the program: its words and its input, and what it writes, tells, serves and leaves.
+// Whole runs of the program: its arguments and its input, and what it writes, tells, serves and leaves.
 use crate::folds::{SHORT_LOG, WHOLE, words_of};
 use reg_program::run;
 use reg_records::Device;

@@ -13,7 +13,7 @@ const ROWS: [(&str, &str); 24] = [
     ("{'schemaType':'JSON'}", "schema type JSON"),
     ("{'schemaType':'avro'}", "another schema type"),
     ("{'schemaType':1}", "another schema type"),
-    // The first cause is told.
+    // The first cause is reported.
     (
         "{'schemaType':'PROTOBUF','references':[1]}",
         "schema type PROTOBUF",

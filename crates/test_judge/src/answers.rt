@@ -23,7 +23,7 @@ type Olds = &'static [(u32, &'static str)];
 
 const BOTH: Olds = &[(1, WITH_INT), (2, EMPTY)];
 
-/// A level, a new text and old ones, and what is told.
+/// A level, a new text and old ones, and what is reported.
 static ASKED: [(Level, &str, Olds, Option<&str>); 10] = [
     (Level::Backward, WITH_STRING, BOTH, None),
     (

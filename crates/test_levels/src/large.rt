@@ -45,7 +45,7 @@ fn tells(
     Ok(is_told(alloc, &verdict, want)?)
 }
 
-/// Whether the first of so many versions is told, which alone has a string where the new schema has
+/// Whether the first of so many versions is reported, which alone has a string where the new schema has
 /// a long.
 fn tells_the_first(
     alloc: Global,

@@ -40,7 +40,7 @@ const WITH_STRING: &str =
 /// Old versions and their schemas, by ascending version.
 type Olds = &'static [(u32, &'static str)];
 
-/// A new schema, old ones, and for each level what is told: `ok`, or the message.
+/// A new schema, old ones, and for each level what is reported: `ok`, or the message.
 struct Row {
     new: &'static str,
     olds: Olds,
@@ -81,7 +81,7 @@ static ROWS: [Row; 13] = [
             "version 5, BACKWARD, at /: TYPE_MISMATCH",
         ],
     },
-    // Where both directions clash, Backward is told.
+    // Where both directions clash, Backward is reported.
     Row {
         new: INT,
         olds: &[(5, STRING)],

@@ -16,7 +16,7 @@ use std::marker::Brand;
 use std::sync::Wait;
 use std::test::Fail;
 
-/// What a compaction to a floor is told, the floor and what the next offset was at the last compaction
+/// What a compaction to a floor is answered, the floor and what the next offset was at the last compaction
 /// then, and the offsets of what is kept.
 #[derive(Drop)]
 struct Compacted {

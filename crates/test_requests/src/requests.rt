@@ -103,7 +103,7 @@ Content-Length: 7 => PUT /config  {"compatibility":"FULL"}  => set_level * FULL
 Content-Length: 7 => GET /config [] => level *
 Content-Length: 7 => DELETE /config/s x => clear_level s"#;
 
-// Types of bodies, over requests that tell a length.
+// Types of bodies, over requests that state a length.
 static TYPES: &str =
     r#"Content-Length: 7 => PUT /config {"compatibility":"FULL"} => set_level * FULL
 Content-Length: 7 & Content-Type: application/vnd.schemaregistry.v1+json => PUT /config {"compatibility":"FULL"} => set_level * FULL

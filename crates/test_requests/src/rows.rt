@@ -24,7 +24,7 @@ fn push_fields(alloc: Global, fields: &mut Vec<Field>, row: &str) -> Result<(), 
     Ok(())
 }
 
-/// The fields of a row, with ` & ` between two; `-` is none.
+/// The fields of a row, with ` & ` between two; `-` is for no fields.
 pub fn fields_of(alloc: Global, row: &str) -> Result<Listed<Field>, Fail> {
     let mut fields = Vec::new(alloc);
     if row != "-" {

@@ -1,4 +1,4 @@
-// What is told, whether the connection is closed, and the whole response, with `|` for CR LF.
+// What is reported, whether the connection is closed, and the whole response, with `|` for CR LF.
 use reg_leader::Reply;
 use reg_level_names::Level;
 use reg_modes::Mode;

@@ -26,7 +26,7 @@ fn write_told<W: Write>(writer: &mut Device<W>, told: &Told) -> Result<(), Write
     }
 }
 
-/// The kinds of what is told, and their whole responses.
+/// The kinds of what is reported, and their whole responses.
 static TEXTS: [(&str, &str); 4] = [
     (
         "answer",

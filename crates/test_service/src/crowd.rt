@@ -136,7 +136,7 @@ fn is_own(
 }
 
 /// Registers a schema in one of four subjects that all clients use, and at times deletes a version there;
-/// whether the schema is told by the id.
+/// whether the schema is found by the id.
 fn is_shared(alloc: Global, stream: &TcpStream, random: u64, schema: &str) -> io::Result<bool> {
     let subject = (random >> 40) % 4;
     let id = register(alloc, stream, subject, schema)?;

@@ -57,7 +57,7 @@ impl<R: Clock> Gate for Holding<'_, R> {
 }
 
 /// Asks for what is held at one address, and once it is held for the subjects at another; lets it go once
-/// these are told. Gives the bodies of both.
+/// these are reported. Gives the bodies of both.
 fn ask_both<R: Clock + Net<Stream = TcpStream>>(
     alloc: Global,
     rt: &R,

@@ -121,7 +121,7 @@ fn error_of<R: BufRead>(alloc: Global, reader: &mut Device<R>) -> Option<LogErro
     }
 }
 
-/// Whether a line is read on where its reader is interrupted once, and else its fault is told.
+/// Whether a line is read on where its reader is interrupted once, and else its fault is reported.
 fn is_told_once(alloc: Global, kind: ErrorKind) -> bool {
     let mut reader = broken_line(kind, 1);
     let told = error_of(alloc, &mut reader);

@@ -48,7 +48,7 @@ fn has_lasts(alloc: Global, set: &RecordSet, lines: &[Line]) -> Result<bool, Log
     Ok(set.last(&Key::Noop).is_none())
 }
 
-/// Whether a set is a compaction of itself, and its first record alone is none.
+/// Whether a set is a compaction of itself, and its first record alone isn't one.
 fn front_is_none(alloc: Global, set: &RecordSet, row: &Row) -> Result<bool, LogError> {
     let front = set_of(alloc, row.records.get(..1).unwrap_or(&[]))?;
     Ok(is_compaction_of(set, set) && !is_compaction_of(&front, set))

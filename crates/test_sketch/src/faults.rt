@@ -10,7 +10,7 @@ static FAULTS: [(&str, &str); 24] = [
     ("\"int\"\n\"int\"", "writer: Truncated\n2"),
     ("\n\"int\"\n", "reader: NotJson\n2"),
     ("\"int\"\n\n", "writer: NotJson\n2"),
-    // The reader's fault is told, also where the writer's line has one or is missing.
+    // The reader's fault is reported, also where the writer's line has one or is missing.
     ("x\n", "reader: NotJson\n2"),
     ("x\nx", "reader: NotJson\n2"),
     ("\"X\"\n\"Y\"\n", "reader: Unknown\n2"),
@@ -64,7 +64,7 @@ static BROKEN: [(&[u8], &str); 4] = [
     (b"\xff\n\"int\"\n", "reader: BadUtf8\n2"),
     (b"\"\xc3\"\n\"int\"\n", "reader: BadUtf8\n2"),
     (b"\"int\"\n\xff\n", "writer: BadUtf8\n2"),
-    // A line without LF is none, whatever its bytes are.
+    // A line without LF isn't a line, whatever its bytes are.
     (b"\"int\"\n\xff", "writer: Truncated\n2"),
 ];
 

@@ -4,7 +4,7 @@ use reg_tail::Tail;
 use std::alloc::Global;
 use std::test::Fail;
 
-/// A file, an offset, the text that is given or the error that is told, and the offset to go on from.
+/// A file, an offset, the text that is given or the error that is reported, and the offset to go on from.
 const ROWS: [(&str, u64, &str, u64); 25] = [
     // an empty log
     ("\n", 0, "", 0),
