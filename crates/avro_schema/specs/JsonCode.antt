@@ -138,22 +138,22 @@ pub data Built : Type 0 where
   some_items : Items → Built
   some_members : Members → Built
 
-abbrev pub taken : Step → List Built → List Built
-taken put_null st = a_value null ∷ st
-taken (put_boolean b) st = a_value (boolean b) ∷ st
-taken (put_number n) st = a_value (number n) ∷ st
-taken (put_string s) st = a_value (string s) ∷ st
-taken put_no_items st = some_items no_items ∷ st
-taken add_item (a_value d ∷ some_items ds ∷ st) = some_items (item d ds) ∷ st
-taken end_items (some_items ds ∷ st) = a_value (array ds) ∷ st
-taken put_no_members st = some_members no_members ∷ st
-taken (add_member l) (a_value d ∷ some_members ms ∷ st) = some_members (member l d ms) ∷ st
-taken end_members (some_members ms ∷ st) = a_value (object ms) ∷ st
-taken _ st = st
+abbrev pub stepped : Step → List Built → List Built
+stepped put_null st = a_value null ∷ st
+stepped (put_boolean b) st = a_value (boolean b) ∷ st
+stepped (put_number n) st = a_value (number n) ∷ st
+stepped (put_string s) st = a_value (string s) ∷ st
+stepped put_no_items st = some_items no_items ∷ st
+stepped add_item (a_value d ∷ some_items ds ∷ st) = some_items (item d ds) ∷ st
+stepped end_items (some_items ds ∷ st) = a_value (array ds) ∷ st
+stepped put_no_members st = some_members no_members ∷ st
+stepped (add_member l) (a_value d ∷ some_members ms ∷ st) = some_members (member l d ms) ∷ st
+stepped end_members (some_members ms ∷ st) = a_value (object ms) ∷ st
+stepped _ st = st
 
 abbrev pub run : List Step → List Built → List Built
 run [] st = st
-run (s ∷ ss) st = run ss (taken s st)
+run (s ∷ ss) st = run ss (stepped s st)
 
 abbrev pub top : List Built → Data
 top (a_value d ∷ st) = d

@@ -38,7 +38,7 @@ impl<T: Named> Model for NamedList<T> {
 }
 
 impl<T: Named + Drop> NamedList<T> {
-    /// The list of the items, or None where two of them have one name. The only error is want of
+    /// The list of the items, or None where two of them have one name. The only error is out of
     /// memory.
     pub fn of(alloc: Global, items: Vec<T>) -> Result<Option<NamedList<T>>, AllocError>
         ensures { IfOk result (λ found. found

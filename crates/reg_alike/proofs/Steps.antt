@@ -18,7 +18,8 @@ use Rattle.reg_refusals.specs.declared.reason.Reason.TheVariants as reasons
 use Rattle.reg_refusals.specs.declared.reason.StoreFault.TheVariants as faults
 use Rattle.reg_refusals.specs.declared.refusal.Refusal.TheVariants as refusals
 use Rattle.reg_set.specs.Records.{Records}
-use Rattle.reg_rules.specs.Standing.{has_schema, id_for, is_of, newest, next_version, texts_of, version_meant}
+use Rattle.reg_rules.specs.Standing.{id_for, is_of, next_version, version_meant}
+use Rattle.reg_entries.specs.Sought.{has_schema, newest, texts_of}
 use Rattle.reg_rules.specs.Tests as test
 use Rattle.reg_rules.specs.Tests.{refuse_if, refuse_unless}
 use Rattle.reg_rules.specs.Writings.{deleted_up_to, id_marked, level_cleared, level_set, mode_cleared, mode_set, no_operation, removed}

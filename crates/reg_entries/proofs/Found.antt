@@ -20,7 +20,7 @@ use Rattle.std.specs.declared.cmp.Ordering.TheVariants.{Less, Equal, Greater}
 use Rattle.std.specs.declared.ops.Bound.TheVariants.{Included}
 use Rattle.reg_entries.specs.EntryOrder.{Place, place_cmp, place_of, IsInOrder}
 use Rattle.reg_entries.specs.Index.{IsAt, ArePlaced}
-use Rattle.reg_entries.specs.Sought.{HasRisingVersions}
+use Rattle.reg_entries.specs.Sought.{AreInVersionOrder}
 use Rattle.reg_entries.specs.declared.entry.Entry.{Entry}
 use Rattle.reg_entries.proofs.Chosen.{IsIn}
 use Rattle.reg_entries.proofs.Places.{place_cmp-total, same_place}
@@ -120,7 +120,7 @@ module _ (subject : List ℕ) (p : Entry → Bool) (of_subject : (e : Entry) →
       ] refl
 
   -- the versions of entries of one subject rise
-  pub versions_rise : (es : List Entry) → IsInOrder es → HasRisingVersions (filter p es)
+  pub versions_rise : (es : List Entry) → IsInOrder es → AreInVersionOrder (filter p es)
   versions_rise es h = IsStrictlyIncreasing-from_sorted _ (rising es h)
 
 at_least_zero : (v : ℕ) → is_le (nat_cmp 0 v) ≡ true

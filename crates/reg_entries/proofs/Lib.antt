@@ -10,7 +10,7 @@ pub mod Queries
 pub mod Doubled
 pub mod Meant
 pub mod Least
-pub mod Marks
+pub mod Flags
 pub mod Latest
 pub mod Live
 pub mod OfId

@@ -98,9 +98,9 @@ gone false = refl
 
 module _ (m : BTreeMap Place Entry) (before after : BTreeSet Schema) (k : Schema) where
   -- a schema that no entry has is taken away
-  pub settled_away : is_held m k ≡ false → ((s : Schema) → contains schema_cmp after s ≡ cond (eq_by_cmp schema_cmp k s) false (contains schema_cmp before s))
+  pub refreshed_away : is_held m k ≡ false → ((s : Schema) → contains schema_cmp after s ≡ cond (eq_by_cmp schema_cmp k s) false (contains schema_cmp before s))
       → (s : Schema) → contains schema_cmp after s ≡ (contains schema_cmp before s && (not (eq_by_cmp schema_cmp k s) || is_held m s))
-  settled_away isnt goes s =
+  refreshed_away isnt goes s =
       goes s ∙ by_bool (eq_by_cmp schema_cmp k s)
       (λ h. ap (λ b. cond b false (contains schema_cmp before s)) h
       ∙ sym (ap (λ b. contains schema_cmp before s && (not b || is_held m s)) h ∙ ap (λ b. contains schema_cmp before s && b) (ap (is_held m) (sym (same_schema k s h)) ∙ isnt) ∙ gone (contains schema_cmp before s)))
@@ -108,8 +108,8 @@ module _ (m : BTreeMap Place Entry) (before after : BTreeSet Schema) (k : Schema
       ∙ sym (ap (λ b. contains schema_cmp before s && (not b || is_held m s)) h ∙ as_it_is (contains schema_cmp before s)))
 
   -- and one that an entry has stays
-  pub settled_stays : is_held m k ≡ true → (s : Schema) → contains schema_cmp before s ≡ (contains schema_cmp before s && (not (eq_by_cmp schema_cmp k s) || is_held m s))
-  settled_stays is s =
+  pub refreshed_stays : is_held m k ≡ true → (s : Schema) → contains schema_cmp before s ≡ (contains schema_cmp before s && (not (eq_by_cmp schema_cmp k s) || is_held m s))
+  refreshed_stays is s =
       by_bool (eq_by_cmp schema_cmp k s)
       (λ h. sym (ap (λ b. contains schema_cmp before s && (not b || is_held m s)) h ∙ ap (λ b. contains schema_cmp before s && b) (ap (is_held m) (sym (same_schema k s h)) ∙ is) ∙ as_it_is (contains schema_cmp before s)))
       (λ h. sym (ap (λ b. contains schema_cmp before s && (not b || is_held m s)) h ∙ as_it_is (contains schema_cmp before s)))
@@ -161,18 +161,18 @@ module _ (m n : BTreeMap Place Entry) (e : Entry) (old : Option Schema) (placed 
       found (Some f) at h = one_schema (schema_of f) s (schema_here f s (own_place m placed s.2 f at) h)
 
   -- where a schema is put, and then each of two goes unless it is one of an entry
-  pub listed_settled : (before added one two : BTreeSet Schema) → AreListed m before
+  pub listed_refreshed : (before added one two : BTreeSet Schema) → AreListed m before
       → ((s : Schema) → contains schema_cmp added s ≡ cond (eq_by_cmp schema_cmp (schema_of e) s) true (contains schema_cmp before s))
       → ((s : Schema) → contains schema_cmp one s ≡ (contains schema_cmp added s && (not (eq_by_cmp schema_cmp (schema_of e) s) || is_held n s)))
       → ((s : Schema) → contains schema_cmp two s ≡ (contains schema_cmp one s && (not (is_that old s) || is_held n s)))
       → AreListed n two
-  listed_settled before added one two listed adds settles ends s =
+  listed_refreshed before added one two listed adds refreshes ends s =
       by_bool (is_held n s) is_one is_none
     where
       is_one : is_held n s ≡ true → contains schema_cmp two s ≡ is_held n s
       is_one is =
           ends s ∙ ap (λ b. contains schema_cmp one s && (not (is_that old s) || b)) is ∙ kept (contains schema_cmp one s) (not (is_that old s))
-          ∙ settles s ∙ ap (λ b. contains schema_cmp added s && (not (eq_by_cmp schema_cmp (schema_of e) s) || b)) is ∙ kept (contains schema_cmp added s) (not (eq_by_cmp schema_cmp (schema_of e) s))
+          ∙ refreshes s ∙ ap (λ b. contains schema_cmp added s && (not (eq_by_cmp schema_cmp (schema_of e) s) || b)) is ∙ kept (contains schema_cmp added s) (not (eq_by_cmp schema_cmp (schema_of e) s))
           ∙ adds s ∙ by_bool (eq_by_cmp schema_cmp (schema_of e) s)
           (λ h. ap (λ b. cond b true (contains schema_cmp before s)) h ∙ sym is)
           (λ h. ap (λ b. cond b true (contains schema_cmp before s)) h ∙ listed s ∙ same_entry s h is ∙ sym is)
@@ -184,13 +184,13 @@ module _ (m n : BTreeMap Place Entry) (e : Entry) (old : Option Schema) (placed 
           of_new : eq_by_cmp schema_cmp (schema_of e) s ≡ true → (contains schema_cmp one s && (not (is_that old s) || is_held n s)) ≡ false
           of_new h =
               ap (λ b. b && (not (is_that old s) || is_held n s))
-              (settles s ∙ ap (λ b. contains schema_cmp added s && (not b || is_held n s)) h ∙ ap (λ b. contains schema_cmp added s && b) isnt ∙ gone (contains schema_cmp added s))
+              (refreshes s ∙ ap (λ b. contains schema_cmp added s && (not b || is_held n s)) h ∙ ap (λ b. contains schema_cmp added s && b) isnt ∙ gone (contains schema_cmp added s))
 
           of_other : eq_by_cmp schema_cmp (schema_of e) s ≡ false → (contains schema_cmp one s && (not (is_that old s) || is_held n s)) ≡ false
           of_other h =
               by_bool (is_held m s)
               (λ is. ap (λ b. contains schema_cmp one s && (not b || is_held n s)) (was_old s isnt is) ∙ ap (λ b. contains schema_cmp one s && b) isnt ∙ gone (contains schema_cmp one s))
-              (λ isnt_m. ap (λ b. b && (not (is_that old s) || is_held n s)) (settles s ∙ ap (λ b. b && (not (eq_by_cmp schema_cmp (schema_of e) s) || is_held n s)) (adds s ∙ ap (λ b. cond b true (contains schema_cmp before s)) h ∙ listed s ∙ isnt_m)))
+              (λ isnt_m. ap (λ b. b && (not (is_that old s) || is_held n s)) (refreshes s ∙ ap (λ b. b && (not (eq_by_cmp schema_cmp (schema_of e) s) || is_held n s)) (adds s ∙ ap (λ b. cond b true (contains schema_cmp before s)) h ∙ listed s ∙ isnt_m)))
 
 -- where the entry at a place goes, and its schema
 pub listed_gone : (m n : BTreeMap Place Entry) (before after : BTreeSet Schema) (p : Place) (e : Entry)

@@ -27,7 +27,7 @@ use Rattle.reg_entries.specs.EntryOrder.{Place, place_cmp, place_of}
 use Rattle.reg_entries.specs.Index.{entry_at, ArePlaced}
 use Rattle.reg_entries.specs.Meanings.{Meaning, meaning_of, meaning_cmp, IsMeant, IsMeaningOf}
 use Rattle.reg_entries.specs.Meanings.{AreMeant, HasTwo, AreDoubled}
-use Rattle.reg_entries.specs.Meanings.{SettlesDoubled, SettlesMeaning}
+use Rattle.reg_entries.specs.Meanings.{RefreshesDoubled, RefreshesMeaning}
 use Rattle.reg_entries.specs.Schemas.{Schema, schema_of, schema_cmp, is_held, is_that, AreListed}
 use Rattle.reg_entries.specs.Sought.{shares_its_id, two_schemas}
 use Rattle.reg_entries.specs.declared.entry.Entry.{Entry}
@@ -60,32 +60,32 @@ pub apart_meaning : (k l : Meaning) → ¬ (k ≡ l) → eq_by_cmp meaning_cmp k
 apart_meaning k l h = by_bool (eq_by_cmp meaning_cmp k l) (λ same. absurd (h (same_meaning k l same))) (λ no. no)
 
 -- where some meanings were added, and then each of some that no schema has was taken away
-pub meant_settled : (New Settled : Meaning → Type 0) (before after : BTreeSet Schema) (old mid new : BTreeSet Meaning) → AreMeant before old
+pub meant_refreshed : (New Refreshed : Meaning → Type 0) (before after : BTreeSet Schema) (old mid new : BTreeSet Meaning) → AreMeant before old
     → ((k : Meaning) → contains meaning_cmp mid k ≡ true → New k ⊎ (contains meaning_cmp old k ≡ true))
     → ((k : Meaning) → New k ⊎ (contains meaning_cmp old k ≡ true) → contains meaning_cmp mid k ≡ true)
-    → ((k : Meaning) → (contains meaning_cmp new k ≡ true) ↔ ((contains meaning_cmp mid k ≡ true) × (Settled k → IsMeant after k)))
-    → ((k : Meaning) → New k → Settled k)
+    → ((k : Meaning) → (contains meaning_cmp new k ≡ true) ↔ ((contains meaning_cmp mid k ≡ true) × (Refreshed k → IsMeant after k)))
+    → ((k : Meaning) → New k → Refreshed k)
     → ((k : Meaning) → IsMeant after k → New k ⊎ IsMeant before k)
-    → ((k : Meaning) → IsMeant before k → IsMeant after k ⊎ Settled k)
+    → ((k : Meaning) → IsMeant before k → IsMeant after k ⊎ Refreshed k)
     → AreMeant after new
-meant_settled New Settled before after old mid new meant out into settles news came went k = (to, back)
+meant_refreshed New Refreshed before after old mid new meant out into refreshes news came went k = (to, back)
   where
     to : contains meaning_cmp new k ≡ true → IsMeant after k
     to h =
-        let s = (settles k).0 h in
+        let s = (refreshes k).0 h in
         ⊎_elim (λ n. s.1 (news k n)) (λ o. ⊎_elim (λ a. a) s.1 (went k ((meant k).0 o))) (out k s.0)
 
     back : IsMeant after k → contains meaning_cmp new k ≡ true
-    back h = (settles k).1 (into k (⊎_elim inl (λ b. inr ((meant k).1 b)) (came k h)), λ _. h)
+    back h = (refreshes k).1 (into k (⊎_elim inl (λ b. inr ((meant k).1 b)) (came k h)), λ _. h)
 
 -- where nothing was added
 pub meant_gone : (before after : BTreeSet Schema) (old new : BTreeSet Meaning) (x : Schema) → AreMeant before old
     → ((s : Schema) → contains schema_cmp after s ≡ cond (eq_by_cmp schema_cmp x s) false (contains schema_cmp before s))
-    → SettlesMeaning after (meaning_of x) old new
+    → RefreshesMeaning after (meaning_of x) old new
     → AreMeant after new
-meant_gone before after old new x meant gone settles =
-    meant_settled (λ _. ⊥) (λ k. k ≡ meaning_of x) before after old old new meant
-    (λ k h. inr h) (λ k. ⊎_elim (λ n. absurd n) (λ h. h)) settles (λ k n. absurd n)
+meant_gone before after old new x meant gone refreshes =
+    meant_refreshed (λ _. ⊥) (λ k. k ≡ meaning_of x) before after old old new meant
+    (λ k h. inr h) (λ k. ⊎_elim (λ n. absurd n) (λ h. h)) refreshes (λ k n. absurd n)
     (λ k h. inr (h.0, was k h.0 h.1)) (λ k h. stays k h.0 h.1)
   where
     was : (k : Meaning) (p : Place) → contains schema_cmp after (k.1, k.0, p) ≡ true → contains schema_cmp before (k.1, k.0, p) ≡ true
@@ -133,16 +133,16 @@ module _ (mid old : BTreeSet Meaning) (x : Meaning) (goes : (k : Meaning) → co
   pub gone_two : (id : ℕ) → HasTwo mid id → HasTwo old id
   gone_two id h = (h.0, h.1, gone_was (id, h.0) h.2, gone_was (id, h.1) h.3, h.4)
 
-  -- which settles it where no schema has it
-  pub settles_gone : (schemas : BTreeSet Schema) → ¬ (IsMeant schemas x) → SettlesMeaning schemas x old mid
-  settles_gone schemas none k = (
+  -- which refreshes it where no schema has it
+  pub refreshes_gone : (schemas : BTreeSet Schema) → ¬ (IsMeant schemas x) → RefreshesMeaning schemas x old mid
+  refreshes_gone schemas none k = (
     λ h. (gone_was k h, λ is. absurd (false≢true (sym (goes k ∙ ap (λ b. cond b false (contains meaning_cmp old k)) (one_meaning x k (sym is))) ∙ h))),
     λ h. goes k ∙ ap (λ b. cond b false (contains meaning_cmp old k)) (apart_meaning x k (λ same. none (subst (IsMeant schemas) (sym same) (h.1 (sym same))))) ∙ h.0,
   )
 
 -- and where one has it nothing has to go
-pub settles_stays : (schemas : BTreeSet Schema) (x : Meaning) (old : BTreeSet Meaning) → IsMeant schemas x → SettlesMeaning schemas x old old
-settles_stays schemas x old is k = (λ h. (h, λ same. subst (IsMeant schemas) (sym same) is), λ h. h.0)
+pub refreshes_stays : (schemas : BTreeSet Schema) (x : Meaning) (old : BTreeSet Meaning) → IsMeant schemas x → RefreshesMeaning schemas x old old
+refreshes_stays schemas x old is k = (λ h. (h, λ same. subst (IsMeant schemas) (sym same) is), λ h. h.0)
 
 two_same : (old new : BTreeSet Meaning) (id i : ℕ) → ¬ (i ≡ id) → ((k : Meaning) → ¬ (k.0 ≡ id) → contains meaning_cmp new k ≡ contains meaning_cmp old k) → HasTwo old i → HasTwo new i
 two_same old new id i apart same h = (h.0, h.1, same (i, h.0) apart ∙ h.2, same (i, h.1) apart ∙ h.3, h.4)
@@ -158,23 +158,23 @@ decide a b = by_order (nat_cmp a b) refl
     by_order Equal is = inl (nat_cmp-IsAntisymmetric a b is)
     by_order Greater is = inr (apart Greater is refl)
 
--- the doubled ids where texts of one id changed, and it was settled
-pub doubled_settled : (old new : BTreeSet Meaning) (before mid after : BTreeSet ℕ) (id : ℕ) → AreDoubled old before
+-- the doubled ids where texts of one id changed, and it was refreshed
+pub doubled_refreshed : (old new : BTreeSet Meaning) (before mid after : BTreeSet ℕ) (id : ℕ) → AreDoubled old before
     → ((k : Meaning) → ¬ (k.0 ≡ id) → contains meaning_cmp new k ≡ contains meaning_cmp old k)
     → ((i : ℕ) → ¬ (i ≡ id) → contains nat_cmp mid i ≡ contains nat_cmp before i)
     → (HasTwo new id → contains nat_cmp mid id ≡ true)
-    → SettlesDoubled new id mid after
+    → RefreshesDoubled new id mid after
     → AreDoubled new after
-doubled_settled old new before mid after id doubled others ids own settles i = (to, back)
+doubled_refreshed old new before mid after id doubled others ids own refreshes i = (to, back)
   where
     to : contains nat_cmp after i ≡ true → HasTwo new i
     to h =
-        let s = (settles i).0 h in
+        let s = (refreshes i).0 h in
         ⊎_elim s.1 (λ apart. two_same old new id i apart others ((doubled i).0 (sym (ids i apart) ∙ s.0))) (decide i id)
 
     back : HasTwo new i → contains nat_cmp after i ≡ true
     back h =
-        (settles i).1 (
+        (refreshes i).1 (
           ⊎_elim (λ same. subst (λ j. contains nat_cmp mid j ≡ true) (sym same) (own (subst (HasTwo new) same h)))
               (λ apart. ids i apart ∙ (doubled i).1 (two_same new old id i apart (λ k a. sym (others k a)) h)) (decide i id),
           λ _. h,
@@ -190,9 +190,9 @@ module _ (old new : BTreeSet ℕ) (id : ℕ) (b : Bool) (updates : (i : ℕ) →
       (λ is. absurd (apart (sym (nat_cmp-IsAntisymmetric id i (equal _ is)))))
       (λ no. updates i ∙ ap (λ t. cond t b (contains nat_cmp old i)) no)
 
--- an id that is taken away where it has no two texts is settled
+-- an id that is taken away where it has no two texts is refreshed
 pub doubled_gone : (meanings : BTreeSet Meaning) (old new : BTreeSet ℕ) (id : ℕ) → ¬ (HasTwo meanings id)
-    → ((i : ℕ) → contains nat_cmp new i ≡ cond (eq_by_cmp nat_cmp id i) false (contains nat_cmp old i)) → SettlesDoubled meanings id old new
+    → ((i : ℕ) → contains nat_cmp new i ≡ cond (eq_by_cmp nat_cmp id i) false (contains nat_cmp old i)) → RefreshesDoubled meanings id old new
 doubled_gone meanings old new id none updates i = (to, back)
   where
     to : contains nat_cmp new i ≡ true → (contains nat_cmp old i ≡ true) × (i ≡ id → HasTwo meanings i)
@@ -203,7 +203,7 @@ doubled_gone meanings old new id none updates i = (to, back)
     back : (contains nat_cmp old i ≡ true) × (i ≡ id → HasTwo meanings i) → contains nat_cmp new i ≡ true
     back h = ⊎_elim (λ same. absurd (none (subst (HasTwo meanings) same (h.1 same)))) (λ apart. id_others old new id false updates i apart ∙ h.0) (decide i id)
 
-pub doubled_stays : (meanings : BTreeSet Meaning) (old : BTreeSet ℕ) (id : ℕ) → HasTwo meanings id → SettlesDoubled meanings id old old
+pub doubled_stays : (meanings : BTreeSet Meaning) (old : BTreeSet ℕ) (id : ℕ) → HasTwo meanings id → RefreshesDoubled meanings id old old
 doubled_stays meanings old id two i = (λ h. (h, λ same. subst (HasTwo meanings) (sym same) two), λ h. h.0)
 
 -- the meanings from the least of an id to the least of the next are those of the id
@@ -380,20 +380,20 @@ module _ (m n : BTreeMap Place Entry) (e : Entry) (old : Option Schema) (placed 
       → ((k : Meaning) → contains meaning_cmp mid k ≡ cond (eq_by_cmp meaning_cmp (e.id, e.normal) k) true (contains meaning_cmp given k))
       → ((k : Meaning) → (contains meaning_cmp new k ≡ true) ↔ ((contains meaning_cmp mid k ≡ true) × (IsMeaningOf (schema_of e) old k → IsMeant after k)))
       → AreMeant after new
-  meant_written given mid new meant adds settles =
-      meant_settled (λ k. k ≡ (e.id, e.normal)) (IsMeaningOf (schema_of e) old) before after given mid new meant
-      (added_out mid given (e.id, e.normal) adds) (added_into mid given (e.id, e.normal) adds) settles (λ k is. inl is) came went
+  meant_written given mid new meant adds refreshes =
+      meant_refreshed (λ k. k ≡ (e.id, e.normal)) (IsMeaningOf (schema_of e) old) before after given mid new meant
+      (added_out mid given (e.id, e.normal) adds) (added_into mid given (e.id, e.normal) adds) refreshes (λ k is. inl is) came went
 
 -- where no meaning changed
 pub meant_same : (schemas : BTreeSet Schema) (old new : BTreeSet Meaning) → AreMeant schemas old → ((k : Meaning) → contains meaning_cmp new k ≡ contains meaning_cmp old k) → AreMeant schemas new
 meant_same schemas old new meant same k = (λ h. (meant k).0 (sym (same k) ∙ h), λ h. same k ∙ (meant k).1 h)
 
--- what is left of the meanings of two schemas, which one after the other are settled
-pub both_settled : (schemas : BTreeSet Schema) (one : Schema) (other : Option Schema) (old mid new : BTreeSet Meaning)
-    → SettlesMeaning schemas (meaning_of one) old mid
+-- what is left of the meanings of two schemas, which one after the other are refreshed
+pub both_refreshed : (schemas : BTreeSet Schema) (one : Schema) (other : Option Schema) (old mid new : BTreeSet Meaning)
+    → RefreshesMeaning schemas (meaning_of one) old mid
     → ((k : Meaning) → (contains meaning_cmp new k ≡ true) ↔ ((contains meaning_cmp mid k ≡ true) × ((s : Schema) → other ≡ Some s → k ≡ meaning_of s → IsMeant schemas k)))
     → (k : Meaning) → (contains meaning_cmp new k ≡ true) ↔ ((contains meaning_cmp old k ≡ true) × (IsMeaningOf one other k → IsMeant schemas k))
-both_settled schemas one other old mid new first second k = (to, back)
+both_refreshed schemas one other old mid new first second k = (to, back)
   where
     to : contains meaning_cmp new k ≡ true → (contains meaning_cmp old k ≡ true) × (IsMeaningOf one other k → IsMeant schemas k)
     to h =
@@ -480,16 +480,16 @@ module _ (m : BTreeMap Place Entry) (ordered : tree.IsOrdered place_cmp m) (plac
   first_doubled (Some k) some member least = sym (two_schemas_some m ordered placed schemas listed meanings meant doubled are k.now member (λ j has. not_above k.now j (least j has)))
 
 -- what one schema, if there is one, leaves of the meanings
-pub some_settled : (schemas : BTreeSet Schema) (t : Schema) (other : Option Schema) (mid new : BTreeSet Meaning) → other ≡ Some t → SettlesMeaning schemas (meaning_of t) mid new
+pub some_refreshed : (schemas : BTreeSet Schema) (t : Schema) (other : Option Schema) (mid new : BTreeSet Meaning) → other ≡ Some t → RefreshesMeaning schemas (meaning_of t) mid new
     → (k : Meaning) → (contains meaning_cmp new k ≡ true) ↔ ((contains meaning_cmp mid k ≡ true) × ((s : Schema) → other ≡ Some s → k ≡ meaning_of s → IsMeant schemas k))
-some_settled schemas t other mid new is settles k = (
-  λ h. let a = (settles k).0 h in (a.0, λ s some same. a.1 (same ∙ ap meaning_of (same_Some s t (sym some ∙ is)))),
-  λ h. (settles k).1 (h.0, λ same. h.1 t is same),
+some_refreshed schemas t other mid new is refreshes k = (
+  λ h. let a = (refreshes k).0 h in (a.0, λ s some same. a.1 (same ∙ ap meaning_of (same_Some s t (sym some ∙ is)))),
+  λ h. (refreshes k).1 (h.0, λ same. h.1 t is same),
 )
 
-pub none_settled : (schemas : BTreeSet Schema) (other : Option Schema) (mid : BTreeSet Meaning) → other ≡ None
+pub none_refreshed : (schemas : BTreeSet Schema) (other : Option Schema) (mid : BTreeSet Meaning) → other ≡ None
     → (k : Meaning) → (contains meaning_cmp mid k ≡ true) ↔ ((contains meaning_cmp mid k ≡ true) × ((s : Schema) → other ≡ Some s → k ≡ meaning_of s → IsMeant schemas k))
-none_settled schemas other mid is k = (λ h. (h, λ s some same. absurd (not_both s other some is)), λ h. h.0)
+none_refreshed schemas other mid is k = (λ h. (h, λ s some same. absurd (not_both s other some is)), λ h. h.0)
 
 -- where the doubled ids are the same
 pub doubled_same : (old new : BTreeSet Meaning) (before after : BTreeSet ℕ) → AreDoubled old before → ((k : Meaning) → contains meaning_cmp new k ≡ contains meaning_cmp old k) → ((i : ℕ) → contains nat_cmp after i ≡ contains nat_cmp before i) → AreDoubled new after

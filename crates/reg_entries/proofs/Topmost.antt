@@ -98,14 +98,14 @@ other_subject m n p o (inl at) s apart w =
     at (s, w) ∙ ap (λ b. cond b o (entry_at m (s, w))) (apart_first (slice_cmp nat_cmp p.0 s) (nat_cmp p.1 w) (is_eq-slice_cmp p.0 s ∙ apart))
 other_subject m n p o (inr same) s apart w = ap (λ (es : List (Place × Entry)). lookup (is_at (place_cmp (s, w))) es) same
 
--- all greatest versions after one place changed, or none, and its subject's was settled
-pub tops_settled : (m n : BTreeMap Place Entry) (p : Place) (o : Option Entry) → HasAt m n p o ⊎ (n.entries ≡ m.entries)
+-- all greatest versions after one place changed, or none, and its subject's was refreshed
+pub tops_refreshed : (m n : BTreeMap Place Entry) (p : Place) (o : Option Entry) → HasAt m n p o ⊎ (n.entries ≡ m.entries)
     → (before after : List ℕ → Option Place) → ((s : List ℕ) → IsTop m s (before s))
     → IsTop n p.0 (after p.0) → ((s : List ℕ) → bytes_eq p.0 s ≡ false → after s ≡ before s)
     → (s : List ℕ) → IsTop n s (after s)
-tops_settled m n p o ends before after was settled others s =
+tops_refreshed m n p o ends before after was refreshed others s =
     by_bool (bytes_eq p.0 s)
-    (λ h. subst (λ t. IsTop n t (after t)) ((bytes_eq-Decides p.0 s).0 h) settled)
+    (λ h. subst (λ t. IsTop n t (after t)) ((bytes_eq-Decides p.0 s).0 h) refreshed)
     (λ h. subst (IsTop n s) (sym (others s h)) (top_stays m n s (other_subject m n p o ends s h) (before s) (was s)))
 
 module _ {X Y : Type 0} (old new : BTreeMap (String Y) X) (key : List ℕ) (o : Option X) (after : (s : List ℕ) → get_by_text new s ≡ cond (bytes_eq key s) o (get_by_text old s)) where

@@ -3,7 +3,7 @@ use Rattle.std.specs.Prelude.{ℕ, Bool, false, ◌&&◌, ◌||◌, nat_le, nat_
 use Rattle.std.specs.BTreeMap.{BTreeMap, get_by_text}
 use Rattle.std.specs.Option.{option_map_or}
 use Rattle.std.specs.declared.string.String.{String}
-use Rattle.reg_entries.specs.Marked.{with_soft}
+use Rattle.reg_entries.specs.Flagged.{with_soft}
 use Rattle.reg_entries.specs.declared.entry.Entry.{Entry}
 use Rattle.reg_entries.specs.declared.soft_delete.SoftDelete.{SoftDelete}
 
@@ -11,7 +11,7 @@ use Rattle.reg_entries.specs.declared.soft_delete.SoftDelete.{SoftDelete}
 abbrev pub is_covered : Option SoftDelete → ℕ → ℕ → Bool
 is_covered delete version offset = option_map_or (λ d. nat_le version d.version && nat_lt offset d.offset) delete false
 
--- an entry under a soft delete of its subject, if there is one: soft by its own mark, or covered
+-- an entry under a soft delete of its subject, if there is one: soft by its own flag, or covered
 abbrev pub under : Option SoftDelete → Entry → Entry
 under delete e = with_soft (e.soft || is_covered delete e.version e.offset) e
 

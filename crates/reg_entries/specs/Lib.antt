@@ -1,7 +1,7 @@
 pub mod Covered
 pub mod EntryOrder
 pub mod Index
-pub mod Marked
+pub mod Flagged
 pub mod Meanings
 pub mod Schemas
 pub mod Sought

@@ -36,13 +36,13 @@ abbrev pub AreDoubled : BTreeSet Meaning → BTreeSet ℕ → Type 0
 AreDoubled meanings doubled = (id : ℕ) → (contains nat_cmp doubled id ≡ true) ↔ HasTwo meanings id
 
 -- n is doubled, without the id where it has no two texts
-abbrev pub SettlesDoubled : BTreeSet Meaning → ℕ → BTreeSet ℕ → BTreeSet ℕ → Type 0
-SettlesDoubled meanings id doubled n = (i : ℕ) → (contains nat_cmp n i ≡ true)
+abbrev pub RefreshesDoubled : BTreeSet Meaning → ℕ → BTreeSet ℕ → BTreeSet ℕ → Type 0
+RefreshesDoubled meanings id doubled n = (i : ℕ) → (contains nat_cmp n i ≡ true)
     ↔ ((contains nat_cmp doubled i ≡ true) × (i ≡ id → HasTwo meanings i))
 
 -- n is meanings, without k where no schema has it
-abbrev pub SettlesMeaning : BTreeSet Schema → Meaning → BTreeSet Meaning → BTreeSet Meaning → Type 0
-SettlesMeaning schemas k meanings n = (l : Meaning) → (contains meaning_cmp n l ≡ true)
+abbrev pub RefreshesMeaning : BTreeSet Schema → Meaning → BTreeSet Meaning → BTreeSet Meaning → Type 0
+RefreshesMeaning schemas k meanings n = (l : Meaning) → (contains meaning_cmp n l ≡ true)
     ↔ ((contains meaning_cmp meanings l ≡ true) × (l ≡ k → IsMeant schemas l))
 
 -- k is the meaning of one schema, or of the other, if there is one

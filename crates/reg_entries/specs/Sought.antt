@@ -1,5 +1,5 @@
 -- What is sought among the entries es of a registry.
-use Rattle.std.specs.Prelude.{ℕ, max, min, Bool, true, false, List, Option, Some, None, map, bytes_eq, find, not, ◌&&◌, ◌||◌, ◌==◌}
+use Rattle.std.specs.Prelude.{◌×◌, ℕ, max, min, Bool, true, false, List, Option, Some, None, map, bytes_eq, find, not, ◌&&◌, ◌||◌, ◌==◌}
 use Rattle.std.specs.List.{dedup, filter, list_any, reduce}
 use Rattle.std.specs.List.Sorted.{IsStrictlyIncreasing}
 use Rattle.std.specs.Ordering.{nat_cmp, on, ord_max}
@@ -22,9 +22,21 @@ counting es subject deleted = filter (counts deleted) (of_subject es subject)
 abbrev pub live_of : List Entry → List ℕ → List Entry
 live_of es subject = counting es subject false
 
+-- of some entries the one of greatest version
+abbrev pub newest : List Entry → Option Entry
+newest es = reduce (ord_max (on (λ e. e.version) nat_cmp)) es
+
 -- of a subject's entries that count the one of greatest version
 abbrev pub latest : List Entry → List ℕ → Bool → Option Entry
-latest es subject deleted = reduce (ord_max (on (λ e. e.version) nat_cmp)) (counting es subject deleted)
+latest es subject deleted = newest (counting es subject deleted)
+
+-- whether an entry has the schema of that normal text
+abbrev pub has_schema : List ℕ → Entry → Bool
+has_schema normal e = bytes_eq e.normal normal
+
+-- the versions of some entries, each with the text that it holds
+abbrev pub texts_of : List Entry → List (ℕ × List ℕ)
+texts_of es = map (λ e. (e.version, e.text)) es
 
 -- of a subject's entries that count the one of that version
 abbrev pub of_version : List Entry → List ℕ → ℕ → Bool → Option Entry
@@ -47,9 +59,9 @@ has_live es scope = list_any (λ e. is_in_scope scope e && not e.soft) es
 abbrev pub with_id : List Entry → ℕ → List Entry
 with_id es id = filter (λ e. e.id == id) es
 
--- each version is smaller than the next one
-abbrev pub HasRisingVersions : List Entry → Type 0
-HasRisingVersions es = IsStrictlyIncreasing (map (λ e. e.version) es)
+-- the entries stand by version: each is smaller than the next one's
+abbrev pub AreInVersionOrder : List Entry → Type 0
+AreInVersionOrder es = IsStrictlyIncreasing (map (λ e. e.version) es)
 
 -- of the entries with the id, soft ones too, the one of greatest offset; of these the
 -- one of greatest subject by bytes, then of greatest version

@@ -4,21 +4,21 @@ ghost use Rattle.std.specs.FinMap as finmap;
 ghost use Rattle.std.specs.Option.{option_copied};
 ghost use Rattle.reg_entries.specs.Covered.{shown_all};
 ghost use Rattle.reg_entries.specs.EntryOrder.{Place, place_of, IsInOrder};
-ghost use Rattle.reg_entries.specs.Marked.{with_soft, marked, MarksEach};
-ghost use Rattle.reg_entries.specs.Sought.{of_subject, counting, latest, of_version, subjects, has_live, with_id, HasRisingVersions, named, greatest_id, greatest_version, id_of, two_schemas};
+ghost use Rattle.reg_entries.specs.Flagged.{with_soft, flagged, FlagsEach};
+ghost use Rattle.reg_entries.specs.Sought.{of_subject, counting, latest, of_version, subjects, has_live, with_id, AreInVersionOrder, named, greatest_id, greatest_version, id_of, two_schemas};
 ghost use Rattle.reg_entries.specs.declared.entry.Entry.{Entry};
 
-use crate::entry::{Entry, Mark};
+use crate::entry::{Entry, Flag};
 use crate::ids::list_with_id;
 use crate::lists::{
     any_live, any_live_up_to, counts, keep_counting, last_counting, list_all, list_between,
-    list_subjects, own_of, set_marks, shown_of, under_of,
+    list_subjects, own_of, set_flags, shown_of, under_of,
 };
-use crate::meanings::{Meaning, mean, settle_both, settle_meaning};
+use crate::meanings::{Meaning, mean, refresh_both, refresh_meaning};
 use crate::names::{At, Name, name_above, place_of};
 use crate::schemas::{Schema, first_schema, schema_at, schema_of, unlist, write_all};
 use crate::soft_delete::{SoftDeletes, delete_of};
-use crate::tops::{leave_room, settle_top};
+use crate::tops::{leave_room, refresh_top};
 use crate::twin::Twin;
 use base_text::Text;
 use std::alloc::{AllocError, Global};
@@ -124,7 +124,7 @@ impl Entries {
         let old = schema_at(&self.entries, &place)?;
         leave_room(self.alloc, &mut self.tops, &place)?;
         if let Err(refused) = mean(&mut self.meanings, &mut self.doubled, &entry) {
-            settle_top(&mut self.tops, &self.entries, place);
+            refresh_top(&mut self.tops, &self.entries, place);
             return Err(refused);
         }
         let written = write_all(
@@ -135,8 +135,8 @@ impl Entries {
             &new,
             &old,
         );
-        settle_top(&mut self.tops, &self.entries, place);
-        settle_both(
+        refresh_top(&mut self.tops, &self.entries, place);
+        refresh_both(
             &mut self.meanings,
             &mut self.doubled,
             &self.schemas,
@@ -154,8 +154,8 @@ impl Entries {
             return;
         };
         let (normal, id, place) = unlist(&mut self.names, &mut self.schemas, entry);
-        settle_top(&mut self.tops, &self.entries, place);
-        settle_meaning(
+        refresh_top(&mut self.tops, &self.entries, place);
+        refresh_meaning(
             &mut self.meanings,
             &mut self.doubled,
             &self.schemas,
@@ -164,12 +164,12 @@ impl Entries {
         );
     }
 
-    /// Gives versions of a subject their marks. A mark of a version that isn't there does nothing.
-    pub fn mark(&mut self, subject: Text, marks: &[Mark])
-        ensures marked { (p : Place) → finmap.get self.new p ≡ option_map (marked subject marks.now) (finmap.get self.old p) }
-        ensures each { (soft : Entry → Bool) → MarksEach soft marks.now (of_subject (finmap.values self.old) subject) → (p : Place) → finmap.get self.new p ≡ option_map (λ e. if bytes_eq e.subject subject then with_soft (soft e) e else e) (finmap.get self.old p) }
+    /// Gives versions of a subject their flags. A flag of a version that isn't there does nothing.
+    pub fn flag(&mut self, subject: Text, flags: &[Flag])
+        ensures flagged { (p : Place) → finmap.get self.new p ≡ option_map (flagged subject flags.now) (finmap.get self.old p) }
+        ensures each { (soft : Entry → Bool) → FlagsEach soft flags.now (of_subject (finmap.values self.old) subject) → (p : Place) → finmap.get self.new p ≡ option_map (λ e. if bytes_eq e.subject subject then with_soft (soft e) e else e) (finmap.get self.old p) }
     {
-        set_marks(&mut self.entries, subject, marks);
+        set_flags(&mut self.entries, subject, flags);
     }
 
     /// The entry at a place.
@@ -202,7 +202,7 @@ impl Entries {
     /// The entries of a subject, by version. The only error is out of memory.
     pub fn of_subject(&self, subject: &str) -> Result<Vec<&Entry>, AllocError>
         ensures all { IfOk result (λ found. map (λ e. e.now) found.items ≡ of_subject (finmap.values self.now) subject.now) }
-        ensures in_order { IfOk result (λ found. HasRisingVersions (map (λ e. e.now) found.items)) }
+        ensures in_order { IfOk result (λ found. AreInVersionOrder (map (λ e. e.now) found.items)) }
     {
         let twins = self.twins_of(subject)?;
         let found = own_of(self.alloc, &twins)?;
@@ -212,7 +212,7 @@ impl Entries {
     /// The same.
     fn twins_of(&self, subject: &str) -> Result<Vec<&Twin>, AllocError>
         ensures all { IfOk result (λ found. map (λ e. e.now) found.items ≡ of_subject (finmap.values self.now) subject.now) }
-        ensures in_order { IfOk result (λ found. HasRisingVersions (map (λ e. e.now) found.items)) }
+        ensures in_order { IfOk result (λ found. AreInVersionOrder (map (λ e. e.now) found.items)) }
     {
         let first = (Text::copy_of(self.alloc, subject)?, 0);
         let last = (Text::copy_of(self.alloc, subject)?, u32::MAX);
@@ -229,7 +229,7 @@ impl Entries {
         deleted: bool,
     ) -> Result<Vec<&Entry>, AllocError>
         ensures all { IfOk result (λ found. map (λ e. e.now) found.items ≡ counting (shown_all deletes.now (finmap.values self.now)) subject.now deleted) }
-        ensures in_order { IfOk result (λ found. HasRisingVersions (map (λ e. e.now) found.items)) }
+        ensures in_order { IfOk result (λ found. AreInVersionOrder (map (λ e. e.now) found.items)) }
     {
         let _ = &self.entries;
         let twins = self.twins_of(subject)?;
@@ -238,7 +238,7 @@ impl Entries {
         Ok(found)
     }
 
-    /// Of a subject's entries that count the one of greatest version. The only error is want of
+    /// Of a subject's entries that count the one of greatest version. The only error is out of
     /// memory.
     ///
     /// It goes back from the greatest version on until an entry counts, so where `deleted` is true
@@ -346,7 +346,7 @@ impl Entries {
         }
     }
 
-    /// The least id of an entry of that normal text, soft ones too. The only error is want of
+    /// The least id of an entry of that normal text, soft ones too. The only error is out of
     /// memory.
     pub fn id_of(&self, normal: &str) -> Result<Option<u32>, AllocError>
         ensures { IfOk result (λ id. id ≡ id_of (finmap.values self.now) normal.now) }

@@ -21,7 +21,7 @@ pub struct Entry {
 
 /// Whether a version is soft-deleted.
 #[derive(Clone, Copy, Debug)]
-pub struct Mark {
+pub struct Flag {
     pub version: u32,
     pub soft: bool,
 }

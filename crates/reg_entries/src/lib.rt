@@ -12,8 +12,10 @@ mod schemas;
 mod soft_delete;
 mod tops;
 mod twin;
+mod version_texts;
 
 pub use entries::Entries;
-pub use entry::{Entry, Mark};
+pub use entry::{Entry, Flag};
 pub use laws::two_schemas_is_least;
 pub use soft_delete::{SoftDelete, SoftDeletes};
+pub use version_texts::texts_of;

@@ -1,4 +1,4 @@
-// Entries in lists, and their marks.
+// Entries in lists, and their flags.
 ghost use Rattle.std.specs.Prelude.{◌≡◌, false, Some, None, IfOk, map, option_map, reverse, if◌then◌else◌};
 ghost use Rattle.std.specs.BTreeMap.{IsOrdered, values};
 ghost use Rattle.std.specs.BTreeMap.Range.{entries_between};
@@ -9,10 +9,10 @@ ghost use Rattle.std.specs.Ordering.{eq_by_cmp, is_gt};
 ghost use Rattle.reg_entries.specs.Covered.{shown, shown_all, under};
 ghost use Rattle.reg_entries.specs.EntryOrder.{Place, place_cmp};
 ghost use Rattle.reg_entries.specs.Index.{entry_at, ArePlaced, IsTop};
-ghost use Rattle.reg_entries.specs.Marked.{with_soft, marked};
+ghost use Rattle.reg_entries.specs.Flagged.{with_soft, flagged};
 ghost use Rattle.reg_entries.specs.Sought.{counts, subjects, has_live};
 
-use crate::entry::{Entry, Mark};
+use crate::entry::{Entry, Flag};
 use crate::names::At;
 use crate::soft_delete::{SoftDelete, SoftDeletes, delete_of};
 use crate::twin::Twin;
@@ -175,7 +175,7 @@ pub(crate) fn any_live_up_to(entries: &BTreeMap<At, Twin>, top: &At, deletes: &S
     }
 }
 
-/// Marks the entry at a place, if there is one.
+/// Flags the entry at a place, if there is one.
 pub(crate) fn set_soft(entries: &mut BTreeMap<At, Twin>, place: &At, soft: bool)
     ensures at { (q : Place) → entry_at entries.new q ≡ (if eq_by_cmp place_cmp place.now q then option_map (with_soft soft) (entry_at entries.old q) else entry_at entries.old q) }
     ensures ordered { IsOrdered place_cmp entries.new }
@@ -185,16 +185,16 @@ pub(crate) fn set_soft(entries: &mut BTreeMap<At, Twin>, place: &At, soft: bool)
     }
 }
 
-/// Gives versions of a subject their marks.
-pub(crate) fn set_marks(entries: &mut BTreeMap<At, Twin>, subject: Text, marks: &[Mark])
+/// Gives versions of a subject their flags.
+pub(crate) fn set_flags(entries: &mut BTreeMap<At, Twin>, subject: Text, flags: &[Flag])
     requires ordered { IsOrdered place_cmp entries.old }
     requires placed { ArePlaced entries.old }
-    ensures marked { (p : Place) → entry_at entries.new p ≡ option_map (marked subject marks.now) (entry_at entries.old p) }
+    ensures flagged { (p : Place) → entry_at entries.new p ≡ option_map (flagged subject flags.now) (entry_at entries.old p) }
     ensures still_ordered { IsOrdered place_cmp entries.new }
 {
     let mut place = (subject, 0);
-    for mark in marks {
-        place.1 = mark.version;
-        set_soft(entries, &place, mark.soft);
+    for flag in flags {
+        place.1 = flag.version;
+        set_soft(entries, &place, flag.soft);
     }
 }

@@ -3,7 +3,7 @@ ghost use Rattle.std.specs.Prelude.{◌≡◌, ◌↔◌, ◌+◌, [], ℕ, true
 ghost use Rattle.std.specs.BTreeSet as tree_set;
 ghost use Rattle.std.specs.BTreeSet.{contains, keys_between};
 ghost use Rattle.std.specs.Ordering.{eq_by_cmp, nat_cmp};
-ghost use Rattle.reg_entries.specs.Meanings.{Meaning, meaning_of, meaning_cmp, IsMeant, IsMeaningOf, HasTwo, AreDoubled, SettlesDoubled, SettlesMeaning};
+ghost use Rattle.reg_entries.specs.Meanings.{Meaning, meaning_of, meaning_cmp, IsMeant, IsMeaningOf, HasTwo, AreDoubled, RefreshesDoubled, RefreshesMeaning};
 ghost use Rattle.reg_entries.specs.Schemas.{Schema};
 ghost use Rattle.reg_entries.specs.declared.entry.Entry.{Entry};
 
@@ -35,13 +35,13 @@ pub(crate) fn mean(
     let meaning = (u64::from(id), own.normal.clone()?);
     doubled.insert(id)?;
     let added = meanings.insert(meaning);
-    settle_doubled(meanings, doubled, id);
+    refresh_doubled(meanings, doubled, id);
     added?;
     Ok(())
 }
 
 /// Takes an id and a normal text away unless some schema has both.
-pub(crate) fn settle_meaning(
+pub(crate) fn refresh_meaning(
     meanings: &mut BTreeSet<Meaning>,
     doubled: &mut BTreeSet<u32>,
     schemas: &BTreeSet<Schema>,
@@ -49,7 +49,7 @@ pub(crate) fn settle_meaning(
     id: u32,
 )
     requires { AreDoubled meanings.old doubled.old }
-    ensures settled { SettlesMeaning schemas.now (id, normal) meanings.old meanings.new }
+    ensures refreshed { RefreshesMeaning schemas.now (id, normal) meanings.old meanings.new }
     ensures doubled { AreDoubled meanings.new doubled.new }
 {
     let first = (normal, id, (Text::empty(), 0));
@@ -61,7 +61,7 @@ pub(crate) fn settle_meaning(
 
 /// Takes the ids and the normal texts of a schema, and of another if there is one, away unless some
 /// schema has both.
-pub(crate) fn settle_both(
+pub(crate) fn refresh_both(
     meanings: &mut BTreeSet<Meaning>,
     doubled: &mut BTreeSet<u32>,
     schemas: &BTreeSet<Schema>,
@@ -69,13 +69,13 @@ pub(crate) fn settle_both(
     other: Option<Schema>,
 )
     requires { AreDoubled meanings.old doubled.old }
-    ensures settled { (k : Meaning) → (contains meaning_cmp meanings.new k ≡ true) ↔ ((contains meaning_cmp meanings.old k ≡ true) × (IsMeaningOf one other k → IsMeant schemas.now k)) }
+    ensures refreshed { (k : Meaning) → (contains meaning_cmp meanings.new k ≡ true) ↔ ((contains meaning_cmp meanings.old k ≡ true) × (IsMeaningOf one other k → IsMeant schemas.now k)) }
     ensures doubled { AreDoubled meanings.new doubled.new }
 {
     let (normal, id, _) = one;
-    settle_meaning(meanings, doubled, schemas, normal, id);
+    refresh_meaning(meanings, doubled, schemas, normal, id);
     if let Some((normal, id, _)) = other {
-        settle_meaning(meanings, doubled, schemas, normal, id);
+        refresh_meaning(meanings, doubled, schemas, normal, id);
     }
 }
 
@@ -103,12 +103,12 @@ fn forget_meaning(
     ensures doubled { AreDoubled meanings.new doubled.new }
 {
     meanings.remove(meaning);
-    settle_doubled(meanings, doubled, id);
+    refresh_doubled(meanings, doubled, id);
 }
 
 /// Takes an id away from the doubled ones unless it has two texts.
-fn settle_doubled(meanings: &BTreeSet<Meaning>, doubled: &mut BTreeSet<u32>, id: u32)
-    ensures { SettlesDoubled meanings.now id doubled.old doubled.new }
+fn refresh_doubled(meanings: &BTreeSet<Meaning>, doubled: &mut BTreeSet<u32>, id: u32)
+    ensures { RefreshesDoubled meanings.now id doubled.old doubled.new }
 {
     if !has_two(meanings, id) {
         doubled.remove(&id);

@@ -110,13 +110,13 @@ pub(crate) fn write_all(
 {
     schemas.insert(schema_of(&entry)?)?;
     let written = write(entries, names, entry);
-    settle(schemas, entries, new);
-    settle_any(schemas, entries, old);
+    refresh(schemas, entries, new);
+    refresh_any(schemas, entries, old);
     written
 }
 
 /// Takes a schema away unless the entry at its place has it.
-fn settle(schemas: &mut BTreeSet<Schema>, entries: &BTreeMap<At, Twin>, schema: &Schema)
+fn refresh(schemas: &mut BTreeSet<Schema>, entries: &BTreeMap<At, Twin>, schema: &Schema)
     ensures { (s : Schema) → contains schema_cmp schemas.new s ≡ (contains schema_cmp schemas.old s && (not (eq_by_cmp schema_cmp schema.now s) || is_held entries.now s)) }
 {
     if !has_schema(entries, schema) {
@@ -125,10 +125,14 @@ fn settle(schemas: &mut BTreeSet<Schema>, entries: &BTreeMap<At, Twin>, schema: 
 }
 
 /// Takes a schema away, if there is one, unless the entry at its place has it.
-fn settle_any(schemas: &mut BTreeSet<Schema>, entries: &BTreeMap<At, Twin>, schema: &Option<Schema>)
+fn refresh_any(
+    schemas: &mut BTreeSet<Schema>,
+    entries: &BTreeMap<At, Twin>,
+    schema: &Option<Schema>,
+)
     ensures { (s : Schema) → contains schema_cmp schemas.new s ≡ (contains schema_cmp schemas.old s && (not (is_that schema.now s) || is_held entries.now s)) }
 {
     if let Some(schema) = schema {
-        settle(schemas, entries, schema);
+        refresh(schemas, entries, schema);
     }
 }

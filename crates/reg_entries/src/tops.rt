@@ -29,7 +29,7 @@ pub(crate) fn leave_room(
 
 /// Keeps the greatest version of a place's subject, which has room for it. A subject without an
 /// entry goes, and its room too.
-pub(crate) fn settle_top(tops: &mut BTreeMap<String, At>, entries: &BTreeMap<At, Twin>, place: At)
+pub(crate) fn refresh_top(tops: &mut BTreeMap<String, At>, entries: &BTreeMap<At, Twin>, place: At)
     requires { ArePlaced entries.now }
     ensures top { IsSome (get_by_text tops.old place.0) → IsTop entries.now place.0 (get_by_text tops.new place.0) }
     ensures others { (s : List ℕ) → bytes_eq place.0 s ≡ false → get_by_text tops.new s ≡ get_by_text tops.old s }

@@ -1,7 +1,7 @@
 // Entries that stand for themselves and for what a soft delete makes of them.
 ghost use Rattle.std.specs.Prelude.{◌≡◌, IfOk};
 ghost use Rattle.reg_entries.specs.Covered.{under, shown};
-ghost use Rattle.reg_entries.specs.Marked.{with_soft};
+ghost use Rattle.reg_entries.specs.Flagged.{with_soft};
 
 use crate::entry::Entry;
 use crate::soft_delete::{SoftDelete, SoftDeletes, delete_of, is_covered};
@@ -20,7 +20,7 @@ pub(crate) struct Twin {
 
 impl Model for Twin {
     ghost use Rattle.std.specs.Prelude.{◌≡◌, true};
-    ghost use Rattle.reg_entries.specs.Marked.{with_soft};
+    ghost use Rattle.reg_entries.specs.Flagged.{with_soft};
     ghost use Rattle.reg_entries.specs.declared.entry.Entry.{Entry};
 
     ghost Value = { Entry };
@@ -70,7 +70,7 @@ impl Twin {
         own
     }
 
-    /// Marks the entry.
+    /// Flags the entry.
     pub(crate) fn set_soft(&mut self, soft: bool)
         ensures { self.new ≡ with_soft soft self.old }
     {

@@ -17,18 +17,18 @@ use Rattle.reg_set.specs.LastRecords.{LosesAtMost, last, last_records}
 use Rattle.reg_set.specs.RecordOrder.{record_cmp}
 use Rattle.reg_set.specs.Records.{Records}
 use Rattle.reg_entries.specs.EntryOrder.{place_cmp}
-use Rattle.reg_entries.specs.Marked.{with_soft}
+use Rattle.reg_entries.specs.Flagged.{with_soft}
 use Rattle.reg_entries.specs.declared.entry.Entry.{Entry}
 use Rattle.reg_fold.specs.Entries.{entries, entry_map, entry_of}
 use Rattle.reg_fold.specs.IdMark.{id_mark, id_marked_in, id_marked_of}
 use Rattle.reg_fold.specs.InForce.{Scope, level_in, level_of, mode_name_in, mode_name_of, own_level, own_mode_name}
-use Rattle.reg_fold.specs.Marks.{covers, is_marked}
+use Rattle.reg_fold.specs.Covers.{covers, is_covered}
 use Rattle.reg_fold.specs.Opaque.{is_opaque, opaque}
 use Rattle.reg_fold.specs.Own.{AreOwnEntries, own_entry_in, own_entry_of}
 use Rattle.reg_fold.specs.SoftDeletes.{delete_in, delete_of, own_delete}
 use Rattle.reg_fold.specs.Spots.{HasSpots, Spot, spot_cmp}
 use Rattle.reg_fold.specs.Step.{EntriesAreOfLasts}
-use Rattle.reg_fold.proofs.Own.{marked_in, own_marked, own_none}
+use Rattle.reg_fold.proofs.Own.{covered_in, own_covered, own_none}
 use Rattle.reg_fold.proofs.Placed.{place_cmp-ties, place_cmp-total}
 use Rattle.reg_fold.proofs.Places.{equal}
 use Rattle.reg_fold.proofs.SameOpaque.{opaque-same}
@@ -63,17 +63,17 @@ module _ (r : Record) (no_value : r.value ≡ None) where
         (λ (lost : (last S key ≡ Some r) × (last T key ≡ None)). ap (λ o. option_map_or test o false) lost.1 ∙ sym (ap (λ o. option_map_or test o false) lost.0 ∙ fails))
         (loses key)
 
-    marks-same : (subject : List ℕ) (version offset : ℕ) → is_marked T subject version offset ≡ is_marked S subject version offset
-    unfolding is_marked
-    marks-same subject version offset =
+    covers-same : (subject : List ℕ) (version offset : ℕ) → is_covered T subject version offset ≡ is_covered S subject version offset
+    unfolding is_covered
+    covers-same subject version offset =
         passed (λ x. option_map_or (λ value. covers x.offset value version offset) (value_of x) false)
         (ap (λ o. option_map_or (λ value. covers r.offset value version offset) o false) reads_none) (keys.DeleteSubject subject)
 
-    marked-same : (e : Entry) → marked_in T e ≡ marked_in S e
-    marked-same e = ap (λ b. with_soft (e.soft || b) e) (marks-same e.subject e.version e.offset)
+    covered-same : (e : Entry) → covered_in T e ≡ covered_in S e
+    covered-same e = ap (λ b. with_soft (e.soft || b) e) (covers-same e.subject e.version e.offset)
 
     entry_of-same : (x : Record) → entry_of T x ≡ entry_of S x
-    entry_of-same x = own_marked T x ∙ ap (λ (f : Entry → Entry). option_map f (own_entry_of x)) (λ i e. marked-same e i) ∙ sym (own_marked S x)
+    entry_of-same x = own_covered T x ∙ ap (λ (f : Entry → Entry). option_map f (own_entry_of x)) (λ i e. covered-same e i) ∙ sym (own_covered S x)
 
     pub own-left : (m : finmap.FinMap place_cmp Entry) → AreOwnEntries S m → AreOwnEntries T m
     own-left m own p = own p ∙ sym (said own_entry_of own_gives_none (keys.Schema p.0 p.1))

@@ -19,7 +19,7 @@ use Rattle.reg_set.specs.Records.{Records, in_order, records_of}
 use Rattle.reg_fold.specs.Entries.{entries, entry_map, entry_of}
 use Rattle.reg_entries.specs.Covered.{shown, shown_all}
 use Rattle.reg_entries.specs.EntryOrder.{Place, place_cmp}
-use Rattle.reg_entries.specs.Marked.{with_soft}
+use Rattle.reg_entries.specs.Flagged.{with_soft}
 use Rattle.reg_fold.specs.IdMark.{id_mark, id_marked_of}
 use Rattle.reg_fold.specs.InForce.{Scope, level_of, mode_name_of, own_level, own_mode_name}
 use Rattle.reg_fold.specs.Kept.{IsKept}
@@ -31,25 +31,25 @@ use Rattle.reg_fold.specs.Spots.{Spot, HasSpots, is_spot, spot_cmp}
 use Rattle.reg_fold.specs.Step.{EntriesAreOfLasts}
 use Rattle.reg_entries.specs.declared.entry.Entry.{Entry}
 use Rattle.reg_fold.specs.declared.index.Index.{Index}
-use Rattle.reg_fold.proofs.Own.{marked_in, own_marked}
+use Rattle.reg_fold.proofs.Own.{covered_in, own_covered}
 use Rattle.reg_fold.proofs.Shown.{values_by}
-use Rattle.reg_fold.proofs.SoftDeletes.{marked_by_own}
+use Rattle.reg_fold.proofs.SoftDeletes.{covered_by_own}
 use Rattle.reg_fold.proofs.Spotted.{spots-same}
 
 module _ (index : Index) (kept : IsKept index) where
   -- an entry is shown as its subject's last soft delete marks it
-  marked_shown : (e : Entry) → marked_in index.last e ≡ shown index.deletes.of_subjects e
-  marked_shown e = ap (λ b. with_soft (e.soft || b) e) (sym (marked_by_own index.last index.deletes kept.all_deletes e.subject e.version e.offset))
+  covered_shown : (e : Entry) → covered_in index.last e ≡ shown index.deletes.of_subjects e
+  covered_shown e = ap (λ b. with_soft (e.soft || b) e) (sym (covered_by_own index.last index.deletes kept.all_deletes e.subject e.version e.offset))
 
   at-kept : (p : Place) → finmap.get (entry_map index.last) p ≡ option_map (shown index.deletes.of_subjects) (finmap.get index.entries p)
   at-kept p =
       kept.of_lasts p ∙ each (last index.last (keys.Schema p.0 p.1))
-      ∙ ap (λ (f : Entry → Entry). option_map f (option_and_then own_entry_of (last index.last (keys.Schema p.0 p.1)))) (λ i e. marked_shown e i)
+      ∙ ap (λ (f : Entry → Entry). option_map f (option_and_then own_entry_of (last index.last (keys.Schema p.0 p.1)))) (λ i e. covered_shown e i)
       ∙ ap (option_map (shown index.deletes.of_subjects)) (sym (kept.all_entries p))
     where
-      each : (o : Option Record) → option_and_then (entry_of index.last) o ≡ option_map (marked_in index.last) (option_and_then own_entry_of o)
+      each : (o : Option Record) → option_and_then (entry_of index.last) o ≡ option_map (covered_in index.last) (option_and_then own_entry_of o)
       each None = refl
-      each (Some r) = own_marked index.last r
+      each (Some r) = own_covered index.last r
 
   -- the entries that are kept, as they are shown, are those of the last records
   pub values-kept : shown_all index.deletes.of_subjects (finmap.values index.entries) ≡ entries index.last

@@ -12,10 +12,10 @@ use Rattle.reg_records.specs.declared.value.Value.TheVariants as values
 use Rattle.reg_set.specs.LastRecords.{last}
 use Rattle.reg_set.specs.Records.{Records}
 use Rattle.reg_entries.specs.EntryOrder.{Place, place_cmp, place_of}
-use Rattle.reg_entries.specs.Marked.{with_soft}
+use Rattle.reg_entries.specs.Flagged.{with_soft}
 use Rattle.reg_entries.specs.declared.entry.Entry.{Entry}
 use Rattle.reg_fold.specs.Entries.{entry_in, entry_of}
-use Rattle.reg_fold.specs.Marks.{is_marked}
+use Rattle.reg_fold.specs.Covers.{is_covered}
 use Rattle.reg_fold.specs.Opaque.{is_version}
 use Rattle.reg_fold.specs.Own.{AreOwnEntries, own_entry_in, own_entry_of}
 use Rattle.reg_fold.specs.Step.{IsStep}
@@ -24,15 +24,15 @@ use Rattle.reg_fold.proofs.Places.{entry_of-key, equal, subject_of, version_of}
 use Rattle.reg_fold.proofs.Steps.{no_version}
 
 -- an entry with the mark that its subject's last soft delete gives it
-abbrev pub marked_in : Records → Entry → Entry
-marked_in rs e = with_soft (e.soft || is_marked rs e.subject e.version e.offset) e
+abbrev pub covered_in : Records → Entry → Entry
+covered_in rs e = with_soft (e.soft || is_covered rs e.subject e.version e.offset) e
 
 -- an entry is what its record gives by itself, marked
-pub own_marked : (rs : Records) (r : Record) → entry_of rs r ≡ option_map (marked_in rs) (own_entry_of r)
+pub own_covered : (rs : Records) (r : Record) → entry_of rs r ≡ option_map (covered_in rs) (own_entry_of r)
 unfolding entry_of own_entry_of
-own_marked rs r = each (value_of r)
+own_covered rs r = each (value_of r)
   where
-    each : (o : Option Value) → option_and_then (entry_in rs r.offset) o ≡ option_map (marked_in rs) (option_and_then (own_entry_in r.offset) o)
+    each : (o : Option Value) → option_and_then (entry_in rs r.offset) o ≡ option_map (covered_in rs) (option_and_then (own_entry_in r.offset) o)
     each None = refl
     each (Some (values.Schema subject version id schema deleted)) = refl
     each (Some (values.Config level)) = refl
@@ -41,11 +41,11 @@ own_marked rs r = each (value_of r)
     each (Some values.Noop) = refl
     each (Some (values.IdMark id)) = refl
 
-pub own_some : (rs : Records) (r : Record) (e : Entry) → own_entry_of r ≡ Some e → entry_of rs r ≡ Some (marked_in rs e)
-own_some rs r e gives = own_marked rs r ∙ ap (option_map (marked_in rs)) gives
+pub own_some : (rs : Records) (r : Record) (e : Entry) → own_entry_of r ≡ Some e → entry_of rs r ≡ Some (covered_in rs e)
+own_some rs r e gives = own_covered rs r ∙ ap (option_map (covered_in rs)) gives
 
 pub own_none : (rs : Records) (r : Record) → own_entry_of r ≡ None → entry_of rs r ≡ None
-own_none rs r gives = own_marked rs r ∙ ap (option_map (marked_in rs)) gives
+own_none rs r gives = own_covered rs r ∙ ap (option_map (covered_in rs)) gives
 
 -- what one more record does to the entries
 module _ (S T : Records) (r : Record) (step : IsStep S T r) (m : finmap.FinMap place_cmp Entry) (own : AreOwnEntries S m) where
@@ -68,7 +68,7 @@ module _ (S T : Records) (r : Record) (step : IsStep S T r) (m : finmap.FinMap p
 
     pub own-put : (e : Entry) → own_entry_of r ≡ Some e → AreOwnEntries T (finmap.insert m (place_of e) e)
     own-put e gives q =
-        let same : keys.Schema p.0 p.1 ≡ keys.Schema e.subject e.version = sym of_key ∙ entry_of-key S r (marked_in S e) (own_some S r e gives) in
+        let same : keys.Schema p.0 p.1 ≡ keys.Schema e.subject e.version = sym of_key ∙ entry_of-key S r (covered_in S e) (own_some S r e gives) in
         let place : p ≡ place_of e = λ i. (subject_of (same i), version_of (same i)) in
         finmap.get-insert place_cmp-total m (place_of e) e q ∙ ap (λ x. cond (eq_by_cmp place_cmp q x) (Some e) (finmap.get m q)) (sym place) ∙ at (Some e) gives q
 

@@ -67,14 +67,6 @@ is_config (keys.DeleteSubject subject) = false
 is_config keys.Noop = false
 is_config keys.IdMark = false
 
-abbrev pub is_delete : Key → Bool
-is_delete (keys.Schema subject version) = false
-is_delete (keys.Config scope) = false
-is_delete (keys.Mode scope) = false
-is_delete (keys.DeleteSubject subject) = true
-is_delete keys.Noop = false
-is_delete keys.IdMark = false
-
 abbrev pub is_mode : Key → Bool
 is_mode (keys.Schema subject version) = false
 is_mode (keys.Config scope) = false

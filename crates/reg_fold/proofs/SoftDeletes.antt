@@ -10,14 +10,14 @@ use Rattle.reg_records.specs.declared.value.Value.{Value}
 use Rattle.reg_records.specs.declared.value.Value.TheVariants as values
 use Rattle.reg_set.specs.LastRecords.{last}
 use Rattle.reg_set.specs.Records.{Records}
-use Rattle.reg_fold.specs.Marks.{covers, is_marked}
+use Rattle.reg_fold.specs.Covers.{covers, is_covered}
 use Rattle.reg_fold.specs.Scopes.{AreOwn, HasOwn, kept_own}
 use Rattle.reg_fold.specs.SoftDeletes.{delete_in, delete_of, own_delete}
 use Rattle.reg_fold.specs.Step.{IsStep}
 use Rattle.reg_entries.specs.Covered.{is_covered}
 use Rattle.reg_entries.specs.declared.soft_delete.SoftDelete.{SoftDelete}
 use Rattle.reg_fold.specs.declared.scoped.Scoped.{Scoped}
-use Rattle.reg_fold.proofs.Owned.{is_delete}
+use Rattle.reg_records.specs.Key.{is_delete}
 
 -- the soft delete that a record is covers what its value covers
 pub covered_by : (r : Record) (version offset : ℕ) → is_covered (delete_of r) version offset ≡ option_map_or (λ value. covers r.offset value version offset) (value_of r) false
@@ -34,9 +34,9 @@ covered_by r version offset = each (value_of r)
     each (Some (values.IdMark id)) = refl
 
 -- what is marked is what the soft delete that is kept covers
-pub marked_by_own : (rs : Records) (deletes : Scoped SoftDelete) → AreOwn (own_delete rs) deletes → (subject : List ℕ) (version offset : ℕ) → is_covered (kept_own deletes (Some subject)) version offset ≡ is_marked rs subject version offset
-unfolding is_marked own_delete
-marked_by_own rs deletes own subject version offset =
+pub covered_by_own : (rs : Records) (deletes : Scoped SoftDelete) → AreOwn (own_delete rs) deletes → (subject : List ℕ) (version offset : ℕ) → is_covered (kept_own deletes (Some subject)) version offset ≡ is_covered rs subject version offset
+unfolding is_covered own_delete
+covered_by_own rs deletes own subject version offset =
     ap (λ d. is_covered d version offset) (own (Some subject)) ∙ each (last rs (keys.DeleteSubject subject))
   where
     each : (o : Option Record) → is_covered (option_and_then delete_of o) version offset ≡ option_map_or (λ r. option_map_or (λ value. covers r.offset value version offset) (value_of r) false) o false

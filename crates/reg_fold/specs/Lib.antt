@@ -5,7 +5,7 @@ pub mod GiveAlike
 pub mod IdMark
 pub mod InForce
 pub mod Kept
-pub mod Marks
+pub mod Covers
 pub mod Opaque
 pub mod Own
 pub mod Scopes

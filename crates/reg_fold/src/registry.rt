@@ -15,7 +15,7 @@ ghost use Rattle.reg_fold.specs.InForce.{level, own_level, own_mode_name};
 ghost use Rattle.reg_fold.specs.Opaque.{opaque};
 ghost use Rattle.reg_fold.specs.Tombstones.{is_tombstone};
 ghost use Rattle.reg_fold.specs.Standing.{live, named, greatest_id, greatest_version, version_in};
-ghost use Rattle.reg_entries.specs.Sought.{HasRisingVersions, counting, has_live, subjects, with_id};
+ghost use Rattle.reg_entries.specs.Sought.{AreInVersionOrder, counting, has_live, subjects, with_id};
 
 use crate::index::Index;
 use crate::laws::giving_alike_is_an_equivalence;
@@ -335,7 +335,7 @@ impl Registry {
     /// once. The only error is out of memory.
     pub fn live(&self, subject: &str) -> Result<Vec<&Entry>, AllocError>
         ensures all { IfOk result (λ found. map (λ e. e.now) found.items ≡ live self.now subject.now) }
-        ensures in_order { IfOk result (λ found. HasRisingVersions (map (λ e. e.now) found.items)) }
+        ensures in_order { IfOk result (λ found. AreInVersionOrder (map (λ e. e.now) found.items)) }
         ensures lasts { last_records self.now ≡ self.now }
     {
         self.index.last.is_compact();
@@ -348,14 +348,14 @@ impl Registry {
     /// `deleted` is true the soft ones too. The only error is out of memory.
     pub fn counting(&self, subject: &str, deleted: bool) -> Result<Vec<&Entry>, AllocError>
         ensures all { IfOk result (λ found. map (λ e. e.now) found.items ≡ counting (entries self.now) subject.now deleted) }
-        ensures in_order { IfOk result (λ found. HasRisingVersions (map (λ e. e.now) found.items)) }
+        ensures in_order { IfOk result (λ found. AreInVersionOrder (map (λ e. e.now) found.items)) }
     {
         self.index
             .entries
             .counting(&self.index.deletes.of_subjects, subject, deleted)
     }
 
-    /// Of the entries of a subject that count the one that is meant. The only error is want of
+    /// Of the entries of a subject that count the one that is meant. The only error is out of
     /// memory.
     pub fn version(
         &self,

@@ -55,7 +55,7 @@ impl<T> Scoped<T> {
 }
 
 impl<T: Drop> Scoped<T> {
-    /// Gives the scope its own in place of what it has, or takes that away. The only error is want of
+    /// Gives the scope its own in place of what it has, or takes that away. The only error is out of
     /// memory; all is then as it was.
     pub(crate) fn set(
         &mut self,

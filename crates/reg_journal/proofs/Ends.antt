@@ -12,7 +12,7 @@ use Rattle.reg_records.specs.declared.limits.TheConstants.{LOG_LINES}
 use Rattle.reg_records.specs.declared.record.Read.{Read}
 use Rattle.reg_records.specs.declared.record.Read.TheVariants as reads
 use Rattle.reg_journal.specs.Disk.{Keeps, Only, Holds}
-use Rattle.reg_journal.specs.Journal.{IsSettled}
+use Rattle.reg_journal.specs.Journal.{IsSteady}
 use Rattle.reg_journal.specs.Found.{HasNoEmptyLine, IsFound}
 use Rattle.reg_journal.specs.Lines.{Said, said, text_of, SayLog}
 use Rattle.reg_journal.specs.declared.opening.Found.{Found}
@@ -107,7 +107,7 @@ module _ (file : List ℕ) (found : Found) (is : IsFound file found) where
   cut_says new cut = ap said (cut ∙ front) ∙ said_by_lines is.lines is.floor is.read [] is.say is.few ∙ sym said_found
 
   pub cut_settles : {D : Type 0} (seen : D → List ℕ) (may_leave : D → List ℕ → Type 0) (disk : D)
-      → seen disk ≡ take (found.end + 1) file → Only (seen disk) (may_leave disk) → IsSettled seen may_leave disk found.end found.lines
+      → seen disk ≡ take (found.end + 1) file → Only (seen disk) (may_leave disk) → IsSteady seen may_leave disk found.end found.lines
   cut_settles seen may_leave disk cut only = record {
     lines = is.lines;
     floor = is.floor;

@@ -4,7 +4,7 @@ ghost use Rattle.reg_records.specs.Log.{IsLogOf};
 ghost use Rattle.reg_journal.specs.Disk.{Only, Keeps, LeavesOnly};
 ghost use Rattle.reg_journal.specs.Found.{IsFound, IsLookRefusal, IsUnchanged, LeavesFile};
 ghost use Rattle.reg_journal.specs.Lines.{Said, said};
-ghost use Rattle.reg_journal.specs.Journal.{IsSettled, IsReady};
+ghost use Rattle.reg_journal.specs.Journal.{IsSteady, IsReady};
 
 use crate::disk::{Disk, DiskError};
 use crate::ended::read_ended;
@@ -109,7 +109,7 @@ pub fn cut_behind<D: Disk>(disk: &mut D, found: &Found) -> Result<(), OpenError>
     requires found { D.is_modelled → IsFound (D.seen disk.old) found.now }
     requires durable { D.is_modelled → Only (D.seen disk.old) (D.may_leave disk.old) }
     ensures same { D.is_modelled → OnOk result (D.known disk.new × (said (D.seen disk.new) ≡ said (D.seen disk.old))) }
-    ensures settled { D.is_modelled → OnOk result (IsSettled D.seen D.may_leave disk.new found.now.end found.now.lines) }
+    ensures steady { D.is_modelled → OnOk result (IsSteady D.seen D.may_leave disk.new found.now.end found.now.lines) }
     ensures any_moment { D.is_modelled → LeavesOnly D.moment D.left_since disk.old disk.new (λ c. said c ≡ said (D.seen disk.old)) }
 {
     disk.cut(found.end + 1)?;
@@ -121,7 +121,7 @@ pub fn recover<D: Disk>(alloc: Global, disk: &mut D) -> Result<Found, OpenError>
     requires { D.is_modelled → D.known disk.old }
     ensures log { D.is_modelled → IfOk result (λ found. (says : Said) × (said (D.seen disk.old) ≡ Ok says) × IsLogOf says.floor says.reads found.log) }
     ensures same { D.is_modelled → OnOk result (D.known disk.new × (said (D.seen disk.new) ≡ said (D.seen disk.old))) }
-    ensures settled { D.is_modelled → IfOk result (λ found. IsSettled D.seen D.may_leave disk.new found.end found.lines) }
+    ensures steady { D.is_modelled → IfOk result (λ found. IsSteady D.seen D.may_leave disk.new found.end found.lines) }
 
     // A crash leaves what it might have left before the call, or a file that says the same.
     ensures any_moment { D.is_modelled → LeavesOnly D.moment D.left_since disk.old disk.new

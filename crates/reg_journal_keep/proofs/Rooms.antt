@@ -6,7 +6,7 @@ use Rattle.std.specs.List.{All}
 use Rattle.std.specs.Prelude.{IfOk}
 use Rattle.std.specs.Result.{result_map_both}
 use Rattle.reg_journal.specs.Disk.{LeavesOnly}
-use Rattle.reg_journal.specs.Journal.{IsSettled}
+use Rattle.reg_journal.specs.Journal.{IsSteady}
 use Rattle.reg_journal.specs.Lines.{EndedLinesAreRead, IsBeforeOrAfter, Said, said, with_batch}
 use Rattle.reg_journal.specs.Refusals.{is_refusal}
 use Rattle.reg_journal.specs.declared.journal.AppendError.{AppendError}
@@ -23,7 +23,7 @@ use Rattle.reg_journal_keep.specs.Keeping.{Ends, MakesRoom, SaysCompactionOrMore
 abbrev of_log : Result LogText (ℕ × LogFault) → Result Said (ℕ × LogFault)
 of_log found = result_map_both (λ (log : LogText). record { floor = log.floor; reads = log.reads }) (λ fault. fault) found
 
-module _ {D : Type 0} (seen : D → List ℕ) (may_leave : D → List ℕ → Type 0) (ended : EndedLinesAreRead) (itself : EachSaysItsOwnCompaction) (disk : D) (end count : ℕ) (s : IsSettled seen may_leave disk end count) where
+module _ {D : Type 0} (seen : D → List ℕ) (may_leave : D → List ℕ → Type 0) (ended : EndedLinesAreRead) (itself : EachSaysItsOwnCompaction) (disk : D) (end count : ℕ) (s : IsSteady seen may_leave disk end count) where
   -- a settled file says a compaction of itself
   pub says_itself : SaysCompaction (said (seen disk)) (said (seen disk))
   says_itself =
@@ -44,7 +44,7 @@ module _ {D : Type 0} (seen : D → List ℕ) (may_leave : D → List ℕ → Ty
 -- what compacting in place leaves of a journal
 module _ {D : Type 0} (known : D → Type 0) (seen : D → List ℕ) (may_leave : D → List ℕ → Type 0) (moment : D → ℕ) (left_since : D → ℕ → List ℕ → Type 0)
     (ended : EndedLinesAreRead) (itself : EachSaysItsOwnCompaction) (compacted : CompactedFilesSayIt) (floor : Option ℕ) (old new : Journal D)
-    (ready : known old.disk × IsSettled seen may_leave old.disk old.end old.lines) where
+    (ready : known old.disk × IsSteady seen may_leave old.disk old.end old.lines) where
   left_of : (file : List ℕ) → IsBeforeOrCompacted floor (seen old.disk) file → SaysCompaction (said (seen old.disk)) (said file)
   left_of file left = says_left seen may_leave ended itself old.disk old.end old.lines ready.1 compacted floor file left
 
@@ -100,7 +100,7 @@ from_floor floor batch (Err fault) all low = tt
 
 -- nothing was done
 module _ {D : Type 0} (known : D → Type 0) (seen : D → List ℕ) (may_leave : D → List ℕ → Type 0) (moment : D → ℕ) (left_since : D → ℕ → List ℕ → Type 0)
-    (ended : EndedLinesAreRead) (itself : EachSaysItsOwnCompaction) (j : Journal D) (ready : known j.disk × IsSettled seen may_leave j.disk j.end j.lines) where
+    (ended : EndedLinesAreRead) (itself : EachSaysItsOwnCompaction) (j : Journal D) (ready : known j.disk × IsSteady seen may_leave j.disk j.end j.lines) where
   pub says_same : SaysCompaction (said (seen j.disk)) (said (seen j.disk))
   says_same = says_itself seen may_leave ended itself j.disk j.end j.lines ready.1
 

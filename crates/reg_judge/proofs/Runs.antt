@@ -17,7 +17,7 @@ use Rattle.reg_levels.specs.declared.direction.Direction.{Direction}
 use Rattle.reg_levels.specs.declared.direction.Direction.TheVariants.{Backward}
 use Rattle.reg_levels.specs.declared.verdict.LevelVerdict.{LevelVerdict}
 use Rattle.reg_judge.specs.Judge.{TextPair, AreJudged, IsCompatiblePair, text_pair, text_pairs}
-use Rattle.reg_judge.specs.Kept.{Asked, IsPairVerdict, IsRun, LeadsTo, asked, asked_from, asked_of, required_by, told_of}
+use Rattle.reg_judge.specs.Kept.{Asked, IsPairVerdict, IsRun, LeadsTo, asked, asked_from, asked_of, required_by, outcome_of}
 
 -- versions rise where something is told of each
 pub rising_map : {X Y : Type 0} (f : X → Y) (olds : List (ℕ × X)) → HasRisingVersions olds → HasRisingVersions (map {B = ℕ × Y} (λ old. (old.0, f old.1)) olds)
@@ -43,20 +43,20 @@ started all left same done empty rest v run = subst (λ judged. IsRun all (judge
 -- one pair more
 module _ (all : List Asked) (done : List TextPair) (a : Asked) (left : List Asked) (leads : LeadsTo all done (a ∷ left)) (verdict : Verdict) (is : IsPairVerdict a.texts verdict) where
   abbrev told : LevelVerdict
-  told = told_of a.version a.direction verdict
+  told = outcome_of a.version a.direction verdict
 
   pub passed_on : told.ok ≡ true → LeadsTo all (done ++ a.texts ∷ []) left
   passed_on ok rest v run =
       subst (λ judged. IsRun all judged v) (sym (append_assoc done (a.texts ∷ []) rest)) (leads (a.texts ∷ rest) v (rest, refl, inl (compatible verdict is ok, run)))
     where
-      compatible : (w : Verdict) → IsPairVerdict a.texts w → (told_of a.version a.direction w).ok ≡ true → IsCompatiblePair a.texts
+      compatible : (w : Verdict) → IsPairVerdict a.texts w → (outcome_of a.version a.direction w).ok ≡ true → IsCompatiblePair a.texts
       compatible Compatible is ok = is
       compatible (Clash trail) is ok = cc
 
   pub stopped : told.ok ≡ false → IsRun all (done ++ a.texts ∷ []) told
   stopped ok = leads (a.texts ∷ []) told (clashes verdict is ok)
     where
-      clashes : (w : Verdict) → IsPairVerdict a.texts w → (told_of a.version a.direction w).ok ≡ false → IsRun (a ∷ left) (a.texts ∷ []) (told_of a.version a.direction w)
+      clashes : (w : Verdict) → IsPairVerdict a.texts w → (outcome_of a.version a.direction w).ok ≡ false → IsRun (a ∷ left) (a.texts ∷ []) (outcome_of a.version a.direction w)
       clashes Compatible is ok = cc
       clashes (Clash trail) is ok = ([], refl, inr (trail, is, refl, refl))
 
@@ -71,7 +71,7 @@ module _ (all : List Asked) (done : List TextPair) (new : List ℕ) (old : Versi
   leads_here : LeadsTo all done (this ∷ left)
   leads_here = subst (λ some. LeadsTo all done (map (asked new old) some ++ after)) (drop_more ds i Backward within) leads
 
-  module _ (texts : TextPair) (verdict : Verdict) (v : LevelVerdict) (pair : texts ≡ text_pair new old (get_or ds i Backward)) (is : IsPairVerdict texts verdict) (tells : v ≡ told_of old.0 (get_or ds i Backward) verdict) where
+  module _ (texts : TextPair) (verdict : Verdict) (v : LevelVerdict) (pair : texts ≡ text_pair new old (get_or ds i Backward)) (is : IsPairVerdict texts verdict) (tells : v ≡ outcome_of old.0 (get_or ds i Backward) verdict) where
     is_here : IsPairVerdict this.texts verdict
     is_here = subst (λ p. IsPairVerdict p verdict) pair is
 

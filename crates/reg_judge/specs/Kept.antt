@@ -80,9 +80,9 @@ abbrev pub LeadsTo : List Asked → List TextPair → List Asked → Type 0
 LeadsTo all done left = (rest : List TextPair) (v : LevelVerdict) → IsRun left rest v → IsRun all (done ++ rest) v
 
 -- what the verdict on one pair says of its version and direction
-abbrev pub told_of : ℕ → Direction → Verdict → LevelVerdict
-told_of version direction Compatible = passed
-told_of version direction (Clash trail) = record { ok = false; version = Some version; direction = Some direction; trail = Some trail }
+abbrev pub outcome_of : ℕ → Direction → Verdict → LevelVerdict
+outcome_of version direction Compatible = passed
+outcome_of version direction (Clash trail) = record { ok = false; version = Some version; direction = Some direction; trail = Some trail }
 
 -- an old text was no schema's, or memory was refused
 abbrev pub IsUnread : List VersionText → JudgedError → Type 0

@@ -2,7 +2,7 @@
 ghost use Rattle.std.specs.Prelude.{◌≡◌, IfOk};
 ghost use Rattle.reg_levels.specs.RequiredPairs as required;
 ghost use Rattle.reg_judge.specs.Judge.{text_pair};
-ghost use Rattle.reg_judge.specs.Kept.{AreVerdicts, IsRun, IsVerdictOf, asked_from, pairs_of, texts_of, told_of};
+ghost use Rattle.reg_judge.specs.Kept.{AreVerdicts, IsRun, IsVerdictOf, asked_from, pairs_of, texts_of, outcome_of};
 
 use crate::source::Source;
 use crate::verdicts::{Pair, Verdicts, verdict_on};
@@ -102,7 +102,7 @@ fn judge_pair(
 
 /// What the verdict on one pair says of its version and direction.
 fn told(version: u32, direction: Direction, verdict: &Verdict) -> Result<LevelVerdict, AllocError>
-    ensures { IfOk result (λ told. told ≡ told_of version direction verdict.now) }
+    ensures { IfOk result (λ told. told ≡ outcome_of version direction verdict.now) }
 {
     match verdict {
         Verdict::Compatible => Ok(LevelVerdict::passed()),

@@ -3,7 +3,7 @@ use Rattle.std.proofs.Common.{◌≡◌, inl, inr, ⊎_elim, Option, Some, None,
 use Rattle.std.proofs.Common.{Err, length, take, sym, ap, subst, ◌∙◌, arith, length-append, count_by, true≢false}
 use Rattle.std.proofs.lemmas.List.{take_at}
 use Rattle.reg_journal.specs.Disk.{Only}
-use Rattle.reg_journal.specs.Journal.{IsSettled}
+use Rattle.reg_journal.specs.Journal.{IsSteady}
 use Rattle.reg_journal.specs.Lines.{EndedLinesAreRead, LinesAreRead, text_of}
 use Rattle.reg_journal.specs.Renewal.{LeavesDisk}
 use Rattle.reg_journal.specs.declared.disk.DiskError.TheVariants as disks
@@ -38,7 +38,7 @@ never_changed (renewals.Kept disks.OutOfMemory) is = cc
 never_changed (renewals.Kept disks.Failed) is = cc
 never_changed renewals.Lost is = cc
 
-module _ (are_read : LinesAreRead) (ended_are_read : EndedLinesAreRead) {D : Type 0} (seen : D → List ℕ) (may_leave : D → List ℕ → Type 0) (disk : D) (end count : ℕ) (s : IsSettled seen may_leave disk end count) where
+module _ (are_read : LinesAreRead) (ended_are_read : EndedLinesAreRead) {D : Type 0} (seen : D → List ℕ) (may_leave : D → List ℕ → Type 0) (disk : D) (end count : ℕ) (s : IsSteady seen may_leave disk end count) where
   before : take end (seen disk) ≡ text_of s.lines
   before = ap (λ (f : List ℕ). take end f) s.file ∙ take_at (text_of s.lines) (10 ∷ []) end (sym s.ends)
 
@@ -58,8 +58,8 @@ module _ (are_read : LinesAreRead) (ended_are_read : EndedLinesAreRead) {D : Typ
       sound fault.0 fault.1 fault.2
 
   -- a call that changes nothing
-  pub same_settles : (new : D) → seen new ≡ seen disk → ((c : List ℕ) → may_leave new c → may_leave disk c) → IsSettled seen may_leave new end count
-  same_settles new is crash = record {
+  pub same_steady : (new : D) → seen new ≡ seen disk → ((c : List ℕ) → may_leave new c → may_leave disk c) → IsSteady seen may_leave new end count
+  same_steady new is crash = record {
     lines = s.lines;
     floor = s.floor;
     read = s.read;
@@ -143,8 +143,8 @@ module _ (are_read : LinesAreRead) (ended_are_read : EndedLinesAreRead) {D : Typ
     pub has_kept : HasKept floor (seen disk) shrunk.kept
     has_kept = (it.text, by it.text lines floor it.compacted, sym it.kept)
 
-    pub settles : (new : D) (end' : ℕ) → seen new ≡ shrunk.bytes.items → Only (seen new) (may_leave new) → end' ≡ length shrunk.bytes.items - 1 → IsSettled seen may_leave new end' shrunk.kept
-    settles new end' is only ends = record {
+    pub steadies : (new : D) (end' : ℕ) → seen new ≡ shrunk.bytes.items → Only (seen new) (may_leave new) → end' ≡ length shrunk.bytes.items - 1 → IsSteady seen may_leave new end' shrunk.kept
+    steadies new end' is only ends = record {
       lines = lines.lines;
       floor = lines.floor;
       read = lines.read;

@@ -2,7 +2,7 @@
 ghost use Rattle.std.specs.Prelude.{◌≡◌, ◌⊎◌, ◌<◌, List, Ok, length, IfOk, OnOk};
 ghost use Rattle.reg_records.specs.Log.{IsLogOf};
 ghost use Rattle.reg_journal.specs.Disk.{LeavesOnly, Only};
-ghost use Rattle.reg_journal.specs.Journal.{IsSettled};
+ghost use Rattle.reg_journal.specs.Journal.{IsSteady};
 ghost use Rattle.reg_journal.specs.Lines.{Said, said};
 
 use reg_journal::{Disk, Found, OpenError, cut_behind, look};
@@ -17,7 +17,7 @@ pub fn open_aside<D: Disk, A: Disk>(
     requires { D.is_modelled → D.known disk.old }
     ensures log { D.is_modelled → IfOk result (λ found. (says : Said) × (said (D.seen disk.old) ≡ Ok says) × IsLogOf says.floor says.reads found.log) }
     ensures same { D.is_modelled → OnOk result (D.known disk.new × (said (D.seen disk.new) ≡ said (D.seen disk.old))) }
-    ensures settled { D.is_modelled → IfOk result (λ found. IsSettled D.seen D.may_leave disk.new found.end found.lines) }
+    ensures steady { D.is_modelled → IfOk result (λ found. IsSteady D.seen D.may_leave disk.new found.end found.lines) }
 
     // A crash leaves what it might have left before the call, or a file that says the same.
     ensures any_moment { D.is_modelled → LeavesOnly D.moment D.left_since disk.old disk.new

@@ -1,12 +1,8 @@
 // What the arguments ask for.
-ghost use Rattle.std.specs.Prelude.{◌≡◌, ◌≤◌, IfSome, map, string_bytes};
-ghost use Rattle.std.specs.Char.{is_ascii_digit};
-ghost use Rattle.std.specs.List.{list_all};
-ghost use Rattle.reg_records.specs.Line.{is_decimal, offset_of};
-ghost use Rattle.reg_records.specs.declared.limits.TheConstants.{OFFSET_LIMIT};
+ghost use Rattle.std.specs.Prelude.{◌≡◌, map, string_bytes};
 ghost use Rattle.reg_keeping.specs.Words.{HasFloorInLimits, command_at, command_from, command_named, command_of, command_over, command_to};
 
-use reg_records::OFFSET_LIMIT;
+use reg_records::offset_of;
 
 /// What the arguments ask for.
 #[derive(Clone, Copy, Debug, PartialEq, Eq)]
@@ -84,7 +80,7 @@ fn command_to(word: &str, given: &str) -> Command
     if word != "compact" {
         return Command::Usage;
     }
-    match floor_of(given) {
+    match offset_of(given) {
         Some(floor) => Command::CompactTo(floor),
         None => Command::Usage,
     }
@@ -97,7 +93,7 @@ fn command_from(word: &str, offset: &str) -> Command
     if word != "tail" {
         return Command::Usage;
     }
-    match floor_of(offset) {
+    match offset_of(offset) {
         Some(offset) => Command::TailFrom(offset),
         None => Command::Usage,
     }
@@ -123,35 +119,4 @@ fn command_over(word: &str) -> Command
     } else {
         Command::Usage
     }
-}
-
-/// The offset that a word spells, within the limit.
-fn floor_of(word: &str) -> Option<u64>
-    ensures value { result ≡ offset_of word.now }
-    ensures within { IfSome result (λ offset. offset ≤ OFFSET_LIMIT) }
-{
-    if !is_decimal(word) {
-        return None;
-    }
-    match word.parse::<u64>() {
-        Ok(offset) if offset <= OFFSET_LIMIT => Some(offset),
-        _ => None,
-    }
-}
-
-/// Whether a word is decimal digits without a leading zero, but for `0` itself.
-fn is_decimal(word: &str) -> bool
-    ensures { result ≡ is_decimal word.now }
-{
-    let digits = word.as_bytes();
-    if digits.is_empty() || (digits.len() > 1 && digits[0] == b'0') {
-        return false;
-    }
-    has_only_digits(digits)
-}
-
-fn has_only_digits(bytes: &[u8]) -> bool
-    ensures { result ≡ list_all is_ascii_digit bytes.now }
-{
-    bytes.iter().all(|b| b.is_ascii_digit())
 }

@@ -9,7 +9,7 @@ use reg_records::Record;
 use reg_set::{RecordSet, records_are_ordered};
 use std::alloc::AllocError;
 
-/// The last records without those that delete their key below the floor. The only error is want of
+/// The last records without those that delete their key below the floor. The only error is out of
 /// memory.
 pub(crate) fn compacted_to(set: &RecordSet, floor: u64) -> Result<RecordSet, AllocError>
     ensures { IfOk result (λ found. found ≡ compacted_to floor set.now) }

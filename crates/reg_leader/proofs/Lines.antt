@@ -7,7 +7,7 @@ use Rattle.std.proofs.lemmas.List.Elements.{All-weaker, All-contains_itself}
 use Rattle.std.specs.List.{filter}
 use Rattle.std.specs.Ordering.{nat_cmp, on, ord_max}
 use Rattle.avro_schema.specs.Schema.{Meaning, schema_of, is_schema}
-use Rattle.reg_entries.specs.Sought.{counting, counts, of_subject}
+use Rattle.reg_entries.specs.Sought.{counting, counts, of_subject, has_schema, newest}
 use Rattle.reg_entries.specs.declared.entry.Entry.{Entry}
 use Rattle.reg_fold.specs.Entries.{EntriesAreInLimits, EntriesAreRead, entries}
 use Rattle.reg_fold.specs.IdMark.{IdMarkIsInLimits}
@@ -27,7 +27,7 @@ use Rattle.reg_records.specs.declared.limits.TheConstants.{OFFSET_LIMIT}
 use Rattle.reg_records.specs.declared.value.Value.{Value}
 use Rattle.reg_refusals.specs.declared.reason.Reason.TheVariants as reasons
 use Rattle.reg_refusals.specs.declared.refusal.Refusal.TheVariants as refusals
-use Rattle.reg_rules.specs.Standing.{has_schema, id_for, is_of, newest, next_version, standing, version_meant}
+use Rattle.reg_rules.specs.Standing.{id_for, is_of, next_version, standing, version_meant}
 use Rattle.reg_rules.specs.Tests as test
 use Rattle.reg_rules.specs.Tests.{refuse_if, refuse_unless}
 use Rattle.reg_rules.specs.Writings.{numbered, removed, written_at}

@@ -12,7 +12,8 @@ use Rattle.reg_modes.specs.Permitted.{registering, writing}
 use Rattle.reg_refusals.specs.declared.reason.Reason.TheVariants as reasons
 use Rattle.reg_refusals.specs.declared.refusal.Refusal.{Refusal}
 use Rattle.reg_refusals.specs.declared.refusal.Refusal.TheVariants as refusals
-use Rattle.reg_rules.specs.Standing.{has_schema, id_for, is_of, newest, next_version, version_meant}
+use Rattle.reg_rules.specs.Standing.{id_for, is_of, next_version, version_meant}
+use Rattle.reg_entries.specs.Sought.{has_schema, newest}
 use Rattle.reg_rules.specs.Tests as test
 use Rattle.reg_rules.specs.Tests.{refuse_if, refuse_unless}
 use Rattle.reg_rules.specs.declared.writing.Writing.{Writing}

@@ -14,14 +14,16 @@ use Rattle.reg_modes.specs.Permitted.{registering, writing}
 use Rattle.reg_records.specs.declared.record.Record.{Record}
 use Rattle.reg_refusals.specs.declared.reason.Reason.TheVariants as reasons
 use Rattle.reg_refusals.specs.declared.refusal.Refusal.TheVariants as refusals
-use Rattle.reg_rules.specs.Standing.{has_schema, id_for, is_of, newest, next_version, standing, version_meant}
+use Rattle.reg_rules.specs.Standing.{id_for, is_of, next_version, standing, version_meant}
+use Rattle.reg_entries.specs.Sought.{has_schema, newest}
 use Rattle.reg_rules.specs.Tests as test
 use Rattle.reg_rules.specs.Tests.{refuse_if, refuse_unless}
 use Rattle.reg_rules.specs.Writings.{deleted_up_to, numbered, removed}
 use Rattle.reg_rules.specs.declared.writing.Writing.{Writing}
 use Rattle.reg_set.specs.Records.{Records}
 use Rattle.reg_leader.specs.Course.{Course}
-use Rattle.reg_leader.specs.Deletes.{DeletesNameGreatest, is_delete}
+use Rattle.reg_leader.specs.Deletes.{DeletesNameGreatest}
+use Rattle.reg_records.specs.Key.{is_delete}
 use Rattle.reg_leader.specs.Step.{IsStep, course_of, delete_all, delete_entry, import_as, mark_over, writes}
 use Rattle.reg_leader.specs.declared.command.Command.{Command}
 use Rattle.reg_leader.specs.declared.command.Command.TheVariants as commands

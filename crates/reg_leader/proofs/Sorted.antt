@@ -21,7 +21,8 @@ use Rattle.reg_records.specs.declared.key.Key.TheVariants as keys
 use Rattle.reg_records.specs.declared.value.Value.TheVariants as values
 use Rattle.reg_refusals.specs.declared.reason.Reason.TheVariants as reasons
 use Rattle.reg_refusals.specs.declared.refusal.Refusal.TheVariants as refusals
-use Rattle.reg_rules.specs.Standing.{has_schema, id_for, is_of, names_another, newest, next_version, standing, version_meant}
+use Rattle.reg_rules.specs.Standing.{id_for, is_of, names_another, next_version, standing, version_meant}
+use Rattle.reg_entries.specs.Sought.{has_schema, newest}
 use Rattle.reg_rules.specs.Tests as test
 use Rattle.reg_rules.specs.Tests.{refuse_if, refuse_unless}
 use Rattle.reg_rules.specs.Writings.{removed}

@@ -1,8 +1,8 @@
 -- Soft deletes of subjects in batches. Below, rs are the last records before the batch and n is the next offset.
-use Rattle.std.specs.Prelude.{◌≡◌, ◌⊎◌, ℕ, List, [], ◌∷◌, Bool, true, false, Some, All}
+use Rattle.std.specs.Prelude.{◌≡◌, ◌⊎◌, ℕ, List, [], ◌∷◌, false, Some, All}
 use Rattle.reg_fold.specs.Standing.{greatest_version}
 use Rattle.reg_records.specs.Written.{IsVersionOrId, written_value}
-use Rattle.reg_records.specs.declared.key.Key.{Key}
+use Rattle.reg_records.specs.Key.{is_delete}
 use Rattle.reg_records.specs.declared.key.Key.TheVariants as keys
 use Rattle.reg_records.specs.declared.record.Record.{Record}
 use Rattle.reg_records.specs.declared.value.Value.TheVariants as values
@@ -10,14 +10,6 @@ use Rattle.reg_set.specs.Records.{Records}
 use Rattle.reg_leader.specs.Step.{IsStep}
 use Rattle.reg_leader.specs.declared.command.Command.{Command}
 use Rattle.reg_leader.specs.declared.reply.Reply.{Reply}
-
-abbrev pub is_delete : Key → Bool
-is_delete (keys.Schema subject version) = false
-is_delete (keys.Config scope) = false
-is_delete (keys.Mode scope) = false
-is_delete (keys.DeleteSubject subject) = true
-is_delete keys.Noop = false
-is_delete keys.IdMark = false
 
 -- one soft delete alone, which names the greatest version of the subject, soft ones too
 pub record IsSoftDelete (rs : Records) (n : ℕ) (batch : List Record) : Type 0 where

@@ -12,7 +12,7 @@ use Rattle.reg_records.specs.declared.record.Record.{Record}
 use Rattle.reg_records.specs.declared.value.Value.TheVariants as values
 use Rattle.reg_refusals.specs.declared.refusal.Refusal.{Refusal}
 use Rattle.reg_set.specs.Records.{Records}
-use Rattle.reg_rules.specs.Standing.{texts_of}
+use Rattle.reg_entries.specs.Sought.{texts_of}
 use Rattle.reg_leader.specs.Step.{IsStep}
 use Rattle.reg_leader.specs.declared.command.Command.{Command}
 use Rattle.reg_leader.specs.declared.command.Command.TheVariants as commands

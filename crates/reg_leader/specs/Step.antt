@@ -20,7 +20,8 @@ use Rattle.reg_refusals.specs.declared.refusal.Refusal.{Refusal}
 use Rattle.reg_refusals.specs.declared.refusal.Refusal.TheVariants as refusals
 use Rattle.reg_set.specs.Records.{Records}
 use Rattle.reg_leader.specs.Course.{Course, Refused, Does, IfMet, IsOutcome, ◌▸◌, where_found}
-use Rattle.reg_rules.specs.Standing.{has_schema, id_for, is_of, newest, next_version, standing, texts_of, version_meant}
+use Rattle.reg_rules.specs.Standing.{id_for, is_of, next_version, standing, version_meant}
+use Rattle.reg_entries.specs.Sought.{has_schema, newest, texts_of}
 use Rattle.reg_rules.specs.Tests as test
 use Rattle.reg_rules.specs.Tests.{refuse_if, refuse_unless}
 use Rattle.reg_rules.specs.Writings.{deleted_again, deleted_up_to, id_marked, level_cleared}

@@ -11,7 +11,8 @@ use Rattle.reg_refusals.specs.declared.refusal.Refusal.{Refusal}
 use Rattle.reg_set.specs.Records.{Records}
 use Rattle.reg_rules.specs.Report.{IsClash}
 use Rattle.reg_leader.specs.Course.{Course, Refused, Does, IfMet, incompatible, ◌▸◌, where_found}
-use Rattle.reg_rules.specs.Standing.{has_schema, id_for, newest, next_version, texts_of}
+use Rattle.reg_rules.specs.Standing.{id_for, next_version}
+use Rattle.reg_entries.specs.Sought.{has_schema, newest, texts_of}
 use Rattle.reg_leader.specs.Step.{where_read, writes}
 use Rattle.reg_rules.specs.Tests as test
 use Rattle.reg_leader.specs.declared.deed.Deed.{Deed}

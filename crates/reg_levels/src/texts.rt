@@ -11,6 +11,7 @@ use crate::checking::{check, check_version, looked_at};
 use crate::judged_error::JudgedError;
 use crate::verdict::LevelVerdict;
 use avro_schema::Schema;
+use base_text::Text;
 use reg_level_names::Level;
 use std::alloc::{AllocError, Global};
 
@@ -128,4 +129,19 @@ fn versions_of<'a>(
         versions.push((old.0, &old.1))?;
     }
     Ok(versions)
+}
+
+/// The same versions, with their texts lent.
+pub fn lend_texts<'a>(
+    alloc: Global,
+    olds: &'a [(u32, Text)],
+) -> Result<Vec<(u32, &'a str)>, AllocError>
+    ensures texts { IfOk result (λ lent. map (λ old. (old.0, old.1.now)) lent.items ≡ olds.now) }
+    ensures versions { IfOk result (λ lent. map (λ old. old.0) lent.items ≡ map (λ old. old.0) olds.now) }
+{
+    let mut lent = Vec::new(alloc);
+    for old in olds {
+        lent.push((old.0, old.1.as_str()))?;
+    }
+    Ok(lent)
 }

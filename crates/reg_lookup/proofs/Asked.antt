@@ -22,17 +22,17 @@ use Rattle.reg_set.specs.Records.{Records}
 use Rattle.reg_fold.specs.Entries.{EntriesAreRead, entries}
 use Rattle.reg_fold.specs.Standing.{FoundEntriesStand, version_in}
 use Rattle.reg_fold.specs.declared.version_ref.VersionRef.{VersionRef}
-use Rattle.reg_lookup.specs.Checked.{asked_on, read_sound_schema, unless_bad, version_text}
+use Rattle.reg_lookup.specs.Checked.{asked_on, read_sound_schema, unless_bad}
 use Rattle.reg_lookup.specs.Found.{and_then, counted, version_found}
 use Rattle.reg_refusals.specs.declared.refusal.Refusal.{Refusal}
 use Rattle.reg_refusals.specs.declared.refusal.Refusal.TheVariants.{InvalidSchema, VersionNotFound}
 
 -- texts of entries whose versions rise
-pub texts_rise : (olds : List (ℕ × Bor (List ℕ))) (es : List Entry) → map {B = VersionText} (λ old. (old.0, old.1.now)) olds ≡ map version_text es
-    → sought.HasRisingVersions es → pairs.HasRisingVersions olds
+pub texts_rise : (olds : List (ℕ × Bor (List ℕ))) (es : List Entry) → map {B = VersionText} (λ old. (old.0, old.1.now)) olds ≡ sought.texts_of es
+    → sought.AreInVersionOrder es → pairs.HasRisingVersions olds
 texts_rise olds es same rise =
     subst IsStrictlyIncreasing
-    (sym (map-map (λ e. e.0) version_text es) ∙ ap (map (λ old. old.0)) (sym same) ∙ map-map (λ old. old.0) (λ old. (old.0, old.1.now)) olds)
+    (sym (map-map (λ e. e.0) (λ (e : Entry). (e.version, e.text)) es) ∙ ap (map (λ old. old.0)) (sym same) ∙ map-map (λ old. old.0) (λ old. (old.0, old.1.now)) olds)
     rise
 
 unless_some : (fields : List (List ℕ)) (field : List ℕ) (m : Meaning) → Contains fields field → unless_bad fields m ≡ Err InvalidSchema
@@ -65,10 +65,10 @@ some_mapped : {A B : Type 0} (f : A → B) (o : Option A) (b : B) → option_map
 some_mapped f None b e = cc
 some_mapped f (Some a) b e = refl
 
-none_unread : (es : List Entry) → All HasSchema es → first_unread (map version_text es) ≡ None
+none_unread : (es : List Entry) → All HasSchema es → first_unread (sought.texts_of es) ≡ None
 none_unread [] all = refl
 none_unread (e ∷ es) all =
-    ap (λ b. option_map (λ old. old.0) (cond (not b) (Some (e.version, e.text)) (find (λ old. not (is_schema old.1)) (map version_text es)))) (All-head HasSchema e es all)
+    ap (λ b. option_map (λ old. old.0) (cond (not b) (Some (e.version, e.text)) (find (λ old. not (is_schema old.1)) (sought.texts_of es)))) (All-head HasSchema e es all)
     ∙ none_unread es (All-tail HasSchema e es all)
 
 module _ (read : EntriesAreRead) (rs : Records) where
@@ -76,13 +76,13 @@ module _ (read : EntriesAreRead) (rs : Records) where
   has_schema e there = some_mapped (λ (m : Meaning). m.normal_text) (schema_of e.text) e.normal (read rs e there)
 
   -- the text of each live entry is a schema's
-  pub live_are_read : (subject : List ℕ) → first_unread (map version_text (sought.live_of (entries rs) subject)) ≡ None
+  pub live_are_read : (subject : List ℕ) → first_unread (sought.texts_of (sought.live_of (entries rs) subject)) ≡ None
   live_are_read subject =
       let all = All-weaker (Contains (entries rs)) HasSchema has_schema (entries rs) (All-contains_itself (entries rs)) in
       none_unread (sought.live_of (entries rs) subject) (All-filter (sought.counts false) HasSchema (sought.of_subject (entries rs) subject) (All-filter (λ e. bytes_eq e.subject subject) HasSchema (entries rs) all))
 
   -- so is that of one that is found
-  pub found_is_read : FoundEntriesStand → (subject : List ℕ) (which : VersionRef) (e : Entry) → version_found (entries rs) subject which false ≡ Ok e → first_unread (map version_text (e ∷ [])) ≡ None
+  pub found_is_read : FoundEntriesStand → (subject : List ℕ) (which : VersionRef) (e : Entry) → version_found (entries rs) subject which false ≡ Ok e → first_unread (sought.texts_of (e ∷ [])) ≡ None
   found_is_read stand subject which e found =
       none_unread (e ∷ []) (All-cons HasSchema e [] (has_schema e (stand (entries rs) subject which false e (entry_found (counted (entries rs) subject false) (version_in (entries rs) subject which false) found))) (All-nil HasSchema))
     where

@@ -1,11 +1,10 @@
 -- The query by a schema, step by step.
 use Rattle.std.proofs.Common.{◌≡◌, ℕ, Bool, false, List, [], ◌∷◌, length, Option, Some, None, Ok, Err, sym, ap, ◌∙◌}
-use Rattle.std.specs.List.{filter, reduce}
+use Rattle.std.specs.List.{filter}
 use Rattle.std.specs.Option.{ok_or}
-use Rattle.std.specs.Ordering.{nat_cmp, on, ord_max}
-use Rattle.std.specs.Prelude.{bytes_eq, ◌==◌}
+use Rattle.std.specs.Prelude.{◌==◌}
 use Rattle.avro_schema.specs.Schema.{Meaning, schema_of}
-use Rattle.reg_entries.specs.Sought.{counting}
+use Rattle.reg_entries.specs.Sought.{counting, has_schema, newest}
 use Rattle.reg_entries.specs.declared.entry.Entry.{Entry}
 use Rattle.reg_refusals.specs.declared.refusal.Refusal.TheVariants.{SchemaNotFound, InvalidSchema}
 use Rattle.reg_lookup.specs.Bodies.{entry_body}
@@ -14,7 +13,7 @@ use Rattle.reg_lookup.specs.Found.{and_then, found_map, unless_none}
 
 -- of some entries the greatest of a normal text
 abbrev pub greatest : List ℕ → List Entry → Option Entry
-greatest normal found = reduce (ord_max (on (λ e. e.version) nat_cmp)) (filter (λ e. bytes_eq e.normal normal) found)
+greatest normal found = newest (filter (has_schema normal) found)
 
 module _ (es : List Entry) (subject text : List ℕ) (deleted : Bool) (m : Meaning) (normal : List ℕ) (read : schema_of text ≡ Some m) (same : normal ≡ m.normal_text) where
   looked : (found : List Entry) → counting es subject deleted ≡ found

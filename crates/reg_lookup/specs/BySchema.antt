@@ -1,9 +1,9 @@
 -- The query by a schema: which version of a subject has it? Below, es are all entries.
-use Rattle.std.specs.Prelude.{ℕ, List, Bool, Result, bytes_eq}
-use Rattle.std.specs.List.{filter, reduce}
+use Rattle.std.specs.Prelude.{ℕ, List, Bool, Result}
+use Rattle.std.specs.List.{filter}
 use Rattle.std.specs.Option.{ok_or}
-use Rattle.std.specs.Ordering.{nat_cmp, on, ord_max}
 use Rattle.avro_schema.specs.Schema.{Meaning, schema_of}
+use Rattle.reg_entries.specs.Sought.{has_schema, newest}
 use Rattle.reg_entries.specs.declared.entry.Entry.{Entry}
 use Rattle.reg_refusals.specs.declared.refusal.Refusal.{Refusal}
 use Rattle.reg_refusals.specs.declared.refusal.Refusal.TheVariants.{SchemaNotFound, InvalidSchema}
@@ -16,7 +16,7 @@ read_schema text = ok_or (schema_of text) InvalidSchema
 
 -- of some entries the greatest version of a schema
 abbrev pub latest_with : List ℕ → List Entry → Result Entry Refusal
-latest_with normal es = ok_or (reduce (ord_max (on (λ e. e.version) nat_cmp)) (filter (λ e. bytes_eq e.normal normal) es)) SchemaNotFound
+latest_with normal es = ok_or (newest (filter (has_schema normal) es)) SchemaNotFound
 
 -- of the subject's versions that count the greatest one with the schema; the text is read first
 abbrev pub lookup : List Entry → List ℕ → List ℕ → Bool → Result (List ℕ) Refusal

@@ -1,5 +1,5 @@
 -- The query whether a schema may follow. Below, es are all entries.
-use Rattle.std.specs.Prelude.{◌≡◌, ℕ, List, [], ◌∷◌, Bool, false, Option, Some, None, Result, Ok, Err, map}
+use Rattle.std.specs.Prelude.{◌≡◌, ℕ, List, [], ◌∷◌, Bool, false, Option, Some, None, Result, Ok, Err}
 use Rattle.avro_schema.specs.Defaults.{bad_defaults}
 use Rattle.avro_schema.specs.Schema.{Meaning}
 use Rattle.reg_level_names.specs.declared.level.Level.{Level}
@@ -8,7 +8,7 @@ use Rattle.reg_levels.specs.declared.verdict.LevelVerdict.{LevelVerdict}
 use Rattle.reg_levels.specs.Message.{message_of}
 use Rattle.reg_levels.specs.RequiredPairs.{HasRisingVersions, looked_at}
 use Rattle.reg_levels.specs.Texts.{VersionText, IsVerdictOfTexts}
-use Rattle.reg_entries.specs.Sought.{live_of}
+use Rattle.reg_entries.specs.Sought.{live_of, texts_of}
 use Rattle.reg_entries.specs.declared.entry.Entry.{Entry}
 use Rattle.reg_set.specs.Records.{Records}
 use Rattle.reg_fold.specs.Entries.{entries}
@@ -29,13 +29,10 @@ unless_bad (field ∷ fields) schema = Err InvalidSchema
 abbrev pub read_sound_schema : List ℕ → Result Meaning Refusal
 read_sound_schema text = and_then (λ schema. unless_bad (bad_defaults schema.nodes) schema) (read_schema text)
 
-abbrev pub version_text : Entry → VersionText
-version_text e = (e.version, e.text)
-
 -- the versions that it is checked against: the subject's live ones, or the one that is named, which has to be live
 abbrev pub olds_of : List Entry → List ℕ → Option VersionRef → Result (List VersionText) Refusal
-olds_of es subject None = Ok (map version_text (live_of es subject))
-olds_of es subject (Some which) = found_map (λ e. version_text e ∷ []) (version_found es subject which false)
+olds_of es subject None = Ok (texts_of (live_of es subject))
+olds_of es subject (Some which) = found_map (λ e. texts_of (e ∷ [])) (version_found es subject which false)
 
 -- the versions, once the schema is read
 abbrev pub asked_on : Result (List VersionText) Refusal → List ℕ → Result (List VersionText) Refusal

@@ -1,9 +1,8 @@
 // The query by a schema.
-ghost use Rattle.std.specs.Prelude.{◌≡◌, IfOk, IfErr, Ok, bytes_eq, map};
-ghost use Rattle.std.specs.List.{filter, reduce};
+ghost use Rattle.std.specs.Prelude.{◌≡◌, IfOk, IfErr, Ok, map};
+ghost use Rattle.std.specs.List.{filter};
 ghost use Rattle.std.specs.Option.{option_copied};
-ghost use Rattle.std.specs.Ordering.{nat_cmp, on, ord_max};
-ghost use Rattle.reg_entries.specs.Sought.{HasRisingVersions};
+ghost use Rattle.reg_entries.specs.Sought.{AreInVersionOrder, has_schema, newest};
 ghost use Rattle.reg_fold.specs.Entries.{entries};
 ghost use Rattle.reg_lookup.specs.BySchema as spec;
 ghost use Rattle.reg_lookup.specs.Gives.{IsRefusalOf};
@@ -39,9 +38,8 @@ pub(crate) fn lookup(
 
 /// Of entries whose versions rise the greatest of a normal text.
 fn latest_with<'a>(entries: &[&'a Entry], normal: &str) -> Option<&'a Entry>
-    requires { HasRisingVersions (map (λ e. e.now) entries.now) }
-    ensures { option_copied result
-        ≡ reduce (ord_max (on (λ e. e.version) nat_cmp)) (filter (λ e. bytes_eq e.normal normal.now) (map (λ e. e.now) entries.now)) }
+    requires { AreInVersionOrder (map (λ e. e.now) entries.now) }
+    ensures { option_copied result ≡ newest (filter (has_schema normal.now) (map (λ e. e.now) entries.now)) }
 {
     entries
         .iter()

@@ -11,7 +11,7 @@ ghost use Rattle.reg_fold.specs.Entries.{entries};
 ghost use Rattle.reg_fold.specs.declared.version_ref.VersionRef.{VersionRef};
 ghost use Rattle.reg_lookup.specs.Answers.{IsAnswer};
 ghost use Rattle.reg_lookup.specs.Bodies as bodies;
-ghost use Rattle.reg_lookup.specs.Checked.{AreRead, asked_on, checked_on, olds_of, read_sound_schema, version_text, TellsVerdict};
+ghost use Rattle.reg_lookup.specs.Checked.{AreRead, asked_on, checked_on, olds_of, read_sound_schema, TellsVerdict};
 ghost use Rattle.reg_lookup.specs.Gives.{IsRefusalOf};
 ghost use Rattle.reg_lookup.specs.declared.query.Query.TheVariants.{Check};
 
@@ -21,9 +21,10 @@ use crate::error::LookupError;
 use crate::found::version_found;
 use avro_schema::Schema;
 use base_text::{Listed, Text};
-use reg_fold::{Entry, Refusal, Registry, VersionRef, entries_are_read, found_entries_stand};
+use reg_entries::texts_of;
+use reg_fold::{Refusal, Registry, VersionRef, entries_are_read, found_entries_stand};
 use reg_level_names::Level;
-use reg_levels::{LevelVerdict, check_read_texts, copy_of, looked_at};
+use reg_levels::{LevelVerdict, check_read_texts, copy_of, lend_texts, looked_at};
 use std::alloc::{AllocError, Global};
 use std::marker::Model;
 
@@ -194,30 +195,6 @@ fn olds_asked<'a>(
             Ok(texts_of(alloc, &[found])?)
         }
     }
-}
-
-/// The versions of entries, each with its text.
-fn texts_of<'a>(alloc: Global, entries: &[&'a Entry]) -> Result<Vec<(u32, &'a str)>, AllocError>
-    ensures { IfOk result (λ olds. map {B = VersionText} (λ old. (old.0, old.1.now)) olds.items
-        ≡ map version_text (map (λ e. e.now) entries.now)) }
-{
-    let mut olds = Vec::new(alloc);
-    for entry in entries {
-        olds.push((entry.version, entry.text.as_str()))?;
-    }
-    Ok(olds)
-}
-
-/// The same versions, with their texts lent.
-fn lend_texts<'a>(alloc: Global, olds: &'a [(u32, Text)]) -> Result<Vec<(u32, &'a str)>, AllocError>
-    ensures texts { IfOk result (λ lent. map (λ old. (old.0, old.1.now)) lent.items ≡ olds.now) }
-    ensures versions { IfOk result (λ lent. map (λ old. old.0) lent.items ≡ map (λ old. old.0) olds.now) }
-{
-    let mut lent = Vec::new(alloc);
-    for old in olds {
-        lent.push((old.0, old.1.as_str()))?;
-    }
-    Ok(lent)
 }
 
 /// What is told of a verdict; of a clash only where `verbose` is true.

@@ -4,13 +4,6 @@ ghost use Rattle.std.specs.Char.{is_ascii_digit};
 ghost use Rattle.std.specs.List.{list_all};
 ghost use Rattle.std.specs.Str.Parse.{digits_value};
 
-/// Whether each byte is a digit.
-pub fn has_only_digits(bytes: &[u8]) -> bool
-    ensures { result ≡ list_all is_ascii_digit bytes.now }
-{
-    bytes.iter().all(|b| b.is_ascii_digit())
-}
-
 /// The number that at most 19 digits spell.
 pub fn digits_value(digits: &[u8]) -> u64
     requires digits { list_all is_ascii_digit digits.now ≡ true }

@@ -3,9 +3,10 @@ ghost use Rattle.std.specs.Prelude.{◌≡◌, ◌<◌, ◌∷◌, [], length, c
 ghost use Rattle.httparse.specs.Grammar.{is_ows, skip_ows, trim_ows};
 ghost use Rattle.reg_messages.specs.Fields.{values_of, length_of, is_length, told_length, holds_close, is_close, asks_to_close, values_found};
 
-use crate::digits::{digits_value, has_only_digits};
+use crate::digits::digits_value;
 use crate::field::Fields;
 use crate::limits::BODY_LIMIT;
+use reg_records::has_only_digits;
 use reg_refusals::Refusal;
 
 /// The length in bytes of the body that the fields state, where they state one (RFC 9112, section 6).

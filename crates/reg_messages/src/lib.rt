@@ -13,7 +13,7 @@ mod placed;
 mod reading;
 mod taking;
 
-pub use digits::{digits_value, has_only_digits};
+pub use digits::digits_value;
 pub use field::{Field, Fields};
 pub use fields::{asks_to_close, find_value, told_length, trim_ows};
 pub use limits::{

@@ -11,12 +11,12 @@ use Rattle.reg_fold.specs.Standing.{live}
 use Rattle.reg_level_names.specs.declared.level.Level.{Level}
 use Rattle.reg_levels.specs.RequiredPairs.{HasRisingVersions}
 use Rattle.reg_levels.specs.Texts.{VersionText}
-use Rattle.reg_rules.specs.Standing.{texts_of}
+use Rattle.reg_entries.specs.Sought.{texts_of}
 use Rattle.reg_set.specs.Records.{Records}
 use Rattle.reg_node.specs.Judging.{Matter, Standing, against}
 
 -- texts of entries whose versions rise
-pub texts_rise : (es : List Entry) → sought.HasRisingVersions es → HasRisingVersions (texts_of es)
+pub texts_rise : (es : List Entry) → sought.AreInVersionOrder es → HasRisingVersions (texts_of es)
 texts_rise es rise = subst IsStrictlyIncreasing (sym (map-map (λ old. old.0) (λ (e : Entry). (e.version, e.text)) es)) rise
 
 pub stands : (l k : Level) (olds texts : List VersionText) → l ≡ k → olds ≡ texts

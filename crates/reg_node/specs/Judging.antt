@@ -8,7 +8,7 @@ use Rattle.reg_levels.specs.Judgement.{Judgement, IsMadeOf}
 use Rattle.reg_levels.specs.Texts.{VersionText}
 use Rattle.reg_leader.specs.declared.command.Command.{Command}
 use Rattle.reg_leader.specs.declared.command.Command.TheVariants.{Register}
-use Rattle.reg_rules.specs.Standing.{texts_of}
+use Rattle.reg_entries.specs.Sought.{texts_of}
 use Rattle.reg_set.specs.Records.{Records}
 
 -- the level in force for a subject, and its live versions with their texts: a new schema is judged against them

@@ -2,14 +2,14 @@
 ghost use Rattle.std.specs.Prelude.{◌≡◌, ◌↔◌, true, IsTrue, IfOk, map};
 ghost use Rattle.reg_levels.specs.Judgement.{IsMadeOf};
 ghost use Rattle.reg_levels.specs.RequiredPairs.{HasRisingVersions};
-ghost use Rattle.reg_rules.specs.Standing.{texts_of};
+ghost use Rattle.reg_entries.specs.Sought.{texts_of};
 ghost use Rattle.reg_node.specs.Judging.{against};
 
 use base_text::{Listed, Text};
 use reg_fold::{Entry, Registry};
 use reg_judge::Judge;
 use reg_level_names::Level;
-use reg_levels::{Judged, JudgedError};
+use reg_levels::{Judged, JudgedError, lend_texts};
 use std::alloc::{AllocError, Global};
 use std::marker::Model;
 
@@ -36,7 +36,7 @@ impl Model for Against {
 }
 
 impl Against {
-    /// What a new schema of the subject is judged against over a registry. The only error is want of
+    /// What a new schema of the subject is judged against over a registry. The only error is out of
     /// memory.
     pub(crate) fn over(
         alloc: Global,
@@ -133,16 +133,4 @@ fn is_text_of(old: &(u32, Text), entry: &Entry) -> bool
     ensures { IsTrue result ↔ (old.now ≡ (entry.now.version, entry.now.text)) }
 {
     old.0 == entry.version && old.1.as_str() == entry.text.as_str()
-}
-
-/// The same versions, with their texts lent.
-fn lend_texts<'a>(alloc: Global, olds: &'a [(u32, Text)]) -> Result<Vec<(u32, &'a str)>, AllocError>
-    ensures texts { IfOk result (λ lent. map (λ old. (old.0, old.1.now)) lent.items ≡ olds.now) }
-    ensures versions { IfOk result (λ lent. map (λ old. old.0) lent.items ≡ map (λ old. old.0) olds.now) }
-{
-    let mut lent = Vec::new(alloc);
-    for old in olds {
-        lent.push((old.0, old.1.as_str()))?;
-    }
-    Ok(lent)
 }

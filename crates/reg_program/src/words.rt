@@ -2,7 +2,8 @@
 ghost use Rattle.std.specs.Prelude.{◌≡◌, ◌≤◌, ◌&&◌, map, nat_le, string_bytes};
 ghost use Rattle.reg_program.specs.Words.{command_named, command_of, is_plain, number_in, serving};
 
-use reg_messages::{digits_value, has_only_digits};
+use reg_messages::digits_value;
+use reg_records::has_only_digits;
 
 /// The least and the greatest port, number of nodes, and number of workers of a node.
 const PORTS: (u64, u64) = (1, 65_535);

@@ -1,5 +1,5 @@
 -- The key that a JSON text gives, and its version.
-use Rattle.std.specs.Prelude.{ℕ, List, Option, Some, None, option_map, option_and_then, bytes_eq, codes, if◌then◌else◌}
+use Rattle.std.specs.Prelude.{ℕ, Bool, true, false, List, Option, Some, None, option_map, option_and_then, bytes_eq, codes, if◌then◌else◌}
 use Rattle.std.specs.Option.{option_map_or}
 use Rattle.serde_json.specs.Data.{Data}
 use Rattle.serde_json.specs.Find.{get, as_str}
@@ -39,3 +39,12 @@ key_version (keys.Mode scope) = None
 key_version (keys.DeleteSubject subject) = None
 key_version keys.Noop = None
 key_version keys.IdMark = None
+
+-- whether it is the key of a subject's soft deletes
+abbrev pub is_delete : Key → Bool
+is_delete (keys.Schema subject version) = false
+is_delete (keys.Config scope) = false
+is_delete (keys.Mode scope) = false
+is_delete (keys.DeleteSubject subject) = true
+is_delete keys.Noop = false
+is_delete keys.IdMark = false

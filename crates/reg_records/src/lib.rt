@@ -24,7 +24,9 @@ pub use key::{Key, written_keys_are_apart};
 pub use limits::{
     LINE_LIMIT, LINE_READS, LOG_LINES, NUMBER_LIMIT, OFFSET_LIMIT, limits_are_as_written,
 };
-pub use line::{LineError, ReadLineError, lines_are_of_the_grammar, read_line};
+pub use line::{
+    LineError, ReadLineError, has_only_digits, lines_are_of_the_grammar, offset_of, read_line,
+};
 pub use log::{Log, LogError, LogFault};
 pub use log_reader::read_log;
 pub use members::{

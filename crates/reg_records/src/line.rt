@@ -192,8 +192,9 @@ pub(crate) fn is_free_of(bytes: &[u8], byte: u8) -> bool
     !bytes.contains(&byte)
 }
 
-/// The offset that a field spells, within the limit.
-pub(crate) fn offset_of(field: &str) -> Option<u64>
+/// The offset that a text spells in decimal digits, without a leading zero but for `0` itself; `None` past
+/// `OFFSET_LIMIT` and for any other text.
+pub fn offset_of(field: &str) -> Option<u64>
     ensures value { result ≡ offset_of field.now }
     ensures within { IfSome result (λ offset. offset ≤ OFFSET_LIMIT) }
 {
@@ -217,7 +218,8 @@ fn is_decimal(field: &str) -> bool
     has_only_digits(digits)
 }
 
-fn has_only_digits(bytes: &[u8]) -> bool
+/// Whether each byte is an ASCII digit; so it is of no bytes.
+pub fn has_only_digits(bytes: &[u8]) -> bool
     ensures { result ≡ list_all is_ascii_digit bytes.now }
 {
     bytes.iter().all(|b| b.is_ascii_digit())

@@ -43,7 +43,7 @@ pub enum Value {
 
 impl Value {
     /// The JSON text that is written for the value, without spaces and with its members in a fixed
-    /// order; `None` for no operation, which is written without a value. The only error is want of
+    /// order; `None` for no operation, which is written without a value. The only error is out of
     /// memory.
     pub fn written(&self, alloc: Global) -> Result<Option<ValueText>, AllocError>
         ensures { IfOk result (λ text. text ≡ written_value self.now) }

@@ -8,7 +8,7 @@ use Rattle.std.proofs.lemmas.List.Sums.{fold_push}
 use Rattle.std.proofs.lemmas.List.{append-nil, get_or-map, length-map}
 use Rattle.reg_entries.specs.declared.entry.Entry.{Entry}
 use Rattle.reg_rules.specs.Better.{better}
-use Rattle.reg_rules.specs.Standing.{newest}
+use Rattle.reg_entries.specs.Sought.{newest}
 
 reduce_push : {A : Type 0} (f : A → A → A) (xs : List A) (x : A) → reduce f (xs ++ x ∷ []) ≡ Some (option_map_or (λ a. f a x) (reduce f xs) x)
 reduce_push f [] x = refl

@@ -4,7 +4,7 @@ use Rattle.std.proofs.Common.{All, Contains, option_map, bytes_eq, refl, sym, ap
 use Rattle.std.proofs.lemmas.List.Elements.{All-nil, All-cons, All-head, All-tail, All-weaker, All-filter, All-contains_itself}
 use Rattle.std.specs.List.{find}
 use Rattle.avro_schema.specs.Schema.{Meaning, schema_of, is_schema}
-use Rattle.reg_entries.specs.Sought.{counts, of_subject}
+use Rattle.reg_entries.specs.Sought.{counts, of_subject, texts_of}
 use Rattle.reg_entries.specs.declared.entry.Entry.{Entry}
 use Rattle.reg_fold.specs.Entries.{EntriesAreRead, entries}
 use Rattle.reg_fold.specs.Standing.{live}
@@ -16,7 +16,6 @@ use Rattle.reg_levels.specs.RequiredPairs.{Required, required_pairs}
 use Rattle.reg_levels.specs.Texts.{IsVerdictOfTexts, VersionText, nodes_in, versions_in}
 use Rattle.reg_levels.specs.declared.verdict.LevelVerdict.{LevelVerdict}
 use Rattle.reg_set.specs.Records.{Records}
-use Rattle.reg_rules.specs.Standing.{texts_of}
 use Rattle.reg_rules.specs.Report.{IsReport}
 
 -- where a verdict tells no pair, each is compatible

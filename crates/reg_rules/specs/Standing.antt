@@ -1,9 +1,7 @@
 -- What commands ask of the entries. Below, rs are the last records.
-use Rattle.std.specs.Prelude.{ℕ, suc, List, Bool, true, false, ◌==◌, ◌&&◌, not, Option, map, bytes_eq, unwrap_or}
-use Rattle.std.specs.List.{reduce}
+use Rattle.std.specs.Prelude.{ℕ, suc, List, Bool, true, false, ◌==◌, ◌&&◌, not, Option, unwrap_or}
 use Rattle.std.specs.Option.{option_map_or}
-use Rattle.std.specs.Ordering.{nat_cmp, on, ord_max}
-use Rattle.reg_entries.specs.Sought.{counting}
+use Rattle.reg_entries.specs.Sought.{counting, has_schema}
 use Rattle.reg_entries.specs.declared.entry.Entry.{Entry}
 use Rattle.reg_fold.specs.Closed.{id_of}
 use Rattle.reg_fold.specs.Entries.{entries}
@@ -11,23 +9,15 @@ use Rattle.reg_fold.specs.IdMark.{last_id}
 use Rattle.reg_fold.specs.Standing.{greatest_version, named, version_in}
 use Rattle.reg_fold.specs.declared.version_ref.VersionRef.{VersionRef}
 use Rattle.reg_fold.specs.declared.version_ref.VersionRef.TheVariants.{Latest, Number}
-use Rattle.reg_levels.specs.Texts.{VersionText}
 use Rattle.reg_set.specs.Records.{Records}
 
--- whether an entry has the schema of that normal text; with that id
-abbrev pub has_schema : List ℕ → Entry → Bool
-has_schema normal e = bytes_eq e.normal normal
-
+-- whether an entry has that id, and the schema of that normal text
 abbrev pub is_of : ℕ → List ℕ → Entry → Bool
 is_of id normal e = (e.id == id) && has_schema normal e
 
 -- the entries of a subject, soft ones too
 abbrev pub standing : Records → List ℕ → List Entry
 standing rs subject = counting (entries rs) subject true
-
--- of some entries the one of greatest version
-abbrev pub newest : List Entry → Option Entry
-newest es = reduce (ord_max (on (λ e. e.version) nat_cmp)) es
 
 -- the entry that a delete names: the latest is the greatest live one, and a number may name a soft one
 abbrev pub version_meant : Records → List ℕ → VersionRef → Option Entry
@@ -47,7 +37,3 @@ next_version rs subject = option_map_or suc (greatest_version rs subject) 1
 -- one. In a registry that takes commands all entries of an id have one schema.
 abbrev pub names_another : Records → ℕ → List ℕ → Bool
 names_another rs id normal = option_map_or (λ e. not (has_schema normal e)) (named rs id) false
-
--- the versions of some entries, with the texts that they hold
-abbrev pub texts_of : List Entry → List VersionText
-texts_of es = map (λ e. (e.version, e.text)) es

@@ -1,17 +1,17 @@
 // Whether a schema meets the level in force.
 ghost use Rattle.std.specs.Prelude.{◌≡◌, None, Some, IfOk, IfSome, map};
-ghost use Rattle.reg_entries.specs.declared.entry.Entry.{Entry};
 ghost use Rattle.reg_fold.specs.InForce.{level};
 ghost use Rattle.reg_fold.specs.Standing.{live};
 ghost use Rattle.reg_levels.specs.Judgement.{IsMadeOf, first_unread};
 ghost use Rattle.reg_levels.specs.RequiredPairs.{HasRisingVersions};
 ghost use Rattle.reg_levels.specs.Texts.{IsVerdictOfTexts};
-ghost use Rattle.reg_rules.specs.Standing.{texts_of};
+ghost use Rattle.reg_entries.specs.Sought.{texts_of};
 ghost use Rattle.reg_rules.specs.Report.{IsReport};
 
 use avro_schema::Schema;
 use base_text::Text;
-use reg_fold::{Entry, Registry, entries_are_read};
+use reg_entries::texts_of;
+use reg_fold::{Registry, entries_are_read};
 use reg_level_names::Level;
 use reg_levels::{Judged, LevelVerdict, check_read_texts};
 use std::alloc::{AllocError, Global};
@@ -67,16 +67,4 @@ fn checked(
     // It ensures that the normal text means the schema.
     schema.normal();
     check_read_texts(alloc, level, schema, texts)
-}
-
-/// The versions of those entries, with the texts that they hold.
-fn texts_of<'a>(alloc: Global, entries: &[&'a Entry]) -> Result<Vec<(u32, &'a str)>, AllocError>
-    ensures texts { IfOk result (λ texts. map (λ old. (old.0, old.1.now)) texts.items ≡ texts_of (map (λ e. e.now) entries.now)) }
-    ensures versions { IfOk result (λ texts. map (λ old. old.0) texts.items ≡ map {A = Entry} (λ e. e.version) (map (λ e. e.now) entries.now)) }
-{
-    let mut texts = Vec::new(alloc);
-    for entry in entries {
-        texts.push((entry.version, entry.text.as_str()))?;
-    }
-    Ok(texts)
 }

@@ -3,7 +3,8 @@ ghost use Rattle.std.specs.Prelude.{◌≡◌, map, option_copied, bytes_eq};
 ghost use Rattle.std.specs.List.{filter};
 ghost use Rattle.reg_rules.specs.Better.{better};
 ghost use Rattle.reg_rules.specs.Finding.{IsRead};
-ghost use Rattle.reg_rules.specs.Standing.{has_schema, is_of, newest};
+ghost use Rattle.reg_rules.specs.Standing.{is_of};
+ghost use Rattle.reg_entries.specs.Sought.{has_schema, newest};
 ghost use Rattle.reg_rules.specs.Tests as test;
 
 use avro_schema::Schema;

@@ -222,7 +222,7 @@ impl<'a, T: Drop> Doorkeeper<'a, T> {
         }
     }
 
-    /// Accepts what waits, as long as there is room. Where a connection can't be accepted, as for want of
+    /// Accepts what waits, as long as there is room. Where a connection can't be accepted, as where the system is out of
     /// descriptors, the oldest one makes room, and it is tried again after a pause.
     fn accept_some<R: Wait>(&mut self, rt: &R) {
         if self.now < self.accepts_from {

@@ -17,7 +17,7 @@ use reg_records::{Key, Record};
 use std::alloc::{AllocError, Global};
 use std::collections::BTreeMap;
 
-/// Takes the record in among those of its key, and says what that did. The only error is want of
+/// Takes the record in among those of its key, and says what that did. The only error is out of
 /// memory; each key then has the records that it had.
 pub(crate) fn take_in(
     alloc: Global,

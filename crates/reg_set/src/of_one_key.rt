@@ -14,7 +14,7 @@ use crate::record_set::Taken;
 use reg_records::{Key, Record};
 use std::alloc::AllocError;
 
-/// Takes the record in among those of its key, and says what that did. The only error is want of
+/// Takes the record in among those of its key, and says what that did. The only error is out of
 /// memory; they are then as they were.
 pub(crate) fn take_among(records: &mut Vec<Record>, given: &Record) -> Result<Taken, AllocError>
     requires { IsTrue (is_in_order records.old.items) }

@@ -22,13 +22,13 @@ use Rattle.reg_records.specs.declared.value.Value.TheVariants as values
 use Rattle.reg_set.specs.LastRecords.{last, last_records}
 use Rattle.reg_set.specs.Records.{Records, records_of}
 use Rattle.reg_entries.specs.EntryOrder.{Place, place_cmp, place_of}
-use Rattle.reg_entries.specs.Marked.{with_soft}
+use Rattle.reg_entries.specs.Flagged.{with_soft}
 use Rattle.reg_entries.specs.declared.entry.Entry.{Entry}
 use Rattle.reg_fold.specs.Entries.{EntriesAreOfPlaces, entries, entry_map, entry_of}
 use Rattle.reg_topic.specs.Topic.{records_of_item}
 use Rattle.reg_topic.specs.declared.published.Item.{Item}
 use Rattle.reg_topic.specs.declared.topic.Topic.{Topic}
-use Rattle.reg_world.specs.Eager.{after_key, after_records, eager_after, entry_as_written, marked_with, put_by, standing_at}
+use Rattle.reg_world.specs.Eager.{after_key, after_records, eager_after, entry_as_written, flagged_with, put_by, standing_at}
 use Rattle.reg_world.proofs.EagerPlaces.{found-none, found-some, place_cmp-ties, place_cmp-total, same_place}
 
 abbrev Standing : Type 0
@@ -211,10 +211,10 @@ version_gone m r subject version is p =
     finmap.get-remove place_cmp-total m (subject, version) p
     ∙ ap (λ o. cond (eq_by_cmp place_cmp p (subject, version)) o (finmap.get m p)) (sym is)
 
--- The marks of a soft delete.
-pub marked_up_to : (subject : List ℕ) (greatest : ℕ) (e : Entry)
-    → cond (bytes_eq e.subject subject) (with_soft (e.soft || nat_le e.version greatest) e) e ≡ marked_with (values.DeleteSubject subject greatest) e
-marked_up_to subject greatest e = by_subject (bytes_eq e.subject subject)
+-- The flags of a soft delete.
+pub flagged_up_to : (subject : List ℕ) (greatest : ℕ) (e : Entry)
+    → cond (bytes_eq e.subject subject) (with_soft (e.soft || nat_le e.version greatest) e) e ≡ flagged_with (values.DeleteSubject subject greatest) e
+flagged_up_to subject greatest e = by_subject (bytes_eq e.subject subject)
   where
     by_version : (b s : Bool) → s ≡ e.soft → with_soft (s || b) e ≡ cond b (with_soft true e) e
     by_version true true is = refl

@@ -28,7 +28,8 @@ use Rattle.reg_entries.specs.Sought.{of_subject}
 use Rattle.reg_entries.specs.declared.entry.Entry.{Entry}
 use Rattle.reg_fold.specs.Entries.{EntriesAreOfKeys, EntriesAreOfPlaces, entries}
 use Rattle.reg_fold.specs.Standing.{greatest_version}
-use Rattle.reg_leader.specs.Deletes.{DeletesNameGreatest, IsSoftDelete, is_delete}
+use Rattle.reg_leader.specs.Deletes.{DeletesNameGreatest, IsSoftDelete}
+use Rattle.reg_records.specs.Key.{is_delete}
 use Rattle.reg_leader.specs.OneStep.{BatchesEndByTheLimit, BatchesGoOn, goes_on}
 use Rattle.reg_topic.specs.Topic.{IsLawful, after_batch, after_compaction, after_item, after_items, follows}
 use Rattle.reg_topic.specs.Topic.{may_compact, published_by, records_of_item, registry_of, whole_log}

@@ -15,30 +15,30 @@ use Rattle.reg_records.specs.declared.value.Value.TheVariants as values
 use Rattle.reg_set.specs.LastRecords.{last, last_records}
 use Rattle.reg_set.specs.Records.{Records}
 use Rattle.reg_entries.specs.EntryOrder.{Place, place_cmp}
-use Rattle.reg_entries.specs.Marked.{with_soft}
+use Rattle.reg_entries.specs.Flagged.{with_soft}
 use Rattle.reg_entries.specs.declared.entry.Entry.{Entry}
 use Rattle.reg_fold.specs.Entries.{entry_of}
 use Rattle.reg_fold.specs.Entries as of_lasts
-use Rattle.reg_fold.specs.Marks.{covers, is_marked}
-use Rattle.reg_world.specs.Eager.{after_key, entry_as_written, marked_by, marked_with, put_by}
+use Rattle.reg_fold.specs.Covers.{covers, is_covered}
+use Rattle.reg_world.specs.Eager.{after_key, entry_as_written, flagged_by, flagged_with, put_by}
 use Rattle.reg_world.proofs.EagerPlaces.{at_itself, same_place, there}
 use Rattle.reg_world.proofs.Tops.{IsAbove, LastLaws, other_last, top_last}
 
--- whether that delete, if there is one, marks what stands at a version and offset
-abbrev pub mark : Option Record → ℕ → ℕ → Bool
-mark o version offset = option_map_or (λ r. option_map_or (λ value. covers r.offset value version offset) (value_of r) false) o false
+-- whether that delete, if there is one, flags what stands at a version and offset
+abbrev pub flag : Option Record → ℕ → ℕ → Bool
+flag o version offset = option_map_or (λ r. option_map_or (λ value. covers r.offset value version offset) (value_of r) false) o false
 
 -- the last soft delete of a subject
 abbrev pub delete_of : Records → List ℕ → Option Record
 delete_of log subject = last log (keys.DeleteSubject subject)
 
 -- an entry as the last soft delete of its subject leaves it
-abbrev pub remarked : Records → Entry → Entry
-remarked log e = with_soft (e.soft || mark (delete_of log e.subject) e.version e.offset) e
+abbrev pub reflagged : Records → Entry → Entry
+reflagged log e = with_soft (e.soft || flag (delete_of log e.subject) e.version e.offset) e
 
 -- the entry at a place, by the last record there and the last soft delete of its subject
 abbrev pub seen : Records → Place → Option Entry
-seen log p = option_and_then (λ x. option_map (remarked log) (put_by x)) (last log (keys.Schema p.0 p.1))
+seen log p = option_and_then (λ x. option_map (reflagged log) (put_by x)) (last log (keys.Schema p.0 p.1))
 
 -- an entry has the offset of its record
 at_offset : (x : Record) (e : Entry) → put_by x ≡ Some e → e.offset ≡ x.offset
@@ -52,7 +52,7 @@ at_offset x e is = elim (value_of x) as (λ o. option_and_then (entry_as_written
     of_value values.Noop h = absurd (cc)
     of_value (values.IdMark id) h = absurd (cc)
 
--- a delete marks nothing that is not before it
+-- a delete flags nothing that is not before it
 covers-false : (at : ℕ) (value : Value) (version offset : ℕ) → at < offset → covers at value version offset ≡ false
 covers-false at (values.DeleteSubject subject greatest) version offset h =
     let after : nat_lt offset at ≡ false = grind arith in ap (λ b. nat_le version greatest && b) after ∙ and-false (nat_le version greatest)
@@ -85,34 +85,34 @@ IsFit log keys.Noop r = Unit {0}
 IsFit log keys.IdMark r = Unit {0}
 
 module _ (l : LastLaws) where
-  gives : (log : Records) (offset : ℕ) (v : Value) → of_lasts.entry_in (last_records log) offset v ≡ option_map (remarked log) (entry_as_written offset v)
-  unfolding is_marked
+  gives : (log : Records) (offset : ℕ) (v : Value) → of_lasts.entry_in (last_records log) offset v ≡ option_map (reflagged log) (entry_as_written offset v)
+  unfolding is_covered
   gives log offset (values.Schema subject version id schema deleted) =
-      ap (λ o. Some (record { subject = subject; version = version; id = id; text = schema; normal = of_lasts.normal_of schema; offset = offset; soft = deleted || mark o version offset })) (l.lasts log (keys.DeleteSubject subject))
+      ap (λ o. Some (record { subject = subject; version = version; id = id; text = schema; normal = of_lasts.normal_of schema; offset = offset; soft = deleted || flag o version offset })) (l.lasts log (keys.DeleteSubject subject))
   gives log offset (values.Config level) = refl
   gives log offset (values.Mode mode) = refl
   gives log offset (values.DeleteSubject subject version) = refl
   gives log offset values.Noop = refl
   gives log offset (values.IdMark id) = refl
 
-  given : (log : Records) (x : Record) → entry_of (last_records log) x ≡ option_map (remarked log) (put_by x)
+  given : (log : Records) (x : Record) → entry_of (last_records log) x ≡ option_map (reflagged log) (put_by x)
   unfolding entry_of
-  given log x = elim (value_of x) as (λ o. option_and_then (of_lasts.entry_in (last_records log) x.offset) o ≡ option_map (remarked log) (option_and_then (entry_as_written x.offset) o)) [ None ↦ refl | Some v ↦ gives log x.offset v ]
+  given log x = elim (value_of x) as (λ o. option_and_then (of_lasts.entry_in (last_records log) x.offset) o ≡ option_map (reflagged log) (option_and_then (entry_as_written x.offset) o)) [ None ↦ refl | Some v ↦ gives log x.offset v ]
 
   pub there_seen : (log : Records) (p : Place) → there log p ≡ seen log p
-  there_seen log p = elim (last log (keys.Schema p.0 p.1)) as (λ o. option_and_then (entry_of (last_records log)) o ≡ option_and_then (λ x. option_map (remarked log) (put_by x)) o) [ None ↦ refl | Some x ↦ given log x ]
+  there_seen log p = elim (last log (keys.Schema p.0 p.1)) as (λ o. option_and_then (entry_of (last_records log)) o ≡ option_and_then (λ x. option_map (reflagged log) (put_by x)) o) [ None ↦ refl | Some x ↦ given log x ]
 
   -- where neither the place nor a soft delete is written, nothing changes
   untouched : (log : Records) (r : Record) (p : Place) → (r.key ≡ keys.Schema p.0 p.1 → ⊥) → ((subject : List ℕ) → r.key ≡ keys.DeleteSubject subject → ⊥) → seen log p ≡ seen (insert log r) p
   untouched log r p away quiet =
       let at = other_last l log r (keys.Schema p.0 p.1) away in
       let deletes : (subject : List ℕ) → delete_of (insert log r) subject ≡ delete_of log subject = λ subject. other_last l log r (keys.DeleteSubject subject) (quiet subject) in
-      sym (λ i. option_and_then (λ x. option_map (λ e. with_soft (e.soft || mark (deletes e.subject i) e.version e.offset) e) (put_by x)) (at i))
+      sym (λ i. option_and_then (λ x. option_map (λ e. with_soft (e.soft || flag (deletes e.subject i) e.version e.offset) e) (put_by x)) (at i))
 
-  -- no delete marks what comes after it
-  mark-false : (log : Records) (r : Record) (subject : List ℕ) (version : ℕ) → IsAbove log r → mark (delete_of log subject) version r.offset ≡ false
-  mark-false log r subject version above =
-      elim (delete_of log subject) as (λ o. delete_of log subject ≡ o → mark o version r.offset ≡ false) [
+  -- no delete flags what comes after it
+  flag-false : (log : Records) (r : Record) (subject : List ℕ) (version : ℕ) → IsAbove log r → flag (delete_of log subject) version r.offset ≡ false
+  flag-false log r subject version above =
+      elim (delete_of log subject) as (λ o. delete_of log subject ≡ o → flag o version r.offset ≡ false) [
         | None ↦ λ _. refl
         | Some d ↦ λ is.
             let before = above d ((l.greatest log (keys.DeleteSubject subject) d).0 is).is_in_set in
@@ -123,68 +123,68 @@ module _ (l : LastLaws) where
   at_version : (log : Records) (r : Record) (p : Place) → IsAbove log r → r.key ≡ keys.Schema p.0 p.1 → put_by r ≡ seen (insert log r) p
   at_version log r p above key =
       let here : last (insert log r) (keys.Schema p.0 p.1) ≡ Some r = ap (last (insert log r)) (sym key) ∙ top_last l log r above in
-      sym (ap (option_and_then (λ x. option_map (remarked (insert log r)) (put_by x))) here ∙ unmarked (put_by r) refl)
+      sym (ap (option_and_then (λ x. option_map (reflagged (insert log r)) (put_by x))) here ∙ unflagged (put_by r) refl)
     where
       quiet : (subject : List ℕ) → delete_of (insert log r) subject ≡ delete_of log subject
       quiet subject = other_last l log r (keys.DeleteSubject subject) (λ e. let f : keys.Schema p.0 p.1 ≡ keys.DeleteSubject subject = sym key ∙ e in cc)
 
-      unmarked : (o : Option Entry) → put_by r ≡ o → option_map (remarked (insert log r)) o ≡ o
-      unmarked None is = refl
-      unmarked (Some e) is =
-          let unseen : mark (delete_of (insert log r) e.subject) e.version e.offset ≡ false =
-          ap (λ d. mark d e.version e.offset) (quiet e.subject) ∙ ap (mark (delete_of log e.subject) e.version) (at_offset r e is) ∙ mark-false log r e.subject e.version above in
+      unflagged : (o : Option Entry) → put_by r ≡ o → option_map (reflagged (insert log r)) o ≡ o
+      unflagged None is = refl
+      unflagged (Some e) is =
+          let unseen : flag (delete_of (insert log r) e.subject) e.version e.offset ≡ false =
+          ap (λ d. flag d e.version e.offset) (quiet e.subject) ∙ ap (flag (delete_of log e.subject) e.version) (at_offset r e is) ∙ flag-false log r e.subject e.version above in
           ap (λ b. Some (with_soft (e.soft || b) e)) unseen ∙ ap (λ b. Some (with_soft b e)) (or-false e.soft)
 
   -- an entry before a soft delete
   module _ (log : Records) (r : Record) (subject : List ℕ) (greatest : ℕ) (above : IsAbove log r) (key : r.key ≡ keys.DeleteSubject subject) (value : value_of r ≡ Some (values.DeleteSubject subject greatest)) where
-    -- the delete's own mark
-    new_mark : (version offset : ℕ) → offset < r.offset → version ≤ greatest → mark (delete_of (insert log r) subject) version offset ≡ true
-    new_mark version offset before reach =
+    -- the delete's own flag
+    new_flag : (version offset : ℕ) → offset < r.offset → version ≤ greatest → flag (delete_of (insert log r) subject) version offset ≡ true
+    new_flag version offset before reach =
         let here : delete_of (insert log r) subject ≡ Some r = ap (last (insert log r)) (sym key) ∙ top_last l log r above in
         let after : nat_lt offset r.offset ≡ true = grind arith in
-        ap (λ o. mark o version offset) here ∙ ap (λ o. option_map_or (λ value. covers r.offset value version offset) o false) value
+        ap (λ o. flag o version offset) here ∙ ap (λ o. option_map_or (λ value. covers r.offset value version offset) o false) value
         ∙ ap (λ b. b && nat_lt offset r.offset) (le-leb version greatest reach) ∙ after
 
-    own : (e : Entry) → e.subject ≡ subject → e.offset < r.offset → e.version ≤ greatest → marked_by r (remarked log e) ≡ remarked (insert log r) e
+    own : (e : Entry) → e.subject ≡ subject → e.offset < r.offset → e.version ≤ greatest → flagged_by r (reflagged log e) ≡ reflagged (insert log r) e
     own e is before reach =
-        let marked : mark (delete_of (insert log r) e.subject) e.version e.offset ≡ true = ap (λ s. mark (delete_of (insert log r) s) e.version e.offset) is ∙ new_mark e.version e.offset before reach in
+        let flagged : flag (delete_of (insert log r) e.subject) e.version e.offset ≡ true = ap (λ s. flag (delete_of (insert log r) s) e.version e.offset) is ∙ new_flag e.version e.offset before reach in
         let same : bytes_eq e.subject subject ≡ true = (bytes_eq-Decides e.subject subject).1 is in
-        ap (λ o. option_map_or (λ value. marked_with value (remarked log e)) o (remarked log e)) value
-        ∙ ap (λ b. cond (b && nat_le e.version greatest) (with_soft true e) (remarked log e)) same
-        ∙ ap (λ b. cond b (with_soft true e) (remarked log e)) (le-leb e.version greatest reach)
-        ∙ sym (ap (λ b. with_soft (e.soft || b) e) marked ∙ ap (λ b. with_soft b e) (or-true e.soft))
+        ap (λ o. option_map_or (λ value. flagged_with value (reflagged log e)) o (reflagged log e)) value
+        ∙ ap (λ b. cond (b && nat_le e.version greatest) (with_soft true e) (reflagged log e)) same
+        ∙ ap (λ b. cond b (with_soft true e) (reflagged log e)) (le-leb e.version greatest reach)
+        ∙ sym (ap (λ b. with_soft (e.soft || b) e) flagged ∙ ap (λ b. with_soft b e) (or-true e.soft))
 
-    other : (e : Entry) → (e.subject ≡ subject → ⊥) → bytes_eq e.subject subject ≡ false → marked_by r (remarked log e) ≡ remarked (insert log r) e
+    other : (e : Entry) → (e.subject ≡ subject → ⊥) → bytes_eq e.subject subject ≡ false → flagged_by r (reflagged log e) ≡ reflagged (insert log r) e
     other e apart away =
         let same : delete_of (insert log r) e.subject ≡ delete_of log e.subject = other_last l log r (keys.DeleteSubject e.subject) (λ is. apart (let f : keys.DeleteSubject e.subject ≡ keys.DeleteSubject subject = sym is ∙ key in cc)) in
-        ap (λ o. option_map_or (λ value. marked_with value (remarked log e)) o (remarked log e)) value
-        ∙ ap (λ b. cond (b && nat_le e.version greatest) (with_soft true e) (remarked log e)) away
-        ∙ ap (λ d. with_soft (e.soft || mark d e.version e.offset) e) (sym same)
+        ap (λ o. option_map_or (λ value. flagged_with value (reflagged log e)) o (reflagged log e)) value
+        ∙ ap (λ b. cond (b && nat_le e.version greatest) (with_soft true e) (reflagged log e)) away
+        ∙ ap (λ d. with_soft (e.soft || flag d e.version e.offset) e) (sym same)
 
-    pub marks : (e : Entry) → e.offset < r.offset → (e.subject ≡ subject → e.version ≤ greatest) → marked_by r (remarked log e) ≡ remarked (insert log r) e
-    marks e before reach =
-        elim (bytes_eq e.subject subject) as (λ b. bytes_eq e.subject subject ≡ b → marked_by r (remarked log e) ≡ remarked (insert log r) e) [
+    pub flags : (e : Entry) → e.offset < r.offset → (e.subject ≡ subject → e.version ≤ greatest) → flagged_by r (reflagged log e) ≡ reflagged (insert log r) e
+    flags e before reach =
+        elim (bytes_eq e.subject subject) as (λ b. bytes_eq e.subject subject ≡ b → flagged_by r (reflagged log e) ≡ reflagged (insert log r) e) [
           | true ↦ λ is. let same = (bytes_eq-Decides e.subject subject).0 is in own e same before (reach same)
           | false ↦ λ away. other e (λ is. false≢true (sym away ∙ (bytes_eq-Decides e.subject subject).1 is)) away
         ] refl
 
-    pub deleted : (p : Place) → ((e : Entry) → seen log p ≡ Some e → e.subject ≡ subject → e.version ≤ greatest) → option_map (marked_by r) (seen log p) ≡ seen (insert log r) p
+    pub deleted : (p : Place) → ((e : Entry) → seen log p ≡ Some e → e.subject ≡ subject → e.version ≤ greatest) → option_map (flagged_by r) (seen log p) ≡ seen (insert log r) p
     deleted p fit =
         elim (last log (keys.Schema p.0 p.1)) as (λ o. last log (keys.Schema p.0 p.1) ≡ o
-        → ((e : Entry) → option_and_then (λ x. option_map (remarked log) (put_by x)) o ≡ Some e → e.subject ≡ subject → e.version ≤ greatest)
-        → option_map (marked_by r) (option_and_then (λ x. option_map (remarked log) (put_by x)) o) ≡ option_and_then (λ x. option_map (remarked (insert log r)) (put_by x)) o) [
+        → ((e : Entry) → option_and_then (λ x. option_map (reflagged log) (put_by x)) o ≡ Some e → e.subject ≡ subject → e.version ≤ greatest)
+        → option_map (flagged_by r) (option_and_then (λ x. option_map (reflagged log) (put_by x)) o) ≡ option_and_then (λ x. option_map (reflagged (insert log r)) (put_by x)) o) [
           | None ↦ λ _ _. refl
           | Some x ↦ λ here reach. of_record x (above x ((l.greatest log (keys.Schema p.0 p.1) x).0 here).is_in_set) (put_by x) refl reach
         ] refl fit
-        ∙ ap (option_and_then (λ x. option_map (remarked (insert log r)) (put_by x))) (sym place)
+        ∙ ap (option_and_then (λ x. option_map (reflagged (insert log r)) (put_by x))) (sym place)
       where
         place : last (insert log r) (keys.Schema p.0 p.1) ≡ last log (keys.Schema p.0 p.1)
         place = other_last l log r (keys.Schema p.0 p.1) (λ e. let f : keys.DeleteSubject subject ≡ keys.Schema p.0 p.1 = sym key ∙ e in cc)
 
-        of_record : (x : Record) → x.offset < r.offset → (o : Option Entry) → put_by x ≡ o → ((e : Entry) → option_map (remarked log) o ≡ Some e → e.subject ≡ subject → e.version ≤ greatest)
-            → option_map (marked_by r) (option_map (remarked log) o) ≡ option_map (remarked (insert log r)) o
+        of_record : (x : Record) → x.offset < r.offset → (o : Option Entry) → put_by x ≡ o → ((e : Entry) → option_map (reflagged log) o ≡ Some e → e.subject ≡ subject → e.version ≤ greatest)
+            → option_map (flagged_by r) (option_map (reflagged log) o) ≡ option_map (reflagged (insert log r)) o
         of_record x before None is reach = refl
-        of_record x before (Some e) is reach = let at = at_offset x e is in ap Some (marks e (omega (arith, at, before)) (reach (remarked log e) refl))
+        of_record x before (Some e) is reach = let at = at_offset x e is in ap Some (flags e (omega (arith, at, before)) (reach (reflagged log e) refl))
 
   by_key : (log : Records) (r : Record) (p : Place) (k : Key) → r.key ≡ k → IsAbove log r → IsFit log k r → after_key k p (seen log p) r ≡ seen (insert log r) p
   by_key log r p (keys.Schema subject version) key above fit =

@@ -14,7 +14,7 @@ use Rattle.reg_set.specs.LastRecords.{last_records}
 use Rattle.reg_kept.specs.Compaction.{IsCompactionOf}
 use Rattle.reg_kept.specs.Floored.{Floored}
 use Rattle.reg_entries.specs.EntryOrder.{Place, place_cmp, place_of}
-use Rattle.reg_entries.specs.Marked.{with_soft}
+use Rattle.reg_entries.specs.Flagged.{with_soft}
 use Rattle.reg_entries.specs.declared.entry.Entry.{Entry}
 use Rattle.reg_fold.specs.Entries.{entries, normal_of}
 use Rattle.reg_topic.specs.Topic.{published_by, registry_of, whole_log}
@@ -45,27 +45,27 @@ entry_as_written offset (values.IdMark id) = None
 abbrev pub put_by : Record → Option Entry
 put_by r = option_and_then (entry_as_written r.offset) (value_of r)
 
--- a soft delete with that value marks an entry of its subject, up to the version that it names
-abbrev pub marked_with : Value → Entry → Entry
-marked_with (values.Schema subject version id schema deleted) e = e
-marked_with (values.Config level) e = e
-marked_with (values.Mode mode) e = e
-marked_with (values.DeleteSubject subject greatest) e = if bytes_eq e.subject subject
+-- a soft delete with that value flags an entry of its subject, up to the version that it names
+abbrev pub flagged_with : Value → Entry → Entry
+flagged_with (values.Schema subject version id schema deleted) e = e
+flagged_with (values.Config level) e = e
+flagged_with (values.Mode mode) e = e
+flagged_with (values.DeleteSubject subject greatest) e = if bytes_eq e.subject subject
     && nat_le e.version greatest then with_soft true e else e
-marked_with values.Noop e = e
-marked_with (values.IdMark id) e = e
+flagged_with values.Noop e = e
+flagged_with (values.IdMark id) e = e
 
--- an entry after the record of a soft delete; one without a value marks nothing
-abbrev pub marked_by : Record → Entry → Entry
-marked_by r e = option_map_or (λ value. marked_with value e) (value_of r) e
+-- an entry after the record of a soft delete; one without a value flags nothing
+abbrev pub flagged_by : Record → Entry → Entry
+flagged_by r e = option_map_or (λ value. flagged_with value e) (value_of r) e
 
 -- what stands at a place after a record of that key, where found stood before it: a
--- version's record puts its own, a soft delete marks what stands
+-- version's record puts its own, a soft delete flags what stands
 abbrev pub after_key : Key → Place → Option Entry → Record → Option Entry
 after_key (keys.Schema subject version) place found r = if eq_by_cmp place_cmp place (subject, version) then put_by r else found
 after_key (keys.Config scope) place found r = found
 after_key (keys.Mode scope) place found r = found
-after_key (keys.DeleteSubject subject) place found r = option_map (marked_by r) found
+after_key (keys.DeleteSubject subject) place found r = option_map (flagged_by r) found
 after_key keys.Noop place found r = found
 after_key keys.IdMark place found r = found
 
@@ -86,7 +86,7 @@ eager_after base items place = after_records place (standing_at place (entries (
 abbrev pub eager : State → Place → Option Entry
 eager w place = eager_after w.base w.items place
 
--- that is, with its soft mark, the entry of the log there, and of each compaction of the log, at whatever floor
+-- that is, with its soft flag, the entry of the log there, and of each compaction of the log, at whatever floor
 abbrev pub IsFoldedEagerly : State → Type 0
 IsFoldedEagerly w = (place : Place) (part : Floored)
     → IsCompactionOf part (whole_log (topic_of w))

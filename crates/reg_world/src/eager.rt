@@ -7,16 +7,16 @@ ghost use Rattle.reg_records.specs.declared.key.Key.TheVariants as keys;
 ghost use Rattle.reg_records.specs.declared.value.Value.TheVariants as values;
 ghost use Rattle.reg_set.specs.LastRecords.{last_records};
 ghost use Rattle.reg_entries.specs.EntryOrder.{Place, place_of};
-ghost use Rattle.reg_entries.specs.Marked.{MarksEach};
+ghost use Rattle.reg_entries.specs.Flagged.{FlagsEach};
 ghost use Rattle.reg_entries.specs.Sought.{of_subject};
 ghost use Rattle.reg_entries.specs.declared.entry.Entry.{Entry};
 ghost use Rattle.reg_fold.specs.Entries.{entries};
 ghost use Rattle.reg_topic.specs.Topic.{records_of_item};
-ghost use Rattle.reg_world.specs.Eager.{after_key, after_records, eager_after, marked_by, marked_with, put_by, standing_at};
+ghost use Rattle.reg_world.specs.Eager.{after_key, after_records, eager_after, flagged_by, flagged_with, put_by, standing_at};
 
 use avro_schema::Schema;
 use base_text::Text;
-use reg_entries::{Entries, Entry, Mark};
+use reg_entries::{Entries, Entry, Flag};
 use reg_fold::{Registry, entries_are_of_places};
 use reg_records::{Key, Record, Value};
 use reg_set::RecordSet;
@@ -176,13 +176,13 @@ fn normal_of(schema: &Option<Schema>) -> Result<Text, AllocError>
     }
 }
 
-/// Takes the record of a soft delete: it marks what stands now.
+/// Takes the record of a soft delete: it flags what stands now.
 fn take_delete(alloc: Global, standing: &mut Entries, given: &Record) -> Result<(), AllocError>
-    ensures { OnOk result ((p : Place) → finmap.get standing.new p ≡ option_map (marked_by given.now) (finmap.get standing.old p)) }
+    ensures { OnOk result ((p : Place) → finmap.get standing.new p ≡ option_map (flagged_by given.now) (finmap.get standing.old p)) }
 {
     match decode_value(alloc, given)? {
         Some(Value::DeleteSubject { subject, version }) => {
-            mark_up_to(alloc, standing, subject, version)
+            flag_up_to(alloc, standing, subject, version)
         }
         Some(
             Value::Schema { .. }
@@ -196,42 +196,42 @@ fn take_delete(alloc: Global, standing: &mut Entries, given: &Record) -> Result<
 }
 
 /// Marks the entries of a subject up to a version.
-fn mark_up_to(
+fn flag_up_to(
     alloc: Global,
     standing: &mut Entries,
     subject: Text,
     greatest: u32,
 ) -> Result<(), AllocError>
-    ensures { OnOk result ((p : Place) → finmap.get standing.new p ≡ option_map (marked_with (values.DeleteSubject subject greatest)) (finmap.get standing.old p)) }
+    ensures { OnOk result ((p : Place) → finmap.get standing.new p ≡ option_map (flagged_with (values.DeleteSubject subject greatest)) (finmap.get standing.old p)) }
 {
-    let marks = marks_up_to(alloc, standing, &subject, greatest)?;
-    standing.mark(subject, &marks);
+    let flags = flags_up_to(alloc, standing, &subject, greatest)?;
+    standing.flag(subject, &flags);
     Ok(())
 }
 
-/// The marks of the entries of a subject, once it is soft-deleted up to a version.
-fn marks_up_to(
+/// The flags of the entries of a subject, once it is soft-deleted up to a version.
+fn flags_up_to(
     alloc: Global,
     standing: &Entries,
     subject: &Text,
     greatest: u32,
-) -> Result<Vec<Mark>, AllocError>
-    ensures { IfOk result (λ marks. MarksEach (λ e. e.soft || nat_le e.version greatest) marks.items (of_subject (finmap.values standing.now) subject.now)) }
+) -> Result<Vec<Flag>, AllocError>
+    ensures { IfOk result (λ flags. FlagsEach (λ e. e.soft || nat_le e.version greatest) flags.items (of_subject (finmap.values standing.now) subject.now)) }
 {
     let found = standing.of_subject(subject.as_str())?;
-    marks_of(alloc, &found, greatest)
+    flags_of(alloc, &found, greatest)
 }
 
-/// The marks of some entries, once their subject is soft-deleted up to a version.
-fn marks_of(alloc: Global, entries: &[&Entry], greatest: u32) -> Result<Vec<Mark>, AllocError>
-    ensures { IfOk result (λ marks. MarksEach (λ e. e.soft || nat_le e.version greatest) marks.items (map (λ e. e.now) entries.now)) }
+/// The flags of some entries, once their subject is soft-deleted up to a version.
+fn flags_of(alloc: Global, entries: &[&Entry], greatest: u32) -> Result<Vec<Flag>, AllocError>
+    ensures { IfOk result (λ flags. FlagsEach (λ e. e.soft || nat_le e.version greatest) flags.items (map (λ e. e.now) entries.now)) }
 {
-    let mut marks = Vec::new(alloc);
+    let mut flags = Vec::new(alloc);
     for entry in entries {
-        marks.push(Mark {
+        flags.push(Flag {
             version: entry.version,
             soft: entry.soft || entry.version <= greatest,
         })?;
     }
-    Ok(marks)
+    Ok(flags)
 }

@@ -110,7 +110,7 @@ pub fn registered_versions_meet_levels()
 }
 
 /// Taken one after the other, the records of the log give the entries of the log, and of each
-/// compaction of it, at whatever floor, with their soft marks.
+/// compaction of it, at whatever floor, with their soft flags.
 pub fn eager_folding_is_right()
     ensures { EagerFoldingIsRight }
 {

@@ -77,7 +77,7 @@ impl fmt::Display for RunError {
 impl Error for RunError {}
 
 impl World {
-    /// A world over a base, whose nodes have no record. Its topic begins with the base and the mark of
+    /// A world over a base, whose nodes have no record. Its topic begins with the base and the flag of
     /// ids that the base owes. A base that isn't adopted is refused.
     pub fn start(alloc: Global, nodes: usize, base: &Log) -> Result<World, AdoptError>
         ensures start { IfOk result (λ w. w ≡ start (topic_from base.now.records.items base.now.next base.now.floor) nodes) }
@@ -137,7 +137,7 @@ impl World {
     }
 
     /// The entries of the log, by subject, by its bytes, and then by version. The log's records are
-    /// taken one after the other, each version's as it comes, and a soft delete marks what stands
+    /// taken one after the other, each version's as it comes, and a soft delete flags what stands
     /// then. The only error is out of memory.
     ///
     /// They are those of a registry over the log, which looks at last records alone.

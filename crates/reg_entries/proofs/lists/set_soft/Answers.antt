@@ -1,7 +1,7 @@
 use Rattle.std.proofs.Common.{◌≡◌, None, Some, ap, subst, ◌∙◌, rules}
 use Rattle.std.specs.Prelude.{is_some}
 use Rattle.reg_entries.specs.Index.{HasAt, entry_at}
-use Rattle.reg_entries.proofs.Marks.{soft_at, soft_nowhere}
+use Rattle.reg_entries.proofs.Flags.{soft_at, soft_nowhere}
 use Rattle.reg_entries.proofs.lists.set_soft.Goals as goal
 
 pub returns-in-Some-clause-at : goal.returns-in-Some-clause-at

@@ -80,8 +80,8 @@ returns-clause-same g c modelled =
     let last = c.in_ok-sync.ensures.seen was_cut.0 in
     (last.0, cut_says (seen d) found is (seen c.sync.new.self) (last.1 ∙ was_cut.1))
 
-pub returns-clause-settled : goal.returns-clause-settled
-returns-clause-settled g c modelled =
+pub returns-clause-steady : goal.returns-clause-steady
+returns-clause-steady g c modelled =
     let known = c.requires.known modelled in
     let d = c.args.disk.now in
     let found = c.args.found.now in

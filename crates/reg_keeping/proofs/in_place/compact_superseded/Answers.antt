@@ -5,7 +5,7 @@ use Rattle.reg_journal.specs.Lines.{said}
 use Rattle.reg_journal.proofs.Moments.{begun, quietly, then}
 use Rattle.reg_keeping.specs.CompactedTo.{IsCompactedBy}
 use Rattle.reg_keeping.specs.InPlace.{IsBeforeOrCompacted}
-use Rattle.reg_keeping.proofs.Shrinks.{has_kept, not_changed, settles, whole}
+use Rattle.reg_keeping.proofs.Shrinks.{has_kept, not_changed, steadies, whole}
 use Rattle.reg_keeping.proofs.in_place.compact_superseded.Goals as goal
 
 pub returns-in-Err-clause-changed : goal.returns-in-Err-clause-changed
@@ -120,4 +120,4 @@ returns-clause-ready g c modelled sound =
     let done = c.in_default.ensures.seen same.0 in
     let durable : Only (seen c.renew.new.self) (may c.renew.new.self) = λ f left. c.in_default.ensures.durable same.0 f left ∙ sym done.1 in
     let ends : c.len.result - 1 ≡ length c.in-Ok.shrunk.bytes.items - 1 = omega (arith, c.len.ensures) in
-    (done.0, settles laws.read laws.ended seen may j.disk j.end j.lines s c.args.floor c.in-Ok.shrunk it c.renew.new.self (c.len.result - 1) (done.1 ∙ bytes) durable ends)
+    (done.0, steadies laws.read laws.ended seen may j.disk j.end j.lines s c.args.floor c.in-Ok.shrunk it c.renew.new.self (c.len.result - 1) (done.1 ∙ bytes) durable ends)

@@ -1,5 +1,5 @@
 use Rattle.std.proofs.Common.{◌≡◌, take, map}
-use Rattle.reg_rules.specs.Standing.{texts_of}
+use Rattle.reg_entries.specs.Sought.{texts_of}
 use Rattle.reg_node.proofs.against.copy_texts.Given as goal
 
 abbrev pub invariant-loop-entry : goal.invariant-loop-entry

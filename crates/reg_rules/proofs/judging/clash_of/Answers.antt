@@ -8,7 +8,7 @@ use Rattle.reg_levels.specs.Judgement.{first_unread}
 use Rattle.reg_levels.specs.Message.{message_of}
 use Rattle.reg_levels.specs.RequiredPairs.{HasRisingVersions}
 use Rattle.reg_levels.specs.Texts.{IsVerdictOfTexts, VersionText}
-use Rattle.reg_rules.specs.Standing.{texts_of}
+use Rattle.reg_entries.specs.Sought.{texts_of}
 use Rattle.reg_rules.proofs.Verdicts.{judgement_reports, live_are_read, verdict_reports}
 use Rattle.reg_rules.proofs.judging.clash_of.Goals as goal
 

@@ -4,7 +4,7 @@ use Rattle.std.specs.FinMap as finmap
 use Rattle.std.specs.List.{filter}
 use Rattle.std.specs.Map.{values_of}
 use Rattle.reg_entries.specs.Covered.{shown_all, under}
-use Rattle.reg_entries.specs.Sought.{counts, counting, of_subject, HasRisingVersions}
+use Rattle.reg_entries.specs.Sought.{counts, counting, of_subject, AreInVersionOrder}
 use Rattle.reg_entries.proofs.Found.{filter_filter, left_of, map_filter, versions_rise}
 use Rattle.reg_entries.proofs.Shown.{in_order_shown, under_subject}
 use Rattle.reg_entries.proofs.Views.{values-view}
@@ -34,7 +34,7 @@ returns-clause-in_order c =
     let deleted = c.args.deleted in
     let deletes = c.args.deletes.now in
     let es = shown_all deletes (values_of m.entries) in
-    let rise : HasRisingVersions (filter (λ e. bytes_eq e.subject s && counts deleted e) es) =
+    let rise : AreInVersionOrder (filter (λ e. bytes_eq e.subject s && counts deleted e) es) =
     versions_rise s (λ e. bytes_eq e.subject s && counts deleted e) (λ e h. (bytes_eq-Decides e.subject s).0 (left_of _ _ h)) es (in_order_shown deletes m i.ordered i.placed) in
-    let here : HasRisingVersions (counting es s deleted) = subst HasRisingVersions (sym (filter_filter (λ e. bytes_eq e.subject s) (counts deleted) es)) rise in
-    subst HasRisingVersions (sym (all_here c ∙ ap (λ es. counting (shown_all deletes es) s deleted) (sym (ap finmap.values c.self.view_is) ∙ values-view m i.ordered))) here
+    let here : AreInVersionOrder (counting es s deleted) = subst AreInVersionOrder (sym (filter_filter (λ e. bytes_eq e.subject s) (counts deleted) es)) rise in
+    subst AreInVersionOrder (sym (all_here c ∙ ap (λ es. counting (shown_all deletes es) s deleted) (sym (ap finmap.values c.self.view_is) ∙ values-view m i.ordered))) here

@@ -1,5 +1,5 @@
 use Rattle.std.proofs.Common.{map, sym, ap, subst, ◌∙◌}
-use Rattle.reg_entries.specs.Sought.{HasRisingVersions}
+use Rattle.reg_entries.specs.Sought.{AreInVersionOrder}
 use Rattle.reg_entries.proofs.entries.Entries.of_subject.Goals as goal
 
 pub returns-clause-all : goal.returns-clause-all
@@ -7,4 +7,4 @@ returns-clause-all c = c.in_ok-found.ensures ∙ ap (map (λ e. e.now)) c.deref.
 
 pub returns-clause-in_order : goal.returns-clause-in_order
 returns-clause-in_order c =
-    subst HasRisingVersions (sym (c.in_ok-found.ensures ∙ ap (map (λ e. e.now)) c.deref.ensures.value)) c.in_ok-twins.ensures.in_order
+    subst AreInVersionOrder (sym (c.in_ok-found.ensures ∙ ap (map (λ e. e.now)) c.deref.ensures.value)) c.in_ok-twins.ensures.in_order

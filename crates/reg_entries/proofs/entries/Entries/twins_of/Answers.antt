@@ -6,7 +6,7 @@ use Rattle.std.specs.Map.{values_of}
 use Rattle.std.specs.Ordering.{is_gt}
 use Rattle.std.specs.declared.ops.Bound.TheVariants.{Included}
 use Rattle.reg_entries.specs.EntryOrder.{place_cmp}
-use Rattle.reg_entries.specs.Sought.{of_subject, HasRisingVersions}
+use Rattle.reg_entries.specs.Sought.{of_subject, AreInVersionOrder}
 use Rattle.reg_entries.proofs.Found.{at_places, between_is_subject, forward, values_in_order, versions_rise}
 use Rattle.reg_entries.proofs.Views.{values-view}
 use Rattle.reg_entries.proofs.entries.Entries.twins_of.Goals as goal
@@ -34,5 +34,5 @@ returns-clause-in_order c =
     let s = c.args.subject.now in
     let i = c.self.invariant.0 in
     let es = values_of m.entries in
-    let rise : HasRisingVersions (of_subject es s) = versions_rise s (λ e. bytes_eq e.subject s) (λ e. (bytes_eq-Decides e.subject s).0) es (values_in_order m.entries (at_places m i.ordered i.placed) i.ordered) in
-    subst HasRisingVersions (sym (all_here c ∙ ap (λ es. of_subject es s) (sym (ap finmap.values c.self.view_is) ∙ values-view m i.ordered))) rise
+    let rise : AreInVersionOrder (of_subject es s) = versions_rise s (λ e. bytes_eq e.subject s) (λ e. (bytes_eq-Decides e.subject s).0) es (values_in_order m.entries (at_places m i.ordered i.placed) i.ordered) in
+    subst AreInVersionOrder (sym (all_here c ∙ ap (λ es. of_subject es s) (sym (ap finmap.values c.self.view_is) ∙ values-view m i.ordered))) rise

@@ -2,7 +2,8 @@ use Rattle.std.proofs.Common.{ap, subst, sym, ◌∙◌}
 use Rattle.reg_fold.specs.Opaque.{is_opaque, is_version}
 use Rattle.reg_fold.specs.Scopes.{HasOwn}
 use Rattle.reg_fold.proofs.Own.{own-other}
-use Rattle.reg_fold.proofs.Owned.{is_delete, is_id_mark, is_mode, levels-change, mark-stays, modes-stay}
+use Rattle.reg_fold.proofs.Owned.{is_id_mark, is_mode, levels-change, mark-stays, modes-stay}
+use Rattle.reg_records.specs.Key.{is_delete}
 use Rattle.reg_fold.proofs.SoftDeletes.{deletes-stay}
 use Rattle.reg_fold.proofs.Spotted.{spots-other}
 use Rattle.reg_fold.proofs.index.Index.apply_config.Goals as goal

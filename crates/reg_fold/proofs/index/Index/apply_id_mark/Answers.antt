@@ -1,7 +1,8 @@
 use Rattle.std.proofs.Common.{ap, sym, unwrap_or, ◌∙◌}
 use Rattle.reg_fold.specs.Opaque.{is_opaque, is_version}
 use Rattle.reg_fold.proofs.Own.{own-other}
-use Rattle.reg_fold.proofs.Owned.{is_delete, is_config, is_mode, levels-stay, mark-changes, modes-stay}
+use Rattle.reg_fold.proofs.Owned.{is_config, is_mode, levels-stay, mark-changes, modes-stay}
+use Rattle.reg_records.specs.Key.{is_delete}
 use Rattle.reg_fold.proofs.SoftDeletes.{deletes-stay}
 use Rattle.reg_fold.proofs.Spotted.{spots-other}
 use Rattle.reg_fold.proofs.index.Index.apply_id_mark.Goals as goal

@@ -3,7 +3,8 @@ use Rattle.reg_records.specs.declared.key.Key.TheVariants as keys
 use Rattle.reg_fold.specs.Opaque.{is_opaque, is_version}
 use Rattle.reg_fold.specs.Own.{AreOwnEntries}
 use Rattle.reg_fold.proofs.Own.{own-removed}
-use Rattle.reg_fold.proofs.Owned.{is_delete, is_config, is_id_mark, is_mode, levels-stay, mark-stays, modes-stay}
+use Rattle.reg_fold.proofs.Owned.{is_config, is_id_mark, is_mode, levels-stay, mark-stays, modes-stay}
+use Rattle.reg_records.specs.Key.{is_delete}
 use Rattle.reg_fold.proofs.SoftDeletes.{deletes-stay}
 use Rattle.reg_fold.proofs.Spotted.{spots-forgotten, without_text}
 use Rattle.reg_fold.proofs.Tombstones.{gives_none, has_last, has_no_value, is_of_version}

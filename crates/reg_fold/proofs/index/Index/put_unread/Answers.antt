@@ -4,7 +4,8 @@ use Rattle.reg_fold.specs.Opaque.{is_opaque}
 use Rattle.reg_fold.specs.Own.{AreOwnEntries}
 use Rattle.reg_fold.specs.Spots.{Forgets, elsewhere, spot_cmp}
 use Rattle.reg_fold.proofs.Own.{own-removed, own_none}
-use Rattle.reg_fold.proofs.Owned.{is_delete, is_config, is_id_mark, is_mode, levels-stay, mark-stays, modes-stay}
+use Rattle.reg_fold.proofs.Owned.{is_config, is_id_mark, is_mode, levels-stay, mark-stays, modes-stay}
+use Rattle.reg_records.specs.Key.{is_delete}
 use Rattle.reg_fold.proofs.SoftDeletes.{deletes-stay}
 use Rattle.reg_fold.proofs.Spotted.{spots-put, unreadable}
 use Rattle.reg_fold.proofs.index.Index.put_unread.Goals as goal

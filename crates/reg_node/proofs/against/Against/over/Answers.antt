@@ -2,7 +2,7 @@ use Rattle.std.proofs.Common.{Some, map, sym, ap, subst, ◌∙◌}
 use Rattle.reg_fold.specs.InForce.{level}
 use Rattle.reg_fold.specs.Standing.{live}
 use Rattle.reg_levels.specs.RequiredPairs.{HasRisingVersions}
-use Rattle.reg_rules.specs.Standing.{texts_of}
+use Rattle.reg_entries.specs.Sought.{texts_of}
 use Rattle.reg_node.proofs.Matters.{stands, texts_rise}
 use Rattle.reg_node.proofs.against.Against.over.Goals as goal
 

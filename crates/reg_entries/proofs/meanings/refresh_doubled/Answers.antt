@@ -1,7 +1,7 @@
 use Rattle.std.proofs.Common.{◌≡◌, true, false, sym, ◌∙◌, rules, tests}
 use Rattle.std.proofs.lemmas.Bool.{false≢true}
 use Rattle.reg_entries.proofs.Meant.{doubled_gone, doubled_stays}
-use Rattle.reg_entries.proofs.meanings.settle_doubled.Goals as goal
+use Rattle.reg_entries.proofs.meanings.refresh_doubled.Goals as goal
 
 pub returns-then-not-has_two : goal.returns-then-not-has_two
 returns-then-not-has_two c =

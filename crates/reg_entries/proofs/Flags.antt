@@ -1,4 +1,4 @@
--- Entries with other marks.
+-- Entries with other flags.
 use Rattle.std.proofs.Common.{◌≡◌, ℕ, ◌+◌, ◌<◌, Bool, true, false, cond, ◌&&◌, ◌==◌, ◌⊎◌, inl, inr, ⊎_elim, List, [], ◌∷◌, ◌++◌, map}
 use Rattle.std.proofs.Common.{take, length, get_or, fold, Option, Some, None, option_map, refl, sym, ap, subst, ◌∙◌, arith}
 use Rattle.std.proofs.lemmas.Bool.{false≢true}
@@ -16,10 +16,10 @@ use Rattle.std.specs.Prelude.{bytes_eq, IfSome, is_some}
 use Rattle.std.specs.declared.string.String.{String}
 use Rattle.reg_entries.specs.EntryOrder.{Place, place_cmp, place_of}
 use Rattle.reg_entries.specs.Index.{Name, name_cmp, name_of, entry_at, IsAt, ArePlaced, AreNamed, HasAt, IsIndexed, IsTop}
-use Rattle.reg_entries.specs.Marked.{with_soft, mark_one, marked, MarksEach}
+use Rattle.reg_entries.specs.Flagged.{with_soft, flag_one, flagged, FlagsEach}
 use Rattle.reg_entries.specs.Schemas.{Schema, schema_of, AreListed}
 use Rattle.reg_entries.specs.declared.entry.Entry.{Entry}
-use Rattle.reg_entries.specs.declared.entry.Mark.{Mark}
+use Rattle.reg_entries.specs.declared.entry.Flag.{Flag}
 use Rattle.reg_entries.proofs.Chosen.{IsIn, all_filter, all_map, in_filter}
 use Rattle.reg_entries.proofs.Found.{all_found, in_values}
 use Rattle.reg_entries.proofs.Listed.{has_it}
@@ -27,7 +27,7 @@ use Rattle.reg_entries.proofs.Queries.{one_place}
 use Rattle.reg_entries.proofs.Places.{place_cmp-total, same_place}
 
 module _ (m n : BTreeMap Place Entry) (p : Place) (soft : Bool) where
-  -- where the entry at a place is marked
+  -- where the entry at a place is flagged
   pub soft_at : (e : Entry) → entry_at m p ≡ Some e → HasAt m n p (Some (with_soft soft e))
       → (q : Place) → entry_at n q ≡ cond (eq_by_cmp place_cmp p q) (option_map (with_soft soft) (entry_at m q)) (entry_at m q)
   soft_at e found at q =
@@ -44,17 +44,17 @@ module _ (m n : BTreeMap Place Entry) (p : Place) (soft : Bool) where
         | false ↦ λ h. refl
       ] refl
 
--- the version and the subject of an entry stay under any marks
-fold_keeps : {X : Type 0} (f : Entry → X) → ((b : Bool) (e : Entry) → f (with_soft b e) ≡ f e) → (marks : List Mark) (e : Entry) → f (fold mark_one e marks) ≡ f e
+-- the version and the subject of an entry stay under any flags
+fold_keeps : {X : Type 0} (f : Entry → X) → ((b : Bool) (e : Entry) → f (with_soft b e) ≡ f e) → (flags : List Flag) (e : Entry) → f (fold flag_one e flags) ≡ f e
 fold_keeps f same [] e = refl
-fold_keeps f same (k ∷ ks) e = fold_keeps f same ks (mark_one e k) ∙ one (e.version == k.version)
+fold_keeps f same (k ∷ ks) e = fold_keeps f same ks (flag_one e k) ∙ one (e.version == k.version)
   where
     one : (b : Bool) → f (cond b (with_soft k.soft e) e) ≡ f e
     one true = same k.soft e
     one false = refl
 
-pub marked_keeps : {X : Type 0} (f : Entry → X) → ((b : Bool) (e : Entry) → f (with_soft b e) ≡ f e) → (s : List ℕ) (marks : List Mark) (e : Entry) → f (marked s marks e) ≡ f e
-marked_keeps f same s marks e = elim (bytes_eq e.subject s) as (λ b. f (cond b (fold mark_one e marks) e) ≡ f e) [ true ↦ fold_keeps f same marks e | false ↦ refl ]
+pub flagged_keeps : {X : Type 0} (f : Entry → X) → ((b : Bool) (e : Entry) → f (with_soft b e) ≡ f e) → (s : List ℕ) (flags : List Flag) (e : Entry) → f (flagged s flags e) ≡ f e
+flagged_keeps f same s flags e = elim (bytes_eq e.subject s) as (λ b. f (cond b (fold flag_one e flags) e) ≡ f e) [ true ↦ fold_keeps f same flags e | false ↦ refl ]
 
 number : (a b : ℕ) → (a == b) ≡ true → a ≡ b
 number a b h = grind arith
@@ -81,40 +81,40 @@ other_subject s v e apart =
       | false ↦ λ h. refl
     ] refl
 
-module _ (s : List ℕ) (marks : List Mark) (i : ℕ) (k : Mark) (within : i < length marks) (at : k ≡ get_or marks i k) where
-  more : take (i + 1) marks ≡ take i marks ++ k ∷ []
-  more = take_more marks i k within ∙ ap (λ y. take i marks ++ y ∷ []) (sym at)
+module _ (s : List ℕ) (flags : List Flag) (i : ℕ) (k : Flag) (within : i < length flags) (at : k ≡ get_or flags i k) where
+  more : take (i + 1) flags ≡ take i flags ++ k ∷ []
+  more = take_more flags i k within ∙ ap (λ y. take i flags ++ y ∷ []) (sym at)
 
-  fold_more : (e : Entry) → fold mark_one e (take (i + 1) marks) ≡ mark_one (fold mark_one e (take i marks)) k
-  fold_more e = ap (fold mark_one e) more ∙ fold-append mark_one e (take i marks) (k ∷ [])
+  fold_more : (e : Entry) → fold flag_one e (take (i + 1) flags) ≡ flag_one (fold flag_one e (take i flags)) k
+  fold_more e = ap (fold flag_one e) more ∙ fold-append flag_one e (take i flags) (k ∷ [])
 
-  -- one more mark
-  one_more : (e : Entry) → cond (eq_by_cmp place_cmp (s, k.version) (place_of e)) (with_soft k.soft (marked s (take i marks) e)) (marked s (take i marks) e) ≡ marked s (take (i + 1) marks) e
+  -- one more flag
+  one_more : (e : Entry) → cond (eq_by_cmp place_cmp (s, k.version) (place_of e)) (with_soft k.soft (flagged s (take i flags) e)) (flagged s (take i flags) e) ≡ flagged s (take (i + 1) flags) e
   one_more e =
-      elim (bytes_eq e.subject s) as (λ b. bytes_eq e.subject s ≡ b → cond (eq_by_cmp place_cmp (s, k.version) (place_of e)) (with_soft k.soft (cond b (fold mark_one e (take i marks)) e)) (cond b (fold mark_one e (take i marks)) e) ≡ cond b (fold mark_one e (take (i + 1) marks)) e) [
+      elim (bytes_eq e.subject s) as (λ b. bytes_eq e.subject s ≡ b → cond (eq_by_cmp place_cmp (s, k.version) (place_of e)) (with_soft k.soft (cond b (fold flag_one e (take i flags)) e)) (cond b (fold flag_one e (take i flags)) e) ≡ cond b (fold flag_one e (take (i + 1) flags)) e) [
         | true ↦ λ h.
-            let f = fold mark_one e (take i marks) in
-            let version : f.version ≡ e.version = fold_keeps (λ x. x.version) (λ b x. refl) (take i marks) e in
+            let f = fold flag_one e (take i flags) in
+            let version : f.version ≡ e.version = fold_keeps (λ x. x.version) (λ b x. refl) (take i flags) e in
             let test : eq_by_cmp place_cmp (s, k.version) (place_of e) ≡ (f.version == k.version) = is_version s k.version e ((bytes_eq-Decides e.subject s).0 h) ∙ ap (λ v. v == k.version) (sym version) in
             ap (λ b. cond b (with_soft k.soft f) f) test ∙ sym (fold_more e)
         | false ↦ λ h. ap (λ b. cond b (with_soft k.soft e) e) (other_subject s k.version e h)
       ] refl
 
-  pub marked_more : (m cur new : BTreeMap Place Entry) → ArePlaced m
-      → ((p : Place) → entry_at cur p ≡ option_map (marked s (take i marks)) (entry_at m p))
+  pub flagged_more : (m cur new : BTreeMap Place Entry) → ArePlaced m
+      → ((p : Place) → entry_at cur p ≡ option_map (flagged s (take i flags)) (entry_at m p))
       → ((q : Place) → entry_at new q ≡ cond (eq_by_cmp place_cmp (s, k.version) q) (option_map (with_soft k.soft) (entry_at cur q)) (entry_at cur q))
-      → (q : Place) → entry_at new q ≡ option_map (marked s (take (i + 1) marks)) (entry_at m q)
-  marked_more m cur new placed so_far set q =
-      elim (entry_at m q) as (λ o. entry_at m q ≡ o → entry_at new q ≡ option_map (marked s (take (i + 1) marks)) o) [
+      → (q : Place) → entry_at new q ≡ option_map (flagged s (take (i + 1) flags)) (entry_at m q)
+  flagged_more m cur new placed so_far set q =
+      elim (entry_at m q) as (λ o. entry_at m q ≡ o → entry_at new q ≡ option_map (flagged s (take (i + 1) flags)) o) [
         | None ↦ λ is.
-            let none : entry_at cur q ≡ None = so_far q ∙ ap (option_map (marked s (take i marks))) is in
+            let none : entry_at cur q ≡ None = so_far q ∙ ap (option_map (flagged s (take i flags))) is in
             set q ∙ ap (λ o. cond (eq_by_cmp place_cmp (s, k.version) q) (option_map (with_soft k.soft) o) o) none ∙ never (eq_by_cmp place_cmp (s, k.version) q)
         | Some e ↦ λ is.
             let place : place_of e ≡ q = (subst (λ o. IfSome o (IsAt q)) is (placed q)).0 in
-            let some : entry_at cur q ≡ Some (marked s (take i marks) e) = so_far q ∙ ap (option_map (marked s (take i marks))) is in
+            let some : entry_at cur q ≡ Some (flagged s (take i flags) e) = so_far q ∙ ap (option_map (flagged s (take i flags))) is in
             set q ∙ ap (λ o. cond (eq_by_cmp place_cmp (s, k.version) q) (option_map (with_soft k.soft) o) o) some
-            ∙ inward (eq_by_cmp place_cmp (s, k.version) q) (marked s (take i marks) e)
-            ∙ ap Some (ap (λ p. cond (eq_by_cmp place_cmp (s, k.version) p) (with_soft k.soft (marked s (take i marks) e)) (marked s (take i marks) e)) (sym place) ∙ one_more e)
+            ∙ inward (eq_by_cmp place_cmp (s, k.version) q) (flagged s (take i flags) e)
+            ∙ ap Some (ap (λ p. cond (eq_by_cmp place_cmp (s, k.version) p) (with_soft k.soft (flagged s (take i flags) e)) (flagged s (take i flags) e)) (sym place) ∙ one_more e)
       ] refl
     where
       never : (b : Bool) → ◌≡◌ {A = Option Entry} (cond b None None) None
@@ -125,78 +125,78 @@ module _ (s : List ℕ) (marks : List Mark) (i : ℕ) (k : Mark) (within : i < l
       inward true e = refl
       inward false e = refl
 
--- before the first mark
-pub marked_none : (s : List ℕ) (o : Option Entry) → o ≡ option_map (marked s []) o
-marked_none s None = refl
-marked_none s (Some e) = ap Some (elim (bytes_eq e.subject s) as (λ b. e ≡ cond b e e) [ true ↦ refl | false ↦ refl ])
+-- before the first flag
+pub flagged_none : (s : List ℕ) (o : Option Entry) → o ≡ option_map (flagged s []) o
+flagged_none s None = refl
+flagged_none s (Some e) = ap Some (elim (bytes_eq e.subject s) as (λ b. e ≡ cond b e e) [ true ↦ refl | false ↦ refl ])
 
-module _ {Y : Type 0} (m n : BTreeMap Place Entry) (names : BTreeSet Name) (tops : BTreeMap (String Y) Place) (indexed : IsIndexed m names tops) (ordered : IsOrdered place_cmp n) (s : List ℕ) (marks : List Mark) (at : (p : Place) → entry_at n p ≡ option_map (marked s marks) (entry_at m p)) where
+module _ {Y : Type 0} (m n : BTreeMap Place Entry) (names : BTreeSet Name) (tops : BTreeMap (String Y) Place) (indexed : IsIndexed m names tops) (ordered : IsOrdered place_cmp n) (s : List ℕ) (flags : List Flag) (at : (p : Place) → entry_at n p ≡ option_map (flagged s flags) (entry_at m p)) where
   same_some : (p : Place) → is_some (entry_at n p) ≡ is_some (entry_at m p)
-  same_some p = ap is_some (at p) ∙ elim (entry_at m p) as (λ o. is_some (option_map (marked s marks) o) ≡ is_some o) [ None ↦ refl | Some e ↦ refl ]
+  same_some p = ap is_some (at p) ∙ elim (entry_at m p) as (λ o. is_some (option_map (flagged s flags) o) ≡ is_some o) [ None ↦ refl | Some e ↦ refl ]
 
-  placed_marked : ArePlaced n
-  placed_marked p = subst (λ o. IfSome o (IsAt p)) (sym (at p)) (each (entry_at m p) (indexed.placed p))
+  placed_flagged : ArePlaced n
+  placed_flagged p = subst (λ o. IfSome o (IsAt p)) (sym (at p)) (each (entry_at m p) (indexed.placed p))
     where
-      each : (o : Option Entry) → IfSome o (IsAt p) → IfSome (option_map (marked s marks) o) (IsAt p)
+      each : (o : Option Entry) → IfSome o (IsAt p) → IfSome (option_map (flagged s flags) o) (IsAt p)
       each None h = h
-      each (Some e) h = (marked_keeps place_of (λ b x. refl) s marks e ∙ h.0, h.1)
+      each (Some e) h = (flagged_keeps place_of (λ b x. refl) s flags e ∙ h.0, h.1)
 
-  named_marked : AreNamed n names
-  named_marked x = indexed.named x ∙ each (entry_at m x.2) ∙ ap (λ o. option_map_or (λ e. eq_by_cmp name_cmp (name_of e) x) o false) (sym (at x.2))
+  named_flagged : AreNamed n names
+  named_flagged x = indexed.named x ∙ each (entry_at m x.2) ∙ ap (λ o. option_map_or (λ e. eq_by_cmp name_cmp (name_of e) x) o false) (sym (at x.2))
     where
-      each : (o : Option Entry) → option_map_or (λ e. eq_by_cmp name_cmp (name_of e) x) o false ≡ option_map_or (λ e. eq_by_cmp name_cmp (name_of e) x) (option_map (marked s marks) o) false
+      each : (o : Option Entry) → option_map_or (λ e. eq_by_cmp name_cmp (name_of e) x) o false ≡ option_map_or (λ e. eq_by_cmp name_cmp (name_of e) x) (option_map (flagged s flags) o) false
       each None = refl
-      each (Some e) = ap (λ y. eq_by_cmp name_cmp y x) (sym (marked_keeps name_of (λ b x. refl) s marks e))
+      each (Some e) = ap (λ y. eq_by_cmp name_cmp y x) (sym (flagged_keeps name_of (λ b x. refl) s flags e))
 
-  top_marked : (t : List ℕ) (o : Option Place) → IsTop m t o → IsTop n t o
-  top_marked t None h = λ w. at (t, w) ∙ ap (option_map (marked s marks)) (h w)
-  top_marked t (Some p) h = (h.0, same_some p ∙ h.1, λ w some. h.2 w (sym (same_some (t, w)) ∙ some))
+  top_flagged : (t : List ℕ) (o : Option Place) → IsTop m t o → IsTop n t o
+  top_flagged t None h = λ w. at (t, w) ∙ ap (option_map (flagged s flags)) (h w)
+  top_flagged t (Some p) h = (h.0, same_some p ∙ h.1, λ w some. h.2 w (sym (same_some (t, w)) ∙ some))
 
-  -- all that is kept beside the entries stays under marks
-  pub indexed_marked : IsIndexed n names tops
-  indexed_marked = record {
+  -- all that is kept beside the entries stays under flags
+  pub indexed_flagged : IsIndexed n names tops
+  indexed_flagged = record {
     ordered = ordered;
-    placed = placed_marked;
-    named = named_marked;
-    top = λ t. top_marked t (get_by_text tops t) (indexed.top t);
+    placed = placed_flagged;
+    named = named_flagged;
+    top = λ t. top_flagged t (get_by_text tops t) (indexed.top t);
   }
 
--- marks of other entries leave an entry as it is, and its own gives it its mark
+-- flags of other entries leave an entry as it is, and its own gives it its flag
 module _ (soft : Entry → Bool) (e : Entry) where
-  abbrev mark_of : Entry → Mark
-  mark_of x = record { version = x.version; soft = soft x }
+  abbrev flag_of : Entry → Flag
+  flag_of x = record { version = x.version; soft = soft x }
 
   abbrev IsSame : Entry → Type 0
   IsSame x = x.version ≡ e.version → x ≡ e
 
-  one : (b : Bool) (x : Entry) → IsSame x → (mark_one (with_soft b e) (mark_of x) ≡ with_soft b e) ⊎ (mark_one (with_soft b e) (mark_of x) ≡ with_soft (soft e) e)
+  one : (b : Bool) (x : Entry) → IsSame x → (flag_one (with_soft b e) (flag_of x) ≡ with_soft b e) ⊎ (flag_one (with_soft b e) (flag_of x) ≡ with_soft (soft e) e)
   one b x same =
       elim (e.version == x.version) as (λ t. (e.version == x.version) ≡ t → (cond t (with_soft (soft x) (with_soft b e)) (with_soft b e) ≡ with_soft b e) ⊎ (cond t (with_soft (soft x) (with_soft b e)) (with_soft b e) ≡ with_soft (soft e) e)) [
         | true ↦ λ h. inr (ap (λ y. with_soft (soft y) e) (same (sym (number e.version x.version h))))
         | false ↦ λ h. inl refl
       ] refl
 
-  own_mark : (b : Bool) (x : Entry) → x ≡ e → mark_one (with_soft b e) (mark_of x) ≡ with_soft (soft e) e
-  own_mark b x is = ap (λ t. cond t (with_soft (soft x) e) (with_soft b e)) (itself e.version x.version (sym (ap (λ y. y.version) is))) ∙ ap (λ y. with_soft (soft y) e) is
+  own_flag : (b : Bool) (x : Entry) → x ≡ e → flag_one (with_soft b e) (flag_of x) ≡ with_soft (soft e) e
+  own_flag b x is = ap (λ t. cond t (with_soft (soft x) e) (with_soft b e)) (itself e.version x.version (sym (ap (λ y. y.version) is))) ∙ ap (λ y. with_soft (soft y) e) is
 
-  fold_hit : (xs : List Entry) → AllByRecursion IsSame xs → fold mark_one (with_soft (soft e) e) (map mark_of xs) ≡ with_soft (soft e) e
+  fold_hit : (xs : List Entry) → AllByRecursion IsSame xs → fold flag_one (with_soft (soft e) e) (map flag_of xs) ≡ with_soft (soft e) e
   fold_hit [] h = refl
-  fold_hit (x ∷ xs) h = ap (λ y. fold mark_one y (map mark_of xs)) (⊎_elim (λ k. k) (λ k. k) (one (soft e) x h.0)) ∙ fold_hit xs h.1
+  fold_hit (x ∷ xs) h = ap (λ y. fold flag_one y (map flag_of xs)) (⊎_elim (λ k. k) (λ k. k) (one (soft e) x h.0)) ∙ fold_hit xs h.1
 
-  fold_reach : (b : Bool) (xs : List Entry) → AllByRecursion IsSame xs → IsIn e xs → fold mark_one (with_soft b e) (map mark_of xs) ≡ with_soft (soft e) e
+  fold_reach : (b : Bool) (xs : List Entry) → AllByRecursion IsSame xs → IsIn e xs → fold flag_one (with_soft b e) (map flag_of xs) ≡ with_soft (soft e) e
   fold_reach b [] h i = absurd i
-  fold_reach b (x ∷ xs) h (inl is) = ap (λ y. fold mark_one y (map mark_of xs)) (own_mark b x is) ∙ fold_hit xs h.1
+  fold_reach b (x ∷ xs) h (inl is) = ap (λ y. fold flag_one y (map flag_of xs)) (own_flag b x is) ∙ fold_hit xs h.1
   fold_reach b (x ∷ xs) h (inr i) =
-      ⊎_elim (λ k. ap (λ y. fold mark_one y (map mark_of xs)) k ∙ fold_reach b xs h.1 i) (λ k. ap (λ y. fold mark_one y (map mark_of xs)) k ∙ fold_hit xs h.1) (one b x h.0)
+      ⊎_elim (λ k. ap (λ y. fold flag_one y (map flag_of xs)) k ∙ fold_reach b xs h.1 i) (λ k. ap (λ y. fold flag_one y (map flag_of xs)) k ∙ fold_hit xs h.1) (one b x h.0)
 
-module _ {Y : Type 0} (m n : BTreeMap Place Entry) (names : BTreeSet Name) (tops : BTreeMap (String Y) Place) (indexed : IsIndexed m names tops) (s : List ℕ) (marks : List Mark) (at : (p : Place) → entry_at n p ≡ option_map (marked s marks) (entry_at m p)) where
-  -- where each entry of the subject has its mark
-  pub each_marked : (soft : Entry → Bool) → MarksEach soft marks (filter (λ e. bytes_eq e.subject s) (values_of m.entries))
+module _ {Y : Type 0} (m n : BTreeMap Place Entry) (names : BTreeSet Name) (tops : BTreeMap (String Y) Place) (indexed : IsIndexed m names tops) (s : List ℕ) (flags : List Flag) (at : (p : Place) → entry_at n p ≡ option_map (flagged s flags) (entry_at m p)) where
+  -- where each entry of the subject has its flag
+  pub each_flagged : (soft : Entry → Bool) → FlagsEach soft flags (filter (λ e. bytes_eq e.subject s) (values_of m.entries))
       → (p : Place) → entry_at n p ≡ option_map (λ e. cond (bytes_eq e.subject s) (with_soft (soft e) e) e) (entry_at m p)
-  each_marked soft are p =
+  each_flagged soft are p =
       elim (entry_at m p) as (λ o. entry_at m p ≡ o → entry_at n p ≡ option_map (λ e. cond (bytes_eq e.subject s) (with_soft (soft e) e) e) o) [
-        | None ↦ λ is. at p ∙ ap (option_map (marked s marks)) is
-        | Some e ↦ λ is. at p ∙ ap (option_map (marked s marks)) is ∙ ap Some (own e is)
+        | None ↦ λ is. at p ∙ ap (option_map (flagged s flags)) is
+        | Some e ↦ λ is. at p ∙ ap (option_map (flagged s flags)) is ∙ ap Some (own e is)
       ] refl
     where
       same : (e : Entry) → entry_at m p ≡ Some e → e.subject ≡ s → AllByRecursion (λ x. x.version ≡ e.version → x ≡ e) (filter (λ x. bytes_eq x.subject s) (values_of m.entries))
@@ -206,21 +206,21 @@ module _ {Y : Type 0} (m n : BTreeMap Place Entry) (names : BTreeSet Name) (tops
           (all_found (λ q x. bytes_eq x.subject s ≡ true → x.version ≡ e.version → x ≡ e) m.entries indexed.ordered
           (λ q x found subject version. one_place m names tops indexed q p x e found is (λ i. (((bytes_eq-Decides x.subject s).0 subject ∙ sym of_s) i, version i)))))
 
-      own : (e : Entry) → entry_at m p ≡ Some e → marked s marks e ≡ cond (bytes_eq e.subject s) (with_soft (soft e) e) e
+      own : (e : Entry) → entry_at m p ≡ Some e → flagged s flags e ≡ cond (bytes_eq e.subject s) (with_soft (soft e) e) e
       own e is =
-          elim (bytes_eq e.subject s) as (λ b. bytes_eq e.subject s ≡ b → cond b (fold mark_one e marks) e ≡ cond b (with_soft (soft e) e) e) [
+          elim (bytes_eq e.subject s) as (λ b. bytes_eq e.subject s ≡ b → cond b (fold flag_one e flags) e ≡ cond b (with_soft (soft e) e) e) [
             | true ↦ λ h.
                 let of_s : e.subject ≡ s = (bytes_eq-Decides e.subject s).0 h in
-                ap (fold mark_one e) are
+                ap (fold flag_one e) are
                 ∙ fold_reach soft e e.soft (filter (λ x. bytes_eq x.subject s) (values_of m.entries)) (same e is of_s) (in_filter (λ x. bytes_eq x.subject s) e (values_of m.entries) h (in_values p e m.entries is))
             | false ↦ λ h. refl
           ] refl
 
--- the schemas stay under marks
-pub listed_marked : (m n : BTreeMap Place Entry) (schemas : BTreeSet Schema) → AreListed m schemas → (s : List ℕ) (marks : List Mark)
-    → ((p : Place) → entry_at n p ≡ option_map (marked s marks) (entry_at m p)) → AreListed n schemas
-listed_marked m n schemas listed s marks at x = listed x ∙ each (entry_at m x.2) ∙ ap (λ o. has_it o x) (sym (at x.2))
+-- the schemas stay under flags
+pub listed_flagged : (m n : BTreeMap Place Entry) (schemas : BTreeSet Schema) → AreListed m schemas → (s : List ℕ) (flags : List Flag)
+    → ((p : Place) → entry_at n p ≡ option_map (flagged s flags) (entry_at m p)) → AreListed n schemas
+listed_flagged m n schemas listed s flags at x = listed x ∙ each (entry_at m x.2) ∙ ap (λ o. has_it o x) (sym (at x.2))
   where
-    each : (o : Option Entry) → has_it o x ≡ has_it (option_map (marked s marks) o) x
+    each : (o : Option Entry) → has_it o x ≡ has_it (option_map (flagged s flags) o) x
     each None = refl
-    each (Some e) = ap (λ (k : Schema). k.1 == x.1 && bytes_eq k.0 x.0) (sym (marked_keeps schema_of (λ b x. refl) s marks e))
+    each (Some e) = ap (λ (k : Schema). k.1 == x.1 && bytes_eq k.0 x.0) (sym (flagged_keeps schema_of (λ b x. refl) s flags e))

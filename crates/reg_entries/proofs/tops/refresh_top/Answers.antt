@@ -2,7 +2,7 @@ use Rattle.std.proofs.Common.{◌≡◌, Some, None, sym, ap, subst, ◌∙◌, 
 use Rattle.std.specs.BTreeMap.{get_by_text}
 use Rattle.reg_entries.specs.Index.{IsTop}
 use Rattle.reg_entries.proofs.Topmost.{top_is}
-use Rattle.reg_entries.proofs.tops.settle_top.Goals as goal
+use Rattle.reg_entries.proofs.tops.refresh_top.Goals as goal
 
 pub returns-in-Some-clause-top : goal.returns-in-Some-clause-top
 returns-in-Some-clause-top c = λ room.

@@ -1,7 +1,7 @@
 use Rattle.std.proofs.Common.{◌≡◌, take, map}
 use Rattle.reg_entries.specs.declared.entry.Entry.{Entry}
-use Rattle.reg_rules.specs.Standing.{texts_of}
-use Rattle.reg_rules.proofs.judging.texts_of.Given as goal
+use Rattle.reg_entries.specs.Sought.{texts_of}
+use Rattle.reg_entries.proofs.version_texts.texts_of.Given as goal
 
 abbrev pub invariant-loop-entry : goal.invariant-loop-entry
 invariant-loop-entry l = record {

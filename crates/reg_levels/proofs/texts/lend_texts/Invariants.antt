@@ -1,6 +1,6 @@
 use Rattle.std.proofs.Common.{◌≡◌, take, map}
 use Rattle.reg_levels.specs.Texts.{VersionText}
-use Rattle.reg_lookup.proofs.checked.lend_texts.Given as goal
+use Rattle.reg_levels.proofs.texts.lend_texts.Given as goal
 
 abbrev pub invariant-loop-old : goal.invariant-loop-old
 invariant-loop-old l = record {

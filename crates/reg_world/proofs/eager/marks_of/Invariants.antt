@@ -1,6 +1,0 @@
-use Rattle.std.proofs.Common.{◌≡◌, ◌||◌, nat_le, take, map}
-use Rattle.reg_world.proofs.eager.marks_of.Given as goal
-
-abbrev pub invariant-loop-entry : goal.invariant-loop-entry
-invariant-loop-entry l =
-    l.marks.items ≡ map (λ e. record { version = e.version; soft = e.soft || nat_le e.version l.greatest }) (map (λ e. e.now) (take l.entry-index l.entries))
