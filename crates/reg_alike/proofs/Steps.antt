@@ -11,7 +11,7 @@ use Rattle.reg_fold.specs.InForce.{Scope}
 use Rattle.reg_fold.specs.Standing.{version_in}
 use Rattle.reg_fold.specs.declared.version_ref.VersionRef.{VersionRef}
 use Rattle.reg_fold.specs.declared.version_ref.VersionRef.TheVariants.{Latest, Number}
-use Rattle.reg_modes.specs.Permitted.{denied, granted, registering, writing}
+use Rattle.reg_modes.specs.Permitted.{denied, granted, must_allow_registration, must_allow_writes}
 use Rattle.reg_modes.specs.declared.mode.Mode.{Mode}
 use Rattle.reg_modes.specs.declared.mode.Mode.TheVariants as modes
 use Rattle.reg_refusals.specs.declared.reason.Reason.TheVariants as reasons
@@ -36,7 +36,7 @@ use Rattle.reg_alike.proofs.InForce.{same_level, same_mode, same_own_mode}
 module _ (rs ss : Records) (alike : GiveAlike rs ss) where
   open alike use {entries_alike, opaque_alike, levels_alike, marks_alike}
 
-  same_open : test.is_open rs ≡ test.is_open ss
+  same_open : test.must_be_open rs ≡ test.must_be_open ss
   same_open = λ i.
       let two = sought.two_schemas (entries_alike i) in
       test.if_not_opaque (is_some (opaque_alike i)) (refuse_if (is_some two) (refusals.Store faults.TwoSchemas))
@@ -53,18 +53,18 @@ module _ (rs ss : Records) (alike : GiveAlike rs ss) where
   same_next_version : (subject : List ℕ) → next_version rs subject ≡ next_version ss subject
   same_next_version subject = λ i. option_map_or suc (sought.greatest_version (entries_alike i) subject) 1
 
-  same_names_no_other : (id : ℕ) (normal : List ℕ) → test.names_no_other rs id normal ≡ test.names_no_other ss id normal
+  same_names_no_other : (id : ℕ) (normal : List ℕ) → test.must_name_no_other rs id normal ≡ test.must_name_no_other ss id normal
   same_names_no_other id normal = λ i.
       let names_another = option_map_or (λ e. not (has_schema normal e)) (sought.named (entries_alike i) id) false in
       refuse_if names_another (refusals.NotPermitted reasons.IdNamesAnotherSchema)
 
-  same_above_mark : (id : ℕ) → test.is_above_mark rs id ≡ test.is_above_mark ss id
+  same_above_mark : (id : ℕ) → test.must_be_above_mark rs id ≡ test.must_be_above_mark ss id
   same_above_mark id = λ i.
       let may = is_some (sought.named (entries_alike i) id) || nat_lt (marks_alike i) id in
       refuse_unless may (refusals.NotPermitted reasons.IdIsNotAboveMark)
 
   same_may_set_mode : (scope : Scope) (mode : Mode) (force : Bool)
-      → test.may_set_mode rs scope mode force ≡ test.may_set_mode ss scope mode force
+      → test.must_allow_mode rs scope mode force ≡ test.must_allow_mode ss scope mode force
   same_may_set_mode scope modes.Import force = λ i.
       if not force && sought.has_live (entries_alike i) scope then denied reasons.ScopeIsNotEmpty else granted
   same_may_set_mode scope modes.Readonly force = refl
@@ -109,9 +109,9 @@ module _ (rs ss : Records) (alike : GiveAlike rs ss) where
   same_course n (commands.Register subject text) = λ i.
       let live = sought.live_of (entries_alike i) subject in
       where_read text (λ schema.
-      test.has_valid_defaults schema
+      test.must_have_valid_defaults schema
       ▸ same_open i
-      ▸ test.has_offset n
+      ▸ test.must_have_offset n
       ▸ registering (same_mode rs ss alike (Some subject) i) false
       ▸ where_found (newest (filter (has_schema schema.normal_text) live)) (λ same. Does (replies.Id same.id) []) (
       IfMet (same_level rs ss alike (Some subject) i) schema.normal_text (texts_of live) (
@@ -120,7 +120,7 @@ module _ (rs ss : Records) (alike : GiveAlike rs ss) where
   same_course n (commands.ImportRegister subject text id version) = λ i.
       where_read text (λ schema.
       same_open i
-      ▸ test.has_offset n
+      ▸ test.must_have_offset n
       ▸ registering (same_mode rs ss alike (Some subject) i) true
       ▸ same_names_no_other id schema.normal_text i
       ▸ same_above_mark id i
@@ -128,41 +128,41 @@ module _ (rs ss : Records) (alike : GiveAlike rs ss) where
       )
   same_course n (commands.DeleteVersion subject version permanent) = λ i.
       same_open i
-      ▸ test.has_offset n
+      ▸ test.must_have_offset n
       ▸ writing (same_mode rs ss alike (Some subject) i)
       ▸ refuse_unless (is_some (sought.greatest_version (entries_alike i) subject)) refusals.SubjectNotFound
       ▸ where_found (same_version_meant subject version i) (λ e. same_delete_entry permanent e i) (Refused (no_version version))
   same_course n (commands.DeleteSubject subject permanent) = λ i.
       same_open i
-      ▸ test.has_offset n
+      ▸ test.must_have_offset n
       ▸ writing (same_mode rs ss alike (Some subject) i)
       ▸ where_found (sought.greatest_version (entries_alike i) subject) (λ greatest. same_delete_all subject permanent greatest i) (
       Refused refusals.SubjectNotFound
       )
   same_course n (commands.SetLevel scope level) = λ i.
       same_open i
-      ▸ test.has_offset n
+      ▸ test.must_have_offset n
       ▸ writing (same_mode rs ss alike scope i)
       ▸ Does (replies.Level level) (level_set scope level ∷ [])
   same_course n (commands.ClearLevel subject) = λ i.
       same_open i
-      ▸ test.has_offset n
+      ▸ test.must_have_offset n
       ▸ writing (same_mode rs ss alike (Some subject) i)
       ▸ where_found (levels_alike (Some subject) i) (λ level. Does (replies.LevelRemoved level) (level_cleared subject ∷ [])) (
       Refused refusals.SubjectHasNoLevel
       )
   same_course n (commands.SetMode scope mode force) = λ i.
       same_open i
-      ▸ test.has_offset n
+      ▸ test.must_have_offset n
       ▸ same_may_set_mode scope mode force i
       ▸ Does (replies.Mode mode) (mode_set scope mode ∷ [])
   same_course n (commands.ClearMode subject) = λ i.
       same_open i
-      ▸ test.has_offset n
+      ▸ test.must_have_offset n
       ▸ where_found (same_own_mode rs ss alike (Some subject) i) (λ mode. Does (replies.ModeRemoved mode) (mode_cleared subject ∷ [])) (
       Refused refusals.SubjectHasNoMode
       )
-  same_course n commands.Noop = λ i. same_open i ▸ test.has_offset n ▸ Does replies.Nothing (no_operation ∷ [])
+  same_course n commands.Noop = λ i. same_open i ▸ test.must_have_offset n ▸ Does replies.Nothing (no_operation ∷ [])
 
 pub steps_alike : StepsAlike
 unfolding IsStep

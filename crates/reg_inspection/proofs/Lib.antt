@@ -6,5 +6,5 @@ pub mod Nothing
 pub mod Given
 pub mod Counting
 pub mod Lines
-pub mod Taken
+pub mod Servable
 pub mod Tallies

@@ -21,19 +21,19 @@ abbrev pub report_of : List ℕ → ℕ → List Read → List ℕ
 report_of text floor read = report_text (counts_of floor read) (foreign_tally text) (obstacles (lasts_in read) (next_of floor read))
 
 -- whether a topic can begin with what its lines say
-abbrev pub is_taken : ℕ → List Read → Bool
-is_taken floor read = can_begin (lasts_in read) (next_of floor read)
+abbrev pub is_servable : ℕ → List Read → Bool
+is_servable floor read = can_begin (lasts_in read) (next_of floor read)
 
 -- Private: the text for a log, and whether it is taken over
 pub record Describes (text : List ℕ) (found : Description) : Type 0 where
   pub log : LogText
   pub read : log_of text ≡ Ok log
   pub said : string_bytes found.text ≡ report_of text log.floor log.reads
-  pub taken : found.taken ≡ is_taken log.floor log.reads
+  pub servable : found.servable ≡ is_servable log.floor log.reads
 
 -- the input is a log whose report was written, and the answer is whether it is taken over
-pub record Reports (input : List ℕ) (taken : Bool) (old new : Option (List ℕ)) : Type 0 where
+pub record Reports (input : List ℕ) (servable : Bool) (old new : Option (List ℕ)) : Type 0 where
   pub log : LogText
   pub read : log_of input ≡ Ok log
   pub written : Appends old new (report_of input log.floor log.reads)
-  pub answer : taken ≡ is_taken log.floor log.reads
+  pub answer : servable ≡ is_servable log.floor log.reads

@@ -19,15 +19,15 @@ pub fn inspect<R: Read, W: Write>(
     reader: &mut R,
     writer: &mut W,
 ) -> Result<bool, FilterError>
-    ensures written { IfOk result (λ taken. IfSome (R.remaining reader.old) (λ input.
-        Reports input taken (W.contents writer.old) (W.contents writer.new))) }
+    ensures written { IfOk result (λ servable. IfSome (R.remaining reader.old) (λ input.
+        Reports input servable (W.contents writer.old) (W.contents writer.new))) }
     ensures refused { IfErr result (IsFilterRefusal (R.remaining reader.old) (W.contents writer.old) (W.contents writer.new)) }
 {
     let input = read_input(alloc, reader)?;
     match described(alloc, &input) {
         Ok(found) => {
             write_output(writer, found.text.as_bytes())?;
-            Ok(found.taken)
+            Ok(found.servable)
         }
         Err(e) => Err(filter_error(e)),
     }
@@ -37,7 +37,7 @@ pub fn inspect<R: Read, W: Write>(
 #[derive(Drop)]
 pub(crate) struct Description {
     pub text: String,
-    pub taken: bool,
+    pub servable: bool,
 }
 
 fn described(alloc: Global, log: &[u8]) -> Result<Description, LogError>
@@ -49,6 +49,6 @@ fn described(alloc: Global, log: &[u8]) -> Result<Description, LogError>
     let text = found.report(alloc)?;
     Ok(Description {
         text,
-        taken: found.is_taken(),
+        servable: found.is_servable(),
     })
 }

@@ -39,7 +39,7 @@ impl Inspection {
     }
 
     /// Whether nothing keeps the log from being taken over.
-    pub fn is_taken(&self) -> bool
+    pub fn is_servable(&self) -> bool
         ensures { result ≡ (length self.now.obstacles.items == 0) }
     {
         self.obstacles.is_empty()

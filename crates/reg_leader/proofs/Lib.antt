@@ -15,5 +15,5 @@ pub mod Refused
 pub mod SoftDeletes
 pub mod Sorted
 pub mod Steps
-pub mod Taken
-pub mod Takes
+pub mod GivenIds
+pub mod Leading

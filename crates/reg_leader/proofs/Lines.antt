@@ -19,7 +19,7 @@ use Rattle.reg_level_names.specs.Level.{is_level, level_text}
 use Rattle.reg_level_names.specs.declared.level.Level.{Level}
 use Rattle.reg_level_names.specs.declared.level.Level.TheVariants as levels
 use Rattle.reg_modes.specs.InForce.{mode, own_mode}
-use Rattle.reg_modes.specs.Permitted.{registering, writing}
+use Rattle.reg_modes.specs.Permitted.{must_allow_registration, must_allow_writes}
 use Rattle.reg_values.specs.Value.{value_of}
 use Rattle.reg_records.specs.Written.{HasLine, IsInLimits, IsVersionOrId, written_value}
 use Rattle.reg_values.specs.OfKey.{IsValueOf}
@@ -129,7 +129,7 @@ module _ (limits : EntriesAreInLimits) (marks : IdMarkIsInLimits) (rs : Records)
 
   writes-sound : (first : List Writing) (subject normal : List ℕ) (id version : ℕ) → is_schema normal ≡ true → All IsSound first → Of AreSound (writes first subject normal id version)
   writes-sound first subject normal id version known all =
-      of_passed _ (test.is_number id) _ (λ i. of_passed _ (test.is_number version) _ (λ v.
+      of_passed _ (test.must_be_number id) _ (λ i. of_passed _ (test.must_be_number version) _ (λ v.
       All-push IsSound first _ all (record { key_fits = number_passed version v; value_fits = inr (_, refl, (refl, number_passed version v, number_passed id i, known)) })))
 
   import_as-sound : (subject normal : List ℕ) (id : ℕ) (version : Option ℕ) → is_schema normal ≡ true → Of AreSound (import_as rs subject normal id version)
@@ -152,14 +152,14 @@ module _ (limits : EntriesAreInLimits) (marks : IdMarkIsInLimits) (rs : Records)
 
   delete_all-sound : (subject : List ℕ) (permanent : Bool) (greatest : ℕ) → greatest_version rs subject ≡ Some greatest → Of AreSound (delete_all rs subject permanent greatest)
   delete_all-sound subject false greatest is =
-      of_then _ (test.is_live rs subject) _ (one_sound _ (record { key_fits = tt; value_fits = inr (_, refl, (refl, greatest-fits limits rs subject greatest is)) }))
+      of_then _ (test.must_be_live rs subject) _ (one_sound _ (record { key_fits = tt; value_fits = inr (_, refl, (refl, greatest-fits limits rs subject greatest is)) }))
   delete_all-sound subject true greatest is =
       let one = greatest-stands rs subject greatest is in
-      of_then _ (test.is_not_live rs subject) _
+      of_then _ (test.must_not_be_live rs subject) _
       (All-cons IsSound (marked rs) (map removed (standing rs subject)) (marked-sound one.0 one.1) (all_removed (standing rs subject) (counting-whole subject true)))
 
-  open-sound : (c : Course) → Of AreSound c → Of AreSound (test.is_open rs ▸ test.has_offset n ▸ c)
-  open-sound c h = of_then _ (test.is_open rs) _ (of_then _ (test.has_offset n) _ h)
+  open-sound : (c : Course) → Of AreSound c → Of AreSound (test.must_be_open rs ▸ test.must_have_offset n ▸ c)
+  open-sound c h = of_then _ (test.must_be_open rs) _ (of_then _ (test.must_have_offset n) _ h)
 
   -- a normal text is a schema's
   known : (text : List ℕ) (schema : Meaning) → schema_of text ≡ Some schema → is_schema schema.normal_text ≡ true
@@ -168,28 +168,28 @@ module _ (limits : EntriesAreInLimits) (marks : IdMarkIsInLimits) (rs : Records)
   pub course-sound : (c : Command) → Of AreSound (course_of rs n c)
   course-sound (commands.Register subject text) =
       of_found _ (schema_of text) _ _ (λ schema is.
-      of_then _ (test.has_valid_defaults schema) _ (open-sound _ (
-      of_then _ (registering (mode rs (Some subject)) false) _ (
+      of_then _ (test.must_have_valid_defaults schema) _ (open-sound _ (
+      of_then _ (must_allow_registration (mode rs (Some subject)) false) _ (
       of_found _ (newest (filter (has_schema schema.normal_text) (live rs subject))) _ _ (λ same _. All-nil IsSound) (λ _ _.
       writes-sound [] subject schema.normal_text (id_for rs schema.normal_text) (next_version rs subject) (known text schema is) (All-nil IsSound)))))) (λ _. tt)
   course-sound (commands.ImportRegister subject text id version) =
       of_found _ (schema_of text) _ _ (λ schema is. open-sound _ (
-      of_then _ (registering (mode rs (Some subject)) true) _ (
-      of_then _ (test.names_no_other rs id schema.normal_text) _ (
-      of_then _ (test.is_above_mark rs id) _ (import_as-sound subject schema.normal_text id version (known text schema is)))))) (λ _. tt)
+      of_then _ (must_allow_registration (mode rs (Some subject)) true) _ (
+      of_then _ (test.must_name_no_other rs id schema.normal_text) _ (
+      of_then _ (test.must_be_above_mark rs id) _ (import_as-sound subject schema.normal_text id version (known text schema is)))))) (λ _. tt)
   course-sound (commands.DeleteVersion subject version permanent) =
-      open-sound _ (of_then _ (writing (mode rs (Some subject))) _ (of_then _ (test.stands rs subject) _ (
+      open-sound _ (of_then _ (must_allow_writes (mode rs (Some subject))) _ (of_then _ (test.must_stand rs subject) _ (
       of_found _ (version_meant rs subject version) _ _ (λ e is. delete_entry-sound permanent e (meant-stands rs subject version e is) (meant-whole subject version e is)) (λ _. tt))))
   course-sound (commands.DeleteSubject subject permanent) =
-      open-sound _ (of_then _ (writing (mode rs (Some subject))) _ (
+      open-sound _ (of_then _ (must_allow_writes (mode rs (Some subject))) _ (
       of_found _ (greatest_version rs subject) _ _ (λ greatest is. delete_all-sound subject permanent greatest is) (λ _. tt)))
   course-sound (commands.SetLevel scope level) =
-      open-sound _ (of_then _ (writing (mode rs scope)) _ (one_sound _ (record { key_fits = tt; value_fits = inr (_, refl, (scope, refl, levels-are_named level)) })))
+      open-sound _ (of_then _ (must_allow_writes (mode rs scope)) _ (one_sound _ (record { key_fits = tt; value_fits = inr (_, refl, (scope, refl, levels-are_named level)) })))
   course-sound (commands.ClearLevel subject) =
-      open-sound _ (of_then _ (writing (mode rs (Some subject))) _ (
+      open-sound _ (of_then _ (must_allow_writes (mode rs (Some subject))) _ (
       of_found _ (own_level rs (Some subject)) _ _ (λ level _. one_sound _ (record { key_fits = tt; value_fits = inl refl })) (λ _. tt)))
   course-sound (commands.SetMode scope mode force) =
-      open-sound _ (of_then _ (test.may_set_mode rs scope mode force) _ (one_sound _ (record { key_fits = tt; value_fits = inr (_, refl, (scope, refl)) })))
+      open-sound _ (of_then _ (test.must_allow_mode rs scope mode force) _ (one_sound _ (record { key_fits = tt; value_fits = inr (_, refl, (scope, refl)) })))
   course-sound (commands.ClearMode subject) =
       open-sound _ (of_found _ (own_mode rs (Some subject)) _ _ (λ mode _. one_sound _ (record { key_fits = tt; value_fits = inl refl })) (λ _. tt))
   course-sound commands.Noop = open-sound _ (one_sound _ (record { key_fits = tt; value_fits = inl refl }))

@@ -25,14 +25,14 @@ neither : (a b : Bool) (refusal : Refusal) → test.if_not_opaque a (refuse_if b
 neither true b refusal e = absurd (cc)
 neither false b refusal e = if_passed b refusal e
 
-pub open_passed : (rs : Records) → test.is_open rs ≡ granted → is_closed rs ≡ false
+pub open_passed : (rs : Records) → test.must_be_open rs ≡ granted → is_closed rs ≡ false
 open_passed rs e = neither (is_some (opaque rs)) (is_some (two_schemas rs)) (refusals.Store faults.TwoSchemas) e
 
 both_true : (a b : Bool) → (a && b) ≡ true → (a ≡ true) × (b ≡ true)
 both_true true b h = (refl, h)
 both_true false b h = absurd (false≢true h)
 
-pub number_passed : (m : ℕ) → test.is_number m ≡ granted → IsVersionOrId m
+pub number_passed : (m : ℕ) → test.must_be_number m ≡ granted → IsVersionOrId m
 number_passed m e =
     let within = both_true (nat_le 1 m) (nat_le m NUMBER_LIMIT) (unless_passed (nat_le 1 m && nat_le m NUMBER_LIMIT) test.numbers_used_up e) in
     (leb-true 1 m within.0, leb-true m NUMBER_LIMIT within.1)

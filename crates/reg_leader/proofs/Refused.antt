@@ -8,7 +8,7 @@ use Rattle.reg_fold.specs.InForce.{own_level}
 use Rattle.reg_fold.specs.Standing.{greatest_version, live, version_in}
 use Rattle.reg_fold.specs.declared.version_ref.VersionRef.TheVariants.{Number}
 use Rattle.reg_modes.specs.InForce.{mode, own_mode}
-use Rattle.reg_modes.specs.Permitted.{registering, writing}
+use Rattle.reg_modes.specs.Permitted.{must_allow_registration, must_allow_writes}
 use Rattle.reg_refusals.specs.declared.reason.Reason.TheVariants as reasons
 use Rattle.reg_refusals.specs.declared.refusal.Refusal.{Refusal}
 use Rattle.reg_refusals.specs.declared.refusal.Refusal.TheVariants as refusals
@@ -35,7 +35,7 @@ RepliesNone c = Of IsNoRefusal c
 
 module _ (rs : Records) (n : ℕ) where
   writes-none : (first : List Writing) (subject normal : List ℕ) (id version : ℕ) → RepliesNone (writes first subject normal id version)
-  writes-none first subject normal id version = of_then _ (test.is_number id) _ (of_then _ (test.is_number version) _ (λ why e. cc))
+  writes-none first subject normal id version = of_then _ (test.must_be_number id) _ (of_then _ (test.must_be_number version) _ (λ why e. cc))
 
   import_as-none : (subject normal : List ℕ) (id : ℕ) (version : Option ℕ) → RepliesNone (import_as rs subject normal id version)
   import_as-none subject normal id None =
@@ -50,34 +50,34 @@ module _ (rs : Records) (n : ℕ) where
   delete_entry-none true e = of_then _ (refuse_unless e.soft refusals.VersionNotSoftDeleted) _ (λ why e. cc)
 
   delete_all-none : (subject : List ℕ) (permanent : Bool) (greatest : ℕ) → RepliesNone (delete_all rs subject permanent greatest)
-  delete_all-none subject false greatest = of_then _ (test.is_live rs subject) _ (λ why e. cc)
-  delete_all-none subject true greatest = of_then _ (test.is_not_live rs subject) _ (λ why e. cc)
+  delete_all-none subject false greatest = of_then _ (test.must_be_live rs subject) _ (λ why e. cc)
+  delete_all-none subject true greatest = of_then _ (test.must_not_be_live rs subject) _ (λ why e. cc)
 
-  open-none : (c : Course) → RepliesNone c → RepliesNone (test.is_open rs ▸ test.has_offset n ▸ c)
-  open-none c h = of_then _ (test.is_open rs) _ (of_then _ (test.has_offset n) _ h)
+  open-none : (c : Course) → RepliesNone c → RepliesNone (test.must_be_open rs ▸ test.must_have_offset n ▸ c)
+  open-none c h = of_then _ (test.must_be_open rs) _ (of_then _ (test.must_have_offset n) _ h)
 
   course-none : (c : Command) → RepliesNone (course_of rs n c)
   course-none (commands.Register subject text) =
       of_found _ (schema_of text) _ _ (λ schema _.
-      of_then _ (test.has_valid_defaults schema) _ (open-none _ (
-      of_then _ (registering (mode rs (Some subject)) false) _ (
+      of_then _ (test.must_have_valid_defaults schema) _ (open-none _ (
+      of_then _ (must_allow_registration (mode rs (Some subject)) false) _ (
       of_found _ (newest (filter (has_schema schema.normal_text) (live rs subject))) _ _ (λ same _ why e. cc) (λ _ _.
       writes-none [] subject schema.normal_text (id_for rs schema.normal_text) (next_version rs subject)))))) (λ _. tt)
   course-none (commands.ImportRegister subject text id version) =
       of_found _ (schema_of text) _ _ (λ schema _. open-none _ (
-      of_then _ (registering (mode rs (Some subject)) true) _ (
-      of_then _ (test.names_no_other rs id schema.normal_text) _ (
-      of_then _ (test.is_above_mark rs id) _ (import_as-none subject schema.normal_text id version))))) (λ _. tt)
+      of_then _ (must_allow_registration (mode rs (Some subject)) true) _ (
+      of_then _ (test.must_name_no_other rs id schema.normal_text) _ (
+      of_then _ (test.must_be_above_mark rs id) _ (import_as-none subject schema.normal_text id version))))) (λ _. tt)
   course-none (commands.DeleteVersion subject version permanent) =
-      open-none _ (of_then _ (writing (mode rs (Some subject))) _ (of_then _ (test.stands rs subject) _ (
+      open-none _ (of_then _ (must_allow_writes (mode rs (Some subject))) _ (of_then _ (test.must_stand rs subject) _ (
       of_found _ (version_meant rs subject version) _ _ (λ e _. delete_entry-none permanent e) (λ _. tt))))
   course-none (commands.DeleteSubject subject permanent) =
-      open-none _ (of_then _ (writing (mode rs (Some subject))) _ (
+      open-none _ (of_then _ (must_allow_writes (mode rs (Some subject))) _ (
       of_found _ (greatest_version rs subject) _ _ (λ greatest _. delete_all-none subject permanent greatest) (λ _. tt)))
-  course-none (commands.SetLevel scope level) = open-none _ (of_then _ (writing (mode rs scope)) _ (λ why e. cc))
+  course-none (commands.SetLevel scope level) = open-none _ (of_then _ (must_allow_writes (mode rs scope)) _ (λ why e. cc))
   course-none (commands.ClearLevel subject) =
-      open-none _ (of_then _ (writing (mode rs (Some subject))) _ (of_found _ (own_level rs (Some subject)) _ _ (λ level _ why e. cc) (λ _. tt)))
-  course-none (commands.SetMode scope mode force) = open-none _ (of_then _ (test.may_set_mode rs scope mode force) _ (λ why e. cc))
+      open-none _ (of_then _ (must_allow_writes (mode rs (Some subject))) _ (of_found _ (own_level rs (Some subject)) _ _ (λ level _ why e. cc) (λ _. tt)))
+  course-none (commands.SetMode scope mode force) = open-none _ (of_then _ (test.must_allow_mode rs scope mode force) _ (λ why e. cc))
   course-none (commands.ClearMode subject) = open-none _ (of_found _ (own_mode rs (Some subject)) _ _ (λ mode _ why e. cc) (λ _. tt))
   course-none commands.Noop = open-none _ (λ why e. cc)
 

@@ -10,7 +10,7 @@ use Rattle.reg_fold.specs.InForce.{own_level}
 use Rattle.reg_fold.specs.Standing.{greatest_version, live, version_in}
 use Rattle.reg_fold.specs.declared.version_ref.VersionRef.TheVariants.{Number}
 use Rattle.reg_modes.specs.InForce.{mode, own_mode}
-use Rattle.reg_modes.specs.Permitted.{registering, writing}
+use Rattle.reg_modes.specs.Permitted.{must_allow_registration, must_allow_writes}
 use Rattle.reg_records.specs.declared.record.Record.{Record}
 use Rattle.reg_refusals.specs.declared.reason.Reason.TheVariants as reasons
 use Rattle.reg_refusals.specs.declared.refusal.Refusal.TheVariants as refusals
@@ -50,7 +50,7 @@ module _ (rs : Records) (n : ℕ) where
   Names c = Of (Deletes rs) c
 
   writes-of : (first : List Writing) (subject normal : List ℕ) (id version : ℕ) → AllByRecursion NoDelete first → Names (writes first subject normal id version)
-  writes-of first subject normal id version none = of_then _ (test.is_number id) _ (of_then _ (test.is_number version) _ (inl (and_last NoDelete first _ none refl)))
+  writes-of first subject normal id version none = of_then _ (test.must_be_number id) _ (of_then _ (test.must_be_number version) _ (inl (and_last NoDelete first _ none refl)))
 
   import_as-of : (subject normal : List ℕ) (id : ℕ) (version : Option ℕ) → Names (import_as rs subject normal id version)
   import_as-of subject normal id None =
@@ -66,48 +66,48 @@ module _ (rs : Records) (n : ℕ) where
   delete_entry-of true e = of_then _ (refuse_unless e.soft refusals.VersionNotSoftDeleted) _ (inl (refl, (refl, tt)))
 
   delete_all-of : (subject : List ℕ) (permanent : Bool) (greatest : ℕ) → greatest_version rs subject ≡ Some greatest → Names (delete_all rs subject permanent greatest)
-  delete_all-of subject false greatest is = of_then _ (test.is_live rs subject) _ (inr (subject, greatest, refl, is))
-  delete_all-of subject true greatest is = of_then _ (test.is_not_live rs subject) _ (inl (refl, none_removed (standing rs subject)))
+  delete_all-of subject false greatest is = of_then _ (test.must_be_live rs subject) _ (inr (subject, greatest, refl, is))
+  delete_all-of subject true greatest is = of_then _ (test.must_not_be_live rs subject) _ (inl (refl, none_removed (standing rs subject)))
 
   course-names : (c : Command) → Names (course_of rs n c)
   course-names (commands.Register subject text) =
       of_found _ (schema_of text) _ _ (λ schema known.
-      of_then _ (test.has_valid_defaults schema) _ (
-      of_then _ (test.is_open rs) _ (
-      of_then _ (test.has_offset n) _ (
-      of_then _ (registering (mode rs (Some subject)) _) _ (
+      of_then _ (test.must_have_valid_defaults schema) _ (
+      of_then _ (test.must_be_open rs) _ (
+      of_then _ (test.must_have_offset n) _ (
+      of_then _ (must_allow_registration (mode rs (Some subject)) _) _ (
       of_found _ (newest (filter (has_schema schema.normal_text) (live rs subject))) _ _ (λ same e. inl tt) (λ _ meets.
       writes-of [] subject schema.normal_text (id_for rs schema.normal_text) (next_version rs subject) tt)))))) (λ _. tt)
   course-names (commands.ImportRegister subject text id version) =
       of_found _ (schema_of text) _ _ (λ schema known.
-      of_then _ (test.is_open rs) _ (
-      of_then _ (test.has_offset n) _ (
-      of_then _ (registering (mode rs (Some subject)) _) _ (
-      of_then _ (test.names_no_other rs id schema.normal_text) _ (
-      of_then _ (test.is_above_mark rs id) _ (
+      of_then _ (test.must_be_open rs) _ (
+      of_then _ (test.must_have_offset n) _ (
+      of_then _ (must_allow_registration (mode rs (Some subject)) _) _ (
+      of_then _ (test.must_name_no_other rs id schema.normal_text) _ (
+      of_then _ (test.must_be_above_mark rs id) _ (
       import_as-of subject schema.normal_text id version)))))) (λ _. tt)
   course-names (commands.DeleteVersion subject version permanent) =
-      of_then _ (test.is_open rs) _ (
-      of_then _ (test.has_offset n) _ (
-      of_then _ (writing (mode rs (Some subject))) _ (
-      of_then _ (test.stands rs subject) _ (
+      of_then _ (test.must_be_open rs) _ (
+      of_then _ (test.must_have_offset n) _ (
+      of_then _ (must_allow_writes (mode rs (Some subject))) _ (
+      of_then _ (test.must_stand rs subject) _ (
       of_found _ (version_meant rs subject version) _ _ (λ e _. delete_entry-of permanent e) (λ _. tt)))))
   course-names (commands.DeleteSubject subject permanent) =
-      of_then _ (test.is_open rs) _ (
-      of_then _ (test.has_offset n) _ (
-      of_then _ (writing (mode rs (Some subject))) _ (
+      of_then _ (test.must_be_open rs) _ (
+      of_then _ (test.must_have_offset n) _ (
+      of_then _ (must_allow_writes (mode rs (Some subject))) _ (
       of_found _ (greatest_version rs subject) _ _ (λ greatest is. delete_all-of subject permanent greatest is) (λ _. tt))))
   course-names (commands.SetLevel scope level) =
-      of_then _ (test.is_open rs) _ (of_then _ (test.has_offset n) _ (of_then _ (writing (mode rs scope)) _ (inl (refl, tt))))
+      of_then _ (test.must_be_open rs) _ (of_then _ (test.must_have_offset n) _ (of_then _ (must_allow_writes (mode rs scope)) _ (inl (refl, tt))))
   course-names (commands.ClearLevel subject) =
-      of_then _ (test.is_open rs) _ (of_then _ (test.has_offset n) _ (of_then _ (writing (mode rs (Some subject))) _ (
+      of_then _ (test.must_be_open rs) _ (of_then _ (test.must_have_offset n) _ (of_then _ (must_allow_writes (mode rs (Some subject))) _ (
       of_found _ (own_level rs (Some subject)) _ _ (λ level _. inl (refl, tt)) (λ _. tt))))
   course-names (commands.SetMode scope mode force) =
-      of_then _ (test.is_open rs) _ (of_then _ (test.has_offset n) _ (of_then _ (test.may_set_mode rs scope mode force) _ (inl (refl, tt))))
+      of_then _ (test.must_be_open rs) _ (of_then _ (test.must_have_offset n) _ (of_then _ (test.must_allow_mode rs scope mode force) _ (inl (refl, tt))))
   course-names (commands.ClearMode subject) =
-      of_then _ (test.is_open rs) _ (of_then _ (test.has_offset n) _ (
+      of_then _ (test.must_be_open rs) _ (of_then _ (test.must_have_offset n) _ (
       of_found _ (own_mode rs (Some subject)) _ _ (λ mode _. inl (refl, tt)) (λ _. tt)))
-  course-names commands.Noop = of_then _ (test.is_open rs) _ (of_then _ (test.has_offset n) _ (inl (refl, tt)))
+  course-names commands.Noop = of_then _ (test.must_be_open rs) _ (of_then _ (test.must_have_offset n) _ (inl (refl, tt)))
 
 pub deletes_name_greatest : EntriesAreInLimits → DeletesNameGreatest
 unfolding IsStep

@@ -15,7 +15,7 @@ use Rattle.reg_fold.specs.Standing.{greatest_version, live, named, version_in}
 use Rattle.reg_fold.specs.declared.version_ref.VersionRef.{VersionRef}
 use Rattle.reg_fold.specs.declared.version_ref.VersionRef.TheVariants.{Number}
 use Rattle.reg_modes.specs.InForce.{mode, own_mode}
-use Rattle.reg_modes.specs.Permitted.{granted, registering, writing}
+use Rattle.reg_modes.specs.Permitted.{granted, must_allow_registration, must_allow_writes}
 use Rattle.reg_records.specs.Written.{IsVersionOrId}
 use Rattle.reg_records.specs.declared.key.Key.TheVariants as keys
 use Rattle.reg_records.specs.declared.value.Value.TheVariants as values
@@ -100,7 +100,7 @@ meaning_of (Some schema) normal is = (schema, refl, inside schema.normal_text no
     inside a b same = cc
 
 -- an id that is imported may be given, and so may the id that a registration takes
-imported-given : (rs : Records) (id : ℕ) → test.is_above_mark rs id ≡ granted → MayBeGiven rs id
+imported-given : (rs : Records) (id : ℕ) → test.must_be_above_mark rs id ≡ granted → MayBeGiven rs id
 imported-given rs id passed =
     elim (or_cases (is_some (named rs id)) (nat_lt (id_mark rs) id) (unless_passed (is_some (named rs id) || nat_lt (id_mark rs) id) (refusals.NotPermitted reasons.IdIsNotAboveMark) passed)) [
       | inl has ↦ elim (named rs id) as (λ o. named rs id ≡ o → is_some o ≡ true → MayBeGiven rs id) [
@@ -124,7 +124,7 @@ module _ (one : NoneIsOneTextEach) (read : EntriesAreRead) (fits : EntriesAreInL
   writes-of : (first : List Writing) (subject text : List ℕ) (schema : Meaning) (id version : ℕ) → schema_of text ≡ Some schema → NamesOnly rs id schema.normal_text → MayBeGiven rs id
       → IsFirst rs first subject version id → Sorted (writes first subject schema.normal_text id version)
   writes-of first subject text schema id version known names given before =
-      of_passed _ (test.is_number id) _ (λ i. of_passed _ (test.is_number version) _ (λ v. inr (inl (record {
+      of_passed _ (test.must_be_number id) _ (λ i. of_passed _ (test.must_be_number version) _ (λ v. inr (inl (record {
         subject = subject;
         version = version;
         id = id;
@@ -148,10 +148,10 @@ module _ (one : NoneIsOneTextEach) (read : EntriesAreRead) (fits : EntriesAreInL
   register-of : (subject text : List ℕ) → Sorted (register rs n subject text)
   register-of subject text =
       of_found _ (schema_of text) _ _ (λ schema known.
-      of_then _ (test.has_valid_defaults schema) _ (
-      of_passed _ (test.is_open rs) _ (λ is.
-      of_then _ (test.has_offset n) _ (
-      of_then _ (registering (mode rs (Some subject)) _) _ (
+      of_then _ (test.must_have_valid_defaults schema) _ (
+      of_passed _ (test.must_be_open rs) _ (λ is.
+      of_then _ (test.must_have_offset n) _ (
+      of_then _ (must_allow_registration (mode rs (Some subject)) _) _ (
       of_found _ (newest (filter (has_schema schema.normal_text) (live rs subject))) _ _ (λ same e. inl tt) (λ _ meets.
       let id = id_for rs schema.normal_text in
       let names = new_id-only rs (one_schema one rs (open_passed rs is)) schema.normal_text in
@@ -180,11 +180,11 @@ module _ (one : NoneIsOneTextEach) (read : EntriesAreRead) (fits : EntriesAreInL
   import-of : (subject text : List ℕ) (id : ℕ) (version : Option ℕ) → Sorted (import_register rs n subject text id version)
   import-of subject text id version =
       of_found _ (schema_of text) _ _ (λ schema known.
-      of_passed _ (test.is_open rs) _ (λ is.
-      of_then _ (test.has_offset n) _ (
-      of_then _ (registering (mode rs (Some subject)) _) _ (
-      of_passed _ (test.names_no_other rs id schema.normal_text) _ (λ names.
-      of_passed _ (test.is_above_mark rs id) _ (λ above.
+      of_passed _ (test.must_be_open rs) _ (λ is.
+      of_then _ (test.must_have_offset n) _ (
+      of_then _ (must_allow_registration (mode rs (Some subject)) _) _ (
+      of_passed _ (test.must_name_no_other rs id schema.normal_text) _ (λ names.
+      of_passed _ (test.must_be_above_mark rs id) _ (λ above.
       let no_other = if_passed (names_another rs id schema.normal_text) (refusals.NotPermitted reasons.IdNamesAnotherSchema) names in
       import_as-of subject text schema id version known (named-only rs (one_schema one rs (open_passed rs is)) id schema.normal_text no_other) (imported-given rs id above))))))) (λ _. tt)
 
@@ -213,22 +213,22 @@ module _ (one : NoneIsOneTextEach) (read : EntriesAreRead) (fits : EntriesAreInL
 
   delete_version-of : (subject : List ℕ) (version : VersionRef) (permanent : Bool) → Sorted (delete_version rs n subject version permanent)
   delete_version-of subject version permanent =
-      of_passed _ (test.is_open rs) _ (λ is.
-      of_then _ (test.has_offset n) _ (
-      of_then _ (writing (mode rs (Some subject))) _ (
-      of_then _ (test.stands rs subject) _ (
+      of_passed _ (test.must_be_open rs) _ (λ is.
+      of_then _ (test.must_have_offset n) _ (
+      of_then _ (must_allow_writes (mode rs (Some subject))) _ (
+      of_then _ (test.must_stand rs subject) _ (
       of_found _ (version_meant rs subject version) _ _ (λ e meant. delete_entry-of (open_passed rs is) permanent e (meant-stands rs subject version e meant)) (λ _. tt)))))
 
   delete_all-of : (subject : List ℕ) (permanent : Bool) (greatest : ℕ) → greatest_version rs subject ≡ Some greatest → Sorted (delete_all rs subject permanent greatest)
-  delete_all-of subject false greatest is = of_then _ (test.is_live rs subject) _ (inl ((refl, λ e. cc), tt))
+  delete_all-of subject false greatest is = of_then _ (test.must_be_live rs subject) _ (inl ((refl, λ e. cc), tt))
   delete_all-of subject true greatest is =
-      of_then _ (test.is_not_live rs subject) _ (inr (inr (record { removed_ones = standing rs subject; are_removed = refl; one_stands = greatest-stands rs subject greatest is })))
+      of_then _ (test.must_not_be_live rs subject) _ (inr (inr (record { removed_ones = standing rs subject; are_removed = refl; one_stands = greatest-stands rs subject greatest is })))
 
   delete_subject-of : (subject : List ℕ) (permanent : Bool) → Sorted (delete_subject rs n subject permanent)
   delete_subject-of subject permanent =
-      of_then _ (test.is_open rs) _ (
-      of_then _ (test.has_offset n) _ (
-      of_then _ (writing (mode rs (Some subject))) _ (
+      of_then _ (test.must_be_open rs) _ (
+      of_then _ (test.must_have_offset n) _ (
+      of_then _ (must_allow_writes (mode rs (Some subject))) _ (
       of_found _ (greatest_version rs subject) _ _ (λ greatest is. delete_all-of subject permanent greatest is) (λ _. tt))))
 
   pub course-sorted : (c : Command) → Sorted (course_of rs n c)
@@ -237,13 +237,13 @@ module _ (one : NoneIsOneTextEach) (read : EntriesAreRead) (fits : EntriesAreInL
   course-sorted (commands.DeleteVersion subject version permanent) = delete_version-of subject version permanent
   course-sorted (commands.DeleteSubject subject permanent) = delete_subject-of subject permanent
   course-sorted (commands.SetLevel scope level) =
-      of_then _ (test.is_open rs) _ (of_then _ (test.has_offset n) _ (of_then _ (writing (mode rs scope)) _ (inl ((refl, λ e. cc), tt))))
+      of_then _ (test.must_be_open rs) _ (of_then _ (test.must_have_offset n) _ (of_then _ (must_allow_writes (mode rs scope)) _ (inl ((refl, λ e. cc), tt))))
   course-sorted (commands.ClearLevel subject) =
-      of_then _ (test.is_open rs) _ (of_then _ (test.has_offset n) _ (of_then _ (writing (mode rs (Some subject))) _ (
+      of_then _ (test.must_be_open rs) _ (of_then _ (test.must_have_offset n) _ (of_then _ (must_allow_writes (mode rs (Some subject))) _ (
       of_found _ (own_level rs (Some subject)) _ _ (λ level _. inl ((refl, λ e. cc), tt)) (λ _. tt))))
   course-sorted (commands.SetMode scope mode force) =
-      of_then _ (test.is_open rs) _ (of_then _ (test.has_offset n) _ (of_then _ (test.may_set_mode rs scope mode force) _ (inl ((refl, λ e. cc), tt))))
+      of_then _ (test.must_be_open rs) _ (of_then _ (test.must_have_offset n) _ (of_then _ (test.must_allow_mode rs scope mode force) _ (inl ((refl, λ e. cc), tt))))
   course-sorted (commands.ClearMode subject) =
-      of_then _ (test.is_open rs) _ (of_then _ (test.has_offset n) _ (
+      of_then _ (test.must_be_open rs) _ (of_then _ (test.must_have_offset n) _ (
       of_found _ (own_mode rs (Some subject)) _ _ (λ mode _. inl ((refl, λ e. cc), tt)) (λ _. tt)))
-  course-sorted commands.Noop = of_then _ (test.is_open rs) _ (of_then _ (test.has_offset n) _ (inl ((refl, λ e. cc), tt)))
+  course-sorted commands.Noop = of_then _ (test.must_be_open rs) _ (of_then _ (test.must_have_offset n) _ (inl ((refl, λ e. cc), tt)))

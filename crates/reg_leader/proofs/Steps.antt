@@ -11,7 +11,7 @@ use Rattle.reg_levels.specs.Message.{message_of}
 use Rattle.reg_levels.specs.RequiredPairs.{Required, required_pairs}
 use Rattle.reg_levels.specs.Texts.{TextsMeet, VersionText, nodes_in, versions_in}
 use Rattle.reg_modes.specs.InForce.{mode}
-use Rattle.reg_modes.specs.Permitted.{registering}
+use Rattle.reg_modes.specs.Permitted.{must_allow_registration}
 use Rattle.reg_records.specs.declared.record.Record.{Record}
 use Rattle.reg_set.specs.Records.{Records}
 use Rattle.reg_rules.specs.Report.{IsClash}
@@ -80,16 +80,16 @@ module _ (rs : Records) (n : ℕ) where
   writes-of : (subject text : List ℕ) (schema : Meaning) (id version : ℕ) → schema_of text ≡ Some schema → TextsMeet (level rs (Some subject)) schema.normal_text (texts_of (live rs subject))
       → Of (OneVersion rs subject text) (writes [] subject schema.normal_text id version)
   writes-of subject text schema id version known meets =
-      of_then _ (test.is_number id) _ (of_then _ (test.is_number version) _ (
+      of_then _ (test.must_be_number id) _ (of_then _ (test.must_be_number version) _ (
       inr (record { schema = schema; is_read = known; version = version; id = id; one_version = refl; meets = meets })))
 
   register-of : (subject text : List ℕ) → Of (OneVersion rs subject text) (register rs n subject text)
   register-of subject text =
       of_found _ (schema_of text) _ _ (λ schema known.
-      of_then _ (test.has_valid_defaults schema) _ (
-      of_then _ (test.is_open rs) _ (
-      of_then _ (test.has_offset n) _ (
-      of_then _ (registering (mode rs (Some subject)) _) _ (
+      of_then _ (test.must_have_valid_defaults schema) _ (
+      of_then _ (test.must_be_open rs) _ (
+      of_then _ (test.must_have_offset n) _ (
+      of_then _ (must_allow_registration (mode rs (Some subject)) _) _ (
       of_found _ (newest (filter (has_schema schema.normal_text) (live rs subject))) _ _ (λ same e. inl refl) (λ _ meets.
       writes-of subject text schema (id_for rs schema.normal_text) (next_version rs subject) known meets)))))) (λ _. tt)
 

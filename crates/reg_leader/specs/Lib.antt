@@ -7,5 +7,5 @@ pub mod OneStep
 pub mod Outcome
 pub mod StayOpen
 pub mod Step
-pub mod Taken
-pub mod Taking
+pub mod GivenIds
+pub mod Leading

@@ -10,9 +10,9 @@ use Rattle.reg_refusals.specs.declared.refusal.Refusal.{Refusal}
 use Rattle.reg_leader.specs.declared.reply.Reply.TheVariants as replies
 
 -- a course comes to that decision
-abbrev pub Settles : ℕ → Course → Result Decision Refusal → Type 0
-Settles n course (Ok decision) = IsOutcome n course decision.reply decision.batch
-Settles n course (Err refusal) = (refusal ≡ no_memory) ⊎ IsOutcome n course (replies.Refused refusal) []
+abbrev pub Concludes : ℕ → Course → Result Decision Refusal → Type 0
+Concludes n course (Ok decision) = IsOutcome n course decision.reply decision.batch
+Concludes n course (Err refusal) = (refusal ≡ no_memory) ⊎ IsOutcome n course (replies.Refused refusal) []
 
 -- a whole command does
 abbrev pub Decides : Records → ℕ → Command → Result Decision Refusal → Type 0

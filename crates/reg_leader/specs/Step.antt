@@ -12,7 +12,7 @@ use Rattle.reg_fold.specs.declared.version_ref.VersionRef.{VersionRef}
 use Rattle.reg_fold.specs.declared.version_ref.VersionRef.TheVariants.{Latest, Number}
 use Rattle.reg_level_names.specs.declared.level.Level.{Level}
 use Rattle.reg_modes.specs.InForce.{mode, own_mode}
-use Rattle.reg_modes.specs.Permitted.{registering, writing}
+use Rattle.reg_modes.specs.Permitted.{must_allow_registration, must_allow_writes}
 use Rattle.reg_modes.specs.declared.mode.Mode.{Mode}
 use Rattle.reg_records.specs.declared.record.Record.{Record}
 use Rattle.reg_refusals.specs.declared.reason.Reason.TheVariants as reasons
@@ -44,8 +44,8 @@ marked rs = id_marked (last_id rs)
 -- a schema is written as that version, with that id, after what is written first
 abbrev pub writes : List Writing → List ℕ → List ℕ → ℕ → ℕ → Course
 writes first subject normal id version =
-    test.is_number id
-    ▸ test.is_number version
+    test.must_be_number id
+    ▸ test.must_be_number version
     ▸ Does (replies.Id id) (first ++ version_of subject version id normal ∷ [])
 
 -- the entry that is live there is this schema with this id, or the version is occupied
@@ -68,34 +68,47 @@ import_as rs subject normal id (Some version) =
     writes (mark_over rs id (version_in (entries rs) subject (Number version) true)) subject normal id version
     )
 
--- what an entry's delete does: its version is replied
-abbrev pub delete_entry : Records → Bool → Entry → Course
-delete_entry rs false e = refuse_if e.soft refusals.VersionSoftDeleted ▸ Does (replies.Version e.version) (deleted_again e ∷ [])
-delete_entry rs true e = refuse_unless e.soft refusals.VersionNotSoftDeleted ▸ Does (replies.Version e.version) (marked rs ∷ removed e ∷ [])
+-- a soft delete of an entry, and a permanent one: its version is replied
+abbrev pub delete_softly : Entry → Course
+delete_softly e = refuse_if e.soft refusals.VersionSoftDeleted ▸ Does (replies.Version e.version) (deleted_again e ∷ [])
+
+abbrev pub delete_permanently : Records → Entry → Course
+delete_permanently rs e = refuse_unless e.soft refusals.VersionNotSoftDeleted ▸ Does (replies.Version e.version) (marked rs ∷ removed e ∷ [])
 
 -- the refusal where the version that is named isn't there
 abbrev pub no_version : VersionRef → Refusal
 no_version Latest = refusals.SubjectNotFound
 no_version (Number version) = refusals.VersionNotFound
 
--- what a subject's delete does, where that is its greatest version
-abbrev pub delete_all : Records → List ℕ → Bool → ℕ → Course
-delete_all rs subject false greatest =
-    test.is_live rs subject
+-- a soft delete of a subject, where that is its greatest version, and a permanent one: their versions are replied
+abbrev pub delete_all_softly : Records → List ℕ → ℕ → Course
+delete_all_softly rs subject greatest =
+    test.must_be_live rs subject
     ▸ Does (replies.Versions (map (λ e. e.version) (live rs subject))) (deleted_up_to subject greatest ∷ [])
-delete_all rs subject true greatest =
-    test.is_not_live rs subject
+
+abbrev pub delete_all_permanently : Records → List ℕ → Course
+delete_all_permanently rs subject =
+    test.must_not_be_live rs subject
     ▸ Does (replies.Versions (map (λ e. e.version) (standing rs subject))) (marked rs ∷ map removed (standing rs subject))
+
+-- which of the two a delete is
+abbrev pub delete_entry : Records → Bool → Entry → Course
+delete_entry rs false e = delete_softly e
+delete_entry rs true e = delete_permanently rs e
+
+abbrev pub delete_all : Records → List ℕ → Bool → ℕ → Course
+delete_all rs subject false greatest = delete_all_softly rs subject greatest
+delete_all rs subject true greatest = delete_all_permanently rs subject
 
 module _ (rs : Records) (n : ℕ) where
   -- the level is the one in force, and the old versions are the live ones
   abbrev pub register : List ℕ → List ℕ → Course
   register subject text =
       where_read text (λ schema.
-      test.has_valid_defaults schema
-      ▸ test.is_open rs
-      ▸ test.has_offset n
-      ▸ registering (mode rs (Some subject)) false
+      test.must_have_valid_defaults schema
+      ▸ test.must_be_open rs
+      ▸ test.must_have_offset n
+      ▸ must_allow_registration (mode rs (Some subject)) false
       ▸ where_found (newest (filter (has_schema schema.normal_text) (live rs subject))) (λ same. Does (replies.Id same.id) []) (
       IfMet (level rs (Some subject)) schema.normal_text (texts_of (live rs subject)) (
       writes [] subject schema.normal_text (id_for rs schema.normal_text) (next_version rs subject)
@@ -105,60 +118,60 @@ module _ (rs : Records) (n : ℕ) where
   abbrev pub import_register : List ℕ → List ℕ → ℕ → Option ℕ → Course
   import_register subject text id version =
       where_read text (λ schema.
-      test.is_open rs
-      ▸ test.has_offset n
-      ▸ registering (mode rs (Some subject)) true
-      ▸ test.names_no_other rs id schema.normal_text
-      ▸ test.is_above_mark rs id
+      test.must_be_open rs
+      ▸ test.must_have_offset n
+      ▸ must_allow_registration (mode rs (Some subject)) true
+      ▸ test.must_name_no_other rs id schema.normal_text
+      ▸ test.must_be_above_mark rs id
       ▸ import_as rs subject schema.normal_text id version
       )
 
   abbrev pub delete_version : List ℕ → VersionRef → Bool → Course
   delete_version subject version permanent =
-      test.is_open rs
-      ▸ test.has_offset n
-      ▸ writing (mode rs (Some subject))
-      ▸ test.stands rs subject
+      test.must_be_open rs
+      ▸ test.must_have_offset n
+      ▸ must_allow_writes (mode rs (Some subject))
+      ▸ test.must_stand rs subject
       ▸ where_found (version_meant rs subject version) (delete_entry rs permanent) (Refused (no_version version))
 
   abbrev pub delete_subject : List ℕ → Bool → Course
   delete_subject subject permanent =
-      test.is_open rs
-      ▸ test.has_offset n
-      ▸ writing (mode rs (Some subject))
+      test.must_be_open rs
+      ▸ test.must_have_offset n
+      ▸ must_allow_writes (mode rs (Some subject))
       ▸ where_found (greatest_version rs subject) (delete_all rs subject permanent) (Refused refusals.SubjectNotFound)
 
   abbrev pub set_level : Scope → Level → Course
   set_level scope level =
-      test.is_open rs
-      ▸ test.has_offset n
-      ▸ writing (mode rs scope)
+      test.must_be_open rs
+      ▸ test.must_have_offset n
+      ▸ must_allow_writes (mode rs scope)
       ▸ Does (replies.Level level) (level_set scope level ∷ [])
 
   abbrev pub clear_level : List ℕ → Course
   clear_level subject =
-      test.is_open rs
-      ▸ test.has_offset n
-      ▸ writing (mode rs (Some subject))
+      test.must_be_open rs
+      ▸ test.must_have_offset n
+      ▸ must_allow_writes (mode rs (Some subject))
       ▸ where_found (own_level rs (Some subject))
       (λ level. Does (replies.LevelRemoved level) (level_cleared subject ∷ [])) (Refused refusals.SubjectHasNoLevel)
 
   abbrev pub set_mode : Scope → Mode → Bool → Course
   set_mode scope mode force =
-      test.is_open rs
-      ▸ test.has_offset n
-      ▸ test.may_set_mode rs scope mode force
+      test.must_be_open rs
+      ▸ test.must_have_offset n
+      ▸ test.must_allow_mode rs scope mode force
       ▸ Does (replies.Mode mode) (mode_set scope mode ∷ [])
 
   abbrev pub clear_mode : List ℕ → Course
   clear_mode subject =
-      test.is_open rs
-      ▸ test.has_offset n
+      test.must_be_open rs
+      ▸ test.must_have_offset n
       ▸ where_found (own_mode rs (Some subject)) (λ mode. Does (replies.ModeRemoved mode) (mode_cleared subject ∷ []))
       (Refused refusals.SubjectHasNoMode)
 
   abbrev pub no_op : Course
-  no_op = test.is_open rs ▸ test.has_offset n ▸ Does replies.Nothing (no_operation ∷ [])
+  no_op = test.must_be_open rs ▸ test.must_have_offset n ▸ Does replies.Nothing (no_operation ∷ [])
 
   -- what each command comes to
   abbrev pub course_of : Command → Course

@@ -2,9 +2,9 @@
 ghost use Rattle.std.specs.Prelude.{◌≡◌, ◌⊎◌, ◌+◌, suc, nat_le};
 ghost use Rattle.reg_records.specs.declared.limits.TheConstants.{OFFSET_LIMIT};
 ghost use Rattle.reg_leader.specs.Course.{Does};
-ghost use Rattle.reg_leader.specs.Outcome.{Decides, IsOutOfMemory, Settles};
+ghost use Rattle.reg_leader.specs.Outcome.{Decides, IsOutOfMemory, Concludes};
 ghost use Rattle.reg_leader.specs.Step.{IsStep, course_of};
-ghost use Rattle.reg_leader.specs.Taking.{Takes};
+ghost use Rattle.reg_leader.specs.Leading.{LeadsTo};
 
 use crate::command::Command;
 use crate::deed::Deed;
@@ -60,22 +60,22 @@ fn decided(
 ) -> Result<Decision, Refusal>
     ensures { Decides registry.now next command.now result }
 {
-    match taken(alloc, registry, next, command, judged) {
-        Ok(deed) => settled(alloc, next, deed),
+    match deed_of(alloc, registry, next, command, judged) {
+        Ok(deed) => concluded(alloc, next, deed),
         Err(refusal) => Err(refusal),
     }
 }
 
 /// The deed of a command, or its refusal.
-#[tactic(auto, using(crate::proofs::Takes::takes_followed))]
-fn taken(
+#[tactic(auto, using(crate::proofs::Leading::leads_followed))]
+fn deed_of(
     alloc: Global,
     registry: &Registry,
     next: u64,
     command: &Command,
     judged: Option<&Judged>,
 ) -> Result<Deed, Refusal>
-    ensures { Takes (course_of registry.now next command.now) result }
+    ensures { LeadsTo (course_of registry.now next command.now) result }
 {
     match command {
         Command::Register { subject, text } => {
@@ -108,8 +108,8 @@ fn taken(
 }
 
 /// What a deed comes to, unless an offset of its batch would pass the limit.
-fn settled(alloc: Global, next: u64, deed: Deed) -> Result<Decision, Refusal>
-    ensures { Settles next (Does deed.reply deed.writings.items) result }
+fn concluded(alloc: Global, next: u64, deed: Deed) -> Result<Decision, Refusal>
+    ensures { Concludes next (Does deed.reply deed.writings.items) result }
 {
     if !has_offsets(next, deed.writings.len()) {
         return Err(Refusal::Store(StoreFault::NumbersUsedUp));

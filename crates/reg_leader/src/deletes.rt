@@ -3,7 +3,7 @@ ghost use Rattle.std.specs.Prelude.{◌≡◌, ◌∷◌, not, false, true, IfOk
 ghost use Rattle.std.specs.List.{list_any};
 ghost use Rattle.reg_leader.specs.Deciding.{Follows};
 ghost use Rattle.reg_rules.specs.Standing.{version_meant};
-ghost use Rattle.reg_leader.specs.Step.{delete_all, delete_entry, delete_subject, delete_version, marked, no_version};
+ghost use Rattle.reg_leader.specs.Step.{delete_all_permanently, delete_all_softly, delete_permanently, delete_softly, delete_subject, delete_version, marked, no_version};
 ghost use Rattle.reg_rules.specs.Writings.{removed};
 
 use crate::deed::Deed;
@@ -11,8 +11,8 @@ use crate::marking::marked;
 use crate::reply::Reply;
 use base_text::{Listed, Text};
 use reg_fold::{Entry, Refusal, Registry, VersionRef};
-use reg_modes::{may_write, mode_in_force};
-use reg_rules::{Writing, has_offset, is_open, stands};
+use reg_modes::{mode_in_force, must_allow_writes};
+use reg_rules::{Writing, must_be_open, must_have_offset, must_stand};
 use std::alloc::{AllocError, Global};
 
 pub(crate) fn delete_version(
@@ -25,13 +25,17 @@ pub(crate) fn delete_version(
 ) -> Result<Deed, Refusal>
     ensures { Follows (delete_version registry.now next subject.now version permanent) result }
 {
-    is_open(registry)?;
-    has_offset(next)?;
-    may_write(mode_in_force(registry, Some(subject.as_str())))?;
-    stands(registry, subject)?;
-    match version_meant(registry, subject, version)? {
-        Some(entry) => delete_entry(alloc, registry, entry, permanent),
-        None => Err(no_version(version)),
+    must_be_open(registry)?;
+    must_have_offset(next)?;
+    must_allow_writes(mode_in_force(registry, Some(subject.as_str())))?;
+    must_stand(registry, subject)?;
+    let Some(entry) = version_meant(registry, subject, version)? else {
+        return Err(no_version(version));
+    };
+    if permanent {
+        delete_permanently(alloc, registry, entry)
+    } else {
+        delete_softly(alloc, entry)
     }
 }
 
@@ -49,23 +53,31 @@ fn version_meant<'a>(
     }
 }
 
-fn delete_entry(
-    alloc: Global,
-    registry: &Registry,
-    entry: &Entry,
-    permanent: bool,
-) -> Result<Deed, Refusal>
-    ensures { Follows (delete_entry registry.now permanent entry.now) result }
+/// Soft-deletes a version, which has to be live.
+fn delete_softly(alloc: Global, entry: &Entry) -> Result<Deed, Refusal>
+    ensures { Follows (delete_softly entry.now) result }
 {
-    let writings = match (permanent, entry.soft) {
-        (false, true) => return Err(Refusal::VersionSoftDeleted),
-        (true, false) => return Err(Refusal::VersionNotSoftDeleted),
-        (false, false) => vec![in alloc; Writing::deleted_again(entry)?]?,
-        (true, true) => vec![in alloc; marked(registry), Writing::removed(entry)?]?,
-    };
+    if entry.soft {
+        return Err(Refusal::VersionSoftDeleted);
+    }
+    let writing = Writing::deleted_again(entry)?;
     Ok(Deed {
         reply: Reply::Version(entry.version),
-        writings,
+        writings: vec![in alloc; writing]?,
+    })
+}
+
+/// Marks the ids, and removes a version, which has to be soft-deleted.
+fn delete_permanently(alloc: Global, registry: &Registry, entry: &Entry) -> Result<Deed, Refusal>
+    ensures { Follows (delete_permanently registry.now entry.now) result }
+{
+    if !entry.soft {
+        return Err(Refusal::VersionNotSoftDeleted);
+    }
+    let writing = Writing::removed(entry)?;
+    Ok(Deed {
+        reply: Reply::Version(entry.version),
+        writings: vec![in alloc; marked(registry), writing]?,
     })
 }
 
@@ -88,27 +100,27 @@ pub(crate) fn delete_subject(
 ) -> Result<Deed, Refusal>
     ensures { Follows (delete_subject registry.now next subject.now permanent) result }
 {
-    is_open(registry)?;
-    has_offset(next)?;
-    may_write(mode_in_force(registry, Some(subject.as_str())))?;
+    must_be_open(registry)?;
+    must_have_offset(next)?;
+    must_allow_writes(mode_in_force(registry, Some(subject.as_str())))?;
     let Some(greatest) = registry.greatest_version(subject.as_str()) else {
         return Err(Refusal::SubjectNotFound);
     };
     if permanent {
-        remove_all(alloc, registry, subject, greatest)
+        delete_all_permanently(alloc, registry, subject, greatest)
     } else {
-        delete_all(alloc, registry, subject, greatest)
+        delete_all_softly(alloc, registry, subject, greatest)
     }
 }
 
 /// Soft-deletes the subject's versions, up to the greatest.
-fn delete_all(
+fn delete_all_softly(
     alloc: Global,
     registry: &Registry,
     subject: &Text,
     greatest: u32,
 ) -> Result<Deed, Refusal>
-    ensures { Follows (delete_all registry.now subject.now false greatest) result }
+    ensures { Follows (delete_all_softly registry.now subject.now greatest) result }
 {
     let live = registry.live(subject.as_str())?;
     if live.is_empty() {
@@ -123,13 +135,13 @@ fn delete_all(
 }
 
 /// Marks the ids, and removes the subject's versions, each with a record of its own.
-fn remove_all(
+fn delete_all_permanently(
     alloc: Global,
     registry: &Registry,
     subject: &Text,
     greatest: u32,
 ) -> Result<Deed, Refusal>
-    ensures { Follows (delete_all registry.now subject.now true greatest) result }
+    ensures { Follows (delete_all_permanently registry.now subject.now) result }
 {
     let entries = registry.counting(subject.as_str(), true)?;
     if any_live(&entries) {

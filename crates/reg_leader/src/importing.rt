@@ -10,9 +10,10 @@ use crate::reply::Reply;
 use avro_schema::Schema;
 use base_text::Text;
 use reg_fold::{Entry, Reason, Refusal, Registry, VersionRef};
-use reg_modes::{may_register, mode_in_force};
+use reg_modes::{mode_in_force, must_allow_registration};
 use reg_rules::{
-    has_offset, is_above_mark, is_of, is_open, live_import, names_no_other, read_schema,
+    is_of, live_import, must_be_above_mark, must_be_open, must_have_offset, must_name_no_other,
+    read_schema,
 };
 use std::alloc::Global;
 
@@ -28,11 +29,11 @@ pub(crate) fn import_register(
     ensures { Follows (import_register registry.now next subject.now text.now id version) result }
 {
     let schema = read_schema(alloc, text)?;
-    is_open(registry)?;
-    has_offset(next)?;
-    may_register(mode_in_force(registry, Some(subject.as_str())), true)?;
-    names_no_other(registry, id, schema.normal())?;
-    is_above_mark(registry, id)?;
+    must_be_open(registry)?;
+    must_have_offset(next)?;
+    must_allow_registration(mode_in_force(registry, Some(subject.as_str())), true)?;
+    must_name_no_other(registry, id, schema.normal())?;
+    must_be_above_mark(registry, id)?;
     match version {
         Some(version) => import_at(alloc, registry, subject, &schema, id, version),
         None => import_next(alloc, registry, subject, &schema, id),

@@ -8,15 +8,15 @@ use crate::reply::Reply;
 use base_text::Text;
 use reg_fold::{Refusal, Registry};
 use reg_level_names::Level;
-use reg_modes::{may_write, mode_in_force};
-use reg_rules::{Writing, has_offset, is_open, subject_of};
+use reg_modes::{mode_in_force, must_allow_writes};
+use reg_rules::{Writing, must_be_open, must_have_offset, subject_of};
 use std::alloc::Global;
 
 pub(crate) fn no_op(alloc: Global, registry: &Registry, next: u64) -> Result<Deed, Refusal>
     ensures { Follows (no_op registry.now next) result }
 {
-    is_open(registry)?;
-    has_offset(next)?;
+    must_be_open(registry)?;
+    must_have_offset(next)?;
     Ok(Deed {
         reply: Reply::Nothing,
         writings: vec![in alloc; Writing::no_operation()]?,
@@ -32,9 +32,9 @@ pub(crate) fn set_level(
 ) -> Result<Deed, Refusal>
     ensures { Follows (set_level registry.now next scope.now level) result }
 {
-    is_open(registry)?;
-    has_offset(next)?;
-    may_write(mode_in_force(registry, subject_of(scope)))?;
+    must_be_open(registry)?;
+    must_have_offset(next)?;
+    must_allow_writes(mode_in_force(registry, subject_of(scope)))?;
     let writing = Writing::level_set(alloc, scope, level)?;
     Ok(Deed {
         reply: Reply::Level(level),
@@ -50,9 +50,9 @@ pub(crate) fn clear_level(
 ) -> Result<Deed, Refusal>
     ensures { Follows (clear_level registry.now next subject.now) result }
 {
-    is_open(registry)?;
-    has_offset(next)?;
-    may_write(mode_in_force(registry, Some(subject.as_str())))?;
+    must_be_open(registry)?;
+    must_have_offset(next)?;
+    must_allow_writes(mode_in_force(registry, Some(subject.as_str())))?;
     let Some(level) = registry.own_level(Some(subject.as_str())) else {
         return Err(Refusal::SubjectHasNoLevel);
     };

@@ -23,4 +23,6 @@ pub use laws::{
     refusals_write_nothing, steps_are_single, steps_meet_levels,
 };
 pub use reply::Reply;
-pub use staying::{deletes_name_greatest, steps_are_harmless, steps_keep_taken, steps_stay_open};
+pub use staying::{
+    deletes_name_greatest, steps_are_harmless, steps_keep_given_ids, steps_stay_open,
+};

@@ -8,7 +8,7 @@ use crate::reply::Reply;
 use base_text::Text;
 use reg_fold::{Refusal, Registry};
 use reg_modes::{Mode, own_mode};
-use reg_rules::{Writing, has_offset, is_open, may_set_mode};
+use reg_rules::{Writing, must_allow_mode, must_be_open, must_have_offset};
 use std::alloc::Global;
 
 pub(crate) fn set_mode(
@@ -21,9 +21,9 @@ pub(crate) fn set_mode(
 ) -> Result<Deed, Refusal>
     ensures { Follows (set_mode registry.now next scope.now mode force) result }
 {
-    is_open(registry)?;
-    has_offset(next)?;
-    may_set_mode(registry, scope, mode, force)?;
+    must_be_open(registry)?;
+    must_have_offset(next)?;
+    must_allow_mode(registry, scope, mode, force)?;
     let writing = Writing::mode_set(alloc, scope, mode)?;
     Ok(Deed {
         reply: Reply::Mode(mode),
@@ -39,8 +39,8 @@ pub(crate) fn clear_mode(
 ) -> Result<Deed, Refusal>
     ensures { Follows (clear_mode registry.now next subject.now) result }
 {
-    is_open(registry)?;
-    has_offset(next)?;
+    must_be_open(registry)?;
+    must_have_offset(next)?;
     let Some(mode) = own_mode(registry, Some(subject.as_str())) else {
         return Err(Refusal::SubjectHasNoMode);
     };

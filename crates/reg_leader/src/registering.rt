@@ -3,17 +3,18 @@ ghost use Rattle.std.specs.Prelude.{◌≡◌, IfOk};
 ghost use Rattle.reg_leader.specs.Deciding.{Follows};
 ghost use Rattle.reg_rules.specs.Standing.{id_for, next_version};
 ghost use Rattle.reg_leader.specs.Step.{register, writes};
-ghost use Rattle.reg_leader.specs.Taking.{IsBefore, Takes, if_met};
+ghost use Rattle.reg_leader.specs.Leading.{IsBefore, LeadsTo, if_met};
 
-use crate::deed::{Deed, Settled};
+use crate::deed::{Candidate, Deed};
 use crate::reply::Reply;
 use avro_schema::Schema;
 use base_text::Text;
 use reg_fold::{Refusal, Registry};
 use reg_levels::Judged;
-use reg_modes::{may_register, mode_in_force};
+use reg_modes::{mode_in_force, must_allow_registration};
 use reg_rules::{
-    Writing, clash_of, has_offset, has_valid_defaults, is_number, is_open, live_schema, read_schema,
+    Writing, clash_of, live_schema, must_be_number, must_be_open, must_have_offset,
+    must_have_valid_defaults, read_schema,
 };
 use std::alloc::{AllocError, Global};
 
@@ -25,36 +26,36 @@ pub(crate) fn register(
     text: &Text,
     judged: Option<&Judged>,
 ) -> Result<Deed, Refusal>
-    ensures { Takes (register registry.now next subject.now text.now) result }
+    ensures { LeadsTo (register registry.now next subject.now text.now) result }
 {
-    match unless_settled(alloc, registry, next, subject, text)? {
-        Settled::Live(id) => Ok(Deed {
+    match candidate(alloc, registry, next, subject, text)? {
+        Candidate::Live(id) => Ok(Deed {
             reply: Reply::Id(id),
             writings: Vec::new(alloc),
         }),
-        Settled::New(schema) => register_new(alloc, registry, subject, &schema, judged),
+        Candidate::New(schema) => register_new(alloc, registry, subject, &schema, judged),
     }
 }
 
 /// The tests before the check of the level, and the id of a schema that is live already.
-fn unless_settled(
+fn candidate(
     alloc: Global,
     registry: &Registry,
     next: u64,
     subject: &Text,
     text: &Text,
-) -> Result<Settled, Refusal>
+) -> Result<Candidate, Refusal>
     ensures { IsBefore registry.now next subject.now text.now result }
 {
     let schema = read_schema(alloc, text)?;
-    has_valid_defaults(&schema)?;
-    is_open(registry)?;
-    has_offset(next)?;
-    may_register(mode_in_force(registry, Some(subject.as_str())), false)?;
+    must_have_valid_defaults(&schema)?;
+    must_be_open(registry)?;
+    must_have_offset(next)?;
+    must_allow_registration(mode_in_force(registry, Some(subject.as_str())), false)?;
     let live = registry.live(subject.as_str())?;
     match live_schema(&live, schema.normal().as_str()) {
-        Some(same) => Ok(Settled::Live(same.id)),
-        None => Ok(Settled::New(schema)),
+        Some(same) => Ok(Candidate::Live(same.id)),
+        None => Ok(Candidate::New(schema)),
     }
 }
 
@@ -66,7 +67,7 @@ fn register_new(
     schema: &Schema,
     judged: Option<&Judged>,
 ) -> Result<Deed, Refusal>
-    ensures { Takes (if_met registry.now subject.now schema.now.normal_text) result }
+    ensures { LeadsTo (if_met registry.now subject.now schema.now.normal_text) result }
 {
     if let Some(message) = clash_of(alloc, registry, subject, schema, judged)? {
         let told = message.as_str();
@@ -109,8 +110,8 @@ pub(crate) fn writes(
 ) -> Result<Deed, Refusal>
     ensures { Follows (writes first.items subject.now schema.now.normal_text id version) result }
 {
-    let id = is_number(id)?;
-    let version = is_number(version)?;
+    let id = must_be_number(id)?;
+    let version = must_be_number(version)?;
     let mut writings = first;
     writings.push(Writing::version_of(subject, version, id, schema.normal().clone()?)?)?;
     Ok(Deed {

@@ -3,7 +3,7 @@
 ghost use Rattle.reg_leader.specs.Deletes.{DeletesNameGreatest};
 ghost use Rattle.reg_leader.specs.Harmless.{StepsAreHarmless};
 ghost use Rattle.reg_leader.specs.StayOpen.{StepsKeepIds, StepsStayOpen};
-ghost use Rattle.reg_leader.specs.Taken.{EntriesTakeIds, StepsKeepTaken};
+ghost use Rattle.reg_leader.specs.GivenIds.{EntriesHaveGivenIds, StepsKeepGivenIds};
 
 use avro_schema::normal_texts_read_back;
 use reg_fold::{
@@ -40,11 +40,11 @@ pub fn steps_stay_open()
     written_values_read_back();
 }
 
-/// The id of an entry is taken, and what is taken stays so when a command is carried out: no entry
+/// The id of an entry is given to its schema, and what is given stays so when a command is carried out: no entry
 /// has the id with another schema, and no command gives it to one.
-pub fn steps_keep_taken()
-    ensures entries { EntriesTakeIds }
-    ensures kept { StepsKeepTaken }
+pub fn steps_keep_given_ids()
+    ensures entries { EntriesHaveGivenIds }
+    ensures kept { StepsKeepGivenIds }
 {
     entries_are_in_limits();
     entries_are_of_places();

@@ -5,7 +5,7 @@ ghost use Rattle.reg_set.specs.LastRecords.{last_records};
 ghost use Rattle.reg_set.specs.Records.{Records};
 ghost use Rattle.reg_lookup.specs.Answers.{IsAnswer, IsAnswerOver, HaveOneAnswer};
 
-use crate::answered::{Answer, told};
+use crate::answered::{Answer, answer_of};
 use crate::by_id::{id_versions, schema_by_id};
 use crate::by_schema::lookup;
 use crate::by_subject::{subjects, version, version_schema, versions};
@@ -35,9 +35,9 @@ fn answer_by_kind(alloc: Global, registry: &Registry, query: &Query) -> Result<A
     ensures { IfOk result (IsAnswer registry.now query.now) }
 {
     match query {
-        Query::SchemaById { id } => told(alloc, schema_by_id(alloc, registry, *id)),
+        Query::SchemaById { id } => answer_of(alloc, schema_by_id(alloc, registry, *id)),
         Query::IdVersions { id, deleted } => {
-            told(alloc, id_versions(alloc, registry, *id, *deleted))
+            answer_of(alloc, id_versions(alloc, registry, *id, *deleted))
         }
         Query::Subjects { deleted } => Ok(Answer {
             status: 200,
@@ -47,18 +47,18 @@ fn answer_by_kind(alloc: Global, registry: &Registry, query: &Query) -> Result<A
             subject,
             text,
             deleted,
-        } => told(
+        } => answer_of(
             alloc,
             lookup(alloc, registry, subject.as_str(), text.as_str(), *deleted),
         ),
         Query::Versions { subject, deleted } => {
-            told(alloc, versions(alloc, registry, subject.as_str(), *deleted))
+            answer_of(alloc, versions(alloc, registry, subject.as_str(), *deleted))
         }
         Query::Version {
             subject,
             version: which,
             deleted,
-        } => told(
+        } => answer_of(
             alloc,
             version(alloc, registry, subject.as_str(), *which, *deleted),
         ),
@@ -66,7 +66,7 @@ fn answer_by_kind(alloc: Global, registry: &Registry, query: &Query) -> Result<A
             subject,
             version: which,
             deleted,
-        } => told(
+        } => answer_of(
             alloc,
             version_schema(registry, subject.as_str(), *which, *deleted),
         ),
@@ -86,14 +86,14 @@ fn answer_by_kind(alloc: Global, registry: &Registry, query: &Query) -> Result<A
         Query::Level {
             subject,
             default_global,
-        } => told(
+        } => answer_of(
             alloc,
             level_found(alloc, registry, text_of(subject), *default_global),
         ),
         Query::Mode {
             subject,
             default_global,
-        } => told(
+        } => answer_of(
             alloc,
             mode_found(alloc, registry, text_of(subject), *default_global),
         ),

@@ -15,7 +15,7 @@ ghost use Rattle.reg_lookup.specs.Checked.{AreRead, asked_on, checked_on, olds_o
 ghost use Rattle.reg_lookup.specs.Gives.{IsRefusalOf};
 ghost use Rattle.reg_lookup.specs.declared.query.Query.TheVariants.{Check};
 
-use crate::answered::{Answer, told};
+use crate::answered::{Answer, answer_of};
 use crate::bodies::check_body;
 use crate::error::LookupError;
 use crate::found::version_found;
@@ -115,9 +115,9 @@ fn answer_on(
     match verdict_on(alloc, level, olds, text) {
         Ok(verdict) => {
             let body = verdict_body(alloc, verbose, &verdict)?;
-            told(alloc, Ok(body))
+            answer_of(alloc, Ok(body))
         }
-        Err(error) => told(alloc, Err(error)),
+        Err(error) => answer_of(alloc, Err(error)),
     }
 }
 
@@ -197,7 +197,7 @@ fn olds_asked<'a>(
     }
 }
 
-/// What is told of a verdict; of a clash only where `verbose` is true.
+/// What is said of a verdict; of a clash only where `verbose` is true.
 fn verdict_body(alloc: Global, verbose: bool, verdict: &LevelVerdict) -> Result<Text, AllocError>
     ensures { IfOk result (λ body. body ≡ bodies.check_body verbose verdict.now.ok (message_of verdict.now)) }
 {

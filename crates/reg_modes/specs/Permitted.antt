@@ -21,20 +21,20 @@ abbrev pub denied : Reason → Permit
 denied reason = Err (NotPermitted reason)
 
 -- a registration, with an id or without one
-abbrev pub registering : Mode → Bool → Permit
-registering Readonly has_id = denied reasons.Readonly
-registering Readwrite true = denied reasons.IdNeedsImport
-registering Readwrite false = granted
-registering Import true = granted
-registering Import false = denied reasons.ImportNeedsId
+abbrev pub must_allow_registration : Mode → Bool → Permit
+must_allow_registration Readonly has_id = denied reasons.Readonly
+must_allow_registration Readwrite true = denied reasons.IdNeedsImport
+must_allow_registration Readwrite false = granted
+must_allow_registration Import true = granted
+must_allow_registration Import false = denied reasons.ImportNeedsId
 
 -- a delete, or a change of a level
-abbrev pub writing : Mode → Permit
-writing Readonly = denied reasons.Readonly
-writing Readwrite = granted
-writing Import = granted
+abbrev pub must_allow_writes : Mode → Permit
+must_allow_writes Readonly = denied reasons.Readonly
+must_allow_writes Readwrite = granted
+must_allow_writes Import = granted
 
 -- setting IMPORT: not over a live version of the scope, unless it is forced
-abbrev pub setting_import : Records → Scope → Bool → Permit
-setting_import rs scope force =
+abbrev pub must_allow_import : Records → Scope → Bool → Permit
+must_allow_import rs scope force =
     if not force && has_live (entries rs) scope then denied reasons.ScopeIsNotEmpty else granted

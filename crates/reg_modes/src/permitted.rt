@@ -5,10 +5,10 @@ ghost use Rattle.reg_modes.specs.Permitted as spec;
 use crate::mode::Mode;
 use reg_fold::{Reason, Refusal, Registry};
 
-/// Whether a registration is permitted, with an id or without one. The only refusal is
+/// Refuses where the mode permits no registration with an id, or without one. The only refusal is
 /// `NotPermitted`, with its reason.
-pub fn may_register(mode: Mode, has_id: bool) -> Result<(), Refusal>
-    ensures { result ≡ spec.registering mode has_id }
+pub fn must_allow_registration(mode: Mode, has_id: bool) -> Result<(), Refusal>
+    ensures { result ≡ spec.must_allow_registration mode has_id }
 {
     match (mode, has_id) {
         (Mode::Readonly, _) => Err(Refusal::NotPermitted(Reason::Readonly)),
@@ -18,10 +18,10 @@ pub fn may_register(mode: Mode, has_id: bool) -> Result<(), Refusal>
     }
 }
 
-/// Whether deletes and changes of levels are permitted. The only refusal is `NotPermitted`, with
-/// its reason.
-pub fn may_write(mode: Mode) -> Result<(), Refusal>
-    ensures { result ≡ spec.writing mode }
+/// Refuses where the mode permits no deletes and changes of levels. The only refusal is
+/// `NotPermitted`, with its reason.
+pub fn must_allow_writes(mode: Mode) -> Result<(), Refusal>
+    ensures { result ≡ spec.must_allow_writes mode }
 {
     match mode {
         Mode::Readonly => Err(Refusal::NotPermitted(Reason::Readonly)),
@@ -29,14 +29,14 @@ pub fn may_write(mode: Mode) -> Result<(), Refusal>
     }
 }
 
-/// Whether a subject, or all subjects, may be set to IMPORT: no version of theirs is live, or it is
+/// Refuses to set a subject, or all subjects, to IMPORT where a version of theirs is live and it isn't
 /// forced. The only refusal is `NotPermitted`, with its reason.
-pub fn may_set_import(
+pub fn must_allow_import(
     registry: &Registry,
     subject: Option<&str>,
     force: bool,
 ) -> Result<(), Refusal>
-    ensures { result ≡ spec.setting_import registry.now (option_map (λ s. s.now) subject.entry) force }
+    ensures { result ≡ spec.must_allow_import registry.now (option_map (λ s. s.now) subject.entry) force }
 {
     if !force && registry.has_live(subject) {
         return Err(Refusal::NotPermitted(Reason::ScopeIsNotEmpty));

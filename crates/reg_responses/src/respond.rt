@@ -49,7 +49,7 @@ pub fn write_reply<W: Output>(
         }
         Reply::Mode(mode) => write_member(writer, "mode", mode.as_str(), closes),
         Reply::ModeRemoved(mode) => write_member(writer, "mode", mode.as_str(), closes),
-        Reply::Nothing => write_told(writer, &[Piece::Text("{}")], closes),
+        Reply::Nothing => write_success(writer, &[Piece::Text("{}")], closes),
         Reply::Refused(refusal) => write_refused(writer, refusal, None, closes),
         Reply::Unsettled(_) => {
             let refusal = Refusal::Store(StoreFault::Unsettled);
@@ -62,7 +62,7 @@ fn write_id<W: Output>(writer: &mut Device<W>, id: u32, closes: bool) -> Result<
     ensures written { Writes W.contents writer.old writer.new (answer_text closes (answer_with (Ok (id_body id)))) result }
     ensures ended { Ends W.writes W.flushes writer.new result }
 {
-    write_told(writer, &id_pieces(id), closes)
+    write_success(writer, &id_pieces(id), closes)
 }
 
 fn write_version<W: Output>(
@@ -73,7 +73,7 @@ fn write_version<W: Output>(
     ensures written { Writes W.contents writer.old writer.new (answer_text closes (answer_with (Ok (compact_text (number_data version))))) result }
     ensures ended { Ends W.writes W.flushes writer.new result }
 {
-    write_told(writer, &[Piece::Number(u128::from(version))], closes)
+    write_success(writer, &[Piece::Number(u128::from(version))], closes)
 }
 
 fn write_versions<W: Output>(
@@ -84,7 +84,7 @@ fn write_versions<W: Output>(
     ensures written { Writes W.contents writer.old writer.new (answer_text closes (answer_with (Ok (list_body number_data versions.now)))) result }
     ensures ended { Ends W.writes W.flushes writer.new result }
 {
-    write_told(writer, &versions_pieces(versions), closes)
+    write_success(writer, &versions_pieces(versions), closes)
 }
 
 fn write_member<W: Output>(
@@ -96,11 +96,11 @@ fn write_member<W: Output>(
     ensures written { Writes W.contents writer.old writer.new (answer_text closes (answer_with (Ok (member_body name.now text.now)))) result }
     ensures ended { Ends W.writes W.flushes writer.new result }
 {
-    write_told(writer, &member_pieces(name, text), closes)
+    write_success(writer, &member_pieces(name, text), closes)
 }
 
 /// Writes the response whose body has these pieces.
-fn write_told<W: Output>(
+fn write_success<W: Output>(
     writer: &mut Device<W>,
     body: &[Piece<'_>],
     closes: bool,

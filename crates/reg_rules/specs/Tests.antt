@@ -9,7 +9,7 @@ use Rattle.reg_fold.specs.IdMark.{id_mark}
 use Rattle.reg_fold.specs.InForce.{Scope}
 use Rattle.reg_fold.specs.Opaque.{opaque}
 use Rattle.reg_fold.specs.Standing.{greatest_version, named}
-use Rattle.reg_modes.specs.Permitted.{Permit, granted, setting_import}
+use Rattle.reg_modes.specs.Permitted.{Permit, granted, must_allow_import}
 use Rattle.reg_modes.specs.declared.mode.Mode.{Mode}
 use Rattle.reg_modes.specs.declared.mode.Mode.TheVariants as modes
 use Rattle.reg_records.specs.declared.limits.TheConstants.{NUMBER_LIMIT, OFFSET_LIMIT}
@@ -37,45 +37,45 @@ if_none [] = granted
 if_none (field ∷ fields) = Err refusals.InvalidSchema
 
 -- the schema's defaults are valid
-abbrev pub has_valid_defaults : Meaning → Permit
-has_valid_defaults schema = if_none (bad_defaults schema.nodes)
+abbrev pub must_have_valid_defaults : Meaning → Permit
+must_have_valid_defaults schema = if_none (bad_defaults schema.nodes)
 
 abbrev pub if_not_opaque : Bool → Permit → Permit
 if_not_opaque true else = Err (refusals.Store faults.OpaqueRecord)
 if_not_opaque false else = else
 
 -- the registry isn't closed; where it is for both causes, the opaque record is reported
-abbrev pub is_open : Records → Permit
-is_open rs = if_not_opaque (is_some (opaque rs)) (refuse_if (is_some (two_schemas rs)) (refusals.Store faults.TwoSchemas))
+abbrev pub must_be_open : Records → Permit
+must_be_open rs = if_not_opaque (is_some (opaque rs)) (refuse_if (is_some (two_schemas rs)) (refusals.Store faults.TwoSchemas))
 
 -- there is an offset left
-abbrev pub has_offset : ℕ → Permit
-has_offset n = refuse_unless (nat_le n OFFSET_LIMIT) numbers_used_up
+abbrev pub must_have_offset : ℕ → Permit
+must_have_offset n = refuse_unless (nat_le n OFFSET_LIMIT) numbers_used_up
 
 -- a version or an id is within its limits
-abbrev pub is_number : ℕ → Permit
-is_number number = refuse_unless (nat_le 1 number && nat_le number NUMBER_LIMIT) numbers_used_up
+abbrev pub must_be_number : ℕ → Permit
+must_be_number number = refuse_unless (nat_le 1 number && nat_le number NUMBER_LIMIT) numbers_used_up
 
 -- the mode may be set: IMPORT not over a live version of the scope, unless it is forced
-abbrev pub may_set_mode : Records → Scope → Mode → Bool → Permit
-may_set_mode rs scope modes.Import force = setting_import rs scope force
-may_set_mode rs scope modes.Readonly force = granted
-may_set_mode rs scope modes.Readwrite force = granted
+abbrev pub must_allow_mode : Records → Scope → Mode → Bool → Permit
+must_allow_mode rs scope modes.Import force = must_allow_import rs scope force
+must_allow_mode rs scope modes.Readonly force = granted
+must_allow_mode rs scope modes.Readwrite force = granted
 
 -- the id names no other schema
-abbrev pub names_no_other : Records → ℕ → List ℕ → Permit
-names_no_other rs id normal = refuse_if (names_another rs id normal) (refusals.NotPermitted reasons.IdNamesAnotherSchema)
+abbrev pub must_name_no_other : Records → ℕ → List ℕ → Permit
+must_name_no_other rs id normal = refuse_if (names_another rs id normal) (refusals.NotPermitted reasons.IdNamesAnotherSchema)
 
 -- the id has an entry, soft ones too, or is above the mark: no other is given away, since it may have been another schema's
-abbrev pub is_above_mark : Records → ℕ → Permit
-is_above_mark rs id = refuse_unless (is_some (named rs id) || nat_lt (id_mark rs) id) (refusals.NotPermitted reasons.IdIsNotAboveMark)
+abbrev pub must_be_above_mark : Records → ℕ → Permit
+must_be_above_mark rs id = refuse_unless (is_some (named rs id) || nat_lt (id_mark rs) id) (refusals.NotPermitted reasons.IdIsNotAboveMark)
 
 -- the subject has an entry; a live one; no live one
-abbrev pub stands : Records → List ℕ → Permit
-stands rs subject = refuse_unless (is_some (greatest_version rs subject)) refusals.SubjectNotFound
+abbrev pub must_stand : Records → List ℕ → Permit
+must_stand rs subject = refuse_unless (is_some (greatest_version rs subject)) refusals.SubjectNotFound
 
-abbrev pub is_live : Records → List ℕ → Permit
-is_live rs subject = refuse_unless (has_live (entries rs) (Some subject)) refusals.SubjectSoftDeleted
+abbrev pub must_be_live : Records → List ℕ → Permit
+must_be_live rs subject = refuse_unless (has_live (entries rs) (Some subject)) refusals.SubjectSoftDeleted
 
-abbrev pub is_not_live : Records → List ℕ → Permit
-is_not_live rs subject = refuse_if (has_live (entries rs) (Some subject)) refusals.SubjectNotSoftDeleted
+abbrev pub must_not_be_live : Records → List ℕ → Permit
+must_not_be_live rs subject = refuse_if (has_live (entries rs) (Some subject)) refusals.SubjectNotSoftDeleted

@@ -8,8 +8,9 @@ mod testing;
 mod writing;
 
 pub use judging::clash_of;
-pub use schemas::{has_valid_defaults, is_of, live_import, live_schema, read_schema};
+pub use schemas::{is_of, live_import, live_schema, must_have_valid_defaults, read_schema};
 pub use testing::{
-    has_offset, is_above_mark, is_number, is_open, may_set_mode, names_no_other, stands, subject_of,
+    must_allow_mode, must_be_above_mark, must_be_number, must_be_open, must_have_offset,
+    must_name_no_other, must_stand, subject_of,
 };
 pub use writing::{Writing, numbered};

@@ -22,9 +22,9 @@ pub fn read_schema(alloc: Global, text: &Text) -> Result<Schema, Refusal>
     }
 }
 
-/// Whether the schema's defaults are valid. Takes no memory.
-pub fn has_valid_defaults(schema: &Schema) -> Result<(), Refusal>
-    ensures { result ≡ test.has_valid_defaults schema.now }
+/// Refuses with `InvalidSchema` where a default of the schema isn't valid. Takes no memory.
+pub fn must_have_valid_defaults(schema: &Schema) -> Result<(), Refusal>
+    ensures { result ≡ test.must_have_valid_defaults schema.now }
 {
     match schema.check_defaults() {
         Ok(()) => Ok(()),

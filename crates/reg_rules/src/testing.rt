@@ -6,12 +6,12 @@ ghost use Rattle.reg_rules.specs.Tests as test;
 use crate::schemas::has_schema;
 use base_text::Text;
 use reg_fold::{Reason, Refusal, Registry, StoreFault};
-use reg_modes::{Mode, may_set_import};
+use reg_modes::{Mode, must_allow_import};
 use reg_records::{NUMBER_LIMIT, OFFSET_LIMIT};
 
-/// Whether the registry takes commands.
-pub fn is_open(registry: &Registry) -> Result<(), Refusal>
-    ensures { result ≡ test.is_open registry.now }
+/// Refuses where the registry is closed: `OpaqueRecord`, else `TwoSchemas`.
+pub fn must_be_open(registry: &Registry) -> Result<(), Refusal>
+    ensures { result ≡ test.must_be_open registry.now }
 {
     if registry.opaque().is_some() {
         return Err(Refusal::Store(StoreFault::OpaqueRecord));
@@ -22,9 +22,9 @@ pub fn is_open(registry: &Registry) -> Result<(), Refusal>
     Ok(())
 }
 
-/// Whether an offset is left.
-pub fn has_offset(next: u64) -> Result<(), Refusal>
-    ensures { result ≡ test.has_offset next }
+/// Refuses with `NumbersUsedUp` where no offset is left.
+pub fn must_have_offset(next: u64) -> Result<(), Refusal>
+    ensures { result ≡ test.must_have_offset next }
 {
     if next > OFFSET_LIMIT {
         return Err(Refusal::Store(StoreFault::NumbersUsedUp));
@@ -32,9 +32,9 @@ pub fn has_offset(next: u64) -> Result<(), Refusal>
     Ok(())
 }
 
-/// The number, if it is a version's or an id's.
-pub fn is_number(number: u64) -> Result<u32, Refusal>
-    ensures { Finds (test.is_number number) (λ within. within ≡ number) result }
+/// The number, where it is a version's or an id's; else refuses with `NumbersUsedUp`.
+pub fn must_be_number(number: u64) -> Result<u32, Refusal>
+    ensures { Finds (test.must_be_number number) (λ within. within ≡ number) result }
 {
     if number < 1 || number > u64::from(NUMBER_LIMIT) {
         return Err(Refusal::Store(StoreFault::NumbersUsedUp));
@@ -42,28 +42,28 @@ pub fn is_number(number: u64) -> Result<u32, Refusal>
     Ok(number as u32)
 }
 
-/// Whether the scope may be set to the mode.
-pub fn may_set_mode(
+/// Refuses where the scope may not be set to the mode.
+pub fn must_allow_mode(
     registry: &Registry,
     scope: &Option<Text>,
     mode: Mode,
     force: bool,
 ) -> Result<(), Refusal>
-    ensures { result ≡ test.may_set_mode registry.now scope.now mode force }
+    ensures { result ≡ test.must_allow_mode registry.now scope.now mode force }
 {
     match mode {
-        Mode::Import => may_set_import(registry, subject_of(scope), force),
+        Mode::Import => must_allow_import(registry, subject_of(scope), force),
         Mode::Readwrite | Mode::Readonly => Ok(()),
     }
 }
 
-/// Whether the id names no other schema.
+/// Refuses where the id names another schema.
 ///
-/// The registry is to be open, which `is_open` tests: then all entries of an id have one schema. In a
+/// The registry is to be open, which `must_be_open` tests: then all entries of an id have one schema. In a
 /// closed one an id may already name two, and only that of the entry which `by_id` gives is looked at;
-/// an import tests `is_open` first, so it is refused there before this is asked.
-pub fn names_no_other(registry: &Registry, id: u32, normal: &Text) -> Result<(), Refusal>
-    ensures { result ≡ test.names_no_other registry.now id normal.now }
+/// an import tests `must_be_open` first, so it is refused there before this is asked.
+pub fn must_name_no_other(registry: &Registry, id: u32, normal: &Text) -> Result<(), Refusal>
+    ensures { result ≡ test.must_name_no_other registry.now id normal.now }
 {
     match registry.by_id(id) {
         Some(entry) if !has_schema(entry, normal.as_str()) => {
@@ -73,9 +73,9 @@ pub fn names_no_other(registry: &Registry, id: u32, normal: &Text) -> Result<(),
     }
 }
 
-/// Whether a version has the id, soft ones too, or the id is above the mark of ids.
-pub fn is_above_mark(registry: &Registry, id: u32) -> Result<(), Refusal>
-    ensures { result ≡ test.is_above_mark registry.now id }
+/// Refuses unless a version has the id, soft ones too, or the id is above the mark of ids.
+pub fn must_be_above_mark(registry: &Registry, id: u32) -> Result<(), Refusal>
+    ensures { result ≡ test.must_be_above_mark registry.now id }
 {
     if registry.by_id(id).is_none() && id <= registry.mark() {
         return Err(Refusal::NotPermitted(Reason::IdIsNotAboveMark));
@@ -83,9 +83,9 @@ pub fn is_above_mark(registry: &Registry, id: u32) -> Result<(), Refusal>
     Ok(())
 }
 
-/// Whether the subject has a version, soft ones too.
-pub fn stands(registry: &Registry, subject: &Text) -> Result<(), Refusal>
-    ensures { result ≡ test.stands registry.now subject.now }
+/// Refuses with `SubjectNotFound` where the subject has no version, soft ones too.
+pub fn must_stand(registry: &Registry, subject: &Text) -> Result<(), Refusal>
+    ensures { result ≡ test.must_stand registry.now subject.now }
 {
     if registry.greatest_version(subject.as_str()).is_none() {
         return Err(Refusal::SubjectNotFound);

@@ -13,7 +13,7 @@ use Rattle.reg_fold.specs.Entries.{EntriesAreOfPlaces}
 use Rattle.reg_fold.specs.Opaque.{NoneIsNoOpaqueLast}
 use Rattle.reg_leader.specs.Adoption.{adopting}
 use Rattle.reg_leader.specs.OneStep.{goes_on}
-use Rattle.reg_leader.specs.Taken.{AreBelow}
+use Rattle.reg_leader.specs.GivenIds.{AreBelow}
 use Rattle.reg_topic.specs.Laws.{AdoptedLogsBegin}
 use Rattle.reg_topic.specs.Topic.{IsAdopted, after_batch, follows, plain_topic, topic_from}
 use Rattle.reg_topic.proofs.Marks.{AreMarks, due_are_marks, marks_leave_open}

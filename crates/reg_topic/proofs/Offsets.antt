@@ -10,7 +10,7 @@ use Rattle.std.specs.Ordering.{eq_by_cmp}
 use Rattle.reg_records.specs.declared.record.Record.{Record}
 use Rattle.reg_set.specs.RecordOrder.{record_cmp}
 use Rattle.reg_leader.specs.OneStep.{goes_on}
-use Rattle.reg_leader.specs.Taken.{AreBelow}
+use Rattle.reg_leader.specs.GivenIds.{AreBelow}
 use Rattle.reg_topic.specs.Topic.{after_batch, after_compaction}
 use Rattle.reg_topic.specs.declared.published.Compaction.{Compaction}
 use Rattle.reg_topic.specs.declared.topic.Topic.{Topic}

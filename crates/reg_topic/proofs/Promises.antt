@@ -11,7 +11,7 @@ use Rattle.reg_fold.specs.Closed.{is_closed}
 use Rattle.reg_fold.specs.Entries.{entries}
 use Rattle.reg_leader.specs.OneStep.{BatchesGoOn, StepsMeetLevels}
 use Rattle.reg_leader.specs.StayOpen.{StepsStayOpen, last_after}
-use Rattle.reg_leader.specs.Taken.{AreBelow, EntriesTakeIds, IsTaken, StepsKeepTaken}
+use Rattle.reg_leader.specs.GivenIds.{AreBelow, EntriesHaveGivenIds, IsGiven, StepsKeepGivenIds}
 use Rattle.reg_topic.specs.Promises.{LawfulListsKeepIds, LawfulListsMeetLevels, LawfulListsStayOpen}
 use Rattle.reg_topic.specs.Topic.{IsAdopted, IsLawful, MayFollow, after_batch, after_compaction}
 use Rattle.reg_topic.specs.Topic.{after_item, after_items, follows, may_compact, registry_of}
@@ -76,21 +76,21 @@ module _ (order : IsTotalOrder record_cmp) (apart : IsAntisymmetric record_cmp) 
   pub stay_open : LawfulListsStayOpen
   stay_open base is adopted lawful = (steady_items base is lawful (steady base adopted)).not_closed
 
-  module _ (take : EntriesTakeIds) (keep : StepsKeepTaken) where
-    taken_batch : (b : Bool) (t : Topic) (batch : List Record) (id : ℕ) (normal : List ℕ) → IsTaken (last_after t.log batch) id normal → IsTaken (registry_of t) id normal → IsTaken (registry_of (after_batch b t batch)) id normal
+  module _ (take : EntriesHaveGivenIds) (keep : StepsKeepGivenIds) where
+    taken_batch : (b : Bool) (t : Topic) (batch : List Record) (id : ℕ) (normal : List ℕ) → IsGiven (last_after t.log batch) id normal → IsGiven (registry_of t) id normal → IsGiven (registry_of (after_batch b t batch)) id normal
     taken_batch true t batch id normal more h = more
     taken_batch false t batch id normal more h = h
 
-    taken_compaction : (b : Bool) (t : Topic) (c : Compaction) (id : ℕ) (normal : List ℕ) → IsTaken (registry_of t) id normal → IsTaken (registry_of (after_compaction b t c)) id normal
+    taken_compaction : (b : Bool) (t : Topic) (c : Compaction) (id : ℕ) (normal : List ℕ) → IsGiven (registry_of t) id normal → IsGiven (registry_of (after_compaction b t c)) id normal
     taken_compaction true t c id normal h = h
     taken_compaction false t c id normal h = h
 
-    taken_item : (t : Topic) (i : Item) (id : ℕ) (normal : List ℕ) → MayFollow t i → IsSteady t → IsTaken (registry_of t) id normal → IsTaken (registry_of (after_item t i)) id normal
+    taken_item : (t : Topic) (i : Item) (id : ℕ) (normal : List ℕ) → MayFollow t i → IsSteady t → IsGiven (registry_of t) id normal → IsGiven (registry_of (after_item t i)) id normal
     taken_item t (items.Commit commit) id normal m s h =
         taken_batch (follows t.next commit.batch) t commit.batch id normal (keep t.log t.next commit.command m.reply commit.batch s.not_closed s.below m.step id normal h) h
     taken_item t (items.Compaction c) id normal m s h = taken_compaction (may_compact t c) t c id normal h
 
-    taken_items : (t : Topic) (is : List Item) (id : ℕ) (normal : List ℕ) → IsLawful t is → IsSteady t → IsTaken (registry_of t) id normal → IsTaken (registry_of (after_items t is)) id normal
+    taken_items : (t : Topic) (is : List Item) (id : ℕ) (normal : List ℕ) → IsLawful t is → IsSteady t → IsGiven (registry_of t) id normal → IsGiven (registry_of (after_items t is)) id normal
     taken_items t [] id normal l s h = h
     taken_items t (i ∷ is) id normal l s h = taken_items (after_item t i) is id normal l.1 (steady_item t i l.0 s) (taken_item t i id normal l.0 s h)
 

@@ -1,6 +1,6 @@
 // `registrylog keep`: nodes over a log in a file.
 use crate::fault::KeepFault;
-use crate::opening::{Locked, lock, open_or_make, settle};
+use crate::opening::{Locked, lock, make_ready, open_or_make};
 use crate::telling::Telling;
 use crate::words::Place;
 use reg_inspection::obstacles;
@@ -67,7 +67,7 @@ pub(crate) fn open_log<R: Files<File = File> + Eprint + Copy + Drop>(
     } = lock(&rt, alloc, file)?;
     let mut disk = StoredFile::new(alloc, rt, path.as_str(), opened)?;
     disk.remove_unfinished()?;
-    let found = settle(rt, alloc, &mut disk, path.as_str())?;
+    let found = make_ready(rt, alloc, &mut disk, path.as_str())?;
     let journal = Journal {
         disk,
         end: found.end,

@@ -65,7 +65,7 @@ pub(crate) fn lock<R: Files<File = File>>(
 
 /// Reads the log of a file, and ends it with an empty line where it has none. What stands behind that line is
 /// copied to a file of its own, with `.cut` behind the name, before it is cut off.
-pub(crate) fn settle<R: Files<File = File> + Eprint + Copy + Drop>(
+pub(crate) fn make_ready<R: Files<File = File> + Eprint + Copy + Drop>(
     rt: R,
     alloc: Global,
     disk: &mut StoredFile<R>,

@@ -5,7 +5,7 @@ use Rattle.reg_inspection.specs.Foreign.{foreign_tally}
 use Rattle.reg_inspection.specs.Report.{report_text}
 use Rattle.reg_inspection.specs.declared.counts.Counts.{Counts}
 use Rattle.reg_inspection.specs.declared.obstacle.Obstacle.{Obstacle}
-use Rattle.reg_inspection.proofs.Taken.{nothing_is_taken}
+use Rattle.reg_inspection.proofs.Servable.{servable_without_obstacles}
 use Rattle.reg_inspection.proofs.inspecting.described.Goals as goal
 
 pub returns-clause-described : goal.returns-clause-described
@@ -19,5 +19,5 @@ returns-clause-described c =
           ∙ ap (λ (n : Counts). report_text n found.foreign.entries found.obstacles.items) is.2.counts
           ∙ ap (λ (es : List (Option (List ℕ) × ℕ)). report_text (counts_of is.0.floor is.0.reads) es found.obstacles.items) is.2.foreign
           ∙ ap (λ (os : List Obstacle). report_text (counts_of is.0.floor is.0.reads) (foreign_tally c.args.log.now) os) is.2.obstacles;
-      taken = c.is_taken.ensures ∙ nothing_is_taken c.no_obstacle_is_open.ensures (lasts_in is.0.reads) (next_of is.0.floor is.0.reads) found.obstacles.items is.2.obstacles;
+      servable = c.is_servable.ensures ∙ servable_without_obstacles c.no_obstacle_is_open.ensures (lasts_in is.0.reads) (next_of is.0.floor is.0.reads) found.obstacles.items is.2.obstacles;
     }

@@ -9,5 +9,5 @@ returns-clause-open c =
 pub returns-clause-ids : goal.returns-clause-ids
 returns-clause-ids c =
     let o = c.records_are_ordered.ensures in
-    let taken = c.steps_keep_taken.ensures in
+    let taken = c.steps_keep_given_ids.ensures in
     keep_ids o.all o.apart c.batches_go_on.ensures c.steps_stay_open.ensures.stay taken.entries taken.kept

@@ -6,9 +6,9 @@ use Rattle.reg_refusals.specs.declared.refusal.Refusal.{Refusal}
 use Rattle.reg_set.specs.Records.{Records}
 use Rattle.reg_leader.specs.Course.{Course, Refused, Does, IfMet, IsOutcome}
 use Rattle.reg_leader.specs.Deciding.{Follows}
-use Rattle.reg_leader.specs.Outcome.{Decides, Settles}
+use Rattle.reg_leader.specs.Outcome.{Decides, Concludes}
 use Rattle.reg_leader.specs.Step.{IsStep, course_of, register}
-use Rattle.reg_leader.specs.Taking.{IsDeed, IsRefusal, Takes, before, if_met}
+use Rattle.reg_leader.specs.Leading.{IsDeed, IsRefusal, LeadsTo, before, if_met}
 use Rattle.reg_leader.specs.declared.command.Command.{Command}
 use Rattle.reg_leader.specs.declared.decision.Decision.{Decision}
 use Rattle.reg_leader.specs.declared.deed.Deed.{Deed}
@@ -16,22 +16,22 @@ use Rattle.reg_leader.specs.declared.reply.Reply.{Reply}
 use Rattle.reg_leader.specs.declared.reply.Reply.TheVariants as replies
 
 -- a course without a check
-pub takes_followed : (course : Course) (r : Result Deed Refusal) → Follows course r → Takes course r
-takes_followed course (Ok deed) h = subst (λ c. IsDeed c deed) (sym h) refl
-takes_followed course (Err refusal) (inl memory) = inl memory
-takes_followed course (Err refusal) (inr h) = inr (subst (λ c. IsRefusal c refusal) (sym h) refl)
+pub leads_followed : (course : Course) (r : Result Deed Refusal) → Follows course r → LeadsTo course r
+leads_followed course (Ok deed) h = subst (λ c. IsDeed c deed) (sym h) refl
+leads_followed course (Err refusal) (inl memory) = inl memory
+leads_followed course (Err refusal) (inr h) = inr (subst (λ c. IsRefusal c refusal) (sym h) refl)
 
 -- a registration, by what is known before the check
 module _ (rs : Records) (n : ℕ) (subject text : List ℕ) where
-  pub takes_refused : (refusal : Refusal) → (refusal ≡ no_memory) ⊎ ((checked : List ℕ → Course) → before rs n subject text checked ≡ Refused refusal) → Takes (register rs n subject text) (Err refusal)
-  takes_refused refusal (inl memory) = inl memory
-  takes_refused refusal (inr refused) = inr (subst (λ c. IsRefusal c refusal) (sym (refused (if_met rs subject))) refl)
+  pub leads_refused : (refusal : Refusal) → (refusal ≡ no_memory) ⊎ ((checked : List ℕ → Course) → before rs n subject text checked ≡ Refused refusal) → LeadsTo (register rs n subject text) (Err refusal)
+  leads_refused refusal (inl memory) = inl memory
+  leads_refused refusal (inr refused) = inr (subst (λ c. IsRefusal c refusal) (sym (refused (if_met rs subject))) refl)
 
-  pub takes_live : (id : ℕ) (deed : Deed) → deed.reply ≡ replies.Id id → deed.writings.items ≡ [] → ((checked : List ℕ → Course) → before rs n subject text checked ≡ Does (replies.Id id) []) → Takes (register rs n subject text) (Ok deed)
-  takes_live id deed reply nothing live = takes_followed (register rs n subject text) (Ok deed) (live (if_met rs subject) ∙ (λ j. Does (sym reply j) (sym nothing j)))
+  pub leads_live : (id : ℕ) (deed : Deed) → deed.reply ≡ replies.Id id → deed.writings.items ≡ [] → ((checked : List ℕ → Course) → before rs n subject text checked ≡ Does (replies.Id id) []) → LeadsTo (register rs n subject text) (Ok deed)
+  leads_live id deed reply nothing live = leads_followed (register rs n subject text) (Ok deed) (live (if_met rs subject) ∙ (λ j. Does (sym reply j) (sym nothing j)))
 
-  pub takes_new : (normal : List ℕ) → ((checked : List ℕ → Course) → before rs n subject text checked ≡ checked normal) → (r : Result Deed Refusal) → Takes (if_met rs subject normal) r → Takes (register rs n subject text) r
-  takes_new normal new r h = subst (λ c. Takes c r) (sym (new (if_met rs subject))) h
+  pub leads_new : (normal : List ℕ) → ((checked : List ℕ → Course) → before rs n subject text checked ≡ checked normal) → (r : Result Deed Refusal) → LeadsTo (if_met rs subject normal) r → LeadsTo (register rs n subject text) r
+  leads_new normal new r h = subst (λ c. LeadsTo c r) (sym (new (if_met rs subject))) h
 
 -- what a deed's records come to, its course does
 deed_outcome : (n : ℕ) (course : Course) (deed : Deed) (reply : Reply) (batch : List Record) → IsDeed course deed → IsOutcome n (Does deed.reply deed.writings.items) reply batch → IsOutcome n course reply batch
@@ -46,13 +46,13 @@ refusal_outcome n (IfMet level new olds rest) told (inl h) = inl (h.0, refusal_o
 refusal_outcome n (IfMet level new olds rest) told (inr h) = inr (h.0, h.1, (ap replies.Refused (sym h.2), refl))
 
 module _ (rs : Records) (n : ℕ) (c : Command) where
-  pub steps_deed : (deed : Deed) → Takes (course_of rs n c) (Ok deed) → (r : Result Decision Refusal) → Settles n (Does deed.reply deed.writings.items) r → Decides rs n c r
+  pub steps_deed : (deed : Deed) → LeadsTo (course_of rs n c) (Ok deed) → (r : Result Decision Refusal) → Concludes n (Does deed.reply deed.writings.items) r → Decides rs n c r
   unfolding IsStep
   steps_deed deed h (Ok decision) settled = deed_outcome n (course_of rs n c) deed decision.reply decision.batch h settled
   steps_deed deed h (Err refusal) (inl memory) = inl memory
   steps_deed deed h (Err refusal) (inr settled) = inr (deed_outcome n (course_of rs n c) deed (replies.Refused refusal) [] h settled)
 
-  pub steps_refused : (refusal : Refusal) → Takes (course_of rs n c) (Err refusal) → Decides rs n c (Err refusal)
+  pub steps_refused : (refusal : Refusal) → LeadsTo (course_of rs n c) (Err refusal) → Decides rs n c (Err refusal)
   unfolding IsStep
   steps_refused refusal (inl memory) = inl memory
   steps_refused refusal (inr h) = inr (refusal_outcome n (course_of rs n c) refusal h)

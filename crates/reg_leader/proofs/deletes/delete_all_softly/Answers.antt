@@ -5,7 +5,7 @@ use Rattle.reg_rules.specs.Writings.{deleted_up_to}
 use Rattle.reg_leader.specs.Course.{Does}
 use Rattle.reg_leader.specs.declared.reply.Reply.TheVariants.{Versions}
 use Rattle.reg_leader.proofs.LiveOnes.{has_live-live, passed_unless, refused_unless}
-use Rattle.reg_leader.proofs.deletes.delete_all.Goals as goal
+use Rattle.reg_leader.proofs.deletes.delete_all_softly.Goals as goal
 
 pub returns-then-is_empty : goal.returns-then-is_empty
 returns-then-is_empty c =

@@ -1,4 +1,4 @@
--- Ids that are taken stay so.
+-- Ids that were given away stay so.
 use Rattle.std.proofs.Common.{◌≡◌, ◌⊎◌, inl, inr, ℕ, suc, ◌<◌, ◌≤◌, ◌==◌, ◌||◌, Bool, true, false, cond, List, [], ◌∷◌, ◌++◌, map}
 use Rattle.std.proofs.Common.{Some, All, Contains, option_and_then, unwrap_or, is_some, refl, sym, ap, subst, ◌∙◌, arith}
 use Rattle.std.proofs.lemmas.Bool.{false≢true, lt-ltb, or_cases}
@@ -27,7 +27,7 @@ use Rattle.reg_set.specs.Records.{Records}
 use Rattle.reg_leader.specs.Harmless.{IsHarmless}
 use Rattle.reg_leader.specs.StayOpen.{last_after}
 use Rattle.reg_leader.specs.Step.{IsStep, course_of, marked}
-use Rattle.reg_leader.specs.Taken.{AreBelow, EntriesTakeIds, IsTaken, StepsKeepTaken}
+use Rattle.reg_leader.specs.GivenIds.{AreBelow, EntriesHaveGivenIds, IsGiven, StepsKeepGivenIds}
 use Rattle.reg_leader.specs.declared.reply.Reply.{Reply}
 use Rattle.reg_leader.proofs.Below.{NormalTextsReadBack, ValuesReadBack}
 use Rattle.reg_leader.proofs.Courses.{numbered-all, outcome-of}
@@ -38,15 +38,15 @@ use Rattle.reg_leader.proofs.Names.{id_up_to_last, one_schema}
 use Rattle.reg_leader.proofs.Opens.{IsNew, origin}
 use Rattle.reg_leader.proofs.Sorted.{AreSorted, IsOther, MayBeGiven, OneStands, OneVersion, PlacesHaveOneId, course-sorted}
 
-pub entries_take_ids : NoneIsOneTextEach → EntriesTakeIds
-entries_take_ids one rs closed e stands = record {
+pub entries_have_given_ids : NoneIsOneTextEach → EntriesHaveGivenIds
+entries_have_given_ids one rs closed e stands = record {
   no_other = λ f there same. one_schema one rs closed f e there stands same;
   is_kept = inl (e, stands, refl);
 }
 
 -- an id that may be given, and names no other schema, isn't another schema's
-given-taken : (rs : Records) (given id : ℕ) (new normal : List ℕ) → MayBeGiven rs given → ((e : Entry) → Contains (entries rs) e → e.id ≡ given → e.normal ≡ new) → IsTaken rs id normal → given ≡ id → new ≡ normal
-given-taken rs given id new normal may names taken same =
+given-stays : (rs : Records) (given id : ℕ) (new normal : List ℕ) → MayBeGiven rs given → ((e : Entry) → Contains (entries rs) e → e.id ≡ given → e.normal ≡ new) → IsGiven rs id normal → given ≡ id → new ≡ normal
+given-stays rs given id new normal may names taken same =
     let by_entry : (f : Entry) → Contains (entries rs) f → f.id ≡ given → new ≡ normal = λ f stands is. sym (names f stands is) ∙ taken.no_other f stands (is ∙ same) in
     elim may [
       | inl had ↦ by_entry had.0 had.1 had.2
@@ -144,7 +144,7 @@ module _ (order : IsTotalOrder record_cmp) (apart : IsAntisymmetric record_cmp) 
         ]
 
   -- what a batch that leaves the mark keeps
-  module _ (id : ℕ) (normal : List ℕ) (taken : IsTaken before id normal) where
+  module _ (id : ℕ) (normal : List ℕ) (taken : IsGiven before id normal) where
     abbrev Kept : List Writing → Type 0
     Kept ws = ((g : Entry) × Contains (entries (last_after log (numbered n ws))) g × (g.id ≡ id)) ⊎ (id ≤ id_mark (last_after log (numbered n ws)))
 
@@ -157,7 +157,7 @@ module _ (order : IsTotalOrder record_cmp) (apart : IsAntisymmetric record_cmp) 
           | inr low ↦ inr (subst (λ m. id ≤ m) (sym (mark_stays (numbered n ws) (numbered-all {Q = IsMild before} (λ r. ¬ (r.key ≡ keys.IdMark)) (λ n w mild. mild.0) n ws mild))) low)
         ]
 
-    -- a mark that is written is the last one, and no id that is taken is above it
+    -- a mark that is written is the last one, and no id that was given is above it
     module _ (below : AreBelow log n) (rest : List Writing) (no_mark : AllByRecursion (λ (w : Writing). ¬ (w.key ≡ keys.IdMark)) rest) (one_stands : OneStands before) where
       abbrev mark : Record
       mark = written_at n (marked before)
@@ -226,10 +226,10 @@ module _ (order : IsTotalOrder record_cmp) (apart : IsAntisymmetric record_cmp) 
     -- no other schema comes to the id
     new_one : (batch : List Record) (harmless : IsHarmless before n batch) → GivesIds before n batch harmless → (e : Entry) → IsNew order apart greatest of_union of_places again log n batch harmless e → e.id ≡ id → e.normal ≡ normal
     new_one batch (inl quiet) gives e new same = absurd new
-    new_one batch (inr v) gives e new same = new.1 ∙ given-taken before v.id id v.schema.normal_text normal gives v.names_no_other taken (sym new.0 ∙ same)
+    new_one batch (inr v) gives e new same = new.1 ∙ given-stays before v.id id v.schema.normal_text normal gives v.names_no_other taken (sym new.0 ∙ same)
 
-    pub stays_taken : AreBelow log n → (reply : Reply) (ws : List Writing) → AreSorted before reply ws → IsTaken (last_after log (numbered n ws)) id normal
-    stays_taken below reply ws sorted =
+    pub stays_given : AreBelow log n → (reply : Reply) (ws : List Writing) → AreSorted before reply ws → IsGiven (last_after log (numbered n ws)) id normal
+    stays_given below reply ws sorted =
         let harmless = numbered-harmless before reply n ws sorted in
         record {
           no_other = λ e stands same. elim (origin order apart greatest of_union of_places again log n (numbered n ws) harmless.0 e stands) [
@@ -240,12 +240,12 @@ module _ (order : IsTotalOrder record_cmp) (apart : IsAntisymmetric record_cmp) 
         }
 
 -- the premises in the order of the law's calls
-pub steps_keep_taken : IsTotalOrder record_cmp → IsAntisymmetric record_cmp → IsTotalOrder age_cmp → LastIsGreatest → LastOfUnion → LastOfLastRecords → EntriesAreOfPlaces → ValuesReadBack → EntriesAreInLimits → IdMarkIsInLimits
-    → NoneIsOneTextEach → EntriesAreRead → NormalTextsReadBack → StepsKeepTaken
+pub steps_keep_given_ids : IsTotalOrder record_cmp → IsAntisymmetric record_cmp → IsTotalOrder age_cmp → LastIsGreatest → LastOfUnion → LastOfLastRecords → EntriesAreOfPlaces → ValuesReadBack → EntriesAreInLimits → IdMarkIsInLimits
+    → NoneIsOneTextEach → EntriesAreRead → NormalTextsReadBack → StepsKeepGivenIds
 unfolding IsStep
-steps_keep_taken order apart ages greatest of_union of_lasts of_places again fits marks one read normals log n c reply batch closed below step id normal taken =
-    let stays = stays_taken order apart ages greatest of_union of_lasts of_places again fits marks log n id normal taken below reply in
+steps_keep_given_ids order apart ages greatest of_union of_lasts of_places again fits marks one read normals log n c reply batch closed below step id normal taken =
+    let stays = stays_given order apart ages greatest of_union of_lasts of_places again fits marks log n id normal taken below reply in
     elim (outcome-of (AreSorted (last_records log)) n (course_of (last_records log) n c) reply batch (course-sorted one read fits normals (last_records log) n c) step) [
-      | inl none ↦ subst (λ batch. IsTaken (last_after log batch) id normal) (sym none) (stays [] (inl tt))
-      | inr some ↦ subst (λ batch. IsTaken (last_after log batch) id normal) (sym some.1) (stays some.0 some.2)
+      | inl none ↦ subst (λ batch. IsGiven (last_after log batch) id normal) (sym none) (stays [] (inl tt))
+      | inr some ↦ subst (λ batch. IsGiven (last_after log batch) id normal) (sym some.1) (stays some.0 some.2)
     ]

@@ -5,7 +5,7 @@ use Rattle.reg_fold.specs.InForce.{level}
 use Rattle.reg_fold.specs.Standing.{live}
 use Rattle.reg_levels.specs.Texts.{TextsMeet}
 use Rattle.reg_modes.specs.InForce.{mode}
-use Rattle.reg_modes.specs.Permitted.{registering}
+use Rattle.reg_modes.specs.Permitted.{must_allow_registration}
 use Rattle.reg_refusals.specs.Refusal.{no_memory}
 use Rattle.reg_refusals.specs.declared.refusal.Refusal.{Refusal}
 use Rattle.reg_set.specs.Records.{Records}
@@ -16,8 +16,8 @@ use Rattle.reg_entries.specs.Sought.{has_schema, newest, texts_of}
 use Rattle.reg_leader.specs.Step.{where_read, writes}
 use Rattle.reg_rules.specs.Tests as test
 use Rattle.reg_leader.specs.declared.deed.Deed.{Deed}
-use Rattle.reg_leader.specs.declared.deed.Settled.{Settled}
-use Rattle.reg_leader.specs.declared.deed.Settled.TheVariants as found
+use Rattle.reg_leader.specs.declared.deed.Candidate.{Candidate}
+use Rattle.reg_leader.specs.declared.deed.Candidate.TheVariants as found
 use Rattle.reg_leader.specs.declared.reply.Reply.TheVariants as replies
 
 -- the course leads to that deed
@@ -34,9 +34,9 @@ IsRefusal (IfMet level new olds rest) told =
     (TextsMeet level new olds × IsRefusal rest told)
     ⊎ ((message : List ℕ) × IsClash level new olds message × (incompatible message ≡ told))
 
-abbrev pub Takes : Course → Result Deed Refusal → Type 0
-Takes course (Ok deed) = IsDeed course deed
-Takes course (Err refusal) = (refusal ≡ no_memory) ⊎ IsRefusal course refusal
+abbrev pub LeadsTo : Course → Result Deed Refusal → Type 0
+LeadsTo course (Ok deed) = IsDeed course deed
+LeadsTo course (Err refusal) = (refusal ≡ no_memory) ⊎ IsRefusal course refusal
 
 -- what follows for a schema that is to be registered and isn't live
 abbrev pub if_met : Records → List ℕ → List ℕ → Course
@@ -47,14 +47,14 @@ if_met rs subject normal = IfMet (level rs (Some subject)) normal (texts_of (liv
 abbrev pub before : Records → ℕ → List ℕ → List ℕ → (List ℕ → Course) → Course
 before rs n subject text checked =
     where_read text (λ schema.
-    test.has_valid_defaults schema
-    ▸ test.is_open rs
-    ▸ test.has_offset n
-    ▸ registering (mode rs (Some subject)) false
+    test.must_have_valid_defaults schema
+    ▸ test.must_be_open rs
+    ▸ test.must_have_offset n
+    ▸ must_allow_registration (mode rs (Some subject)) false
     ▸ where_found (newest (filter (has_schema schema.normal_text) (live rs subject)))
     (λ same. Does (replies.Id same.id) []) (checked schema.normal_text))
 
-abbrev pub IsBefore : Records → ℕ → List ℕ → List ℕ → Result Settled Refusal → Type 0
+abbrev pub IsBefore : Records → ℕ → List ℕ → List ℕ → Result Candidate Refusal → Type 0
 IsBefore rs n subject text (Ok (found.Live id)) = (checked : List ℕ → Course) → before rs n subject text checked ≡ Does (replies.Id id) []
 IsBefore rs n subject text (Ok (found.New schema)) = (checked : List ℕ → Course)
     → before rs n subject text checked ≡ checked schema.normal_text

@@ -7,7 +7,7 @@ use Rattle.reg_leader.specs.Course.{Does}
 use Rattle.reg_leader.specs.Step.{marked}
 use Rattle.reg_leader.specs.declared.reply.Reply.TheVariants.{Versions}
 use Rattle.reg_leader.proofs.LiveOnes.{has_live-standing, passed_if, refused_if}
-use Rattle.reg_leader.proofs.deletes.remove_all.Goals as goal
+use Rattle.reg_leader.proofs.deletes.delete_all_permanently.Goals as goal
 
 pub returns-then-any_live : goal.returns-then-any_live
 returns-then-any_live c =
