@@ -1,5 +1,5 @@
 -- What is sought among the entries es of a registry.
-use Rattle.std.specs.Prelude.{◌×◌, ℕ, max, min, Bool, true, false, List, Option, Some, None, map, bytes_eq, find, not, ◌&&◌, ◌||◌, ◌==◌}
+use Rattle.std.specs.Prelude.{ℕ, max, min, Bool, true, false, List, Option, Some, None, map, bytes_eq, find, not, ◌&&◌, ◌||◌, ◌==◌}
 use Rattle.std.specs.List.{dedup, filter, list_any, reduce}
 use Rattle.std.specs.List.Sorted.{IsStrictlyIncreasing}
 use Rattle.std.specs.Ordering.{nat_cmp, on, ord_max}

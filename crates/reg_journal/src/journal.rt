@@ -95,7 +95,7 @@ impl<D: Disk> Journal<D> {
             (IsBeforeOrAfter (said (D.seen self.old.disk)) batch.now) }
 
         ensures refused { IfErr result (λ e. is_refusal e ≡ true → self.new ≡ self.old) }
-        ensures broken { IfErr result (λ e. is_refusal e ≡ false → self.new.is_broken ≡ true) }
+        ensures then_broken { IfErr result (λ e. is_refusal e ≡ false → self.new.is_broken ≡ true) }
         ensures broken { self.old.is_broken ≡ true → (result ≡ Err AppendError.Broken) × (self.new ≡ self.old) }
     {
         if self.is_broken {

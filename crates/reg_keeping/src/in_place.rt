@@ -91,7 +91,7 @@ pub fn compact_journal<D: Renewable>(
         (IsBeforeOrCompacted None (D.seen journal.old.disk)) }
 
     ensures refused { IfErr result (λ e. breaks e ≡ false → IsAsItWas D.is_modelled D.seen journal.old journal.new) }
-    ensures broken { IfErr result (λ e. breaks e ≡ true → journal.new.is_broken ≡ true) }
+    ensures then_broken { IfErr result (λ e. breaks e ≡ true → journal.new.is_broken ≡ true) }
     ensures changed { D.is_modelled → IfErr result (λ e. e ≢ CompactError.Changed) }
     ensures broken { journal.old.is_broken ≡ true → (result ≡ Err CompactError.Broken) × (journal.new ≡ journal.old) }
 {
@@ -120,7 +120,7 @@ pub fn compact_superseded<D: Renewable>(
         (IsBeforeOrCompacted floor (D.seen journal.old.disk)) }
 
     ensures refused { IfErr result (λ e. breaks e ≡ false → IsAsItWas D.is_modelled D.seen journal.old journal.new) }
-    ensures broken { IfErr result (λ e. breaks e ≡ true → journal.new.is_broken ≡ true) }
+    ensures then_broken { IfErr result (λ e. breaks e ≡ true → journal.new.is_broken ≡ true) }
     ensures changed { D.is_modelled → IfErr result (λ e. e ≢ CompactError.Changed) }
     ensures broken { journal.old.is_broken ≡ true → (result ≡ Err CompactError.Broken) × (journal.new ≡ journal.old) }
 {

@@ -5,6 +5,7 @@ mod bodies;
 mod joined;
 mod laws;
 mod limits;
+mod outline;
 mod pieces;
 mod reply;
 mod respond;

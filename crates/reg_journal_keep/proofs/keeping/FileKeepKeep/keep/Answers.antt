@@ -79,7 +79,7 @@ returns-in-Err g c =
     subst (λ (j : Journal g.row.D.Denot). d.is_modelled → j.is_broken ≡ false → LeavesOnly d.moment d.left_since j.disk mid.disk (says_compaction (said (d.seen j.disk)))) c.self.view_is c.make_room.ensures.any_moment in
     record {
       ends = subst (λ (k : Kept). Ends d.is_modelled d.seen old batch k new) (sym c.kept_of.ensures)
-          (ends_refused d.moment d.left_since d.seen old mid new batch d.is_modelled c.in-Err.error room c.in-Err.ensures.refused c.in-Err.ensures.broken
+          (ends_refused d.moment d.left_since d.seen old mid new batch d.is_modelled c.in-Err.error room c.in-Err.ensures.refused c.in-Err.ensures.then_broken
           (λ is. error_of c.append.result c.in-Err.error c.in-Err.is (c.append.ensures.broken is).0));
       any_moment = λ modelled whole. at_any_moment d.moment d.left_since d.seen old mid new batch (leaves modelled whole) (room modelled) (c.append.ensures.any_moment modelled)
           (λ is. (c.append.ensures.broken is).1);
