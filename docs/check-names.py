@@ -16,12 +16,12 @@ from collections import defaultdict
 from pathlib import Path
 
 TOP = Path(__file__).resolve().parent.parent
-CITING = ["DEFINITIONS.md", "LAYERS.md", "CLAIMS.md", "HEADLINE.md", "READING.md"]
+CITING = [f"{name}.md" for name in "DEFINITIONS LAYERS CLAIMS HEADLINE READING KEEPING FOLLOWING SERVING COMMANDS DECISIONS".split()]
 # What looks like a name of the code and isn't one. What has another form, as a command or `x.now`, or one or two letters is passed over.
 OTHER = set("""
-    Ok Err None Some Option Result impl match let else use while ghost requires ensures result
-    IfOk IfErr IfSome OnOk OnErr matchit http null stdin stdout library Old Key::X Value::X
-    crates/NAME crates/NAME/must-fail/plain_name.edit out/
+    Ok Err None Some Option Result Box Write BufRead Serialize RandomState impl match let else use while unsafe ghost requires ensures
+    IfOk IfErr IfSome OnOk OnErr Brand Absorb matchit http httparse serde_json null stdin stdout library result READONLY_OVERRIDE Old
+    Key::X Value::X crates/NAME crates/NAME/must-fail/plain_name.edit out/
 """.split())
 NAME = re.compile(r"[A-Za-z_]\w*(?:::\w+)?(?:\(\))?")
 PATH = re.compile(r"([\w+-]+/)*[\w+-]+\.(?:rt|antt|edit|md|py|txt)|([\w+-]+/)+[\w.+-]*")
