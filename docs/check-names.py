@@ -1,0 +1,149 @@
+#!/usr/bin/env python3
+"""Checks that what the documents cite is there. Run it by hand, from anywhere: python3 docs/check-names.py
+
+A cited name stands in backticks in one of CITING, and looks like a name, `Type::member`, a crate or the path of a file. The code's
+names are the items, fields, variants, clause labels and plain strings of crates/*/src, the definitions, constructors and fields of
+crates/*/specs and proofs, and the names of wrong bodies; of test crates only the files count. A name has to stand
+- in the file beside it (`name` (`specs/File.antt`) and `src/file.rt`, `name`), or in the crate behind it (`name` of `crate`);
+- in the first column of DEFINITIONS in a file of the row, and in the last of LAYERS in the row's crate;
+- in the second column of CLAIMS in a crate of the heading or the row; a clause at a call in the row, a definition in any specs/;
+- else somewhere, and a path in the last crate that was named before it.
+Each statement in a text block of HEADLINE has to stand in some specs/, but for `pub`, comments and line breaks. Each link between
+documents has to lead to a file, and to a heading there.
+"""
+import re
+from collections import defaultdict
+from pathlib import Path
+
+TOP = Path(__file__).resolve().parent.parent
+CITING = [f"{name}.md" for name in "DEFINITIONS LAYERS CLAIMS HEADLINE READING KEEPING FOLLOWING SERVING COMMANDS DECISIONS".split()]
+# What looks like a name of the code and isn't one. What has another form, as a command or `x.now`, or one or two letters is passed over.
+OTHER = set("""
+    Ok Err None Some Option Result Box Write BufRead Serialize RandomState impl match let else use while unsafe ghost requires ensures
+    IfOk IfErr IfSome OnOk OnErr Brand Absorb matchit http httparse serde_json null stdin stdout library result READONLY_OVERRIDE Old
+    Key::X Value::X crates/NAME crates/NAME/must-fail/plain_name.edit out/
+""".split())
+NAME = re.compile(r"[A-Za-z_]\w*(?:::\w+)?(?:\(\))?")
+PATH = re.compile(r"([\w+-]+/)*[\w+-]+\.(?:rt|antt|edit|md|py|txt)|([\w+-]+/)+[\w.+-]*")
+
+CRATES = {p.name for p in (TOP / "crates").iterdir() if p.is_dir()}
+FILES = [p.relative_to(TOP / "crates").as_posix() for part in ("src", "specs", "proofs", "must-fail")
+         for p in sorted((TOP / "crates").glob(f"*/{part}/**/*")) if p.is_file()]
+places = defaultdict(set)  # each name, and the files in which it stands, as crate/specs/File.antt
+clauses = defaultdict(set)  # each label of a clause, and the functions that have such a clause
+
+
+def read_rust(file, text):
+    text = re.sub(r"//[^\n]*", "", text)
+    for name in re.findall(r'"(\w+)"', text) + re.findall(r"\w+", " ".join(re.findall(r"\bpub use [^;]*", text))):
+        places[name].add(file)
+    for block in re.split(r"(?m)^(?=[a-z])", text):  # an item of the file each, or a part of one
+        head = re.split(r"[{;]", block)[0]
+        while head != (shorter := re.sub(r"<[^<>]*>", " ", head)):
+            head = shorter
+        owner = re.search(r"\b(?:struct|enum|trait) (\w+)", head) or re.search(r"^impl\b.*?(\w+)\s*$", head, re.S)
+        function = None
+        for item, member, clause in re.findall(
+                r"\b((?:fn|struct|enum|trait|const|static|type|mod|ghost) \w+)|^    (?:pub )?(\w+)(?=[:,({]| \{| =|$)"
+                r"|\b(?:ensures|requires)\s+(\w+)", block, re.M):
+            name = item.split(" ")[-1] or (owner and member)
+            function = name if item.startswith("fn ") else function
+            clauses[clause].add(function)
+            for full in [name, f"{owner[1]}::{name}"] if owner else [name]:
+                places[full].add(file)
+
+
+def read_definitions(file, text):
+    found = re.findall(r"(?m)^ *(?:(?:abbrev|unfoldable|pub|mutual) +)*"
+                       r"(?:(?:data|record|mod|module) +([^\s({]+)|([^\s:({=]+) (?:[({][^=\n]*)?:(?:\s|$))", text)
+    for name in [a or b for a, b in found] + re.findall(r"\w+", " ".join(re.findall(r"pub use [\w.]+\.\{(.*?)\}", text))):
+        places[name].add(file)
+
+
+def crates_in(text):
+    return CRATES.intersection(re.findall(r"\w+", text))
+
+
+def squeezed(text):
+    return " ".join(re.sub(r"\bpub ", "", text).split())
+
+
+def files_of(path, crates=()):
+    """The files that a cited path may mean: in these crates, where there are some and it names none itself."""
+    path = path.removeprefix("crates/").rstrip("/")
+    found = {f for f in FILES if f"/{f}".endswith(f"/{path}") or f"/{path}/" in f"/{f}"}
+    return {f for f in found if f.split("/")[0] in crates} if crates and path.split("/")[0] not in CRATES else found
+
+
+def cited(document, text):
+    """Each name in backticks: where it is, the crates that its row or paragraph names, its row, and the files that may have it."""
+    heading = ""
+    for block in re.finditer(r"(?m)^#.*$|^\|.*$|^[^#|\n].*(?:\n(?![#|]|- |\d\. ).+)*", text):
+        row = block[0]
+        heading = row if row.startswith("#") else heading
+        crates, cells = crates_in(row + heading), row.split("|")
+        for span in re.finditer(r"`([^`]+)`", row):
+            before, after, column = row[:span.start()], row[span.end():], row.count("|", 0, span.start()) - 1
+            beside = re.match(r" \(`([\w/]+\.antt)`", after) or re.search(r"`([\w/]+\.rt)`, $", before)
+            crate = re.match(r" of `(\w+)`", after)
+            nearest = [c for c in re.findall(r"\w+", before) if c in CRATES][-1:] if "/" in span[1] else crates
+            if beside and not PATH.fullmatch(span[1]):
+                files = files_of(beside[1], crates)
+            elif crate and crate[1] in CRATES:
+                files = files_of(crate[1])
+            elif document == "DEFINITIONS.md" and column == 0:
+                files = {f for path in re.findall(r"`(\w+\.antt)`", cells[-2]) for f in files_of(path, crates_in(cells[-2] + heading))}
+            elif document == "LAYERS.md" and column == 2 and cells[1].strip(" `") in CRATES:
+                files = files_of(cells[1].strip(" `"))
+            elif document == "CLAIMS.md" and column == 1:
+                own = {f for c in crates_in(cells[1] + cells[2] + heading) for f in files_of(c)}
+                files = {f for f in FILES if f in own and ("/src/" in f or span[1] not in clauses) or span[1][0].isupper() and "/specs/" in f}
+            else:
+                files = None
+            yield block.start() + span.start(), span[1], nearest or crates, row, files
+
+
+def is_there(name, crates, row, files):
+    if PATH.fullmatch(name):
+        return bool(files_of(name, crates)) or (TOP / name).exists()
+    return (name in places or name in clauses) if files is None else bool(places[name] & files) or any(
+        re.search(rf"`(\w+::)?{f}`", row) for f in clauses[name])
+
+
+def anchors(path):
+    headings = re.findall(r"(?m)^#+ (.*)", re.sub(r"(?s)```.*?```", "", path.read_text()))
+    return [re.sub(r"[^\w\- ]", "", h.strip().lower()).replace(" ", "-") for h in headings]
+
+
+def main():
+    specs, count, faults = "", 0, []
+    for file in FILES:
+        text = (TOP / "crates" / file).read_text()
+        if file.endswith(".antt"):
+            text = re.sub(r"--[^\n]*", "", text)
+            read_definitions(file, text)
+            specs += squeezed(text) + " " if "/specs/" in file else ""
+        elif file.endswith(".edit"):
+            places[Path(file).stem].add(file)
+        elif not file.startswith("test_"):
+            read_rust(file, text)
+    for path in [TOP / "README.md", *sorted((TOP / "docs").glob("*.md")), *sorted((TOP / "benches").glob("*.md"))]:
+        text = path.read_text()
+        looked_up = []  # where it is, what it is, and whether it is there
+        plain = re.sub(r"(?s)```.*?```", lambda m: re.sub(r"[^\n]", " ", m[0]), text)
+        for at, name, *where in cited(path.name, plain) if path.name in CITING else ():
+            if name not in OTHER | CRATES and (PATH.fullmatch(name) or NAME.fullmatch(name) and len(name) > 2):
+                looked_up.append((at, name, is_there(name.removesuffix("()"), *where)))
+        for block in re.finditer(r"(?s)```text\n(.*?)```", text) if path.name == "HEADLINE.md" else ():
+            looked_up += [(block.start(1) + m.start(), m[0].split("\n")[0], squeezed(m[0]) in specs)
+                          for m in re.finditer(r"(?m)^\S.*(?:\n +.*)*", block[1])]
+        for link in re.finditer(r"\]\((?!\w+:)([^)#\s]*)(?:#([^)\s]*))?\)", text):
+            target = path.parent / link[1] if link[1] else path
+            looked_up.append((link.start(), link[0][2:-1], target.exists() and (link[2] is None or link[2] in anchors(target))))
+        count += len(looked_up)
+        faults += [f"{path.relative_to(TOP)}:{text.count(chr(10), 0, at) + 1}: {name}" for at, name, there in looked_up if not there]
+    print("\n".join(faults) or f"{count} names, statements and links were looked up, and each is there.")
+    return 1 if faults else 0
+
+
+raise SystemExit(main())
