@@ -18,7 +18,7 @@ use Rattle.reg_entries.specs.EntryOrder.{place_cmp, place_of}
 use Rattle.reg_fold.specs.Entries.{entries, entry_in, entry_map, entry_of, normal_of}
 use Rattle.reg_fold.specs.IdMark.{id_mark, id_marked_in, id_marked_of}
 use Rattle.reg_fold.specs.InForce.{Scope, level_in, level_of, mode_name_in, mode_name_of, own_level, own_mode_name}
-use Rattle.reg_fold.specs.Covers.{covers, is_covered}
+use Rattle.reg_fold.specs.Covers.{covers, is_soft_deleted}
 use Rattle.reg_fold.specs.Opaque.{is_opaque, is_version, opaque}
 use Rattle.reg_alike.specs.GiveAlike.{NullsGiveNothing}
 use Rattle.reg_alike.proofs.Retained.{records_of-retain}
@@ -79,7 +79,7 @@ no_id_mark r e = ap (option_and_then id_marked_in) (reads_none r e)
 
 -- two sets of last records mark the same as soft-deleted
 abbrev CoverAlike : Records → Records → Type 0
-CoverAlike rs ss = (subject : List ℕ) (version offset : ℕ) → is_covered rs subject version offset ≡ is_covered ss subject version offset
+CoverAlike rs ss = (subject : List ℕ) (version offset : ℕ) → is_soft_deleted rs subject version offset ≡ is_soft_deleted ss subject version offset
 
 module _ (rs ss : Records) (marked : CoverAlike rs ss) where
   entry_in-alike : (offset : ℕ) (value : Value) → entry_in rs offset value ≡ entry_in ss offset value
@@ -117,7 +117,7 @@ module _ (order : AreOrdered) (whole : Records) where
   given gives nothing key = given_by_standing order whole gives nothing key
 
   marked_alike : CoverAlike all some
-  unfolding is_covered
+  unfolding is_soft_deleted
   marked_alike subject version offset =
       given (λ o. option_map_or (λ r. option_map_or (λ value. covers r.offset value version offset) (value_of r) false) o false)
       (λ r e. ap (λ o. option_map_or (λ value. covers r.offset value version offset) o false) (reads_none r e))

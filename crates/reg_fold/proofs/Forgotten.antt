@@ -22,7 +22,7 @@ use Rattle.reg_entries.specs.declared.entry.Entry.{Entry}
 use Rattle.reg_fold.specs.Entries.{entries, entry_map, entry_of}
 use Rattle.reg_fold.specs.IdMark.{id_mark, id_marked_in, id_marked_of}
 use Rattle.reg_fold.specs.InForce.{Scope, level_in, level_of, mode_name_in, mode_name_of, own_level, own_mode_name}
-use Rattle.reg_fold.specs.Covers.{covers, is_covered}
+use Rattle.reg_fold.specs.Covers.{covers, is_soft_deleted}
 use Rattle.reg_fold.specs.Opaque.{is_opaque, opaque}
 use Rattle.reg_fold.specs.Own.{AreOwnEntries, own_entry_in, own_entry_of}
 use Rattle.reg_fold.specs.SoftDeletes.{delete_in, delete_of, own_delete}
@@ -63,8 +63,8 @@ module _ (r : Record) (no_value : r.value ≡ None) where
         (λ (lost : (last S key ≡ Some r) × (last T key ≡ None)). ap (λ o. option_map_or test o false) lost.1 ∙ sym (ap (λ o. option_map_or test o false) lost.0 ∙ fails))
         (loses key)
 
-    covers-same : (subject : List ℕ) (version offset : ℕ) → is_covered T subject version offset ≡ is_covered S subject version offset
-    unfolding is_covered
+    covers-same : (subject : List ℕ) (version offset : ℕ) → is_soft_deleted T subject version offset ≡ is_soft_deleted S subject version offset
+    unfolding is_soft_deleted
     covers-same subject version offset =
         passed (λ x. option_map_or (λ value. covers x.offset value version offset) (value_of x) false)
         (ap (λ o. option_map_or (λ value. covers r.offset value version offset) o false) reads_none) (keys.DeleteSubject subject)

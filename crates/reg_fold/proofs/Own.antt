@@ -15,7 +15,7 @@ use Rattle.reg_entries.specs.EntryOrder.{Place, place_cmp, place_of}
 use Rattle.reg_entries.specs.Flagged.{with_soft}
 use Rattle.reg_entries.specs.declared.entry.Entry.{Entry}
 use Rattle.reg_fold.specs.Entries.{entry_in, entry_of}
-use Rattle.reg_fold.specs.Covers.{is_covered}
+use Rattle.reg_fold.specs.Covers.{is_soft_deleted}
 use Rattle.reg_fold.specs.Opaque.{is_version}
 use Rattle.reg_fold.specs.Own.{AreOwnEntries, own_entry_in, own_entry_of}
 use Rattle.reg_fold.specs.Step.{IsStep}
@@ -25,7 +25,7 @@ use Rattle.reg_fold.proofs.Steps.{no_version}
 
 -- an entry with the mark that its subject's last soft delete gives it
 abbrev pub covered_in : Records → Entry → Entry
-covered_in rs e = with_soft (e.soft || is_covered rs e.subject e.version e.offset) e
+covered_in rs e = with_soft (e.soft || is_soft_deleted rs e.subject e.version e.offset) e
 
 -- an entry is what its record gives by itself, marked
 pub own_covered : (rs : Records) (r : Record) → entry_of rs r ≡ option_map (covered_in rs) (own_entry_of r)

@@ -10,7 +10,7 @@ use Rattle.reg_records.specs.declared.value.Value.{Value}
 use Rattle.reg_records.specs.declared.value.Value.TheVariants as values
 use Rattle.reg_set.specs.LastRecords.{last}
 use Rattle.reg_set.specs.Records.{Records}
-use Rattle.reg_fold.specs.Covers.{covers, is_covered}
+use Rattle.reg_fold.specs.Covers.{covers, is_soft_deleted}
 use Rattle.reg_fold.specs.Scopes.{AreOwn, HasOwn, kept_own}
 use Rattle.reg_fold.specs.SoftDeletes.{delete_in, delete_of, own_delete}
 use Rattle.reg_fold.specs.Step.{IsStep}
@@ -34,8 +34,8 @@ covered_by r version offset = each (value_of r)
     each (Some (values.IdMark id)) = refl
 
 -- what is marked is what the soft delete that is kept covers
-pub covered_by_own : (rs : Records) (deletes : Scoped SoftDelete) → AreOwn (own_delete rs) deletes → (subject : List ℕ) (version offset : ℕ) → is_covered (kept_own deletes (Some subject)) version offset ≡ is_covered rs subject version offset
-unfolding is_covered own_delete
+pub covered_by_own : (rs : Records) (deletes : Scoped SoftDelete) → AreOwn (own_delete rs) deletes → (subject : List ℕ) (version offset : ℕ) → is_covered (kept_own deletes (Some subject)) version offset ≡ is_soft_deleted rs subject version offset
+unfolding is_soft_deleted own_delete
 covered_by_own rs deletes own subject version offset =
     ap (λ d. is_covered d version offset) (own (Some subject)) ∙ each (last rs (keys.DeleteSubject subject))
   where

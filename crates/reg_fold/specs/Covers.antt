@@ -18,7 +18,7 @@ covers at values.Noop version offset = false
 covers at (values.IdMark id) version offset = false
 
 -- whether the last record of the subject's DELETE_SUBJECT key covers what is at that version and offset
-unfoldable pub is_covered : Records → List ℕ → ℕ → ℕ → Bool
-is_covered rs subject version offset =
+unfoldable pub is_soft_deleted : Records → List ℕ → ℕ → ℕ → Bool
+is_soft_deleted rs subject version offset =
     option_map_or (λ r. option_map_or (λ value. covers r.offset value version offset) (value_of r) false)
     (last rs (keys.DeleteSubject subject)) false

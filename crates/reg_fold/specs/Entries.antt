@@ -14,7 +14,7 @@ use Rattle.reg_records.specs.declared.value.Value.TheVariants as values
 use Rattle.reg_set.specs.LastRecords.{last, last_records}
 use Rattle.reg_set.specs.Records.{Records, records_of}
 use Rattle.reg_entries.specs.EntryOrder.{place_cmp, place_of}
-use Rattle.reg_fold.specs.Covers.{is_covered}
+use Rattle.reg_fold.specs.Covers.{is_soft_deleted}
 use Rattle.reg_entries.specs.declared.entry.Entry.{Entry}
 
 -- the normal text of the schema that a text means, as the text of each version's value does
@@ -30,7 +30,7 @@ entry_in rs offset (values.Schema subject version id schema deleted) = Some (rec
   text = schema;
   normal = normal_of schema;
   offset = offset;
-  soft = deleted || is_covered rs subject version offset;
+  soft = deleted || is_soft_deleted rs subject version offset;
 })
 entry_in rs offset (values.Config level) = None
 entry_in rs offset (values.Mode mode) = None

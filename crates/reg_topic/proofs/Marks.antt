@@ -22,7 +22,7 @@ use Rattle.reg_entries.specs.declared.entry.Entry.{Entry}
 use Rattle.reg_fold.specs.Closed.{is_closed, two_schemas}
 use Rattle.reg_fold.specs.Entries.{EntriesAreOfPlaces, entries, entry_in, entry_of, normal_of}
 use Rattle.reg_fold.specs.IdMark.{needs_mark}
-use Rattle.reg_fold.specs.Covers.{covers, is_covered}
+use Rattle.reg_fold.specs.Covers.{covers, is_soft_deleted}
 use Rattle.reg_fold.specs.Opaque.{NoneIsNoOpaqueLast, is_opaque, is_version, opaque}
 use Rattle.reg_fold.specs.Standing.{greatest_id}
 use Rattle.reg_rules.specs.Writings.{id_marked, numbered}
@@ -56,8 +56,8 @@ no_second false (Some x) h = absurd (false≢true (sym h))
 
 -- A record gives the same entry where the last records are the same, but for that of the mark's key.
 module _ (R S : Records) (same : (key : Key) → (key ≡ keys.IdMark → ⊥) → last R key ≡ last S key) where
-  soft_same : (subject : List ℕ) (version offset : ℕ) → is_covered R subject version offset ≡ is_covered S subject version offset
-  unfolding is_covered
+  soft_same : (subject : List ℕ) (version offset : ℕ) → is_soft_deleted R subject version offset ≡ is_soft_deleted S subject version offset
+  unfolding is_soft_deleted
   soft_same subject version offset =
       ap (λ (o : Option Record). option_map_or (λ r. option_map_or (λ value. covers r.offset value version offset) (value_of r) false) o false) (same (keys.DeleteSubject subject) (λ e. cc))
 

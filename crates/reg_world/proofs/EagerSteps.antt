@@ -19,7 +19,7 @@ use Rattle.reg_entries.specs.Flagged.{with_soft}
 use Rattle.reg_entries.specs.declared.entry.Entry.{Entry}
 use Rattle.reg_fold.specs.Entries.{entry_of}
 use Rattle.reg_fold.specs.Entries as of_lasts
-use Rattle.reg_fold.specs.Covers.{covers, is_covered}
+use Rattle.reg_fold.specs.Covers.{covers, is_soft_deleted}
 use Rattle.reg_world.specs.Eager.{after_key, entry_as_written, flagged_by, flagged_with, put_by}
 use Rattle.reg_world.proofs.EagerPlaces.{at_itself, same_place, there}
 use Rattle.reg_world.proofs.Tops.{IsAbove, LastLaws, other_last, top_last}
@@ -86,7 +86,7 @@ IsFit log keys.IdMark r = Unit {0}
 
 module _ (l : LastLaws) where
   gives : (log : Records) (offset : ℕ) (v : Value) → of_lasts.entry_in (last_records log) offset v ≡ option_map (reflagged log) (entry_as_written offset v)
-  unfolding is_covered
+  unfolding is_soft_deleted
   gives log offset (values.Schema subject version id schema deleted) =
       ap (λ o. Some (record { subject = subject; version = version; id = id; text = schema; normal = of_lasts.normal_of schema; offset = offset; soft = deleted || flag o version offset })) (l.lasts log (keys.DeleteSubject subject))
   gives log offset (values.Config level) = refl
