@@ -19,12 +19,7 @@ text_of pieces = flat_map (λ piece. piece.now) pieces
 
 module _ {D : Type 0} (asks : D → Query → Result Answer AllocError → D → Type 0) (commands : D → Command → Reply → D → Type 0) where
   -- why a piece wasn't answered: it was lost, and nothing else changed; or the text that goes on with it was answered in part
-  abbrev pub LosesPiece : {W : Type 0}
-      → Device W
-      → Device W
-      → D
-      → List ℕ
-      → List ℕ
+  abbrev pub LosesPiece : {W : Type 0} → Device W → Device W → D → List ℕ → List ℕ
       → Option (List ℕ)
       → Option (List ℕ)
       → List ℕ

@@ -1,7 +1,6 @@
 -- Taking the records of a log one after the other, as a follower of the topic is usually described.
 use Rattle.std.specs.Prelude.{◌≡◌, ℕ, List, true, ◌&&◌, nat_le, Option, Some, None}
-use Rattle.std.specs.Prelude.{option_map, option_and_then, find, fold}
-use Rattle.std.specs.Prelude.{bytes_eq, if◌then◌else◌}
+use Rattle.std.specs.Prelude.{option_map, option_and_then, find, fold, bytes_eq, if◌then◌else◌}
 use Rattle.std.specs.Option.{option_map_or}
 use Rattle.std.specs.Ordering.{eq_by_cmp}
 use Rattle.reg_values.specs.Value.{value_of}
@@ -50,8 +49,8 @@ abbrev pub flagged_with : Value → Entry → Entry
 flagged_with (values.Schema subject version id schema deleted) e = e
 flagged_with (values.Config level) e = e
 flagged_with (values.Mode mode) e = e
-flagged_with (values.DeleteSubject subject greatest) e = if bytes_eq e.subject subject
-    && nat_le e.version greatest then with_soft true e else e
+flagged_with (values.DeleteSubject subject greatest) e =
+    if bytes_eq e.subject subject && nat_le e.version greatest then with_soft true e else e
 flagged_with values.Noop e = e
 flagged_with (values.IdMark id) e = e
 
