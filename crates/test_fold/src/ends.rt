@@ -66,21 +66,21 @@ static ENDS: [(&str, &str); 24] = [
     ),
 ];
 
-fn told(alloc: Global, log: &str) -> Result<String, AllocError> {
+fn reported(alloc: Global, log: &str) -> Result<String, AllocError> {
     let mut reader = Device::new(log.as_bytes());
     let mut writer = Device::new(Vec::new(alloc));
     let said = said(alloc, &mut reader, &mut writer)?;
     format!(in alloc; "{said} {}", writer.into_inner().len())
 }
 
-fn is_told(alloc: Global, log: &str, wanted: &str) -> bool {
-    matches!(told(alloc, log), Ok(told) if told.as_str() == wanted)
+fn is_reported(alloc: Global, log: &str, wanted: &str) -> bool {
+    matches!(reported(alloc, log), Ok(reported) if reported.as_str() == wanted)
 }
 
 #[test]
 fn a_log_alone_writes_nothing_and_ends_by_its_first_fault(rt: HostRuntime) {
     for (log, wanted) in &ENDS {
-        assert!(rt; is_told(rt.alloc(), log, wanted), "{log}");
+        assert!(rt; is_reported(rt.alloc(), log, wanted), "{log}");
     }
 }
 
@@ -167,7 +167,7 @@ fn is_taken(alloc: Global, len: usize) -> Result<bool, AllocError> {
 
 fn is_too_long(alloc: Global, len: usize) -> Result<bool, AllocError> {
     let log = log_of_one_line(alloc, len)?;
-    Ok(is_told(alloc, log.as_str(), "line 1: TooLong\n2 0"))
+    Ok(is_reported(alloc, log.as_str(), "line 1: TooLong\n2 0"))
 }
 
 #[test]

@@ -8,8 +8,9 @@ use crate::raw_rows::{FIELDS, HEADS, LONGEST, ORDERS, ROUTES, TARGETS};
 use reg_program::{Folded, fold};
 use reg_records::Device;
 use std::alloc::{AllocError, Global};
-use std::io::{self, BufRead, Read};
+use std::io::BufRead;
 use std::test::Fail;
+use test_tools::Bytewise;
 
 static LOG: &str =
     r#"1^t{"keytype":"SCHEMA","subject":"s","version":1,"magic":1}^t{"subject":"s","version":1,"id":1,"schema":"\"int\"","deleted":false}
@@ -154,35 +155,6 @@ pub(crate) fn responses_of(alloc: Global, told: &str) -> Result<(Vec<u8>, u64), 
     Ok((out, count))
 }
 
-/// Gives one byte at each read.
-#[derive(Drop)]
-struct Bytewise<'a> {
-    bytes: &'a [u8],
-}
-
-impl Read for Bytewise<'_> {
-    fn read(&mut self, buf: &mut [u8]) -> io::Result<usize> {
-        match (self.bytes.split_first(), buf.first_mut()) {
-            (Some((byte, rest)), Some(place)) => {
-                *place = *byte;
-                self.bytes = rest;
-                Ok(1)
-            }
-            _ => Ok(0),
-        }
-    }
-}
-
-impl BufRead for Bytewise<'_> {
-    fn fill_buf(&mut self) -> io::Result<&[u8]> {
-        Ok(&self.bytes[..self.bytes.len().min(1)])
-    }
-
-    fn consume(&mut self, amount: usize) {
-        self.bytes = &self.bytes[amount.min(self.bytes.len())..];
-    }
-}
-
 fn is_answered<R: BufRead + Drop>(
     alloc: Global,
     reader: R,
@@ -263,7 +235,7 @@ fn is_offered(offered: &str, method: &str) -> bool {
 }
 
 /// Whether the method is offered, or is answered with those that are.
-fn is_told(alloc: Global, path: &str, offered: &str, method: &str) -> Result<bool, Fail> {
+fn has_its_answer(alloc: Global, path: &str, offered: &str, method: &str) -> Result<bool, Fail> {
     let row = format!(in alloc; "{method} {path} HTTP/1.1|| => 405 {offered}")?;
     Ok(is_offered(offered, method) || holds(alloc, row.as_str(), true)?)
 }
@@ -273,7 +245,7 @@ fn other_methods_are_answered_with_those_that_the_path_offers(rt: HostRuntime) -
     for (path, offered) in &OFFERED {
         for method in &METHODS {
             assert!(rt;
-                is_told(rt.alloc(), path, offered, method)?,
+                has_its_answer(rt.alloc(), path, offered, method)?,
                 "{method} {path}"
             );
         }

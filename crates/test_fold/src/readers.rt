@@ -2,109 +2,11 @@
 use crate::folds::{SHORT_LOG, WHOLE, ended};
 use reg_records::Device;
 use std::alloc::Global;
-use std::io::{self, BufRead, ErrorKind, Read};
-
-/// Gives a byte at each read; after some reads it answers an error so many times.
-#[derive(Drop)]
-struct Failing<'a> {
-    bytes: &'a [u8],
-    left: usize,
-    kind: ErrorKind,
-    times: u64,
-}
-
-impl Failing<'_> {
-    fn count(&mut self) -> io::Result<()> {
-        if self.left > 0 {
-            self.left -= 1;
-        } else if self.times > 0 {
-            self.times -= 1;
-            return Err(io::Error::from(self.kind));
-        }
-        Ok(())
-    }
-}
-
-impl Read for Failing<'_> {
-    fn read(&mut self, buf: &mut [u8]) -> io::Result<usize> {
-        self.count()?;
-        match (self.bytes.split_first(), buf.first_mut()) {
-            (Some((byte, rest)), Some(place)) => {
-                *place = *byte;
-                self.bytes = rest;
-                Ok(1)
-            }
-            _ => Ok(0),
-        }
-    }
-}
-
-impl BufRead for Failing<'_> {
-    fn fill_buf(&mut self) -> io::Result<&[u8]> {
-        self.count()?;
-        Ok(&self.bytes[..self.bytes.len().min(1)])
-    }
-
-    fn consume(&mut self, amount: usize) {
-        self.bytes = &self.bytes[amount.min(self.bytes.len())..];
-    }
-}
-
-/// An error of a reader, how often in a row it comes, and the status and the faults that are counted.
-struct Row {
-    kind: ErrorKind,
-    times: u64,
-    status: u8,
-    faults: u64,
-}
-
-static ROWS: [Row; 7] = [
-    Row {
-        kind: ErrorKind::Interrupted,
-        times: 1,
-        status: 0,
-        faults: 0,
-    },
-    Row {
-        kind: ErrorKind::Interrupted,
-        times: 1000,
-        status: 0,
-        faults: 0,
-    },
-    Row {
-        kind: ErrorKind::BrokenPipe,
-        times: 1,
-        status: 1,
-        faults: 1,
-    },
-    Row {
-        kind: ErrorKind::TimedOut,
-        times: 1,
-        status: 1,
-        faults: 1,
-    },
-    Row {
-        kind: ErrorKind::WouldBlock,
-        times: 1,
-        status: 1,
-        faults: 1,
-    },
-    Row {
-        kind: ErrorKind::UnexpectedEof,
-        times: 1,
-        status: 1,
-        faults: 1,
-    },
-    Row {
-        kind: ErrorKind::OutOfMemory,
-        times: u64::MAX,
-        status: 1,
-        faults: 1,
-    },
-];
+use std::io::ErrorKind;
+use test_tools::{FailingReader, READER_ROWS, ReaderRow};
 
 /// The status of a fold, the faults and the reads of its reader, and how many bytes are written.
-fn fold_of(alloc: Global, failing: Failing) -> (u8, u64, u64, usize) {
+fn fold_of(alloc: Global, failing: FailingReader) -> (u8, u64, u64, usize) {
     let mut reader = Device::new(failing);
     let mut writer = Device::new(Vec::new(alloc));
     let status = ended(alloc, &mut reader, &mut writer).status();
@@ -113,15 +15,10 @@ fn fold_of(alloc: Global, failing: Failing) -> (u8, u64, u64, usize) {
 }
 
 /// Whether the row holds where its error comes after so many reads.
-fn holds(alloc: Global, row: &Row, left: usize) -> bool {
+fn holds(alloc: Global, row: &ReaderRow, left: usize) -> bool {
     let (status, faults, _, len) = fold_of(
         alloc,
-        Failing {
-            bytes: SHORT_LOG.as_bytes(),
-            left,
-            kind: row.kind,
-            times: row.times,
-        },
+        FailingReader::new(SHORT_LOG, left, row.kind, row.times),
     );
     let is_answered = row.status == 0 || left == SHORT_LOG.len();
     let wanted = if is_answered { WHOLE.len() } else { 0 };
@@ -132,7 +29,7 @@ fn holds(alloc: Global, row: &Row, left: usize) -> bool {
 fn a_reader_that_fails_in_a_request_leaves_it_unanswered_and_an_interruption_is_no_fault(
     rt: HostRuntime,
 ) {
-    for row in &ROWS {
+    for row in &READER_ROWS {
         for left in 0..=SHORT_LOG.len() {
             assert!(rt; holds(rt.alloc(), row, left), "after {left} reads");
         }
@@ -143,12 +40,7 @@ fn a_reader_that_fails_in_a_request_leaves_it_unanswered_and_an_interruption_is_
 fn is_given_up(alloc: Global, input: &str, wanted: u64) -> bool {
     let (status, faults, reads, _) = fold_of(
         alloc,
-        Failing {
-            bytes: input.as_bytes(),
-            left: 1,
-            kind: ErrorKind::Interrupted,
-            times: u64::MAX,
-        },
+        FailingReader::new(input, 1, ErrorKind::Interrupted, u64::MAX),
     );
     (status, faults, reads) == (1, 0, wanted)
 }

@@ -168,7 +168,7 @@ static ROWS: [Row; 7] = [
 ];
 
 #[test]
-fn a_command_is_done_once_and_its_end_is_told(rt: HostRuntime) {
+fn a_command_is_done_once_and_its_end_is_reported(rt: HostRuntime) {
     for (place, row) in ROWS.iter().enumerate() {
         assert!(rt; is_outcome(rt.alloc(), row), "row {place}");
     }

@@ -4,53 +4,8 @@ use crate::requests::{CUT, input_of, made_of};
 use reg_http::{ServeError, Served, serve};
 use reg_records::Device;
 use std::alloc::{AllocError, Global};
-use std::io::{self, BufRead, ErrorKind, Read};
-
-/// Gives one byte at each read; after some reads it answers an error so many times.
-#[derive(Drop)]
-pub struct Bytewise<'a> {
-    pub bytes: &'a [u8],
-    pub left: usize,
-    pub kind: ErrorKind,
-    pub times: u64,
-}
-
-impl Bytewise<'_> {
-    fn count(&mut self) -> io::Result<()> {
-        if self.left > 0 {
-            self.left -= 1;
-        } else if self.times > 0 {
-            self.times -= 1;
-            return Err(io::Error::from(self.kind));
-        }
-        Ok(())
-    }
-}
-
-impl Read for Bytewise<'_> {
-    fn read(&mut self, buf: &mut [u8]) -> io::Result<usize> {
-        self.count()?;
-        match (self.bytes.split_first(), buf.first_mut()) {
-            (Some((byte, rest)), Some(place)) => {
-                *place = *byte;
-                self.bytes = rest;
-                Ok(1)
-            }
-            _ => Ok(0),
-        }
-    }
-}
-
-impl BufRead for Bytewise<'_> {
-    fn fill_buf(&mut self) -> io::Result<&[u8]> {
-        self.count()?;
-        Ok(&self.bytes[..self.bytes.len().min(1)])
-    }
-
-    fn consume(&mut self, amount: usize) {
-        self.bytes = &self.bytes[amount.min(self.bytes.len())..];
-    }
-}
+use std::io::{BufRead, ErrorKind};
+use test_tools::{Bytewise, FailingReader};
 
 /// What a call of `serve` did, wrote and noted, and the faults of its reader and of its writer.
 #[derive(Debug, Drop)]
@@ -95,12 +50,7 @@ fn is_cut(alloc: Global, place: usize, outcome: &Outcome) -> Result<bool, AllocE
 fn ends_at(alloc: Global, place: usize) -> Result<bool, AllocError> {
     let input = input_of(alloc)?;
     let front = input.as_bytes().get(..place).unwrap_or(b"");
-    let pieces = Bytewise {
-        bytes: front,
-        left: 0,
-        kind: ErrorKind::Interrupted,
-        times: 0,
-    };
+    let pieces = Bytewise { bytes: front };
     Ok(
         is_cut(alloc, place, &outcome_of(alloc, front))?
             && is_cut(alloc, place, &outcome_of(alloc, pieces))?,
@@ -122,15 +72,7 @@ fn an_input_ends_anywhere(rt: HostRuntime) -> Result<(), AllocError> {
 /// What becomes of a reader whose read after so many answers that error once.
 fn fails_at(alloc: Global, place: usize, kind: ErrorKind) -> Result<bool, AllocError> {
     let input = input_of(alloc)?;
-    let outcome = outcome_of(
-        alloc,
-        Bytewise {
-            bytes: input.as_bytes(),
-            left: place,
-            kind,
-            times: 1,
-        },
-    );
+    let outcome = outcome_of(alloc, FailingReader::new(input.as_str(), place, kind, 1));
     if kind == ErrorKind::Interrupted {
         return is_cut(alloc, input.len(), &outcome);
     }

@@ -62,9 +62,9 @@ const ROWS: [(&str, &str); 24] = [
 ];
 
 #[test]
-fn the_first_cause_is_told(rt: HostRuntime) -> Result<(), Fail> {
+fn the_first_cause_is_reported(rt: HostRuntime) -> Result<(), Fail> {
     let alloc = rt.alloc();
-    for (value, told) in ROWS {
+    for (value, wanted) in ROWS {
         let row = format!(in alloc; "9;{{'keytype':'SCHEMA','subject':'s','version':3}};{value}|")?;
         let text = log_of(alloc, row.as_str())?;
         let log = read_log(alloc, &mut Device::new(&text[..])).map_err(|_| "refused")?;
@@ -75,7 +75,7 @@ fn the_first_cause_is_told(rt: HostRuntime) -> Result<(), Fail> {
             Some(cause) => cause.name(),
             None => "",
         };
-        assert!(rt; name == told);
+        assert!(rt; name == wanted);
     }
     Ok(())
 }

@@ -10,15 +10,15 @@ const ROWS: [(&str, &str); 3] = [
 ];
 
 #[test]
-fn faults_are_told(rt: HostRuntime) -> Result<(), Fail> {
+fn faults_are_reported(rt: HostRuntime) -> Result<(), Fail> {
     let alloc = rt.alloc();
-    for (log, told) in ROWS {
+    for (log, wanted) in ROWS {
         let mut written = Vec::new(alloc);
         match inspect(alloc, &mut log.as_bytes(), &mut written) {
             Ok(_) => return Err(Fail::from("taken")),
             Err(error) => {
                 let text = format!(in alloc; "{error}")?;
-                assert!(rt; text.as_str() == told && error.status() == 2 && written.is_empty());
+                assert!(rt; text.as_str() == wanted && error.status() == 2 && written.is_empty());
             }
         }
     }

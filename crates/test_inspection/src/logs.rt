@@ -171,7 +171,7 @@ fn a_log_is_reported(rt: HostRuntime) -> Result<(), Fail> {
 }
 
 #[test]
-fn what_keeps_a_log_is_told_without_causes(rt: HostRuntime) -> Result<(), Fail> {
+fn what_keeps_a_log_is_reported_without_causes(rt: HostRuntime) -> Result<(), Fail> {
     let alloc = rt.alloc();
     let text = log_of(
         alloc,

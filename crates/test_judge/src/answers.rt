@@ -69,7 +69,7 @@ static ASKED: [(Level, &str, Olds, Option<&str>); 10] = [
 ];
 
 /// What a judge's check tells, and what its judgement does.
-fn told(
+fn answers_of(
     alloc: Global,
     judge: &mut Judge,
     level: Level,
@@ -84,9 +84,9 @@ fn told(
     Ok((checked, made.verdict().message(alloc)?))
 }
 
-fn is_text(told: &Option<Text>, want: Option<&str>) -> bool {
-    match (told, want) {
-        (Some(told), Some(want)) => told.as_str() == want,
+fn is_text(found: &Option<Text>, want: Option<&str>) -> bool {
+    match (found, want) {
+        (Some(found), Some(want)) => found.as_str() == want,
         (None, None) => true,
         _ => false,
     }
@@ -99,7 +99,7 @@ fn each_judge_answers_alike(rt: HostRuntime) -> Result<(), Fail> {
         let mut judge = Judge::new(rt.alloc(), keys, capacity, capacity)?;
         for turn in 0..2u32 {
             for (place, (level, new_text, olds, want)) in ASKED.iter().enumerate() {
-                let (checked, made) = told(rt.alloc(), &mut judge, *level, new_text, olds)?;
+                let (checked, made) = answers_of(rt.alloc(), &mut judge, *level, new_text, olds)?;
                 assert!(rt; is_text(&checked, *want), "{capacity} {turn} {place}");
                 assert!(rt; is_text(&made, *want), "{capacity} {turn} {place}");
                 assert!(rt; judge.kept_all());
@@ -138,7 +138,7 @@ fn what_is_no_schema_is_refused(rt: HostRuntime) -> Result<(), Fail> {
     let mut judge = Judge::new(rt.alloc(), keys, 2, 2)?;
     for turn in 0..2u32 {
         for (place, (new_text, olds, want)) in REFUSALS.iter().enumerate() {
-            let refused = told(rt.alloc(), &mut judge, Level::None, new_text, olds).err();
+            let refused = answers_of(rt.alloc(), &mut judge, Level::None, new_text, olds).err();
             assert!(rt; refused == Some(*want), "{turn} {place}");
         }
     }

@@ -46,12 +46,12 @@ fn said<W: Write>(
 }
 
 #[test]
-fn faults_are_told(rt: HostRuntime) -> Result<(), Fail> {
+fn faults_are_reported(rt: HostRuntime) -> Result<(), Fail> {
     let alloc = rt.alloc();
-    for (log, told) in ROWS {
+    for (log, wanted) in ROWS {
         let mut written = Vec::new(alloc);
         let (text, status) = said(alloc, &mut log.as_bytes(), &mut written)?;
-        assert!(rt; text.as_str() == told && status == 2 && written.is_empty());
+        assert!(rt; text.as_str() == wanted && status == 2 && written.is_empty());
     }
     Ok(())
 }

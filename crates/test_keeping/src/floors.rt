@@ -168,8 +168,8 @@ fn deletes_below_the_floor_go(rt: HostRuntime) -> Result<(), Fail> {
         let found = compacted_to(alloc, &log, floor).map_err(|_| "refused")?;
         let again = compacted_to(alloc, &left, floor).map_err(|_| "refused")?;
         assert!(rt; found == left && again == left);
-        let (told, status, written) = said(alloc, &log, floor)?;
-        assert!(rt; told.is_empty() && status == 0 && written == left);
+        let (reported, status, written) = said(alloc, &log, floor)?;
+        assert!(rt; reported.is_empty() && status == 0 && written == left);
     }
     Ok(())
 }
@@ -178,27 +178,27 @@ fn deletes_below_the_floor_go(rt: HostRuntime) -> Result<(), Fail> {
 fn a_filter_orders_what_is_left(rt: HostRuntime) -> Result<(), Fail> {
     let alloc = rt.alloc();
     let log = "9;x;y|7;{'keytype':'MODE'};a|2;{'keytype':'NOOP'};b|4;{'keytype':'CONFIG'};null|";
-    let (told, status, written) = said(alloc, &text(alloc, log)?, 5)?;
-    assert!(rt; told.is_empty() && status == 0);
+    let (reported, status, written) = said(alloc, &text(alloc, log)?, 5)?;
+    assert!(rt; reported.is_empty() && status == 0);
     let left = "floor;5|2;{'keytype':'NOOP'};b|7;{'keytype':'MODE'};a|9;x;y|";
     assert!(rt; written == text(alloc, left)?);
     Ok(())
 }
 
 #[test]
-fn a_floor_that_a_log_cant_have_is_told(rt: HostRuntime) -> Result<(), Fail> {
+fn a_floor_that_a_log_cant_have_is_reported(rt: HostRuntime) -> Result<(), Fail> {
     let alloc = rt.alloc();
-    for (log, floor, told) in REFUSED {
+    for (log, floor, wanted) in REFUSED {
         let floor = floor.min(OFFSET_LIMIT);
         let (found, status, written) = said(alloc, &text(alloc, log)?, floor)?;
-        assert!(rt; found.as_str() == told && status == 2 && written.is_empty());
+        assert!(rt; found.as_str() == wanted && status == 2 && written.is_empty());
     }
     Ok(())
 }
 
 #[test]
-fn no_room_is_told(rt: HostRuntime) -> Result<(), Fail> {
-    let told = format!(in rt.alloc(); "{}", FilterError::NoRoom)?;
-    assert!(rt; told.as_str() == "no room for the floor" && FilterError::NoRoom.status() == 2);
+fn no_room_is_reported(rt: HostRuntime) -> Result<(), Fail> {
+    let reported = format!(in rt.alloc(); "{}", FilterError::NoRoom)?;
+    assert!(rt; reported.as_str() == "no room for the floor" && FilterError::NoRoom.status() == 2);
     Ok(())
 }

@@ -87,7 +87,7 @@ static PARTS: [(&[u64], u64, bool); 7] = [
     (&[12, 13], 10, false),
 ];
 
-fn are_told(alloc: Global) -> Result<bool, AllocError> {
+fn parts_hold(alloc: Global) -> Result<bool, AllocError> {
     let whole = kept_of(alloc, &[4, 9, 12], 0)?;
     for (offsets, floor, is_one) in &PARTS {
         let part = kept_of(alloc, offsets, *floor)?;
@@ -101,7 +101,7 @@ fn are_told(alloc: Global) -> Result<bool, AllocError> {
 
 #[test]
 fn compactions_have_last_records_or_no_record_of_a_key(rt: HostRuntime) {
-    assert!(rt; are_told(rt.alloc()) == Ok(true));
+    assert!(rt; parts_hold(rt.alloc()) == Ok(true));
 }
 
 /// Two sets, by offsets and floors. What merging and rebasing the first with the second answer, and
@@ -184,11 +184,11 @@ fn what_a_rebased_set_takes_is_found(rt: HostRuntime) {
 fn tells(alloc: Global) -> Result<bool, AllocError> {
     let differ = MergeError::FloorsDiffer { mine: 10, other: 0 };
     let refusal = FloorError::FloorBelow(10);
-    let told = format!(in alloc; "{differ}; {refusal}; {}", FloorError::OutOfMemory)?;
-    Ok(told.as_str() == "the floors differ: 10 and 0; below the floor 10; out of memory")
+    let reported = format!(in alloc; "{differ}; {refusal}; {}", FloorError::OutOfMemory)?;
+    Ok(reported.as_str() == "the floors differ: 10 and 0; below the floor 10; out of memory")
 }
 
 #[test]
-fn refusals_are_told_in_words(rt: HostRuntime) {
+fn refusals_are_reported_in_words(rt: HostRuntime) {
     assert!(rt; tells(rt.alloc()) == Ok(true));
 }

@@ -1,7 +1,7 @@
 // Judgements that are handed in: reply and batch are those without one, whether it fits or not.
 use crate::commands::command_of;
 use crate::logs::registry_of;
-use crate::replies::is_told;
+use crate::replies::is_reported;
 use reg_fold::Registry;
 use reg_leader::{Command, decide};
 use reg_level_names::Level;
@@ -52,7 +52,7 @@ fn comes_to(
     expected: &str,
 ) -> Result<bool, Fail> {
     let decision = decide(alloc, registry, 4, registration, judged);
-    is_told(alloc, &decision, expected)
+    is_reported(alloc, &decision, expected)
 }
 
 // The same with the judgement on NEW against those old versions.

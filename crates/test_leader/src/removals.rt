@@ -1,7 +1,7 @@
 // Permanent deletes of many versions: one batch removes them all.
 use crate::commands::command_of;
 use crate::logs::registry_of;
-use crate::replies::is_told;
+use crate::replies::is_reported;
 use reg_fold::Registry;
 use reg_leader::decide;
 use std::alloc::{AllocError, Global};
@@ -21,47 +21,47 @@ fn soft_log(alloc: Global, count: u32) -> Result<String, AllocError> {
 }
 
 // The versions in their order, which are replied.
-fn push_versions(told: &mut String, count: u32) -> Result<(), AllocError> {
+fn push_versions(wanted: &mut String, count: u32) -> Result<(), AllocError> {
     let mut separator = "[";
     for version in 1..=count {
-        write!(told, "{separator}{version}")?;
+        write!(wanted, "{separator}{version}")?;
         separator = ",";
     }
-    told.push_str("]")
+    wanted.push_str("]")
 }
 
-// What is told of a delete after that log: the versions, and below them the mark of the greatest id
+// What is reported of a delete after that log: the versions, and below them the mark of the greatest id
 // and a record with no value for each version.
 fn removal(alloc: Global, count: u32) -> Result<String, AllocError> {
-    let mut told = String::new(alloc);
-    push_versions(&mut told, count)?;
+    let mut wanted = String::new(alloc);
+    push_versions(&mut wanted, count)?;
     let next = u64::from(count) + 1;
     write!(
-        told,
+        wanted,
         "\n{next}|{{\"keytype\":\"ID_MARK\",\"magic\":0}}|{{\"id\":{count}}}"
     )?;
     for version in 1..=count {
         let offset = next + u64::from(version);
         write!(
-            told,
+            wanted,
             "\n{offset}|{{\"keytype\":\"SCHEMA\",\"subject\":\"s\",\"version\":{version},\"magic\":1}}|null"
         )?;
     }
-    Ok(told)
+    Ok(wanted)
 }
 
 // Whether the delete comes to that, from that offset on.
-fn comes_to(alloc: Global, registry: &Registry, next: u64, told: &str) -> Result<bool, Fail> {
+fn comes_to(alloc: Global, registry: &Registry, next: u64, wanted: &str) -> Result<bool, Fail> {
     let command = command_of(alloc, "delete_all+ s")?;
     let decision = decide(alloc, registry, next, &command, None);
-    is_told(alloc, &decision, told)
+    is_reported(alloc, &decision, wanted)
 }
 
 // Whether one batch removes so many versions.
 fn are_removed(alloc: Global, count: u32) -> Result<bool, Fail> {
-    let told = removal(alloc, count)?;
+    let wanted = removal(alloc, count)?;
     let registry = registry_of(alloc, soft_log(alloc, count)?.as_str())?;
-    comes_to(alloc, &registry, u64::from(count) + 1, told.as_str())
+    comes_to(alloc, &registry, u64::from(count) + 1, wanted.as_str())
 }
 
 #[test]

@@ -39,17 +39,17 @@ pub fn reply_text(alloc: Global, reply: &Reply) -> Result<String, AllocError> {
     }
 }
 
-fn push_line(alloc: Global, told: &mut Vec<u8>, record: &Record) -> Result<(), Fail> {
+fn push_line(alloc: Global, reported: &mut Vec<u8>, record: &Record) -> Result<(), Fail> {
     if !has_line(record) {
         return Err(Fail::from("a line"));
     }
     let line = write_line(alloc, record)?;
-    told.push(b'\n')?;
+    reported.push(b'\n')?;
     for byte in line.as_slice() {
         match *byte {
             b'\n' => {}
-            b'\t' => told.push(b'|')?,
-            other => told.push(other)?,
+            b'\t' => reported.push(b'|')?,
+            other => reported.push(other)?,
         }
     }
     Ok(())
@@ -65,15 +65,15 @@ pub fn lines_of(alloc: Global, records: &[Record]) -> Result<Vec<u8>, Fail> {
 }
 
 // The reply, and below it the lines that are written.
-fn told(alloc: Global, decision: &Decision) -> Result<Vec<u8>, Fail> {
-    let mut told = reply_text(alloc, &decision.reply)?.into_bytes();
+fn reported(alloc: Global, decision: &Decision) -> Result<Vec<u8>, Fail> {
+    let mut reported = reply_text(alloc, &decision.reply)?.into_bytes();
     for record in decision.batch.as_slice() {
-        push_line(alloc, &mut told, record)?;
+        push_line(alloc, &mut reported, record)?;
     }
-    Ok(told)
+    Ok(reported)
 }
 
 // Whether these lines are the reply and, below it, those that are written.
-pub fn is_told(alloc: Global, decision: &Decision, lines: &str) -> Result<bool, Fail> {
-    Ok(told(alloc, decision)?.as_slice() == lines.as_bytes())
+pub fn is_reported(alloc: Global, decision: &Decision, lines: &str) -> Result<bool, Fail> {
+    Ok(reported(alloc, decision)?.as_slice() == lines.as_bytes())
 }

@@ -4,7 +4,7 @@
 // in a log, but for a `|` in the place of each TAB.
 use crate::commands::command_of;
 use crate::logs::registry_of;
-use crate::replies::is_told;
+use crate::replies::is_reported;
 use reg_fold::Registry;
 use reg_leader::{Decision, decide};
 use std::alloc::Global;
@@ -515,7 +515,7 @@ fn after_command(
     lines: &str,
 ) -> Result<Option<u64>, Fail> {
     let decision = decision_on(alloc, registry, next, head)?;
-    if !is_told(alloc, &decision, lines)? {
+    if !is_reported(alloc, &decision, lines)? {
         return Ok(None);
     }
     let batch = decision.batch.as_slice();

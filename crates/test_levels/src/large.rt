@@ -1,5 +1,5 @@
 // Checks against many versions, and against versions with large texts.
-use crate::verdicts::is_told;
+use crate::verdicts::is_reported;
 use avro_schema::Schema;
 use reg_level_names::Level;
 use reg_levels::{JudgedError, check_texts, versions_rise};
@@ -42,7 +42,7 @@ fn tells(
         return Ok(false);
     }
     let verdict = check_texts(alloc, level, new, olds)?;
-    Ok(is_told(alloc, &verdict, want)?)
+    Ok(is_reported(alloc, &verdict, want)?)
 }
 
 /// Whether the first of so many versions is reported, which alone has a string where the new schema has
@@ -60,7 +60,7 @@ fn tells_the_first(
     tells(alloc, Level::BackwardTransitive, new, &olds, want)
 }
 
-fn is_first_told(alloc: Global, count: u32, fields: u32) -> Result<bool, JudgedError> {
+fn is_first_reported(alloc: Global, count: u32, fields: u32) -> Result<bool, JudgedError> {
     let new = record_of(alloc, fields, "long", "long")?;
     match &Schema::read_if_any(alloc, new.as_str())? {
         Some(new) => tells_the_first(alloc, new, count, fields),
@@ -76,7 +76,7 @@ static SIZES: [(u32, u32); 2] = [(1_000, 1), (3, 7_000)];
 fn many_versions_and_large_texts_are_checked(rt: HostRuntime) {
     for (count, fields) in &SIZES {
         assert!(rt;
-            is_first_told(rt.alloc(), *count, *fields) == Ok(true),
+            is_first_reported(rt.alloc(), *count, *fields) == Ok(true),
             "{count} versions"
         );
     }

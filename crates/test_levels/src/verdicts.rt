@@ -1,4 +1,4 @@
-// Which pairs each level asks for, and what is told of the first that clashes.
+// Which pairs each level asks for, and what is reported of the first that clashes.
 use avro_schema::Schema;
 use reg_level_names::Level;
 use reg_levels::{Judged, JudgedError, LevelVerdict, check, versions_rise};
@@ -219,7 +219,7 @@ static ROWS: [Row; 13] = [
 ];
 
 /// Whether a verdict tells that, by its fields and by its message.
-pub(crate) fn is_told(
+pub(crate) fn is_reported(
     alloc: Global,
     verdict: &LevelVerdict,
     want: &str,
@@ -268,7 +268,7 @@ fn is_checked(
         return Ok(false);
     }
     let verdict = check(alloc, level, new, olds)?;
-    is_told(alloc, &verdict.clone()?, want)
+    is_reported(alloc, &verdict.clone()?, want)
 }
 
 /// Whether a check of the texts' schemas tells that.
@@ -302,7 +302,7 @@ fn judgement_tells(
         return Ok(false);
     }
     let judged = Judged::make(alloc, level, row.new, row.olds)?;
-    Ok(judged.fits(level, row.new, row.olds) && is_told(alloc, judged.verdict(), want)?)
+    Ok(judged.fits(level, row.new, row.olds) && is_reported(alloc, judged.verdict(), want)?)
 }
 
 #[test]

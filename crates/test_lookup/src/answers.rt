@@ -1,10 +1,11 @@
 // What is answered, over small logs.
-use crate::logs::{cut, registry_of};
+use crate::logs::registry_of;
 use base_text::Text;
 use reg_fold::{Registry, VersionRef};
 use reg_lookup::{Answer, Query, answer};
 use reg_records::LogError;
 use std::alloc::{AllocError, Global};
+use test_tools::cut;
 
 // What the registry's formats show of reads: a log, a query, and the status and body that are
 // answered. A query is a kind, with a `+` where `deleted`, `verbose` or `default_global` is true,

@@ -1,9 +1,7 @@
-//! Tests of queries and modes over the public calls.
+//! Tests of queries over the public calls.
 #![tactic(auto)]
 
 #[cfg(test)]
 mod answers;
 #[cfg(test)]
 mod logs;
-#[cfg(test)]
-mod modes;

@@ -6,8 +6,6 @@ mod beside;
 #[cfg(test)]
 mod desks;
 #[cfg(test)]
-mod draws;
-#[cfg(test)]
 mod nodes;
 #[cfg(test)]
 mod random;

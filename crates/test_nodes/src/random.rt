@@ -1,6 +1,5 @@
 // Commands, compactions, takes and lookups that are drawn, at three nodes and in a world beside them.
 use crate::beside::Beside;
-use crate::draws::Draws;
 use crate::nodes::{Node, Peer};
 use crate::source::{Source, Writing};
 use crate::topics::{Seats, Task, run};
@@ -19,6 +18,7 @@ use reg_topic::Item;
 use std::alloc::{AllocError, Global};
 use std::sync::{Mutex, Wait};
 use std::test::Fail;
+use test_tools::Draws;
 
 /// How many topics there are.
 const TOPICS: u64 = 20;

@@ -134,7 +134,7 @@ fn expected(alloc: Global, row: &Row) -> Result<String, AllocError> {
 }
 
 /// What came of it.
-fn told<R: Wait + RandomSource + Drop + Copy>(
+fn outcome_of<R: Wait + RandomSource + Drop + Copy>(
     alloc: Global,
     rt: R,
     row: &Row,
@@ -147,7 +147,7 @@ fn told<R: Wait + RandomSource + Drop + Copy>(
 fn a_desk_does_each_command_once(rt: HostRuntime) -> Result<(), Fail> {
     let alloc = rt.alloc();
     for row in &ROWS {
-        let found = told(alloc, &rt, row)?;
+        let found = outcome_of(alloc, &rt, row)?;
         let wanted = expected(alloc, row)?;
         assert_eq!(rt; found, wanted);
     }

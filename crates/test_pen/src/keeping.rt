@@ -38,7 +38,7 @@ impl Keep for Turning {
     }
 }
 
-fn told(alloc: Global, reply: &Reply) -> Result<String, AllocError> {
+fn text_of(alloc: Global, reply: &Reply) -> Result<String, AllocError> {
     if let Reply::Unsettled(offset) = reply {
         return format!(in alloc; "unsettled {offset}");
     }
@@ -71,7 +71,7 @@ fn submit<N: FeedName<Item, Shared>, S: Copies<Item, Shared, N>, R: Wait + Drop>
     command: &Command,
 ) -> Result<(String, u64), AllocError> {
     let submitted = pen.submit(pass, since, command, None);
-    let reply = told(alloc, &submitted.reply)?;
+    let reply = text_of(alloc, &submitted.reply)?;
     Ok((reply, pen.batches()))
 }
 

@@ -127,7 +127,7 @@ fn is_served(
 }
 
 #[test]
-fn a_batch_that_is_held_up_is_told_by_each_response(rt: HostRuntime) -> Result<(), Fail> {
+fn a_batch_that_is_held_up_is_reported_by_each_response(rt: HostRuntime) -> Result<(), Fail> {
     let done = run(rt.alloc(), &rt, MemoryAlone)?;
     let held_up = run(rt.alloc(), &rt, Losing)?;
     assert!(rt; is_served(rt.alloc(), &done, DONE, &[0])?);

@@ -288,7 +288,7 @@ fn each_route_asks(rt: HostRuntime) -> Result<(), Fail> {
 }
 
 #[test]
-fn the_first_failed_test_is_told(rt: HostRuntime) -> Result<(), Fail> {
+fn the_first_failed_test_is_reported(rt: HostRuntime) -> Result<(), Fail> {
     assert_eq!(rt; first_other(rt.alloc(), TESTS, true)?, None);
     Ok(())
 }

@@ -8,21 +8,21 @@ use reg_responses::{WriteFault, write_answer, write_no_memory, write_refusal, wr
 use std::alloc::{AllocError, Global};
 use std::io::{self, ErrorKind, Write};
 
-/// What a response tells.
+/// What is responded.
 #[derive(Debug, Drop)]
-enum Told {
+enum Response {
     Answer(Answer),
     Reply(Reply),
     Refusal(Refusal),
     NoMemory,
 }
 
-fn write_told<W: Write>(writer: &mut Device<W>, told: &Told) -> Result<(), WriteFault> {
-    match told {
-        Told::Answer(answer) => write_answer(writer, answer, false),
-        Told::Reply(reply) => write_reply(writer, reply, false),
-        Told::Refusal(refusal) => write_refusal(writer, refusal, true),
-        Told::NoMemory => write_no_memory(writer, true),
+fn write_response<W: Write>(writer: &mut Device<W>, response: &Response) -> Result<(), WriteFault> {
+    match response {
+        Response::Answer(answer) => write_answer(writer, answer, false),
+        Response::Reply(reply) => write_reply(writer, reply, false),
+        Response::Refusal(refusal) => write_refusal(writer, refusal, true),
+        Response::NoMemory => write_no_memory(writer, true),
     }
 }
 
@@ -46,34 +46,34 @@ static TEXTS: [(&str, &str); 4] = [
     ),
 ];
 
-fn told_of(alloc: Global, kind: &str) -> Result<Told, AllocError> {
+fn response_of(alloc: Global, kind: &str) -> Result<Response, AllocError> {
     match kind {
-        "answer" => Ok(Told::Answer(Answer {
+        "answer" => Ok(Response::Answer(Answer {
             status: 200,
             body: Text::copy_of(alloc, "\"é\"")?,
         })),
-        "reply" => Ok(Told::Reply(Reply::Versions(Listed::from(Vec::from_slice(
+        "reply" => Ok(Response::Reply(Reply::Versions(Listed::from(Vec::from_slice(
             alloc,
             &[1, 2, 30],
         )?)))),
-        "refusal" => Ok(Told::Refusal(Refusal::MethodNotAllowed(Allow::GetPut))),
-        _ => Ok(Told::NoMemory),
+        "refusal" => Ok(Response::Refusal(Refusal::MethodNotAllowed(Allow::GetPut))),
+        _ => Ok(Response::NoMemory),
     }
 }
 
 /// Whether a writer of so much room, which is too little, has the front of the response.
-fn has_a_front(told: &Told, text: &str, room: usize) -> bool {
+fn has_a_front(response: &Response, text: &str, room: usize) -> bool {
     let mut bytes = [0u8; 256];
     let mut writer = Device::new(&mut bytes[..room.min(256)]);
-    let end = write_told(&mut writer, told);
+    let end = write_response(&mut writer, response);
     let faults = writer.faults();
     (end, faults) == (Err(WriteFault), 1) && bytes.get(..room) == text.as_bytes().get(..room)
 }
 
 fn has_fronts(alloc: Global, kind: &str, text: &str) -> Result<bool, AllocError> {
-    let told = told_of(alloc, kind)?;
+    let response = response_of(alloc, kind)?;
     for room in 0..text.len() {
-        if !has_a_front(&told, text, room) {
+        if !has_a_front(&response, text, room) {
             return Ok(false);
         }
     }
@@ -137,7 +137,7 @@ static FAULTS: [(u64, usize, ErrorKind, bool, u64); 5] = [
 ];
 
 /// Whether all bytes are written, and the result and the faults are those of the row.
-fn is_told(
+fn holds(
     alloc: Global,
     kind: &str,
     text: &str,
@@ -151,16 +151,16 @@ fn is_told(
         room: text.len().saturating_add(more),
         kind: error,
     });
-    let end = write_told(&mut writer, &told_of(alloc, kind)?);
+    let end = write_response(&mut writer, &response_of(alloc, kind)?);
     let counted = (writer.faults(), writer.interruptions()) == (faults, 0);
     Ok(counted && end.is_ok() == is_ok && writer.into_inner().bytes.as_slice() == text.as_bytes())
 }
 
 #[test]
-fn interruptions_are_passed_over_and_a_flush_that_fails_is_told(rt: HostRuntime) {
+fn interruptions_are_passed_over_and_a_flush_that_fails_is_reported(rt: HostRuntime) {
     for (kind, text) in &TEXTS {
         for row in &FAULTS {
-            assert!(rt; is_told(rt.alloc(), kind, text, row) == Ok(true), "{text}");
+            assert!(rt; holds(rt.alloc(), kind, text, row) == Ok(true), "{text}");
         }
     }
 }

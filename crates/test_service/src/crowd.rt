@@ -1,6 +1,7 @@
 // Eight clients at three nodes, each on one connection.
 use crate::asking::{ask, connect, listen, use_up};
-use reg_service::{Listening, NoGate, Size, serve_nodes};
+use crate::serving::serve_at;
+use reg_service::NoGate;
 use std::alloc::{AllocError, Global};
 use std::io::{self, BufRead, BufReader, Read, Write};
 use std::net::{Net, SocketAddr, TcpListener, TcpStream};
@@ -45,19 +46,19 @@ fn next_random(state: u64) -> u64 {
 }
 
 /// Reads a response's head, and says how long its body is.
-fn length_told(alloc: Global, reader: &mut BufReader<&TcpStream>) -> io::Result<usize> {
-    let mut told = 0usize;
+fn body_length(alloc: Global, reader: &mut BufReader<&TcpStream>) -> io::Result<usize> {
+    let mut length = 0usize;
     for _line in 0..16 {
         let mut line = String::new(alloc);
         reader.read_line(&mut line)?;
         if line.as_str() == "\r\n" {
             break;
         }
-        if let Some(length) = line.as_str().strip_prefix("Content-Length: ") {
-            told = length.trim().parse::<usize>().unwrap_or(0);
+        if let Some(digits) = line.as_str().strip_prefix("Content-Length: ") {
+            length = digits.trim().parse::<usize>().unwrap_or(0);
         }
     }
-    Ok(told)
+    Ok(length)
 }
 
 /// Sends a request on a connection that stays open, and gives the response's body.
@@ -65,9 +66,9 @@ fn say(alloc: Global, stream: &TcpStream, request: &str) -> io::Result<String> {
     let mut out = stream;
     out.write_all(request.as_bytes())?;
     let mut reader = BufReader::new(alloc, stream)?;
-    let told = length_told(alloc, &mut reader)?;
+    let length = body_length(alloc, &mut reader)?;
     let mut bytes = Vec::new(alloc);
-    bytes.resize(told, 0u8)?;
+    bytes.resize(length, 0u8)?;
     reader.read_exact(&mut bytes)?;
     Ok(String::from_utf8(bytes).map_err(|_| AllocError)?)
 }
@@ -100,7 +101,7 @@ fn register(alloc: Global, stream: &TcpStream, subject: u64, schema: &str) -> io
 }
 
 /// Whether the schema of the id is that.
-fn is_told(alloc: Global, stream: &TcpStream, id: u64, schema: &str) -> io::Result<bool> {
+fn has_schema(alloc: Global, stream: &TcpStream, id: u64, schema: &str) -> io::Result<bool> {
     let path = format!(in alloc; "/schemas/ids/{id}")?;
     Ok(query(alloc, stream, &path)?.as_str() == schema)
 }
@@ -140,7 +141,7 @@ fn is_own(
 fn is_shared(alloc: Global, stream: &TcpStream, random: u64, schema: &str) -> io::Result<bool> {
     let subject = (random >> 40) % 4;
     let id = register(alloc, stream, subject, schema)?;
-    let is_there = is_told(alloc, stream, id, schema)?;
+    let is_there = has_schema(alloc, stream, id, schema)?;
     if random >> 62 == 0 {
         delete(alloc, stream, subject)?;
     }
@@ -293,15 +294,14 @@ fn serve<
         thread::scope_env(),
         rt,
         |scope| -> io::Result<(u64, bool)> {
-            let _server = scope.spawn(move || {
-                let size = Size {
-                    nodes: listeners.len(),
-                    workers: WORKERS,
-                    limit: Some(CONNECTIONS),
-                };
-                let mut entrance = Listening::new(alloc, listeners);
-                serve_nodes(rt, alloc, size, &NoGate, &mut entrance)
-            });
+            let _server = scope.spawn(move || serve_at(
+                alloc,
+                rt,
+                listeners,
+                WORKERS,
+                CONNECTIONS,
+                &NoGate,
+            ));
             let told = use_nodes(alloc, rt, addresses);
             use_up(rt, addresses, WORKERS * CONNECTIONS as u32);
             told

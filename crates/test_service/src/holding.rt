@@ -1,7 +1,7 @@
 // Calls that are held by a gate until others are answered.
 use crate::asking::{ask, body, listen, send, use_up};
+use crate::serving::serve_at;
 use reg_desk::Gate;
-use reg_service::{Listening, Size, serve_nodes};
 use std::alloc::{AllocError, Global};
 use std::io;
 use std::net::{Net, SocketAddr, TcpListener, TcpStream};
@@ -94,15 +94,7 @@ fn serve<
         thread::scope_env(),
         rt,
         |scope| -> io::Result<(String, String)> {
-            let _server = scope.spawn(move || {
-                let size = Size {
-                    nodes: listeners.len(),
-                    workers: workers,
-                    limit: Some(1),
-                };
-                let mut entrance = Listening::new(alloc, listeners);
-                serve_nodes(rt, alloc, size, gate, &mut entrance)
-            });
+            let _server = scope.spawn(move || serve_at(alloc, rt, listeners, workers, 1, gate));
             let bodies = ask_both(alloc, rt, gate, addresses, request);
             use_up(rt, addresses, 2);
             bodies

@@ -12,4 +12,6 @@ mod kept;
 #[cfg(test)]
 mod rows;
 #[cfg(test)]
+mod serving;
+#[cfg(test)]
 mod slow;

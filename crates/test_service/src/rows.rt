@@ -1,6 +1,7 @@
 // Requests as bytes on connections of their own, and all bytes of the responses to them.
 use crate::asking::{connect, listen, use_up};
-use reg_service::{Listening, NoGate, Size, serve_nodes};
+use crate::serving::serve_at;
+use reg_service::NoGate;
 use std::alloc::Global;
 use std::io::{self, Write};
 use std::net::{Net, Shutdown, SocketAddr, TcpListener, TcpStream};
@@ -167,15 +168,8 @@ fn serve<
         thread::scope_env(),
         rt,
         |scope| -> io::Result<Vec<String>> {
-            let _server = scope.spawn(move || {
-                let size = Size {
-                    nodes: listeners.len(),
-                    workers: 1,
-                    limit: Some(ROWS.len() as u64),
-                };
-                let mut entrance = Listening::new(alloc, listeners);
-                serve_nodes(rt, alloc, size, &NoGate, &mut entrance)
-            });
+            let limit = ROWS.len() as u64;
+            let _server = scope.spawn(move || serve_at(alloc, rt, listeners, 1, limit, &NoGate));
             let heard = hear_all(alloc, rt, address);
             use_up(rt, &[address], ROWS.len() as u32);
             heard

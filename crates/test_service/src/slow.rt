@@ -1,8 +1,9 @@
 // A request whose check takes long, and commands at the same node meanwhile.
 use crate::asking::{ask, body, listen, send, use_up};
+use crate::serving::serve_at;
 use avro_resolve::resolve;
 use avro_schema::Schema;
-use reg_service::{Listening, NoGate, Size, serve_nodes};
+use reg_service::NoGate;
 use std::alloc::{AllocError, Global};
 use std::io;
 use std::net::{Net, SocketAddr, TcpListener, TcpStream};
@@ -202,15 +203,10 @@ fn serve<
         thread::scope_env(),
         rt,
         |scope| -> io::Result<(bool, String)> {
-            let _server = scope.spawn(move || {
-                let size = Size {
-                    nodes: 1,
-                    workers: WORKERS,
-                    limit: Some(u64::from(LIMIT)),
-                };
-                let mut entrance = Listening::new(alloc, listeners);
-                serve_nodes(rt, alloc, size, &NoGate, &mut entrance)
-            });
+            let limit = u64::from(LIMIT);
+            let _server = scope.spawn(move || serve_at(
+                alloc, rt, listeners, WORKERS, limit, &NoGate,
+            ));
             let told = visit(alloc, rt, address, path, size);
             use_up(rt, &[address], WORKERS * LIMIT);
             told

@@ -1,12 +1,6 @@
-//! Tests of lines, devices and sets of records over their crates' public calls.
+//! Tests of sets of records over the public calls.
 #![tactic(auto)]
 
-#[cfg(test)]
-mod devices;
-#[cfg(test)]
-mod draws;
-#[cfg(test)]
-mod faults;
 #[cfg(test)]
 mod lines;
 #[cfg(test)]

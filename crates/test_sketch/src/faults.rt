@@ -1,5 +1,5 @@
 // Lines that spell no schemas, for which nothing is written.
-use crate::sketches::is_told;
+use crate::sketches::is_reported;
 use std::alloc::{AllocError, Global};
 
 /// An input, and the text on standard error with the status.
@@ -53,9 +53,12 @@ static FAULTS: [(&str, &str); 24] = [
 ];
 
 #[test]
-fn what_spells_no_schema_is_told_by_its_name(rt: HostRuntime) {
+fn what_spells_no_schema_is_reported_by_its_name(rt: HostRuntime) {
     for (input, wanted) in &FAULTS {
-        assert!(rt; is_told(rt.alloc(), input.as_bytes(), wanted), "{input}");
+        assert!(rt;
+            is_reported(rt.alloc(), input.as_bytes(), wanted),
+            "{input}"
+        );
     }
 }
 
@@ -69,9 +72,9 @@ static BROKEN: [(&[u8], &str); 4] = [
 ];
 
 #[test]
-fn lines_that_are_no_text_are_told(rt: HostRuntime) {
+fn lines_that_are_no_text_are_reported(rt: HostRuntime) {
     for (place, (input, wanted)) in BROKEN.iter().enumerate() {
-        assert!(rt; is_told(rt.alloc(), input, wanted), "row {place}");
+        assert!(rt; is_reported(rt.alloc(), input, wanted), "row {place}");
     }
 }
 
@@ -90,7 +93,7 @@ fn comes_to(alloc: Global, reader: usize, writer: usize, wanted: &str) -> Result
     input.push('\n')?;
     input.push_str(padded(alloc, writer)?.as_str())?;
     input.push('\n')?;
-    Ok(is_told(alloc, input.as_bytes(), wanted))
+    Ok(is_reported(alloc, input.as_bytes(), wanted))
 }
 
 /// How long the two lines are without their LF, and what they come to. A schema's text has at most

@@ -21,7 +21,7 @@ pub(crate) fn ended<R: BufRead, W: Write>(
 }
 
 /// What is written for that input, and then the text on standard error and the status.
-fn told(alloc: Global, input: &[u8]) -> Result<String, AllocError> {
+fn reported(alloc: Global, input: &[u8]) -> Result<String, AllocError> {
     let mut reader = Device::new(input);
     let mut writer = Device::new(Vec::new(alloc));
     let mut errors = Device::new(Vec::new(alloc));
@@ -37,28 +37,28 @@ fn told(alloc: Global, input: &[u8]) -> Result<String, AllocError> {
         &mut errors,
         &mut serve,
     );
-    let mut told = String::from_utf8_lossy(alloc, writer.into_inner().as_slice())?;
-    told.push_str(String::from_utf8_lossy(alloc, errors.into_inner().as_slice())?.as_str())?;
-    write!(told, "{status}")?;
-    Ok(told)
+    let mut reported = String::from_utf8_lossy(alloc, writer.into_inner().as_slice())?;
+    reported.push_str(String::from_utf8_lossy(alloc, errors.into_inner().as_slice())?.as_str())?;
+    write!(reported, "{status}")?;
+    Ok(reported)
 }
 
-pub(crate) fn is_told(alloc: Global, input: &[u8], wanted: &str) -> bool {
-    matches!(told(alloc, input), Ok(told) if told.as_str() == wanted)
+pub(crate) fn is_reported(alloc: Global, input: &[u8], wanted: &str) -> bool {
+    matches!(reported(alloc, input), Ok(reported) if reported.as_str() == wanted)
 }
 
 /// What is written for a reader's schema and a writer's, with the status.
 pub(crate) fn sketched(alloc: Global, reader: &str, writer: &str) -> Result<String, AllocError> {
     let input = format!(in alloc; "{reader}\n{writer}\n")?;
-    told(alloc, input.as_bytes())
+    reported(alloc, input.as_bytes())
 }
 
 /// Whether a sketch is written, and it is that.
 pub(crate) fn is_sketch(alloc: Global, reader: &str, writer: &str, wanted: &str) -> bool {
-    let Ok(told) = sketched(alloc, reader, writer) else {
+    let Ok(reported) = sketched(alloc, reader, writer) else {
         return false;
     };
-    matches!(told.strip_suffix("0"), Some(text) if text == wanted)
+    matches!(reported.strip_suffix("0"), Some(text) if text == wanted)
 }
 
 #[test]

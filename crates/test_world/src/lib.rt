@@ -6,8 +6,6 @@ mod both;
 #[cfg(test)]
 mod commands;
 #[cfg(test)]
-mod draws;
-#[cfg(test)]
 mod eager;
 #[cfg(test)]
 mod events;

@@ -1,11 +1,11 @@
 // Lists of events that are drawn, over bases that are drawn, on a world and on a plain one.
 use crate::both::Both;
-use crate::draws::Draws;
 use crate::plain::registry_of;
 use crate::records::log_of;
 use reg_records::Log;
 use std::alloc::{AllocError, Global};
 use std::test::Fail;
+use test_tools::Draws;
 
 // A line is drawn, and of each of its words, whose alternatives stand between bars, one. `@` is the
 // places of up to seven records, and `%` of up to two; `^` is a floor, and `^!` a floor with the places of

@@ -591,7 +591,7 @@ fn run_all(world: &mut World, events: &[Event]) -> Result<Vec<Outcome>, RunError
     world.run(events)
 }
 
-fn is_told(alloc: Global, outcome: Option<&Outcome>, expected: &str) -> Result<bool, Fail> {
+fn is_outcome(alloc: Global, outcome: Option<&Outcome>, expected: &str) -> Result<bool, Fail> {
     match outcome {
         Some(outcome) => Ok(outcome_text(alloc, outcome)?.as_str() == expected),
         None => Ok(false),
@@ -607,7 +607,7 @@ fn first_other_outcome(
     let mut left = outcomes.iter();
     for line in lines.lines() {
         if let Some((_, expected)) = line.split_once(" => ") {
-            if !is_told(alloc, left.next(), expected)? {
+            if !is_outcome(alloc, left.next(), expected)? {
                 return Ok(Some(line));
             }
         }

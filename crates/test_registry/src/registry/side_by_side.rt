@@ -1,14 +1,14 @@
 // Registries beside plain ones, over lines that are drawn.
 use super::plain::{NAMES, NUMBERS, PlainRegistry, SUBJECTS, Said};
 use super::{Wanted, Way, way_meets, ways_meet};
-use crate::draws::Draws;
 use crate::lines::{Line, records_of};
 use reg_fold::{Entry, Registry};
 use reg_records::{LogError, Record};
 use std::alloc::{AllocError, Global};
+use test_tools::Draws;
 
 fn one_of(draws: &mut Draws, words: &'static [&'static str]) -> &'static str {
-    let place = draws.below(words.len() as u64) as usize;
+    let place = draws.place(words.len());
     words.get(place).copied().unwrap_or("")
 }
 
@@ -16,8 +16,8 @@ fn one_of(draws: &mut Draws, words: &'static [&'static str]) -> &'static str {
 fn line(draws: &mut Draws, offsets: u64) -> Line {
     let offset = draws.below(offsets);
     let subject = one_of(draws, &SUBJECTS);
-    let version = draws.small(NUMBERS - 1).saturating_add(1);
-    let number = draws.small(NUMBERS);
+    let version = draws.number(NUMBERS - 1).saturating_add(1);
+    let number = draws.number(NUMBERS);
     let name = one_of(draws, &NAMES);
     match draws.below(19) {
         0 => Line::Level(offset, "null", "FULL"),

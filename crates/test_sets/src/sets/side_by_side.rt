@@ -1,11 +1,11 @@
 // Sets beside plain ones, on lines that are drawn and on wide ones.
 use super::has_lines;
 use super::plain::PlainSet;
-use crate::draws::Draws;
 use crate::lines::{Line, is_of_line, records_of};
 use reg_records::{LogError, Record};
 use reg_set::{LastRecords, RecordSet, Taken, is_compaction_of};
 use std::alloc::{AllocError, Global};
+use test_tools::Draws;
 
 /// Keys in their order, some of whose subjects share a beginning, and some have what JSON escapes.
 pub(super) static KEYS: [&str; 25] = [
@@ -37,7 +37,7 @@ pub(super) static KEYS: [&str; 25] = [
 ];
 
 fn line(draws: &mut Draws, offsets: u64) -> Line<'static> {
-    let place = draws.below(KEYS.len() as u64) as usize;
+    let place = draws.place(KEYS.len());
     Line {
         offset: draws.below(offsets),
         key: KEYS.get(place).copied().unwrap_or(""),

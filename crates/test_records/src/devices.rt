@@ -122,20 +122,20 @@ fn error_of<R: BufRead>(alloc: Global, reader: &mut Device<R>) -> Option<LogErro
 }
 
 /// Whether a line is read on where its reader is interrupted once, and else its fault is reported.
-fn is_told_once(alloc: Global, kind: ErrorKind) -> bool {
+fn is_reported_once(alloc: Global, kind: ErrorKind) -> bool {
     let mut reader = broken_line(kind, 1);
-    let told = error_of(alloc, &mut reader);
+    let reported = error_of(alloc, &mut reader);
     let expected = match kind {
         ErrorKind::Interrupted => (None, 0),
         _ => (Some(LogError::ReadFault { line: 2 }), 1),
     };
-    (told, reader.faults()) == expected
+    (reported, reader.faults()) == expected
 }
 
 #[test]
-fn an_interrupted_line_is_read_on_and_a_fault_is_told(rt: HostRuntime) {
+fn an_interrupted_line_is_read_on_and_a_fault_is_reported(rt: HostRuntime) {
     for kind in &KINDS {
-        assert!(rt; is_told_once(rt.alloc(), *kind));
+        assert!(rt; is_reported_once(rt.alloc(), *kind));
     }
 }
 
@@ -179,7 +179,7 @@ fn leaves(alloc: Global, text: &str, fault: Option<(u64, LineError)>, rest: &str
 }
 
 #[test]
-fn a_line_is_taken_before_its_fault_is_told(rt: HostRuntime) {
+fn a_line_is_taken_before_its_fault_is_reported(rt: HostRuntime) {
     for (text, fault, rest) in &LEFT {
         assert!(rt; leaves(rt.alloc(), text, *fault, rest), "{text}");
     }

@@ -6,8 +6,9 @@ use reg_records::{
 };
 use std::alloc::{AllocError, Global};
 
-/// The offset of a line of a key that isn't known, or the name of the line's fault.
-fn is_told(alloc: Global, line: &[u8], offset: u64, fault: &str) -> bool {
+/// Whether a line has the fault of that name; of no name, whether it has none, a key that isn't known, and that
+/// offset.
+fn has_fault(alloc: Global, line: &[u8], offset: u64, fault: &str) -> bool {
     match read_line(alloc, line) {
         Ok(Read::Foreign(found)) => found == offset && fault.is_empty(),
         Ok(Read::Record(_record)) => false,
@@ -38,7 +39,7 @@ static LINES: [(&[u8], u64, &str); 10] = [
 fn faults_come_in_their_order(rt: HostRuntime) {
     for (line, offset, fault) in &LINES {
         assert!(rt;
-            is_told(rt.alloc(), line, *offset, fault),
+            has_fault(rt.alloc(), line, *offset, fault),
             "{fault} {offset}"
         );
     }
@@ -87,10 +88,10 @@ fn write_other_errors(out: &mut String) -> Result<(), AllocError> {
 }
 
 fn are_texts(alloc: Global, wanted: &str) -> Result<bool, AllocError> {
-    let mut told = String::new(alloc);
-    write_faults(&mut told)?;
-    write_other_errors(&mut told)?;
-    Ok(told.as_str() == wanted)
+    let mut written = String::new(alloc);
+    write_faults(&mut written)?;
+    write_other_errors(&mut written)?;
+    Ok(written.as_str() == wanted)
 }
 
 #[test]
@@ -119,7 +120,7 @@ fn is_read(alloc: Global, len: usize, before: &str, is_short: bool) -> Result<bo
     Ok(if is_short {
         is_record(alloc, line.as_bytes())
     } else {
-        is_told(alloc, line.as_bytes(), 0, "TooLong")
+        has_fault(alloc, line.as_bytes(), 0, "TooLong")
     })
 }
 

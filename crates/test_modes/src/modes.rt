@@ -1,9 +1,9 @@
 // What modes permit.
-use crate::logs::registry_of;
-use reg_fold::{Reason, Refusal};
+use reg_fold::{Reason, Refusal, Registry};
 use reg_modes::{Mode, may_register, may_set_import, may_write};
-use reg_records::LogError;
+use reg_records::{Device, LogError, Record, read_log};
 use std::alloc::Global;
+use test_tools::log_of;
 
 /// A mode, and why registrations without an id, with one, and other writes are refused.
 static PERMITS: [(Mode, Option<Reason>, Option<Reason>, Option<Reason>); 3] = [
@@ -17,19 +17,27 @@ static PERMITS: [(Mode, Option<Reason>, Option<Reason>, Option<Reason>); 3] = [
     (Mode::Import, Some(Reason::ImportNeedsId), None, None),
 ];
 
+/// A log in words, as `log_of` reads them.
+const MANY: &str =
+    r#"S 1 s 1 1 "int";S 2 s 2 2 "long";S 3 s 4 4 "string";S 4 st 1 2 "long";S 5 t 1 2 "long";S 6 t 2 1 "int";D 7 t 9;S 8 u 1 5 "bytes";N 9 u 1;D 10 s 1"#;
+
+const ONLY_SOFT: &str = r#"S 1 s 1 1 "int";D 2 s 1"#;
+
+const UNREAD: &str = r#"S 1 s 1 1 "string";P 2 p 1 3"#;
+
 /// A log, a scope, whether it is forced, and whether IMPORT may be set.
 static IMPORTS: [(&str, Option<&str>, bool, bool); 10] = [
-    ("none", None, false, true),
-    ("none", Some("s"), false, true),
-    ("many", None, false, false),
-    ("many", None, true, true),
-    ("many", Some("s"), false, false),
-    ("many", Some("s"), true, true),
+    ("", None, false, true),
+    ("", Some("s"), false, true),
+    (MANY, None, false, false),
+    (MANY, None, true, true),
+    (MANY, Some("s"), false, false),
+    (MANY, Some("s"), true, true),
     // All its versions are soft-deleted.
-    ("many", Some("t"), false, true),
-    ("many", Some("u"), false, true),
-    ("only_soft", None, false, true),
-    ("unread", Some("p"), false, true),
+    (MANY, Some("t"), false, true),
+    (MANY, Some("u"), false, true),
+    (ONLY_SOFT, None, false, true),
+    (UNREAD, Some("p"), false, true),
 ];
 
 static NAMES: [(&str, Option<Mode>); 6] = [
@@ -58,6 +66,20 @@ fn modes_permit_or_say_why_not(rt: HostRuntime) {
         );
         assert!(rt; found == (*register, *import, *write));
     }
+}
+
+fn records_of(alloc: Global, log: &str) -> Result<Vec<Record>, LogError> {
+    let log = log_of(alloc, log)?;
+    let mut reader = Device::new(log.as_bytes());
+    Ok(read_log(alloc, &mut reader)?.records)
+}
+
+/// The registry over the records of a log.
+fn registry_of(alloc: Global, log: &str) -> Result<Registry, LogError> {
+    let records = records_of(alloc, log)?;
+    let mut registry = Registry::empty(alloc);
+    registry.apply_all(&records)?;
+    Ok(registry)
 }
 
 fn import_refused(
