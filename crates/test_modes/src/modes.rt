@@ -1,6 +1,6 @@
 // What modes permit.
 use reg_fold::{Reason, Refusal, Registry};
-use reg_modes::{Mode, may_register, may_set_import, may_write};
+use reg_modes::{Mode, must_allow_import, must_allow_registration, must_allow_writes};
 use reg_records::{Device, LogError, Record, read_log};
 use std::alloc::Global;
 use test_tools::log_of;
@@ -60,9 +60,9 @@ fn refused(permit: Result<(), Refusal>) -> Option<Reason> {
 fn modes_permit_or_say_why_not(rt: HostRuntime) {
     for (mode, register, import, write) in &PERMITS {
         let found = (
-            refused(may_register(*mode, false)),
-            refused(may_register(*mode, true)),
-            refused(may_write(*mode)),
+            refused(must_allow_registration(*mode, false)),
+            refused(must_allow_registration(*mode, true)),
+            refused(must_allow_writes(*mode)),
         );
         assert!(rt; found == (*register, *import, *write));
     }
@@ -89,7 +89,7 @@ fn import_refused(
     force: bool,
 ) -> Result<Option<Reason>, LogError> {
     let registry = registry_of(alloc, log)?;
-    Ok(refused(may_set_import(&registry, scope, force)))
+    Ok(refused(must_allow_import(&registry, scope, force)))
 }
 
 #[test]
