@@ -3,7 +3,7 @@
 
 A cited name stands in backticks in one of CITING, and looks like a name, `Type::member`, a crate or the path of a file. The code's
 names are the items, fields, variants, clause labels and plain strings of crates/*/src, the definitions, constructors and fields of
-crates/*/specs and proofs, and the names of wrong bodies; of test crates only the files count. A name has to stand
+crates/*/specs and proofs, and the names of wrong bodies; of test crates but test_tools only the files count. A name has to stand
 - in the file beside it (`name` (`specs/File.antt`) and `src/file.rt`, `name`), or in the crate behind it (`name` of `crate`);
 - in the first column of DEFINITIONS in a file of the row, and in the last of LAYERS in the row's crate;
 - in the second column of CLAIMS in a crate of the heading or the row; a clause at a call in the row, a definition in any specs/;
@@ -125,7 +125,7 @@ def main():
             specs += squeezed(text) + " " if "/specs/" in file else ""
         elif file.endswith(".edit"):
             places[Path(file).stem].add(file)
-        elif not file.startswith("test_"):
+        elif file.startswith("test_tools/") or not file.startswith("test_"):
             read_rust(file, text)
     for path in [TOP / "README.md", *sorted((TOP / "docs").glob("*.md")), *sorted((TOP / "benches").glob("*.md"))]:
         text = path.read_text()
