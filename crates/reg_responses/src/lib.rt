@@ -5,7 +5,6 @@ mod bodies;
 mod joined;
 mod laws;
 mod limits;
-mod outline;
 mod pieces;
 mod reply;
 mod respond;
