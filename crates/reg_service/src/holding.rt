@@ -4,7 +4,7 @@ use crate::entrance::Entrance;
 use crate::error::StartFault;
 use crate::following::Following;
 use crate::running::{serve_one, serve_three, serve_two};
-use crate::seats::{Parts, make_desks};
+use crate::seats::{Parts, make_desks, make_node};
 use reg_conversation::SharedDesk;
 use reg_desk::Gate;
 use reg_feed::{Copies, FeedName};
@@ -37,51 +37,22 @@ pub(crate) fn hold_one<
     entrance: &mut E,
 ) -> Result<(), StartFault> {
     let mut passes = passes;
-    let alloc = common.alloc;
-    let rt = common.rt;
-    let keys = common.keys;
-    let gate = common.gate;
-    let calls = common.calls;
-    let grown = common.grown;
     let listeners = entrance.listen()?;
-    let Parts {
-        follower: first_follower,
-        views: first_views,
-    } = first;
-    let first_follower = Mutex::new(first_follower);
-    let first_others = Others { grown, own: 0 };
-    let first_desks = make_desks(
-        rt,
-        alloc,
-        keys,
-        pen,
-        &mut passes,
-        &first_follower,
-        gate,
-        &first_others,
-        calls,
-        first_views,
-    )?;
-    let first_following = Following {
-        rt,
-        follower: &first_follower,
-        grown: grown.get(0).ok_or(StartFault::NoPlace)?,
+    let Parts { follower, views } = first;
+    let follower = Mutex::new(follower);
+    let others = Others {
+        grown: common.grown,
+        own: 0,
     };
-    let first_node = Node::new(
-        rt,
-        alloc,
-        listeners.get(0).ok_or(StartFault::NoPlace)?,
-        first_following,
-        common.workers as usize,
-        common.limits,
-    )?;
+    let desks = make_desks(common, pen, &mut passes, &follower, &others, views)?;
+    let node = make_node(common, &listeners, 0, &follower)?;
     serve_one(
-        rt,
-        alloc,
+        common.rt,
+        common.alloc,
         common.latch,
         common.limit,
-        &first_node,
-        first_desks,
+        &node,
+        desks,
         || entrance.ready(),
     )
 }
@@ -108,78 +79,46 @@ pub(crate) fn hold_two<
     entrance: &mut E,
 ) -> Result<(), StartFault> {
     let mut passes = passes;
-    let alloc = common.alloc;
-    let rt = common.rt;
-    let keys = common.keys;
-    let gate = common.gate;
-    let calls = common.calls;
-    let grown = common.grown;
     let listeners = entrance.listen()?;
     let Parts {
         follower: first_follower,
         views: first_views,
     } = first;
     let first_follower = Mutex::new(first_follower);
-    let first_others = Others { grown, own: 0 };
+    let first_others = Others {
+        grown: common.grown,
+        own: 0,
+    };
     let first_desks = make_desks(
-        rt,
-        alloc,
-        keys,
+        common,
         pen,
         &mut passes,
         &first_follower,
-        gate,
         &first_others,
-        calls,
         first_views,
     )?;
-    let first_following = Following {
-        rt,
-        follower: &first_follower,
-        grown: grown.get(0).ok_or(StartFault::NoPlace)?,
-    };
-    let first_node = Node::new(
-        rt,
-        alloc,
-        listeners.get(0).ok_or(StartFault::NoPlace)?,
-        first_following,
-        common.workers as usize,
-        common.limits,
-    )?;
+    let first_node = make_node(common, &listeners, 0, &first_follower)?;
     let Parts {
         follower: second_follower,
         views: second_views,
     } = second;
     let second_follower = Mutex::new(second_follower);
-    let second_others = Others { grown, own: 1 };
+    let second_others = Others {
+        grown: common.grown,
+        own: 1,
+    };
     let second_desks = make_desks(
-        rt,
-        alloc,
-        keys,
+        common,
         pen,
         &mut passes,
         &second_follower,
-        gate,
         &second_others,
-        calls,
         second_views,
     )?;
-    let second_following = Following {
-        rt,
-        follower: &second_follower,
-        grown: grown.get(1).ok_or(StartFault::NoPlace)?,
-    };
-    let second_node = Node::new(
-        rt,
-        alloc,
-        listeners.get(1).ok_or(StartFault::NoPlace)?,
-        second_following,
-        common.workers as usize,
-        common.limits,
-    )?;
+    let second_node = make_node(common, &listeners, 1, &second_follower)?;
     serve_two(
-        rt,
-        alloc,
+        common.rt,
+        common.alloc,
         common.latch,
         common.limit,
         &first_node,
@@ -214,28 +153,19 @@ pub(crate) fn hold_three<
     third: Parts<N, S, O, V, R>,
     entrance: &mut E,
 ) -> Result<(), StartFault> {
-    let listeners = entrance.listen()?;
     let mut passes = passes;
-    let grown = common.grown;
+    let listeners = entrance.listen()?;
     let Parts { follower, views } = first;
     let follower = Mutex::new(follower);
-    let others = Others { grown, own: 0 };
-    let desks = make_desks(
-        common.rt,
-        common.alloc,
-        common.keys,
-        pen,
-        &mut passes,
-        &follower,
-        common.gate,
-        &others,
-        common.calls,
-        views,
-    )?;
+    let others = Others {
+        grown: common.grown,
+        own: 0,
+    };
+    let desks = make_desks(common, pen, &mut passes, &follower, &others, views)?;
     let following = Following {
         rt: common.rt,
         follower: &follower,
-        grown: grown.get(0).ok_or(StartFault::NoPlace)?,
+        grown: common.grown.get(0).ok_or(StartFault::NoPlace)?,
     };
     let node = Node::new(
         common.rt,
@@ -278,26 +208,17 @@ fn hold_second<
     entrance: &mut E,
 ) -> Result<(), StartFault> {
     let mut passes = passes;
-    let grown = common.grown;
     let Parts { follower, views } = second;
     let follower = Mutex::new(follower);
-    let others = Others { grown, own: 1 };
-    let desks = make_desks(
-        common.rt,
-        common.alloc,
-        common.keys,
-        pen,
-        &mut passes,
-        &follower,
-        common.gate,
-        &others,
-        common.calls,
-        views,
-    )?;
+    let others = Others {
+        grown: common.grown,
+        own: 1,
+    };
+    let desks = make_desks(common, pen, &mut passes, &follower, &others, views)?;
     let following = Following {
         rt: common.rt,
         follower: &follower,
-        grown: grown.get(1).ok_or(StartFault::NoPlace)?,
+        grown: common.grown.get(1).ok_or(StartFault::NoPlace)?,
     };
     let node = Node::new(
         common.rt,
@@ -351,26 +272,17 @@ fn hold_third<
     entrance: &mut E,
 ) -> Result<(), StartFault> {
     let mut passes = passes;
-    let grown = common.grown;
     let Parts { follower, views } = third;
     let follower = Mutex::new(follower);
-    let others = Others { grown, own: 2 };
-    let desks = make_desks(
-        common.rt,
-        common.alloc,
-        common.keys,
-        pen,
-        &mut passes,
-        &follower,
-        common.gate,
-        &others,
-        common.calls,
-        views,
-    )?;
+    let others = Others {
+        grown: common.grown,
+        own: 2,
+    };
+    let desks = make_desks(common, pen, &mut passes, &follower, &others, views)?;
     let following = Following {
         rt: common.rt,
         follower: &follower,
-        grown: grown.get(2).ok_or(StartFault::NoPlace)?,
+        grown: common.grown.get(2).ok_or(StartFault::NoPlace)?,
     };
     let node = Node::new(
         common.rt,

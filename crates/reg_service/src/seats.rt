@@ -4,16 +4,16 @@ ghost use Rattle.std.specs.FinSet.{empty};
 
 use crate::common::Common;
 use crate::error::StartFault;
+use crate::following::Following;
 use reg_desk::{Gate, NodeDesk, Wake};
 use reg_feed::{Copies, FeedName, FeedReader, Stored, Unnamed, feed};
 use reg_judge::Judge;
 use reg_node::{Draw, Follower, Taken, View};
 use reg_pen::{Keep, Pass, Pen};
+use reg_serve::Node;
 use reg_shared::Shared;
 use reg_topic::Item;
-use std::alloc::Global;
-use std::hash::RandomState;
-use std::sync::atomic::AtomicU64;
+use std::net::{Net, TcpListener};
 use std::sync::{Mutex, Wait};
 
 /// How many schemas the judge of a desk keeps.
@@ -84,6 +84,7 @@ pub(crate) fn make_parts<
 /// A desk of a node for each view, with a judge of its own.
 pub(crate) fn make_desks<
     'a,
+    'x: 'a,
     N: FeedName<Item, Shared>,
     S: Copies<Item, Shared, N>,
     K: Keep + Drop,
@@ -93,24 +94,66 @@ pub(crate) fn make_desks<
     G: Gate,
     W: Wake,
 >(
-    rt: &'a R,
-    alloc: Global,
-    keys: RandomState,
+    common: &Common<'x, R, G>,
     pen: &'a Mutex<Pen<N, S, K, R>>,
     passes: &mut Vec<Pass<N>>,
     follower: &'a Mutex<Follower<N, S, M, U, R>>,
-    gate: &'a G,
     wake: &'a W,
-    calls: &'a AtomicU64,
     views: Vec<View<M, U>>,
 ) -> Result<Vec<NodeDesk<'a, N, S, K, M, U, R, G, W>>, StartFault> {
+    let alloc = common.alloc;
     let mut desks = Vec::new(alloc);
     for view in views {
         let Some(pass) = passes.pop() else {
             return Err(StartFault::NoPlace);
         };
-        let judge = Judge::new(alloc, keys, SCHEMAS, VERDICTS)?;
-        desks.push(NodeDesk::new(rt, pen, follower, gate, wake, calls, pass, view, judge))?;
+        let judge = Judge::new(alloc, common.keys, SCHEMAS, VERDICTS)?;
+        let desk = NodeDesk::new(
+            common.rt,
+            pen,
+            follower,
+            common.gate,
+            wake,
+            common.calls,
+            pass,
+            view,
+            judge,
+        );
+        desks.push(desk)?;
     }
     Ok(desks)
+}
+
+/// The node of that number, which isn't opened yet. Where there are three nodes, each is made in place: its listener
+/// and its follower have two lifetimes then, which the borrow checker doesn't part through a call.
+pub(crate) fn make_node<
+    'a,
+    'x: 'a,
+    N: FeedName<Item, Shared>,
+    S: Copies<Item, Shared, N>,
+    M: FeedName<Draw, Taken>,
+    U: Copies<Draw, Taken, M>,
+    R: Wait + Net + Drop,
+    G,
+    T: Drop,
+>(
+    common: &Common<'x, R, G>,
+    listeners: &'a [TcpListener],
+    own: usize,
+    follower: &'a Mutex<Follower<N, S, M, U, R>>,
+) -> Result<Node<'a, Following<'a, N, S, M, U, R>, T>, StartFault> {
+    let following = Following {
+        rt: common.rt,
+        follower,
+        grown: common.grown.get(own).ok_or(StartFault::NoPlace)?,
+    };
+    let node = Node::new(
+        common.rt,
+        common.alloc,
+        listeners.get(own).ok_or(StartFault::NoPlace)?,
+        following,
+        common.workers as usize,
+        common.limits,
+    )?;
+    Ok(node)
 }
