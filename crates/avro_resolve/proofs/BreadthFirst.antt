@@ -26,6 +26,7 @@ use Rattle.std.specs.Result.{result_err}
 use Rattle.avro_resolve.proofs.Rows.{owed_in}
 use Rattle.avro_resolve.specs.Trails.{roots, trail_from, trail_along, ComesFirst, AreCompatible, IsShown}
 use Rattle.avro_resolve.specs.Seen.{same_pair}
+use Rattle.avro_resolve.specs.Owed.{pairs_of}
 use Rattle.avro_resolve.specs.Search.{is_reached, unless_reached, with_entry, entry_from, expanded}
 use Rattle.avro_resolve.specs.Search.{from_at, hop_numbered, hop_at, IsStep, IsWayBack, LeadsBack}
 use Rattle.avro_resolve.proofs.Order.{ComesFirst_refl, ComesFirst_trans, ComesFirst-append, ComesFirst-longer}
@@ -254,7 +255,7 @@ module _ (r w : List Node) where
 
 -- an entry more changes nothing of the others
 abbrev child_at : Reached → ℕ → ℕ → Obligation → Reached
-child_at h n k o = record { entry = entry_from n k o; path = h.path ++ k ∷ [] }
+child_at h n k o = record { entry = entry_from n k o.pair; path = h.path ++ k ∷ [] }
 
 lifts : (gs hs : List Reached) (a : Reached) (m : ℕ) (o : Obligation) → Closes gs a m o → Closes (gs ++ hs) a m o
 lifts gs hs a m o (y, b, at, same, first) = (y, b, get_push gs hs y b at, same, first)
@@ -328,7 +329,7 @@ module _ (r w : List Node) (gs : List Reached) (n : ℕ) (h : Reached) (k : ℕ)
   }
     where
       child : Reached
-      child = record { entry = entry_from n k o; path = h.path ++ k ∷ [] }
+      child = record { entry = entry_from n k o.pair; path = h.path ++ k ∷ [] }
 
       head_below : n < length gs
       head_below = get_below gs n h s.head
@@ -362,7 +363,7 @@ module _ (r w : List Node) (gs : List Reached) (n : ℕ) (h : Reached) (k : ℕ)
 
 module _ (r w : List Node) (n : ℕ) (h : Reached) (inside : (m : ℕ) (o : Obligation) → slice_get (owed r w h) m ≡ Some o → IsWithin r w o.pair) where
   abbrev Expands : List Obligation → ℕ → List Reached → Type 0
-  Expands os k gs = (gs' : List Reached) × (entries_of gs' ≡ expanded n k os (entries_of gs)) × IsExpanding r w gs' n h (k + length os)
+  Expands os k gs = (gs' : List Reached) × (entries_of gs' ≡ expanded n k (pairs_of os) (entries_of gs)) × IsExpanding r w gs' n h (k + length os)
 
   expand_from : (os : List Obligation) (k : ℕ) (gs : List Reached) → IsExpanding r w gs n h k → ((m : ℕ) (o : Obligation) → slice_get os m ≡ Some o → slice_get (owed r w h) (k + m) ≡ Some o) → Expands os k gs
   expand_from [] k gs s owes = (gs, refl, subst (IsExpanding r w gs n h) (let e : k ≡ k + 0 = omega arith in e) s)
@@ -380,13 +381,13 @@ module _ (r w : List Node) (n : ℕ) (h : Reached) (inside : (m : ℕ) (o : Obli
       go : (b : Bool) → is_reached (entries_of gs) o.pair ≡ b → ((hs : List Reached) → IsExpanding r w hs n h (k + 1) → Expands os (k + 1) hs) → Expands (o ∷ os) k gs
       go true is ih =
           let (hs, same, t) = ih gs (skips r w gs n h k s o now is) in
-          (hs, same ∙ ap (λ b. expanded n (k + 1) os (unless_reached b (entries_of gs) (entry_from n k o))) (sym is), counted hs t)
+          (hs, same ∙ ap (λ b. expanded n (k + 1) (pairs_of os) (unless_reached b (entries_of gs) (entry_from n k o.pair))) (sym is), counted hs t)
       go false is ih =
           let (hs, same, t) = ih (gs ++ child_at h n k o ∷ []) (adds r w gs n h k s o now (inside k o now) is) in
-          (hs, same ∙ ap (expanded n (k + 1) os) (map-append (λ (g : Reached). g.entry) gs (child_at h n k o ∷ [])) ∙ ap (λ b. expanded n (k + 1) os (unless_reached b (entries_of gs) (entry_from n k o))) (sym is), counted hs t)
+          (hs, same ∙ ap (expanded n (k + 1) (pairs_of os)) (map-append (λ (g : Reached). g.entry) gs (child_at h n k o ∷ [])) ∙ ap (λ b. expanded n (k + 1) (pairs_of os) (unless_reached b (entries_of gs) (entry_from n k o.pair))) (sym is), counted hs t)
 
   -- the head is done
-  pub expands : (gs : List Reached) → IsSearch r w gs n → slice_get gs n ≡ Some h → clash_of r w h.entry.pair ≡ None → (gs' : List Reached) × (entries_of gs' ≡ expanded n 0 (owed r w h) (entries_of gs)) × IsSearch r w gs' (n + 1)
+  pub expands : (gs : List Reached) → IsSearch r w gs n → slice_get gs n ≡ Some h → clash_of r w h.entry.pair ≡ None → (gs' : List Reached) × (entries_of gs' ≡ expanded n 0 (pairs_of (owed r w h)) (entries_of gs)) × IsSearch r w gs' (n + 1)
   expands gs s head peaceful =
       let (hs, same, t) = expand_from (owed r w h) 0 gs (begins r w gs n h s head peaceful) (λ m o at. ap (slice_get (owed r w h)) (let e : 0 + m ≡ m = omega arith in e) ∙ at) in
       (hs, same, finishes r w hs n h (0 + length (owed r w h)) t (omega arith))
@@ -625,7 +626,7 @@ module _ (r w : List Node) (es : List Entry) (n : ℕ) (k : IsSearched r w es n)
       shows r w k.reached n g c hops k.search at_g (ap (λ (x : Entry). clash_of r w x.pair) same ∙ ap result_err is) (subst (λ l. IsWayBack r w l n (reverse hops)) k.entries way)
 
   -- it doesn't
-  pub searched_next : IsSound r → IsSound w → (e : Entry) (os : List Obligation) → slice_get es n ≡ Some e → outcome r w e.pair ≡ Ok os → IsSearched r w (expanded n 0 os es) (n + 1)
+  pub searched_next : IsSound r → IsSound w → (e : Entry) (os : List Obligation) → slice_get es n ≡ Some e → outcome r w e.pair ≡ Ok os → IsSearched r w (expanded n 0 (pairs_of os) es) (n + 1)
   searched_next s t e os at is =
       let (g, at_g, same) = there e at in
       let of_g : outcome r w g.entry.pair ≡ Ok os = ap (λ (x : Entry). outcome r w x.pair) same ∙ is in
@@ -633,7 +634,7 @@ module _ (r w : List Node) (es : List Entry) (n : ℕ) (k : IsSearched r w es n)
       let (hs, entries, search) = expands r w n g (obligations_within r w s t g.entry.pair inside) k.reached k.search at_g (ap result_err of_g) in
       record {
         reached = hs;
-        entries = sym (entries ∙ ap (λ l. expanded n 0 l (entries_of k.reached)) (ap owed_in of_g) ∙ ap (expanded n 0 os) (sym k.entries));
+        entries = sym (entries ∙ ap (λ l. expanded n 0 (pairs_of l) (entries_of k.reached)) (ap owed_in of_g) ∙ ap (expanded n 0 (pairs_of os)) (sym k.entries));
         search = search;
       }
 
@@ -656,10 +657,10 @@ searched_first r w s t es is =
     }
 
 -- entries are never taken away
-pub length-expanded : (n k : ℕ) (os : List Obligation) (es : List Entry) → length es ≤ length (expanded n k os es)
+pub length-expanded : (n k : ℕ) (os : List Obligation) (es : List Entry) → length es ≤ length (expanded n k (pairs_of os) es)
 length-expanded n k [] es = omega arith
-length-expanded n k (o ∷ os) es = omega (arith, more (is_reached es o.pair), length-expanded n (k + 1) os (with_entry es (entry_from n k o)))
+length-expanded n k (o ∷ os) es = omega (arith, more (is_reached es o.pair), length-expanded n (k + 1) os (with_entry es (entry_from n k o.pair)))
   where
-    more : (b : Bool) → length es ≤ length (unless_reached b es (entry_from n k o))
+    more : (b : Bool) → length es ≤ length (unless_reached b es (entry_from n k o.pair))
     more true = omega arith
-    more false = omega (arith, length-append es (entry_from n k o ∷ []))
+    more false = omega (arith, length-append es (entry_from n k o.pair ∷ []))

@@ -1,35 +1,27 @@
 -- What the search keeps, step by step.
-use Rattle.std.proofs.Common.{◌≡◌, ℕ, ◌+◌, ◌<◌, ◌≤◌, List, [], ◌∷◌, ◌++◌, length, take, drop, drop-cons, add-one, map, find}
-use Rattle.std.proofs.Common.{filter_map, Bool, true, false, ◌&&◌, ◌||◌, cond, eqb, arith, not, Option, Some, None, Result, Ok, Err}
-use Rattle.std.proofs.Common.{is_some, is_none, option_map, option_and_then, get_or, append_assoc, append-nil, slice_get, refl, sym}
+use Rattle.std.proofs.Common.{◌≡◌, ℕ, ◌+◌, ◌<◌, List, [], ◌∷◌, ◌++◌, length, drop, drop-cons, add-one}
+use Rattle.std.proofs.Common.{Bool, true, false, ◌||◌, eqb, not, Option, Some, None, Result, Ok, Err}
+use Rattle.std.proofs.Common.{is_some, is_none, option_and_then, get_or, append_assoc, append-nil, slice_get, refl, sym}
 use Rattle.std.proofs.Common.{◌∙◌, ap, subst}
 use Rattle.std.proofs.lemmas.Bool.{eqb-true}
-use Rattle.std.specs.List.{cons_option, enumerate_from}
-use Rattle.std.proofs.lemmas.List.{take_all, take-append-le, length-take}
 use Rattle.std.proofs.lemmas.List.Folds.{list_any-append}
 use Rattle.std.proofs.lemmas.Option.{slice_get_read}
 use Rattle.avro_resolve.specs.declared.trail.Hop.{Hop}
 use Rattle.avro_resolve.proofs.Sound.{and_left, and_right}
-use Rattle.avro_resolve.proofs.Rows.{to_writer_branch, to_field, to_partner}
-use Rattle.avro_resolve.proofs.Hops.{unless_lacking}
 use Rattle.avro_resolve.specs.declared.obligations.Pair.{Pair}
 use Rattle.avro_resolve.specs.declared.obligations.Obligation.{Obligation}
 use Rattle.avro_resolve.specs.declared.trail.ClashKind.{ClashKind}
-use Rattle.avro_resolve.specs.declared.trail.ClashKind.TheVariants as clash
-use Rattle.avro_resolve.specs.Pairing.{partner, lacks_value}
-use Rattle.avro_resolve.specs.Table.{to_fields, obligations}
+use Rattle.avro_resolve.specs.Table.{obligations}
 use Rattle.std.specs.Result.{result_err}
 use Rattle.avro_resolve.proofs.Rows.{owed_in}
 use Rattle.avro_resolve.specs.declared.search.Step.{Step}
 use Rattle.avro_resolve.specs.declared.search.Entry.{Entry}
 use Rattle.avro_resolve.specs.Seen.{same_pair, is_seen, IsFair}
-use Rattle.avro_resolve.specs.Search.{is_reached, AgreesWith, unless_reached, with_entry}
+use Rattle.avro_resolve.specs.Search.{is_reached, AgreesWith, with_entry}
 use Rattle.avro_resolve.specs.Search.{entry_from, expanded, from_at, hop_numbered, hop_at}
 use Rattle.avro_resolve.specs.Search.{IsStep, IsWayBack}
 use Rattle.avro_resolve.specs.declared.seen.Seen.{Seen}
-use Rattle.avro_schema.specs.declared.node.Field.{Field}
 use Rattle.avro_schema.specs.declared.node.Node.{Node}
-use Rattle.avro_schema.specs.declared.node.NodeId.{NodeId}
 
 -- ---- pairs
 
@@ -58,88 +50,29 @@ agrees_added seen new es e agrees added fair = record {
   fair = fair;
 }
 
--- ---- the loop over a reader's fields
-
--- what it keeps: the pairs of the fields before place i were added, and none of these fields lacks a value
-pub record AreAdded (gs fs : List Field) (place : ℕ) (start : List Entry) (i number : ℕ) (es : List Entry) : Type 0 where
-  pub counted : number ≤ i
-  pub entries : expanded place number (filter_map (to_partner gs) (drop i fs)) es ≡ expanded place 0 (filter_map (to_partner gs) fs) start
-  pub none_lacks : find (lacks_value gs) fs ≡ find (lacks_value gs) (drop i fs)
-  pub begun : take (length start) es ≡ start
-
 pub none_if : {A : Type 0} (o : Option A) (b : Bool) → is_some o ≡ not b → b ≡ is_none o
 none_if None true e = refl
 none_if None false e = cc
 none_if (Some x) true e = cc
 none_if (Some x) false e = refl
 
-pub added_first : (gs fs : List Field) (place : ℕ) (es : List Entry) → AreAdded gs fs place es 0 0 es
-added_first gs fs place es = record { counted = omega arith; entries = refl; none_lacks = refl; begun = take_all (length es) es (omega arith) }
-
-length_start : (start es : List Entry) → take (length start) es ≡ start → length start ≤ length es
-length_start start es e = omega (arith, ap length e, length-take (length start) es)
-
-take_entry : (b : Bool) (start es : List Entry) (e : Entry) → take (length start) es ≡ start → take (length start) (unless_reached b es e) ≡ start
-take_entry true start es e begun = begun
-take_entry false start es e begun = let h : length start ≤ length es = length_start start es begun in take-append-le (length start) es (e ∷ []) h ∙ begun
-
-module _ (gs fs : List Field) (place : ℕ) (start : List Entry) (i number : ℕ) (es : List Entry) (now : AreAdded gs fs place start i number es) (f : Field) (at : drop i fs ≡ f ∷ drop (i + 1) fs) where
-  -- the field has a partner
-  pub added_pair : (g : Field) → Some g ≡ partner gs f → (new : List Entry) → new ≡ with_entry es (entry_from place number (to_field f g)) → AreAdded gs fs place start (i + 1) (number + 1) new
-  added_pair g has new is = record {
-    counted = let h = now.counted in omega arith;
-    entries =
-        ap (λ l. expanded place (number + 1) (filter_map (to_partner gs) (drop (i + 1) fs)) l) is
-        ∙ ap (λ o. expanded place number (cons_option (option_map (to_field f) o) (filter_map (to_partner gs) (drop (i + 1) fs))) es) has
-        ∙ ap (λ l. expanded place number (filter_map (to_partner gs) l) es) (sym at)
-        ∙ now.entries;
-    none_lacks = now.none_lacks ∙ ap (find (lacks_value gs)) at ∙ ap (λ o. cond (is_none o && is_none f.default) (Some f) (find (lacks_value gs) (drop (i + 1) fs))) (sym has);
-    begun = ap (take (length start)) is ∙ take_entry (is_reached es (entry_from place number (to_field f g)).pair) start es (entry_from place number (to_field f g)) now.begun;
-  }
-
-  -- it has none, and a default
-  pub added_none : None ≡ partner gs f → false ≡ is_none f.default → AreAdded gs fs place start (i + 1) number es
-  added_none has default = record {
-    counted = let h = now.counted in omega arith;
-    entries =
-        ap (λ o. expanded place number (cons_option (option_map (to_field f) o) (filter_map (to_partner gs) (drop (i + 1) fs))) es) has
-        ∙ ap (λ l. expanded place number (filter_map (to_partner gs) l) es) (sym at)
-        ∙ now.entries;
-    none_lacks = now.none_lacks ∙ ap (find (lacks_value gs)) at ∙ ap (λ o. cond (is_none o && is_none f.default) (Some f) (find (lacks_value gs) (drop (i + 1) fs))) (sym has) ∙ ap (λ b. cond b (Some f) (find (lacks_value gs) (drop (i + 1) fs))) (sym default);
-    begun = now.begun;
-  }
-
-  -- it has neither
-  pub added_lacking : None ≡ partner gs f → true ≡ is_none f.default → to_fields fs gs ≡ Err (clash.ReaderFieldMissingDefaultValue f.name)
-  added_lacking has lacks =
-      ap (λ o. unless_lacking o (Ok (filter_map (to_partner gs) fs)))
-      (now.none_lacks ∙ ap (find (lacks_value gs)) at ∙ ap (λ o. cond (is_none o && is_none f.default) (Some f) (find (lacks_value gs) (drop (i + 1) fs))) (sym has) ∙ ap (λ b. cond b (Some f) (find (lacks_value gs) (drop (i + 1) fs))) (sym lacks))
-
-pub added_all : (gs fs : List Field) (place : ℕ) (start : List Entry) (i number : ℕ) (es : List Entry) → AreAdded gs fs place start i number es → drop i fs ≡ [] → to_fields fs gs ≡ Ok (filter_map (to_partner gs) fs)
-added_all gs fs place start i number es now none = ap (λ o. unless_lacking o (Ok (filter_map (to_partner gs) fs))) (now.none_lacks ∙ ap (find (lacks_value gs)) none)
-
-pub entries_all : (gs fs : List Field) (place : ℕ) (start : List Entry) (i number : ℕ) (es : List Entry) → AreAdded gs fs place start i number es → drop i fs ≡ [] → es ≡ expanded place 0 (owed_in (to_fields fs gs)) start
-entries_all gs fs place start i number es now none =
-    ap (λ l. expanded place number (filter_map (to_partner gs) l) es) (sym none) ∙ now.entries ∙ ap (λ o. expanded place 0 (owed_in o) start) (sym (added_all gs fs place start i number es now none))
-
--- ---- the loop over a writer's branches
+-- ---- the loop over the pairs that are owed
 
 -- the element at a place begins what is left from there
 drop_here : {A : Type 0} (xs : List A) (k : ℕ) (d : A) → k < length xs → drop k xs ≡ get_or xs k d ∷ drop (k + 1) xs
 drop_here xs k d inside = drop-cons xs k d inside ∙ ap (λ n. get_or xs k d ∷ drop n xs) (sym (add-one k))
 
-pub added_branch : (i : NodeId) (bs : List NodeId) (place k : ℕ) (d : NodeId) (es new all : List Entry) → k < length bs
-    → new ≡ with_entry es (entry_from place k (to_writer_branch i (k, get_or bs k d)))
-    → expanded place k (map (to_writer_branch i) (enumerate_from k (drop k bs))) es ≡ all
-    → expanded place (k + 1) (map (to_writer_branch i) (enumerate_from (k + 1) (drop (k + 1) bs))) new ≡ all
-added_branch i bs place k d es new all inside is now =
-    ap (λ l. expanded place (k + 1) (map (to_writer_branch i) (enumerate_from (k + 1) (drop (k + 1) bs))) l) is
-    ∙ ap (λ l. expanded place k (map (to_writer_branch i) (enumerate_from k l)) es) (sym (drop_here bs k d inside))
+pub reached_next : (ps : List Pair) (place k : ℕ) (d : Pair) (es new all : List Entry) → k < length ps
+    → new ≡ with_entry es (entry_from place k (get_or ps k d))
+    → expanded place k (drop k ps) es ≡ all
+    → expanded place (k + 1) (drop (k + 1) ps) new ≡ all
+reached_next ps place k d es new all inside is now =
+    ap (expanded place (k + 1) (drop (k + 1) ps)) is
+    ∙ ap (λ l. expanded place k l es) (sym (drop_here ps k d inside))
     ∙ now
 
-pub added_branches : (i : NodeId) (bs : List NodeId) (place k : ℕ) (es all : List Entry) → drop k bs ≡ []
-    → expanded place k (map (to_writer_branch i) (enumerate_from k (drop k bs))) es ≡ all → es ≡ all
-added_branches i bs place k es all none now = ap (λ l. expanded place k (map (to_writer_branch i) (enumerate_from k l)) es) (sym none) ∙ now
+pub reached_all : (ps : List Pair) (place k : ℕ) (es all : List Entry) → drop k ps ≡ [] → expanded place k (drop k ps) es ≡ all → es ≡ all
+reached_all ps place k es all none now = ap (λ l. expanded place k l es) (sym none) ∙ now
 
 -- ---- the way back
 

@@ -33,9 +33,7 @@ use Rattle.avro_resolve.specs.Sieve.{AreSieves, fields_in}
 use Rattle.avro_resolve.specs.declared.sieve.Found.{Found}
 use Rattle.avro_resolve.specs.declared.sieve.Holder.{Holder}
 use Rattle.avro_resolve.specs.declared.sieve.Sieve.{Sieve}
-use Rattle.avro_resolve.specs.declared.search.Entry.{Entry}
 use Rattle.avro_resolve.proofs.Hops.{drop_at}
-use Rattle.avro_resolve.proofs.Searching.{AreAdded, added_none}
 use Rattle.avro_resolve.proofs.Named.{named_at}
 use Rattle.avro_resolve.proofs.SeenLaws.{is_eq-nat_cmp}
 use Rattle.avro_resolve.proofs.Sound.{below_length}
@@ -56,30 +54,6 @@ no_field = record { name = []; aliases = []; default = None; node = record { ind
 
 abbrev pub no_found : Found
 no_found = record { holder = record { field = 0; rank = 0 }; place = 0 }
-
-module _ (gs fs : List Field) (place : ℕ) (start : List Entry) (number : ℕ) (es : List Entry) where
-  added_past : (d i : ℕ) → i + d ≤ length fs
-      → ((k : ℕ) (f : Field) → slice_get fs k ≡ Some f → i ≤ k → k < i + d → IsPassed gs f)
-      → AreAdded gs fs place start i number es → AreAdded gs fs place start (i + d) number es
-  added_past zero i within passed now = let e : i ≡ i + 0 = omega arith in subst (λ n. AreAdded gs fs place start n number es) e now
-  added_past (suc d) i within passed now =
-      let inside : i < length fs = omega arith in
-      let f = get_or fs i no_field in
-      let read : f ≡ get_or fs i f = any_default fs i no_field f inside in
-      let here = passed i f (slice_get_read fs (length fs) i f refl inside read) (omega arith) (omega arith) in
-      let next = added_none gs fs place start i number es now f (drop_at fs i f inside read) (sym here.0) (some_not_none f.default here.1) in
-      let e : (i + 1) + d ≡ i + suc d = omega arith in
-      subst (λ n. AreAdded gs fs place start n number es) e
-      (added_past d (i + 1) (omega arith) (λ k g at above below. passed k g at (omega arith) (omega arith)) next)
-
-  -- the fields up to one are passed over
-  pub added_upto : (i k : ℕ) → i ≤ k → k ≤ length fs
-      → ((m : ℕ) (f : Field) → slice_get fs m ≡ Some f → i ≤ m → m < k → IsPassed gs f)
-      → AreAdded gs fs place start i number es → AreAdded gs fs place start k number es
-  added_upto i k above within passed now =
-      let e : i + (k - i) ≡ k = omega arith in
-      subst (λ n. AreAdded gs fs place start n number es) e
-      (added_past (k - i) i (omega arith) (λ m f at from below. passed m f at from (omega arith)) now)
 
 -- ---- the fields that are paired
 
@@ -219,13 +193,6 @@ module _ (fs gs : List Field) (xs : List Found) (all : AreFound fs gs xs) (i nex
       omega (arith, read))
       (cases_lt p i)
 
-  -- the fields up to its own are passed over
-  pub added_to : (place : ℕ) (start : List Entry) (number : ℕ) (es : List Entry) → AreAdded gs fs place start next number es → next ≤ x.holder.field → AreAdded gs fs place start x.holder.field number es
-  added_to place start number es now up =
-      let below : x.holder.field < length fs = found_inside in
-      added_upto gs fs place start number es next x.holder.field up (omega (arith, below))
-      (λ m f at from to. passed fs gs xs all.upto m f at (absent_between m from to)) now
-
   pub paired_to : next ≤ x.holder.field → (f : Field) → f ≡ get_or fs x.holder.field f
       → filter (λ g. is_some (partner gs g)) (drop next fs) ≡ cond (is_some (partner gs f)) (f ∷ filter (λ g. is_some (partner gs g)) (drop (x.holder.field + 1) fs)) (filter (λ g. is_some (partner gs g)) (drop (x.holder.field + 1) fs))
   paired_to up f read =
@@ -238,12 +205,6 @@ module _ (fs gs : List Field) (xs : List Found) (all : AreFound fs gs xs) (i nex
     (earlier : AllWithin (λ y. y.holder.field < next) xs 0 i) (up : next ≤ length fs) where
   absent_above : (m : ℕ) → next ≤ m → NoneOf m xs
   absent_above m above = λ p d within same. let h : (get_or xs p d).holder.field < next = earlier p d (omega arith) (omega (arith, within, past)) in absurd (omega (arith, h, same))
-
-  -- and those after the last
-  pub added_rest : (place : ℕ) (start : List Entry) (number : ℕ) (es : List Entry) → AreAdded gs fs place start next number es → AreAdded gs fs place start (length fs) number es
-  added_rest place start number es now =
-      added_upto gs fs place start number es next (length fs) up (omega arith)
-      (λ m f at from to. passed fs gs xs all.upto m f at (absent_above m from)) now
 
   pub paired_rest : filter (λ g. is_some (partner gs g)) (drop next fs) ≡ []
   paired_rest =

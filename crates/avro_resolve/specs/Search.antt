@@ -5,7 +5,6 @@ use Rattle.std.specs.List.{list_any}
 use Rattle.avro_schema.specs.declared.node.Node.{Node}
 use Rattle.avro_resolve.specs.declared.trail.Hop.{Hop}
 use Rattle.avro_resolve.specs.declared.obligations.Pair.{Pair}
-use Rattle.avro_resolve.specs.declared.obligations.Obligation.{Obligation}
 use Rattle.avro_resolve.specs.declared.search.Step.{Step}
 use Rattle.avro_resolve.specs.declared.search.Entry.{Entry}
 use Rattle.avro_resolve.specs.declared.seen.Seen.{Seen}
@@ -29,13 +28,13 @@ abbrev pub with_entry : List Entry → Entry → List Entry
 with_entry es e = unless_reached (is_reached es e.pair) es e
 
 -- by the obligation of that number of the pair at a place
-abbrev pub entry_from : ℕ → ℕ → Obligation → Entry
-entry_from place number o = record { pair = o.pair; from = Some (record { place = place; number = number }) }
+abbrev pub entry_from : ℕ → ℕ → Pair → Entry
+entry_from place number p = record { pair = p; from = Some (record { place = place; number = number }) }
 
--- the entries, and what the pair at a place owes, numbered from here on
-abbrev pub expanded : ℕ → ℕ → List Obligation → List Entry → List Entry
+-- the entries, and the pairs that the pair at a place owes, numbered from here on
+abbrev pub expanded : ℕ → ℕ → List Pair → List Entry → List Entry
 expanded place number [] es = es
-expanded place number (o ∷ os) es = expanded place (number + 1) os (with_entry es (entry_from place number o))
+expanded place number (p ∷ ps) es = expanded place (number + 1) ps (with_entry es (entry_from place number p))
 
 abbrev pub from_at : List Entry → ℕ → Option Step
 from_at es x = option_and_then (λ e. e.from) (slice_get es x)

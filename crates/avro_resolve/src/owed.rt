@@ -1,5 +1,4 @@
 // What a pair of types owes: the pairs that have to resolve for it to do so, or why it clashes.
-// search.rt walks the same rows, but puts each pair straight among its entries.
 ghost use Rattle.std.specs.Prelude.{◌≡◌, ◌<◌, [], None, length, slice_get, map, option_map, IfOk, OnOk};
 ghost use Rattle.std.specs.Result.{result_err, result_unwrap_or};
 ghost use Rattle.avro_resolve.specs.Owed.{pairs_of, pair_with};
@@ -20,6 +19,7 @@ use std::alloc::AllocError;
 
 /// Looks up a pair: puts the pairs that it owes into `owed`, in their order, or says why it
 /// clashes.
+#[inline(always)]
 pub fn look_up<'a>(
     r: &'a Schema,
     w: &'a Schema,

@@ -6,6 +6,7 @@ ghost use Rattle.avro_resolve.specs.Sieve.{AreSieves};
 ghost use Rattle.avro_resolve.specs.Unions.{AreIndexes};
 
 use crate::any_clash::pairs_without_clash;
+use crate::owed::look_up;
 use crate::search::Search;
 use crate::sieve::Sieves;
 use crate::trail::Trail;
@@ -20,6 +21,9 @@ const MANY_PAIRS: usize = 65_536;
 /// The part of all pairs that has to be reached before: by then the search has taken about as much
 /// memory as the question takes.
 const PART: usize = 256;
+
+/// For how many pairs that one owes there is room at first.
+const SOON_OWED: usize = 64;
 
 /// Whether a reader's schema and a writer's are compatible.
 #[derive(Debug, Drop)]
@@ -94,6 +98,7 @@ fn resolve_by<'a>(
     ensures pairs { IfOk result (λ c. c.pairs ≤ length r.now.nodes * length w.now.nodes) }
 {
     search.reach_roots(r, w)?;
+    let mut owed = Vec::with_capacity(alloc, r.node_count().min(SOON_OWED))?;
     let mut patience = patience_with(r, w);
     let mut head = 0;
     'heads: while head < search.entries.len() {
@@ -107,13 +112,14 @@ fn resolve_by<'a>(
             }
         }
         let pair = search.entries[head].pair;
-        if let Some(cause) = search.look_up(r, w, head, pair, unions, sieves)? {
+        if let Some(cause) = look_up(r, w, pair, unions, sieves, &mut owed)? {
             let trail = search.trail_to(alloc, r, w, head, cause, unions, sieves)?;
             return Ok(Counted {
                 verdict: Verdict::Clash(trail),
                 pairs: head + 1,
             });
         }
+        search.reach_all(head, owed.as_slice())?;
         head += 1;
     }
     Ok(Counted {

@@ -1,20 +1,19 @@
 // The search for a clash, breadth first over pairs of types.
-ghost use Rattle.std.specs.Prelude.{◌≡◌, ◌<◌, [], ◌∷◌, true, None, length, reverse, vec_len, slice_get, filter_map, map, option_map, Some, bytes_eq, IfOk, OnOk};
-ghost use Rattle.std.specs.List.{enumerate_from};
-ghost use Rattle.std.specs.Result.{result_err, result_unwrap_or};
+ghost use Rattle.std.specs.Prelude.{◌≡◌, ◌<◌, [], ◌∷◌, None, length, reverse, vec_len, slice_get, option_map, Some, IfOk, OnOk};
+ghost use Rattle.std.specs.Result.{result_unwrap_or};
 ghost use Rattle.avro_resolve.specs.declared.trail.Hop.TheVariants as hop;
 ghost use Rattle.avro_resolve.specs.Sieve.{AreFound, AreSieves, fields_in};
 ghost use Rattle.avro_resolve.specs.Table as spec;
-ghost use Rattle.avro_resolve.specs.Row.{clash_of_cause, outcome_of, HasDistinct};
+ghost use Rattle.avro_resolve.specs.Row.{clash_of_cause};
 ghost use Rattle.avro_schema.specs.Sound.{HaveDistinctNames};
 ghost use Rattle.avro_resolve.specs.Trails.{roots};
 ghost use Rattle.avro_resolve.specs.Unions.{AreIndexes};
 
-use crate::fields::{field_at, paired_among, paired_at, partner_near};
+use crate::fields::{paired_among, paired_at};
 use crate::obligations::Pair;
 use crate::seen::Seen;
 use crate::sieve::{Found, Sieves, found_fields};
-use crate::table::{Cause, Row, are_matching_primitives, long_records, row_by_index};
+use crate::table::{Cause, Row, long_records, row_by_index};
 use crate::trail::{Hop, Trail};
 use crate::unions::Unions;
 use avro_schema::{Field, NodeId, Schema};
@@ -74,6 +73,7 @@ impl Search {
     }
 
     /// Adds an entry, unless its pair was reached before.
+    #[inline(always)]
     fn reach(&mut self, entry: Entry) -> Result<(), AllocError>
         requires { AgreesWith self.old.seen self.old.entries.items }
         ensures entries { OnOk result (self.new.entries.items ≡ with_entry self.old.entries.items entry) }
@@ -85,183 +85,16 @@ impl Search {
         Ok(())
     }
 
-    /// Looks up the pair at a place: adds what it owes, or says why it clashes.
-    pub fn look_up<'a>(
-        &mut self,
-        r: &'a Schema,
-        w: &'a Schema,
-        place: usize,
-        pair: Pair,
-        unions: &mut Unions<'a>,
-        sieves: &mut Sieves<'a>,
-    ) -> Result<Option<Cause<'a>>, AllocError>
-        requires reader { pair.reader.index < length r.now.nodes }
-        requires writer { pair.writer.index < length w.now.nodes }
-        requires agrees { AgreesWith self.old.seen self.old.entries.items }
-        requires unions { AreIndexes r.now.nodes unions.old.of }
-        requires sieves { AreSieves r.now.nodes sieves.old.of }
-        ensures clash { IfOk result (λ cause. option_map clash_of_cause cause ≡ spec.clash_of r.now.nodes w.now.nodes pair) }
-        ensures entries { OnOk result (self.new.entries.items ≡ expanded place 0 (spec.obligations r.now.nodes w.now.nodes pair) self.old.entries.items) }
-        ensures agrees { IfOk result (λ cause. cause ≡ None → AgreesWith self.new.seen self.new.entries.items) }
-        ensures unions { OnOk result (AreIndexes r.now.nodes unions.new.of) }
-        ensures sieves { OnOk result (AreSieves r.now.nodes sieves.new.of) }
-    {
-        if are_matching_primitives(r, w, pair) {
-            return Ok(None);
-        }
-        if let Some((reader, writer)) = long_records(r, w, pair) {
-            return self.reach_long(r, place, pair.reader, reader, writer, sieves);
-        }
-        unions.look_at(r, pair.reader)?;
-        let row = row_by_index(r, w, pair, unions.of_union(r, pair.reader));
-        self.expand(place, row)
-    }
-
-    /// Adds what the pair at a place owes, by its row, or says why it clashes.
-    fn expand<'a>(&mut self, place: usize, row: Row<'a>) -> Result<Option<Cause<'a>>, AllocError>
-        requires distinct { HasDistinct row }
-        requires agrees { AgreesWith self.old.seen self.old.entries.items }
-        ensures clash { IfOk result (λ cause. option_map clash_of_cause cause ≡ result_err (outcome_of row.entry)) }
-        ensures entries { OnOk result (self.new.entries.items ≡ expanded place 0 (result_unwrap_or (outcome_of row.entry) []) self.old.entries.items) }
-        ensures agrees { IfOk result (λ cause. cause ≡ None → AgreesWith self.new.seen self.new.entries.items) }
-    {
-        match row {
-            Row::Clash(cause) => Ok(Some(cause)),
-            Row::WriterBranches(i, branches) => {
-                self.reach_branches(place, i, branches)?;
-                Ok(None)
-            }
-            Row::One(_, pair) => {
-                self.reach(reached(pair, place, 0))?;
-                Ok(None)
-            }
-            Row::Fields(reader, writer) => self.reach_fields(place, reader, writer),
-            Row::Nothing => Ok(None),
-        }
-    }
-
-    /// Adds the reader's type with each branch of the writer's union.
-    fn reach_branches(
-        &mut self,
-        place: usize,
-        i: NodeId,
-        branches: &[NodeId],
-    ) -> Result<(), AllocError>
+    /// Reaches the pairs that the pair at a place owes, in their order.
+    pub fn reach_all(&mut self, place: usize, owed: &[Pair]) -> Result<(), AllocError>
         requires { AgreesWith self.old.seen self.old.entries.items }
-        ensures entries { OnOk result (self.new.entries.items ≡ expanded place 0 (map (λ b. spec.obligation (hop.Writer b.0) i b.1) (enumerate_from 0 branches.now)) self.old.entries.items) }
+        ensures entries { OnOk result (self.new.entries.items ≡ expanded place 0 owed.now self.old.entries.items) }
         ensures agrees { OnOk result (AgreesWith self.new.seen self.new.entries.items) }
     {
-        for (k, b) in branches.iter().enumerate() {
-            let pair = Pair {
-                reader: i,
-                writer: *b,
-            };
-            self.reach(reached(pair, place, k))?;
+        for (number, pair) in owed.iter().enumerate() {
+            self.reach(reached(*pair, place, number))?;
         }
         Ok(())
-    }
-
-    /// Adds the reader's fields that are paired, each with its partner; where one lacks a value,
-    /// names the first such field and adds none.
-    fn reach_fields<'a>(
-        &mut self,
-        place: usize,
-        reader: &'a [Field],
-        writer: &NamedList<Field>,
-    ) -> Result<Option<Cause<'a>>, AllocError>
-        requires distinct { HaveDistinctNames writer.now }
-        requires agrees { AgreesWith self.old.seen self.old.entries.items }
-        ensures clash { IfOk result (λ cause. option_map clash_of_cause cause ≡ result_err (spec.to_fields reader.now writer.now)) }
-        ensures entries { OnOk result (self.new.entries.items ≡ expanded place 0 (result_unwrap_or (spec.to_fields reader.now writer.now) []) self.old.entries.items) }
-        ensures agrees { IfOk result (λ cause. cause ≡ None → AgreesWith self.new.seen self.new.entries.items) }
-    {
-        let before = self.entries.len();
-        let mut number = 0;
-        let mut near = 0;
-        for f in reader {
-            let (next, found) = partner_near(writer, f, near);
-            near = next;
-            if let Some(g) = found {
-                let pair = Pair {
-                    reader: f.node,
-                    writer: g.node,
-                };
-                self.reach(reached(pair, place, number))?;
-                number += 1;
-            } else if f.default.is_none() {
-                self.entries.truncate(before);
-                return Ok(Some(Cause::LackingField(&f.name)));
-            }
-        }
-        Ok(None)
-    }
-
-    /// The same for the reader's record of that id, by its sieve.
-    fn reach_long<'a>(
-        &mut self,
-        r: &Schema,
-        place: usize,
-        id: NodeId,
-        reader: &'a NamedList<Field>,
-        writer: &'a NamedList<Field>,
-        sieves: &mut Sieves<'a>,
-    ) -> Result<Option<Cause<'a>>, AllocError>
-        requires fields { reader.now ≡ fields_in (slice_get r.now.nodes id.index) }
-        requires writers { HaveDistinctNames writer.now }
-        requires agrees { AgreesWith self.old.seen self.old.entries.items }
-        requires sieves { AreSieves r.now.nodes sieves.old.of }
-        ensures clash { IfOk result (λ cause. option_map clash_of_cause cause ≡ result_err (spec.to_fields reader.now writer.now)) }
-        ensures entries { OnOk result (self.new.entries.items ≡ expanded place 0 (result_unwrap_or (spec.to_fields reader.now writer.now) []) self.old.entries.items) }
-        ensures agrees { IfOk result (λ cause. cause ≡ None → AgreesWith self.new.seen self.new.entries.items) }
-        ensures sieves { OnOk result (AreSieves r.now.nodes sieves.new.of) }
-    {
-        sieves.look_at(r, id, reader.as_slice())?;
-        match sieves.of_record(r, id) {
-            Some(sieve) if sieve.is_worth_while(writer.as_slice().len()) => {
-                let writer = writer.as_slice();
-                let found = found_fields(sieves.memory(), reader.as_slice(), sieve, writer)?;
-                self.reach_found(place, reader.as_slice(), writer, found.as_slice())
-            }
-            _ => self.reach_fields(place, reader.as_slice(), writer),
-        }
-    }
-
-    /// The same, where these of the reader's fields are looked at alone.
-    fn reach_found<'a>(
-        &mut self,
-        place: usize,
-        reader: &'a [Field],
-        writer: &[Field],
-        found: &[Found],
-    ) -> Result<Option<Cause<'a>>, AllocError>
-        requires distinct { HaveDistinctNames writer.now }
-        requires found { AreFound reader.now writer.now found.now }
-        requires agrees { AgreesWith self.old.seen self.old.entries.items }
-        ensures clash { IfOk result (λ cause. option_map clash_of_cause cause ≡ result_err (spec.to_fields reader.now writer.now)) }
-        ensures entries { OnOk result (self.new.entries.items ≡ expanded place 0 (result_unwrap_or (spec.to_fields reader.now writer.now) []) self.old.entries.items) }
-        ensures agrees { IfOk result (λ cause. cause ≡ None → AgreesWith self.new.seen self.new.entries.items) }
-    {
-        let before = self.entries.len();
-        let mut number = 0;
-        let mut next = 0;
-        for x in found {
-            if x.holder.field >= next {
-                let f = &reader[x.holder.field];
-                next = x.holder.field + 1;
-                if let Some(g) = field_at(writer, x.place) {
-                    let pair = Pair {
-                        reader: f.node,
-                        writer: g.node,
-                    };
-                    self.reach(reached(pair, place, number))?;
-                    number += 1;
-                } else if f.default.is_none() {
-                    self.entries.truncate(before);
-                    return Ok(Some(Cause::LackingField(&f.name)));
-                }
-            }
-        }
-        Ok(None)
     }
 
     /// The trail to the pair at a place, which clashes for this cause.

@@ -1,9 +1,8 @@
-use Rattle.std.proofs.Common.{◌≡◌, ◌∙◌, sym, ap, subst, length, reverse, option_map, Err, arith}
+use Rattle.std.proofs.Common.{◌≡◌, ◌∙◌, sym, ap, subst, length, option_map, Err, arith}
 use Rattle.std.proofs.lemmas.Option.{slice_get_read}
 use Rattle.avro_resolve.specs.Row.{clash_of_cause}
-use Rattle.avro_resolve.specs.Search.{expanded, IsWayBack, LeadsBack}
+use Rattle.avro_resolve.specs.Search.{expanded}
 use Rattle.avro_resolve.specs.Table.{outcome, obligations}
-use Rattle.avro_resolve.proofs.Rows.{owed_in}
 use Rattle.avro_resolve.proofs.BreadthFirst.{leads_back, searched_first, searched_within}
 use Rattle.avro_resolve.proofs.BreadthFirst.{searched_clash, searched_next, searched_few}
 use Rattle.avro_resolve.proofs.BreadthFirst.{searched_all, length-expanded}
@@ -28,21 +27,16 @@ look_up-requires-clause-writer c =
 
 pub trail_to-requires-clause-within : goal.trail_to-requires-clause-within
 trail_to-requires-clause-within c =
-    let entries = c.in_ok-cause.ensures.entries in
-    omega (arith, c.heads-test.true, c.len.ensures, c.heads.search.entries.ok.0, c.look_up.new.self.entries.ok.0, ap length entries, length-expanded c.heads.head 0 (obligations c.args.r.now.nodes c.args.w.now.nodes c.index.result.now.pair) c.heads.search.entries.items)
+    omega (arith, c.heads-test.true, c.len.ensures)
 
 pub trail_to-requires-clause-back : goal.trail_to-requires-clause-back
-trail_to-requires-clause-back c =
-    let clash = clashes_when (outcome c.args.r.now.nodes c.args.w.now.nodes c.index.result.now.pair) (clash_of_cause c.in-Some-2.cause) (ap (option_map clash_of_cause) (sym c.in-Some-2.is) ∙ c.in_ok-cause.ensures.clash) in
-    let same = c.in_ok-cause.ensures.entries ∙ ap (λ o. expanded c.heads.head 0 (owed_in o) c.heads.search.entries.items) clash in
-    subst (LeadsBack c.args.r.now.nodes c.args.w.now.nodes) (sym same) (leads_back _ _ _ _ c.heads.invariant.1)
+trail_to-requires-clause-back c = leads_back _ _ _ _ c.heads.invariant.1
 
 pub returns-in-Some-2-clause-verdict : goal.returns-in-Some-2-clause-verdict
 returns-in-Some-2-clause-verdict c =
     let at = slice_get_read c.heads.search.entries.items _ c.heads.head c.index.result.now c.heads.search.entries.ok.0 (omega (arith, c.heads-test.true, c.len.ensures)) c.index.ensures in
     let clash = clashes_when (outcome c.args.r.now.nodes c.args.w.now.nodes c.index.result.now.pair) (clash_of_cause c.in-Some-2.cause) (ap (option_map clash_of_cause) (sym c.in-Some-2.is) ∙ c.in_ok-cause.ensures.clash) in
-    let same = c.in_ok-cause.ensures.entries ∙ ap (λ o. expanded c.heads.head 0 (owed_in o) c.heads.search.entries.items) clash in
-    searched_clash _ _ _ _ c.heads.invariant.1 c.index.result.now c.in_ok-trail.trail.kind c.in_ok-trail.trail.hops at (clash ∙ ap Err (sym c.in_ok-trail.ensures.kind)) (subst (λ es. IsWayBack c.args.r.now.nodes c.args.w.now.nodes es c.heads.head (reverse c.in_ok-trail.trail.hops)) same c.in_ok-trail.ensures.hops)
+    searched_clash _ _ _ _ c.heads.invariant.1 c.index.result.now c.in_ok-trail.trail.kind c.in_ok-trail.trail.hops at (clash ∙ ap Err (sym c.in_ok-trail.ensures.kind)) c.in_ok-trail.ensures.hops
 
 pub returns-in-Some-2-clause-pairs : goal.returns-in-Some-2-clause-pairs
 returns-in-Some-2-clause-pairs c =
@@ -56,9 +50,15 @@ pub heads-preserved : goal.heads-preserved
 heads-preserved c =
     let at = slice_get_read c.heads.search.entries.items _ c.heads.head c.index.result.now c.heads.search.entries.ok.0 (omega (arith, c.heads-test.true, c.len.ensures)) c.index.ensures in
     let owed = obligations c.args.r.now.nodes c.args.w.now.nodes c.index.result.now.pair in
-    let next = searched_next _ _ _ _ c.heads.invariant.1 c.requires.reader c.requires.writer c.index.result.now owed at (owes_when (outcome c.args.r.now.nodes c.args.w.now.nodes c.index.result.now.pair) (ap (option_map clash_of_cause) (sym c.in_default-2.is) ∙ c.in_ok-cause.ensures.clash)) in
-    let entries = c.in_ok-cause.ensures.entries in
-    (c.in_ok-cause.ensures.agrees c.in_default-2.is, rw entries next, omega (arith, c.heads-test.true, c.len.ensures, c.heads.search.entries.ok.0, c.look_up.new.self.entries.ok.0, ap length entries, length-expanded c.heads.head 0 owed c.heads.search.entries.items), c.in_ok-cause.ensures.unions, c.in_ok-cause.ensures.sieves)
+    let next = searched_next _ _ _ _ c.heads.invariant.1 c.requires.reader c.requires.writer c.index.result.now owed at
+    (owes_when (outcome c.args.r.now.nodes c.args.w.now.nodes c.index.result.now.pair) (ap (option_map clash_of_cause) (sym c.in_default-2.is) ∙ c.in_ok-cause.ensures.clash)) in
+    let entries = c.in_ok-reach_all.ensures.entries ∙ ap (λ ps. expanded c.heads.head 0 ps c.heads.search.entries.items) (c.as_slice.ensures.value ∙ c.in_ok-cause.ensures.owed c.in_default-2.is) in (
+      c.in_ok-reach_all.ensures.agrees,
+      rw entries next,
+      omega (arith, c.heads-test.true, c.len.ensures, c.heads.search.entries.ok.0, c.reach_all.new.self.entries.ok.0, ap length entries, length-expanded c.heads.head 0 owed c.heads.search.entries.items),
+      c.in_ok-cause.ensures.unions,
+      c.in_ok-cause.ensures.sieves,
+    )
 
 pub returns-clause-verdict : goal.returns-clause-verdict
 returns-clause-verdict c =
