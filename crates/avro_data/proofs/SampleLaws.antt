@@ -33,11 +33,13 @@ over_is v =
     ∙ ap (λ b. nat_lt MOST_PARTS (parts v) || b) (over MOST_LEVELS (depth v))
 
 module _ (nodes : List Node) where
-  pub sample_fits : (i : NodeId) (found : Option Data) → IsSample nodes i (option_map view found) → IfSome found (λ d. fits nodes i (view d) ≡ true)
+  pub sample_fits : (i : NodeId) (found : Option Data) → IsSample nodes i (option_map view found)
+      → IfSome found (λ d. fits nodes i (view d) ≡ true)
   sample_fits i None h = tt
   sample_fits i (Some d) (n, e) = after_are nodes n i (view d) e
 
-  pub none_fits : (i : NodeId) (found : Option Data) → IsSample nodes i (option_map view found) → IfNone found ((v : Value) → fits nodes i v ≡ false)
+  pub none_fits : (i : NodeId) (found : Option Data) → IsSample nodes i (option_map view found)
+      → IfNone found ((v : Value) → fits nodes i v ≡ false)
   none_fits i (Some d) h = tt
   none_fits i None h = λ v. go v (fits nodes i v) refl
     where
@@ -46,20 +48,24 @@ module _ (nodes : List Node) where
       go v true e = let (n, s) = have nodes v i e in let wrong : false ≡ true = ap is_some (sym (h n)) ∙ s in absurd (cc)
 
   module _ (t : List (Option Given)) (all : AreAllRounds nodes t) (i : NodeId) where
-    pub over_sample : option_map_or (λ (g : Given). is_over g.outline) (given_at t i) false ≡ true → (v : Value) × IsSample nodes i (Some v) × (is_too_large v ≡ true)
+    pub over_sample : option_map_or (λ (g : Given). is_over g.outline) (given_at t i) false ≡ true
+        → (v : Value) × IsSample nodes i (Some v) × (is_too_large v ≡ true)
     over_sample is_so = go (given_at t i) refl is_so
       where
-        go : (o : Option Given) → given_at t i ≡ o → option_map_or (λ (g : Given). is_over g.outline) o false ≡ true → (v : Value) × IsSample nodes i (Some v) × (is_too_large v ≡ true)
+        go : (o : Option Given) → given_at t i ≡ o → option_map_or (λ (g : Given). is_over g.outline) o false ≡ true
+            → (v : Value) × IsSample nodes i (Some v) × (is_too_large v ≡ true)
         go None e h = absurd (cc)
         go (Some g) e h =
             let (v, at, of) = outline_is nodes t all.last all.are i g e in
             (v, (g.round, at), sym (over_is v) ∙ ap is_over of ∙ h)
 
-    pub within_sample : option_map_or (λ (g : Given). is_over g.outline) (given_at t i) false ≡ false → (found : Option Data) → option_map view found ≡ sample_by nodes t i → IfSome found (λ d. is_too_large (view d) ≡ false)
+    pub within_sample : option_map_or (λ (g : Given). is_over g.outline) (given_at t i) false ≡ false → (found : Option Data)
+        → option_map view found ≡ sample_by nodes t i → IfSome found (λ d. is_too_large (view d) ≡ false)
     within_sample is_so None is = tt
     within_sample is_so (Some d) is = go (given_at t i) refl is_so is
       where
-        go : (o : Option Given) → given_at t i ≡ o → option_map_or (λ (g : Given). is_over g.outline) o false ≡ false → Some (view d) ≡ sample_in nodes i o → is_too_large (view d) ≡ false
+        go : (o : Option Given) → given_at t i ≡ o → option_map_or (λ (g : Given). is_over g.outline) o false ≡ false
+            → Some (view d) ≡ sample_in nodes i o → is_too_large (view d) ≡ false
         go None e h is = absurd (cc)
         go (Some g) e h is =
             let (v, at, of) = outline_is nodes t all.last all.are i g e in

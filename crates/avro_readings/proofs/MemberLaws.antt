@@ -32,7 +32,8 @@ module _ (r w : List Node) (name : List ℕ) (q : Pair) where
       let (within, here, before) = position-Some (λ (m : Entry). bytes_eq m.0 name) es k e is in
       named_at es k e within at (ap (λ (m : Entry). bytes_eq m.0 name) at ∙ here) before
 
-  none_from : (es : List Entry) (n : ℕ) → position_from (λ (m : Entry). bytes_eq m.0 name) n es ≡ None → named_read r w name q (members_view es) ≡ None
+  none_from : (es : List Entry) (n : ℕ) → position_from (λ (m : Entry). bytes_eq m.0 name) n es ≡ None
+      → named_read r w name q (members_view es) ≡ None
   none_from [] n is = refl
   none_from (f ∷ es) n is = go (bytes_eq f.0 name) is (none_from es (n + 1))
     where
@@ -42,12 +43,14 @@ module _ (r w : List Node) (name : List ℕ) (q : Pair) where
       go true is later = absurd (none-some n (sym is))
       go false is later = later is
 
-  pub named_none : (es : List Entry) → position (λ (m : Entry). bytes_eq m.0 name) es ≡ None → named_read r w name q (members_view es) ≡ None
+  pub named_none : (es : List Entry) → position (λ (m : Entry). bytes_eq m.0 name) es ≡ None
+      → named_read r w name q (members_view es) ≡ None
   named_none es is = none_from es 0 (sym (position_from-zero (λ (m : Entry). bytes_eq m.0 name) es) ∙ is)
 
 -- ---- the place of a name, by the names alone
 
-place_mapped : {A : Type 0} (f : A → List ℕ) (name : List ℕ) (xs : List A) (n : ℕ) → position_from (λ s. bytes_eq s name) n (map f xs) ≡ position_from (λ x. bytes_eq (f x) name) n xs
+place_mapped : {A : Type 0} (f : A → List ℕ) (name : List ℕ) (xs : List A) (n : ℕ)
+    → position_from (λ s. bytes_eq s name) n (map f xs) ≡ position_from (λ x. bytes_eq (f x) name) n xs
 place_mapped f name [] n = refl
 place_mapped f name (x ∷ xs) n = ap (λ later. cond (bytes_eq (f x) name) (Some n) later) (place_mapped f name xs (n + 1))
 

@@ -47,12 +47,20 @@ none_distinct = tt
 
 same_from_numbers : (r w : List Node) (p q : Pair) → IsPairOf r w p → IsPairOf r w q → number_of w p ≡ number_of w q → same_pair q p ≡ true
 same_from_numbers r w p q in_p in_q e =
-    let readers : p.reader.index ≡ q.reader.index = sym (div-mul-add p.reader.index (length w) p.writer.index in_p.writer) ∙ ap (λ n. n / length w) e ∙ div-mul-add q.reader.index (length w) q.writer.index in_q.writer in
-    let writers : p.writer.index ≡ q.writer.index = sym (mod-mul-add p.reader.index (length w) p.writer.index in_p.writer) ∙ ap (λ n. n % length w) e ∙ mod-mul-add q.reader.index (length w) q.writer.index in_q.writer in
-    ap (λ b. b && eqb q.writer.index p.writer.index) (eq-eqb q.reader.index p.reader.index (sym readers)) ∙ eq-eqb q.writer.index p.writer.index (sym writers)
+    let readers : p.reader.index ≡ q.reader.index =
+    sym (div-mul-add p.reader.index (length w) p.writer.index in_p.writer)
+    ∙ ap (λ n. n / length w) e
+    ∙ div-mul-add q.reader.index (length w) q.writer.index in_q.writer in
+    let writers : p.writer.index ≡ q.writer.index =
+    sym (mod-mul-add p.reader.index (length w) p.writer.index in_p.writer)
+    ∙ ap (λ n. n % length w) e
+    ∙ mod-mul-add q.reader.index (length w) q.writer.index in_q.writer in
+    ap (λ b. b && eqb q.writer.index p.writer.index) (eq-eqb q.reader.index p.reader.index (sym readers))
+    ∙ eq-eqb q.writer.index p.writer.index (sym writers)
 
 -- what a pair owes are types of the schemas
-owed_within : (r w : List Node) → IsSound r → IsSound w → (p : Pair) → IsPairOf r w p → (k : ℕ) (o : Obligation) → slice_get (obligations r w p) k ≡ Some o → IsPairOf r w o.pair
+owed_within : (r w : List Node) → IsSound r → IsSound w → (p : Pair) → IsPairOf r w p
+    → (k : ℕ) (o : Obligation) → slice_get (obligations r w p) k ≡ Some o → IsPairOf r w o.pair
 owed_within r w s t p inside k o at =
     let one = obligations_within r w s t p (record { reader = inside.reader; writer = inside.writer }) k o at in
     record { reader = one.reader; writer = one.writer }
@@ -80,7 +88,8 @@ some_pairs r w s t =
     omega (arith, below, mul_comm (length r) (length w))
 
 -- only the roots were met
-pub looked_first : (r w : List Node) → IsSound r → IsSound w → (a : Agenda) → ((k : ℕ) → is_met a k ≡ eqb 0 k) → ((k : ℕ) → waits a k ≡ eqb 0 k) → AreLookedUp r w a 0
+pub looked_first : (r w : List Node) → IsSound r → IsSound w → (a : Agenda)
+    → ((k : ℕ) → is_met a k ≡ eqb 0 k) → ((k : ℕ) → waits a k ≡ eqb 0 k) → AreLookedUp r w a 0
 looked_first r w s t a met waiting = record {
   done = [];
   counted = refl;
@@ -88,7 +97,8 @@ looked_first r w s t a met waiting = record {
   looked = λ k e. cc;
   below = λ k e. let zeroth : 0 ≡ k = eqb-true 0 k (sym (met k) ∙ e) in omega (arith, zeroth, some_pairs r w s t);
   begun = met 0;
-  closed = λ p inside is_met_p waits_p. absurd (no_both (eqb 0 (number_of w p)) (sym (met (number_of w p)) ∙ is_met_p) (sym (waiting (number_of w p)) ∙ waits_p));
+  closed = λ p inside is_met_p waits_p.
+      absurd (no_both (eqb 0 (number_of w p)) (sym (met (number_of w p)) ∙ is_met_p) (sym (waiting (number_of w p)) ∙ waits_p));
 }
 
 -- ---- one pair more is looked up
@@ -96,7 +106,9 @@ looked_first r w s t a met waiting = record {
 module _ (r w : List Node) (a : Agenda) (n : ℕ) (now : AreLookedUp r w a n) where
   -- not more than there are
   pub looked_few : n ≤ length r * length w
-  looked_few = subst (λ m. m ≤ length r * length w) now.counted (length-le_from_distinct_below now.done (length r * length w) now.distinct (λ q e. now.below q (now.looked q e).0))
+  looked_few =
+      subst (λ m. m ≤ length r * length w) now.counted
+      (length-le_from_distinct_below now.done (length r * length w) now.distinct (λ q e. now.below q (now.looked q e).0))
 
   module _ (k : ℕ) (taken : waits a k ≡ true) (known : is_met a k ≡ true) where
     not_done : (b : Bool) → list_any (eqb k) now.done ≡ b → b ≡ false
@@ -108,7 +120,8 @@ module _ (r w : List Node) (a : Agenda) (n : ℕ) (now : AreLookedUp r w a n) wh
 
     in_done : (l : ℕ) → list_any (eqb l) (now.done ++ k ∷ []) ≡ true → (b : Bool) → list_any (eqb l) now.done ≡ b → (b ≡ false → l ≡ k)
     in_done l e true is absent = cc
-    in_done l e false is absent = eqb-true l k (or_false (eqb l k) (ap (λ t. t || (eqb l k || false)) (sym is) ∙ sym (list_any-append (eqb l) now.done (k ∷ [])) ∙ e))
+    in_done l e false is absent =
+        eqb-true l k (or_false (eqb l k) (ap (λ t. t || (eqb l k || false)) (sym is) ∙ sym (list_any-append (eqb l) now.done (k ∷ [])) ∙ e))
       where
         or_false : (b : Bool) → (false || (b || false)) ≡ true → b ≡ true
         or_false true e = refl
@@ -124,7 +137,8 @@ module _ (r w : List Node) (a : Agenda) (n : ℕ) (now : AreLookedUp r w a n) wh
     -- more remain than were looked up
     pub looked_fewer : n < length r * length w
     looked_fewer =
-        let all : length (now.done ++ k ∷ []) ≤ length r * length w = length-le_from_distinct_below (now.done ++ k ∷ []) (length r * length w) distinct_now (λ q e. now.below q (met_of q e)) in
+        let all : length (now.done ++ k ∷ []) ≤ length r * length w =
+        length-le_from_distinct_below (now.done ++ k ∷ []) (length r * length w) distinct_now (λ q e. now.below q (met_of q e)) in
         omega (arith, all, length-append now.done (k ∷ []), now.counted)
 
     module _ (b c : Agenda) (left : (l : ℕ) → waits b l ≡ (not (eqb k l) && waits a l)) (same : b.met.words.items ≡ a.met.words.items)
@@ -142,7 +156,8 @@ module _ (r w : List Node) (a : Agenda) (n : ℕ) (now : AreLookedUp r w a n) wh
       waits_c : (l : ℕ) → is_met a l ≡ true → waits c l ≡ (not (eqb k l) && waits a l)
       waits_c l e = met.grown.kept l (met_b l e) ∙ left l
 
-      looked_now : (l : ℕ) → list_any (eqb l) (now.done ++ k ∷ []) ≡ true → (b : Bool) → list_any (eqb l) now.done ≡ b → (is_met c l ≡ true) × (waits c l ≡ false)
+      looked_now : (l : ℕ) → list_any (eqb l) (now.done ++ k ∷ []) ≡ true → (b : Bool)
+          → list_any (eqb l) now.done ≡ b → (is_met c l ≡ true) × (waits c l ≡ false)
       looked_now l e true at =
           let old = now.looked l at in
           (met_c l old.0, waits_c l old.0 ∙ ap (λ t. not (eqb k l) && t) old.1 ∙ and_false (not (eqb k l)))
@@ -166,20 +181,28 @@ module _ (r w : List Node) (a : Agenda) (n : ℕ) (now : AreLookedUp r w a n) wh
       of_p : IsClosed r w c p
       of_p = record {
         peaceful = peaceful;
-        owes = λ m o at. all_at (λ q. is_met c (number_of w q) ≡ true) ps met.each m o.pair (ap (λ l. slice_get l m) owes ∙ slice_get-map (λ (x : Obligation). x.pair) (obligations r w p) m ∙ ap (option_map (λ (x : Obligation). x.pair)) at);
+        owes = λ m o at.
+            all_at (λ q. is_met c (number_of w q) ≡ true) ps met.each m o.pair
+            (ap (λ l. slice_get l m) owes
+            ∙ slice_get-map (λ (x : Obligation). x.pair) (obligations r w p) m
+            ∙ ap (option_map (λ (x : Obligation). x.pair)) at);
       }
 
-      closed_old : (q : Pair) → IsPairOf r w q → is_met a (number_of w q) ≡ true → (b : Bool) → eqb k (number_of w q) ≡ b → (not b && waits a (number_of w q)) ≡ false → IsClosed r w c q
+      closed_old : (q : Pair) → IsPairOf r w q → is_met a (number_of w q) ≡ true → (b : Bool)
+          → eqb k (number_of w q) ≡ b → (not b && waits a (number_of w q)) ≡ false → IsClosed r w c q
       closed_old q within met_q true one waits_q =
           let numbers : number_of w p ≡ number_of w q = is ∙ eqb-true k (number_of w q) one in
           let pairs : q ≡ p = same_pair-≡ q p (same_from_numbers r w p q inside within numbers) in
           subst (IsClosed r w c) (sym pairs) of_p
       closed_old q within met_q false one waits_q = more q (now.closed q within met_q waits_q)
 
-      closed_now : (q : Pair) → IsPairOf r w q → is_met c (number_of w q) ≡ true → waits c (number_of w q) ≡ false → (b : Bool) → is_met a (number_of w q) ≡ b → IsClosed r w c q
+      closed_now : (q : Pair) → IsPairOf r w q → is_met c (number_of w q) ≡ true
+          → waits c (number_of w q) ≡ false → (b : Bool) → is_met a (number_of w q) ≡ b → IsClosed r w c q
       closed_now q within met_q waits_q true at = closed_old q within at _ refl (sym (waits_c (number_of w q) at) ∙ waits_q)
       closed_now q within met_q waits_q false at =
-          absurd (no_both (waits c (number_of w q)) (met.grown.fresh (number_of w q) (ap (λ ws. has_number ws (number_of w q)) same ∙ at) met_q) waits_q)
+          absurd (
+          no_both (waits c (number_of w q))
+          (met.grown.fresh (number_of w q) (ap (λ ws. has_number ws (number_of w q)) same ∙ at) met_q) waits_q)
 
       pub looked_next : AreLookedUp r w c (n + 1)
       looked_next = record {
@@ -194,7 +217,8 @@ module _ (r w : List Node) (a : Agenda) (n : ℕ) (now : AreLookedUp r w a n) wh
 
 -- ---- nothing waits
 
-module _ (r w : List Node) (s : IsSound r) (t : IsSound w) (a : Agenda) (n : ℕ) (now : AreLookedUp r w a n) (none : (k : ℕ) → waits a k ≡ false) where
+module _ (r w : List Node) (s : IsSound r) (t : IsSound w) (a : Agenda) (n : ℕ)
+    (now : AreLookedUp r w a n) (none : (k : ℕ) → waits a k ≡ false) where
   leads_nowhere : (ks : List ℕ) (p : Pair) → IsPairOf r w p → is_met a (number_of w p) ≡ true → trail_from r w p ks ≡ None
   leads_nowhere [] p inside met = ap (option_map end_at) (now.closed p inside met (none (number_of w p))).peaceful
   leads_nowhere (k ∷ ks) p inside met = along (slice_get (obligations r w p) k) refl (λ q within met_q. leads_nowhere ks q within met_q)
@@ -202,20 +226,27 @@ module _ (r w : List Node) (s : IsSound r) (t : IsSound w) (a : Agenda) (n : ℕ
       onward : Option Obligation → Option Trail
       onward o = option_and_then (λ x. option_map (after_hop x.hop) (trail_from r w x.pair ks)) o
 
-      along : (found : Option Obligation) → slice_get (obligations r w p) k ≡ found → ((q : Pair) → IsPairOf r w q → is_met a (number_of w q) ≡ true → trail_from r w q ks ≡ None) → onward found ≡ None
+      along : (found : Option Obligation) → slice_get (obligations r w p) k ≡ found
+          → ((q : Pair) → IsPairOf r w q → is_met a (number_of w q) ≡ true → trail_from r w q ks ≡ None) → onward found ≡ None
       along None is ih = refl
-      along (Some o) is ih = ap (option_map (after_hop o.hop)) (ih o.pair (owed_within r w s t p inside k o is) ((now.closed p inside met (none (number_of w p))).owes k o is))
+      along (Some o) is ih =
+          ap (option_map (after_hop o.hop))
+          (ih o.pair (owed_within r w s t p inside k o is) ((now.closed p inside met (none (number_of w p))).owes k o is))
 
   -- no clash can be reached
   pub looked_all : AreCompatible r w
-  looked_all ks = leads_nowhere ks roots (record { reader = s.has_root; writer = t.has_root }) (let zeroth : number_of w roots ≡ 0 = omega arith in ap (is_met a) zeroth ∙ now.begun)
+  looked_all ks =
+      leads_nowhere ks roots (record { reader = s.has_root; writer = t.has_root })
+      (let zeroth : number_of w roots ≡ 0 = omega arith in ap (is_met a) zeroth ∙ now.begun)
 
 -- ---- pairs are met one by one
 
-pub pairs_within : (r w : List Node) → IsSound r → IsSound w → (p : Pair) → IsPairOf r w p → (ps : List Pair) → ps ≡ pairs_of (obligations r w p) → All (IsPairOf r w) ps
+pub pairs_within : (r w : List Node) → IsSound r → IsSound w → (p : Pair) → IsPairOf r w p
+    → (ps : List Pair) → ps ≡ pairs_of (obligations r w p) → All (IsPairOf r w) ps
 pairs_within r w s t p inside ps is = subst (All (IsPairOf r w)) (sym is) (go (obligations r w p) (owed_within r w s t p inside))
   where
-    go : (os : List Obligation) → ((k : ℕ) (o : Obligation) → slice_get os k ≡ Some o → IsPairOf r w o.pair) → All (IsPairOf r w) (pairs_of os)
+    go : (os : List Obligation) → ((k : ℕ) (o : Obligation) → slice_get os k ≡ Some o → IsPairOf r w o.pair)
+        → All (IsPairOf r w) (pairs_of os)
     go [] h = All-nil (IsPairOf r w)
     go (o ∷ os) h = All-cons (IsPairOf r w) o.pair (pairs_of os) (h 0 o refl) (go os (λ k q at. h (suc k) q at))
 
@@ -245,7 +276,8 @@ module _ (many : ℕ) (a b c : Agenda) (old : HasGrown many a b) (k : ℕ) (smal
   waits_still l e false one = refl
 
   -- the number itself, or one that was met before
-  fresh_now : (l : ℕ) → is_met a l ≡ false → (x : Bool) → eqb k l ≡ x → (y : Bool) → is_met b l ≡ y → (x || y) ≡ true → ((x && not (is_met b k)) || waits b l) ≡ true
+  fresh_now : (l : ℕ) → is_met a l ≡ false → (x : Bool) → eqb k l ≡ x → (y : Bool)
+      → is_met b l ≡ y → (x || y) ≡ true → ((x && not (is_met b k)) || waits b l) ≡ true
   fresh_now l before true one true at e = or_left (not (is_met b k)) (waits b l) (old.fresh l before at)
   fresh_now l before true one false at e = ap (λ t. not t || waits b l) (ap (is_met b) (eqb-true k l one) ∙ at)
   fresh_now l before false one true at e = old.fresh l before at

@@ -68,7 +68,8 @@ get_last : {A : Type 0} (xs : List A) (y : A) → slice_get (xs ++ y ∷ []) (le
 get_last [] y = refl
 get_last (b ∷ xs) y = get_last xs y
 
-get_push_cases : {A : Type 0} (xs : List A) (y : A) (x : ℕ) (a : A) → slice_get (xs ++ y ∷ []) x ≡ Some a → (slice_get xs x ≡ Some a) ⊎ ((x ≡ length xs) × (y ≡ a))
+get_push_cases : {A : Type 0} (xs : List A) (y : A) (x : ℕ) (a : A)
+    → slice_get (xs ++ y ∷ []) x ≡ Some a → (slice_get xs x ≡ Some a) ⊎ ((x ≡ length xs) × (y ≡ a))
 get_push_cases [] y zero a e = inr (refl, cc)
 get_push_cases [] y (suc x) a e = cc
 get_push_cases (b ∷ xs) y zero a e = inl e
@@ -82,12 +83,21 @@ module _ (r w : List Node) where
 
   same_from_numbers : (p q : Pair) → IsWithin r w p → IsWithin r w q → number_of p ≡ number_of q → same_pair q p ≡ true
   same_from_numbers p q in_p in_q e =
-      let readers : p.reader.index ≡ q.reader.index = sym (div-mul-add p.reader.index (length w) p.writer.index in_p.writer) ∙ ap (λ n. n / length w) e ∙ div-mul-add q.reader.index (length w) q.writer.index in_q.writer in
-      let writers : p.writer.index ≡ q.writer.index = sym (mod-mul-add p.reader.index (length w) p.writer.index in_p.writer) ∙ ap (λ n. n % length w) e ∙ mod-mul-add q.reader.index (length w) q.writer.index in_q.writer in
-      ap (λ b. b && eqb q.writer.index p.writer.index) (eq-eqb q.reader.index p.reader.index (sym readers)) ∙ eq-eqb q.writer.index p.writer.index (sym writers)
+      let readers : p.reader.index ≡ q.reader.index =
+      sym (div-mul-add p.reader.index (length w) p.writer.index in_p.writer)
+      ∙ ap (λ n. n / length w) e
+      ∙ div-mul-add q.reader.index (length w) q.writer.index in_q.writer in
+      let writers : p.writer.index ≡ q.writer.index =
+      sym (mod-mul-add p.reader.index (length w) p.writer.index in_p.writer)
+      ∙ ap (λ n. n % length w) e
+      ∙ mod-mul-add q.reader.index (length w) q.writer.index in_q.writer in
+      ap (λ b. b && eqb q.writer.index p.writer.index) (eq-eqb q.reader.index p.reader.index (sym readers))
+      ∙ eq-eqb q.writer.index p.writer.index (sym writers)
 
-  apart_numbers : (p q : Pair) → IsWithin r w p → IsWithin r w q → same_pair q p ≡ false → (b : Bool) → eqb (number_of p) (number_of q) ≡ b → b ≡ false
-  apart_numbers p q in_p in_q differ true e = let same : same_pair q p ≡ true = same_from_numbers p q in_p in_q (eqb-true (number_of p) (number_of q) e) in cc
+  apart_numbers : (p q : Pair) → IsWithin r w p → IsWithin r w q → same_pair q p ≡ false
+      → (b : Bool) → eqb (number_of p) (number_of q) ≡ b → b ≡ false
+  apart_numbers p q in_p in_q differ true e =
+      let same : same_pair q p ≡ true = same_from_numbers p q in_p in_q (eqb-true (number_of p) (number_of q) e) in cc
   apart_numbers p q in_p in_q differ false e = refl
 
 or_left : (a b : Bool) → (a || b) ≡ false → a ≡ false
@@ -103,11 +113,13 @@ or_of true b e f = cc
 or_of false b e f = f
 
 -- a pair that was reached stands at some place
-reached_at : (gs : List Reached) (p : Pair) → is_reached (entries_of gs) p ≡ true → (y : ℕ) × (b : Reached) × (slice_get gs y ≡ Some b) × (same_pair b.entry.pair p ≡ true)
+reached_at : (gs : List Reached) (p : Pair) → is_reached (entries_of gs) p ≡ true
+    → (y : ℕ) × (b : Reached) × (slice_get gs y ≡ Some b) × (same_pair b.entry.pair p ≡ true)
 reached_at [] p e = cc
 reached_at (g ∷ gs) p e = go (same_pair g.entry.pair p) refl (reached_at gs p)
   where
-    go : (t : Bool) → same_pair g.entry.pair p ≡ t → (is_reached (entries_of gs) p ≡ true → (y : ℕ) × (b : Reached) × (slice_get gs y ≡ Some b) × (same_pair b.entry.pair p ≡ true))
+    go : (t : Bool) → same_pair g.entry.pair p ≡ t
+        → (is_reached (entries_of gs) p ≡ true → (y : ℕ) × (b : Reached) × (slice_get gs y ≡ Some b) × (same_pair b.entry.pair p ≡ true))
         → (y : ℕ) × (b : Reached) × (slice_get (g ∷ gs) y ≡ Some b) × (same_pair b.entry.pair p ≡ true)
     go true same ih = (0, g, refl, same)
     go false same ih = let (y, b, at, is) = ih (subst (λ t. (t || is_reached (entries_of gs) p) ≡ true) same e) in (suc y, b, at, is)
@@ -159,14 +171,16 @@ Closes gs a k o = (y : ℕ) × (b : Reached) × (slice_get gs y ≡ Some b) × (
 pub record IsSearch (r w : List Node) (gs : List Reached) (n : ℕ) : Type 0 where
   pub reach : IsReach r w gs n
   pub no_clash : (x : ℕ) (a : Reached) → x < n → slice_get gs x ≡ Some a → clash_of r w a.entry.pair ≡ None
-  pub closed : (x : ℕ) (a : Reached) (k : ℕ) (o : Obligation) → x < n → slice_get gs x ≡ Some a → slice_get (owed r w a) k ≡ Some o → Closes gs a k o
+  pub closed : (x : ℕ) (a : Reached) (k : ℕ) (o : Obligation) → x < n
+      → slice_get gs x ≡ Some a → slice_get (owed r w a) k ≡ Some o → Closes gs a k o
 
 -- and then of h, at place n, the first k obligations
 pub record IsExpanding (r w : List Node) (gs : List Reached) (n : ℕ) (h : Reached) (k : ℕ) : Type 0 where
   pub reach : IsReach r w gs (n + 1)
   pub head : slice_get gs n ≡ Some h
   pub no_clash : (x : ℕ) (a : Reached) → x < n + 1 → slice_get gs x ≡ Some a → clash_of r w a.entry.pair ≡ None
-  pub closed : (x : ℕ) (a : Reached) (m : ℕ) (o : Obligation) → x < n → slice_get gs x ≡ Some a → slice_get (owed r w a) m ≡ Some o → Closes gs a m o
+  pub closed : (x : ℕ) (a : Reached) (m : ℕ) (o : Obligation) → x < n
+      → slice_get gs x ≡ Some a → slice_get (owed r w a) m ≡ Some o → Closes gs a m o
   pub closed_head : (m : ℕ) (o : Obligation) → m < k → slice_get (owed r w h) m ≡ Some o → Closes gs h m o
   pub below : (x : ℕ) (a : Reached) → slice_get gs x ≡ Some a → Before a.path (h.path ++ k ∷ [])
 
@@ -201,14 +215,33 @@ module _ (r w : List Node) where
       none_before : (x y : ℕ) (b : Reached) → slice_get (g ∷ []) y ≡ Some b → x < y → ⊥
       none_before x y b e before = let zeroth = (only y b e).0 in omega arith
 
-  module _ (gs : List Reached) (n : ℕ) (h : Reached) (s : IsSearch r w gs n) (head : slice_get gs n ≡ Some h) (peaceful : clash_of r w h.entry.pair ≡ None) where
+  module _ (gs : List Reached) (n : ℕ) (h : Reached) (s : IsSearch r w gs n)
+      (head : slice_get gs n ≡ Some h) (peaceful : clash_of r w h.entry.pair ≡ None) where
     sooner : (x : ℕ) (a : Reached) → slice_get gs x ≡ Some a → IsRoot x a ⊎ IsChild r w gs n x a → Before a.path (h.path ++ 0 ∷ [])
     sooner x a at (inl root) = subst (λ p. Before p (h.path ++ 0 ∷ [])) (sym root.path) (Before-root h.path 0)
-    sooner x a at (inr child) = subst (λ p. Before p (h.path ++ 0 ∷ [])) (sym child.path) (Before-children child.parent.path h.path child.number 0 (s.reach.sorted child.step.place n child.parent h child.stands head child.below))
+    sooner x a at (inr child) =
+        subst (λ p. Before p (h.path ++ 0 ∷ [])) (sym child.path)
+        (Before-children child.parent.path h.path child.number 0
+        (s.reach.sorted child.step.place n child.parent h child.stands head child.below))
 
     weaker : (x : ℕ) (a : Reached) → IsRoot x a ⊎ IsChild r w gs n x a → IsRoot x a ⊎ IsChild r w gs (n + 1) x a
     weaker x a (inl root) = inl root
-    weaker x a (inr child) = inr (record { parent = child.parent; step = child.step; number = child.number; obligation = child.obligation; stands = child.stands; below = omega (arith, child.below); earlier = child.earlier; from = child.from; owes = child.owes; counted = child.counted; pair = child.pair; path = child.path })
+    weaker x a (inr child) =
+        inr (
+        record {
+          parent = child.parent;
+          step = child.step;
+          number = child.number;
+          obligation = child.obligation;
+          stands = child.stands;
+          below = omega (arith, child.below);
+          earlier = child.earlier;
+          from = child.from;
+          owes = child.owes;
+          counted = child.counted;
+          pair = child.pair;
+          path = child.path;
+        })
 
     -- the next entry has no clash
     pub begins : IsExpanding r w gs n h 0
@@ -234,7 +267,8 @@ module _ (r w : List Node) where
         one_there x a new at = let two : Some h ≡ Some a = sym head ∙ ap (slice_get gs) (sym new) ∙ at in cc
 
   -- all that it owes was reached
-  pub finishes : (gs : List Reached) (n : ℕ) (h : Reached) (k : ℕ) → IsExpanding r w gs n h k → length (owed r w h) ≤ k → IsSearch r w gs (n + 1)
+  pub finishes : (gs : List Reached) (n : ℕ) (h : Reached) (k : ℕ)
+      → IsExpanding r w gs n h k → length (owed r w h) ≤ k → IsSearch r w gs (n + 1)
   finishes gs n h k s all = record {
     reach = s.reach;
     no_clash = s.no_clash;
@@ -260,19 +294,38 @@ child_at h n k o = record { entry = entry_from n k o.pair; path = h.path ++ k �
 lifts : (gs hs : List Reached) (a : Reached) (m : ℕ) (o : Obligation) → Closes gs a m o → Closes (gs ++ hs) a m o
 lifts gs hs a m o (y, b, at, same, first) = (y, b, get_push gs hs y b at, same, first)
 
-lifts_origin : (r w : List Node) (gs hs : List Reached) (n x : ℕ) (g : Reached) → IsRoot x g ⊎ IsChild r w gs n x g → IsRoot x g ⊎ IsChild r w (gs ++ hs) n x g
+lifts_origin : (r w : List Node) (gs hs : List Reached) (n x : ℕ) (g : Reached)
+    → IsRoot x g ⊎ IsChild r w gs n x g → IsRoot x g ⊎ IsChild r w (gs ++ hs) n x g
 lifts_origin r w gs hs n x g (inl root) = inl root
-lifts_origin r w gs hs n x g (inr child) = inr (record { parent = child.parent; step = child.step; number = child.number; obligation = child.obligation; stands = get_push gs hs child.step.place child.parent child.stands; below = child.below; earlier = child.earlier; from = child.from; owes = child.owes; counted = child.counted; pair = child.pair; path = child.path })
+lifts_origin r w gs hs n x g (inr child) =
+    inr (
+    record {
+      parent = child.parent;
+      step = child.step;
+      number = child.number;
+      obligation = child.obligation;
+      stands = get_push gs hs child.step.place child.parent child.stands;
+      below = child.below;
+      earlier = child.earlier;
+      from = child.from;
+      owes = child.owes;
+      counted = child.counted;
+      pair = child.pair;
+      path = child.path;
+    })
 
 -- a pair that wasn't reached has a number of its own
-new_number : (r w : List Node) (p : Pair) → IsWithin r w p → (gs : List Reached) → ((x : ℕ) (g : Reached) → slice_get gs x ≡ Some g → IsWithin r w g.entry.pair) → is_reached (entries_of gs) p ≡ false → list_any (eqb (number_of r w p)) (numbers_of r w gs) ≡ false
+new_number : (r w : List Node) (p : Pair) → IsWithin r w p
+    → (gs : List Reached) → ((x : ℕ) (g : Reached) → slice_get gs x ≡ Some g → IsWithin r w g.entry.pair)
+    → is_reached (entries_of gs) p ≡ false → list_any (eqb (number_of r w p)) (numbers_of r w gs) ≡ false
 new_number r w p inside [] within e = refl
 new_number r w p inside (g ∷ gs) within e =
     or_of (eqb (number_of r w p) (number_of r w g.entry.pair)) _
     (apart_numbers r w p g.entry.pair inside (within 0 g refl) (or_left (same_pair g.entry.pair p) _ e) _ refl)
     (new_number r w p inside gs (λ x a at. within (suc x) a at) (or_right (same_pair g.entry.pair p) _ e))
 
-module _ (r w : List Node) (gs : List Reached) (n : ℕ) (h : Reached) (k : ℕ) (s : IsExpanding r w gs n h k) (o : Obligation) (owes : slice_get (owed r w h) k ≡ Some o) where
+module _ (r w : List Node) (gs : List Reached) (n : ℕ) (h : Reached) (k : ℕ)
+    (s : IsExpanding r w gs n h k) (o : Obligation) (owes : slice_get (owed r w h) k ≡ Some o) where
   same_obligation : (m : ℕ) (p : Obligation) → m ≡ k → slice_get (owed r w h) m ≡ Some p → o ≡ p
   same_obligation m p new at = let two : Some o ≡ Some p = sym owes ∙ ap (slice_get (owed r w h)) (sym new) ∙ at in cc
 
@@ -285,13 +338,17 @@ module _ (r w : List Node) (gs : List Reached) (n : ℕ) (h : Reached) (k : ℕ)
     closed = s.closed;
     closed_head = λ m p before at. elim (lt_or_last m k before) [
       | inl old ↦ s.closed_head m p old at
-      | inr new ↦ subst (λ l. Closes gs h l p) (sym new) (subst (λ (q : Obligation). Closes gs h k q) (same_obligation m p new at) by_another)
+      | inr new ↦ subst (λ l. Closes gs h l p) (sym new)
+          (subst (λ (q : Obligation). Closes gs h k q) (same_obligation m p new at) by_another)
     ];
-    below = λ x a at. Before_trans a.path (h.path ++ k ∷ []) (h.path ++ (k + 1) ∷ []) (s.below x a at) (Before-siblings h.path k (k + 1) (omega arith));
+    below = λ x a at.
+        Before_trans a.path (h.path ++ k ∷ []) (h.path ++ (k + 1) ∷ []) (s.below x a at) (Before-siblings h.path k (k + 1) (omega arith));
   }
     where
       by_another : Closes gs h k o
-      by_another = let (y, b, at, same) = reached_at gs o.pair reached in (y, b, at, same_pair-≡ b.entry.pair o.pair same, Before-weaker b.path (h.path ++ k ∷ []) (s.below y b at))
+      by_another =
+          let (y, b, at, same) = reached_at gs o.pair reached in
+          (y, b, at, same_pair-≡ b.entry.pair o.pair same, Before-weaker b.path (h.path ++ k ∷ []) (s.below y b at))
 
   -- its pair is new
   pub adds : IsWithin r w o.pair → is_reached (entries_of gs) o.pair ≡ false → IsExpanding r w (gs ++ child_at h n k o ∷ []) n h (k + 1)
@@ -306,8 +363,11 @@ module _ (r w : List Node) (gs : List Reached) (n : ℕ) (h : Reached) (k : ℕ)
         | inl old ↦ s.reach.within x g old
         | inr new ↦ subst (λ (a : Reached). IsWithin r w a.entry.pair) new.1 inside
       ];
-      apart = subst (IsDistinct eqb) (sym (map-append (λ (g : Reached). number_of r w g.entry.pair) gs (child ∷ []))) (IsDistinct-push nat_eq_equiv (numbers_of r w gs) (number_of r w o.pair) s.reach.apart (new_number r w o.pair inside gs s.reach.within new_pair));
-      begun = get_below (gs ++ child ∷ []) 0 (first_of gs s.reach.begun).0 (get_push gs (child ∷ []) 0 (first_of gs s.reach.begun).0 (first_of gs s.reach.begun).1);
+      apart = subst (IsDistinct eqb) (sym (map-append (λ (g : Reached). number_of r w g.entry.pair) gs (child ∷ [])))
+          (IsDistinct-push nat_eq_equiv (numbers_of r w gs) (number_of r w o.pair) s.reach.apart
+          (new_number r w o.pair inside gs s.reach.within new_pair));
+      begun = get_below (gs ++ child ∷ []) 0 (first_of gs s.reach.begun).0
+          (get_push gs (child ∷ []) 0 (first_of gs s.reach.begun).0 (first_of gs s.reach.begun).1);
     };
     head = get_push gs (child ∷ []) n h s.head;
     no_clash = λ x a before at. elim (get_push_cases gs child x a at) [
@@ -320,10 +380,12 @@ module _ (r w : List Node) (gs : List Reached) (n : ℕ) (h : Reached) (k : ℕ)
     ];
     closed_head = λ m p before at. elim (lt_or_last m k before) [
       | inl old ↦ lifts gs (child ∷ []) h m p (s.closed_head m p old at)
-      | inr new ↦ subst (λ l. Closes (gs ++ child ∷ []) h l p) (sym new) (subst (λ (q : Obligation). Closes (gs ++ child ∷ []) h k q) (same_obligation m p new at) by_child)
+      | inr new ↦ subst (λ l. Closes (gs ++ child ∷ []) h l p) (sym new)
+          (subst (λ (q : Obligation). Closes (gs ++ child ∷ []) h k q) (same_obligation m p new at) by_child)
     ];
     below = λ x a at. elim (get_push_cases gs child x a at) [
-      | inl old ↦ Before_trans a.path (h.path ++ k ∷ []) (h.path ++ (k + 1) ∷ []) (s.below x a old) (Before-siblings h.path k (k + 1) (omega arith))
+      | inl old ↦ Before_trans a.path (h.path ++ k ∷ []) (h.path ++ (k + 1) ∷ [])
+          (s.below x a old) (Before-siblings h.path k (k + 1) (omega arith))
       | inr new ↦ subst (λ (b : Reached). Before b.path (h.path ++ (k + 1) ∷ [])) new.1 (Before-siblings h.path k (k + 1) (omega arith))
     ];
   }
@@ -342,12 +404,26 @@ module _ (r w : List Node) (gs : List Reached) (n : ℕ) (h : Reached) (k : ℕ)
       first_of (g ∷ gs) some = (g, refl)
 
       child_of_head : (x : ℕ) → x ≡ length gs → IsChild r w (gs ++ child ∷ []) (n + 1) x child
-      child_of_head x new = record { parent = h; step = record { place = n; number = k }; number = k; obligation = o; stands = get_push gs (child ∷ []) n h s.head; below = omega arith; earlier = omega (arith, head_below); from = refl; owes = owes; counted = refl; pair = refl; path = refl }
+      child_of_head x new = record {
+        parent = h;
+        step = record { place = n; number = k };
+        number = k;
+        obligation = o;
+        stands = get_push gs (child ∷ []) n h s.head;
+        below = omega arith;
+        earlier = omega (arith, head_below);
+        from = refl;
+        owes = owes;
+        counted = refl;
+        pair = refl;
+        path = refl;
+      }
 
       by_child : Closes (gs ++ child ∷ []) h k o
       by_child = (length gs, child, get_last gs child, refl, ComesFirst_refl (h.path ++ k ∷ []))
 
-      sorted_now : (x y : ℕ) (a b : Reached) → slice_get (gs ++ child ∷ []) x ≡ Some a → slice_get (gs ++ child ∷ []) y ≡ Some b → x < y → Before a.path b.path
+      sorted_now : (x y : ℕ) (a b : Reached) → slice_get (gs ++ child ∷ []) x ≡ Some a
+          → slice_get (gs ++ child ∷ []) y ≡ Some b → x < y → Before a.path b.path
       sorted_now x y a b at_x at_y before = elim (get_push_cases gs child x a at_x) [
         | inl old_x ↦ elim (get_push_cases gs child y b at_y) [
           | inl old_y ↦ s.reach.sorted x y a b old_x old_y before
@@ -361,11 +437,14 @@ module _ (r w : List Node) (gs : List Reached) (n : ℕ) (h : Reached) (k : ℕ)
 
 -- ---- all obligations of the head
 
-module _ (r w : List Node) (n : ℕ) (h : Reached) (inside : (m : ℕ) (o : Obligation) → slice_get (owed r w h) m ≡ Some o → IsWithin r w o.pair) where
+module _ (r w : List Node) (n : ℕ) (h : Reached)
+    (inside : (m : ℕ) (o : Obligation) → slice_get (owed r w h) m ≡ Some o → IsWithin r w o.pair) where
   abbrev Expands : List Obligation → ℕ → List Reached → Type 0
-  Expands os k gs = (gs' : List Reached) × (entries_of gs' ≡ expanded n k (pairs_of os) (entries_of gs)) × IsExpanding r w gs' n h (k + length os)
+  Expands os k gs =
+      (gs' : List Reached) × (entries_of gs' ≡ expanded n k (pairs_of os) (entries_of gs)) × IsExpanding r w gs' n h (k + length os)
 
-  expand_from : (os : List Obligation) (k : ℕ) (gs : List Reached) → IsExpanding r w gs n h k → ((m : ℕ) (o : Obligation) → slice_get os m ≡ Some o → slice_get (owed r w h) (k + m) ≡ Some o) → Expands os k gs
+  expand_from : (os : List Obligation) (k : ℕ) (gs : List Reached) → IsExpanding r w gs n h k
+      → ((m : ℕ) (o : Obligation) → slice_get os m ≡ Some o → slice_get (owed r w h) (k + m) ≡ Some o) → Expands os k gs
   expand_from [] k gs s owes = (gs, refl, subst (IsExpanding r w gs n h) (let e : k ≡ k + 0 = omega arith in e) s)
   expand_from (o ∷ os) k gs s owes = go (is_reached (entries_of gs) o.pair) refl (λ hs t. expand_from os (k + 1) hs t later)
     where
@@ -378,18 +457,29 @@ module _ (r w : List Node) (n : ℕ) (h : Reached) (inside : (m : ℕ) (o : Obli
       counted : (hs : List Reached) → IsExpanding r w hs n h (k + 1 + length os) → IsExpanding r w hs n h (k + suc (length os))
       counted hs t = subst (IsExpanding r w hs n h) (let e : k + 1 + length os ≡ k + suc (length os) = omega arith in e) t
 
-      go : (b : Bool) → is_reached (entries_of gs) o.pair ≡ b → ((hs : List Reached) → IsExpanding r w hs n h (k + 1) → Expands os (k + 1) hs) → Expands (o ∷ os) k gs
+      go : (b : Bool) → is_reached (entries_of gs) o.pair ≡ b
+          → ((hs : List Reached) → IsExpanding r w hs n h (k + 1) → Expands os (k + 1) hs) → Expands (o ∷ os) k gs
       go true is ih =
-          let (hs, same, t) = ih gs (skips r w gs n h k s o now is) in
-          (hs, same ∙ ap (λ b. expanded n (k + 1) (pairs_of os) (unless_reached b (entries_of gs) (entry_from n k o.pair))) (sym is), counted hs t)
+          let (hs, same, t) = ih gs (skips r w gs n h k s o now is) in (
+            hs,
+            same ∙ ap (λ b. expanded n (k + 1) (pairs_of os) (unless_reached b (entries_of gs) (entry_from n k o.pair))) (sym is),
+            counted hs t,
+          )
       go false is ih =
-          let (hs, same, t) = ih (gs ++ child_at h n k o ∷ []) (adds r w gs n h k s o now (inside k o now) is) in
-          (hs, same ∙ ap (expanded n (k + 1) (pairs_of os)) (map-append (λ (g : Reached). g.entry) gs (child_at h n k o ∷ [])) ∙ ap (λ b. expanded n (k + 1) (pairs_of os) (unless_reached b (entries_of gs) (entry_from n k o.pair))) (sym is), counted hs t)
+          let (hs, same, t) = ih (gs ++ child_at h n k o ∷ []) (adds r w gs n h k s o now (inside k o now) is) in (
+            hs,
+            same
+                ∙ ap (expanded n (k + 1) (pairs_of os)) (map-append (λ (g : Reached). g.entry) gs (child_at h n k o ∷ []))
+                ∙ ap (λ b. expanded n (k + 1) (pairs_of os) (unless_reached b (entries_of gs) (entry_from n k o.pair))) (sym is),
+            counted hs t,
+          )
 
   -- the head is done
-  pub expands : (gs : List Reached) → IsSearch r w gs n → slice_get gs n ≡ Some h → clash_of r w h.entry.pair ≡ None → (gs' : List Reached) × (entries_of gs' ≡ expanded n 0 (pairs_of (owed r w h)) (entries_of gs)) × IsSearch r w gs' (n + 1)
+  pub expands : (gs : List Reached) → IsSearch r w gs n → slice_get gs n ≡ Some h → clash_of r w h.entry.pair ≡ None
+      → (gs' : List Reached) × (entries_of gs' ≡ expanded n 0 (pairs_of (owed r w h)) (entries_of gs)) × IsSearch r w gs' (n + 1)
   expands gs s head peaceful =
-      let (hs, same, t) = expand_from (owed r w h) 0 gs (begins r w gs n h s head peaceful) (λ m o at. ap (slice_get (owed r w h)) (let e : 0 + m ≡ m = omega arith in e) ∙ at) in
+      let (hs, same, t) = expand_from (owed r w h) 0 gs (begins r w gs n h s head peaceful)
+      (λ m o at. ap (slice_get (owed r w h)) (let e : 0 + m ≡ m = omega arith in e) ∙ at) in
       (hs, same, finishes r w hs n h (0 + length (owed r w h)) t (omega arith))
 
 -- ---- nothing that leads to a clash comes before the entry that is looked at next
@@ -407,15 +497,25 @@ none_maps f (Some x) e p = cc
 
 module _ (r w : List Node) where
   -- a trail along a first number leads on from what is owed
-  onward : (p : Pair) (k : ℕ) (ms : List ℕ) (q : Option Obligation) → slice_get (obligations r w p) k ≡ q → IsSome (trail_from r w p (k ∷ ms)) → (o : Obligation) × (slice_get (obligations r w p) k ≡ Some o) × IsSome (trail_from r w o.pair ms)
-  onward p k ms None found leads = absurd (is_none_some (subst (λ q. IsSome (option_and_then (λ o. option_map (after_hop o.hop) (trail_from r w o.pair ms)) q)) found leads))
-  onward p k ms (Some o) found leads = (o, found, some_of_map (after_hop o.hop) _ (subst (λ q. IsSome (option_and_then (λ o. option_map (after_hop o.hop) (trail_from r w o.pair ms)) q)) found leads))
+  onward : (p : Pair) (k : ℕ) (ms : List ℕ) (q : Option Obligation)
+      → slice_get (obligations r w p) k ≡ q → IsSome (trail_from r w p (k ∷ ms))
+      → (o : Obligation) × (slice_get (obligations r w p) k ≡ Some o) × IsSome (trail_from r w o.pair ms)
+  onward p k ms None found leads =
+      absurd (
+      is_none_some (subst (λ q. IsSome (option_and_then (λ o. option_map (after_hop o.hop) (trail_from r w o.pair ms)) q)) found leads))
+  onward p k ms (Some o) found leads = (
+    o,
+    found,
+    some_of_map (after_hop o.hop) _
+        (subst (λ q. IsSome (option_and_then (λ o. option_map (after_hop o.hop) (trail_from r w o.pair ms)) q)) found leads),
+  )
 
   module _ (gs : List Reached) (n : ℕ) (s : IsSearch r w gs n) (e : Reached) (next : slice_get gs n ≡ Some e) where
     -- from an entry that was not looked at
     later : (x : ℕ) (a : Reached) (ms : List ℕ) → slice_get gs x ≡ Some a → n ≤ x → ComesFirst e.path (a.path ++ ms)
     later x a ms here h = elim (lt_or_le n x) [
-      | inl before ↦ ComesFirst_trans e.path a.path (a.path ++ ms) (Before-weaker e.path a.path (s.reach.sorted n x e a next here before)) (ComesFirst-longer a.path ms)
+      | inl before ↦ ComesFirst_trans e.path a.path (a.path ++ ms)
+          (Before-weaker e.path a.path (s.reach.sorted n x e a next here before)) (ComesFirst-longer a.path ms)
       | inr above ↦
           let place : x ≡ n = omega arith in
           let two : Some a ≡ Some e = sym here ∙ ap (slice_get gs) place ∙ next in
@@ -423,7 +523,8 @@ module _ (r w : List Node) where
           subst (λ (b : Reached). ComesFirst b.path (a.path ++ ms)) one (ComesFirst-longer a.path ms)
     ]
 
-    comes_first : (ms : List ℕ) (x : ℕ) (a : Reached) → slice_get gs x ≡ Some a → IsSome (trail_from r w a.entry.pair ms) → ComesFirst e.path (a.path ++ ms)
+    comes_first : (ms : List ℕ) (x : ℕ) (a : Reached) → slice_get gs x ≡ Some a
+        → IsSome (trail_from r w a.entry.pair ms) → ComesFirst e.path (a.path ++ ms)
     comes_first [] x a here leads = elim (lt_or_le x n) [
       | inl h ↦ absurd (none_maps end_at (clash_of r w a.entry.pair) (s.no_clash x a h here) leads)
       | inr h ↦ later x a [] here h
@@ -434,7 +535,8 @@ module _ (r w : List Node) where
     ]
       where
         -- the obligation that the first number takes was reached no later
-        through : (x : ℕ) (a : Reached) (k : ℕ) (ms : List ℕ) → slice_get gs x ≡ Some a → x < n → IsSome (trail_from r w a.entry.pair (k ∷ ms)) →
+        through : (x : ℕ) (a : Reached) (k : ℕ) (ms : List ℕ) → slice_get gs x ≡ Some a
+            → x < n → IsSome (trail_from r w a.entry.pair (k ∷ ms)) →
             ((y : ℕ) (b : Reached) → slice_get gs y ≡ Some b → IsSome (trail_from r w b.entry.pair ms) → ComesFirst e.path (b.path ++ ms)) →
             ComesFirst e.path (a.path ++ k ∷ ms)
         through x a k ms here h leads ih =
@@ -442,7 +544,8 @@ module _ (r w : List Node) where
             let (y, b, at_y, same, first) = s.closed x a k o h here found in
             let from_b : IsSome (trail_from r w b.entry.pair ms) = rw same on in
             let chain : ComesFirst (b.path ++ ms) ((a.path ++ k ∷ []) ++ ms) = ComesFirst-append b.path (a.path ++ k ∷ []) ms first in
-            ComesFirst_trans e.path (b.path ++ ms) (a.path ++ k ∷ ms) (ih y b at_y from_b) (subst (λ l. ComesFirst (b.path ++ ms) l) (append_assoc a.path (k ∷ []) ms) chain)
+            ComesFirst_trans e.path (b.path ++ ms) (a.path ++ k ∷ ms) (ih y b at_y from_b)
+            (subst (λ l. ComesFirst (b.path ++ ms) l) (append_assoc a.path (k ∷ []) ms) chain)
 
   -- where each entry was looked at, nothing leads to a clash
   module _ (gs : List Reached) (s : IsSearch r w gs (length gs)) where
@@ -467,20 +570,28 @@ prepended (h ∷ back) t = prepended back (after_hop h t)
 prepended_is : (back : List Hop) (t : Trail) → prepended back t ≡ record { hops = reverse back ++ t.hops; kind = t.kind }
 unfolding prepended
 prepended_is [] t = refl
-prepended_is (h ∷ back) t = prepended_is back (after_hop h t) ∙ ap (λ l. record { hops = l; kind = t.kind }) (sym (append_assoc (reverse back) (h ∷ []) t.hops) ∙ ap (λ l. l ++ t.hops) (sym (reverse-append (h ∷ []) back)))
+prepended_is (h ∷ back) t =
+    prepended_is back (after_hop h t)
+    ∙ ap (λ l. record { hops = l; kind = t.kind })
+    (sym (append_assoc (reverse back) (h ∷ []) t.hops) ∙ ap (λ l. l ++ t.hops) (sym (reverse-append (h ∷ []) back)))
 
 from_of : (gs : List Reached) (x : ℕ) (g : Reached) → slice_get gs x ≡ Some g → from_at (entries_of gs) x ≡ g.entry.from
-from_of gs x g at = ap (option_and_then (λ (e : Entry). e.from)) (slice_get-map (λ (a : Reached). a.entry) gs x ∙ ap (option_map (λ (a : Reached). a.entry)) at)
+from_of gs x g at =
+    ap (option_and_then (λ (e : Entry). e.from))
+    (slice_get-map (λ (a : Reached). a.entry) gs x ∙ ap (option_map (λ (a : Reached). a.entry)) at)
 
 -- the hop of the step by which an entry was reached
-hop_of_child : (r w : List Node) (gs : List Reached) (n x : ℕ) (g : Reached) (c : IsChild r w gs n x g) → hop_at r w (entries_of gs) c.step ≡ Some c.obligation.hop
+hop_of_child : (r w : List Node) (gs : List Reached) (n x : ℕ) (g : Reached) (c : IsChild r w gs n x g)
+    → hop_at r w (entries_of gs) c.step ≡ Some c.obligation.hop
 hop_of_child r w gs n x g c =
-    ap (option_and_then (λ (e : Entry). hop_numbered r w e.pair c.step.number)) (slice_get-map (λ (a : Reached). a.entry) gs c.step.place ∙ ap (option_map (λ (a : Reached). a.entry)) c.stands)
+    ap (option_and_then (λ (e : Entry). hop_numbered r w e.pair c.step.number))
+    (slice_get-map (λ (a : Reached). a.entry) gs c.step.place ∙ ap (option_map (λ (a : Reached). a.entry)) c.stands)
     ∙ ap (hop_numbered r w c.parent.entry.pair) c.counted
     ∙ ap (option_map (λ (o : Obligation). o.hop)) c.owes
 
 module _ (r w : List Node) (gs : List Reached) (n : ℕ) (s : IsReach r w gs n) where
-  way_trail : (back : List Hop) (x : ℕ) (g : Reached) → slice_get gs x ≡ Some g → IsWayBack r w (entries_of gs) x back → (ms : List ℕ) (t : Trail) → trail_from r w g.entry.pair ms ≡ Some t → trail_from r w roots (g.path ++ ms) ≡ Some (prepended back t)
+  way_trail : (back : List Hop) (x : ℕ) (g : Reached) → slice_get gs x ≡ Some g → IsWayBack r w (entries_of gs) x back
+      → (ms : List ℕ) (t : Trail) → trail_from r w g.entry.pair ms ≡ Some t → trail_from r w roots (g.path ++ ms) ≡ Some (prepended back t)
   unfolding prepended
   way_trail [] x g at way ms t leads = elim (s.origins x g at) [
     | inl root ↦ ap (λ p. trail_from r w roots (p ++ ms)) root.path ∙ ap (λ p. trail_from r w p ms) (sym root.pair) ∙ leads
@@ -491,20 +602,25 @@ module _ (r w : List Node) (gs : List Reached) (n : ℕ) (s : IsReach r w gs n) 
     | inr child ↦ by_child child (λ y a stands rest ks u on. way_trail back y a stands rest ks u on)
   ]
     where
-      by_child : IsChild r w gs n x g → ((y : ℕ) (a : Reached) → slice_get gs y ≡ Some a → IsWayBack r w (entries_of gs) y back → (ks : List ℕ) (u : Trail) → trail_from r w a.entry.pair ks ≡ Some u → trail_from r w roots (a.path ++ ks) ≡ Some (prepended back u)) →
+      by_child : IsChild r w gs n x g
+          → ((y : ℕ) (a : Reached) → slice_get gs y ≡ Some a → IsWayBack r w (entries_of gs) y back → (ks : List ℕ) (u : Trail)
+          → trail_from r w a.entry.pair ks ≡ Some u → trail_from r w roots (a.path ++ ks) ≡ Some (prepended back u))
+          →
           trail_from r w roots (g.path ++ ms) ≡ Some (prepended back (after_hop h t))
       by_child child ih =
           let (step, from, same, rest) = way in
           let two : Some step ≡ Some child.step = sym from ∙ from_of gs x g at ∙ child.from in
           let one : step ≡ child.step = cc in
-          let both : Some child.obligation.hop ≡ Some h = sym (hop_of_child r w gs n x g child) ∙ ap (hop_at r w (entries_of gs)) (sym one) ∙ same in
+          let both : Some child.obligation.hop ≡ Some h =
+          sym (hop_of_child r w gs n x g child) ∙ ap (hop_at r w (entries_of gs)) (sym one) ∙ same in
           let hops : child.obligation.hop ≡ h = cc in
           let on : trail_from r w child.parent.entry.pair (child.number ∷ ms) ≡ Some (after_hop h t) =
           ap (option_and_then (λ o. option_map (after_hop o.hop) (trail_from r w o.pair ms))) child.owes
           ∙ ap (λ p. option_map (after_hop child.obligation.hop) (trail_from r w p ms)) (sym child.pair)
           ∙ ap (option_map (after_hop child.obligation.hop)) leads
           ∙ ap (λ k. Some (after_hop k t)) hops in
-          let behind : IsWayBack r w (entries_of gs) child.step.place back = subst (λ (z : Step). IsWayBack r w (entries_of gs) z.place back) one rest in
+          let behind : IsWayBack r w (entries_of gs) child.step.place back =
+          subst (λ (z : Step). IsWayBack r w (entries_of gs) z.place back) one rest in
           ap (λ p. trail_from r w roots (p ++ ms)) child.path
           ∙ ap (trail_from r w roots) (append_assoc child.parent.path (child.number ∷ []) ms)
           ∙ ih child.step.place child.parent child.stands behind (child.number ∷ ms) (after_hop h t) on
@@ -516,16 +632,22 @@ first_of [] some = absurd (omega arith)
 first_of (g ∷ gs) some = (g, refl)
 
 root_of : (r w : List Node) (gs : List Reached) (n : ℕ) → IsReach r w gs n → (g : Reached) × (slice_get gs 0 ≡ Some g) × IsRoot 0 g
-root_of r w gs n s = let (g, at) = first_of gs s.begun in (g, at, elim (s.origins 0 g at) [ inl root ↦ root | inr child ↦ absurd (omega (arith, child.earlier)) ])
+root_of r w gs n s =
+    let (g, at) = first_of gs s.begun in
+    (g, at, elim (s.origins 0 g at) [ inl root ↦ root | inr child ↦ absurd (omega (arith, child.earlier)) ])
 
 -- the entry that is looked at clashes
-pub shows : (r w : List Node) (gs : List Reached) (n : ℕ) (e : Reached) (c : ClashKind) (hops : List Hop) → IsSearch r w gs n → slice_get gs n ≡ Some e → clash_of r w e.entry.pair ≡ Some c → IsWayBack r w (entries_of gs) n (reverse hops) → IsShown r w (record { hops = hops; kind = c })
+pub shows : (r w : List Node) (gs : List Reached) (n : ℕ) (e : Reached) (c : ClashKind) (hops : List Hop)
+    → IsSearch r w gs n → slice_get gs n ≡ Some e → clash_of r w e.entry.pair ≡ Some c
+    → IsWayBack r w (entries_of gs) n (reverse hops) → IsShown r w (record { hops = hops; kind = c })
 shows r w gs n e c hops s next clash way = (e.path, leads, first)
   where
     leads : trail_along r w e.path ≡ Some (record { hops = hops; kind = c })
     leads = ap (trail_along r w) (sym (append-nil e.path))
         ∙ way_trail r w gs n s.reach (reverse hops) n e next way [] (end_at c) (ap (option_map end_at) clash)
-        ∙ ap Some (prepended_is (reverse hops) (end_at c) ∙ ap (λ l. record { hops = l; kind = c }) (append-nil (reverse (reverse hops)) ∙ reverse-reverse hops))
+        ∙ ap Some (
+        prepended_is (reverse hops) (end_at c)
+        ∙ ap (λ l. record { hops = l; kind = c }) (append-nil (reverse (reverse hops)) ∙ reverse-reverse hops))
 
     first : (ls : List ℕ) → IsSome (trail_along r w ls) → ComesFirst e.path ls
     first ls some =
@@ -541,17 +663,21 @@ none_of (Some x) h = absurd (h refl)
 pub is_compatible : (r w : List Node) (gs : List Reached) → IsSearch r w gs (length gs) → AreCompatible r w
 is_compatible r w gs s ks =
     let (g, at, root) = root_of r w gs (length gs) s.reach in
-    none_of (trail_along r w ks) (λ some. let from_root : IsSome (trail_from r w g.entry.pair ks) = rw root.pair some in leads_nowhere r w gs s ks 0 g at from_root)
+    none_of (trail_along r w ks)
+    (λ some. let from_root : IsSome (trail_from r w g.entry.pair ks) = rw root.pair some in leads_nowhere r w gs s ks 0 g at from_root)
 
 -- no more pairs are reached than there are
-number_below : (r w : List Node) (gs : List Reached) → ((x : ℕ) (g : Reached) → slice_get gs x ≡ Some g → IsWithin r w g.entry.pair) → (q : ℕ) → list_any (eqb q) (numbers_of r w gs) ≡ true → q < length r * length w
+number_below : (r w : List Node) (gs : List Reached) → ((x : ℕ) (g : Reached) → slice_get gs x ≡ Some g → IsWithin r w g.entry.pair)
+    → (q : ℕ) → list_any (eqb q) (numbers_of r w gs) ≡ true → q < length r * length w
 number_below r w [] within q e = cc
 number_below r w (g ∷ gs) within q e = go (eqb q (number_of r w g.entry.pair)) refl (number_below r w gs (λ x a at. within (suc x) a at) q)
   where
-    go : (b : Bool) → eqb q (number_of r w g.entry.pair) ≡ b → (list_any (eqb q) (numbers_of r w gs) ≡ true → q < length r * length w) → q < length r * length w
+    go : (b : Bool) → eqb q (number_of r w g.entry.pair) ≡ b
+        → (list_any (eqb q) (numbers_of r w gs) ≡ true → q < length r * length w) → q < length r * length w
     go true same ih =
         let inside = within 0 g refl in
-        let below : number_of r w g.entry.pair < length w * length r = mul-add-lt g.entry.pair.reader.index (length w) g.entry.pair.writer.index (length r) inside.reader inside.writer in
+        let below : number_of r w g.entry.pair < length w * length r =
+        mul-add-lt g.entry.pair.reader.index (length w) g.entry.pair.writer.index (length r) inside.reader inside.writer in
         omega (arith, below, eqb-true q (number_of r w g.entry.pair) same, mul_comm (length r) (length w))
     go false same ih = ih (subst (λ t. (t || list_any (eqb q) (numbers_of r w gs)) ≡ true) same e)
 
@@ -560,7 +686,9 @@ length-map f [] = refl
 length-map f (x ∷ xs) = ap suc (length-map f xs)
 
 pub at_most_all : (r w : List Node) (gs : List Reached) (n : ℕ) → IsReach r w gs n → length gs ≤ length r * length w
-at_most_all r w gs n s = subst (λ m. m ≤ length r * length w) (length-map (λ (g : Reached). number_of r w g.entry.pair) gs) (length-le_from_distinct_below (numbers_of r w gs) (length r * length w) s.apart (number_below r w gs s.within))
+at_most_all r w gs n s =
+    subst (λ m. m ≤ length r * length w) (length-map (λ (g : Reached). number_of r w g.entry.pair) gs)
+    (length-le_from_distinct_below (numbers_of r w gs) (length r * length w) s.apart (number_below r w gs s.within))
 
 -- ---- the loop of `resolve_counted`
 
@@ -582,7 +710,8 @@ one_step from a s e is = let two : Some a ≡ Some s = sym e ∙ is in cc
 pub leads_back : (r w : List Node) (es : List Entry) (n : ℕ) → IsSearched r w es n → LeadsBack r w es
 leads_back r w es n k = subst (LeadsBack r w) (sym k.entries) back
   where
-    stands : (gs : List Reached) (x : ℕ) (s : Step) → from_at (entries_of gs) x ≡ Some s → (g : Reached) × (slice_get gs x ≡ Some g) × (g.entry.from ≡ Some s)
+    stands : (gs : List Reached) (x : ℕ) (s : Step) → from_at (entries_of gs) x ≡ Some s
+        → (g : Reached) × (slice_get gs x ≡ Some g) × (g.entry.from ≡ Some s)
     stands [] x s e = cc
     stands (g ∷ gs) zero s e = (g, refl, e)
     stands (g ∷ gs) (suc x) s e = stands gs x s e
@@ -606,7 +735,8 @@ leads_back r w es n k = subst (LeadsBack r w) (sym k.entries) back
         ]
 
 -- the entry at a place, and what was reached there
-entry_at : (gs : List Reached) (x : ℕ) (e : Entry) → slice_get (entries_of gs) x ≡ Some e → (g : Reached) × (slice_get gs x ≡ Some g) × (g.entry ≡ e)
+entry_at : (gs : List Reached) (x : ℕ) (e : Entry) → slice_get (entries_of gs) x ≡ Some e
+    → (g : Reached) × (slice_get gs x ≡ Some g) × (g.entry ≡ e)
 entry_at [] x e h = cc
 entry_at (g ∷ gs) zero e h = (g, refl, cc)
 entry_at (g ∷ gs) (suc x) e h = entry_at gs x e h
@@ -620,46 +750,60 @@ module _ (r w : List Node) (es : List Entry) (n : ℕ) (k : IsSearched r w es n)
   searched_within e at = let (g, at_g, is) = there e at in subst (λ (x : Entry). IsWithin r w x.pair) is (k.search.reach.within n g at_g)
 
   -- it clashes
-  pub searched_clash : (e : Entry) (c : ClashKind) (hops : List Hop) → slice_get es n ≡ Some e → outcome r w e.pair ≡ Err c → IsWayBack r w es n (reverse hops) → IsShown r w (record { hops = hops; kind = c })
+  pub searched_clash : (e : Entry) (c : ClashKind) (hops : List Hop) → slice_get es n ≡ Some e
+      → outcome r w e.pair ≡ Err c → IsWayBack r w es n (reverse hops) → IsShown r w (record { hops = hops; kind = c })
   searched_clash e c hops at is way =
       let (g, at_g, same) = there e at in
-      shows r w k.reached n g c hops k.search at_g (ap (λ (x : Entry). clash_of r w x.pair) same ∙ ap result_err is) (subst (λ l. IsWayBack r w l n (reverse hops)) k.entries way)
+      shows r w k.reached n g c hops k.search at_g (ap (λ (x : Entry). clash_of r w x.pair) same ∙ ap result_err is)
+      (subst (λ l. IsWayBack r w l n (reverse hops)) k.entries way)
 
   -- it doesn't
-  pub searched_next : IsSound r → IsSound w → (e : Entry) (os : List Obligation) → slice_get es n ≡ Some e → outcome r w e.pair ≡ Ok os → IsSearched r w (expanded n 0 (pairs_of os) es) (n + 1)
+  pub searched_next : IsSound r → IsSound w → (e : Entry) (os : List Obligation) → slice_get es n ≡ Some e
+      → outcome r w e.pair ≡ Ok os → IsSearched r w (expanded n 0 (pairs_of os) es) (n + 1)
   searched_next s t e os at is =
       let (g, at_g, same) = there e at in
       let of_g : outcome r w g.entry.pair ≡ Ok os = ap (λ (x : Entry). outcome r w x.pair) same ∙ is in
       let inside = k.search.reach.within n g at_g in
-      let (hs, entries, search) = expands r w n g (obligations_within r w s t g.entry.pair inside) k.reached k.search at_g (ap result_err of_g) in
+      let (hs, entries, search) =
+      expands r w n g (obligations_within r w s t g.entry.pair inside) k.reached k.search at_g (ap result_err of_g) in
       record {
         reached = hs;
-        entries = sym (entries ∙ ap (λ l. expanded n 0 (pairs_of l) (entries_of k.reached)) (ap owed_in of_g) ∙ ap (expanded n 0 (pairs_of os)) (sym k.entries));
+        entries = sym (
+            entries
+            ∙ ap (λ l. expanded n 0 (pairs_of l) (entries_of k.reached)) (ap owed_in of_g)
+            ∙ ap (expanded n 0 (pairs_of os)) (sym k.entries));
         search = search;
       }
 
   -- more pairs than there are nodes of both can't be reached
   pub searched_few : length es ≤ length r * length w
-  searched_few = subst (λ m. m ≤ length r * length w) (sym (ap length k.entries ∙ length-map (λ (g : Reached). g.entry) k.reached)) (at_most_all r w k.reached n k.search.reach)
+  searched_few =
+      subst (λ m. m ≤ length r * length w) (sym (ap length k.entries ∙ length-map (λ (g : Reached). g.entry) k.reached))
+      (at_most_all r w k.reached n k.search.reach)
 
   -- all were looked at
   pub searched_all : n ≡ length es → AreCompatible r w
-  searched_all e = is_compatible r w k.reached (subst (IsSearch r w k.reached) (e ∙ ap length k.entries ∙ length-map (λ (g : Reached). g.entry) k.reached) k.search)
+  searched_all e =
+      is_compatible r w k.reached (
+      subst (IsSearch r w k.reached) (e ∙ ap length k.entries ∙ length-map (λ (g : Reached). g.entry) k.reached) k.search)
 
 -- only the roots were reached
-pub searched_first : (r w : List Node) → IsSound r → IsSound w → (es : List Entry) → es ≡ record { pair = roots; from = None } ∷ [] → IsSearched r w es 0
+pub searched_first : (r w : List Node) → IsSound r → IsSound w → (es : List Entry)
+    → es ≡ record { pair = roots; from = None } ∷ [] → IsSearched r w es 0
 searched_first r w s t es is =
     let root : Reached = record { entry = record { pair = roots; from = None }; path = [] } in
     record {
       reached = root ∷ [];
       entries = is;
-      search = started r w root (record { place = refl; pair = refl; from = refl; path = refl }) (record { reader = s.has_root; writer = t.has_root });
+      search = started r w root (record { place = refl; pair = refl; from = refl; path = refl })
+          (record { reader = s.has_root; writer = t.has_root });
     }
 
 -- entries are never taken away
 pub length-expanded : (n k : ℕ) (os : List Obligation) (es : List Entry) → length es ≤ length (expanded n k (pairs_of os) es)
 length-expanded n k [] es = omega arith
-length-expanded n k (o ∷ os) es = omega (arith, more (is_reached es o.pair), length-expanded n (k + 1) os (with_entry es (entry_from n k o.pair)))
+length-expanded n k (o ∷ os) es =
+    omega (arith, more (is_reached es o.pair), length-expanded n (k + 1) os (with_entry es (entry_from n k o.pair)))
   where
     more : (b : Bool) → length es ≤ length (unless_reached b es (entry_from n k o.pair))
     more true = omega arith

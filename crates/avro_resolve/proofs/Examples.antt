@@ -19,68 +19,111 @@ abbrev pub shown_text : Trail → List ℕ
 shown_text t = trail_text t.hops ++ codes ": " ++ clash_text t.kind
 
 -- a field may widen
-pub widened : trail_along (nodes_in (codes "{\"type\":\"record\",\"name\":\"Node\",\"fields\":[{\"name\":\"v\",\"type\":\"long\"},{\"name\":\"next\",\"type\":[\"null\",\"Node\"]}]}")) (nodes_in (codes "{\"type\":\"record\",\"name\":\"Node\",\"fields\":[{\"name\":\"v\",\"type\":\"int\"},{\"name\":\"next\",\"type\":[\"null\",\"Node\"]}]}")) (0 ∷ []) ≡ None
+pub widened : trail_along
+    (nodes_in (codes "{\"type\":\"record\",\"name\":\"Node\",\"fields\":[{\"name\":\"v\",\"type\":\"long\"},{\"name\":\"next\",\"type\":[\"null\",\"Node\"]}]}"))
+    (nodes_in (codes "{\"type\":\"record\",\"name\":\"Node\",\"fields\":[{\"name\":\"v\",\"type\":\"int\"},{\"name\":\"next\",\"type\":[\"null\",\"Node\"]}]}"))
+    (0 ∷ [])
+    ≡ None
 unfolding serde_json_on_literals
 widened = refl
 
 -- and not narrow
-pub narrowed : option_map shown_text (trail_along (nodes_in (codes "{\"type\":\"record\",\"name\":\"Node\",\"fields\":[{\"name\":\"v\",\"type\":\"int\"},{\"name\":\"next\",\"type\":[\"null\",\"Node\"]}]}")) (nodes_in (codes "{\"type\":\"record\",\"name\":\"Node\",\"fields\":[{\"name\":\"v\",\"type\":\"long\"},{\"name\":\"next\",\"type\":[\"null\",\"Node\"]}]}")) (0 ∷ [])) ≡ Some (codes "/field:v: TYPE_MISMATCH")
+pub narrowed : option_map shown_text (
+    trail_along
+    (nodes_in (codes "{\"type\":\"record\",\"name\":\"Node\",\"fields\":[{\"name\":\"v\",\"type\":\"int\"},{\"name\":\"next\",\"type\":[\"null\",\"Node\"]}]}"))
+    (nodes_in (codes "{\"type\":\"record\",\"name\":\"Node\",\"fields\":[{\"name\":\"v\",\"type\":\"long\"},{\"name\":\"next\",\"type\":[\"null\",\"Node\"]}]}"))
+    (0 ∷ []))
+    ≡ Some (codes "/field:v: TYPE_MISMATCH")
 unfolding serde_json_on_literals digits
 narrowed = refl
 
 -- two records that lead to each other
-pub round_about : option_map shown_text (trail_along (nodes_in (codes "{\"type\":\"record\",\"name\":\"A\",\"fields\":[{\"name\":\"next\",\"type\":[\"null\",{\"type\":\"record\",\"name\":\"B\",\"fields\":[{\"name\":\"back\",\"type\":[\"null\",\"A\"]},{\"name\":\"v\",\"type\":\"int\"}]}]}]}")) (nodes_in (codes "{\"type\":\"record\",\"name\":\"A\",\"fields\":[{\"name\":\"next\",\"type\":[\"null\",{\"type\":\"record\",\"name\":\"B\",\"fields\":[{\"name\":\"back\",\"type\":[\"null\",\"A\"]},{\"name\":\"v\",\"type\":\"long\"}]}]}]}")) (0 ∷ 1 ∷ 0 ∷ 1 ∷ [])) ≡ Some (codes "/field:next/writer:1/reader:1/field:v: TYPE_MISMATCH")
+pub round_about : option_map shown_text (
+    trail_along
+    (nodes_in (codes "{\"type\":\"record\",\"name\":\"A\",\"fields\":[{\"name\":\"next\",\"type\":[\"null\",{\"type\":\"record\",\"name\":\"B\",\"fields\":[{\"name\":\"back\",\"type\":[\"null\",\"A\"]},{\"name\":\"v\",\"type\":\"int\"}]}]}]}"))
+    (nodes_in (codes "{\"type\":\"record\",\"name\":\"A\",\"fields\":[{\"name\":\"next\",\"type\":[\"null\",{\"type\":\"record\",\"name\":\"B\",\"fields\":[{\"name\":\"back\",\"type\":[\"null\",\"A\"]},{\"name\":\"v\",\"type\":\"long\"}]}]}]}"))
+    (0 ∷ 1 ∷ 0 ∷ 1 ∷ []))
+    ≡ Some (codes "/field:next/writer:1/reader:1/field:v: TYPE_MISMATCH")
 unfolding serde_json_on_literals digits
 round_about = refl
 
 -- the first branch that matches is taken, by the last part of its name
-pub first_matching_branch : option_map shown_text (trail_along (nodes_in (codes "[{\"type\":\"record\",\"name\":\"a.R\",\"fields\":[{\"name\":\"x\",\"type\":\"int\"}]},{\"type\":\"record\",\"name\":\"b.R\",\"fields\":[]}]")) (nodes_in (codes "{\"type\":\"record\",\"name\":\"b.R\",\"fields\":[]}")) (0 ∷ [])) ≡ Some (codes "/reader:0: READER_FIELD_MISSING_DEFAULT_VALUE x")
+pub first_matching_branch : option_map shown_text (
+    trail_along
+    (nodes_in (codes "[{\"type\":\"record\",\"name\":\"a.R\",\"fields\":[{\"name\":\"x\",\"type\":\"int\"}]},{\"type\":\"record\",\"name\":\"b.R\",\"fields\":[]}]"))
+    (nodes_in (codes "{\"type\":\"record\",\"name\":\"b.R\",\"fields\":[]}")) (0 ∷ []))
+    ≡ Some (codes "/reader:0: READER_FIELD_MISSING_DEFAULT_VALUE x")
 unfolding serde_json_on_literals digits
 first_matching_branch = refl
 
 -- a symbol that the reader lacks
-pub symbol_gone : option_map shown_text (trail_along (nodes_in (codes "{\"type\":\"enum\",\"name\":\"E\",\"symbols\":[\"A\"]}")) (nodes_in (codes "{\"type\":\"enum\",\"name\":\"E\",\"symbols\":[\"A\",\"B\"]}")) ([])) ≡ Some (codes "/: MISSING_ENUM_SYMBOLS B")
+pub symbol_gone : option_map shown_text (
+    trail_along (nodes_in (codes "{\"type\":\"enum\",\"name\":\"E\",\"symbols\":[\"A\"]}"))
+    (nodes_in (codes "{\"type\":\"enum\",\"name\":\"E\",\"symbols\":[\"A\",\"B\"]}")) ([]))
+    ≡ Some (codes "/: MISSING_ENUM_SYMBOLS B")
 unfolding serde_json_on_literals digits
 symbol_gone = refl
 
 -- unless it has a default
-pub symbol_default : trail_along (nodes_in (codes "{\"type\":\"enum\",\"name\":\"E\",\"symbols\":[\"A\"],\"default\":\"A\"}")) (nodes_in (codes "{\"type\":\"enum\",\"name\":\"E\",\"symbols\":[\"A\",\"B\"]}")) ([]) ≡ None
+pub symbol_default : trail_along (nodes_in (codes "{\"type\":\"enum\",\"name\":\"E\",\"symbols\":[\"A\"],\"default\":\"A\"}"))
+    (nodes_in (codes "{\"type\":\"enum\",\"name\":\"E\",\"symbols\":[\"A\",\"B\"]}")) ([])
+    ≡ None
 unfolding serde_json_on_literals
 symbol_default = refl
 
 -- aliases of a record
-pub renamed : trail_along (nodes_in (codes "{\"type\":\"record\",\"name\":\"New\",\"namespace\":\"x\",\"aliases\":[\"Old\"],\"fields\":[{\"name\":\"q\",\"type\":\"int\",\"aliases\":[\"p\"]}]}")) (nodes_in (codes "{\"type\":\"record\",\"name\":\"x.Old\",\"fields\":[{\"name\":\"p\",\"type\":\"int\"}]}")) ([]) ≡ None
+pub renamed : trail_along
+    (nodes_in (codes "{\"type\":\"record\",\"name\":\"New\",\"namespace\":\"x\",\"aliases\":[\"Old\"],\"fields\":[{\"name\":\"q\",\"type\":\"int\",\"aliases\":[\"p\"]}]}"))
+    (nodes_in (codes "{\"type\":\"record\",\"name\":\"x.Old\",\"fields\":[{\"name\":\"p\",\"type\":\"int\"}]}")) ([])
+    ≡ None
 unfolding serde_json_on_literals
 renamed = refl
 
 -- and of its field
-pub renamed_field : trail_along (nodes_in (codes "{\"type\":\"record\",\"name\":\"New\",\"namespace\":\"x\",\"aliases\":[\"Old\"],\"fields\":[{\"name\":\"q\",\"type\":\"int\",\"aliases\":[\"p\"]}]}")) (nodes_in (codes "{\"type\":\"record\",\"name\":\"x.Old\",\"fields\":[{\"name\":\"p\",\"type\":\"int\"}]}")) (0 ∷ []) ≡ None
+pub renamed_field : trail_along
+    (nodes_in (codes "{\"type\":\"record\",\"name\":\"New\",\"namespace\":\"x\",\"aliases\":[\"Old\"],\"fields\":[{\"name\":\"q\",\"type\":\"int\",\"aliases\":[\"p\"]}]}"))
+    (nodes_in (codes "{\"type\":\"record\",\"name\":\"x.Old\",\"fields\":[{\"name\":\"p\",\"type\":\"int\"}]}")) (0 ∷ [])
+    ≡ None
 unfolding serde_json_on_literals
 renamed_field = refl
 
 -- a new field without a default
-pub field_gone : option_map shown_text (trail_along (nodes_in (codes "{\"type\":\"record\",\"name\":\"R\",\"fields\":[{\"name\":\"a\",\"type\":\"int\"},{\"name\":\"b\",\"type\":\"int\"}]}")) (nodes_in (codes "{\"type\":\"record\",\"name\":\"R\",\"fields\":[{\"name\":\"a\",\"type\":\"int\"}]}")) ([])) ≡ Some (codes "/: READER_FIELD_MISSING_DEFAULT_VALUE b")
+pub field_gone : option_map shown_text (
+    trail_along
+    (nodes_in (
+    codes "{\"type\":\"record\",\"name\":\"R\",\"fields\":[{\"name\":\"a\",\"type\":\"int\"},{\"name\":\"b\",\"type\":\"int\"}]}"))
+    (nodes_in (codes "{\"type\":\"record\",\"name\":\"R\",\"fields\":[{\"name\":\"a\",\"type\":\"int\"}]}")) ([]))
+    ≡ Some (codes "/: READER_FIELD_MISSING_DEFAULT_VALUE b")
 unfolding serde_json_on_literals digits
 field_gone = refl
 
 -- one reader type against two writer types of its last part
-pub by_last_part : option_map shown_text (trail_along (nodes_in (codes "{\"type\":\"record\",\"name\":\"R\",\"fields\":[{\"name\":\"x\",\"type\":{\"type\":\"record\",\"name\":\"M\",\"fields\":[{\"name\":\"v\",\"type\":\"int\"}]}},{\"name\":\"y\",\"type\":\"M\"}]}")) (nodes_in (codes "{\"type\":\"record\",\"name\":\"R\",\"fields\":[{\"name\":\"x\",\"type\":{\"type\":\"record\",\"name\":\"a.M\",\"fields\":[{\"name\":\"v\",\"type\":\"int\"}]}},{\"name\":\"y\",\"type\":{\"type\":\"record\",\"name\":\"b.M\",\"fields\":[{\"name\":\"v\",\"type\":\"string\"}]}}]}")) (1 ∷ 0 ∷ [])) ≡ Some (codes "/field:y/field:v: TYPE_MISMATCH")
+pub by_last_part : option_map shown_text (
+    trail_along
+    (nodes_in (codes "{\"type\":\"record\",\"name\":\"R\",\"fields\":[{\"name\":\"x\",\"type\":{\"type\":\"record\",\"name\":\"M\",\"fields\":[{\"name\":\"v\",\"type\":\"int\"}]}},{\"name\":\"y\",\"type\":\"M\"}]}"))
+    (nodes_in (codes "{\"type\":\"record\",\"name\":\"R\",\"fields\":[{\"name\":\"x\",\"type\":{\"type\":\"record\",\"name\":\"a.M\",\"fields\":[{\"name\":\"v\",\"type\":\"int\"}]}},{\"name\":\"y\",\"type\":{\"type\":\"record\",\"name\":\"b.M\",\"fields\":[{\"name\":\"v\",\"type\":\"string\"}]}}]}"))
+    (1 ∷ 0 ∷ []))
+    ≡ Some (codes "/field:y/field:v: TYPE_MISMATCH")
 unfolding serde_json_on_literals digits
 by_last_part = refl
 
 -- two clashes at one depth, of which the first in the reader's order is shown
 abbrev two_strings : List Node
-two_strings = nodes_in (codes "{\"type\":\"record\",\"name\":\"R\",\"fields\":[{\"name\":\"b\",\"type\":\"string\"},{\"name\":\"a\",\"type\":\"string\"}]}")
+two_strings =
+    nodes_in (
+    codes "{\"type\":\"record\",\"name\":\"R\",\"fields\":[{\"name\":\"b\",\"type\":\"string\"},{\"name\":\"a\",\"type\":\"string\"}]}")
 
 abbrev two_ints : List Node
-two_ints = nodes_in (codes "{\"type\":\"record\",\"name\":\"R\",\"fields\":[{\"name\":\"a\",\"type\":\"int\"},{\"name\":\"b\",\"type\":\"int\"}]}")
+two_ints =
+    nodes_in (codes "{\"type\":\"record\",\"name\":\"R\",\"fields\":[{\"name\":\"a\",\"type\":\"int\"},{\"name\":\"b\",\"type\":\"int\"}]}")
 
 pub in_readers_order : option_map shown_text (trail_along two_ints two_strings (0 ∷ [])) ≡ Some (codes "/field:a: TYPE_MISMATCH")
 unfolding serde_json_on_literals digits
 in_readers_order = refl
 
 -- no branch of the empty union matches
-pub empty_reader : option_map shown_text (trail_along (nodes_in (codes "[]")) (nodes_in (codes "\"int\"")) []) ≡ Some (codes "/: MISSING_UNION_BRANCH")
+pub empty_reader : option_map shown_text (trail_along (nodes_in (codes "[]")) (nodes_in (codes "\"int\"")) [])
+    ≡ Some (codes "/: MISSING_UNION_BRANCH")
 unfolding serde_json_on_literals digits
 empty_reader = refl
 
@@ -94,7 +137,8 @@ empty_writer (k ∷ ks) = refl
 abbrev two_records : List Node
 two_records = nodes_in (codes "[{\"type\":\"record\",\"name\":\"a.R\",\"fields\":[{\"name\":\"x\",\"type\":\"int\"}]},{\"type\":\"record\",\"name\":\"b.R\",\"fields\":[]}]")
 
-pub with_itself : option_map shown_text (trail_along two_records two_records (1 ∷ 0 ∷ [])) ≡ Some (codes "/writer:1/reader:0: READER_FIELD_MISSING_DEFAULT_VALUE x")
+pub with_itself : option_map shown_text (trail_along two_records two_records (1 ∷ 0 ∷ []))
+    ≡ Some (codes "/writer:1/reader:0: READER_FIELD_MISSING_DEFAULT_VALUE x")
 unfolding serde_json_on_literals digits
 with_itself = refl
 

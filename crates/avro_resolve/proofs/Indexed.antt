@@ -34,7 +34,8 @@ use Rattle.avro_resolve.proofs.Sound.{below_length}
 -- ---- the first of two
 
 module _ (p q : NodeId → Bool) where
-  pub same_finds : (n : ℕ) (bs : List NodeId) → All (λ b. p b ≡ q b) bs → find (λ b. p b.1) (enumerate_from n bs) ≡ find (λ b. q b.1) (enumerate_from n bs)
+  pub same_finds : (n : ℕ) (bs : List NodeId) → All (λ b. p b ≡ q b) bs
+      → find (λ b. p b.1) (enumerate_from n bs) ≡ find (λ b. q b.1) (enumerate_from n bs)
   same_finds n [] all = refl
   same_finds n (b ∷ bs) all =
       ap (λ t. cond t (Some (n, b)) (find (λ (c : ℕ × NodeId). p c.1) (enumerate_from (n + 1) bs))) (All-head (λ c. p c ≡ q c) b bs all)
@@ -44,7 +45,8 @@ numbered_from : (q : NodeId → Bool) (n : ℕ) (bs : List NodeId) (y : ℕ × N
 numbered_from q n [] y e = cc
 numbered_from q n (b ∷ bs) y e = go (q b) (numbered_from q (n + 1) bs y) e
   where
-    go : (t : Bool) → (find (λ (c : ℕ × NodeId). q c.1) (enumerate_from (n + 1) bs) ≡ Some y → n + 1 ≤ y.0) → cond t (Some (n, b)) (find (λ (c : ℕ × NodeId). q c.1) (enumerate_from (n + 1) bs)) ≡ Some y → n ≤ y.0
+    go : (t : Bool) → (find (λ (c : ℕ × NodeId). q c.1) (enumerate_from (n + 1) bs) ≡ Some y → n + 1 ≤ y.0)
+        → cond t (Some (n, b)) (find (λ (c : ℕ × NodeId). q c.1) (enumerate_from (n + 1) bs)) ≡ Some y → n ≤ y.0
     go true later e = let same : n ≡ y.0 = cc in omega (arith, same)
     go false later e = let above = later e in omega (arith, above)
 
@@ -62,7 +64,9 @@ second_here x (Some y) later = ap (λ t. cond t (Some y) (Some x)) (lt-leb y.0 x
 
 module _ (p q : NodeId → Bool) where
   -- the first of which one or the other holds
-  pub first_of_either : (n : ℕ) (bs : List NodeId) → earlier (find (λ b. p b.1) (enumerate_from n bs)) (find (λ b. q b.1) (enumerate_from n bs)) ≡ find (λ b. p b.1 || q b.1) (enumerate_from n bs)
+  pub first_of_either : (n : ℕ) (bs : List NodeId)
+      → earlier (find (λ b. p b.1) (enumerate_from n bs)) (find (λ b. q b.1) (enumerate_from n bs))
+      ≡ find (λ b. p b.1 || q b.1) (enumerate_from n bs)
   first_of_either n [] = refl
   first_of_either n (b ∷ bs) = go (p b) (q b) (first_of_either (n + 1) bs)
     where
@@ -72,7 +76,9 @@ module _ (p q : NodeId → Bool) where
       qs : Option (ℕ × NodeId)
       qs = find (λ (c : ℕ × NodeId). q c.1) (enumerate_from (n + 1) bs)
 
-      go : (s t : Bool) → earlier ps qs ≡ find (λ (c : ℕ × NodeId). p c.1 || q c.1) (enumerate_from (n + 1) bs) → earlier (cond s (Some (n, b)) ps) (cond t (Some (n, b)) qs) ≡ cond (s || t) (Some (n, b)) (find (λ (c : ℕ × NodeId). p c.1 || q c.1) (enumerate_from (n + 1) bs))
+      go : (s t : Bool) → earlier ps qs ≡ find (λ (c : ℕ × NodeId). p c.1 || q c.1) (enumerate_from (n + 1) bs)
+          → earlier (cond s (Some (n, b)) ps) (cond t (Some (n, b)) qs)
+          ≡ cond (s || t) (Some (n, b)) (find (λ (c : ℕ × NodeId). p c.1 || q c.1) (enumerate_from (n + 1) bs))
       go true true rest = cond_same (leb n n) (Some (n, b))
       go true false rest = first_here (n, b) qs (λ y e. let later = numbered_from q (n + 1) bs y e in omega (arith, later))
       go false true rest = second_here (n, b) ps (λ y e. let later = numbered_from p (n + 1) bs y e in omega (arith, later))
@@ -83,16 +89,21 @@ pub find-filter : {A : Type 0} (p q : A → Bool) → ((x : A) → p x ≡ true 
 find-filter p q passes [] = refl
 find-filter p q passes (x ∷ xs) = go (find-filter p q passes xs) (q x) refl (p x) refl
   where
-    go : find p (filter q xs) ≡ find p xs → (s : Bool) → q x ≡ s → (t : Bool) → p x ≡ t → find p (cond s (x ∷ filter q xs) (filter q xs)) ≡ cond (p x) (Some x) (find p xs)
+    go : find p (filter q xs) ≡ find p xs → (s : Bool) → q x ≡ s → (t : Bool) → p x ≡ t
+        → find p (cond s (x ∷ filter q xs) (filter q xs)) ≡ cond (p x) (Some x) (find p xs)
     go rest true is t has = ap (cond (p x) (Some x)) rest
     go rest false is true has = let no : true ≡ false = sym (passes x has) ∙ is in cc
     go rest false is false has = rest ∙ sym (ap (λ u. cond u (Some x) (find p xs)) has)
 
 -- ---- one branch more
 
-pub enumerate_push : (n : ℕ) (bs : List NodeId) (b : NodeId) → enumerate_from n (bs ++ b ∷ []) ≡ enumerate_from n bs ++ (n + length bs, b) ∷ []
+pub enumerate_push : (n : ℕ) (bs : List NodeId) (b : NodeId)
+    → enumerate_from n (bs ++ b ∷ []) ≡ enumerate_from n bs ++ (n + length bs, b) ∷ []
 enumerate_push n [] b = let e : n ≡ n + 0 = omega arith in ap (λ m. (m, b) ∷ []) e
-enumerate_push n (c ∷ bs) b = ap (λ xs. (n, c) ∷ xs) (enumerate_push (n + 1) bs b ∙ (let e : n + 1 + length bs ≡ n + suc (length bs) = omega arith in ap (λ m. enumerate_from (n + 1) bs ++ (m, b) ∷ []) e))
+enumerate_push n (c ∷ bs) b =
+    ap (λ xs. (n, c) ∷ xs)
+    (enumerate_push (n + 1) bs b
+    ∙ (let e : n + 1 + length bs ≡ n + suc (length bs) = omega arith in ap (λ m. enumerate_from (n + 1) bs ++ (m, b) ∷ []) e))
 
 -- ---- maps
 
@@ -108,7 +119,9 @@ module _ {K X : Type 0} {R : K → K → Ordering} (order : IsTotalOrder R) wher
 
       go : (es : List (K × X)) → lookup (is_at (R q)) es ≡ lookup (is_at (R k)) es
       go [] = refl
-      go (e ∷ es) = ap (λ o. cond (is_eq o) (Some e.1) (lookup (is_at (R q)) es)) (sym (order.congr k q e.0 (is_tie (R k q) tie))) ∙ ap (cond (is_eq (R k e.0)) (Some e.1)) (go es)
+      go (e ∷ es) =
+          ap (λ o. cond (is_eq o) (Some e.1) (lookup (is_at (R q)) es)) (sym (order.congr k q e.0 (is_tie (R k q) tie)))
+          ∙ ap (cond (is_eq (R k e.0)) (Some e.1)) (go es)
 
 pub or_none : {A : Type 0} (o : Option A) → option_or o None ≡ o
 or_none None = refl
@@ -122,7 +135,8 @@ module _ (b : ℕ × NodeId) where
   abbrev pub with_one : Bool → Option (ℕ × NodeId) → Option (ℕ × NodeId)
   with_one here was = option_or was (cond here (Some b) None)
 
-  pub label_new : (m n : Labelled) (k : Label) → get label_cmp m k ≡ None → ((q : Label) → get label_cmp n q ≡ cond (is_at (label_cmp k) q) (Some b) (get label_cmp m q))
+  pub label_new : (m n : Labelled) (k : Label) → get label_cmp m k ≡ None
+      → ((q : Label) → get label_cmp n q ≡ cond (is_at (label_cmp k) q) (Some b) (get label_cmp m q))
       → (q : Label) → get label_cmp n q ≡ with_one (is_at (label_cmp k) q) (get label_cmp m q)
   label_new m n k free updated q = updated q ∙ go (is_at (label_cmp k) q) refl
     where
@@ -130,7 +144,8 @@ module _ (b : ℕ × NodeId) where
       go true is = ap (with_one true) (sym (get_alike total-law m k q is ∙ free))
       go false is = sym (or_none (get label_cmp m q))
 
-  pub label_old : (m : Labelled) (k : Label) → is_some (get label_cmp m k) ≡ true → (q : Label) → get label_cmp m q ≡ with_one (is_at (label_cmp k) q) (get label_cmp m q)
+  pub label_old : (m : Labelled) (k : Label) → is_some (get label_cmp m k) ≡ true
+      → (q : Label) → get label_cmp m q ≡ with_one (is_at (label_cmp k) q) (get label_cmp m q)
   label_old m k has q = go (is_at (label_cmp k) q) refl
     where
       some_first : (o : Option (ℕ × NodeId)) → is_some o ≡ true → o ≡ option_or o (Some b)
@@ -169,7 +184,12 @@ module _ (b : ℕ × NodeId) (start old new : Labelled) (k : Label) (q : Label)
       ∙ ap (with_one b (is_at (label_cmp k) q)) so_far
       ∙ with_two b (list_any P (take i al)) (is_at (label_cmp k) q) (get label_cmp start q)
       ∙ ap (λ t. with_one b t (get label_cmp start q))
-      (ap (λ t. list_any P (take i al) || t) (is_at_label k q ∙ ap (λ t. is_label t k.name.now (option_copied k.namespace) q) ks ∙ ap (λ n. is_label s n (option_copied k.namespace) q) kn ∙ ap (λ n. is_label s a.name n q) km ∙ last_any (P a))
+      (ap (λ t. list_any P (take i al) || t)
+      (is_at_label k q
+      ∙ ap (λ t. is_label t k.name.now (option_copied k.namespace) q) ks
+      ∙ ap (λ n. is_label s n (option_copied k.namespace) q) kn
+      ∙ ap (λ n. is_label s a.name n q) km
+      ∙ last_any (P a))
       ∙ sym (list_any-append P (take i al) (a ∷ []))
       ∙ ap (list_any P) (ap (λ c. take i al ++ c ∷ []) is ∙ sym (take-suc al i a inside) ∙ ap (λ n. take n al) (sym (add-one i))))
     where
@@ -185,16 +205,22 @@ module _ (b : ℕ × NodeId) (start old new : Labelled) (k : Label) (q : Label)
       rest
       ∙ ap (with_one b (has_alias h q)) added
       ∙ with_two b (is_at (label_cmp k) q) (has_alias h q) (get label_cmp old q)
-      ∙ ap (λ t. with_one b (t || has_alias h q) (get label_cmp old q)) (is_at_label k q ∙ ap (λ t. is_label t k.name.now (option_copied k.namespace) q) ks ∙ ap (λ n. is_label h.0 n (option_copied k.namespace) q) kn ∙ ap (λ n. is_label h.0 h.1.name (option_copied n) q) km)
+      ∙ ap (λ t. with_one b (t || has_alias h q) (get label_cmp old q))
+      (is_at_label k q
+      ∙ ap (λ t. is_label t k.name.now (option_copied k.namespace) q) ks
+      ∙ ap (λ n. is_label h.0 n (option_copied k.namespace) q) kn
+      ∙ ap (λ n. is_label h.0 h.1.name (option_copied n) q) km)
 
 -- of a type by its head
-pub head_labels : (o : Option Node) (h : Head) → Some h ≡ heading_of o → (b : ℕ × NodeId) (was : Option (ℕ × NodeId)) (q : Label) → with_one b (is_labelled h q) was ≡ with_one b (has_label o q) was
+pub head_labels : (o : Option Node) (h : Head) → Some h ≡ heading_of o → (b : ℕ × NodeId) (was : Option (ℕ × NodeId)) (q : Label)
+    → with_one b (is_labelled h q) was ≡ with_one b (has_label o q) was
 head_labels o h is b was q = ap (λ (p : Option Head). with_one b (option_map_or (λ h. is_labelled h q) p false) was) is
 
 pub head_named : (o : Option Node) (h : Head) → Some h ≡ heading_of o → is_unnamed o ≡ false
 head_named o h is = ap is_none (sym is)
 
-pub no_labels : (o : Option Node) → None ≡ heading_of o → (b : ℕ × NodeId) (was : Option (ℕ × NodeId)) (q : Label) → was ≡ with_one b (has_label o q) was
+pub no_labels : (o : Option Node) → None ≡ heading_of o
+    → (b : ℕ × NodeId) (was : Option (ℕ × NodeId)) (q : Label) → was ≡ with_one b (has_label o q) was
 no_labels o is b was q = sym (or_none was) ∙ ap (λ (p : Option Head). with_one b (option_map_or (λ h. is_labelled h q) p false) was) is
 
 pub no_name : (o : Option Node) → None ≡ heading_of o → is_unnamed o ≡ true
@@ -204,14 +230,17 @@ no_name o is = ap is_none (sym is)
 
 module _ (r : List Node) (bs : List NodeId) (k : ℕ) (x : NodeId) (node : Node) (old new : Branches)
     (inside : k < length bs) (is : x ≡ get_or bs k x) (at : slice_get r x.index ≡ Some node)
-    (labelled : (l : Label) → get label_cmp new.labelled l ≡ option_or (get label_cmp old.labelled l) (cond (has_label (Some node) l) (Some (k, x)) None))
+    (labelled : (l : Label)
+    → get label_cmp new.labelled l ≡ option_or (get label_cmp old.labelled l) (cond (has_label (Some node) l) (Some (k, x)) None))
     (unnamed : new.unnamed.items ≡ cond (is_unnamed (Some node)) (old.unnamed.items ++ (k, x) ∷ []) old.unnamed.items)
     (i : IsIndex r (take k bs) old) where
   more : enumerate_from 0 (take (k + 1) bs) ≡ enumerate_from 0 (take k bs) ++ (k, x) ∷ []
   more =
       ap (enumerate_from 0) (ap (λ n. take n bs) (add-one k) ∙ take-suc bs k x inside ∙ ap (λ y. take k bs ++ y ∷ []) (sym is))
       ∙ enumerate_push 0 (take k bs) x
-      ∙ ap (λ n. enumerate_from 0 (take k bs) ++ (n, x) ∷ []) (let e : length (take k bs) ≡ k = length-take-le k bs (omega (arith, inside)) in let f : 0 + length (take k bs) ≡ k = omega (arith, e) in f)
+      ∙ ap (λ n. enumerate_from 0 (take k bs) ++ (n, x) ∷ [])
+      (let e : length (take k bs) ≡ k = length-take-le k bs (omega (arith, inside)) in
+      let f : 0 + length (take k bs) ≡ k = omega (arith, e) in f)
 
   pub index_more : IsIndex r (take (k + 1) bs) new
   index_more = record {
@@ -244,13 +273,15 @@ module _ (r : List Node) (bs : List NodeId) (k : ℕ) (x : NodeId) (node : Node)
 -- ---- unions
 
 -- no branch of a union is a union
-pub flat_branches : (r : List Node) → IsSound r → (i : ℕ) → All (λ (b : NodeId). (cs : List NodeId) → slice_get r b.index ≢ Some (kind.Union cs)) (branches_in (slice_get r i))
+pub flat_branches : (r : List Node) → IsSound r → (i : ℕ)
+    → All (λ (b : NodeId). (cs : List NodeId) → slice_get r b.index ≢ Some (kind.Union cs)) (branches_in (slice_get r i))
 flat_branches r sound i = go (slice_get r i) refl
   where
     none : All (λ (b : NodeId). (cs : List NodeId) → slice_get r b.index ≢ Some (kind.Union cs)) []
     none = λ k d within. absurd (omega (arith, within))
 
-    go : (o : Option Node) → slice_get r i ≡ o → All (λ (b : NodeId). (cs : List NodeId) → slice_get r b.index ≢ Some (kind.Union cs)) (branches_in o)
+    go : (o : Option Node) → slice_get r i ≡ o
+        → All (λ (b : NodeId). (cs : List NodeId) → slice_get r b.index ≢ Some (kind.Union cs)) (branches_in o)
     go (Some (kind.Union bs)) at = sound.flat_unions i bs at
     go None at = none
     go (Some (kind.Primitive p)) at = none
@@ -261,24 +292,30 @@ flat_branches r sound i = go (slice_get r i) refl
     go (Some (kind.Map j)) at = none
 
 -- one index more
-pub indexes_more : (r : List Node) (old new : BTreeMap ℕ Branches) (i : ℕ) (x : Branches) (bs : List NodeId) → AreIndexes r old → IsIndex r bs x → branches_in (slice_get r i) ≡ bs
+pub indexes_more : (r : List Node) (old new : BTreeMap ℕ Branches) (i : ℕ) (x : Branches) (bs : List NodeId)
+    → AreIndexes r old → IsIndex r bs x → branches_in (slice_get r i) ≡ bs
     → ((q : ℕ) → get nat_cmp new q ≡ cond (is_at (nat_cmp i) q) (Some x) (get nat_cmp old q)) → AreIndexes r new
-indexes_more r old new i x bs made index is updated = λ q y e. go q y (eqb i q) refl (ap (λ t. cond t (Some x) (get nat_cmp old q)) (sym (is_eq-nat_cmp i q)) ∙ sym (updated q) ∙ e)
+indexes_more r old new i x bs made index is updated =
+    λ q y e. go q y (eqb i q) refl (ap (λ t. cond t (Some x) (get nat_cmp old q)) (sym (is_eq-nat_cmp i q)) ∙ sym (updated q) ∙ e)
   where
-    go : (q : ℕ) (y : Branches) (t : Bool) → eqb i q ≡ t → cond (eqb i q) (Some x) (get nat_cmp old q) ≡ Some y → IsIndex r (branches_in (slice_get r q)) y
+    go : (q : ℕ) (y : Branches) (t : Bool) → eqb i q ≡ t
+        → cond (eqb i q) (Some x) (get nat_cmp old q) ≡ Some y → IsIndex r (branches_in (slice_get r q)) y
     go q y true same e =
         let here : Some x ≡ Some y = ap (λ t. cond t (Some x) (get nat_cmp old q)) (sym same) ∙ e in
         let one : x ≡ y = cc in
-        subst (λ n. IsIndex r (branches_in (slice_get r n)) y) (eqb-true i q same) (subst (λ cs. IsIndex r cs y) (sym is) (subst (IsIndex r bs) one index))
+        subst (λ n. IsIndex r (branches_in (slice_get r n)) y) (eqb-true i q same)
+        (subst (λ cs. IsIndex r cs y) (sym is) (subst (IsIndex r bs) one index))
     go q y false apart e = made q y (ap (λ t. cond t (Some x) (get nat_cmp old q)) (sym apart) ∙ e)
 
 -- ---- the first branch that matches
 
-module _ (r w : List Node) (i : ℕ) (j : NodeId) (n : Node) (x : Branches) (index : IsIndex r (branches_in (slice_get r i)) x) (at : slice_get w j.index ≡ Some n) where
+module _ (r w : List Node) (i : ℕ) (j : NodeId) (n : Node) (x : Branches)
+    (index : IsIndex r (branches_in (slice_get r i)) x) (at : slice_get w j.index ≡ Some n) where
   pub first_labelled : IsSound r → (k : Head) (l f : Label) → heading_of (Some n) ≡ Some k
       → l.shape ≡ k.0 → l.name.now ≡ k.1.name → option_copied l.namespace ≡ None
       → f.shape ≡ k.0 → f.name.now ≡ k.1.name → option_copied f.namespace ≡ Some k.1.namespace
-      → earlier (get label_cmp x.labelled l) (get label_cmp x.labelled f) ≡ find (λ b. matches r w b.1 j) (enumerate_from 0 (branches_in (slice_get r i)))
+      → earlier (get label_cmp x.labelled l) (get label_cmp x.labelled f)
+      ≡ find (λ b. matches r w b.1 j) (enumerate_from 0 (branches_in (slice_get r i)))
   first_labelled sound k l f is ls ln lm fs fn fm =
       let bs = branches_in (slice_get r i) in
       let P : NodeId → Bool = λ b. has_label (slice_get r b.index) l in
@@ -290,13 +327,17 @@ module _ (r w : List Node) (i : ℕ) (j : NodeId) (n : Node) (x : Branches) (ind
       ∙ same_finds (λ b. P b || Q b) M 0 bs
       (λ m d within.
       let b = get_or bs m d in
-      by_labels (λ k l. matches_within (length r) r w k l) (slice_get r b.index) n k l f is (flat_branches r sound i m d within) ls ln lm fs fn fm
+      by_labels (λ k l. matches_within (length r) r w k l) (slice_get r b.index) n k l f is
+      (flat_branches r sound i m d within) ls ln lm fs fn fm
       ∙ ap (both (nodes_match (λ k l. matches_within (length r) r w k l)) (slice_get r b.index)) (sym at))
 
-  pub first_unlabelled : heading_of (Some n) ≡ None → ((bs : List NodeId) → n ≢ kind.Union bs) → find (λ b. matches r w b.1 j) x.unnamed.items ≡ find (λ b. matches r w b.1 j) (enumerate_from 0 (branches_in (slice_get r i)))
+  pub first_unlabelled : heading_of (Some n) ≡ None → ((bs : List NodeId) → n ≢ kind.Union bs)
+      → find (λ b. matches r w b.1 j) x.unnamed.items ≡ find (λ b. matches r w b.1 j) (enumerate_from 0 (branches_in (slice_get r i)))
   first_unlabelled is plain =
       let M : ℕ × NodeId → Bool = λ b. matches r w b.1 j in
       ap (find M) index.unnamed
       ∙ find-filter M (λ b. is_unnamed (slice_get r b.1.index))
-      (λ b e. by_no_label (λ k l. matches_within (length r) r w k l) (slice_get r b.1.index) n is plain (ap (both (nodes_match (λ k l. matches_within (length r) r w k l)) (slice_get r b.1.index)) (sym at) ∙ e))
+      (λ b e.
+      by_no_label (λ k l. matches_within (length r) r w k l) (slice_get r b.1.index) n is plain
+      (ap (both (nodes_match (λ k l. matches_within (length r) r w k l)) (slice_get r b.1.index)) (sym at) ∙ e))
       (enumerate_from 0 (branches_in (slice_get r i)))

@@ -27,7 +27,8 @@ IsOf a m = inner m ≡ Some a
 abbrev IsEnd : Option Node → Type 0
 IsEnd m = inner m ≡ None
 
-both-same : (p q : NodeId → NodeId → Bool) (m n : Option Node) → ((a b : NodeId) → IsOf a m → p a b ≡ q a b) → both (nodes_match p) m n ≡ both (nodes_match q) m n
+both-same : (p q : NodeId → NodeId → Bool) (m n : Option Node)
+    → ((a b : NodeId) → IsOf a m → p a b ≡ q a b) → both (nodes_match p) m n ≡ both (nodes_match q) m n
 both-same p q (Some (kind.Array a)) (Some (kind.Array b)) h = h a b refl
 both-same p q (Some (kind.Map a)) (Some (kind.Map b)) h = h a b refl
 both-same p q _ _ h = refl
@@ -50,13 +51,18 @@ past_end (m ∷ r) (suc i) h = past_end r i (omega arith)
 module _ (r w : List Node) (s : IsSound r) where
   enough : (n : ℕ) (i j : NodeId) → length r + 1 ≤ n + i.index → matches_within (suc n) r w i j ≡ matches_within n r w i j
   enough zero i j h = ap (λ m. both (nodes_match (λ k l. false)) m (slice_get w j.index)) (past_end r i.index (omega arith))
-  enough (suc n) i j h = both-same (λ k l. matches_within (suc n) r w k l) (λ k l. matches_within n r w k l) (slice_get r i.index) (slice_get w j.index) (λ a b of_a. step n i j a b h of_a (enough n a b))
+  enough (suc n) i j h =
+      both-same (λ k l. matches_within (suc n) r w k l) (λ k l. matches_within n r w k l)
+      (slice_get r i.index) (slice_get w j.index) (λ a b of_a. step n i j a b h of_a (enough n a b))
     where
-      step : (n : ℕ) (i j a b : NodeId) → length r + 1 ≤ suc n + i.index → IsOf a (slice_get r i.index) → (length r + 1 ≤ n + a.index → matches_within (suc n) r w a b ≡ matches_within n r w a b) → matches_within (suc n) r w a b ≡ matches_within n r w a b
+      step : (n : ℕ) (i j a b : NodeId) → length r + 1 ≤ suc n + i.index → IsOf a (slice_get r i.index)
+          → (length r + 1 ≤ n + a.index → matches_within (suc n) r w a b ≡ matches_within n r w a b)
+          → matches_within (suc n) r w a b ≡ matches_within n r w a b
       step zero i j a b h of_a ih = let below : i.index < length r = IsOf-below r i.index a of_a in absurd (omega arith)
       step (suc n) i j a b h of_a ih = elim (s.leads_on i.index a of_a) [
         | inl after ↦ ih (omega arith)
-        | inr ends ↦ both-end (λ k l. matches_within (suc n) r w k l) (λ k l. matches_within n r w k l) (slice_get r a.index) (slice_get w b.index) ends
+        | inr ends ↦ both-end (λ k l. matches_within (suc n) r w k l)
+            (λ k l. matches_within n r w k l) (slice_get r a.index) (slice_get w b.index) ends
       ]
 
   -- the cases, with the relation itself for the parts
@@ -74,7 +80,8 @@ names_itself n al = ap (λ b. b || list_any (same_name n) al) (bytes_itself n.na
 primitive_itself : (p : Primitive) → primitives_match p p ≡ true
 primitive_itself p = ap (λ b. b || list_any (same_primitive p) (promotions p)) (true_same the_type p p refl)
 
-node_itself : (p : NodeId → NodeId → Bool) (m : Option Node) → is_some m ≡ true → ((a : NodeId) → IsOf a m → p a a ≡ true) → both (nodes_match p) m m ≡ true
+node_itself : (p : NodeId → NodeId → Bool) (m : Option Node) → is_some m ≡ true
+    → ((a : NodeId) → IsOf a m → p a a ≡ true) → both (nodes_match p) m m ≡ true
 node_itself p None some h = cc
 node_itself p (Some (kind.Union bs)) some h = refl
 node_itself p (Some (kind.Primitive q)) some h = primitive_itself q
@@ -105,13 +112,18 @@ inner_below r s i a (Some m) at of_a = part_below r s i m at 0 a (inner_part m a
 module _ (r : List Node) (s : IsSound r) where
   itself : (n : ℕ) (i : NodeId) → i.index < length r → length r + 1 ≤ n + i.index → matches_within n r r i i ≡ true
   itself zero i below h = absurd (omega arith)
-  itself (suc n) i below h = node_itself (λ k l. matches_within n r r k l) (slice_get r i.index) (is_some-slice_get r i.index below) (λ a of_a. onward n i a below h of_a (inner_below r s i.index a _ refl of_a) (itself n a))
+  itself (suc n) i below h =
+      node_itself (λ k l. matches_within n r r k l) (slice_get r i.index) (is_some-slice_get r i.index below)
+      (λ a of_a. onward n i a below h of_a (inner_below r s i.index a _ refl of_a) (itself n a))
     where
-      onward : (n : ℕ) (i a : NodeId) → i.index < length r → length r + 1 ≤ suc n + i.index → IsOf a (slice_get r i.index) → a.index < length r → (a.index < length r → length r + 1 ≤ n + a.index → matches_within n r r a a ≡ true) → matches_within n r r a a ≡ true
+      onward : (n : ℕ) (i a : NodeId) → i.index < length r → length r + 1 ≤ suc n + i.index → IsOf a (slice_get r i.index)
+          → a.index < length r → (a.index < length r → length r + 1 ≤ n + a.index → matches_within n r r a a ≡ true)
+          → matches_within n r r a a ≡ true
       onward zero i a below h of_a part ih = absurd (omega arith)
       onward (suc n) i a below h of_a part ih = elim (s.leads_on i.index a of_a) [
         | inl after ↦ ih part (omega arith)
-        | inr ends ↦ node_itself (λ k l. matches_within n r r k l) (slice_get r a.index) (is_some-slice_get r a.index part) (λ b of_b. absurd (of_end b _ ends of_b))
+        | inr ends ↦ node_itself (λ k l. matches_within n r r k l) (slice_get r a.index)
+            (is_some-slice_get r a.index part) (λ b of_b. absurd (of_end b _ ends of_b))
       ]
 
   pub matches_itself : EachMatchesItself r
@@ -142,10 +154,14 @@ writer_part (kind.Array a) (kind.Array b) c d e = let one : (a, b) ≡ (c, d) = 
 writer_part (kind.Map a) (kind.Map b) c d e = let one : (a, b) ≡ (c, d) = cc in ap (λ (x : NodeId × NodeId). Some x.1) one
 writer_part _ _ c d e = cc
 
-module _ {r w : List Node} {i j a b : NodeId} {left : ℕ} (now : IsInward r w i j a b left) {m n : Node} (m_at : slice_get r a.index ≡ Some m) (n_at : slice_get w b.index ≡ Some n) where
+module _ {r w : List Node} {i j a b : NodeId} {left : ℕ} (now : IsInward r w i j a b left)
+    {m n : Node} (m_at : slice_get r a.index ≡ Some m) (n_at : slice_get w b.index ≡ Some n) where
   -- the two nodes decide
   at_nodes : matches r w i j ≡ nodes_match (λ k l. matches_within left r w k l) m n
-  at_nodes = now.decides ∙ ap (λ o. both (nodes_match (λ k l. matches_within left r w k l)) o (slice_get w b.index)) m_at ∙ ap (λ o. both (nodes_match (λ k l. matches_within left r w k l)) (Some m) o) n_at
+  at_nodes =
+      now.decides
+      ∙ ap (λ o. both (nodes_match (λ k l. matches_within left r w k l)) o (slice_get w b.index)) m_at
+      ∙ ap (λ o. both (nodes_match (λ k l. matches_within left r w k l)) (Some m) o) n_at
 
   -- one step on
   pub further : IsSound r → IsSound w → (c d : NodeId) → inner_types m n ≡ Some (c, d) → left ≢ 0 → IsInward r w i j c d (left - 1)

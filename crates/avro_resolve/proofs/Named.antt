@@ -17,7 +17,8 @@ use Rattle.avro_resolve.specs.Pairing.{partner}
 HaveDistinctNames-rest : (f : Field) (fs : List Field) → HaveDistinctNames (f ∷ fs) → HaveDistinctNames fs
 HaveDistinctNames-rest f fs distinct a b g h at_a at_b same = let more : suc a ≡ suc b = distinct (suc a) (suc b) g h at_a at_b same in cc
 
-pub named_at : (fs : List Field) → HaveDistinctNames fs → (k : ℕ) (g : Field) (s : List ℕ) → slice_get fs k ≡ Some g → g.name ≡ s → field_named fs s ≡ Some g
+pub named_at : (fs : List Field) → HaveDistinctNames fs → (k : ℕ) (g : Field) (s : List ℕ)
+    → slice_get fs k ≡ Some g → g.name ≡ s → field_named fs s ≡ Some g
 named_at [] distinct k g s at same = cc
 named_at (f ∷ fs) distinct zero g s at same =
     let one : f ≡ g = cc in
@@ -26,15 +27,20 @@ named_at (f ∷ fs) distinct zero g s at same =
   where
     here : bytes_eq f.name s ≡ true → f ≡ g → field_named (f ∷ fs) s ≡ Some g
     here matches one = rw matches (ap Some one)
-named_at (f ∷ fs) distinct (suc k) g s at same = go (bytes_eq f.name s) refl (named_at fs (HaveDistinctNames-rest f fs distinct) k g s at same)
+named_at (f ∷ fs) distinct (suc k) g s at same =
+    go (bytes_eq f.name s) refl (named_at fs (HaveDistinctNames-rest f fs distinct) k g s at same)
   where
     go : (b : Bool) → bytes_eq f.name s ≡ b → field_named fs s ≡ Some g → field_named (f ∷ fs) s ≡ Some g
     go true is rest = let no : 0 ≡ suc k = distinct 0 (suc k) f g refl at ((bytes_eq-Decides f.name s).0 is ∙ sym same) in cc
     go false is rest = rw is rest
 
 -- it is the partner of a field of that name
-pub partner_at : (fs : List Field) (f : Field) → HaveDistinctNames fs → (k : ℕ) (g : Field) → slice_get fs k ≡ Some g → bytes_eq g.name f.name ≡ true → Some g ≡ partner fs f
-partner_at fs f distinct k g at same = sym (ap (λ o. slice_get (cons_option o (filter_map (field_named fs) f.aliases)) 0) (named_at fs distinct k g f.name at ((bytes_eq-Decides g.name f.name).0 same)))
+pub partner_at : (fs : List Field) (f : Field) → HaveDistinctNames fs → (k : ℕ) (g : Field)
+    → slice_get fs k ≡ Some g → bytes_eq g.name f.name ≡ true → Some g ≡ partner fs f
+partner_at fs f distinct k g at same =
+    sym (
+    ap (λ o. slice_get (cons_option o (filter_map (field_named fs) f.aliases)) 0)
+    (named_at fs distinct k g f.name at ((bytes_eq-Decides g.name f.name).0 same)))
 
 -- a text at a place is one of the texts
 pub text_at : (ts : List (List ℕ)) (k : ℕ) (t s : List ℕ) → slice_get ts k ≡ Some t → bytes_eq s t ≡ true → true ≡ has_text ts s
@@ -66,7 +72,8 @@ module _ {X : Type 0} (p : X → Bool) (xs : List X) where
       let past = no_place (nat_lt (position_or_len p xs) (length xs)) e in
       find_at p xs ∙ slice_get_past xs (position_or_len p xs) (ltb-false (position_or_len p xs) (length xs) past)
 
-  known_if : (d : X) (b : Bool) → nat_lt (position_or_len p xs) (length xs) ≡ b → is_some (cond b (Some (position_or_len p xs)) None) ≡ list_any p xs
+  known_if : (d : X) (b : Bool) → nat_lt (position_or_len p xs) (length xs) ≡ b
+      → is_some (cond b (Some (position_or_len p xs)) None) ≡ list_any p xs
   known_if d true e =
       let inside = ltb-true (position_or_len p xs) (length xs) e in
       sym (list_any_at p xs (position_or_len p xs) d inside (passes_at_first p xs d inside))
@@ -78,7 +85,8 @@ module _ {X : Type 0} (p : X → Bool) (xs : List X) where
   known_by_place d = let lt = nat_lt (position_or_len p xs) (length xs) in known_if d lt refl
 
 -- the field of a field's own name is its partner
-pub partner_of_place : (fs : List Field) (f : Field) (k : ℕ) → position (λ g. bytes_eq g.name f.name) fs ≡ Some k → slice_get fs k ≡ partner fs f
+pub partner_of_place : (fs : List Field) (f : Field) (k : ℕ)
+    → position (λ g. bytes_eq g.name f.name) fs ≡ Some k → slice_get fs k ≡ partner fs f
 partner_of_place fs f k e =
     let (inside, there) = found_at (λ (g : Field). bytes_eq g.name f.name) fs k e in
     elim ((slice_get_cases fs k).1) [
@@ -87,8 +95,12 @@ partner_of_place fs f k e =
     ]
 
 -- where there is none, it is that of the first alias with one
-pub partner_of_aliases : (fs : List Field) (f : Field) → position (λ g. bytes_eq g.name f.name) fs ≡ None → slice_get (filter_map (field_named fs) f.aliases) 0 ≡ partner fs f
-partner_of_aliases fs f e = sym (ap (λ o. slice_get (cons_option o (filter_map (field_named fs) f.aliases)) 0) (found_nowhere (λ (g : Field). bytes_eq g.name f.name) fs e))
+pub partner_of_aliases : (fs : List Field) (f : Field) → position (λ g. bytes_eq g.name f.name) fs ≡ None
+    → slice_get (filter_map (field_named fs) f.aliases) 0 ≡ partner fs f
+partner_of_aliases fs f e =
+    sym (
+    ap (λ o. slice_get (cons_option o (filter_map (field_named fs) f.aliases)) 0)
+    (found_nowhere (λ (g : Field). bytes_eq g.name f.name) fs e))
 
 -- a text is one of the texts exactly where it has a place among them
 pub known_text : (ts : List (List ℕ)) (s : List ℕ) → is_some (position (λ t. bytes_eq t s) ts) ≡ has_text ts s

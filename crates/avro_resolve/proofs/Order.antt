@@ -70,7 +70,8 @@ Earlier-append (k ∷ ks) (l ∷ ls) ms ns (inr a) = inr (a.0, Earlier-append ks
 -- what is reached from the earlier is reached before what is reached from the later
 pub Before-children : (ks ls : List ℕ) (m n : ℕ) → Before ks ls → Before (ks ++ m ∷ []) (ls ++ n ∷ [])
 Before-children ks ls m n (inl a) = inl (omega (arith, length-append ks (m ∷ []), length-append ls (n ∷ [])))
-Before-children ks ls m n (inr a) = inr (omega (arith, a.0, length-append ks (m ∷ []), length-append ls (n ∷ [])), Earlier-append ks ls (m ∷ []) (n ∷ []) a.1)
+Before-children ks ls m n (inr a) =
+    inr (omega (arith, a.0, length-append ks (m ∷ []), length-append ls (n ∷ [])), Earlier-append ks ls (m ∷ []) (n ∷ []) a.1)
 
 last_earlier : (ks : List ℕ) (m n : ℕ) → m < n → Earlier (ks ++ m ∷ []) (ks ++ n ∷ [])
 last_earlier [] m n h = inl h

@@ -28,9 +28,11 @@ pub record AreOwed (gs fs : List Field) (i : ℕ) (owed : List Pair) : Type 0 wh
 pub owed_first : (gs fs : List Field) (owed : List Pair) → owed ≡ [] → AreOwed gs fs 0 owed
 owed_first gs fs owed none = record { pairs = ap (λ l. l ++ pairs_of (filter_map (to_partner gs) fs)) none; none_lacks = refl }
 
-module _ (gs fs : List Field) (i : ℕ) (owed : List Pair) (now : AreOwed gs fs i owed) (f : Field) (at : drop i fs ≡ f ∷ drop (i + 1) fs) where
+module _ (gs fs : List Field) (i : ℕ) (owed : List Pair) (now : AreOwed gs fs i owed)
+    (f : Field) (at : drop i fs ≡ f ∷ drop (i + 1) fs) where
   -- the field has a partner
-  pub owed_pair : (g : Field) → Some g ≡ partner gs f → (new : List Pair) → new ≡ owed ++ (to_field f g).pair ∷ [] → AreOwed gs fs (i + 1) new
+  pub owed_pair : (g : Field) → Some g ≡ partner gs f → (new : List Pair)
+      → new ≡ owed ++ (to_field f g).pair ∷ [] → AreOwed gs fs (i + 1) new
   owed_pair g has new is = record {
     pairs =
         ap (λ l. l ++ pairs_of (filter_map (to_partner gs) (drop (i + 1) fs))) is
@@ -38,7 +40,9 @@ module _ (gs fs : List Field) (i : ℕ) (owed : List Pair) (now : AreOwed gs fs 
         ∙ ap (λ o. owed ++ pairs_of (cons_option (option_map (to_field f) o) (filter_map (to_partner gs) (drop (i + 1) fs)))) has
         ∙ ap (λ l. owed ++ pairs_of (filter_map (to_partner gs) l)) (sym at)
         ∙ now.pairs;
-    none_lacks = now.none_lacks ∙ ap (find (lacks_value gs)) at ∙ ap (λ o. cond (is_none o && is_none f.default) (Some f) (find (lacks_value gs) (drop (i + 1) fs))) (sym has);
+    none_lacks = now.none_lacks
+        ∙ ap (find (lacks_value gs)) at
+        ∙ ap (λ o. cond (is_none o && is_none f.default) (Some f) (find (lacks_value gs) (drop (i + 1) fs))) (sym has);
   }
 
   -- it has none, and a default
@@ -48,21 +52,31 @@ module _ (gs fs : List Field) (i : ℕ) (owed : List Pair) (now : AreOwed gs fs 
         ap (λ o. owed ++ pairs_of (cons_option (option_map (to_field f) o) (filter_map (to_partner gs) (drop (i + 1) fs)))) has
         ∙ ap (λ l. owed ++ pairs_of (filter_map (to_partner gs) l)) (sym at)
         ∙ now.pairs;
-    none_lacks = now.none_lacks ∙ ap (find (lacks_value gs)) at ∙ ap (λ o. cond (is_none o && is_none f.default) (Some f) (find (lacks_value gs) (drop (i + 1) fs))) (sym has) ∙ ap (λ b. cond b (Some f) (find (lacks_value gs) (drop (i + 1) fs))) (sym default);
+    none_lacks = now.none_lacks
+        ∙ ap (find (lacks_value gs)) at
+        ∙ ap (λ o. cond (is_none o && is_none f.default) (Some f) (find (lacks_value gs) (drop (i + 1) fs))) (sym has)
+        ∙ ap (λ b. cond b (Some f) (find (lacks_value gs) (drop (i + 1) fs))) (sym default);
   }
 
   -- it has neither
   pub owed_lacking : None ≡ partner gs f → true ≡ is_none f.default → to_fields fs gs ≡ Err (clash.ReaderFieldMissingDefaultValue f.name)
   owed_lacking has lacks =
       ap (λ o. unless_lacking o (Ok (filter_map (to_partner gs) fs)))
-      (now.none_lacks ∙ ap (find (lacks_value gs)) at ∙ ap (λ o. cond (is_none o && is_none f.default) (Some f) (find (lacks_value gs) (drop (i + 1) fs))) (sym has) ∙ ap (λ b. cond b (Some f) (find (lacks_value gs) (drop (i + 1) fs))) (sym lacks))
+      (now.none_lacks
+      ∙ ap (find (lacks_value gs)) at
+      ∙ ap (λ o. cond (is_none o && is_none f.default) (Some f) (find (lacks_value gs) (drop (i + 1) fs))) (sym has)
+      ∙ ap (λ b. cond b (Some f) (find (lacks_value gs) (drop (i + 1) fs))) (sym lacks))
 
 module _ (gs fs : List Field) (i : ℕ) (owed : List Pair) (now : AreOwed gs fs i owed) (none : drop i fs ≡ []) where
   pub none_lacking : to_fields fs gs ≡ Ok (filter_map (to_partner gs) fs)
   none_lacking = ap (λ o. unless_lacking o (Ok (filter_map (to_partner gs) fs))) (now.none_lacks ∙ ap (find (lacks_value gs)) none)
 
   pub owed_all : owed ≡ pairs_of (owed_in (to_fields fs gs))
-  owed_all = sym (append-nil owed) ∙ ap (λ l. owed ++ pairs_of (filter_map (to_partner gs) l)) (sym none) ∙ now.pairs ∙ ap (λ o. pairs_of (owed_in o)) (sym none_lacking)
+  owed_all =
+      sym (append-nil owed)
+      ∙ ap (λ l. owed ++ pairs_of (filter_map (to_partner gs) l)) (sym none)
+      ∙ now.pairs
+      ∙ ap (λ o. pairs_of (owed_in o)) (sym none_lacking)
 
 -- ---- fields that are passed over
 
@@ -94,7 +108,8 @@ module _ (gs fs : List Field) (owed : List Pair) where
       subst (λ n. AreOwed gs fs n owed) e
       (owed_past (k - i) i (omega arith) (λ m f at from below. passed m f at from (omega arith)) now)
 
-module _ (fs gs : List Field) (xs : List Found) (all : AreFound fs gs xs) (i next : ℕ) (x : Found) (inside : i < length xs) (is : x ≡ get_or xs i x)
+module _ (fs gs : List Field) (xs : List Found) (all : AreFound fs gs xs)
+    (i next : ℕ) (x : Found) (inside : i < length xs) (is : x ≡ get_or xs i x)
     (earlier : AllWithin (λ y. y.holder.field < next) xs 0 i) where
   -- none before is of its field, or of one between
   absent_between : (m : ℕ) → next ≤ m → m < x.holder.field → NoneOf m xs
@@ -102,7 +117,9 @@ module _ (fs gs : List Field) (xs : List Found) (all : AreFound fs gs xs) (i nex
       ⊎_elim
       (λ low. absurd (let h : (get_or xs p d).holder.field < next = earlier p d (omega arith) low in omega (arith, h, same)))
       (λ high.
-      let up : Before (get_or xs i d).holder.field (get_or xs i d).holder.rank (get_or xs p d).holder.field (suc (get_or xs p d).holder.rank) = all.rise i p d high within in
+      let up : Before (get_or xs i d).holder.field (get_or xs i d).holder.rank
+      (get_or xs p d).holder.field (suc (get_or xs p d).holder.rank) =
+      all.rise i p d high within in
       let h : (get_or xs i d).holder.field ≤ (get_or xs p d).holder.field = before_up _ _ _ _ up in
       let e : (get_or xs i d).holder.field ≡ x.holder.field = ap (λ (y : Found). y.holder.field) (any_default xs i d x inside ∙ sym is) in
       absurd (omega (arith, h, same, e)))
@@ -118,7 +135,10 @@ module _ (fs gs : List Field) (xs : List Found) (all : AreFound fs gs xs) (i nex
 module _ (fs gs : List Field) (xs : List Found) (all : AreFound fs gs xs) (i next : ℕ) (past : length xs ≤ i) (end : i ≤ length xs)
     (earlier : AllWithin (λ y. y.holder.field < next) xs 0 i) (up : next ≤ length fs) where
   absent_above : (m : ℕ) → next ≤ m → NoneOf m xs
-  absent_above m above = λ p d within same. let h : (get_or xs p d).holder.field < next = earlier p d (omega arith) (omega (arith, within, past)) in absurd (omega (arith, h, same))
+  absent_above m above =
+      λ p d within same.
+      let h : (get_or xs p d).holder.field < next = earlier p d (omega arith) (omega (arith, within, past)) in
+      absurd (omega (arith, h, same))
 
   -- and those after the last
   pub owed_rest : (owed : List Pair) → AreOwed gs fs next owed → AreOwed gs fs (length fs) owed
@@ -129,6 +149,7 @@ module _ (fs gs : List Field) (xs : List Found) (all : AreFound fs gs xs) (i nex
 -- ---- a writer's branches
 
 -- the reader's type with each of them
-pub pairs_of_branches : (i : NodeId) (n : ℕ) (bs : List NodeId) → pairs_of (map (to_writer_branch i) (enumerate_from n bs)) ≡ map (pair_with i) bs
+pub pairs_of_branches : (i : NodeId) (n : ℕ) (bs : List NodeId)
+    → pairs_of (map (to_writer_branch i) (enumerate_from n bs)) ≡ map (pair_with i) bs
 pairs_of_branches i n [] = refl
 pairs_of_branches i n (b ∷ bs) = ap (λ l. pair_with i b ∷ l) (pairs_of_branches i (n + 1) bs)

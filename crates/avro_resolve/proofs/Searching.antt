@@ -29,7 +29,8 @@ pub same_pair-≡ : (p q : Pair) → same_pair p q ≡ true → p ≡ q
 same_pair-≡ p q e =
     let readers : p.reader.index ≡ q.reader.index = eqb-true _ _ (and_left (eqb p.reader.index q.reader.index) _ e) in
     let writers : p.writer.index ≡ q.writer.index = eqb-true _ _ (and_right (eqb p.reader.index q.reader.index) _ e) in
-    ap (λ i. record { reader = record { index = i }; writer = p.writer }) readers ∙ ap (λ i. record { reader = q.reader; writer = record { index = i } }) writers
+    ap (λ i. record { reader = record { index = i }; writer = p.writer }) readers
+    ∙ ap (λ i. record { reader = q.reader; writer = record { index = i } }) writers
 
 -- ---- the pairs that were seen beside the entries
 
@@ -104,9 +105,12 @@ module _ (r w : List Node) where
       → (rest : List Hop) → IsWayBack r w es s.place rest → IsWayBack r w es place (all ++ rest)
   way_further es place at hops s h all now from named is rest way =
       let longer : IsWayBack r w es place (hops ++ h ∷ rest) = now (h ∷ rest) (s, from, named, way) in
-      subst (λ l. IsWayBack r w es place (l ++ rest)) (sym is) (subst (IsWayBack r w es place) (sym (append_assoc hops (h ∷ []) rest)) longer)
+      subst (λ l. IsWayBack r w es place (l ++ rest)) (sym is)
+      (subst (IsWayBack r w es place) (sym (append_assoc hops (h ∷ []) rest)) longer)
 
-  pub way_whole : (es : List Entry) (place at : ℕ) (hops : List Hop) → ((rest : List Hop) → IsWayBack r w es at rest → IsWayBack r w es place (hops ++ rest)) → from_at es at ≡ None → IsWayBack r w es place hops
+  pub way_whole : (es : List Entry) (place at : ℕ) (hops : List Hop)
+      → ((rest : List Hop) → IsWayBack r w es at rest → IsWayBack r w es place (hops ++ rest))
+      → from_at es at ≡ None → IsWayBack r w es place hops
   way_whole es place at hops now none = subst (IsWayBack r w es place) (append-nil hops) (now [] none)
 
 -- what a row comes to, by its clash

@@ -85,7 +85,8 @@ module _ (firsts : List (Option ℕ)) (i j : ℕ) (others : ℕ → ℕ → Bool
   pub new_is_new : known (slice_get firsts i) j ≡ New → true ≡ not (are_joined firsts others i j)
   new_is_new e = ap (λ o. not (is_beside (others i j) j o)) (sym (known_new (slice_get firsts i) j e))
 
-  pub new_added : known (slice_get firsts i) j ≡ New → IsFairOver firsts others → Adds i j (are_joined firsts others) (are_joined (slice_set firsts i (Some j)) others)
+  pub new_added : known (slice_get firsts i) j ≡ New → IsFairOver firsts others
+      → Adds i j (are_joined firsts others) (are_joined (slice_set firsts i (Some j)) others)
   new_added e fair k l = go (eqb i k) refl
     where
       free : slice_get firsts i ≡ Some None
@@ -94,9 +95,12 @@ module _ (firsts : List (Option ℕ)) (i j : ℕ) (others : ℕ → ℕ → Bool
       go : (b : Bool) → eqb i k ≡ b → are_joined (slice_set firsts i (Some j)) others k l ≡ ((b && eqb j l) || are_joined firsts others k l)
       go true is =
           let one = eqb-true i k is in
-          let now : slice_get (slice_set firsts i (Some j)) k ≡ Some (Some j) = ap (slice_get (slice_set firsts i (Some j))) (sym one) ∙ get_set_same firsts i (Some j) None free in
+          let now : slice_get (slice_set firsts i (Some j)) k ≡ Some (Some j) =
+          ap (slice_get (slice_set firsts i (Some j))) (sym one) ∙ get_set_same firsts i (Some j) None free in
           let was : slice_get firsts k ≡ Some None = ap (slice_get firsts) (sym one) ∙ free in
-          ap (is_beside (others k l) l) now ∙ ap (λ b. eqb j l || b) (fair k l was) ∙ ap (λ o. eqb j l || is_beside (others k l) l o) (sym was)
+          ap (is_beside (others k l) l) now
+          ∙ ap (λ b. eqb j l || b) (fair k l was)
+          ∙ ap (λ o. eqb j l || is_beside (others k l) l o) (sym was)
       go false is = ap (is_beside (others k l) l) (get_set_other firsts i k (Some j) (eqb-false i k is))
 
   pub new_fair : known (slice_get firsts i) j ≡ New → IsFairOver firsts others → IsFairOver (slice_set firsts i (Some j)) others
@@ -143,7 +147,8 @@ module _ (firsts : List (Option ℕ)) (i j : ℕ) (others : ℕ → ℕ → Bool
         or_swap true false c = refl
         or_swap false b c = refl
 
-        go : (o : Option (Option ℕ)) → slice_get firsts k ≡ o → is_beside (new k l) l o ≡ (same_numbers i j k l || is_beside (others k l) l o)
+        go : (o : Option (Option ℕ)) → slice_get firsts k ≡ o
+            → is_beside (new k l) l o ≡ (same_numbers i j k l || is_beside (others k l) l o)
         go None at = added k l
         go (Some None) at = here (eqb i k) refl at
         go (Some (Some first)) at = ap (λ b. eqb first l || b) (added k l) ∙ or_swap (eqb first l) (same_numbers i j k l) (others k l)
@@ -175,7 +180,10 @@ is_eq-then Equal p = refl
 is_eq-then Greater p = refl
 
 key_at : (i j k l : ℕ) → is_at (pair_cmp (i, j)) (k, l) ≡ (eqb i k && eqb j l)
-key_at i j k l = is_eq-then (nat_cmp i k) (nat_cmp j l) ∙ ap (λ b. b && is_eq (nat_cmp j l)) (is_eq-nat_cmp i k) ∙ ap (λ b. eqb i k && b) (is_eq-nat_cmp j l)
+key_at i j k l =
+    is_eq-then (nat_cmp i k) (nat_cmp j l)
+    ∙ ap (λ b. b && is_eq (nat_cmp j l)) (is_eq-nat_cmp i k)
+    ∙ ap (λ b. eqb i k && b) (is_eq-nat_cmp j l)
 
 abbrev has_bit_of : BTreeMap (ℕ × ℕ) ℕ → ℕ → ℕ → Bool
 has_bit_of words i j = eqb (bit_at (word_at words i (j / 64)) (j % 64)) 1
@@ -191,22 +199,29 @@ pub bit_added : (i j bits : ℕ) (old new : BTreeMap (ℕ × ℕ) ℕ)
     → Adds i j (has_bit_of old) (has_bit_of new)
 bit_added i j bits old new set others updated k l = go (eqb i k) refl (eqb (j / 64) (l / 64)) refl
   where
-    word : (b c : Bool) → eqb i k ≡ b → eqb (j / 64) (l / 64) ≡ c → word_at new k (l / 64) ≡ unwrap_or (cond (b && c) (Some bits) (get pair_cmp old (k, l / 64))) 0
+    word : (b c : Bool) → eqb i k ≡ b → eqb (j / 64) (l / 64) ≡ c
+        → word_at new k (l / 64) ≡ unwrap_or (cond (b && c) (Some bits) (get pair_cmp old (k, l / 64))) 0
     word b c one two =
         ap (λ o. unwrap_or o 0) (updated (k, l / 64))
-        ∙ ap (λ t. unwrap_or (cond t (Some bits) (get pair_cmp old (k, l / 64))) 0) (key_at i (j / 64) k (l / 64) ∙ ap (λ t. t && eqb (j / 64) (l / 64)) one ∙ ap (λ t. b && t) two)
+        ∙ ap (λ t. unwrap_or (cond t (Some bits) (get pair_cmp old (k, l / 64))) 0)
+        (key_at i (j / 64) k (l / 64) ∙ ap (λ t. t && eqb (j / 64) (l / 64)) one ∙ ap (λ t. b && t) two)
 
-    bit : (b c : Bool) → eqb i k ≡ b → eqb (j / 64) (l / 64) ≡ c → has_bit_of new k l ≡ eqb (bit_at (unwrap_or (cond (b && c) (Some bits) (get pair_cmp old (k, l / 64))) 0) (l % 64)) 1
+    bit : (b c : Bool) → eqb i k ≡ b → eqb (j / 64) (l / 64) ≡ c
+        → has_bit_of new k l ≡ eqb (bit_at (unwrap_or (cond (b && c) (Some bits) (get pair_cmp old (k, l / 64))) 0) (l % 64)) 1
     bit b c one two = ap (λ w. eqb (bit_at w (l % 64)) 1) (word b c one two)
 
     apart : (b : Bool) → eqb j l ≡ b → eqb (j / 64) (l / 64) ≡ false → b ≡ false
-    apart true e two = let same : j ≡ l = eqb-true j l e in let yes : eqb (j / 64) (l / 64) ≡ true = eq-eqb (j / 64) (l / 64) (ap (λ n. n / 64) same) in cc
+    apart true e two =
+        let same : j ≡ l = eqb-true j l e in let yes : eqb (j / 64) (l / 64) ≡ true = eq-eqb (j / 64) (l / 64) (ap (λ n. n / 64) same) in cc
     apart false e two = refl
 
     inside : (b : Bool) → eqb j l ≡ b → i ≡ k → j / 64 ≡ l / 64 → eqb (bit_at bits (l % 64)) 1 ≡ (b || has_bit_of old k l)
     inside true e one two = eq-eqb (bit_at bits (l % 64)) 1 (ap (λ n. bit_at bits (n % 64)) (sym (eqb-true j l e)) ∙ set)
     inside false e one two =
-        ap (λ n. eqb n 1) (others (l % 64) (λ same. eqb-false j l e (same_parts j l two (sym same))) ∙ ap (λ n. bit_at (word_at old n (j / 64)) (l % 64)) one ∙ ap (λ n. bit_at (word_at old k n) (l % 64)) two)
+        ap (λ n. eqb n 1)
+        (others (l % 64) (λ same. eqb-false j l e (same_parts j l two (sym same)))
+        ∙ ap (λ n. bit_at (word_at old n (j / 64)) (l % 64)) one
+        ∙ ap (λ n. bit_at (word_at old k n) (l % 64)) two)
 
     go : (b : Bool) → eqb i k ≡ b → (c : Bool) → eqb (j / 64) (l / 64) ≡ c → has_bit_of new k l ≡ ((b && eqb j l) || has_bit_of old k l)
     go true one true two = bit true true one two ∙ inside (eqb j l) refl (eqb-true i k one) (eqb-true (j / 64) (l / 64) two)
@@ -222,7 +237,8 @@ pub record IsJoined (firsts after : List (Option ℕ)) (i j : ℕ) (others new :
   pub fair : IsFairOver after new
 
 module _ (firsts after : List (Option ℕ)) (i j : ℕ) (others : ℕ → ℕ → Bool) (o : Known)
-    (is : o ≡ known (slice_get firsts i) j) (becomes : after ≡ with_first (known (slice_get firsts i) j) i j firsts) (fair : IsFairOver firsts others) where
+    (is : o ≡ known (slice_get firsts i) j) (becomes : after ≡ with_first (known (slice_get firsts i) j) i j firsts)
+    (fair : IsFairOver firsts others) where
   after_is : (p : Known) → o ≡ p → after ≡ with_first p i j firsts
   after_is p e = becomes ∙ ap (λ q. with_first q i j firsts) (sym is ∙ e)
 
@@ -242,11 +258,13 @@ module _ (firsts after : List (Option ℕ)) (i j : ℕ) (others : ℕ → ℕ �
       let now : after ≡ firsts = after_is Same e in
       record {
         is_new = same_is_old firsts i j others k;
-        added = λ m n. ap (λ fs. are_joined fs others m n) now ∙ Adds-nothing i j (are_joined firsts others) (same_joined firsts i j others k) m n;
+        added = λ m n.
+            ap (λ fs. are_joined fs others m n) now ∙ Adds-nothing i j (are_joined firsts others) (same_joined firsts i j others k) m n;
         fair = subst (λ fs. IsFairOver fs others) (sym now) fair;
       }
 
-  pub joined_other : o ≡ Other → (new : ℕ → ℕ → Bool) (b : Bool) → b ≡ not (others i j) → Adds i j others new → IsJoined firsts after i j others new b
+  pub joined_other : o ≡ Other → (new : ℕ → ℕ → Bool) (b : Bool) → b ≡ not (others i j)
+      → Adds i j others new → IsJoined firsts after i j others new b
   joined_other e new b fresh adds =
       let k : known (slice_get firsts i) j ≡ Other = sym is ∙ e in
       let now : after ≡ firsts = after_is Other e in

@@ -27,5 +27,6 @@ get_or_at (y ∷ xs) (suc k) x e = get_or_at xs k x e
 pub all_at : {A : Type 0} (P : A → Type 0) (xs : List A) → All P xs → (k : ℕ) (x : A) → slice_get xs k ≡ Some x → P x
 all_at P xs all k x e = subst P (get_or_at xs k x e) (all k x (below_length xs k x e))
 
-pub part_below : (ns : List Node) → IsSound ns → (i : ℕ) (m : Node) → slice_get ns i ≡ Some m → (k : ℕ) (a : NodeId) → slice_get (parts_of_node m) k ≡ Some a → a.index < length ns
+pub part_below : (ns : List Node) → IsSound ns → (i : ℕ) (m : Node) → slice_get ns i ≡ Some m
+    → (k : ℕ) (a : NodeId) → slice_get (parts_of_node m) k ≡ Some a → a.index < length ns
 part_below ns s i m at k a a_at = all_at (λ (b : NodeId). b.index < length ns) (parts_of_node m) (s.closed i m at) k a a_at

@@ -21,7 +21,8 @@ ShowsOne r w = (t u : Trail) → IsShown r w t → IsShown r w u → t ≡ u
 
 shows_one : (r w : List Node) → ShowsOne r w
 shows_one r w t u (ks, leads_t, first_t) (ls, leads_u, first_u) =
-    let same : ks ≡ ls = ComesFirst_both ks ls (first_t ls (some_is (trail_along r w ls) u leads_u)) (first_u ks (some_is (trail_along r w ks) t leads_t)) in
+    let same : ks ≡ ls =
+    ComesFirst_both ks ls (first_t ls (some_is (trail_along r w ls) u leads_u)) (first_u ks (some_is (trail_along r w ks) t leads_t)) in
     let two : Some t ≡ Some u = sym leads_t ∙ ap (trail_along r w) same ∙ leads_u in
     cc
 
@@ -49,14 +50,17 @@ module _ (r w : List Node) where
   along p k ks None is each = refl
   along p k ks (Some o) is each = ap (option_map (after_hop o.hop)) (each k o is ks)
 
-  each_obligation : (p : Pair) → AreCompatibleAt r w p → (k : ℕ) (o : Obligation) → slice_get (obligations r w p) k ≡ Some o → AreCompatibleAt r w o.pair
+  each_obligation : (p : Pair) → AreCompatibleAt r w p → (k : ℕ) (o : Obligation)
+      → slice_get (obligations r w p) k ≡ Some o → AreCompatibleAt r w o.pair
   unfolding onward
   each_obligation p all k o is ks = none_of_map (after_hop o.hop) (trail_from r w o.pair ks) (sym (ap (onward ks) is) ∙ all (k ∷ ks))
 
-  from_obligations : (p : Pair) → clash_of r w p ≡ None → ((k : ℕ) (o : Obligation) → slice_get (obligations r w p) k ≡ Some o → AreCompatibleAt r w o.pair) → AreCompatibleAt r w p
+  from_obligations : (p : Pair) → clash_of r w p ≡ None
+      → ((k : ℕ) (o : Obligation) → slice_get (obligations r w p) k ≡ Some o → AreCompatibleAt r w o.pair) → AreCompatibleAt r w p
   unfolding onward
   from_obligations p peaceful each [] = ap (option_map end_at) peaceful
   from_obligations p peaceful each (k ∷ ks) = along p k ks (slice_get (obligations r w p) k) refl each
 
   pub compatible_by_obligations : AreCompatibleByObligations r w
-  compatible_by_obligations p = ((λ all. (none_of_map end_at (clash_of r w p) (all []), each_obligation p all)), (λ parts. from_obligations p parts.0 parts.1))
+  compatible_by_obligations p =
+      ((λ all. (none_of_map end_at (clash_of r w p) (all []), each_obligation p all)), (λ parts. from_obligations p parts.0 parts.1))

@@ -38,8 +38,10 @@ use Rattle.avro_schema.proofs.KindLemmas as lone
 abbrev Apart : List Definition → Type 0
 Apart ds = (s t : List ℕ) (i : ℕ) → node_named ds s ≡ Some i → node_named ds t ≡ Some i → s ≡ t
 
-same_kinds : (ds : List Definition) → Apart ds → (m n : BranchKind) (k l : Kind) → StandsFor ds m k → StandsFor ds n l → same_branch m n ≡ same_kind k l
-same_kinds ds apart (branch.Primitive a) (branch.Primitive b) k l p q = sym (ap (λ x. same_kind x l) p ∙ ap (same_kind (kind.Primitive a)) q)
+same_kinds : (ds : List Definition) → Apart ds → (m n : BranchKind) (k l : Kind)
+    → StandsFor ds m k → StandsFor ds n l → same_branch m n ≡ same_kind k l
+same_kinds ds apart (branch.Primitive a) (branch.Primitive b) k l p q =
+    sym (ap (λ x. same_kind x l) p ∙ ap (same_kind (kind.Primitive a)) q)
 same_kinds ds apart (branch.Primitive a) branch.Array k l p q = sym (ap (λ x. same_kind x l) p ∙ ap (same_kind (kind.Primitive a)) q)
 same_kinds ds apart (branch.Primitive a) branch.Map k l p q = sym (ap (λ x. same_kind x l) p ∙ ap (same_kind (kind.Primitive a)) q)
 same_kinds ds apart (branch.Primitive a) (branch.Named j) k l p q = sym (ap (λ x. same_kind x l) p ∙ ap (same_kind (kind.Primitive a)) q.1)
@@ -86,15 +88,21 @@ AreFor ds [] [] = Unit {0}
 AreFor ds (m ∷ ms) (k ∷ ks) = StandsFor ds m k × AreFor ds ms ks
 AreFor ds _ _ = ⊥
 
-same_any : (ds : List Definition) → Apart ds → (m : BranchKind) (k : Kind) (ms : List BranchKind) (ks : List Kind) → StandsFor ds m k → AreFor ds ms ks → list_any (same_branch m) ms ≡ list_any (same_kind k) ks
+same_any : (ds : List Definition) → Apart ds → (m : BranchKind) (k : Kind) (ms : List BranchKind) (ks : List Kind)
+    → StandsFor ds m k → AreFor ds ms ks → list_any (same_branch m) ms ≡ list_any (same_kind k) ks
 same_any ds apart m k [] [] p q = refl
-same_any ds apart m k (n ∷ ms) (l ∷ ks) p q = ap (λ b. b || list_any (same_branch m) ms) (same_kinds ds apart m n k l p q.0) ∙ ap (λ b. same_kind k l || b) (same_any ds apart m k ms ks p q.1)
+same_any ds apart m k (n ∷ ms) (l ∷ ks) p q =
+    ap (λ b. b || list_any (same_branch m) ms) (same_kinds ds apart m n k l p q.0)
+    ∙ ap (λ b. same_kind k l || b) (same_any ds apart m k ms ks p q.1)
 same_any ds apart m k [] (l ∷ ks) p q = absurd q
 same_any ds apart m k (n ∷ ms) [] p q = absurd q
 
 -- a branch may stand where its kind may
-pub same_standing : (ds : List Definition) → Apart ds → (m : BranchKind) (k : Kind) (ms : List BranchKind) (ks : List Kind) → StandsFor ds m k → AreFor ds ms ks → may_stand m ms ≡ lone.may_stand k ks
-same_standing ds apart m k ms ks p q = ap (λ b. not b && not (list_any (same_branch m) ms)) (same_unions ds m k p) ∙ ap (λ b. not (is_union_kind k) && not b) (same_any ds apart m k ms ks p q)
+pub same_standing : (ds : List Definition) → Apart ds → (m : BranchKind) (k : Kind) (ms : List BranchKind) (ks : List Kind)
+    → StandsFor ds m k → AreFor ds ms ks → may_stand m ms ≡ lone.may_stand k ks
+same_standing ds apart m k ms ks p q =
+    ap (λ b. not b && not (list_any (same_branch m) ms)) (same_unions ds m k p)
+    ∙ ap (λ b. not (is_union_kind k) && not b) (same_any ds apart m k ms ks p q)
 
 -- ---- more definitions, and more branches
 
@@ -118,7 +126,8 @@ are_still ds es (m ∷ ms) (k ∷ ks) p = (stands_still ds es m k p.0, are_still
 are_still ds es [] (k ∷ ks) p = absurd p
 are_still ds es (m ∷ ms) [] p = absurd p
 
-pub are_more : (ds : List Definition) (ms : List BranchKind) (ks : List Kind) (m : BranchKind) (k : Kind) → AreFor ds ms ks → StandsFor ds m k → AreFor ds (ms ++ m ∷ []) (ks ++ k ∷ [])
+pub are_more : (ds : List Definition) (ms : List BranchKind) (ks : List Kind) (m : BranchKind) (k : Kind)
+    → AreFor ds ms ks → StandsFor ds m k → AreFor ds (ms ++ m ∷ []) (ks ++ k ∷ [])
 are_more ds [] [] m k p q = (q, tt)
 are_more ds (n ∷ ms) (l ∷ ks) m k p q = (p.0, are_more ds ms ks m k p.1 q)
 are_more ds [] (l ∷ ks) m k p q = absurd p
@@ -130,12 +139,17 @@ get-middle : {A : Type 0} (xs : List A) (y : A) (zs : List A) → slice_get (xs 
 get-middle [] y zs = refl
 get-middle (x ∷ xs) y zs = get-middle xs y zs
 
-kind_new : (n : ℕ) (xs nodes zs : List Node) (i : NodeId) (o : Option Node) (x : Node) → n ≡ length xs → i ≡ record { index = n } → nodes ≡ xs ++ cons_option o zs → o ≡ Some x → branch_kind n nodes i ≡ kind_of_node n (Some x)
+kind_new : (n : ℕ) (xs nodes zs : List Node) (i : NodeId) (o : Option Node) (x : Node) → n ≡ length xs
+    → i ≡ record { index = n } → nodes ≡ xs ++ cons_option o zs → o ≡ Some x → branch_kind n nodes i ≡ kind_of_node n (Some x)
 kind_new n xs nodes zs i o x first is all new =
-    let at : slice_get nodes n ≡ Some x = ap (λ l. slice_get l n) (all ∙ ap (λ p. xs ++ cons_option p zs) new) ∙ ap (slice_get (xs ++ x ∷ zs)) first ∙ get-middle xs x zs in
-    ap (branch_kind n nodes) is ∙ ap (λ b. cond b (branch.Named n) (kind_of_node n (slice_get nodes n))) (le-ltb n n (omega arith)) ∙ ap (kind_of_node n) at
+    let at : slice_get nodes n ≡ Some x =
+    ap (λ l. slice_get l n) (all ∙ ap (λ p. xs ++ cons_option p zs) new) ∙ ap (slice_get (xs ++ x ∷ zs)) first ∙ get-middle xs x zs in
+    ap (branch_kind n nodes) is
+    ∙ ap (λ b. cond b (branch.Named n) (kind_of_node n (slice_get nodes n))) (le-ltb n n (omega arith))
+    ∙ ap (kind_of_node n) at
 
-passes_first : {X : Type 0} (t : X → Bool) (y x : X) (b : Bool) (o : Option X) → t y ≡ b → (o ≡ Some x → t x ≡ true) → cond b (Some y) o ≡ Some x → t x ≡ true
+passes_first : {X : Type 0} (t : X → Bool) (y x : X) (b : Bool) (o : Option X)
+    → t y ≡ b → (o ≡ Some x → t x ≡ true) → cond b (Some y) o ≡ Some x → t x ≡ true
 passes_first t y x true o h later k = let same : y ≡ x = cc in ap t (sym same) ∙ h
 passes_first t y x false o h later k = later k
 
@@ -147,25 +161,36 @@ is_less : (m n : ℕ) → nat_lt m n ≡ true → m < n
 is_less m n h = grind arith
 
 -- what is found as a definition is its own name's node
-found_definition : (ds : List Definition) (n : ℕ) (t : List ℕ) (d : Definition) → Before n ds → defined ds n t ≡ Some d → (d.node < n) × (node_named ds d.name ≡ Some d.node)
+found_definition : (ds : List Definition) (n : ℕ) (t : List ℕ) (d : Definition) → Before n ds
+    → defined ds n t ≡ Some d → (d.node < n) × (node_named ds d.name ≡ Some d.node)
 found_definition ds n t d before e =
     let parts = and_parts (nat_lt d.node n) (bytes_eq d.name t) (find-passes (λ x. nat_lt x.node n && bytes_eq x.name t) ds d e) in
     let name : d.name ≡ t = (bytes_eq-Decides d.name t).0 parts.1 in
     (is_less d.node n parts.0, ap (node_named ds) name ∙ ap (option_map (λ x. x.node)) (sym (defined-all ds n t before) ∙ e))
 
-either_found : (ds : List Definition) (n : ℕ) (t u : List ℕ) (d : Definition) (o : Option Definition) → Before n ds → defined ds n t ≡ o → option_or o (defined ds n u) ≡ Some d → (d.node < n) × (node_named ds d.name ≡ Some d.node)
+either_found : (ds : List Definition) (n : ℕ) (t u : List ℕ) (d : Definition) (o : Option Definition) → Before n ds
+    → defined ds n t ≡ o → option_or o (defined ds n u) ≡ Some d → (d.node < n) × (node_named ds d.name ≡ Some d.node)
 either_found ds n t u d None before e h = found_definition ds n u d before h
 either_found ds n t u d (Some x) before e h = found_definition ds n t d before (e ∙ h)
 
-found_use : (ds : List Definition) (n : ℕ) (ns s : List ℕ) (d : Definition) (b : Bool) → Before n ds → has_dot s ≡ b → definition_used ds n ns s ≡ Some d → (d.node < n) × (node_named ds d.name ≡ Some d.node)
-found_use ds n ns s d true before e h = found_definition ds n s d before (sym (ap (λ b. cond b (defined ds n s) (option_or (defined ds n (joined ns s)) (defined ds n s))) e) ∙ h)
-found_use ds n ns s d false before e h = either_found ds n (joined ns s) s d _ before refl (sym (ap (λ b. cond b (defined ds n s) (option_or (defined ds n (joined ns s)) (defined ds n s))) e) ∙ h)
+found_use : (ds : List Definition) (n : ℕ) (ns s : List ℕ) (d : Definition) (b : Bool) → Before n ds
+    → has_dot s ≡ b → definition_used ds n ns s ≡ Some d → (d.node < n) × (node_named ds d.name ≡ Some d.node)
+found_use ds n ns s d true before e h =
+    found_definition ds n s d before (
+    sym (ap (λ b. cond b (defined ds n s) (option_or (defined ds n (joined ns s)) (defined ds n s))) e) ∙ h)
+found_use ds n ns s d false before e h =
+    either_found ds n (joined ns s) s d _ before refl
+    (sym (ap (λ b. cond b (defined ds n s) (option_or (defined ds n (joined ns s)) (defined ds n s))) e) ∙ h)
 
-kind_used : (ds : List Definition) (n : ℕ) (ns s : List ℕ) (nodes : List Node) (i : NodeId) (o : Option Definition) → Before n ds → definition_used ds n ns s ≡ o → is_some o ≡ true → i ≡ record { index = option_map_or (λ d. d.node) o 0 } → StandsFor ds (branch_kind n nodes i) (kind_named o)
+kind_used : (ds : List Definition) (n : ℕ) (ns s : List ℕ) (nodes : List Node) (i : NodeId) (o : Option Definition)
+    → Before n ds → definition_used ds n ns s ≡ o → is_some o ≡ true
+    → i ≡ record { index = option_map_or (λ d. d.node) o 0 } → StandsFor ds (branch_kind n nodes i) (kind_named o)
 kind_used ds n ns s nodes i None before e some is = absurd (false≢true some)
 kind_used ds n ns s nodes i (Some d) before e some is =
     let found = found_use ds n ns s d (has_dot s) before refl e in
-    let kind : branch_kind n nodes i ≡ branch.Named d.node = ap (branch_kind n nodes) is ∙ ap (λ b. cond b (branch.Named d.node) (kind_of_node d.node (slice_get nodes d.node))) (lt-ltb d.node n found.0) in
+    let kind : branch_kind n nodes i ≡ branch.Named d.node =
+    ap (branch_kind n nodes) is
+    ∙ ap (λ b. cond b (branch.Named d.node) (kind_of_node d.node (slice_get nodes d.node))) (lt-ltb d.node n found.0) in
     subst (λ m. StandsFor ds m (kind_named (Some d))) (sym kind) (d.name, refl, found.1)
 
 no_definition : (o : Option Definition) → is_none o ≡ true → o ≡ None
@@ -173,7 +198,8 @@ no_definition None e = refl
 no_definition (Some d) e = cc
 
 -- a heading without fault gives the name of its node
-kind_headed : (ds later : List Definition) (n : ℕ) (ns : List ℕ) (h : Heading) (o : Option (List ℕ)) → Before n ds → h.name ≡ o → From n (cons_option (defined_by ns n h) later) → heading_faults (ds ++ cons_option (defined_by ns n h) later) ns n h ≡ []
+kind_headed : (ds later : List Definition) (n : ℕ) (ns : List ℕ) (h : Heading) (o : Option (List ℕ)) → Before n ds → h.name ≡ o
+    → From n (cons_option (defined_by ns n h) later) → heading_faults (ds ++ cons_option (defined_by ns n h) later) ns n h ≡ []
     → StandsFor (ds ++ cons_option (defined_by ns n h) later) (branch.Named n) (kind_named (defined_by ns n h))
 kind_headed ds later n ns h None before e from good =
     let written = nil-unless (is_some h.name && is_some h.aliases) fault.BadForm (nil-left _ _ (nil-left (written_faults h) _ good)) in
@@ -184,41 +210,63 @@ kind_headed ds later n ns h (Some s) before e from good =
     let d : Definition = record { name = name; node = n } in
     let is : defined_by ns n h ≡ Some d = ap (option_map (λ t. record { name = full_text (own_namespace ns h) t; node = n })) e in
     let es = cons_option (defined_by ns n h) later in
-    let new : if_written (λ t. is_none (defined (ds ++ es) n (full_text (own_namespace ns h) t))) h.name ≡ true = nil-unless _ fault.Redefined (nil-right (written_faults h) _ good) in
-    let none : defined (ds ++ es) n name ≡ None = no_definition _ (sym (ap (if_written (λ t. is_none (defined (ds ++ es) n (full_text (own_namespace ns h) t)))) e) ∙ new) in
-    let absent : find (λ x. bytes_eq x.name name) ds ≡ None = sym (defined-all ds n name before) ∙ sym (defined-later ds es n name from) ∙ none in
+    let new : if_written (λ t. is_none (defined (ds ++ es) n (full_text (own_namespace ns h) t))) h.name ≡ true =
+    nil-unless _ fault.Redefined (nil-right (written_faults h) _ good) in
+    let none : defined (ds ++ es) n name ≡ None =
+    no_definition _ (sym (ap (if_written (λ t. is_none (defined (ds ++ es) n (full_text (own_namespace ns h) t)))) e) ∙ new) in
+    let absent : find (λ x. bytes_eq x.name name) ds ≡ None =
+    sym (defined-all ds n name before) ∙ sym (defined-later ds es n name from) ∙ none in
     let found : node_named (ds ++ es) name ≡ Some n =
-    ap (option_map (λ x. x.node)) (find-append (λ x. bytes_eq x.name name) ds es ∙ ap (λ p. option_or p (find (λ x. bytes_eq x.name name) es)) absent
-    ∙ ap (λ p. find (λ x. bytes_eq x.name name) (cons_option p later)) is ∙ ap (λ b. cond b (Some d) (find (λ x. bytes_eq x.name name) later)) ((bytes_eq-Decides name name).1 refl)) in
+    ap (option_map (λ x. x.node))
+    (find-append (λ x. bytes_eq x.name name) ds es ∙ ap (λ p. option_or p (find (λ x. bytes_eq x.name name) es)) absent
+    ∙ ap (λ p. find (λ x. bytes_eq x.name name) (cons_option p later)) is
+    ∙ ap (λ b. cond b (Some d) (find (λ x. bytes_eq x.name name) later)) ((bytes_eq-Decides name name).1 refl))
+    in
     (name, ap kind_named is, found)
 
 -- a type with a node of its own
 module _ (ds : List Definition) (ns : List ℕ) (a b : Builder) (i : NodeId) where
-  with_node : (f : Form) (x : Node) (k : Kind) → IsTypeRead ds ns f a b i → i ≡ record { index = opened a } → node_at (ds ++ definitions (places ns (opened a) f)) (place ns (opened a) f) ≡ Some x
-      → StandsFor (ds ++ definitions (places ns (opened a) f)) (kind_of_node (opened a) (Some x)) k → StandsFor (ds ++ definitions (places ns (opened a) f)) (branch_kind (opened a) (nodes_of b) i) k
-  with_node f x k r is new stands = subst (λ m. StandsFor (ds ++ definitions (places ns (opened a) f)) m k) (sym (kind_new (opened a) (nodes_of a) (nodes_of b) _ i _ x refl is r.0.nodes new)) stands
+  with_node : (f : Form) (x : Node) (k : Kind) → IsTypeRead ds ns f a b i → i ≡ record { index = opened a }
+      → node_at (ds ++ definitions (places ns (opened a) f)) (place ns (opened a) f) ≡ Some x
+      → StandsFor (ds ++ definitions (places ns (opened a) f)) (kind_of_node (opened a) (Some x)) k
+      → StandsFor (ds ++ definitions (places ns (opened a) f)) (branch_kind (opened a) (nodes_of b) i) k
+  with_node f x k r is new stands =
+      subst (λ m. StandsFor (ds ++ definitions (places ns (opened a) f)) m k)
+      (sym (kind_new (opened a) (nodes_of a) (nodes_of b) _ i _ x refl is r.0.nodes new)) stands
 
-  headed : (f : Form) (h : Heading) (x : Node) (later : List Definition) → HasMet a ds → IsTypeRead ds ns f a b i → i ≡ record { index = opened a } → node_at (ds ++ definitions (places ns (opened a) f)) (place ns (opened a) f) ≡ Some x
-      → kind_of_node (opened a) (Some x) ≡ branch.Named (opened a) → definitions (places ns (opened a) f) ≡ cons_option (defined_by ns (opened a) h) later → heading_faults (ds ++ definitions (places ns (opened a) f)) ns (opened a) h ≡ []
-      → StandsFor (ds ++ definitions (places ns (opened a) f)) (branch_kind (opened a) (nodes_of b) i) (kind_named (defined_by ns (opened a) h))
+  headed : (f : Form) (h : Heading) (x : Node) (later : List Definition) → HasMet a ds → IsTypeRead ds ns f a b i
+      → i ≡ record { index = opened a } → node_at (ds ++ definitions (places ns (opened a) f)) (place ns (opened a) f) ≡ Some x
+      → kind_of_node (opened a) (Some x) ≡ branch.Named (opened a)
+      → definitions (places ns (opened a) f) ≡ cons_option (defined_by ns (opened a) h) later
+      → heading_faults (ds ++ definitions (places ns (opened a) f)) ns (opened a) h ≡ []
+      → StandsFor (ds ++ definitions (places ns (opened a) f))
+      (branch_kind (opened a) (nodes_of b) i) (kind_named (defined_by ns (opened a) h))
   headed f h x later met r is new named all good =
       let n = opened a in
       let from : From n (cons_option (defined_by ns n h) later) = subst (From n) all (type-from ns n f) in
-      let right : heading_faults (ds ++ cons_option (defined_by ns n h) later) ns n h ≡ [] = ap (λ l. heading_faults (ds ++ l) ns n h) (sym all) ∙ good in
-      let stands : StandsFor (ds ++ definitions (places ns n f)) (branch.Named n) (kind_named (defined_by ns n h)) = subst (λ l. StandsFor (ds ++ l) (branch.Named n) (kind_named (defined_by ns n h))) (sym all) (kind_headed ds later n ns h h.name met.before refl from right) in
-      with_node f x _ r is new (subst (λ m. StandsFor (ds ++ definitions (places ns n f)) m (kind_named (defined_by ns n h))) (sym named) stands)
+      let right : heading_faults (ds ++ cons_option (defined_by ns n h) later) ns n h ≡ [] =
+      ap (λ l. heading_faults (ds ++ l) ns n h) (sym all) ∙ good in
+      let stands : StandsFor (ds ++ definitions (places ns n f)) (branch.Named n) (kind_named (defined_by ns n h)) =
+      subst (λ l. StandsFor (ds ++ l) (branch.Named n) (kind_named (defined_by ns n h)))
+      (sym all) (kind_headed ds later n ns h h.name met.before refl from right) in
+      with_node f x _ r is new (
+      subst (λ m. StandsFor (ds ++ definitions (places ns n f)) m (kind_named (defined_by ns n h))) (sym named) stands)
 
   own_faults : (f : Form) → IsTypeRead ds ns f a b i → faults_at (ds ++ definitions (places ns (opened a) f)) (place ns (opened a) f) ≡ []
   own_faults f r = nil-left _ _ r.0.none_stands
 
-  pub kind_read : (f : Form) → HasMet a ds → IsTypeRead ds ns f a b i → StandsFor (ds ++ definitions (places ns (opened a) f)) (branch_kind (opened a) (nodes_of b) i) (kind_in_union ds ns (opened a) f)
+  pub kind_read : (f : Form) → HasMet a ds → IsTypeRead ds ns f a b i
+      → StandsFor (ds ++ definitions (places ns (opened a) f)) (branch_kind (opened a) (nodes_of b) i) (kind_in_union ds ns (opened a) f)
   kind_read (plain p) met r = with_node (plain p) (node.Primitive p) _ r r.1 refl refl
   kind_read (by_name s) met r =
       let n = opened a in
       let same : definition_used (ds ++ []) n ns s ≡ definition_used ds n ns s = ap (λ l. definition_used l n ns s) (append-nil ds) in
-      let some : is_some (definition_used ds n ns s) ≡ true = sym (ap is_some same) ∙ nil-unless _ (fault.Unknown s) (own_faults (by_name s) r) in
-      let is : i ≡ record { index = option_map_or (λ d. d.node) (definition_used ds n ns s) 0 } = r.1 ∙ ap (λ o. record { index = option_map_or (λ d. d.node) o 0 }) same in
-      subst (λ l. StandsFor l (branch_kind n (nodes_of b) i) (kind_in_union ds ns n (by_name s))) (sym (append-nil ds)) (kind_used ds n ns s (nodes_of b) i (definition_used ds n ns s) met.before refl some is)
+      let some : is_some (definition_used ds n ns s) ≡ true =
+      sym (ap is_some same) ∙ nil-unless _ (fault.Unknown s) (own_faults (by_name s) r) in
+      let is : i ≡ record { index = option_map_or (λ d. d.node) (definition_used ds n ns s) 0 } =
+      r.1 ∙ ap (λ o. record { index = option_map_or (λ d. d.node) o 0 }) same in
+      subst (λ l. StandsFor l (branch_kind n (nodes_of b) i) (kind_in_union ds ns n (by_name s))) (sym (append-nil ds))
+      (kind_used ds n ns s (nodes_of b) i (definition_used ds n ns s) met.before refl some is)
   kind_read (record_of h fs) met r = headed (record_of h fs) h _ _ met r r.1 refl refl refl (nil-left _ _ (own_faults (record_of h fs) r))
   kind_read (enum_of h ss d) met r = headed (enum_of h ss d) h _ _ met r r.1 refl refl refl (nil-left _ _ (own_faults (enum_of h ss d) r))
   kind_read (fixed_of h d) met r = headed (fixed_of h d) h _ _ met r r.1 refl refl refl (nil-left _ _ (own_faults (fixed_of h d) r))

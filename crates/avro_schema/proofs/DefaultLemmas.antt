@@ -27,10 +27,12 @@ abbrev pub bad_in : List Node → List Field → List (List ℕ)
 bad_in nodes fs = map (λ f. f.name) (filter (λ f. not (has_good_default nodes f)) fs)
 
 bad_in-append : (nodes : List Node) (fs gs : List Field) → bad_in nodes (fs ++ gs) ≡ bad_in nodes fs ++ bad_in nodes gs
-bad_in-append nodes fs gs = ap (map (λ (f : Field). f.name)) (filter-append (λ f. not (has_good_default nodes f)) fs gs) ∙ map-append (λ (f : Field). f.name) _ _
+bad_in-append nodes fs gs =
+    ap (map (λ (f : Field). f.name)) (filter-append (λ f. not (has_good_default nodes f)) fs gs) ∙ map-append (λ (f : Field). f.name) _ _
 
 -- the fields of the nodes that are left are those of the next one and then the others
-fields_left : (xs : List Node) (i : ℕ) (n : Node) → i < length xs → n ≡ get_or xs i n → flat_map fields_of_node (drop i xs) ≡ fields_of_node n ++ flat_map fields_of_node (drop (i + 1) xs)
+fields_left : (xs : List Node) (i : ℕ) (n : Node) → i < length xs → n ≡ get_or xs i n
+    → flat_map fields_of_node (drop i xs) ≡ fields_of_node n ++ flat_map fields_of_node (drop (i + 1) xs)
 fields_left [] i n h e = absurd (omega arith)
 fields_left (x ∷ xs) zero n h e = ap (λ y. fields_of_node y ++ flat_map fields_of_node xs) (sym e)
 fields_left (x ∷ xs) (suc i) n h e =
@@ -43,11 +45,16 @@ no_fields_in (kind.Record m al fs) h = absurd (h m al fs refl)
 no_fields_in _ h = refl
 
 -- the names of the invalid ones are first those of the next node
-pub bad_left : (nodes : List Node) (i : ℕ) (n : Node) (fs : List Field) → bad_defaults nodes ≡ bad_in nodes (flat_map fields_of_node (drop i nodes)) → i < length nodes → n ≡ get_or nodes i n → fields_of_node n ≡ fs
+pub bad_left : (nodes : List Node) (i : ℕ) (n : Node) (fs : List Field)
+    → bad_defaults nodes ≡ bad_in nodes (flat_map fields_of_node (drop i nodes))
+    → i < length nodes → n ≡ get_or nodes i n → fields_of_node n ≡ fs
     → bad_defaults nodes ≡ bad_in nodes fs ++ bad_in nodes (flat_map fields_of_node (drop (i + 1) nodes))
 bad_left nodes i n fs so_far lt is are =
     let rest = flat_map fields_of_node (drop (i + 1) nodes) in
-    so_far ∙ ap (bad_in nodes) (fields_left nodes i n lt is) ∙ bad_in-append nodes (fields_of_node n) rest ∙ ap (λ gs. bad_in nodes gs ++ bad_in nodes rest) are
+    so_far
+    ∙ ap (bad_in nodes) (fields_left nodes i n lt is)
+    ∙ bad_in-append nodes (fields_of_node n) rest
+    ∙ ap (λ gs. bad_in nodes gs ++ bad_in nodes rest) are
 
 -- ---- the fields that an object has to have
 
@@ -59,35 +66,46 @@ or_some : (a b : Bool) → (a || true) && b ≡ b
 or_some true b = refl
 or_some false b = refl
 
-next_required : (ms : Members) (f : Field) (fs : List Field) (o : Option Data) (b : Bool) → f.default ≡ o → b ≡ have_all ms (required_in fs) → (is_some (get_member f.name ms) || is_some f.default) && b ≡ have_all ms (required_in (f ∷ fs))
+next_required : (ms : Members) (f : Field) (fs : List Field) (o : Option Data) (b : Bool) → f.default ≡ o
+    → b ≡ have_all ms (required_in fs) → (is_some (get_member f.name ms) || is_some f.default) && b ≡ have_all ms (required_in (f ∷ fs))
 next_required ms f fs None b e rest =
-    ap (λ o. (is_some (get_member f.name ms) || is_some o) && b) e ∙ or_none (is_some (get_member f.name ms)) b ∙ ap (λ c. is_some (get_member f.name ms) && c) rest
-    ∙ sym (ap (λ o. have_all ms (map (λ g. g.name) (cond (is_none o) (f ∷ filter (λ g. is_none g.default) fs) (filter (λ g. is_none g.default) fs)))) e)
+    ap (λ o. (is_some (get_member f.name ms) || is_some o) && b) e
+    ∙ or_none (is_some (get_member f.name ms)) b
+    ∙ ap (λ c. is_some (get_member f.name ms) && c) rest
+    ∙ sym (ap (λ o.
+    have_all ms (map (λ g. g.name) (cond (is_none o) (f ∷ filter (λ g. is_none g.default) fs) (filter (λ g. is_none g.default) fs)))) e)
 next_required ms f fs (Some d) b e rest =
     ap (λ o. (is_some (get_member f.name ms) || is_some o) && b) e ∙ or_some (is_some (get_member f.name ms)) b ∙ rest
-    ∙ sym (ap (λ o. have_all ms (map (λ g. g.name) (cond (is_none o) (f ∷ filter (λ g. is_none g.default) fs) (filter (λ g. is_none g.default) fs)))) e)
+    ∙ sym (ap (λ o.
+    have_all ms (map (λ g. g.name) (cond (is_none o) (f ∷ filter (λ g. is_none g.default) fs) (filter (λ g. is_none g.default) fs)))) e)
 
 -- an absent field lacks its value only where it has no default
 absent_required : (ms : Members) (fs : List Field) → absent_have_defaults ms fs ≡ have_all ms (required_in fs)
 absent_required ms [] = refl
 absent_required ms (f ∷ fs) = next_required ms f fs f.default _ refl (absent_required ms fs)
 
-pub record_fits : (nodes : List Node) (i : NodeId) (ms : Members) (m : FullName) (al : List FullName) (fs : List Field) → default_type nodes i ≡ Some (kind.Record m al fs) → fields_fit nodes fs ms ≡ true → default_fits nodes i (object ms) ≡ have_all ms (required_in fs)
+pub record_fits : (nodes : List Node) (i : NodeId) (ms : Members) (m : FullName) (al : List FullName) (fs : List Field)
+    → default_type nodes i ≡ Some (kind.Record m al fs) → fields_fit nodes fs ms ≡ true
+    → default_fits nodes i (object ms) ≡ have_all ms (required_in fs)
 record_fits nodes i ms m al fs is fit =
     ap (λ o. takes o (an_object (λ j. values_fit nodes j ms) (λ gs. fields_fit nodes gs ms && absent_have_defaults ms gs))) is
     ∙ ap (λ b. b && absent_have_defaults ms fs) fit ∙ absent_required ms fs
 
 -- the names that are left are that of the next field, where it has no default, and then the others
-pub required_left : (fs : List Field) (i : ℕ) (f : Field) → i < length fs → f ≡ get_or fs i f → required_in (drop i fs) ≡ cond (is_none f.default) (f.name ∷ required_in (drop (i + 1) fs)) (required_in (drop (i + 1) fs))
+pub required_left : (fs : List Field) (i : ℕ) (f : Field) → i < length fs → f ≡ get_or fs i f
+    → required_in (drop i fs) ≡ cond (is_none f.default) (f.name ∷ required_in (drop (i + 1) fs)) (required_in (drop (i + 1) fs))
 required_left [] i f h e = absurd (omega arith)
-required_left (x ∷ fs) zero f h e = ap (λ y. required_in (y ∷ fs)) (sym e) ∙ parted (is_none f.default) f (filter (λ g. is_none g.default) fs)
+required_left (x ∷ fs) zero f h e =
+    ap (λ y. required_in (y ∷ fs)) (sym e) ∙ parted (is_none f.default) f (filter (λ g. is_none g.default) fs)
   where
-    parted : (b : Bool) (g : Field) (gs : List Field) → map (λ h. h.name) (cond b (g ∷ gs) gs) ≡ cond b (g.name ∷ map (λ h. h.name) gs) (map (λ h. h.name) gs)
+    parted : (b : Bool) (g : Field) (gs : List Field)
+        → map (λ h. h.name) (cond b (g ∷ gs) gs) ≡ cond b (g.name ∷ map (λ h. h.name) gs) (map (λ h. h.name) gs)
     parted true g gs = refl
     parted false g gs = refl
 required_left (x ∷ fs) (suc i) f h e =
     let one : suc (i + 1) ≡ suc i + 1 = omega arith in
-    required_left fs i f (omega arith) e ∙ ap (λ k. cond (is_none f.default) (f.name ∷ required_in (drop k (x ∷ fs))) (required_in (drop k (x ∷ fs)))) one
+    required_left fs i f (omega arith) e
+    ∙ ap (λ k. cond (is_none f.default) (f.name ∷ required_in (drop k (x ∷ fs))) (required_in (drop k (x ∷ fs)))) one
 
 pub none_required : (fs : List Field) (i : ℕ) → length fs ≤ i → required_in (drop i fs) ≡ []
 none_required [] zero h = refl

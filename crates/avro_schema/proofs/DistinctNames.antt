@@ -14,7 +14,8 @@ is_false true e = cc
 is_false false e = refl
 
 -- a name that is not among those of the fields is that of none
-name_not_among : (s : List ℕ) (fs : List Field) (k : ℕ) (g : Field) → list_any (bytes_eq s) (map (λ (f : Field). f.name) fs) ≡ false → slice_get fs k ≡ Some g → s ≡ g.name → ⊥
+name_not_among : (s : List ℕ) (fs : List Field) (k : ℕ) (g : Field)
+    → list_any (bytes_eq s) (map (λ (f : Field). f.name) fs) ≡ false → slice_get fs k ≡ Some g → s ≡ g.name → ⊥
 name_not_among s [] k g e at same = cc
 name_not_among s (f ∷ fs) zero g e at same =
     let one : f ≡ g = cc in
@@ -28,12 +29,17 @@ distinct_by_place [] e a b f g p q same = cc
 distinct_by_place (h ∷ fs) e zero zero f g p q same = refl
 distinct_by_place (h ∷ fs) e zero (suc b) f g p q same =
     let one : h ≡ f = cc in
-    absurd (name_not_among h.name fs b g (is_false _ (and_parts _ (all_distinct bytes_eq (map (λ (f : Field). f.name) fs)) e).0) q (ap (λ (k : Field). k.name) one ∙ same))
+    absurd (
+    name_not_among h.name fs b g (is_false _ (and_parts _ (all_distinct bytes_eq (map (λ (f : Field). f.name) fs)) e).0) q
+    (ap (λ (k : Field). k.name) one ∙ same))
 distinct_by_place (h ∷ fs) e (suc a) zero f g p q same =
     let one : h ≡ g = cc in
-    absurd (name_not_among h.name fs a f (is_false _ (and_parts _ (all_distinct bytes_eq (map (λ (f : Field). f.name) fs)) e).0) p (ap (λ (k : Field). k.name) one ∙ sym same))
+    absurd (
+    name_not_among h.name fs a f (is_false _ (and_parts _ (all_distinct bytes_eq (map (λ (f : Field). f.name) fs)) e).0) p
+    (ap (λ (k : Field). k.name) one ∙ sym same))
 distinct_by_place (h ∷ fs) e (suc a) (suc b) f g p q same =
-    let below : a ≡ b = distinct_by_place fs (and_parts (not (list_any (bytes_eq h.name) (map (λ (f : Field). f.name) fs))) _ e).1 a b f g p q same in
+    let below : a ≡ b =
+    distinct_by_place fs (and_parts (not (list_any (bytes_eq h.name) (map (λ (f : Field). f.name) fs))) _ e).1 a b f g p q same in
     omega arith
 
 pub no_fields_distinct : HaveDistinctNames []

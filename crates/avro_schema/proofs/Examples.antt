@@ -21,14 +21,19 @@ bad_defaults_of text = option_map bad_defaults (nodes_of text)
 -- a record that leads back to itself has four nodes
 pub linked : nodes_of (codes "{\"type\":\"record\",\"name\":\"Node\",\"fields\":[{\"name\":\"v\",\"type\":\"int\"},{\"name\":\"next\",\"type\":[\"null\",\"Node\"]}]}")
     ≡ Some (kind.Record (record { namespace = []; name = codes "Node" }) []
-    (record { name = codes "v"; aliases = []; default = None; node = record { index = 1 } } ∷ record { name = codes "next"; aliases = []; default = None; node = record { index = 2 } } ∷ [])
+    (record { name = codes "v"; aliases = []; default = None; node = record { index = 1 } }
+    ∷ record { name = codes "next"; aliases = []; default = None; node = record { index = 2 } } ∷ [])
     ∷ kind.Primitive simple.Int ∷ kind.Union (record { index = 3 } ∷ record { index = 0 } ∷ []) ∷ kind.Primitive simple.Null ∷ [])
 unfolding serde_json_on_literals
 linked = refl
 
 -- a record that leads back to itself alone has one node, and its namespace applies inside it
-pub self_reference : nodes_of (codes "{\"type\":\"record\",\"name\":\"R\",\"namespace\":\"n\",\"fields\":[{\"name\":\"f\",\"type\":\"R\"}]}")
-    ≡ Some (kind.Record (record { namespace = codes "n"; name = codes "R" }) [] (record { name = codes "f"; aliases = []; default = None; node = record { index = 0 } } ∷ []) ∷ [])
+pub self_reference : nodes_of (
+    codes "{\"type\":\"record\",\"name\":\"R\",\"namespace\":\"n\",\"fields\":[{\"name\":\"f\",\"type\":\"R\"}]}")
+    ≡ Some (
+    kind.Record (record { namespace = codes "n"; name = codes "R" }) []
+    (record { name = codes "f"; aliases = []; default = None; node = record { index = 0 } } ∷ [])
+    ∷ [])
 unfolding serde_json_on_literals
 self_reference = refl
 
@@ -45,7 +50,8 @@ pub float : faults (codes "{\"type\":\"int\",\"x\":1.5}") ≡ fault.FloatNumber 
 unfolding serde_json_on_literals
 float = refl
 
-pub normal : normal_text_of (codes "{ \"name\":\"R\", \"fields\":[ ], \"type\":\"record\" }") ≡ Some (codes "{\"fields\":[],\"name\":\"R\",\"type\":\"record\"}")
+pub normal : normal_text_of (codes "{ \"name\":\"R\", \"fields\":[ ], \"type\":\"record\" }")
+    ≡ Some (codes "{\"fields\":[],\"name\":\"R\",\"type\":\"record\"}")
 unfolding serde_json_on_literals
 normal = refl
 
@@ -72,12 +78,14 @@ pub good_default : bad_defaults_of ((codes "{\"type\":\"record\",\"name\":\"R\",
 unfolding serde_json_on_literals digits
 good_default = refl
 
-pub bad_default : bad_defaults_of ((codes "{\"type\":\"record\",\"name\":\"R\",\"fields\":[{\"name\":\"x\",\"type\":\"boolean\",\"default\":0},{\"name\":\"y\",\"type\":[\"null\",\"int\"],\"default\":0}]}")) ≡ Some (codes "x" ∷ codes "y" ∷ [])
+pub bad_default : bad_defaults_of ((codes "{\"type\":\"record\",\"name\":\"R\",\"fields\":[{\"name\":\"x\",\"type\":\"boolean\",\"default\":0},{\"name\":\"y\",\"type\":[\"null\",\"int\"],\"default\":0}]}"))
+    ≡ Some (codes "x" ∷ codes "y" ∷ [])
 unfolding serde_json_on_literals digits
 bad_default = refl
 
 -- a use that begins with a dot names nothing
-pub dot_first : faults (codes "[{\"type\":\"enum\",\"name\":\"E\",\"symbols\":[]},{\"type\":\"array\",\"items\":\".E\"}]") ≡ fault.Unknown (codes ".E") ∷ []
+pub dot_first : faults (codes "[{\"type\":\"enum\",\"name\":\"E\",\"symbols\":[]},{\"type\":\"array\",\"items\":\".E\"}]")
+    ≡ fault.Unknown (codes ".E") ∷ []
 unfolding serde_json_on_literals
 dot_first = refl
 
@@ -97,7 +105,8 @@ unfolding serde_json_on_literals
 nested_union = refl
 
 -- two records of one full name
-pub two_records : faults (codes "[{\"type\":\"record\",\"name\":\"R\",\"fields\":[]},{\"type\":\"record\",\"name\":\"R\",\"fields\":[]}]") ≡ fault.BadUnion ∷ fault.Redefined ∷ []
+pub two_records : faults (codes "[{\"type\":\"record\",\"name\":\"R\",\"fields\":[]},{\"type\":\"record\",\"name\":\"R\",\"fields\":[]}]")
+    ≡ fault.BadUnion ∷ fault.Redefined ∷ []
 unfolding serde_json_on_literals
 two_records = refl
 
@@ -107,12 +116,16 @@ unfolding serde_json_on_literals
 one_full_name = refl
 
 -- two records that share the last part alone are two members
-pub one_last_part : option_map length (nodes_of (codes "[{\"type\":\"record\",\"name\":\"a.R\",\"fields\":[]},{\"type\":\"record\",\"name\":\"b.R\",\"fields\":[]}]")) ≡ Some 3
+pub one_last_part : option_map length (
+    nodes_of (codes "[{\"type\":\"record\",\"name\":\"a.R\",\"fields\":[]},{\"type\":\"record\",\"name\":\"b.R\",\"fields\":[]}]"))
+    ≡ Some 3
 unfolding serde_json_on_literals
 one_last_part = refl
 
 -- a record named `array` is no array
-pub named_array : option_map length (nodes_of (codes "[{\"type\":\"array\",\"items\":\"int\"},{\"type\":\"record\",\"name\":\"array\",\"fields\":[]}]")) ≡ Some 4
+pub named_array : option_map length (
+    nodes_of (codes "[{\"type\":\"array\",\"items\":\"int\"},{\"type\":\"record\",\"name\":\"array\",\"fields\":[]}]"))
+    ≡ Some 4
 unfolding serde_json_on_literals
 named_array = refl
 
@@ -120,12 +133,16 @@ named_array = refl
 
 -- an alias without a dot takes the namespace of its type, and one with a dot is a full name
 pub aliases : nodes_of (codes "{\"type\":\"fixed\",\"name\":\"n.F\",\"aliases\":[\"G\",\"m.H\"],\"size\":2}")
-    ≡ Some (kind.Fixed (record { namespace = codes "n"; name = codes "F" }) (record { namespace = codes "n"; name = codes "G" } ∷ record { namespace = codes "m"; name = codes "H" } ∷ []) 2 ∷ [])
+    ≡ Some (
+    kind.Fixed (record { namespace = codes "n"; name = codes "F" })
+    (record { namespace = codes "n"; name = codes "G" } ∷ record { namespace = codes "m"; name = codes "H" } ∷ []) 2
+    ∷ [])
 unfolding serde_json_on_literals
 aliases = refl
 
 -- a namespace that is no string applies to nothing
-pub odd_namespace : nodes_of (codes "{\"type\":\"fixed\",\"name\":\"F\",\"namespace\":7,\"size\":0}") ≡ Some (kind.Fixed (record { namespace = []; name = codes "F" }) [] 0 ∷ [])
+pub odd_namespace : nodes_of (codes "{\"type\":\"fixed\",\"name\":\"F\",\"namespace\":7,\"size\":0}")
+    ≡ Some (kind.Fixed (record { namespace = []; name = codes "F" }) [] 0 ∷ [])
 unfolding serde_json_on_literals
 odd_namespace = refl
 
@@ -136,12 +153,14 @@ unfolding serde_json_on_literals
 dots_and_namespace = refl
 
 -- one full name, written in two ways
-pub redefined : faults (codes "[{\"type\":\"fixed\",\"name\":\"n.F\",\"size\":1},{\"type\":\"array\",\"items\":{\"type\":\"fixed\",\"name\":\"F\",\"namespace\":\"n\",\"size\":1}}]") ≡ fault.Redefined ∷ []
+pub redefined : faults (codes "[{\"type\":\"fixed\",\"name\":\"n.F\",\"size\":1},{\"type\":\"array\",\"items\":{\"type\":\"fixed\",\"name\":\"F\",\"namespace\":\"n\",\"size\":1}}]")
+    ≡ fault.Redefined ∷ []
 unfolding serde_json_on_literals
 redefined = refl
 
 -- a type named `.R` is no type named `R`
-pub dotted_twice : faults (codes "[{\"type\":\"fixed\",\"name\":\".R\",\"size\":1},{\"type\":\"fixed\",\"name\":\"R\",\"size\":1}]") ≡ fault.BadName ∷ []
+pub dotted_twice : faults (codes "[{\"type\":\"fixed\",\"name\":\".R\",\"size\":1},{\"type\":\"fixed\",\"name\":\"R\",\"size\":1}]")
+    ≡ fault.BadName ∷ []
 unfolding serde_json_on_literals
 dotted_twice = refl
 
@@ -151,7 +170,8 @@ unfolding serde_json_on_literals
 lacking_definition = refl
 
 -- and so is one inside a field that lacks its name
-pub lacking_field : faults (codes "{\"type\":\"record\",\"name\":\"R\",\"fields\":[{\"type\":{\"type\":\"fixed\",\"name\":\"F\",\"size\":1}},{\"name\":\"f\",\"type\":\"F\"}]}") ≡ fault.BadForm ∷ []
+pub lacking_field : faults (codes "{\"type\":\"record\",\"name\":\"R\",\"fields\":[{\"type\":{\"type\":\"fixed\",\"name\":\"F\",\"size\":1}},{\"name\":\"f\",\"type\":\"F\"}]}")
+    ≡ fault.BadForm ∷ []
 unfolding serde_json_on_literals
 lacking_field = refl
 
@@ -173,6 +193,8 @@ pub other_default : faults (codes "{\"type\":\"enum\",\"name\":\"E\",\"symbols\"
 unfolding serde_json_on_literals
 other_default = refl
 
-pub same_fields : faults (codes "{\"type\":\"record\",\"name\":\"R\",\"fields\":[{\"name\":\"a\",\"type\":\"int\"},{\"name\":\"a\",\"type\":\"int\"}]}") ≡ fault.BadForm ∷ []
+pub same_fields : faults (
+    codes "{\"type\":\"record\",\"name\":\"R\",\"fields\":[{\"name\":\"a\",\"type\":\"int\"},{\"name\":\"a\",\"type\":\"int\"}]}")
+    ≡ fault.BadForm ∷ []
 unfolding serde_json_on_literals
 same_fields = refl

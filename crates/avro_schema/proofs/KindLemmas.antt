@@ -80,7 +80,9 @@ pub fits_more : (ks : List Kind) (k : Kind) → fits_union ks ≡ true → may_s
 fits_more ks k fits stands =
     let old = both _ _ fits in
     let new = both _ _ stands in
-    let none : not (list_any is_union_kind (ks ++ k ∷ [])) ≡ true = ap not (list_any-append is_union_kind ks (k ∷ [])) ∙ nothing (list_any is_union_kind ks) (is_union_kind k) (flip _ old.0) (flip _ new.0) in
+    let none : not (list_any is_union_kind (ks ++ k ∷ [])) ≡ true =
+    ap not (list_any-append is_union_kind ks (k ∷ []))
+    ∙ nothing (list_any is_union_kind ks) (is_union_kind k) (flip _ old.0) (flip _ new.0) in
     let distinct : all_distinct same_kind (ks ++ k ∷ []) ≡ true = all_distinct-push same_kind same_kind-sym ks k old.1 (flip _ new.1) in
     rw (none, distinct)
 
@@ -92,8 +94,14 @@ and_false : (a : Bool) → a && false ≡ false
 and_false true = refl
 and_false false = refl
 
-by_which : (u a : Bool) (ks : List Kind) (k : Kind) (more : List Kind) → is_union_kind k ≡ u → list_any (same_kind k) ks ≡ a → not u && not a ≡ false → fits_union (ks ++ k ∷ more) ≡ false
-by_which true a ks k more e h x = let some : list_any is_union_kind (ks ++ k ∷ more) ≡ true = list_any-append is_union_kind ks (k ∷ more) ∙ ap (λ b. list_any is_union_kind ks || (b || list_any is_union_kind more)) e ∙ or_true (list_any is_union_kind ks) in rw some
+by_which : (u a : Bool) (ks : List Kind) (k : Kind) (more : List Kind) → is_union_kind k ≡ u
+    → list_any (same_kind k) ks ≡ a → not u && not a ≡ false → fits_union (ks ++ k ∷ more) ≡ false
+by_which true a ks k more e h x =
+    let some : list_any is_union_kind (ks ++ k ∷ more) ≡ true =
+    list_any-append is_union_kind ks (k ∷ more)
+    ∙ ap (λ b. list_any is_union_kind ks || (b || list_any is_union_kind more)) e
+    ∙ or_true (list_any is_union_kind ks) in
+    rw some
 by_which false true ks k more e h x = rw (all_distinct-middle same_kind same_kind-sym ks k more h) (and_false _)
 by_which false false ks k more e h x = cc
 

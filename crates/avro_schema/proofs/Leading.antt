@@ -54,18 +54,22 @@ AreWell all n [] = Unit {0}
 AreWell all n (x ∷ xs) = IsWell all n x × AreWell all (n + 1) xs
 
 -- nodes, and then others
-AreWell-append : (all : List Node) (n m : ℕ) (xs ys : List Node) → AreWell all n xs → m ≡ n + length xs → AreWell all m ys → AreWell all n (xs ++ ys)
+AreWell-append : (all : List Node) (n m : ℕ) (xs ys : List Node) → AreWell all n xs
+    → m ≡ n + length xs → AreWell all m ys → AreWell all n (xs ++ ys)
 AreWell-append all n m [] ys a e b = let same : m ≡ n = omega arith in subst (λ k. AreWell all k ys) same b
 AreWell-append all n m (x ∷ xs) ys a e b = (a.0, AreWell-append all (n + 1) m xs ys a.1 (omega arith) b)
 
 -- one of such nodes
-pub well_at : (all : List Node) (n m i : ℕ) (xs : List Node) (x : Node) → AreWell all n xs → m ≡ n + i → slice_get xs i ≡ Some x → IsWell all m x
+pub well_at : (all : List Node) (n m i : ℕ) (xs : List Node) (x : Node)
+    → AreWell all n xs → m ≡ n + i → slice_get xs i ≡ Some x → IsWell all m x
 well_at all n m i [] x a e is = cc
-well_at all n m zero (y ∷ xs) x a e is = let same : n ≡ m = omega arith in let one : y ≡ x = cc in subst (IsWell all m) one (subst (λ k. IsWell all k y) same a.0)
+well_at all n m zero (y ∷ xs) x a e is =
+    let same : n ≡ m = omega arith in let one : y ≡ x = cc in subst (IsWell all m) one (subst (λ k. IsWell all k y) same a.0)
 well_at all n m (suc i) (y ∷ xs) x a e is = well_at all (n + 1) m i xs x a.1 (omega arith) is
 
 -- what node n is of, where that is node n + 1 or a later one
-leads_to : (all : List Node) (n : ℕ) (i j : NodeId) → IsPart all (n + 1) i → Some i ≡ Some j → (n < j.index) ⊎ (inner (slice_get all j.index) ≡ None)
+leads_to : (all : List Node) (n : ℕ) (i j : NodeId) → IsPart all (n + 1) i
+    → Some i ≡ Some j → (n < j.index) ⊎ (inner (slice_get all j.index) ≡ None)
 leads_to all n i j part e =
     let same : i ≡ j = cc in
     subst (λ (k : NodeId). (n < k.index) ⊎ (inner (slice_get all k.index) ≡ None)) same (elim (part.1) [
@@ -105,13 +109,16 @@ named_no_union None h bs e = cc
 abbrev pub IsDefinedAt : List Node → ℕ → Type 0
 IsDefinedAt all k = (k < length all) × HasName (slice_get all k)
 
-module _ (ds : List Definition) (all : List Node) (known : (ns s : List ℕ) (n : ℕ) (d : Definition) → definition_used ds n ns s ≡ Some d → IsDefinedAt all d.node) where
+module _ (ds : List Definition) (all : List Node)
+    (known : (ns s : List ℕ) (n : ℕ) (d : Definition) → definition_used ds n ns s ≡ Some d → IsDefinedAt all d.node) where
   -- what a use names, where it names a definition
-  used : (ns s : List ℕ) (n : ℕ) (o : Option Definition) → definition_used ds n ns s ≡ o → unless (is_some o) (fault.Unknown s) ≡ [] → IsPart all n (record { index = option_map_or (λ d. d.node) o 0 })
+  used : (ns s : List ℕ) (n : ℕ) (o : Option Definition) → definition_used ds n ns s ≡ o
+      → unless (is_some o) (fault.Unknown s) ≡ [] → IsPart all n (record { index = option_map_or (λ d. d.node) o 0 })
   used ns s n None is e = cc
   used ns s n (Some d) is e = let at = known ns s n d is in (at.0, inr (named_leaf (slice_get all d.node) at.1))
 
-  used_no_union : (ns s : List ℕ) (n : ℕ) (o : Option Definition) → definition_used ds n ns s ≡ o → unless (is_some o) (fault.Unknown s) ≡ [] → IsNoUnion (slice_get all (option_map_or (λ d. d.node) o 0))
+  used_no_union : (ns s : List ℕ) (n : ℕ) (o : Option Definition) → definition_used ds n ns s ≡ o
+      → unless (is_some o) (fault.Unknown s) ≡ [] → IsNoUnion (slice_get all (option_map_or (λ d. d.node) o 0))
   used_no_union ns s n None is e = cc
   used_no_union ns s n (Some d) is e = named_no_union (slice_get all d.node) (known ns s n d is).1
 
@@ -122,11 +129,14 @@ module _ (ds : List Definition) (all : List Node) (known : (ns s : List ℕ) (n 
   part_of ns n _ e le = (omega arith, inl (omega arith))
 
   -- a type that writes out a node, which is no union
-  written_no_union : (n : ℕ) (x : Node) → ((y : Node) → Some x ≡ Some y → slice_get all n ≡ Some y) → IsNoUnion (Some x) → IsNoUnion (slice_get all n)
+  written_no_union : (n : ℕ) (x : Node) → ((y : Node) → Some x ≡ Some y → slice_get all n ≡ Some y)
+      → IsNoUnion (Some x) → IsNoUnion (slice_get all n)
   written_no_union n x at flat bs e = flat bs (sym (at x refl) ∙ e)
 
   -- a branch that is no union
-  branch_no_union : (ns : List ℕ) (n : ℕ) (f : Form) → faults_of ds ns n f ≡ [] → ((x : Node) → node_of ds ns n f ≡ Some x → slice_get all n ≡ Some x) → is_union_kind (kind_in_union ds ns n f) ≡ false → IsNoUnion (slice_get all (node_id ds ns n f).index)
+  branch_no_union : (ns : List ℕ) (n : ℕ) (f : Form)
+      → faults_of ds ns n f ≡ [] → ((x : Node) → node_of ds ns n f ≡ Some x → slice_get all n ≡ Some x)
+      → is_union_kind (kind_in_union ds ns n f) ≡ false → IsNoUnion (slice_get all (node_id ds ns n f).index)
   branch_no_union ns n (plain p) e at apart = written_no_union n _ at (λ bs f. cc)
   branch_no_union ns n (by_name s) e at apart = used_no_union ns s n (definition_used ds n ns s) refl e
   branch_no_union ns n (record_of h fs) e at apart = written_no_union n _ at (λ bs f. cc)
@@ -138,13 +148,16 @@ module _ (ds : List Definition) (all : List Node) (known : (ns s : List ℕ) (n 
   branch_no_union ns n ill_formed e at apart = cc
 
   -- the branches of a union
-  branches_below : (ns : List ℕ) (n : ℕ) (fs : Forms) → Good ds (places_of_forms ns n fs) → n + forms_count fs ≤ length all → AreBelow all (branches ds ns n fs)
+  branches_below : (ns : List ℕ) (n : ℕ) (fs : Forms) → Good ds (places_of_forms ns n fs)
+      → n + forms_count fs ≤ length all → AreBelow all (branches ds ns n fs)
   branches_below ns n no_forms e le = All-nil (λ (i : NodeId). i.index < length all)
   branches_below ns n (and_form f fs) e le =
       let here : IsPart all n (node_id ds ns n f) = part_of ns n f (nil-left _ _ e) (omega arith) in
-      All-cons (λ (i : NodeId). i.index < length all) _ _ here.0 (branches_below ns (n + count f) fs (good_rest ds (places ns n f) (places_of_forms ns (n + count f) fs) e) (omega arith))
+      All-cons (λ (i : NodeId). i.index < length all) _ _ here.0
+      (branches_below ns (n + count f) fs (good_rest ds (places ns n f) (places_of_forms ns (n + count f) fs) e) (omega arith))
 
-  branches_flat : (ns : List ℕ) (n : ℕ) (fs : Forms) → Good ds (places_of_forms ns n fs) → Stands ds all (places_of_forms ns n fs) → list_any is_union_kind (kinds ds ns n fs) ≡ false → AreNoUnions all (branches ds ns n fs)
+  branches_flat : (ns : List ℕ) (n : ℕ) (fs : Forms) → Good ds (places_of_forms ns n fs) → Stands ds all (places_of_forms ns n fs)
+      → list_any is_union_kind (kinds ds ns n fs) ≡ false → AreNoUnions all (branches ds ns n fs)
   branches_flat ns n no_forms e st apart = All-nil (λ (i : NodeId). IsNoUnion (slice_get all i.index))
   branches_flat ns n (and_form f fs) e st apart =
       let qs = places_of_forms ns (n + count f) fs in
@@ -154,26 +167,33 @@ module _ (ds : List Definition) (all : List Node) (known : (ns s : List ℕ) (n 
       (branches_flat ns (n + count f) fs (good_rest ds (places ns n f) qs e) (stands_rest ds all (places ns n f) qs st) both.1)
 
   -- a union that is not at fault
-  union_flat : (ns : List ℕ) (n : ℕ) (fs : Forms) → Good ds (places ns n (union_of fs)) → Stands ds all (places_of_forms ns (n + 1) fs) → AreNoUnions all (branches ds ns (n + 1) fs)
+  union_flat : (ns : List ℕ) (n : ℕ) (fs : Forms) → Good ds (places ns n (union_of fs))
+      → Stands ds all (places_of_forms ns (n + 1) fs) → AreNoUnions all (branches ds ns (n + 1) fs)
   union_flat ns n fs e st =
-      let fits : fits_union (kinds ds ns (n + 1) fs) ≡ true = nil-unless (fits_union (kinds ds ns (n + 1) fs)) fault.BadUnion (nil-left _ _ e) in
-      branches_flat ns (n + 1) fs (nil-right (faults_of ds ns n (union_of fs)) _ e) st (is_false _ (and_parts _ (all_distinct same_kind (kinds ds ns (n + 1) fs)) fits).0)
+      let fits : fits_union (kinds ds ns (n + 1) fs) ≡ true =
+      nil-unless (fits_union (kinds ds ns (n + 1) fs)) fault.BadUnion (nil-left _ _ e) in
+      branches_flat ns (n + 1) fs (nil-right (faults_of ds ns n (union_of fs)) _ e) st
+      (is_false _ (and_parts _ (all_distinct same_kind (kinds ds ns (n + 1) fs)) fits).0)
 
   -- the fields of a record
-  fields_below : (ns : List ℕ) (n : ℕ) (fs : Fields) → Good ds (places_of_fields ns n fs) → n + fields_count fs ≤ length all → AreBelow all (map (λ g. g.node) (field_list ds ns n fs))
+  fields_below : (ns : List ℕ) (n : ℕ) (fs : Fields) → Good ds (places_of_fields ns n fs)
+      → n + fields_count fs ≤ length all → AreBelow all (map (λ g. g.node) (field_list ds ns n fs))
   fields_below ns n no_fields e le = All-nil (λ (i : NodeId). i.index < length all)
   fields_below ns n ill_fields e le = All-nil (λ (i : NodeId). i.index < length all)
   fields_below ns n (and_field h f fs) e le =
       let here : IsPart all n (node_id ds ns n f) = part_of ns n f (nil-left _ _ e) (omega arith) in
-      All-cons (λ (i : NodeId). i.index < length all) _ _ here.0 (fields_below ns (n + count f) fs (good_rest ds (places ns n f) (places_of_fields ns (n + count f) fs) e) (omega arith))
+      All-cons (λ (i : NodeId). i.index < length all) _ _ here.0
+      (fields_below ns (n + count f) fs (good_rest ds (places ns n f) (places_of_fields ns (n + count f) fs) e) (omega arith))
 
   -- and their names
-  fields_distinct : (ns : List ℕ) (n : ℕ) (h : Heading) (fs : Fields) → faults_of ds ns n (record_of h fs) ≡ [] → HaveDistinctNames (field_list ds (type_name ns h).namespace (n + 1) fs)
+  fields_distinct : (ns : List ℕ) (n : ℕ) (h : Heading) (fs : Fields) → faults_of ds ns n (record_of h fs) ≡ []
+      → HaveDistinctNames (field_list ds (type_name ns h).namespace (n + 1) fs)
   fields_distinct ns n h fs e =
       let list : field_list_faults fs ≡ [] = nil-right (heading_faults ds ns n h) _ e in
       let fits : fits_fields fs ≡ true = nil-unless (fits_fields fs) fault.BadForm (nil-left _ _ list) in
       distinct_by_place (field_list ds (type_name ns h).namespace (n + 1) fs)
-      (ap (all_distinct bytes_eq) (listed_names ds (type_name ns h).namespace (n + 1) fs) ∙ (and_parts (are_written fs && list_all is_formed (field_headings fs)) _ fits).1)
+      (ap (all_distinct bytes_eq) (listed_names ds (type_name ns h).namespace (n + 1) fs)
+      ∙ (and_parts (are_written fs && list_all is_formed (field_headings fs)) _ fits).1)
 
   -- a node that leads nowhere
   leaf : (n : ℕ) (x : Node) → parts_of_node x ≡ [] → inner (Some x) ≡ None → fields_of_node x ≡ [] → IsNoUnion (Some x) → IsWell all n x
@@ -185,23 +205,28 @@ module _ (ds : List Definition) (all : List Node) (known : (ns s : List ℕ) (n 
   }
 
   -- an array or a map of a type
-  of_one : (n : ℕ) (x : Node) (i : NodeId) → parts_of_node x ≡ i ∷ [] → inner (Some x) ≡ Some i → fields_of_node x ≡ [] → IsNoUnion (Some x) → IsPart all (n + 1) i → IsWell all n x
+  of_one : (n : ℕ) (x : Node) (i : NodeId) → parts_of_node x ≡ i ∷ [] → inner (Some x) ≡ Some i
+      → fields_of_node x ≡ [] → IsNoUnion (Some x) → IsPart all (n + 1) i → IsWell all n x
   of_one n x i parts one fields flat part = record {
-    closed = subst (AreBelow all) (sym parts) (All-cons (λ (i : NodeId). i.index < length all) i [] part.0 (All-nil (λ (i : NodeId). i.index < length all)));
+    closed = subst (AreBelow all) (sym parts)
+        (All-cons (λ (i : NodeId). i.index < length all) i [] part.0 (All-nil (λ (i : NodeId). i.index < length all)));
     leads_on = λ j is. leads_to all n i j part (sym one ∙ is);
     distinct = subst HaveDistinctNames (sym fields) no_fields_distinct;
     flat = λ bs is. absurd (flat bs (ap Some is));
   }
 
   -- the nodes of one type, and then others
-  well_both : (ns : List ℕ) (n : ℕ) (f : Form) (qs : List Place) → AreWell all n (filter_map (node_at ds) (places ns n f)) → AreWell all (n + count f) (filter_map (node_at ds) qs) → AreWell all n (filter_map (node_at ds) (places ns n f ++ qs))
+  well_both : (ns : List ℕ) (n : ℕ) (f : Form) (qs : List Place) → AreWell all n (filter_map (node_at ds) (places ns n f))
+      → AreWell all (n + count f) (filter_map (node_at ds) qs) → AreWell all n (filter_map (node_at ds) (places ns n f ++ qs))
   well_both ns n f qs a b =
       subst (AreWell all n) (sym (filter_map-append (node_at ds) (places ns n f) qs))
-      (AreWell-append all n (n + count f) (filter_map (node_at ds) (places ns n f)) (filter_map (node_at ds) qs) a (ap (λ k. n + k) (sym (count-type ds ns n f))) b)
+      (AreWell-append all n (n + count f) (filter_map (node_at ds) (places ns n f))
+      (filter_map (node_at ds) qs) a (ap (λ k. n + k) (sym (count-type ds ns n f))) b)
 
   mutual
     -- the nodes of a type where no fault stands
-    pub well_type : (ns : List ℕ) (n : ℕ) (f : Form) → Good ds (places ns n f) → Stands ds all (places ns n f) → n + count f ≤ length all → AreWell all n (filter_map (node_at ds) (places ns n f))
+    pub well_type : (ns : List ℕ) (n : ℕ) (f : Form) → Good ds (places ns n f) → Stands ds all (places ns n f)
+        → n + count f ≤ length all → AreWell all n (filter_map (node_at ds) (places ns n f))
     well_type ns n (plain p) e st le = (leaf n (kind.Primitive p) refl refl refl (λ bs f. cc), tt)
     well_type ns n (by_name s) e st le = tt
     well_type ns n (record_of h fs) e st le =
@@ -217,11 +242,15 @@ module _ (ds : List Definition) (all : List Node) (known : (ns s : List ℕ) (n 
     well_type ns n (enum_of h ss d) e st le = (leaf n _ refl refl refl (λ bs f. cc), tt)
     well_type ns n (fixed_of h s) e st le = (leaf n _ refl refl refl (λ bs f. cc), tt)
     well_type ns n (array_of f) e st le =
-        let part : IsPart all (n + 1) (node_id ds ns (n + 1) f) = part_of ns (n + 1) f (nil-left _ _ e) (omega arith) in
-        (of_one n (kind.Array (node_id ds ns (n + 1) f)) (node_id ds ns (n + 1) f) refl refl refl (λ bs f. cc) part, well_type ns (n + 1) f e st.1 (omega arith))
+        let part : IsPart all (n + 1) (node_id ds ns (n + 1) f) = part_of ns (n + 1) f (nil-left _ _ e) (omega arith) in (
+          of_one n (kind.Array (node_id ds ns (n + 1) f)) (node_id ds ns (n + 1) f) refl refl refl (λ bs f. cc) part,
+          well_type ns (n + 1) f e st.1 (omega arith),
+        )
     well_type ns n (map_of f) e st le =
-        let part : IsPart all (n + 1) (node_id ds ns (n + 1) f) = part_of ns (n + 1) f (nil-left _ _ e) (omega arith) in
-        (of_one n (kind.Map (node_id ds ns (n + 1) f)) (node_id ds ns (n + 1) f) refl refl refl (λ bs f. cc) part, well_type ns (n + 1) f e st.1 (omega arith))
+        let part : IsPart all (n + 1) (node_id ds ns (n + 1) f) = part_of ns (n + 1) f (nil-left _ _ e) (omega arith) in (
+          of_one n (kind.Map (node_id ds ns (n + 1) f)) (node_id ds ns (n + 1) f) refl refl refl (λ bs f. cc) part,
+          well_type ns (n + 1) f e st.1 (omega arith),
+        )
     well_type ns n (union_of fs) e st le =
         let rest : Good ds (places_of_forms ns (n + 1) fs) = nil-right (faults_of ds ns n (union_of fs)) _ e in (
           record {
@@ -235,16 +264,22 @@ module _ (ds : List Definition) (all : List Node) (known : (ns s : List ℕ) (n 
     well_type ns n ill_formed e st le = tt
 
     -- and of the branches of a union
-    well_forms : (ns : List ℕ) (n : ℕ) (fs : Forms) → Good ds (places_of_forms ns n fs) → Stands ds all (places_of_forms ns n fs) → n + forms_count fs ≤ length all → AreWell all n (filter_map (node_at ds) (places_of_forms ns n fs))
+    well_forms : (ns : List ℕ) (n : ℕ) (fs : Forms) → Good ds (places_of_forms ns n fs) → Stands ds all (places_of_forms ns n fs)
+        → n + forms_count fs ≤ length all → AreWell all n (filter_map (node_at ds) (places_of_forms ns n fs))
     well_forms ns n no_forms e st le = tt
     well_forms ns n (and_form f fs) e st le =
         let qs = places_of_forms ns (n + count f) fs in
-        well_both ns n f qs (well_type ns n f (good_front ds (places ns n f) qs e) (stands_front ds all (places ns n f) qs st) (omega arith)) (well_forms ns (n + count f) fs (good_rest ds (places ns n f) qs e) (stands_rest ds all (places ns n f) qs st) (omega arith))
+        well_both ns n f qs
+        (well_type ns n f (good_front ds (places ns n f) qs e) (stands_front ds all (places ns n f) qs st) (omega arith))
+        (well_forms ns (n + count f) fs (good_rest ds (places ns n f) qs e) (stands_rest ds all (places ns n f) qs st) (omega arith))
 
     -- and of the fields of a record
-    well_fields : (ns : List ℕ) (n : ℕ) (fs : Fields) → Good ds (places_of_fields ns n fs) → Stands ds all (places_of_fields ns n fs) → n + fields_count fs ≤ length all → AreWell all n (filter_map (node_at ds) (places_of_fields ns n fs))
+    well_fields : (ns : List ℕ) (n : ℕ) (fs : Fields) → Good ds (places_of_fields ns n fs) → Stands ds all (places_of_fields ns n fs)
+        → n + fields_count fs ≤ length all → AreWell all n (filter_map (node_at ds) (places_of_fields ns n fs))
     well_fields ns n no_fields e st le = tt
     well_fields ns n ill_fields e st le = tt
     well_fields ns n (and_field h f fs) e st le =
         let qs = places_of_fields ns (n + count f) fs in
-        well_both ns n f qs (well_type ns n f (good_front ds (places ns n f) qs e) (stands_front ds all (places ns n f) qs st) (omega arith)) (well_fields ns (n + count f) fs (good_rest ds (places ns n f) qs e) (stands_rest ds all (places ns n f) qs st) (omega arith))
+        well_both ns n f qs
+        (well_type ns n f (good_front ds (places ns n f) qs e) (stands_front ds all (places ns n f) qs st) (omega arith))
+        (well_fields ns (n + count f) fs (good_rest ds (places ns n f) qs e) (stands_rest ds all (places ns n f) qs st) (omega arith))

@@ -56,7 +56,9 @@ joined_once (x ∷ ns) (y ∷ ms) s t p q e = parted_once (x ∷ ns) (y ∷ ms) 
 pub whole_dotted : (ns s front back : List ℕ) → s ≡ front ++ 46 ∷ back → is_full_name s ≡ true → full_text ns s ≡ joined front back
 whole_dotted ns s [] back is full = let no : is_full_name (46 ∷ back) ≡ true = ap is_full_name (sym is) ∙ full in absurd (false≢true no)
 whole_dotted ns s (x ∷ front) back is full =
-    ap (full_text ns) is ∙ ap (λ b. cond b ((x ∷ front) ++ 46 ∷ back) (joined ns ((x ∷ front) ++ 46 ∷ back))) (has_dot-middle (x ∷ front) back) ∙ sym (joined-dot x front back)
+    ap (full_text ns) is
+    ∙ ap (λ b. cond b ((x ∷ front) ++ 46 ∷ back) (joined ns ((x ∷ front) ++ 46 ∷ back))) (has_dot-middle (x ∷ front) back)
+    ∙ sym (joined-dot x front back)
 
 pub whole_plain : (ns s : List ℕ) → has_dot s ≡ false → full_text ns s ≡ joined ns s
 whole_plain ns s e = ap (λ b. cond b s (joined ns s)) e
@@ -79,14 +81,22 @@ no_node None e = refl
 no_node (Some d) e = cc
 
 -- a name is added that was not there
-pub named_too : (ds : List Definition) (bs : List ℕ) (i : ℕ) (s : List ℕ) (b : Bool) → bytes_eq bs s ≡ b → node_named ds bs ≡ None → cond b (Some i) (node_named ds s) ≡ node_named (ds ++ record { name = bs; node = i } ∷ []) s
+pub named_too : (ds : List Definition) (bs : List ℕ) (i : ℕ) (s : List ℕ) (b : Bool) → bytes_eq bs s ≡ b
+    → node_named ds bs ≡ None → cond b (Some i) (node_named ds s) ≡ node_named (ds ++ record { name = bs; node = i } ∷ []) s
 named_too ds bs i s true e new =
     let same : bs ≡ s = (bytes_eq-Decides bs s).0 e in
     let none : find (λ d. bytes_eq d.name s) ds ≡ None = no_node _ (ap (λ t. node_named ds t) (sym same) ∙ new) in
-    sym (ap (option_map (λ d. d.node)) (find-append (λ d. bytes_eq d.name s) ds (record { name = bs; node = i } ∷ []) ∙ ap (λ o. option_or o (cond (bytes_eq bs s) (Some (record { name = bs; node = i })) None)) none
+    sym (
+    ap (option_map (λ d. d.node))
+    (find-append (λ d. bytes_eq d.name s) ds (record { name = bs; node = i } ∷ [])
+    ∙ ap (λ o. option_or o (cond (bytes_eq bs s) (Some (record { name = bs; node = i })) None)) none
     ∙ ap (λ b. cond b (Some (record { name = bs; node = i })) None) e))
 named_too ds bs i s false e new =
-    sym (ap (option_map (λ d. d.node)) (find-append (λ d. bytes_eq d.name s) ds (record { name = bs; node = i } ∷ []) ∙ ap (λ b. option_or (find (λ d. bytes_eq d.name s) ds) (cond b (Some (record { name = bs; node = i })) None)) e ∙ or_none _))
+    sym (
+    ap (option_map (λ d. d.node))
+    (find-append (λ d. bytes_eq d.name s) ds (record { name = bs; node = i } ∷ [])
+    ∙ ap (λ b. option_or (find (λ d. bytes_eq d.name s) ds) (cond b (Some (record { name = bs; node = i })) None)) e
+    ∙ or_none _))
 
 unlike : (s t : List ℕ) → (s ≡ t → ⊥) → bytes_eq s t ≡ false
 unlike s t apart = false_from_ne_true (bytes_eq s t) (λ e. apart ((bytes_eq-Decides s t).0 e))
@@ -116,16 +126,19 @@ pub record IsNumberedToo (r n : DefinedNames) (ns : List ℕ) : Type 0 where
 
 module _ (r n : DefinedNames) (ns : List ℕ) (too : IsNumberedToo r n ns) where
   at_other : (ms : List ℕ) (i : ℕ) (b : Bool) → bytes_eq ns ms ≡ b → number_of r ms ≡ Some i → number_of n ms ≡ Some i
-  at_other ms i true e h = let same : ns ≡ ms = (bytes_eq-Decides ns ms).0 e in let no : None ≡ Some i = sym too.new ∙ ap (number_of r) same ∙ h in cc
+  at_other ms i true e h =
+      let same : ns ≡ ms = (bytes_eq-Decides ns ms).0 e in let no : None ≡ Some i = sym too.new ∙ ap (number_of r) same ∙ h in cc
   at_other ms i false e h = too.numbers ms ∙ ap (λ b. cond b (Some (length r.nodes.items)) (number_of r ms)) e ∙ h
 
   pub kept_numbers : KeepsNumbers r n
   kept_numbers ms i = at_other ms i (bytes_eq ns ms) refl
 
   -- which namespace a number stands for
-  owner : (ms : List ℕ) (i : ℕ) (b : Bool) → bytes_eq ns ms ≡ b → number_of n ms ≡ Some i → ((ns ≡ ms) × (i ≡ length r.nodes.items)) ⊎ (number_of r ms ≡ Some i)
+  owner : (ms : List ℕ) (i : ℕ) (b : Bool) → bytes_eq ns ms ≡ b → number_of n ms ≡ Some i
+      → ((ns ≡ ms) × (i ≡ length r.nodes.items)) ⊎ (number_of r ms ≡ Some i)
   owner ms i true e h =
-      let is : Some (length r.nodes.items) ≡ Some i = sym (too.numbers ms ∙ ap (λ b. cond b (Some (length r.nodes.items)) (number_of r ms)) e) ∙ h in
+      let is : Some (length r.nodes.items) ≡ Some i =
+      sym (too.numbers ms ∙ ap (λ b. cond b (Some (length r.nodes.items)) (number_of r ms)) e) ∙ h in
       let same : i ≡ length r.nodes.items = cc in
       inl ((bytes_eq-Decides ns ms).0 e, same)
   owner ms i false e h = inr (sym (too.numbers ms ∙ ap (λ b. cond b (Some (length r.nodes.items)) (number_of r ms)) e) ∙ h)
@@ -154,7 +167,8 @@ module _ (r n : DefinedNames) (ns : List ℕ) (too : IsNumberedToo r n ns) where
       at_node ms s true e =
           let same : ns ≡ ms = (bytes_eq-Decides ns ms).0 e in
           ap (option_and_then (λ i. node_in n i s)) (too.numbers ms ∙ ap (λ b. cond b (Some (length r.nodes.items)) (number_of r ms)) e)
-          ∙ too.nodes (length r.nodes.items) s ∙ ap (option_and_then (λ m. get_by_text m s)) (slice_get_past r.nodes.items (length r.nodes.items) (omega arith))
+          ∙ too.nodes (length r.nodes.items) s
+          ∙ ap (option_and_then (λ m. get_by_text m s)) (slice_get_past r.nodes.items (length r.nodes.items) (omega arith))
           ∙ ap (option_and_then (λ i. node_in r i s)) (sym (ap (number_of r) (sym same) ∙ too.new))
       at_node ms s false e =
           ap (option_and_then (λ i. node_in n i s)) (too.numbers ms ∙ ap (λ b. cond b (Some (length r.nodes.items)) (number_of r ms)) e)
@@ -183,14 +197,16 @@ is_equal i k e = grind (arith, nat_tests)
 pub are_equal : (i k : ℕ) → (i == k) ≡ true → i ≡ k
 are_equal i k e = grind (arith, nat_tests)
 
-module _ (r n : DefinedNames) (ns : List ℕ) (k : ℕ) (last : List ℕ) (node : ℕ) (too : IsDefinedToo r n ns k last node) (ds : List Definition) (are : AreDefined r ds) where
+module _ (r n : DefinedNames) (ns : List ℕ) (k : ℕ) (last : List ℕ) (node : ℕ)
+    (too : IsDefinedToo r n ns k last node) (ds : List Definition) (are : AreDefined r ds) where
   same_number : (ms : List ℕ) → number_of n ms ≡ number_of r ms
   same_number ms = ap (λ m. get_by_text m ms) too.numbers
 
   pub none_named : node_named ds (joined ns last) ≡ None
   none_named = sym (are.found ns last too.dotless) ∙ ap (option_and_then (λ i. node_in r i last)) too.number ∙ too.new
 
-  same_test : (ms s : List ℕ) (j : ℕ) → has_dot s ≡ false → number_of r ms ≡ Some j → (j == k) && bytes_eq last s ≡ bytes_eq (joined ns last) (joined ms s)
+  same_test : (ms s : List ℕ) (j : ℕ) → has_dot s ≡ false → number_of r ms ≡ Some j
+      → (j == k) && bytes_eq last s ≡ bytes_eq (joined ns last) (joined ms s)
   same_test ms s j dotless is =
       either_way _ _ (λ h.
       let parts = both_parts _ _ h in
@@ -203,17 +219,21 @@ module _ (r n : DefinedNames) (ns : List ℕ) (k : ℕ) (last : List ℕ) (node 
       let number : j ≡ k = cc in
       both_true _ _ (is_equal j k number) ((bytes_eq-Decides last s).1 parts.1))
 
-  at_node : (ms s : List ℕ) (o : Option ℕ) → has_dot s ≡ false → number_of r ms ≡ o → node_of n ms s ≡ node_named (ds ++ record { name = joined ns last; node = node } ∷ []) (joined ms s)
+  at_node : (ms s : List ℕ) (o : Option ℕ) → has_dot s ≡ false → number_of r ms ≡ o
+      → node_of n ms s ≡ node_named (ds ++ record { name = joined ns last; node = node } ∷ []) (joined ms s)
   at_node ms s None dotless is =
       let other : bytes_eq (joined ns last) (joined ms s) ≡ false = unlike _ _ (λ e.
       let parts = joined_once ns ms last s too.dotless dotless e in
       let no : None ≡ Some k = sym is ∙ ap (number_of r) (sym parts.0) ∙ too.number in
       cc) in
-      ap (option_and_then (λ i. node_in n i s)) (same_number ms ∙ is) ∙ ap (option_and_then (λ i. node_in r i s)) (sym is) ∙ are.found ms s dotless
+      ap (option_and_then (λ i. node_in n i s)) (same_number ms ∙ is)
+      ∙ ap (option_and_then (λ i. node_in r i s)) (sym is)
+      ∙ are.found ms s dotless
       ∙ named_too ds (joined ns last) node (joined ms s) false other none_named
   at_node ms s (Some j) dotless is =
       ap (option_and_then (λ i. node_in n i s)) (same_number ms ∙ is) ∙ too.put j s
-      ∙ ap (λ o. cond ((j == k) && bytes_eq last s) (Some node) o) (ap (option_and_then (λ i. node_in r i s)) (sym is) ∙ are.found ms s dotless)
+      ∙ ap (λ o. cond ((j == k) && bytes_eq last s) (Some node) o)
+      (ap (option_and_then (λ i. node_in r i s)) (sym is) ∙ are.found ms s dotless)
       ∙ ap (λ b. cond b (Some node) (node_named ds (joined ms s))) (same_test ms s j dotless is)
       ∙ named_too ds (joined ns last) node (joined ms s) _ refl none_named
 
@@ -222,7 +242,9 @@ module _ (r n : DefinedNames) (ns : List ℕ) (k : ℕ) (last : List ℕ) (node 
     within = λ ms i h. omega (arith, are.within ms i (sym (same_number ms) ∙ h), too.count);
     distinct = λ ms ps i h g. are.distinct ms ps i (sym (same_number ms) ∙ h) (sym (same_number ps) ∙ g);
     found = λ ms s dotless. at_node ms s (number_of r ms) dotless refl;
-    fronted = λ s dotless. sym (named_too ds (joined ns last) node (46 ∷ s) false (unlike _ _ (not_fronted ns last s too.dotless dotless)) none_named) ∙ are.fronted s dotless;
+    fronted = λ s dotless.
+        sym (named_too ds (joined ns last) node (46 ∷ s) false (unlike _ _ (not_fronted ns last s too.dotless dotless)) none_named)
+        ∙ are.fronted s dotless;
   }
 
 -- ---- a change of one map of many
@@ -231,11 +253,15 @@ not_zero : (n : ℕ) → (0 == suc n) ≡ false
 not_zero n = grind (arith, nat_tests)
 
 both_suc : (i k : ℕ) → (suc i == suc k) ≡ (i == k)
-both_suc i k = either_way _ _ (λ h. let e : suc i ≡ suc k = are_equal (suc i) (suc k) h in is_equal i k (omega arith)) (λ h. let e : i ≡ k = are_equal i k h in is_equal (suc i) (suc k) (omega arith))
+both_suc i k =
+    either_way _ _ (λ h. let e : suc i ≡ suc k = are_equal (suc i) (suc k) h in is_equal i k (omega arith))
+    (λ h. let e : i ≡ k = are_equal i k h in is_equal (suc i) (suc k) (omega arith))
 
-pub put_at : {Y : Type 0} (ms : List (BTreeMap (String Y) ℕ)) (k : ℕ) (old new : BTreeMap (String Y) ℕ) (last : List ℕ) (node : ℕ) → slice_get ms k ≡ Some old
+pub put_at : {Y : Type 0} (ms : List (BTreeMap (String Y) ℕ)) (k : ℕ) (old new : BTreeMap (String Y) ℕ) (last : List ℕ) (node : ℕ)
+    → slice_get ms k ≡ Some old
     → ((s : List ℕ) → get_by_text new s ≡ cond (bytes_eq last s) (Some node) (get_by_text old s)) → (i : ℕ) (s : List ℕ)
-    → option_and_then (λ m. get_by_text m s) (slice_get (set ms k new) i) ≡ cond ((i == k) && bytes_eq last s) (Some node) (option_and_then (λ m. get_by_text m s) (slice_get ms i))
+    → option_and_then (λ m. get_by_text m s) (slice_get (set ms k new) i)
+    ≡ cond ((i == k) && bytes_eq last s) (Some node) (option_and_then (λ m. get_by_text m s) (slice_get ms i))
 put_at [] k old new last node at puts i s = absurd (none_some at)
   where
     none_some : {A : Type 0} {x : A} → None ≡ Some x → ⊥
@@ -243,8 +269,10 @@ put_at [] k old new last node at puts i s = absurd (none_some at)
 put_at (x ∷ ms) zero old new last node at puts zero s =
     let same : x ≡ old = cc in
     puts s ∙ ap (λ m. cond (bytes_eq last s) (Some node) (get_by_text m s)) (sym same)
-put_at (x ∷ ms) zero old new last node at puts (suc i) s = sym (ap (λ b. cond (b && bytes_eq last s) (Some node) (option_and_then (λ m. get_by_text m s) (slice_get ms i))) (not_empty i))
-put_at (x ∷ ms) (suc k) old new last node at puts zero s = sym (ap (λ b. cond (b && bytes_eq last s) (Some node) (get_by_text x s)) (not_zero k))
+put_at (x ∷ ms) zero old new last node at puts (suc i) s =
+    sym (ap (λ b. cond (b && bytes_eq last s) (Some node) (option_and_then (λ m. get_by_text m s) (slice_get ms i))) (not_empty i))
+put_at (x ∷ ms) (suc k) old new last node at puts zero s =
+    sym (ap (λ b. cond (b && bytes_eq last s) (Some node) (get_by_text x s)) (not_zero k))
 put_at (x ∷ ms) (suc k) old new last node at puts (suc i) s =
     put_at ms k old new last node at puts i s
     ∙ sym (ap (λ b. cond (b && bytes_eq last s) (Some node) (option_and_then (λ m. get_by_text m s) (slice_get ms i))) (both_suc i k))

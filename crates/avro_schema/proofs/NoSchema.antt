@@ -4,7 +4,8 @@ use Rattle.avro_schema.specs.declared.error.SchemaError.{SchemaError}
 use Rattle.avro_schema.specs.declared.error.SchemaError.TheVariants.{OutOfMemory}
 use Rattle.avro_schema.specs.Schema.{faults, schema_of, is_memory, IsRefusalBy, Meaning}
 
-none_meant : (es : List SchemaError) (e : SchemaError) (o : Option Meaning) → Contains es e → ◌≡◌ {A = Option Meaning} (elim es [ [] ↦ o | x ∷ xs ↦ None ]) None
+none_meant : (es : List SchemaError) (e : SchemaError) (o : Option Meaning)
+    → Contains es e → ◌≡◌ {A = Option Meaning} (elim es [ [] ↦ o | x ∷ xs ↦ None ]) None
 none_meant [] e o h = absurd (omega arith)
 none_meant (x ∷ es) e o h = refl
 

@@ -14,10 +14,15 @@ use Rattle.avro_schema.specs.declared.limits.TheConstants.{LONGEST_TEXT}
 
 -- what is meant where the text is short enough, or is not, and the JSON value that it writes
 abbrev meant_by : Bool → Option Data → Option Meaning
-meant_by short o = elim (unless short fault.TooLong ++ option_map_or data_faults o (fault.NotJson ∷ [])) [ [] ↦ option_map (λ d. record { nodes = nodes (form d); normal_text = compact_text d }) o | x ∷ xs ↦ None ]
+meant_by short o =
+    elim (unless short fault.TooLong ++ option_map_or data_faults o (fault.NotJson ∷ [])) [
+      | [] ↦ option_map (λ d. record { nodes = nodes (form d); normal_text = compact_text d }) o
+      | x ∷ xs ↦ None
+    ]
 
 schema_of-read : (text : List ℕ) (d : Data) → read text ≡ Some d → length text ≤ LONGEST_TEXT → schema_of text ≡ meant_by true (Some d)
 schema_of-read text d e h = ap (λ b. meant_by b (read text)) (le-leb (length text) LONGEST_TEXT h) ∙ ap (meant_by true) e
 
-pub same_meaning : (normal text : List ℕ) (d : Data) → read normal ≡ Some d → read text ≡ Some d → length normal ≤ LONGEST_TEXT → length text ≤ LONGEST_TEXT → schema_of normal ≡ schema_of text
+pub same_meaning : (normal text : List ℕ) (d : Data) → read normal ≡ Some d → read text ≡ Some d
+    → length normal ≤ LONGEST_TEXT → length text ≤ LONGEST_TEXT → schema_of normal ≡ schema_of text
 same_meaning normal text d e f p q = schema_of-read normal d e p ∙ sym (schema_of-read text d f q)

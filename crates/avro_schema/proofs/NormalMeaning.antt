@@ -24,7 +24,8 @@ abbrev meant : Data → Meaning
 meant d = record { nodes = nodes (form d); normal_text = compact_text d }
 
 -- where a text means a schema, it is that of some JSON with no float
-read_as : (es : List SchemaError) (o : Option Data) (m : Meaning) → elim (es ++ option_map_or data_faults o (fault.NotJson ∷ [])) [ [] ↦ option_map meant o | x ∷ xs ↦ None ] ≡ Some m
+read_as : (es : List SchemaError) (o : Option Data) (m : Meaning)
+    → elim (es ++ option_map_or data_faults o (fault.NotJson ∷ [])) [ [] ↦ option_map meant o | x ∷ xs ↦ None ] ≡ Some m
     → (d : Data) × (o ≡ Some d) × (es ≡ []) × (has_float d ≡ false) × (compact_text d ≡ m.normal_text)
 read_as es None m e = let stood = none_stood (es ++ fault.NotJson ∷ []) None m e in cc
 read_as es (Some d) m e =
@@ -40,7 +41,8 @@ pub normal_means_same : ((text : List ℕ) (d : Data) → read text ≡ Some d �
     → (text : List ℕ) (m : Meaning) → schema_of text ≡ Some m → schema_of m.normal_text ≡ Some m
 normal_means_same no_longer text m e =
     let r = read_as (unless (nat_le (length text) LONGEST_TEXT) fault.TooLong) (read text) m e in
-    let within : length text ≤ LONGEST_TEXT = leb-true (length text) LONGEST_TEXT (nil-unless (nat_le (length text) LONGEST_TEXT) fault.TooLong r.2) in
+    let within : length text ≤ LONGEST_TEXT =
+    leb-true (length text) LONGEST_TEXT (nil-unless (nat_le (length text) LONGEST_TEXT) fault.TooLong r.2) in
     let back : read m.normal_text ≡ Some r.0 = ap read (sym r.4) ∙ compact_text_reads_back text r.0 r.1 r.3 in
     let short : length m.normal_text ≤ length text = subst (λ s. length s ≤ length text) r.4 (no_longer text r.0 r.1) in
     same_meaning m.normal_text text r.0 back r.1 (omega arith) within ∙ e

@@ -34,9 +34,11 @@ module _ (ds : List Definition) where
   Numbered n (p ∷ ps) = (p.before ≡ n) × Numbered (after n (node_at ds p)) ps
 
   -- places, and then others
-  Numbered-append : (n m : ℕ) (ps qs : List Place) → Numbered n ps → m ≡ n + length (filter_map (node_at ds) ps) → Numbered m qs → Numbered n (ps ++ qs)
+  Numbered-append : (n m : ℕ) (ps qs : List Place) → Numbered n ps
+      → m ≡ n + length (filter_map (node_at ds) ps) → Numbered m qs → Numbered n (ps ++ qs)
   Numbered-append n m [] qs a e b = let same : m ≡ n = omega arith in subst (λ k. Numbered k qs) same b
-  Numbered-append n m (p ∷ ps) qs a e b = (a.0, Numbered-append (after n (node_at ds p)) m ps qs a.1 (e ∙ after_one n (node_at ds p) (filter_map (node_at ds) ps)) b)
+  Numbered-append n m (p ∷ ps) qs a e b =
+      (a.0, Numbered-append (after n (node_at ds p)) m ps qs a.1 (e ∙ after_one n (node_at ds p) (filter_map (node_at ds) ps)) b)
 
   mutual
     -- a type and those inside it
@@ -55,14 +57,16 @@ module _ (ds : List Definition) where
     Numbered-forms : (ns : List ℕ) (n : ℕ) (fs : Forms) → Numbered n (places_of_forms ns n fs)
     Numbered-forms ns n no_forms = tt
     Numbered-forms ns n (and_form f fs) =
-        Numbered-append n (n + count f) (places ns n f) (places_of_forms ns (n + count f) fs) (Numbered-type ns n f) (ap (λ k. n + k) (sym (count-type ds ns n f))) (Numbered-forms ns (n + count f) fs)
+        Numbered-append n (n + count f) (places ns n f) (places_of_forms ns (n + count f) fs) (Numbered-type ns n f)
+        (ap (λ k. n + k) (sym (count-type ds ns n f))) (Numbered-forms ns (n + count f) fs)
 
     -- the fields of a record
     Numbered-fields : (ns : List ℕ) (n : ℕ) (fs : Fields) → Numbered n (places_of_fields ns n fs)
     Numbered-fields ns n no_fields = tt
     Numbered-fields ns n ill_fields = tt
     Numbered-fields ns n (and_field h f fs) =
-        Numbered-append n (n + count f) (places ns n f) (places_of_fields ns (n + count f) fs) (Numbered-type ns n f) (ap (λ k. n + k) (sym (count-type ds ns n f))) (Numbered-fields ns (n + count f) fs)
+        Numbered-append n (n + count f) (places ns n f) (places_of_fields ns (n + count f) fs) (Numbered-type ns n f)
+        (ap (λ k. n + k) (sym (count-type ds ns n f))) (Numbered-fields ns (n + count f) fs)
 
 -- ---- the node of a place
 
@@ -90,13 +94,15 @@ module _ (ds : List Definition) (all : List Node) where
   from_next n (Some x) xs a = λ k. let same : n + 1 + k ≡ n + suc k = omega arith in ap (slice_get all) same ∙ a (suc k)
 
   -- the node of the first place
-  first_node : (n m : ℕ) (o : Option Node) (xs : List Node) → m ≡ n → AreFrom all n (cons_option o xs) → (x : Node) → o ≡ Some x → slice_get all m ≡ Some x
+  first_node : (n m : ℕ) (o : Option Node) (xs : List Node) → m ≡ n
+      → AreFrom all n (cons_option o xs) → (x : Node) → o ≡ Some x → slice_get all m ≡ Some x
   first_node n m None xs is a x e = cc
   first_node n m (Some y) xs is a x e = let same : m ≡ n + 0 = omega arith in ap (slice_get all) same ∙ a 0 ∙ e
 
   pub numbered_stand : (n : ℕ) (ps : List Place) → Numbered ds n ps → AreFrom all n (filter_map (node_at ds) ps) → Stands ps
   numbered_stand n [] a from = tt
-  numbered_stand n (p ∷ ps) a from = (first_node n p.before (node_at ds p) _ a.0 from, numbered_stand (after n (node_at ds p)) ps a.1 (from_next n (node_at ds p) _ from))
+  numbered_stand n (p ∷ ps) a from =
+      (first_node n p.before (node_at ds p) _ a.0 from, numbered_stand (after n (node_at ds p)) ps a.1 (from_next n (node_at ds p) _ from))
 
 -- ---- the node of a definition
 
@@ -118,12 +124,15 @@ found_either true e d o h = inl cc
 found_either false e d o h = inr h
 
 -- the definition that a heading gives at node n
-defined_by-node : (ns : List ℕ) (n : ℕ) (h : Heading) (o : Option (List ℕ)) (e : Definition) → defined_by ns n (record h { name = o }) ≡ Some e → e.node ≡ n
+defined_by-node : (ns : List ℕ) (n : ℕ) (h : Heading) (o : Option (List ℕ)) (e : Definition)
+    → defined_by ns n (record h { name = o }) ≡ Some e → e.node ≡ n
 defined_by-node ns n h None e is = cc
 defined_by-node ns n h (Some s) e is = cc
 
 -- a named type at node n, or one after it
-at_heading : (test : Definition → Bool) (x : Node) (xs : List Node) (n m : ℕ) (o : Option Definition) (es : List Definition) (d : Definition) → HasName (Some x) → m ≡ n → ((e : Definition) → o ≡ Some e → e.node ≡ m)
+at_heading : (test : Definition → Bool) (x : Node) (xs : List Node)
+    (n m : ℕ) (o : Option Definition) (es : List Definition) (d : Definition)
+    → HasName (Some x) → m ≡ n → ((e : Definition) → o ≡ Some e → e.node ≡ m)
     → (find test es ≡ Some d → IsNamedAt xs (n + 1) d.node) → find test (cons_option o es) ≡ Some d → IsNamedAt (x ∷ xs) n d.node
 at_heading test x xs n m None es d own is node rest e = past_one x xs n d.node (rest e)
 at_heading test x xs n m (Some c) es d own is node rest e =
@@ -134,20 +143,25 @@ at_heading test x xs n m (Some c) es d own is node rest e =
 
 module _ (ds : List Definition) (test : Definition → Bool) (d : Definition) where
   -- one more place
-  found_place : (ns : List ℕ) (n m : ℕ) (f : Form) (ps : List Place) → m ≡ n → (find test (definitions ps) ≡ Some d → IsNamedAt (filter_map (node_at ds) ps) (after n (node_of ds ns m f)) d.node)
+  found_place : (ns : List ℕ) (n m : ℕ) (f : Form) (ps : List Place) → m ≡ n
+      → (find test (definitions ps) ≡ Some d → IsNamedAt (filter_map (node_at ds) ps) (after n (node_of ds ns m f)) d.node)
       → find test (definitions (place ns m f ∷ ps)) ≡ Some d → IsNamedAt (filter_map (node_at ds) (place ns m f ∷ ps)) n d.node
   found_place ns n m (plain p) ps is rest e = past_one _ _ n d.node (rest e)
   found_place ns n m (by_name s) ps is rest e = rest e
-  found_place ns n m (record_of h fs) ps is rest e = at_heading test _ _ n m (defined_by ns m h) (definitions ps) d (type_name ns h, refl) is (defined_by-node ns m h h.name) rest e
-  found_place ns n m (enum_of h ss v) ps is rest e = at_heading test _ _ n m (defined_by ns m h) (definitions ps) d (type_name ns h, refl) is (defined_by-node ns m h h.name) rest e
-  found_place ns n m (fixed_of h s) ps is rest e = at_heading test _ _ n m (defined_by ns m h) (definitions ps) d (type_name ns h, refl) is (defined_by-node ns m h h.name) rest e
+  found_place ns n m (record_of h fs) ps is rest e =
+      at_heading test _ _ n m (defined_by ns m h) (definitions ps) d (type_name ns h, refl) is (defined_by-node ns m h h.name) rest e
+  found_place ns n m (enum_of h ss v) ps is rest e =
+      at_heading test _ _ n m (defined_by ns m h) (definitions ps) d (type_name ns h, refl) is (defined_by-node ns m h h.name) rest e
+  found_place ns n m (fixed_of h s) ps is rest e =
+      at_heading test _ _ n m (defined_by ns m h) (definitions ps) d (type_name ns h, refl) is (defined_by-node ns m h h.name) rest e
   found_place ns n m (array_of f) ps is rest e = past_one _ _ n d.node (rest e)
   found_place ns n m (map_of f) ps is rest e = past_one _ _ n d.node (rest e)
   found_place ns n m (union_of fs) ps is rest e = past_one _ _ n d.node (rest e)
   found_place ns n m ill_formed ps is rest e = rest e
 
   -- a definition that is found among those of numbered places
-  found_at : (n : ℕ) (ps : List Place) → Numbered ds n ps → find test (definitions ps) ≡ Some d → IsNamedAt (filter_map (node_at ds) ps) n d.node
+  found_at : (n : ℕ) (ps : List Place) → Numbered ds n ps
+      → find test (definitions ps) ≡ Some d → IsNamedAt (filter_map (node_at ds) ps) n d.node
   found_at n [] a e = cc
   found_at n (p ∷ ps) a e = found_place p.namespace n p.before p.type ps a.0 (found_at (after n (node_at ds p)) ps a.1) e
 
@@ -158,7 +172,8 @@ found_by false o None d e = inl e
 found_by false o (Some x) d e = inr e
 
 -- the node of a definition that is used stands among the nodes
-pub named_at : (ns : List ℕ) (n : ℕ) (ps : List Place) (d : Definition) (s : List ℕ) → Numbered (definitions ps) 0 ps → definition_used (definitions ps) n ns s ≡ Some d → IsNamedAt (filter_map (node_at (definitions ps)) ps) 0 d.node
+pub named_at : (ns : List ℕ) (n : ℕ) (ps : List Place) (d : Definition) (s : List ℕ) → Numbered (definitions ps) 0 ps
+    → definition_used (definitions ps) n ns s ≡ Some d → IsNamedAt (filter_map (node_at (definitions ps)) ps) 0 d.node
 named_at ns n ps d s a e =
     let ds = definitions ps in
     elim (found_by (has_dot s) (defined ds n s) (defined ds n (joined ns s)) d e) [

@@ -19,7 +19,8 @@ use Rattle.avro_schema.specs.Building.{form_or_ill, form_in, fields_or_ill, item
 
 -- ---- `form_at` goes by a test, `get_member` by an order
 
-chosen : (o : Ordering) (d : Data) (rest : Option Data) → elim (is_eq o) [ true ↦ form d | false ↦ form_or_ill rest ] ≡ form_or_ill (match_ordering o rest (Some d) rest)
+chosen : (o : Ordering) (d : Data) (rest : Option Data)
+    → elim (is_eq o) [ true ↦ form d | false ↦ form_or_ill rest ] ≡ form_or_ill (match_ordering o rest (Some d) rest)
 chosen Less d rest = refl
 chosen Equal d rest = refl
 chosen Greater d rest = refl
@@ -42,7 +43,8 @@ fields_in-array (number n) = refl
 fields_in-array (string s) = refl
 fields_in-array (object ms) = refl
 
-chosen_fields : (o : Ordering) (d : Data) (rest : Option Data) → elim (is_eq o) [ true ↦ fields_in d | false ↦ fields_of rest ] ≡ fields_of (match_ordering o rest (Some d) rest)
+chosen_fields : (o : Ordering) (d : Data) (rest : Option Data)
+    → elim (is_eq o) [ true ↦ fields_in d | false ↦ fields_of rest ] ≡ fields_of (match_ordering o rest (Some d) rest)
 chosen_fields Less d rest = refl
 chosen_fields Equal d rest = fields_in-array d
 chosen_fields Greater d rest = refl
@@ -68,21 +70,29 @@ type_in-get (array ds) = refl
 pub inner_type : (d : Data) → is_object d ≡ true → string_at (codes "type") d ≡ None → form d ≡ form_in (codes "type") d
 inner_type (object ms) o none = by_member (get_member (codes "type") ms) refl none
   where
-    by_member : (m : Option Data) → get_member (codes "type") ms ≡ m → option_and_then as_str m ≡ None → form (object ms) ≡ form_or_ill (get_member (codes "type") ms)
+    by_member : (m : Option Data) → get_member (codes "type") ms ≡ m → option_and_then as_str m ≡ None
+        → form (object ms) ≡ form_or_ill (get_member (codes "type") ms)
     by_member None e n = ap (λ t. object_of t (object ms) (λ k. form_at k ms) (λ k. fields_at k ms)) e ∙ form_at-get (codes "type") ms
     by_member (Some (string s)) e n = cc
-    by_member (Some null) e n = ap (λ t. object_of t (object ms) (λ k. form_at k ms) (λ k. fields_at k ms)) e ∙ form_at-get (codes "type") ms
-    by_member (Some (boolean b)) e n = ap (λ t. object_of t (object ms) (λ k. form_at k ms) (λ k. fields_at k ms)) e ∙ form_at-get (codes "type") ms
-    by_member (Some (number x)) e n = ap (λ t. object_of t (object ms) (λ k. form_at k ms) (λ k. fields_at k ms)) e ∙ form_at-get (codes "type") ms
-    by_member (Some (array ds)) e n = ap (λ t. object_of t (object ms) (λ k. form_at k ms) (λ k. fields_at k ms)) e ∙ form_at-get (codes "type") ms
-    by_member (Some (object os)) e n = ap (λ t. object_of t (object ms) (λ k. form_at k ms) (λ k. fields_at k ms)) e ∙ form_at-get (codes "type") ms
+    by_member (Some null) e n =
+        ap (λ t. object_of t (object ms) (λ k. form_at k ms) (λ k. fields_at k ms)) e ∙ form_at-get (codes "type") ms
+    by_member (Some (boolean b)) e n =
+        ap (λ t. object_of t (object ms) (λ k. form_at k ms) (λ k. fields_at k ms)) e ∙ form_at-get (codes "type") ms
+    by_member (Some (number x)) e n =
+        ap (λ t. object_of t (object ms) (λ k. form_at k ms) (λ k. fields_at k ms)) e ∙ form_at-get (codes "type") ms
+    by_member (Some (array ds)) e n =
+        ap (λ t. object_of t (object ms) (λ k. form_at k ms) (λ k. fields_at k ms)) e ∙ form_at-get (codes "type") ms
+    by_member (Some (object os)) e n =
+        ap (λ t. object_of t (object ms) (λ k. form_at k ms) (λ k. fields_at k ms)) e ∙ form_at-get (codes "type") ms
 inner_type null o none = cc
 inner_type (boolean b) o none = cc
 inner_type (number n) o none = cc
 inner_type (string s) o none = cc
 inner_type (array ds) o none = cc
 
-by_word : (w : TypeWord) (s : List ℕ) (ms : Members) → object_of_word w s (object ms) (λ k. form_at k ms) (λ k. fields_at k ms) ≡ object_of_word w s (object ms) (λ k. form_in k (object ms)) (λ k. fields_of (get k (object ms)))
+by_word : (w : TypeWord) (s : List ℕ) (ms : Members)
+    → object_of_word w s (object ms) (λ k. form_at k ms) (λ k. fields_at k ms)
+    ≡ object_of_word w s (object ms) (λ k. form_in k (object ms)) (λ k. fields_of (get k (object ms)))
 by_word word.Record s ms = ap (record_of (heading_of (object ms))) (fields_at-get (codes "fields") ms)
 by_word word.Enum s ms = refl
 by_word word.Fixed s ms = refl
@@ -95,14 +105,17 @@ abbrev pub worded : TypeWord → List ℕ → Data → Form
 worded w s d = object_of_word w s d (λ k. form_in k d) (λ k. fields_of (get k d))
 
 -- an object whose `type` is a string
-pub worded_type : (d : Data) (s : List ℕ) (w : TypeWord) → is_object d ≡ true → string_at (codes "type") d ≡ Some s → type_word s ≡ w → form d ≡ worded w s d
+pub worded_type : (d : Data) (s : List ℕ) (w : TypeWord) → is_object d ≡ true
+    → string_at (codes "type") d ≡ Some s → type_word s ≡ w → form d ≡ worded w s d
 worded_type (object ms) s w o is e = by_member (get_member (codes "type") ms) refl is
   where
-    by_member : (m : Option Data) → get_member (codes "type") ms ≡ m → option_and_then as_str m ≡ Some s → form (object ms) ≡ worded w s (object ms)
+    by_member : (m : Option Data) → get_member (codes "type") ms ≡ m
+        → option_and_then as_str m ≡ Some s → form (object ms) ≡ worded w s (object ms)
     by_member None x n = cc
     by_member (Some (string t)) x n =
         let same : t ≡ s = cc in
-        ap (λ t. object_of t (object ms) (λ k. form_at k ms) (λ k. fields_at k ms)) x ∙ ap (λ t. object_of_word (type_word t) t (object ms) (λ k. form_at k ms) (λ k. fields_at k ms)) same
+        ap (λ t. object_of t (object ms) (λ k. form_at k ms) (λ k. fields_at k ms)) x
+        ∙ ap (λ t. object_of_word (type_word t) t (object ms) (λ k. form_at k ms) (λ k. fields_at k ms)) same
         ∙ ap (λ w. object_of_word w s (object ms) (λ k. form_at k ms) (λ k. fields_at k ms)) e ∙ by_word w s ms
     by_member (Some null) x n = cc
     by_member (Some (boolean b)) x n = cc
@@ -142,7 +155,8 @@ get-depth k (boolean b) e h = cc
 get-depth k (number n) e h = cc
 get-depth k (string s) e h = cc
 get-depth k (array ds) e h = cc
-get-depth k (object ms) e h = let p : AtMost (members_depth ms) (Some e) = subst (AtMost (members_depth ms)) h (member_depth k ms) in omega arith
+get-depth k (object ms) e h =
+    let p : AtMost (members_depth ms) (Some e) = subst (AtMost (members_depth ms)) h (member_depth k ms) in omega arith
 
 or_left : (a b : Bool) → a || b ≡ false → a ≡ false
 or_left true b e = cc
@@ -163,7 +177,8 @@ IsWhole-match_ordering Greater a b p q = p
 
 member_whole : (k : List ℕ) (ms : Members) → members_have_float ms ≡ false → IsWhole (get_member k ms)
 member_whole k no_members e = tt
-member_whole k (member l d ms) e = IsWhole-match_ordering (slice_cmp nat_cmp k l) (get_member k ms) (Some d) (member_whole k ms (or_right _ _ e)) (or_left _ _ e)
+member_whole k (member l d ms) e =
+    IsWhole-match_ordering (slice_cmp nat_cmp k l) (get_member k ms) (Some d) (member_whole k ms (or_right _ _ e)) (or_left _ _ e)
 
 get-whole : (k : List ℕ) (d e : Data) → get k d ≡ Some e → has_float d ≡ false → has_float e ≡ false
 get-whole k null e h w = cc
@@ -177,14 +192,16 @@ abbrev IsOrderlyIfAny : Option Data → Type 0
 IsOrderlyIfAny None = Unit {0}
 IsOrderlyIfAny (Some d) = IsOrderly d
 
-IsOrderlyIfAny-match_ordering : (o : Ordering) (a b : Option Data) → IsOrderlyIfAny a → IsOrderlyIfAny b → IsOrderlyIfAny (match_ordering o a b a)
+IsOrderlyIfAny-match_ordering : (o : Ordering) (a b : Option Data)
+    → IsOrderlyIfAny a → IsOrderlyIfAny b → IsOrderlyIfAny (match_ordering o a b a)
 IsOrderlyIfAny-match_ordering Less a b p q = p
 IsOrderlyIfAny-match_ordering Equal a b p q = q
 IsOrderlyIfAny-match_ordering Greater a b p q = p
 
 member_orderly : (k : List ℕ) (ms : Members) → MembersAreOrderly ms → IsOrderlyIfAny (get_member k ms)
 member_orderly k no_members o = tt
-member_orderly k (member l d ms) o = IsOrderlyIfAny-match_ordering (slice_cmp nat_cmp k l) (get_member k ms) (Some d) (member_orderly k ms o.1) o.0
+member_orderly k (member l d ms) o =
+    IsOrderlyIfAny-match_ordering (slice_cmp nat_cmp k l) (get_member k ms) (Some d) (member_orderly k ms o.1) o.0
 
 get-orderly : (k : List ℕ) (d e : Data) → get k d ≡ Some e → IsOrderly d → IsOrderly e
 get-orderly k null e h o = cc
@@ -218,7 +235,8 @@ items_at-plain k d ds h = get-plain k d (array ds) (items_found (get k d) ds h)
 
 -- ---- items by their places
 
-pub items_view-drop : (vs : List Json) (i : ℕ) (v : Json) → i < length vs → items_view (drop i vs) ≡ item (view (get_or vs i v)) (items_view (drop (suc i) vs))
+pub items_view-drop : (vs : List Json) (i : ℕ) (v : Json) → i < length vs
+    → items_view (drop i vs) ≡ item (view (get_or vs i v)) (items_view (drop (suc i) vs))
 items_view-drop [] i v h = absurd (omega arith)
 items_view-drop (x ∷ vs) zero v h = refl
 items_view-drop (x ∷ vs) (suc i) v h = items_view-drop vs i v (omega arith)
@@ -228,7 +246,8 @@ item-depth [] i v h = absurd (omega arith)
 item-depth (x ∷ vs) zero v h = omega arith
 item-depth (x ∷ vs) (suc i) v h = omega (arith, item-depth vs i v (omega arith))
 
-item-whole : (vs : List Json) (i : ℕ) (v : Json) → i < length vs → items_have_float (items_view vs) ≡ false → has_float (view (get_or vs i v)) ≡ false
+item-whole : (vs : List Json) (i : ℕ) (v : Json) → i < length vs
+    → items_have_float (items_view vs) ≡ false → has_float (view (get_or vs i v)) ≡ false
 item-whole [] i v h w = absurd (omega arith)
 item-whole (x ∷ vs) zero v h w = or_left _ _ w
 item-whole (x ∷ vs) (suc i) v h w = item-whole vs i v (omega arith) (or_right _ _ w)
@@ -249,5 +268,6 @@ no_type d o e = inner_type d o (ap (option_and_then as_str) (sym e)) ∙ ap form
 pub type_inside : (d e : Data) → is_object d ≡ true → Some e ≡ get (codes "type") d → None ≡ as_str e → form d ≡ form e
 type_inside d e o h n = inner_type d o (ap (option_and_then as_str) (sym h) ∙ sym n) ∙ ap form_or_ill (sym h)
 
-pub type_text : (d e : Data) (s : List ℕ) (w : TypeWord) → is_object d ≡ true → Some e ≡ get (codes "type") d → Some s ≡ as_str e → w ≡ type_word s → form d ≡ worded w s d
+pub type_text : (d e : Data) (s : List ℕ) (w : TypeWord) → is_object d ≡ true
+    → Some e ≡ get (codes "type") d → Some s ≡ as_str e → w ≡ type_word s → form d ≡ worded w s d
 type_text d e s w o h n x = worded_type d s w o (ap (option_and_then as_str) (sym h) ∙ sym n) (sym x)

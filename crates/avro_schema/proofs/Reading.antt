@@ -78,8 +78,12 @@ nil-right (x ∷ xs) ys h = cc
 
 -- ---- one after another
 
-pub definitions-append : (ds : List Definition) (ps qs : List Place) → (ds ++ definitions ps) ++ definitions qs ≡ ds ++ definitions (ps ++ qs)
-definitions-append ds ps qs = append_assoc ds (definitions ps) (definitions qs) ∙ ap (λ l. ds ++ l) (sym (filter_map-append (λ (p : Place). option_and_then (defined_by p.namespace p.before) (heading_in p.type)) ps qs))
+pub definitions-append : (ds : List Definition) (ps qs : List Place)
+    → (ds ++ definitions ps) ++ definitions qs ≡ ds ++ definitions (ps ++ qs)
+definitions-append ds ps qs =
+    append_assoc ds (definitions ps) (definitions qs)
+    ∙ ap (λ l. ds ++ l)
+    (sym (filter_map-append (λ (p : Place). option_and_then (defined_by p.namespace p.before) (heading_in p.type)) ps qs))
 
 -- from a to b the types at these places were read, where the definitions are es in all
 pub record ReadsTo (es : List Definition) (ps : List Place) (a b : Builder) : Type 0 where
@@ -91,13 +95,19 @@ pub to : (ds : List Definition) (ps : List Place) (a b : Builder) → Reads ds p
 to ds ps a b r = record { nodes = r.nodes; met = r.met; none_stands = r.none_stands }
 
 pub from_to : (ds es : List Definition) (ps : List Place) (a b : Builder) → es ≡ ds ++ definitions ps → ReadsTo es ps a b → Reads ds ps a b
-from_to ds es ps a b e r = let s : ReadsTo (ds ++ definitions ps) ps a b = subst (λ l. ReadsTo l ps a b) e r in record { nodes = s.nodes; met = s.met; none_stands = s.none_stands }
+from_to ds es ps a b e r =
+    let s : ReadsTo (ds ++ definitions ps) ps a b = subst (λ l. ReadsTo l ps a b) e r in
+    record { nodes = s.nodes; met = s.met; none_stands = s.none_stands }
 
-pub Reads-append : (ds : List Definition) (ps qs : List Place) (a b c : Builder) → SameAlong (ds ++ definitions ps) (definitions qs) ps → Reads ds ps a b → Reads (ds ++ definitions ps) qs b c → Reads ds (ps ++ qs) a c
+pub Reads-append : (ds : List Definition) (ps qs : List Place) (a b c : Builder) → SameAlong (ds ++ definitions ps) (definitions qs) ps
+    → Reads ds ps a b → Reads (ds ++ definitions ps) qs b c → Reads ds (ps ++ qs) a c
 Reads-append ds ps qs a b c same r s =
     let es : List Definition = (ds ++ definitions ps) ++ definitions qs in
     let whole : ReadsTo es (ps ++ qs) a c = record {
-      nodes = s.nodes ∙ ap (λ l. l ++ filter_map (node_at es) qs) (r.nodes ∙ ap (λ l. nodes_of a ++ l) (sym same.nodes)) ∙ append_assoc (nodes_of a) _ _ ∙ ap (λ l. nodes_of a ++ l) (sym (filter_map-append (node_at es) ps qs));
+      nodes = s.nodes
+          ∙ ap (λ l. l ++ filter_map (node_at es) qs) (r.nodes ∙ ap (λ l. nodes_of a ++ l) (sym same.nodes))
+          ∙ append_assoc (nodes_of a) _ _
+          ∙ ap (λ l. nodes_of a ++ l) (sym (filter_map-append (node_at es) ps qs));
       met = s.met;
       none_stands = flat_map-append (faults_at es) ps qs ∙ nil-append _ _ (same.faults ∙ r.none_stands) s.none_stands;
     } in
@@ -106,12 +116,14 @@ Reads-append ds ps qs a b c same r s =
 opened-length : (xs ys zs : List Node) (n : ℕ) → zs ≡ xs ++ ys → length ys ≡ n → length zs ≡ length xs + n
 opened-length xs ys zs n e h = ap length e ∙ grind (arith, length-append)
 
-pub opened-type : (ds : List Definition) (ns : List ℕ) (n : ℕ) (f : Form) (a b : Builder) → Reads ds (places ns n f) a b → opened b ≡ opened a + count f
+pub opened-type : (ds : List Definition) (ns : List ℕ) (n : ℕ) (f : Form) (a b : Builder)
+    → Reads ds (places ns n f) a b → opened b ≡ opened a + count f
 opened-type ds ns n f a b r = opened-length _ _ _ _ r.nodes (count-type _ ns n f)
 
 -- ---- a node that opens before its parts, and is written when they are read
 
-pub closes : (es : List Definition) (p : Place) (ps : List Place) (x y : Node) (a a1 b c : Builder) → nodes_of a1 ≡ nodes_of a ++ y ∷ [] → ReadsTo es ps a1 b
+pub closes : (es : List Definition) (p : Place) (ps : List Place) (x y : Node) (a a1 b c : Builder)
+    → nodes_of a1 ≡ nodes_of a ++ y ∷ [] → ReadsTo es ps a1 b
     → nodes_of c ≡ set (nodes_of b) (opened a) x → c.names ≡ b.names → node_at es p ≡ Some x → faults_at es p ≡ [] → ReadsTo es (p ∷ ps) a c
 closes es p ps x y a a1 b c opens r writes keeps is good =
     let inner : List Node = filter_map (node_at es) ps in
@@ -120,12 +132,18 @@ closes es p ps x y a a1 b c opens r writes keeps is good =
     let same : opened c ≡ opened b = ap length writes ∙ length-set (nodes_of b) (opened a) x in
     record {
       nodes = done ∙ ap (λ o. nodes_of a ++ cons_option o inner) (sym is);
-      met = record { names = subst (λ m. AreDefined m es) (sym keeps) r.met.names; apart = r.met.apart; before = subst (λ n. Before n es) (sym same) r.met.before; small = subst (λ n. n ≤ MOST_NODES) (sym same) r.met.small };
+      met = record {
+        names = subst (λ m. AreDefined m es) (sym keeps) r.met.names;
+        apart = r.met.apart;
+        before = subst (λ n. Before n es) (sym same) r.met.before;
+        small = subst (λ n. n ≤ MOST_NODES) (sym same) r.met.small;
+      };
       none_stands = nil-append _ _ good r.none_stands;
     }
 
 -- a node that has no parts
-pub opens_one : (es : List Definition) (p : Place) (x : Node) (a b : Builder) → nodes_of b ≡ nodes_of a ++ x ∷ [] → HasMet b es → node_at es p ≡ Some x → faults_at es p ≡ [] → ReadsTo es (p ∷ []) a b
+pub opens_one : (es : List Definition) (p : Place) (x : Node) (a b : Builder) → nodes_of b ≡ nodes_of a ++ x ∷ []
+    → HasMet b es → node_at es p ≡ Some x → faults_at es p ≡ [] → ReadsTo es (p ∷ []) a b
 opens_one es p x a b opens met is good = record {
   nodes = opens ∙ ap (λ o. nodes_of a ++ cons_option o []) (sym is);
   met = met;
@@ -133,7 +151,8 @@ opens_one es p x a b opens met is good = record {
 }
 
 -- a type that adds no node
-pub opens_none : (es : List Definition) (p : Place) (a : Builder) → HasMet a es → node_at es p ≡ None → faults_at es p ≡ [] → ReadsTo es (p ∷ []) a a
+pub opens_none : (es : List Definition) (p : Place) (a : Builder) → HasMet a es
+    → node_at es p ≡ None → faults_at es p ≡ [] → ReadsTo es (p ∷ []) a a
 opens_none es p a met is good = record {
   nodes = sym (append-nil (nodes_of a)) ∙ ap (λ o. nodes_of a ++ cons_option o []) (sym is);
   met = met;
@@ -142,7 +161,8 @@ opens_none es p a met is good = record {
 
 -- ---- faults of parts are faults of the whole
 
-pub in_head : (ds : List Definition) (ps qs : List Place) (m n : ℕ) (e : SchemaError) → m ≤ n → SameAlong (ds ++ definitions ps) (definitions qs) ps → Contains (faults_in ds ps m) e → Contains (faults_in ds (ps ++ qs) n) e
+pub in_head : (ds : List Definition) (ps qs : List Place) (m n : ℕ) (e : SchemaError) → m ≤ n
+    → SameAlong (ds ++ definitions ps) (definitions qs) ps → Contains (faults_in ds ps m) e → Contains (faults_in ds (ps ++ qs) n) e
 in_head ds ps qs m n e le same c =
     elim (Contains-append_cases (too_many m) (flat_map (faults_at (ds ++ definitions ps)) ps) e c) [
       | inl k ↦ Contains-append_left (too_many n) _ e (more_nodes m n e le k)
@@ -152,7 +172,8 @@ in_head ds ps qs m n e le same c =
           (Contains-append_left _ _ e (subst (λ l. Contains l e) (sym same.faults) k))))
     ]
 
-pub in_tail : (ds : List Definition) (ps qs : List Place) (m n : ℕ) (e : SchemaError) → m ≤ n → Contains (faults_in (ds ++ definitions ps) qs m) e → Contains (faults_in ds (ps ++ qs) n) e
+pub in_tail : (ds : List Definition) (ps qs : List Place) (m n : ℕ) (e : SchemaError) → m ≤ n
+    → Contains (faults_in (ds ++ definitions ps) qs m) e → Contains (faults_in ds (ps ++ qs) n) e
 in_tail ds ps qs m n e le c =
     elim (Contains-append_cases (too_many m) (flat_map (faults_at ((ds ++ definitions ps) ++ definitions qs)) qs) e c) [
       | inl k ↦ Contains-append_left (too_many n) _ e (more_nodes m n e le k)
@@ -163,7 +184,8 @@ in_tail ds ps qs m n e le c =
     ]
 
 -- the faults of a node's parts, and its own
-pub in_parts : (m n : ℕ) (own es : List SchemaError) (e : SchemaError) → m ≤ n → Contains (too_many m ++ es) e → Contains (too_many n ++ (own ++ es)) e
+pub in_parts : (m n : ℕ) (own es : List SchemaError) (e : SchemaError) → m ≤ n
+    → Contains (too_many m ++ es) e → Contains (too_many n ++ (own ++ es)) e
 in_parts m n own es e le c =
     elim (Contains-append_cases (too_many m) es e c) [
       | inl k ↦ Contains-append_left (too_many n) (own ++ es) e (more_nodes m n e le k)

@@ -41,7 +41,8 @@ map_some : {A B : Type 0} (f : A → B) (o : Option A) (y : B) → option_map f 
 map_some f None y e = cc
 map_some f (Some x) y e = (x, refl, cc)
 
-then_some : {A B : Type 0} (f : A → Option B) (o : Option A) (y : B) → option_and_then f o ≡ Some y → (x : A) × (o ≡ Some x) × (f x ≡ Some y)
+then_some : {A B : Type 0} (f : A → Option B) (o : Option A) (y : B)
+    → option_and_then f o ≡ Some y → (x : A) × (o ≡ Some x) × (f x ≡ Some y)
 then_some f None y e = cc
 then_some f (Some x) y e = (x, refl, e)
 
@@ -63,7 +64,8 @@ IsBelow-trans k l (member m d ms) e a = (nat_list_cmp_total.trans k l m e a.0, I
 IsBelow-put : (l k : List ℕ) (d : Data) (ms : Members) → slice_cmp nat_cmp l k ≡ Less → IsBelow l ms → IsBelow l (put k d ms)
 IsBelow-put l k d no_members e a = (e, tt)
 IsBelow-put l k d (member m c ms) e a =
-    by_ordering (IsBelow l) (slice_cmp nat_cmp k m) (member k d (member m c ms)) (member m d ms) (member m c (put k d ms)) (e, a) a (a.0, IsBelow-put l k d ms e a.1)
+    by_ordering (IsBelow l) (slice_cmp nat_cmp k m) (member k d (member m c ms))
+    (member m d ms) (member m c (put k d ms)) (e, a) a (a.0, IsBelow-put l k d ms e a.1)
 
 turned : (k l : List ℕ) → slice_cmp nat_cmp k l ≡ Greater → slice_cmp nat_cmp l k ≡ Less
 turned k l e = nat_list_cmp_total.antisymm l k ∙ ap ordering_reverse e
@@ -72,7 +74,8 @@ IsInOrder-put : (k : List ℕ) (d : Data) (ms : Members) → IsInOrder ms → Is
 IsInOrder-put k d no_members a = (tt, tt)
 IsInOrder-put k d (member m c ms) a = go (slice_cmp nat_cmp k m) refl (IsInOrder-put k d ms a.1)
   where
-    go : (o : Ordering) → slice_cmp nat_cmp k m ≡ o → IsInOrder (put k d ms) → IsInOrder (match_ordering o (member k d (member m c ms)) (member m d ms) (member m c (put k d ms)))
+    go : (o : Ordering) → slice_cmp nat_cmp k m ≡ o → IsInOrder (put k d ms)
+        → IsInOrder (match_ordering o (member k d (member m c ms)) (member m d ms) (member m c (put k d ms)))
     go Less e rest = ((e, IsBelow-trans k m ms e a.0), a)
     go Equal e rest = a
     go Greater e rest = (IsBelow-put m k d ms (turned k m e) a.0, rest)
@@ -82,7 +85,8 @@ IsInOrder-put k d (member m c ms) a = go (slice_cmp nat_cmp k m) refl (IsInOrder
 MembersAreOrderly-put : (k : List ℕ) (d : Data) (ms : Members) → IsOrderly d → MembersAreOrderly ms → MembersAreOrderly (put k d ms)
 MembersAreOrderly-put k d no_members here a = (here, tt)
 MembersAreOrderly-put k d (member m c ms) here a =
-    by_ordering MembersAreOrderly (slice_cmp nat_cmp k m) (member k d (member m c ms)) (member m d ms) (member m c (put k d ms)) (here, a) (here, a.1) (a.0, MembersAreOrderly-put k d ms here a.1)
+    by_ordering MembersAreOrderly (slice_cmp nat_cmp k m) (member k d (member m c ms)) (member m d ms)
+    (member m c (put k d ms)) (here, a) (here, a.1) (a.0, MembersAreOrderly-put k d ms here a.1)
 
 fits_negative : (n : ℕ) → 0 < n → n ≤ 2 ^ 63 → Fits (negative (neg_ℤ (pos n)))
 fits_negative zero some h = absurd (omega arith)
@@ -95,14 +99,16 @@ fits_float f x n e =
       | inr never ↦ cc
     ]
 
-fits_unsigned : (i : Bool) (k : ℕ) (f : Bool) (x : Float) (n : Num) → cond (i && nat_lt k (2 ^ 64)) (Some (unsigned k)) (cond f (Some (float x)) None) ≡ Some n → Fits n
+fits_unsigned : (i : Bool) (k : ℕ) (f : Bool) (x : Float) (n : Num)
+    → cond (i && nat_lt k (2 ^ 64)) (Some (unsigned k)) (cond f (Some (float x)) None) ≡ Some n → Fits n
 fits_unsigned i k f x n e =
     elim (by_test (i && nat_lt k (2 ^ 64)) (unsigned k) (cond f (Some (float x)) None) n e) [
       | inl whole ↦ subst Fits whole.1 (ltb-true k (2 ^ 64) (and_parts i _ whole.0).1)
       | inr rest ↦ fits_float f x n rest
     ]
 
-fits_signed : (i : Bool) (k : ℕ) (f : Bool) (x : Float) (n : Num) → cond (i && nat_lt 0 k && nat_le k (2 ^ 63)) (Some (negative (neg_ℤ (pos k)))) (cond f (Some (float x)) None) ≡ Some n → Fits n
+fits_signed : (i : Bool) (k : ℕ) (f : Bool) (x : Float) (n : Num)
+    → cond (i && nat_lt 0 k && nat_le k (2 ^ 63)) (Some (negative (neg_ℤ (pos k)))) (cond f (Some (float x)) None) ≡ Some n → Fits n
 fits_signed i k f x n e =
     elim (by_test (i && nat_lt 0 k && nat_le k (2 ^ 63)) (negative (neg_ℤ (pos k))) (cond f (Some (float x)) None) n e) [
       | inl whole ↦
@@ -112,8 +118,10 @@ fits_signed i k f x n e =
     ]
 
 fits_by : (b : Bool) (p q : Parts) (n : Num) → cond b (number_from true p) (number_from false q) ≡ Some n → Fits n
-fits_by true p q n e = let x : Float = nearest_float binary64 true p in fits_signed (is_integer p) (numeral_digits p) (float_is_finite x) x n e
-fits_by false p q n e = let x : Float = nearest_float binary64 false q in fits_unsigned (is_integer q) (numeral_digits q) (float_is_finite x) x n e
+fits_by true p q n e =
+    let x : Float = nearest_float binary64 true p in fits_signed (is_integer p) (numeral_digits p) (float_is_finite x) x n e
+fits_by false p q n e =
+    let x : Float = nearest_float binary64 false q in fits_unsigned (is_integer q) (numeral_digits q) (float_is_finite x) x n e
 
 fits : (s : List ℕ) (n : Num) → number_of s ≡ Some n → Fits n
 unfolding number_of
@@ -126,7 +134,8 @@ mutual
   read_value (json.number s) d e = let n = map_some number (number_of s) d e in subst IsOrderly n.2 (fits s n.0 n.1)
   read_value (json.string s) d e = let same : string s ≡ d = cc in subst IsOrderly same tt
   read_value (json.array js) d e = let ds = map_some array (of_items js) d e in subst IsOrderly ds.2 (read_items js ds.0 ds.1)
-  read_value (json.object ms) d e = let ds = map_some object (of_members ms no_members) d e in subst IsOrderly ds.2 (read_members ms no_members ds.0 tt tt ds.1)
+  read_value (json.object ms) d e =
+      let ds = map_some object (of_members ms no_members) d e in subst IsOrderly ds.2 (read_members ms no_members ds.0 tt tt ds.1)
 
   read_items : (js : json.Items) (ds : Items) → of_items js ≡ Some ds → ItemsAreOrderly ds
   read_items json.no_items ds e = let same : no_items ≡ ds = cc in subst ItemsAreOrderly same tt
@@ -135,11 +144,14 @@ mutual
       let rest = map_some (item first.0) (of_items js) ds first.2 in
       subst ItemsAreOrderly rest.2 (read_value j first.0 first.1, read_items js rest.0 rest.1)
 
-  read_members : (ms : json.Members) (found ds : Members) → IsInOrder found → MembersAreOrderly found → of_members ms found ≡ Some ds → IsInOrder ds × MembersAreOrderly ds
-  read_members json.no_members found ds rising a e = let same : found ≡ ds = cc in (subst IsInOrder same rising, subst MembersAreOrderly same a)
+  read_members : (ms : json.Members) (found ds : Members) → IsInOrder found
+      → MembersAreOrderly found → of_members ms found ≡ Some ds → IsInOrder ds × MembersAreOrderly ds
+  read_members json.no_members found ds rising a e =
+      let same : found ≡ ds = cc in (subst IsInOrder same rising, subst MembersAreOrderly same a)
   read_members (json.member k j ms) found ds rising a e =
       let first = then_some (λ d. of_members ms (put k d found)) (of_json j) ds e in
-      read_members ms (put k first.0 found) ds (IsInOrder-put k first.0 found rising) (MembersAreOrderly-put k first.0 found (read_value j first.0 first.1) a) first.2
+      read_members ms (put k first.0 found) ds (IsInOrder-put k first.0 found rising)
+      (MembersAreOrderly-put k first.0 found (read_value j first.0 first.1) a) first.2
 
 -- ---- what is written reads back
 
@@ -151,18 +163,22 @@ after_none : (done : Members) → after done no_members ≡ done
 after_none no_members = refl
 after_none (member k d done) = ap (member k d) (after_none done)
 
-after_one : (done : Members) (k : List ℕ) (d : Data) (ms : Members) → after (after done (member k d no_members)) ms ≡ after done (member k d ms)
+after_one : (done : Members) (k : List ℕ) (d : Data) (ms : Members)
+    → after (after done (member k d no_members)) ms ≡ after done (member k d ms)
 after_one no_members k d ms = refl
 after_one (member l c done) k d ms = ap (member l c) (after_one done k d ms)
 
-above_middle : (l : List ℕ) (done : Members) (k : List ℕ) (d : Data) (ms : Members) → IsBelow l (after done (member k d ms)) → slice_cmp nat_cmp l k ≡ Less
+above_middle : (l : List ℕ) (done : Members) (k : List ℕ) (d : Data) (ms : Members)
+    → IsBelow l (after done (member k d ms)) → slice_cmp nat_cmp l k ≡ Less
 above_middle l no_members k d ms a = a.0
 above_middle l (member m c done) k d ms a = above_middle l done k d ms a.1
 
-put_last : (done : Members) (k : List ℕ) (d : Data) (ms : Members) → IsInOrder (after done (member k d ms)) → put k d done ≡ after done (member k d no_members)
+put_last : (done : Members) (k : List ℕ) (d : Data) (ms : Members)
+    → IsInOrder (after done (member k d ms)) → put k d done ≡ after done (member k d no_members)
 put_last no_members k d ms a = refl
 put_last (member l c done) k d ms a =
-    let greater : slice_cmp nat_cmp k l ≡ Greater = nat_list_cmp_total.antisymm k l ∙ ap ordering_reverse (above_middle l done k d ms a.0) in
+    let greater : slice_cmp nat_cmp k l ≡ Greater =
+    nat_list_cmp_total.antisymm k l ∙ ap ordering_reverse (above_middle l done k d ms a.0) in
     rw greater (ap (member l c) (put_last done k d ms a.1))
 
 number_back : (n : Num) → Fits n → is_float n ≡ false → number_of (number_text n) ≡ Some n
@@ -190,9 +206,11 @@ mutual
   items_back no_items a e = refl
   items_back (item d ds) a e =
       let both = or_parts (has_float d) _ e in
-      ap (option_and_then (λ c. option_map (item c) (of_items (items_outline ds)))) (value_back d a.0 both.0) ∙ ap (option_map (item d)) (items_back ds a.1 both.1)
+      ap (option_and_then (λ c. option_map (item c) (of_items (items_outline ds)))) (value_back d a.0 both.0)
+      ∙ ap (option_map (item d)) (items_back ds a.1 both.1)
 
-  members_back : (done ms : Members) → IsInOrder (after done ms) → MembersAreOrderly ms → members_have_float ms ≡ false → of_members (members_outline ms) done ≡ Some (after done ms)
+  members_back : (done ms : Members) → IsInOrder (after done ms) → MembersAreOrderly ms
+      → members_have_float ms ≡ false → of_members (members_outline ms) done ≡ Some (after done ms)
   members_back done no_members rising a e = ap Some (sym (after_none done))
   members_back done (member k d ms) rising a e =
       let both = or_parts (has_float d) _ e in
@@ -217,7 +235,8 @@ mutual
 
   members_printed : (ms : Members) → MembersAreOrderly ms → members_have_float ms ≡ false → MembersHaveNumbers (members_outline ms)
   members_printed no_members a e = tt
-  members_printed (member k d ms) a e = let both = or_parts (has_float d) _ e in (numbers_printed d a.0 both.0, members_printed ms a.1 both.1)
+  members_printed (member k d ms) a e =
+      let both = or_parts (has_float d) _ e in (numbers_printed d a.0 both.0, members_printed ms a.1 both.1)
 
 mutual
   depth-outline : (d : Data) → tree.depth (outline d) ≡ depth d
@@ -240,7 +259,8 @@ abbrev whole : Option (json.Json × List Token) → Option Data
 whole o = option_and_then of_json (option_and_then (λ p. json.if_last p.0 p.1) o)
 
 read_data : (text : List ℕ) (d : Data) → read text ≡ Some d → IsOrderly d
-read_data text d e = let j = then_some of_json (option_and_then (λ p. json.if_last p.0 p.1) (json.value max_depth (tokens text))) d e in read_value j.0 d j.2
+read_data text d e =
+    let j = then_some of_json (option_and_then (λ p. json.if_last p.0 p.1) (json.value max_depth (tokens text))) d e in read_value j.0 d j.2
 
 -- what was read, with no float, is plain
 pub read_plain : (text : List ℕ) (d : Data) → read text ≡ Some d → has_float d ≡ false → IsPlain d
@@ -249,8 +269,11 @@ read_plain text d e none = (none, read_data text d e, depth-read text d e)
 pub plain_reads_back : (d : Data) → IsPlain d → read (compact_text d) ≡ Some d
 plain_reads_back d plain =
     let j = outline d in
-    let same : tokens (compact_text d) ≡ json_tokens j = ap tokens (sym (print-outline d)) ∙ tokens-print (json_tokens j) (ArePrintable-json_tokens j (numbers_printed d plain.1 plain.0)) in
-    ap whole (ap (json.value max_depth) (same ∙ sym (append-nil _)) ∙ value-json_tokens j max_depth [] (omega (arith, plain.2, depth-outline d))) ∙ value_back d plain.1 plain.0
+    let same : tokens (compact_text d) ≡ json_tokens j =
+    ap tokens (sym (print-outline d)) ∙ tokens-print (json_tokens j) (ArePrintable-json_tokens j (numbers_printed d plain.1 plain.0)) in
+    ap whole (
+    ap (json.value max_depth) (same ∙ sym (append-nil _)) ∙ value-json_tokens j max_depth [] (omega (arith, plain.2, depth-outline d)))
+    ∙ value_back d plain.1 plain.0
 
 pub compact_text_reads_back : (text : List ℕ) (d : Data) → read text ≡ Some d → has_float d ≡ false → read (compact_text d) ≡ Some d
 compact_text_reads_back text d e none = plain_reads_back d (read_plain text d e none)

@@ -43,27 +43,34 @@ by_order key q (inr (inr lt)) = ap is_eq (sym (nat_cmp_is key q Greater lt)) ∙
 same_number : (key q : ℕ) → is_eq (nat_cmp key q) ≡ (q == key)
 same_number key q = by_order key q (cases_order key q)
 
-put_named : (s n : BTreeSet ℕ) (key : ℕ) (ks : List BranchKind) → ((q : ℕ) → contains nat_cmp s q ≡ list_any (same_branch (branch.Named q)) ks)
+put_named : (s n : BTreeSet ℕ) (key : ℕ) (ks : List BranchKind)
+    → ((q : ℕ) → contains nat_cmp s q ≡ list_any (same_branch (branch.Named q)) ks)
     → Updates nat_cmp s n key true → (q : ℕ) → contains nat_cmp n q ≡ list_any (same_branch (branch.Named q)) (ks ++ branch.Named key ∷ [])
 put_named s n key ks has updates q =
     updates.0 q ∙ ap (λ b. cond b true (contains nat_cmp s q)) (same_number key q) ∙ ap (λ o. cond (q == key) true o) (has q)
-    ∙ by_cases (q == key) (list_any (same_branch (branch.Named q)) ks) ∙ sym (list_any-append (same_branch (branch.Named q)) ks (branch.Named key ∷ []))
+    ∙ by_cases (q == key) (list_any (same_branch (branch.Named q)) ks)
+    ∙ sym (list_any-append (same_branch (branch.Named q)) ks (branch.Named key ∷ []))
 
-kept : (test : BranchKind → Bool) (b : Bool) (ks : List BranchKind) (k : BranchKind) → b ≡ list_any test ks → test k ≡ false → b ≡ list_any test (ks ++ k ∷ [])
+kept : (test : BranchKind → Bool) (b : Bool) (ks : List BranchKind) (k : BranchKind)
+    → b ≡ list_any test ks → test k ≡ false → b ≡ list_any test (ks ++ k ∷ [])
 kept test b ks k is apart = is ∙ sym (same_any test ks k apart)
 
 -- a branch of kind k was added, and fits says whether it may stand
 abbrev Added : Kinds → BranchKind → List BranchKind → Bool → Type 0
 Added n k ks fits = HoldsKinds n (ks ++ k ∷ []) × (fits ≡ may_stand k ks)
 
-pub as_kind : (n : Kinds) (k j : BranchKind) (ks : List BranchKind) (fits : Bool) → k ≡ j → HoldsKinds n (ks ++ j ∷ []) × (fits ≡ may_stand j ks) → HoldsKinds n (ks ++ k ∷ []) × (fits ≡ may_stand k ks)
+pub as_kind : (n : Kinds) (k j : BranchKind) (ks : List BranchKind) (fits : Bool) → k ≡ j
+    → HoldsKinds n (ks ++ j ∷ []) × (fits ≡ may_stand j ks) → HoldsKinds n (ks ++ k ∷ []) × (fits ≡ may_stand k ks)
 as_kind n k j ks fits is added = subst (λ (i : BranchKind). Added n i ks fits) (sym is) added
 
-pub added_named : (s n : Kinds) (key : ℕ) (ks : List BranchKind) (fits : Bool) → HoldsKinds s ks → n.primitives.items ≡ s.primitives.items → n.has_array ≡ s.has_array → n.has_map ≡ s.has_map → Updates nat_cmp s.named n.named key true
+pub added_named : (s n : Kinds) (key : ℕ) (ks : List BranchKind) (fits : Bool) → HoldsKinds s ks → n.primitives.items ≡ s.primitives.items
+    → n.has_array ≡ s.has_array → n.has_map ≡ s.has_map → Updates nat_cmp s.named n.named key true
     → fits ≡ not (contains nat_cmp s.named key) → HoldsKinds n (ks ++ branch.Named key ∷ []) × (fits ≡ may_stand (branch.Named key) ks)
 added_named s n key ks fits holds primitives arrays maps updates is = (
   record {
-    primitives = λ p. kept (same_branch (branch.Primitive p)) _ ks (branch.Named key) (ap (list_any (λ q. same_primitive q p)) primitives ∙ holds.primitives p) refl;
+    primitives = λ p.
+        kept (same_branch (branch.Primitive p)) _ ks (branch.Named key)
+        (ap (list_any (λ q. same_primitive q p)) primitives ∙ holds.primitives p) refl;
     array = kept (same_branch branch.Array) _ ks (branch.Named key) (arrays ∙ holds.array) refl;
     map = kept (same_branch branch.Map) _ ks (branch.Named key) (maps ∙ holds.map) refl;
     named = put_named s.named n.named key ks holds.named updates;

@@ -63,13 +63,15 @@ all_well : (f : Form) → form_faults f ≡ [] → AreWell (nodes f) 0 (nodes f)
 all_well f e =
     let ps = places [] 0 f in
     let ds = definitions ps in
-    well_type ds (nodes f) (λ ns s n d is. from_zero (nodes f) d.node (named_at ns n ps d s (Numbered-type ds [] 0 f) is)) [] 0 f e (all_stand f) (omega (arith, count_nodes f))
+    well_type ds (nodes f) (λ ns s n d is. from_zero (nodes f) d.node (named_at ns n ps d s (Numbered-type ds [] 0 f) is))
+    [] 0 f e (all_stand f) (omega (arith, count_nodes f))
 
 well_node : (f : Form) → form_faults f ≡ [] → (i : ℕ) (x : Node) → slice_get (nodes f) i ≡ Some x → IsWell (nodes f) i x
 well_node f e i x at = well_at (nodes f) 0 i i (nodes f) x (all_well f e) (omega arith) at
 
 -- an array or a map is a node
-leads_from : (f : Form) → form_faults f ≡ [] → (i : ℕ) (o : Option Node) (j : NodeId) → slice_get (nodes f) i ≡ o → inner o ≡ Some j → (i < j.index) ⊎ (inner (slice_get (nodes f) j.index) ≡ None)
+leads_from : (f : Form) → form_faults f ≡ [] → (i : ℕ) (o : Option Node) (j : NodeId)
+    → slice_get (nodes f) i ≡ o → inner o ≡ Some j → (i < j.index) ⊎ (inner (slice_get (nodes f) j.index) ≡ None)
 leads_from f e i None j at is = cc
 leads_from f e i (Some x) j at is = (well_node f e i x at).leads_on j is
 
@@ -84,18 +86,27 @@ sound_form f e = record {
 }
 
 -- where something is given, no fault stands
-pub none_stood : {A : Type 0} (es : List SchemaError) (o : Option A) (y : A) → elim es [ [] ↦ o | x ∷ xs ↦ None ] ≡ Some y → (es ≡ []) × (o ≡ Some y)
+pub none_stood : {A : Type 0} (es : List SchemaError) (o : Option A) (y : A)
+    → elim es [ [] ↦ o | x ∷ xs ↦ None ] ≡ Some y → (es ≡ []) × (o ≡ Some y)
 none_stood [] o y e = (refl, e)
 none_stood (z ∷ es) o y e = cc
 
 -- the nodes of what a JSON value means
-sound_data : (es : List SchemaError) (o : Option Data) (m : Meaning) → elim (es ++ option_map_or data_faults o (fault.NotJson ∷ [])) [ [] ↦ option_map (λ d. record { nodes = nodes (form d); normal_text = compact_text d }) o | x ∷ xs ↦ None ] ≡ Some m → IsSound m.nodes
+sound_data : (es : List SchemaError) (o : Option Data) (m : Meaning)
+    → elim (es ++ option_map_or data_faults o (fault.NotJson ∷ [])) [
+      | [] ↦ option_map (λ d. record { nodes = nodes (form d); normal_text = compact_text d }) o
+      | x ∷ xs ↦ None
+    ]
+    ≡ Some m
+    → IsSound m.nodes
 sound_data es None m e = let stood = none_stood (es ++ fault.NotJson ∷ []) None m e in cc
 sound_data es (Some d) m e =
     let means : Meaning = record { nodes = nodes (form d); normal_text = compact_text d } in
     let stood : (es ++ data_faults d ≡ []) × (Some means ≡ Some m) = none_stood (es ++ data_faults d) (Some means) m e in
     let same : means ≡ m = let is = stood.1 in cc in
-    let none : form_faults (form d) ≡ [] = nil-right (unless (not (has_float d)) fault.FloatNumber ++ unless (nat_le (count (form d)) MOST_NODES) fault.TooManyNodes) _ (nil-right es (data_faults d) stood.0) in
+    let none : form_faults (form d) ≡ [] =
+    nil-right (unless (not (has_float d)) fault.FloatNumber ++ unless (nat_le (count (form d)) MOST_NODES) fault.TooManyNodes) _
+    (nil-right es (data_faults d) stood.0) in
     subst (λ (k : Meaning). IsSound k.nodes) same (sound_form (form d) none)
 
 -- the nodes of each schema that is read from a text

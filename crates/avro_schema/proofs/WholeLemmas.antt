@@ -20,7 +20,9 @@ use Rattle.avro_schema.proofs.Reading.{left, right, alone, unless-nil, nil-appen
 use Rattle.avro_schema.specs.declared.limits.TheConstants.{LONGEST_TEXT, MOST_NODES}
 
 pub not_json : (text : List ℕ) → read text ≡ None → IsRefusalBy (faults text) fault.NotJson
-not_json text e = right _ _ fault.NotJson (subst (λ o. IsRefusalBy (option_map_or data_faults o (fault.NotJson ∷ [])) fault.NotJson) (sym e) (λ _. (0, omega arith, refl)))
+not_json text e =
+    right _ _ fault.NotJson (
+    subst (λ o. IsRefusalBy (option_map_or data_faults o (fault.NotJson ∷ [])) fault.NotJson) (sym e) (λ _. (0, omega arith, refl)))
 
 in_data : (text : List ℕ) (d : Data) (e : SchemaError) → read text ≡ Some d → IsRefusalBy (data_faults d) e → IsRefusalBy (faults text) e
 in_data text d e is h = right _ _ e (subst (λ o. IsRefusalBy (option_map_or data_faults o (fault.NotJson ∷ [])) e) (sym is) h)
@@ -29,13 +31,19 @@ pub is_float : (text : List ℕ) (d : Data) → read text ≡ Some d → has_flo
 is_float text d is e = in_data text d fault.FloatNumber is (left _ _ _ (left _ _ _ (alone _ fault.FloatNumber (ap not e))))
 
 -- a refusal of the whole type
-pub refused_whole : (text : List ℕ) (d : Data) (a : Builder) (e : SchemaError) → read text ≡ Some d → nodes_of a ≡ [] → HasMet a [] → RefusesType a [] (form d) e → IsRefusalBy (faults text) e
+pub refused_whole : (text : List ℕ) (d : Data) (a : Builder) (e : SchemaError) → read text ≡ Some d
+    → nodes_of a ≡ [] → HasMet a [] → RefusesType a [] (form d) e → IsRefusalBy (faults text) e
 refused_whole text d a e is none met refused =
     let zero_nodes : opened a ≡ 0 = ap length none in
-    let r : IsRefusalBy (type_faults [] [] (form d) 0) e = subst (λ n. IsRefusalBy (type_faults [] [] (form d) n) e) zero_nodes (refused [] met) in
+    let r : IsRefusalBy (type_faults [] [] (form d) 0) e =
+    subst (λ n. IsRefusalBy (type_faults [] [] (form d) n) e) zero_nodes (refused [] met) in
     in_data text d e is (λ n.
     elim (Contains-append_cases (unless (nat_le (0 + count (form d)) MOST_NODES) fault.TooManyNodes) (form_faults (form d)) e (r n)) [
-      | inl k ↦ Contains-append_left (unless (not (has_float d)) fault.FloatNumber ++ unless (nat_le (count (form d)) MOST_NODES) fault.TooManyNodes) (form_faults (form d)) e (Contains-append_right (unless (not (has_float d)) fault.FloatNumber) _ e (subst (λ m. Contains (unless (nat_le m MOST_NODES) fault.TooManyNodes) e) (zero-add (count (form d))) k))
+      | inl k ↦ Contains-append_left
+          (unless (not (has_float d)) fault.FloatNumber ++ unless (nat_le (count (form d)) MOST_NODES) fault.TooManyNodes)
+          (form_faults (form d)) e
+          (Contains-append_right (unless (not (has_float d)) fault.FloatNumber) _ e
+          (subst (λ m. Contains (unless (nat_le m MOST_NODES) fault.TooManyNodes) e) (zero-add (count (form d))) k))
       | inr k ↦ Contains-append_right _ (form_faults (form d)) e k
     ])
 
@@ -50,15 +58,18 @@ given [] o e = refl
 given (y ∷ es) o e = cc
 
 -- the whole type was read
-pub read_whole : (text : List ℕ) (d : Data) (a b : Builder) (i : NodeId) (normal : List ℕ) → nat_le (length text) LONGEST_TEXT ≡ true → read text ≡ Some d → has_float d ≡ false → nodes_of a ≡ [] → HasMet a [] → ReadsType a b [] (form d) i → normal ≡ compact_text d
+pub read_whole : (text : List ℕ) (d : Data) (a b : Builder) (i : NodeId) (normal : List ℕ) → nat_le (length text) LONGEST_TEXT ≡ true
+    → read text ≡ Some d → has_float d ≡ false → nodes_of a ≡ [] → HasMet a [] → ReadsType a b [] (form d) i → normal ≡ compact_text d
     → schema_of text ≡ Some (record { nodes = nodes_of b; normal_text = normal })
 read_whole text d a b i normal short is whole none met reads written =
     let r : Reads [] (places [] 0 (form d)) a b = at_zero (form d) a b none (reads.1 [] met).0 in
     let made : nodes_of b ≡ nodes (form d) = r.nodes ∙ ap (λ l. l ++ nodes (form d)) none in
     let number : opened b ≡ opened a + count (form d) = opened-type [] [] 0 (form d) a b r in
     let few : count (form d) ≤ MOST_NODES = omega (arith, r.met.small) in
-    let none_in_data : data_faults d ≡ [] = nil-append _ _ (nil-append _ _ (unless-nil _ fault.FloatNumber (ap not whole)) (unless-nil _ fault.TooManyNodes (le-true _ _ few))) r.none_stands in
-    let none_stands : faults text ≡ [] = nil-append _ _ (unless-nil _ fault.TooLong short) (ap (λ o. option_map_or data_faults o (fault.NotJson ∷ [])) is ∙ none_in_data) in
+    let none_in_data : data_faults d ≡ [] = nil-append _ _ (
+    nil-append _ _ (unless-nil _ fault.FloatNumber (ap not whole)) (unless-nil _ fault.TooManyNodes (le-true _ _ few))) r.none_stands in
+    let none_stands : faults text ≡ [] =
+    nil-append _ _ (unless-nil _ fault.TooLong short) (ap (λ o. option_map_or data_faults o (fault.NotJson ∷ [])) is ∙ none_in_data) in
     given (faults text) (option_map (λ e. record { nodes = nodes (form e); normal_text = compact_text e }) (read text)) none_stands
     ∙ ap (option_map (λ e. record { nodes = nodes (form e); normal_text = compact_text e })) is
     ∙ ap (λ l. Some (record { nodes = l; normal_text = compact_text d })) (sym made)

@@ -21,13 +21,17 @@ cost (token t ∷ ls) = paid t (cost ls)
 cost (comma ∷ ls) = 1 + cost ls
 cost (colon ∷ ls) = 1 + cost ls
 
-operator_if : (b : Bool) (x y : Lexeme) (ls : List Lexeme) → cost (x ∷ ls) ≤ 1 + cost ls → cost (y ∷ ls) ≤ 1 + cost ls → cost (cond b x y ∷ ls) ≤ 1 + cost ls
+operator_if : (b : Bool) (x y : Lexeme) (ls : List Lexeme) → cost (x ∷ ls) ≤ 1 + cost ls
+    → cost (y ∷ ls) ≤ 1 + cost ls → cost (cond b x y ∷ ls) ≤ 1 + cost ls
 operator_if true x y ls p q = p
 operator_if false x y ls p q = q
 
 cost-operator : (x : ℕ) (ls : List Lexeme) → cost (operator_lexeme x ∷ ls) ≤ 1 + cost ls
 cost-operator x ls =
-    operator_if (x == 123) _ _ ls (omega arith) (operator_if (x == 125) _ _ ls (omega arith) (operator_if (x == 91) _ _ ls (omega arith) (operator_if (x == 93) _ _ ls (omega arith) (operator_if (x == 44) comma colon ls (omega arith) (omega arith)))))
+    operator_if (x == 123) _ _ ls (omega arith)
+    (operator_if (x == 125) _ _ ls (omega arith)
+    (operator_if (x == 91) _ _ ls (omega arith)
+    (operator_if (x == 93) _ _ ls (omega arith) (operator_if (x == 44) comma colon ls (omega arith) (omega arith)))))
 
 -- texts up to a length are no shorter than their tokens
 abbrev UpTo : ℕ → Type 0
@@ -46,11 +50,16 @@ module _ (n x : ℕ) (xs : List ℕ) (fits : suc (length xs) ≤ suc n) (up_to :
   string_lexed : (o : Option (List ℕ)) → IfClosed in_string xs 0 o → cost (token (string_token o) ∷ lex in_string xs) ≤ suc (length xs)
   string_lexed None h = omega arith
   string_lexed (Some s) h =
-      let quoted_length : length (token_text (Token.string s)) ≡ 1 + (length (escape s) + 1) = omega (arith, length-append (escape s) (34 ∷ [])) in
-      let left : cost (lex in_string xs) ≤ length h.left = subst (λ ls. cost ls ≤ length h.left) (sym h.lexed) (up_to h.left (omega (arith, h.shorter))) in
+      let quoted_length : length (token_text (Token.string s)) ≡ 1 + (length (escape s) + 1) =
+      omega (arith, length-append (escape s) (34 ∷ [])) in
+      let left : cost (lex in_string xs) ≤ length h.left =
+      subst (λ ls. cost ls ≤ length h.left) (sym h.lexed) (up_to h.left (omega (arith, h.shorter))) in
       rw quoted_length (string_cost (length (escape s)) (length h.left) _ (length xs) left h.longest)
 
-  leaves_cost : (k : Token) → class x ≡ other → (h : (r : List ℕ) × (lex in_word (x ∷ xs) ≡ lex between r) × (length (token_text k) + length r ≤ suc (length xs)) × (length r < suc (length xs))) → length (token_text k) + cost (lex in_word xs) ≤ suc (length xs)
+  leaves_cost : (k : Token) → class x ≡ other
+      → (h : (r : List ℕ) × (lex in_word (x ∷ xs) ≡ lex between r)
+      × (length (token_text k) + length r ≤ suc (length xs)) × (length r < suc (length xs)))
+      → length (token_text k) + cost (lex in_word xs) ≤ suc (length xs)
   leaves_cost k e h =
       let lexed : lex in_word xs ≡ lex between h.0 = sym (passes_byte x xs e).lexed ∙ h.1 in
       let left : cost (lex in_word xs) ≤ length h.0 = subst (λ ls. cost ls ≤ length h.0) (sym lexed) (up_to h.0 (within _ _ _ h.3 fits)) in

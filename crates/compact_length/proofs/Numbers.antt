@@ -28,11 +28,13 @@ text_length n = length (number_text n)
 digit_below_ten : (x : ℕ) → 48 ≤ x → x ≤ 57 → digit_value x < 10
 digit_below_ten x low high = let small : x < 58 = omega arith in rw (le-ltb x 48 low, lt-ltb x 58 small) (omega arith)
 
-all_digits_at : (d : Bool) (x : ℕ) (xs : List ℕ) (n : ℕ) → is_ascii_digit x ≡ d → AllDigits 10 (take n xs) → AllDigits 10 (take (cond d (1 + n) 0) (x ∷ xs))
+all_digits_at : (d : Bool) (x : ℕ) (xs : List ℕ) (n : ℕ) → is_ascii_digit x ≡ d
+    → AllDigits 10 (take n xs) → AllDigits 10 (take (cond d (1 + n) 0) (x ∷ xs))
 all_digits_at false x xs n e h = tt
 all_digits_at true x xs n e h =
     let next : suc n ≡ 1 + n = omega arith in
-    subst (λ m. AllDigits 10 (take m (x ∷ xs))) next (digit_below_ten x (leb-true 48 x (and_parts _ _ e).0) (leb-true x 57 (and_parts _ _ e).1), h)
+    subst (λ m. AllDigits 10 (take m (x ∷ xs))) next
+    (digit_below_ten x (leb-true 48 x (and_parts _ _ e).0) (leb-true x 57 (and_parts _ _ e).1), h)
 
 all_digits : (xs : List ℕ) → AllDigits 10 (take (prefix_len is_ascii_digit xs) xs)
 all_digits [] = tt
@@ -62,20 +64,26 @@ point_missing : (b : Bool) → not b ≡ true → b ≡ false
 point_missing true e = absurd (false≢true e)
 point_missing false e = refl
 
-decimal_short : (n : ℕ) (p : Parts) → FrontOf n p → is_integer p ≡ true → numeral_digits p < 2 ^ 64 → length (decimal (numeral_digits p)) ≤ n
+decimal_short : (n : ℕ) (p : Parts) → FrontOf n p → is_integer p ≡ true
+    → numeral_digits p < 2 ^ 64 → length (decimal (numeral_digits p)) ≤ n
 decimal_short n p f e small =
     let both = and_parts (nat_lt 0 (length p.whole) && not p.point) _ e in
     let two = and_parts (nat_lt 0 (length p.whole)) (not p.point) both.0 in
-    let value : numeral_digits p ≡ digits_value 10 p.whole = ap (λ r. digits_value 10 (p.whole ++ r)) (f.no_fraction (point_missing p.point two.1)) ∙ ap (digits_value 10) (append-nil p.whole) in
-    let bound : numeral_digits p < 10 ^ length p.whole = subst (λ v. v < 10 ^ length p.whole) (sym value) (digits_value-lt 10 p.whole f.digits) in
-    let le : length (decimal (numeral_digits p)) ≤ length p.whole = length-decimal-le (length p.whole) (numeral_digits p) (ltb-true 0 (length p.whole) two.0) bound small in
+    let value : numeral_digits p ≡ digits_value 10 p.whole =
+    ap (λ r. digits_value 10 (p.whole ++ r)) (f.no_fraction (point_missing p.point two.1))
+    ∙ ap (digits_value 10) (append-nil p.whole) in
+    let bound : numeral_digits p < 10 ^ length p.whole =
+    subst (λ v. v < 10 ^ length p.whole) (sym value) (digits_value-lt 10 p.whole f.digits) in
+    let le : length (decimal (numeral_digits p)) ≤ length p.whole =
+    length-decimal-le (length p.whole) (numeral_digits p) (ltb-true 0 (length p.whole) two.0) bound small in
     omega (arith, f.short)
 
 signed_short : (n : ℕ) → length (signed_decimal (neg_ℤ (pos n))) ≤ 1 + length (decimal n)
 signed_short zero = omega arith
 signed_short (suc n) = omega arith
 
-by_test : (n : ℕ) (b : Bool) (x y : Option Num) → (b ≡ true → AtMost text_length n x) → AtMost text_length n y → AtMost text_length n (if b then x else y)
+by_test : (n : ℕ) (b : Bool) (x y : Option Num) → (b ≡ true → AtMost text_length n x)
+    → AtMost text_length n y → AtMost text_length n (if b then x else y)
 by_test n true x y f g = f refl
 by_test n false x y f g = g
 
@@ -84,7 +92,9 @@ no_text n sign p = by_test n (float_is_finite (nearest_float binary64 sign p)) _
 
 unsigned_short : (n : ℕ) (p : Parts) → FrontOf n p → AtMost text_length n (number_from false p)
 unsigned_short n p f =
-    by_test n (is_integer p && nat_lt (numeral_digits p) (2 ^ 64)) _ _ (λ e. decimal_short n p f (and_parts (is_integer p) _ e).0 (ltb-true (numeral_digits p) (2 ^ 64) (and_parts (is_integer p) _ e).1)) (no_text n false p)
+    by_test n (is_integer p && nat_lt (numeral_digits p) (2 ^ 64)) _ _
+    (λ e. decimal_short n p f (and_parts (is_integer p) _ e).0 (ltb-true (numeral_digits p) (2 ^ 64) (and_parts (is_integer p) _ e).1))
+    (no_text n false p)
 
 less : (v : ℕ) → v ≤ 2 ^ 63 → v < 2 ^ 64
 less v h = omega arith
@@ -99,10 +109,13 @@ negative_short n p f =
     omega (arith, signed_short (numeral_digits p), le))
     (no_text (1 + n) true p)
 
-by_sign : (s : List ℕ) (b : Bool) → (slice_index s 0 == 45) ≡ b → AtMost text_length (length s) (if b then number_from true (scan_numeral (drop 1 s)) else number_from false (scan_numeral s))
+by_sign : (s : List ℕ) (b : Bool) → (slice_index s 0 == 45) ≡ b
+    → AtMost text_length (length s) (if b then number_from true (scan_numeral (drop 1 s)) else number_from false (scan_numeral s))
 by_sign s false e = unsigned_short (length s) (scan_numeral s) (scanned s)
 by_sign [] true e = absurd (false≢true e)
-by_sign (x ∷ xs) true e = let n : 1 + length xs ≡ length (x ∷ xs) = omega arith in subst (λ m. AtMost text_length m (number_from true (scan_numeral xs))) n (negative_short (length xs) (scan_numeral xs) (scanned xs))
+by_sign (x ∷ xs) true e =
+    let n : 1 + length xs ≡ length (x ∷ xs) = omega arith in
+    subst (λ m. AtMost text_length m (number_from true (scan_numeral xs))) n (negative_short (length xs) (scan_numeral xs) (scanned xs))
 
 pub number_shorter : (s : List ℕ) → AtMost text_length (length s) (number_of s)
 unfolding number_of

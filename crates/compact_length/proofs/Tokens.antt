@@ -45,7 +45,8 @@ record Follows (ls : List Lexeme) : Type 0 where
   key : begins_colon ls ≡ true → written_length false (punctuate after_key ls) + 1 ≤ cost ls
 
 string_placed : (p : Place) (s : List ℕ) (ls : List Lexeme) (b : Bool) → begins_colon ls ≡ b → Follows ls
-    → written_length (later_at p) (place_token p (Token.string s) b (λ next. punctuate next ls)) ≤ comma_at p + (length (quoted s) + cost ls)
+    → written_length (later_at p) (place_token p (Token.string s) b (λ next. punctuate next ls))
+    ≤ comma_at p + (length (quoted s) + cost ls)
 string_placed fresh s ls true e f = let h = f.key e in omega (arith, key_text s)
 string_placed after_comma s ls true e f = let h = f.key e in omega (arith, key_text s)
 string_placed after_value s ls true e f = omega arith
@@ -55,7 +56,8 @@ string_placed after_comma s ls false e f = let h = f.value in omega arith
 string_placed after_value s ls false e f = omega arith
 string_placed after_key s ls false e f = omega arith
 
-placed : (p : Place) (t : Token) (ls : List Lexeme) → Follows ls → written_length (later_at p) (place_token p t (begins_colon ls) (λ next. punctuate next ls)) ≤ comma_at p + paid t (cost ls)
+placed : (p : Place) (t : Token) (ls : List Lexeme) → Follows ls
+    → written_length (later_at p) (place_token p t (begins_colon ls) (λ next. punctuate next ls)) ≤ comma_at p + paid t (cost ls)
 placed p Token.bad ls f = omega arith
 placed p (Token.key s) ls f = omega arith
 placed p (Token.string s) ls f = string_placed p s ls (begins_colon ls) refl f
@@ -96,8 +98,10 @@ follows (token t ∷ ls) =
     let new = placed fresh t ls f in
     let value = placed after_value t ls f in
     record { new = omega arith; value = omega arith; more = placed after_comma t ls f; key = λ e. absurd (false≢true e) }
-follows (comma ∷ ls) = let p = (follows ls).more in record { new = omega arith; value = omega arith; more = omega arith; key = λ e. absurd (false≢true e) }
-follows (colon ∷ ls) = let p = (follows ls).new in record { new = omega arith; value = omega arith; more = omega arith; key = λ e. omega arith }
+follows (comma ∷ ls) =
+    let p = (follows ls).more in record { new = omega arith; value = omega arith; more = omega arith; key = λ e. absurd (false≢true e) }
+follows (colon ∷ ls) =
+    let p = (follows ls).new in record { new = omega arith; value = omega arith; more = omega arith; key = λ e. omega arith }
 
 pub tokens_written : (text : List ℕ) → written_length false (tokens text) ≤ length text
 tokens_written text = let f = (follows (lex between text)).new in omega (arith, cost-lex text)

@@ -34,7 +34,8 @@ passes_one : (c : ℕ) (t : List ℕ) → class c ≡ other → (head t == c) �
 passes_one c [] k e spaced = absurd (false≢true (sym spaced ∙ e))
 passes_one c (x ∷ xs) k e spaced = passes_byte x xs (ap class (eqb-true x c e) ∙ k)
 
-passes_either : (a b : ℕ) (t : List ℕ) → class a ≡ other → class b ≡ other → (32 == a) ≡ false → (32 == b) ≡ false → ((head t == a) || (head t == b)) ≡ true → Passes t (drop 1 t)
+passes_either : (a b : ℕ) (t : List ℕ) → class a ≡ other → class b ≡ other → (32 == a) ≡ false
+    → (32 == b) ≡ false → ((head t == a) || (head t == b)) ≡ true → Passes t (drop 1 t)
 passes_either a b t p q u v e = go (or_cases _ _ e)
   where
     go : ((head t == a) ≡ true) ⊎ ((head t == b) ≡ true) → Passes t (drop 1 t)
@@ -61,7 +62,8 @@ digit_class_at x low high =
 digit_class : (x : ℕ) → is_ascii_digit x ≡ true → class x ≡ other
 digit_class x h = digit_class_at x (leb-true 48 x (and_parts _ _ h).0) (leb-true x 57 (and_parts _ _ h).1)
 
-passes_digits_at : (d : Bool) (x : ℕ) (xs : List ℕ) (n : ℕ) → (d ≡ true → class x ≡ other) → Passes xs (drop n xs) → Passes (x ∷ xs) (drop (cond d (1 + n) 0) (x ∷ xs))
+passes_digits_at : (d : Bool) (x : ℕ) (xs : List ℕ) (n : ℕ) → (d ≡ true → class x ≡ other)
+    → Passes xs (drop n xs) → Passes (x ∷ xs) (drop (cond d (1 + n) 0) (x ∷ xs))
 passes_digits_at false x xs n k h = stays (x ∷ xs)
 passes_digits_at true x xs n k h =
     let e : suc n ≡ 1 + n = omega arith in
@@ -84,7 +86,8 @@ below : (a b n : ℕ) → a ≤ b → b < n → a < n
 below a b n h k = omega arith
 
 module _ (n : ℕ) where
-  by_test : (t : List ℕ) (b : Bool) (x y : Option (List ℕ)) → (b ≡ true → Reached n t x) → (b ≡ false → Reached n t y) → Reached n t (cond b x y)
+  by_test : (t : List ℕ) (b : Bool) (x y : Option (List ℕ)) → (b ≡ true → Reached n t x)
+      → (b ≡ false → Reached n t y) → Reached n t (cond b x y)
   by_test t true x y f g = f refl
   by_test t false x y f g = g refl
 
@@ -92,7 +95,8 @@ module _ (n : ℕ) where
   from t u None p h = tt
   from t u (Some r) p h = (both t u r p h.0, h.1)
 
-  then : (t : List ℕ) (f : List ℕ → Option (List ℕ)) → ((u : List ℕ) → length u < n → Reached n u (f u)) → (o : Option (List ℕ)) → Reached n t o → Reached n t (option_and_then f o)
+  then : (t : List ℕ) (f : List ℕ → Option (List ℕ)) → ((u : List ℕ) → length u < n → Reached n u (f u))
+      → (o : Option (List ℕ)) → Reached n t o → Reached n t (option_and_then f o)
   then t f h None p = tt
   then t f h (Some u) p = from t u (f u) p.0 (h u p.1)
 
@@ -114,9 +118,11 @@ module _ (n : ℕ) where
   fraction : (t : List ℕ) → length t < n → Reached n t (after_fraction t)
   fraction t h =
       by_test t (head t == 46) (after_digits (drop 1 t)) (Some t)
-      (λ e. let p = passes_one 46 t refl e refl in from t (drop 1 t) _ p (digits (drop 1 t) (below _ (length t) n p.shorter h))) (λ e. (stays t, h))
+      (λ e. let p = passes_one 46 t refl e refl in from t (drop 1 t) _ p (digits (drop 1 t) (below _ (length t) n p.shorter h)))
+      (λ e. (stays t, h))
 
-some_digit : (d : Bool) (m : ℕ) (x : ℕ) (xs : List ℕ) → Passes (x ∷ xs) (drop (cond d (1 + m) 0) (x ∷ xs)) → Reached (length (x ∷ xs)) (x ∷ xs) (cond (cond d (1 + m) 0 == 0) None (Some (drop (cond d (1 + m) 0) (x ∷ xs))))
+some_digit : (d : Bool) (m : ℕ) (x : ℕ) (xs : List ℕ) → Passes (x ∷ xs) (drop (cond d (1 + m) 0) (x ∷ xs))
+    → Reached (length (x ∷ xs)) (x ∷ xs) (cond (cond d (1 + m) 0 == 0) None (Some (drop (cond d (1 + m) 0) (x ∷ xs))))
 some_digit false m x xs p = tt
 some_digit true m x xs p = rw (ne_eqb (1 + m) 0 (λ e. omega arith)) (p, omega (arith, length-drop (1 + m) (x ∷ xs)))
 
@@ -129,7 +135,9 @@ after_one [] e = absurd (false≢true e)
 after_one (x ∷ xs) e = omega arith
 
 whole : (t : List ℕ) → Reached (length t) t (after_whole t)
-whole t = by_test (length t) t (head t == 48) (Some (drop 1 t)) (after_digits t) (λ e. (passes_one 48 t refl e refl, after_one t e)) (λ e. first_digits t)
+whole t =
+    by_test (length t) t (head t == 48) (Some (drop 1 t)) (after_digits t)
+    (λ e. (passes_one 48 t refl e refl, after_one t e)) (λ e. first_digits t)
 
 -- a greater bound
 weaker : (m n : ℕ) (t : List ℕ) (o : Option (List ℕ)) → m ≤ n → Reached m t o → Reached n t o
@@ -169,7 +177,8 @@ lengths a b r n p q = omega arith
 positive : (b r n : ℕ) → 0 < b → b + r ≡ n → r < n
 positive b r n p q = omega arith
 
-ended_literal : (name : List ℕ) (k : Token) (t : List ℕ) → ((r : List ℕ) → lex in_word (name ++ r) ≡ lex in_word r) → length (token_text k) ≡ length name → 0 < length name → ((r : List ℕ) → Leaves t k r → Ended t k)
+ended_literal : (name : List ℕ) (k : Token) (t : List ℕ) → ((r : List ℕ) → lex in_word (name ++ r) ≡ lex in_word r)
+    → length (token_text k) ≡ length name → 0 < length name → ((r : List ℕ) → Leaves t k r → Ended t k)
     → Ended t (literal name k t)
 ended_literal name k t passes same some good = go (starts_with nat_eq t name && ends_word (drop (length name) t)) refl
   where
@@ -181,7 +190,11 @@ ended_literal name k t passes same some good = go (starts_with nat_eq t name && 
         let front : name ≡ take (length name) t = (bytes_eq-Decides name (take (length name) t)).0 two.0 in
         let split : name ++ r ≡ t = ap (λ l. l ++ r) front ∙ take-append-drop (length name) t in
         let sum : length name + length r ≡ length t = sym (length-append name r) ∙ ap length split in
-        good r (ap (lex in_word) (sym split) ∙ passes r ∙ in_word-ended r two.1, lengths _ _ (length r) (length t) same sum, positive (length name) (length r) (length t) some sum)
+        good r (
+          ap (lex in_word) (sym split) ∙ passes r ∙ in_word-ended r two.1,
+          lengths _ _ (length r) (length t) same sum,
+          positive (length name) (length r) (length t) some sum,
+        )
 
 choose : (t : List ℕ) (b : Bool) (x y : Token) → Ended t x → Ended t y → Ended t (cond b x y)
 choose t true x y p q = p
@@ -190,6 +203,10 @@ choose t false x y p q = q
 pub ended_word : (t : List ℕ) → Ended t (word t)
 unfolding word lex
 ended_word t =
-    choose t (head t == 116) _ _ (ended_literal (116 ∷ 114 ∷ 117 ∷ 101 ∷ []) (Token.boolean true) t (λ r. refl) refl (lit< tt) (λ r h. (r, h.0, h.1, h.2)))
-    (choose t (head t == 102) _ _ (ended_literal (102 ∷ 97 ∷ 108 ∷ 115 ∷ 101 ∷ []) (Token.boolean false) t (λ r. refl) refl (lit< tt) (λ r h. (r, h.0, h.1, h.2)))
-    (choose t (head t == 110) _ _ (ended_literal (110 ∷ 117 ∷ 108 ∷ 108 ∷ []) Token.null t (λ r. refl) refl (lit< tt) (λ r h. (r, h.0, h.1, h.2))) (ended_number t (after_number t) (reached_number t))))
+    choose t (head t == 116) _ _
+    (ended_literal (116 ∷ 114 ∷ 117 ∷ 101 ∷ []) (Token.boolean true) t (λ r. refl) refl (lit< tt) (λ r h. (r, h.0, h.1, h.2)))
+    (choose t (head t == 102) _ _
+    (ended_literal (102 ∷ 97 ∷ 108 ∷ 115 ∷ 101 ∷ []) (Token.boolean false) t (λ r. refl) refl (lit< tt) (λ r h. (r, h.0, h.1, h.2)))
+    (choose t (head t == 110) _ _
+    (ended_literal (110 ∷ 117 ∷ 108 ∷ 108 ∷ []) Token.null t (λ r. refl) refl (lit< tt) (λ r h. (r, h.0, h.1, h.2)))
+    (ended_number t (after_number t) (reached_number t))))

@@ -38,7 +38,8 @@ list_any-map p f [] = refl
 list_any-map p f (x ∷ xs) = ap (λ b. p (f x) || b) (list_any-map p f xs)
 
 pub all_distinct-first : {X : Type 0} (name : X → List ℕ) (xs : List X) (x : X) → 1 ≤ length xs → x ≡ get_or xs 0 x
-    → let rest = take (length xs - 1) (drop 1 xs) in all_distinct bytes_eq (map name xs) ≡ (not (list_any (λ y. bytes_eq (name x) (name y)) rest) && all_distinct bytes_eq (map name rest))
+    → let rest = take (length xs - 1) (drop 1 xs) in all_distinct bytes_eq (map name xs)
+    ≡ (not (list_any (λ y. bytes_eq (name x) (name y)) rest) && all_distinct bytes_eq (map name rest))
 all_distinct-first name [] x some is = absurd (omega arith)
 all_distinct-first name (y ∷ ys) x some is =
     let whole : take (length (y ∷ ys) - 1) ys ≡ ys = take_all (length (y ∷ ys) - 1) ys (omega arith) in

@@ -31,7 +31,8 @@ module _ {X : Type 0} (p : X → Bool) where
   at_no_place : (xs : List X) (n : ℕ) → position_or_len p xs ≡ n → length xs ≤ n → position p xs ≡ None
   at_no_place xs n e h = ap (λ k. cond (nat_lt k (length xs)) (Some k) None) e ∙ ap (λ b. cond b (Some n) None) (le-ltb n (length xs) h)
 
-  position_is : (xs : List X) (i : ℕ) (d : X) → i < length xs → ((k : ℕ) → k < i → p (get_or xs k d) ≡ false) → p (get_or xs i d) ≡ true → position p xs ≡ Some i
+  position_is : (xs : List X) (i : ℕ) (d : X) → i < length xs
+      → ((k : ℕ) → k < i → p (get_or xs k d) ≡ false) → p (get_or xs i d) ≡ true → position p xs ≡ Some i
   position_is xs i d within none here = at_place xs i (position_or_len_is p xs i d (omega arith) none (λ _. here)) within
 
   no_place : (xs : List X) → list_any p xs ≡ false → position_or_len p xs ≡ length xs
@@ -43,7 +44,8 @@ module _ {X : Type 0} (p : X → Bool) where
   position-none : (xs : List X) → list_any p xs ≡ false → position p xs ≡ None
   position-none xs h = at_no_place xs (length xs) (no_place xs h) (omega arith)
 
-  find-at_position : (xs : List X) (n : ℕ) → position_or_len p xs ≡ n → (b : Bool) → nat_lt n (length xs) ≡ b → slice_get xs n ≡ option_and_then (slice_get xs) (cond b (Some n) None)
+  find-at_position : (xs : List X) (n : ℕ) → position_or_len p xs ≡ n → (b : Bool)
+      → nat_lt n (length xs) ≡ b → slice_get xs n ≡ option_and_then (slice_get xs) (cond b (Some n) None)
   find-at_position xs n e true h = refl
   find-at_position xs n e false h = slice_get_past xs n (ltb-false n (length xs) h)
 
@@ -63,19 +65,28 @@ apart_if : (x y : List ℕ) → is_eq (slice_cmp nat_cmp x y) ≡ false → byte
 apart_if x y h = sym (is_eq-slice_cmp x y) ∙ h
 
 module _ (s : List ℕ) where
-  pub named_here : (names : List (List ℕ)) (i : ℕ) → all_distinct bytes_eq names ≡ true → i < length names → bytes_eq (get_or names i []) s ≡ true → position (λ name. bytes_eq name s) names ≡ Some i
+  pub named_here : (names : List (List ℕ)) (i : ℕ) → all_distinct bytes_eq names ≡ true → i < length names
+      → bytes_eq (get_or names i []) s ≡ true → position (λ name. bytes_eq name s) names ≡ Some i
   named_here names i distinct within same =
       let is : get_or names i [] ≡ s = (bytes_eq-Decides (get_or names i []) s).0 same in
       position_is (λ name. bytes_eq name s) names i [] within
-      (λ k before. ap (bytes_eq (get_or names k [])) (sym is) ∙ apart_from_distinct bytes_eq names k i [] (IsDistinct-from_true bytes_eq names distinct) before within) same
+      (λ k before.
+      ap (bytes_eq (get_or names k [])) (sym is)
+      ∙ apart_from_distinct bytes_eq names k i [] (IsDistinct-from_true bytes_eq names distinct) before within)
+      same
 
-  pub named_at : (names : List (List ℕ)) (i : ℕ) → all_distinct bytes_eq names ≡ true → i < length names → slice_cmp nat_cmp (get_or names i []) s ≡ Equal → position (λ name. bytes_eq name s) names ≡ Some i
+  pub named_at : (names : List (List ℕ)) (i : ℕ) → all_distinct bytes_eq names ≡ true → i < length names
+      → slice_cmp nat_cmp (get_or names i []) s ≡ Equal → position (λ name. bytes_eq name s) names ≡ Some i
   named_at names i distinct within here = named_here names i distinct within (sym (is_eq-slice_cmp (get_or names i []) s) ∙ ap is_eq here)
 
-  module _ (ordered : List (List ℕ)) (in_order : IsStrictlySortedBy (slice_cmp nat_cmp) ordered) (m : ℕ) (within : m < length ordered) (d : List ℕ) where
-    at_or_below : (k : ℕ) → (k ≡ m) ⊎ (k < m) → slice_cmp nat_cmp (get_or ordered m d) s ≡ Less → slice_cmp nat_cmp (get_or ordered k d) s ≡ Less
+  module _ (ordered : List (List ℕ)) (in_order : IsStrictlySortedBy (slice_cmp nat_cmp) ordered)
+      (m : ℕ) (within : m < length ordered) (d : List ℕ) where
+    at_or_below : (k : ℕ) → (k ≡ m) ⊎ (k < m) → slice_cmp nat_cmp (get_or ordered m d) s ≡ Less
+        → slice_cmp nat_cmp (get_or ordered k d) s ≡ Less
     at_or_below k (inl e) less = ap (λ j. slice_cmp nat_cmp (get_or ordered j d) s) e ∙ less
-    at_or_below k (inr h) less = nat_list_cmp_total.trans (get_or ordered k d) (get_or ordered m d) s (Less-from_sorted (slice_cmp nat_cmp) ordered k m d in_order h within) less
+    at_or_below k (inr h) less =
+        nat_list_cmp_total.trans (get_or ordered k d) (get_or ordered m d) s
+        (Less-from_sorted (slice_cmp nat_cmp) ordered k m d in_order h within) less
 
     apart_below : slice_cmp nat_cmp (get_or ordered m d) s ≡ Less → (k : ℕ) → k < m + 1 → bytes_eq (get_or ordered k d) s ≡ false
     apart_below less k h = apart_if (get_or ordered k d) s (ap is_eq (at_or_below k (eq-or-lt_of_le (omega arith)) less))
@@ -83,18 +94,26 @@ module _ (s : List ℕ) where
     turned : (x : List ℕ) → slice_cmp nat_cmp x s ≡ Greater → slice_cmp nat_cmp s x ≡ Less
     turned x h = nat_list_cmp_total.antisymm s x ∙ ap ordering_reverse h
 
-    at_or_above : (k : ℕ) → (m ≡ k) ⊎ (m < k) → k < length ordered → slice_cmp nat_cmp (get_or ordered m d) s ≡ Greater → slice_cmp nat_cmp s (get_or ordered k d) ≡ Less
+    at_or_above : (k : ℕ) → (m ≡ k) ⊎ (m < k) → k < length ordered
+        → slice_cmp nat_cmp (get_or ordered m d) s ≡ Greater → slice_cmp nat_cmp s (get_or ordered k d) ≡ Less
     at_or_above k (inl e) inside greater = ap (λ j. slice_cmp nat_cmp s (get_or ordered j d)) (sym e) ∙ turned (get_or ordered m d) greater
-    at_or_above k (inr h) inside greater = nat_list_cmp_total.trans s (get_or ordered m d) (get_or ordered k d) (turned (get_or ordered m d) greater) (Less-from_sorted (slice_cmp nat_cmp) ordered m k d in_order h inside)
+    at_or_above k (inr h) inside greater =
+        nat_list_cmp_total.trans s (get_or ordered m d) (get_or ordered k d) (turned (get_or ordered m d) greater)
+        (Less-from_sorted (slice_cmp nat_cmp) ordered m k d in_order h inside)
 
-    apart_above : slice_cmp nat_cmp (get_or ordered m d) s ≡ Greater → (k : ℕ) → m ≤ k → k < length ordered → bytes_eq (get_or ordered k d) s ≡ false
+    apart_above : slice_cmp nat_cmp (get_or ordered m d) s ≡ Greater → (k : ℕ)
+        → m ≤ k → k < length ordered → bytes_eq (get_or ordered k d) s ≡ false
     apart_above greater k h inside =
-        apart_if (get_or ordered k d) s (ap is_eq (nat_list_cmp_total.antisymm (get_or ordered k d) s ∙ ap ordering_reverse (at_or_above k (eq-or-lt_of_le h) inside greater)))
+        apart_if (get_or ordered k d) s
+        (ap is_eq (
+        nat_list_cmp_total.antisymm (get_or ordered k d) s ∙ ap ordering_reverse (at_or_above k (eq-or-lt_of_le h) inside greater)))
 
-  pub none_of : (names : List (List ℕ)) → ((k : ℕ) (d : List ℕ) → k < length names → bytes_eq (get_or names k d) s ≡ false) → position (λ name. bytes_eq name s) names ≡ None
+  pub none_of : (names : List (List ℕ)) → ((k : ℕ) (d : List ℕ) → k < length names → bytes_eq (get_or names k d) s ≡ false)
+      → position (λ name. bytes_eq name s) names ≡ None
   none_of names none = position-none (λ name. bytes_eq name s) names (list_any_none (λ name. bytes_eq name s) names none)
 
-  pub absent : (names : List (List ℕ)) (places : List ℕ) → IsIndex names places → ((k : ℕ) (d : List ℕ) → k < length places → bytes_eq (get_or (names_at names places) k d) s ≡ false)
+  pub absent : (names : List (List ℕ)) (places : List ℕ) → IsIndex names places
+      → ((k : ℕ) (d : List ℕ) → k < length places → bytes_eq (get_or (names_at names places) k d) s ≡ false)
       → position (λ name. bytes_eq name s) names ≡ None
   absent names places index none =
       position-none (λ name. bytes_eq name s) names
@@ -102,15 +121,21 @@ module _ (s : List ℕ) where
       ∙ list_any_none (λ name. bytes_eq name s) (names_at names places) (λ k d h. none k d (subst (λ n. k < n) (length-map places _) h)))
 
 -- what the name at a place of the index settles
-module _ (s : List ℕ) (names : List (List ℕ)) (places : List ℕ) (index : IsIndex names places) (m : ℕ) (within : m < length places) (d : List ℕ) where
+module _ (s : List ℕ) (names : List (List ℕ)) (places : List ℕ)
+    (index : IsIndex names places) (m : ℕ) (within : m < length places) (d : List ℕ) where
   fits : m < length (names_at names places)
   fits = subst (λ n. m < n) (sym (length-map places _)) within
 
-  there : (o : Ordering) → slice_cmp nat_cmp (get_or names (get_or places m 0) []) s ≡ o → slice_cmp nat_cmp (get_or (names_at names places) m d) s ≡ o
+  there : (o : Ordering) → slice_cmp nat_cmp (get_or names (get_or places m 0) []) s ≡ o
+      → slice_cmp nat_cmp (get_or (names_at names places) m d) s ≡ o
   there o h = ap (λ n. slice_cmp nat_cmp n s) (get_or-map (λ k. get_or names k []) places m 0 d within) ∙ h
 
-  pub none_below : slice_cmp nat_cmp (get_or names (get_or places m 0) []) s ≡ Less → (k : ℕ) → k < m + 1 → bytes_eq (get_or (names_at names places) k d) s ≡ false
+  pub none_below : slice_cmp nat_cmp (get_or names (get_or places m 0) []) s ≡ Less
+      → (k : ℕ) → k < m + 1 → bytes_eq (get_or (names_at names places) k d) s ≡ false
   none_below less = apart_below s (names_at names places) index.in_order m fits d (there Less less)
 
-  pub none_above : slice_cmp nat_cmp (get_or names (get_or places m 0) []) s ≡ Greater → (k : ℕ) → m ≤ k → k < length places → bytes_eq (get_or (names_at names places) k d) s ≡ false
-  none_above greater k h inside = apart_above s (names_at names places) index.in_order m fits d (there Greater greater) k h (subst (λ n. k < n) (sym (length-map places _)) inside)
+  pub none_above : slice_cmp nat_cmp (get_or names (get_or places m 0) []) s ≡ Greater → (k : ℕ)
+      → m ≤ k → k < length places → bytes_eq (get_or (names_at names places) k d) s ≡ false
+  none_above greater k h inside =
+      apart_above s (names_at names places) index.in_order m fits d
+      (there Greater greater) k h (subst (λ n. k < n) (sym (length-map places _)) inside)

@@ -17,7 +17,8 @@ module _ (slots : List ℕ) (slot v : ℕ) (within : slot < length slots) (some 
   pub put : (j : ℕ) → j ≡ slot → 0 < get_or (set slots slot v) j 0
   put j e = subst (λ n. 0 < n) (sym (get_or-set_at slots slot j v 0 e within)) some
 
-module _ (slots : List ℕ) (names : List (List ℕ)) (marked : HaveSlots slots names) (s : List ℕ) (empty : get_or slots (slot_of s (length slots)) 0 ≡ 0) where
+module _ (slots : List ℕ) (names : List (List ℕ)) (marked : HaveSlots slots names)
+    (s : List ℕ) (empty : get_or slots (slot_of s (length slots)) 0 ≡ 0) where
   other : (name : List ℕ) → 0 < get_or slots (slot_of name (length slots)) 0 → (b : Bool) → bytes_eq name s ≡ b → b ≡ false
   other name some true same =
       let is : name ≡ s = (bytes_eq-Decides name s).0 same in

@@ -79,7 +79,8 @@ no_id_mark r e = ap (option_and_then id_marked_in) (reads_none r e)
 
 -- two sets of last records mark the same as soft-deleted
 abbrev CoverAlike : Records → Records → Type 0
-CoverAlike rs ss = (subject : List ℕ) (version offset : ℕ) → is_soft_deleted rs subject version offset ≡ is_soft_deleted ss subject version offset
+CoverAlike rs ss =
+    (subject : List ℕ) (version offset : ℕ) → is_soft_deleted rs subject version offset ≡ is_soft_deleted ss subject version offset
 
 module _ (rs ss : Records) (marked : CoverAlike rs ss) where
   entry_in-alike : (offset : ℕ) (value : Value) → entry_in rs offset value ≡ entry_in ss offset value

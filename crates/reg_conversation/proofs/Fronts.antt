@@ -38,24 +38,28 @@ body_in-more n after more size =
 drop-more : (n : ℕ) (after more : List ℕ) → length after ≡ n → drop n (after ++ more) ≡ more
 drop-more n after more size = ap (λ k. drop k (after ++ more)) (sym size) ∙ drop-append_seam after more
 
-request-more : (h : RequestHead) (after more : List ℕ) → length after ≡ body_length (fields_of h) → request_of h (after ++ more) ≡ request_of h after
+request-more : (h : RequestHead) (after more : List ℕ) → length after ≡ body_length (fields_of h)
+    → request_of h (after ++ more) ≡ request_of h after
 request-more h after more size = rw (body_in-more (body_length (fields_of h)) after more size) refl
 
 module _ {D : Type 0} (asks : D → Query → Result Answer AllocError → D → Type 0) (commands : D → Command → Reply → D → Type 0) where
   -- the front that whole bytes have
-  front-whole : (old new : D) (part out : List ℕ) (left : Option (List ℕ)) (front : List ℕ → Front) → ((more : List ℕ) → front_of (part ++ more) ≡ front more)
+  front-whole : (old new : D) (part out : List ℕ) (left : Option (List ℕ)) (front : List ℕ → Front)
+      → ((more : List ℕ) → front_of (part ++ more) ≡ front more)
       → AnswersFirst asks commands old (Some part) out new left → AnswersFront asks commands old (front []) out new left
   front-whole old new part out left front always answers =
       subst (λ f. AnswersFront asks commands old f out new left) (ap front_of (sym (append-nil part)) ∙ always []) answers
 
   -- the request of whole bytes is that of a text which goes on
   head-more : (old new : D) (h : RequestHead) (after more out : List ℕ) (closes : Bool) → length after ≡ body_length (fields_of h)
-      → Does asks commands old (asked_of (request_of h after)) (wants_close h) out closes new ⊎ LacksMemory asks commands old h out closes new
+      → Does asks commands old (asked_of (request_of h after)) (wants_close h) out closes new
+      ⊎ LacksMemory asks commands old h out closes new
       → AnswersHead asks commands old h (after ++ more) out new (left_if closes more)
   head-more old new h after more out closes size did = (
     closes,
     ap (λ rest. left_if closes rest) (sym (drop-more (body_length (fields_of h)) after more size)),
-    subst (λ r. Does asks commands old (asked_of r) (wants_close h) out closes new ⊎ LacksMemory asks commands old h out closes new) (sym (request-more h after more size)) did,
+    subst (λ r. Does asks commands old (asked_of r) (wants_close h) out closes new ⊎ LacksMemory asks commands old h out closes new)
+        (sym (request-more h after more size)) did,
   )
 
   -- a response after which the connection is closed
@@ -75,8 +79,10 @@ module _ {D : Type 0} (asks : D → Query → Result Answer AllocError → D →
       closed-head old new h after more out size (true, left, did) = head-more old new h after more out true size did
       closed-head old new h after more out size (false, left, did) = absurd (cc)
 
-      closed-body : (old new : D) (bytes after more out : List ℕ) → ((h : RequestHead) → IsHead bytes h → length after ≡ body_length (fields_of h))
-          → AnswersFront asks commands old (head bytes after) out new None → AnswersFront asks commands old (head bytes (after ++ more)) out new None
+      closed-body : (old new : D) (bytes after more out : List ℕ)
+          → ((h : RequestHead) → IsHead bytes h → length after ≡ body_length (fields_of h))
+          → AnswersFront asks commands old (head bytes after) out new None
+          → AnswersFront asks commands old (head bytes (after ++ more)) out new None
       closed-body old new bytes after more out told answers = elim answers [
         | inl p ↦ inl (p.0, p.1, closed-head old new p.0 after more out (told p.0 p.1) p.2)
         | inr q ↦ inr q
@@ -101,8 +107,10 @@ module _ {D : Type 0} (asks : D → Query → Result Answer AllocError → D →
       more-head old new h after more out rest size (true, left, did) = absurd (cc)
       more-head old new h after more out rest size (false, left, did) = head-more old new h after more out false size did
 
-      more-body : (old new : D) (bytes after more out rest : List ℕ) → ((h : RequestHead) → IsHead bytes h → length after ≡ body_length (fields_of h))
-          → AnswersFront asks commands old (head bytes after) out new (Some rest) → AnswersFront asks commands old (head bytes (after ++ more)) out new (Some more)
+      more-body : (old new : D) (bytes after more out rest : List ℕ)
+          → ((h : RequestHead) → IsHead bytes h → length after ≡ body_length (fields_of h))
+          → AnswersFront asks commands old (head bytes after) out new (Some rest)
+          → AnswersFront asks commands old (head bytes (after ++ more)) out new (Some more)
       more-body old new bytes after more out rest told answers = elim answers [
         | inl p ↦ inl (p.0, p.1, more-head old new p.0 after more out rest (told p.0 p.1) p.2)
         | inr q ↦ refused q.1.2
@@ -157,19 +165,22 @@ module _ {D : Type 0} (asks : D → Query → Result Answer AllocError → D →
       never-over (take n held) whole none
 
   -- a first response that was written in part
-  first-more : (old new : D) (part out : List ℕ) (rest : Option (List ℕ)) → IsWhole part → AnswersFirst asks commands old (Some part) out new rest
+  first-more : (old new : D) (part out : List ℕ) (rest : Option (List ℕ))
+      → IsWhole part → AnswersFirst asks commands old (Some part) out new rest
       → (more : List ℕ) → (left : Option (List ℕ)) × AnswersFirst asks commands old (Some (part ++ more)) out new left
   first-more old new part out None whole first more = (None, whole-closed old new part out whole first more)
   first-more old new part out (Some rest) whole first more = (Some more, whole-more old new part out rest whole first more)
 
-  fails-more : {W : Type 0} (writer writer' : Device W) (old new : D) (part : List ℕ) (before after : Option (List ℕ)) (e : ServeError) → IsWhole part
+  fails-more : {W : Type 0} (writer writer' : Device W) (old new : D) (part : List ℕ) (before after : Option (List ℕ)) (e : ServeError)
+      → IsWhole part
       → FailsFirst asks commands writer writer' old part before after new e
       → (more : List ℕ) → FailsFirst asks commands writer writer' old (part ++ more) before after new e
   fails-more writer writer' old new part before after errors.ReadFault whole fails more = fails
   fails-more writer writer' old new part before after errors.WriteFault whole (lost, out, rest, first, front) more =
       let (left, begins) = first-more old new part out rest whole first more in (lost, out, left, begins, front)
 
-  pub held-fails : {W : Type 0} (writer writer' : Device W) (old new : D) (held : List ℕ) (n : ℕ) (before after : Option (List ℕ)) (e : ServeError)
+  pub held-fails : {W : Type 0} (writer writer' : Device W) (old new : D)
+      (held : List ℕ) (n : ℕ) (before after : Option (List ℕ)) (e : ServeError)
       → IsWhole (take n held) → FailsFirst asks commands writer writer' old (take n held) before after new e
       → (more : List ℕ) → FailsFirst asks commands writer writer' old (held ++ more) before after new e
   held-fails writer writer' old new held n before after e whole fails more =
@@ -183,29 +194,37 @@ module _ {D : Type 0} (asks : D → Query → Result Answer AllocError → D →
   step-over old new part text before after r is step =
       subst (λ t. IfOk r (λ next. (left : Option (List ℕ)) × Steps asks commands old t before after left new next)) is step
 
-  pub fails-over : {W : Type 0} (writer writer' : Device W) (old new : D) (part text : List ℕ) (before after : Option (List ℕ)) (r : Result Next ServeError) → part ≡ text
-      → IfErr r (FailsFirst asks commands writer writer' old part before after new) → IfErr r (FailsFirst asks commands writer writer' old text before after new)
+  pub fails-over : {W : Type 0} (writer writer' : Device W) (old new : D)
+      (part text : List ℕ) (before after : Option (List ℕ)) (r : Result Next ServeError)
+      → part ≡ text
+      → IfErr r (FailsFirst asks commands writer writer' old part before after new)
+      → IfErr r (FailsFirst asks commands writer writer' old text before after new)
   fails-over writer writer' old new part text before after r is fails =
       subst (λ t. IfErr r (FailsFirst asks commands writer writer' old t before after new)) is fails
 
   -- what a step did, whose text is known
-  pub step-known : (old new : D) (input : Option (List ℕ)) (bytes : List ℕ) (before after left : Option (List ℕ)) (r : Result Next ServeError) → input ≡ Some bytes
+  pub step-known : (old new : D) (input : Option (List ℕ)) (bytes : List ℕ)
+      (before after left : Option (List ℕ)) (r : Result Next ServeError)
+      → input ≡ Some bytes
       → IfOk r (λ next. IfSome input (λ text. Steps asks commands old text before after left new next))
       → IfOk r (λ next. (rest : Option (List ℕ)) × Steps asks commands old bytes before after rest new next)
   step-known old new input bytes before after left (Err e) is step = tt
   step-known old new input bytes before after left (Ok next) is step =
       (left, subst (λ i. IfSome i (λ text. Steps asks commands old text before after left new next)) is step)
 
-  fails-of : {R W : Type 0} (reader reader' : Device R) (writer writer' : Device W) (old new : D) (input : Option (List ℕ)) (bytes : List ℕ) (before after left : Option (List ℕ))
+  fails-of : {R W : Type 0} (reader reader' : Device R) (writer writer' : Device W) (old new : D)
+      (input : Option (List ℕ)) (bytes : List ℕ) (before after left : Option (List ℕ))
       (e : ServeError) → input ≡ Some bytes → IsStepRefusal asks commands reader reader' writer writer' input left before after old new e
       → FailsFirst asks commands writer writer' old bytes before after new e
-  fails-of reader reader' writer writer' old new input bytes before after left errors.ReadFault is (lost, other, short, same, kept, begun) = (other, same, kept)
+  fails-of reader reader' writer writer' old new input bytes before after left errors.ReadFault is (lost, other, short, same, kept, begun) =
+      (other, same, kept)
   fails-of reader reader' writer writer' old new input bytes before after left errors.WriteFault is (lost, since, other, step) =
       let (out, rest, first, front) = subst (λ i. IfSome i (λ text. (out : List ℕ) × (rest : Option (List ℕ))
       × AnswersFirst asks commands old (Some text) out new rest × AppendsFront before after out)) is step in
       (lost, out, rest, first, front)
 
-  pub fails-known : {R W : Type 0} (reader reader' : Device R) (writer writer' : Device W) (old new : D) (input : Option (List ℕ)) (bytes : List ℕ) (before after left : Option (List ℕ))
+  pub fails-known : {R W : Type 0} (reader reader' : Device R) (writer writer' : Device W)
+      (old new : D) (input : Option (List ℕ)) (bytes : List ℕ) (before after left : Option (List ℕ))
       (r : Result Next ServeError) → input ≡ Some bytes
       → IfErr r (λ e. IsStepRefusal asks commands reader reader' writer writer' input left before after old new e)
       → IfErr r (FailsFirst asks commands writer writer' old bytes before after new)

@@ -47,7 +47,8 @@ module _ {D : Type 0} (asks : D → Query → Result Answer AllocError → D →
       let same : rest ≡ after_body h after = cc in ap front_of same ∙ over-after h after (omega (arith, cut))
 
   -- after the response to a short front no request is left
-  last-front : (old new : D) (f : Front) (out rest : List ℕ) → IsShort f → AnswersFront asks commands old f out new (Some rest) → front_of rest ≡ over
+  last-front : (old new : D) (f : Front) (out rest : List ℕ) → IsShort f
+      → AnswersFront asks commands old f out new (Some rest) → front_of rest ≡ over
   last-front old new over out rest short answers = absurd answers
   last-front old new (no_head refusal) out rest short (same, is, closed) = absurd (cc)
   last-front old new (head bytes after) out rest (h, is_head, cut) answers = elim answers [
@@ -86,13 +87,18 @@ module _ {D : Type 0} (asks : D → Query → Result Answer AllocError → D →
       )
 
   -- the same over those bytes, by another name
-  pub last-replies : (old new : D) (text part : List ℕ) (before after : Option (List ℕ)) (next : Next) → IsShort (front_of text) → part ≡ text
-      → (left : Option (List ℕ)) × Steps asks commands old part before after left new next → RepliesAll asks commands old text before after new
+  pub last-replies : (old new : D) (text part : List ℕ) (before after : Option (List ℕ)) (next : Next)
+      → IsShort (front_of text) → part ≡ text
+      → (left : Option (List ℕ)) × Steps asks commands old part before after left new next
+      → RepliesAll asks commands old text before after new
   last-replies old new text part before after next short is step =
       let (left, done) = subst (λ p. (left : Option (List ℕ)) × Steps asks commands old p before after left new next) is step in
       last-step old new text before after left next short done
 
-  pub last-fails : {W : Type 0} (writer writer' : Device W) (old new : D) (text part : List ℕ) (before after : Option (List ℕ)) (e : ServeError) → part ≡ text
-      → FailsFirst asks commands writer writer' old part before after new e → FailsFirst asks commands writer writer' old text before after new e
+  pub last-fails : {W : Type 0} (writer writer' : Device W) (old new : D)
+      (text part : List ℕ) (before after : Option (List ℕ)) (e : ServeError)
+      → part ≡ text
+      → FailsFirst asks commands writer writer' old part before after new e
+      → FailsFirst asks commands writer writer' old text before after new e
   last-fails writer writer' old new text part before after e is fails =
       subst (λ t. FailsFirst asks commands writer writer' old t before after new e) is fails

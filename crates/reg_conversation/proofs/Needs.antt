@@ -7,7 +7,8 @@ use Rattle.reg_conversation.specs.Conversation.{IsNeeded}
 
 needed-more : (needs : Option ℕ) (held bytes : List ℕ) → IfSome needs (IsNeeded held) → IfSome needs (IsNeeded (held ++ bytes))
 needed-more None held bytes known = tt
-needed-more (Some n) held bytes (some, takes) = (some, λ more. subst (λ t. EndsAt t n) (sym (append_assoc held bytes more)) (takes (bytes ++ more)))
+needed-more (Some n) held bytes (some, takes) =
+    (some, λ more. subst (λ t. EndsAt t n) (sym (append_assoc held bytes more)) (takes (bytes ++ more)))
 
 pub needed-fed : (needs : Option ℕ) (held held' bytes : List ℕ) (fed : Bool) → held' ≡ (if fed then held ++ bytes else held)
     → IfSome needs (IsNeeded held) → IfSome needs (IsNeeded held')

@@ -16,7 +16,8 @@ prefix_self xs = ([], append-nil xs)
 pub prefix_trans : {A : Type 0} (xs ys zs : List A) → IsPrefix xs ys → IsPrefix ys zs → IsPrefix xs zs
 prefix_trans xs ys zs p q = (p.0 ++ q.0, sym (append_assoc xs p.0 q.0) ∙ (ap (λ w. w ++ q.0) p.1 ∙ q.1))
 
-pub is_fresh : (first : Held) (seen front : List Item) (told all view : List Draw) → IsPrefix seen front → told ≡ all → IsPrefix told view → IsCompactionOf (taken_set all) (whole_log (topic_at first front)) → IsFresh first seen view
+pub is_fresh : (first : Held) (seen front : List Item) (told all view : List Draw) → IsPrefix seen front → told ≡ all
+    → IsPrefix told view → IsCompactionOf (taken_set all) (whole_log (topic_at first front)) → IsFresh first seen view
 is_fresh first seen front told all view later same shown whole = record {
   told = told;
   front = front;
@@ -26,7 +27,8 @@ is_fresh first seen front told all view later same shown whole = record {
 }
 
 -- what was shown stays shown
-pub still_fresh : (first : Held) (seen : List Item) (view more : List Draw) → IsFresh first seen view → IsPrefix view more → IsFresh first seen more
+pub still_fresh : (first : Held) (seen : List Item) (view more : List Draw)
+    → IsFresh first seen view → IsPrefix view more → IsFresh first seen more
 still_fresh first seen view more f p = record {
   told = f.told;
   front = f.front;

@@ -10,12 +10,14 @@ use Rattle.reg_desk.specs.Desk.{Fronts, IsFresh, Known, LearnsFronts, ReadTheirW
 use Rattle.reg_desk.proofs.Fresh.{prefix_self, prefix_trans, still_fresh}
 
 -- the topic's front stays, and goes as far as the one that is reported
-pub stays_learnt : (first : Held) (before after : Known) (fronts : Fronts) → after.seen ≡ before.seen → after.fresh ≡ before.fresh → after.submits ≡ before.submits
+pub stays_learnt : (first : Held) (before after : Known) (fronts : Fronts)
+    → after.seen ≡ before.seen → after.fresh ≡ before.fresh → after.submits ≡ before.submits
     → IsPrefix (front_of fronts.topic) (front_of before.seen) → IsPrefix before.view after.view → IsPrefix fronts.node after.view
     → (before.fresh ≡ true → IsFresh first (front_of before.seen) before.view) → LearnsFronts first before fronts after
 stays_learnt first before after fronts same fresh submits known this that shown = record {
   one = inl same;
-  topic_this = subst (λ (w : Option (List Item)). IsPrefix (front_of before.seen) (front_of w)) (sym same) (prefix_self (front_of before.seen));
+  topic_this =
+      subst (λ (w : Option (List Item)). IsPrefix (front_of before.seen) (front_of w)) (sym same) (prefix_self (front_of before.seen));
   topic_that = subst (λ (w : Option (List Item)). IsPrefix (front_of fronts.topic) (front_of w)) (sym same) known;
   node_this = this;
   node_that = that;
@@ -26,13 +28,15 @@ stays_learnt first before after fronts same fresh submits known this that shown 
 }
 
 -- the topic's front is the one that is reported, which goes farther
-pub takes_learnt : (first : Held) (before after : Known) (fronts : Fronts) → after.seen ≡ fronts.topic → after.fresh ≡ fronts.fresh → after.submits ≡ before.submits
+pub takes_learnt : (first : Held) (before after : Known) (fronts : Fronts)
+    → after.seen ≡ fronts.topic → after.fresh ≡ fronts.fresh → after.submits ≡ before.submits
     → IsPrefix (front_of before.seen) (front_of fronts.topic) → IsPrefix before.view after.view → IsPrefix fronts.node after.view
     → (fronts.fresh ≡ true → IsFresh first (front_of fronts.topic) fronts.node) → LearnsFronts first before fronts after
 takes_learnt first before after fronts same fresh submits known this that shown = record {
   one = inr same;
   topic_this = subst (λ (w : Option (List Item)). IsPrefix (front_of before.seen) (front_of w)) (sym same) known;
-  topic_that = subst (λ (w : Option (List Item)). IsPrefix (front_of fronts.topic) (front_of w)) (sym same) (prefix_self (front_of fronts.topic));
+  topic_that =
+      subst (λ (w : Option (List Item)). IsPrefix (front_of fronts.topic) (front_of w)) (sym same) (prefix_self (front_of fronts.topic));
   node_this = this;
   node_that = that;
   same_submits = submits;
@@ -47,7 +51,8 @@ module _ {K : Type 0} (keeps : K → List Record → Kept → K → Type 0) wher
   read_theirs first one two c reply done fronts told q a after d f s l k =
       let same : front_of done.seen ≡ d.front = ap front_of d.seen in
       let node : fronts.node ≡ done.view = ap (λ (x : Fronts). x.node) s in
-      let here : IsFresh first (front_of done.seen) done.view = subst (λ (w : List Item). IsFresh first w done.view) (sym same) (d.fresh f) in
+      let here : IsFresh first (front_of done.seen) done.view =
+      subst (λ (w : List Item). IsFresh first w done.view) (sym same) (d.fresh f) in
       let shown : IsPrefix done.view told.view = subst (λ (w : List Draw). IsPrefix w told.view) node l.node_that in
       still_fresh first (front_of done.seen) done.view after.view here (prefix_trans done.view told.view after.view shown k.shows)
 

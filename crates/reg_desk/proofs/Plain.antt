@@ -7,5 +7,6 @@ use Rattle.reg_topic.specs.declared.topic.Topic.{Topic}
 use Rattle.reg_pen.specs.Keep.{TakesAll}
 use Rattle.reg_desk.specs.Desk.{IsDeclined}
 
-pub never_declined : {K : Type 0} (base : Topic) (front : List Item) (c : Command) (reply : Reply) → IsDeclined (TakesAll {K = K}) base front c reply → ⊥
+pub never_declined : {K : Type 0} (base : Topic) (front : List Item) (c : Command) (reply : Reply)
+    → IsDeclined (TakesAll {K = K}) base front c reply → ⊥
 never_declined base front c reply d = absurd (cc (d.lent.0))

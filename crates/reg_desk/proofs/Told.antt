@@ -26,7 +26,8 @@ no_more (x ∷ xs) [] le p = absurd (cc (p.1))
 no_more (x ∷ xs) (y ∷ ys) le p =
     let rest = no_more xs ys (omega arith) (p.0, cc (p.1)) in cc (p.1, rest)
 
-pub same_front : {A : Type 0} (before told found : List A) → (found ≡ before) ⊎ (found ≡ told) → IsPrefix told found → IsPrefix before told → found ≡ told
+pub same_front : {A : Type 0} (before told found : List A) → (found ≡ before) ⊎ (found ≡ told)
+    → IsPrefix told found → IsPrefix before told → found ≡ told
 same_front before told found (inr e) p q = e
 same_front before told found (inl e) p q =
     let here : IsPrefix told before = subst (λ (w : List _). IsPrefix told w) e p in
@@ -39,10 +40,12 @@ behind_front (Some since) is h = h
 
 module _ {K : Type 0} (keeps : K → List Record → Kept → K → Type 0) where
   module _ (base : Topic) (c : Command) where
-    stays : (before is js : List Item) (reply : Reply) → IsPrefix before is → js ≡ is → Replies keeps base before c reply js → IsNext keeps base before c reply js
+    stays : (before is js : List Item) (reply : Reply) → IsPrefix before is → js ≡ is
+        → Replies keeps base before c reply js → IsNext keeps base before c reply js
     stays before is js reply p e r = record { grows = subst (λ (w : List Item). IsPrefix before w) (sym e) p; replies = r }
 
-    waits : (before is js : List Item) (reply : Reply) → IsPrefix before is → js ≡ is → (pending : List Item) → StillPends pending reply → IsTold keeps base before c reply js
+    waits : (before is js : List Item) (reply : Reply) → IsPrefix before is → js ≡ is
+        → (pending : List Item) → StillPends pending reply → IsTold keeps base before c reply js
     waits before is js reply p e [] w = absurd w
     waits before is js reply p e (items.Commit commit ∷ []) w = inr (stays before is js reply p e (inr (inr (inl (w.0.offset, w.3)))))
     waits before is js reply p e (items.Compaction dropped ∷ []) w = inl w
@@ -50,12 +53,16 @@ module _ {K : Type 0} (keeps : K → List Record → Kept → K → Type 0) wher
     waits before is js reply p e (items.Compaction dropped ∷ j ∷ rest) w = absurd w
 
     -- what followed on a batch that was lent
-    followed : (before : List Item) (l m : PenState K) (reply replied : Reply) (first : Record) (rest : List Record) (kept : Kept) (keep : K) → IsPrefix before l.published
+    followed : (before : List Item) (l m : PenState K) (reply replied : Reply)
+        (first : Record) (rest : List Record) (kept : Kept) (keep : K)
+        → IsPrefix before l.published
         → IsStepAfter base l.published c replied (first ∷ rest) → keeps l.keep (first ∷ rest) kept keep
-        → Follows kept (item_of c (first ∷ rest)) replied (replies.Unsettled first.offset) (record l { keep = keep }) reply m → IsNext keeps base before c reply m.published
+        → Follows kept (item_of c (first ∷ rest)) replied (replies.Unsettled first.offset) (record l { keep = keep }) reply m
+        → IsNext keeps base before c reply m.published
     followed before l m reply replied first rest Taken keep p step lent (inl done) =
         let ends : m.published ≡ l.published ++ item_of c (first ∷ rest) = ap (λ (s : PenState K). s.published) done.1 in record {
-          grows = subst (λ (w : List Item). IsPrefix before w) (sym ends) (prefix_trans before l.published (l.published ++ item_of c (first ∷ rest)) p (item_of c (first ∷ rest), refl));
+          grows = subst (λ (w : List Item). IsPrefix before w) (sym ends)
+              (prefix_trans before l.published (l.published ++ item_of c (first ∷ rest)) p (item_of c (first ∷ rest), refl));
           replies = inr (inl (record {
             front = l.published;
             first = first;
@@ -66,7 +73,8 @@ module _ {K : Type 0} (keeps : K → List Record → Kept → K → Type 0) wher
           }));
         }
     followed before l m reply replied first rest Taken keep p step lent (inr waiting) =
-        stays before l.published m.published reply p (ap (λ (s : PenState K). s.published) waiting.1) (inr (inr (inl (first.offset, waiting.0))))
+        stays before l.published m.published reply p (ap (λ (s : PenState K). s.published) waiting.1)
+        (inr (inr (inl (first.offset, waiting.0))))
     followed before l m reply replied first rest (Declined lack) keep p step lent refused =
         let same : m.published ≡ l.published = ap (λ (s : PenState K). s.published) refused.1 in
         stays before l.published m.published reply p same (inr (inr (inr (inl (record {
@@ -83,38 +91,53 @@ module _ {K : Type 0} (keeps : K → List Record → Kept → K → Type 0) wher
     followed before l m reply replied first rest Lost keep p step lent lost =
         stays before l.published m.published reply p (ap (λ (s : PenState K). s.published) lost.1) (inr (inr (inl (first.offset, lost.0))))
 
-    acts : (before : List Item) (l m : PenState K) (reply : Reply) → IsPrefix before l.published → Acts keeps base l c reply m → IsTold keeps base before c reply m.published
+    acts : (before : List Item) (l m : PenState K) (reply : Reply) → IsPrefix before l.published
+        → Acts keeps base l c reply m → IsTold keeps base before c reply m.published
     acts before l m reply p (inl none) =
         let same : m.published ≡ l.published = ap (λ (s : PenState K). s.published) none.1 in
-        inr (stays before l.published m.published reply p same (inl (subst (λ (w : List Item). IsStepAfter base w c reply []) (sym same) none.0)))
-    acts before l m reply p (inr (inl lent)) = inr (followed before l m reply lent.replied lent.first lent.rest lent.kept lent.keep p lent.step lent.lent lent.follows)
+        inr (
+        stays before l.published m.published reply p same (
+        inl (subst (λ (w : List Item). IsStepAfter base w c reply []) (sym same) none.0)))
+    acts before l m reply p (inr (inl lent)) =
+        inr (followed before l m reply lent.replied lent.first lent.rest lent.kept lent.keep p lent.step lent.lent lent.follows)
     acts before l m reply p (inr (inr none)) = inl none.0
 
-    told : (since : Option (Bor (List Item))) (l m : PenState K) (reply : Reply) → Submits keeps base since l c reply m → IsTold keeps base (front_at since) c reply m.published
+    told : (since : Option (Bor (List Item))) (l m : PenState K) (reply : Reply)
+        → Submits keeps base since l c reply m → IsTold keeps base (front_at since) c reply m.published
     told since l m reply (inl ahead) = inl ahead.1
     told since l m reply (inr (behind, inl w)) =
-        waits (front_at since) l.published m.published reply (behind_front since l.published behind) (ap (λ (s : PenState K). s.published) w.1) l.pending w.0
+        waits (front_at since) l.published m.published reply (behind_front since l.published behind)
+        (ap (λ (s : PenState K). s.published) w.1) l.pending w.0
     told since l m reply (inr (behind, inr a)) =
-        acts (front_at since) (settled l) m reply (prefix_trans (front_at since) l.published (l.published ++ l.pending) (behind_front since l.published behind) (l.pending, refl)) a.1
+        acts (front_at since) (settled l) m reply
+        (prefix_trans (front_at since) l.published (l.published ++ l.pending)
+        (behind_front since l.published behind) (l.pending, refl)) a.1
 
-  pub is_told : (base : Topic) (since : Option (Bor (List Item))) (l m : PenState K) (c : Command) (reply : Reply) (seen : List Item) → Submits keeps base since l c reply m → seen ≡ m.published
+  pub is_told : (base : Topic) (since : Option (Bor (List Item))) (l m : PenState K) (c : Command) (reply : Reply) (seen : List Item)
+      → Submits keeps base since l c reply m → seen ≡ m.published
       → IsTold keeps base (front_at since) c reply seen
-  is_told base since l m c reply seen s e = subst (λ (w : List Item). IsTold keeps base (front_at since) c reply w) (sym e) (told base c since l m reply s)
+  is_told base since l m c reply seen s e =
+      subst (λ (w : List Item). IsTold keeps base (front_at since) c reply w) (sym e) (told base c since l m reply s)
 
-  pub is_next : (base : Topic) (before told found : List Item) (c : Command) (reply : Reply) → IsTold keeps base before c reply told → IsPrefix before found → (IsPrefix before told → found ≡ told)
+  pub is_next : (base : Topic) (before told found : List Item) (c : Command) (reply : Reply)
+      → IsTold keeps base before c reply told → IsPrefix before found → (IsPrefix before told → found ≡ told)
       → IsNext keeps base before c reply found
   is_next base before told found c reply (inl none) grows same = record { grows = grows; replies = inr (inr (inr (inr none))) }
-  is_next base before told found c reply (inr next) grows same = subst (λ (w : List Item). IsNext keeps base before c reply w) (sym (same next.grows)) next
+  is_next base before told found c reply (inr next) grows same =
+      subst (λ (w : List Item). IsNext keeps base before c reply w) (sym (same next.grows)) next
 
   -- the view may show more before the command is submitted, and again after it
-  pub commands : (first : Held) (inside before after : Known) (c : Command) (reply : Reply) (front : List Item) (shown : List Draw) → inside ≡ before → after.seen ≡ Some front
-      → after.submits ≡ counted inside.submits → IsNext keeps (base_of first) (front_of inside.seen) c reply front → IsPrefix inside.view shown → IsPrefix shown after.view
+  pub commands : (first : Held) (inside before after : Known) (c : Command) (reply : Reply) (front : List Item) (shown : List Draw)
+      → inside ≡ before → after.seen ≡ Some front
+      → after.submits ≡ counted inside.submits → IsNext keeps (base_of first) (front_of inside.seen) c reply front
+      → IsPrefix inside.view shown → IsPrefix shown after.view
       → (after.fresh ≡ true → IsFresh first front after.view) → DeskCommands keeps first before c reply after
-  commands first inside before after c reply front shown same seen counts next grows shows fresh = subst (λ (k : Known). DeskCommands keeps first k c reply after) same (record {
-    counts = counts;
-    front = front;
-    seen = seen;
-    next = next;
-    shows = prefix_trans inside.view shown after.view grows shows;
-    fresh = fresh;
-  })
+  commands first inside before after c reply front shown same seen counts next grows shows fresh =
+      subst (λ (k : Known). DeskCommands keeps first k c reply after) same (record {
+        counts = counts;
+        front = front;
+        seen = seen;
+        next = next;
+        shows = prefix_trans inside.view shown after.view grows shows;
+        fresh = fresh;
+      })

@@ -12,11 +12,13 @@ abbrev pub IsIn : {X : Type 0} → X → List X → Type 0
 IsIn x [] = ⊥
 IsIn x (y ∷ ys) = (y ≡ x) ⊎ IsIn x ys
 
-pub all_filter : {X : Type 0} (p : X → Bool) (P : X → Type 0) (xs : List X) → AllByRecursion (λ x. p x ≡ true → P x) xs → AllByRecursion P (filter p xs)
+pub all_filter : {X : Type 0} (p : X → Bool) (P : X → Type 0) (xs : List X)
+    → AllByRecursion (λ x. p x ≡ true → P x) xs → AllByRecursion P (filter p xs)
 all_filter p P [] h = tt
 all_filter p P (x ∷ xs) h =
     let rest = all_filter p P xs h.1 in
-    elim (p x) as (λ b. p x ≡ b → AllByRecursion P (cond b (x ∷ filter p xs) (filter p xs))) [ true ↦ λ e. (h.0 e, rest) | false ↦ λ e. rest ] refl
+    elim (p x)
+    as (λ b. p x ≡ b → AllByRecursion P (cond b (x ∷ filter p xs) (filter p xs))) [ true ↦ λ e. (h.0 e, rest) | false ↦ λ e. rest ] refl
 
 pub all_map : {X Y : Type 0} (f : X → Y) (P : Y → Type 0) (xs : List X) → AllByRecursion (λ x. P (f x)) xs → AllByRecursion P (map f xs)
 all_map f P [] h = tt
@@ -26,7 +28,8 @@ pub in_filter : {X : Type 0} (p : X → Bool) (x : X) (xs : List X) → p x ≡ 
 in_filter p x [] h i = i
 in_filter {X} p x (y ∷ ys) h (inl same) = subst (λ b. IsIn x (cond b (y ∷ filter p ys) (filter p ys))) (sym (ap p same ∙ h)) (inl same)
 in_filter {X} p x (y ∷ ys) h (inr i) =
-    elim (p y) as (λ b. IsIn x (cond b (y ∷ filter p ys) (filter p ys))) [ true ↦ inr (in_filter p x ys h i) | false ↦ in_filter p x ys h i ]
+    elim (p y)
+    as (λ b. IsIn x (cond b (y ∷ filter p ys) (filter p ys))) [ true ↦ inr (in_filter p x ys h i) | false ↦ in_filter p x ys h i ]
 
 pub in_map : {X Y : Type 0} (f : X → Y) (x : X) (xs : List X) → IsIn x xs → IsIn (f x) (map f xs)
 in_map f x [] i = i
@@ -38,7 +41,8 @@ pub reduce_none : {X : Type 0} (f : X → X → X) (xs : List X) → AllByRecurs
 reduce_none f [] h = refl
 reduce_none f (x ∷ xs) h = absurd h.0
 
-module _ {X : Type 0} (f : X → X → X) (x : X) (P : X → Type 0) (left : (y : X) → P y → f x y ≡ x) (right : (y : X) → P y → f y x ≡ x) (closed : (y z : X) → P y → P z → P (f y z)) where
+module _ {X : Type 0} (f : X → X → X) (x : X) (P : X → Type 0) (left : (y : X) → P y → f x y ≡ x)
+    (right : (y : X) → P y → f y x ≡ x) (closed : (y z : X) → P y → P z → P (f y z)) where
   stays : (ys : List X) → AllByRecursion P ys → fold f x ys ≡ x
   stays [] h = refl
   stays (y ∷ ys) h = ap (λ a. fold f a ys) (left y h.0) ∙ stays ys h.1

@@ -114,7 +114,9 @@ abbrev pub of_id : ℕ → Name → Bool
 of_id id k = range_contains name_cmp (Included (id, 0, ([], 0))) (Excluded (id + 1, 0, ([], 0))) k
 
 after_zero : (k : Name) → is_gt (ordering_then (nat_cmp 0 k.1) (place_cmp ([], 0) k.2)) ≡ false
-after_zero k = then_not_after (nat_cmp 0 k.1) (place_cmp ([], 0) k.2) (zero_first k.1) (then_not_after (slice_cmp nat_cmp [] k.2.0) (nat_cmp 0 k.2.1) (none_first k.2.0) (zero_first k.2.1))
+after_zero k =
+    then_not_after (nat_cmp 0 k.1) (place_cmp ([], 0) k.2) (zero_first k.1)
+    (then_not_after (slice_cmp nat_cmp [] k.2.0) (nat_cmp 0 k.2.1) (none_first k.2.0) (zero_first k.2.1))
 
 up_to_it : (o : Ordering) → is_gt o ≡ false → is_le o ≡ true
 up_to_it Less h = refl
@@ -151,7 +153,9 @@ within_id k id same =
     above a b h = omega (arith, h)
 
 pub id_within : (k : Name) (id : ℕ) → of_id id k ≡ true → k.0 ≡ id
-id_within k id h = between id k.0 (from (nat_cmp id k.0) refl (first _ _ h)) (up_to (nat_cmp (id + 1) k.0) refl (second (is_le (by_rest k (nat_cmp id k.0))) _ h))
+id_within k id h =
+    between id k.0 (from (nat_cmp id k.0) refl (first _ _ h))
+    (up_to (nat_cmp (id + 1) k.0) refl (second (is_le (by_rest k (nat_cmp id k.0))) _ h))
   where
     between : (a b : ℕ) → a ≤ b → b < a + 1 → b ≡ a
     between a b h k = omega arith
@@ -167,8 +171,10 @@ id_within k id h = between id k.0 (from (nat_cmp id k.0) refl (first _ _ h)) (up
     up_to Greater is h = smaller (id + 1) k.0 is
 
 -- a key that a set has is among its keys
-pub key_in : {K : Type 0} (cmp : K → K → Ordering) → ((a b : K) → cmp a b ≡ Equal → a ≡ b) → (s : BTreeSet K) (k : K) → contains cmp s k ≡ true → IsIn k s.keys
-key_in cmp ties s k h = let found = any_found (is_at (cmp k)) s.keys h in subst (λ x. IsIn x s.keys) (sym (ties k found.0 (equal _ found.1.1))) found.1.0
+pub key_in : {K : Type 0} (cmp : K → K → Ordering) → ((a b : K) → cmp a b ≡ Equal → a ≡ b)
+    → (s : BTreeSet K) (k : K) → contains cmp s k ≡ true → IsIn k s.keys
+key_in cmp ties s k h =
+    let found = any_found (is_at (cmp k)) s.keys h in subst (λ x. IsIn x s.keys) (sym (ties k found.0 (equal _ found.1.1))) found.1.0
 
 module _ (es : List Entry) where
   -- an entry that shares its id does so with another
@@ -179,7 +185,9 @@ module _ (es : List Entry) where
       (o, (found.1.0, number o.id e.id (first (o.id == e.id) _ found.1.1), apart o.normal e.normal (second (o.id == e.id) _ found.1.1)))
 
   pub shares : (e o : Entry) → IsIn o es → o.id ≡ e.id → ¬ (o.normal ≡ e.normal) → shares_its_id es e ≡ true
-  shares e o i same other = any_in (λ o. o.id == e.id && not (bytes_eq o.normal e.normal)) o es (both _ _ (itself o.id e.id same) (differ o.normal e.normal other)) i
+  shares e o i same other =
+      any_in (λ o. o.id == e.id && not (bytes_eq o.normal e.normal)) o es
+      (both _ _ (itself o.id e.id same) (differ o.normal e.normal other)) i
 
 module _ (m : BTreeMap Place Entry) (ordered : IsOrdered place_cmp m) where
   -- an entry of the list is at a place
@@ -189,9 +197,12 @@ module _ (m : BTreeMap Place Entry) (ordered : IsOrdered place_cmp m) where
       (all_map (λ (e : Place × Entry). e.1) (λ e. (q : Place) × (entry_at m q ≡ Some e)) m.entries
       (all_found (λ q e. (q : Place) × (entry_at m q ≡ Some e)) m.entries ordered (λ q e found. (q, found)))) i
 
-module _ (m : BTreeMap Place Entry) (names : BTreeSet Name) (ordered : IsOrdered place_cmp m) (placed : ArePlaced m) (names_are : AreNamed m names) where
+module _ (m : BTreeMap Place Entry) (names : BTreeSet Name) (ordered : IsOrdered place_cmp m)
+    (placed : ArePlaced m) (names_are : AreNamed m names) where
   -- an entry at a place has its name in the set
   pub has_its_name : (q : Place) (e : Entry) → entry_at m q ≡ Some e → contains name_cmp names (name_of e) ≡ true
   has_its_name q e found =
-      names_are (name_of e) ∙ ap (λ o. option_map_or (λ f. eq_by_cmp name_cmp (name_of f) (name_of e)) o false) (ap (entry_at m) (own_place m placed q e found) ∙ found)
+      names_are (name_of e)
+      ∙ ap (λ o. option_map_or (λ f. eq_by_cmp name_cmp (name_of f) (name_of e)) o false)
+      (ap (entry_at m) (own_place m placed q e found) ∙ found)
       ∙ ap is_eq (tied_itself name_cmp-total (name_of e))

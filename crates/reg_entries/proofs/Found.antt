@@ -25,7 +25,8 @@ use Rattle.reg_entries.specs.declared.entry.Entry.{Entry}
 use Rattle.reg_entries.proofs.Chosen.{IsIn}
 use Rattle.reg_entries.proofs.Places.{place_cmp-total, same_place}
 
-none_found : (p : Place) (es : List (Place × Entry)) → AllByRecursion (λ q. place_cmp p q ≡ Less) (keys_of es) → lookup (is_at (place_cmp p)) es ≡ None
+none_found : (p : Place) (es : List (Place × Entry))
+    → AllByRecursion (λ q. place_cmp p q ≡ Less) (keys_of es) → lookup (is_at (place_cmp p)) es ≡ None
 none_found p [] h = refl
 none_found p (e ∷ es) h = ap (λ o. cond (is_eq o) (Some e.1) (lookup (is_at (place_cmp p)) es)) h.0 ∙ none_found p es h.1
 
@@ -33,7 +34,8 @@ pub not_both : {X : Type 0} (x : X) (o : Option X) → o ≡ Some x → o ≡ No
 not_both x o a b = absurd (cc)
 
 -- what is true of all that is found is true of all entries
-pub all_found : (P : Place → Entry → Type 0) (es : List (Place × Entry)) → IsStrictlySortedBy place_cmp (keys_of es) → ((q : Place) (e : Entry) → lookup (is_at (place_cmp q)) es ≡ Some e → P q e) → AllByRecursion (λ e. P e.0 e.1) es
+pub all_found : (P : Place → Entry → Type 0) (es : List (Place × Entry)) → IsStrictlySortedBy place_cmp (keys_of es)
+    → ((q : Place) (e : Entry) → lookup (is_at (place_cmp q)) es ≡ Some e → P q e) → AllByRecursion (λ e. P e.0 e.1) es
 unfolding IsStrictlySortedBy
 all_found P [] s f = tt
 all_found P (e ∷ es) s f = (
@@ -43,7 +45,8 @@ all_found P (e ∷ es) s f = (
   where
     later : (q : Place) (v : Entry) → lookup (is_at (place_cmp q)) es ≡ Some v → lookup (is_at (place_cmp q)) (e ∷ es) ≡ Some v
     later q v found =
-        elim (is_eq (place_cmp q e.0)) as (λ b. is_eq (place_cmp q e.0) ≡ b → cond b (Some e.1) (lookup (is_at (place_cmp q)) es) ≡ Some v) [
+        elim (is_eq (place_cmp q e.0)) as (λ b.
+        is_eq (place_cmp q e.0) ≡ b → cond b (Some e.1) (lookup (is_at (place_cmp q)) es) ≡ Some v) [
           | true ↦ λ h. absurd (not_both v _ found (ap (λ p. lookup (is_at (place_cmp p)) es) (same_place q e.0 h) ∙ none_found e.0 es s.0))
           | false ↦ λ h. found
         ] refl
@@ -80,7 +83,8 @@ all_at_places es s placed = all_found IsAt es s (λ q e found. subst (λ o. IfSo
 pub at_places : (m : BTreeMap Place Entry) → IsOrdered place_cmp m → ArePlaced m → AreAtPlaces m.entries
 at_places m s placed = all_at_places m.entries s placed
 
-before_all : (p : Place) (es : List (Place × Entry)) → AreAtPlaces es → AllByRecursion (λ q. place_cmp p q ≡ Less) (keys_of es) → AllByRecursion (λ e. place_cmp p (place_of e) ≡ Less) (values_of es)
+before_all : (p : Place) (es : List (Place × Entry)) → AreAtPlaces es → AllByRecursion (λ q. place_cmp p q ≡ Less) (keys_of es)
+    → AllByRecursion (λ e. place_cmp p (place_of e) ≡ Less) (values_of es)
 before_all p [] h s = tt
 before_all p (e ∷ es) h s = (ap (place_cmp p) h.0.0 ∙ s.0, before_all p es h.1 s.1)
 
@@ -97,14 +101,17 @@ module _ (subject : List ℕ) (p : Entry → Bool) (of_subject : (e : Entry) →
   smaller : (e f : Entry) → p e ≡ true → p f ≡ true → place_cmp (place_of e) (place_of f) ≡ Less → nat_cmp e.version f.version ≡ Less
   smaller e f one other before =
       let same : e.subject ≡ f.subject = of_subject e one ∙ sym (of_subject f other) in
-      let tie : slice_cmp nat_cmp e.subject f.subject ≡ Equal = ap (slice_cmp nat_cmp e.subject) (sym same) ∙ tied_itself nat_list_cmp_total e.subject in
+      let tie : slice_cmp nat_cmp e.subject f.subject ≡ Equal =
+      ap (slice_cmp nat_cmp e.subject) (sym same) ∙ tied_itself nat_list_cmp_total e.subject in
       sym (ap (λ o. ordering_then o (nat_cmp e.version f.version)) tie) ∙ before
 
-  smaller_than_all : (e : Entry) (es : List Entry) → p e ≡ true → AllByRecursion (λ f. place_cmp (place_of e) (place_of f) ≡ Less) es → AllByRecursion (λ n. nat_cmp e.version n ≡ Less) (map (λ f. f.version) (filter p es))
+  smaller_than_all : (e : Entry) (es : List Entry) → p e ≡ true → AllByRecursion (λ f. place_cmp (place_of e) (place_of f) ≡ Less) es
+      → AllByRecursion (λ n. nat_cmp e.version n ≡ Less) (map (λ f. f.version) (filter p es))
   smaller_than_all e [] one h = tt
   smaller_than_all e (f ∷ fs) one h =
       let rest = smaller_than_all e fs one h.1 in
-      elim (p f) as (λ b. p f ≡ b → AllByRecursion (λ n. nat_cmp e.version n ≡ Less) (map (λ f. f.version) (cond b (f ∷ filter p fs) (filter p fs)))) [
+      elim (p f) as (λ b.
+      p f ≡ b → AllByRecursion (λ n. nat_cmp e.version n ≡ Less) (map (λ f. f.version) (cond b (f ∷ filter p fs) (filter p fs)))) [
         | true ↦ λ other. (smaller e f one other h.0, rest)
         | false ↦ λ _. rest
       ] refl
@@ -138,11 +145,14 @@ abbrev answer : ℕ → Ordering → Bool
 answer v o = is_le (ordering_then o (nat_cmp 0 v)) && not (is_lt (ordering_then o (nat_cmp 4294967295 v)))
 
 -- a place is between the first and the last of a subject exactly where it is of the subject
-in_subject : (s : List ℕ) (q : Place) → q.1 < 2 ^ 32 → range_contains place_cmp (Included (s, 0)) (Included (s, 4294967295)) q ≡ bytes_eq q.0 s
+in_subject : (s : List ℕ) (q : Place) → q.1 < 2 ^ 32
+    → range_contains place_cmp (Included (s, 0)) (Included (s, 4294967295)) q ≡ bytes_eq q.0 s
 in_subject s q fits = by_order (slice_cmp nat_cmp s q.0) refl
   where
     different : ¬ (q.0 ≡ s) → bytes_eq q.0 s ≡ false
-    different apart = elim (bytes_eq q.0 s) as (λ b. bytes_eq q.0 s ≡ b → b ≡ false) [ true ↦ λ h. absurd (apart ((bytes_eq-Decides q.0 s).0 h)) | false ↦ λ h. refl ] refl
+    different apart =
+        elim (bytes_eq q.0 s) as (λ b.
+        bytes_eq q.0 s ≡ b → b ≡ false) [ true ↦ λ h. absurd (apart ((bytes_eq-Decides q.0 s).0 h)) | false ↦ λ h. refl ] refl
 
     untied : (o : Ordering) → slice_cmp nat_cmp s q.0 ≡ o → is_eq o ≡ false → ¬ (q.0 ≡ s)
     untied o is h same = false≢true (sym h ∙ ap is_eq (sym is ∙ ap (slice_cmp nat_cmp s) same ∙ tied_itself nat_list_cmp_total s))
@@ -155,14 +165,19 @@ in_subject s q fits = by_order (slice_cmp nat_cmp s q.0) refl
     by_order Greater is = ap (answer q.1) is ∙ sym (different (untied Greater is refl))
 
 -- the entries between the first and the last place of a subject are those of the subject
-pub between_is_subject : (s : List ℕ) (es : List (Place × Entry)) → AreAtPlaces es → values_of (filter (λ e. range_contains place_cmp (Included (s, 0)) (Included (s, 4294967295)) e.0) es) ≡ filter (λ e. bytes_eq e.subject s) (values_of es)
+pub between_is_subject : (s : List ℕ) (es : List (Place × Entry)) → AreAtPlaces es
+    → values_of (filter (λ e. range_contains place_cmp (Included (s, 0)) (Included (s, 4294967295)) e.0) es)
+    ≡ filter (λ e. bytes_eq e.subject s) (values_of es)
 between_is_subject s [] h = refl
 between_is_subject s (e ∷ es) h =
     let rest = between_is_subject s es h.1 in
-    let same : range_contains place_cmp (Included (s, 0)) (Included (s, 4294967295)) e.0 ≡ bytes_eq e.1.subject s = in_subject s e.0 h.0.1 ∙ ap (λ (p : Place). bytes_eq p.0 s) (sym h.0.0) in
+    let same : range_contains place_cmp (Included (s, 0)) (Included (s, 4294967295)) e.0 ≡ bytes_eq e.1.subject s =
+    in_subject s e.0 h.0.1 ∙ ap (λ (p : Place). bytes_eq p.0 s) (sym h.0.0) in
     let kept = filter (λ (f : Place × Entry). range_contains place_cmp (Included (s, 0)) (Included (s, 4294967295)) f.0) es in
     ap (λ b. values_of (cond b (e ∷ kept) kept)) same
-    ∙ elim (bytes_eq e.1.subject s) as (λ b. values_of (cond b (e ∷ kept) kept) ≡ cond b (e.1 ∷ filter (λ e. bytes_eq e.subject s) (values_of es)) (filter (λ e. bytes_eq e.subject s) (values_of es))) [
+    ∙ elim (bytes_eq e.1.subject s) as (λ b.
+    values_of (cond b (e ∷ kept) kept)
+    ≡ cond b (e.1 ∷ filter (λ e. bytes_eq e.subject s) (values_of es)) (filter (λ e. bytes_eq e.subject s) (values_of es))) [
       | true ↦ ap (λ ys. e.1 ∷ ys) rest
       | false ↦ rest
     ]
@@ -175,14 +190,20 @@ pub map_filter : {X Y : Type 0} (f : X → Y) (p : Y → Bool) (xs : List X) →
 map_filter f p [] = refl
 map_filter f p (x ∷ xs) =
     let rest = map_filter f p xs in
-    elim (p (f x)) as (λ b. map f (cond b (x ∷ filter (λ x. p (f x)) xs) (filter (λ x. p (f x)) xs)) ≡ cond b (f x ∷ filter p (map f xs)) (filter p (map f xs))) [ true ↦ ap (λ ys. f x ∷ ys) rest | false ↦ rest ]
+    elim (p (f x)) as (λ b.
+    map f (cond b (x ∷ filter (λ x. p (f x)) xs) (filter (λ x. p (f x)) xs))
+    ≡ cond b (f x ∷ filter p (map f xs)) (filter p (map f xs))) [ true ↦ ap (λ ys. f x ∷ ys) rest | false ↦ rest ]
 
 pub filter_filter : {X : Type 0} (p q : X → Bool) (xs : List X) → filter q (filter p xs) ≡ filter (λ x. p x && q x) xs
 filter_filter p q [] = refl
 filter_filter {X} p q (x ∷ xs) =
     let rest = filter_filter p q xs in
-    elim (p x) as (λ b. filter q (cond b (x ∷ filter p xs) (filter p xs)) ≡ cond (b && q x) (x ∷ filter (λ x. p x && q x) xs) (filter (λ x. p x && q x) xs)) [
-      | true ↦ elim (q x) as (λ b. cond b (x ∷ filter q (filter p xs)) (filter q (filter p xs)) ≡ cond b (x ∷ filter (λ x. p x && q x) xs) (filter (λ x. p x && q x) xs)) [ true ↦ ap (λ ys. x ∷ ys) rest | false ↦ rest ]
+    elim (p x) as (λ b.
+    filter q (cond b (x ∷ filter p xs) (filter p xs))
+    ≡ cond (b && q x) (x ∷ filter (λ x. p x && q x) xs) (filter (λ x. p x && q x) xs)) [
+      | true ↦ elim (q x) as (λ b.
+          cond b (x ∷ filter q (filter p xs)) (filter q (filter p xs))
+          ≡ cond b (x ∷ filter (λ x. p x && q x) xs) (filter (λ x. p x && q x) xs)) [ true ↦ ap (λ ys. x ∷ ys) rest | false ↦ rest ]
       | false ↦ rest
     ]
 
@@ -194,7 +215,8 @@ pub map_map : {X Y Z : Type 0} (f : X → Y) (g : Y → Z) (xs : List X) → map
 map_map f g [] = refl
 map_map f g (x ∷ xs) = ap (λ ys. g (f x) ∷ ys) (map_map f g xs)
 
-pub map-dedup : {X Y : Type 0} (f : X → Y) (same : Y → Y → Bool) (xs : List X) → map f (dedup (λ x y. same (f x) (f y)) xs) ≡ dedup same (map f xs)
+pub map-dedup : {X Y : Type 0} (f : X → Y) (same : Y → Y → Bool) (xs : List X)
+    → map f (dedup (λ x y. same (f x) (f y)) xs) ≡ dedup same (map f xs)
 map-dedup f same [] = refl
 map-dedup {X} f same (x ∷ xs) = from x xs
   where
@@ -202,7 +224,9 @@ map-dedup {X} f same (x ∷ xs) = from x xs
     from k [] = refl
     from k (x ∷ xs) = either (same (f x) (f k)) (from k xs) (from x xs)
       where
-        either : (b : Bool) → map f (dedup_from (λ x y. same (f x) (f y)) k xs) ≡ dedup_from same (f k) (map f xs) → map f (dedup_from (λ x y. same (f x) (f y)) x xs) ≡ dedup_from same (f x) (map f xs)
-            → map f (cond b (dedup_from (λ x y. same (f x) (f y)) k xs) (k ∷ dedup_from (λ x y. same (f x) (f y)) x xs)) ≡ cond b (dedup_from same (f k) (map f xs)) (f k ∷ dedup_from same (f x) (map f xs))
+        either : (b : Bool) → map f (dedup_from (λ x y. same (f x) (f y)) k xs) ≡ dedup_from same (f k) (map f xs)
+            → map f (dedup_from (λ x y. same (f x) (f y)) x xs) ≡ dedup_from same (f x) (map f xs)
+            → map f (cond b (dedup_from (λ x y. same (f x) (f y)) k xs) (k ∷ dedup_from (λ x y. same (f x) (f y)) x xs))
+            ≡ cond b (dedup_from same (f k) (map f xs)) (f k ∷ dedup_from same (f x) (map f xs))
         either true stays moves = stays
         either false stays moves = ap (λ ys. f k ∷ ys) moves

@@ -45,17 +45,20 @@ abbrev names_it : Name → Option Entry → Bool
 names_it x o = option_map_or (λ e. eq_by_cmp name_cmp (name_of e) x) o false
 
 -- what is at a place that is, or isn't, the one that has changed
-here_is : (m n : BTreeMap Place Entry) (p : Place) (o : Option Entry) → HasAt m n p o → (q : Place) → eq_by_cmp place_cmp p q ≡ true → entry_at n q ≡ o
+here_is : (m n : BTreeMap Place Entry) (p : Place) (o : Option Entry)
+    → HasAt m n p o → (q : Place) → eq_by_cmp place_cmp p q ≡ true → entry_at n q ≡ o
 here_is m n p o at q h = at q ∙ ap (λ b. cond b o (entry_at m q)) h
 
-else_is : (m n : BTreeMap Place Entry) (p : Place) (o : Option Entry) → HasAt m n p o → (q : Place) → eq_by_cmp place_cmp p q ≡ false → entry_at n q ≡ entry_at m q
+else_is : (m n : BTreeMap Place Entry) (p : Place) (o : Option Entry) → HasAt m n p o
+    → (q : Place) → eq_by_cmp place_cmp p q ≡ false → entry_at n q ≡ entry_at m q
 else_is m n p o at q h = at q ∙ ap (λ b. cond b o (entry_at m q)) h
 
 -- an entry that is found at a place is at its own
 own_place : (m : BTreeMap Place Entry) → ArePlaced m → (p : Place) (e : Entry) → entry_at m p ≡ Some e → place_of e ≡ p
 own_place m placed p e is = (subst (λ o. IfSome o (IsAt p)) is (placed p)).0
 
-over : (a b same : Bool) → (a ≡ true → b ≡ true → same ≡ true) → (same ≡ true → b ≡ true → a ≡ true) → (cond a true b && (not b || same)) ≡ a
+over : (a b same : Bool) → (a ≡ true → b ≡ true → same ≡ true)
+    → (same ≡ true → b ≡ true → a ≡ true) → (cond a true b && (not b || same)) ≡ a
 over true true same f g = f refl refl
 over true false same f g = refl
 over false true true f g = sym (g refl refl)
@@ -74,7 +77,11 @@ module _ (m n : BTreeMap Place Entry) (names : BTreeSet Name) (placed : ArePlace
             let here : place_of e ≡ x.2 = ap (λ (y : Name). y.2) (same_name e x h) in
             gone x ∙ ap (λ b. cond b false (contains name_cmp mid x)) h ∙ sym (named_none x (ap (entry_at m) (sym here) ∙ none))
         | false ↦ λ h.
-            gone x ∙ ap (λ b. cond b false (contains name_cmp mid x)) h ∙ added x ∙ ap (λ b. cond b true (contains name_cmp names x)) h ∙ named x
+            gone x
+            ∙ ap (λ b. cond b false (contains name_cmp mid x)) h
+            ∙ added x
+            ∙ ap (λ b. cond b true (contains name_cmp names x)) h
+            ∙ named x
       ] refl
     where
       named_none : (x : Name) → entry_at m x.2 ≡ None → is_named m x ≡ false
@@ -86,7 +93,8 @@ module _ (m n : BTreeMap Place Entry) (names : BTreeSet Name) (placed : ArePlace
         → ((x : Name) → contains name_cmp after x ≡ cond (eq_by_cmp name_cmp (name_of e) x) true (contains name_cmp names x))
         → AreNamed n after
     named-new after none added x =
-        elim (eq_by_cmp place_cmp (place_of e) x.2) as (λ b. eq_by_cmp place_cmp (place_of e) x.2 ≡ b → contains name_cmp after x ≡ is_named n x) [
+        elim (eq_by_cmp place_cmp (place_of e) x.2) as (λ b.
+        eq_by_cmp place_cmp (place_of e) x.2 ≡ b → contains name_cmp after x ≡ is_named n x) [
           | true ↦ λ h.
               let was : is_named m x ≡ false = ap (names_it x) (ap (entry_at m) (sym (same_place _ _ h)) ∙ none) in
               added x ∙ ap (cond (eq_by_cmp name_cmp (name_of e) x) true) (named x ∙ was) ∙ as_it_is _
@@ -99,14 +107,17 @@ module _ (m n : BTreeMap Place Entry) (names : BTreeSet Name) (placed : ArePlace
     -- where it is written over another, whose name goes unless it is the same
     pub named-over : (mid after : BTreeSet Name) (old : Entry) → entry_at m (place_of e) ≡ Some old
         → ((x : Name) → contains name_cmp mid x ≡ cond (eq_by_cmp name_cmp (name_of e) x) true (contains name_cmp names x))
-        → ((x : Name) → contains name_cmp after x ≡ (contains name_cmp mid x && (not (eq_by_cmp name_cmp (name_of old) x) || (old.id == e.id && old.offset == e.offset))))
+        → ((x : Name)
+        → contains name_cmp after x
+        ≡ (contains name_cmp mid x && (not (eq_by_cmp name_cmp (name_of old) x) || (old.id == e.id && old.offset == e.offset))))
         → AreNamed n after
     named-over mid after old was added gone x =
         let old_place : place_of old ≡ place_of e = own_place m placed (place_of e) old was in
         let same = old.id == e.id && old.offset == e.offset in
         let N = eq_by_cmp name_cmp (name_of e) x in
         let O = eq_by_cmp name_cmp (name_of old) x in
-        elim (eq_by_cmp place_cmp (place_of e) x.2) as (λ b. eq_by_cmp place_cmp (place_of e) x.2 ≡ b → contains name_cmp after x ≡ is_named n x) [
+        elim (eq_by_cmp place_cmp (place_of e) x.2) as (λ b.
+        eq_by_cmp place_cmp (place_of e) x.2 ≡ b → contains name_cmp after x ≡ is_named n x) [
           | true ↦ λ h.
               let before : contains name_cmp names x ≡ O = named x ∙ ap (names_it x) (ap (entry_at m) (sym (same_place _ _ h)) ∙ was) in
               gone x ∙ ap (λ b. b && (not O || same)) (added x ∙ ap (cond N true) before)
@@ -123,13 +134,15 @@ module _ (m n : BTreeMap Place Entry) (names : BTreeSet Name) (placed : ArePlace
         kept true = refl
         kept false = refl
 
-        both_named : (x : Name) (old : Entry) → eq_by_cmp name_cmp (name_of e) x ≡ true → eq_by_cmp name_cmp (name_of old) x ≡ true → (old.id == e.id && old.offset == e.offset) ≡ true
+        both_named : (x : Name) (old : Entry) → eq_by_cmp name_cmp (name_of e) x ≡ true
+            → eq_by_cmp name_cmp (name_of old) x ≡ true → (old.id == e.id && old.offset == e.offset) ≡ true
         both_named x old one other =
             let ids : old.id ≡ e.id = ap (λ (y : Name). y.0) (same_name old x other ∙ sym (same_name e x one)) in
             let offsets : old.offset ≡ e.offset = ap (λ (y : Name). y.1) (same_name old x other ∙ sym (same_name e x one)) in
             both_same old.id e.id old.offset e.offset ids offsets
 
-        one_name : (x : Name) (old : Entry) → place_of old ≡ place_of e → (old.id == e.id && old.offset == e.offset) ≡ true → eq_by_cmp name_cmp (name_of old) x ≡ true → eq_by_cmp name_cmp (name_of e) x ≡ true
+        one_name : (x : Name) (old : Entry) → place_of old ≡ place_of e → (old.id == e.id && old.offset == e.offset) ≡ true
+            → eq_by_cmp name_cmp (name_of old) x ≡ true → eq_by_cmp name_cmp (name_of e) x ≡ true
         one_name x old places same other =
             let ids : old.id ≡ e.id = same_first old.id e.id old.offset e.offset same in
             let offsets : old.offset ≡ e.offset = same_second old.id e.id old.offset e.offset same in
@@ -141,7 +154,8 @@ module _ (m n : BTreeMap Place Entry) (names : BTreeSet Name) (placed : ArePlace
         elim (eq_by_cmp place_cmp (place_of e) q) as (λ b. eq_by_cmp place_cmp (place_of e) q ≡ b → IfSome (entry_at n q) (IsAt q)) [
           | true ↦ λ h.
               let here = same_place _ _ h in
-              subst (λ o. IfSome o (IsAt q)) (sym (here_is m n (place_of e) (Some e) at q h)) (here, subst (λ (p : Place). p.1 < 2 ^ 32) here fits)
+              subst (λ o. IfSome o (IsAt q)) (sym (here_is m n (place_of e) (Some e) at q h))
+              (here, subst (λ (p : Place). p.1 < 2 ^ 32) here fits)
           | false ↦ λ h. subst (λ o. IfSome o (IsAt q)) (sym (else_is m n (place_of e) (Some e) at q h)) (placed q)
         ] refl
 

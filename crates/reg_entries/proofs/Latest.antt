@@ -40,14 +40,17 @@ map-reverse f (x ∷ xs) =
     ∙ sym (reverse-more (f x) (map f xs))
 
 -- what `rev` gives of an iterator of a map or a set
-pub YieldsList-from_last : {A X : Type 0} (shows : A → X) {s : Rev (List X)} (xs : List X) → rev_source s ≡ xs → YieldsList (rev_steps (TakesLast shows)) shows s (reverse xs)
+pub YieldsList-from_last : {A X : Type 0} (shows : A → X) {s : Rev (List X)} (xs : List X)
+    → rev_source s ≡ xs → YieldsList (rev_steps (TakesLast shows)) shows s (reverse xs)
 YieldsList-from_last {A} {X} shows {s} xs is =
     subst (λ ys. YieldsList (rev_steps (TakesLast shows)) shows s (reverse ys)) is
-    (YieldsList-from_shown (rev_steps (TakesLast shows)) shows (λ (s : Rev (List X)). reverse (rev_source s)) (λ s t h. ap (λ ys. length (reverse ys)) h.0) (λ s x t h. ap reverse h ∙ reverse-append (rev_source t) (shows x ∷ [])) s)
+    (YieldsList-from_shown (rev_steps (TakesLast shows)) shows (λ (s : Rev (List X)). reverse (rev_source s))
+    (λ s t h. ap (λ ys. length (reverse ys)) h.0) (λ s x t h. ap reverse h ∙ reverse-append (rev_source t) (shows x ∷ [])) s)
 
 module _ {X : Type 0} (cmp : X → X → Ordering) (total : IsTotalOrder cmp) (p : X → Bool) where
   -- an item before all others isn't the greatest, unless there are none
-  least_last : (x : X) (ys : List X) → AllByRecursion (λ y. cmp x y ≡ Less) ys → reduce (ord_max cmp) (x ∷ ys) ≡ option_or (reduce (ord_max cmp) ys) (Some x)
+  least_last : (x : X) (ys : List X) → AllByRecursion (λ y. cmp x y ≡ Less) ys
+      → reduce (ord_max cmp) (x ∷ ys) ≡ option_or (reduce (ord_max cmp) ys) (Some x)
   least_last x [] h = refl
   least_last x (y ∷ ys) h = ap (λ o. Some (fold (ord_max cmp) (cond (is_lt o) x y) ys)) (total.antisymm y x ∙ ap ordering_reverse h.0)
 
@@ -57,7 +60,8 @@ module _ {X : Type 0} (cmp : X → X → Ordering) (total : IsTotalOrder cmp) (p
   last_is_greatest [] s = refl
   last_is_greatest (x ∷ xs) s =
       ap (find p) (reverse-more x xs) ∙ find-append p (reverse xs) (x ∷ [])
-      ∙ elim (p x) as (λ b. IsStrictlySortedBy cmp (cond b (x ∷ filter p xs) (filter p xs)) → option_or (find p (reverse xs)) (cond b (Some x) None) ≡ reduce (ord_max cmp) (cond b (x ∷ filter p xs) (filter p xs))) [
+      ∙ elim (p x) as (λ b. IsStrictlySortedBy cmp (cond b (x ∷ filter p xs) (filter p xs))
+      → option_or (find p (reverse xs)) (cond b (Some x) None) ≡ reduce (ord_max cmp) (cond b (x ∷ filter p xs) (filter p xs))) [
         | true ↦ λ s. ap (λ o. option_or o (Some x)) (last_is_greatest xs s.1) ∙ sym (least_last x (filter p xs) s.0)
         | false ↦ λ s. ap (λ o. option_or o None) (last_is_greatest xs s) ∙ or_none (reduce (ord_max cmp) (filter p xs))
       ] s
@@ -88,23 +92,29 @@ module _ {X : Type 0} (p : X → Bool) where
   find_none [] none = refl
   find_none (y ∷ ys) none = by_bool (p y) (λ h. absurd (none.0 h)) (λ h. ap (λ b. cond b (Some y) (find p ys)) h ∙ find_none ys none.1)
 
-module _ (m : List (Place × Entry)) (ordered : IsStrictlySortedBy place_cmp (keys_of m)) (placed : AreFoundAtPlaces m) (s : List ℕ) (deleted : Bool) where
+module _ (m : List (Place × Entry)) (ordered : IsStrictlySortedBy place_cmp (keys_of m))
+    (placed : AreFoundAtPlaces m) (s : List ℕ) (deleted : Bool) where
   abbrev es : List Entry
   es = values_of m
 
   -- the last entry of a subject that counts is the one of greatest version
   pub latest_is : find (counts deleted) (reverse (filter (λ e. bytes_eq e.subject s) es)) ≡ latest es s deleted
   latest_is =
-      last_is_greatest (on (λ e. e.version) nat_cmp) (on_total (λ e. e.version) nat_cmp_total) (counts deleted) (filter (λ e. bytes_eq e.subject s) es)
+      last_is_greatest (on (λ e. e.version) nat_cmp) (on_total (λ e. e.version) nat_cmp_total)
+      (counts deleted) (filter (λ e. bytes_eq e.subject s) es)
       (IsStrictlySortedBy-filter (on (λ e. e.version) nat_cmp) (counts deleted) (filter (λ e. bytes_eq e.subject s) es)
       (sorted_on (λ e. e.version) (filter (λ e. bytes_eq e.subject s) es)
-      (rising s (λ e. bytes_eq e.subject s) (λ e. (bytes_eq-Decides e.subject s).0) es (values_in_order m (all_at_places m ordered placed) ordered))))
+      (rising s (λ e. bytes_eq e.subject s) (λ e. (bytes_eq-Decides e.subject s).0) es
+      (values_in_order m (all_at_places m ordered placed) ordered))))
 
   module _ (v : ℕ) where
     -- an entry of the subject and the version is at their place
-    here : (q : Place) (e : Entry) → found_at m q ≡ Some e → bytes_eq e.subject s ≡ true → (e.version == v) ≡ true → found_at m (s, v) ≡ Some e
+    here : (q : Place) (e : Entry) → found_at m q ≡ Some e → bytes_eq e.subject s ≡ true
+        → (e.version == v) ≡ true → found_at m (s, v) ≡ Some e
     here q e found subject version =
-        ap (found_at m) (λ i. (sym ((bytes_eq-Decides e.subject s).0 subject) i, sym (number e.version v version) i)) ∙ ap (found_at m) (found_own m placed q e found) ∙ found
+        ap (found_at m) (λ i. (sym ((bytes_eq-Decides e.subject s).0 subject) i, sym (number e.version v version) i))
+        ∙ ap (found_at m) (found_own m placed q e found)
+        ∙ found
       where
         number : (a b : ℕ) → (a == b) ≡ true → a ≡ b
         number a b h = grind arith
@@ -131,11 +141,16 @@ module _ (m : List (Place × Entry)) (ordered : IsStrictlySortedBy place_cmp (ke
         by_entry (Some e) found =
             by_bool (counts deleted e)
             (λ count. ap (λ b. cond b (Some e) None) count
-            ∙ sym (find_one (λ e. e.version == v) e _ (each (λ f. f ≡ e) (λ f at _. same_Some f e (sym at ∙ found))) (itself e.version v (ap (λ (p : Place). p.1) own))
+            ∙ sym (
+            find_one (λ e. e.version == v) e _ (each (λ f. f ≡ e) (λ f at _. same_Some f e (sym at ∙ found)))
+            (itself e.version v (ap (λ (p : Place). p.1) own))
             (in_filter (counts deleted) e (filter (λ e. bytes_eq e.subject s) es) count
-            (in_filter (λ e. bytes_eq e.subject s) e es ((bytes_eq-Decides e.subject s).1 (ap (λ (p : Place). p.0) own)) (in_values (s, v) e m found)))))
+            (in_filter (λ e. bytes_eq e.subject s) e es
+            ((bytes_eq-Decides e.subject s).1 (ap (λ (p : Place). p.0) own)) (in_values (s, v) e m found)))))
             (λ not. ap (λ b. cond b (Some e) None) not
-            ∙ sym (find_none (λ e. e.version == v) _ (each (λ _. ⊥) (λ f at count. never (counts deleted e) (ap (counts deleted) (same_Some e f (sym found ∙ at)) ∙ count) not))))
+            ∙ sym (
+            find_none (λ e. e.version == v) _ (
+            each (λ _. ⊥) (λ f at count. never (counts deleted e) (ap (counts deleted) (same_Some e f (sym found ∙ at)) ∙ count) not))))
           where
             own : place_of e ≡ (s, v)
             own = found_own m placed (s, v) e found

@@ -40,7 +40,8 @@ smaller_is a b = ⊎_elim (λ h. inl (left h)) (λ h. inr (right h)) (cases_lt a
 -- the least number is one of them
 least_in : (xs : List ℕ) (x : ℕ) → reduce min xs ≡ Some x → IsIn x xs
 least_in xs x h =
-    reduce_has min (λ y. IsIn y xs) (λ y z p q. ⊎_elim (λ e. subst (λ w. IsIn w xs) (sym e) p) (λ e. subst (λ w. IsIn w xs) (sym e) q) (smaller_is y z)) xs x
+    reduce_has min (λ y. IsIn y xs)
+    (λ y z p q. ⊎_elim (λ e. subst (λ w. IsIn w xs) (sym e) p) (λ e. subst (λ w. IsIn w xs) (sym e) q) (smaller_is y z)) xs x
     (all_from (λ y. IsIn y xs) xs (λ y i. i)) h
 
 fold_below : (a : ℕ) (xs : List ℕ) → (fold min a xs ≤ a) × AllByRecursion (λ y. fold min a xs ≤ y) xs
@@ -76,7 +77,9 @@ module _ (es : List Entry) where
       let e = h.0 in
       let f = h.1 in
       subst (λ n. IsIn n (map (λ e. e.id) (filter (shares_its_id es) es))) h.4
-      (in_map (λ e. e.id) e (filter (shares_its_id es) es) (in_filter (shares_its_id es) e es (shares es e f (in_contains es f h.3) (h.5 ∙ sym h.4) (λ same. h.6 (sym same))) (in_contains es e h.2)))
+      (in_map (λ e. e.id) e (filter (shares_its_id es) es)
+      (in_filter (shares_its_id es) e es
+      (shares es e f (in_contains es f h.3) (h.5 ∙ sym h.4) (λ same. h.6 (sym same))) (in_contains es e h.2)))
 
 pub none_is_one_text_each : NoneIsOneTextEach
 none_is_one_text_each es = (to, back)
@@ -84,7 +87,11 @@ none_is_one_text_each es = (to, back)
     to : two_schemas es ≡ None → (e f : Entry) → Contains es e → Contains es f → e.id ≡ f.id → e.normal ≡ f.normal
     to h e f has_e has_f ids =
         by_bool (not (bytes_eq e.normal f.normal))
-        (λ differs. absurd (reduce_some min f.id _ (in_map (λ e. e.id) f (filter (shares_its_id es) es) (in_filter (shares_its_id es) f es (shares_by e f has_e ids differs) (in_contains es f has_f))) h))
+        (λ differs.
+        absurd (
+        reduce_some min f.id _ (
+        in_map (λ e. e.id) f (filter (shares_its_id es) es)
+        (in_filter (shares_its_id es) f es (shares_by e f has_e ids differs) (in_contains es f has_f))) h))
         (one_text e.normal f.normal)
       where
         shares_by : (e f : Entry) → Contains es e → e.id ≡ f.id → not (bytes_eq e.normal f.normal) ≡ true → shares_its_id es f ≡ true

@@ -22,7 +22,9 @@ use Rattle.reg_entries.specs.declared.entry.Entry.{Entry}
 use Rattle.reg_entries.proofs.Places.{place_cmp-total, place_cmp-ties, then_ties, equal, same_place}
 
 pub schema_cmp-total : IsTotalOrder schema_cmp
-schema_cmp-total = then_total (then_total (on_total (λ s. s.0) nat_list_cmp_total) (on_total (λ s. s.1) nat_cmp_total)) (on_total (λ s. s.2) place_cmp-total)
+schema_cmp-total =
+    then_total (then_total (on_total (λ s. s.0) nat_list_cmp_total) (on_total (λ s. s.1) nat_cmp_total))
+    (on_total (λ s. s.2) place_cmp-total)
 
 -- schemas that tie are one
 pub schema_cmp-ties : IsAntisymmetric schema_cmp
@@ -98,29 +100,40 @@ gone false = refl
 
 module _ (m : BTreeMap Place Entry) (before after : BTreeSet Schema) (k : Schema) where
   -- a schema that no entry has is taken away
-  pub refreshed_away : is_held m k ≡ false → ((s : Schema) → contains schema_cmp after s ≡ cond (eq_by_cmp schema_cmp k s) false (contains schema_cmp before s))
+  pub refreshed_away : is_held m k ≡ false
+      → ((s : Schema) → contains schema_cmp after s ≡ cond (eq_by_cmp schema_cmp k s) false (contains schema_cmp before s))
       → (s : Schema) → contains schema_cmp after s ≡ (contains schema_cmp before s && (not (eq_by_cmp schema_cmp k s) || is_held m s))
   refreshed_away isnt goes s =
       goes s ∙ by_bool (eq_by_cmp schema_cmp k s)
       (λ h. ap (λ b. cond b false (contains schema_cmp before s)) h
-      ∙ sym (ap (λ b. contains schema_cmp before s && (not b || is_held m s)) h ∙ ap (λ b. contains schema_cmp before s && b) (ap (is_held m) (sym (same_schema k s h)) ∙ isnt) ∙ gone (contains schema_cmp before s)))
+      ∙ sym (
+      ap (λ b. contains schema_cmp before s && (not b || is_held m s)) h
+      ∙ ap (λ b. contains schema_cmp before s && b) (ap (is_held m) (sym (same_schema k s h)) ∙ isnt)
+      ∙ gone (contains schema_cmp before s)))
       (λ h. ap (λ b. cond b false (contains schema_cmp before s)) h
       ∙ sym (ap (λ b. contains schema_cmp before s && (not b || is_held m s)) h ∙ as_it_is (contains schema_cmp before s)))
 
   -- and one that an entry has stays
-  pub refreshed_stays : is_held m k ≡ true → (s : Schema) → contains schema_cmp before s ≡ (contains schema_cmp before s && (not (eq_by_cmp schema_cmp k s) || is_held m s))
+  pub refreshed_stays : is_held m k ≡ true → (s : Schema)
+      → contains schema_cmp before s ≡ (contains schema_cmp before s && (not (eq_by_cmp schema_cmp k s) || is_held m s))
   refreshed_stays is s =
       by_bool (eq_by_cmp schema_cmp k s)
-      (λ h. sym (ap (λ b. contains schema_cmp before s && (not b || is_held m s)) h ∙ ap (λ b. contains schema_cmp before s && b) (ap (is_held m) (sym (same_schema k s h)) ∙ is) ∙ as_it_is (contains schema_cmp before s)))
+      (λ h.
+      sym (
+      ap (λ b. contains schema_cmp before s && (not b || is_held m s)) h
+      ∙ ap (λ b. contains schema_cmp before s && b) (ap (is_held m) (sym (same_schema k s h)) ∙ is)
+      ∙ as_it_is (contains schema_cmp before s)))
       (λ h. sym (ap (λ b. contains schema_cmp before s && (not b || is_held m s)) h ∙ as_it_is (contains schema_cmp before s)))
 
 -- where a write that may be refused leaves all else
-pub else_same : (m n : BTreeMap Place Entry) (p : Place) (o : Option Entry) → HasAt m n p o ⊎ (n.entries ≡ m.entries) → (q : Place) → eq_by_cmp place_cmp p q ≡ false → entry_at n q ≡ entry_at m q
+pub else_same : (m n : BTreeMap Place Entry) (p : Place) (o : Option Entry) → HasAt m n p o ⊎ (n.entries ≡ m.entries)
+    → (q : Place) → eq_by_cmp place_cmp p q ≡ false → entry_at n q ≡ entry_at m q
 else_same m n p o (inl at) q h = at q ∙ ap (λ b. cond b o (entry_at m q)) h
 else_same m n p o (inr same) q h = ap (λ (es : List (Place × Entry)). lookup (is_at (place_cmp q)) es) same
 
 -- and what it does at its place
-pub here_either : (m n : BTreeMap Place Entry) (p : Place) (o : Option Entry) → HasAt m n p o ⊎ (n.entries ≡ m.entries) → (entry_at n p ≡ o) ⊎ (entry_at n p ≡ entry_at m p)
+pub here_either : (m n : BTreeMap Place Entry) (p : Place) (o : Option Entry)
+    → HasAt m n p o ⊎ (n.entries ≡ m.entries) → (entry_at n p ≡ o) ⊎ (entry_at n p ≡ entry_at m p)
 here_either m n p o (inl at) = inl (at p ∙ ap (λ b. cond b o (entry_at m p)) (ap is_eq (tied_itself place_cmp-total p)))
 here_either m n p o (inr same) = inr (ap (λ (es : List (Place × Entry)). lookup (is_at (place_cmp p)) es) same)
 
@@ -140,12 +153,14 @@ module _ (m n : BTreeMap Place Entry) (e : Entry) (old : Option Schema) (placed 
       (λ h. let place : place_of e ≡ s.2 = same_place _ _ h in at_place place (either place here))
       (λ h. sym (ap (λ o. has_it o s) (else s.2 h)) ∙ is)
     where
-      either : place_of e ≡ s.2 → (entry_at n (place_of e) ≡ Some e) ⊎ (entry_at n (place_of e) ≡ entry_at m (place_of e)) → (entry_at n s.2 ≡ Some e) ⊎ (entry_at n s.2 ≡ entry_at m s.2)
+      either : place_of e ≡ s.2 → (entry_at n (place_of e) ≡ Some e) ⊎ (entry_at n (place_of e) ≡ entry_at m (place_of e))
+          → (entry_at n s.2 ≡ Some e) ⊎ (entry_at n s.2 ≡ entry_at m s.2)
       either place (inl h) = inl (sym (ap (entry_at n) place) ∙ h)
       either place (inr h) = inr (sym (ap (entry_at n) place) ∙ h ∙ ap (entry_at m) place)
 
       at_place : place_of e ≡ s.2 → (entry_at n s.2 ≡ Some e) ⊎ (entry_at n s.2 ≡ entry_at m s.2) → is_held m s ≡ true
-      at_place place (inl h) = absurd (never _ (one_schema (schema_of e) s (schema_here e s place (sym (ap (λ o. has_it o s) h) ∙ is))) apart)
+      at_place place (inl h) =
+          absurd (never _ (one_schema (schema_of e) s (schema_here e s place (sym (ap (λ o. has_it o s) h) ∙ is))) apart)
       at_place place (inr h) = sym (ap (λ o. has_it o s) h) ∙ is
 
   -- the schema that m has and n has not is the old one
@@ -163,7 +178,8 @@ module _ (m n : BTreeMap Place Entry) (e : Entry) (old : Option Schema) (placed 
   -- where a schema is put, and then each of two goes unless it is one of an entry
   pub listed_refreshed : (before added one two : BTreeSet Schema) → AreListed m before
       → ((s : Schema) → contains schema_cmp added s ≡ cond (eq_by_cmp schema_cmp (schema_of e) s) true (contains schema_cmp before s))
-      → ((s : Schema) → contains schema_cmp one s ≡ (contains schema_cmp added s && (not (eq_by_cmp schema_cmp (schema_of e) s) || is_held n s)))
+      → ((s : Schema)
+      → contains schema_cmp one s ≡ (contains schema_cmp added s && (not (eq_by_cmp schema_cmp (schema_of e) s) || is_held n s)))
       → ((s : Schema) → contains schema_cmp two s ≡ (contains schema_cmp one s && (not (is_that old s) || is_held n s)))
       → AreListed n two
   listed_refreshed before added one two listed adds refreshes ends s =
@@ -171,8 +187,12 @@ module _ (m n : BTreeMap Place Entry) (e : Entry) (old : Option Schema) (placed 
     where
       is_one : is_held n s ≡ true → contains schema_cmp two s ≡ is_held n s
       is_one is =
-          ends s ∙ ap (λ b. contains schema_cmp one s && (not (is_that old s) || b)) is ∙ kept (contains schema_cmp one s) (not (is_that old s))
-          ∙ refreshes s ∙ ap (λ b. contains schema_cmp added s && (not (eq_by_cmp schema_cmp (schema_of e) s) || b)) is ∙ kept (contains schema_cmp added s) (not (eq_by_cmp schema_cmp (schema_of e) s))
+          ends s
+          ∙ ap (λ b. contains schema_cmp one s && (not (is_that old s) || b)) is
+          ∙ kept (contains schema_cmp one s) (not (is_that old s))
+          ∙ refreshes s
+          ∙ ap (λ b. contains schema_cmp added s && (not (eq_by_cmp schema_cmp (schema_of e) s) || b)) is
+          ∙ kept (contains schema_cmp added s) (not (eq_by_cmp schema_cmp (schema_of e) s))
           ∙ adds s ∙ by_bool (eq_by_cmp schema_cmp (schema_of e) s)
           (λ h. ap (λ b. cond b true (contains schema_cmp before s)) h ∙ sym is)
           (λ h. ap (λ b. cond b true (contains schema_cmp before s)) h ∙ listed s ∙ same_entry s h is ∙ sym is)
@@ -184,13 +204,24 @@ module _ (m n : BTreeMap Place Entry) (e : Entry) (old : Option Schema) (placed 
           of_new : eq_by_cmp schema_cmp (schema_of e) s ≡ true → (contains schema_cmp one s && (not (is_that old s) || is_held n s)) ≡ false
           of_new h =
               ap (λ b. b && (not (is_that old s) || is_held n s))
-              (refreshes s ∙ ap (λ b. contains schema_cmp added s && (not b || is_held n s)) h ∙ ap (λ b. contains schema_cmp added s && b) isnt ∙ gone (contains schema_cmp added s))
+              (refreshes s
+              ∙ ap (λ b. contains schema_cmp added s && (not b || is_held n s)) h
+              ∙ ap (λ b. contains schema_cmp added s && b) isnt
+              ∙ gone (contains schema_cmp added s))
 
-          of_other : eq_by_cmp schema_cmp (schema_of e) s ≡ false → (contains schema_cmp one s && (not (is_that old s) || is_held n s)) ≡ false
+          of_other : eq_by_cmp schema_cmp (schema_of e) s ≡ false
+              → (contains schema_cmp one s && (not (is_that old s) || is_held n s)) ≡ false
           of_other h =
               by_bool (is_held m s)
-              (λ is. ap (λ b. contains schema_cmp one s && (not b || is_held n s)) (was_old s isnt is) ∙ ap (λ b. contains schema_cmp one s && b) isnt ∙ gone (contains schema_cmp one s))
-              (λ isnt_m. ap (λ b. b && (not (is_that old s) || is_held n s)) (refreshes s ∙ ap (λ b. b && (not (eq_by_cmp schema_cmp (schema_of e) s) || is_held n s)) (adds s ∙ ap (λ b. cond b true (contains schema_cmp before s)) h ∙ listed s ∙ isnt_m)))
+              (λ is.
+              ap (λ b. contains schema_cmp one s && (not b || is_held n s)) (was_old s isnt is)
+              ∙ ap (λ b. contains schema_cmp one s && b) isnt
+              ∙ gone (contains schema_cmp one s))
+              (λ isnt_m.
+              ap (λ b. b && (not (is_that old s) || is_held n s))
+              (refreshes s
+              ∙ ap (λ b. b && (not (eq_by_cmp schema_cmp (schema_of e) s) || is_held n s))
+              (adds s ∙ ap (λ b. cond b true (contains schema_cmp before s)) h ∙ listed s ∙ isnt_m)))
 
 -- where the entry at a place goes, and its schema
 pub listed_gone : (m n : BTreeMap Place Entry) (before after : BTreeSet Schema) (p : Place) (e : Entry)

@@ -71,12 +71,16 @@ module _ (s : List ℕ) where
   stops e = not (bytes_eq e.subject s) || not e.soft
 
   -- an entry before one of a smaller subject is of another too
-  apart_before : (x y : Entry) → place_cmp (place_of x) (place_of y) ≡ Less → is_gt (slice_cmp nat_cmp y.subject s) ≡ false → bytes_eq y.subject s ≡ false → bytes_eq x.subject s ≡ false
+  apart_before : (x y : Entry) → place_cmp (place_of x) (place_of y) ≡ Less
+      → is_gt (slice_cmp nat_cmp y.subject s) ≡ false → bytes_eq y.subject s ≡ false → bytes_eq x.subject s ≡ false
   apart_before x y less up apart =
       by_bool (bytes_eq x.subject s)
       (λ is. let same : x.subject ≡ s = (bytes_eq-Decides x.subject s).0 is in
-      let tie = squeezed (slice_cmp nat_cmp) nat_list_cmp_total y.subject s up (ap (λ t. is_gt (slice_cmp nat_cmp t y.subject)) (sym same) ∙ not_after (slice_cmp nat_cmp x.subject y.subject) (nat_cmp x.version y.version) less) in
-      absurd (false≢true (sym apart ∙ (bytes_eq-Decides y.subject s).1 (slice_cmp-IsAntisymmetric nat_cmp-IsAntisymmetric y.subject s tie))))
+      let tie = squeezed (slice_cmp nat_cmp) nat_list_cmp_total y.subject s up
+      (ap (λ t. is_gt (slice_cmp nat_cmp t y.subject)) (sym same)
+      ∙ not_after (slice_cmp nat_cmp x.subject y.subject) (nat_cmp x.version y.version) less) in
+      absurd (
+      false≢true (sym apart ∙ (bytes_eq-Decides y.subject s).1 (slice_cmp-IsAntisymmetric nat_cmp-IsAntisymmetric y.subject s tie))))
       (λ no. no)
     where
       not_after : (a b : Ordering) → ordering_then a b ≡ Less → is_gt a ≡ false
@@ -88,7 +92,10 @@ module _ (s : List ℕ) where
   ends_here : (x : Entry) → option_map_or is_of (cond (stops x) (Some x) None) false ≡ is_live x
   ends_here x =
       by_bool (bytes_eq x.subject s)
-      (λ h. ap (λ b. option_map_or is_of (cond (not b || not x.soft) (Some x) None) false) h ∙ each h (not x.soft) ∙ sym (ap (λ b. b && not x.soft) h))
+      (λ h.
+      ap (λ b. option_map_or is_of (cond (not b || not x.soft) (Some x) None) false) h
+      ∙ each h (not x.soft)
+      ∙ sym (ap (λ b. b && not x.soft) h))
       (λ h. ap (λ b. option_map_or is_of (cond (not b || not x.soft) (Some x) None) false) h ∙ h ∙ sym (ap (λ b. b && not x.soft) h))
     where
       each : bytes_eq x.subject s ≡ true → (b : Bool) → option_map_or is_of (cond b (Some x) None) false ≡ b
@@ -96,7 +103,8 @@ module _ (s : List ℕ) where
       each h false = refl
 
   -- the way down from the last of some entries in order, of which none is of a greater subject
-  from_last : (xs : List Entry) → IsInOrder xs → AllByRecursion (λ e. is_gt (slice_cmp nat_cmp e.subject s) ≡ false) xs → option_map_or is_of (find stops (reverse xs)) false ≡ list_any is_live xs
+  from_last : (xs : List Entry) → IsInOrder xs → AllByRecursion (λ e. is_gt (slice_cmp nat_cmp e.subject s) ≡ false) xs
+      → option_map_or is_of (find stops (reverse xs)) false ≡ list_any is_live xs
   unfolding IsStrictlySortedBy
   from_last [] sorted up = refl
   from_last (x ∷ xs) sorted up =
@@ -140,7 +148,8 @@ module _ (m : List (Place × Entry)) (ordered : IsStrictlySortedBy place_cmp (ke
       (λ h. let found = any_found (is_live s) es h in
       let at = place_of_item found.0 found.1.0 in
       let same : found.0.subject ≡ s = (bytes_eq-Decides found.0.subject s).0 (left (bytes_eq found.0.subject s) _ found.1.1) in
-      absurd (is_some_none _ (none found.0.version) (ap is_some (ap (λ t. found_at m (t, found.0.version)) (sym same) ∙ own at.0 found.0 at.1))))
+      absurd (
+      is_some_none _ (none found.0.version) (ap is_some (ap (λ t. found_at m (t, found.0.version)) (sym same) ∙ own at.0 found.0 at.1))))
       (λ no. no)
     where
       left : (a b : Bool) → (a && b) ≡ true → a ≡ true
@@ -152,13 +161,15 @@ module _ (m : List (Place × Entry)) (ordered : IsStrictlySortedBy place_cmp (ke
     abbrev up_to : Entry → Bool
     up_to e = range_contains place_cmp Unbounded (Included p) (place_of e)
 
-    values_between : (es : List (Place × Entry)) → AreAtPlaces es → values_of (filter (λ e. range_contains place_cmp Unbounded (Included p) e.0) es) ≡ filter up_to (values_of es)
+    values_between : (es : List (Place × Entry)) → AreAtPlaces es
+        → values_of (filter (λ e. range_contains place_cmp Unbounded (Included p) e.0) es) ≡ filter up_to (values_of es)
     values_between [] h = refl
     values_between (e ∷ es) h =
         let rest = values_between es h.1 in
         let kept = filter (λ (f : Place × Entry). range_contains place_cmp Unbounded (Included p) f.0) es in
         ap (λ b. values_of (cond b (e ∷ kept) kept)) (ap (range_contains place_cmp Unbounded (Included p)) (sym h.0.0))
-        ∙ elim (up_to e.1) as (λ b. values_of (cond b (e ∷ kept) kept) ≡ cond b (e.1 ∷ filter up_to (values_of es)) (filter up_to (values_of es))) [
+        ∙ elim (up_to e.1) as (λ b.
+        values_of (cond b (e ∷ kept) kept) ≡ cond b (e.1 ∷ filter up_to (values_of es)) (filter up_to (values_of es))) [
           | true ↦ ap (λ ys. e.1 ∷ ys) rest
           | false ↦ rest
         ]
@@ -184,7 +195,10 @@ module _ (m : List (Place × Entry)) (ordered : IsStrictlySortedBy place_cmp (ke
     reaches q e found is =
         let same : e.subject ≡ p.0 = (bytes_eq-Decides e.subject p.0).0 is in
         let bound : e.version ≤ p.1 = top.2 e.version (ap is_some (ap (λ t. found_at m (t, e.version)) (sym same) ∙ own q e found)) in
-        ap not (ap (λ t. is_lt (ordering_then (slice_cmp nat_cmp p.0 t) (nat_cmp p.1 e.version))) same ∙ ap (λ o. is_lt (ordering_then o (nat_cmp p.1 e.version))) (tied_itself nat_list_cmp_total p.0) ∙ not_less p.1 e.version bound)
+        ap not (
+        ap (λ t. is_lt (ordering_then (slice_cmp nat_cmp p.0 t) (nat_cmp p.1 e.version))) same
+        ∙ ap (λ o. is_lt (ordering_then o (nat_cmp p.1 e.version))) (tied_itself nat_list_cmp_total p.0)
+        ∙ not_less p.1 e.version bound)
       where
         not_less : (a b : ℕ) → b ≤ a → is_lt (nat_cmp a b) ≡ false
         not_less a b h = grind (arith, nat_tests)
@@ -197,18 +211,25 @@ module _ (m : List (Place × Entry)) (ordered : IsStrictlySortedBy place_cmp (ke
         left false b h = h
 
         to : list_any (is_live p.0) (filter up_to es) ≡ true → list_any (is_live p.0) es ≡ true
-        to h = let found = any_found (is_live p.0) (filter up_to es) h in any_in (is_live p.0) found.0 es found.1.1 (out_of_filter up_to found.0 es found.1.0).1
+        to h =
+            let found = any_found (is_live p.0) (filter up_to es) h in
+            any_in (is_live p.0) found.0 es found.1.1 (out_of_filter up_to found.0 es found.1.0).1
 
         back : list_any (is_live p.0) es ≡ true → list_any (is_live p.0) (filter up_to es) ≡ true
         back h =
             let found = any_found (is_live p.0) es h in
             let at = place_of_item found.0 found.1.0 in
-            any_in (is_live p.0) found.0 (filter up_to es) found.1.1 (in_filter up_to found.0 es (reaches at.0 found.0 at.1 (left (bytes_eq found.0.subject p.0) _ found.1.1)) found.1.0)
+            any_in (is_live p.0) found.0 (filter up_to es) found.1.1
+            (in_filter up_to found.0 es (reaches at.0 found.0 at.1 (left (bytes_eq found.0.subject p.0) _ found.1.1)) found.1.0)
 
     -- the way down from the greatest version ends at a live entry of the subject exactly where it has one
-    pub live_is : option_map_or (is_of p.0) (find (stops p.0) (reverse (values_of (entries_between place_cmp Unbounded (Included p) m)))) false ≡ has_live es (Some p.0)
+    pub live_is : option_map_or (is_of p.0)
+        (find (stops p.0) (reverse (values_of (entries_between place_cmp Unbounded (Included p) m)))) false
+        ≡ has_live es (Some p.0)
     live_is =
         ap (λ xs. option_map_or (is_of p.0) (find (stops p.0) (reverse xs)) false) (values_between m (all_at_places m ordered placed))
-        ∙ from_last p.0 (filter up_to es) (IsStrictlySortedBy-filter (on place_of place_cmp) up_to es (values_in_order m (all_at_places m ordered placed) ordered))
-        (all_filter up_to (λ e. is_gt (slice_cmp nat_cmp e.subject p.0) ≡ false) es (all_from (λ e. up_to e ≡ true → is_gt (slice_cmp nat_cmp e.subject p.0) ≡ false) es (λ e i. bounded e)))
+        ∙ from_last p.0 (filter up_to es)
+        (IsStrictlySortedBy-filter (on place_of place_cmp) up_to es (values_in_order m (all_at_places m ordered placed) ordered))
+        (all_filter up_to (λ e. is_gt (slice_cmp nat_cmp e.subject p.0) ≡ false) es
+        (all_from (λ e. up_to e ≡ true → is_gt (slice_cmp nat_cmp e.subject p.0) ≡ false) es (λ e i. bounded e)))
         ∙ any_between

@@ -60,7 +60,8 @@ pub apart_meaning : (k l : Meaning) → ¬ (k ≡ l) → eq_by_cmp meaning_cmp k
 apart_meaning k l h = by_bool (eq_by_cmp meaning_cmp k l) (λ same. absurd (h (same_meaning k l same))) (λ no. no)
 
 -- where some meanings were added, and then each of some that no schema has was taken away
-pub meant_refreshed : (New Refreshed : Meaning → Type 0) (before after : BTreeSet Schema) (old mid new : BTreeSet Meaning) → AreMeant before old
+pub meant_refreshed : (New Refreshed : Meaning → Type 0) (before after : BTreeSet Schema) (old mid new : BTreeSet Meaning)
+    → AreMeant before old
     → ((k : Meaning) → contains meaning_cmp mid k ≡ true → New k ⊎ (contains meaning_cmp old k ≡ true))
     → ((k : Meaning) → New k ⊎ (contains meaning_cmp old k ≡ true) → contains meaning_cmp mid k ≡ true)
     → ((k : Meaning) → (contains meaning_cmp new k ≡ true) ↔ ((contains meaning_cmp mid k ≡ true) × (Refreshed k → IsMeant after k)))
@@ -100,7 +101,8 @@ meant_gone before after old new x meant gone refreshes =
         (λ is. inr (sym (ap meaning_of (same_schema x (k.1, k.0, p) is))))
         (λ no. inl (p, gone (k.1, k.0, p) ∙ ap (λ b. cond b false (contains schema_cmp before (k.1, k.0, p))) no ∙ h))
 
-module _ (mid old : BTreeSet Meaning) (x : Meaning) (adds : (k : Meaning) → contains meaning_cmp mid k ≡ cond (eq_by_cmp meaning_cmp x k) true (contains meaning_cmp old k)) where
+module _ (mid old : BTreeSet Meaning) (x : Meaning)
+    (adds : (k : Meaning) → contains meaning_cmp mid k ≡ cond (eq_by_cmp meaning_cmp x k) true (contains meaning_cmp old k)) where
   -- what is there after a meaning was added
   pub added_out : (k : Meaning) → contains meaning_cmp mid k ≡ true → (k ≡ x) ⊎ (contains meaning_cmp old k ≡ true)
   added_out k h =
@@ -117,12 +119,16 @@ module _ (mid old : BTreeSet Meaning) (x : Meaning) (adds : (k : Meaning) → co
       either false = refl
 
   pub added_others : (k : Meaning) → ¬ (k.0 ≡ x.0) → contains meaning_cmp mid k ≡ contains meaning_cmp old k
-  added_others k apart = adds k ∙ ap (λ b. cond b true (contains meaning_cmp old k)) (apart_meaning x k (λ same. apart (sym (ap (λ (l : Meaning). l.0) same))))
+  added_others k apart =
+      adds k ∙ ap (λ b. cond b true (contains meaning_cmp old k)) (apart_meaning x k (λ same. apart (sym (ap (λ (l : Meaning). l.0) same))))
 
-module _ (mid old : BTreeSet Meaning) (x : Meaning) (goes : (k : Meaning) → contains meaning_cmp mid k ≡ cond (eq_by_cmp meaning_cmp x k) false (contains meaning_cmp old k)) where
+module _ (mid old : BTreeSet Meaning) (x : Meaning)
+    (goes : (k : Meaning) → contains meaning_cmp mid k ≡ cond (eq_by_cmp meaning_cmp x k) false (contains meaning_cmp old k)) where
   -- and after one was taken away
   pub gone_others : (k : Meaning) → ¬ (k.0 ≡ x.0) → contains meaning_cmp mid k ≡ contains meaning_cmp old k
-  gone_others k apart = goes k ∙ ap (λ b. cond b false (contains meaning_cmp old k)) (apart_meaning x k (λ same. apart (sym (ap (λ (l : Meaning). l.0) same))))
+  gone_others k apart =
+      goes k
+      ∙ ap (λ b. cond b false (contains meaning_cmp old k)) (apart_meaning x k (λ same. apart (sym (ap (λ (l : Meaning). l.0) same))))
 
   pub gone_was : (k : Meaning) → contains meaning_cmp mid k ≡ true → contains meaning_cmp old k ≡ true
   gone_was k h =
@@ -136,15 +142,24 @@ module _ (mid old : BTreeSet Meaning) (x : Meaning) (goes : (k : Meaning) → co
   -- which refreshes it where no schema has it
   pub refreshes_gone : (schemas : BTreeSet Schema) → ¬ (IsMeant schemas x) → RefreshesMeaning schemas x old mid
   refreshes_gone schemas none k = (
-    λ h. (gone_was k h, λ is. absurd (false≢true (sym (goes k ∙ ap (λ b. cond b false (contains meaning_cmp old k)) (one_meaning x k (sym is))) ∙ h))),
-    λ h. goes k ∙ ap (λ b. cond b false (contains meaning_cmp old k)) (apart_meaning x k (λ same. none (subst (IsMeant schemas) (sym same) (h.1 (sym same))))) ∙ h.0,
+    λ h. (
+      gone_was k h,
+      λ is. absurd (false≢true (sym (goes k ∙ ap (λ b. cond b false (contains meaning_cmp old k)) (one_meaning x k (sym is))) ∙ h)),
+    ),
+    λ h.
+        goes k
+        ∙ ap (λ b. cond b false (contains meaning_cmp old k))
+        (apart_meaning x k (λ same. none (subst (IsMeant schemas) (sym same) (h.1 (sym same)))))
+        ∙ h.0,
   )
 
 -- and where one has it nothing has to go
-pub refreshes_stays : (schemas : BTreeSet Schema) (x : Meaning) (old : BTreeSet Meaning) → IsMeant schemas x → RefreshesMeaning schemas x old old
+pub refreshes_stays : (schemas : BTreeSet Schema) (x : Meaning) (old : BTreeSet Meaning)
+    → IsMeant schemas x → RefreshesMeaning schemas x old old
 refreshes_stays schemas x old is k = (λ h. (h, λ same. subst (IsMeant schemas) (sym same) is), λ h. h.0)
 
-two_same : (old new : BTreeSet Meaning) (id i : ℕ) → ¬ (i ≡ id) → ((k : Meaning) → ¬ (k.0 ≡ id) → contains meaning_cmp new k ≡ contains meaning_cmp old k) → HasTwo old i → HasTwo new i
+two_same : (old new : BTreeSet Meaning) (id i : ℕ) → ¬ (i ≡ id)
+    → ((k : Meaning) → ¬ (k.0 ≡ id) → contains meaning_cmp new k ≡ contains meaning_cmp old k) → HasTwo old i → HasTwo new i
 two_same old new id i apart same h = (h.0, h.1, same (i, h.0) apart ∙ h.2, same (i, h.1) apart ∙ h.3, h.4)
 
 decide : (a b : ℕ) → (a ≡ b) ⊎ ¬ (a ≡ b)
@@ -180,7 +195,8 @@ doubled_refreshed old new before mid after id doubled others ids own refreshes i
           λ _. h,
         )
 
-module _ (old new : BTreeSet ℕ) (id : ℕ) (b : Bool) (updates : (i : ℕ) → contains nat_cmp new i ≡ cond (eq_by_cmp nat_cmp id i) b (contains nat_cmp old i)) where
+module _ (old new : BTreeSet ℕ) (id : ℕ) (b : Bool)
+    (updates : (i : ℕ) → contains nat_cmp new i ≡ cond (eq_by_cmp nat_cmp id i) b (contains nat_cmp old i)) where
   pub id_here : contains nat_cmp new id ≡ b
   id_here = updates id ∙ ap (λ t. cond (is_eq t) b (contains nat_cmp old id)) (tied_itself nat_cmp_total id)
 
@@ -192,7 +208,8 @@ module _ (old new : BTreeSet ℕ) (id : ℕ) (b : Bool) (updates : (i : ℕ) →
 
 -- an id that is taken away where it has no two texts is refreshed
 pub doubled_gone : (meanings : BTreeSet Meaning) (old new : BTreeSet ℕ) (id : ℕ) → ¬ (HasTwo meanings id)
-    → ((i : ℕ) → contains nat_cmp new i ≡ cond (eq_by_cmp nat_cmp id i) false (contains nat_cmp old i)) → RefreshesDoubled meanings id old new
+    → ((i : ℕ) → contains nat_cmp new i ≡ cond (eq_by_cmp nat_cmp id i) false (contains nat_cmp old i))
+    → RefreshesDoubled meanings id old new
 doubled_gone meanings old new id none updates i = (to, back)
   where
     to : contains nat_cmp new i ≡ true → (contains nat_cmp old i ≡ true) × (i ≡ id → HasTwo meanings i)
@@ -201,7 +218,9 @@ doubled_gone meanings old new id none updates i = (to, back)
         (λ apart. (sym (id_others old new id false updates i apart) ∙ h, λ same. absurd (apart same))) (decide i id)
 
     back : (contains nat_cmp old i ≡ true) × (i ≡ id → HasTwo meanings i) → contains nat_cmp new i ≡ true
-    back h = ⊎_elim (λ same. absurd (none (subst (HasTwo meanings) same (h.1 same)))) (λ apart. id_others old new id false updates i apart ∙ h.0) (decide i id)
+    back h =
+        ⊎_elim (λ same. absurd (none (subst (HasTwo meanings) same (h.1 same))))
+        (λ apart. id_others old new id false updates i apart ∙ h.0) (decide i id)
 
 pub doubled_stays : (meanings : BTreeSet Meaning) (old : BTreeSet ℕ) (id : ℕ) → HasTwo meanings id → RefreshesDoubled meanings id old old
 doubled_stays meanings old id two i = (λ h. (h, λ same. subst (HasTwo meanings) (sym same) two), λ h. h.0)
@@ -245,14 +264,17 @@ both_of false b h k = h
 pub within_id : (k : Meaning) (id : ℕ) → k.0 ≡ id → of_id id k ≡ true
 within_id k id same =
     both_of _ _
-    (ap (λ o. is_le (ordering_then o (slice_cmp nat_cmp [] k.1))) (ap (nat_cmp id) same ∙ tied_itself nat_cmp_total id) ∙ up_to_it _ (none_first k.1))
+    (ap (λ o. is_le (ordering_then o (slice_cmp nat_cmp [] k.1))) (ap (nat_cmp id) same ∙ tied_itself nat_cmp_total id)
+    ∙ up_to_it _ (none_first k.1))
     (ap (λ o. not (is_le (ordering_then o (slice_cmp nat_cmp [] k.1)))) (greater (id + 1) k.0 (above k.0 id same)))
   where
     above : (a b : ℕ) → a ≡ b → a < b + 1
     above a b h = omega (arith, h)
 
 pub id_within : (k : Meaning) (id : ℕ) → of_id id k ≡ true → k.0 ≡ id
-id_within k id h = between id k.0 (from (nat_cmp id k.0) refl (first_of _ _ h)) (up_to (nat_cmp (id + 1) k.0) refl (second_of (is_le (ordering_then (nat_cmp id k.0) (slice_cmp nat_cmp [] k.1))) _ h))
+id_within k id h =
+    between id k.0 (from (nat_cmp id k.0) refl (first_of _ _ h))
+    (up_to (nat_cmp (id + 1) k.0) refl (second_of (is_le (ordering_then (nat_cmp id k.0) (slice_cmp nat_cmp [] k.1))) _ h))
   where
     between : (a b : ℕ) → a ≤ b → b < a + 1 → b ≡ a
     between a b h k = omega arith
@@ -277,13 +299,15 @@ module _ (meanings : BTreeSet Meaning) (ordered : IsOrdered meaning_cmp meanings
       (id_within k id kept.0, any_in (is_at (meaning_cmp k)) k meanings.keys (ap is_eq (tied_itself meaning_cmp-total k)) kept.1)
 
   key_has : (t : List ℕ) → contains meaning_cmp meanings (id, t) ≡ true → IsIn (id, t) texts
-  key_has t h = in_filter (of_id id) (id, t) meanings.keys (within_id (id, t) id refl) (key_in meaning_cmp meaning_cmp-ties meanings (id, t) h)
+  key_has t h =
+      in_filter (of_id id) (id, t) meanings.keys (within_id (id, t) id refl) (key_in meaning_cmp meaning_cmp-ties meanings (id, t) h)
 
   -- two meanings of an id are two texts
   pub two_of_list : (k l : Meaning) (rest : List Meaning) → texts ≡ k ∷ l ∷ rest → HasTwo meanings id
   unfolding IsStrictlySortedBy
   two_of_list k l rest is =
-      let sorted : IsStrictlySortedBy meaning_cmp (k ∷ l ∷ rest) = subst (IsStrictlySortedBy meaning_cmp) is (IsStrictlySortedBy-filter meaning_cmp (of_id id) meanings.keys ordered) in
+      let sorted : IsStrictlySortedBy meaning_cmp (k ∷ l ∷ rest) =
+      subst (IsStrictlySortedBy meaning_cmp) is (IsStrictlySortedBy-filter meaning_cmp (of_id id) meanings.keys ordered) in
       let one = has_key k (subst (IsIn k) (sym is) (inl refl)) in
       let other = has_key l (subst (IsIn l) (sym is) (inr (inl refl))) in
       (k.1, l.1, own k one, own l other, λ same. apart k l sorted.0.0 (λ i. ((one.0 ∙ sym other.0) i, same i)))
@@ -320,7 +344,8 @@ before_then Equal b h = refl
 before_then Greater b h = h
 
 -- what is neither before nor after is the same
-pub squeezed : {X : Type 0} (cmp : X → X → Ordering) → IsTotalOrder cmp → (x y : X) → is_gt (cmp x y) ≡ false → is_gt (cmp y x) ≡ false → cmp x y ≡ Equal
+pub squeezed : {X : Type 0} (cmp : X → X → Ordering) → IsTotalOrder cmp → (x y : X)
+    → is_gt (cmp x y) ≡ false → is_gt (cmp y x) ≡ false → cmp x y ≡ Equal
 squeezed cmp total x y h k = by_order (cmp x y) refl
   where
     by_order : (o : Ordering) → cmp x y ≡ o → cmp x y ≡ Equal
@@ -329,7 +354,8 @@ squeezed cmp total x y h k = by_order (cmp x y) refl
     by_order Greater is = absurd (false≢true (sym h ∙ ap is_gt is))
 
 -- a schema between the first of a text and an id and another of them is of both
-pub between_first : (t : List ℕ) (i : ℕ) (p : Place) (found : Schema) → is_gt (schema_cmp (t, i, ([], 0)) found) ≡ false → is_gt (schema_cmp found (t, i, p)) ≡ false → (found.0 ≡ t) × (found.1 ≡ i)
+pub between_first : (t : List ℕ) (i : ℕ) (p : Place) (found : Schema) → is_gt (schema_cmp (t, i, ([], 0)) found) ≡ false
+    → is_gt (schema_cmp found (t, i, p)) ≡ false → (found.0 ≡ t) × (found.1 ≡ i)
 between_first t i p found from to = (texts, sym (nat_cmp-IsAntisymmetric i found.1 ids))
   where
     from_pair : is_gt (ordering_then (slice_cmp nat_cmp t found.0) (nat_cmp i found.1)) ≡ false
@@ -339,7 +365,9 @@ between_first t i p found from to = (texts, sym (nat_cmp-IsAntisymmetric i found
     to_pair = before_then (ordering_then (slice_cmp nat_cmp found.0 t) (nat_cmp found.1 i)) (place_cmp found.2 p) to
 
     tie : slice_cmp nat_cmp t found.0 ≡ Equal
-    tie = squeezed (slice_cmp nat_cmp) nat_list_cmp_total t found.0 (before_then (slice_cmp nat_cmp t found.0) (nat_cmp i found.1) from_pair) (before_then (slice_cmp nat_cmp found.0 t) (nat_cmp found.1 i) to_pair)
+    tie =
+        squeezed (slice_cmp nat_cmp) nat_list_cmp_total t found.0 (before_then (slice_cmp nat_cmp t found.0) (nat_cmp i found.1) from_pair)
+        (before_then (slice_cmp nat_cmp found.0 t) (nat_cmp found.1 i) to_pair)
 
     tie_back : slice_cmp nat_cmp found.0 t ≡ Equal
     tie_back = nat_list_cmp_total.antisymm found.0 t ∙ ap ordering_reverse tie
@@ -362,7 +390,11 @@ module _ (m n : BTreeMap Place Entry) (e : Entry) (old : Option Schema) (placed 
   came k h =
       by_bool (eq_by_cmp schema_cmp (schema_of e) (k.1, k.0, h.0))
       (λ is. inl (sym (ap meaning_of (same_schema (schema_of e) (k.1, k.0, h.0) is))))
-      (λ no. inr (h.0, listed (k.1, k.0, h.0) ∙ same_entry m n e old placed else here old_is (k.1, k.0, h.0) no (sym (still (k.1, k.0, h.0)) ∙ h.1)))
+      (λ no.
+      inr (
+        h.0,
+        listed (k.1, k.0, h.0) ∙ same_entry m n e old placed else here old_is (k.1, k.0, h.0) no (sym (still (k.1, k.0, h.0)) ∙ h.1),
+      ))
 
   went : (k : Meaning) → IsMeant before k → IsMeant after k ⊎ IsMeaningOf (schema_of e) old k
   went k h =
@@ -371,28 +403,35 @@ module _ (m n : BTreeMap Place Entry) (e : Entry) (old : Option Schema) (placed 
       (λ is. inl (h.0, still s ∙ is))
       (λ isnt. inr (inr (of_old s old refl (was_old m n e old placed else here old_is s isnt (sym (listed s) ∙ h.1)))))
     where
-      of_old : (s : Schema) (o : Option Schema) → old ≡ o → is_that o s ≡ true → (t : Schema) × (old ≡ Some t) × (meaning_of s ≡ meaning_of t)
+      of_old : (s : Schema) (o : Option Schema) → old ≡ o → is_that o s ≡ true
+          → (t : Schema) × (old ≡ Some t) × (meaning_of s ≡ meaning_of t)
       of_old s None is h = absurd (false≢true h)
       of_old s (Some t) is h = (t, is, sym (ap meaning_of (same_schema t s h)))
 
   -- what ids mean after an entry is written over what was at its place, or isn't
   pub meant_written : (given mid new : BTreeSet Meaning) → AreMeant before given
       → ((k : Meaning) → contains meaning_cmp mid k ≡ cond (eq_by_cmp meaning_cmp (e.id, e.normal) k) true (contains meaning_cmp given k))
-      → ((k : Meaning) → (contains meaning_cmp new k ≡ true) ↔ ((contains meaning_cmp mid k ≡ true) × (IsMeaningOf (schema_of e) old k → IsMeant after k)))
+      → ((k : Meaning)
+      → (contains meaning_cmp new k ≡ true) ↔ (
+      (contains meaning_cmp mid k ≡ true) × (IsMeaningOf (schema_of e) old k → IsMeant after k)))
       → AreMeant after new
   meant_written given mid new meant adds refreshes =
       meant_refreshed (λ k. k ≡ (e.id, e.normal)) (IsMeaningOf (schema_of e) old) before after given mid new meant
       (added_out mid given (e.id, e.normal) adds) (added_into mid given (e.id, e.normal) adds) refreshes (λ k is. inl is) came went
 
 -- where no meaning changed
-pub meant_same : (schemas : BTreeSet Schema) (old new : BTreeSet Meaning) → AreMeant schemas old → ((k : Meaning) → contains meaning_cmp new k ≡ contains meaning_cmp old k) → AreMeant schemas new
+pub meant_same : (schemas : BTreeSet Schema) (old new : BTreeSet Meaning) → AreMeant schemas old
+    → ((k : Meaning) → contains meaning_cmp new k ≡ contains meaning_cmp old k) → AreMeant schemas new
 meant_same schemas old new meant same k = (λ h. (meant k).0 (sym (same k) ∙ h), λ h. same k ∙ (meant k).1 h)
 
 -- what is left of the meanings of two schemas, which one after the other are refreshed
 pub both_refreshed : (schemas : BTreeSet Schema) (one : Schema) (other : Option Schema) (old mid new : BTreeSet Meaning)
     → RefreshesMeaning schemas (meaning_of one) old mid
-    → ((k : Meaning) → (contains meaning_cmp new k ≡ true) ↔ ((contains meaning_cmp mid k ≡ true) × ((s : Schema) → other ≡ Some s → k ≡ meaning_of s → IsMeant schemas k)))
-    → (k : Meaning) → (contains meaning_cmp new k ≡ true) ↔ ((contains meaning_cmp old k ≡ true) × (IsMeaningOf one other k → IsMeant schemas k))
+    → ((k : Meaning)
+    → (contains meaning_cmp new k ≡ true) ↔ (
+    (contains meaning_cmp mid k ≡ true) × ((s : Schema) → other ≡ Some s → k ≡ meaning_of s → IsMeant schemas k)))
+    → (k : Meaning)
+    → (contains meaning_cmp new k ≡ true) ↔ ((contains meaning_cmp old k ≡ true) × (IsMeaningOf one other k → IsMeant schemas k))
 both_refreshed schemas one other old mid new first second k = (to, back)
   where
     to : contains meaning_cmp new k ≡ true → (contains meaning_cmp old k ≡ true) × (IsMeaningOf one other k → IsMeant schemas k)
@@ -404,7 +443,9 @@ both_refreshed schemas one other old mid new first second k = (to, back)
     back : (contains meaning_cmp old k ≡ true) × (IsMeaningOf one other k → IsMeant schemas k) → contains meaning_cmp new k ≡ true
     back h = (second k).1 ((first k).1 (h.0, λ is. h.1 (inl is)), λ s some is. h.1 (inr (s, some, is)))
 
-module _ (m : BTreeMap Place Entry) (ordered : tree.IsOrdered place_cmp m) (placed : ArePlaced m) (schemas : BTreeSet Schema) (listed : AreListed m schemas) (meanings : BTreeSet Meaning) (meant : AreMeant schemas meanings) (doubled : BTreeSet ℕ) (are : AreDoubled meanings doubled) where
+module _ (m : BTreeMap Place Entry) (ordered : tree.IsOrdered place_cmp m) (placed : ArePlaced m)
+    (schemas : BTreeSet Schema) (listed : AreListed m schemas) (meanings : BTreeSet Meaning)
+    (meant : AreMeant schemas meanings) (doubled : BTreeSet ℕ) (are : AreDoubled meanings doubled) where
   abbrev es : List Entry
   es = values_of m.entries
 
@@ -416,7 +457,8 @@ module _ (m : BTreeMap Place Entry) (ordered : tree.IsOrdered place_cmp m) (plac
   entry_of : (k : Meaning) → contains meaning_cmp meanings k ≡ true → (e : Entry) × (IsIn e es × (e.id ≡ k.0) × (e.normal ≡ k.1))
   entry_of k h = let s = (meant k).0 h in by_entry s.0 (entry_at m s.0) refl (sym (listed (k.1, k.0, s.0)) ∙ s.1)
     where
-      by_entry : (p : Place) (o : Option Entry) → entry_at m p ≡ o → has_it o (k.1, k.0, p) ≡ true → (e : Entry) × (IsIn e es × (e.id ≡ k.0) × (e.normal ≡ k.1))
+      by_entry : (p : Place) (o : Option Entry) → entry_at m p ≡ o → has_it o (k.1, k.0, p) ≡ true
+          → (e : Entry) × (IsIn e es × (e.id ≡ k.0) × (e.normal ≡ k.1))
       by_entry p None none h = absurd (false≢true h)
       by_entry p (Some e) found h = let own = had e (k.1, k.0, p) h in (e, (in_values p e m.entries found, own.1, own.0))
 
@@ -450,7 +492,8 @@ module _ (m : BTreeMap Place Entry) (ordered : tree.IsOrdered place_cmp m) (plac
       (all_found (λ q e. shares_its_id es e ≡ true → ⊥) m.entries ordered (λ q e at h. none e.id (is_doubled q e at h))))))
 
   -- and the least doubled id is the least that has
-  pub two_schemas_some : (i : ℕ) → contains nat_cmp doubled i ≡ true → ((j : ℕ) → contains nat_cmp doubled j ≡ true → i ≤ j) → two_schemas es ≡ Some i
+  pub two_schemas_some : (i : ℕ) → contains nat_cmp doubled i ≡ true
+      → ((j : ℕ) → contains nat_cmp doubled j ≡ true → i ≤ j) → two_schemas es ≡ Some i
   two_schemas_some i is least =
       let two = two_of i is in
       reduce_min i _
@@ -472,34 +515,48 @@ no_id ids h i has = none ids.keys h has
 pub not_above : (i j : ℕ) → is_gt (nat_cmp i j) ≡ false → i ≤ j
 not_above i j h = grind (arith, nat_tests)
 
-module _ (m : BTreeMap Place Entry) (ordered : tree.IsOrdered place_cmp m) (placed : ArePlaced m) (schemas : BTreeSet Schema) (listed : AreListed m schemas) (meanings : BTreeSet Meaning) (meant : AreMeant schemas meanings) (doubled : BTreeSet ℕ) (are : AreDoubled meanings doubled) where
+module _ (m : BTreeMap Place Entry) (ordered : tree.IsOrdered place_cmp m) (placed : ArePlaced m)
+    (schemas : BTreeSet Schema) (listed : AreListed m schemas) (meanings : BTreeSet Meaning)
+    (meant : AreMeant schemas meanings) (doubled : BTreeSet ℕ) (are : AreDoubled meanings doubled) where
   -- the first doubled id, if there is one
-  pub first_doubled : (o : Option (Bor ℕ)) → IsSome o ↔ (0 < length doubled.keys) → IfSome o (λ k. contains nat_cmp doubled k.now ≡ true) → IfSome o (λ k. IsLowerBound nat_cmp doubled k.now)
+  pub first_doubled : (o : Option (Bor ℕ)) → IsSome o ↔ (0 < length doubled.keys)
+      → IfSome o (λ k. contains nat_cmp doubled k.now ≡ true) → IfSome o (λ k. IsLowerBound nat_cmp doubled k.now)
       → option_copied o ≡ two_schemas (values_of m.entries)
-  first_doubled None some member least = sym (two_schemas_none m ordered placed schemas listed meanings meant doubled are (no_id doubled some.1))
-  first_doubled (Some k) some member least = sym (two_schemas_some m ordered placed schemas listed meanings meant doubled are k.now member (λ j has. not_above k.now j (least j has)))
+  first_doubled None some member least =
+      sym (two_schemas_none m ordered placed schemas listed meanings meant doubled are (no_id doubled some.1))
+  first_doubled (Some k) some member least =
+      sym (
+      two_schemas_some m ordered placed schemas listed meanings meant doubled are k.now member (λ j has. not_above k.now j (least j has)))
 
 -- what one schema, if there is one, leaves of the meanings
-pub some_refreshed : (schemas : BTreeSet Schema) (t : Schema) (other : Option Schema) (mid new : BTreeSet Meaning) → other ≡ Some t → RefreshesMeaning schemas (meaning_of t) mid new
-    → (k : Meaning) → (contains meaning_cmp new k ≡ true) ↔ ((contains meaning_cmp mid k ≡ true) × ((s : Schema) → other ≡ Some s → k ≡ meaning_of s → IsMeant schemas k))
+pub some_refreshed : (schemas : BTreeSet Schema) (t : Schema) (other : Option Schema) (mid new : BTreeSet Meaning)
+    → other ≡ Some t → RefreshesMeaning schemas (meaning_of t) mid new
+    → (k : Meaning)
+    → (contains meaning_cmp new k ≡ true) ↔ (
+    (contains meaning_cmp mid k ≡ true) × ((s : Schema) → other ≡ Some s → k ≡ meaning_of s → IsMeant schemas k))
 some_refreshed schemas t other mid new is refreshes k = (
   λ h. let a = (refreshes k).0 h in (a.0, λ s some same. a.1 (same ∙ ap meaning_of (same_Some s t (sym some ∙ is)))),
   λ h. (refreshes k).1 (h.0, λ same. h.1 t is same),
 )
 
 pub none_refreshed : (schemas : BTreeSet Schema) (other : Option Schema) (mid : BTreeSet Meaning) → other ≡ None
-    → (k : Meaning) → (contains meaning_cmp mid k ≡ true) ↔ ((contains meaning_cmp mid k ≡ true) × ((s : Schema) → other ≡ Some s → k ≡ meaning_of s → IsMeant schemas k))
+    → (k : Meaning)
+    → (contains meaning_cmp mid k ≡ true) ↔ (
+    (contains meaning_cmp mid k ≡ true) × ((s : Schema) → other ≡ Some s → k ≡ meaning_of s → IsMeant schemas k))
 none_refreshed schemas other mid is k = (λ h. (h, λ s some same. absurd (not_both s other some is)), λ h. h.0)
 
 -- where the doubled ids are the same
-pub doubled_same : (old new : BTreeSet Meaning) (before after : BTreeSet ℕ) → AreDoubled old before → ((k : Meaning) → contains meaning_cmp new k ≡ contains meaning_cmp old k) → ((i : ℕ) → contains nat_cmp after i ≡ contains nat_cmp before i) → AreDoubled new after
+pub doubled_same : (old new : BTreeSet Meaning) (before after : BTreeSet ℕ) → AreDoubled old before
+    → ((k : Meaning) → contains meaning_cmp new k ≡ contains meaning_cmp old k)
+    → ((i : ℕ) → contains nat_cmp after i ≡ contains nat_cmp before i) → AreDoubled new after
 doubled_same old new before after doubled same ids i = (
   λ h. let two = (doubled i).0 (sym (ids i) ∙ h) in (two.0, two.1, same (i, two.0) ∙ two.2, same (i, two.1) ∙ two.3, two.4),
   λ h. ids i ∙ (doubled i).1 (h.0, h.1, sym (same (i, h.0)) ∙ h.2, sym (same (i, h.1)) ∙ h.3, h.4),
 )
 
 -- whether some schema has a text and an id, by the first from the least of both on
-pub meant_found : (schemas : BTreeSet Schema) (t : List ℕ) (i : ℕ) (found : Schema) → contains schema_cmp schemas found ≡ true → is_gt (schema_cmp (t, i, ([], 0)) found) ≡ false
+pub meant_found : (schemas : BTreeSet Schema) (t : List ℕ) (i : ℕ) (found : Schema)
+    → contains schema_cmp schemas found ≡ true → is_gt (schema_cmp (t, i, ([], 0)) found) ≡ false
     → ((p : Place) → contains schema_cmp schemas (t, i, p) ≡ true → is_gt (schema_cmp found (t, i, p)) ≡ false)
     → ((bytes_eq found.0 t && found.1 == i) ≡ true) ↔ IsMeant schemas (i, t)
 meant_found schemas t i found has from lower = (to, back)

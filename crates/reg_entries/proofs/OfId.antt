@@ -50,7 +50,8 @@ one_way cmp total x y less back = false≢true (ap is_lt (sym (total.antisymm x 
 
 module _ {X : Type 0} (cmp : X → X → Ordering) (total : IsTotalOrder cmp) where
   -- two lists in strict order that have the same items are one
-  same_lists : (xs ys : List X) → IsStrictlySortedBy cmp xs → IsStrictlySortedBy cmp ys → ((x : X) → IsIn x xs → IsIn x ys) → ((x : X) → IsIn x ys → IsIn x xs) → xs ≡ ys
+  same_lists : (xs ys : List X) → IsStrictlySortedBy cmp xs → IsStrictlySortedBy cmp ys
+      → ((x : X) → IsIn x xs → IsIn x ys) → ((x : X) → IsIn x ys → IsIn x xs) → xs ≡ ys
   unfolding IsStrictlySortedBy
   same_lists [] [] s t to back = refl
   same_lists [] (y ∷ ys) s t to back = absurd (back y (inl refl))
@@ -76,7 +77,8 @@ module _ {X : Type 0} (cmp : X → X → Ordering) (total : IsTotalOrder cmp) wh
       head_past z k (inr i) = i
 
   -- items in order of which no two tie are in strict order
-  strictly : {Y : Type 0} (f : Y → X) (ys : List Y) → IsSortedBy (λ x y. is_lt (cmp (f x) (f y))) ys → IsDistinct (eq_by_cmp cmp) (map f ys) → IsStrictlySortedBy cmp (map f ys)
+  strictly : {Y : Type 0} (f : Y → X) (ys : List Y) → IsSortedBy (λ x y. is_lt (cmp (f x) (f y))) ys
+      → IsDistinct (eq_by_cmp cmp) (map f ys) → IsStrictlySortedBy cmp (map f ys)
   unfolding IsStrictlySortedBy
   strictly f [] s d = tt
   strictly {Y} f (y ∷ ys) s d = sorted_from_all_adjacent total (map f (y ∷ ys)) (f y) next
@@ -88,13 +90,16 @@ module _ {X : Type 0} (cmp : X → X → Ordering) (total : IsTotalOrder cmp) wh
 
       rise : (a b : X) → is_lt (cmp b a) ≡ false → eq_by_cmp cmp a b ≡ false → cmp a b ≡ Less
       rise a b h apart =
-          ⊎_elim (λ less. less) (λ tie. absurd (false≢true (sym apart ∙ ap is_eq (total.antisymm a b ∙ ap ordering_reverse tie)))) (turned cmp total b a h)
+          ⊎_elim (λ less. less) (λ tie. absurd (false≢true (sym apart ∙ ap is_eq (total.antisymm a b ∙ ap ordering_reverse tie))))
+          (turned cmp total b a h)
 
-      next : (k : ℕ) → k + 1 < length (map f (y ∷ ys)) → cmp (get_or (map f (y ∷ ys)) k (f y)) (get_or (map f (y ∷ ys)) (k + 1) (f y)) ≡ Less
+      next : (k : ℕ) → k + 1 < length (map f (y ∷ ys))
+          → cmp (get_or (map f (y ∷ ys)) k (f y)) (get_or (map f (y ∷ ys)) (k + 1) (f y)) ≡ Less
       next k within =
           let all : List Y = y ∷ ys in
           rise (get_or (map f all) k (f y)) (get_or (map f all) (k + 1) (f y))
-          (ap (λ b. is_lt (cmp b (get_or (map f all) k (f y)))) (at all (k + 1)) ∙ ap (λ a. is_lt (cmp (f (get_or all (k + 1) y)) a)) (at all k)
+          (ap (λ b. is_lt (cmp b (get_or (map f all) k (f y)))) (at all (k + 1))
+          ∙ ap (λ a. is_lt (cmp (f (get_or all (k + 1) y)) a)) (at all k)
           ∙ s k y (omega arith) (subst (λ n. k + 1 < n) (length-map all f) within))
           (apart_from_distinct (eq_by_cmp cmp) (map f all) k (k + 1) (f y) d (omega arith) within)
 
@@ -108,7 +113,8 @@ module _ {X Y : Type 0} (h : X → Option Y) where
       later None j = j
       later (Some z) j = inr j
 
-  all_filter_map : (P : X → Type 0) (Q : Y → Type 0) → ((x : X) (y : Y) → P x → h x ≡ Some y → Q y) → (xs : List X) → AllByRecursion P xs → AllByRecursion Q (filter_map h xs)
+  all_filter_map : (P : X → Type 0) (Q : Y → Type 0) → ((x : X) (y : Y) → P x → h x ≡ Some y → Q y)
+      → (xs : List X) → AllByRecursion P xs → AllByRecursion Q (filter_map h xs)
   all_filter_map P Q f [] p = tt
   all_filter_map P Q f (x ∷ xs) p = with_first (h x) refl (all_filter_map P Q f xs p.1)
     where
@@ -119,14 +125,19 @@ module _ {X Y : Type 0} (h : X → Option Y) where
   -- one more item, where h gives nothing of it
   pub filter_map_none : (xs : List X) (x : X) (ys : List Y) → ys ≡ filter_map h xs → h x ≡ None → ys ≡ filter_map h (xs ++ x ∷ [])
   filter_map_none xs x ys so_far is =
-      so_far ∙ sym (append-nil (filter_map h xs)) ∙ sym (ap (λ o. filter_map h xs ++ cons_option o []) is) ∙ sym (filter_map-append h xs (x ∷ []))
+      so_far
+      ∙ sym (append-nil (filter_map h xs))
+      ∙ sym (ap (λ o. filter_map h xs ++ cons_option o []) is)
+      ∙ sym (filter_map-append h xs (x ∷ []))
 
   -- and where it gives something
-  pub filter_map_some : (xs : List X) (x : X) (ys : List Y) (y : Y) → ys ≡ filter_map h xs → h x ≡ Some y → ys ++ y ∷ [] ≡ filter_map h (xs ++ x ∷ [])
+  pub filter_map_some : (xs : List X) (x : X) (ys : List Y) (y : Y)
+      → ys ≡ filter_map h xs → h x ≡ Some y → ys ++ y ∷ [] ≡ filter_map h (xs ++ x ∷ [])
   filter_map_some xs x ys y so_far is =
       ap (λ ys. ys ++ y ∷ []) so_far ∙ sym (ap (λ o. filter_map h xs ++ cons_option o []) is) ∙ sym (filter_map-append h xs (x ∷ []))
 
-module _ (m : BTreeMap Place Entry) (names : BTreeSet Name) (ordered : tree.IsOrdered place_cmp m) (placed : ArePlaced m) (names_are : AreNamed m names) where
+module _ (m : BTreeMap Place Entry) (names : BTreeSet Name) (ordered : tree.IsOrdered place_cmp m)
+    (placed : ArePlaced m) (names_are : AreNamed m names) where
   abbrev of_name : Name → Option Entry
   of_name k = entry_at m k.2
 
@@ -134,29 +145,35 @@ module _ (m : BTreeMap Place Entry) (names : BTreeSet Name) (ordered : tree.IsOr
   Has k = contains name_cmp names k ≡ true
 
   -- what names name are entries at places of their own
-  distinct_named : (ks : List Name) → AllByRecursion Has ks → IsStrictlySortedBy name_cmp ks → IsDistinct (eq_by_cmp by_place) (filter_map of_name ks)
+  distinct_named : (ks : List Name) → AllByRecursion Has ks → IsStrictlySortedBy name_cmp ks
+      → IsDistinct (eq_by_cmp by_place) (filter_map of_name ks)
   unfolding IsStrictlySortedBy IsDistinct
   distinct_named [] has s = tt
   distinct_named (k ∷ ks) has s = with_first (entry_at m k.2) refl (distinct_named ks has.1 s.1)
     where
-      both : (j : Name) → name_cmp k j ≡ Less → Has j → (e f : Entry) → entry_at m k.2 ≡ Some e → entry_at m j.2 ≡ Some f → eq_by_cmp by_place e f ≡ false
+      both : (j : Name) → name_cmp k j ≡ Less → Has j → (e f : Entry)
+          → entry_at m k.2 ≡ Some e → entry_at m j.2 ≡ Some f → eq_by_cmp by_place e f ≡ false
       both j before has_j e f at_k at_j =
           by_bool (eq_by_cmp by_place e f)
           (λ tie. let one : name_of e ≡ k = at_name m names names_are k has.0 e at_k in
           let other : name_of f ≡ j = at_name m names names_are j has_j f at_j in
-          let place : k.2 ≡ j.2 = ap (λ (x : Name). x.2) (sym one) ∙ same_place (place_of e) (place_of f) tie ∙ ap (λ (x : Name). x.2) other in
+          let place : k.2 ≡ j.2 =
+          ap (λ (x : Name). x.2) (sym one) ∙ same_place (place_of e) (place_of f) tie ∙ ap (λ (x : Name). x.2) other in
           let same : e ≡ f = same_Some e f (sym at_k ∙ ap (entry_at m) place ∙ at_j) in
           absurd (less_apart name_cmp name_cmp-total k j before (sym one ∙ ap name_of same ∙ other)))
           (λ apart. apart)
 
-      with_first : (o : Option Entry) → entry_at m k.2 ≡ o → IsDistinct (eq_by_cmp by_place) (filter_map of_name ks) → IsDistinct (eq_by_cmp by_place) (cons_option o (filter_map of_name ks))
+      with_first : (o : Option Entry) → entry_at m k.2 ≡ o → IsDistinct (eq_by_cmp by_place) (filter_map of_name ks)
+          → IsDistinct (eq_by_cmp by_place) (cons_option o (filter_map of_name ks))
       with_first None is rest = rest
       with_first (Some e) is rest = (
-        all_filter_map of_name (λ j. (name_cmp k j ≡ Less) × Has j) (λ f. eq_by_cmp by_place e f ≡ false) (λ j f h at. both j h.0 h.1 e f is at) ks (zipped ks s.0 has.1),
+        all_filter_map of_name (λ j. (name_cmp k j ≡ Less) × Has j) (λ f. eq_by_cmp by_place e f ≡ false)
+            (λ j f h at. both j h.0 h.1 e f is at) ks (zipped ks s.0 has.1),
         rest,
       )
         where
-          zipped : (js : List Name) → AllByRecursion (λ j. name_cmp k j ≡ Less) js → AllByRecursion Has js → AllByRecursion (λ j. (name_cmp k j ≡ Less) × Has j) js
+          zipped : (js : List Name) → AllByRecursion (λ j. name_cmp k j ≡ Less) js
+              → AllByRecursion Has js → AllByRecursion (λ j. (name_cmp k j ≡ Less) × Has j) js
           zipped [] p q = tt
           zipped (j ∷ js) p q = ((p.0, q.0), zipped js p.1 q.1)
 
@@ -174,7 +191,9 @@ module _ (m : BTreeMap Place Entry) (names : BTreeSet Name) (ordered : tree.IsOr
     to_entry : AllByRecursion (λ e. IsIn e (with_id (values_of m.entries) id)) (filter_map of_name of_the_id)
     to_entry =
         all_filter_map of_name (λ k. Has k × (k.0 ≡ id)) (λ e. IsIn e (with_id (values_of m.entries) id))
-        (λ k e h at. in_filter (λ e. e.id == id) e (values_of m.entries) (itself e.id id (ap (λ (x : Name). x.0) (at_name m names names_are k h.0 e at) ∙ h.1)) (in_values k.2 e m.entries at))
+        (λ k e h at.
+        in_filter (λ e. e.id == id) e (values_of m.entries)
+        (itself e.id id (ap (λ (x : Name). x.0) (at_name m names names_are k h.0 e at) ∙ h.1)) (in_values k.2 e m.entries at))
         of_the_id has_all
       where
         itself : (a b : ℕ) → a ≡ b → (a == b) ≡ true
@@ -186,26 +205,34 @@ module _ (m : BTreeMap Place Entry) (names : BTreeSet Name) (ordered : tree.IsOr
         let own = out_of_filter (λ e. e.id == id) e (values_of m.entries) i in
         let at = place_of_value m ordered e own.1 in
         in_filter_map of_name (name_of e) e of_the_id (ap (entry_at m) (own_place m placed at.0 e at.1) ∙ at.1)
-        (in_filter (of_id id) (name_of e) names.keys (within_id (name_of e) id (number e.id id own.0)) (key_in name_cmp name_cmp-ties names (name_of e) (has_its_name m names ordered placed names_are at.0 e at.1)))
+        (in_filter (of_id id) (name_of e) names.keys (within_id (name_of e) id (number e.id id own.0))
+        (key_in name_cmp name_cmp-ties names (name_of e) (has_its_name m names ordered placed names_are at.0 e at.1)))
       where
         number : (a b : ℕ) → (a == b) ≡ true → a ≡ b
         number a b h = grind arith
 
     -- what the names of the id name, once it is in the order of places
-    pub with_id_is : {Y : Type 0} (f : Y → Entry) (ys : List Y) → IsOrdered name_cmp names → IsPermutation (filter_map of_name of_the_id) (map f ys) → IsSortedBy (λ x y. is_lt (by_place (f x) (f y))) ys
+    pub with_id_is : {Y : Type 0} (f : Y → Entry) (ys : List Y) → IsOrdered name_cmp names
+        → IsPermutation (filter_map of_name of_the_id) (map f ys) → IsSortedBy (λ x y. is_lt (by_place (f x) (f y))) ys
         → map f ys ≡ with_id (values_of m.entries) id
     with_id_is f ys keys moved sorted =
         same_lists by_place by_place-total (map f ys) (with_id (values_of m.entries) id)
         (strictly by_place by_place-total f ys sorted
-        (IsDistinct-IsPermutation (eq_by_cmp by_place) (λ x y. (eq_by_cmp_equiv by_place-total).symm x y) (filter_map of_name of_the_id) (map f ys) moved
+        (IsDistinct-IsPermutation (eq_by_cmp by_place) (λ x y. (eq_by_cmp_equiv by_place-total).symm x y)
+        (filter_map of_name of_the_id) (map f ys) moved
         (distinct_named of_the_id (firsts of_the_id has_all) (IsStrictlySortedBy-filter name_cmp (of_id id) names.keys keys))))
-        (IsStrictlySortedBy-filter by_place (λ e. e.id == id) (values_of m.entries) (values_in_order m.entries (at_places m ordered placed) ordered))
+        (IsStrictlySortedBy-filter by_place (λ e. e.id == id) (values_of m.entries)
+        (values_in_order m.entries (at_places m ordered placed) ordered))
         (λ e i. moved_all (λ e. IsIn e (with_id (values_of m.entries) id)) (filter_map of_name of_the_id) (map f ys) moved to_entry e i)
-        (λ e i. moved_all (λ e. IsIn e (map f ys)) (map f ys) (filter_map of_name of_the_id) (IsPermutation-sym (filter_map of_name of_the_id) (map f ys) moved) (all_from (λ e. IsIn e (map f ys)) (map f ys) (λ e i. i)) e (from_entry e i))
+        (λ e i.
+        moved_all (λ e. IsIn e (map f ys)) (map f ys) (filter_map of_name of_the_id)
+        (IsPermutation-sym (filter_map of_name of_the_id) (map f ys) moved)
+        (all_from (λ e. IsIn e (map f ys)) (map f ys) (λ e i. i)) e (from_entry e i))
       where
         firsts : (ks : List Name) → AllByRecursion (λ k. Has k × (k.0 ≡ id)) ks → AllByRecursion Has ks
         firsts [] h = tt
         firsts (k ∷ ks) h = (h.0.0, firsts ks h.1)
 
         moved_all : (P : Entry → Type 0) (xs zs : List Entry) → IsPermutation xs zs → AllByRecursion P xs → (e : Entry) → IsIn e zs → P e
-        moved_all P xs zs moved h e i = all_in P e zs (recursion_from_All P zs (All-permutation P xs zs moved (All-from_recursion P xs h))) i
+        moved_all P xs zs moved h e i =
+            all_in P e zs (recursion_from_All P zs (All-permutation P xs zs moved (All-from_recursion P xs h))) i

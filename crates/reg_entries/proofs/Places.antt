@@ -15,7 +15,8 @@ pub place_cmp-total : IsTotalOrder place_cmp
 place_cmp-total = then_total (on_total (λ p. p.0) nat_list_cmp_total) (on_total (λ p. p.1) nat_cmp_total)
 
 pub name_cmp-total : IsTotalOrder name_cmp
-name_cmp-total = then_total (then_total (on_total (λ n. n.0) nat_cmp_total) (on_total (λ n. n.1) nat_cmp_total)) (on_total (λ n. n.2) place_cmp-total)
+name_cmp-total =
+    then_total (then_total (on_total (λ n. n.0) nat_cmp_total) (on_total (λ n. n.1) nat_cmp_total)) (on_total (λ n. n.2) place_cmp-total)
 
 -- two orders one after the other tie where both do
 pub then_ties : (a b : Ordering) → ordering_then a b ≡ Equal → (a ≡ Equal) × (b ≡ Equal)

@@ -41,7 +41,8 @@ none_below_zero : (a : ℕ) → ¬ (nat_cmp a 0 ≡ Less)
 none_below_zero a h = absurd (grind (arith, nat_tests))
 
 -- what isn't before x is x, or comes after it
-pub turned : {X : Type 0} (cmp : X → X → Ordering) → IsTotalOrder cmp → (x y : X) → is_lt (cmp x y) ≡ false → (cmp y x ≡ Less) ⊎ (cmp x y ≡ Equal)
+pub turned : {X : Type 0} (cmp : X → X → Ordering) → IsTotalOrder cmp
+    → (x y : X) → is_lt (cmp x y) ≡ false → (cmp y x ≡ Less) ⊎ (cmp x y ≡ Equal)
 turned cmp total x y h =
     elim (cmp x y) as (λ o. cmp x y ≡ o → is_lt o ≡ false → (cmp y x ≡ Less) ⊎ (cmp x y ≡ Equal)) [
       | Less ↦ λ is f. absurd (false≢true (sym f))
@@ -53,7 +54,8 @@ turned cmp total x y h =
 pub at_name : (m : BTreeMap Place Entry) (names : BTreeSet Name) → ((x : Name) → contains name_cmp names x ≡ is_named m x)
     → (x : Name) → contains name_cmp names x ≡ true → (e : Entry) → entry_at m x.2 ≡ Some e → name_of e ≡ x
 at_name m names named x has e is =
-    name_cmp-ties (name_of e) x (equal _ (sym (ap (λ o. option_map_or (λ e. eq_by_cmp name_cmp (name_of e) x) o false) is) ∙ sym (named x) ∙ has))
+    name_cmp-ties (name_of e) x
+    (equal _ (sym (ap (λ o. option_map_or (λ e. eq_by_cmp name_cmp (name_of e) x) o false) is) ∙ sym (named x) ∙ has))
 
 -- and there is one
 pub some_at_name : (m : BTreeMap Place Entry) (names : BTreeSet Name) → ((x : Name) → contains name_cmp names x ≡ is_named m x)
@@ -61,7 +63,8 @@ pub some_at_name : (m : BTreeMap Place Entry) (names : BTreeSet Name) → ((x : 
 some_at_name m names named x has none =
     false≢true (sym (ap (λ o. option_map_or (λ e. eq_by_cmp name_cmp (name_of e) x) o false) none) ∙ sym (named x) ∙ has)
 
-module _ {Y : Type 0} (m : BTreeMap Place Entry) (names : BTreeSet Name) (tops : BTreeMap (String Y) Place) (indexed : IsIndexed m names tops) where
+module _ {Y : Type 0} (m : BTreeMap Place Entry) (names : BTreeSet Name)
+    (tops : BTreeMap (String Y) Place) (indexed : IsIndexed m names tops) where
   -- an entry that is found is at its own place
   own : (q : Place) (e : Entry) → entry_at m q ≡ Some e → place_of e ≡ q
   own q e found = (subst (λ o. IfSome o (IsAt q)) found (indexed.placed q)).0
@@ -112,12 +115,15 @@ module _ {Y : Type 0} (m : BTreeMap Place Entry) (names : BTreeSet Name) (tops :
           reduce_greatest naming_cmp naming_cmp-total e _
           (all_filter (λ f. f.id == id) (IsUpTo naming_cmp naming_cmp-total e) (values_of m.entries)
           (all_map (λ (f : Place × Entry). f.1) (λ f. (f.id == id) ≡ true → IsUpTo naming_cmp naming_cmp-total e f) m.entries
-          (all_found (λ q f. (f.id == id) ≡ true → IsUpTo naming_cmp naming_cmp-total e f) m.entries indexed.ordered (λ q f at same. up_to_e q f at name e_id (number f.id id same)))))
+          (all_found (λ q f. (f.id == id) ≡ true → IsUpTo naming_cmp naming_cmp-total e f) m.entries indexed.ordered
+          (λ q f at same. up_to_e q f at name e_id (number f.id id same)))))
           (in_filter (λ f. f.id == id) e (values_of m.entries) (itself e.id id e_id) (in_values k.2 e m.entries found))
         where
-          up_to_e : (q : Place) (f : Entry) → entry_at m q ≡ Some f → name_of e ≡ k → e.id ≡ id → f.id ≡ id → IsUpTo naming_cmp naming_cmp-total e f
+          up_to_e : (q : Place) (f : Entry) → entry_at m q ≡ Some f → name_of e ≡ k
+              → e.id ≡ id → f.id ≡ id → IsUpTo naming_cmp naming_cmp-total e f
           up_to_e q f at name e_id f_id =
-              let before : is_lt (name_cmp (name_of e) (name_of f)) ≡ false = ap (λ x. is_lt (name_cmp x (name_of f))) name ∙ upper (name_of f) f_id (has_name q f at) in
+              let before : is_lt (name_cmp (name_of e) (name_of f)) ≡ false =
+              ap (λ x. is_lt (name_cmp x (name_of f))) name ∙ upper (name_of f) f_id (has_name q f at) in
               either (turned name_cmp name_cmp-total (name_of e) (name_of f) before)
             where
               ids : nat_cmp f.id e.id ≡ Equal
@@ -127,9 +133,11 @@ module _ {Y : Type 0} (m : BTreeMap Place Entry) (names : BTreeSet Name) (tops :
               one_id : name_cmp (name_of f) (name_of e) ≡ naming_cmp f e
               one_id = ap (λ o. ordering_then (ordering_then o (nat_cmp f.offset e.offset)) (place_cmp (place_of f) (place_of e))) ids
 
-              either : (name_cmp (name_of f) (name_of e) ≡ Less) ⊎ (name_cmp (name_of e) (name_of f) ≡ Equal) → IsUpTo naming_cmp naming_cmp-total e f
+              either : (name_cmp (name_of f) (name_of e) ≡ Less) ⊎ (name_cmp (name_of e) (name_of f) ≡ Equal)
+                  → IsUpTo naming_cmp naming_cmp-total e f
               either (inl less) = inr (sym one_id ∙ less)
-              either (inr tie) = inl (one_place q k.2 f e at found (ap (λ (x : Name). x.2) (sym (name_cmp-ties (name_of e) (name_of f) tie))))
+              either (inr tie) =
+                  inl (one_place q k.2 f e at found (ap (λ (x : Name). x.2) (sym (name_cmp-ties (name_of e) (name_of f) tie))))
 
   -- the last of all names has the greatest id
   pub greatest_id_some : (k : Name) (e : Entry) → contains name_cmp names k ≡ true → entry_at m k.2 ≡ Some e
@@ -152,7 +160,8 @@ module _ {Y : Type 0} (m : BTreeMap Place Entry) (names : BTreeSet Name) (tops :
 
       bound : (q : Place) (f : Entry) → entry_at m q ≡ Some f → f.id ≤ e.id
       bound q f at =
-          let before : is_lt (name_cmp (name_of e) (name_of f)) ≡ false = ap (λ x. is_lt (name_cmp x (name_of f))) name ∙ upper (name_of f) (has_name q f at) in
+          let before : is_lt (name_cmp (name_of e) (name_of f)) ≡ false =
+          ap (λ x. is_lt (name_cmp x (name_of f))) name ∙ upper (name_of f) (has_name q f at) in
           up_to f.id e.id (first_not_less (nat_cmp e.id f.id) (nat_cmp e.offset f.offset) (place_cmp (place_of e) (place_of f)) before)
 
   -- where there is no name, there is no entry
@@ -163,7 +172,8 @@ module _ {Y : Type 0} (m : BTreeMap Place Entry) (names : BTreeSet Name) (tops :
       (all_found (λ q f. ⊥) m.entries indexed.ordered (λ q f at. none (name_of f) (has_name q f at)))))
 
   -- the greatest version of a subject
-  pub greatest_version_is : (s : List ℕ) (o : Option Place) → IsTop m s o → option_map (λ p. p.1) o ≡ greatest_version (values_of m.entries) s
+  pub greatest_version_is : (s : List ℕ) (o : Option Place) → IsTop m s o
+      → option_map (λ p. p.1) o ≡ greatest_version (values_of m.entries) s
   greatest_version_is s None h =
       sym (reduce_none _ _ (all_map (λ e. e.version) (λ _. ⊥) (filter (λ e. bytes_eq e.subject s) (values_of m.entries))
       (all_filter (λ e. bytes_eq e.subject s) (λ _. ⊥) (values_of m.entries)
@@ -172,11 +182,13 @@ module _ {Y : Type 0} (m : BTreeMap Place Entry) (names : BTreeSet Name) (tops :
       (λ q e found same. is_some_none _ (h e.version) (ap is_some (here q e found same))))))))
     where
       here : (q : Place) (e : Entry) → entry_at m q ≡ Some e → bytes_eq e.subject s ≡ true → entry_at m (s, e.version) ≡ Some e
-      here q e found same = ap (λ t. entry_at m (t, e.version)) (sym ((bytes_eq-Decides e.subject s).0 same)) ∙ ap (entry_at m) (own q e found) ∙ found
+      here q e found same =
+          ap (λ t. entry_at m (t, e.version)) (sym ((bytes_eq-Decides e.subject s).0 same)) ∙ ap (entry_at m) (own q e found) ∙ found
   greatest_version_is s (Some p) h = by_entry (entry_at m p) refl
     where
       here : (q : Place) (e : Entry) → entry_at m q ≡ Some e → bytes_eq e.subject s ≡ true → entry_at m (s, e.version) ≡ Some e
-      here q e found same = ap (λ t. entry_at m (t, e.version)) (sym ((bytes_eq-Decides e.subject s).0 same)) ∙ ap (entry_at m) (own q e found) ∙ found
+      here q e found same =
+          ap (λ t. entry_at m (t, e.version)) (sym ((bytes_eq-Decides e.subject s).0 same)) ∙ ap (entry_at m) (own q e found) ∙ found
 
       by_entry : (o : Option Entry) → entry_at m p ≡ o → Some p.1 ≡ greatest_version (values_of m.entries) s
       by_entry None none = absurd (is_some_none _ none h.1)
@@ -191,7 +203,8 @@ module _ {Y : Type 0} (m : BTreeMap Place Entry) (names : BTreeSet Name) (tops :
           (λ q f at same. h.2 f.version (ap is_some (here q f at same)))))))
           (subst (λ n. IsIn n (map (λ e. e.version) (filter (λ e. bytes_eq e.subject s) (values_of m.entries)))) version
           (in_map (λ e. e.version) e (filter (λ e. bytes_eq e.subject s) (values_of m.entries))
-          (in_filter (λ e. bytes_eq e.subject s) e (values_of m.entries) ((bytes_eq-Decides e.subject s).1 (ap (λ (q : Place). q.0) place ∙ h.0))
+          (in_filter (λ e. bytes_eq e.subject s) e (values_of m.entries)
+          ((bytes_eq-Decides e.subject s).1 (ap (λ (q : Place). q.0) place ∙ h.0))
           (in_values p e m.entries found)))))
 
 -- what is before the first name of the next id has an id up to this one
@@ -229,7 +242,8 @@ no_name names h x has = none names.keys h has
     none (y ∷ ys) h has = false≢true (h (omega arith))
 
 -- where the last name up to an id is of a smaller one, no name is of the id
-pub passed_over : (k x : Name) (id : ℕ) → ¬ (k.0 ≡ id) → name_cmp k (id + 1, 0, ([], 0)) ≡ Less → x.0 ≡ id → is_lt (name_cmp k x) ≡ false → ⊥
+pub passed_over : (k x : Name) (id : ℕ) → ¬ (k.0 ≡ id)
+    → name_cmp k (id + 1, 0, ([], 0)) ≡ Less → x.0 ≡ id → is_lt (name_cmp k x) ≡ false → ⊥
 passed_over k x id apart before same upper =
     let below : k.0 < id + 1 = before_bound k (id + 1) before in
     let smaller : k.0 < x.0 = strictly k.0 id x.0 apart below same in

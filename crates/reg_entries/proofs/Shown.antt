@@ -30,11 +30,14 @@ module _ {Y : Type 0} (deletes : BTreeMap (String Y) SoftDelete) where
   under_own s e h = ap (λ t. under (get_by_text deletes t) e) (sym ((bytes_eq-Decides e.subject s).0 h))
 
   -- the entries of a subject, under its last delete
-  pub under_subject : (s : List ℕ) (es : List Entry) → map (under (get_by_text deletes s)) (of_subject es s) ≡ of_subject (shown_all deletes es) s
+  pub under_subject : (s : List ℕ) (es : List Entry)
+      → map (under (get_by_text deletes s)) (of_subject es s) ≡ of_subject (shown_all deletes es) s
   under_subject s [] = refl
   under_subject s (e ∷ es) =
       let d = get_by_text deletes s in
-      elim (bytes_eq e.subject s) as (λ b. bytes_eq e.subject s ≡ b → map (under d) (cond b (e ∷ of_subject es s) (of_subject es s)) ≡ cond b (shown deletes e ∷ of_subject (shown_all deletes es) s) (of_subject (shown_all deletes es) s)) [
+      elim (bytes_eq e.subject s) as (λ b. bytes_eq e.subject s ≡ b
+      → map (under d) (cond b (e ∷ of_subject es s) (of_subject es s))
+      ≡ cond b (shown deletes e ∷ of_subject (shown_all deletes es) s) (of_subject (shown_all deletes es) s)) [
         | true ↦ λ h i. under_own s e h i ∷ under_subject s es i
         | false ↦ λ _. under_subject s es
       ] refl
@@ -45,13 +48,17 @@ module _ {Y : Type 0} (deletes : BTreeMap (String Y) SoftDelete) where
 
   -- the one that an id names
   later : (x y : Entry) → ord_max naming_cmp (shown deletes x) (shown deletes y) ≡ shown deletes (ord_max naming_cmp x y)
-  later x y = elim (is_lt (naming_cmp y x)) as (λ b. cond b (shown deletes x) (shown deletes y) ≡ shown deletes (cond b x y)) [ true ↦ refl | false ↦ refl ]
+  later x y =
+      elim (is_lt (naming_cmp y x)) as (λ b.
+      cond b (shown deletes x) (shown deletes y) ≡ shown deletes (cond b x y)) [ true ↦ refl | false ↦ refl ]
 
-  last_of : (x : Entry) (xs : List Entry) → fold (ord_max naming_cmp) (shown deletes x) (shown_all deletes xs) ≡ shown deletes (fold (ord_max naming_cmp) x xs)
+  last_of : (x : Entry) (xs : List Entry)
+      → fold (ord_max naming_cmp) (shown deletes x) (shown_all deletes xs) ≡ shown deletes (fold (ord_max naming_cmp) x xs)
   last_of x [] = refl
   last_of x (y ∷ ys) = ap (λ z. fold (ord_max naming_cmp) z (shown_all deletes ys)) (later x y) ∙ last_of (ord_max naming_cmp x y) ys
 
-  greatest_shown : (xs : List Entry) → reduce (ord_max naming_cmp) (shown_all deletes xs) ≡ option_map (shown deletes) (reduce (ord_max naming_cmp) xs)
+  greatest_shown : (xs : List Entry)
+      → reduce (ord_max naming_cmp) (shown_all deletes xs) ≡ option_map (shown deletes) (reduce (ord_max naming_cmp) xs)
   greatest_shown [] = refl
   greatest_shown (x ∷ xs) = ap Some (last_of x xs)
 
@@ -64,17 +71,22 @@ module _ {Y : Type 0} (deletes : BTreeMap (String Y) SoftDelete) where
   any_shown (e ∷ es) = ap (λ b. not (shown deletes e).soft || b) (any_shown es)
 
   -- the way down through the entries ends where it ends by each one's own delete
-  pub under_stops : (s : List ℕ) (xs : List Entry) → option_map_or (is_of s) (find (stops s) (map (under (get_by_text deletes s)) xs)) false ≡ option_map_or (is_of s) (find (stops s) (shown_all deletes xs)) false
+  pub under_stops : (s : List ℕ) (xs : List Entry)
+      → option_map_or (is_of s) (find (stops s) (map (under (get_by_text deletes s)) xs)) false
+      ≡ option_map_or (is_of s) (find (stops s) (shown_all deletes xs)) false
   under_stops s [] = refl
   under_stops s (x ∷ xs) =
       let d = get_by_text deletes s in
       let rest = find (stops s) (map (under d) xs) in
       let rest_shown = find (stops s) (shown_all deletes xs) in
       elim (bytes_eq x.subject s) as (λ b. bytes_eq x.subject s ≡ b →
-      option_map_or (is_of s) (cond (not b || not (under d x).soft) (Some (under d x)) rest) false ≡ option_map_or (is_of s) (cond (not b || not (shown deletes x).soft) (Some (shown deletes x)) rest_shown) false) [
+      option_map_or (is_of s) (cond (not b || not (under d x).soft) (Some (under d x)) rest) false
+      ≡ option_map_or (is_of s) (cond (not b || not (shown deletes x).soft) (Some (shown deletes x)) rest_shown) false) [
         | true ↦ λ h.
             ap (λ y. option_map_or (is_of s) (cond (not y.soft) (Some y) rest) false) (under_own s x h)
-            ∙ elim (not (shown deletes x).soft) as (λ b. option_map_or (is_of s) (cond b (Some (shown deletes x)) rest) false ≡ option_map_or (is_of s) (cond b (Some (shown deletes x)) rest_shown) false) [ true ↦ refl | false ↦ under_stops s xs ]
+            ∙ elim (not (shown deletes x).soft) as (λ b.
+            option_map_or (is_of s) (cond b (Some (shown deletes x)) rest) false
+            ≡ option_map_or (is_of s) (cond b (Some (shown deletes x)) rest_shown) false) [ true ↦ refl | false ↦ under_stops s xs ]
         | false ↦ λ _. refl
       ] refl
 
@@ -90,17 +102,23 @@ module _ {Y : Type 0} (deletes : BTreeMap (String Y) SoftDelete) where
   values_shown [] = refl
   values_shown (e ∷ es) = ap (λ fs. shown deletes e.1 ∷ fs) (values_shown es)
 
-  lookup_shown : (p : Place) (es : List (Place × Entry)) → lookup (is_at (place_cmp p)) (shown_at es) ≡ option_map (shown deletes) (lookup (is_at (place_cmp p)) es)
+  lookup_shown : (p : Place) (es : List (Place × Entry))
+      → lookup (is_at (place_cmp p)) (shown_at es) ≡ option_map (shown deletes) (lookup (is_at (place_cmp p)) es)
   lookup_shown p [] = refl
   lookup_shown p (e ∷ es) =
-      elim (is_at (place_cmp p) e.0) as (λ b. cond b (Some (shown deletes e.1)) (lookup (is_at (place_cmp p)) (shown_at es)) ≡ option_map (shown deletes) (cond b (Some e.1) (lookup (is_at (place_cmp p)) es))) [
+      elim (is_at (place_cmp p) e.0) as (λ b.
+      cond b (Some (shown deletes e.1)) (lookup (is_at (place_cmp p)) (shown_at es))
+      ≡ option_map (shown deletes) (cond b (Some e.1) (lookup (is_at (place_cmp p)) es))) [
         | true ↦ refl
         | false ↦ lookup_shown p es
       ]
 
-  pub between_shown : (lo hi : Bound Place) (es : List (Place × Entry)) → values_of (entries_between place_cmp lo hi (shown_at es)) ≡ shown_all deletes (values_of (entries_between place_cmp lo hi es))
+  pub between_shown : (lo hi : Bound Place) (es : List (Place × Entry))
+      → values_of (entries_between place_cmp lo hi (shown_at es)) ≡ shown_all deletes (values_of (entries_between place_cmp lo hi es))
   between_shown lo hi es =
-      ap values_of (sym (map_filter (λ (e : Place × Entry). (e.0, shown deletes e.1)) (λ (e : Place × Entry). range_contains place_cmp lo hi e.0) es)) ∙ values_shown (entries_between place_cmp lo hi es)
+      ap values_of (
+      sym (map_filter (λ (e : Place × Entry). (e.0, shown deletes e.1)) (λ (e : Place × Entry). range_contains place_cmp lo hi e.0) es))
+      ∙ values_shown (entries_between place_cmp lo hi es)
 
   module _ (m : BTreeMap Place Entry) (ordered : IsOrdered place_cmp m) (placed : ArePlaced m) where
     at_shown : (p : Place) → found_at (shown_at m.entries) p ≡ option_map (shown deletes) (entry_at m p)
@@ -129,13 +147,17 @@ module _ {Y : Type 0} (deletes : BTreeMap (String Y) SoftDelete) where
 
     -- the way down from the greatest version ends at an entry of the subject that is live exactly where it has one
     pub live_shown : (p : Place) → IsTop m p.0 (Some p)
-        → option_map_or (is_of p.0) (find (stops p.0) (reverse (map (under (get_by_text deletes p.0)) (values_of (entries_between place_cmp Unbounded (Included p) m.entries))))) false ≡ has_live (shown_all deletes (values_of m.entries)) (Some p.0)
+        → option_map_or (is_of p.0) (
+        find (stops p.0) (
+        reverse (map (under (get_by_text deletes p.0)) (values_of (entries_between place_cmp Unbounded (Included p) m.entries))))) false
+        ≡ has_live (shown_all deletes (values_of m.entries)) (Some p.0)
     live_shown p top =
         let d = get_by_text deletes p.0 in
         let between = values_of (entries_between place_cmp Unbounded (Included p) m.entries) in
         ap (λ xs. option_map_or (is_of p.0) (find (stops p.0) xs) false) (sym (map-reverse (under d) between))
         ∙ under_stops p.0 (reverse between)
-        ∙ ap (λ xs. option_map_or (is_of p.0) (find (stops p.0) xs) false) (map-reverse (shown deletes) between ∙ ap reverse (sym (between_shown Unbounded (Included p) m.entries)))
+        ∙ ap (λ xs. option_map_or (is_of p.0) (find (stops p.0) xs) false)
+        (map-reverse (shown deletes) between ∙ ap reverse (sym (between_shown Unbounded (Included p) m.entries)))
         ∙ live_is (shown_at m.entries) ordered_shown placed_shown p (top_shown p.0 (Some p) top)
         ∙ ap (λ es. has_live es (Some p.0)) (values_shown m.entries)
 
@@ -146,14 +168,19 @@ module _ {Y : Type 0} (deletes : BTreeMap (String Y) SoftDelete) where
         ∙ none_live (shown_at m.entries) ordered_shown placed_shown s (top_shown s None none)
 
     -- the last entry of a subject that counts is the one of greatest version
-    pub latest_shown : (s : List ℕ) (deleted : Bool) → find (counts deleted) (reverse (map (under (get_by_text deletes s)) (of_subject (values_of m.entries) s))) ≡ latest (shown_all deletes (values_of m.entries)) s deleted
+    pub latest_shown : (s : List ℕ) (deleted : Bool)
+        → find (counts deleted) (reverse (map (under (get_by_text deletes s)) (of_subject (values_of m.entries) s)))
+        ≡ latest (shown_all deletes (values_of m.entries)) s deleted
     latest_shown s deleted =
-        ap (λ xs. find (counts deleted) (reverse xs)) (under_subject s (values_of m.entries) ∙ ap (λ es. of_subject es s) (sym (values_shown m.entries)))
+        ap (λ xs. find (counts deleted) (reverse xs))
+        (under_subject s (values_of m.entries) ∙ ap (λ es. of_subject es s) (sym (values_shown m.entries)))
         ∙ latest_is (shown_at m.entries) ordered_shown placed_shown s deleted
         ∙ ap (λ es. latest es s deleted) (values_shown m.entries)
 
     -- the entry at the place of a subject and a version, if it counts
-    pub of_version_shown : (s : List ℕ) (deleted : Bool) (v : ℕ) → option_filter (counts deleted) (option_map (shown deletes) (entry_at m (s, v))) ≡ of_version (shown_all deletes (values_of m.entries)) s v deleted
+    pub of_version_shown : (s : List ℕ) (deleted : Bool) (v : ℕ)
+        → option_filter (counts deleted) (option_map (shown deletes) (entry_at m (s, v)))
+        ≡ of_version (shown_all deletes (values_of m.entries)) s v deleted
     of_version_shown s deleted v =
         ap (option_filter (counts deleted)) (sym (at_shown (s, v)))
         ∙ of_version_is (shown_at m.entries) ordered_shown placed_shown s deleted v
@@ -162,4 +189,5 @@ module _ {Y : Type 0} (deletes : BTreeMap (String Y) SoftDelete) where
     -- the entries are in order
     pub in_order_shown : IsInOrder (shown_all deletes (values_of m.entries))
     in_order_shown =
-        subst IsInOrder (values_shown m.entries) (values_in_order (shown_at m.entries) (all_at_places (shown_at m.entries) ordered_shown placed_shown) ordered_shown)
+        subst IsInOrder (values_shown m.entries)
+        (values_in_order (shown_at m.entries) (all_at_places (shown_at m.entries) ordered_shown placed_shown) ordered_shown)

@@ -46,33 +46,45 @@ before_then Greater b h = h
 -- the first schema of a text is before all of them
 pub from_first : (t : List ℕ) (s : Schema) → s.0 ≡ t → is_gt (schema_cmp (t, 0, ([], 0)) s) ≡ false
 from_first t s same =
-    ap (λ o. is_gt (ordering_then (ordering_then o (nat_cmp 0 s.1)) (place_cmp ([], 0) s.2))) (ap (slice_cmp nat_cmp t) same ∙ tied_itself nat_list_cmp_total t)
-    ∙ then_not_after (nat_cmp 0 s.1) (place_cmp ([], 0) s.2) (zero_first s.1) (then_not_after (slice_cmp nat_cmp [] s.2.0) (nat_cmp 0 s.2.1) (none_first s.2.0) (zero_first s.2.1))
+    ap (λ o. is_gt (ordering_then (ordering_then o (nat_cmp 0 s.1)) (place_cmp ([], 0) s.2)))
+    (ap (slice_cmp nat_cmp t) same ∙ tied_itself nat_list_cmp_total t)
+    ∙ then_not_after (nat_cmp 0 s.1) (place_cmp ([], 0) s.2) (zero_first s.1)
+    (then_not_after (slice_cmp nat_cmp [] s.2.0) (nat_cmp 0 s.2.1) (none_first s.2.0) (zero_first s.2.1))
 
 -- of two schemas of a text the first has no greater id
 pub least_id : (k s : Schema) → k.0 ≡ s.0 → is_gt (schema_cmp k s) ≡ false → k.1 ≤ s.1
 least_id k s same h =
     let ties : slice_cmp nat_cmp k.0 s.0 ≡ Equal = ap (slice_cmp nat_cmp k.0) (sym same) ∙ tied_itself nat_list_cmp_total k.0 in
-    up_to k.1 s.1 (before_then (nat_cmp k.1 s.1) (place_cmp k.2 s.2) (sym (ap (λ o. is_gt (ordering_then (ordering_then o (nat_cmp k.1 s.1)) (place_cmp k.2 s.2))) ties) ∙ h))
+    up_to k.1 s.1 (
+    before_then (nat_cmp k.1 s.1) (place_cmp k.2 s.2)
+    (sym (ap (λ o. is_gt (ordering_then (ordering_then o (nat_cmp k.1 s.1)) (place_cmp k.2 s.2))) ties) ∙ h))
 
 -- where the first schema from the first of a text on is of another text, none is of that text
-pub passed : (t : List ℕ) (k s : Schema) → ¬ (k.0 ≡ t) → is_gt (schema_cmp (t, 0, ([], 0)) k) ≡ false → s.0 ≡ t → is_gt (schema_cmp k s) ≡ false → ⊥
+pub passed : (t : List ℕ) (k s : Schema) → ¬ (k.0 ≡ t)
+    → is_gt (schema_cmp (t, 0, ([], 0)) k) ≡ false → s.0 ≡ t → is_gt (schema_cmp k s) ≡ false → ⊥
 passed t k s apart from same before = by_order (slice_cmp nat_cmp t k.0) refl
   where
     from_t : is_gt (slice_cmp nat_cmp t k.0) ≡ false
-    from_t = before_then (slice_cmp nat_cmp t k.0) (nat_cmp 0 k.1) (before_then (ordering_then (slice_cmp nat_cmp t k.0) (nat_cmp 0 k.1)) (place_cmp ([], 0) k.2) from)
+    from_t =
+        before_then (slice_cmp nat_cmp t k.0) (nat_cmp 0 k.1)
+        (before_then (ordering_then (slice_cmp nat_cmp t k.0) (nat_cmp 0 k.1)) (place_cmp ([], 0) k.2) from)
 
     to_t : is_gt (slice_cmp nat_cmp k.0 t) ≡ false
-    to_t = ap (λ x. is_gt (slice_cmp nat_cmp k.0 x)) (sym same) ∙ before_then (slice_cmp nat_cmp k.0 s.0) (nat_cmp k.1 s.1) (before_then (ordering_then (slice_cmp nat_cmp k.0 s.0) (nat_cmp k.1 s.1)) (place_cmp k.2 s.2) before)
+    to_t =
+        ap (λ x. is_gt (slice_cmp nat_cmp k.0 x)) (sym same)
+        ∙ before_then (slice_cmp nat_cmp k.0 s.0) (nat_cmp k.1 s.1)
+        (before_then (ordering_then (slice_cmp nat_cmp k.0 s.0) (nat_cmp k.1 s.1)) (place_cmp k.2 s.2) before)
 
     by_order : (o : Ordering) → slice_cmp nat_cmp t k.0 ≡ o → ⊥
     by_order Less is = false≢true (sym to_t ∙ ap is_gt (nat_list_cmp_total.antisymm k.0 t ∙ ap ordering_reverse is))
     by_order Equal is = apart (sym (slice_cmp-IsAntisymmetric nat_cmp-IsAntisymmetric t k.0 is))
     by_order Greater is = false≢true (sym from_t ∙ ap is_gt is)
 
-module _ (m : BTreeMap Place Entry) (schemas : BTreeSet Schema) (ordered : IsOrdered place_cmp m) (placed : ArePlaced m) (listed : AreListed m schemas) where
+module _ (m : BTreeMap Place Entry) (schemas : BTreeSet Schema)
+    (ordered : IsOrdered place_cmp m) (placed : ArePlaced m) (listed : AreListed m schemas) where
   pub has_schema : (q : Place) (e : Entry) → entry_at m q ≡ Some e → contains schema_cmp schemas (schema_of e) ≡ true
-  has_schema q e found = listed (schema_of e) ∙ ap (λ o. has_it o (schema_of e)) (ap (entry_at m) (own_place m placed q e found) ∙ found) ∙ has_own e
+  has_schema q e found =
+      listed (schema_of e) ∙ ap (λ o. has_it o (schema_of e)) (ap (entry_at m) (own_place m placed q e found) ∙ found) ∙ has_own e
 
   -- no entry has the text, where no schema has
   pub id_of_none : (t : List ℕ) → ((s : Schema) → s.0 ≡ t → contains schema_cmp schemas s ≡ true → ⊥) → id_of (values_of m.entries) t ≡ None

@@ -41,12 +41,15 @@ one_subject s v w = ap (λ o. ordering_then o (nat_cmp v w)) (tied_itself nat_li
 pub up_to : (p : Place) (w : ℕ) → w ≤ p.1 → is_gt (place_cmp (p.0, w) p) ≡ false
 up_to p w h = ap is_gt (one_subject p.0 w p.1) ∙ not_greater w p.1 h
 
-module _ (m : BTreeMap Place Entry) (p q : Place) (upper : (x : Place) → is_gt (place_cmp x p) ≡ false → IsSome (entry_at m x) → is_lt (place_cmp q x) ≡ false) where
+module _ (m : BTreeMap Place Entry) (p q : Place)
+    (upper : (x : Place) → is_gt (place_cmp x p) ≡ false → IsSome (entry_at m x) → is_lt (place_cmp q x) ≡ false) where
   -- where q is the last place up to p and is of its subject
   pub greatest_up_to : q.0 ≡ p.0 → IsSome (entry_at m q) → IsGreatestUpTo m p (Some q.1)
   greatest_up_to same some = (
     subst (λ x. IsSome (entry_at m x)) place some,
-    λ w h found. not_less q.1 w (ap is_lt (sym (one_subject p.0 q.1 w)) ∙ ap (λ x. is_lt (place_cmp x (p.0, w))) (sym place) ∙ upper (p.0, w) (up_to p w h) found),
+    λ w h found.
+        not_less q.1 w (
+        ap is_lt (sym (one_subject p.0 q.1 w)) ∙ ap (λ x. is_lt (place_cmp x (p.0, w))) (sym place) ∙ upper (p.0, w) (up_to p w h) found),
   )
     where
       place : q ≡ (p.0, q.1)
@@ -54,15 +57,18 @@ module _ (m : BTreeMap Place Entry) (p q : Place) (upper : (x : Place) → is_gt
 
   -- and where it is of another
   pub none_up_to : ¬ (q.0 ≡ p.0) → is_gt (place_cmp q p) ≡ false → IsGreatestUpTo m p None
-  none_up_to apart before = λ w h. not_some _ (λ found. decided w (slice_cmp nat_cmp q.0 p.0) refl before (upper (p.0, w) (up_to p w h) found))
+  none_up_to apart before =
+      λ w h. not_some _ (λ found. decided w (slice_cmp nat_cmp q.0 p.0) refl before (upper (p.0, w) (up_to p w h) found))
     where
-      decided : (w : ℕ) (o : Ordering) → slice_cmp nat_cmp q.0 p.0 ≡ o → is_gt (ordering_then o (nat_cmp q.1 p.1)) ≡ false → is_lt (ordering_then (slice_cmp nat_cmp q.0 p.0) (nat_cmp q.1 w)) ≡ false → ⊥
+      decided : (w : ℕ) (o : Ordering) → slice_cmp nat_cmp q.0 p.0 ≡ o → is_gt (ordering_then o (nat_cmp q.1 p.1)) ≡ false
+          → is_lt (ordering_then (slice_cmp nat_cmp q.0 p.0) (nat_cmp q.1 w)) ≡ false → ⊥
       decided w Less is b f = false≢true (sym f ∙ ap (λ o. is_lt (ordering_then o (nat_cmp q.1 w))) is)
       decided w Equal is b f = apart (slice_cmp-IsAntisymmetric nat_cmp-IsAntisymmetric q.0 p.0 is)
       decided w Greater is b f = false≢true (sym b)
 
 -- the greatest version up to the last that there can be is the greatest
-pub top_is : (m : BTreeMap Place Entry) → ArePlaced m → (s : List ℕ) (o : Option ℕ) → IsGreatestUpTo m (s, 4294967295) o → IsTop m s (option_map (λ v. (s, v)) o)
+pub top_is : (m : BTreeMap Place Entry) → ArePlaced m → (s : List ℕ) (o : Option ℕ)
+    → IsGreatestUpTo m (s, 4294967295) o → IsTop m s (option_map (λ v. (s, v)) o)
 top_is m placed s o h = each o h
   where
     fits : (w : ℕ) → IsSome (entry_at m (s, w)) → w ≤ 4294967295
@@ -80,7 +86,8 @@ top_is m placed s o h = each o h
     each (Some v) h = (refl, h.0, λ w some. h.1 w (fits w some) some)
 
 -- where the entries that a subject has stay, so does the greatest of them
-pub top_stays : (m n : BTreeMap Place Entry) (s : List ℕ) → ((w : ℕ) → entry_at n (s, w) ≡ entry_at m (s, w)) → (o : Option Place) → IsTop m s o → IsTop n s o
+pub top_stays : (m n : BTreeMap Place Entry) (s : List ℕ)
+    → ((w : ℕ) → entry_at n (s, w) ≡ entry_at m (s, w)) → (o : Option Place) → IsTop m s o → IsTop n s o
 top_stays m n s same None h = λ w. same w ∙ h w
 top_stays m n s same (Some p) h = (h.0, ap is_some (at p h.0) ∙ h.1, λ w some. h.2 w (sym (ap is_some (same w)) ∙ some))
   where
@@ -93,9 +100,11 @@ has_top m p None some h = absurd (is_some_none _ (h p.1) some)
 has_top m p (Some q) some h = refl
 
 -- another subject's entries stay where one place changes, or none
-other_subject : (m n : BTreeMap Place Entry) (p : Place) (o : Option Entry) → HasAt m n p o ⊎ (n.entries ≡ m.entries) → (s : List ℕ) → bytes_eq p.0 s ≡ false → (w : ℕ) → entry_at n (s, w) ≡ entry_at m (s, w)
+other_subject : (m n : BTreeMap Place Entry) (p : Place) (o : Option Entry) → HasAt m n p o ⊎ (n.entries ≡ m.entries)
+    → (s : List ℕ) → bytes_eq p.0 s ≡ false → (w : ℕ) → entry_at n (s, w) ≡ entry_at m (s, w)
 other_subject m n p o (inl at) s apart w =
-    at (s, w) ∙ ap (λ b. cond b o (entry_at m (s, w))) (apart_first (slice_cmp nat_cmp p.0 s) (nat_cmp p.1 w) (is_eq-slice_cmp p.0 s ∙ apart))
+    at (s, w)
+    ∙ ap (λ b. cond b o (entry_at m (s, w))) (apart_first (slice_cmp nat_cmp p.0 s) (nat_cmp p.1 w) (is_eq-slice_cmp p.0 s ∙ apart))
 other_subject m n p o (inr same) s apart w = ap (λ (es : List (Place × Entry)). lookup (is_at (place_cmp (s, w))) es) same
 
 -- all greatest versions after one place changed, or none, and its subject's was refreshed
@@ -108,7 +117,8 @@ tops_refreshed m n p o ends before after was refreshed others s =
     (λ h. subst (λ t. IsTop n t (after t)) ((bytes_eq-Decides p.0 s).0 h) refreshed)
     (λ h. subst (IsTop n s) (sym (others s h)) (top_stays m n s (other_subject m n p o ends s h) (before s) (was s)))
 
-module _ {X Y : Type 0} (old new : BTreeMap (String Y) X) (key : List ℕ) (o : Option X) (after : (s : List ℕ) → get_by_text new s ≡ cond (bytes_eq key s) o (get_by_text old s)) where
+module _ {X Y : Type 0} (old new : BTreeMap (String Y) X) (key : List ℕ) (o : Option X)
+    (after : (s : List ℕ) → get_by_text new s ≡ cond (bytes_eq key s) o (get_by_text old s)) where
   -- what is kept under a text that was written, and under the others
   pub at_text : get_by_text new key ≡ o
   at_text = after key ∙ ap (λ b. cond b o (get_by_text old key)) ((bytes_eq-Decides key key).1 refl)

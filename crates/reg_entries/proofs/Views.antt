@@ -58,7 +58,10 @@ turned p q = (eq_by_cmp_equiv place_cmp-total).symm p q
 pub view-written : (m n : BTreeMap Place Entry) (p : Place) (e : Entry) → HasAt m n p (Some e) → view n ≡ finmap.insert (view m) p e
 view-written m n p e at =
     finmap.same_map place_cmp-total place_cmp-ties (view n) (finmap.insert (view m) p e) (λ q.
-    get-view n q ∙ at q ∙ ap (λ b. cond b (Some e) (entry_at m q)) (turned p q) ∙ ap (cond (eq_by_cmp place_cmp q p) (Some e)) (sym (get-view m q))
+    get-view n q
+    ∙ at q
+    ∙ ap (λ b. cond b (Some e) (entry_at m q)) (turned p q)
+    ∙ ap (cond (eq_by_cmp place_cmp q p) (Some e)) (sym (get-view m q))
     ∙ sym (finmap.get-insert place_cmp-total (view m) p e q))
 
 -- and one that goes is removed

@@ -68,7 +68,8 @@ fewer f g grows (suc m) = go (f m) (g m) (grows m) (fewer f g grows m)
 lt_or_last : (k m : ℕ) → k < suc m → (k < m) ⊎ (k ≡ m)
 lt_or_last k zero h = inr (omega (arith, h))
 lt_or_last zero (suc m) h = inl (omega arith)
-lt_or_last (suc k) (suc m) h = elim (lt_or_last k m (omega (arith, h))) [ inl less ↦ inl (omega (arith, less)) | inr same ↦ inr (ap suc same) ]
+lt_or_last (suc k) (suc m) h =
+    elim (lt_or_last k m (omega (arith, h))) [ inl less ↦ inl (omega (arith, less)) | inr same ↦ inr (ap suc same) ]
 
 -- what passes the one test below a number passes the other
 abbrev Covers : (f g : ℕ → Bool) → ℕ → Type 0
@@ -109,15 +110,20 @@ module _ (r w : List Node) where
   at_once zero p clash = clash
   at_once (suc n) p clash = or_left (is_some (clash_of r w p)) (list_any (λ o. clashes_within n o.pair) (obligations r w p)) clash
 
-  by_one : (n : ℕ) (p : Pair) (k : ℕ) (o : Obligation) → slice_get (obligations r w p) k ≡ Some o → clashes_within n o.pair ≡ true → clashes_within (suc n) p ≡ true
-  by_one n p k o at on = or_right (is_some (clash_of r w p)) (list_any (λ o. clashes_within n o.pair) (obligations r w p)) (any_by (λ o. clashes_within n o.pair) (obligations r w p) k o at on)
+  by_one : (n : ℕ) (p : Pair) (k : ℕ) (o : Obligation) → slice_get (obligations r w p) k ≡ Some o
+      → clashes_within n o.pair ≡ true → clashes_within (suc n) p ≡ true
+  by_one n p k o at on =
+      or_right (is_some (clash_of r w p)) (list_any (λ o. clashes_within n o.pair) (obligations r w p))
+      (any_by (λ o. clashes_within n o.pair) (obligations r w p) k o at on)
 
   -- a hop more does no harm
   one_more : (n : ℕ) (p : Pair) → clashes_within n p ≡ true → clashes_within (suc n) p ≡ true
   one_more zero p e = at_once 1 p e
   one_more (suc n) p e = elim (or_cases (is_some (clash_of r w p)) (list_any (λ o. clashes_within n o.pair) (obligations r w p)) e) [
     | inl clash ↦ at_once (suc (suc n)) p clash
-    | inr there ↦ let (k, o, at, on) = any_at (λ o. clashes_within n o.pair) (obligations r w p) there in by_one (suc n) p k o at (one_more n o.pair on)
+    | inr there ↦
+        let (k, o, at, on) = any_at (λ o. clashes_within n o.pair) (obligations r w p) there in
+        by_one (suc n) p k o at (one_more n o.pair on)
   ]
 
   -- numbers lead from it to a clash
@@ -131,10 +137,16 @@ module _ (r w : List Node) where
         (k ∷ ks, by_obligation p k ks o at leads)
   ]
     where
-      by_obligation : (p : Pair) (k : ℕ) (ks : List ℕ) (o : Obligation) → slice_get (obligations r w p) k ≡ Some o → IsSome (trail_from r w o.pair ks) → IsSome (trail_from r w p (k ∷ ks))
+      by_obligation : (p : Pair) (k : ℕ) (ks : List ℕ) (o : Obligation) → slice_get (obligations r w p) k ≡ Some o
+          → IsSome (trail_from r w o.pair ks) → IsSome (trail_from r w p (k ∷ ks))
       by_obligation p k ks o at leads =
-          let there : IsSome (option_map (λ (t : Trail). record t { hops = o.hop ∷ t.hops }) (trail_from r w o.pair ks)) = map_of_some _ (trail_from r w o.pair ks) leads in
-          subst (λ (found : Option Obligation). IsSome (option_and_then (λ o. option_map (λ (t : Trail). record t { hops = o.hop ∷ t.hops }) (trail_from r w o.pair ks)) found)) (sym at) there
+          let there : IsSome (option_map (λ (t : Trail). record t { hops = o.hop ∷ t.hops }) (trail_from r w o.pair ks)) =
+          map_of_some _ (trail_from r w o.pair ks) leads in
+          subst
+          (λ (found : Option Obligation).
+          IsSome (
+          option_and_then (λ o. option_map (λ (t : Trail). record t { hops = o.hop ∷ t.hops }) (trail_from r w o.pair ks)) found))
+          (sym at) there
 
   -- so many hops are enough
   abbrev pub IsEnough : ℕ → Type 0
@@ -145,7 +157,8 @@ module _ (r w : List Node) where
   enough n is [] p leads = at_once n p (some_of_map _ (clash_of r w p) leads)
   enough n is (k ∷ ks) p leads = is p (onward (slice_get (obligations r w p) k) refl leads (λ o on. enough n is ks o.pair on))
     where
-      onward : (found : Option Obligation) → slice_get (obligations r w p) k ≡ found → IsSome (option_and_then (λ o. option_map (λ (t : Trail). record t { hops = o.hop ∷ t.hops }) (trail_from r w o.pair ks)) found)
+      onward : (found : Option Obligation) → slice_get (obligations r w p) k ≡ found
+          → IsSome (option_and_then (λ o. option_map (λ (t : Trail). record t { hops = o.hop ∷ t.hops }) (trail_from r w o.pair ks)) found)
           → ((o : Obligation) → IsSome (trail_from r w o.pair ks) → clashes_within n o.pair ≡ true) → clashes_within (suc n) p ≡ true
       onward None at on each = cc
       onward (Some o) at on each = by_one n p k o at (each o (some_of_map _ (trail_from r w o.pair ks) on))
@@ -160,8 +173,10 @@ module _ (r w : List Node) where
 
   pair_of_number : (p : Pair) → p.writer.index < length w → pair_of (number_of p) ≡ p
   pair_of_number p inside =
-      ap (λ i. record { reader = record { index = i }; writer = record { index = number_of p % length w } }) (div-mul-add p.reader.index (length w) p.writer.index inside)
-      ∙ ap (λ j. record { reader = record { index = p.reader.index }; writer = record { index = j } }) (mod-mul-add p.reader.index (length w) p.writer.index inside)
+      ap (λ i. record { reader = record { index = i }; writer = record { index = number_of p % length w } })
+      (div-mul-add p.reader.index (length w) p.writer.index inside)
+      ∙ ap (λ j. record { reader = record { index = p.reader.index }; writer = record { index = j } })
+      (mod-mul-add p.reader.index (length w) p.writer.index inside)
 
   -- how many pairs there are
   abbrev count : ℕ
@@ -181,15 +196,21 @@ module _ (r w : List Node) where
   covered n covers p e = go (slice_get r p.reader.index) (slice_get w p.writer.index) refl refl
     where
       go : (i j : Option Node) → slice_get r p.reader.index ≡ i → slice_get w p.writer.index ≡ j → clashes_within n p ≡ true
-      go None j is_i is_j = at_once n p (subst (λ i. IsSome (result_err (row r w p i (slice_get w p.writer.index)))) (sym is_i) (no_reader p (slice_get w p.writer.index)))
+      go None j is_i is_j =
+          at_once n p (
+          subst (λ i. IsSome (result_err (row r w p i (slice_get w p.writer.index))))
+          (sym is_i) (no_reader p (slice_get w p.writer.index)))
       go (Some i) None is_i is_j =
-          at_once n p (subst (λ x. IsSome (result_err (row r w p x (slice_get w p.writer.index)))) (sym is_i) (subst (λ x. IsSome (result_err (row r w p (Some i) x))) (sym is_j) (no_writer p i)))
+          at_once n p (
+          subst (λ x. IsSome (result_err (row r w p x (slice_get w p.writer.index)))) (sym is_i)
+          (subst (λ x. IsSome (result_err (row r w p (Some i) x))) (sym is_j) (no_writer p i)))
       go (Some i) (Some j) is_i is_j =
           let reader : p.reader.index < length r = slice_get_within r p.reader.index i is_i in
           let writer : p.writer.index < length w = slice_get_within w p.writer.index j is_j in
           let below : number_of p < length w * length r = mul-add-lt p.reader.index (length w) p.writer.index (length r) reader writer in
           let same : pair_of (number_of p) ≡ p = pair_of_number p writer in
-          ap (clashes_within n) (sym same) ∙ covers (number_of p) (omega (arith, below, mul_comm (length r) (length w))) (ap (clashes_within (suc n)) same ∙ e)
+          ap (clashes_within n) (sym same)
+          ∙ covers (number_of p) (omega (arith, below, mul_comm (length r) (length w))) (ap (clashes_within (suc n)) same ∙ e)
 
   -- with one hop more the same pairs pass, or more of them
   hop_more : (n : ℕ) → Covers (passes n) (passes (suc n)) count ⊎ (fails (passes (suc n)) count < fails (passes n) count)
@@ -198,7 +219,8 @@ module _ (r w : List Node) where
   -- so some time they are the same, and that is enough
   settles : (fuel n : ℕ) → fails (passes n) count ≤ fuel → (m : ℕ) × IsEnough m
   settles zero n le = elim (hop_more n) [ inl covers ↦ (n, covered n covers) | inr less ↦ absurd (omega (arith, le, less)) ]
-  settles (suc fuel) n le = elim (hop_more n) [ inl covers ↦ (n, covered n covers) | inr less ↦ settles fuel (suc n) (omega (arith, le, less)) ]
+  settles (suc fuel) n le =
+      elim (hop_more n) [ inl covers ↦ (n, covered n covers) | inr less ↦ settles fuel (suc n) (omega (arith, le, less)) ]
 
   pub some_is_enough : (m : ℕ) × IsEnough m
   some_is_enough = settles (fails (passes 0) count) 0 (omega arith)

@@ -24,7 +24,8 @@ use Rattle.reg_existence.specs.CatchingUp.{CatchesUpBy, NodesMayCatchUp, Rebased
 use Rattle.reg_existence.proofs.Events.{allowed}
 
 -- one event more
-runs_push : (s : State) (es : List Event) (os : List Outcome) (w v : State) (e : Event) (o : Outcome) → Runs s es os w → Happens w e o v → Runs s (es ++ e ∷ []) (os ++ o ∷ []) v
+runs_push : (s : State) (es : List Event) (os : List Outcome) (w v : State) (e : Event) (o : Outcome)
+    → Runs s es os w → Happens w e o v → Runs s (es ++ e ∷ []) (os ++ o ∷ []) v
 runs_push s [] [] w v e o there happens = (v, subst (λ x. Happens x e o v) there happens, refl)
 runs_push s [] (p ∷ os) w v e o there happens = absurd there
 runs_push s (d ∷ es) [] w v e o there happens = absurd there
@@ -72,7 +73,8 @@ module _ (order : IsTotalOrder record_cmp) (apart : IsAntisymmetric record_cmp) 
   or_first true b e = refl
   or_first false b e = cc
 
-  all_have : (test : Record → Bool) (rs : List Record) → ((r : Record) → list_any (eq_by_cmp record_cmp r) rs ≡ true → test r ≡ true) → list_all test rs ≡ true
+  all_have : (test : Record → Bool) (rs : List Record)
+      → ((r : Record) → list_any (eq_by_cmp record_cmp r) rs ≡ true → test r ≡ true) → list_all test rs ≡ true
   all_have test [] each = refl
   all_have test (r ∷ rs) each =
       ap (λ b. b && list_all test rs) (each r (or_first (eq_by_cmp record_cmp r r) (list_any (eq_by_cmp record_cmp r) rs) (itself r)))
@@ -86,15 +88,18 @@ module _ (order : IsTotalOrder record_cmp) (apart : IsAntisymmetric record_cmp) 
   and_true false b e f = e
 
   module _ (all_catch_up : TakersOfAllCatchUp) where
-    takes_all : (es : List Event) (w : State) (after : After es w) (i : ℕ) → has_node w i ≡ true → (set_at w i).floor ≡ (topic_of w).kept.floor → (n : Node) → slice_get w.nodes i ≡ Some n
+    takes_all : (es : List Event) (w : State) (after : After es w) (i : ℕ) → has_node w i ≡ true
+        → (set_at w i).floor ≡ (topic_of w).kept.floor → (n : Node) → slice_get w.nodes i ≡ Some n
         → CatchesUpBy es w i (take_all w i ∷ [])
     takes_all es w after i has at_floor n is =
         let kept : Records = (topic_of w).kept.records in
         let f = taking (from_list (items kept)) in
         let v : State = with_node w i f in
-        let fine : is_allowed w (take_all w i) ≡ true = and_true (has_node w i) (list_all (contains kept) (items kept)) has (has_items kept) in
+        let fine : is_allowed w (take_all w i) ≡ true =
+        and_true (has_node w i) (list_all (contains kept) (items kept)) has (has_items kept) in
         let agree : floors_agree w (take_all w i) ≡ true = eq-eqb (set_at w i).floor (topic_of w).kept.floor at_floor in
-        let then : After (es ++ take_all w i ∷ []) v = one_more es w v (take_all w i) outcomes.Done after (allowed w v (take_all w i) outcomes.Done fine agree (refl, refl)) in (
+        let then : After (es ++ take_all w i ∷ []) v =
+        one_more es w v (take_all w i) outcomes.Done after (allowed w v (take_all w i) outcomes.Done fine agree (refl, refl)) in (
           v,
           then,
           refl,
@@ -102,12 +107,15 @@ module _ (order : IsTotalOrder record_cmp) (apart : IsAntisymmetric record_cmp) 
             node = f n;
             is_there = changed_at f i w.nodes n is;
             at_floor = sym (ap (λ (x : Floored). x.floor) (set_there w i n is)) ∙ at_floor;
-            all = λ r there. contains-union order n.took (from_list (items kept)) r ∙ or_true (contains n.took r) (contains (from_list (items kept)) r) (in_items kept r there);
+            all = λ r there.
+                contains-union order n.took (from_list (items kept)) r
+                ∙ or_true (contains n.took r) (contains (from_list (items kept)) r) (in_items kept r there);
           }),
         )
 
     pub nodes_may_catch_up : NodesMayCatchUp
-    nodes_may_catch_up es w after i has at_floor = let (n, is) = some_node (slice_get w.nodes i) has in takes_all es w after i has at_floor n is
+    nodes_may_catch_up es w after i has at_floor =
+        let (n, is) = some_node (slice_get w.nodes i) has in takes_all es w after i has at_floor n is
 
     pub rebased_nodes_may_catch_up : RebasedNodesMayCatchUp
     rebased_nodes_may_catch_up es w after i has =
@@ -115,7 +123,8 @@ module _ (order : IsTotalOrder record_cmp) (apart : IsAntisymmetric record_cmp) 
         let f = rebasing (topic_of w).kept in
         let u : State = with_node w i f in
         let there = changed_at f i w.nodes n is in
-        let then : After (es ++ events.Rebase i ∷ []) u = one_more es w u (events.Rebase i) outcomes.Done after (allowed w u (events.Rebase i) outcomes.Done has refl (refl, refl)) in
+        let then : After (es ++ events.Rebase i ∷ []) u =
+        one_more es w u (events.Rebase i) outcomes.Done after (allowed w u (events.Rebase i) outcomes.Done has refl (refl, refl)) in
         let at_floor : (set_at u i).floor ≡ (topic_of u).kept.floor = ap (λ (x : Floored). x.floor) (set_there u i (f n) there) in
         let (v, last, same, took) = nodes_may_catch_up (es ++ events.Rebase i ∷ []) u then i (ap is_some there) at_floor in
         (v, subst (λ more. After more v) (two_more es (events.Rebase i) (take_all w i)) last, same, took)

@@ -31,7 +31,8 @@ module _ (greatest : LastIsGreatest) (stand : EntriesAreOfPlaces) (opaque_lasts 
   not_closed : is_closed (last_records empty) ≡ false
   not_closed =
       let read : opaque (last_records empty) ≡ None = (opaque_lasts empty).1 (λ key r is. absurd (no_last key r is)) in
-      let apart : two_schemas (last_records empty) ≡ None = (one (entries (last_records empty))).1 (λ e f has_e has_f same. absurd (no_entry e has_e)) in
+      let apart : two_schemas (last_records empty) ≡ None =
+      (one (entries (last_records empty))).1 (λ e f has_e has_f same. absurd (no_entry e has_e)) in
       ap (λ o. is_some o || is_some (two_schemas (last_records empty))) read ∙ ap is_some apart
 
   pub empty_is_adopted : EmptyTopicIsAdopted

@@ -34,13 +34,15 @@ Where b s e o t = MatchBool b (WhereAllowed s e o t) ((o ≡ outcomes.NotAllowed
 pub allowed : (s t : State) (e : Event) (o : Outcome) → is_allowed s e ≡ true → floors_agree s e ≡ true → Does s e o t → Happens s e o t
 unfolding Happens
 allowed s t e o fine agree does =
-    subst (λ b. Where b s e o t) (sym fine) (subst (λ b. MatchBool b (Does s e o t) ((o ≡ outcomes.FloorsDiffer) × (t ≡ s))) (sym agree) does)
+    subst (λ b. Where b s e o t) (sym fine)
+    (subst (λ b. MatchBool b (Does s e o t) ((o ≡ outcomes.FloorsDiffer) × (t ≡ s))) (sym agree) does)
 
 differing : (s : State) (e : Event) → is_allowed s e ≡ true → floors_agree s e ≡ false → Happens s e outcomes.FloorsDiffer s
 unfolding Happens
 differing s e fine differ =
     subst (λ b. Where b s e outcomes.FloorsDiffer s) (sym fine)
-    (subst (λ b. MatchBool b (Does s e outcomes.FloorsDiffer s) ((outcomes.FloorsDiffer ≡ outcomes.FloorsDiffer) × (s ≡ s))) (sym differ) (refl, refl))
+    (subst (λ b. MatchBool b (Does s e outcomes.FloorsDiffer s) ((outcomes.FloorsDiffer ≡ outcomes.FloorsDiffer) × (s ≡ s)))
+    (sym differ) (refl, refl))
 
 not_allowed : (s : State) (e : Event) → is_allowed s e ≡ false → Happens s e outcomes.NotAllowed s
 unfolding Happens
@@ -49,8 +51,11 @@ not_allowed s e refused = subst (λ b. Where b s e outcomes.NotAllowed s) (sym r
 module _ (steps : StepsExist) (answers : AnswersExist) where
   commands : (s : State) (node : ℕ) (command : Command) (fate : Fate) → DoesSome s (events.Command node command fate)
   commands s node command fate =
-      let (reply, batch, step) = steps (registry_of (topic_of (settled s))) (topic_of (settled s)).next command in
-      (outcomes.Replied (told fate reply batch), with_batch (settled s) fate command batch, record { reply = reply; batch = batch; step = step; outcome = refl; state = refl })
+      let (reply, batch, step) = steps (registry_of (topic_of (settled s))) (topic_of (settled s)).next command in (
+        outcomes.Replied (told fate reply batch),
+        with_batch (settled s) fate command batch,
+        record { reply = reply; batch = batch; step = step; outcome = refl; state = refl },
+      )
 
   lookups : (s : State) (node : ℕ) (query : Query) → DoesSome s (events.Lookup node query)
   lookups s node query =
@@ -59,8 +64,10 @@ module _ (steps : StepsExist) (answers : AnswersExist) where
 
   does_some : (s : State) (e : Event) → DoesSome s e
   does_some s (events.Command node command fate) = commands s node command fate
-  does_some s (events.Compact dropped) = (outcomes.Done, publish (settled s) (items.Compaction (at_floor (topic_of (settled s)).kept.floor dropped)), (refl, refl))
-  does_some s (events.CompactTo floor dropped) = (outcomes.Done, publish (settled s) (items.Compaction (at_floor floor dropped)), (refl, refl))
+  does_some s (events.Compact dropped) =
+      (outcomes.Done, publish (settled s) (items.Compaction (at_floor (topic_of (settled s)).kept.floor dropped)), (refl, refl))
+  does_some s (events.CompactTo floor dropped) =
+      (outcomes.Done, publish (settled s) (items.Compaction (at_floor floor dropped)), (refl, refl))
   does_some s (events.Take node records) = (outcomes.Done, with_node s node (taking (from_list records)), (refl, refl))
   does_some s (events.CompactNode node) = (outcomes.Done, with_node s node compacted, (refl, refl))
   does_some s (events.MergeFrom node other) = (outcomes.Done, with_node s node (taking (set_at s other).records), (refl, refl))

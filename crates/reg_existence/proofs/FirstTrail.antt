@@ -29,7 +29,9 @@ some_is (Some y) x e = refl
 module _ (r w : List Node) where
   -- whether the obligation of that number among some leads to a clash, along these
   abbrev pub Leads : List Obligation → ℕ → List ℕ → Type 0
-  Leads os k ks = IsSome (option_and_then (λ o. option_map (λ (t : Trail). record t { hops = o.hop ∷ t.hops }) (trail_from r w o.pair ks)) (slice_get os k))
+  Leads os k ks =
+      IsSome (
+      option_and_then (λ o. option_map (λ (t : Trail). record t { hops = o.hop ∷ t.hops }) (trail_from r w o.pair ks)) (slice_get os k))
 
 -- the first of so many numbers that lead from a pair to a clash
 pub record First (r w : List Node) (n : ℕ) (p : Pair) : Type 0 where
@@ -101,14 +103,22 @@ module _ (r w : List Node) where
 
   -- a pair that clashes itself, and one that doesn't
   at_once : (p : Pair) (c : Option ClashKind) → clash_of r w p ≡ c → First r w zero p ⊎ HasNone r w zero p
-  at_once p (Some c) is = inl (record { numbers = []; long = refl; leads = map_of_some _ (clash_of r w p) (some_is (clash_of r w p) c is); first = λ ls long leads. tt })
+  at_once p (Some c) is =
+      inl (
+      record {
+        numbers = [];
+        long = refl;
+        leads = map_of_some _ (clash_of r w p) (some_is (clash_of r w p) c is);
+        first = λ ls long leads. tt;
+      })
   at_once p None is = inr none
     where
       none : HasNone r w zero p
       none [] long leads = none_isnt_some (clash_of r w p) is (some_of_map _ (clash_of r w p) leads)
       none (l ∷ ls) long leads = absurd (omega (arith, long))
 
-  by_obligations : (n : ℕ) (p : Pair) → FirstAmong r w n (obligations r w p) ⊎ HasNoneAmong r w n (obligations r w p) → First r w (suc n) p ⊎ HasNone r w (suc n) p
+  by_obligations : (n : ℕ) (p : Pair) → FirstAmong r w n (obligations r w p) ⊎ HasNoneAmong r w n (obligations r w p)
+      → First r w (suc n) p ⊎ HasNone r w (suc n) p
   by_obligations n p (inl f) = inl (record { numbers = f.number ∷ f.numbers; long = ap suc f.long; leads = f.leads; first = first })
     where
       first : (ls : List ℕ) → length ls ≡ suc n → IsSome (trail_from r w p ls) → InOrder (f.number ∷ f.numbers) ls

@@ -25,9 +25,11 @@ pub record Clashes (ps : List Required) : Type 0 where
 module _ (verdicts : VerdictsExist) where
   after_one : (p : Required) (ps : List Required) → IsCompatible p → AllPass ps ⊎ Clashes ps → AllPass (p ∷ ps) ⊎ Clashes (p ∷ ps)
   after_one p ps is (inl rest) = inl (All-cons IsCompatible p ps is rest.0, inl (is, rest.1))
-  after_one p ps is (inr rest) = inr (record { verdict = rest.verdict; message = rest.message; is_verdict = inl (is, rest.is_verdict); tells = rest.tells })
+  after_one p ps is (inr rest) =
+      inr (record { verdict = rest.verdict; message = rest.message; is_verdict = inl (is, rest.is_verdict); tells = rest.tells })
 
-  by_verdict : (p : Required) (ps : List Required) (v : Verdict) → IsVerdict p.reader p.writer v → AllPass ps ⊎ Clashes ps → AllPass (p ∷ ps) ⊎ Clashes (p ∷ ps)
+  by_verdict : (p : Required) (ps : List Required) (v : Verdict) → IsVerdict p.reader p.writer v
+      → AllPass ps ⊎ Clashes ps → AllPass (p ∷ ps) ⊎ Clashes (p ∷ ps)
   by_verdict p ps Compatible is rest = after_one p ps is rest
   by_verdict p ps (Clash trail) is rest = inr (record {
     verdict = failed p trail;

@@ -26,14 +26,16 @@ both o other x t u y one two = (one.0 ∙ sym two.0, one.1 ∙ sym two.1)
 abbrev WhereAllowed : Bool → State → Event → Outcome → State → Type 0
 WhereAllowed b s e o t = MatchBool b (Does s e o t) ((o ≡ outcomes.FloorsDiffer) × (t ≡ s))
 
-opened : (s t : State) (e : Event) (o : Outcome) (b c : Bool) → is_allowed s e ≡ b → floors_agree s e ≡ c → Happens s e o t → MatchBool b (WhereAllowed c s e o t) ((o ≡ outcomes.NotAllowed) × (t ≡ s))
+opened : (s t : State) (e : Event) (o : Outcome) (b c : Bool) → is_allowed s e ≡ b → floors_agree s e ≡ c
+    → Happens s e o t → MatchBool b (WhereAllowed c s e o t) ((o ≡ outcomes.NotAllowed) × (t ≡ s))
 unfolding Happens
 opened s t e o b c is agree happens =
     subst (λ x. MatchBool x (WhereAllowed c s e o t) ((o ≡ outcomes.NotAllowed) × (t ≡ s))) is
     (subst (λ x. MatchBool (is_allowed s e) (WhereAllowed x s e o t) ((o ≡ outcomes.NotAllowed) × (t ≡ s))) agree happens)
 
 module _ (steps : StepsAreSingle) (answers : HaveOneAnswer) where
-  one_step : (s : State) (command : Command) (fate : Fate) (o other : Outcome) (t u : State) → Steps s command fate o t → Steps s command fate other u → AreSame o other t u
+  one_step : (s : State) (command : Command) (fate : Fate) (o other : Outcome) (t u : State)
+      → Steps s command fate o t → Steps s command fate other u → AreSame o other t u
   one_step s command fate o other t u a b =
       let (replies, batches) = steps (registry_of (topic_of s)) (topic_of s).next command a.reply b.reply a.batch b.batch a.step b.step in (
         a.outcome ∙ ap outcomes.Replied (ap₂ (told fate) replies batches) ∙ sym b.outcome,
@@ -53,10 +55,14 @@ module _ (steps : StepsAreSingle) (answers : HaveOneAnswer) where
       let same = answers (last_records (set_at s node).records) query answer found is is_found in
       (outcome ∙ ap outcomes.Answered same ∙ sym told_other, state ∙ sym stays)
 
-  by_permit : (s : State) (e : Event) (o other : Outcome) (t u : State) (b c : Bool) → is_allowed s e ≡ b → floors_agree s e ≡ c → Happens s e o t → Happens s e other u → AreSame o other t u
-  by_permit s e o other t u true true is agree one two = does_one s e o other t u (opened s t e o true true is agree one) (opened s u e other true true is agree two)
-  by_permit s e o other t u true false is agree one two = both o other outcomes.FloorsDiffer t u s (opened s t e o true false is agree one) (opened s u e other true false is agree two)
-  by_permit s e o other t u false c is agree one two = both o other outcomes.NotAllowed t u s (opened s t e o false c is agree one) (opened s u e other false c is agree two)
+  by_permit : (s : State) (e : Event) (o other : Outcome) (t u : State) (b c : Bool) → is_allowed s e ≡ b
+      → floors_agree s e ≡ c → Happens s e o t → Happens s e other u → AreSame o other t u
+  by_permit s e o other t u true true is agree one two =
+      does_one s e o other t u (opened s t e o true true is agree one) (opened s u e other true true is agree two)
+  by_permit s e o other t u true false is agree one two =
+      both o other outcomes.FloorsDiffer t u s (opened s t e o true false is agree one) (opened s u e other true false is agree two)
+  by_permit s e o other t u false c is agree one two =
+      both o other outcomes.NotAllowed t u s (opened s t e o false c is agree one) (opened s u e other false c is agree two)
 
   pub events_are_single : EventsAreSingle
   events_are_single s e o other t u one two = by_permit s e o other t u (is_allowed s e) (floors_agree s e) refl refl one two

@@ -27,21 +27,25 @@ module _ (reports : ReportsExist) where
   abbrev ComesTo : ℕ → Course → Type 0
   ComesTo n c = (reply : Reply) × (batch : List Record) × IsOutcome n c reply batch
 
-  where_met : (n : ℕ) (level : Level) (new : List ℕ) (olds : List VersionText) (rest : Course) (message : Option (List ℕ)) → IsReport level new olds message → ComesTo n rest → ComesTo n (IfMet level new olds rest)
+  where_met : (n : ℕ) (level : Level) (new : List ℕ) (olds : List VersionText) (rest : Course) (message : Option (List ℕ))
+      → IsReport level new olds message → ComesTo n rest → ComesTo n (IfMet level new olds rest)
   where_met n level new olds rest None meets (reply, batch, is) = (reply, batch, inl (meets, is))
   where_met n level new olds rest (Some message) clash on = (replies.Refused (incompatible message), [], inr (message, clash, (refl, refl)))
 
   comes_to : (n : ℕ) (c : Course) → ComesTo n c
   comes_to n (Refused refusal) = (replies.Refused refusal, [], (refl, refl))
-  comes_to n (Does does ws) = let done = if_offsets_last (nat_le (n + length ws) (suc OFFSET_LIMIT)) does (numbered n ws) in (done.0, done.1, refl)
-  comes_to n (IfMet level new olds rest) = let (message, is) = reports level new olds in where_met n level new olds rest message is (comes_to n rest)
+  comes_to n (Does does ws) =
+      let done = if_offsets_last (nat_le (n + length ws) (suc OFFSET_LIMIT)) does (numbered n ws) in (done.0, done.1, refl)
+  comes_to n (IfMet level new olds rest) =
+      let (message, is) = reports level new olds in where_met n level new olds rest message is (comes_to n rest)
 
   pub steps_exist : StepsExist
   unfolding IsStep
   steps_exist rs n c = comes_to n (course_of rs n c)
 
 module _ (verdicts : LevelVerdictsExist) where
-  told : (level : Level) (text : List ℕ) (verbose : Bool) (found : Result (List VersionText) Refusal) → (a : Answer) × TellsVerdict level text verbose found a
+  told : (level : Level) (text : List ℕ) (verbose : Bool) (found : Result (List VersionText) Refusal)
+      → (a : Answer) × TellsVerdict level text verbose found a
   told level text verbose (Err refusal) = (answer_with (Err refusal), refl)
   told level text verbose (Ok olds) =
       let (v, is) = verdicts level (nodes_in text) (versions_in olds) in
@@ -55,6 +59,7 @@ module _ (verdicts : LevelVerdictsExist) where
   answers_exist rs (queries.Versions subject deleted) = (_, refl)
   answers_exist rs (queries.Version subject which deleted) = (_, refl)
   answers_exist rs (queries.VersionSchema subject which deleted) = (_, refl)
-  answers_exist rs (queries.Check subject which text verbose) = told (level rs (Some subject)) text verbose (asked (entries rs) subject which text)
+  answers_exist rs (queries.Check subject which text verbose) =
+      told (level rs (Some subject)) text verbose (asked (entries rs) subject which text)
   answers_exist rs (queries.Level subject default_global) = (_, refl)
   answers_exist rs (queries.Mode subject default_global) = (_, refl)

@@ -63,7 +63,8 @@ module _ (r w : List Node) where
   ]
 
   -- the roots lead to a clash within so many hops, or no pairs do
-  judged : (n : ℕ) → ((ks : List ℕ) → IsSome (trail_along r w ks) → clashes_within r w n roots ≡ true) → (b : Bool) → clashes_within r w n roots ≡ b → (verdict : Verdict) × IsVerdict r w verdict
+  judged : (n : ℕ) → ((ks : List ℕ) → IsSome (trail_along r w ks) → clashes_within r w n roots ≡ true)
+      → (b : Bool) → clashes_within r w n roots ≡ b → (verdict : Verdict) × IsVerdict r w verdict
   judged n all true is =
       let (ks, leads) = trail_within r w n roots is in
       let (t, first) = fewest (length ks) 0 (λ ls below leads. absurd (omega (arith, below))) ks (omega arith) leads in
@@ -74,4 +75,5 @@ module _ (r w : List Node) where
       none ks = none_unless (trail_along r w ks) (λ leads. let yes = all ks leads in cc)
 
   pub verdict_exists : (verdict : Verdict) × IsVerdict r w verdict
-  verdict_exists = let (n, is) = some_is_enough r w in judged n (λ ks leads. enough r w n is ks roots leads) (clashes_within r w n roots) refl
+  verdict_exists =
+      let (n, is) = some_is_enough r w in judged n (λ ks leads. enough r w n is ks roots leads) (clashes_within r w n roots) refl

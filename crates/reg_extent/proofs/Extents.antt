@@ -22,7 +22,8 @@ use Rattle.reg_extent.specs.Extent.{BeginsKept, EndsAt, EndsFirst, IsWhole, Lack
 -- a head that ends in the first empty line stands at the front, whatever comes after it
 front-found : (blank rest more : List ℕ) (n m : ℕ) → n ≡ suc m → list_all is_skipped blank ≡ true → BeginsKept rest
     → HasNoEnd [] (take m rest) → ends_in_empty_line (take n rest) ≡ true → n ≤ length rest → length blank + n ≤ HEAD_LIMIT
-    → front_of (blank ++ (take n rest ++ more)) ≡ (if has_few_lines (take n rest) then head (take n rest) more else no_head refusals.HeadTooLarge)
+    → front_of (blank ++ (take n rest ++ more))
+    ≡ (if has_few_lines (take n rest) then head (take n rest) more else no_head refusals.HeadTooLarge)
 front-found blank [] more n m is all kept none ends few fits = absurd (omega (arith, is, few))
 front-found blank (x ∷ xs) more n m is all kept none ends few fits =
     let whole = take n (x ∷ xs) in
@@ -46,7 +47,9 @@ module _ (text blank rest tail : List ℕ) (n : ℕ) (is : text ≡ blank ++ (re
   onwards : text ≡ blank ++ (take n rest ++ (drop n rest ++ tail))
   onwards = is ∙ ap (λ w. blank ++ w) (ap (λ w. w ++ tail) (sym (take-append-drop n rest)) ∙ append_assoc (take n rest) (drop n rest) tail)
 
-  found : (more : List ℕ) → front_of (blank ++ (take n rest ++ more)) ≡ (if has_few_lines (take n rest) then head (take n rest) more else no_head refusals.HeadTooLarge)
+  found : (more : List ℕ)
+      → front_of (blank ++ (take n rest ++ more))
+      ≡ (if has_few_lines (take n rest) then head (take n rest) more else no_head refusals.HeadTooLarge)
   found more = front-found blank rest more n (n - 1) (omega (arith, ends.0)) all kept ends.1 ends.2 few fits
 
   -- the head and so many bytes after it
@@ -63,7 +66,9 @@ module _ (text blank rest tail : List ℕ) (n : ℕ) (is : text ≡ blank ++ (re
   size-after =
       let size : length (take n rest) ≡ n = length-take-le n rest few in
       let whole : length text ≡ length blank + (length (take n rest) + length (drop n rest ++ tail)) =
-      ap length onwards ∙ length-append blank (take n rest ++ (drop n rest ++ tail)) ∙ ap (λ k. length blank + k) (length-append (take n rest) (drop n rest ++ tail)) in
+      ap length onwards
+      ∙ length-append blank (take n rest ++ (drop n rest ++ tail))
+      ∙ ap (λ k. length blank + k) (length-append (take n rest) (drop n rest ++ tail)) in
       omega (arith, whole, size)
 
   -- too many lines are no head
@@ -107,7 +112,8 @@ module _ (text blank rest tail : List ℕ) (n : ℕ) (is : text ≡ blank ++ (re
       ∙ ap (λ f. if f then head (take n rest) (drop n rest ++ tail) else no_head refusals.HeadTooLarge) lines))
       (h, is_head, omega (arith, size-after, less, told))
 
-  pub ends-body : (k : ℕ) → has_few_lines (take n rest) ≡ true → ((h : RequestHead) → IsHead (take n rest) h → k ≡ body_length (fields_of h))
+  pub ends-body : (k : ℕ) → has_few_lines (take n rest) ≡ true
+      → ((h : RequestHead) → IsHead (take n rest) h → k ≡ body_length (fields_of h))
       → (0 < k → (h : RequestHead) × IsHead (take n rest) h × (k ≡ body_length (fields_of h))) → EndsAt text (length blank + n + k)
   ends-body k lines told some = (
     λ room. whole-body k lines told room,
@@ -124,14 +130,17 @@ lacks-none blank (x ∷ xs) all kept none few =
     subst LacksHead (sym (front_of-cut (blank ++ x ∷ xs) blank xs x kept all none.1 refl few)) refl
 
 -- the same of a text that ends with them, or of skipped bytes alone, as many as a head may have
-pub lacks-ended : (text blank rest tail : List ℕ) → text ≡ blank ++ (rest ++ tail) → list_all is_skipped blank ≡ true → BeginsKept rest → HasNoEnd [] rest
-    → length text ≡ length blank + length rest → length text ≤ HEAD_LIMIT → (0 < length rest → length text < HEAD_LIMIT) → LacksHead (front_of text)
+pub lacks-ended : (text blank rest tail : List ℕ) → text ≡ blank ++ (rest ++ tail)
+    → list_all is_skipped blank ≡ true → BeginsKept rest → HasNoEnd [] rest
+    → length text ≡ length blank + length rest → length text ≤ HEAD_LIMIT
+    → (0 < length rest → length text < HEAD_LIMIT) → LacksHead (front_of text)
 lacks-ended text blank [] [] is all kept none size few fewer =
     let same : text ≡ blank = is ∙ append-nil blank in
     subst (λ t. LacksHead (front_of t)) (sym same) (subst LacksHead (sym (front_of-over blank (omega (arith, ap length same, few)) all)) tt)
 lacks-ended text blank (x ∷ xs) [] is all kept none size few fewer =
     let same : text ≡ blank ++ x ∷ xs = is ∙ ap (λ r. blank ++ r) (append-nil (x ∷ xs)) in
-    subst (λ t. LacksHead (front_of t)) (sym same) (lacks-none blank (x ∷ xs) all kept none (omega (arith, ap length same, fewer (omega arith))))
+    subst (λ t. LacksHead (front_of t)) (sym same)
+    (lacks-none blank (x ∷ xs) all kept none (omega (arith, ap length same, fewer (omega arith))))
 lacks-ended text blank rest (t ∷ tail) is all kept none size few fewer =
     absurd (omega (arith, ap length is, length-append blank (rest ++ t ∷ tail), length-append rest (t ∷ tail), size))
 
@@ -148,11 +157,13 @@ whole-none text blank (x ∷ xs) tail is all kept none full long = inl (
   refusals.HeadTooLarge,
   λ more.
       front_of-full (text ++ more) blank xs (tail ++ more) x kept all none.1
-      (ap (λ t. t ++ more) is ∙ append_assoc blank (x ∷ (xs ++ tail)) more ∙ ap (λ w. blank ++ (x ∷ w)) (append_assoc xs tail more)) (omega (arith, full)),
+      (ap (λ t. t ++ more) is ∙ append_assoc blank (x ∷ (xs ++ tail)) more ∙ ap (λ w. blank ++ (x ∷ w)) (append_assoc xs tail more))
+      (omega (arith, full)),
 )
 
 -- the first bytes of a text, those of two parts and more
-take-more : (blank rest tail : List ℕ) (k : ℕ) → take (length blank + (length rest + k)) (blank ++ (rest ++ tail)) ≡ blank ++ (rest ++ take k tail)
+take-more : (blank rest tail : List ℕ) (k : ℕ)
+    → take (length blank + (length rest + k)) (blank ++ (rest ++ tail)) ≡ blank ++ (rest ++ take k tail)
 take-more blank rest tail k =
     take-append-add blank (rest ++ tail) (length rest + k) ∙ ap (λ w. blank ++ w) (take-append-add rest tail k)
 
@@ -161,8 +172,10 @@ pub least : (m : ℕ) → (m ≡ 0) ⊎ (0 < m)
 least zero = inl refl
 least (suc m) = inr (omega arith)
 
-pub ends-none : (text blank rest tail : List ℕ) (n : ℕ) → text ≡ blank ++ (rest ++ tail) → list_all is_skipped blank ≡ true → BeginsKept rest
-    → HasNoEnd [] rest → length blank + length rest ≡ HEAD_LIMIT → (length rest ≡ 0 → n ≡ HEAD_LIMIT + 1) → (0 < length rest → n ≡ HEAD_LIMIT)
+pub ends-none : (text blank rest tail : List ℕ) (n : ℕ) → text ≡ blank ++ (rest ++ tail)
+    → list_all is_skipped blank ≡ true → BeginsKept rest
+    → HasNoEnd [] rest → length blank + length rest ≡ HEAD_LIMIT
+    → (length rest ≡ 0 → n ≡ HEAD_LIMIT + 1) → (0 < length rest → n ≡ HEAD_LIMIT)
     → n ≤ length text → EndsAt text n
 ends-none text blank rest tail n is all kept none full only begun room =
     let k = n - HEAD_LIMIT in
@@ -189,7 +202,9 @@ lacks-short (head bytes after) lacks = absurd lacks
 
 -- a body has no more bytes than the limit
 one-limit : (a b : Bool) (d n : ℕ) → (b ≡ false → d ≤ BODY_LIMIT)
-    → ◌≡◌ {A = Result (Option ℕ) Refusal} (if not a then Err refusals.BadRequest else (if b then Err refusals.PayloadTooLarge else Ok (Some d))) (Ok (Some n)) → n ≤ BODY_LIMIT
+    → ◌≡◌ {A = Result (Option ℕ) Refusal}
+    (if not a then Err refusals.BadRequest else (if b then Err refusals.PayloadTooLarge else Ok (Some d))) (Ok (Some n))
+    → n ≤ BODY_LIMIT
 one-limit false b d n within is = absurd (cc)
 one-limit true true d n within is = absurd (cc)
 one-limit true false d n within is = let same : d ≡ n = cc in omega (arith, same, within refl)
@@ -222,6 +237,7 @@ in-parts text window blank rest l b is front back more =
     ap (λ t. t ++ more) now ∙ append_assoc blank (rest ++ drop l text) more ∙ ap (λ t. blank ++ t) (append_assoc rest (drop l text) more)
 
 -- how many bytes a message takes, if they are known
-pub takes-all : (known : Option ℕ) (part : List ℕ) → ((more : List ℕ) → IfSome known (EndsAt (part ++ more))) → IfSome known (TakesInAll part)
+pub takes-all : (known : Option ℕ) (part : List ℕ)
+    → ((more : List ℕ) → IfSome known (EndsAt (part ++ more))) → IfSome known (TakesInAll part)
 takes-all None part ends = tt
 takes-all (Some n) part ends = ends

@@ -24,7 +24,8 @@ pub prefix_length : {A : Type 0} (xs ys : List A) → IsPrefix xs ys → length 
 prefix_length xs ys p = omega (arith, sym (ap length p.1) ∙ length-append xs p.0)
 
 -- the longer of xs and ys, where ys ends in e and is longer by one
-pub next_item : {A : Type 0} (xs ys l zs : List A) (e : A) → (zs ≡ xs) ⊎ (zs ≡ ys) → IsPrefix xs zs → IsPrefix ys zs → ys ≡ l ++ e ∷ [] → length ys - 1 ≡ length xs → zs ≡ xs ++ e ∷ []
+pub next_item : {A : Type 0} (xs ys l zs : List A) (e : A) → (zs ≡ xs) ⊎ (zs ≡ ys) → IsPrefix xs zs
+    → IsPrefix ys zs → ys ≡ l ++ e ∷ [] → length ys - 1 ≡ length xs → zs ≡ xs ++ e ∷ []
 next_item xs ys l zs e (inl is) p q ends one =
     absurd (omega (arith, prefix_length ys zs q, ap length is, ap length ends, length-append l (e ∷ [])))
 next_item xs ys l zs e (inr is) p q ends one =

@@ -26,11 +26,13 @@ begun old text read s has = record {
   bytes = [];
   more = [];
   consumed = consumes_nothing old;
-  taken = subst (λ (t : List ℕ). HasTaken t (read ++ []) s) (sym (append-nil text)) (subst (λ (r : List Read). HasTaken text r s) (sym (append-nil read)) has);
+  taken = subst (λ (t : List ℕ). HasTaken t (read ++ []) s) (sym (append-nil text))
+      (subst (λ (r : List Read). HasTaken text r s) (sym (append-nil read)) has);
 }
 
 -- a piece more
-pub piece : (old mid new : Option (List ℕ)) (text : List ℕ) (read : List Read) (before after : Following) (f : Follows old mid text read before) (bytes : List ℕ)
+pub piece : (old mid new : Option (List ℕ)) (text : List ℕ) (read : List Read)
+    (before after : Following) (f : Follows old mid text read before) (bytes : List ℕ)
     → Consumes mid new bytes → HasTaken ((text ++ f.bytes) ++ bytes) (read ++ f.more) after → Follows old new text read after
 piece old mid new text read before after f bytes consumed taken = record {
   bytes = f.bytes ++ bytes;
@@ -40,7 +42,8 @@ piece old mid new text read before after f bytes consumed taken = record {
 }
 
 -- what is there is published
-pub shown : (old new : Option (List ℕ)) (text : List ℕ) (read : List Read) (before after : Following) (f : Follows old new text read before) (more : List Read)
+pub shown : (old new : Option (List ℕ)) (text : List ℕ) (read : List Read)
+    (before after : Following) (f : Follows old new text read before) (more : List Read)
     → HasTaken (text ++ f.bytes) ((read ++ f.more) ++ more) after → Follows old new text read after
 shown old new text read before after f more taken = record {
   bytes = f.bytes;
@@ -50,7 +53,8 @@ shown old new text read before after f more taken = record {
 }
 
 -- nothing came
-pub kept : (old mid new : Option (List ℕ)) (text : List ℕ) (read : List Read) (before after : Following) → Follows old mid text read before → Keeps mid new → after ≡ before
+pub kept : (old mid new : Option (List ℕ)) (text : List ℕ) (read : List Read) (before after : Following)
+    → Follows old mid text read before → Keeps mid new → after ≡ before
     → Follows old new text read after
 kept old mid new text read before after f keeps same = record {
   bytes = f.bytes;
@@ -60,7 +64,8 @@ kept old mid new text read before after f keeps same = record {
 }
 
 -- the input has ended
-pub ended : (old mid new : Option (List ℕ)) (text : List ℕ) (read : List Read) (before after : Following) (end : LinesEnd) → Follows old mid text read before → IsAtEnd mid → Keeps mid new
+pub ended : (old mid new : Option (List ℕ)) (text : List ℕ) (read : List Read) (before after : Following) (end : LinesEnd)
+    → Follows old mid text read before → IsAtEnd mid → Keeps mid new
     → HasLeft after.unread.bytes end → EndsAs old new after end
 ended old mid new text read before after ends.Input f over keeps left = (at_end old mid new f.bytes f.consumed over keeps, left)
 ended old mid new text read before after ends.Unfinished f over keeps left = (at_end old mid new f.bytes f.consumed over keeps, left)

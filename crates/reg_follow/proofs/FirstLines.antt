@@ -23,13 +23,15 @@ length_takes [] = refl
 length_takes (r ∷ records) = omega (arith, length_takes records)
 
 -- a front of takes is the takes of the first records
-front_of_takes : (front more : List Draw) (records : List Record) → front ++ more ≡ takes_of 0 records → front ≡ takes_of 0 (take (length front) records)
+front_of_takes : (front more : List Draw) (records : List Record)
+    → front ++ more ≡ takes_of 0 records → front ≡ takes_of 0 (take (length front) records)
 front_of_takes [] more records is = refl
 front_of_takes (d ∷ front) more [] is = absurd (cc is)
 front_of_takes (d ∷ front) more (r ∷ records) is =
     let first : d ≡ draws.Take (record { read = 0; kept = r }) = cc in
     let others : front ++ more ≡ takes_of 0 records = cc in
-    ap (λ (x : Draw). x ∷ front) first ∙ ap (λ (l : List Draw). draws.Take (record { read = 0; kept = r }) ∷ l) (front_of_takes front more records others)
+    ap (λ (x : Draw). x ∷ front) first
+    ∙ ap (λ (l : List Draw). draws.Take (record { read = 0; kept = r }) ∷ l) (front_of_takes front more records others)
 
 moves : (a b c : Bool) → ((a || b) || c) ≡ (b || (a || c))
 moves true true c = refl
@@ -42,7 +44,8 @@ or_nothing true = refl
 or_nothing false = refl
 
 module _ (order : IsTotalOrder record_cmp) (apart : IsAntisymmetric record_cmp) where
-  in_takes : (s : Records) (records : List Record) (r : Record) → contains (fold with_draw s (takes_of 0 records)) r ≡ (contains s r || list_any (eq_by_cmp record_cmp r) records)
+  in_takes : (s : Records) (records : List Record) (r : Record)
+      → contains (fold with_draw s (takes_of 0 records)) r ≡ (contains s r || list_any (eq_by_cmp record_cmp r) records)
   in_takes s [] r = or_nothing (contains s r)
   in_takes s (d ∷ records) r =
       in_takes (insert s d) records r
@@ -50,16 +53,22 @@ module _ (order : IsTotalOrder record_cmp) (apart : IsAntisymmetric record_cmp) 
       ∙ moves (eq_by_cmp record_cmp r d) (contains s r) (list_any (eq_by_cmp record_cmp r) records)
 
   taken_records : (records : List Record) → taken (takes_of 0 records) ≡ from_list records
-  taken_records records = same_set order apart _ _ (λ r. in_takes empty records r ∙ ap (λ b. b || list_any (eq_by_cmp record_cmp r) records) (contains-empty record_cmp r) ∙ sym (contains-from_list order records r))
+  taken_records records =
+      same_set order apart _ _ (λ r.
+      in_takes empty records r
+      ∙ ap (λ b. b || list_any (eq_by_cmp record_cmp r) records) (contains-empty record_cmp r)
+      ∙ sym (contains-from_list order records r))
 
   module _ (law : FirstRecordsAreOfFirstLines) (read : List Read) (list : List Draw) (is : list ≡ draws_of read) where
-    later : (n : ℕ) (front after : List Draw) → IsOfFirst read n front → IsPrefix front after → IsPrefix after list → (m : ℕ) × (n ≤ m) × IsOfFirst read m after
+    later : (n : ℕ) (front after : List Draw) → IsOfFirst read n front → IsPrefix front after
+        → IsPrefix after list → (m : ℕ) × (n ≤ m) × IsOfFirst read m after
     later n front after of_first begins ends =
         let records = records_in read in
         let first : after ≡ takes_of 0 (take (length after) records) = front_of_takes after ends.0 records (ends.1 ∙ is) in
         let below : length (records_of_first n read) ≤ length after =
         omega (arith, length_takes (records_of_first n read), ap length of_first.1, length-append front begins.0, ap length begins.1) in
-        let most : length after ≤ length records = omega (arith, length-append after ends.0, ap length (ends.1 ∙ is), length_takes records) in
+        let most : length after ≤ length records =
+        omega (arith, length-append after ends.0, ap length (ends.1 ∙ is), length_takes records) in
         let found = law read n (length after) of_first.0 below most in
         (found.0, found.1, (found.2, first ∙ ap (takes_of 0) found.3))
 

@@ -31,10 +31,14 @@ of_one (reads.Record r) = refl
 of_one (reads.Foreign offset) = refl
 
 one_more : (read : List Read) (r : Read) → draws_of (read ++ r ∷ []) ≡ draws_of read ++ takes_of 0 (option_to_list (record_in r))
-one_more read r = ap (takes_of 0) (records_in-append read (r ∷ [])) ∙ takes-append (records_in read) (records_in (r ∷ [])) ∙ ap (λ l. draws_of read ++ takes_of 0 l) (of_one r)
+one_more read r =
+    ap (takes_of 0) (records_in-append read (r ∷ []))
+    ∙ takes-append (records_in read) (records_in (r ∷ []))
+    ∙ ap (λ l. draws_of read ++ takes_of 0 l) (of_one r)
 
 -- a line that was read, and whose record is appended
-pub added : (text : List ℕ) (read : List Read) (r : Read) (old new : Following) → HasRead text (read ++ r ∷ []) old.unread → list_of old ≡ draws_of read
+pub added : (text : List ℕ) (read : List Read) (r : Read) (old new : Following)
+    → HasRead text (read ++ r ∷ []) old.unread → list_of old ≡ draws_of read
     → Adds old r new → HasTaken text (read ++ r ∷ []) new
 added text read r old new has list adds = record {
   has = subst (λ (u : Unread). HasRead text (read ++ r ∷ []) u) (sym adds.unread) has;
@@ -50,7 +54,8 @@ lists : (old new : Following) → new.published ≡ old.published → new.pendin
 lists old new shown left = ap (λ (l : List Draw). l ++ new.pending) shown ∙ ap (λ (l : List Draw). old.published ++ l) left
 
 -- what came next, where the list stays
-pub came_to : (text : List ℕ) (read : List Read) (came : Came) (old new : Following) → new.published ≡ old.published → new.pending ≡ old.pending
+pub came_to : (text : List ℕ) (read : List Read) (came : Came) (old new : Following)
+    → new.published ≡ old.published → new.pending ≡ old.pending
     → HasTaken text read old → Comes text read old.unread came new.unread → ComesTo text read came new
 came_to text read (cames.Line r) old new shown left has comes = (comes, lists old new shown left ∙ has.list)
 came_to text read cames.Floor old new shown left has comes = record { has = comes.0; list = lists old new shown left ∙ has.list }
@@ -64,7 +69,8 @@ came_to text read cames.Nothing old new shown left has comes = (
 )
 
 -- it stops where nothing more was read
-pub stopped : (text : List ℕ) (read : List Read) (e : IntakeError) (s : Following) → HasTaken text read s → IsRefusal s.unread e → IsStopped text read e s
+pub stopped : (text : List ℕ) (read : List Read) (e : IntakeError) (s : Following)
+    → HasTaken text read s → IsRefusal s.unread e → IsStopped text read e s
 stopped text read e s has refusal = record {
   more = [];
   has = subst (λ (r : List Read). HasRead text r s.unread) (sym (append-nil read)) has.has;
@@ -73,23 +79,30 @@ stopped text read e s has refusal = record {
 }
 
 -- or where a line was read whose record isn't there
-pub stopped_behind : (text : List ℕ) (read : List Read) (r : Read) (e : IntakeError) (s : Following) → HasRead text (read ++ r ∷ []) s.unread → list_of s ≡ draws_of read
+pub stopped_behind : (text : List ℕ) (read : List Read) (r : Read) (e : IntakeError) (s : Following)
+    → HasRead text (read ++ r ∷ []) s.unread → list_of s ≡ draws_of read
     → IsRefusal s.unread e → IsStopped text read e s
 stopped_behind text read r e s has list refusal = record {
   more = r ∷ [];
   has = has;
-  begins = (takes_of 0 (option_to_list (record_in r)), ap (λ (l : List Draw). l ++ takes_of 0 (option_to_list (record_in r))) list ∙ sym (one_more read r));
+  begins = (
+    takes_of 0 (option_to_list (record_in r)),
+    ap (λ (l : List Draw). l ++ takes_of 0 (option_to_list (record_in r))) list ∙ sym (one_more read r),
+  );
   refusal = refusal;
 }
 
 -- more behind more
-pub more_taken : (text : List ℕ) (read more next : List Read) (s : Following) → HasTaken text ((read ++ more) ++ next) s → HasTaken text (read ++ (more ++ next)) s
+pub more_taken : (text : List ℕ) (read more next : List Read) (s : Following)
+    → HasTaken text ((read ++ more) ++ next) s → HasTaken text (read ++ (more ++ next)) s
 more_taken text read more next s has = subst (λ (r : List Read). HasTaken text r s) (append_assoc read more next) has
 
-pub goes_on : (text : List ℕ) (read more : List Read) (stop : Stop) (s : Following) → GoesOn text (read ++ more) stop s → GoesOn text read stop s
+pub goes_on : (text : List ℕ) (read more : List Read) (stop : Stop) (s : Following)
+    → GoesOn text (read ++ more) stop s → GoesOn text read stop s
 goes_on text read more stop s go = record { more = more ++ go.more; taken = more_taken text read more go.more s go.taken; stops = go.stops }
 
-pub is_stopped : (text : List ℕ) (read more : List Read) (e : IntakeError) (s : Following) → IsStopped text (read ++ more) e s → IsStopped text read e s
+pub is_stopped : (text : List ℕ) (read more : List Read) (e : IntakeError) (s : Following)
+    → IsStopped text (read ++ more) e s → IsStopped text read e s
 is_stopped text read more e s it = record {
   more = more ++ it.more;
   has = subst (λ (r : List Read). HasRead text r s.unread) (append_assoc read more it.more) it.has;
@@ -102,19 +115,23 @@ pub shown : (text : List ℕ) (read : List Read) (s : Following) → HasTaken te
 shown text read s has = record { has = has.has; list = append-nil (list_of s) ∙ has.list }
 
 -- an error of the next line, where all stays
-pub refused : (text : List ℕ) (read : List Read) (result : Result Came IntakeError) (old new : Following) → new.published ≡ old.published → new.pending ≡ old.pending
-    → HasTaken text read old → OnErr result (new.unread ≡ old.unread) → IfErr result (IsRefusal old.unread) → IfErr result (λ e. IsStopped text read e new)
+pub refused : (text : List ℕ) (read : List Read) (result : Result Came IntakeError) (old new : Following)
+    → new.published ≡ old.published → new.pending ≡ old.pending
+    → HasTaken text read old → OnErr result (new.unread ≡ old.unread)
+    → IfErr result (IsRefusal old.unread) → IfErr result (λ e. IsStopped text read e new)
 refused text read (Ok came) old new shown left has same refusal = tt
 refused text read (Err e) old new shown left has same refusal =
     stopped text read e new
     (record { has = subst (λ (u : Unread). HasRead text read u) (sym same) has.has; list = lists old new shown left ∙ has.list })
     (subst (λ (u : Unread). IsRefusal u e) (sym same) refusal)
 
-pub more_of_none : (text : List ℕ) (read : List Read) (s : Following) → HasTaken text read s → (more : List Read) × HasTaken text (read ++ more) s
+pub more_of_none : (text : List ℕ) (read : List Read) (s : Following)
+    → HasTaken text read s → (more : List Read) × HasTaken text (read ++ more) s
 more_of_none text read s has = ([], subst (λ (r : List Read). HasTaken text r s) (sym (append-nil read)) has)
 
 -- memory was refused behind lines that were taken
-pub refused_memory : (text : List ℕ) (read : List Read) (stop : Stop) (s : Following) → GoesOn text read stop s → IsStopped text read intakes.OutOfMemory s
+pub refused_memory : (text : List ℕ) (read : List Read) (stop : Stop) (s : Following)
+    → GoesOn text read stop s → IsStopped text read intakes.OutOfMemory s
 refused_memory text read stop s go = record {
   more = go.more;
   has = go.taken.has;
@@ -123,5 +140,6 @@ refused_memory text read stop s go = record {
 }
 
 -- what is pending is published
-pub goes_on_shown : (text : List ℕ) (read : List Read) (stop : Stop) (s : Following) → GoesOn text read stop s → GoesOn text read stop (published s)
+pub goes_on_shown : (text : List ℕ) (read : List Read) (stop : Stop) (s : Following)
+    → GoesOn text read stop s → GoesOn text read stop (published s)
 goes_on_shown text read stop s go = record { more = go.more; taken = shown text (read ++ go.more) s go.taken; stops = go.stops }

@@ -37,47 +37,61 @@ unfolding asked_of
 asked-refused r refusal told = rw told refl
 
 -- a request with the same parts
-same-request : (h : RequestHead) (after m t : List ℕ) (f : List Field) (b : Option (List ℕ)) → m ≡ h.method → t ≡ h.target → f ≡ fields_of h → b ≡ body_after h after
+same-request : (h : RequestHead) (after m t : List ℕ) (f : List Field) (b : Option (List ℕ))
+    → m ≡ h.method → t ≡ h.target → f ≡ fields_of h → b ≡ body_after h after
     → ◌≡◌ {A = Request} record { method = m; target = t; fields = f; body = b } (request_of h after)
 same-request h after m t f b p q r s = rw (p, q, r, s) refl
 
 module _ {D : Type 0} (asks : D → Query → Result Answer AllocError → D → Type 0) (commands : D → Command → Reply → D → Type 0) where
   -- what was done is the response to what was asked
-  did-answers : (old new : D) (h : RequestHead) (a : Asked) (done : Done) → IsOk (told_length (fields_of h)) → Did asks commands old a new done
+  did-answers : (old new : D) (h : RequestHead) (a : Asked) (done : Done)
+      → IsOk (told_length (fields_of h)) → Did asks commands old a new done
       → Does asks commands old a (wants_close h) (done_text (wants_close h) done) (done_closes (wants_close h) done) new
       ⊎ LacksMemory asks commands old h (done_text (wants_close h) done) (done_closes (wants_close h) done) new
   did-answers old new h a (dones.Answered answer) ok (query, is, did) =
-      inl (subst (λ b. Does asks commands old b (wants_close h) (done_text (wants_close h) (dones.Answered answer)) (wants_close h) new) (sym is)
+      inl (
+      subst (λ b. Does asks commands old b (wants_close h) (done_text (wants_close h) (dones.Answered answer)) (wants_close h) new)
+      (sym is)
       (Ok answer, did, refl, refl))
   did-answers old new h a (dones.Replied reply) ok (command, is, did) =
-      inl (subst (λ b. Does asks commands old b (wants_close h) (done_text (wants_close h) (dones.Replied reply)) (wants_close h) new) (sym is)
+      inl (
+      subst (λ b. Does asks commands old b (wants_close h) (done_text (wants_close h) (dones.Replied reply)) (wants_close h) new) (sym is)
       (reply, did, refl, refl))
   did-answers old new h a (dones.Refused refusal ends) ok (is, same) =
-      inl (subst (λ b. Does asks commands old b (wants_close h) (refusal_text (wants_close h || ends) refusal) (wants_close h || ends) new) (sym is)
+      inl (
+      subst (λ b. Does asks commands old b (wants_close h) (refusal_text (wants_close h || ends) refusal) (wants_close h || ends) new)
+      (sym is)
       (same, refl, refl))
   did-answers old new h a dones.NoMemory ok did = elim did [
-    | inl p ↦ inl (subst (λ b. Does asks commands old b (wants_close h) (done_text (wants_close h) dones.NoMemory) (wants_close h) new) (sym p.2)
+    | inl p ↦ inl (
+        subst (λ b. Does asks commands old b (wants_close h) (done_text (wants_close h) dones.NoMemory) (wants_close h) new) (sym p.2)
         (Err p.1, p.3, refl, refl))
     | inr same ↦ inr (ok, refl, same, refl)
   ]
 
   -- the head at the front and what was done of its request
-  head-answers : (old new : D) (text bytes : List ℕ) (h : RequestHead) (after : List ℕ) (wants : Bool) (out : List ℕ) (left : Option (List ℕ))
+  head-answers : (old new : D) (text bytes : List ℕ) (h : RequestHead)
+      (after : List ℕ) (wants : Bool) (out : List ℕ) (left : Option (List ℕ))
       → front_of text ≡ head bytes after → IsHead bytes h
       → AnswersHead asks commands old h after out new left → AnswersFirst asks commands old (Some text) out new left
   head-answers old new text bytes h after wants out left front is answers =
       subst (λ f. AnswersFront asks commands old f out new left) (sym front) (inl (h, is, answers))
 
-  attends-request : (old new : D) (text : List ℕ) (left : Option (List ℕ)) (m t : List ℕ) (f : List Field) (b : Option (List ℕ)) (wants : Bool) (done : Done)
-      → GetsFrom text left (gots.Message m t f b wants) → Did asks commands old (asked_of (record { method = m; target = t; fields = f; body = b })) new done
+  attends-request : (old new : D) (text : List ℕ) (left : Option (List ℕ))
+      (m t : List ℕ) (f : List Field) (b : Option (List ℕ)) (wants : Bool) (done : Done)
+      → GetsFrom text left (gots.Message m t f b wants)
+      → Did asks commands old (asked_of (record { method = m; target = t; fields = f; body = b })) new done
       → Attends asks commands old text left new (attended.Done done wants)
   attends-request old new text left m t f b wants done (bytes, h, after, (front, is, ok, rest), (p, q, r, s), wanted) did =
       let same = same-request h after m t f b p q r s in
-      let answers = did-answers old new h (asked_of (request_of h after)) done ok (subst (λ asking. Did asks commands old (asked_of asking) new done) same did) in (
+      let answers = did-answers old new h (asked_of (request_of h after)) done ok
+      (subst (λ asking. Did asks commands old (asked_of asking) new done) same did) in (
         after_body h after,
         λ _. rest,
-        subst (λ w. AnswersFirst asks commands old (Some text) (done_text w done) new (left_if (done_closes w done) (after_body h after))) (sym wanted)
-            (head-answers old new text bytes h after wants (done_text (wants_close h) done) (left_if (done_closes (wants_close h) done) (after_body h after)) front is
+        subst (λ w. AnswersFirst asks commands old (Some text) (done_text w done) new (left_if (done_closes w done) (after_body h after)))
+            (sym wanted)
+            (head-answers old new text bytes h after wants (done_text (wants_close h) done)
+            (left_if (done_closes (wants_close h) done) (after_body h after)) front is
             (done_closes (wants_close h) done, refl, answers)),
       )
 
@@ -93,7 +107,11 @@ module _ {D : Type 0} (asks : D → Query → Result Answer AllocError → D →
   attends-refused : (old : D) (text : List ℕ) (left : Option (List ℕ)) (refusal : Refusal)
       → IsRefusedAt text refusal → Attends asks commands old text left old (attended.Done (dones.Refused refusal true) true)
   attends-refused old text left refusal refused = elim refused [
-    | inl front ↦ ([], λ e. absurd (cc), subst (λ f. AnswersFront asks commands old f (refusal_text true refusal) old None) (sym front) (refl, refl, refl))
+    | inl front ↦ (
+      [],
+      λ e. absurd (cc),
+      subst (λ f. AnswersFront asks commands old f (refusal_text true refusal) old None) (sym front) (refl, refl, refl),
+    )
     | inr p ↦ (
       [],
       λ e. absurd (cc),
@@ -115,7 +133,8 @@ module _ {D : Type 0} (asks : D → Query → Result Answer AllocError → D →
   ]
 
   -- the same, where the text is known
-  pub attended-request : (old new : D) (input left : Option (List ℕ)) (got : Got) (m t : List ℕ) (f : List Field) (b : Option (List ℕ)) (wants : Bool) (done : Done)
+  pub attended-request : (old new : D) (input left : Option (List ℕ)) (got : Got)
+      (m t : List ℕ) (f : List Field) (b : Option (List ℕ)) (wants : Bool) (done : Done)
       → got ≡ gots.Message m t f b wants → IfSome input (λ text. GetsFrom text left got)
       → Did asks commands old (asked_of (record { method = m; target = t; fields = f; body = b })) new done
       → IfSome input (λ text. Attends asks commands old text left new (attended.Done done wants))
@@ -127,10 +146,12 @@ module _ {D : Type 0} (asks : D → Query → Result Answer AllocError → D →
       → IfSome input (λ text. GetsFrom text left got)
       → IfSome input (λ text. Attends asks commands old text left old (attended.Done (dones.Refused refusal true) true))
   attended-refused old None left got refusal is gets = tt
-  attended-refused old (Some text) left got refusal is gets = attends-refused old text left refusal (subst (λ g. GetsFrom text left g) is gets)
+  attended-refused old (Some text) left got refusal is gets =
+      attends-refused old text left refusal (subst (λ g. GetsFrom text left g) is gets)
 
   pub attended-no_memory : (old : D) (input left : Option (List ℕ)) (got : Got) (wants : Bool) → got ≡ gots.NoMemory wants
       → IfSome input (λ text. GetsFrom text left got)
       → IfSome input (λ text. Attends asks commands old text left old (attended.Done dones.NoMemory wants))
   attended-no_memory old None left got wants is gets = tt
-  attended-no_memory old (Some text) left got wants is gets = attends-no_memory old text left wants (subst (λ g. GetsFrom text left g) is gets)
+  attended-no_memory old (Some text) left got wants is gets =
+      attends-no_memory old text left wants (subst (λ g. GetsFrom text left g) is gets)

@@ -14,12 +14,14 @@ use Rattle.reg_http.specs.declared.serving.ServeError.TheVariants as errors
 
 module _ {W : Type 0} (writes : W → List ℕ → Result ℕ Error → W → Type 0) (flushes : W → Result ⊤ Error → W → Type 0) where
   -- a response that is flushed ends a step, whether the connection is closed or not
-  pub EndsStep-flushed : (before after : Device W) (closes : Bool) → IsFlushed writes flushes after → EndsStep writes flushes before after (next_if closes)
+  pub EndsStep-flushed : (before after : Device W) (closes : Bool)
+      → IsFlushed writes flushes after → EndsStep writes flushes before after (next_if closes)
   EndsStep-flushed before after true flushed = flushed
   EndsStep-flushed before after false flushed = flushed
 
   -- counts that begin anew call nothing
-  pub EndsStep-begun : (before mid after : Device W) (next : Next) → inner_of mid ≡ inner_of before → EndsStep writes flushes mid after next → EndsStep writes flushes before after next
+  pub EndsStep-begun : (before mid after : Device W) (next : Next) → inner_of mid ≡ inner_of before
+      → EndsStep writes flushes mid after next → EndsStep writes flushes before after next
   EndsStep-begun before mid after nexts.Over same ends = ends ∙ same
   EndsStep-begun before mid after nexts.Closed same ends = ends
   EndsStep-begun before mid after nexts.More same ends = ends
@@ -34,7 +36,8 @@ module _ {W : Type 0} (writes : W → List ℕ → Result ℕ Error → W → Ty
   EndsAfter-more before mid after count next is ends =
       (λ none. absurd (omega (arith, none)), λ _. subst (λ n. EndsStep writes flushes mid after n) is ends)
 
-  pub EndsAfter-closed : (before mid after : Device W) (count : ℕ) (next : Next) → next ≡ nexts.Closed → EndsStep writes flushes mid after next
+  pub EndsAfter-closed : (before mid after : Device W) (count : ℕ) (next : Next)
+      → next ≡ nexts.Closed → EndsStep writes flushes mid after next
       → EndsAfter writes flushes (count + 1) before after
   EndsAfter-closed before mid after count next is ends =
       (λ none. absurd (omega (arith, none)), λ _. subst (λ n. EndsStep writes flushes mid after n) is ends)

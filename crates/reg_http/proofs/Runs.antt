@@ -33,7 +33,8 @@ lost_request old new none (few, most, least, more, begun) lost =
     elim lost [ inl one ↦ inl one | inr p ↦ inr (p.0, p.1, omega (arith, none, least, p.1)) ]
 
 -- a reader that is lost later was lost since, where no fault was counted before
-LosesRequest-later : {R : Type 0} (old mid new : Device R) → faults_of mid ≡ faults_of old → counted_by 0 (all_reads_of old) ≤ all_reads_of mid
+LosesRequest-later : {R : Type 0} (old mid new : Device R)
+    → faults_of mid ≡ faults_of old → counted_by 0 (all_reads_of old) ≤ all_reads_of mid
     → LosesRequest mid new → LosesRequest old new
 LosesRequest-later old mid new same least lost =
     elim lost [ inl one ↦ inl (one ∙ ap counted same) | inr p ↦ inr (p.0 ∙ same, p.1, omega (arith, least, p.2)) ]
@@ -43,7 +44,9 @@ pub began_here : {R : Type 0} (remaining : R → Option (List ℕ)) (old mid new
     → bytes_in remaining old ≡ Some text → bytes_in remaining mid ≡ Some here → KeepsEnd remaining old mid → begun_of new ≡ place_of mid
     → BeganAt old new text here
 began_here remaining old mid new text here known left end begun = elim end [
-  | inl none ↦ absurd (none-some (counted_by (length text) (place_of old)) (sym none ∙ ap (λ o. option_map (λ bytes. counted_by (length bytes) (place_of old)) o) known))
+  | inl none ↦ absurd (
+      none-some (counted_by (length text) (place_of old))
+      (sym none ∙ ap (λ o. option_map (λ bytes. counted_by (length bytes) (place_of old)) o) known))
   | inr same ↦ ap (λ p. counted_by (length here) p) begun ∙ ap (λ o. unwrap_or o 0)
       (sym (ap (λ o. option_map (λ bytes. counted_by (length bytes) (place_of mid)) o) left) ∙ same
       ∙ ap (λ o. option_map (λ bytes. counted_by (length bytes) (place_of old)) o) known)
@@ -68,14 +71,17 @@ module _ {D : Type 0} (asks : D → Query → Result Answer AllocError → D →
   HasAnswered-none old None before = tt
   HasAnswered-none old (Some text) before = ([], text, refl, (refl, refl), refl, Appends-nil before)
 
-  pub HasAnswered-begun : (old : D) (input before after : Option (List ℕ)) → after ≡ before → HasAnswered asks commands old input 0 before after input old
+  pub HasAnswered-begun : (old : D) (input before after : Option (List ℕ))
+      → after ≡ before → HasAnswered asks commands old input 0 before after input old
   HasAnswered-begun old input before after same =
       subst (λ a. HasAnswered asks commands old input 0 before a input old) (sym same) (HasAnswered-none old input before)
 
   -- what a step did, whose outcome is known
   step_of : (mid new : D) (middle after left rest : Option (List ℕ)) (next known : Next) → next ≡ known
-      → IfSome left (λ text. Steps asks commands mid text middle after rest new next) → IfSome left (λ text. Steps asks commands mid text middle after rest new known)
-  step_of mid new middle after left rest next known is step = subst (λ n. IfSome left (λ text. Steps asks commands mid text middle after rest new n)) is step
+      → IfSome left (λ text. Steps asks commands mid text middle after rest new next)
+      → IfSome left (λ text. Steps asks commands mid text middle after rest new known)
+  step_of mid new middle after left rest next known is step =
+      subst (λ n. IfSome left (λ text. Steps asks commands mid text middle after rest new n)) is step
 
   -- the step that answers a request after which more may come
   pub HasAnswered-more : (old mid new : D) (input before middle after left rest : Option (List ℕ)) (count : ℕ)
@@ -83,7 +89,8 @@ module _ {D : Type 0} (asks : D → Query → Result Answer AllocError → D →
       → (next : Next) → next ≡ nexts.More → IfSome left (λ text. Steps asks commands mid text middle after rest new next)
       → HasAnswered asks commands old input (count + 1) before after rest new
   HasAnswered-more old mid new None before middle after left rest count done next more step = tt
-  HasAnswered-more old mid new (Some text) before middle after left rest count (outs, here, is, answers, counted, written) next is_more step =
+  HasAnswered-more old mid new (Some text) before middle after left rest count
+      (outs, here, is, answers, counted, written) next is_more step =
       let (out, more, goes, first, appends) = subst (λ l. IfSome l (λ t. Steps asks commands mid t middle after rest new nexts.More)) is
       (step_of mid new middle after left rest next nexts.More is_more step) in (
         outs ++ out ∷ [],
@@ -118,7 +125,8 @@ module _ {D : Type 0} (asks : D → Query → Result Answer AllocError → D →
       → (next : Next) → next ≡ nexts.Closed → IfSome left (λ text. Steps asks commands mid text middle after rest new next)
       → IfSome input (λ text. IsPart asks commands old text (count + 1) false before after rest new)
   IsPart-closed old mid new None before middle after left rest count few done next closed step = tt
-  IsPart-closed old mid new (Some text) before middle after left rest count few (outs, here, is, answers, counted, written) next closed step =
+  IsPart-closed old mid new (Some text) before middle after left rest count few
+      (outs, here, is, answers, counted, written) next closed step =
       let (out, first, appends) = subst (λ l. IfSome l (λ t. Steps asks commands mid t middle after rest new nexts.Closed)) is
       (step_of mid new middle after left rest next nexts.Closed closed step) in
       let whole = Answers-more old mid new (Some text) (Some here) None outs out answers first in (
@@ -154,22 +162,25 @@ module _ {D : Type 0} (asks : D → Query → Result Answer AllocError → D →
   IsOutput-of old new None before after left count goes part = tt
   IsOutput-of old new (Some text) before after left count goes part = IsOutput-part old new text count goes before after left part
 
-  StopsBetween-of : {R : Type 0} (reader reader' : Device R) (old mid new : D) (input before middle after left rest : Option (List ℕ)) (count : ℕ)
+  StopsBetween-of : {R : Type 0} (reader reader' : Device R) (old mid new : D)
+      (input before middle after left rest : Option (List ℕ)) (count : ℕ)
       → count < REQUESTS_LIMIT → ReadsForRequests reader reader' (count + 1)
       → ((text here : List ℕ) → input ≡ Some text → left ≡ Some here → BeganAt reader reader' text here)
-      → HasAnswered asks commands old input count before middle left mid → IfSome left (λ text. TakesShort text rest) → new ≡ mid → Keeps middle after
+      → HasAnswered asks commands old input count before middle left mid
+      → IfSome left (λ text. TakesShort text rest) → new ≡ mid → Keeps middle after
       → IfSome input (λ text. StopsBetween asks commands reader reader' old text rest before after new)
   StopsBetween-of reader reader' old mid new None before middle after left rest count few reads began done short same kept = tt
-  StopsBetween-of reader reader' old mid new (Some text) before middle after left rest count few reads began (outs, here, is, answers, many, written) short same kept = (
-    outs,
-    here,
-    subst (λ d. Answers asks commands old (Some text) outs d (Some here)) (sym same) answers,
-    subst (λ l. IfSome l (λ t. TakesShort t rest)) is short,
-    Appends-kept before middle after (all_of outs) written kept,
-    subst (λ n. n < REQUESTS_LIMIT) many few,
-    began text here refl is,
-    subst (λ n. ReadsForRequests reader reader' (n + 1)) many reads,
-  )
+  StopsBetween-of reader reader' old mid new (Some text) before middle after left rest count few reads began
+      (outs, here, is, answers, many, written) short same kept = (
+        outs,
+        here,
+        subst (λ d. Answers asks commands old (Some text) outs d (Some here)) (sym same) answers,
+        subst (λ l. IfSome l (λ t. TakesShort t rest)) is short,
+        Appends-kept before middle after (all_of outs) written kept,
+        subst (λ n. n < REQUESTS_LIMIT) many few,
+        began text here refl is,
+        subst (λ n. ReadsForRequests reader reader' (n + 1)) many reads,
+      )
 
   -- a part whose end is not told
   pub IsPart-some : (old new : D) (input before after left : Option (List ℕ)) (count : ℕ) (goes : Bool)
@@ -189,34 +200,53 @@ module _ {D : Type 0} (asks : D → Query → Result Answer AllocError → D →
       × AnswersFirst asks commands mid (Some t) out new rest × AppendsFront middle after out)) is step in (
         outs,
         subst (λ n. n < REQUESTS_LIMIT) many few,
-        (Some here, mid, answers, out, rest, first, front, lost, parts, Appends-trans before middle after (all_of outs) front written appends),
+        (
+          Some here,
+          mid,
+          answers,
+          out,
+          rest,
+          first,
+          front,
+          lost,
+          parts,
+          Appends-trans before middle after (all_of outs) front written appends,
+        ),
       )
 
   -- the same refusal, where the counts began anew before
-  IsStepRefusal-begun : {R W : Type 0} (reader begun reader' : Device R) (writer writer' : Device W) (input input' left before after : Option (List ℕ)) (old new : D) (e : ServeError)
+  IsStepRefusal-begun : {R W : Type 0} (reader begun reader' : Device R) (writer writer' : Device W)
+      (input input' left before after : Option (List ℕ)) (old new : D) (e : ServeError)
       → faults_of begun ≡ faults_of reader → all_reads_of begun ≡ all_reads_of reader → place_of begun ≡ place_of reader → input' ≡ input
       → IsStepRefusal asks commands begun reader' writer writer' input' left before after old new e
       → IsStepRefusal asks commands reader reader' writer writer' input left before after old new e
-  IsStepRefusal-begun reader begun reader' writer writer' input input' left before after old new errors.ReadFault faults reads place same (lost, other, short, idle, kept, at) = (
-    elim lost [ inl one ↦ inl (one ∙ ap counted faults) | inr p ↦ inr (p.0 ∙ faults, p.1, omega (arith, reads, p.2)) ],
-    other,
-    subst (λ i. IfSome i (λ text. TakesShort text left)) same short,
-    idle,
-    kept,
-    at ∙ place,
-  )
-  IsStepRefusal-begun reader begun reader' writer writer' input input' left before after old new errors.WriteFault faults reads place same (lost, since, other, step) = (
-    lost,
-    since,
-    other ∙ faults,
-    subst (λ i. IfSome i (λ text. (out : List ℕ) × (rest : Option (List ℕ)) × AnswersFirst asks commands old (Some text) out new rest × AppendsFront before after out)) same step,
-  )
+  IsStepRefusal-begun reader begun reader' writer writer' input input' left before after old new errors.ReadFault faults reads place same
+      (lost, other, short, idle, kept, at) = (
+        elim lost [ inl one ↦ inl (one ∙ ap counted faults) | inr p ↦ inr (p.0 ∙ faults, p.1, omega (arith, reads, p.2)) ],
+        other,
+        subst (λ i. IfSome i (λ text. TakesShort text left)) same short,
+        idle,
+        kept,
+        at ∙ place,
+      )
+  IsStepRefusal-begun reader begun reader' writer writer' input input' left before after old new errors.WriteFault faults reads place same
+      (lost, since, other, step) = (
+        lost,
+        since,
+        other ∙ faults,
+        subst (λ i.
+            IfSome i (λ text. (out : List ℕ) × (rest : Option (List ℕ))
+            × AnswersFirst asks commands old (Some text) out new rest × AppendsFront before after out)) same step,
+      )
 
-  pub IsStepRefusal-anew : {R W : Type 0} (reader begun reader' : Device R) (writer writer' : Device W) (input input' left before after : Option (List ℕ)) (old new : D)
-      (r : Result Next ServeError) → faults_of begun ≡ faults_of reader → all_reads_of begun ≡ all_reads_of reader → place_of begun ≡ place_of reader → input' ≡ input
+  pub IsStepRefusal-anew : {R W : Type 0} (reader begun reader' : Device R)
+      (writer writer' : Device W) (input input' left before after : Option (List ℕ)) (old new : D)
+      (r : Result Next ServeError) → faults_of begun ≡ faults_of reader
+      → all_reads_of begun ≡ all_reads_of reader → place_of begun ≡ place_of reader → input' ≡ input
       → IfErr r (λ e. IsStepRefusal asks commands begun reader' writer writer' input' left before after old new e)
       → IfErr r (λ e. IsStepRefusal asks commands reader reader' writer writer' input left before after old new e)
-  IsStepRefusal-anew reader begun reader' writer writer' input input' left before after old new (Ok next) faults reads place same refused = tt
+  IsStepRefusal-anew reader begun reader' writer writer' input input' left before after old new (Ok next) faults reads place same refused =
+      tt
   IsStepRefusal-anew reader begun reader' writer writer' input input' left before after old new (Err e) faults reads place same refused =
       IsStepRefusal-begun reader begun reader' writer writer' input input' left before after old new e faults reads place same refused
 
@@ -224,20 +254,25 @@ module _ {D : Type 0} (asks : D → Query → Result Answer AllocError → D →
   pub IsServeRefusal-step : {R W : Type 0} (reader reader' reader'' : Device R) (writer writer' writer'' : Device W)
       (old mid new : D) (input before middle after left rest : Option (List ℕ)) (count : ℕ) (e : ServeError)
       → faults_of reader' ≡ faults_of reader → faults_of writer' ≡ faults_of writer
-      → counted_by 0 (all_reads_of reader) ≤ all_reads_of reader' → counted_by 0 (all_interruptions_of writer) ≤ all_interruptions_of writer'
+      → counted_by 0 (all_reads_of reader) ≤ all_reads_of reader'
+      → counted_by 0 (all_interruptions_of writer) ≤ all_interruptions_of writer'
       → count < REQUESTS_LIMIT → ReadsForRequests reader reader'' (count + 1)
-      → ((text here : List ℕ) → input ≡ Some text → left ≡ Some here → begun_of reader'' ≡ place_of reader' → BeganAt reader reader'' text here)
+      → ((text here : List ℕ) → input ≡ Some text → left ≡ Some here
+      → begun_of reader'' ≡ place_of reader' → BeganAt reader reader'' text here)
       → HasAnswered asks commands old input count before middle left mid
       → IsStepRefusal asks commands reader' reader'' writer' writer'' left rest middle after mid new e
       → IsServeRefusal asks commands reader reader'' writer writer'' input rest before after old new e
-  IsServeRefusal-step reader reader' reader'' writer writer' writer'' old mid new input before middle after left rest count errors.ReadFault reads writes least lasting few most began done (lost, other, short, same, kept, begun) = (
-    LosesRequest-later reader reader' reader'' reads least lost,
-    other ∙ writes,
-    StopsBetween-of reader reader'' old mid new input before middle after left rest count few most (λ text here known is. began text here known is begun) done short same kept,
-  )
-  IsServeRefusal-step reader reader' reader'' writer writer' writer'' old mid new input before middle after left rest count errors.WriteFault reads writes least lasting few most began done (lost, since, other, step) = (
-    LosesWriter-later writer writer' writer'' writes lost,
-    IsLostSince-later writer writer' writer'' writes lasting since,
-    other ∙ reads,
-    StopsIn-of old mid new input before middle after left count few done step,
-  )
+  IsServeRefusal-step reader reader' reader'' writer writer' writer'' old mid new input before middle after left rest
+      count errors.ReadFault reads writes least lasting few most began done (lost, other, short, same, kept, begun) = (
+        LosesRequest-later reader reader' reader'' reads least lost,
+        other ∙ writes,
+        StopsBetween-of reader reader'' old mid new input before middle after left rest count few most (λ text here known is.
+            began text here known is begun) done short same kept,
+      )
+  IsServeRefusal-step reader reader' reader'' writer writer' writer'' old mid new input before middle after left
+      rest count errors.WriteFault reads writes least lasting few most began done (lost, since, other, step) = (
+        LosesWriter-later writer writer' writer'' writes lost,
+        IsLostSince-later writer writer' writer'' writes lasting since,
+        other ∙ reads,
+        StopsIn-of old mid new input before middle after left count few done step,
+      )

@@ -65,7 +65,9 @@ apart_from_first f es = same_test _ _ to back
         (differ two.1.normal f.normal (λ same. two.4 (one_text two.0.normal f.normal isnt ∙ sym same))) two.3)
 
 pub shared_ids_rise : SharedIdsRise
-shared_ids_rise es = IsStrictlyIncreasing-filter (λ id. are_apart (with_id es id)) (ids_of es) (IsStrictlyIncreasing-from_sorted (ids_of es) (rising_rises (map (λ e. e.id) es)))
+shared_ids_rise es =
+    IsStrictlyIncreasing-filter (λ id. are_apart (with_id es id)) (ids_of es)
+    (IsStrictlyIncreasing-from_sorted (ids_of es) (rising_rises (map (λ e. e.id) es)))
 
 pub two_of_shared : (es : List Entry) (id : ℕ) → IsIn id (shared_ids es) → HasTwoSchemas es id
 two_of_shared es id i =
@@ -82,7 +84,8 @@ shared_of_two es id h =
     let has_e = in_filter (λ (e : Entry). e.id == id) e es (itself e.id id h.4) (in_contains es e h.2) in
     let has_f = in_filter (λ (e : Entry). e.id == id) f es (itself f.id id h.5) (in_contains es f h.3) in
     in_filter (λ id. are_apart (with_id es id)) id (ids_of es) (apart_two (with_id es id) e f has_e has_f h.6)
-    (rising_in (map (λ e. e.id) es) id (subst (λ n. IsIn n (map (λ (e : Entry). e.id) es)) h.4 (in_map (λ (e : Entry). e.id) e es (in_contains es e h.2))))
+    (rising_in (map (λ e. e.id) es) id
+    (subst (λ n. IsIn n (map (λ (e : Entry). e.id) es)) h.4 (in_map (λ (e : Entry). e.id) e es (in_contains es e h.2))))
 
 pub shared_ids_name_two : SharedIdsNameTwo
 shared_ids_name_two es id =

@@ -20,7 +20,8 @@ use Rattle.reg_inspection.specs.declared.cause.Cause.TheVariants as causes
 
 abbrev avro_part : Cause → Bool → Bool → Bool → Bool → Option Cause
 avro_part other a b c d =
-    if not a then Some other else (if not b then Some causes.References else (if not c then Some causes.Metadata else (if not d then Some causes.Rules else None)))
+    if not a then Some other else (
+    if not b then Some causes.References else (if not c then Some causes.Metadata else (if not d then Some causes.Rules else None)))
 
 is_plain : (other : Cause) (a b c d : Bool) → is_none (avro_part other a b c d) ≡ (a && b && c && d)
 is_plain other false b c d = refl
@@ -31,7 +32,8 @@ is_plain other true true true true = refl
 
 abbrev numbers_part : Bool → Bool → Option ℕ → Option Bool → Option Cause
 numbers_part s v i d =
-    if not s then Some causes.Subject else (if not v then Some causes.Version else (if is_none i then Some causes.Id else (if is_none d then Some causes.Deleted else None)))
+    if not s then Some causes.Subject else (
+    if not v then Some causes.Version else (if is_none i then Some causes.Id else (if is_none d then Some causes.Deleted else None)))
 
 abbrev schema_part : Option (List ℕ) → Option Cause
 schema_part t = if is_none t then Some causes.Schema else None
@@ -56,8 +58,10 @@ module _ (subject : List ℕ) (version : ℕ) where
   plain_parts true true (Some id) (Some deleted) None = refl
   plain_parts true true (Some id) (Some deleted) (Some text) = refl
 
-  parts : (beyond : Option Cause) (plain : Bool) → is_none beyond ≡ plain → (s v : Bool) (i : Option ℕ) (d : Option Bool) (t : Option (List ℕ))
-      → is_some (option_or beyond (option_or (numbers_part s v i d) (schema_part t))) ≡ is_none (value_part subject version (s && v && plain) i d t)
+  parts : (beyond : Option Cause) (plain : Bool) → is_none beyond ≡ plain
+      → (s v : Bool) (i : Option ℕ) (d : Option Bool) (t : Option (List ℕ))
+      → is_some (option_or beyond (option_or (numbers_part s v i d) (schema_part t)))
+      ≡ is_none (value_part subject version (s && v && plain) i d t)
   parts (Some cause) plain is s v i d t =
       sym (ap (λ b. is_none (value_part subject version b i d t)) (ap (λ p. s && v && p) (sym is) ∙ never s v))
   parts None plain is s v i d t =
@@ -78,12 +82,16 @@ module _ (subject : List ℕ) (version : ℕ) where
       (has_text_at (codes "subject") subject d) (has_number_at (codes "version") version d) (number_at (codes "id") d) (deleted_in d)
       (text_where is_schema (codes "schema") d)
 
-  of_text : (o : Option Data) → is_some (option_map_or (cause_in subject version) o (Some causes.NotJson)) ≡ is_none (option_and_then (value_in (keys.Schema subject version)) o)
+  of_text : (o : Option Data)
+      → is_some (option_map_or (cause_in subject version) o (Some causes.NotJson))
+      ≡ is_none (option_and_then (value_in (keys.Schema subject version)) o)
   of_text None = refl
   of_text (Some d) = of_data d
 
 of_value : (key : Key) (value : Option (List ℕ))
-    → is_some (option_and_then (λ v. option_and_then (λ text. option_map_or (cause_in v.0 v.1) (read text) (Some causes.NotJson)) value) (version_in key))
+    → is_some (
+    option_and_then (λ v. option_and_then (λ text. option_map_or (cause_in v.0 v.1) (read text) (Some causes.NotJson)) value)
+    (version_in key))
     ≡ (is_version key && is_some value && is_none (option_and_then (value_of_text key) value))
 of_value (keys.Schema subject version) None = refl
 of_value (keys.Schema subject version) (Some text) = of_text subject version (read text)

@@ -10,18 +10,32 @@ one_of true = refl
 one_of false = refl
 
 -- each entry is live or soft
-parts : (es : List (Bor Entry)) → count_by (λ (e : Entry). not e.soft) (map (λ e. e.now) es) + count_by (λ (e : Bor Entry). e.now.soft) es ≡ length es
+parts : (es : List (Bor Entry))
+    → count_by (λ (e : Entry). not e.soft) (map (λ e. e.now) es) + count_by (λ (e : Bor Entry). e.now.soft) es ≡ length es
 parts [] = refl
 parts (e ∷ es) =
-    omega (arith, parts es, one_of e.now.soft, sum_by-cons (λ (x : Entry). cond (not x.soft) 1 0) e.now (map (λ (e : Bor Entry). e.now) es), sum_by-cons (λ (x : Bor Entry). cond x.now.soft 1 0) e es)
+    omega (
+      arith,
+      parts es,
+      one_of e.now.soft,
+      sum_by-cons (λ (x : Entry). cond (not x.soft) 1 0) e.now (map (λ (e : Bor Entry). e.now) es),
+      sum_by-cons (λ (x : Bor Entry). cond x.now.soft 1 0) e es,
+    )
 
-pub live_are : (es : List (Bor Entry)) → count_by (λ (e : Entry). not e.soft) (map (λ e. e.now) es) ≡ length es - count_by (λ (e : Bor Entry). e.now.soft) es
+pub live_are : (es : List (Bor Entry))
+    → count_by (λ (e : Entry). not e.soft) (map (λ e. e.now) es) ≡ length es - count_by (λ (e : Bor Entry). e.now.soft) es
 live_are es = omega (arith, parts es)
 
-pub soft_are : (es : List (Bor Entry)) → count_by (λ (e : Entry). e.soft) (map (λ e. e.now) es) ≡ count_by (λ (e : Bor Entry). e.now.soft) es
+pub soft_are : (es : List (Bor Entry))
+    → count_by (λ (e : Entry). e.soft) (map (λ e. e.now) es) ≡ count_by (λ (e : Bor Entry). e.now.soft) es
 soft_are [] = refl
 soft_are (e ∷ es) =
-    omega (arith, soft_are es, sum_by-cons (λ (x : Entry). cond x.soft 1 0) e.now (map (λ (e : Bor Entry). e.now) es), sum_by-cons (λ (x : Bor Entry). cond x.now.soft 1 0) e es)
+    omega (
+      arith,
+      soft_are es,
+      sum_by-cons (λ (x : Entry). cond x.soft 1 0) e.now (map (λ (e : Bor Entry). e.now) es),
+      sum_by-cons (λ (x : Bor Entry). cond x.now.soft 1 0) e es,
+    )
 
 abbrev counts : ℕ → ℕ → ℕ → ℕ → ℕ → ℕ → ℕ → ℕ → Counts
 counts records foreign floor next subjects live deleted ids = record {
@@ -36,7 +50,10 @@ counts records foreign floor next subjects live deleted ids = record {
 }
 
 -- counts that are equal one by one
-pub same_counts : (foreign floor next : ℕ) {r r' s s' l l' d d' i i' : ℕ} → r ≡ r' → s ≡ s' → l ≡ l' → d ≡ d' → i ≡ i' → counts r foreign floor next s l d i ≡ counts r' foreign floor next s' l' d' i'
+pub same_counts : (foreign floor next : ℕ) {r r' s s' l l' d d' i i' : ℕ} → r ≡ r' → s ≡ s' → l ≡ l'
+    → d ≡ d' → i ≡ i' → counts r foreign floor next s l d i ≡ counts r' foreign floor next s' l' d' i'
 same_counts foreign floor next {r' = r'} {s = s} {s' = s'} {l = l} {l' = l'} {d = d} {d' = d'} {i = i} a b e f g =
-    ap (λ (n : ℕ). counts n foreign floor next s l d i) a ∙ ap (λ (n : ℕ). counts r' foreign floor next n l d i) b ∙ ap (λ (n : ℕ). counts r' foreign floor next s' n d i) e
+    ap (λ (n : ℕ). counts n foreign floor next s l d i) a
+    ∙ ap (λ (n : ℕ). counts r' foreign floor next n l d i) b
+    ∙ ap (λ (n : ℕ). counts r' foreign floor next s' n d i) e
     ∙ ap (λ (n : ℕ). counts r' foreign floor next s' l' n i) f ∙ ap (λ (n : ℕ). counts r' foreign floor next s' l' d' n) g

@@ -14,7 +14,8 @@ given_one f x None is = ap (λ o. cons_option o []) is ∙ ap option_to_list (sy
 given_one f x (Some y) is = ap (λ o. cons_option o []) is ∙ ap option_to_list (sym is)
 
 -- one more item
-pub given_more : {X Y : Type 0} (f : X → Option Y) (xs : List X) (i : ℕ) (x : X) → i < length xs → x ≡ get_or xs i x → filter_map f (take i xs) ++ option_to_list (f x) ≡ filter_map f (take (i + 1) xs)
+pub given_more : {X Y : Type 0} (f : X → Option Y) (xs : List X) (i : ℕ) (x : X) → i < length xs
+    → x ≡ get_or xs i x → filter_map f (take i xs) ++ option_to_list (f x) ≡ filter_map f (take (i + 1) xs)
 given_more {X} f xs i x within at =
     ap (λ l. filter_map f (take i xs) ++ l) (sym (given_one f x (f x) refl))
     ∙ sym (filter_map-append f (take i xs) (x ∷ []))
@@ -25,9 +26,14 @@ any_lent p [] = refl
 any_lent p (e ∷ es) = ap (λ b. p e.now || b) (any_lent p es)
 
 -- whether an entry differs from the first
-pub apart_is : (es : List (Bor Entry)) (f : Bor Entry) → Some f ≡ slice_get es 0 → list_any (λ e. not (bytes_eq e.now.normal f.now.normal)) es ≡ are_apart (map (λ e. e.now) es)
+pub apart_is : (es : List (Bor Entry)) (f : Bor Entry) → Some f ≡ slice_get es 0
+    → list_any (λ e. not (bytes_eq e.now.normal f.now.normal)) es ≡ are_apart (map (λ e. e.now) es)
 apart_is [] f h = absurd (cc)
 apart_is (e ∷ es) f h =
     let same : f ≡ e = cc in
     any_lent (λ e. not (bytes_eq e.normal f.now.normal)) (e ∷ es)
-    ∙ subst (λ (g : Bor Entry). list_any (λ (x : Entry). not (bytes_eq x.normal g.now.normal)) (e.now ∷ map (λ e. e.now) es) ≡ are_apart (e.now ∷ map (λ e. e.now) es)) (sym same) (apart_from_first e.now (map (λ e. e.now) es))
+    ∙ subst
+    (λ (g : Bor Entry).
+    list_any (λ (x : Entry). not (bytes_eq x.normal g.now.normal)) (e.now ∷ map (λ e. e.now) es)
+    ≡ are_apart (e.now ∷ map (λ e. e.now) es))
+    (sym same) (apart_from_first e.now (map (λ e. e.now) es))

@@ -26,14 +26,16 @@ use Rattle.reg_inspection.specs.Foreign.{before_empty, foreign_keytypes, is_fore
 pub counted : (read : List Read) → length read ≡ length (records_in read) + count_by is_foreign read
 counted [] = refl
 counted (reads.Record r ∷ read) = omega (arith, counted read)
-counted (reads.Foreign offset ∷ read) = omega (arith, counted read, sum_by-cons (λ x. if is_foreign x then 1 else 0) (reads.Foreign offset) read)
+counted (reads.Foreign offset ∷ read) =
+    omega (arith, counted read, sum_by-cons (λ x. if is_foreign x then 1 else 0) (reads.Foreign offset) read)
 
 -- ---- the lines of a log are those that say what it says
 
 has_some : (line : List ℕ) → 0 < length line → (length line == 0) ≡ false
 has_some line h = grind (arith, nat_tests)
 
-pub lines_are : (tail : List ℕ) → log_lines tail ≡ [] → (lines : List (List ℕ)) (read : List Read) → Say lines read → log_lines (text_of lines ++ tail) ≡ lines
+pub lines_are : (tail : List ℕ) → log_lines tail ≡ [] → (lines : List (List ℕ)) (read : List Read)
+    → Say lines read → log_lines (text_of lines ++ tail) ≡ lines
 lines_are tail ends [] [] say = ends
 lines_are tail ends [] (r ∷ read) say = absurd say
 lines_are tail ends (line ∷ lines) [] say = absurd say
@@ -44,18 +46,21 @@ lines_are tail ends (line ∷ lines) (r ∷ read) say =
     ∙ ap (λ (l : List (List ℕ)). line ∷ l) (lines_are tail ends lines read say.3)
 
 -- what stands behind the lines of a log has no line of it
-pub behind_lines : (text rest : List ℕ) (lines : List (List ℕ)) → (text ≡ text_of lines ++ 10 ∷ rest) ⊎ ((text ≡ text_of lines) × (rest ≡ []))
+pub behind_lines : (text rest : List ℕ) (lines : List (List ℕ))
+    → (text ≡ text_of lines ++ 10 ∷ rest) ⊎ ((text ≡ text_of lines) × (rest ≡ []))
     → (tail : List ℕ) × (text ≡ text_of lines ++ tail) × (log_lines tail ≡ []) × (is_floor_line tail ≡ false)
 behind_lines text rest lines ends =
     ⊎_elim (λ whole. (10 ∷ rest, whole, refl, refl)) (λ whole. ([], whole.0 ∙ sym (append-nil (text_of lines)), refl, refl)) ends
 
 -- ---- the keytypes of foreign lines
 
-at_front : (b : Bool) (line : List ℕ) (lines : List (List ℕ)) → map keytype_in (cond b (line ∷ lines) lines) ≡ map keytype_in (cond b (line ∷ []) []) ++ map keytype_in lines
+at_front : (b : Bool) (line : List ℕ) (lines : List (List ℕ))
+    → map keytype_in (cond b (line ∷ lines) lines) ≡ map keytype_in (cond b (line ∷ []) []) ++ map keytype_in lines
 at_front true line lines = refl
 at_front false line lines = refl
 
-one_more : (line : List ℕ) (lines : List (List ℕ)) → foreign_keytypes (line ∷ lines) ≡ foreign_keytypes (line ∷ []) ++ foreign_keytypes lines
+one_more : (line : List ℕ) (lines : List (List ℕ))
+    → foreign_keytypes (line ∷ lines) ≡ foreign_keytypes (line ∷ []) ++ foreign_keytypes lines
 one_more line lines = at_front (is_foreign_line line) line (filter is_foreign_line lines)
 
 one_line : (b : Bool) (line : List ℕ) → map keytype_in (cond b (line ∷ []) []) ≡ cond b (keytype_in line ∷ []) []
@@ -70,7 +75,8 @@ not_foreign line begins = of_reading (reading line) refl
     of_reading (Ok read) is = absurd (true≢false (sym begins ∙ not_floor_line line read is))
     of_reading (Err e) is = refl
 
-pub behind_front : (front others : List (List ℕ)) (floor : ℕ) (read : List Read) (tail : List ℕ) → log_lines tail ≡ [] → SaysFloor front floor → Say others read
+pub behind_front : (front others : List (List ℕ)) (floor : ℕ) (read : List Read) (tail : List ℕ)
+    → log_lines tail ≡ [] → SaysFloor front floor → Say others read
     → foreign_keytypes (log_lines (text_of (front ++ others) ++ tail)) ≡ foreign_keytypes others
 behind_front [] others floor read tail ends is say = ap foreign_keytypes (lines_are tail ends others read say)
 behind_front (line ∷ []) others floor read tail ends is say =
@@ -80,14 +86,16 @@ behind_front (line ∷ []) others floor read tail ends is say =
     let lines : log_lines (text_of (line ∷ others) ++ tail) ≡ line ∷ others =
     ap log_lines (append_assoc line (10 ∷ text_of others) tail)
     ∙ ap before_empty (slice_split_at is_line_feed line 10 text free refl)
-    ∙ ap (λ (b : Bool). cond b [] (line ∷ log_lines text)) (has_some line (omega (arith, ap length is.0, length-append floor_mark (decimal floor))))
+    ∙ ap (λ (b : Bool). cond b [] (line ∷ log_lines text))
+    (has_some line (omega (arith, ap length is.0, length-append floor_mark (decimal floor))))
     ∙ ap (λ (l : List (List ℕ)). line ∷ l) (lines_are tail ends others read say) in
     ap foreign_keytypes lines ∙ one_more line others
     ∙ ap (λ (b : Bool). map keytype_in (cond b (line ∷ []) []) ++ foreign_keytypes others) (not_foreign line begins)
 behind_front (line ∷ next ∷ front) others floor read tail ends is say = absurd is
 
 -- of a line that says this
-pub keytype_of_line : (line : List ℕ) (read : Read) → reading line ≡ Ok read → foreign_keytypes (line ∷ []) ≡ cond (is_foreign read) (keytype_in line ∷ []) []
+pub keytype_of_line : (line : List ℕ) (read : Read) → reading line ≡ Ok read
+    → foreign_keytypes (line ∷ []) ≡ cond (is_foreign read) (keytype_in line ∷ []) []
 keytype_of_line line read says =
     ap (λ (r : Result Read LineError). map keytype_in (cond (option_map_or is_foreign (result_ok r) false) (line ∷ []) [])) says
     ∙ one_line (is_foreign read) line
@@ -104,7 +112,8 @@ pub record GoesOn (lines : List (List ℕ)) (found : List (Option (List ℕ))) (
   pub counts : done + length more ≡ count
   pub keytypes : found ++ foreign_keytypes left ≡ foreign_keytypes lines
 
-pub begun : (lines : List (List ℕ)) (read : List Read) (found : List (Option (List ℕ))) (text : List ℕ) (count : ℕ) → found ≡ [] → HasLines text lines read count → GoesOn lines found text 0 count
+pub begun : (lines : List (List ℕ)) (read : List Read) (found : List (Option (List ℕ))) (text : List ℕ) (count : ℕ)
+    → found ≡ [] → HasLines text lines read count → GoesOn lines found text 0 count
 begun lines read found text count none has = record {
   left = lines;
   more = read;
@@ -120,23 +129,33 @@ none_left [] more say none = refl
 none_left (line ∷ left) [] say none = absurd say
 none_left (line ∷ left) (r ∷ more) say none = absurd (omega (arith, none))
 
-pub at_end : (lines : List (List ℕ)) (found : List (Option (List ℕ))) (rest : List ℕ) (done count : ℕ) → GoesOn lines found rest done count → done ≡ count → found ≡ foreign_keytypes lines
+pub at_end : (lines : List (List ℕ)) (found : List (Option (List ℕ))) (rest : List ℕ) (done count : ℕ)
+    → GoesOn lines found rest done count → done ≡ count → found ≡ foreign_keytypes lines
 at_end lines found rest done count go is =
     let none : length go.more ≡ 0 = omega (arith, go.counts, is) in
     sym (append-nil found) ∙ ap (λ (l : List (Option (List ℕ))). found ++ l) (sym (none_left go.left go.more go.say none)) ∙ go.keytypes
 
-abbrev front_of : (left : List (List ℕ)) (more : List Read) (tail rest : List ℕ) → rest ≡ text_of left ++ tail → Say left more → 0 < length more → Front rest
+abbrev front_of : (left : List (List ℕ)) (more : List Read) (tail rest : List ℕ)
+    → rest ≡ text_of left ++ tail → Say left more → 0 < length more → Front rest
 front_of [] [] tail rest is say some = absurd (omega (arith, some))
 front_of [] (r ∷ more) tail rest is say some = absurd say
 front_of (line ∷ left) [] tail rest is say some = absurd say
 front_of (line ∷ left) (r ∷ more) tail rest is say some =
-    record { line = line; behind = text_of left ++ tail; read = r; parts = is ∙ append_assoc line (10 ∷ text_of left) tail; free = say.1; says = say.2 }
+    record {
+      line = line;
+      behind = text_of left ++ tail;
+      read = r;
+      parts = is ∙ append_assoc line (10 ∷ text_of left) tail;
+      free = say.1;
+      says = say.2;
+    }
 
 module _ (lines : List (List ℕ)) (found new : List (Option (List ℕ))) (rest : List ℕ) (done count : ℕ) where
   abbrev pub front : GoesOn lines found rest done count → done < count → Front rest
   front go is = front_of go.left go.more go.tail rest go.parts go.say (omega (arith, go.counts, is))
 
-  stepped : (left : List (List ℕ)) (more : List Read) (tail : List ℕ) (is : rest ≡ text_of left ++ tail) (say : Say left more) (some : 0 < length more)
+  stepped : (left : List (List ℕ)) (more : List Read) (tail : List ℕ)
+      (is : rest ≡ text_of left ++ tail) (say : Say left more) (some : 0 < length more)
       → done + length more ≡ count → found ++ foreign_keytypes left ≡ foreign_keytypes lines
       → new ≡ found ++ foreign_keytypes ((front_of left more tail rest is say some).line ∷ [])
       → GoesOn lines new (front_of left more tail rest is say some).behind (done + 1) count
@@ -157,14 +176,16 @@ module _ (lines : List (List ℕ)) (found new : List (Option (List ℕ))) (rest 
         ∙ keytypes;
   }
 
-  pub step : (go : GoesOn lines found rest done count) (is : done < count) → new ≡ found ++ foreign_keytypes ((front go is).line ∷ []) → GoesOn lines new (front go is).behind (done + 1) count
+  pub step : (go : GoesOn lines found rest done count) (is : done < count)
+      → new ≡ found ++ foreign_keytypes ((front go is).line ∷ []) → GoesOn lines new (front go is).behind (done + 1) count
   step go is now = stepped go.left go.more go.tail go.parts go.say (omega (arith, go.counts, is)) go.counts go.keytypes now
 
 -- the line without its LF, and what stands behind that
 pub line_of : (line behind rest : List ℕ) (len : ℕ) → rest ≡ line ++ 10 ∷ behind → len ≡ length line + 1 → take (len - 1) rest ≡ line
 line_of line behind rest len is size = ap (λ (l : List ℕ). take (len - 1) l) is ∙ take_at line (10 ∷ behind) (len - 1) (omega (arith, size))
 
-pub rest_of : (line behind rest : List ℕ) (len : ℕ) → rest ≡ line ++ 10 ∷ behind → len ≡ length line + 1 → behind ≡ take (length rest - len) (drop len rest)
+pub rest_of : (line behind rest : List ℕ) (len : ℕ) → rest ≡ line ++ 10 ∷ behind
+    → len ≡ length line + 1 → behind ≡ take (length rest - len) (drop len rest)
 rest_of line behind rest len is size =
     let back : drop len rest ≡ behind =
     ap (λ (l : List ℕ). drop len l) (is ∙ sym (append_assoc line (10 ∷ []) behind))

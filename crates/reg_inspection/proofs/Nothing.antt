@@ -71,11 +71,15 @@ none_least f xs h = ap (λ ys. reduce min (map f ys)) h
 
 no_opaque : CausesAreOfOpaque → (rs : Records) → filter_map opaque_in (records_of rs) ≡ [] → opaque rs ≡ None
 unfolding opaque
-no_opaque causes rs h = none_least (λ r. r.offset) (filter is_opaque (records_of rs)) (none_passes opaque_in is_opaque (obstacle_of_opaque causes) (records_of rs) h)
+no_opaque causes rs h =
+    none_least (λ r. r.offset) (filter is_opaque (records_of rs))
+    (none_passes opaque_in is_opaque (obstacle_of_opaque causes) (records_of rs) h)
 
 opaque_no : CausesAreOfOpaque → (rs : Records) → opaque rs ≡ None → filter_map opaque_in (records_of rs) ≡ []
 unfolding opaque
-opaque_no causes rs h = none_given opaque_in is_opaque (obstacle_of_opaque causes) (records_of rs) (least_none (λ r. r.offset) (filter is_opaque (records_of rs)) h)
+opaque_no causes rs h =
+    none_given opaque_in is_opaque (obstacle_of_opaque causes) (records_of rs)
+    (least_none (λ r. r.offset) (filter is_opaque (records_of rs)) h)
 
 -- ---- the ids
 
@@ -152,15 +156,19 @@ begins causes none rs next h =
     let both : opaques ++ shared ≡ [] = left_nothing (opaques ++ shared) (place_missing rs next) h in
     let closed : is_closed rs ≡ false = closed_is causes none rs (left_nothing opaques shared both)
     (unmapped kinds.TwoSchemas (shared_ids (entries rs)) (right_nothing opaques shared both)) in
-    let place : has_no_place rs next ≡ false = placed (has_no_place rs next) (right_nothing (opaques ++ shared) (place_missing rs next) h) in
+    let place : has_no_place rs next ≡ false =
+    placed (has_no_place rs next) (right_nothing (opaques ++ shared) (place_missing rs next) h) in
     ap (λ b. not b && not (has_no_place rs next)) closed ∙ ap not place
 
 open_is : CausesAreOfOpaque → NoneIsOneTextEach → (rs : Records) (next : ℕ) → can_begin rs next ≡ true → obstacles rs next ≡ []
 open_is causes none rs next h =
     let closed : is_closed rs ≡ false = is_false (is_closed rs) (first_true (not (is_closed rs)) (not (has_no_place rs next)) h) in
-    let place : has_no_place rs next ≡ false = is_false (has_no_place rs next) (second_true (not (is_closed rs)) (not (has_no_place rs next)) h) in
-    ap (λ (os : List Obstacle). os ++ map kinds.TwoSchemas (shared_ids (entries rs)) ++ place_missing rs next) (opaque_no causes rs (first_none (opaque rs) (two_schemas rs) closed))
-    ∙ ap (λ (ids : List ℕ). map kinds.TwoSchemas ids ++ place_missing rs next) (shared_no none (entries rs) (second_none (opaque rs) (two_schemas rs) closed))
+    let place : has_no_place rs next ≡ false =
+    is_false (has_no_place rs next) (second_true (not (is_closed rs)) (not (has_no_place rs next)) h) in
+    ap (λ (os : List Obstacle). os ++ map kinds.TwoSchemas (shared_ids (entries rs)) ++ place_missing rs next)
+    (opaque_no causes rs (first_none (opaque rs) (two_schemas rs) closed))
+    ∙ ap (λ (ids : List ℕ). map kinds.TwoSchemas ids ++ place_missing rs next)
+    (shared_no none (entries rs) (second_none (opaque rs) (two_schemas rs) closed))
     ∙ ap (λ b. if b then kinds.NumbersUsedUp ∷ [] else []) place
 
 pub no_obstacle_is_open : CausesAreOfOpaque → NoneIsOneTextEach → NoObstacleIsOpen

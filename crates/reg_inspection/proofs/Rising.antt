@@ -17,7 +17,8 @@ use Rattle.reg_inspection.specs.Shared.{ids_of, rising, rising_by}
 use Rattle.reg_inspection.proofs.Members.{IsIn}
 
 -- the keys above k are above what is below k
-pub all_above : {K : Type 0} (cmp : K → K → Ordering) (o : IsTotalOrder cmp) (n k : K) (ks : List K) → cmp n k ≡ Less → AllByRecursion (λ y. cmp k y ≡ Less) ks → AllByRecursion (λ y. cmp n y ≡ Less) ks
+pub all_above : {K : Type 0} (cmp : K → K → Ordering) (o : IsTotalOrder cmp) (n k : K) (ks : List K)
+    → cmp n k ≡ Less → AllByRecursion (λ y. cmp k y ≡ Less) ks → AllByRecursion (λ y. cmp n y ≡ Less) ks
 all_above cmp o n k [] e h = tt
 all_above cmp o n k (y ∷ ys) e h = (o.trans n k y e h.0, all_above cmp o n k ys e h.1)
 
@@ -32,7 +33,8 @@ module _ {K : Type 0} (cmp : K → K → Ordering) (o : IsTotalOrder cmp) (exact
       elim (cmp n k) as (λ r. cmp n k ≡ r → IsIn x (match_ordering r (n ∷ k ∷ ks) (k ∷ ks) (k ∷ with_key ks n))) [
         | Less ↦ λ e. h
         | Equal ↦ λ e. ⊎_elim (λ same. inl (sym (exact n k e) ∙ same)) (λ i. i) h
-        | Greater ↦ λ e. ⊎_elim (λ same. inr (put_in ks n x (inl same))) (λ i. ⊎_elim (λ same. inl same) (λ j. inr (put_in ks n x (inr j))) i) h
+        | Greater ↦ λ e.
+            ⊎_elim (λ same. inr (put_in ks n x (inl same))) (λ i. ⊎_elim (λ same. inl same) (λ j. inr (put_in ks n x (inr j))) i) h
       ] refl
 
   put_out : (ks : List K) (n x : K) → IsIn x (with_key ks n) → (n ≡ x) ⊎ IsIn x ks
@@ -110,8 +112,11 @@ ids_more es i x within at =
     let ids : List (Bor Entry) → List ℕ = λ xs. map (λ (e : Entry). e.id) (map (λ (e : Bor Entry). e.now) xs) in
     sym (fold_push (insert_key nat_cmp) [] (ids (take i es)) x.now.id)
     ∙ ap rising (sym (ids_push (take i es) x))
-    ∙ ap (λ (xs : List (Bor Entry)). ids_of (map (λ e. e.now) xs)) (ap (λ (y : Bor Entry). take i es ++ y ∷ []) at ∙ sym (take_more es i x within))
+    ∙ ap (λ (xs : List (Bor Entry)). ids_of (map (λ e. e.now) xs))
+    (ap (λ (y : Bor Entry). take i es ++ y ∷ []) at ∙ sym (take_more es i x within))
   where
-    ids_push : (xs : List (Bor Entry)) (x : Bor Entry) → map (λ (e : Entry). e.id) (map (λ (e : Bor Entry). e.now) (xs ++ x ∷ [])) ≡ map (λ (e : Entry). e.id) (map (λ (e : Bor Entry). e.now) xs) ++ x.now.id ∷ []
+    ids_push : (xs : List (Bor Entry)) (x : Bor Entry)
+        → map (λ (e : Entry). e.id) (map (λ (e : Bor Entry). e.now) (xs ++ x ∷ []))
+        ≡ map (λ (e : Entry). e.id) (map (λ (e : Bor Entry). e.now) xs) ++ x.now.id ∷ []
     ids_push [] x = refl
     ids_push (y ∷ ys) x = ap (λ (l : List ℕ). y.now.id ∷ l) (ids_push ys x)

@@ -12,7 +12,8 @@ some_length o os = grind (arith, nat_tests)
 one_nothing : (o : Obstacle) (os : List Obstacle) → o ∷ os ≡ [] → ⊥
 one_nothing o os e = absurd (cc)
 
-pub servable_without_obstacles : NoObstacleIsOpen → (rs : Records) (next : ℕ) (os : List Obstacle) → os ≡ obstacles rs next → nat_eq (length os) 0 ≡ can_begin rs next
+pub servable_without_obstacles : NoObstacleIsOpen → (rs : Records) (next : ℕ) (os : List Obstacle)
+    → os ≡ obstacles rs next → nat_eq (length os) 0 ≡ can_begin rs next
 servable_without_obstacles law rs next [] is = sym ((law rs next).0 (sym is))
 servable_without_obstacles law rs next (o ∷ os) is =
     elim (can_begin rs next) as (λ b. can_begin rs next ≡ b → nat_eq (length (o ∷ os)) 0 ≡ b) [

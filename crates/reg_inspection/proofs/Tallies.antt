@@ -39,23 +39,29 @@ module _ {K : Type 0} (cmp : K → K → Ordering) (o : IsTotalOrder cmp) (exact
   keys_are f [] = refl
   keys_are f (k ∷ ks) = ap (λ (l : List K). k ∷ l) (keys_are f ks)
 
-  same_past : (f g : K → ℕ) (x : K) → ((k : K) → cmp x k ≡ Less → g k ≡ f k) → (ks : List K) → AllByRecursion (λ y. cmp x y ≡ Less) ks → numbered f ks ≡ numbered g ks
+  same_past : (f g : K → ℕ) (x : K) → ((k : K) → cmp x k ≡ Less → g k ≡ f k) → (ks : List K)
+      → AllByRecursion (λ y. cmp x y ≡ Less) ks → numbered f ks ≡ numbered g ks
   same_past f g x same [] past = refl
   same_past f g x same (k ∷ ks) past =
-      ap (λ (n : ℕ). (k, n) ∷ numbered f ks) (sym (same k past.0)) ∙ ap (λ (l : List (K × ℕ)). (k, g k) ∷ l) (same_past f g x same ks past.1)
+      ap (λ (n : ℕ). (k, n) ∷ numbered f ks) (sym (same k past.0))
+      ∙ ap (λ (l : List (K × ℕ)). (k, g k) ∷ l) (same_past f g x same ks past.1)
 
-  put : (f g : K → ℕ) (x : K) (n : ℕ) → n ≡ g x → ((k : K) → cmp x k ≡ Less → g k ≡ f k) → ((k : K) → cmp x k ≡ Greater → g k ≡ f k) → (ks : List K) → IsStrictlySortedBy cmp ks
+  put : (f g : K → ℕ) (x : K) (n : ℕ) → n ≡ g x → ((k : K) → cmp x k ≡ Less → g k ≡ f k)
+      → ((k : K) → cmp x k ≡ Greater → g k ≡ f k) → (ks : List K) → IsStrictlySortedBy cmp ks
       → insert_entry cmp (numbered f ks) x n ≡ numbered g (insert_key cmp ks x)
   unfolding IsStrictlySortedBy
   put f g x n is less greater [] sorted = ap (λ (m : ℕ). (x, m) ∷ []) is
   put f g x n is less greater (k ∷ ks) sorted =
-      elim (cmp x k) as (λ r. cmp x k ≡ r → match_ordering r ((x, n) ∷ (k, f k) ∷ numbered f ks) ((k, n) ∷ numbered f ks) ((k, f k) ∷ insert_entry cmp (numbered f ks) x n) ≡ numbered g (match_ordering r (x ∷ k ∷ ks) (k ∷ ks) (k ∷ insert_key cmp ks x))) [
+      elim (cmp x k) as (λ r. cmp x k ≡ r
+      → match_ordering r ((x, n) ∷ (k, f k) ∷ numbered f ks) ((k, n) ∷ numbered f ks) ((k, f k) ∷ insert_entry cmp (numbered f ks) x n)
+      ≡ numbered g (match_ordering r (x ∷ k ∷ ks) (k ∷ ks) (k ∷ insert_key cmp ks x))) [
         | Less ↦ λ e.
             ap (λ (m : ℕ). (x, m) ∷ numbered f (k ∷ ks)) is
             ∙ ap (λ (l : List (K × ℕ)). (x, g x) ∷ l) (same_past f g x less (k ∷ ks) (e, all_above cmp o x k ks e sorted.0))
         | Equal ↦ λ e.
             ap (λ (m : ℕ). (k, m) ∷ numbered f ks) (is ∙ ap g (exact x k e))
-            ∙ ap (λ (l : List (K × ℕ)). (k, g k) ∷ l) (same_past f g x less ks (subst (λ (z : K). AllByRecursion (λ y. cmp z y ≡ Less) ks) (sym (exact x k e)) sorted.0))
+            ∙ ap (λ (l : List (K × ℕ)). (k, g k) ∷ l)
+            (same_past f g x less ks (subst (λ (z : K). AllByRecursion (λ y. cmp z y ≡ Less) ks) (sym (exact x k e)) sorted.0))
         | Greater ↦ λ e.
             ap (λ (m : ℕ). (k, m) ∷ insert_entry cmp (numbered f ks) x n) (sym (greater k e))
             ∙ ap (λ (l : List (K × ℕ)). (k, g k) ∷ l) (put f g x n is less greater ks sorted.1)
@@ -72,7 +78,8 @@ module _ {K : Type 0} (cmp : K → K → Ordering) (o : IsTotalOrder cmp) (exact
   itself : (xs : List K) (x k : K) → eq_by_cmp cmp x k ≡ true → times (xs ++ x ∷ []) k ≡ times xs k + 1
   itself xs x k same = times_push xs x k ∙ ap (λ (b : Bool). times xs k + cond b 1 0) ((eq_by_cmp_equiv o).symm k x ∙ same)
 
-  pub tally_more : (xs : List K) (x : K) (n : ℕ) → n ≡ times xs x + 1 → (es : List (K × ℕ)) → es ≡ numbered (times xs) (rising_by cmp xs) → IsStrictlySortedBy cmp (keys_of es)
+  pub tally_more : (xs : List K) (x : K) (n : ℕ) → n ≡ times xs x + 1 → (es : List (K × ℕ))
+      → es ≡ numbered (times xs) (rising_by cmp xs) → IsStrictlySortedBy cmp (keys_of es)
       → insert_entry cmp es x n ≡ numbered (times (xs ++ x ∷ [])) (rising_by cmp (xs ++ x ∷ []))
   tally_more xs x n is es are sorted =
       ap (λ (l : List (K × ℕ)). insert_entry cmp l x n) are
@@ -82,7 +89,8 @@ module _ {K : Type 0} (cmp : K → K → Ordering) (o : IsTotalOrder cmp) (exact
       ∙ ap (numbered (times (xs ++ x ∷ []))) (sym (fold_push (insert_key cmp) [] xs x))
 
   -- what the map says of a key, after one more
-  pub times_more : (xs : List K) (x q : K) (n : ℕ) (old new : Option ℕ) → n ≡ times xs x + 1 → unwrap_or old 0 ≡ times xs q → new ≡ cond (eq_by_cmp cmp x q) (Some n) old
+  pub times_more : (xs : List K) (x q : K) (n : ℕ) (old new : Option ℕ) → n ≡ times xs x + 1
+      → unwrap_or old 0 ≡ times xs q → new ≡ cond (eq_by_cmp cmp x q) (Some n) old
       → unwrap_or new 0 ≡ times (xs ++ x ∷ []) q
   times_more xs x q n old new is was now =
       ap (λ (v : Option ℕ). unwrap_or v 0) now
@@ -106,7 +114,8 @@ exact (Some x) (Some y) e = ap Some (slice_cmp-IsAntisymmetric nat_cmp-IsAntisym
 
 pub tallies_rise : TalliesRise
 tallies_rise keytypes =
-    subst (IsStrictlySortedBy keytype_cmp) (sym (keys_are keytype_cmp keytypes_total exact (count_of keytypes) (rising_by keytype_cmp keytypes)))
+    subst (IsStrictlySortedBy keytype_cmp)
+    (sym (keys_are keytype_cmp keytypes_total exact (count_of keytypes) (rising_by keytype_cmp keytypes)))
     (rising_by_rises keytype_cmp keytypes_total exact keytypes)
 
 pub tallies_have_each : TalliesHaveEach
@@ -114,7 +123,8 @@ tallies_have_each keytypes keytype =
     let keys = keys_are keytype_cmp keytypes_total exact (count_of keytypes) (rising_by keytype_cmp keytypes) in
     let rising : List (Option (List ℕ)) = rising_by keytype_cmp keytypes in (
       λ has. contains_in keytypes keytype
-          (rising_by_out keytype_cmp keytypes_total exact keytypes keytype (in_contains rising keytype (subst (λ (l : List (Option (List ℕ))). Contains l keytype) keys has))),
+          (rising_by_out keytype_cmp keytypes_total exact keytypes keytype (
+          in_contains rising keytype (subst (λ (l : List (Option (List ℕ))). Contains l keytype) keys has))),
       λ has. subst (λ (l : List (Option (List ℕ))). Contains l keytype) (sym keys)
           (contains_in rising keytype (rising_by_in keytype_cmp keytypes_total exact keytypes keytype (in_contains keytypes keytype has))),
     )

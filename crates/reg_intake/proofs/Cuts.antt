@@ -37,7 +37,8 @@ cut (b ∷ bytes) =
       | true ↦ λ is. inr (record { line = []; rest = bytes; parts = ap (λ x. x ∷ bytes) (eqb-true b 10 is); free = All-nil IsFree })
       | false ↦ λ is. elim (cut bytes) [
         | inl none ↦ inl (All-cons IsFree b bytes is none)
-        | inr c ↦ inr (record { line = b ∷ c.line; rest = c.rest; parts = ap (λ l. b ∷ l) c.parts; free = All-cons IsFree b c.line is c.free })
+        | inr c ↦ inr (
+            record { line = b ∷ c.line; rest = c.rest; parts = ap (λ l. b ∷ l) c.parts; free = All-cons IsFree b c.line is c.free })
       ]
     ] refl
 
@@ -56,7 +57,8 @@ len_of_free (b ∷ line) free =
 pub ends_at : (line more : List ℕ) → HasNoLineFeed line → position is_line_feed (line ++ 10 ∷ more) ≡ Some (length line)
 ends_at line more free =
     let at = len_to_first line more free in
-    let within : nat_lt (length line) (length (line ++ 10 ∷ more)) ≡ true = let size = length-append line (10 ∷ more) in grind (arith, nat_tests) in
+    let within : nat_lt (length line) (length (line ++ 10 ∷ more)) ≡ true =
+    let size = length-append line (10 ∷ more) in grind (arith, nat_tests) in
     ap (λ (n : ℕ). cond (nat_lt n (length (line ++ 10 ∷ more))) (Some n) None) at
     ∙ ap (λ t. cond t (Some (length line)) None) within
 
@@ -69,12 +71,18 @@ ends_nowhere line free =
 
 -- what `position` gives
 pub len_of_cut : (bytes : List ℕ) (len : Option ℕ) → len ≡ position is_line_feed bytes
-    → MatchOption len (HasNoLineFeed bytes) (λ n. (line : List ℕ) × (rest : List ℕ) × (bytes ≡ line ++ 10 ∷ rest) × HasNoLineFeed line × (n ≡ length line))
+    → MatchOption len (HasNoLineFeed bytes)
+    (λ n. (line : List ℕ) × (rest : List ℕ) × (bytes ≡ line ++ 10 ∷ rest) × HasNoLineFeed line × (n ≡ length line))
 len_of_cut bytes len is = elim (cut bytes) [
-  | inl none ↦ subst (λ (o : Option ℕ). MatchOption o (HasNoLineFeed bytes) (λ n. (line : List ℕ) × (rest : List ℕ) × (bytes ≡ line ++ 10 ∷ rest) × HasNoLineFeed line × (n ≡ length line)))
+  | inl none ↦ subst (λ (o : Option ℕ).
+      MatchOption o (HasNoLineFeed bytes)
+      (λ n. (line : List ℕ) × (rest : List ℕ) × (bytes ≡ line ++ 10 ∷ rest) × HasNoLineFeed line × (n ≡ length line)))
       (sym (is ∙ ends_nowhere bytes none)) none
-  | inr c ↦ subst (λ (o : Option ℕ). MatchOption o (HasNoLineFeed bytes) (λ n. (line : List ℕ) × (rest : List ℕ) × (bytes ≡ line ++ 10 ∷ rest) × HasNoLineFeed line × (n ≡ length line)))
-      (sym (is ∙ ap (λ (l : List ℕ). position is_line_feed l) c.parts ∙ ends_at c.line c.rest c.free)) (c.line, c.rest, c.parts, c.free, refl)
+  | inr c ↦ subst (λ (o : Option ℕ).
+      MatchOption o (HasNoLineFeed bytes)
+      (λ n. (line : List ℕ) × (rest : List ℕ) × (bytes ≡ line ++ 10 ∷ rest) × HasNoLineFeed line × (n ≡ length line)))
+      (sym (is ∙ ap (λ (l : List ℕ). position is_line_feed l) c.parts ∙ ends_at c.line c.rest c.free))
+      (c.line, c.rest, c.parts, c.free, refl)
 ]
 
 -- what a line with its LF says
@@ -90,14 +98,20 @@ without_end line bytes is =
     ∙ take_at line (10 ∷ []) (length bytes - 1) (omega (arith, ap length is, length-append line (10 ∷ [])))
 
 -- a line that says no floor
-pub said_plain : (before : ℕ) (line : List ℕ) (is : Result Read LineError) → (nat_eq before 0 && is_floor_line line) ≡ false → reading line ≡ is
+pub said_plain : (before : ℕ) (line : List ℕ) (is : Result Read LineError)
+    → (nat_eq before 0 && is_floor_line line) ≡ false → reading line ≡ is
     → said_at before line ≡ result_map_both Line faults.Line is
 said_plain before line is plain reads =
-    ap (λ b. cond b (result_map_both (λ (floor : ℕ). Floor) (λ (fault : LogFault). fault) (floor_reading line)) (result_map_both Line faults.Line (reading line))) plain
+    ap (λ b.
+    cond b (result_map_both (λ (floor : ℕ). Floor) (λ (fault : LogFault). fault) (floor_reading line))
+    (result_map_both Line faults.Line (reading line))) plain
     ∙ ap (λ r. result_map_both Line faults.Line r) reads
 
-pub said_floor : (before : ℕ) (line : List ℕ) (is : Result ℕ LogFault) → (nat_eq before 0 && is_floor_line line) ≡ true → floor_reading line ≡ is
+pub said_floor : (before : ℕ) (line : List ℕ) (is : Result ℕ LogFault)
+    → (nat_eq before 0 && is_floor_line line) ≡ true → floor_reading line ≡ is
     → said_at before line ≡ result_map_both (λ (floor : ℕ). Floor) (λ (fault : LogFault). fault) is
 said_floor before line is begins reads =
-    ap (λ b. cond b (result_map_both (λ (floor : ℕ). Floor) (λ (fault : LogFault). fault) (floor_reading line)) (result_map_both Line faults.Line (reading line))) begins
+    ap (λ b.
+    cond b (result_map_both (λ (floor : ℕ). Floor) (λ (fault : LogFault). fault) (floor_reading line))
+    (result_map_both Line faults.Line (reading line))) begins
     ∙ ap (λ r. result_map_both (λ (floor : ℕ). Floor) (λ (fault : LogFault). fault) r) reads

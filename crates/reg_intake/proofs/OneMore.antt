@@ -32,14 +32,16 @@ Says before line Floor = (before ≡ 0) × (is_floor_line line ≡ true) × (flo
 Says before line End = ⊥
 Says before line Nothing = ⊥
 
-of_line_is : (before : ℕ) (line : List ℕ) (came : Came) (read : Result Read LineError) → reading line ≡ read → of_line read ≡ Ok came → Says before line came
+of_line_is : (before : ℕ) (line : List ℕ) (came : Came) (read : Result Read LineError)
+    → reading line ≡ read → of_line read ≡ Ok came → Says before line came
 of_line_is before line (Line r) (Ok x) reads is = reads ∙ (let same : ◌≡◌ {A = Result Came LogFault} (Ok (Line x)) (Ok (Line r)) = is in cc)
 of_line_is before line Floor (Ok x) reads is = absurd (cc is)
 of_line_is before line End (Ok x) reads is = absurd (cc is)
 of_line_is before line Nothing (Ok x) reads is = absurd (cc is)
 of_line_is before line came (Err e) reads is = absurd (cc is)
 
-of_floor_is : (before : ℕ) (line : List ℕ) (came : Came) (read : Result ℕ LogFault) → before ≡ 0 → is_floor_line line ≡ true → floor_reading line ≡ read → of_floor read ≡ Ok came → Says before line came
+of_floor_is : (before : ℕ) (line : List ℕ) (came : Came) (read : Result ℕ LogFault) → before ≡ 0
+    → is_floor_line line ≡ true → floor_reading line ≡ read → of_floor read ≡ Ok came → Says before line came
 of_floor_is before line (Line r) (Ok x) zero begins reads is = absurd (cc is)
 of_floor_is before line Floor (Ok x) zero begins reads is = (zero, begins, x, reads)
 of_floor_is before line End (Ok x) zero begins reads is = absurd (cc is)
@@ -48,8 +50,11 @@ of_floor_is before line came (Err e) zero begins reads is = absurd (cc is)
 
 pub of_said : (before : ℕ) (line : List ℕ) (came : Came) → said_at before line ≡ Ok came → Says before line came
 of_said before line came is =
-    elim (nat_eq before 0 && is_floor_line line) as (λ b. (nat_eq before 0 && is_floor_line line) ≡ b → cond b (of_floor (floor_reading line)) (of_line (reading line)) ≡ Ok came → Says before line came) [
-      | true ↦ λ both said. of_floor_is before line came (floor_reading line) (eqb-true before 0 (and_parts (nat_eq before 0) (is_floor_line line) both).0) (and_parts (nat_eq before 0) (is_floor_line line) both).1 refl said
+    elim (nat_eq before 0 && is_floor_line line) as (λ b. (nat_eq before 0 && is_floor_line line) ≡ b
+    → cond b (of_floor (floor_reading line)) (of_line (reading line)) ≡ Ok came → Says before line came) [
+      | true ↦ λ both said.
+          of_floor_is before line came (floor_reading line) (eqb-true before 0 (and_parts (nat_eq before 0) (is_floor_line line) both).0)
+          (and_parts (nat_eq before 0) (is_floor_line line) both).1 refl said
       | false ↦ λ plain said. of_line_is before line came (reading line) refl said
     ] refl is
 
@@ -61,7 +66,8 @@ Say-append (line ∷ lines) more (r ∷ read) next say then = (say.0, say.1, say
 
 text_of-append : (lines more : List (List ℕ)) → text_of (lines ++ more) ≡ text_of lines ++ text_of more
 text_of-append [] more = refl
-text_of-append (line ∷ lines) more = ap (λ (l : List ℕ). line ++ 10 ∷ l) (text_of-append lines more) ∙ sym (append_assoc line (10 ∷ text_of lines) (text_of more))
+text_of-append (line ∷ lines) more =
+    ap (λ (l : List ℕ). line ++ 10 ∷ l) (text_of-append lines more) ∙ sym (append_assoc line (10 ∷ text_of lines) (text_of more))
 
 SayLog-more : (lines : List (List ℕ)) (floor : ℕ) (read : List Read) (line : List ℕ) (r : Read) → SayLog lines floor read
     → 0 < length line → HasNoLineFeed line → reading line ≡ Ok r → SayLog (lines ++ line ∷ []) floor (read ++ r ∷ [])
@@ -94,7 +100,8 @@ behind text lines bytes line rest parts is =
 counts : (n : ℕ) (m : ℕ) → m ≡ min n (2 ^ 64 - 1) → counted m ≡ min (n + 1) (2 ^ 64 - 1)
 counts n m is = omega (arith, is)
 
-module _ (text : List ℕ) (read : List Read) (s : Unread) (line rest : List ℕ) (is : s.bytes ≡ line ++ 10 ∷ rest) (free : HasNoLineFeed line) (some : 0 < length line) (has : HasRead text read s) where
+module _ (text : List ℕ) (read : List Read) (s : Unread) (line rest : List ℕ) (is : s.bytes ≡ line ++ 10 ∷ rest)
+    (free : HasNoLineFeed line) (some : 0 < length line) (has : HasRead text read s) where
   abbrev new : Unread
   new = record { bytes = rest; count = counted s.count }
 
@@ -110,7 +117,8 @@ module _ (text : List ℕ) (read : List Read) (s : Unread) (line rest : List ℕ
     count = omega (arith, has.count, more);
   }
 
-  has_floor : (floor : ℕ) → s.count ≡ 0 → is_floor_line line ≡ true → floor_reading line ≡ Ok floor → HasRead text read new × (s.count ≡ 0) × (new.count ≡ 1)
+  has_floor : (floor : ℕ) → s.count ≡ 0 → is_floor_line line ≡ true
+      → floor_reading line ≡ Ok floor → HasRead text read new × (s.count ≡ 0) × (new.count ≡ 1)
   has_floor floor zero begins says =
       let none : length has.lines ≡ 0 = omega (arith, has.count, zero) in
       let empty : has.lines ≡ [] = nil_from_length has.lines none in
@@ -119,7 +127,13 @@ module _ (text : List ℕ) (read : List Read) (s : Unread) (line rest : List ℕ
           lines = line ∷ [];
           floor = floor;
           parts = behind text [] s.bytes line rest (has.parts ∙ ap (λ (l : List (List ℕ)). text_of l ++ s.bytes) empty) is;
-          say = record { front = line ∷ []; others = []; parts = refl; floor = of_reading line floor begins says; say = subst (λ (l : List Read). Say [] l) (sym nothing) tt };
+          say = record {
+            front = line ∷ [];
+            others = [];
+            parts = refl;
+            floor = of_reading line floor begins says;
+            say = subst (λ (l : List Read). Say [] l) (sym nothing) tt;
+          };
           count = omega (arith, zero);
         },
         zero,
@@ -136,12 +150,14 @@ module _ (text : List ℕ) (read : List Read) (s : Unread) (line rest : List ℕ
   comes came after said same = subst (λ (u : Unread). Comes text read s came u) (sym same) (by_kind came (of_said s.count line came said))
 
 -- the line with its LF, and what is left behind it
-pub front_line : (bytes line rest : List ℕ) (len : ℕ) → bytes ≡ line ++ 10 ∷ rest → len ≡ length line → take (len + 1) bytes ≡ line ++ 10 ∷ []
+pub front_line : (bytes line rest : List ℕ) (len : ℕ) → bytes ≡ line ++ 10 ∷ rest
+    → len ≡ length line → take (len + 1) bytes ≡ line ++ 10 ∷ []
 front_line bytes line rest len is size =
     ap (λ (l : List ℕ). take (len + 1) l) (is ∙ sym (append_assoc line (10 ∷ []) rest))
     ∙ take_at (line ++ 10 ∷ []) rest (len + 1) (omega (arith, size, length-append line (10 ∷ [])))
 
-pub left_behind : (held line rest : List ℕ) (passed len : ℕ) → drop passed held ≡ line ++ 10 ∷ rest → len ≡ length line → drop (passed + (len + 1)) held ≡ rest
+pub left_behind : (held line rest : List ℕ) (passed len : ℕ) → drop passed held ≡ line ++ 10 ∷ rest
+    → len ≡ length line → drop (passed + (len + 1)) held ≡ rest
 left_behind held line rest passed len is size =
     sym (drop-drop (len + 1) passed held)
     ∙ ap (λ (l : List ℕ). drop (len + 1) l) (is ∙ sym (append_assoc line (10 ∷ []) rest))

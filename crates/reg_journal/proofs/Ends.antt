@@ -24,18 +24,21 @@ use Rattle.reg_journal.proofs.Logs.{lines_told, said_by_lines, said_in, whole}
 pub counted : (read : List Read) → length read ≡ length (records_in read) + count_by is_foreign read
 counted [] = refl
 counted (reads.Record r ∷ read) = omega (arith, counted read)
-counted (reads.Foreign offset ∷ read) = omega (arith, counted read, sum_by-cons (λ x. if is_foreign x then 1 else 0) (reads.Foreign offset) read)
+counted (reads.Foreign offset ∷ read) =
+    omega (arith, counted read, sum_by-cons (λ x. if is_foreign x then 1 else 0) (reads.Foreign offset) read)
 
 take_past : (xs ys : List ℕ) (m n : ℕ) → m ≡ length xs + n → take m (xs ++ ys) ≡ xs ++ take n ys
 take_past [] ys m n is = let same : m ≡ n = omega arith in ap (λ (k : ℕ). take k ys) same
 take_past (x ∷ xs) ys zero n is = absurd (omega arith)
 take_past (x ∷ xs) ys (suc m) n is = ap (λ (l : List ℕ). x ∷ l) (take_past xs ys m n (omega arith))
 
-front_of : (file xs : List ℕ) (b : ℕ) (rest : List ℕ) → file ++ 10 ∷ [] ≡ xs ++ 10 ∷ b ∷ rest → file ≡ xs ++ 10 ∷ take (length rest) (b ∷ rest)
+front_of : (file xs : List ℕ) (b : ℕ) (rest : List ℕ)
+    → file ++ 10 ∷ [] ≡ xs ++ 10 ∷ b ∷ rest → file ≡ xs ++ 10 ∷ take (length rest) (b ∷ rest)
 front_of file xs b rest is =
     sym (take_at file (10 ∷ []) (length file) refl)
     ∙ ap (λ (l : List ℕ). take (length file) l) is
-    ∙ take_past xs (10 ∷ b ∷ rest) (length file) (suc (length rest)) (omega (arith, ap length is, length-append file (10 ∷ []), length-append xs (10 ∷ b ∷ rest)))
+    ∙ take_past xs (10 ∷ b ∷ rest) (length file) (suc (length rest))
+    (omega (arith, ap length is, length-append file (10 ∷ []), length-append xs (10 ∷ b ∷ rest)))
 
 pub filled : (xs : List ℕ) → (length xs == 0) ≡ false → 0 < length xs
 filled xs is = grind (arith, nat_tests)
@@ -50,12 +53,15 @@ pub record Ended (file : List ℕ) (log : LogText) : Type 0 where
   -- how many they are
   pub told : length lines ≡ length log.reads + cond (is_floor_line (file ++ 10 ∷ [])) 1 0
 
-ended_by : (file : List ℕ) (log : LogText) (lines : List (List ℕ)) (rest : List ℕ) → SayLog lines log.floor log.reads → length lines ≤ LOG_LINES → rest ≡ log.rest → 0 < length rest
+ended_by : (file : List ℕ) (log : LogText) (lines : List (List ℕ)) (rest : List ℕ)
+    → SayLog lines log.floor log.reads → length lines ≤ LOG_LINES → rest ≡ log.rest → 0 < length rest
     → file ++ 10 ∷ [] ≡ text_of lines ++ 10 ∷ rest → Ended file log
 ended_by file log lines [] say few same some is = absurd (omega arith)
 ended_by file log lines (b ∷ rest) say few same some is = record {
   lines = lines;
-  parts = front_of file (text_of lines) b rest is ∙ ap (λ (l : List ℕ). text_of lines ++ 10 ∷ l) (ap (λ (k : ℕ). take k (b ∷ rest)) (omega arith) ∙ ap (λ (l : List ℕ). take (length l - 1) l) same);
+  parts = front_of file (text_of lines) b rest is
+      ∙ ap (λ (l : List ℕ). text_of lines ++ 10 ∷ l)
+      (ap (λ (k : ℕ). take k (b ∷ rest)) (omega arith) ∙ ap (λ (l : List ℕ). take (length l - 1) l) same);
   say = say;
   few = few;
   size = omega (arith, ap length is, ap length same, length-append file (10 ∷ []), length-append (text_of lines) (10 ∷ b ∷ rest));
@@ -94,7 +100,8 @@ module _ (file : List ℕ) (found : Found) (is : IsFound file found) where
   pub kept_says : (c : List ℕ) → Keeps (found.end + 1) file c → said c ≡ said file
   kept_says c keeps =
       let before = text_of is.lines in
-      let front : c ≡ before ++ 10 ∷ drop (found.end + 1) c = kept_front before (found.end + 1) found.behind.items c (omega (arith, is.ends)) (subst (λ f. Keeps (found.end + 1) f c) is.parts keeps) in
+      let front : c ≡ before ++ 10 ∷ drop (found.end + 1) c = kept_front before (found.end + 1) found.behind.items c
+      (omega (arith, is.ends)) (subst (λ f. Keeps (found.end + 1) f c) is.parts keeps) in
       ap said front ∙ said_by_lines is.lines is.floor is.read (drop (found.end + 1) c) is.say is.few ∙ sym said_found
 
   front : take (found.end + 1) file ≡ text_of is.lines ++ 10 ∷ []
@@ -133,6 +140,7 @@ pub nothing_left : (file : List ℕ) (log : LogText) → log_of (file ++ 10 ∷ 
 nothing_left file log is = (record { floor = log.floor; reads = log.reads }, ap said_in is)
 
 -- a file in which something was found says it
-pub says_found : (file : List ℕ) (r : Result Found OpenError) → IfOk r (IsFound file) → IfOk r (λ found. (says : Said) × (said file ≡ Ok says) × IsLogOf says.floor says.reads found.log)
+pub says_found : (file : List ℕ) (r : Result Found OpenError) → IfOk r (IsFound file)
+    → IfOk r (λ found. (says : Said) × (said file ≡ Ok says) × IsLogOf says.floor says.reads found.log)
 says_found file (Ok found) is = (record { floor = is.floor; reads = is.read }, said_found file found is, is.is_log)
 says_found file (Err e) is = tt

@@ -54,14 +54,17 @@ log_of_lines n (line ∷ lines) (r ∷ read) rest say few =
     let text = text_of lines ++ 10 ∷ rest in
     let some : (length line == 0) ≡ false = ne_eqb (length line) 0 (λ none. omega (arith, say.0)) in
     let within : nat_lt LOG_LINES n ≡ false = grind (arith, nat_tests) in
-    let more : (length (parts text) == 0) ≡ false = ne_eqb (length (parts text)) 0 (λ none. omega (arith, length-slice_split is_line_feed text)) in
+    let more : (length (parts text) == 0) ≡ false =
+    ne_eqb (length (parts text)) 0 (λ none. omega (arith, length-slice_split is_line_feed text)) in
     ap (λ (l : List ℕ). log_from n (parts l)) (append_assoc line (10 ∷ text_of lines) (10 ∷ rest))
     ∙ ap (log_from n) (slice_split_at is_line_feed line 10 text say.1 refl)
-    ∙ ap (λ b. from_tests b (nat_lt LOG_LINES n) (length (parts text) == 0) n (parts text) (reading line) (log_from (suc n) (parts text))) some
+    ∙ ap (λ b.
+    from_tests b (nat_lt LOG_LINES n) (length (parts text) == 0) n (parts text) (reading line) (log_from (suc n) (parts text))) some
     ∙ ap (λ b. from_tests false b (length (parts text) == 0) n (parts text) (reading line) (log_from (suc n) (parts text))) within
     ∙ ap (λ b. from_tests false false b n (parts text) (reading line) (log_from (suc n) (parts text))) more
     ∙ ap (λ says. line_then n says (log_from (suc n) (parts text))) say.2
-    ∙ ap (λ (found : Outcome). result_map_both (with_read r) (λ fault. fault) found) (log_of_lines (suc n) lines read rest say.3 (omega arith))
+    ∙ ap (λ (found : Outcome). result_map_both (with_read r) (λ fault. fault) found)
+    (log_of_lines (suc n) lines read rest say.3 (omega arith))
 
 log_of_only : (n : ℕ) (lines : List (List ℕ)) (read : List Read) → Say lines read → n + length read ≤ LOG_LINES + 1
     → log_from n (parts (text_of lines)) ≡ Ok (record { floor = 0; reads = read; rest = [] })
@@ -72,9 +75,11 @@ log_of_only n (line ∷ lines) (r ∷ read) say few =
     let text = text_of lines in
     let some : (length line == 0) ≡ false = ne_eqb (length line) 0 (λ none. omega (arith, say.0)) in
     let within : nat_lt LOG_LINES n ≡ false = grind (arith, nat_tests) in
-    let more : (length (parts text) == 0) ≡ false = ne_eqb (length (parts text)) 0 (λ none. omega (arith, length-slice_split is_line_feed text)) in
+    let more : (length (parts text) == 0) ≡ false =
+    ne_eqb (length (parts text)) 0 (λ none. omega (arith, length-slice_split is_line_feed text)) in
     ap (log_from n) (slice_split_at is_line_feed line 10 text say.1 refl)
-    ∙ ap (λ b. from_tests b (nat_lt LOG_LINES n) (length (parts text) == 0) n (parts text) (reading line) (log_from (suc n) (parts text))) some
+    ∙ ap (λ b.
+    from_tests b (nat_lt LOG_LINES n) (length (parts text) == 0) n (parts text) (reading line) (log_from (suc n) (parts text))) some
     ∙ ap (λ b. from_tests false b (length (parts text) == 0) n (parts text) (reading line) (log_from (suc n) (parts text))) within
     ∙ ap (λ b. from_tests false false b n (parts text) (reading line) (log_from (suc n) (parts text))) more
     ∙ ap (λ says. line_then n says (log_from (suc n) (parts text))) say.2
@@ -95,16 +100,22 @@ plain_first (line ∷ lines) (r ∷ read) tail say plain =
     let split : parts ((line ++ 10 ∷ text_of lines) ++ tail) ≡ line ∷ parts more =
     ap parts (append_assoc line (10 ∷ text_of lines) tail) ∙ parts-line line more say.1 in
     ap log_at split
-    ∙ ap (λ b. cond b (floor_then (cond (length (parts more) == 0) (Err (Line Truncated)) (floor_reading line)) (log_from 2 (parts more))) (log_from 1 (line ∷ parts more)))
+    ∙ ap (λ b.
+    cond b (floor_then (cond (length (parts more) == 0) (Err (Line Truncated)) (floor_reading line)) (log_from 2 (parts more)))
+    (log_from 1 (line ∷ parts more)))
     (not_floor_line line r say.2)
     ∙ ap (log_from 1) (sym split)
 
-floor_first : (floor : ℕ) (more : List ℕ) → floor ≤ OFFSET_LIMIT → log_of (floor_text floor ++ 10 ∷ more) ≡ floor_then (Ok floor) (log_from 2 (parts more))
+floor_first : (floor : ℕ) (more : List ℕ) → floor ≤ OFFSET_LIMIT
+    → log_of (floor_text floor ++ 10 ∷ more) ≡ floor_then (Ok floor) (log_from 2 (parts more))
 floor_first floor more fits =
     let line = floor_text floor in
-    let some : (length (parts more) == 0) ≡ false = ne_eqb (length (parts more)) 0 (λ none. omega (arith, length-slice_split is_line_feed more)) in
+    let some : (length (parts more) == 0) ≡ false =
+    ne_eqb (length (parts more)) 0 (λ none. omega (arith, length-slice_split is_line_feed more)) in
     ap log_at (parts-line line more (one_line floor fits))
-    ∙ ap (λ b. cond b (floor_then (cond (length (parts more) == 0) (Err (Line Truncated)) (floor_reading line)) (log_from 2 (parts more))) (log_from 1 (line ∷ parts more)))
+    ∙ ap (λ b.
+    cond b (floor_then (cond (length (parts more) == 0) (Err (Line Truncated)) (floor_reading line)) (log_from 2 (parts more)))
+    (log_from 1 (line ∷ parts more)))
     (is_floor_line-mark (decimal floor))
     ∙ ap (λ b. floor_then (cond b (Err (Line Truncated)) (floor_reading line)) (log_from 2 (parts more))) some
     ∙ ap (λ says. floor_then says (log_from 2 (parts more))) (floor_reading-text floor fits)
@@ -129,7 +140,8 @@ Say-length (line ∷ lines) [] say = absurd say
 Say-length (line ∷ lines) (r ∷ read) say = omega (arith, Say-length lines read say.3)
 
 -- how many lines say a floor and these
-pub SayLog-length : (lines : List (List ℕ)) (floor : ℕ) (read : List Read) (s : SayLog lines floor read) → length lines ≡ length s.front + length read
+pub SayLog-length : (lines : List (List ℕ)) (floor : ℕ) (read : List Read) (s : SayLog lines floor read)
+    → length lines ≡ length s.front + length read
 SayLog-length lines floor read s = omega (arith, ap length s.parts, length-append s.front s.others, Say-length s.others read s.say)
 
 -- whether one of them is a floor's, as their text tells
@@ -138,10 +150,14 @@ front_told : (front others : List (List ℕ)) (floor : ℕ) (read : List Read) (
 front_told [] [] floor read tail is say = refl
 front_told [] (line ∷ others) floor [] tail is say = absurd say
 front_told [] (line ∷ others) floor (r ∷ read) tail is say =
-    let begins = ap is_floor_line (append_assoc line (10 ∷ text_of others) (10 ∷ tail)) ∙ is_floor_line-text line (text_of others ++ 10 ∷ tail) ∙ not_floor_line line r say.2 in
+    let begins =
+    ap is_floor_line (append_assoc line (10 ∷ text_of others) (10 ∷ tail))
+    ∙ is_floor_line-text line (text_of others ++ 10 ∷ tail)
+    ∙ not_floor_line line r say.2 in
     rw begins
 front_told (line ∷ []) others floor read tail is say =
-    let begins = ap is_floor_line (append_assoc line (10 ∷ text_of others) (10 ∷ tail)) ∙ is_floor_line-text line (text_of others ++ 10 ∷ tail)
+    let begins =
+    ap is_floor_line (append_assoc line (10 ∷ text_of others) (10 ∷ tail)) ∙ is_floor_line-text line (text_of others ++ 10 ∷ tail)
     ∙ ap is_floor_line is.0 ∙ is_floor_line-mark (decimal floor) in
     rw begins
 front_told (line ∷ next ∷ front) others floor read tail is say = absurd is
@@ -150,7 +166,9 @@ front_told (line ∷ next ∷ front) others floor read tail is say = absurd is
 pub lines_told : (lines : List (List ℕ)) (floor : ℕ) (read : List Read) (tail : List ℕ) → SayLog lines floor read
     → length lines ≡ length read + cond (is_floor_line (text_of lines ++ 10 ∷ tail)) 1 0
 lines_told lines floor read tail s =
-    let front = front_told s.front s.others floor read tail s.floor s.say ∙ ap (λ (l : List (List ℕ)). cond (is_floor_line (text_of l ++ 10 ∷ tail)) 1 0) (sym s.parts) in
+    let front =
+    front_told s.front s.others floor read tail s.floor s.say
+    ∙ ap (λ (l : List (List ℕ)). cond (is_floor_line (text_of l ++ 10 ∷ tail)) 1 0) (sym s.parts) in
     omega (arith, SayLog-length lines floor read s, front)
 
 pub lines_are_read : LinesAreRead
@@ -168,7 +186,8 @@ ended_lines_are_read lines floor read rest s few =
 abbrev pub said_in : Outcome → Result Said (ℕ × LogFault)
 said_in found = result_map_both (λ (log : LogText). record { floor = log.floor; reads = log.reads }) (λ fault. fault) found
 
-pub said_by_lines : (lines : List (List ℕ)) (floor : ℕ) (read : List Read) (rest : List ℕ) → SayLog lines floor read → length lines ≤ LOG_LINES
+pub said_by_lines : (lines : List (List ℕ)) (floor : ℕ) (read : List Read) (rest : List ℕ)
+    → SayLog lines floor read → length lines ≤ LOG_LINES
     → said (text_of lines ++ 10 ∷ rest) ≡ Ok (record { floor = floor; reads = read })
 said_by_lines lines floor read rest s few = ap said_in (ended_lines_are_read lines floor read rest s few)
 
@@ -203,7 +222,8 @@ free-onto_first : (b : ℕ) (lines : List (List ℕ)) → is_line_feed b ≡ fal
 free-onto_first b [] other free = (All-cons (λ x. is_line_feed x ≡ false) b [] other (All-nil (λ x. is_line_feed x ≡ false)), tt)
 free-onto_first b (line ∷ lines) other free = (All-cons (λ x. is_line_feed x ≡ false) b line other free.0, free.1)
 
-free_cond : (b : ℕ) (lines : List (List ℕ)) (t : Bool) → is_line_feed b ≡ t → AllFree lines → AllFree (cond t ([] ∷ lines) (onto_first b lines))
+free_cond : (b : ℕ) (lines : List (List ℕ)) (t : Bool) → is_line_feed b ≡ t
+    → AllFree lines → AllFree (cond t ([] ∷ lines) (onto_first b lines))
 free_cond b lines true is free = (All-nil (λ x. is_line_feed x ≡ false), free)
 free_cond b lines false is free = free-onto_first b lines is free
 
@@ -224,11 +244,14 @@ HasShape n text (Ok log) = Shape n text log
 HasShape n text (Err fault) = ⊤
 
 shape_step : (n : ℕ) (line : List ℕ) (lines : List (List ℕ)) (empty past last : Bool) (says : Result Read LineError) (more : Outcome)
-    → n ≤ LOG_LINES + 1 → HasNoLineFeed line → (length line == 0) ≡ empty → nat_lt LOG_LINES n ≡ past → (length lines == 0) ≡ last → reading line ≡ says
+    → n ≤ LOG_LINES + 1 → HasNoLineFeed line → (length line == 0) ≡ empty
+    → nat_lt LOG_LINES n ≡ past → (length lines == 0) ≡ last → reading line ≡ says
     → (n ≤ LOG_LINES → HasShape (suc n) (join_with_byte 10 lines) more)
     → HasShape n (join_with_byte 10 (line ∷ lines)) (from_tests empty past last n lines says more)
-shape_step n [] [] true past last says more fits free empty over end reads next = record { lines = []; say = tt; few = omega arith; plain = refl; whole = inr (refl, refl) }
-shape_step n [] (l ∷ lines) true past last says more fits free empty over end reads next = record { lines = []; say = tt; few = omega arith; plain = refl; whole = inl refl }
+shape_step n [] [] true past last says more fits free empty over end reads next =
+    record { lines = []; say = tt; few = omega arith; plain = refl; whole = inr (refl, refl) }
+shape_step n [] (l ∷ lines) true past last says more fits free empty over end reads next =
+    record { lines = []; say = tt; few = omega arith; plain = refl; whole = inl refl }
 shape_step n (b ∷ line) lines true past last says more fits free empty over end reads next = absurd (omega (arith, eqb-true _ _ empty))
 shape_step n line lines false true last says more fits free empty over end reads next = tt
 shape_step n line lines false false true says more fits free empty over end reads next = tt
@@ -250,7 +273,8 @@ shape_step n line (l ∷ lines) false false false (Ok read) (Ok log) fits free e
           shape.whole;
     }
 
-shape_of_parts : (n : ℕ) (lines : List (List ℕ)) → n ≤ LOG_LINES + 1 → AllFree lines → HasShape n (join_with_byte 10 lines) (log_from n lines)
+shape_of_parts : (n : ℕ) (lines : List (List ℕ)) → n ≤ LOG_LINES + 1
+    → AllFree lines → HasShape n (join_with_byte 10 lines) (log_from n lines)
 shape_of_parts n [] fits free = record { lines = []; say = tt; few = omega arith; plain = refl; whole = inr (refl, refl) }
 shape_of_parts n (line ∷ lines) fits free =
     shape_step n line lines (length line == 0) (nat_lt LOG_LINES n) (length lines == 0) (reading line) (log_from (suc n) lines)
@@ -299,10 +323,13 @@ whole_of_parts : (lines : List (List ℕ)) → AllFree lines → HasWhole (join_
 whole_of_parts [] free = plain_whole [] (log_from 1 []) (shape_of_parts 1 [] (omega arith) free)
 whole_of_parts (line ∷ lines) free =
     elim (is_floor_line line) as (λ b. is_floor_line line ≡ b → HasWhole (join_with_byte 10 (line ∷ lines))
-    (cond b (floor_then (cond (length lines == 0) (Err (Line Truncated)) (floor_reading line)) (log_from 2 lines)) (log_from 1 (line ∷ lines)))) [
+    (cond b (floor_then (cond (length lines == 0) (Err (Line Truncated)) (floor_reading line)) (log_from 2 lines))
+    (log_from 1 (line ∷ lines)))) [
       | true ↦ λ begins.
-          floor_whole line lines (length lines == 0) (floor_reading line) (log_from 2 lines) begins refl refl (shape_of_parts 2 lines (omega arith) free.1)
-      | false ↦ λ _. plain_whole (join_with_byte 10 (line ∷ lines)) (log_from 1 (line ∷ lines)) (shape_of_parts 1 (line ∷ lines) (omega arith) free)
+          floor_whole line lines (length lines == 0) (floor_reading line)
+          (log_from 2 lines) begins refl refl (shape_of_parts 2 lines (omega arith) free.1)
+      | false ↦ λ _.
+          plain_whole (join_with_byte 10 (line ∷ lines)) (log_from 1 (line ∷ lines)) (shape_of_parts 1 (line ∷ lines) (omega arith) free)
     ] refl
 
 pub whole : (text : List ℕ) (log : LogText) → log_of text ≡ Ok log → Whole text log

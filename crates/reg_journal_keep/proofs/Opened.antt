@@ -13,12 +13,14 @@ no_more : (before : Result Said (ℕ × LogFault)) → with_batch [] before ≡ 
 no_more (Ok says) = ap (λ (l : List Read). Ok (record says { reads = l })) (append-nil says.reads)
 no_more (Err fault) = refl
 
-pub opened : {D : Type 0} (itself : EachSaysItsOwnCompaction) (follow : BatchesFollowCompactions) (is_modelled : Type 0) (moment : D → ℕ) (left_since : D → ℕ → List ℕ → Type 0) (seen : D → List ℕ)
+pub opened : {D : Type 0} (itself : EachSaysItsOwnCompaction) (follow : BatchesFollowCompactions)
+    (is_modelled : Type 0) (moment : D → ℕ) (left_since : D → ℕ → List ℕ → Type 0) (seen : D → List ℕ)
     → is_modelled → (whole : Said) (old new : Journal D) (due : List Record) → said (seen old.disk) ≡ Ok whole
     → KeepsDue (KeepsFile is_modelled moment left_since seen) old due new
     → SaysCompaction (with_batch [] (with_batch due (Ok whole))) (said (seen new.disk))
 opened {D} itself follow is_modelled moment left_since seen modelled whole old new [] is same =
-    subst₂ SaysCompaction (sym (no_more (with_batch [] (Ok whole)) ∙ no_more (Ok whole))) (sym (ap (λ (j : Journal D). said (seen j.disk)) same ∙ is)) (itself whole)
+    subst₂ SaysCompaction (sym (no_more (with_batch [] (Ok whole)) ∙ no_more (Ok whole)))
+    (sym (ap (λ (j : Journal D). said (seen j.disk)) same ∙ is)) (itself whole)
 opened itself follow is_modelled moment left_since seen modelled whole old new (r ∷ rs) is keeps =
     let now = keeps.ends.1 modelled in
     subst₂ SaysCompaction

@@ -23,14 +23,18 @@ use Rattle.reg_journal_keep.specs.Keeping.{Ends, MakesRoom, SaysCompactionOrMore
 abbrev of_log : Result LogText (ℕ × LogFault) → Result Said (ℕ × LogFault)
 of_log found = result_map_both (λ (log : LogText). record { floor = log.floor; reads = log.reads }) (λ fault. fault) found
 
-module _ {D : Type 0} (seen : D → List ℕ) (may_leave : D → List ℕ → Type 0) (ended : EndedLinesAreRead) (itself : EachSaysItsOwnCompaction) (disk : D) (end count : ℕ) (s : IsSteady seen may_leave disk end count) where
+module _ {D : Type 0} (seen : D → List ℕ) (may_leave : D → List ℕ → Type 0) (ended : EndedLinesAreRead)
+    (itself : EachSaysItsOwnCompaction) (disk : D) (end count : ℕ) (s : IsSteady seen may_leave disk end count) where
   -- a settled file says a compaction of itself
   pub says_itself : SaysCompaction (said (seen disk)) (said (seen disk))
   says_itself =
-      let says : said (seen disk) ≡ Ok (record { floor = s.floor; reads = s.read }) = ap of_log (ap log_of s.file ∙ ended s.lines s.floor s.read [] s.say s.few) in
-      subst (λ (found : Result Said (ℕ × LogFault)). SaysCompaction found found) (sym says) (itself (record { floor = s.floor; reads = s.read }))
+      let says : said (seen disk) ≡ Ok (record { floor = s.floor; reads = s.read }) =
+      ap of_log (ap log_of s.file ∙ ended s.lines s.floor s.read [] s.say s.few) in
+      subst (λ (found : Result Said (ℕ × LogFault)). SaysCompaction found found)
+      (sym says) (itself (record { floor = s.floor; reads = s.read }))
 
-  pub says_left : CompactedFilesSayIt → (floor : Option ℕ) (file : List ℕ) → IsBeforeOrCompacted floor (seen disk) file → SaysCompaction (said (seen disk)) (said file)
+  pub says_left : CompactedFilesSayIt → (floor : Option ℕ) (file : List ℕ)
+      → IsBeforeOrCompacted floor (seen disk) file → SaysCompaction (said (seen disk)) (said file)
   says_left compacted floor file left =
       ⊎_elim
       (λ same. subst (λ (found : Result Said (ℕ × LogFault)). SaysCompaction (said (seen disk)) found) (sym same) says_itself)
@@ -42,8 +46,10 @@ module _ {D : Type 0} (seen : D → List ℕ) (may_leave : D → List ℕ → Ty
   says_on_disk file left = subst (λ (f : List ℕ). SaysCompaction (said (seen disk)) (said f)) (sym (s.durable file left)) says_itself
 
 -- what compacting in place leaves of a journal
-module _ {D : Type 0} (known : D → Type 0) (seen : D → List ℕ) (may_leave : D → List ℕ → Type 0) (moment : D → ℕ) (left_since : D → ℕ → List ℕ → Type 0)
-    (ended : EndedLinesAreRead) (itself : EachSaysItsOwnCompaction) (compacted : CompactedFilesSayIt) (floor : Option ℕ) (old new : Journal D)
+module _ {D : Type 0} (known : D → Type 0) (seen : D → List ℕ)
+    (may_leave : D → List ℕ → Type 0) (moment : D → ℕ) (left_since : D → ℕ → List ℕ → Type 0)
+    (ended : EndedLinesAreRead) (itself : EachSaysItsOwnCompaction)
+    (compacted : CompactedFilesSayIt) (floor : Option ℕ) (old new : Journal D)
     (ready : known old.disk × IsSteady seen may_leave old.disk old.end old.lines) where
   left_of : (file : List ℕ) → IsBeforeOrCompacted floor (seen old.disk) file → SaysCompaction (said (seen old.disk)) (said file)
   left_of file left = says_left seen may_leave ended itself old.disk old.end old.lines ready.1 compacted floor file left
@@ -54,7 +60,8 @@ module _ {D : Type 0} (known : D → Type 0) (seen : D → List ℕ) (may_leave 
   pub moments_left : LeavesOnly moment left_since old.disk new.disk (IsBeforeOrCompacted floor (seen old.disk))
       → LeavesOnly moment left_since old.disk new.disk (says_compaction (said (seen old.disk)))
   moments_left leaves =
-      weaker moment left_since old.disk new.disk (IsBeforeOrCompacted floor (seen old.disk)) (says_compaction (said (seen old.disk))) leaves left_of
+      weaker moment left_since old.disk new.disk (IsBeforeOrCompacted floor (seen old.disk))
+      (says_compaction (said (seen old.disk))) leaves left_of
 
 -- ---- the floor that is said
 
@@ -65,7 +72,8 @@ abbrev IsUpTo : ℕ → Outcome → Type 0
 IsUpTo floor found = IfOk found (λ says. says.floor ≤ floor)
 
 -- compacting to a floor leaves none that is higher
-pub floor_left : (floor asked : ℕ) (before file : List ℕ) → asked ≤ floor → IsBeforeOrCompacted (Some asked) before file → IsUpTo floor (said before) → IsUpTo floor (said file)
+pub floor_left : (floor asked : ℕ) (before file : List ℕ) → asked ≤ floor
+    → IsBeforeOrCompacted (Some asked) before file → IsUpTo floor (said before) → IsUpTo floor (said file)
 floor_left floor asked before file most left low =
     ⊎_elim
     (λ same. subst (λ (found : Outcome). IsUpTo floor found) (sym same) low)
@@ -79,7 +87,8 @@ floor_left floor asked before file most left low =
     left
 
 -- a batch behind it says none
-pub floor_behind : (floor : ℕ) (batch : List Record) (before now : Outcome) → now ≡ with_batch batch before → IsUpTo floor before → IsUpTo floor now
+pub floor_behind : (floor : ℕ) (batch : List Record) (before now : Outcome)
+    → now ≡ with_batch batch before → IsUpTo floor before → IsUpTo floor now
 floor_behind floor batch (Ok says) now is low = subst (λ (found : Outcome). IsUpTo floor found) (sym is) low
 floor_behind floor batch (Err fault) now is low = subst (λ (found : Outcome). IsUpTo floor found) (sym is) tt
 
@@ -91,16 +100,20 @@ all_from : (low high : ℕ) (batch : List Record) → low ≤ high → All (λ r
 all_from low high [] most all = All-nil (λ r. low ≤ r.offset)
 all_from low high (r ∷ batch) most all =
     let first : high ≤ r.offset = All-head (λ r. high ≤ r.offset) r batch all in
-    All-cons (λ r. low ≤ r.offset) r batch (omega (arith, first, most)) (all_from low high batch most (All-tail (λ r. high ≤ r.offset) r batch all))
+    All-cons (λ r. low ≤ r.offset) r batch (omega (arith, first, most))
+    (all_from low high batch most (All-tail (λ r. high ≤ r.offset) r batch all))
 
 -- none of a batch from the known floor on is below the floor that is said
-pub from_floor : (floor : ℕ) (batch : List Record) (found : Outcome) → All (λ r. floor ≤ r.offset) batch → IsUpTo floor found → IsFromFloor batch found
+pub from_floor : (floor : ℕ) (batch : List Record) (found : Outcome)
+    → All (λ r. floor ≤ r.offset) batch → IsUpTo floor found → IsFromFloor batch found
 from_floor floor batch (Ok says) all low = all_from says.floor floor batch low all
 from_floor floor batch (Err fault) all low = tt
 
 -- nothing was done
-module _ {D : Type 0} (known : D → Type 0) (seen : D → List ℕ) (may_leave : D → List ℕ → Type 0) (moment : D → ℕ) (left_since : D → ℕ → List ℕ → Type 0)
-    (ended : EndedLinesAreRead) (itself : EachSaysItsOwnCompaction) (j : Journal D) (ready : known j.disk × IsSteady seen may_leave j.disk j.end j.lines) where
+module _ {D : Type 0} (known : D → Type 0) (seen : D → List ℕ)
+    (may_leave : D → List ℕ → Type 0) (moment : D → ℕ) (left_since : D → ℕ → List ℕ → Type 0)
+    (ended : EndedLinesAreRead) (itself : EachSaysItsOwnCompaction) (j : Journal D)
+    (ready : known j.disk × IsSteady seen may_leave j.disk j.end j.lines) where
   pub says_same : SaysCompaction (said (seen j.disk)) (said (seen j.disk))
   says_same = says_itself seen may_leave ended itself j.disk j.end j.lines ready.1
 
@@ -124,7 +137,8 @@ sound_of false r v ok broken = refl
 pub error_of : {T : Type 0} (r : Result T AppendError) (error : AppendError) → r ≡ Err error → r ≡ Err errors.Broken → error ≡ errors.Broken
 error_of r error is broken = cc
 
-module _ {D : Type 0} (moment : D → ℕ) (left_since : D → ℕ → List ℕ → Type 0) (seen : D → List ℕ) (old mid new : Journal D) (batch : List Record) where
+module _ {D : Type 0} (moment : D → ℕ) (left_since : D → ℕ → List ℕ → Type 0)
+    (seen : D → List ℕ) (old mid new : Journal D) (batch : List Record) where
   alone : (file : List ℕ) → says_compaction (said (seen old.disk)) file → SaysCompactionOrMore (said (seen old.disk)) batch file
   alone file says = (said file, says, inl refl)
 
@@ -135,7 +149,8 @@ module _ {D : Type 0} (moment : D → ℕ) (left_since : D → ℕ → List ℕ 
       → LeavesOnly moment left_since old.disk new.disk (SaysCompactionOrMore (said (seen old.disk)) batch)
   appended room says appends =
       weaker moment left_since old.disk new.disk _ (SaysCompactionOrMore (said (seen old.disk)) batch)
-      (joined moment left_since old.disk mid.disk new.disk (says_compaction (said (seen old.disk))) (IsBeforeOrAfter (said (seen mid.disk)) batch) room appends)
+      (joined moment left_since old.disk mid.disk new.disk (says_compaction (said (seen old.disk)))
+      (IsBeforeOrAfter (said (seen mid.disk)) batch) room appends)
       (λ file left. ⊎_elim (λ p. alone file p) (λ q. (said (seen mid.disk), says, q)) left)
 
   -- a journal that making room broke is left as it is
@@ -143,7 +158,8 @@ module _ {D : Type 0} (moment : D → ℕ) (left_since : D → ℕ → List ℕ 
       → LeavesOnly moment left_since old.disk new.disk (SaysCompactionOrMore (said (seen old.disk)) batch)
   left_alone room same =
       subst (λ (j : Journal D). LeavesOnly moment left_since old.disk j.disk (SaysCompactionOrMore (said (seen old.disk)) batch)) (sym same)
-      (weaker moment left_since old.disk mid.disk (says_compaction (said (seen old.disk))) (SaysCompactionOrMore (said (seen old.disk)) batch) room alone)
+      (weaker moment left_since old.disk mid.disk (says_compaction (said (seen old.disk)))
+      (SaysCompactionOrMore (said (seen old.disk)) batch) room alone)
 
   -- either
   pub at_any_moment : LeavesOnly moment left_since old.disk mid.disk (says_compaction (said (seen old.disk)))
@@ -152,12 +168,14 @@ module _ {D : Type 0} (moment : D → ℕ) (left_since : D → ℕ → List ℕ 
       → (mid.is_broken ≡ true → new ≡ mid)
       → LeavesOnly moment left_since old.disk new.disk (SaysCompactionOrMore (said (seen old.disk)) batch)
   at_any_moment room says appends same =
-      elim (mid.is_broken) as (λ b. mid.is_broken ≡ b → LeavesOnly moment left_since old.disk new.disk (SaysCompactionOrMore (said (seen old.disk)) batch)) [
+      elim (mid.is_broken) as (λ b.
+      mid.is_broken ≡ b → LeavesOnly moment left_since old.disk new.disk (SaysCompactionOrMore (said (seen old.disk)) batch)) [
         | true ↦ λ broken. left_alone room (same broken)
         | false ↦ λ sound. appended room (says sound) (appends sound)
       ] refl
 
-  declined : (is_modelled : Type 0) (error : AppendError) → MakesRoom is_modelled seen old mid → new ≡ mid → (mid.is_broken ≡ true → error ≡ errors.Broken) → (error ≡ errors.Broken → ⊥)
+  declined : (is_modelled : Type 0) (error : AppendError) → MakesRoom is_modelled seen old mid
+      → new ≡ mid → (mid.is_broken ≡ true → error ≡ errors.Broken) → (error ≡ errors.Broken → ⊥)
       → (new.is_broken ≡ false) × (is_modelled → SaysCompaction (said (seen old.disk)) (said (seen new.disk)))
   declined is_modelled error room same broken not =
       let sound : mid.is_broken ≡ false =
@@ -165,15 +183,20 @@ module _ {D : Type 0} (moment : D → ℕ) (left_since : D → ℕ → List ℕ 
         | true ↦ λ is. absurd (not (broken is))
         | false ↦ λ is. refl
       ] refl in
-      subst (λ (j : Journal D). (j.is_broken ≡ false) × (is_modelled → SaysCompaction (said (seen old.disk)) (said (seen j.disk)))) (sym same)
+      subst (λ (j : Journal D). (j.is_broken ≡ false) × (is_modelled → SaysCompaction (said (seen old.disk)) (said (seen j.disk))))
+      (sym same)
       (sound, λ modelled. room modelled sound)
 
   pub ends_refused : (is_modelled : Type 0) (error : AppendError) → MakesRoom is_modelled seen old mid
-      → (is_refusal error ≡ true → new ≡ mid) → (is_refusal error ≡ false → new.is_broken ≡ true) → (mid.is_broken ≡ true → error ≡ errors.Broken)
+      → (is_refusal error ≡ true → new ≡ mid) → (is_refusal error ≡ false → new.is_broken ≡ true)
+      → (mid.is_broken ≡ true → error ≡ errors.Broken)
       → Ends is_modelled seen old batch (kept_of error) new
-  ends_refused is_modelled errors.LineTooLong room same loses broken = declined is_modelled errors.LineTooLong room (same refl) broken (λ is. cc)
-  ends_refused is_modelled errors.TooManyLines room same loses broken = declined is_modelled errors.TooManyLines room (same refl) broken (λ is. cc)
-  ends_refused is_modelled errors.OutOfMemory room same loses broken = declined is_modelled errors.OutOfMemory room (same refl) broken (λ is. cc)
+  ends_refused is_modelled errors.LineTooLong room same loses broken =
+      declined is_modelled errors.LineTooLong room (same refl) broken (λ is. cc)
+  ends_refused is_modelled errors.TooManyLines room same loses broken =
+      declined is_modelled errors.TooManyLines room (same refl) broken (λ is. cc)
+  ends_refused is_modelled errors.OutOfMemory room same loses broken =
+      declined is_modelled errors.OutOfMemory room (same refl) broken (λ is. cc)
   ends_refused is_modelled errors.Changed room same loses broken = loses refl
   ends_refused is_modelled errors.Failed room same loses broken = loses refl
   ends_refused is_modelled errors.Broken room same loses broken = loses refl

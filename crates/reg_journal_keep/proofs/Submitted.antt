@@ -33,10 +33,12 @@ both_said a b (Err e) = refl
 
 batched_both : (xs ys : List Item) → batched (xs ++ ys) ≡ batched xs ++ batched ys
 batched_both [] ys = refl
-batched_both (items.Commit commit ∷ xs) ys = ap (λ (l : List Record). commit.batch ++ l) (batched_both xs ys) ∙ sym (append_assoc commit.batch (batched xs) (batched ys))
+batched_both (items.Commit commit ∷ xs) ys =
+    ap (λ (l : List Record). commit.batch ++ l) (batched_both xs ys) ∙ sym (append_assoc commit.batch (batched xs) (batched ys))
 batched_both (items.Compaction c ∷ xs) ys = batched_both xs ys
 
-module _ {D : Type 0} (across : SaidCompactionsCompose) (follow : BatchesFollowCompactions) (is_modelled : Type 0) (moment : D → ℕ) (left_since : D → ℕ → List ℕ → Type 0) (seen : D → List ℕ) (modelled : is_modelled) (first : Result Said (ℕ × LogFault)) where
+module _ {D : Type 0} (across : SaidCompactionsCompose) (follow : BatchesFollowCompactions) (is_modelled : Type 0) (moment : D → ℕ)
+    (left_since : D → ℕ → List ℕ → Type 0) (seen : D → List ℕ) (modelled : is_modelled) (first : Result Said (ℕ × LogFault)) where
   abbrev says_items : List Item → Journal D → Type 0
   says_items is keep = SaysCompaction (with_batch (batched is) first) (said (seen keep.disk))
 
@@ -51,12 +53,14 @@ module _ {D : Type 0} (across : SaidCompactionsCompose) (follow : BatchesFollowC
       let before = across (with_batch (batched published) first) (said (seen old.disk)) now.0 says now.1 in
       subst₂ SaysCompaction
       (both_said (batched published) batch first
-      ∙ ap (λ (l : List Record). with_batch l first) (ap (λ (l : List Record). batched published ++ l) (sym same) ∙ sym (batched_both published is)))
+      ∙ ap (λ (l : List Record). with_batch l first)
+      (ap (λ (l : List Record). batched published ++ l) (sym same) ∙ sym (batched_both published is)))
       (sym now.3)
       (follow batch (with_batch (batched published) first) now.0 before now.2)
 
   -- what becomes of a batch that is lent, where nothing is pending
-  lent : (kept : Kept) (keep : Journal D) (published : List Item) (old : Journal D) (is : List Item) (batch : List Record) (replied unsettled reply : Reply) (m : PenState (Journal D))
+  lent : (kept : Kept) (keep : Journal D) (published : List Item) (old : Journal D) (is : List Item)
+      (batch : List Record) (replied unsettled reply : Reply) (m : PenState (Journal D))
       → batched is ≡ batch
       → says_items published old
       → Ends is_modelled seen old batch kept keep
@@ -65,19 +69,23 @@ module _ {D : Type 0} (across : SaidCompactionsCompose) (follow : BatchesFollowC
   lent Taken keep published old is batch replied unsettled reply m same says ends follows =
       let all : says_items (published ++ is) keep = taken keep old published is batch same says ends in
       ⊎_elim
-      (λ done. subst (λ (n : PenState (Journal D)). SaysPublished seen first n) (sym done.1) (λ kept. none_pending (published ++ is) keep all))
+      (λ done.
+      subst (λ (n : PenState (Journal D)). SaysPublished seen first n) (sym done.1) (λ kept. none_pending (published ++ is) keep all))
       (λ pends. subst (λ (n : PenState (Journal D)). SaysPublished seen first n) (sym pends.1) (λ kept. all))
       follows
   lent (Declined lack) keep published old is batch replied unsettled reply m same says ends follows =
       subst (λ (n : PenState (Journal D)). SaysPublished seen first n) (sym follows.1)
-      (λ kept. none_pending published keep (across (with_batch (batched published) first) (said (seen old.disk)) (said (seen keep.disk)) says (ends.1 modelled)))
+      (λ kept.
+      none_pending published keep (
+      across (with_batch (batched published) first) (said (seen old.disk)) (said (seen keep.disk)) says (ends.1 modelled)))
   lent Lost keep published old is batch replied unsettled reply m same says ends follows =
       subst (λ (n : PenState (Journal D)). SaysPublished seen first n) (sym follows.1) (λ kept. absurd (true≢false kept))
 
   acted : (base : Topic) (published : List Item) (old : Journal D) (lost : Bool) (c : Command) (reply : Reply) (m : PenState (Journal D))
       → lost ≡ false
       → says_items published old
-      → Acts (KeepsFile is_modelled moment left_since seen) base (record { published = published; pending = []; lost = lost; keep = old }) c reply m
+      → Acts (KeepsFile is_modelled moment left_since seen) base
+      (record { published = published; pending = []; lost = lost; keep = old }) c reply m
       → SaysPublished seen first m
   acted base published old true c reply m kept says acts = absurd (true≢false kept)
   acted base published old false c reply m kept says acts =
@@ -86,7 +94,9 @@ module _ {D : Type 0} (across : SaidCompactionsCompose) (follow : BatchesFollowC
       ⊎_elim
       (λ wrote_nothing. subst (λ (n : PenState (Journal D)). SaysPublished seen first n) (sym wrote_nothing.1) here)
       (λ more. ⊎_elim
-      (λ lends. lent lends.kept lends.keep published old (item_of c (lends.first ∷ lends.rest)) (lends.first ∷ lends.rest) lends.replied (replies.Unsettled lends.first.offset) reply m
+      (λ lends.
+      lent lends.kept lends.keep published old (item_of c (lends.first ∷ lends.rest))
+      (lends.first ∷ lends.rest) lends.replied (replies.Unsettled lends.first.offset) reply m
       (append-nil (lends.first ∷ lends.rest)) says lends.lent.ends lends.follows)
       (λ refused. subst (λ (n : PenState (Journal D)). SaysPublished seen first n) (sym refused.1) here)
       more)

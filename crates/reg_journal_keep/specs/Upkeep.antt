@@ -16,4 +16,5 @@ next_behind next batch = fold (λ n r. max n (min (r.offset + 1) (2 ^ 64 - 1))) 
 abbrev pub after_count : Upkeep → ℕ → ℕ → ℕ → Upkeep
 after_count upkeep kept lines least = if nat_lt (lines - kept) least
     then record upkeep { room = record { kept = kept; again = next_count kept lines; patience = 0 }; fault = None }
-    else record upkeep { room = record { kept = 0; again = next_count kept kept; patience = 0 }; floor = max upkeep.floor upkeep.next; fault = None }
+    else record upkeep
+    { room = record { kept = 0; again = next_count kept kept; patience = 0 }; floor = max upkeep.floor upkeep.next; fault = None }

@@ -13,14 +13,16 @@ module _ {K V : Type 0} (P : K × V → Type 0) where
   pub found : (test : K → Bool) (es : List (K × V)) (e : K × V) → AllAre P es → lookup_entry test es ≡ Some e → P e × (test e.0 ≡ true)
   found test es e all is = let at = Contains-lookup_entry test es e is in (all e at.0, at.1)
 
-  pub found_value : (test : K → Bool) (es : List (K × V)) (v : V) → AllAre P es → lookup test es ≡ Some v → (k : K) × P (k, v) × (test k ≡ true)
+  pub found_value : (test : K → Bool) (es : List (K × V)) (v : V) → AllAre P es
+      → lookup test es ≡ Some v → (k : K) × P (k, v) × (test k ≡ true)
   found_value test es v all is = let at = Contains-lookup test es v is in (at.0, all (at.0, v) at.1, at.2)
 
   pub without : (test : K → Bool) (es : List (K × V)) → AllAre P es → AllAre P (remove_entry test es)
   without test es all e within = all e (Contains-remove_entry test es e within)
 
   -- what is put holds under its key and under each equal one
-  pub with_put : (eq : K → K → Bool) (c : LruCache K V) (k : K) (v : V) → AllAre P c.entries → P (k, v) → ((j : K) → eq k j ≡ true → P (j, v)) → AllAre P (put_entries eq c k v)
+  pub with_put : (eq : K → K → Bool) (c : LruCache K V) (k : K) (v : V) → AllAre P c.entries
+      → P (k, v) → ((j : K) → eq k j ≡ true → P (j, v)) → AllAre P (put_entries eq c k v)
   with_put eq c k v all here there e within = elim (Contains-put_entries eq c k v e within) [
     | inl was ↦ all e was
     | inr (value, inl key) ↦ subst (λ w. P (e.0, w)) (sym value) (subst (λ j. P (j, v)) (sym key) here)

@@ -14,7 +14,8 @@ one_judged (p ∷ ps) js ks (r, s, inr (never, a)) (q, t, inl (c, b)) = absurd (
 one_judged (p ∷ ps) js ks (r, s, inr (never, a)) (q, t, inr (neither, b)) = s ∙ ap (λ rest. p ∷ rest) (a ∙ sym b) ∙ sym t
 
 -- the pair that is used last goes first
-used_last : (capacity : ℕ) (ps : List TextPair) (p : TextPair) (pairs : List TextPair) → (rest : List TextPair) × (used_all capacity (ps ++ p ∷ []) pairs ≡ p ∷ rest)
+used_last : (capacity : ℕ) (ps : List TextPair) (p : TextPair) (pairs : List TextPair)
+    → (rest : List TextPair) × (used_all capacity (ps ++ p ∷ []) pairs ≡ p ∷ rest)
 used_last capacity [] p pairs = (_, refl)
 used_last capacity (q ∷ ps) p pairs = used_last capacity ps p (used capacity q pairs)
 
@@ -34,5 +35,6 @@ has_first p rest =
 pub has_last : HasLastJudged
 has_last capacity required before after last (judged, are, is) (ps, also) =
     let end = used_last capacity ps last before in
-    let same : after ≡ last ∷ end.0 = is ∙ ap (λ js. used_all capacity js before) (one_judged required judged (ps ++ last ∷ []) are also) ∙ end.1 in
+    let same : after ≡ last ∷ end.0 =
+    is ∙ ap (λ js. used_all capacity js before) (one_judged required judged (ps ++ last ∷ []) are also) ∙ end.1 in
     subst (λ pairs. has_pair pairs last ≡ true) (sym same) (has_first last end.0)

@@ -45,5 +45,6 @@ unfolding IsVerdictOf
 of_pair k v is = is
 
 -- the pairs with one more
-pub pairs_more : {Z : Type 0} (es : List ((String Z × String Z) × Verdict)) (k : String Z × String Z) (v : Verdict) → pairs_of (es ++ (k, v) ∷ []) ≡ pairs_of es ++ texts_of k ∷ []
+pub pairs_more : {Z : Type 0} (es : List ((String Z × String Z) × Verdict)) (k : String Z × String Z) (v : Verdict)
+    → pairs_of (es ++ (k, v) ∷ []) ≡ pairs_of es ++ texts_of k ∷ []
 pairs_more {Z} es k v = map-append (λ (e : (String Z × String Z) × Verdict). texts_of e.0) es ((k, v) ∷ [])

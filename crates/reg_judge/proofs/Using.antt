@@ -26,17 +26,22 @@ module _ (Z : Type 0) where
     -- the key is found where its pair is among them
     found_where_had : (es : List Entry) → is_some (lookup_entry (same_key k) es) ≡ has_pair (pairs_of es) (texts_of k)
     found_where_had [] = refl
-    found_where_had (e ∷ es) = elim (same_key k e.0) as (λ b. is_some (cond b (Some e) (lookup_entry (same_key k) es)) ≡ (b || has_pair (pairs_of es) (texts_of k))) [
-      | true ↦ refl
-      | false ↦ found_where_had es
-    ]
+    found_where_had (e ∷ es) =
+        elim (same_key k e.0) as (λ b.
+        is_some (cond b (Some e) (lookup_entry (same_key k) es)) ≡ (b || has_pair (pairs_of es) (texts_of k))) [
+          | true ↦ refl
+          | false ↦ found_where_had es
+        ]
 
     removed : (es : List Entry) → pairs_of (remove_entry (same_key k) es) ≡ without (texts_of k) (pairs_of es)
     removed [] = refl
-    removed (e ∷ es) = elim (same_key k e.0) as (λ b. pairs_of (cond b es (e ∷ remove_entry (same_key k) es)) ≡ cond b (pairs_of es) (texts_of e.0 ∷ without (texts_of k) (pairs_of es))) [
-      | true ↦ refl
-      | false ↦ ap (λ ps. texts_of e.0 ∷ ps) (removed es)
-    ]
+    removed (e ∷ es) =
+        elim (same_key k e.0) as (λ b.
+        pairs_of (cond b es (e ∷ remove_entry (same_key k) es))
+        ≡ cond b (pairs_of es) (texts_of e.0 ∷ without (texts_of k) (pairs_of es))) [
+          | true ↦ refl
+          | false ↦ ap (λ ps. texts_of e.0 ∷ ps) (removed es)
+        ]
 
     module _ (c : LruCache Key Verdict) (v : Verdict) where
       abbrev after : Option Entry → List Entry

@@ -43,7 +43,8 @@ both_ways false true to back = back refl
 both_ways false false to back = refl
 
 -- a kept line, and one more
-say_push : (lines : List (List ℕ)) (read : List Read) (line : List ℕ) (r : Read) → Say lines read → Say (line ∷ []) (r ∷ []) → Say (lines ++ line ∷ []) (read ++ r ∷ [])
+say_push : (lines : List (List ℕ)) (read : List Read) (line : List ℕ) (r : Read)
+    → Say lines read → Say (line ∷ []) (r ∷ []) → Say (lines ++ line ∷ []) (read ++ r ∷ [])
 say_push [] [] line r say one = one
 say_push [] (q ∷ read) line r say one = absurd say
 say_push (l ∷ lines) [] line r say one = absurd say
@@ -51,7 +52,8 @@ say_push (l ∷ lines) (q ∷ read) line r say one = (say.0, say.1, say.2, say_p
 
 text_push : (lines : List (List ℕ)) (line : List ℕ) → text_of (lines ++ line ∷ []) ≡ text_of lines ++ (line ++ 10 ∷ [])
 text_push [] line = refl
-text_push (l ∷ lines) line = ap (λ (t : List ℕ). l ++ 10 ∷ t) (text_push lines line) ∙ sym (append_assoc l (10 ∷ text_of lines) (line ++ 10 ∷ []))
+text_push (l ∷ lines) line =
+    ap (λ (t : List ℕ). l ++ 10 ∷ t) (text_push lines line) ∙ sym (append_assoc l (10 ∷ text_of lines) (line ++ 10 ∷ []))
 
 foreign_push : (read : List Read) (t : ℕ) → records_in (read ++ reads.Foreign t ∷ []) ≡ records_in read
 foreign_push [] t = refl
@@ -64,7 +66,8 @@ pushed_at (r ∷ read) t = inr (pushed_at read t)
 
 pushed_part : (read : List Read) (t o : ℕ) → HasAt o (read ++ reads.Foreign t ∷ []) → HasAt o read ⊎ (t ≡ o)
 pushed_part [] t o has = ⊎_elim (λ is. inr is) (λ none. absurd none) has
-pushed_part (r ∷ read) t o has = ⊎_elim (λ is. inl (inl is)) (λ later. ⊎_elim (λ there. inl (inr there)) (λ is. inr is) (pushed_part read t o later)) has
+pushed_part (r ∷ read) t o has =
+    ⊎_elim (λ is. inl (inl is)) (λ later. ⊎_elim (λ there. inl (inr there)) (λ is. inr is) (pushed_part read t o later)) has
 
 either_way : (b : Bool) (xs : List ℕ) → xs ++ cond b [] [] ≡ xs ++ []
 either_way true xs = refl
@@ -79,7 +82,8 @@ before_suc t = one_before_suc t (before (suc t)) refl
         let less : suc t - 1 ≡ t = omega arith in
         ap (λ b. if b then None else Some (suc t - 1)) not_zero ∙ ap Some less
 
-module _ (total : IsTotalOrder record_cmp) (apart : IsAntisymmetric record_cmp) (keys : IsTotalOrder key_cmp) (keys_apart : IsAntisymmetric key_cmp) where
+module _ (total : IsTotalOrder record_cmp) (apart : IsAntisymmetric record_cmp)
+    (keys : IsTotalOrder key_cmp) (keys_apart : IsAntisymmetric key_cmp) where
   in_set : (read : List Read) (q : Record) → Has read q → list_any (eq_by_cmp record_cmp q) (records_in read) ≡ true
   in_set [] q has = absurd has
   in_set (reads.Foreign o ∷ read) q has = in_set read q has
@@ -105,7 +109,8 @@ module _ (total : IsTotalOrder record_cmp) (apart : IsAntisymmetric record_cmp) 
   has_set read q has = contains-from_list total (records_in read) q ∙ in_set read q has
 
   -- records that wait, one for each key, to be kept of a log whose floor rises from the start
-  module _ (start floor : ℕ) (read : List Read) (lines : List (List ℕ)) (say : Say lines read) (waiting : Records) (one : HasOneAKey waiting)
+  module _ (start floor : ℕ) (read : List Read) (lines : List (List ℕ))
+      (say : Say lines read) (waiting : Records) (one : HasOneAKey waiting)
       (part : (q : Record) → contains waiting q ≡ true → Has read q)
       (covers : (r : Record) → Has read r → ((q : Record) × (contains waiting q ≡ true) × (r.offset ≤ q.offset)) ⊎ (r.offset < floor))
       (rises : start ≤ floor) (ahead : floor ≤ next_of start read) where
@@ -168,10 +173,12 @@ module _ (total : IsTotalOrder record_cmp) (apart : IsAntisymmetric record_cmp) 
           all = λ same. all_kept total apart keys keys_apart t waiting lines read None say (omega (arith, same));
         }
 
-    with_foreign : (t : ℕ) → next_of start read ≡ suc t → HasForeignAt t read → (c : Option (List ℕ)) → carried_by (Some t) lines read None ≡ c → IsCarried t c → Leaves (text_of of_lines ++ unwrap_or c [])
+    with_foreign : (t : ℕ) → next_of start read ≡ suc t → HasForeignAt t read → (c : Option (List ℕ))
+        → carried_by (Some t) lines read None ≡ c → IsCarried t c → Leaves (text_of of_lines ++ unwrap_or c [])
     with_foreign t is foreign c same it =
         let one_line : Say (it.0 ∷ []) (reads.Foreign t ∷ []) = (it.2, it.3, it.4, tt) in
-        let text : text_of of_lines ++ unwrap_or c [] ≡ text_of (of_lines ++ it.0 ∷ []) = ap (λ (o : Option (List ℕ)). text_of of_lines ++ unwrap_or o []) it.1 ∙ sym (text_push of_lines it.0) in
+        let text : text_of of_lines ++ unwrap_or c [] ≡ text_of (of_lines ++ it.0 ∷ []) =
+        ap (λ (o : Option (List ℕ)). text_of of_lines ++ unwrap_or o []) it.1 ∙ sym (text_push of_lines it.0) in
         let carries : carried_by (Some t) lines read None ≡ Some (it.0 ++ 10 ∷ []) = same ∙ it.1 in
         let most = no_more t waiting lines read None say in
         let size = no_longer t waiting lines read None say in
@@ -186,20 +193,33 @@ module _ (total : IsTotalOrder record_cmp) (apart : IsAntisymmetric record_cmp) 
           next = omega (
             arith,
             same_next read (kept ++ reads.Foreign t ∷ []) t after (pushed_at kept t)
-                (λ o has. ⊎_elim (λ there. kept_at waiting read o there) (λ here. subst (λ (p : ℕ). HasAt p read) here at) (pushed_part kept t o has)),
+                (λ o has.
+                ⊎_elim (λ there. kept_at waiting read o there)
+                (λ here. subst (λ (p : ℕ). HasAt p read) here at) (pushed_part kept t o has)),
             after,
             is,
             ahead,
           );
-          small = omega (arith, size, ap size_of carries, ap length text, ap length (text_push of_lines it.0), length-append (text_of of_lines) (it.0 ++ 10 ∷ []));
+          small = omega (
+            arith,
+            size,
+            ap size_of carries,
+            ap length text,
+            ap length (text_push of_lines it.0),
+            length-append (text_of of_lines) (it.0 ++ 10 ∷ []),
+          );
           few = omega (arith, most, ap count_of carries, length-append kept (reads.Foreign t ∷ []));
-          all = λ same_length. all_kept total apart keys keys_apart t waiting lines read None say (omega (arith, same_length, ap count_of carries, length-append kept (reads.Foreign t ∷ [])));
+          all = λ same_length.
+              all_kept total apart keys keys_apart t waiting lines read None say (
+              omega (arith, same_length, ap count_of carries, length-append kept (reads.Foreign t ∷ [])));
         }
 
     -- where neither has it, the floor is the next offset
-    with_none : (t : ℕ) → next_of start read ≡ suc t → (HasAt t kept → ⊥) → (HasForeignAt t read → ⊥) → (c : Option (List ℕ)) → carried_by (Some t) lines read None ≡ c → c ≡ None → Leaves (text_of of_lines ++ unwrap_or c [])
+    with_none : (t : ℕ) → next_of start read ≡ suc t → (HasAt t kept → ⊥) → (HasForeignAt t read → ⊥) → (c : Option (List ℕ))
+        → carried_by (Some t) lines read None ≡ c → c ≡ None → Leaves (text_of of_lines ++ unwrap_or c [])
     with_none t is not no_foreign c same no_line =
-        let text : text_of of_lines ++ unwrap_or c [] ≡ text_of of_lines = ap (λ (o : Option (List ℕ)). text_of of_lines ++ unwrap_or o []) no_line ∙ append-nil (text_of of_lines) in
+        let text : text_of of_lines ++ unwrap_or c [] ≡ text_of of_lines =
+        ap (λ (o : Option (List ℕ)). text_of of_lines ++ unwrap_or o []) no_line ∙ append-nil (text_of of_lines) in
         let later = no_later read kept (λ o has. kept_at waiting read o has) in
         let at_floor : floor ≡ suc t =
         elim (nat_lt t floor) as (λ b. nat_lt t floor ≡ b → floor ≡ suc t) [
@@ -221,24 +241,33 @@ module _ (total : IsTotalOrder record_cmp) (apart : IsAntisymmetric record_cmp) 
           all = λ same_length. all_kept total apart keys keys_apart t waiting lines read None say (omega (arith, same_length));
         }
 
-    leaves : (t : ℕ) → next_of start read ≡ suc t → Leaves (text_of of_lines ++ cond (top_after (Some t) waiting read false) [] (unwrap_or (carried_by (Some t) lines read None) []))
+    leaves : (t : ℕ) → next_of start read ≡ suc t
+        → Leaves (text_of of_lines ++ cond (top_after (Some t) waiting read false) [] (unwrap_or (carried_by (Some t) lines read None) []))
     leaves t is =
-        elim (top_after (Some t) waiting read false) as (λ b. top_after (Some t) waiting read false ≡ b → Leaves (text_of of_lines ++ cond b [] (unwrap_or (carried_by (Some t) lines read None) []))) [
+        elim (top_after (Some t) waiting read false) as (λ b. top_after (Some t) waiting read false ≡ b
+        → Leaves (text_of of_lines ++ cond b [] (unwrap_or (carried_by (Some t) lines read None) []))) [
           | true ↦ λ top. with_top t is (⊎_elim (λ none. absurd (false≢true none)) (λ at. at) (at_top t waiting read false top))
           | false ↦ λ top. ⊎_elim
-              (λ foreign. with_foreign t is foreign (carried_by (Some t) lines read None) refl (carried t lines read None say (inl foreign)))
-              (λ none. with_none t is (not_at_top t waiting read false top).1 none (carried_by (Some t) lines read None) refl (none_carried_at t lines read None none))
+              (λ foreign.
+              with_foreign t is foreign (carried_by (Some t) lines read None) refl (carried t lines read None say (inl foreign)))
+              (λ none.
+              with_none t is (not_at_top t waiting read false top).1 none
+              (carried_by (Some t) lines read None) refl (none_carried_at t lines read None none))
               (foreign_there t read)
         ] refl
 
     -- a log without lines leaves nothing
-    leaves_none : (top : Option ℕ) → next_of start read ≡ 0 → Leaves (text_of of_lines ++ cond (top_after top waiting read false) [] (unwrap_or (carried_by top lines read None) []))
+    leaves_none : (top : Option ℕ) → next_of start read ≡ 0
+        → Leaves (text_of of_lines ++ cond (top_after top waiting read false) [] (unwrap_or (carried_by top lines read None) []))
     leaves_none top is =
         let empty : read ≡ [] = no_lines read (omega (arith, is)) in
         let no_length : length read ≡ 0 = ap length empty in
         let no_kept : kept ≡ [] = ap (λ (rs : List Read). kept_reads waiting rs) empty in
         let text : text_of of_lines ++ cond (top_after top waiting read false) [] (unwrap_or (carried_by top lines read None) []) ≡ [] =
-        ap (λ (ls : List (List ℕ)). text_of ls ++ cond (top_after top waiting read false) [] (unwrap_or (carried_by top lines read None) [])) (none_kept waiting lines read say no_length)
+        ap
+        (λ (ls : List (List ℕ)).
+        text_of ls ++ cond (top_after top waiting read false) [] (unwrap_or (carried_by top lines read None) []))
+        (none_kept waiting lines read say no_length)
         ∙ ap (λ b. cond b [] (unwrap_or (carried_by top lines read None) [])) (none_on_top top waiting read false no_length)
         ∙ ap (λ (o : Option (List ℕ)). unwrap_or o []) (none_carried top lines read None no_length) in
         record {
@@ -253,32 +282,40 @@ module _ (total : IsTotalOrder record_cmp) (apart : IsAntisymmetric record_cmp) 
           all = λ none q has. absurd (subst (λ (rs : List Read). Has rs q) empty has);
         }
 
-    leaves_all : (top : Option ℕ) (n : ℕ) → next_of start read ≡ n → top ≡ before n → Leaves (text_of of_lines ++ cond (top_after top waiting read false) [] (unwrap_or (carried_by top lines read None) []))
+    leaves_all : (top : Option ℕ) (n : ℕ) → next_of start read ≡ n → top ≡ before n
+        → Leaves (text_of of_lines ++ cond (top_after top waiting read false) [] (unwrap_or (carried_by top lines read None) []))
     leaves_all top zero is at = leaves_none top is
     leaves_all top (suc t) is at =
-        subst (λ (o : Option ℕ). Leaves (text_of of_lines ++ cond (top_after o waiting read false) [] (unwrap_or (carried_by o lines read None) [])))
+        subst (λ (o : Option ℕ).
+        Leaves (text_of of_lines ++ cond (top_after o waiting read false) [] (unwrap_or (carried_by o lines read None) [])))
         (sym (at ∙ before_suc t))
         (leaves t is)
 
-    pub walked : (top : Option ℕ) (old new : Walk) → top ≡ before (next_of start read) → old.waiting ≡ waiting → old.has_top ≡ false → carried_in old ≡ None
+    pub walked : (top : Option ℕ) (old new : Walk) → top ≡ before (next_of start read)
+        → old.waiting ≡ waiting → old.has_top ≡ false → carried_in old ≡ None
         → Walks top lines read old new → (text : List ℕ) × Leaves text × (finished new ≡ old.text.items ++ text)
     walked top old new at waits no_top no_line walks =
         let text = text_of of_lines in
         let kept_text : new.text.items ≡ old.text.items ++ text =
         walks.text ∙ ap (λ (w : Records). old.text.items ++ text_of (kept_lines w lines read)) waits in
         let has : new.has_top ≡ top_after top waiting read false =
-        walks.has_top ∙ ap (λ (w : Records). top_after top w read old.has_top) waits ∙ ap (λ (b : Bool). top_after top waiting read b) no_top in
-        let line : carried_in new ≡ carried_by top lines read None = walks.carried ∙ ap (λ (c : Option (List ℕ)). carried_by top lines read c) no_line in (
+        walks.has_top
+        ∙ ap (λ (w : Records). top_after top w read old.has_top) waits
+        ∙ ap (λ (b : Bool). top_after top waiting read b) no_top in
+        let line : carried_in new ≡ carried_by top lines read None =
+        walks.carried ∙ ap (λ (c : Option (List ℕ)). carried_by top lines read c) no_line in (
           text ++ cond (top_after top waiting read false) [] (unwrap_or (carried_by top lines read None) []),
           leaves_all top (next_of start read) refl at,
           ap (λ (l : List ℕ). l ++ cond new.has_top [] (unwrap_or (carried_in new) [])) kept_text
               ∙ ap (λ (b : Bool). (old.text.items ++ text) ++ cond b [] (unwrap_or (carried_in new) [])) has
               ∙ ap (λ (c : Option (List ℕ)). (old.text.items ++ text) ++ cond (top_after top waiting read false) [] (unwrap_or c [])) line
-              ∙ append_assoc old.text.items text (cond (top_after top waiting read false) [] (unwrap_or (carried_by top lines read None) [])),
+              ∙ append_assoc old.text.items text (
+              cond (top_after top waiting read false) [] (unwrap_or (carried_by top lines read None) [])),
         )
 
     -- behind the line of the floor they are a log
-    module _ (are_read : LinesAreRead) (front : List (List ℕ)) (says_floor : SaysFloor front floor) (text output : List ℕ) (l : Leaves text) (joined : output ≡ text_of front ++ text) where
+    module _ (are_read : LinesAreRead) (front : List (List ℕ)) (says_floor : SaysFloor front floor)
+        (text output : List ℕ) (l : Leaves text) (joined : output ≡ text_of front ++ text) where
       of_front : output ≡ text_of (front ++ l.left)
       of_front = joined ∙ ap (λ (t : List ℕ). text_of front ++ t) l.parts ∙ sym (text_of-append front l.left)
 
@@ -312,8 +349,10 @@ module _ (total : IsTotalOrder record_cmp) (apart : IsAntisymmetric record_cmp) 
       reads_back count = ap log_of of_front ∙ are_read (front ++ l.left) floor l.out say_all (fits count)
 
       -- a compaction of a log, of which it keeps the last records
-      pub is_compacted : (input : List ℕ) (log : LogText) (all : List (List ℕ)) → log_of input ≡ Ok log → all ≡ front ++ lines → length all ≤ LOG_LINES → length (text_of all) ≤ length input
-          → start ≡ log.floor → floor ≡ log.floor → read ≡ log.reads → waiting ≡ last_records (from_list (records_in log.reads)) → IsCompacted input output
+      pub is_compacted : (input : List ℕ) (log : LogText) (all : List (List ℕ)) → log_of input ≡ Ok log
+          → all ≡ front ++ lines → length all ≤ LOG_LINES → length (text_of all) ≤ length input
+          → start ≡ log.floor → floor ≡ log.floor → read ≡ log.reads
+          → waiting ≡ last_records (from_list (records_in log.reads)) → IsCompacted input output
       is_compacted input log all is parts most within starts floor_is reads_are waits = record {
         log = log;
         read = is;
@@ -336,8 +375,10 @@ module _ (total : IsTotalOrder record_cmp) (apart : IsAntisymmetric record_cmp) 
       }
 
       -- one to a floor
-      pub is_compacted_to : (input : List ℕ) (log : LogText) → log_of input ≡ Ok log → length front + length l.out ≤ LOG_LINES → length (text_of lines) ≤ length input
-          → front ≡ floor_lines floor → start ≡ log.floor → read ≡ log.reads → waiting ≡ compacted_to floor (from_list (records_in log.reads)) → IsCompactedTo floor input output
+      pub is_compacted_to : (input : List ℕ) (log : LogText) → log_of input ≡ Ok log
+          → length front + length l.out ≤ LOG_LINES → length (text_of lines) ≤ length input
+          → front ≡ floor_lines floor → start ≡ log.floor → read ≡ log.reads
+          → waiting ≡ compacted_to floor (from_list (records_in log.reads)) → IsCompactedTo floor input output
       is_compacted_to input log is count within front_is starts reads_are waits = record {
         log = log;
         read = is;

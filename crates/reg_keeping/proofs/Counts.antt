@@ -14,7 +14,12 @@ none_in : (line : List ℕ) → HasNoLineFeed line → count_by is_line_feed lin
 none_in [] free = refl
 none_in (b ∷ line) free =
     let here : is_line_feed b ≡ false = All-head (λ x. is_line_feed x ≡ false) b line free in
-    omega (arith, sum_by-cons (λ x. if is_line_feed x then 1 else 0) b line, ap {B = ℕ} (λ (t : Bool). if t then 1 else 0) here, none_in line (All-tail (λ x. is_line_feed x ≡ false) b line free))
+    omega (
+      arith,
+      sum_by-cons (λ x. if is_line_feed x then 1 else 0) b line,
+      ap {B = ℕ} (λ (t : Bool). if t then 1 else 0) here,
+      none_in line (All-tail (λ x. is_line_feed x ≡ false) b line free),
+    )
 
 -- a line more has one LF more
 lf_counted : (lines : List (List ℕ)) (read : List Read) → Say lines read → count_by is_line_feed (text_of lines) ≡ length read
@@ -23,7 +28,13 @@ lf_counted [] (r ∷ read) say = absurd say
 lf_counted (line ∷ lines) [] say = absurd say
 lf_counted (line ∷ lines) (r ∷ read) say =
     let rest = text_of lines in
-    omega (arith, sum_by-append (λ b. if is_line_feed b then 1 else 0) line (10 ∷ rest), sum_by-cons (λ b. if is_line_feed b then 1 else 0) 10 rest, none_in line say.1, lf_counted lines read say.3)
+    omega (
+      arith,
+      sum_by-append (λ b. if is_line_feed b then 1 else 0) line (10 ∷ rest),
+      sum_by-cons (λ b. if is_line_feed b then 1 else 0) 10 rest,
+      none_in line say.1,
+      lf_counted lines read say.3,
+    )
 
 front_counted : (front : List (List ℕ)) (floor : ℕ) → SaysFloor front floor → count_by is_line_feed (text_of front) ≡ length front
 front_counted [] floor is = refl
@@ -32,7 +43,8 @@ front_counted (line ∷ []) floor is =
     omega (arith, sum_by-append (λ b. if is_line_feed b then 1 else 0) line (10 ∷ []), none_in line free)
 front_counted (line ∷ next ∷ front) floor is = absurd is
 
-pub all_counted : (lines : List (List ℕ)) (floor : ℕ) (read : List Read) → SayLog lines floor read → count_by is_line_feed (text_of lines) ≡ length lines
+pub all_counted : (lines : List (List ℕ)) (floor : ℕ) (read : List Read)
+    → SayLog lines floor read → count_by is_line_feed (text_of lines) ≡ length lines
 all_counted lines floor read s =
     let split = ap text_of s.parts ∙ text_of-append s.front s.others in
     omega (

@@ -42,7 +42,8 @@ older q r is = first_le q.offset r.offset _ is
 abbrev stays : Bool → Bool → Bool → Bool
 stays was deletes seen = was && not (deletes && seen)
 
-one_less : (was deletes seen here : Bool) → (here ≡ true → deletes ≡ true) → (not here && stays was deletes seen) ≡ stays was deletes (seen || here)
+one_less : (was deletes seen here : Bool) → (here ≡ true → deletes ≡ true)
+    → (not here && stays was deletes seen) ≡ stays was deletes (seen || here)
 one_less true true true true is = refl
 one_less true true true false is = refl
 one_less true true false true is = refl
@@ -71,12 +72,15 @@ none_seen false deletes = refl
 pub at_first : (floor : ℕ) (rs : List Record) (old : Records) → AreDropped floor (take 0 rs) old old
 at_first floor rs old = record { left = λ q. none_seen (contains old q) (deletes_below floor q) }
 
-module _ (total : IsTotalOrder record_cmp) (apart : IsAntisymmetric record_cmp) (keys : IsTotalOrder key_cmp) (keys_apart : IsAntisymmetric key_cmp) where
-  module _ (floor : ℕ) (rs : List Record) (i : ℕ) (d : Record) (within : i < length rs) (old now : Records) (was : AreDropped floor (take i rs) old now) where
+module _ (total : IsTotalOrder record_cmp) (apart : IsAntisymmetric record_cmp)
+    (keys : IsTotalOrder key_cmp) (keys_apart : IsAntisymmetric key_cmp) where
+  module _ (floor : ℕ) (rs : List Record) (i : ℕ) (d : Record) (within : i < length rs)
+      (old now : Records) (was : AreDropped floor (take i rs) old now) where
     abbrev r : Record
     r = get_or rs i d
 
-    more : (q : Record) → list_any (eq_by_cmp record_cmp q) (take (i + 1) rs) ≡ (list_any (eq_by_cmp record_cmp q) (take i rs) || eq_by_cmp record_cmp q r)
+    more : (q : Record)
+        → list_any (eq_by_cmp record_cmp q) (take (i + 1) rs) ≡ (list_any (eq_by_cmp record_cmp q) (take i rs) || eq_by_cmp record_cmp q r)
     more q = list_any_more (eq_by_cmp record_cmp q) rs i d within
 
     pub one_dropped : (new : Records) → deletes_below floor r ≡ true → new ≡ remove now r → AreDropped floor (take (i + 1) rs) old new
@@ -101,11 +105,15 @@ module _ (total : IsTotalOrder record_cmp) (apart : IsAntisymmetric record_cmp) 
 
   -- ---- what compacting to a floor keeps
 
-  pub contains-compacted : (floor : ℕ) (s : Records) (q : Record) → contains (compacted_to floor s) q ≡ (contains (last_records s) q && not (deletes_below floor q))
-  contains-compacted floor s q = contains-retain (last_records s) (λ r. not (deletes_below floor r)) q (λ x e. ap (λ (r : Record). not (deletes_below floor r)) (sym (apart q x e)))
+  pub contains-compacted : (floor : ℕ) (s : Records) (q : Record)
+      → contains (compacted_to floor s) q ≡ (contains (last_records s) q && not (deletes_below floor q))
+  contains-compacted floor s q =
+      contains-retain (last_records s) (λ r. not (deletes_below floor r)) q
+      (λ x e. ap (λ (r : Record). not (deletes_below floor r)) (sym (apart q x e)))
 
   was_last : (floor : ℕ) (s : Records) (q : Record) → contains (compacted_to floor s) q ≡ true → contains (last_records s) q ≡ true
-  was_last floor s q is = (and_parts (contains (last_records s) q) (not (deletes_below floor q)) (sym (contains-compacted floor s q) ∙ is)).0
+  was_last floor s q is =
+      (and_parts (contains (last_records s) q) (not (deletes_below floor q)) (sym (contains-compacted floor s q) ∙ is)).0
 
   pub compacted_have_one : (floor : ℕ) (s : Records) → HasOneAKey (compacted_to floor s)
   compacted_have_one floor s q r has_q has_r same =
@@ -122,7 +130,8 @@ module _ (total : IsTotalOrder record_cmp) (apart : IsAntisymmetric record_cmp) 
     compacted_part floor s q is = (least s).is_part q (was_last floor s q is)
 
     -- of the last records of a list, once each record of it was looked at
-    pub all_dropped : (floor : ℕ) (rs : List Record) (old now : Records) → old ≡ last_records (from_list rs) → AreDropped floor rs old now → now ≡ compacted_to floor (from_list rs)
+    pub all_dropped : (floor : ℕ) (rs : List Record) (old now : Records) → old ≡ last_records (from_list rs)
+        → AreDropped floor rs old now → now ≡ compacted_to floor (from_list rs)
     all_dropped floor rs old now is was =
         let s : Records = from_list rs in
         same_set total apart now (compacted_to floor s)
@@ -134,14 +143,16 @@ module _ (total : IsTotalOrder record_cmp) (apart : IsAntisymmetric record_cmp) 
 
     module _ (greatest : LastIsGreatest) (none : NoLastIsNoRecord) where
       -- each record has a last one of no smaller offset
-      pub later_last : (s : Records) (r : Record) → contains s r ≡ true → (q : Record) × (contains (last_records s) q ≡ true) × (r.offset ≤ q.offset)
+      pub later_last : (s : Records) (r : Record) → contains s r ≡ true
+          → (q : Record) × (contains (last_records s) q ≡ true) × (r.offset ≤ q.offset)
       later_last s r has =
           elim (last s r.key) as (λ o. last s r.key ≡ o → (q : Record) × (contains (last_records s) q ≡ true) × (r.offset ≤ q.offset)) [
             | None ↦ λ is. absurd (none s r has is)
             | Some q ↦ λ is.
                 let fact = (greatest s r.key q).0 is in (
                   q,
-                  subst (λ (o : Option Record). Rattle.std.specs.Prelude.IfSome o (λ p. contains (last_records s) p ≡ true)) is ((least s).has_lasts r.key),
+                  subst (λ (o : Option Record). Rattle.std.specs.Prelude.IfSome o (λ p. contains (last_records s) p ≡ true)) is
+                      ((least s).has_lasts r.key),
                   older r q (fact.is_greatest r has refl),
                 )
           ] refl
@@ -150,14 +161,17 @@ module _ (total : IsTotalOrder record_cmp) (apart : IsAntisymmetric record_cmp) 
       below_floor floor q is = let under = (and_parts (is_none q.value) (nat_lt q.offset floor) is).1 in grind (arith, nat_tests)
 
       -- one that stays, or it is below the floor
-      pub covered : (floor : ℕ) (s : Records) (r : Record) → contains s r ≡ true → ((q : Record) × (contains (compacted_to floor s) q ≡ true) × (r.offset ≤ q.offset)) ⊎ (r.offset < floor)
+      pub covered : (floor : ℕ) (s : Records) (r : Record) → contains s r ≡ true
+          → ((q : Record) × (contains (compacted_to floor s) q ≡ true) × (r.offset ≤ q.offset)) ⊎ (r.offset < floor)
       covered floor s r has =
           let found = later_last s r has in
-          elim (deletes_below floor found.0) as (λ b. deletes_below floor found.0 ≡ b → ((q : Record) × (contains (compacted_to floor s) q ≡ true) × (r.offset ≤ q.offset)) ⊎ (r.offset < floor)) [
+          elim (deletes_below floor found.0) as (λ b. deletes_below floor found.0 ≡ b
+          → ((q : Record) × (contains (compacted_to floor s) q ≡ true) × (r.offset ≤ q.offset)) ⊎ (r.offset < floor)) [
             | true ↦ λ is. inr (omega (arith, found.2, below_floor floor found.0 is))
             | false ↦ λ is. inl (
               found.0,
-              contains-compacted floor s found.0 ∙ and_from (contains (last_records s) found.0) (not (deletes_below floor found.0)) found.1 (ap not is),
+              contains-compacted floor s found.0
+                  ∙ and_from (contains (last_records s) found.0) (not (deletes_below floor found.0)) found.1 (ap not is),
               found.2,
             )
           ] refl

@@ -25,12 +25,15 @@ kept_say w [] [] say = tt
 kept_say w [] (r ∷ read) say = absurd say
 kept_say w (line ∷ lines) [] say = absurd say
 kept_say w (line ∷ lines) (r ∷ read) say =
-    elim (is_kept w r) as (λ b. Say (cond b (line ∷ kept_lines (waiting_after w r) lines read) (kept_lines (waiting_after w r) lines read)) (cond b (r ∷ kept_reads (waiting_after w r) read) (kept_reads (waiting_after w r) read))) [
+    elim (is_kept w r) as (λ b.
+    Say (cond b (line ∷ kept_lines (waiting_after w r) lines read) (kept_lines (waiting_after w r) lines read))
+    (cond b (r ∷ kept_reads (waiting_after w r) read) (kept_reads (waiting_after w r) read))) [
       | true ↦ (say.0, say.1, say.2, kept_say (waiting_after w r) lines read say.3)
       | false ↦ kept_say (waiting_after w r) lines read say.3
     ]
 
-module _ (total : IsTotalOrder record_cmp) (apart : IsAntisymmetric record_cmp) (keys : IsTotalOrder key_cmp) (keys_apart : IsAntisymmetric key_cmp) where
+module _ (total : IsTotalOrder record_cmp) (apart : IsAntisymmetric record_cmp)
+    (keys : IsTotalOrder key_cmp) (keys_apart : IsAntisymmetric key_cmp) where
   -- what waits after a line waited before it
   pub waited : (w : Records) (r q : Record) → contains (waiting_after w (reads.Record r)) q ≡ true → contains w q ≡ true
   waited w r q h =
@@ -43,11 +46,17 @@ module _ (total : IsTotalOrder record_cmp) (apart : IsAntisymmetric record_cmp) 
   kept_has w [] q has = absurd has
   kept_has w (reads.Foreign offset ∷ read) q has = kept_has w read q has
   kept_has w (reads.Record r ∷ read) q has =
-      elim (contains w r) as (λ b. contains w r ≡ b → Has (cond b (reads.Record r ∷ kept_reads (cond b (with_last w r.key None) w) read) (kept_reads (cond b (with_last w r.key None) w) read)) q → (contains w q ≡ true) × ((q ≡ r) ⊎ Has read q)) [
+      elim (contains w r) as (λ b. contains w r ≡ b
+      → Has (
+      cond b (reads.Record r ∷ kept_reads (cond b (with_last w r.key None) w) read)
+      (kept_reads (cond b (with_last w r.key None) w) read)) q
+      → (contains w q ≡ true) × ((q ≡ r) ⊎ Has read q)) [
         | true ↦ λ here has. ⊎_elim
             (λ is. (ap (contains w) is ∙ here, inl is))
-            (λ later. let rest = kept_has (with_last w r.key None) read q later in
-            ((and_parts (contains w q) (not (is_of r.key q)) (sym (contains-without total apart keys keys_apart w r.key q) ∙ rest.0)).0, inr rest.1))
+            (λ later. let rest = kept_has (with_last w r.key None) read q later in (
+              (and_parts (contains w q) (not (is_of r.key q)) (sym (contains-without total apart keys keys_apart w r.key q) ∙ rest.0)).0,
+              inr rest.1,
+            ))
             has
         | false ↦ λ here has. let rest = kept_has w read q has in (rest.0, inr rest.1)
       ] refl has
@@ -56,7 +65,10 @@ module _ (total : IsTotalOrder record_cmp) (apart : IsAntisymmetric record_cmp) 
   has_kept w [] q one waits has = absurd has
   has_kept w (reads.Foreign offset ∷ read) q one waits has = has_kept w read q one waits has
   has_kept w (reads.Record r ∷ read) q one waits has =
-      elim (contains w r) as (λ b. contains w r ≡ b → Has (cond b (reads.Record r ∷ kept_reads (cond b (with_last w r.key None) w) read) (kept_reads (cond b (with_last w r.key None) w) read)) q) [
+      elim (contains w r) as (λ b. contains w r ≡ b
+      → Has (
+      cond b (reads.Record r ∷ kept_reads (cond b (with_last w r.key None) w) read)
+      (kept_reads (cond b (with_last w r.key None) w) read)) q) [
         | true ↦ λ here. ⊎_elim
             (λ is. inl is)
             (λ later.

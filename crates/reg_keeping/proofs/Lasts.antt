@@ -24,7 +24,8 @@ equal Greater h = absurd (false≢true h)
 abbrev pub HasOneAKey : Records → Type 0
 HasOneAKey s = (q r : Record) → contains s q ≡ true → contains s r ≡ true → q.key ≡ r.key → q ≡ r
 
-module _ (total : IsTotalOrder record_cmp) (apart : IsAntisymmetric record_cmp) (keys : IsTotalOrder key_cmp) (keys_apart : IsAntisymmetric key_cmp) where
+module _ (total : IsTotalOrder record_cmp) (apart : IsAntisymmetric record_cmp)
+    (keys : IsTotalOrder key_cmp) (keys_apart : IsAntisymmetric key_cmp) where
   pub same_record : (q r : Record) → eq_by_cmp record_cmp q r ≡ true → q ≡ r
   same_record q r h = apart q r (equal (record_cmp q r) h)
 
@@ -42,7 +43,8 @@ module _ (total : IsTotalOrder record_cmp) (apart : IsAntisymmetric record_cmp) 
   is_last_of : (s : Records) (r : Record) → contains (last_records s) r ≡ true → last s r.key ≡ Some r
   unfolding last_records
   is_last_of s r h =
-      last_of s r (and_parts (contains s r) (is_last s r) (sym (contains-retain s (is_last s) r (λ x e. ap (is_last s) (sym (apart r x e)))) ∙ h)).1
+      last_of s r (
+      and_parts (contains s r) (is_last s r) (sym (contains-retain s (is_last s) r (λ x e. ap (is_last s) (sym (apart r x e)))) ∙ h)).1
 
   pub lasts_have_one : (s : Records) → HasOneAKey (last_records s)
   lasts_have_one s q r has_q has_r same =
@@ -61,7 +63,11 @@ module _ (total : IsTotalOrder record_cmp) (apart : IsAntisymmetric record_cmp) 
   contains-without s key q = contains-retain s (λ r. not (is_of key r)) q (λ x e. ap (λ r. not (is_of key r)) (sym (apart q x e)))
 
 -- one record more
-pub one_more : IsTotalOrder record_cmp → IsAntisymmetric record_cmp → LastRecordsOfInsert → (front : List Record) (r : Record) (old new : Records)
+pub one_more : IsTotalOrder record_cmp → IsAntisymmetric record_cmp
+    → LastRecordsOfInsert → (front : List Record) (r : Record) (old new : Records)
     → old ≡ last_records (from_list front) → new ≡ last_records (insert old r) → new ≡ last_records (from_list (front ++ r ∷ []))
 one_more total apart law front r old new was is =
-    is ∙ ap (λ (s : Records). last_records (insert s r)) was ∙ law (from_list front) r ∙ ap last_records (sym (from_list_push total apart front r))
+    is
+    ∙ ap (λ (s : Records). last_records (insert s r)) was
+    ∙ law (from_list front) r
+    ∙ ap last_records (sym (from_list_push total apart front r))

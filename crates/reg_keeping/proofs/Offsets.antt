@@ -57,7 +57,8 @@ attained a (r ∷ read) =
     (attained (max a (suc (offset_in r))) read)
 
 -- what has the same greatest offset comes before the same next one
-pub same_next : (read out : List Read) (t : ℕ) → next_after read ≡ suc t → HasAt t out → ((o : ℕ) → HasAt o out → HasAt o read) → next_after out ≡ next_after read
+pub same_next : (read out : List Read) (t : ℕ) → next_after read ≡ suc t → HasAt t out
+    → ((o : ℕ) → HasAt o out → HasAt o read) → next_after out ≡ next_after read
 same_next read out t is top part =
     ⊎_elim
     (λ none. absurd (omega (arith, none, above 0 out t top)))
@@ -93,7 +94,8 @@ no_lines (r ∷ read) is = absurd (omega (arith, is, above 0 (r ∷ read) (offse
 pub kept_at : (w : Records) (read : List Read) (o : ℕ) → HasAt o (kept_reads w read) → HasAt o read
 kept_at w [] o has = absurd has
 kept_at w (r ∷ read) o has =
-    elim (is_kept w r) as (λ b. HasAt o (cond b (r ∷ kept_reads (waiting_after w r) read) (kept_reads (waiting_after w r) read)) → (offset_in r ≡ o) ⊎ HasAt o read) [
+    elim (is_kept w r) as (λ b. HasAt o (cond b (r ∷ kept_reads (waiting_after w r) read) (kept_reads (waiting_after w r) read))
+    → (offset_in r ≡ o) ⊎ HasAt o read) [
       | true ↦ λ has. ⊎_elim (λ is. inl is) (λ later. inr (kept_at (waiting_after w r) read o later)) has
       | false ↦ λ has. inr (kept_at (waiting_after w r) read o has)
     ] has
@@ -101,7 +103,8 @@ kept_at w (r ∷ read) o has =
 pub record_at : (read : List Read) (r : Record) → Has read r → HasAt r.offset read
 record_at [] r has = absurd has
 record_at (reads.Foreign offset ∷ read) r has = inr (record_at read r has)
-record_at (reads.Record q ∷ read) r has = ⊎_elim (λ is. inl (ap (λ (p : Record). p.offset) (sym is))) (λ later. inr (record_at read r later)) has
+record_at (reads.Record q ∷ read) r has =
+    ⊎_elim (λ is. inl (ap (λ (p : Record). p.offset) (sym is))) (λ later. inr (record_at read r later)) has
 
 -- what stands at an offset is foreign or a record
 pub foreign_or_record : (t : ℕ) (read : List Read) → HasAt t read → HasForeignAt t read ⊎ ((r : Record) × Has read r × (r.offset ≡ t))
@@ -115,10 +118,12 @@ foreign_or_record t (reads.Record r ∷ read) has =
     has
 
 -- whether a kept line has it
-pub at_top : (t : ℕ) (w : Records) (read : List Read) (b : Bool) → top_after (Some t) w read b ≡ true → (b ≡ true) ⊎ HasAt t (kept_reads w read)
+pub at_top : (t : ℕ) (w : Records) (read : List Read) (b : Bool)
+    → top_after (Some t) w read b ≡ true → (b ≡ true) ⊎ HasAt t (kept_reads w read)
 at_top t w [] b is = inl is
 at_top t w (r ∷ read) b is =
-    elim (is_kept w r) as (λ k. top_after (Some t) (waiting_after w r) read (b || (k && is_at (Some t) r)) ≡ true → (b ≡ true) ⊎ HasAt t (cond k (r ∷ kept_reads (waiting_after w r) read) (kept_reads (waiting_after w r) read))) [
+    elim (is_kept w r) as (λ k. top_after (Some t) (waiting_after w r) read (b || (k && is_at (Some t) r)) ≡ true
+    → (b ≡ true) ⊎ HasAt t (cond k (r ∷ kept_reads (waiting_after w r) read) (kept_reads (waiting_after w r) read))) [
       | true ↦ λ is. ⊎_elim
           (λ early. ⊎_elim (λ before. inl before) (λ here. inr (inl (grind (arith, nat_tests)))) (or_cases b (is_at (Some t) r) early))
           (λ later. inr (inr later))
@@ -129,10 +134,12 @@ at_top t w (r ∷ read) b is =
           (at_top t (waiting_after w r) read (b || false) is)
     ] is
 
-pub not_at_top : (t : ℕ) (w : Records) (read : List Read) (b : Bool) → top_after (Some t) w read b ≡ false → (b ≡ false) × (HasAt t (kept_reads w read) → ⊥)
+pub not_at_top : (t : ℕ) (w : Records) (read : List Read) (b : Bool)
+    → top_after (Some t) w read b ≡ false → (b ≡ false) × (HasAt t (kept_reads w read) → ⊥)
 not_at_top t w [] b is = (is, λ has. has)
 not_at_top t w (r ∷ read) b is =
-    elim (is_kept w r) as (λ k. top_after (Some t) (waiting_after w r) read (b || (k && is_at (Some t) r)) ≡ false → (b ≡ false) × (HasAt t (cond k (r ∷ kept_reads (waiting_after w r) read) (kept_reads (waiting_after w r) read)) → ⊥)) [
+    elim (is_kept w r) as (λ k. top_after (Some t) (waiting_after w r) read (b || (k && is_at (Some t) r)) ≡ false
+    → (b ≡ false) × (HasAt t (cond k (r ∷ kept_reads (waiting_after w r) read) (kept_reads (waiting_after w r) read)) → ⊥)) [
       | true ↦ λ is.
           let rest = not_at_top t (waiting_after w r) read (b || is_at (Some t) r) is in
           let parts = or_parts b (is_at (Some t) r) rest.0 in
@@ -147,17 +154,24 @@ not_at_top t w (r ∷ read) b is =
 
 -- a foreign line that has it, with its LF
 abbrev pub IsCarried : ℕ → Option (List ℕ) → Type 0
-IsCarried t c = (line : List ℕ) × (c ≡ Some (line ++ 10 ∷ [])) × (0 < length line) × HasNoLineFeed line × (reading line ≡ Ok (reads.Foreign t))
+IsCarried t c =
+    (line : List ℕ) × (c ≡ Some (line ++ 10 ∷ [])) × (0 < length line) × HasNoLineFeed line × (reading line ≡ Ok (reads.Foreign t))
 
-pub carried : (t : ℕ) (lines : List (List ℕ)) (read : List Read) (c : Option (List ℕ)) → Say lines read → HasForeignAt t read ⊎ IsCarried t c → IsCarried t (carried_by (Some t) lines read c)
+pub carried : (t : ℕ) (lines : List (List ℕ)) (read : List Read) (c : Option (List ℕ)) → Say lines read
+    → HasForeignAt t read ⊎ IsCarried t c → IsCarried t (carried_by (Some t) lines read c)
 carried t [] [] c say has = ⊎_elim (λ none. absurd none) (λ is. is) has
 carried t [] (r ∷ read) c say has = absurd say
 carried t (line ∷ lines) [] c say has = absurd say
 carried t (line ∷ lines) (reads.Record r ∷ read) c say has = carried t lines read c say.3 has
 carried t (line ∷ lines) (reads.Foreign offset ∷ read) c say has =
-    elim (nat_eq offset t) as (λ b. nat_eq offset t ≡ b → IsCarried t (carried_by (Some t) lines read (cond b (Some (line ++ 10 ∷ [])) c))) [
-      | true ↦ λ is. carried t lines read (Some (line ++ 10 ∷ [])) say.3 (inr (line, refl, say.0, say.1, say.2 ∙ ap (λ (o : ℕ). Ok (reads.Foreign o)) (equals offset t is)))
-      | false ↦ λ is. carried t lines read c say.3 (⊎_elim (λ foreign. ⊎_elim (λ here. absurd (differs offset t here is)) (λ later. inl later) foreign) (λ before. inr before) has)
+    elim (nat_eq offset t) as (λ b.
+    nat_eq offset t ≡ b → IsCarried t (carried_by (Some t) lines read (cond b (Some (line ++ 10 ∷ [])) c))) [
+      | true ↦ λ is.
+          carried t lines read (Some (line ++ 10 ∷ [])) say.3
+          (inr (line, refl, say.0, say.1, say.2 ∙ ap (λ (o : ℕ). Ok (reads.Foreign o)) (equals offset t is)))
+      | false ↦ λ is.
+          carried t lines read c say.3 (
+          ⊎_elim (λ foreign. ⊎_elim (λ here. absurd (differs offset t here is)) (λ later. inl later) foreign) (λ before. inr before) has)
     ] refl
   where
     equals : (o t : ℕ) → nat_eq o t ≡ true → o ≡ t
@@ -178,7 +192,8 @@ foreign_there t (reads.Record r ∷ read) = foreign_there t read
 foreign_there t (reads.Foreign offset ∷ read) =
     elim (nat_eq offset t) as (λ b. nat_eq offset t ≡ b → ((offset ≡ t) ⊎ HasForeignAt t read) ⊎ ((offset ≡ t) ⊎ HasForeignAt t read → ⊥)) [
       | true ↦ λ is. inl (inl (equals offset t is))
-      | false ↦ λ is. ⊎_elim (λ later. inl (inr later)) (λ none. inr (λ has. ⊎_elim (λ here. differs offset t here is) none has)) (foreign_there t read)
+      | false ↦ λ is.
+          ⊎_elim (λ later. inl (inr later)) (λ none. inr (λ has. ⊎_elim (λ here. differs offset t here is) none has)) (foreign_there t read)
     ] refl
   where
     equals : (o t : ℕ) → nat_eq o t ≡ true → o ≡ t
@@ -188,7 +203,8 @@ foreign_there t (reads.Foreign offset ∷ read) =
     differs o t is not = grind (arith, nat_tests)
 
 -- where no foreign line has it, none is carried
-pub none_carried_at : (t : ℕ) (lines : List (List ℕ)) (read : List Read) (c : Option (List ℕ)) → (HasForeignAt t read → ⊥) → carried_by (Some t) lines read c ≡ c
+pub none_carried_at : (t : ℕ) (lines : List (List ℕ)) (read : List Read) (c : Option (List ℕ))
+    → (HasForeignAt t read → ⊥) → carried_by (Some t) lines read c ≡ c
 none_carried_at t [] read c not = refl
 none_carried_at t (line ∷ lines) [] c not = refl
 none_carried_at t (line ∷ lines) (reads.Record r ∷ read) c not = none_carried_at t lines read c not

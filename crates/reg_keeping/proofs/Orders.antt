@@ -55,7 +55,8 @@ say_all (line ∷ lines) all =
 
 size_of : (lines : List (List ℕ)) → length (text_of lines) ≡ sum_by (λ l. length l + 1) lines
 size_of [] = refl
-size_of (line ∷ lines) = omega (arith, length-append line (10 ∷ text_of lines), size_of lines, sum_by-cons (λ (l : List ℕ). length l + 1) line lines)
+size_of (line ∷ lines) =
+    omega (arith, length-append line (10 ∷ text_of lines), size_of lines, sum_by-cons (λ (l : List ℕ). length l + 1) line lines)
 
 same_size : (xs ys : List (List ℕ)) → IsPermutation xs ys → length (text_of ys) ≡ length (text_of xs)
 same_size xs ys p = size_of ys ∙ sum_by-IsPermutation (λ (l : List ℕ). length l + 1) xs ys p ∙ sym (size_of xs)
@@ -67,7 +68,8 @@ module _ (test : Record → Bool) where
   one_passes None rs = refl
   one_passes (Some r) rs = refl
 
-  passes : (lines : List (List ℕ)) → list_any test (records_in (map read_of lines)) ≡ list_any (λ line. option_map_or test (record_in (read_of line)) false) lines
+  passes : (lines : List (List ℕ))
+      → list_any test (records_in (map read_of lines)) ≡ list_any (λ line. option_map_or test (record_in (read_of line)) false) lines
   passes [] = refl
   passes (line ∷ lines) =
       one_passes (record_in (read_of line)) (records_in (map read_of lines))
@@ -93,7 +95,8 @@ or_assoc true b c = refl
 or_assoc false b c = refl
 
 next_above : (k next : ℕ) (lines : List (List ℕ))
-    → nat_lt k (fold (λ n r. max n (suc (offset_in r))) next (map read_of lines)) ≡ (nat_lt k next || list_any (λ line. nat_lt k (suc (offset_in (read_of line)))) lines)
+    → nat_lt k (fold (λ n r. max n (suc (offset_in r))) next (map read_of lines))
+    ≡ (nat_lt k next || list_any (λ line. nat_lt k (suc (offset_in (read_of line)))) lines)
 next_above k next [] = or_false (nat_lt k next)
   where
     or_false : (b : Bool) → b ≡ (b || false)
@@ -133,7 +136,8 @@ record SaysTheSame (out : LogText) (text output : List ℕ) : Type 0 where
   size : length output ≡ length text
   sorted : IsNonDecreasing (map offset_in now.reads)
 
-says_the_same : IsTotalOrder record_cmp → IsAntisymmetric record_cmp → LinesAreRead → (out : LogText) (text output : List ℕ) → log_of text ≡ Ok out → (l : IsLines text)
+says_the_same : IsTotalOrder record_cmp → IsAntisymmetric record_cmp → LinesAreRead
+    → (out : LogText) (text output : List ℕ) → log_of text ≡ Ok out → (l : IsLines text)
     → Reorders l.say.front l.say.others output → SaysTheSame out text output
 says_the_same total apart law out text output is l r =
     let s = l.say in
@@ -141,11 +145,19 @@ says_the_same total apart law out text output is l r =
     let ordered = All-permutation IsLine s.others r.ordered r.same said.0 in
     let read : List Read = map read_of r.ordered in
     let lines : List (List ℕ) = s.front ++ r.ordered in
-    let says : SayLog lines l.floor read = record { front = s.front; others = r.ordered; parts = refl; floor = s.floor; say = say_all r.ordered ordered } in
+    let says : SayLog lines l.floor read =
+    record { front = s.front; others = r.ordered; parts = refl; floor = s.floor; say = say_all r.ordered ordered } in
     let count : length lines ≡ length l.lines =
-    omega (arith, length-append s.front r.ordered, length-append s.front s.others, ap length s.parts, length_permutation s.others r.ordered r.same) in
+    omega (
+      arith,
+      length-append s.front r.ordered,
+      length-append s.front s.others,
+      ap length s.parts,
+      length_permutation s.others r.ordered r.same,
+    ) in
     let was : out ≡ record { floor = l.floor; reads = l.read; rest = [] } =
-    same_log out (record { floor = l.floor; reads = l.read; rest = [] }) (sym is ∙ ap log_of l.parts ∙ law l.lines l.floor l.read l.say l.few) in
+    same_log out (record { floor = l.floor; reads = l.read; rest = [] })
+    (sym is ∙ ap log_of l.parts ∙ law l.lines l.floor l.read l.say l.few) in
     let back : out.reads ≡ map read_of s.others = ap (λ (o : LogText). o.reads) was ∙ said.1 in
     let floor : out.floor ≡ l.floor = ap (λ (o : LogText). o.floor) was in
     record {
@@ -154,7 +166,8 @@ says_the_same total apart law out text output is l r =
       whole = refl;
       floor = sym floor;
       records = same_records total apart s.others r.ordered r.same ∙ ap (λ (x : List Read). from_list (records_in x)) (sym back);
-      next = ap (λ (n : ℕ). max l.floor n) (same_next s.others r.ordered r.same ∙ ap next_after (sym back)) ∙ ap (λ (f : ℕ). next_of f out.reads) (sym floor);
+      next = ap (λ (n : ℕ). max l.floor n) (same_next s.others r.ordered r.same ∙ ap next_after (sym back))
+          ∙ ap (λ (f : ℕ). next_of f out.reads) (sym floor);
       size = omega (
         arith,
         ap length r.parts,
@@ -170,7 +183,8 @@ says_the_same total apart law out text output is l r =
     }
 
 -- a compaction whose lines stand in another order is one
-pub sorted_compaction : IsTotalOrder record_cmp → IsAntisymmetric record_cmp → LinesAreRead → (input text output : List ℕ) (is : IsCompacted input text) (l : IsLines text)
+pub sorted_compaction : IsTotalOrder record_cmp → IsAntisymmetric record_cmp → LinesAreRead
+    → (input text output : List ℕ) (is : IsCompacted input text) (l : IsLines text)
     → Reorders l.say.front l.say.others output → IsSortedCompaction input output
 sorted_compaction total apart law input text output is l r =
     let it = says_the_same total apart law is.out text output is.read_back l r in
@@ -189,7 +203,8 @@ sorted_compaction total apart law input text output is l r =
       sorted = it.sorted;
     }
 
-pub sorted_compaction_to : IsTotalOrder record_cmp → IsAntisymmetric record_cmp → LinesAreRead → (given : ℕ) (input text output : List ℕ) (is : IsCompactedTo given input text) (l : IsLines text)
+pub sorted_compaction_to : IsTotalOrder record_cmp → IsAntisymmetric record_cmp → LinesAreRead
+    → (given : ℕ) (input text output : List ℕ) (is : IsCompactedTo given input text) (l : IsLines text)
     → Reorders l.say.front l.say.others output → IsSortedCompactionTo given input output
 sorted_compaction_to total apart law given input text output is l r =
     let it = says_the_same total apart law is.out text output is.read_back l r in

@@ -41,7 +41,9 @@ is_at_most m n h =
     ] refl
 
 -- where one falls below the one before it, they don't rise
-pub falls : (ps : List Piece) (k : ℕ) → k + 1 < length ps → ((d : Piece) → false ≡ is_le (nat_cmp (get_or ps k d).offset (get_or ps (k + 1) d).offset)) → IsNonDecreasingBy (λ (p : Piece). p.offset) ps → ⊥
+pub falls : (ps : List Piece) (k : ℕ) → k + 1 < length ps
+    → ((d : Piece) → false ≡ is_le (nat_cmp (get_or ps k d).offset (get_or ps (k + 1) d).offset))
+    → IsNonDecreasingBy (λ (p : Piece). p.offset) ps → ⊥
 falls [] k within fall up = absurd (omega (arith, within))
 falls (p ∷ ps) k within fall up = false≢true (fall p ∙ is_at_most _ _ (up k (k + 1) p (omega arith) within))
 
@@ -70,11 +72,13 @@ rising (p ∷ ps) up i j d le below =
     let last = get_or-map (λ (p : Piece). p.offset) (p ∷ ps) j p d within in
     omega (arith, first, last, up i j p le within)
 
-in_order : (ps : List Piece) → All HasOffset ps → IsNonDecreasingBy (λ (p : Piece). p.offset) ps → IsNonDecreasing (map offset_at (lines_of ps))
+in_order : (ps : List Piece) → All HasOffset ps → IsNonDecreasingBy (λ (p : Piece). p.offset) ps
+    → IsNonDecreasing (map offset_at (lines_of ps))
 in_order ps all up = subst IsNonDecreasing (sym (offsets_are ps all)) (rising ps up)
 
 -- pieces that stand in their order, and those that were put into it
-pub stays : (front lines : List (List ℕ)) (text : List ℕ) (ps : List Piece) → text ≡ text_of (front ++ lines) → lines_of ps ≡ lines → All HasOffset ps → IsNonDecreasingBy (λ (p : Piece). p.offset) ps → Reorders front lines text
+pub stays : (front lines : List (List ℕ)) (text : List ℕ) (ps : List Piece) → text ≡ text_of (front ++ lines)
+    → lines_of ps ≡ lines → All HasOffset ps → IsNonDecreasingBy (λ (p : Piece). p.offset) ps → Reorders front lines text
 stays front lines text ps parts are all up = record {
   ordered = lines;
   same = IsPermutation-refl lines;
@@ -82,7 +86,8 @@ stays front lines text ps parts are all up = record {
   sorted = subst (λ (l : List (List ℕ)). IsNonDecreasing (map offset_at l)) are (in_order ps all up);
 }
 
-pub moved : (front lines : List (List ℕ)) (text : List ℕ) (ps qs : List Piece) → text ≡ text_of (front ++ lines_of qs) → lines_of ps ≡ lines → All HasOffset ps → IsPermutation ps qs → IsNonDecreasingBy (λ (p : Piece). p.offset) qs
+pub moved : (front lines : List (List ℕ)) (text : List ℕ) (ps qs : List Piece) → text ≡ text_of (front ++ lines_of qs)
+    → lines_of ps ≡ lines → All HasOffset ps → IsPermutation ps qs → IsNonDecreasingBy (λ (p : Piece). p.offset) qs
     → Reorders front lines text
 moved front lines text ps qs parts are all same up = record {
   ordered = lines_of qs;
@@ -107,9 +112,11 @@ empty_text [] rest is none = refl
 empty_text (line ∷ left) rest is none = absurd (omega (arith, ap length is, length-append line (10 ∷ text_of left), none))
 
 all_of : (lines left : List (List ℕ)) (pieces : List Piece) → left ≡ [] → lines_of pieces ++ left ≡ lines → lines_of pieces ≡ lines
-all_of lines left pieces none joined = sym (append-nil (lines_of pieces)) ∙ ap (λ (l : List (List ℕ)). lines_of pieces ++ l) (sym none) ∙ joined
+all_of lines left pieces none joined =
+    sym (append-nil (lines_of pieces)) ∙ ap (λ (l : List (List ℕ)). lines_of pieces ++ l) (sym none) ∙ joined
 
-pub begun : (lines : List (List ℕ)) (read : List Read) (pieces : List Piece) (text : List ℕ) (count : ℕ) → pieces ≡ [] → length text ≤ count → text ≡ text_of lines → Say lines read → GoesOn lines pieces text 0 count
+pub begun : (lines : List (List ℕ)) (read : List Read) (pieces : List Piece) (text : List ℕ) (count : ℕ)
+    → pieces ≡ [] → length text ≤ count → text ≡ text_of lines → Say lines read → GoesOn lines pieces text 0 count
 begun lines read pieces text count none few parts say = record {
   left = lines;
   more = read;
@@ -121,16 +128,21 @@ begun lines read pieces text count none few parts say = record {
 }
 
 -- at the end of the text, or where no line is at its front
-pub at_end : (lines : List (List ℕ)) (pieces : List Piece) (rest : List ℕ) (done count : ℕ) → GoesOn lines pieces rest done count → count ≤ done → (lines_of pieces ≡ lines) × All HasOffset pieces
-at_end lines pieces rest done count go is = (all_of lines go.left pieces (empty_text go.left rest go.parts (omega (arith, go.few, is))) go.joined, go.offsets)
+pub at_end : (lines : List (List ℕ)) (pieces : List Piece) (rest : List ℕ) (done count : ℕ)
+    → GoesOn lines pieces rest done count → count ≤ done → (lines_of pieces ≡ lines) × All HasOffset pieces
+at_end lines pieces rest done count go is =
+    (all_of lines go.left pieces (empty_text go.left rest go.parts (omega (arith, go.few, is))) go.joined, go.offsets)
 
 no_front : (left : List (List ℕ)) (more : List Read) (rest : List ℕ) → rest ≡ text_of left → Say left more → (Front rest → ⊥) → left ≡ []
 no_front [] more rest is say none = refl
 no_front (line ∷ left) [] rest is say none = absurd say
-no_front (line ∷ left) (r ∷ more) rest is say none = absurd (none (record { line = line; behind = text_of left; read = r; parts = is; free = say.1; says = say.2 }))
+no_front (line ∷ left) (r ∷ more) rest is say none =
+    absurd (none (record { line = line; behind = text_of left; read = r; parts = is; free = say.1; says = say.2 }))
 
-pub at_none : (lines : List (List ℕ)) (pieces : List Piece) (rest : List ℕ) (done count : ℕ) → GoesOn lines pieces rest done count → (Front rest → ⊥) → (lines_of pieces ≡ lines) × All HasOffset pieces
-at_none lines pieces rest done count go none = (all_of lines go.left pieces (no_front go.left go.more rest go.parts go.say none) go.joined, go.offsets)
+pub at_none : (lines : List (List ℕ)) (pieces : List Piece) (rest : List ℕ) (done count : ℕ)
+    → GoesOn lines pieces rest done count → (Front rest → ⊥) → (lines_of pieces ≡ lines) × All HasOffset pieces
+at_none lines pieces rest done count go none =
+    (all_of lines go.left pieces (no_front go.left go.more rest go.parts go.say none) go.joined, go.offsets)
 
 -- one piece more: what `line_at` gave is the line at the front, and there is one
 pub step : (lines : List (List ℕ)) (pieces new : List Piece) (rest : List ℕ) (done count len : ℕ) (read : Read) (p : Piece)
@@ -140,7 +152,8 @@ pub step : (lines : List (List ℕ)) (pieces new : List Piece) (rest : List ℕ)
     → GoesOn lines new (take (length rest - len) (drop len rest)) (done + 1) count
 step lines pieces new rest done count len read p go some found now offset line = stepped go.left go.more go.parts go.say go.joined
   where
-    stepped : (left : List (List ℕ)) (more : List Read) → rest ≡ text_of left → Say left more → lines_of pieces ++ left ≡ lines → GoesOn lines new (take (length rest - len) (drop len rest)) (done + 1) count
+    stepped : (left : List (List ℕ)) (more : List Read) → rest ≡ text_of left → Say left more
+        → lines_of pieces ++ left ≡ lines → GoesOn lines new (take (length rest - len) (drop len rest)) (done + 1) count
     stepped [] more parts say joined = absurd (omega (arith, ap length parts, some))
     stepped (l ∷ left) [] parts say joined = absurd say
     stepped (l ∷ left) (r ∷ more) parts say joined =
@@ -152,7 +165,8 @@ step lines pieces new rest done count len read p go some found now offset line =
         ∙ drop_at (l ++ 10 ∷ []) (text_of left) len (omega (arith, is.0, length-append l (10 ∷ []))) in
         let all : take (length rest - len) (drop len rest) ≡ text_of left =
         ap (λ (t : List ℕ). take (length rest - len) t) behind ∙ take_all (length rest - len) (text_of left) (omega (arith, size, is.0)) in
-        let at : p.line.now ≡ l = line ∙ ap (λ (t : List ℕ). take (len - 1) t) parts ∙ take_at l (10 ∷ text_of left) (len - 1) (omega (arith, is.0)) in
+        let at : p.line.now ≡ l =
+        line ∙ ap (λ (t : List ℕ). take (len - 1) t) parts ∙ take_at l (10 ∷ text_of left) (len - 1) (omega (arith, is.0)) in
         record {
           left = left;
           more = more;
@@ -172,9 +186,11 @@ step lines pieces new rest done count len read p go some found now offset line =
 -- one line more
 pub text_push : (lines : List (List ℕ)) (line : List ℕ) → text_of (lines ++ line ∷ []) ≡ text_of lines ++ (line ++ 10 ∷ [])
 text_push [] line = refl
-text_push (l ∷ lines) line = ap (λ (t : List ℕ). l ++ 10 ∷ t) (text_push lines line) ∙ sym (append_assoc l (10 ∷ text_of lines) (line ++ 10 ∷ []))
+text_push (l ∷ lines) line =
+    ap (λ (t : List ℕ). l ++ 10 ∷ t) (text_push lines line) ∙ sym (append_assoc l (10 ∷ text_of lines) (line ++ 10 ∷ []))
 
-pub joined_more : (front : List ℕ) (ps : List Piece) (i : ℕ) (d : Piece) (old longer new : List ℕ) → i < length ps → old ≡ front ++ text_of (lines_of (take i ps)) → longer ≡ old ++ (get_or ps i d).line.now → new ≡ longer ++ 10 ∷ []
+pub joined_more : (front : List ℕ) (ps : List Piece) (i : ℕ) (d : Piece) (old longer new : List ℕ) → i < length ps
+    → old ≡ front ++ text_of (lines_of (take i ps)) → longer ≡ old ++ (get_or ps i d).line.now → new ≡ longer ++ 10 ∷ []
     → new ≡ front ++ text_of (lines_of (take (i + 1) ps))
 joined_more front ps i d old longer new within was line ends =
     let p : Piece = get_or ps i d in

@@ -44,28 +44,35 @@ at_own least file output is = record {
   left = record { floor = is.out.floor; reads = is.out.reads };
   said_before = ap of_log is.read;
   said_now = ap of_log is.read_back;
-  records = subst₂ (λ (s : Records) (f : ℕ). IsCompactionOf (record { records = s; floor = f }) (record { records = set_of is.log.reads; floor = is.log.floor }))
+  records =
+      subst₂ (λ (s : Records) (f : ℕ).
+      IsCompactionOf (record { records = s; floor = f }) (record { records = set_of is.log.reads; floor = is.log.floor }))
       (sym is.lasts) (sym is.floor) (least (record { records = set_of is.log.reads; floor = is.log.floor }));
   next = is.next;
 }
 
-at_floor : CompactedToFloorIsCompaction → (floor : ℕ) (file output : List ℕ) → IsCompactedTo floor file output → SaysCompaction (said file) (said output)
+at_floor : CompactedToFloorIsCompaction → (floor : ℕ) (file output : List ℕ)
+    → IsCompactedTo floor file output → SaysCompaction (said file) (said output)
 at_floor least floor file output is = record {
   whole = record { floor = is.log.floor; reads = is.log.reads };
   left = record { floor = is.out.floor; reads = is.out.reads };
   said_before = ap of_log is.read;
   said_now = ap of_log is.read_back;
-  records = subst₂ (λ (s : Records) (f : ℕ). IsCompactionOf (record { records = s; floor = f }) (record { records = set_of is.log.reads; floor = is.log.floor }))
+  records =
+      subst₂ (λ (s : Records) (f : ℕ).
+      IsCompactionOf (record { records = s; floor = f }) (record { records = set_of is.log.reads; floor = is.log.floor }))
       (sym is.lasts) (sym is.floor) (least (record { records = set_of is.log.reads; floor = is.log.floor }) floor is.rises);
   next = is.next;
 }
 
 pub of_compacted : LastRecordsAreCompaction → CompactedToFloorIsCompaction → CompactedFilesSayIt
 of_compacted least to_floor None file output is = at_own least file output is
-of_compacted least to_floor (Some floor) file output is = ⊎_elim (λ it. at_floor to_floor floor file output it) (λ own. at_own least file output own.1) is
+of_compacted least to_floor (Some floor) file output is =
+    ⊎_elim (λ it. at_floor to_floor floor file output it) (λ own. at_own least file output own.1) is
 
 pub of_itself : EachIsItsOwnCompaction → EachSaysItsOwnCompaction
-of_itself itself says = record { whole = says; left = says; said_before = refl; said_now = refl; records = itself (floored says); next = refl }
+of_itself itself says =
+    record { whole = says; left = says; said_before = refl; said_now = refl; records = itself (floored says); next = refl }
 
 one_said : (s : Outcome) (a b : Said) → s ≡ Ok a → s ≡ Ok b → a ≡ b
 one_said s a b p q = cc
@@ -90,13 +97,17 @@ next_from-max : (floor n : ℕ) (more : List Read) → max floor (next_from n mo
 next_from-max floor n [] = refl
 next_from-max floor n (r ∷ more) =
     next_from-max floor (max n (suc (offset_in r))) more
-    ∙ let same : max floor (max n (suc (offset_in r))) ≡ max (max floor n) (suc (offset_in r)) = omega arith in ap (λ (k : ℕ). next_from k more) same
+    ∙ let same : max floor (max n (suc (offset_in r)))
+    ≡ max (max floor n) (suc (offset_in r)) = omega arith in ap (λ (k : ℕ). next_from k more) same
 
 next_behind : (floor : ℕ) (read more : List Read) → next_of floor (read ++ more) ≡ next_from (next_of floor read) more
 next_behind floor read more =
-    ap (λ (n : ℕ). max floor n) (fold-append (λ next r. max next (suc (offset_in r))) 0 read more) ∙ next_from-max floor (next_after read) more
+    ap (λ (n : ℕ). max floor n) (fold-append (λ next r. max next (suc (offset_in r))) 0 read more)
+    ∙ next_from-max floor (next_after read) more
 
-module _ (total : IsTotalOrder record_cmp) (apart : IsAntisymmetric record_cmp) (keys : IsTotalOrder key_cmp) (keys_apart : IsAntisymmetric key_cmp) (adds : (read : List Read) (batch : List Record) → records_in (read ++ batch_reads batch) ≡ records_in read ++ batch) where
+module _ (total : IsTotalOrder record_cmp)
+    (apart : IsAntisymmetric record_cmp) (keys : IsTotalOrder key_cmp) (keys_apart : IsAntisymmetric key_cmp)
+    (adds : (read : List Read) (batch : List Record) → records_in (read ++ batch_reads batch) ≡ records_in read ++ batch) where
   both : (xs ys : List Record) → from_list {R = record_cmp} (xs ++ ys) ≡ union (from_list xs) (from_list ys)
   both xs ys =
       same_set total apart (from_list (xs ++ ys)) (union (from_list xs) (from_list ys))
@@ -109,28 +120,36 @@ module _ (total : IsTotalOrder record_cmp) (apart : IsAntisymmetric record_cmp) 
   with_its_batch read batch = sym (both (records_in read) batch) ∙ ap (λ (l : List Record). from_list l) (sym (adds read batch))
 
   -- a batch whose records are all from the floor on
-  from_floor : (floor : ℕ) (batch : List Record) → All (λ r. floor ≤ r.offset) batch → (r : Record) → list_any (eq_by_cmp record_cmp r) batch ≡ true → floor ≤ r.offset
+  from_floor : (floor : ℕ) (batch : List Record) → All (λ r. floor ≤ r.offset) batch
+      → (r : Record) → list_any (eq_by_cmp record_cmp r) batch ≡ true → floor ≤ r.offset
   from_floor floor [] all r is = absurd (false≢true is)
   from_floor floor (q ∷ batch) all r is =
       ⊎_elim
-      (λ here. subst (λ (p : Record). floor ≤ p.offset) (sym (same_record total apart keys keys_apart r q here)) (All-head (λ r. floor ≤ r.offset) q batch all))
+      (λ here.
+      subst (λ (p : Record). floor ≤ p.offset) (sym (same_record total apart keys keys_apart r q here))
+      (All-head (λ r. floor ≤ r.offset) q batch all))
       (λ later. from_floor floor batch (All-tail (λ r. floor ≤ r.offset) q batch all) r later)
       (or_cases _ _ is)
 
-  said_from : (batch : List Record) (now : Outcome) (left : Said) → now ≡ Ok left → IsFromFloor batch now → All (λ r. left.floor ≤ r.offset) batch
+  said_from : (batch : List Record) (now : Outcome) (left : Said) → now ≡ Ok left
+      → IsFromFloor batch now → All (λ r. left.floor ≤ r.offset) batch
   said_from batch now left is from = let at : IsFromFloor batch (Ok left) = rw is at from in at
 
   pub of_batches : LaterRecordsMayJoin → BatchesFollowCompactions
   of_batches join batch before now is from =
       let add : Said → Said = λ says. record says { reads = says.reads ++ batch_reads batch } in
       let above : (r : Record) → contains (from_list {R = record_cmp} batch) r ≡ true → is.left.floor ≤ r.offset =
-      λ r there. from_floor is.left.floor batch (said_from batch now is.left is.said_now from) r (sym (contains-from_list total batch r) ∙ there) in
+      λ r there.
+      from_floor is.left.floor batch (said_from batch now is.left is.said_now from) r
+      (sym (contains-from_list total batch r) ∙ there) in
       record {
         whole = add is.whole;
         left = add is.left;
         said_before = ap (λ (s : Outcome). with_batch batch s) is.said_before;
         said_now = ap (λ (s : Outcome). with_batch batch s) is.said_now;
-        records = subst₂ (λ (c r : Records). IsCompactionOf (record { records = c; floor = is.left.floor }) (record { records = r; floor = is.whole.floor }))
+        records =
+            subst₂ (λ (c r : Records).
+            IsCompactionOf (record { records = c; floor = is.left.floor }) (record { records = r; floor = is.whole.floor }))
             (with_its_batch is.left.reads batch) (with_its_batch is.whole.reads batch)
             (join (floored is.left) (floored is.whole) (from_list batch) above is.records);
         next = next_behind is.left.floor is.left.reads (batch_reads batch)

@@ -28,7 +28,8 @@ not_both : (text : List ℕ) (a : LogText) (e : ℕ × LogFault) → log_of text
 not_both text a e p q = cc
 
 -- a new file that wasn't finished left the disk as it was
-pub kept_disk : {D : Type 0} (known : D → Type 0) (seen : D → List ℕ) (may_leave : D → List ℕ → Type 0) (old new : D) (e : RenewError) → breaks (renew_refusal e) ≡ false
+pub kept_disk : {D : Type 0} (known : D → Type 0) (seen : D → List ℕ) (may_leave : D → List ℕ → Type 0) (old new : D) (e : RenewError)
+    → breaks (renew_refusal e) ≡ false
     → LeavesDisk known seen may_leave old new e → known new × (seen new ≡ seen old) × ((c : List ℕ) → may_leave new c → may_leave old c)
 kept_disk known seen may_leave old new (renewals.Kept e) kept leaves = leaves
 kept_disk known seen may_leave old new renewals.Lost kept leaves = absurd (true≢false kept)
@@ -38,7 +39,8 @@ never_changed (renewals.Kept disks.OutOfMemory) is = cc
 never_changed (renewals.Kept disks.Failed) is = cc
 never_changed renewals.Lost is = cc
 
-module _ (are_read : LinesAreRead) (ended_are_read : EndedLinesAreRead) {D : Type 0} (seen : D → List ℕ) (may_leave : D → List ℕ → Type 0) (disk : D) (end count : ℕ) (s : IsSteady seen may_leave disk end count) where
+module _ (are_read : LinesAreRead) (ended_are_read : EndedLinesAreRead) {D : Type 0} (seen : D → List ℕ)
+    (may_leave : D → List ℕ → Type 0) (disk : D) (end count : ℕ) (s : IsSteady seen may_leave disk end count) where
   before : take end (seen disk) ≡ text_of s.lines
   before = ap (λ (f : List ℕ). take end f) s.file ∙ take_at (text_of s.lines) (10 ∷ []) end (sym s.ends)
 
@@ -58,7 +60,8 @@ module _ (are_read : LinesAreRead) (ended_are_read : EndedLinesAreRead) {D : Typ
       sound fault.0 fault.1 fault.2
 
   -- a call that changes nothing
-  pub same_steady : (new : D) → seen new ≡ seen disk → ((c : List ℕ) → may_leave new c → may_leave disk c) → IsSteady seen may_leave new end count
+  pub same_steady : (new : D) → seen new ≡ seen disk
+      → ((c : List ℕ) → may_leave new c → may_leave disk c) → IsSteady seen may_leave new end count
   same_steady new is crash = record {
     lines = s.lines;
     floor = s.floor;
@@ -74,7 +77,9 @@ module _ (are_read : LinesAreRead) (ended_are_read : EndedLinesAreRead) {D : Typ
   -- behind an empty line the same is read, of what was written
   module _ (text : List ℕ) (lines : IsLines text) where
     out_of : (out : LogText) → log_of text ≡ Ok out → out ≡ record { floor = lines.floor; reads = lines.read; rest = [] }
-    out_of out is = same_log text out (record { floor = lines.floor; reads = lines.read; rest = [] }) is (ap log_of lines.parts ∙ are_read lines.lines lines.floor lines.read lines.say lines.few)
+    out_of out is =
+        same_log text out (record { floor = lines.floor; reads = lines.read; rest = [] }) is
+        (ap log_of lines.parts ∙ are_read lines.lines lines.floor lines.read lines.say lines.few)
 
     log_is : (log : LogText) → log_of (take end (seen disk)) ≡ Ok log → log ≡ record { floor = s.floor; reads = s.read; rest = [] }
     log_is log is = same_log (take end (seen disk)) log (record { floor = s.floor; reads = s.read; rest = [] }) is reads
@@ -86,7 +91,8 @@ module _ (are_read : LinesAreRead) (ended_are_read : EndedLinesAreRead) {D : Typ
     read_whole log is = ap log_of s.file ∙ ended_are_read s.lines s.floor s.read [] s.say s.few ∙ ap Ok (sym (log_is log is))
 
     read_back : (out : LogText) → log_of text ≡ Ok out → log_of (text ++ 10 ∷ []) ≡ Ok out
-    read_back out is = ap log_of ended ∙ ended_are_read lines.lines lines.floor lines.read [] lines.say lines.few ∙ ap Ok (sym (out_of out is))
+    read_back out is =
+        ap log_of ended ∙ ended_are_read lines.lines lines.floor lines.read [] lines.say lines.few ∙ ap Ok (sym (out_of out is))
 
     at_own : IsCompacted (take end (seen disk)) text → IsCompacted (seen disk) (text ++ 10 ∷ [])
     at_own c = record {
@@ -120,7 +126,17 @@ module _ (are_read : LinesAreRead) (ended_are_read : EndedLinesAreRead) {D : Typ
     lacks floor why =
         ⊎_elim
         (λ off. inl (off.0, read_whole off.0 off.1, off.2))
-        (λ full. inr (record { log = full.log; read = read_whole full.log full.read; rises = full.rises; within = full.within; has_line = full.has_line; full = full.full; stay = full.stay }))
+        (λ full.
+        inr (
+        record {
+          log = full.log;
+          read = read_whole full.log full.read;
+          rises = full.rises;
+          within = full.within;
+          has_line = full.has_line;
+          full = full.full;
+          stay = full.stay;
+        }))
         why
 
     by : (floor : Option ℕ) → IsCompactedBy floor (take end (seen disk)) text → IsCompactedBy floor (seen disk) (text ++ 10 ∷ [])
@@ -138,12 +154,19 @@ module _ (are_read : LinesAreRead) (ended_are_read : EndedLinesAreRead) {D : Typ
     whole = subst (λ (t : List ℕ). IsCompactedBy floor (seen disk) t) (sym it.bytes) (by it.text lines floor it.compacted)
 
     kept_count : length lines.lines ≡ shrunk.kept
-    kept_count = omega (arith, it.kept, ap (λ (t : List ℕ). count_by is_line_feed t) lines.parts, all_counted lines.lines lines.floor lines.read lines.say)
+    kept_count =
+        omega (
+          arith,
+          it.kept,
+          ap (λ (t : List ℕ). count_by is_line_feed t) lines.parts,
+          all_counted lines.lines lines.floor lines.read lines.say,
+        )
 
     pub has_kept : HasKept floor (seen disk) shrunk.kept
     has_kept = (it.text, by it.text lines floor it.compacted, sym it.kept)
 
-    pub steadies : (new : D) (end' : ℕ) → seen new ≡ shrunk.bytes.items → Only (seen new) (may_leave new) → end' ≡ length shrunk.bytes.items - 1 → IsSteady seen may_leave new end' shrunk.kept
+    pub steadies : (new : D) (end' : ℕ) → seen new ≡ shrunk.bytes.items → Only (seen new) (may_leave new)
+        → end' ≡ length shrunk.bytes.items - 1 → IsSteady seen may_leave new end' shrunk.kept
     steadies new end' is only ends = record {
       lines = lines.lines;
       floor = lines.floor;

@@ -17,7 +17,8 @@ use Rattle.reg_keeping.specs.Walk.{carried_by, is_kept, kept_lines, kept_reads, 
 pub counted : (read : List Read) → length read ≡ length (records_in read) + count_by is_foreign read
 counted [] = refl
 counted (reads.Record r ∷ read) = omega (arith, counted read)
-counted (reads.Foreign offset ∷ read) = omega (arith, counted read, sum_by-cons (λ x. if is_foreign x then 1 else 0) (reads.Foreign offset) read)
+counted (reads.Foreign offset ∷ read) =
+    omega (arith, counted read, sum_by-cons (λ x. if is_foreign x then 1 else 0) (reads.Foreign offset) read)
 
 abbrev pub size_of : Option (List ℕ) → ℕ
 size_of None = 0
@@ -36,12 +37,22 @@ no_longer t w [] [] c say = omega arith
 no_longer t w [] (r ∷ read) c say = absurd say
 no_longer t w (line ∷ lines) [] c say = absurd say
 no_longer t w (line ∷ lines) (reads.Record r ∷ read) c say =
-    elim (is_kept w (reads.Record r)) as (λ b. length (text_of (cond b (line ∷ kept_lines (waiting_after w (reads.Record r)) lines read) (kept_lines (waiting_after w (reads.Record r)) lines read))) + size_of (carried_by (Some t) lines read c) ≤ length (text_of (line ∷ lines)) + size_of c) [
-      | true ↦ omega (arith, no_longer t (waiting_after w (reads.Record r)) lines read c say.3, longer line lines, longer line (kept_lines (waiting_after w (reads.Record r)) lines read))
+    elim (is_kept w (reads.Record r)) as (λ b. length (text_of (
+    cond b (line ∷ kept_lines (waiting_after w (reads.Record r)) lines read) (kept_lines (waiting_after w (reads.Record r)) lines read)))
+    + size_of (carried_by (Some t) lines read c)
+    ≤ length (text_of (line ∷ lines)) + size_of c) [
+      | true ↦ omega (
+        arith,
+        no_longer t (waiting_after w (reads.Record r)) lines read c say.3,
+        longer line lines,
+        longer line (kept_lines (waiting_after w (reads.Record r)) lines read),
+      )
       | false ↦ omega (arith, no_longer t (waiting_after w (reads.Record r)) lines read c say.3, longer line lines)
     ]
 no_longer t w (line ∷ lines) (reads.Foreign offset ∷ read) c say =
-    elim (nat_eq offset t) as (λ b. length (text_of (kept_lines w lines read)) + size_of (carried_by (Some t) lines read (cond b (Some (line ++ 10 ∷ [])) c)) ≤ length (text_of (line ∷ lines)) + size_of c) [
+    elim (nat_eq offset t) as (λ b.
+    length (text_of (kept_lines w lines read)) + size_of (carried_by (Some t) lines read (cond b (Some (line ++ 10 ∷ [])) c))
+    ≤ length (text_of (line ∷ lines)) + size_of c) [
       | true ↦ omega (arith, no_longer t w lines read (Some (line ++ 10 ∷ [])) say.3, longer line lines, length-append line (10 ∷ []))
       | false ↦ omega (arith, no_longer t w lines read c say.3, longer line lines)
     ]
@@ -52,12 +63,18 @@ no_more t w [] [] c say = omega arith
 no_more t w [] (r ∷ read) c say = absurd say
 no_more t w (line ∷ lines) [] c say = absurd say
 no_more t w (line ∷ lines) (reads.Record r ∷ read) c say =
-    elim (is_kept w (reads.Record r)) as (λ b. length (cond b (reads.Record r ∷ kept_reads (waiting_after w (reads.Record r)) read) (kept_reads (waiting_after w (reads.Record r)) read)) + count_of (carried_by (Some t) lines read c) ≤ length (reads.Record r ∷ read) + count_of c) [
+    elim (is_kept w (reads.Record r)) as (λ b.
+    length (
+    cond b (reads.Record r ∷ kept_reads (waiting_after w (reads.Record r)) read) (kept_reads (waiting_after w (reads.Record r)) read))
+    + count_of (carried_by (Some t) lines read c)
+    ≤ length (reads.Record r ∷ read) + count_of c) [
       | true ↦ omega (arith, no_more t (waiting_after w (reads.Record r)) lines read c say.3)
       | false ↦ omega (arith, no_more t (waiting_after w (reads.Record r)) lines read c say.3)
     ]
 no_more t w (line ∷ lines) (reads.Foreign offset ∷ read) c say =
-    elim (nat_eq offset t) as (λ b. length (kept_reads w read) + count_of (carried_by (Some t) lines read (cond b (Some (line ++ 10 ∷ [])) c)) ≤ length (reads.Foreign offset ∷ read) + count_of c) [
+    elim (nat_eq offset t) as (λ b.
+    length (kept_reads w read) + count_of (carried_by (Some t) lines read (cond b (Some (line ++ 10 ∷ [])) c))
+    ≤ length (reads.Foreign offset ∷ read) + count_of c) [
       | true ↦ omega (arith, no_more t w lines read (Some (line ++ 10 ∷ [])) say.3)
       | false ↦ omega (arith, no_more t w lines read c say.3)
     ]

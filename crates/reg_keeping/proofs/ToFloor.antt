@@ -56,10 +56,13 @@ pub record Comes (floor : ℕ) (input output : List ℕ) : Type 0 where
   pub lines : count_by is_line_feed output ≤ LOG_LINES → IsLines output
   pub no_room : LOG_LINES < count_by is_line_feed output → HasNoRoom input floor
 
-module _ (total : IsTotalOrder record_cmp) (apart : IsAntisymmetric record_cmp) (keys : IsTotalOrder key_cmp) (keys_apart : IsAntisymmetric key_cmp)
+module _ (total : IsTotalOrder record_cmp) (apart : IsAntisymmetric record_cmp)
+    (keys : IsTotalOrder key_cmp) (keys_apart : IsAntisymmetric key_cmp)
     (least : LastRecordsAreCompaction) (greatest : LastIsGreatest) (none : NoLastIsNoRecord) (are_read : LinesAreRead)
-    (floor : ℕ) (low : floor ≤ OFFSET_LIMIT) (input : List ℕ) (log : LogText) (is : log_of input ≡ Ok log) (rises : log.floor ≤ floor) (ahead : floor ≤ next_of log.floor log.reads)
-    (lines : List (List ℕ)) (s : SayLog lines log.floor log.reads) (few : length lines ≤ LOG_LINES) (within : length (text_of s.others) ≤ length input) where
+    (floor : ℕ) (low : floor ≤ OFFSET_LIMIT) (input : List ℕ) (log : LogText) (is : log_of input ≡ Ok log)
+    (rises : log.floor ≤ floor) (ahead : floor ≤ next_of log.floor log.reads)
+    (lines : List (List ℕ)) (s : SayLog lines log.floor log.reads)
+    (few : length lines ≤ LOG_LINES) (within : length (text_of s.others) ≤ length input) where
   abbrev whole : Records
   whole = from_list (records_in log.reads)
 
@@ -80,19 +83,30 @@ module _ (total : IsTotalOrder record_cmp) (apart : IsAntisymmetric record_cmp) 
       (λ there. compacted_part total apart keys keys_apart least floor whole q there)
       (λ there. all q (set_has total apart keys keys_apart log.reads q there)))
 
-  comes : (top : Option ℕ) (old new : Walk) (output : List ℕ) → top ≡ before (next_of log.floor log.reads) → old.waiting ≡ waiting → old.has_top ≡ false → carried_in old ≡ None
-      → old.text.items ≡ text_of (floor_lines floor) → Walks top s.others log.reads old new → output ≡ finished new → Comes floor input output
+  comes : (top : Option ℕ) (old new : Walk) (output : List ℕ) → top ≡ before (next_of log.floor log.reads)
+      → old.waiting ≡ waiting → old.has_top ≡ false → carried_in old ≡ None
+      → old.text.items ≡ text_of (floor_lines floor) → Walks top s.others log.reads old new
+      → output ≡ finished new → Comes floor input output
   comes top old new output at waits no_top no_line front walks done =
       let one = compacted_have_one total apart keys keys_apart floor whole in
-      let (text, left, ends) = walked total apart keys keys_apart log.floor floor log.reads s.others s.say waiting one part covers rises ahead top old new at waits no_top no_line walks in
+      let (text, left, ends) = walked total apart keys keys_apart log.floor floor log.reads s.others
+      s.say waiting one part covers rises ahead top old new at waits no_top no_line walks in
       let joined : output ≡ text_of (floor_lines floor) ++ text = done ∙ ends ∙ ap (λ (t : List ℕ). t ++ text) front in
       let says = says_floor floor low in
-      let count = counted total apart keys keys_apart log.floor floor log.reads s.others s.say waiting one part covers rises ahead are_read (floor_lines floor) says text output left joined in
-      let most : length log.reads ≤ LOG_LINES = omega (arith, few, ap length s.parts, length-append s.front s.others, Say-length s.others log.reads s.say) in
+      let count = counted total apart keys keys_apart log.floor floor log.reads s.others s.say waiting one part covers rises ahead are_read
+      (floor_lines floor) says text output left joined in
+      let most : length log.reads ≤ LOG_LINES =
+      omega (arith, few, ap length s.parts, length-append s.front s.others, Say-length s.others log.reads s.say) in
       record {
-        compacted = λ fits. is_compacted_to total apart keys keys_apart log.floor floor log.reads s.others s.say waiting one part covers rises ahead are_read (floor_lines floor) says text output left joined
+        compacted =
+            λ fits.
+            is_compacted_to total apart keys keys_apart log.floor floor log.reads s.others s.say waiting
+            one part covers rises ahead are_read (floor_lines floor) says text output left joined
             input log is (omega (arith, count, fits)) within refl refl refl refl;
-        lines = λ fits. is_lines total apart keys keys_apart log.floor floor log.reads s.others s.say waiting one part covers rises ahead are_read (floor_lines floor) says text output left joined
+        lines =
+            λ fits.
+            is_lines total apart keys keys_apart log.floor floor log.reads s.others s.say waiting one part covers rises ahead are_read
+            (floor_lines floor) says text output left joined
             (omega (arith, count, fits));
         no_room = λ many. record {
           log = log;
@@ -106,20 +120,31 @@ module _ (total : IsTotalOrder record_cmp) (apart : IsAntisymmetric record_cmp) 
       }
 
 -- so of the text that is read, whose lines stand behind its own floor's
-module _ (total : IsTotalOrder record_cmp) (apart : IsAntisymmetric record_cmp) (keys : IsTotalOrder key_cmp) (keys_apart : IsAntisymmetric key_cmp)
-    (least : LastRecordsAreCompaction) (greatest : LastIsGreatest) (none : NoLastIsNoRecord) (are_read : LinesAreRead) (are_lines : LogsAreLines)
+module _ (total : IsTotalOrder record_cmp) (apart : IsAntisymmetric record_cmp)
+    (keys : IsTotalOrder key_cmp) (keys_apart : IsAntisymmetric key_cmp)
+    (least : LastRecordsAreCompaction) (greatest : LastIsGreatest)
+    (none : NoLastIsNoRecord) (are_read : LinesAreRead) (are_lines : LogsAreLines)
     (floor : ℕ) (low : floor ≤ OFFSET_LIMIT) (input : List ℕ) (begun : Begun) (b : BeginsTo floor input begun) where
-  pub ends_as : (back : List ℕ) (old new : Walk) (output : List ℕ) → back ≡ drop (floor_len input) input → old.waiting ≡ begun.waiting → old.has_top ≡ false → carried_in old ≡ None
-      → old.text.items ≡ text_of (floor_lines floor) → ((lines : List (List ℕ)) (read : List Read) → HasLines back lines read begun.count → Walks begun.top lines read old new)
+  pub ends_as : (back : List ℕ) (old new : Walk) (output : List ℕ) → back ≡ drop (floor_len input) input
+      → old.waiting ≡ begun.waiting → old.has_top ≡ false → carried_in old ≡ None
+      → old.text.items ≡ text_of (floor_lines floor)
+      → ((lines : List (List ℕ)) (read : List Read) → HasLines back lines read begun.count → Walks begun.top lines read old new)
       → output ≡ finished new → Comes floor input output
   ends_as back old new output is waits no_top no_line front walks done =
       let log = b.log in
       let (lines, s, few, ends) = are_lines input log b.read in
       let (tail, all, plain) = behind input lines log.rest ends in
       let parts : input ≡ text_of (s.front ++ s.others) ++ tail = all ∙ ap (λ (ls : List (List ℕ)). text_of ls ++ tail) s.parts in
-      let others : back ≡ text_of s.others ++ tail = is ∙ split_behind s.front s.others log.floor log.reads tail input s.floor s.say plain parts in
+      let others : back ≡ text_of s.others ++ tail =
+      is ∙ split_behind s.front s.others log.floor log.reads tail input s.floor s.say plain parts in
       let has : HasLines back s.others log.reads begun.count = record { tail = tail; parts = others; say = s.say; counts = b.count } in
       let within : length (text_of s.others) ≤ length input =
-      omega (arith, ap length parts, length-append (text_of (s.front ++ s.others)) tail, ap length (text_of-append s.front s.others), length-append (text_of s.front) (text_of s.others)) in
+      omega (
+        arith,
+        ap length parts,
+        length-append (text_of (s.front ++ s.others)) tail,
+        ap length (text_of-append s.front s.others),
+        length-append (text_of s.front) (text_of s.others),
+      ) in
       comes total apart keys keys_apart least greatest none are_read floor low input log b.read b.rises b.within lines s few within
       begun.top old new output b.top (waits ∙ b.waiting) no_top no_line front (walks s.others log.reads has) done

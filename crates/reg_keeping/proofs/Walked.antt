@@ -11,7 +11,8 @@ use Rattle.reg_keeping.specs.Walk.{Steps, Walks, carried_by, carried_in, is_kept
 use Rattle.reg_keeping.specs.declared.walk.Walk.{Walk}
 
 -- these lines are left, and come to what all of them come to
-pub record GoesOn (top : Option ℕ) (lines : List (List ℕ)) (read : List Read) (old now : Walk) (rest : List ℕ) (done count : ℕ) : Type 0 where
+pub record GoesOn (top : Option ℕ) (lines : List (List ℕ)) (read : List Read)
+    (old now : Walk) (rest : List ℕ) (done count : ℕ) : Type 0 where
   pub left : List (List ℕ)
   pub more : List Read
   pub tail : List ℕ
@@ -22,7 +23,8 @@ pub record GoesOn (top : Option ℕ) (lines : List (List ℕ)) (read : List Read
   pub has_top : top_after top now.waiting more now.has_top ≡ top_after top old.waiting read old.has_top
   pub carried : carried_by top left more (carried_in now) ≡ carried_by top lines read (carried_in old)
 
-pub begun : (top : Option ℕ) (lines : List (List ℕ)) (read : List Read) (old : Walk) (text : List ℕ) (count : ℕ) → HasLines text lines read count → GoesOn top lines read old old text 0 count
+pub begun : (top : Option ℕ) (lines : List (List ℕ)) (read : List Read) (old : Walk) (text : List ℕ) (count : ℕ)
+    → HasLines text lines read count → GoesOn top lines read old old text 0 count
 begun top lines read old text count has = record {
   left = lines;
   more = read;
@@ -41,7 +43,8 @@ line_of line behind rest len is size =
     ap (λ (l : List ℕ). take len l) (is ∙ sym (append_assoc line (10 ∷ []) behind))
     ∙ take_at (line ++ 10 ∷ []) behind len (omega (arith, size, length-append line (10 ∷ [])))
 
-pub rest_of : (line behind rest : List ℕ) (len : ℕ) → rest ≡ line ++ 10 ∷ behind → len ≡ length line + 1 → behind ≡ take (length rest - len) (drop len rest)
+pub rest_of : (line behind rest : List ℕ) (len : ℕ) → rest ≡ line ++ 10 ∷ behind
+    → len ≡ length line + 1 → behind ≡ take (length rest - len) (drop len rest)
 rest_of line behind rest len is size =
     let back : drop len rest ≡ behind =
     ap (λ (l : List ℕ). drop len l) (is ∙ sym (append_assoc line (10 ∷ []) behind))
@@ -59,20 +62,31 @@ pub none_on_top : (top : Option ℕ) (w : Records) (more : List Read) (b : Bool)
 none_on_top top w [] b none = refl
 none_on_top top w (r ∷ more) b none = absurd (omega (arith, none))
 
-pub none_carried : (top : Option ℕ) (left : List (List ℕ)) (more : List Read) (c : Option (List ℕ)) → length more ≡ 0 → carried_by top left more c ≡ c
+pub none_carried : (top : Option ℕ) (left : List (List ℕ)) (more : List Read) (c : Option (List ℕ))
+    → length more ≡ 0 → carried_by top left more c ≡ c
 none_carried top [] more c none = refl
 none_carried top (line ∷ left) [] c none = refl
 none_carried top (line ∷ left) (r ∷ more) c none = absurd (omega (arith, none))
 
-abbrev front_of : (left : List (List ℕ)) (more : List Read) (tail rest : List ℕ) → rest ≡ text_of left ++ tail → Say left more → 0 < length more → Front rest
+abbrev front_of : (left : List (List ℕ)) (more : List Read) (tail rest : List ℕ)
+    → rest ≡ text_of left ++ tail → Say left more → 0 < length more → Front rest
 front_of [] [] tail rest is say some = absurd (omega (arith, some))
 front_of [] (r ∷ more) tail rest is say some = absurd say
 front_of (line ∷ left) [] tail rest is say some = absurd say
 front_of (line ∷ left) (r ∷ more) tail rest is say some =
-    record { line = line; behind = text_of left ++ tail; read = r; parts = is ∙ append_assoc line (10 ∷ text_of left) tail; free = say.1; says = say.2 }
+    record {
+      line = line;
+      behind = text_of left ++ tail;
+      read = r;
+      parts = is ∙ append_assoc line (10 ∷ text_of left) tail;
+      free = say.1;
+      says = say.2;
+    }
 
-pieces : (b : Bool) (t line : List ℕ) (kept : List (List ℕ)) → (t ++ cond b (line ++ 10 ∷ []) []) ++ text_of kept ≡ t ++ text_of (cond b (line ∷ kept) kept)
-pieces true t line kept = append_assoc t (line ++ 10 ∷ []) (text_of kept) ∙ ap (λ (l : List ℕ). t ++ l) (append_assoc line (10 ∷ []) (text_of kept))
+pieces : (b : Bool) (t line : List ℕ) (kept : List (List ℕ))
+    → (t ++ cond b (line ++ 10 ∷ []) []) ++ text_of kept ≡ t ++ text_of (cond b (line ∷ kept) kept)
+pieces true t line kept =
+    append_assoc t (line ++ 10 ∷ []) (text_of kept) ∙ ap (λ (l : List ℕ). t ++ l) (append_assoc line (10 ∷ []) (text_of kept))
 pieces false t line kept = ap (λ (l : List ℕ). l ++ text_of kept) (append-nil t)
 
 module _ (top : Option ℕ) (lines : List (List ℕ)) (read : List Read) (old now : Walk) (rest : List ℕ) (done count : ℕ) where
@@ -80,7 +94,9 @@ module _ (top : Option ℕ) (lines : List (List ℕ)) (read : List Read) (old no
   at_end go is =
       let none : length go.more ≡ 0 = omega (arith, go.counts, is) in
       record {
-        text = sym (append-nil now.text.items) ∙ ap (λ (l : List (List ℕ)). now.text.items ++ text_of l) (sym (none_kept now.waiting go.left go.more go.say none)) ∙ go.text;
+        text = sym (append-nil now.text.items)
+            ∙ ap (λ (l : List (List ℕ)). now.text.items ++ text_of l) (sym (none_kept now.waiting go.left go.more go.say none))
+            ∙ go.text;
         has_top = sym (none_on_top top now.waiting go.more now.has_top none) ∙ go.has_top;
         carried = sym (none_carried top go.left go.more (carried_in now) none) ∙ go.carried;
       }
@@ -88,7 +104,8 @@ module _ (top : Option ℕ) (lines : List (List ℕ)) (read : List Read) (old no
   abbrev pub front : GoesOn top lines read old now rest done count → done < count → Front rest
   front go is = front_of go.left go.more go.tail rest go.parts go.say (omega (arith, go.counts, is))
 
-  stepped : (left : List (List ℕ)) (more : List Read) (tail : List ℕ) (is : rest ≡ text_of left ++ tail) (say : Say left more) (some : 0 < length more)
+  stepped : (left : List (List ℕ)) (more : List Read) (tail : List ℕ)
+      (is : rest ≡ text_of left ++ tail) (say : Say left more) (some : 0 < length more)
       → done + length more ≡ count
       → now.text.items ++ text_of (kept_lines now.waiting left more) ≡ old.text.items ++ text_of (kept_lines old.waiting lines read)
       → top_after top now.waiting more now.has_top ≡ top_after top old.waiting read old.has_top
@@ -107,7 +124,8 @@ module _ (top : Option ℕ) (lines : List (List ℕ)) (read : List Read) (old no
     counts = omega (arith, counts);
     text =
         ap (λ (l : List ℕ). l ++ text_of (kept_lines new.waiting left more)) s.text
-        ∙ ap (λ (w : Records). (now.text.items ++ cond (is_kept now.waiting r) (line ++ 10 ∷ []) []) ++ text_of (kept_lines w left more)) s.waiting
+        ∙ ap (λ (w : Records).
+        (now.text.items ++ cond (is_kept now.waiting r) (line ++ 10 ∷ []) []) ++ text_of (kept_lines w left more)) s.waiting
         ∙ pieces (is_kept now.waiting r) now.text.items line (kept_lines (waiting_after now.waiting r) left more)
         ∙ text;
     has_top =
@@ -117,9 +135,11 @@ module _ (top : Option ℕ) (lines : List (List ℕ)) (read : List Read) (old no
     carried = ap (λ (c : Option (List ℕ)). carried_by top left more c) s.carried ∙ carried;
   }
 
-  pub step : (go : GoesOn top lines read old now rest done count) (is : done < count) (new : Walk) → Steps top (front go is).line (front go is).read now new
+  pub step : (go : GoesOn top lines read old now rest done count) (is : done < count) (new : Walk)
+      → Steps top (front go is).line (front go is).read now new
       → GoesOn top lines read old new (front go is).behind (done + 1) count
-  step go is new s = stepped go.left go.more go.tail go.parts go.say (omega (arith, go.counts, is)) go.counts go.text go.has_top go.carried new s
+  step go is new s =
+      stepped go.left go.more go.tail go.parts go.say (omega (arith, go.counts, is)) go.counts go.text go.has_top go.carried new s
 
 pub of_pairs : (m n : ℕ) (r s : Read) → ◌≡◌ {A = Option (ℕ × Read)} (Some (m, r)) (Some (n, s)) → (m ≡ n) × (r ≡ s)
 of_pairs m n r s is =

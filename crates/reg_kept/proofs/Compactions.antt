@@ -39,7 +39,9 @@ none_is None h = refl
 none_is (Some x) h = absurd (false≢true h)
 
 -- a compaction, from its parts
-pub compaction_from : (C R : Floored) → R.floor ≤ C.floor → ((r : Record) → contains C.records r ≡ true → contains R.records r ≡ true) → ((key : Key) (r : Record) → last R.records key ≡ Some r → (contains C.records r ≡ true) ⊎ IsGone C.floor C.records r) → IsCompactionOf C R
+pub compaction_from : (C R : Floored) → R.floor ≤ C.floor → ((r : Record) → contains C.records r ≡ true → contains R.records r ≡ true)
+    → ((key : Key) (r : Record) → last R.records key ≡ Some r → (contains C.records r ≡ true) ⊎ IsGone C.floor C.records r)
+    → IsCompactionOf C R
 compaction_from C R rises part lasts = record {
   floor_rises = rises;
   is_below_floor = record { is_part = part; has_lasts = λ key. if_some (last R.records key) _ (lasts key) };
@@ -49,7 +51,8 @@ compaction_from C R rises part lasts = record {
 pub part_of : (C R : Floored) → IsCompactionOf C R → (r : Record) → contains C.records r ≡ true → contains R.records r ≡ true
 part_of C R c = c.is_below_floor.is_part
 
-pub lasts_in : (C R : Floored) → IsCompactionOf C R → (key : Key) (r : Record) → last R.records key ≡ Some r → (contains C.records r ≡ true) ⊎ IsGone C.floor C.records r
+pub lasts_in : (C R : Floored) → IsCompactionOf C R → (key : Key) (r : Record)
+    → last R.records key ≡ Some r → (contains C.records r ≡ true) ⊎ IsGone C.floor C.records r
 lasts_in C R c key r is = of_some (last R.records key) _ r (c.is_below_floor.has_lasts key) is
 
 abbrev is_low : ℕ → Record → Bool
@@ -97,13 +100,16 @@ module _ (greatest : LastIsGreatest) (none : NoLastIsNoRecord) where
       ] refl
 
   -- a last record that a part has is the part's last one
-  last_of_part : (C R : Records) → ((r : Record) → contains C r ≡ true → contains R r ≡ true) → (key : Key) (r : Record) → last R key ≡ Some r → contains C r ≡ true → last C key ≡ Some r
+  last_of_part : (C R : Records) → ((r : Record) → contains C r ≡ true → contains R r ≡ true)
+      → (key : Key) (r : Record) → last R key ≡ Some r → contains C r ≡ true → last C key ≡ Some r
   last_of_part C R part key r is has =
       let g = (greatest R key r).0 is in
-      (greatest C key r).1 (record { is_in_set = has; is_of_key = g.is_of_key; is_greatest = λ q in_c of_key. g.is_greatest q (part q in_c) of_key })
+      (greatest C key r).1 (
+      record { is_in_set = has; is_of_key = g.is_of_key; is_greatest = λ q in_c of_key. g.is_greatest q (part q in_c) of_key })
 
   -- a key without records has none in a part
-  none_of_part : (C R : Records) → ((r : Record) → contains C r ≡ true → contains R r ≡ true) → (key : Key) → last R key ≡ None → last C key ≡ None
+  none_of_part : (C R : Records) → ((r : Record) → contains C r ≡ true → contains R r ≡ true)
+      → (key : Key) → last R key ≡ None → last C key ≡ None
   none_of_part C R part key gone = last_absent C key (λ q inside same. no_record R key gone q (part q inside) same)
 
   pub itself_is : EachIsItsOwnCompaction
@@ -125,7 +131,8 @@ module _ (greatest : LastIsGreatest) (none : NoLastIsNoRecord) where
 
   pub last_of_compaction : LastOfCompaction
   last_of_compaction C R c key =
-      elim (last R.records key) as (λ o. last R.records key ≡ o → (last C.records key ≡ o) ⊎ ((last C.records key ≡ None) × IfSome o (λ r. r.value ≡ None))) [
+      elim (last R.records key) as (λ o.
+      last R.records key ≡ o → (last C.records key ≡ o) ⊎ ((last C.records key ≡ None) × IfSome o (λ r. r.value ≡ None))) [
         | None ↦ λ is. inl (none_of_part C.records R.records (part_of C R c) key is)
         | Some r ↦ λ is. elim (lasts_in C R c key r is) [
           | inl has ↦ inl (last_of_part C.records R.records (part_of C R c) key r is has)
@@ -134,7 +141,10 @@ module _ (greatest : LastIsGreatest) (none : NoLastIsNoRecord) where
       ] refl
 
   -- a record that a part of a set has, or has lost below the floor, where the set has no other of its key below the floor than the part
-  joined : (floor : ℕ) (C U : Records) (r : Record) → ((q : Record) → contains C q ≡ true → contains U q ≡ true) → ((q : Record) → contains U q ≡ true → q.offset < floor → contains C q ≡ true) → ((q : Record) → contains U q ≡ true → q.key ≡ r.key → q.offset ≤ r.offset) → (contains C r ≡ true) ⊎ IsGone floor C r → (contains U r ≡ true) ⊎ IsGone floor U r
+  joined : (floor : ℕ) (C U : Records) (r : Record) → ((q : Record) → contains C q ≡ true → contains U q ≡ true)
+      → ((q : Record) → contains U q ≡ true → q.offset < floor → contains C q ≡ true)
+      → ((q : Record) → contains U q ≡ true → q.key ≡ r.key → q.offset ≤ r.offset)
+      → (contains C r ≡ true) ⊎ IsGone floor C r → (contains U r ≡ true) ⊎ IsGone floor U r
   joined floor C U r part back upto (inl has) = inl (part r has)
   joined floor C U r part back upto (inr gone) =
       inr (record {
@@ -169,7 +179,8 @@ module _ (greatest : LastIsGreatest) (none : NoLastIsNoRecord) where
     last-last_records s r is = in_part total apart s (is_last s) r (in_set s r.key r is) (last-is_last s r is)
 
     -- the last records with a value, each of which stands in the other set
-    stands_in : (C R : Records) → ((key : Key) (r : Record) → last C key ≡ Some r → is_some r.value ≡ true → last R key ≡ Some r) → (q : Record) → contains (standing C) q ≡ true → contains (standing R) q ≡ true
+    stands_in : (C R : Records) → ((key : Key) (r : Record) → last C key ≡ Some r → is_some r.value ≡ true → last R key ≡ Some r)
+        → (q : Record) → contains (standing C) q ≡ true → contains (standing R) q ≡ true
     stands_in C R same q h =
         let has : is_some q.value ≡ true = passes_of_part total apart (last_records C) (λ r. is_some r.value) q h in
         let is = last_records-last C q (of_part total apart (last_records C) (λ r. is_some r.value) q h) in
@@ -218,31 +229,41 @@ module _ (greatest : LastIsGreatest) (none : NoLastIsNoRecord) where
         let both = union C.records D.records in
         let whole = union R.records S.records in
         let part : (r : Record) → contains both r ≡ true → contains whole r ≡ true =
-        λ r h. ⊎_elim (λ k. in_left total apart R.records S.records r (part_of C R c r k)) (λ k. in_right total apart R.records S.records r (part_of D S d r k)) (in_either total apart C.records D.records r h) in
+        λ r h.
+        ⊎_elim (λ k. in_left total apart R.records S.records r (part_of C R c r k))
+        (λ k. in_right total apart R.records S.records r (part_of D S d r k)) (in_either total apart C.records D.records r h) in
         let p = c.floor_rises in
         compaction_from (merged C D) (record { records = whole; floor = min R.floor S.floor }) (omega arith) part (λ key r is.
         let own = is_last_at_own_key whole key r is in
-        let upto : (q : Record) → contains both q ≡ true → q.key ≡ r.key → q.offset ≤ r.offset = λ q inside of_key. offset_upto whole r.key r q own (part q inside) of_key in
+        let upto : (q : Record) → contains both q ≡ true → q.key ≡ r.key → q.offset ≤ r.offset =
+        λ q inside of_key. offset_upto whole r.key r q own (part q inside) of_key in
         ⊎_elim
         (λ k. joined C.floor C.records both r (in_left total apart C.records D.records)
-        (λ q inside low. ⊎_elim (λ h. h) (λ h. moved D.records C.records (sym same) q h low) (in_either total apart C.records D.records q inside)) upto
+        (λ q inside low.
+        ⊎_elim (λ h. h) (λ h. moved D.records C.records (sym same) q h low) (in_either total apart C.records D.records q inside))
+        upto
         (lasts_in C R c key r (last_of_part R.records whole (in_left total apart R.records S.records) key r is k)))
         (λ k. joined C.floor D.records both r (in_right total apart C.records D.records)
-        (λ q inside low. ⊎_elim (λ h. moved C.records D.records same q h low) (λ h. h) (in_either total apart C.records D.records q inside)) upto
+        (λ q inside low. ⊎_elim (λ h. moved C.records D.records same q h low) (λ h. h) (in_either total apart C.records D.records q inside))
+        upto
         (subst (λ f. (contains D.records r ≡ true) ⊎ IsGone f D.records r) (sym one_floor)
         (lasts_in D S d key r (last_of_part S.records whole (in_right total apart R.records S.records) key r is k))))
         (in_either total apart R.records S.records r (in_set whole key r is)))
       where
-        moved : (X Y : Records) → below C.floor X ≡ below C.floor Y → (q : Record) → contains X q ≡ true → q.offset < C.floor → contains Y q ≡ true
+        moved : (X Y : Records) → below C.floor X ≡ below C.floor Y → (q : Record)
+            → contains X q ≡ true → q.offset < C.floor → contains Y q ≡ true
         moved X Y e q inside low =
-            of_part total apart Y (is_low C.floor) q (ap (λ s. contains s q) (sym e) ∙ in_part total apart X (is_low C.floor) q inside (lt-ltb q.offset C.floor low))
+            of_part total apart Y (is_low C.floor) q
+            (ap (λ s. contains s q) (sym e) ∙ in_part total apart X (is_low C.floor) q inside (lt-ltb q.offset C.floor low))
 
     pub later_records_may_join : LaterRecordsMayJoin
     later_records_may_join C R more late c =
         let both = union C.records more in
         let whole = union R.records more in
         let part : (r : Record) → contains both r ≡ true → contains whole r ≡ true =
-        λ r h. ⊎_elim (λ k. in_left total apart R.records more r (part_of C R c r k)) (in_right total apart R.records more r) (in_either total apart C.records more r h) in
+        λ r h.
+        ⊎_elim (λ k. in_left total apart R.records more r (part_of C R c r k))
+        (in_right total apart R.records more r) (in_either total apart C.records more r h) in
         compaction_from (record C { records = both }) (record R { records = whole }) c.floor_rises part (λ key r is.
         let own = is_last_at_own_key whole key r is in
         ⊎_elim
@@ -260,28 +281,35 @@ module _ (greatest : LastIsGreatest) (none : NoLastIsNoRecord) where
         let high = is_high other.floor in
         record {
           is_part = λ r h. ⊎_elim
-              (λ k. in_left total apart (own R) others r (in_part total apart R high r (kept.is_part r (of_part total apart C high r k)) (passes_of_part total apart C high r k)))
+              (λ k.
+              in_left total apart (own R) others r (
+              in_part total apart R high r (kept.is_part r (of_part total apart C high r k)) (passes_of_part total apart C high r k)))
               (in_right total apart (own R) others r)
               (in_either total apart (own C) others r h);
           has_lasts = λ key. if_some (last (rebased R other) key) _ (λ r is.
               ⊎_elim
               (λ k. in_left total apart (own C) others r
-              (in_part total apart C high r (of_some (last R key) _ r (kept.has_lasts key) (last_above r key is k)) (passes_of_part total apart R high r k)))
+              (in_part total apart C high r (of_some (last R key) _ r (kept.has_lasts key) (last_above r key is k))
+              (passes_of_part total apart R high r k)))
               (in_right total apart (own C) others r)
               (in_either total apart (own R) others r (in_set (rebased R other) key r is)));
         }
       where
         -- the last one of a rebased set is the own last one where it is an own one
-        last_above : (r : Record) (key : Key) → last (rebased R other) key ≡ Some r → contains (from_floor other.floor R) r ≡ true → last R key ≡ Some r
+        last_above : (r : Record) (key : Key) → last (rebased R other) key ≡ Some r
+            → contains (from_floor other.floor R) r ≡ true → last R key ≡ Some r
         last_above r key is k =
             let g = (greatest (rebased R other) key r).0 is in
-            let at_floor : other.floor ≤ r.offset = leb-true other.floor r.offset (passes_of_part total apart R (is_high other.floor) r k) in
+            let at_floor : other.floor ≤ r.offset =
+            leb-true other.floor r.offset (passes_of_part total apart R (is_high other.floor) r k) in
             (greatest R key r).1 (record {
               is_in_set = of_part total apart R (is_high other.floor) r k;
               is_of_key = g.is_of_key;
               is_greatest = λ q inside same.
                   elim (leb_tells other.floor q.offset) [
-                    | inl high ↦ g.is_greatest q (in_left total apart (from_floor other.floor R) (below other.floor other.records) q (in_part total apart R (is_high other.floor) q inside high.0)) same
+                    | inl high ↦ g.is_greatest q (
+                        in_left total apart (from_floor other.floor R) (below other.floor other.records) q
+                        (in_part total apart R (is_high other.floor) q inside high.0)) same
                     | inr low ↦ le_of_offset q r (let h = low.1 in omega arith)
                   ];
             })
@@ -292,7 +320,8 @@ module _ (greatest : LastIsGreatest) (none : NoLastIsNoRecord) where
         one_set total apart (from_floor f (last_records own)) (last_records (from_floor f own))
         (λ q h.
         let is = last_records-last own q (of_part total apart (last_records own) (is_high f) q h) in
-        let here = in_part total apart own (is_high f) q (in_set own q.key q is) (passes_of_part total apart (last_records own) (is_high f) q h) in
+        let here =
+        in_part total apart own (is_high f) q (in_set own q.key q is) (passes_of_part total apart (last_records own) (is_high f) q h) in
         last-last_records (from_floor f own) q (last_of_part (from_floor f own) own (of_part total apart own (is_high f)) q.key q is here))
         (λ q h.
         let is = last_records-last (from_floor f own) q h in
@@ -300,7 +329,8 @@ module _ (greatest : LastIsGreatest) (none : NoLastIsNoRecord) where
         let high = passes_of_part total apart own (is_high f) q inside in
         in_part total apart (last_records own) (is_high f) q (was_last q is inside high) high)
       where
-        was_last : (q : Record) → last (from_floor f own) q.key ≡ Some q → contains (from_floor f own) q ≡ true → is_high f q ≡ true → contains (last_records own) q ≡ true
+        was_last : (q : Record) → last (from_floor f own) q.key ≡ Some q
+            → contains (from_floor f own) q ≡ true → is_high f q ≡ true → contains (last_records own) q ≡ true
         was_last q is inside high =
             elim (last own q.key) as (λ o. last own q.key ≡ o → contains (last_records own) q ≡ true) [
               | None ↦ λ e. absurd (no_record own q.key e q (of_part total apart own (is_high f) q inside) refl)
@@ -310,7 +340,8 @@ module _ (greatest : LastIsGreatest) (none : NoLastIsNoRecord) where
                   let own_key = is_last_at_own_key own q.key r e in
                   let same_key : r.key ≡ q.key = key_is own q.key r e in
                   let there = in_part total apart own (is_high f) r (in_set own q.key r e) (le-leb f r.offset (omega arith)) in
-                  let again : last (from_floor f own) q.key ≡ Some r = last_of_part (from_floor f own) own (of_part total apart own (is_high f)) q.key r e there in
+                  let again : last (from_floor f own) q.key ≡ Some r =
+                  last_of_part (from_floor f own) own (of_part total apart own (is_high f)) q.key r e there in
                   let one : q ≡ r = ap (λ o. unwrap_or o q) (sym is ∙ again) in
                   subst (λ x. contains (last_records own) x ≡ true) (sym one) (last-last_records own r own_key)
             ] refl

@@ -27,7 +27,8 @@ second_case : (a b : Bool) → (not a || b) ≡ true → a ≡ true → b ≡ tr
 second_case true b h e = h
 second_case false b h e = absurd (false≢true e)
 
-module _ (greatest : LastIsGreatest) (none : NoLastIsNoRecord) (total : IsTotalOrder record_cmp) (apart : IsAntisymmetric record_cmp) (R : Floored) (floor : ℕ) (dropped : List Record) where
+module _ (greatest : LastIsGreatest) (none : NoLastIsNoRecord) (total : IsTotalOrder record_cmp)
+    (apart : IsAntisymmetric record_cmp) (R : Floored) (floor : ℕ) (dropped : List Record) where
   abbrev left_of : Floored
   left_of = record { records = without R.records dropped; floor = floor }
 
@@ -59,33 +60,43 @@ module _ (greatest : LastIsGreatest) (none : NoLastIsNoRecord) (total : IsTotalO
   compaction_of_drops rises all =
       compaction_from left_of R rises (λ r h. first_of (contains R.records r) _ (sym (contains-left r) ∙ h)) (λ key r is.
       let own = is_last_at_own_key greatest none R.records key r is in
-      elim (contains gone_records r) as (λ b. contains gone_records r ≡ b → (contains (without R.records dropped) r ≡ true) ⊎ IsGone floor (without R.records dropped) r) [
+      elim (contains gone_records r) as (λ b.
+      contains gone_records r ≡ b → (contains (without R.records dropped) r ≡ true) ⊎ IsGone floor (without R.records dropped) r) [
         | false ↦ λ e. inl (contains-left r ∙ both (in_set greatest none R.records key r is) (ap not e))
-        | true ↦ λ e. inr (gone_of r (last-is_last greatest none total apart R.records r own) (at_any total apart may_go r dropped all (sym (among r) ∙ e)))
+        | true ↦ λ e. inr (
+            gone_of r (last-is_last greatest none total apart R.records r own)
+            (at_any total apart may_go r dropped all (sym (among r) ∙ e)))
       ] refl)
 
   -- a last record that left a compaction was gone
-  may_go_of : IsCompactionOf left_of R → (r : Record) → contains R.records r ≡ true → list_any (eq_by_cmp record_cmp r) dropped ≡ true → may_go r ≡ true
+  may_go_of : IsCompactionOf left_of R → (r : Record) → contains R.records r ≡ true
+      → list_any (eq_by_cmp record_cmp r) dropped ≡ true → may_go r ≡ true
   may_go_of c r inside there =
       both inside
       (elim (is_last R.records r) as (λ b. is_last R.records r ≡ b → (not b || is_gone floor (without R.records dropped) r) ≡ true) [
         | false ↦ λ _. refl
         | true ↦ λ e.
             elim (lasts_in left_of R c r.key r (is_last-last greatest none total apart R.records r e)) [
-              | inl stays ↦ absurd (not_both (contains gone_records r) (second_of (contains R.records r) _ (sym (contains-left r) ∙ stays)) (among r ∙ there))
+              | inl stays ↦ absurd (
+                  not_both (contains gone_records r) (second_of (contains R.records r) _ (sym (contains-left r) ∙ stays)) (among r ∙ there))
               | inr gone ↦ both (both (ap is_none gone.deletes) (lt-ltb r.offset floor gone.is_below)) (ap is_none gone.has_no_other)
             ]
       ] refl)
 
-  pub drops_of_compaction : AllByRecursion (λ r. contains R.records r ≡ true) dropped → IsCompactionOf left_of R → may_leave floor R.records dropped ≡ true
+  pub drops_of_compaction : AllByRecursion (λ r. contains R.records r ≡ true) dropped
+      → IsCompactionOf left_of R → may_leave floor R.records dropped ≡ true
   drops_of_compaction inside c =
-      all_from_any total apart may_go dropped (λ r there. may_go_of c r (at_any total apart (contains R.records) r dropped (all_from_each (contains R.records) dropped inside) there) there)
+      all_from_any total apart may_go dropped (λ r there.
+      may_go_of c r (at_any total apart (contains R.records) r dropped (all_from_each (contains R.records) dropped inside) there) there)
 
   pub each_is_kept : may_leave floor R.records dropped ≡ true → AllByRecursion (λ r. contains R.records r ≡ true) dropped
   each_is_kept all =
-      each_from_all (contains R.records) dropped (all_from_any total apart (contains R.records) dropped (λ r there. first_of (contains R.records r) _ (at_any total apart may_go r dropped all there)))
+      each_from_all (contains R.records) dropped
+      (all_from_any total apart (contains R.records) dropped
+      (λ r there. first_of (contains R.records r) _ (at_any total apart may_go r dropped all there)))
 
-pub drops_leave_compactions : LastIsGreatest → NoLastIsNoRecord → IsTotalOrder record_cmp → IsAntisymmetric record_cmp → DropsLeaveCompactions
+pub drops_leave_compactions : LastIsGreatest → NoLastIsNoRecord
+    → IsTotalOrder record_cmp → IsAntisymmetric record_cmp → DropsLeaveCompactions
 drops_leave_compactions greatest none total apart R floor dropped rises = (
   λ h. (each_is_kept greatest none total apart R floor dropped h, compaction_of_drops greatest none total apart R floor dropped rises h),
   λ h. drops_of_compaction greatest none total apart R floor dropped h.0 h.1,
@@ -98,7 +109,8 @@ stays_alone true false f = refl
 stays_alone false true f = f refl
 stays_alone false false f = refl
 
-pub compacting_drops : LastIsGreatest → NoLastIsNoRecord → IsTotalOrder record_cmp → IsAntisymmetric record_cmp → CompactedToFloorIsCompaction → CompactingDropsWhatMayLeave
+pub compacting_drops : LastIsGreatest → NoLastIsNoRecord → IsTotalOrder record_cmp
+    → IsAntisymmetric record_cmp → CompactedToFloorIsCompaction → CompactingDropsWhatMayLeave
 compacting_drops greatest none total apart to_floor floor kept dropped is =
     let whole : Floored = record { records = kept; floor = 0 } in
     let c : IsCompactionOf (record { records = compacted_to floor kept; floor = floor }) whole = to_floor whole floor (omega arith) in
@@ -107,5 +119,8 @@ compacting_drops greatest none total apart to_floor floor kept dropped is =
     ∙ ap (λ b. contains kept q && not b) (is q)
     ∙ stays_alone (contains kept q) (contains (compacted_to floor kept) q) (c.is_below_floor.is_part q)) in
     let inside = each_from_all (contains kept) dropped (all_from_any total apart (contains kept) dropped (λ q there.
-    first_of (contains kept q) _ (sym (is q) ∙ contains-from_list total dropped q ∙ there))) in
-    (drops_of_compaction greatest none total apart whole floor dropped inside (subst (λ s. IsCompactionOf (record { records = s; floor = floor }) whole) (sym same) c), same)
+    first_of (contains kept q) _ (sym (is q) ∙ contains-from_list total dropped q ∙ there))) in (
+      drops_of_compaction greatest none total apart whole floor dropped inside (
+          subst (λ s. IsCompactionOf (record { records = s; floor = floor }) whole) (sym same) c),
+      same,
+    )

@@ -25,7 +25,8 @@ alike false true to from = from refl
 alike false false to from = refl
 
 -- it tells apart what the order does
-pub eq-by_cmp : (order : IsTotalOrder record_cmp) (apart : IsAntisymmetric record_cmp) (q r : Record) → (records.ghosts).eq q r ≡ eq_by_cmp record_cmp r q
+pub eq-by_cmp : (order : IsTotalOrder record_cmp) (apart : IsAntisymmetric record_cmp) (q r : Record)
+    → (records.ghosts).eq q r ≡ eq_by_cmp record_cmp r q
 eq-by_cmp order apart q r =
     alike _ _ (λ e. ap (λ x. eq_by_cmp record_cmp r x) (eq-true q r e) ∙ ap is_eq (tied_itself order r))
     (λ e. eq-itself q r (sym (same_record order apart r q e)))

@@ -37,23 +37,30 @@ gone_case true false g here = ap not (sym (here refl))
 gone_case false a g here = refl
 
 module _ (order : IsTotalOrder record_cmp) (apart : IsAntisymmetric record_cmp) where
-  one_more : (rs : List Record) (i : ℕ) (r q : Record) → i < length rs → r ≡ get_or rs i r → list_any (eq_by_cmp record_cmp q) (take (i + 1) rs) ≡ (eq_by_cmp record_cmp q r || list_any (eq_by_cmp record_cmp q) (take i rs))
+  one_more : (rs : List Record) (i : ℕ) (r q : Record) → i < length rs → r ≡ get_or rs i r
+      → list_any (eq_by_cmp record_cmp q) (take (i + 1) rs) ≡ (eq_by_cmp record_cmp q r || list_any (eq_by_cmp record_cmp q) (take i rs))
   one_more rs i r q within is =
-      ap (list_any (eq_by_cmp record_cmp q)) (take_more rs i r within ∙ ap (λ x. take i rs ++ x ∷ []) (sym is)) ∙ any_push (eq_by_cmp record_cmp q) (take i rs) r
+      ap (list_any (eq_by_cmp record_cmp q)) (take_more rs i r within ∙ ap (λ x. take i rs ++ x ∷ []) (sym is))
+      ∙ any_push (eq_by_cmp record_cmp q) (take i rs) r
 
-  pub stays_more : (gone left : Records) (rs : List Record) (i : ℕ) (r : Record) → i < length rs → r ≡ get_or rs i r → contains gone r ≡ false → HasLeft gone (take i rs) left → HasLeft gone (take (i + 1) rs) (insert left r)
+  pub stays_more : (gone left : Records) (rs : List Record) (i : ℕ) (r : Record) → i < length rs → r ≡ get_or rs i r
+      → contains gone r ≡ false → HasLeft gone (take i rs) left → HasLeft gone (take (i + 1) rs) (insert left r)
   stays_more gone left rs i r within is stays has q =
       contains-insert order left r q ∙ ap (λ b. eq_by_cmp record_cmp q r || b) (has q)
-      ∙ kept_case (eq_by_cmp record_cmp q r) (list_any (eq_by_cmp record_cmp q) (take i rs)) (contains gone q) (λ e. ap (contains gone) (same_record order apart q r e) ∙ stays)
+      ∙ kept_case (eq_by_cmp record_cmp q r) (list_any (eq_by_cmp record_cmp q) (take i rs))
+      (contains gone q) (λ e. ap (contains gone) (same_record order apart q r e) ∙ stays)
       ∙ ap (λ b. b && not (contains gone q)) (sym (one_more rs i r q within is))
 
-  pub leaves_more : (gone left : Records) (rs : List Record) (i : ℕ) (r : Record) → i < length rs → r ≡ get_or rs i r → contains gone r ≡ true → HasLeft gone (take i rs) left → HasLeft gone (take (i + 1) rs) left
+  pub leaves_more : (gone left : Records) (rs : List Record) (i : ℕ) (r : Record) → i < length rs → r ≡ get_or rs i r
+      → contains gone r ≡ true → HasLeft gone (take i rs) left → HasLeft gone (take (i + 1) rs) left
   leaves_more gone left rs i r within is leaves has q =
       has q
-      ∙ gone_case (eq_by_cmp record_cmp q r) (list_any (eq_by_cmp record_cmp q) (take i rs)) (contains gone q) (λ e. ap (contains gone) (same_record order apart q r e) ∙ leaves)
+      ∙ gone_case (eq_by_cmp record_cmp q r) (list_any (eq_by_cmp record_cmp q) (take i rs))
+      (contains gone q) (λ e. ap (contains gone) (same_record order apart q r e) ∙ leaves)
       ∙ ap (λ b. b && not (contains gone q)) (sym (one_more rs i r q within is))
 
-  pub left_more : (gone told left : Records) (rs : List Record) (i : ℕ) (r : Record) → told ≡ gone → i < length rs → r ≡ get_or rs i r → HasLeft gone (take i rs) left
+  pub left_more : (gone told left : Records) (rs : List Record) (i : ℕ) (r : Record)
+      → told ≡ gone → i < length rs → r ≡ get_or rs i r → HasLeft gone (take i rs) left
       → HasLeft gone (take (i + 1) rs) (if contains told r then left else insert left r)
   left_more gone told left rs i r same within is has =
       elim (contains told r) as (λ b. contains told r ≡ b → HasLeft gone (take (i + 1) rs) (if b then left else insert left r)) [
@@ -61,7 +68,10 @@ module _ (order : IsTotalOrder record_cmp) (apart : IsAntisymmetric record_cmp) 
         | false ↦ λ e. stays_more gone left rs i r within is (sym (ap (λ s. contains s r) same) ∙ e) has
       ] refl
 
-  pub left_all : (kept left : Records) (dropped rs : List Record) → kept ≡ from_list rs → HasLeft (from_list dropped) rs left → left ≡ without kept dropped
+  pub left_all : (kept left : Records) (dropped rs : List Record) → kept ≡ from_list rs
+      → HasLeft (from_list dropped) rs left → left ≡ without kept dropped
   left_all kept left dropped rs is has = same_set order apart left (without kept dropped) (λ q.
-      has q ∙ ap (λ b. b && not (contains (from_list {R = record_cmp} dropped) q)) (sym (contains-from_list order rs q) ∙ ap (λ s. contains s q) (sym is))
+      has q
+      ∙ ap (λ b. b && not (contains (from_list {R = record_cmp} dropped) q))
+      (sym (contains-from_list order rs q) ∙ ap (λ s. contains s q) (sym is))
       ∙ sym (contains-difference order kept (from_list dropped) q))

@@ -63,7 +63,8 @@ module _ (total : IsTotalOrder record_cmp) (apart : IsAntisymmetric record_cmp) 
   same_record q r h = apart q r (equal _ h)
 
   -- sets that have the same records are one
-  pub one_set : (R S : Records) → ((q : Record) → contains R q ≡ true → contains S q ≡ true) → ((q : Record) → contains S q ≡ true → contains R q ≡ true) → R ≡ S
+  pub one_set : (R S : Records) → ((q : Record) → contains R q ≡ true → contains S q ≡ true)
+      → ((q : Record) → contains S q ≡ true → contains R q ≡ true) → R ≡ S
   one_set R S f g = same_set total apart R S (λ q. same_answers (contains R q) (contains S q) (f q) (g q))
 
   pub in_left : (R S : Records) (q : Record) → contains R q ≡ true → contains (union R S) q ≡ true
@@ -101,16 +102,20 @@ module _ (total : IsTotalOrder record_cmp) (apart : IsAntisymmetric record_cmp) 
       turned false false = refl
 
   -- what holds of each of a list holds of one that is among them
-  pub at_any : (p : Record → Bool) (q : Record) (xs : List Record) → list_all p xs ≡ true → list_any (eq_by_cmp record_cmp q) xs ≡ true → p q ≡ true
+  pub at_any : (p : Record → Bool) (q : Record) (xs : List Record)
+      → list_all p xs ≡ true → list_any (eq_by_cmp record_cmp q) xs ≡ true → p q ≡ true
   at_any p q [] all one = absurd (false≢true one)
   at_any p q (x ∷ xs) all one =
-      elim (eq_by_cmp record_cmp q x) as (λ t. eq_by_cmp record_cmp q x ≡ t → (t || list_any (eq_by_cmp record_cmp q) xs) ≡ true → p q ≡ true) [
+      elim (eq_by_cmp record_cmp q x) as (λ t.
+      eq_by_cmp record_cmp q x ≡ t → (t || list_any (eq_by_cmp record_cmp q) xs) ≡ true → p q ≡ true) [
         | true ↦ λ e _. ap p (same_record q x e) ∙ first_of _ _ all
         | false ↦ λ _ rest. at_any p q xs (second_of _ _ all) rest
       ] refl one
 
   -- and the other way round
-  pub all_from_any : (p : Record → Bool) (xs : List Record) → ((q : Record) → list_any (eq_by_cmp record_cmp q) xs ≡ true → p q ≡ true) → list_all p xs ≡ true
+  pub all_from_any : (p : Record → Bool) (xs : List Record)
+      → ((q : Record) → list_any (eq_by_cmp record_cmp q) xs ≡ true → p q ≡ true) → list_all p xs ≡ true
   all_from_any p [] each = refl
   all_from_any p (x ∷ xs) each =
-      both (each x (or_left (eq_by_cmp record_cmp x x) _ (itself x))) (all_from_any p xs (λ q h. each q (or_right (eq_by_cmp record_cmp q x) _ h)))
+      both (each x (or_left (eq_by_cmp record_cmp x x) _ (itself x)))
+      (all_from_any p xs (λ q h. each q (or_right (eq_by_cmp record_cmp q x) _ h)))

@@ -10,10 +10,13 @@ use Rattle.reg_records.specs.declared.value.Value.{Value}
 
 -- a written value has a line, and is read again
 abbrev pub ValuesHaveLines : Type 0
-ValuesHaveLines = (offset : ℕ) (k : Key) (v : Value) → offset ≤ OFFSET_LIMIT → IsInLimits k → IsValueOf k v → HasLine (record { offset = offset; key = k; value = written_value v })
+ValuesHaveLines =
+    (offset : ℕ) (k : Key) (v : Value) → offset ≤ OFFSET_LIMIT → IsInLimits k → IsValueOf k v
+    → HasLine (record { offset = offset; key = k; value = written_value v })
 
 abbrev pub ValuesReadBack : Type 0
-ValuesReadBack = (offset : ℕ) (k : Key) (v : Value) → IsValueOf k v → value_of (record { offset = offset; key = k; value = written_value v }) ≡ Some v
+ValuesReadBack =
+    (offset : ℕ) (k : Key) (v : Value) → IsValueOf k v → value_of (record { offset = offset; key = k; value = written_value v }) ≡ Some v
 
 -- a normal text means its schema
 abbrev pub NormalTextsReadBack : Type 0

@@ -52,7 +52,8 @@ module _ {X : Type 0} (p : X → Bool) where
   from_filter P [] all = All-nil (λ x. p x ≡ true → P x)
   from_filter P (x ∷ xs) all =
       elim (p x) as (λ b. p x ≡ b → All P (cond b (x ∷ filter p xs) (filter p xs)) → All (λ x. p x ≡ true → P x) (x ∷ xs)) [
-        | true ↦ λ _ all. All-cons (λ x. p x ≡ true → P x) x xs (λ _. All-head P x (filter p xs) all) (from_filter P xs (All-tail P x (filter p xs) all))
+        | true ↦ λ _ all.
+            All-cons (λ x. p x ≡ true → P x) x xs (λ _. All-head P x (filter p xs) all) (from_filter P xs (All-tail P x (filter p xs) all))
         | false ↦ λ is all. All-cons (λ x. p x ≡ true → P x) x xs (λ passes. absurd (false≢true (sym is ∙ passes))) (from_filter P xs all)
       ] refl all
 
@@ -74,10 +75,14 @@ pub ord_max-picks : {X : Type 0} (cmp : X → X → Ordering) (a b : X) → (ord
 ord_max-picks cmp a b = elim (is_lt (cmp b a)) as (λ c. (cond c a b ≡ a) ⊎ (cond c a b ≡ b)) [ true ↦ inl refl | false ↦ inr refl ]
 
 pub min-picks : (a b : ℕ) → (min a b ≡ a) ⊎ (min a b ≡ b)
-min-picks a b = elim (nat_le a b) as (λ c. nat_le a b ≡ c → (min a b ≡ a) ⊎ (min a b ≡ b)) [ true ↦ λ e. inl (grind arith) | false ↦ λ e. inr (grind arith) ] refl
+min-picks a b =
+    elim (nat_le a b)
+    as (λ c. nat_le a b ≡ c → (min a b ≡ a) ⊎ (min a b ≡ b)) [ true ↦ λ e. inl (grind arith) | false ↦ λ e. inr (grind arith) ] refl
 
 pub max-picks : (a b : ℕ) → (max a b ≡ a) ⊎ (max a b ≡ b)
-max-picks a b = elim (nat_le a b) as (λ c. nat_le a b ≡ c → (max a b ≡ a) ⊎ (max a b ≡ b)) [ true ↦ λ e. inr (grind arith) | false ↦ λ e. inl (grind arith) ] refl
+max-picks a b =
+    elim (nat_le a b)
+    as (λ c. nat_le a b ≡ c → (max a b ≡ a) ⊎ (max a b ≡ b)) [ true ↦ λ e. inr (grind arith) | false ↦ λ e. inl (grind arith) ] refl
 
 at_most_fold : (a : ℕ) (xs : List ℕ) → a ≤ fold max a xs
 at_most_fold a [] = omega arith
@@ -97,7 +102,8 @@ up_to_greatest (x ∷ xs) m is =
 
 from_map : {X Y : Type 0} (P : X → Type 0) (f : Y → X) (ys : List Y) → All P (map f ys) → All (λ y. P (f y)) ys
 from_map P f [] all = All-nil (λ y. P (f y))
-from_map P f (y ∷ ys) all = All-cons (λ y. P (f y)) y ys (All-head P (f y) (map f ys) all) (from_map P f ys (All-tail P (f y) (map f ys) all))
+from_map P f (y ∷ ys) all =
+    All-cons (λ y. P (f y)) y ys (All-head P (f y) (map f ys) all) (from_map P f ys (All-tail P (f y) (map f ys) all))
 
 pub up_to_greatest_of : {Y : Type 0} (f : Y → ℕ) (ys : List Y) (m : ℕ) → reduce max (map f ys) ≡ Some m → All (λ y. f y ≤ m) ys
 up_to_greatest_of f ys m is = from_map (λ x. x ≤ m) f ys (up_to_greatest (map f ys) m is)

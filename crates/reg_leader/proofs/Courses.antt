@@ -32,7 +32,8 @@ module _ {Q : Writing → Type 0} (P : Record → Type 0) (each : (n : ℕ) (w :
   numbered-all n ws all = All-from_recursion P (numbered n ws) (numbered-each n ws all)
 
 -- a batch is empty or is what a course writes, numbered
-if_last-batch : (b : Bool) (reply r : Reply) (ws batch : List Record) → if_offsets_last b reply ws ≡ (r, batch) → (batch ≡ []) ⊎ ((b ≡ true) × (r ≡ reply) × (batch ≡ ws))
+if_last-batch : (b : Bool) (reply r : Reply) (ws batch : List Record)
+    → if_offsets_last b reply ws ≡ (r, batch) → (batch ≡ []) ⊎ ((b ≡ true) × (r ≡ reply) × (batch ≡ ws))
 if_last-batch true reply r ws batch e = inr (refl, sym (ap (λ p. p.0) e), sym (ap (λ p. p.1) e))
 if_last-batch false reply r ws batch e = inl (sym (ap (λ p. p.1) e))
 
@@ -51,7 +52,8 @@ module _ (P : Reply → List Writing → Type 0) where
   of_passed (Ok _) c h = h refl
   of_passed (Err r) c h = tt
 
-  pub of_found : {A : Type 0} (o : Option A) (f : A → Course) (c : Course) → ((x : A) → o ≡ Some x → Of (f x)) → (o ≡ None → Of c) → Of (where_found o f c)
+  pub of_found : {A : Type 0} (o : Option A) (f : A → Course) (c : Course)
+      → ((x : A) → o ≡ Some x → Of (f x)) → (o ≡ None → Of c) → Of (where_found o f c)
   of_found None f c g h = h refl
   of_found (Some x) f c g h = g x refl
 
@@ -84,15 +86,19 @@ outcome-goes_on n c r batch e =
       | inr some ↦ ap (goes_on n) some.1 ∙ numbered-goes_on n some.0
     ]
 
-numbered-ends : (n : ℕ) (reply r : Reply) (ws : List Writing) (batch : List Record) → IsOutcome n (Does reply ws) r batch → (batch ≡ []) ⊎ (n + length batch ≤ suc OFFSET_LIMIT)
+numbered-ends : (n : ℕ) (reply r : Reply) (ws : List Writing) (batch : List Record)
+    → IsOutcome n (Does reply ws) r batch → (batch ≡ []) ⊎ (n + length batch ≤ suc OFFSET_LIMIT)
 numbered-ends n reply r ws batch e =
     elim (if_last-batch (nat_le (n + length ws) (suc OFFSET_LIMIT)) reply r (numbered n ws) batch e) [
       | inl none ↦ inl none
-      | inr some ↦ inr (subst (λ k. n + k ≤ suc OFFSET_LIMIT) (sym (ap length some.2 ∙ numbered-length n ws)) (leb-true (n + length ws) (suc OFFSET_LIMIT) some.0))
+      | inr some ↦ inr (
+          subst (λ k. n + k ≤ suc OFFSET_LIMIT) (sym (ap length some.2 ∙ numbered-length n ws))
+          (leb-true (n + length ws) (suc OFFSET_LIMIT) some.0))
     ]
 
 -- whatever a course does, the offsets of its batch are within the limit
-pub outcome-ends : (n : ℕ) (c : Course) (r : Reply) (batch : List Record) → IsOutcome n c r batch → (batch ≡ []) ⊎ (n + length batch ≤ suc OFFSET_LIMIT)
+pub outcome-ends : (n : ℕ) (c : Course) (r : Reply) (batch : List Record)
+    → IsOutcome n c r batch → (batch ≡ []) ⊎ (n + length batch ≤ suc OFFSET_LIMIT)
 outcome-ends n (Refused refusal) r batch e = inl e.1
 outcome-ends n (Does reply ws) r batch e = numbered-ends n reply r ws batch e
 outcome-ends n (IfMet level new olds rest) r batch (inl met) = outcome-ends n rest r batch met.1

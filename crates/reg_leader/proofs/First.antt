@@ -12,6 +12,8 @@ module _ (P : Writing → Type 0) where
   and_last (v ∷ ws) w all p = (all.0, and_last ws w all.1 p)
 
   -- what holds of a mark that is written over an entry holds of each record that is written first
-  pub over-all : (rs : Records) (id : ℕ) (o : Option Entry) → ((e : Entry) → o ≡ Some e → P (marked rs)) → AllByRecursion P (mark_over rs id o)
+  pub over-all : (rs : Records) (id : ℕ) (o : Option Entry)
+      → ((e : Entry) → o ≡ Some e → P (marked rs)) → AllByRecursion P (mark_over rs id o)
   over-all rs id None h = tt
-  over-all rs id (Some e) h = elim (e.id == id) as (λ b. AllByRecursion P (cond b [] (marked rs ∷ []))) [ true ↦ tt | false ↦ (h e refl, tt) ]
+  over-all rs id (Some e) h =
+      elim (e.id == id) as (λ b. AllByRecursion P (cond b [] (marked rs ∷ []))) [ true ↦ tt | false ↦ (h e refl, tt) ]

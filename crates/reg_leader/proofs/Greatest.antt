@@ -13,26 +13,35 @@ use Rattle.reg_set.specs.Records.{Records}
 use Rattle.reg_leader.proofs.Chosen.{max-picks, reduce_has}
 use Rattle.reg_leader.proofs.Names.{id_up_to_last}
 
-pub greatest-fits : EntriesAreInLimits → (rs : Records) (subject : List ℕ) (most : ℕ) → greatest_version rs subject ≡ Some most → IsVersionOrId most
+pub greatest-fits : EntriesAreInLimits → (rs : Records) (subject : List ℕ) (most : ℕ)
+    → greatest_version rs subject ≡ Some most → IsVersionOrId most
 greatest-fits fits rs subject most is =
-    let each = All-weaker (Contains (entries rs)) (λ e. IsVersionOrId e.version) (λ e stands. (fits rs e stands).0) (entries rs) (All-contains_itself (entries rs)) in
+    let each = All-weaker (Contains (entries rs)) (λ e. IsVersionOrId e.version)
+    (λ e stands. (fits rs e stands).0) (entries rs) (All-contains_itself (entries rs)) in
     let own = All-filter (λ e. bytes_eq e.subject subject) (λ e. IsVersionOrId e.version) (entries rs) each in
-    reduce_has IsVersionOrId max max-picks (map (λ e. e.version) (of_subject (entries rs) subject)) most (All-map IsVersionOrId (λ e. e.version) (of_subject (entries rs) subject) own) is
+    reduce_has IsVersionOrId max max-picks (map (λ e. e.version) (of_subject (entries rs) subject)) most
+    (All-map IsVersionOrId (λ e. e.version) (of_subject (entries rs) subject) own) is
 
 -- a subject with a greatest version has an entry
-pub greatest-stands : (rs : Records) (subject : List ℕ) (most : ℕ) → greatest_version rs subject ≡ Some most → (e : Entry) × Contains (entries rs) e
+pub greatest-stands : (rs : Records) (subject : List ℕ) (most : ℕ)
+    → greatest_version rs subject ≡ Some most → (e : Entry) × Contains (entries rs) e
 greatest-stands rs subject most is =
     let own = All-filter (λ e. bytes_eq e.subject subject) (Contains (entries rs)) (entries rs) (All-contains_itself (entries rs)) in
     let P : ℕ → Type 0 = λ _. (e : Entry) × Contains (entries rs) e in
     reduce_has P max max-picks (map (λ e. e.version) (of_subject (entries rs) subject)) most
-    (All-map P (λ e. e.version) (of_subject (entries rs) subject) (All-weaker (Contains (entries rs)) (λ e. P e.version) (λ e stands. (e, stands)) (of_subject (entries rs) subject) own)) is
+    (All-map P (λ e. e.version) (of_subject (entries rs) subject)
+    (All-weaker (Contains (entries rs)) (λ e. P e.version) (λ e stands. (e, stands)) (of_subject (entries rs) subject) own))
+    is
 
 greatest_id-fits : EntriesAreInLimits → (rs : Records) → unwrap_or (greatest_id rs) 0 ≤ NUMBER_LIMIT
 greatest_id-fits fits rs =
-    let each = All-weaker (Contains (entries rs)) (λ e. e.id ≤ NUMBER_LIMIT) (λ e stands. (fits rs e stands).1.1) (entries rs) (All-contains_itself (entries rs)) in
+    let each = All-weaker (Contains (entries rs)) (λ e. e.id ≤ NUMBER_LIMIT)
+    (λ e stands. (fits rs e stands).1.1) (entries rs) (All-contains_itself (entries rs)) in
     elim (greatest_id rs) as (λ g. greatest_id rs ≡ g → unwrap_or g 0 ≤ NUMBER_LIMIT) [
       | None ↦ λ _. omega arith
-      | Some m ↦ λ is. reduce_has (λ m. m ≤ NUMBER_LIMIT) max max-picks (map (λ e. e.id) (entries rs)) m (All-map (λ m. m ≤ NUMBER_LIMIT) (λ e. e.id) (entries rs) each) is
+      | Some m ↦ λ is.
+          reduce_has (λ m. m ≤ NUMBER_LIMIT) max max-picks (map (λ e. e.id) (entries rs)) m
+          (All-map (λ m. m ≤ NUMBER_LIMIT) (λ e. e.id) (entries rs) each) is
     ] refl
 
 pub last_id-fits : EntriesAreInLimits → IdMarkIsInLimits → (rs : Records) (e : Entry) → Contains (entries rs) e → IsVersionOrId (last_id rs)

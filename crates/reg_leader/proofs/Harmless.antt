@@ -24,7 +24,8 @@ abbrev QuietWriting : Writing → Type 0
 QuietWriting w = (w.value ≡ None) ⊎ (is_version w.key ≡ false)
 
 numbered-quiet : (n : ℕ) (ws : List Writing) → AllByRecursion QuietWriting ws → All IsQuiet (numbered n ws)
-numbered-quiet = numbered-all IsQuiet (λ n w quiet. elim quiet [ inl none ↦ inl (ap (option_and_then written_value) none) | inr other ↦ inr other ])
+numbered-quiet =
+    numbered-all IsQuiet (λ n w quiet. elim quiet [ inl none ↦ inl (ap (option_and_then written_value) none) | inr other ↦ inr other ])
 
 others-quiet : (ws : List Writing) → AllByRecursion IsOther ws → AllByRecursion QuietWriting ws
 others-quiet [] all = tt
@@ -34,12 +35,14 @@ removed-quiet : (es : List Entry) → AllByRecursion QuietWriting (map removed e
 removed-quiet [] = tt
 removed-quiet (e ∷ es) = (inl refl, removed-quiet es)
 
-first-quiet : (rs : Records) (first : List Writing) (subject : List ℕ) (version id : ℕ) → IsFirst rs first subject version id → AllByRecursion QuietWriting first
+first-quiet : (rs : Records) (first : List Writing) (subject : List ℕ) (version id : ℕ)
+    → IsFirst rs first subject version id → AllByRecursion QuietWriting first
 first-quiet rs first subject version id (inl nothing) = subst (AllByRecursion QuietWriting) (sym nothing.0) tt
 first-quiet rs first subject version id (inr mark) = subst (AllByRecursion QuietWriting) (sym mark.0) (inr refl, tt)
 
 -- the last of several records has the offset after theirs
-numbered-last : (n : ℕ) (ws : List Writing) (w : Writing) → numbered n (ws ++ w ∷ []) ≡ numbered n ws ++ written_at (n + length (numbered n ws)) w ∷ []
+numbered-last : (n : ℕ) (ws : List Writing) (w : Writing)
+    → numbered n (ws ++ w ∷ []) ≡ numbered n ws ++ written_at (n + length (numbered n ws)) w ∷ []
 numbered-last n [] w = let same : n ≡ n + 0 = omega arith in ap (λ k. written_at k w ∷ []) same
 numbered-last n (v ∷ ws) w =
     let same : suc n + length (numbered (suc n) ws) ≡ n + suc (length (numbered (suc n) ws)) = omega arith in
@@ -50,7 +53,8 @@ abbrev pub GivesIds : (rs : Records) (n : ℕ) (batch : List Record) → IsHarml
 GivesIds rs n batch (inl quiet) = Unit {0}
 GivesIds rs n batch (inr v) = MayBeGiven rs v.id
 
-pub numbered-harmless : (rs : Records) (reply : Reply) (n : ℕ) (ws : List Writing) → AreSorted rs reply ws → (harmless : IsHarmless rs n (numbered n ws)) × GivesIds rs n (numbered n ws) harmless
+pub numbered-harmless : (rs : Records) (reply : Reply) (n : ℕ) (ws : List Writing) → AreSorted rs reply ws
+    → (harmless : IsHarmless rs n (numbered n ws)) × GivesIds rs n (numbered n ws) harmless
 numbered-harmless rs reply n ws (inl others) = (inl (numbered-quiet n ws (others-quiet ws others)), tt)
 numbered-harmless rs reply n ws (inr (inl one)) = (
   inr (record {
@@ -70,8 +74,12 @@ numbered-harmless rs reply n ws (inr (inl one)) = (
   }),
   one.may_be_given,
 )
-numbered-harmless rs reply n ws (inr (inr gone)) =
-    (inl (subst (λ ws. All IsQuiet (numbered n ws)) (sym gone.are_removed) (numbered-quiet n (marked rs ∷ map removed gone.removed_ones) (inr refl, removed-quiet gone.removed_ones))), tt)
+numbered-harmless rs reply n ws (inr (inr gone)) = (
+  inl (
+      subst (λ ws. All IsQuiet (numbered n ws)) (sym gone.are_removed)
+      (numbered-quiet n (marked rs ∷ map removed gone.removed_ones) (inr refl, removed-quiet gone.removed_ones))),
+  tt,
+)
 
 pub steps_are_harmless : NoneIsOneTextEach → EntriesAreRead → EntriesAreInLimits → NormalTextsReadBack → StepsAreHarmless
 unfolding IsStep

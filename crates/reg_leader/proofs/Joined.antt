@@ -57,19 +57,24 @@ pub elsewhere : (rs ss : Records) (r : Record) (e : Entry) → entry_of rs r ≡
 unfolding entry_of
 elsewhere rs ss r e is =
     let s = shown rs r.offset (value_of r) e is in
-    let made : option_and_then (entry_in ss r.offset) (value_of r) ≡ entry_in ss r.offset (values.Schema e.subject e.version e.id s.text s.deleted) = ap (option_and_then (entry_in ss r.offset)) s.value in
+    let made : option_and_then (entry_in ss r.offset) (value_of r)
+    ≡ entry_in ss r.offset (values.Schema e.subject e.version e.id s.text s.deleted) =
+    ap (option_and_then (entry_in ss r.offset)) s.value in
     (_, made, record { subject = refl; version = refl; id = refl; normal = sym s.normal })
 
 -- the entry of a record whose value is known
-pub of_value : (rs : Records) (r : Record) (subject : List ℕ) (version id : ℕ) (text : List ℕ) (deleted : Bool) (e : Entry) → value_of r ≡ Some (values.Schema subject version id text deleted) → entry_of rs r ≡ Some e
+pub of_value : (rs : Records) (r : Record) (subject : List ℕ) (version id : ℕ) (text : List ℕ) (deleted : Bool) (e : Entry)
+    → value_of r ≡ Some (values.Schema subject version id text deleted) → entry_of rs r ≡ Some e
     → (e.id ≡ id) × (e.normal ≡ normal_of text)
 unfolding entry_of
 of_value rs r subject version id text deleted e value is =
-    let made : entry_in rs r.offset (values.Schema subject version id text deleted) ≡ Some e = ap (option_and_then (entry_in rs r.offset)) (sym value) ∙ is in
+    let made : entry_in rs r.offset (values.Schema subject version id text deleted) ≡ Some e =
+    ap (option_and_then (entry_in rs r.offset)) (sym value) ∙ is in
     (ap (λ o. (unwrap_or o e).id) (sym made), ap (λ o. (unwrap_or o e).normal) (sym made))
 
 -- the entry that a version's value gives
-pub gives : (rs : Records) (r : Record) (subject : List ℕ) (version id : ℕ) (text : List ℕ) (deleted : Bool) → value_of r ≡ Some (values.Schema subject version id text deleted)
+pub gives : (rs : Records) (r : Record) (subject : List ℕ) (version id : ℕ) (text : List ℕ) (deleted : Bool)
+    → value_of r ≡ Some (values.Schema subject version id text deleted)
     → (g : Entry) × (entry_of rs r ≡ Some g) × (g.subject ≡ subject) × (g.version ≡ version) × (g.id ≡ id)
 unfolding entry_of
 gives rs r subject version id text deleted value = (_, ap (option_and_then (entry_in rs r.offset)) value, refl, refl, refl)
@@ -80,7 +85,9 @@ later_picks a b = elim (is_lt (option_cmp age_cmp b a)) as (λ c. (cond c a b �
 -- the later of a record and another, or none, is a record; with none, it is what it was
 pub later_some : (r : Record) (o : Option Record) → (q : Record) × (later (Some r) o ≡ Some q)
 later_some r None = (r, refl)
-later_some r (Some s) = elim (is_lt (option_cmp age_cmp (Some s) (Some r))) as (λ c. (q : Record) × (cond c (Some r) (Some s) ≡ Some q)) [ true ↦ (r, refl) | false ↦ (s, refl) ]
+later_some r (Some s) =
+    elim (is_lt (option_cmp age_cmp (Some s) (Some r)))
+    as (λ c. (q : Record) × (cond c (Some r) (Some s) ≡ Some q)) [ true ↦ (r, refl) | false ↦ (s, refl) ]
 
 pub later_none : (o : Option Record) → later o None ≡ o
 later_none None = refl
@@ -98,7 +105,8 @@ module _ (order : IsTotalOrder record_cmp) (apart : IsAntisymmetric record_cmp) 
 
   module _ (greatest : LastIsGreatest) (batch : List Record) where
     pub in_batch : (P : Record → Type 0) (key : Key) (r : Record) → All P batch → last (from_list batch) key ≡ Some r → P r
-    in_batch P key r all e = in_all P batch r all (sym (contains-from_list order batch r) ∙ ((greatest (from_list batch) key r).0 e).is_in_set)
+    in_batch P key r all e =
+        in_all P batch r all (sym (contains-from_list order batch r) ∙ ((greatest (from_list batch) key r).0 e).is_in_set)
 
     -- a key that no record of the batch has
     pub none_of_key : (key : Key) → All (λ r. ¬ (r.key ≡ key)) batch → last (from_list batch) key ≡ None
@@ -110,7 +118,8 @@ module _ (order : IsTotalOrder record_cmp) (apart : IsAntisymmetric record_cmp) 
 
 module _ (of_union : LastOfUnion) (log : Records) (batch : List Record) where
   -- the last record of a key is the one before, or one of the batch
-  pub last_cases : (key : Key) (r : Record) → last (union log (from_list batch)) key ≡ Some r → (last log key ≡ Some r) ⊎ (last (from_list batch) key ≡ Some r)
+  pub last_cases : (key : Key) (r : Record) → last (union log (from_list batch)) key ≡ Some r
+      → (last log key ≡ Some r) ⊎ (last (from_list batch) key ≡ Some r)
   last_cases key r e =
       elim (later_picks (last log key) (last (from_list batch) key)) [
         | inl old ↦ inl (sym old ∙ sym (of_union log (from_list batch) key) ∙ e)

@@ -23,18 +23,25 @@ leads_followed course (Err refusal) (inr h) = inr (subst (λ c. IsRefusal c refu
 
 -- a registration, by what is known before the check
 module _ (rs : Records) (n : ℕ) (subject text : List ℕ) where
-  pub leads_refused : (refusal : Refusal) → (refusal ≡ no_memory) ⊎ ((checked : List ℕ → Course) → before rs n subject text checked ≡ Refused refusal) → LeadsTo (register rs n subject text) (Err refusal)
+  pub leads_refused : (refusal : Refusal)
+      → (refusal ≡ no_memory) ⊎ ((checked : List ℕ → Course) → before rs n subject text checked ≡ Refused refusal)
+      → LeadsTo (register rs n subject text) (Err refusal)
   leads_refused refusal (inl memory) = inl memory
   leads_refused refusal (inr refused) = inr (subst (λ c. IsRefusal c refusal) (sym (refused (if_met rs subject))) refl)
 
-  pub leads_live : (id : ℕ) (deed : Deed) → deed.reply ≡ replies.Id id → deed.writings.items ≡ [] → ((checked : List ℕ → Course) → before rs n subject text checked ≡ Does (replies.Id id) []) → LeadsTo (register rs n subject text) (Ok deed)
-  leads_live id deed reply nothing live = leads_followed (register rs n subject text) (Ok deed) (live (if_met rs subject) ∙ (λ j. Does (sym reply j) (sym nothing j)))
+  pub leads_live : (id : ℕ) (deed : Deed) → deed.reply ≡ replies.Id id → deed.writings.items ≡ []
+      → ((checked : List ℕ → Course) → before rs n subject text checked ≡ Does (replies.Id id) [])
+      → LeadsTo (register rs n subject text) (Ok deed)
+  leads_live id deed reply nothing live =
+      leads_followed (register rs n subject text) (Ok deed) (live (if_met rs subject) ∙ (λ j. Does (sym reply j) (sym nothing j)))
 
-  pub leads_new : (normal : List ℕ) → ((checked : List ℕ → Course) → before rs n subject text checked ≡ checked normal) → (r : Result Deed Refusal) → LeadsTo (if_met rs subject normal) r → LeadsTo (register rs n subject text) r
+  pub leads_new : (normal : List ℕ) → ((checked : List ℕ → Course) → before rs n subject text checked ≡ checked normal)
+      → (r : Result Deed Refusal) → LeadsTo (if_met rs subject normal) r → LeadsTo (register rs n subject text) r
   leads_new normal new r h = subst (λ c. LeadsTo c r) (sym (new (if_met rs subject))) h
 
 -- what a deed's records come to, its course does
-deed_outcome : (n : ℕ) (course : Course) (deed : Deed) (reply : Reply) (batch : List Record) → IsDeed course deed → IsOutcome n (Does deed.reply deed.writings.items) reply batch → IsOutcome n course reply batch
+deed_outcome : (n : ℕ) (course : Course) (deed : Deed) (reply : Reply) (batch : List Record) → IsDeed course deed
+    → IsOutcome n (Does deed.reply deed.writings.items) reply batch → IsOutcome n course reply batch
 deed_outcome n (Refused refusal) deed reply batch h settled = absurd h
 deed_outcome n (Does does ws) deed reply batch h settled = subst (λ c. IsOutcome n c reply batch) (sym h) settled
 deed_outcome n (IfMet level new olds rest) deed reply batch h settled = inl (h.0, deed_outcome n rest deed reply batch h.1 settled)
@@ -46,7 +53,8 @@ refusal_outcome n (IfMet level new olds rest) told (inl h) = inl (h.0, refusal_o
 refusal_outcome n (IfMet level new olds rest) told (inr h) = inr (h.0, h.1, (ap replies.Refused (sym h.2), refl))
 
 module _ (rs : Records) (n : ℕ) (c : Command) where
-  pub steps_deed : (deed : Deed) → LeadsTo (course_of rs n c) (Ok deed) → (r : Result Decision Refusal) → Concludes n (Does deed.reply deed.writings.items) r → Decides rs n c r
+  pub steps_deed : (deed : Deed) → LeadsTo (course_of rs n c) (Ok deed) → (r : Result Decision Refusal)
+      → Concludes n (Does deed.reply deed.writings.items) r → Decides rs n c r
   unfolding IsStep
   steps_deed deed h (Ok decision) settled = deed_outcome n (course_of rs n c) deed decision.reply decision.batch h settled
   steps_deed deed h (Err refusal) (inl memory) = inl memory

@@ -55,9 +55,12 @@ module _ (rs : Records) where
   -- the entry that a delete names stands
   pub meant-stands : (subject : List ℕ) (ref : VersionRef) (e : Entry) → version_meant rs subject ref ≡ Some e → Contains (entries rs) e
   meant-stands subject Latest e is =
-      reduce_has Stands (ord_max (on (λ e. e.version) nat_cmp)) (ord_max-picks (on (λ e. e.version) nat_cmp)) (counting (entries rs) subject false) e (All-filter (counts false) Stands _ (All-filter (λ e. bytes_eq e.subject subject) Stands (entries rs) all_stand)) is
+      reduce_has Stands (ord_max (on (λ e. e.version) nat_cmp))
+      (ord_max-picks (on (λ e. e.version) nat_cmp)) (counting (entries rs) subject false) e
+      (All-filter (counts false) Stands _ (All-filter (λ e. bytes_eq e.subject subject) Stands (entries rs) all_stand)) is
   meant-stands subject (Number version) e is =
-      find_has Stands (λ e. e.version == version) (counting (entries rs) subject true) e (All-filter (counts true) Stands _ (All-filter (λ e. bytes_eq e.subject subject) Stands (entries rs) all_stand)) is
+      find_has Stands (λ e. e.version == version) (counting (entries rs) subject true) e
+      (All-filter (counts true) Stands _ (All-filter (λ e. bytes_eq e.subject subject) Stands (entries rs) all_stand)) is
 
   -- no entry has an id above the last one
   pub id_up_to_last : (e : Entry) → Contains (entries rs) e → e.id ≤ last_id rs
@@ -72,8 +75,12 @@ module _ (rs : Records) where
   -- an entry that an id names stands, with that id
   pub named-stands : (id : ℕ) (f : Entry) → named rs id ≡ Some f → Contains (entries rs) f × (f.id ≡ id)
   named-stands id f is =
-      let has = reduce_has (λ e. (e.id == id) ≡ true) (ord_max naming_cmp) (ord_max-picks naming_cmp) (filter (λ e. e.id == id) (entries rs)) f (filter_passes (λ e. e.id == id) (entries rs)) is in
-      (reduce_has Stands (ord_max naming_cmp) (ord_max-picks naming_cmp) (filter (λ e. e.id == id) (entries rs)) f (All-filter (λ e. e.id == id) Stands (entries rs) all_stand) is, eqb-true f.id id has)
+      let has = reduce_has (λ e. (e.id == id) ≡ true) (ord_max naming_cmp) (ord_max-picks naming_cmp)
+      (filter (λ e. e.id == id) (entries rs)) f (filter_passes (λ e. e.id == id) (entries rs)) is in (
+        reduce_has Stands (ord_max naming_cmp) (ord_max-picks naming_cmp) (filter (λ e. e.id == id) (entries rs)) f
+            (All-filter (λ e. e.id == id) Stands (entries rs) all_stand) is,
+        eqb-true f.id id has,
+      )
 
   -- an entry with that id and that normal text
   abbrev pub HasId : List ℕ → ℕ → Type 0
@@ -88,7 +95,8 @@ module _ (rs : Records) where
 
   pub known-stands : (normal : List ℕ) (id : ℕ) → id_of rs normal ≡ Some id → HasId normal id
   known-stands normal id is =
-      reduce_has (HasId normal) min min-picks (map (λ e. e.id) (filter (λ e. bytes_eq e.normal normal) (entries rs))) id (all_have normal) is
+      reduce_has (HasId normal) min min-picks
+      (map (λ e. e.id) (filter (λ e. bytes_eq e.normal normal) (entries rs))) id (all_have normal) is
 
   module _ (each : IdsNameOneSchema rs) where
     not_false : (b : Bool) → not b ≡ false → b ≡ true
@@ -98,9 +106,11 @@ module _ (rs : Records) where
     -- where the entry that an id names has no other schema, no entry of the id has
     pub named-only : (id : ℕ) (normal : List ℕ) → names_another rs id normal ≡ false → NamesOnly id normal
     named-only id normal =
-        elim (named rs id) as (λ o. named rs id ≡ o → option_map_or (λ e. not (has_schema normal e)) o false ≡ false → NamesOnly id normal) [
+        elim (named rs id) as (λ o.
+        named rs id ≡ o → option_map_or (λ e. not (has_schema normal e)) o false ≡ false → NamesOnly id normal) [
           | None ↦ λ none _ e stands same.
-              let isnt = All-contains (λ e. (e.id == id) ≡ false) (entries rs) e (none_passes (ord_max naming_cmp) (λ e. e.id == id) (entries rs) none) stands in
+              let isnt = All-contains (λ e. (e.id == id) ≡ false) (entries rs) e
+              (none_passes (ord_max naming_cmp) (λ e. e.id == id) (entries rs) none) stands in
               absurd (false≢true (sym isnt ∙ eq-eqb e.id id same))
           | Some f ↦ λ is has e stands same.
               let found = named-stands id f is in

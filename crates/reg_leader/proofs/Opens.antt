@@ -43,7 +43,8 @@ quiet-opaque r (inl e) = false-and _ _ (and-false (is_version r.key) (is_some r.
 quiet-opaque r (inr e) = false-and _ _ (false-and (is_version r.key) (is_some r.value) e)
 
 -- a quiet record of a version gives no entry
-quiet-none : (rs : Records) (r : Record) (subject : List ℕ) (version : ℕ) (e : Entry) → IsQuiet r → r.key ≡ keys.Schema subject version → entry_of rs r ≡ Some e → ⊥
+quiet-none : (rs : Records) (r : Record) (subject : List ℕ) (version : ℕ) (e : Entry)
+    → IsQuiet r → r.key ≡ keys.Schema subject version → entry_of rs r ≡ Some e → ⊥
 unfolding entry_of
 quiet-none rs r subject version e (inl none) key is =
     let gone : value_of r ≡ None = ap (option_and_then (value_of_text r.key)) none in
@@ -54,14 +55,19 @@ value-opaque : (r : Record) (v : Value) → value_of r ≡ Some v → is_opaque 
 unfolding is_opaque
 value-opaque r v value = and-false (is_version r.key && is_some r.value) (is_none (value_of r)) (ap is_none value)
 
-module _ (order : IsTotalOrder record_cmp) (apart : IsAntisymmetric record_cmp) (greatest : LastIsGreatest) (of_union : LastOfUnion) (of_places : EntriesAreOfPlaces) (again : ValuesReadBack) where
+module _ (order : IsTotalOrder record_cmp) (apart : IsAntisymmetric record_cmp) (greatest : LastIsGreatest)
+    (of_union : LastOfUnion) (of_places : EntriesAreOfPlaces) (again : ValuesReadBack) where
   module _ (log : Records) (n : ℕ) (batch : List Record) where
     abbrev pub before : Records
     before = last_records log
 
     -- the record of the one version, and what it reads as
     abbrev written : IsOneVersion before n batch → Record
-    written v = record { offset = n + length v.first; key = keys.Schema v.subject v.version; value = written_value (values.Schema v.subject v.version v.id v.text v.deleted) }
+    written v = record {
+      offset = n + length v.first;
+      key = keys.Schema v.subject v.version;
+      value = written_value (values.Schema v.subject v.version v.id v.text v.deleted);
+    }
 
     -- each record of the batch is quiet, or is that one
     abbrev QuietOr : IsOneVersion before n batch → Record → Type 0
@@ -73,7 +79,9 @@ module _ (order : IsTotalOrder record_cmp) (apart : IsAntisymmetric record_cmp) 
         (All-push (QuietOr v) v.first (written v) (All-weaker IsQuiet (QuietOr v) (λ q quiet. inl quiet) v.first v.are_quiet) (inr refl))
 
     reads : (v : IsOneVersion before n batch) → value_of (written v) ≡ Some (values.Schema v.subject v.version v.id v.text v.deleted)
-    reads v = again (n + length v.first) (keys.Schema v.subject v.version) (values.Schema v.subject v.version v.id v.text v.deleted) (refl, v.version_fits, v.id_fits, ap is_some v.is_read)
+    reads v =
+        again (n + length v.first) (keys.Schema v.subject v.version)
+        (values.Schema v.subject v.version v.id v.text v.deleted) (refl, v.version_fits, v.id_fits, ap is_some v.is_read)
 
     normal_known : (v : IsOneVersion before n batch) → normal_of v.text ≡ v.schema.normal_text
     normal_known v = ap (λ o. option_map_or (λ (m : Meaning). m.normal_text) o []) v.is_read
@@ -86,17 +94,21 @@ module _ (order : IsTotalOrder record_cmp) (apart : IsAntisymmetric record_cmp) 
     IsNew (inl quiet) e = ⊥
     IsNew (inr v) e = (e.id ≡ v.id) × (e.normal ≡ v.schema.normal_text)
 
-    old_origin : (e : Entry) (r : Record) → last log (keys.Schema e.subject e.version) ≡ Some r → entry_of (last_after log batch) r ≡ Some e → IsOld e
+    old_origin : (e : Entry) (r : Record) → last log (keys.Schema e.subject e.version) ≡ Some r
+        → entry_of (last_after log batch) r ≡ Some e → IsOld e
     old_origin e r here is =
         let found = elsewhere (last_after log batch) before r e is in
         let alike = found.2 in
-        let place : keys.Schema found.0.subject found.0.version ≡ keys.Schema e.subject e.version = λ i. keys.Schema (alike.subject i) (alike.version i) in
+        let place : keys.Schema found.0.subject found.0.version ≡ keys.Schema e.subject e.version =
+        λ i. keys.Schema (alike.subject i) (alike.version i) in
         (found.0, (of_places log found.0).1 (r, ap (last log) place ∙ here, found.1), alike.id, alike.normal)
 
-    new_origin : (harmless : IsHarmless before n batch) (e : Entry) (r : Record) → last (from_list batch) (keys.Schema e.subject e.version) ≡ Some r → entry_of (last_after log batch) r ≡ Some e → IsNew harmless e
+    new_origin : (harmless : IsHarmless before n batch) (e : Entry) (r : Record)
+        → last (from_list batch) (keys.Schema e.subject e.version) ≡ Some r → entry_of (last_after log batch) r ≡ Some e → IsNew harmless e
     new_origin (inl quiet) e r here is =
         let key = ((greatest (from_list batch) (keys.Schema e.subject e.version) r).0 here).is_of_key in
-        quiet-none (last_after log batch) r e.subject e.version e (in_batch order apart greatest batch IsQuiet (keys.Schema e.subject e.version) r quiet here) key is
+        quiet-none (last_after log batch) r e.subject e.version e
+        (in_batch order apart greatest batch IsQuiet (keys.Schema e.subject e.version) r quiet here) key is
     new_origin (inr v) e r here is =
         elim (in_batch order apart greatest batch (QuietOr v) (keys.Schema e.subject e.version) r (quiet_or_written v) here) [
           | inl quiet ↦
@@ -107,7 +119,8 @@ module _ (order : IsTotalOrder record_cmp) (apart : IsAntisymmetric record_cmp) 
               (has.0, has.1 ∙ normal_known v)
         ]
 
-    pub origin : (harmless : IsHarmless before n batch) (e : Entry) → Contains (entries (last_after log batch)) e → IsOld e ⊎ IsNew harmless e
+    pub origin : (harmless : IsHarmless before n batch) (e : Entry)
+        → Contains (entries (last_after log batch)) e → IsOld e ⊎ IsNew harmless e
     origin harmless e stands =
         let found = (of_places (union log (from_list batch)) e).0 stands in
         elim (last_cases of_union log batch (keys.Schema e.subject e.version) found.0 found.1) [
@@ -124,8 +137,10 @@ module _ (order : IsTotalOrder record_cmp) (apart : IsAntisymmetric record_cmp) 
     both_new (inl quiet) e f new newer = absurd new
     both_new (inr v) e f new newer = new.1 ∙ sym newer.1
 
-    same_schema : IdsNameOneSchema before → (harmless : IsHarmless before n batch) (e f : Entry) → e.id ≡ f.id → IsOld e ⊎ IsNew harmless e → IsOld f ⊎ IsNew harmless f → e.normal ≡ f.normal
-    same_schema each harmless e f same (inl old) (inl older) = sym old.3 ∙ each old.0 older.0 old.1 older.1 (old.2 ∙ same ∙ sym older.2) ∙ older.3
+    same_schema : IdsNameOneSchema before → (harmless : IsHarmless before n batch) (e f : Entry)
+        → e.id ≡ f.id → IsOld e ⊎ IsNew harmless e → IsOld f ⊎ IsNew harmless f → e.normal ≡ f.normal
+    same_schema each harmless e f same (inl old) (inl older) =
+        sym old.3 ∙ each old.0 older.0 old.1 older.1 (old.2 ∙ same ∙ sym older.2) ∙ older.3
     same_schema each harmless e f same (inl old) (inr new) = old_new harmless e f same old new
     same_schema each harmless e f same (inr new) (inl old) = sym (old_new harmless f e (sym same) old new)
     same_schema each harmless e f same (inr new) (inr newer) = both_new harmless e f new newer
@@ -142,7 +157,8 @@ module _ (order : IsTotalOrder record_cmp) (apart : IsAntisymmetric record_cmp) 
     keeps_ids one closed harmless e f in_e in_f same =
         same_schema (one_schema one before closed) harmless e f same (origin harmless e in_e) (origin harmless f in_f)
 
-    pub stays_open : NoneIsNoOpaqueLast → NoneIsOneTextEach → is_closed before ≡ false → IsHarmless before n batch → is_closed (last_after log batch) ≡ false
+    pub stays_open : NoneIsNoOpaqueLast → NoneIsOneTextEach → is_closed before ≡ false
+        → IsHarmless before n batch → is_closed (last_after log batch) ≡ false
     stays_open opaque_lasts one closed harmless =
         let was = (opaque_lasts log).0 (no_opaque before closed) in
         let none = (opaque_lasts (union log (from_list batch))).1 (λ key r e. elim (last_cases of_union log batch key r e) [

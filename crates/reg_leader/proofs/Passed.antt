@@ -34,5 +34,6 @@ both_true false b h = absurd (false≢true h)
 
 pub number_passed : (m : ℕ) → test.must_be_number m ≡ granted → IsVersionOrId m
 number_passed m e =
-    let within = both_true (nat_le 1 m) (nat_le m NUMBER_LIMIT) (unless_passed (nat_le 1 m && nat_le m NUMBER_LIMIT) test.numbers_used_up e) in
+    let within =
+    both_true (nat_le 1 m) (nat_le m NUMBER_LIMIT) (unless_passed (nat_le 1 m && nat_le m NUMBER_LIMIT) test.numbers_used_up e) in
     (leb-true 1 m within.0, leb-true m NUMBER_LIMIT within.1)

@@ -35,11 +35,13 @@ RepliesNone c = Of IsNoRefusal c
 
 module _ (rs : Records) (n : ℕ) where
   writes-none : (first : List Writing) (subject normal : List ℕ) (id version : ℕ) → RepliesNone (writes first subject normal id version)
-  writes-none first subject normal id version = of_then _ (test.must_be_number id) _ (of_then _ (test.must_be_number version) _ (λ why e. cc))
+  writes-none first subject normal id version =
+      of_then _ (test.must_be_number id) _ (of_then _ (test.must_be_number version) _ (λ why e. cc))
 
   import_as-none : (subject normal : List ℕ) (id : ℕ) (version : Option ℕ) → RepliesNone (import_as rs subject normal id version)
   import_as-none subject normal id None =
-      of_found _ (newest (filter (is_of id normal) (live rs subject))) _ _ (λ same _ why e. cc) (λ _. writes-none [] subject normal id (next_version rs subject))
+      of_found _ (newest (filter (is_of id normal) (live rs subject))) _ _ (λ same _ why e. cc)
+      (λ _. writes-none [] subject normal id (next_version rs subject))
   import_as-none subject normal id (Some version) =
       of_found _ (version_in (entries rs) subject (Number version) false) _ _
       (λ e _. of_then _ (refuse_unless (is_of id normal e) (refusals.NotPermitted reasons.VersionIsOccupied)) _ (λ why e. cc))
@@ -76,7 +78,9 @@ module _ (rs : Records) (n : ℕ) where
       of_found _ (greatest_version rs subject) _ _ (λ greatest _. delete_all-none subject permanent greatest) (λ _. tt)))
   course-none (commands.SetLevel scope level) = open-none _ (of_then _ (must_allow_writes (mode rs scope)) _ (λ why e. cc))
   course-none (commands.ClearLevel subject) =
-      open-none _ (of_then _ (must_allow_writes (mode rs (Some subject))) _ (of_found _ (own_level rs (Some subject)) _ _ (λ level _ why e. cc) (λ _. tt)))
+      open-none _ (
+      of_then _ (must_allow_writes (mode rs (Some subject))) _
+      (of_found _ (own_level rs (Some subject)) _ _ (λ level _ why e. cc) (λ _. tt)))
   course-none (commands.SetMode scope mode force) = open-none _ (of_then _ (test.must_allow_mode rs scope mode force) _ (λ why e. cc))
   course-none (commands.ClearMode subject) = open-none _ (of_found _ (own_mode rs (Some subject)) _ _ (λ mode _ why e. cc) (λ _. tt))
   course-none commands.Noop = open-none _ (λ why e. cc)

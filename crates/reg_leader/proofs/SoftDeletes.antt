@@ -36,7 +36,8 @@ abbrev NoDelete : Writing → Type 0
 NoDelete w = is_delete w.key ≡ false
 
 abbrev OneDelete : Records → List Writing → Type 0
-OneDelete rs ws = (subject : List ℕ) × (greatest : ℕ) × (ws ≡ deleted_up_to subject greatest ∷ []) × (greatest_version rs subject ≡ Some greatest)
+OneDelete rs ws =
+    (subject : List ℕ) × (greatest : ℕ) × (ws ≡ deleted_up_to subject greatest ∷ []) × (greatest_version rs subject ≡ Some greatest)
 
 abbrev Deletes : Records → Reply → List Writing → Type 0
 Deletes rs reply ws = AllByRecursion NoDelete ws ⊎ OneDelete rs ws
@@ -49,12 +50,15 @@ module _ (rs : Records) (n : ℕ) where
   abbrev Names : Course → Type 0
   Names c = Of (Deletes rs) c
 
-  writes-of : (first : List Writing) (subject normal : List ℕ) (id version : ℕ) → AllByRecursion NoDelete first → Names (writes first subject normal id version)
-  writes-of first subject normal id version none = of_then _ (test.must_be_number id) _ (of_then _ (test.must_be_number version) _ (inl (and_last NoDelete first _ none refl)))
+  writes-of : (first : List Writing) (subject normal : List ℕ) (id version : ℕ)
+      → AllByRecursion NoDelete first → Names (writes first subject normal id version)
+  writes-of first subject normal id version none =
+      of_then _ (test.must_be_number id) _ (of_then _ (test.must_be_number version) _ (inl (and_last NoDelete first _ none refl)))
 
   import_as-of : (subject normal : List ℕ) (id : ℕ) (version : Option ℕ) → Names (import_as rs subject normal id version)
   import_as-of subject normal id None =
-      of_found _ (newest (filter (is_of id normal) (live rs subject))) _ _ (λ same e. inl tt) (λ _. writes-of [] subject normal id (next_version rs subject) tt)
+      of_found _ (newest (filter (is_of id normal) (live rs subject))) _ _ (λ same e. inl tt)
+      (λ _. writes-of [] subject normal id (next_version rs subject) tt)
   import_as-of subject normal id (Some version) =
       of_found _ (version_in (entries rs) subject (Number version) false) _ _ (λ e _.
       of_then _ (refuse_unless (is_of id normal e) (refusals.NotPermitted reasons.VersionIsOccupied)) _ (inl tt)) (λ _.
@@ -65,7 +69,8 @@ module _ (rs : Records) (n : ℕ) where
   delete_entry-of false e = of_then _ (refuse_if e.soft refusals.VersionSoftDeleted) _ (inl (refl, tt))
   delete_entry-of true e = of_then _ (refuse_unless e.soft refusals.VersionNotSoftDeleted) _ (inl (refl, (refl, tt)))
 
-  delete_all-of : (subject : List ℕ) (permanent : Bool) (greatest : ℕ) → greatest_version rs subject ≡ Some greatest → Names (delete_all rs subject permanent greatest)
+  delete_all-of : (subject : List ℕ) (permanent : Bool) (greatest : ℕ)
+      → greatest_version rs subject ≡ Some greatest → Names (delete_all rs subject permanent greatest)
   delete_all-of subject false greatest is = of_then _ (test.must_be_live rs subject) _ (inr (subject, greatest, refl, is))
   delete_all-of subject true greatest is = of_then _ (test.must_not_be_live rs subject) _ (inl (refl, none_removed (standing rs subject)))
 
@@ -98,12 +103,14 @@ module _ (rs : Records) (n : ℕ) where
       of_then _ (must_allow_writes (mode rs (Some subject))) _ (
       of_found _ (greatest_version rs subject) _ _ (λ greatest is. delete_all-of subject permanent greatest is) (λ _. tt))))
   course-names (commands.SetLevel scope level) =
-      of_then _ (test.must_be_open rs) _ (of_then _ (test.must_have_offset n) _ (of_then _ (must_allow_writes (mode rs scope)) _ (inl (refl, tt))))
+      of_then _ (test.must_be_open rs) _
+      (of_then _ (test.must_have_offset n) _ (of_then _ (must_allow_writes (mode rs scope)) _ (inl (refl, tt))))
   course-names (commands.ClearLevel subject) =
       of_then _ (test.must_be_open rs) _ (of_then _ (test.must_have_offset n) _ (of_then _ (must_allow_writes (mode rs (Some subject))) _ (
       of_found _ (own_level rs (Some subject)) _ _ (λ level _. inl (refl, tt)) (λ _. tt))))
   course-names (commands.SetMode scope mode force) =
-      of_then _ (test.must_be_open rs) _ (of_then _ (test.must_have_offset n) _ (of_then _ (test.must_allow_mode rs scope mode force) _ (inl (refl, tt))))
+      of_then _ (test.must_be_open rs) _
+      (of_then _ (test.must_have_offset n) _ (of_then _ (test.must_allow_mode rs scope mode force) _ (inl (refl, tt))))
   course-names (commands.ClearMode subject) =
       of_then _ (test.must_be_open rs) _ (of_then _ (test.must_have_offset n) _ (
       of_found _ (own_mode rs (Some subject)) _ _ (λ mode _. inl (refl, tt)) (λ _. tt)))
@@ -113,9 +120,12 @@ pub deletes_name_greatest : EntriesAreInLimits → DeletesNameGreatest
 unfolding IsStep
 deletes_name_greatest fits rs n c reply batch step =
     elim (outcome-of (Deletes rs) n (course_of rs n c) reply batch (course-names rs n c) step) [
-      | inl none ↦ inl (subst (All (λ (r : Record). is_delete r.key ≡ false)) (sym none) (All-nil (λ (r : Record). is_delete r.key ≡ false)))
+      | inl none ↦ inl (
+          subst (All (λ (r : Record). is_delete r.key ≡ false)) (sym none) (All-nil (λ (r : Record). is_delete r.key ≡ false)))
       | inr some ↦ elim (some.2) [
-        | inl nothing ↦ inl (subst (All (λ (r : Record). is_delete r.key ≡ false)) (sym some.1) (numbered-all (λ r. is_delete r.key ≡ false) (λ n w none. none) n some.0 nothing))
+        | inl nothing ↦ inl (
+            subst (All (λ (r : Record). is_delete r.key ≡ false)) (sym some.1)
+            (numbered-all (λ r. is_delete r.key ≡ false) (λ n w none. none) n some.0 nothing))
         | inr one ↦ inr (record {
           subject = one.0;
           greatest = one.1;

@@ -52,11 +52,13 @@ MayBeGiven rs id = ((e : Entry) × Contains (entries rs) e × (e.id ≡ id)) ⊎
 
 -- entries of one place have one id
 abbrev pub PlacesHaveOneId : Records → Type 0
-PlacesHaveOneId rs = (e f : Entry) → Contains (entries rs) e → Contains (entries rs) f → e.subject ≡ f.subject → e.version ≡ f.version → e.id ≡ f.id
+PlacesHaveOneId rs =
+    (e f : Entry) → Contains (entries rs) e → Contains (entries rs) f → e.subject ≡ f.subject → e.version ≡ f.version → e.id ≡ f.id
 
 -- an entry in the place has that id
 abbrev pub KeepsId : Records → List ℕ → ℕ → ℕ → Type 0
-KeepsId rs subject version id = PlacesHaveOneId rs → (f : Entry) → Contains (entries rs) f → f.subject ≡ subject → f.version ≡ version → f.id ≡ id
+KeepsId rs subject version id =
+    PlacesHaveOneId rs → (f : Entry) → Contains (entries rs) f → f.subject ≡ subject → f.version ≡ version → f.id ≡ id
 
 -- what is written before a version: a mark, or nothing where the place keeps its id
 abbrev pub IsFirst : Records → List Writing → List ℕ → ℕ → ℕ → Type 0
@@ -69,7 +71,8 @@ pub record OneVersion (rs : Records) (ws : List Writing) : Type 0 where
   pub text : List ℕ
   pub deleted : Bool
   pub first : List Writing
-  pub one_writing : ws ≡ first ++ record { key = keys.Schema subject version; value = Some (values.Schema subject version id text deleted) } ∷ []
+  pub one_writing : ws
+      ≡ first ++ record { key = keys.Schema subject version; value = Some (values.Schema subject version id text deleted) } ∷ []
   pub version_fits : IsVersionOrId version
   pub id_fits : IsVersionOrId id
   pub schema : Meaning
@@ -92,7 +95,8 @@ abbrev pub AreSorted : Records → Reply → List Writing → Type 0
 AreSorted rs reply ws = AllByRecursion IsOther ws ⊎ (OneVersion rs ws ⊎ AreRemovals rs ws)
 
 -- the schema of a text whose normal text is known
-meaning_of : (o : Option Meaning) (normal : List ℕ) → option_map (λ meaning. meaning.normal_text) o ≡ Some normal → (schema : Meaning) × (o ≡ Some schema) × (schema.normal_text ≡ normal)
+meaning_of : (o : Option Meaning) (normal : List ℕ) → option_map (λ meaning. meaning.normal_text) o ≡ Some normal
+    → (schema : Meaning) × (o ≡ Some schema) × (schema.normal_text ≡ normal)
 meaning_of None normal is = absurd (cc)
 meaning_of (Some schema) normal is = (schema, refl, inside schema.normal_text normal is)
   where
@@ -102,7 +106,9 @@ meaning_of (Some schema) normal is = (schema, refl, inside schema.normal_text no
 -- an id that is imported may be given, and so may the id that a registration takes
 imported-given : (rs : Records) (id : ℕ) → test.must_be_above_mark rs id ≡ granted → MayBeGiven rs id
 imported-given rs id passed =
-    elim (or_cases (is_some (named rs id)) (nat_lt (id_mark rs) id) (unless_passed (is_some (named rs id) || nat_lt (id_mark rs) id) (refusals.NotPermitted reasons.IdIsNotAboveMark) passed)) [
+    elim (
+    or_cases (is_some (named rs id)) (nat_lt (id_mark rs) id)
+    (unless_passed (is_some (named rs id) || nat_lt (id_mark rs) id) (refusals.NotPermitted reasons.IdIsNotAboveMark) passed)) [
       | inl has ↦ elim (named rs id) as (λ o. named rs id ≡ o → is_some o ≡ true → MayBeGiven rs id) [
         | None ↦ λ _ some. absurd (false≢true some)
         | Some e ↦ λ is _. let found = named-stands rs id e is in inl (e, found.0, found.1)
@@ -117,11 +123,13 @@ new_id-given rs normal =
       | Some id ↦ λ is. let found = known-stands rs normal id is in inl (found.0, found.1, found.2)
     ] refl
 
-module _ (one : NoneIsOneTextEach) (read : EntriesAreRead) (fits : EntriesAreInLimits) (again : NormalTextsReadBack) (rs : Records) (n : ℕ) where
+module _ (one : NoneIsOneTextEach) (read : EntriesAreRead) (fits : EntriesAreInLimits)
+    (again : NormalTextsReadBack) (rs : Records) (n : ℕ) where
   abbrev Sorted : Course → Type 0
   Sorted c = Of (AreSorted rs) c
 
-  writes-of : (first : List Writing) (subject text : List ℕ) (schema : Meaning) (id version : ℕ) → schema_of text ≡ Some schema → NamesOnly rs id schema.normal_text → MayBeGiven rs id
+  writes-of : (first : List Writing) (subject text : List ℕ) (schema : Meaning) (id version : ℕ)
+      → schema_of text ≡ Some schema → NamesOnly rs id schema.normal_text → MayBeGiven rs id
       → IsFirst rs first subject version id → Sorted (writes first subject schema.normal_text id version)
   writes-of first subject text schema id version known names given before =
       of_passed _ (test.must_be_number id) _ (λ i. of_passed _ (test.must_be_number version) _ (λ v. inr (inl (record {
@@ -155,19 +163,28 @@ module _ (one : NoneIsOneTextEach) (read : EntriesAreRead) (fits : EntriesAreInL
       of_found _ (newest (filter (has_schema schema.normal_text) (live rs subject))) _ _ (λ same e. inl tt) (λ _ meets.
       let id = id_for rs schema.normal_text in
       let names = new_id-only rs (one_schema one rs (open_passed rs is)) schema.normal_text in
-      writes-of [] subject text schema id (next_version rs subject) known names (new_id-given rs schema.normal_text) (nothing_first subject id))))))) (λ _. tt)
+      writes-of [] subject text schema id (next_version rs subject) known names
+      (new_id-given rs schema.normal_text) (nothing_first subject id)))))))
+      (λ _. tt)
 
-  over-first : (subject : List ℕ) (version id : ℕ) (o : Option Entry) → version_in (entries rs) subject (Number version) true ≡ o → IsFirst rs (mark_over rs id o) subject version id
+  over-first : (subject : List ℕ) (version id : ℕ) (o : Option Entry)
+      → version_in (entries rs) subject (Number version) true ≡ o → IsFirst rs (mark_over rs id o) subject version id
   over-first subject version id None none = inl (refl, λ _ f stands same at. absurd (none_there rs subject version none f stands same at))
   over-first subject version id (Some e) is =
       let stands = meant-stands rs subject (Number version) e is in
       let place = one_there rs subject version e is in
       elim (e.id == id) as (λ b. (e.id == id) ≡ b → IsFirst rs (cond b [] (marked rs ∷ [])) subject version id) [
-        | true ↦ λ same. inl (refl, λ single f f_stands subject_same at. single f e f_stands stands (subject_same ∙ sym place.0) (at ∙ sym place.1) ∙ eqb-true e.id id same)
+        | true ↦ λ same.
+            inl (
+              refl,
+              λ single f f_stands subject_same at.
+                  single f e f_stands stands (subject_same ∙ sym place.0) (at ∙ sym place.1) ∙ eqb-true e.id id same,
+            )
         | false ↦ λ _. inr (refl, (e, stands))
       ] refl
 
-  import_as-of : (subject text : List ℕ) (schema : Meaning) (id : ℕ) (version : Option ℕ) → schema_of text ≡ Some schema → NamesOnly rs id schema.normal_text → MayBeGiven rs id → Sorted (import_as rs subject schema.normal_text id version)
+  import_as-of : (subject text : List ℕ) (schema : Meaning) (id : ℕ) (version : Option ℕ) → schema_of text ≡ Some schema
+      → NamesOnly rs id schema.normal_text → MayBeGiven rs id → Sorted (import_as rs subject schema.normal_text id version)
   import_as-of subject text schema id None known names given =
       of_found _ (newest (filter (is_of id schema.normal_text) (live rs subject))) _ _ (λ same e. inl tt) (λ _.
       writes-of [] subject text schema id (next_version rs subject) known names given (nothing_first subject id))
@@ -186,7 +203,9 @@ module _ (one : NoneIsOneTextEach) (read : EntriesAreRead) (fits : EntriesAreInL
       of_passed _ (test.must_name_no_other rs id schema.normal_text) _ (λ names.
       of_passed _ (test.must_be_above_mark rs id) _ (λ above.
       let no_other = if_passed (names_another rs id schema.normal_text) (refusals.NotPermitted reasons.IdNamesAnotherSchema) names in
-      import_as-of subject text schema id version known (named-only rs (one_schema one rs (open_passed rs is)) id schema.normal_text no_other) (imported-given rs id above))))))) (λ _. tt)
+      import_as-of subject text schema id version known
+      (named-only rs (one_schema one rs (open_passed rs is)) id schema.normal_text no_other) (imported-given rs id above)))))))
+      (λ _. tt)
 
   -- a soft delete writes the version's own id and text
   delete_entry-of : is_closed rs ≡ false → (permanent : Bool) (e : Entry) → Contains (entries rs) e → Sorted (delete_entry rs permanent e)
@@ -209,7 +228,8 @@ module _ (one : NoneIsOneTextEach) (read : EntriesAreRead) (fits : EntriesAreInL
         is_first = inl (refl, λ single f f_stands same at. single f e f_stands stands same at);
       })))
   delete_entry-of closed true e stands =
-      of_then _ (refuse_unless e.soft refusals.VersionNotSoftDeleted) _ (inr (inr (record { removed_ones = e ∷ []; are_removed = refl; one_stands = (e, stands) })))
+      of_then _ (refuse_unless e.soft refusals.VersionNotSoftDeleted) _
+      (inr (inr (record { removed_ones = e ∷ []; are_removed = refl; one_stands = (e, stands) })))
 
   delete_version-of : (subject : List ℕ) (version : VersionRef) (permanent : Bool) → Sorted (delete_version rs n subject version permanent)
   delete_version-of subject version permanent =
@@ -217,12 +237,15 @@ module _ (one : NoneIsOneTextEach) (read : EntriesAreRead) (fits : EntriesAreInL
       of_then _ (test.must_have_offset n) _ (
       of_then _ (must_allow_writes (mode rs (Some subject))) _ (
       of_then _ (test.must_stand rs subject) _ (
-      of_found _ (version_meant rs subject version) _ _ (λ e meant. delete_entry-of (open_passed rs is) permanent e (meant-stands rs subject version e meant)) (λ _. tt)))))
+      of_found _ (version_meant rs subject version) _ _
+      (λ e meant. delete_entry-of (open_passed rs is) permanent e (meant-stands rs subject version e meant)) (λ _. tt)))))
 
-  delete_all-of : (subject : List ℕ) (permanent : Bool) (greatest : ℕ) → greatest_version rs subject ≡ Some greatest → Sorted (delete_all rs subject permanent greatest)
+  delete_all-of : (subject : List ℕ) (permanent : Bool) (greatest : ℕ)
+      → greatest_version rs subject ≡ Some greatest → Sorted (delete_all rs subject permanent greatest)
   delete_all-of subject false greatest is = of_then _ (test.must_be_live rs subject) _ (inl ((refl, λ e. cc), tt))
   delete_all-of subject true greatest is =
-      of_then _ (test.must_not_be_live rs subject) _ (inr (inr (record { removed_ones = standing rs subject; are_removed = refl; one_stands = greatest-stands rs subject greatest is })))
+      of_then _ (test.must_not_be_live rs subject) _ (
+      inr (inr (record { removed_ones = standing rs subject; are_removed = refl; one_stands = greatest-stands rs subject greatest is })))
 
   delete_subject-of : (subject : List ℕ) (permanent : Bool) → Sorted (delete_subject rs n subject permanent)
   delete_subject-of subject permanent =
@@ -237,12 +260,14 @@ module _ (one : NoneIsOneTextEach) (read : EntriesAreRead) (fits : EntriesAreInL
   course-sorted (commands.DeleteVersion subject version permanent) = delete_version-of subject version permanent
   course-sorted (commands.DeleteSubject subject permanent) = delete_subject-of subject permanent
   course-sorted (commands.SetLevel scope level) =
-      of_then _ (test.must_be_open rs) _ (of_then _ (test.must_have_offset n) _ (of_then _ (must_allow_writes (mode rs scope)) _ (inl ((refl, λ e. cc), tt))))
+      of_then _ (test.must_be_open rs) _
+      (of_then _ (test.must_have_offset n) _ (of_then _ (must_allow_writes (mode rs scope)) _ (inl ((refl, λ e. cc), tt))))
   course-sorted (commands.ClearLevel subject) =
       of_then _ (test.must_be_open rs) _ (of_then _ (test.must_have_offset n) _ (of_then _ (must_allow_writes (mode rs (Some subject))) _ (
       of_found _ (own_level rs (Some subject)) _ _ (λ level _. inl ((refl, λ e. cc), tt)) (λ _. tt))))
   course-sorted (commands.SetMode scope mode force) =
-      of_then _ (test.must_be_open rs) _ (of_then _ (test.must_have_offset n) _ (of_then _ (test.must_allow_mode rs scope mode force) _ (inl ((refl, λ e. cc), tt))))
+      of_then _ (test.must_be_open rs) _
+      (of_then _ (test.must_have_offset n) _ (of_then _ (test.must_allow_mode rs scope mode force) _ (inl ((refl, λ e. cc), tt))))
   course-sorted (commands.ClearMode subject) =
       of_then _ (test.must_be_open rs) _ (of_then _ (test.must_have_offset n) _ (
       of_found _ (own_mode rs (Some subject)) _ _ (λ mode _. inl ((refl, λ e. cc), tt)) (λ _. tt)))

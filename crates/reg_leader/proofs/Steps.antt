@@ -41,9 +41,12 @@ met_passes [] all = refl
 met_passes (p ∷ ps) all = inl (All-head IsCompatible p ps all, met_passes ps (All-tail IsCompatible p ps all))
 
 module _ (single : HaveOneLevelVerdict) where
-  one_message : (level : Level) (new : List ℕ) (olds : List VersionText) (a b : List ℕ) → IsClash level new olds a → IsClash level new olds b → a ≡ b
+  one_message : (level : Level) (new : List ℕ) (olds : List VersionText) (a b : List ℕ)
+      → IsClash level new olds a → IsClash level new olds b → a ≡ b
   one_message level new olds a b (u, is, tells) (v, was, told) =
-      let same : Some a ≡ Some b = sym tells ∙ ap message_of (single (required_pairs level (nodes_in new) (versions_in olds)) u v is was) ∙ told in cc
+      let same : Some a ≡ Some b =
+      sym tells ∙ ap message_of (single (required_pairs level (nodes_in new) (versions_in olds)) u v is was) ∙ told in
+      cc
 
   not_met : (level : Level) (new : List ℕ) (olds : List VersionText) (a : List ℕ) → IsClash level new olds a → TextsMeet level new olds → ⊥
   not_met level new olds a (v, is, tells) met =
@@ -77,7 +80,8 @@ abbrev OneVersion : Records → List ℕ → List ℕ → Reply → List Writing
 OneVersion rs subject text reply ws = (ws ≡ []) ⊎ Registered rs subject text ws
 
 module _ (rs : Records) (n : ℕ) where
-  writes-of : (subject text : List ℕ) (schema : Meaning) (id version : ℕ) → schema_of text ≡ Some schema → TextsMeet (level rs (Some subject)) schema.normal_text (texts_of (live rs subject))
+  writes-of : (subject text : List ℕ) (schema : Meaning) (id version : ℕ) → schema_of text ≡ Some schema
+      → TextsMeet (level rs (Some subject)) schema.normal_text (texts_of (live rs subject))
       → Of (OneVersion rs subject text) (writes [] subject schema.normal_text id version)
   writes-of subject text schema id version known meets =
       of_then _ (test.must_be_number id) _ (of_then _ (test.must_be_number version) _ (

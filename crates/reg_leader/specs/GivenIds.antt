@@ -14,7 +14,8 @@ use Rattle.reg_leader.specs.Step.{IsStep}
 use Rattle.reg_leader.specs.declared.command.Command.{Command}
 use Rattle.reg_leader.specs.declared.reply.Reply.{Reply}
 
--- the id was given to that schema: no entry has it with another one, and it has an entry or is at most the mark, so that it is given to no other
+-- the id was given to that schema: no entry has it with another one, and it has an entry or is at most the mark, so that it is given to no
+-- other
 pub record IsGiven (rs : Records) (id : ℕ) (normal : List ℕ) : Type 0 where
   pub no_other : (e : Entry) → Contains (entries rs) e → e.id ≡ id → e.normal ≡ normal
   pub is_kept : ((e : Entry) × Contains (entries rs) e × (e.id ≡ id)) ⊎ (id ≤ id_mark rs)

@@ -73,7 +73,8 @@ abbrev pub delete_softly : Entry → Course
 delete_softly e = refuse_if e.soft refusals.VersionSoftDeleted ▸ Does (replies.Version e.version) (deleted_again e ∷ [])
 
 abbrev pub delete_permanently : Records → Entry → Course
-delete_permanently rs e = refuse_unless e.soft refusals.VersionNotSoftDeleted ▸ Does (replies.Version e.version) (marked rs ∷ removed e ∷ [])
+delete_permanently rs e =
+    refuse_unless e.soft refusals.VersionNotSoftDeleted ▸ Does (replies.Version e.version) (marked rs ∷ removed e ∷ [])
 
 -- the refusal where the version that is named isn't there
 abbrev pub no_version : VersionRef → Refusal

@@ -51,7 +51,9 @@ abbrev back_again : List ℕ
 back_again = codes "{\"type\":\"record\",\"name\":\"R\",\"fields\":[{\"name\":\"a\",\"type\":\"string\",\"default\":\"\"}]}"
 
 abbrev two : List VersionText
-two = (1, codes "{\"type\":\"record\",\"name\":\"R\",\"fields\":[{\"name\":\"a\",\"type\":\"int\"}]}") ∷ (2, codes "{\"type\":\"record\",\"name\":\"R\",\"fields\":[]}") ∷ []
+two =
+    (1, codes "{\"type\":\"record\",\"name\":\"R\",\"fields\":[{\"name\":\"a\",\"type\":\"int\"}]}")
+    ∷ (2, codes "{\"type\":\"record\",\"name\":\"R\",\"fields\":[]}") ∷ []
 
 reads_second : AreCompatible (nodes_in back_again) (nodes_in (codes "{\"type\":\"record\",\"name\":\"R\",\"fields\":[]}"))
 unfolding serde_json_on_literals
@@ -64,11 +66,16 @@ passes_backward = inl (reads_second, refl)
 abbrev mismatch : Trail
 mismatch = record { hops = hop.Field (codes "a") ∷ []; kind = clash.TypeMismatch }
 
-clashes_with_first : IsShown (nodes_in back_again) (nodes_in (codes "{\"type\":\"record\",\"name\":\"R\",\"fields\":[{\"name\":\"a\",\"type\":\"int\"}]}")) mismatch
+clashes_with_first : IsShown (nodes_in back_again)
+    (nodes_in (codes "{\"type\":\"record\",\"name\":\"R\",\"fields\":[{\"name\":\"a\",\"type\":\"int\"}]}")) mismatch
 unfolding serde_json_on_literals
 clashes_with_first = (0 ∷ [], refl, first)
   where
-    first : (ls : List ℕ) → IsSome (trail_along (nodes_in back_again) (nodes_in (codes "{\"type\":\"record\",\"name\":\"R\",\"fields\":[{\"name\":\"a\",\"type\":\"int\"}]}")) ls) → ComesFirst (0 ∷ []) ls
+    first : (ls : List ℕ)
+        → IsSome (
+        trail_along (nodes_in back_again)
+        (nodes_in (codes "{\"type\":\"record\",\"name\":\"R\",\"fields\":[{\"name\":\"a\",\"type\":\"int\"}]}")) ls)
+        → ComesFirst (0 ∷ []) ls
     first [] p = cc
     first (zero ∷ []) p = inr (refl, inr (refl, tt))
     first (suc k ∷ []) p = inr (refl, inl (omega arith))

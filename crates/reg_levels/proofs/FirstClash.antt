@@ -24,8 +24,10 @@ module _ (single : (r w : List Node) → HaveOneVerdict r w) where
   pub one_verdict : (ps : List Required) (u v : LevelVerdict) → IsVerdictOn ps u → IsVerdictOn ps v → u ≡ v
   one_verdict [] u v p q = p ∙ sym q
   one_verdict (p ∷ ps) u v (inl (c, is)) (inl (d, was)) = one_verdict ps u v is was
-  one_verdict (p ∷ ps) u v (inl (c, is)) (inr (trail, shown, was)) = let no : Compatible ≡ Clash trail = single p.reader p.writer Compatible (Clash trail) c shown in cc
-  one_verdict (p ∷ ps) u v (inr (trail, shown, is)) (inl (d, was)) = let no : Compatible ≡ Clash trail = single p.reader p.writer Compatible (Clash trail) d shown in cc
+  one_verdict (p ∷ ps) u v (inl (c, is)) (inr (trail, shown, was)) =
+      let no : Compatible ≡ Clash trail = single p.reader p.writer Compatible (Clash trail) c shown in cc
+  one_verdict (p ∷ ps) u v (inr (trail, shown, is)) (inl (d, was)) =
+      let no : Compatible ≡ Clash trail = single p.reader p.writer Compatible (Clash trail) d shown in cc
   one_verdict (p ∷ ps) u v (inr (trail, shown, is)) (inr (other, too, was)) =
       let same : Clash trail ≡ Clash other = single p.reader p.writer (Clash trail) (Clash other) shown too in
       let one : trail ≡ other = cc in

@@ -27,20 +27,27 @@ read-drop zero olds read = read
 read-drop (suc n) [] read = read
 read-drop (suc n) (old ∷ olds) read = read-drop n olds (rest (is_schema old.1) read)
   where
-    rest : (b : Bool) → option_map (λ o. o.0) (cond (not b) (Some old) (find (λ o. not (is_schema o.1)) olds)) ≡ None → first_unread olds ≡ None
+    rest : (b : Bool) → option_map (λ o. o.0) (cond (not b) (Some old) (find (λ o. not (is_schema o.1)) olds)) ≡ None
+        → first_unread olds ≡ None
     rest true read = read
     rest false read = cc
 
 -- where all old texts are read, each is
-pub read-each : {X : Type 0} (text : X → List ℕ) (olds : List (ℕ × X)) (n : ℕ) (d : ℕ × X) → first_unread (map (λ o. (o.0, text o.1)) olds) ≡ None
+pub read-each : {X : Type 0} (text : X → List ℕ) (olds : List (ℕ × X)) (n : ℕ) (d : ℕ × X)
+    → first_unread (map (λ o. (o.0, text o.1)) olds) ≡ None
     → n < length olds → is_schema (text (get_or olds n d).1) ≡ true
 read-each text [] n d read within = let no : n < 0 = within in absurd (omega arith)
 read-each text (o ∷ olds) zero d read within = first (is_schema (text o.1)) read
   where
-    first : (b : Bool) → option_map {T = VersionText} (λ v. v.0) (cond (not b) (Some (o.0, text o.1)) (find (λ v. not (is_schema v.1)) (map (λ v. (v.0, text v.1)) olds))) ≡ None → b ≡ true
+    first : (b : Bool)
+        → option_map {T = VersionText} (λ v. v.0)
+        (cond (not b) (Some (o.0, text o.1)) (find (λ v. not (is_schema v.1)) (map (λ v. (v.0, text v.1)) olds)))
+        ≡ None
+        → b ≡ true
     first true read = refl
     first false read = cc
-read-each text (o ∷ olds) (suc n) d read within = read-each text olds n d (read-drop 1 (map (λ v. (v.0, text v.1)) (o ∷ olds)) read) (omega arith)
+read-each text (o ∷ olds) (suc n) d read within =
+    read-each text olds n d (read-drop 1 (map (λ v. (v.0, text v.1)) (o ∷ olds)) read) (omega arith)
 
 -- The same where the texts are lent: text tells each.
 module _ {X : Type 0} (text : X → List ℕ) (level : Level) (olds : List (ℕ × X)) where
@@ -57,7 +64,8 @@ module _ {X : Type 0} (text : X → List ℕ) (level : Level) (olds : List (ℕ 
   looked_at-are_read read = ap first_unread texts_looked_at ∙ read-drop (passed_over level (length (texts olds))) (texts olds) read
 
   pub looked_at-decide : (new : List Node) (v : LevelVerdict) (some : List (ℕ × X)) → some ≡ looked_at level olds
-      → IsVerdictOn (flat_map (required_of level new) (reverse (map (λ old. (old.0, nodes_in (text old.1))) some))) v → IsLevelVerdict level new (versions_in (texts olds)) v
+      → IsVerdictOn (flat_map (required_of level new) (reverse (map (λ old. (old.0, nodes_in (text old.1))) some))) v
+      → IsLevelVerdict level new (versions_in (texts olds)) v
   looked_at-decide new v some same is =
       subst (λ vs. IsVerdictOn (flat_map (required_of level new) (reverse vs)) v)
       (ap (map (λ old. (old.0, nodes_in (text old.1)))) same

@@ -34,7 +34,8 @@ module _ {X : Type 0} (xs : List (ℕ × X)) where
     here = version_at i b within at_b
 
     -- one version more that is greater than the one before it
-    pub rising_more : a.0 < b.0 → ((k : ℕ) → k + 1 < i → slice_index versions k < slice_index versions (k + 1)) → (k : ℕ) → k + 1 < i + 1 → slice_index versions k < slice_index versions (k + 1)
+    pub rising_more : a.0 < b.0 → ((k : ℕ) → k + 1 < i → slice_index versions k < slice_index versions (k + 1))
+        → (k : ℕ) → k + 1 < i + 1 → slice_index versions k < slice_index versions (k + 1)
     rising_more less rises k h = elim (cases_lt (k + 1) i) [
       | inl lt ↦ rises k lt
       | inr ge ↦

@@ -28,11 +28,14 @@ use Rattle.reg_refusals.specs.declared.refusal.Refusal.{Refusal}
 use Rattle.reg_refusals.specs.declared.refusal.Refusal.TheVariants.{InvalidSchema, VersionNotFound}
 
 -- texts of entries whose versions rise
-pub texts_rise : (olds : List (ℕ × Bor (List ℕ))) (es : List Entry) → map {B = VersionText} (λ old. (old.0, old.1.now)) olds ≡ sought.texts_of es
+pub texts_rise : (olds : List (ℕ × Bor (List ℕ))) (es : List Entry)
+    → map {B = VersionText} (λ old. (old.0, old.1.now)) olds ≡ sought.texts_of es
     → sought.AreInVersionOrder es → pairs.HasRisingVersions olds
 texts_rise olds es same rise =
     subst IsStrictlyIncreasing
-    (sym (map-map (λ e. e.0) (λ (e : Entry). (e.version, e.text)) es) ∙ ap (map (λ old. old.0)) (sym same) ∙ map-map (λ old. old.0) (λ old. (old.0, old.1.now)) olds)
+    (sym (map-map (λ e. e.0) (λ (e : Entry). (e.version, e.text)) es)
+    ∙ ap (map (λ old. old.0)) (sym same)
+    ∙ map-map (λ old. old.0) (λ old. (old.0, old.1.now)) olds)
     rise
 
 unless_some : (fields : List (List ℕ)) (field : List ℕ) (m : Meaning) → Contains fields field → unless_bad fields m ≡ Err InvalidSchema
@@ -49,7 +52,8 @@ bad_refused field (Err e) text m failed bad means =
     ∙ unless_some (bad_defaults m.nodes) (field e) m bad
 
 -- once the schema is read, the versions are what is asked
-pub asked_read : (olds : Result (List VersionText) Refusal) (text : List ℕ) (m : Meaning) → read_sound_schema text ≡ Ok m → asked_on olds text ≡ olds
+pub asked_read : (olds : Result (List VersionText) Refusal) (text : List ℕ) (m : Meaning)
+    → read_sound_schema text ≡ Ok m → asked_on olds text ≡ olds
 asked_read olds text m read = ap (and_then (λ schema. olds)) read
 
 -- the verdict on what a text means is the text's
@@ -68,7 +72,10 @@ some_mapped f (Some a) b e = refl
 none_unread : (es : List Entry) → All HasSchema es → first_unread (sought.texts_of es) ≡ None
 none_unread [] all = refl
 none_unread (e ∷ es) all =
-    ap (λ b. option_map (λ old. old.0) (cond (not b) (Some (e.version, e.text)) (find (λ old. not (is_schema old.1)) (sought.texts_of es)))) (All-head HasSchema e es all)
+    ap
+    (λ b.
+    option_map (λ old. old.0) (cond (not b) (Some (e.version, e.text)) (find (λ old. not (is_schema old.1)) (sought.texts_of es))))
+    (All-head HasSchema e es all)
     ∙ none_unread es (All-tail HasSchema e es all)
 
 module _ (read : EntriesAreRead) (rs : Records) where
@@ -79,12 +86,20 @@ module _ (read : EntriesAreRead) (rs : Records) where
   pub live_are_read : (subject : List ℕ) → first_unread (sought.texts_of (sought.live_of (entries rs) subject)) ≡ None
   live_are_read subject =
       let all = All-weaker (Contains (entries rs)) HasSchema has_schema (entries rs) (All-contains_itself (entries rs)) in
-      none_unread (sought.live_of (entries rs) subject) (All-filter (sought.counts false) HasSchema (sought.of_subject (entries rs) subject) (All-filter (λ e. bytes_eq e.subject subject) HasSchema (entries rs) all))
+      none_unread (sought.live_of (entries rs) subject)
+      (All-filter (sought.counts false) HasSchema (sought.of_subject (entries rs) subject)
+      (All-filter (λ e. bytes_eq e.subject subject) HasSchema (entries rs) all))
 
   -- so is that of one that is found
-  pub found_is_read : FoundEntriesStand → (subject : List ℕ) (which : VersionRef) (e : Entry) → version_found (entries rs) subject which false ≡ Ok e → first_unread (sought.texts_of (e ∷ [])) ≡ None
+  pub found_is_read : FoundEntriesStand → (subject : List ℕ) (which : VersionRef) (e : Entry)
+      → version_found (entries rs) subject which false ≡ Ok e → first_unread (sought.texts_of (e ∷ [])) ≡ None
   found_is_read stand subject which e found =
-      none_unread (e ∷ []) (All-cons HasSchema e [] (has_schema e (stand (entries rs) subject which false e (entry_found (counted (entries rs) subject false) (version_in (entries rs) subject which false) found))) (All-nil HasSchema))
+      none_unread (e ∷ [])
+      (All-cons HasSchema e []
+      (has_schema e (
+      stand (entries rs) subject which false e
+      (entry_found (counted (entries rs) subject false) (version_in (entries rs) subject which false) found)))
+      (All-nil HasSchema))
     where
       entry_found : (c : Result (List Entry) Refusal) (o : Option Entry) → and_then (λ _. ok_or o VersionNotFound) c ≡ Ok e → o ≡ Some e
       entry_found (Err refusal) o is = cc

@@ -13,19 +13,27 @@ compact_text-place_data e subject h = rw h (simp append_assoc)
 -- an entry's object, whose subject and schema are written already
 abbrev entry_text : List ℕ → ℕ → ℕ → List ℕ → List ℕ
 entry_text subject version id schema =
-    codes "{\"subject\":" ++ (subject ++ (codes ",\"version\":" ++ (decimal version ++ (codes ",\"id\":" ++ (decimal id ++ (codes ",\"schema\":" ++ (schema ++ codes "}")))))))
+    codes "{\"subject\":"
+    ++ (
+    subject
+    ++ (
+    codes ",\"version\":"
+    ++ (decimal version ++ (codes ",\"id\":" ++ (decimal id ++ (codes ",\"schema\":" ++ (schema ++ codes "}")))))))
 
 entry_text-quoted : (e : Entry) → entry_text (quoted e.subject) e.version e.id (quoted e.text) ≡ entry_body e
 unfolding escape_byte
 entry_text-quoted e = simp append_assoc
 
-pub entry_text-written : (e : Entry) (subject schema : List ℕ) → subject ≡ quoted e.subject → schema ≡ quoted e.text → entry_text subject e.version e.id schema ≡ entry_body e
+pub entry_text-written : (e : Entry) (subject schema : List ℕ) → subject ≡ quoted e.subject
+    → schema ≡ quoted e.text → entry_text subject e.version e.id schema ≡ entry_body e
 entry_text-written e subject schema h k =
     ap (λ s. entry_text s e.version e.id schema) h ∙ ap (entry_text (quoted e.subject) e.version e.id) k ∙ entry_text-quoted e
 
 -- a clash's message, which is escaped already
 pub check_body-told : (ok : Bool) (message : List ℕ)
-    → ((codes "{\"is_compatible\":" ++ ((if ok then codes "true" else codes "false") ++ codes ",\"messages\":[\"")) ++ escape message) ++ codes "\"]}" ≡ check_body true ok (Some message)
+    → ((codes "{\"is_compatible\":" ++ ((if ok then codes "true" else codes "false") ++ codes ",\"messages\":[\"")) ++ escape message)
+    ++ codes "\"]}"
+    ≡ check_body true ok (Some message)
 unfolding escape_byte
 check_body-told true message = simp append_assoc
 check_body-told false message = simp append_assoc

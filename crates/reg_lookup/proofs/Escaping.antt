@@ -14,7 +14,8 @@ use Rattle.reg_lookup.specs.declared.in_string.InString.{InString}
 abbrev Escapes : InString → List ℕ → InString → Type 0
 Escapes s bs t = string_bytes t.text ≡ string_bytes s.text ++ escape bs
 
-in_turn : (w : InString) (parts : List (List ℕ)) (v : InString) → FoldsTo Escapes w parts v → string_bytes v.text ≡ string_bytes w.text ++ escape (concat parts)
+in_turn : (w : InString) (parts : List (List ℕ)) (v : InString) → FoldsTo Escapes w parts v
+    → string_bytes v.text ≡ string_bytes w.text ++ escape (concat parts)
 in_turn w [] v same = ap (λ (s : InString). string_bytes s.text) (sym same) ∙ sym (append-nil (string_bytes w.text))
 in_turn w (x ∷ xs) v steps =
     in_turn steps.0 xs v steps.2
@@ -23,11 +24,13 @@ in_turn w (x ∷ xs) v steps =
     ∙ ap (λ l. string_bytes w.text ++ l) (sym (flat_map-append escape_byte x (concat xs)))
 
 -- pieces that are escaped one after the other are escaped as one
-pub escaped_whole : (w : InString) (bs : List ℕ) (v : InString) → WritesInCalls Escapes w bs v → string_bytes v.text ≡ string_bytes w.text ++ escape bs
+pub escaped_whole : (w : InString) (bs : List ℕ) (v : InString)
+    → WritesInCalls Escapes w bs v → string_bytes v.text ≡ string_bytes w.text ++ escape bs
 escaped_whole w bs v calls = in_turn w calls.parts v calls.calls ∙ ap (λ l. string_bytes w.text ++ escape l) calls.whole
 
 -- one byte more that stands as it is
-pub plain_more : (bs : List ℕ) (i d : ℕ) → i < length bs → escape (take i bs) ≡ take i bs → escape_byte (get_or bs i d) ≡ get_or bs i d ∷ [] → escape (take (i + 1) bs) ≡ take (i + 1) bs
+pub plain_more : (bs : List ℕ) (i d : ℕ) → i < length bs → escape (take i bs) ≡ take i bs
+    → escape_byte (get_or bs i d) ≡ get_or bs i d ∷ [] → escape (take (i + 1) bs) ≡ take (i + 1) bs
 plain_more bs i d inside before here =
     ap escape (take_more bs i d inside)
     ∙ flat_map-append escape_byte (take i bs) (get_or bs i d ∷ [])
@@ -54,6 +57,8 @@ plain_byte x e =
 pub after_quote : (xs ys : List ℕ) → 34 ∷ xs ≡ 34 ∷ ys → xs ≡ ys
 after_quote xs ys same = ap (drop 1) same
 
-pub before_quote : (bs text : List ℕ) (r : Option (Bor (List ℕ))) → MatchOption r ((front : List ℕ) → bs ≢ front ++ 34 ∷ []) (λ x. bs ≡ x.now ++ 34 ∷ []) → bs ≡ text ++ 34 ∷ [] → option_copied r ≡ Some text
+pub before_quote : (bs text : List ℕ) (r : Option (Bor (List ℕ)))
+    → MatchOption r ((front : List ℕ) → bs ≢ front ++ 34 ∷ []) (λ x. bs ≡ x.now ++ 34 ∷ [])
+    → bs ≡ text ++ 34 ∷ [] → option_copied r ≡ Some text
 before_quote bs text None lacks is = absurd (lacks text is)
 before_quote bs text (Some x) has is = ap Some (append_cancel_right x.now text (34 ∷ []) (sym has ∙ is))

@@ -33,7 +33,8 @@ module _ {X : Type 0} where
       ap (find p) (reverse-append (x ∷ []) xs)
       ∙ find-append p (reverse xs) (x ∷ [])
       ∙ ap (λ o. option_or o (find p (x ∷ []))) (find_reverse p xs)
-      ∙ elim (p x) as (λ b. option_or (reduce later (filter p xs)) (cond b (Some x) None) ≡ reduce later (cond b (x ∷ filter p xs) (filter p xs))) [
+      ∙ elim (p x) as (λ b.
+      option_or (reduce later (filter p xs)) (cond b (Some x) None) ≡ reduce later (cond b (x ∷ filter p xs) (filter p xs))) [
         | true ↦ last_more x (filter p xs)
         | false ↦ last_same (filter p xs)
       ]
@@ -45,7 +46,8 @@ module _ {X : Type 0} where
     wins : (x y : X) → by x y ≡ Less → ord_max by x y ≡ y
     wins x y less = ap (λ o. cond (is_lt o) x y) ((on_total f nat_cmp_total).antisymm y x ∙ ap ordering_reverse less)
 
-    greatest_is_last : (x : X) (ys : List X) → AllByRecursion (λ y. by x y ≡ Less) ys → IsStrictlySortedBy by ys → fold (ord_max by) x ys ≡ fold later x ys
+    greatest_is_last : (x : X) (ys : List X) → AllByRecursion (λ y. by x y ≡ Less) ys
+        → IsStrictlySortedBy by ys → fold (ord_max by) x ys ≡ fold later x ys
     unfolding IsStrictlySortedBy
     greatest_is_last x [] h s = refl
     greatest_is_last x (y ∷ ys) h s = ap (λ a. fold (ord_max by) a ys) (wins x y h.0) ∙ greatest_is_last y ys s.0 s.1
@@ -65,7 +67,8 @@ module _ {X : Type 0} where
     sorted (x ∷ xs) s = (all_above x xs s.0, sorted xs s.1)
 
     -- where the items rise, it is the greatest of these
-    pub find_greatest : (p : X → Bool) (xs : List X) → IsStrictlyIncreasing (map f xs) → find p (reverse xs) ≡ reduce (ord_max by) (filter p xs)
+    pub find_greatest : (p : X → Bool) (xs : List X) → IsStrictlyIncreasing (map f xs)
+        → find p (reverse xs) ≡ reduce (ord_max by) (filter p xs)
     find_greatest p xs rise =
         find_reverse p xs
         ∙ sym (reduced (filter p xs) (IsStrictlySortedBy-filter by p xs (sorted xs (sorted_from_strictly_increasing (map f xs) rise))))

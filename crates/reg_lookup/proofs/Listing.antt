@@ -25,7 +25,8 @@ items_after-true : (ds : List Data) (d : Data) → items_after true (ds ++ d ∷
 items_after-true [] d = simp append-nil
 items_after-true (e ∷ ds) d = rw (items_after-true ds d) (simp append_assoc)
 
-items_after-push : (ds : List Data) (d : Data) → items_after false (ds ++ d ∷ []) ≡ items_after false ds ++ (separator_at (length ds) ++ compact_text d)
+items_after-push : (ds : List Data) (d : Data)
+    → items_after false (ds ++ d ∷ []) ≡ items_after false ds ++ (separator_at (length ds) ++ compact_text d)
 items_after-push [] d = simp append-nil
 items_after-push (e ∷ ds) d = rw (items_after-true ds d) (simp append_assoc)
 
@@ -33,7 +34,8 @@ items_after-push (e ∷ ds) d = rw (items_after-true ds d) (simp append_assoc)
 abbrev begun : {X : Type 0} → (X → Data) → List X → ℕ → List ℕ
 begun f xs n = 91 ∷ items_after false (map f (take n xs))
 
-begun-more : {X : Type 0} (f : X → Data) (xs : List X) (n : ℕ) (x : X) → n < length xs → x ≡ get_or xs n x → begun f xs (n + 1) ≡ begun f xs n ++ (separator_at n ++ compact_text (f x))
+begun-more : {X : Type 0} (f : X → Data) (xs : List X) (n : ℕ) (x : X) → n < length xs
+    → x ≡ get_or xs n x → begun f xs (n + 1) ≡ begun f xs n ++ (separator_at n ++ compact_text (f x))
 begun-more f xs n x h e =
     let one : take (n + 1) xs ≡ take n xs ++ x ∷ [] = take_more xs n x h ∙ ap (λ y. take n xs ++ y ∷ []) (sym e) in
     let items = ap (map f) one ∙ map-append f (take n xs) (x ∷ []) in
@@ -45,18 +47,22 @@ begun-more f xs n x h e =
 abbrev pub IsBegun : {X : Type 0} → (X → Data) → List X → ℕ → List ℕ → List ℕ → Type 0
 IsBegun f xs n separator text = (separator ≡ separator_at n) × (text ≡ begun f xs n)
 
-pub IsBegun-more : {X : Type 0} (f : X → Data) (xs : List X) (n : ℕ) (x : X) (separator text item new : List ℕ) → n < length xs → x ≡ get_or xs n x
+pub IsBegun-more : {X : Type 0} (f : X → Data) (xs : List X) (n : ℕ) (x : X) (separator text item new : List ℕ)
+    → n < length xs → x ≡ get_or xs n x
     → IsBegun f xs n separator text → item ≡ compact_text (f x) → new ≡ text ++ (separator ++ item) → IsBegun f xs (n + 1) (44 ∷ []) new
 IsBegun-more f xs n x separator text item new h e begun item_is new_is =
     (rw (add-one n) refl, new_is ∙ rw (begun.0, begun.1, item_is) (sym (begun-more f xs n x h e)))
 
 -- the same, where the item is read at its index
 pub IsBegun-at : {X : Type 0} (f : X → Data) (xs : List X) (n : ℕ) (d : X) (separator text item new : List ℕ) → n < length xs
-    → IsBegun f xs n separator text → item ≡ compact_text (f (get_or xs n d)) → new ≡ text ++ (separator ++ item) → IsBegun f xs (n + 1) (44 ∷ []) new
-IsBegun-at f xs n d separator text item new h = IsBegun-more f xs n (get_or xs n d) separator text item new h (get_or_default xs n d (get_or xs n d) h)
+    → IsBegun f xs n separator text → item ≡ compact_text (f (get_or xs n d))
+    → new ≡ text ++ (separator ++ item) → IsBegun f xs (n + 1) (44 ∷ []) new
+IsBegun-at f xs n d separator text item new h =
+    IsBegun-more f xs n (get_or xs n d) separator text item new h (get_or_default xs n d (get_or xs n d) h)
 
 -- the bracket closes the list
-pub IsBegun-all : {X Y : Type 0} (f : Y → Data) (g : X → Y) (xs : List X) (n : ℕ) (separator text : List ℕ) → length xs ≤ n → IsBegun (λ x. f (g x)) xs n separator text
+pub IsBegun-all : {X Y : Type 0} (f : Y → Data) (g : X → Y) (xs : List X) (n : ℕ) (separator text : List ℕ)
+    → length xs ≤ n → IsBegun (λ x. f (g x)) xs n separator text
     → text ++ 93 ∷ [] ≡ compact_text (array (items_of (map f (map g xs))))
 IsBegun-all f g xs n separator text h begun =
     let whole = ap (map (λ x. f (g x))) (take_all n xs h) ∙ sym (map-map f g xs) in

@@ -47,7 +47,8 @@ looked_at-pairs level new olds =
 
 -- what is told of these is told of all
 pub told_of_all : (level : Level) (text : List ℕ) (verbose : Bool) (olds : Result (List VersionText) Refusal) (a : Answer)
-    → TellsVerdict level text verbose (asked_on (found_map (looked_at level) olds) text) a → TellsVerdict level text verbose (asked_on olds text) a
+    → TellsVerdict level text verbose (asked_on (found_map (looked_at level) olds) text) a
+    → TellsVerdict level text verbose (asked_on olds text) a
 told_of_all level text verbose olds a told = by_schema (read_sound_schema text) olds told
   where
     by_schema : (read : Result Meaning Refusal) (olds : Result (List VersionText) Refusal)
@@ -74,18 +75,21 @@ read-drop zero olds read = read
 read-drop (suc n) [] read = read
 read-drop (suc n) (old ∷ olds) read = read-drop n olds (rest (is_schema old.1) read)
   where
-    rest : (b : Bool) → option_map (λ o. o.0) (cond (not b) (Some old) (find (λ o. not (is_schema o.1)) olds)) ≡ None → first_unread olds ≡ None
+    rest : (b : Bool) → option_map (λ o. o.0) (cond (not b) (Some old) (find (λ o. not (is_schema o.1)) olds)) ≡ None
+        → first_unread olds ≡ None
     rest true read = read
     rest false read = cc
 
 pub looked_at-are_read : (level : Level) (olds : List VersionText) → AreRead olds → AreRead (looked_at level olds)
-looked_at-are_read level olds read = (rising-drop (passed_over level (length olds)) olds read.0, read-drop (passed_over level (length olds)) olds read.1)
+looked_at-are_read level olds read =
+    (rising-drop (passed_over level (length olds)) olds read.0, read-drop (passed_over level (length olds)) olds read.1)
 
 -- what is copied of lent texts that are looked at
 abbrev pub told : ℕ × Bor (List ℕ) → VersionText
 told old = (old.0, old.1.now)
 
-module _ (l : Level) (lent looked : List (ℕ × Bor (List ℕ))) (copy : List VersionText) (at : looked ≡ looked_at l lent) (same : copy ≡ map told looked) where
+module _ (l : Level) (lent looked : List (ℕ × Bor (List ℕ))) (copy : List VersionText)
+    (at : looked ≡ looked_at l lent) (same : copy ≡ map told looked) where
   copied : copy ≡ looked_at l (map told lent)
   copied = same ∙ ap (map told) at ∙ looked_at-map told l lent
 

@@ -9,7 +9,8 @@ use Rattle.reg_messages.specs.declared.field.Field.{Field}
 field : List ℕ → List ℕ → Field
 field name value = record { name = name; value = value }
 
-two_lengths : told_length (field (codes "Content-Length") (codes "2") ∷ field (codes "content-length") (codes "2") ∷ []) ≡ Err refusals.BadRequest
+two_lengths : told_length (field (codes "Content-Length") (codes "2") ∷ field (codes "content-length") (codes "2") ∷ [])
+    ≡ Err refusals.BadRequest
 unfolding field
 two_lengths = refl
 

@@ -76,13 +76,15 @@ head-taken : (few : Bool) (start new : Option (List ℕ)) (after taken whole : L
     → take (length whole) after ≡ whole → Consumes start new taken
     → ((more : List ℕ) → front_of (taken ++ more) ≡ (if few then head whole more else no_head refusals.HeadTooLarge))
     → TakesFront start new after (if few then takens.Head (length whole) else takens.NoHead refusals.HeadTooLarge)
-head-taken true start new after taken whole fits same took known = (fits, taken, took, λ more. known more ∙ ap (λ w. head w more) (sym same))
+head-taken true start new after taken whole fits same took known =
+    (fits, taken, took, λ more. known more ∙ ap (λ w. head w more) (sym same))
 head-taken false start new after taken whole fits same took known = front-known start new taken (no_head refusals.HeadTooLarge) took known
 
 pub head-found : (start mid new : Option (List ℕ)) (blank : Blank) (before after : List ℕ) (limit len x : ℕ) → blank.next ≡ Some x
     → blank.count + limit ≡ HEAD_LIMIT → take 1 before ≡ x ∷ [] → limit ≤ length after → TakesBlank start mid blank
     → TakesHead mid new before after limit (ends.Found len) → TakesFront start new after (taken_head (take len after))
-head-found start mid new blank before after limit len x is room first wide (bytes, many, all, found) (taken, last, took, grown, within, none, ended) =
+head-found start mid new blank before after limit len x is room first wide
+    (bytes, many, all, found) (taken, last, took, grown, within, none, ended) =
     let whole = take len after in
     let fits : len ≤ length after = omega (arith, wide, within) in
     let (kept, begun) = first_taken start mid blank bytes x is found in
@@ -90,7 +92,9 @@ head-found start mid new blank before after limit len x is room first wide (byte
     let whole_is : whole ≡ x ∷ (taken ++ last ∷ []) = grown ∙ ap (λ f. f ++ (taken ++ last ∷ [])) first in
     head-taken (has_few_lines whole) start new after ((bytes ++ x ∷ []) ++ (taken ++ last ∷ [])) whole (omega (arith, size, fits))
     (ap (λ n. take n after) size) (Consumes-trans start mid new (bytes ++ x ∷ []) (taken ++ last ∷ []) begun took)
-    (λ more. front_of-whole bytes taken whole x last more kept all (omega (arith, many, room, size, within)) whole_is (subst (λ f. HasNoEnd f taken) first none) ended)
+    (λ more.
+    front_of-whole bytes taken whole x last more kept all
+    (omega (arith, many, room, size, within)) whole_is (subst (λ f. HasNoEnd f taken) first none) ended)
 
 -- as many bytes as were taken
 taken-size : (bytes taken : List ℕ) (x : ℕ) → length ((bytes ++ x ∷ []) ++ taken) ≡ length bytes + (length taken + 1)
@@ -103,7 +107,8 @@ head-cut start mid new blank before after limit x is room first (bytes, many, al
     let (kept, begun) = first_taken start mid blank bytes x is found in
     Consumes-whole start new ((bytes ++ x ∷ []) ++ taken) (λ text. front_of text ≡ no_head refusals.BadRequest)
     (Consumes-trans start mid new (bytes ++ x ∷ []) taken begun took) ended
-    (front_of-cut ((bytes ++ x ∷ []) ++ taken) bytes taken x kept all (subst (λ f. HasNoEnd f taken) first none) (append_assoc bytes (x ∷ []) taken)
+    (front_of-cut ((bytes ++ x ∷ []) ++ taken) bytes taken x kept all
+    (subst (λ f. HasNoEnd f taken) first none) (append_assoc bytes (x ∷ []) taken)
     (omega (arith, taken-size bytes taken x, many, room, few)))
 
 pub head-full : (start mid new : Option (List ℕ)) (blank : Blank) (before after : List ℕ) (limit x : ℕ) → blank.next ≡ Some x
@@ -121,6 +126,8 @@ pub head-short : (start mid new : Option (List ℕ)) (blank : Blank) (before : L
     → LosesHead mid new before limit → IfSome start (λ text. TakesShort text new)
 head-short start mid new blank before limit x is room first (bytes, many, all, found) (taken, took, none, few) =
     let (kept, begun) = first_taken start mid blank bytes x is found in
-    let cut = front_of-cut ((bytes ++ x ∷ []) ++ taken) bytes taken x kept all (subst (λ f. HasNoEnd f taken) first none) (append_assoc bytes (x ∷ []) taken)
+    let cut = front_of-cut ((bytes ++ x ∷ []) ++ taken) bytes taken x kept all
+    (subst (λ f. HasNoEnd f taken) first none) (append_assoc bytes (x ∷ []) taken)
     (omega (arith, taken-size bytes taken x, many, room, few)) in
-    short-known start new ((bytes ++ x ∷ []) ++ taken) (Consumes-trans start mid new (bytes ++ x ∷ []) taken begun took) (subst IsShort (sym cut) refl)
+    short-known start new ((bytes ++ x ∷ []) ++ taken)
+    (Consumes-trans start mid new (bytes ++ x ∷ []) taken begun took) (subst IsShort (sym cut) refl)

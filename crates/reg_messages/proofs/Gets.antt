@@ -36,18 +36,21 @@ gets-after (Some x) (Some y) new taken bytes h (gots.NoMemory wants) took known 
 pub short-body : (start mid new : Option (List ℕ)) (taken bytes : List ℕ) (h : RequestHead) → Consumes start mid taken
     → IsTakenAs taken bytes → IsHead bytes h → LosesBody mid new (body_length (fields_of h)) → IfSome start (λ text. TakesShort text new)
 short-body start mid new taken bytes h took known is (body, few, more) =
-    short-known start new (taken ++ body) (Consumes-trans start mid new taken body took more) (subst IsShort (sym (known body)) (h, is, few))
+    short-known start new (taken ++ body) (Consumes-trans start mid new taken body took more)
+    (subst IsShort (sym (known body)) (h, is, few))
 
 -- what is left after as many bytes as were stated
 left-whole : (len : ℕ) (bytes x y : List ℕ) → length bytes ≡ len → x ≡ bytes ++ y → Some y ≡ Some (drop len x)
-left-whole len bytes x y many is = sym (ap Some (ap (λ n. drop n x) (sym many) ∙ ap (λ t. drop (length bytes) t) is ∙ drop-append_seam bytes y))
+left-whole len bytes x y many is =
+    sym (ap Some (ap (λ n. drop n x) (sym many) ∙ ap (λ t. drop (length bytes) t) is ∙ drop-append_seam bytes y))
 
 -- nothing is left where there are fewer
 left-short : (len : ℕ) (bytes x y : List ℕ) → length bytes < len → x ≡ bytes ++ y → y ≡ [] → Some y ≡ Some (drop len x)
 left-short len bytes x y few is ended =
     ap Some (ended ∙ sym (drop_all len x (omega (arith, few, ap length is ∙ length-append bytes y, ap length ended))))
 
-left-of : (old new : Option (List ℕ)) (len : ℕ) (whole : Bool) → TakesAll old new len whole → IfSome old (λ after. new ≡ Some (drop len after))
+left-of : (old new : Option (List ℕ)) (len : ℕ) (whole : Bool)
+    → TakesAll old new len whole → IfSome old (λ after. new ≡ Some (drop len after))
 left-of None new len whole took = tt
 left-of (Some x) None len true (bytes, many, took) = absurd took
 left-of (Some x) (Some y) len true (bytes, many, took) = left-whole len bytes x y many took
@@ -68,19 +71,23 @@ body-short len bytes x y few is ended =
     rw beyond refl
 
 -- a message with the body that was taken, or none where memory was refused
-gets-with : (h : RequestHead) (old new : Option (List ℕ)) (body : Option (List ℕ)) (wants : Bool) (got : Got) → IsOk (told_length (fields_of h))
+gets-with : (h : RequestHead) (old new : Option (List ℕ)) (body : Option (List ℕ)) (wants : Bool) (got : Got)
+    → IsOk (told_length (fields_of h))
     → wants ≡ wants_close h → IfSome old (λ after. new ≡ Some (after_body h after)) → IfSome old (λ after. body ≡ body_after h after)
     → GetsWith h body wants got → GetsAfter h old new got
 gets-with h old new body wants gots.Over ok wanted left is gets = absurd gets
 gets-with h old new body wants (gots.Refused refusal) ok wanted left is gets = absurd gets
-gets-with h None new body wants (gots.Message method target fields body' wants') ok wanted left is (parts, as_wanted) = (ok, as_wanted ∙ wanted, tt)
+gets-with h None new body wants (gots.Message method target fields body' wants') ok wanted left is (parts, as_wanted) =
+    (ok, as_wanted ∙ wanted, tt)
 gets-with h (Some x) new body wants (gots.Message method target fields body' wants') ok wanted left is ((m, t, f, b), as_wanted) =
     (ok, as_wanted ∙ wanted, (left, (m, t, f, b ∙ is)))
 gets-with h None new body wants (gots.NoMemory wants') ok wanted left is as_wanted = (ok, as_wanted ∙ wanted, tt)
 gets-with h (Some x) new body wants (gots.NoMemory wants') ok wanted left is as_wanted = (ok, as_wanted ∙ wanted, left)
 
-pub gets-whole : (h : RequestHead) (old new : Option (List ℕ)) (bytes : List ℕ) (wants : Bool) (got : Got) → IsOk (told_length (fields_of h))
-    → wants ≡ wants_close h → TakesBody old new (body_length (fields_of h)) (bodies.Whole bytes) → GetsWith h (Some bytes) wants got → GetsAfter h old new got
+pub gets-whole : (h : RequestHead) (old new : Option (List ℕ)) (bytes : List ℕ) (wants : Bool) (got : Got)
+    → IsOk (told_length (fields_of h))
+    → wants ≡ wants_close h → TakesBody old new (body_length (fields_of h)) (bodies.Whole bytes)
+    → GetsWith h (Some bytes) wants got → GetsAfter h old new got
 gets-whole h None new bytes wants got ok wanted took gets = gets-with h None new (Some bytes) wants got ok wanted tt tt gets
 gets-whole h (Some x) None bytes wants got ok wanted (many, took) gets = absurd took
 gets-whole h (Some x) (Some y) bytes wants got ok wanted (many, took) gets =
@@ -88,7 +95,8 @@ gets-whole h (Some x) (Some y) bytes wants got ok wanted (many, took) gets =
     (body-whole (body_length (fields_of h)) bytes x y many took) gets
 
 pub gets-short : (h : RequestHead) (old new : Option (List ℕ)) (wants : Bool) (got : Got) → IsOk (told_length (fields_of h))
-    → wants ≡ wants_close h → TakesBody old new (body_length (fields_of h)) bodies.Short → GetsWith h None wants got → GetsAfter h old new got
+    → wants ≡ wants_close h → TakesBody old new (body_length (fields_of h)) bodies.Short
+    → GetsWith h None wants got → GetsAfter h old new got
 gets-short h None new wants got ok wanted took gets = gets-with h None new None wants got ok wanted tt tt gets
 gets-short h (Some x) None wants got ok wanted (bytes, few, took, ended) gets = absurd took
 gets-short h (Some x) (Some y) wants got ok wanted (bytes, few, took, ended) gets =

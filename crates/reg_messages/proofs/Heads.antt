@@ -47,12 +47,14 @@ one_skipped true r n m all same = let e = same all in omega (arith, e)
 one_skipped false r n m all same = absurd (cc)
 
 -- as many are skipped as stand before
-skipped_len-blank : (blank rest : List ℕ) (x : ℕ) → list_all is_skipped blank ≡ true → is_skipped x ≡ false → skipped_len (blank ++ x ∷ rest) ≡ length blank
+skipped_len-blank : (blank rest : List ℕ) (x : ℕ) → list_all is_skipped blank ≡ true
+    → is_skipped x ≡ false → skipped_len (blank ++ x ∷ rest) ≡ length blank
 skipped_len-blank [] rest x all kept = rw kept refl
 skipped_len-blank (b ∷ blank) rest x all kept = one_skipped _ _ _ _ all (λ e. skipped_len-blank blank rest x e kept)
 
 -- what is taken and dropped of three parts, of which the first two are within
-take-parts : (blank whole rest : List ℕ) (n m : ℕ) → n ≡ length blank + (length whole + m) → take n (blank ++ (whole ++ rest)) ≡ blank ++ (whole ++ take m rest)
+take-parts : (blank whole rest : List ℕ) (n m : ℕ) → n ≡ length blank + (length whole + m)
+    → take n (blank ++ (whole ++ rest)) ≡ blank ++ (whole ++ take m rest)
 take-parts blank whole rest n m e =
     ap (λ k. take k (blank ++ (whole ++ rest))) e
     ∙ take-append-add blank (whole ++ rest) (length whole + m)
@@ -65,7 +67,8 @@ drop-parts blank whole rest n m e =
     ∙ drop-append-add whole rest m
 
 -- a head that was read within the limit is what stands at the front
-pub front_of-found : (text blank whole rest : List ℕ) (x : ℕ) (xs : List ℕ) → whole ≡ x ∷ xs → is_skipped x ≡ false → list_all is_skipped blank ≡ true
+pub front_of-found : (text blank whole rest : List ℕ) (x : ℕ) (xs : List ℕ)
+    → whole ≡ x ∷ xs → is_skipped x ≡ false → list_all is_skipped blank ≡ true
     → length blank + length whole ≤ HEAD_LIMIT → text ≡ blank ++ (whole ++ rest)
     → ((more : List ℕ) → cut_head (whole ++ more) ≡ Some (whole, more))
     → front_of text ≡ (if has_few_lines whole then head whole rest else no_head refusals.HeadTooLarge)
@@ -75,13 +78,15 @@ front_of-found text blank whole rest x xs starts kept all fits is cut =
     let parts : HEAD_LIMIT ≡ length blank + (length whole + m) = omega (arith, fits) in
     let not_over : list_all is_skipped text ≡ false =
     ap (λ t. list_all is_skipped t) (is ∙ ap (λ w. blank ++ (w ++ rest)) starts) ∙ not_all blank (xs ++ rest) x kept in
-    let window : within_limit text ≡ blank ++ (whole ++ take m rest) = ap (λ t. take HEAD_LIMIT t) is ∙ take-parts blank whole rest HEAD_LIMIT m parts in
+    let window : within_limit text ≡ blank ++ (whole ++ take m rest) =
+    ap (λ t. take HEAD_LIMIT t) is ∙ take-parts blank whole rest HEAD_LIMIT m parts in
     let skips : skipped_len (within_limit text) ≡ length blank =
     ap skipped_len (window ∙ ap (λ w. blank ++ (w ++ take m rest)) starts) ∙ skipped_len-blank blank (xs ++ take m rest) x all kept in
     let left : drop (skipped_len (within_limit text)) (within_limit text) ≡ whole ++ take m rest =
     ap (λ n. drop n (within_limit text)) skips ∙ ap (λ t. drop (length blank) t) window ∙ drop-append_seam blank (whole ++ take m rest) in
     let after : take m rest ++ drop HEAD_LIMIT text ≡ rest =
-    ap (λ t. take m rest ++ t) (ap (λ t. drop HEAD_LIMIT t) is ∙ drop-parts blank whole rest HEAD_LIMIT m parts) ∙ take-append-drop m rest in
+    ap (λ t. take m rest ++ t) (ap (λ t. drop HEAD_LIMIT t) is ∙ drop-parts blank whole rest HEAD_LIMIT m parts)
+    ∙ take-append-drop m rest in
     rw (not_over, left, cut (take m rest), after) refl
 
 -- bytes without an empty line, fewer than a head may have, are a head that was cut
@@ -117,7 +122,8 @@ skipped_len-all (b ∷ bytes) all = one_skipped _ _ _ _ all (λ e. skipped_len-a
 -- a front of them is skipped too
 all_skipped-take : (n : ℕ) (bytes : List ℕ) → list_all is_skipped bytes ≡ true → list_all is_skipped (take n bytes) ≡ true
 all_skipped-take n bytes all =
-    and-left _ _ (sym (list_all-append is_skipped (take n bytes) (drop n bytes)) ∙ ap (λ t. list_all is_skipped t) (take-append-drop n bytes) ∙ all)
+    and-left _ _ (
+    sym (list_all-append is_skipped (take n bytes) (drop n bytes)) ∙ ap (λ t. list_all is_skipped t) (take-append-drop n bytes) ∙ all)
 
 -- skipped bytes alone, no more than a head may have, are no request
 pub front_of-over : (bytes : List ℕ) → length bytes ≤ HEAD_LIMIT → list_all is_skipped bytes ≡ true → front_of bytes ≡ over
@@ -132,7 +138,8 @@ pub front_of-blank : (text blank rest : List ℕ) → text ≡ blank ++ rest →
 unfolding front_of
 front_of-blank text blank rest is all many long =
     let too_long : nat_le (length text) HEAD_LIMIT ≡ false = le-false (length text) HEAD_LIMIT long in
-    let not_over : (list_all is_skipped text && nat_le (length text) HEAD_LIMIT) ≡ false = rw too_long (and-false (list_all is_skipped text)) in
+    let not_over : (list_all is_skipped text && nat_le (length text) HEAD_LIMIT) ≡ false =
+    rw too_long (and-false (list_all is_skipped text)) in
     let window : within_limit text ≡ take HEAD_LIMIT blank = ap (λ t. take HEAD_LIMIT t) is ∙ take-append-le HEAD_LIMIT blank rest many in
     let skips : skipped_len (within_limit text) ≡ length (take HEAD_LIMIT blank) =
     ap skipped_len window ∙ skipped_len-all (take HEAD_LIMIT blank) (all_skipped-take HEAD_LIMIT blank all) in
@@ -150,7 +157,9 @@ unfolding front_of
 front_of-full text blank taken rest x kept all none is many =
     let not_over : list_all is_skipped text ≡ false = ap (λ t. list_all is_skipped t) is ∙ not_all blank (taken ++ rest) x kept in
     let window : within_limit text ≡ blank ++ x ∷ taken =
-    ap (λ t. take HEAD_LIMIT t) is ∙ take-parts blank (x ∷ taken) rest HEAD_LIMIT 0 (omega (arith, many)) ∙ ap (λ t. blank ++ t) (append-nil (x ∷ taken)) in
+    ap (λ t. take HEAD_LIMIT t) is
+    ∙ take-parts blank (x ∷ taken) rest HEAD_LIMIT 0 (omega (arith, many))
+    ∙ ap (λ t. blank ++ t) (append-nil (x ∷ taken)) in
     let skips : skipped_len (within_limit text) ≡ length blank = ap skipped_len window ∙ skipped_len-blank blank taken x all kept in
     let left : drop (skipped_len (within_limit text)) (within_limit text) ≡ x ∷ taken =
     ap (λ n. drop n (within_limit text)) skips ∙ ap (λ t. drop (length blank) t) window ∙ drop-append_seam blank (x ∷ taken) in
@@ -163,13 +172,17 @@ front_of-full text blank taken rest x kept all none is many =
 
 -- a head that was read whole, whatever stands after it
 pub front_of-whole : (blank taken whole : List ℕ) (x last : ℕ) (more : List ℕ) → is_skipped x ≡ false → list_all is_skipped blank ≡ true
-    → length blank + length whole ≤ HEAD_LIMIT → whole ≡ x ∷ (taken ++ last ∷ []) → HasNoEnd (x ∷ []) taken → ends_in_empty_line whole ≡ true
-    → front_of (((blank ++ x ∷ []) ++ (taken ++ last ∷ [])) ++ more) ≡ (if has_few_lines whole then head whole more else no_head refusals.HeadTooLarge)
+    → length blank + length whole ≤ HEAD_LIMIT → whole ≡ x ∷ (taken ++ last ∷ [])
+    → HasNoEnd (x ∷ []) taken → ends_in_empty_line whole ≡ true
+    → front_of (((blank ++ x ∷ []) ++ (taken ++ last ∷ [])) ++ more)
+    ≡ (if has_few_lines whole then head whole more else no_head refusals.HeadTooLarge)
 front_of-whole blank taken whole x last more kept all fits is none ends =
     let rest = taken ++ last ∷ [] in
     let unended : ends_in_empty_line (x ∷ []) ≡ false = ap (λ b. b || b) (and-false (nat_eq 10 x)) in
     let text_is : ((blank ++ x ∷ []) ++ rest) ++ more ≡ blank ++ (whole ++ more) =
-    append_assoc (blank ++ x ∷ []) rest more ∙ append_assoc blank (x ∷ []) (rest ++ more) ∙ ap (λ w. blank ++ w) (sym (ap (λ w. w ++ more) is)) in
+    append_assoc (blank ++ x ∷ []) rest more
+    ∙ append_assoc blank (x ∷ []) (rest ++ more)
+    ∙ ap (λ w. blank ++ w) (sym (ap (λ w. w ++ more) is)) in
     let cut = λ (after : List ℕ). ap (λ w. cut_head (w ++ after)) is ∙ ap (λ w. cut_head (x ∷ w)) (append_assoc taken (last ∷ []) after)
     ∙ cut_after-found [] (x ∷ taken) whole after last (unended, none) is ends in
     front_of-found (((blank ++ x ∷ []) ++ rest) ++ more) blank whole more x rest is kept all fits text_is cut

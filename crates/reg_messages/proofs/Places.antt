@@ -15,7 +15,8 @@ field_from : List ℕ × List ℕ → Field
 field_from p = record { name = p.0; value = p.1 }
 
 -- the fields at the places of a head's fields
-pub fields-at : (bytes : List ℕ) (spans : List HeaderSpan) (fields : List grammar.Field) → map (header_bytes bytes) spans ≡ map name_and_value fields
+pub fields-at : (bytes : List ℕ) (spans : List HeaderSpan) (fields : List grammar.Field)
+    → map (header_bytes bytes) spans ≡ map name_and_value fields
     → map (field_at bytes) spans ≡ map field_of fields
 unfolding field_from
 fields-at bytes [] [] same = refl

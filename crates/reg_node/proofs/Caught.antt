@@ -93,14 +93,16 @@ module _ (grows : LogsGrow) where
   log_grows t [] r h = h
   log_grows t (i ∷ is) r h = log_grows (after_item t i) is r (grows t i r h)
 
-  log_of_front : (first : Held) (f g : List Item) → IsPrefix f g → (r : Record) → contains (topic_at first f).log r ≡ true → contains (topic_at first g).log r ≡ true
+  log_of_front : (first : Held) (f g : List Item) → IsPrefix f g → (r : Record)
+      → contains (topic_at first f).log r ≡ true → contains (topic_at first g).log r ≡ true
   log_of_front first f g p r h = ap (λ (t : Topic). contains t.log r) (goes_on first f g p) ∙ log_grows (topic_at first f) p.0 r h
 
   pub caught_stays : LastIsGreatest → LaterRecordsAreNews → OffsetsRise → FloorsRise → CaughtStays
   caught_stays greatest news rise floors first f g ds upto p c =
       let same : topic_at first g ≡ after_items (topic_at first f) p.0 = goes_on first f g p in
       let next : (topic_at first g).next ≡ (after_items (topic_at first f) p.0).next = ap (λ (t : Topic). t.next) same in
-      let floor : (topic_at first g).kept.floor ≡ (after_items (topic_at first f) p.0).kept.floor = ap (λ (t : Topic). t.kept.floor) same in record {
+      let floor : (topic_at first g).kept.floor ≡ (after_items (topic_at first f) p.0).kept.floor = ap (λ (t : Topic). t.kept.floor) same in
+      record {
         drawn = drawn_longer first empty 0 [] f g ds c.drawn p;
         reached = omega (arith, c.reached, rise (topic_at first f) p.0, next);
         low = c.low;
@@ -108,8 +110,10 @@ module _ (grows : LogsGrow) where
         below = c.below;
         lasts = λ key r is low.
             let top : IsGreatestOf (topic_at first g).log key r = (greatest (topic_at first g).log key r).0 is in
-            let within : contains (after_items (topic_at first f) p.0).log r ≡ true = sym (ap (λ (t : Topic). contains t.log r) same) ∙ top.is_in_set in
-            let old : contains (topic_at first f).log r ≡ true = one_of (λ h. h) (λ high. absurd (omega (arith, c.reached, low, high))) (news (topic_at first f) p.0 r within) in
+            let within : contains (after_items (topic_at first f) p.0).log r ≡ true =
+            sym (ap (λ (t : Topic). contains t.log r) same) ∙ top.is_in_set in
+            let old : contains (topic_at first f).log r ≡ true =
+            one_of (λ h. h) (λ high. absurd (omega (arith, c.reached, low, high))) (news (topic_at first f) p.0 r within) in
             let still : last (topic_at first f).log key ≡ Some r = (greatest (topic_at first f).log key r).1 (record {
               is_in_set = old;
               is_of_key = top.is_of_key;
@@ -119,7 +123,8 @@ module _ (grows : LogsGrow) where
       }
 
 module _ (order : IsTotalOrder record_cmp) (apart : IsAntisymmetric record_cmp) where
-  in_takes : (s : Records) (read : ℕ) (records : List Record) (r : Record) → contains (fold with_draw s (takes_of read records)) r ≡ (contains s r || contains (from_list {R = record_cmp} records) r)
+  in_takes : (s : Records) (read : ℕ) (records : List Record) (r : Record)
+      → contains (fold with_draw s (takes_of read records)) r ≡ (contains s r || contains (from_list {R = record_cmp} records) r)
   in_takes s read [] r = or_none (contains s r) _ (contains-from_list order [] r)
   in_takes s read (d ∷ ds) r =
       in_takes (insert s d) read ds r
@@ -138,7 +143,9 @@ module _ (order : IsTotalOrder record_cmp) (apart : IsAntisymmetric record_cmp) 
   in_below : (f : ℕ) (s : Records) (r : Record) → contains (below f s) r ≡ (contains s r && nat_lt r.offset f)
   in_below f s r = contains-retain s (λ q. nat_lt q.offset f) r (λ x e. ap (λ (q : Record). nat_lt q.offset f) (sym (apart r x e)))
 
-  in_rebased : (s : Records) (other : Floored) (r : Record) → contains (rebased s other) r ≡ ((contains s r && nat_le other.floor r.offset) || (contains other.records r && nat_lt r.offset other.floor))
+  in_rebased : (s : Records) (other : Floored) (r : Record)
+      → contains (rebased s other) r
+      ≡ ((contains s r && nat_le other.floor r.offset) || (contains other.records r && nat_lt r.offset other.floor))
   in_rebased s other r =
       contains-union order (from_floor other.floor s) (below other.floor other.records) r
       ∙ (λ i. in_from other.floor s r i || in_below other.floor other.records r i)
@@ -168,59 +175,85 @@ module _ (order : IsTotalOrder record_cmp) (apart : IsAntisymmetric record_cmp) 
         ⊎ ((contains kept.records r ≡ true) × ((max upto kept.floor ≤ r.offset) ⊎ ((floor ≢ kept.floor) × (r.offset < kept.floor))))
 
   -- what is new is kept, from both offsets on
-  new_kept : (kept : Floored) (upto : ℕ) (records : List Record) → IsSince kept.records (max upto kept.floor) records → (r : Record) → contains (from_list {R = record_cmp} records) r ≡ true
+  new_kept : (kept : Floored) (upto : ℕ) (records : List Record) → IsSince kept.records (max upto kept.floor) records
+      → (r : Record) → contains (from_list {R = record_cmp} records) r ≡ true
       → (contains kept.records r ≡ true) × (max upto kept.floor ≤ r.offset)
   new_kept kept upto records since r within =
       let parts = both_true (contains kept.records r) (nat_le (max upto kept.floor) r.offset) (sym (since r) ∙ within) in
       (parts.0, leb-true (max upto kept.floor) r.offset parts.1)
 
-  new_in : (kept : Floored) (upto : ℕ) (records : List Record) → IsSince kept.records (max upto kept.floor) records → (r : Record) → contains kept.records r ≡ true → max upto kept.floor ≤ r.offset
+  new_in : (kept : Floored) (upto : ℕ) (records : List Record) → IsSince kept.records (max upto kept.floor) records
+      → (r : Record) → contains kept.records r ≡ true → max upto kept.floor ≤ r.offset
       → contains (from_list {R = record_cmp} records) r ≡ true
   new_in kept upto records since r k high = since r ∙ both k (le-leb (max upto kept.floor) r.offset high)
 
-  adds_takes : (kept : Floored) (floor upto read : ℕ) (before : Records) (records : List Record) → floor ≡ kept.floor → IsSince kept.records (max upto kept.floor) records
+  adds_takes : (kept : Floored) (floor upto read : ℕ) (before : Records) (records : List Record)
+      → floor ≡ kept.floor → IsSince kept.records (max upto kept.floor) records
       → Adds kept floor upto before (fold with_draw before (takes_of read records))
   adds_takes kept floor upto read before records same since = record {
     new = λ r k high. in_takes before read records r ∙ or_right (contains before r) _ (new_in kept upto records since r k high);
     stays = λ r h high. in_takes before read records r ∙ or_left (contains before r) _ h;
     stays_low = λ e r h. in_takes before read records r ∙ or_left (contains before r) _ h;
     low = λ n r k l. absurd (n same);
-    from = λ r h. elim (either (contains before r) (contains (from_list {R = record_cmp} records) r) (sym (in_takes before read records r) ∙ h)) [
-      | inl old ↦ inl (old, inl same)
-      | inr is ↦ let facts = new_kept kept upto records since r is in inr (facts.0, inl facts.1)
-    ];
+    from =
+        λ r h.
+        elim (either (contains before r) (contains (from_list {R = record_cmp} records) r) (sym (in_takes before read records r) ∙ h)) [
+          | inl old ↦ inl (old, inl same)
+          | inr is ↦ let facts = new_kept kept upto records since r is in inr (facts.0, inl facts.1)
+        ];
   }
 
-  adds_base : (kept : Floored) (floor upto read : ℕ) (before : Records) (records : List Record) → floor ≢ kept.floor → IsSince kept.records (max upto kept.floor) records
+  adds_base : (kept : Floored) (floor upto read : ℕ) (before : Records) (records : List Record)
+      → floor ≢ kept.floor → IsSince kept.records (max upto kept.floor) records
       → Adds kept floor upto before (fold with_draw (rebased before kept) (takes_of read records))
   adds_base kept floor upto read before records other since =
-      let here : (r : Record) → contains (fold with_draw (rebased before kept) (takes_of read records)) r ≡ (contains (rebased before kept) r || contains (from_list {R = record_cmp} records) r) = in_takes (rebased before kept) read records in
+      let here : (r : Record)
+      → contains (fold with_draw (rebased before kept) (takes_of read records)) r
+      ≡ (contains (rebased before kept) r || contains (from_list {R = record_cmp} records) r) =
+      in_takes (rebased before kept) read records in
       let own : (r : Record) → contains before r ≡ true → kept.floor ≤ r.offset → contains (rebased before kept) r ≡ true =
-      λ r h high. in_rebased before kept r ∙ or_left (contains before r && nat_le kept.floor r.offset) _ (both h (le-leb kept.floor r.offset high)) in record {
+      λ r h high.
+      in_rebased before kept r
+      ∙ or_left (contains before r && nat_le kept.floor r.offset) _ (both h (le-leb kept.floor r.offset high)) in record {
         new = λ r k high. here r ∙ or_right (contains (rebased before kept) r) _ (new_in kept upto records since r k high);
         stays = λ r h high. here r ∙ or_left (contains (rebased before kept) r) _ (own r h high);
         stays_low = λ e r h. absurd (other e);
         low = λ n r k l. here r ∙ or_left (contains (rebased before kept) r) _
-            (in_rebased before kept r ∙ or_right (contains before r && nat_le kept.floor r.offset) _ (both k (lt-ltb r.offset kept.floor l)));
-        from = λ r h. elim (either (contains (rebased before kept) r) (contains (from_list {R = record_cmp} records) r) (sym (here r) ∙ h)) [
-          | inl old ↦ elim (either (contains before r && nat_le kept.floor r.offset) (contains kept.records r && nat_lt r.offset kept.floor) (sym (in_rebased before kept r) ∙ old)) [
-            | inl mine ↦ let parts = both_true (contains before r) (nat_le kept.floor r.offset) mine in inl (parts.0, inr (leb-true kept.floor r.offset parts.1))
-            | inr its ↦ let parts = both_true (contains kept.records r) (nat_lt r.offset kept.floor) its in inr (parts.0, inr (other, ltb-true r.offset kept.floor parts.1))
-          ]
-          | inr is ↦ let facts = new_kept kept upto records since r is in inr (facts.0, inl facts.1)
-        ];
+            (in_rebased before kept r
+            ∙ or_right (contains before r && nat_le kept.floor r.offset) _ (both k (lt-ltb r.offset kept.floor l)));
+        from =
+            λ r h. elim (either (contains (rebased before kept) r) (contains (from_list {R = record_cmp} records) r) (sym (here r) ∙ h)) [
+              | inl old ↦ elim (
+                  either (contains before r && nat_le kept.floor r.offset)
+                  (contains kept.records r && nat_lt r.offset kept.floor) (sym (in_rebased before kept r) ∙ old)) [
+                    | inl mine ↦
+                        let parts = both_true (contains before r) (nat_le kept.floor r.offset) mine in
+                        inl (parts.0, inr (leb-true kept.floor r.offset parts.1))
+                    | inr its ↦
+                        let parts = both_true (contains kept.records r) (nat_lt r.offset kept.floor) its in
+                        inr (parts.0, inr (other, ltb-true r.offset kept.floor parts.1))
+                  ]
+              | inr is ↦ let facts = new_kept kept upto records since r is in inr (facts.0, inl facts.1)
+            ];
       }
 
-  module _ (grows : LogsGrow) (keeps : KeptStaysCompaction) (below_next : FloorsStayBelow) (itself : EachIsItsOwnCompaction) (greatest : LastIsGreatest) (none : NoLastIsNoRecord) where
-    is_kept : (first : Held) (f : List Item) → first.kept.floor ≤ first.next → IsCompactionOf (topic_at first f).kept (whole_log (topic_at first f))
-    is_kept first f low = keeps (base_of first) f low (record { floor_rises = omega arith; is_below_floor = (itself first.kept).is_below_floor })
+  module _ (grows : LogsGrow) (keeps : KeptStaysCompaction) (below_next : FloorsStayBelow)
+      (itself : EachIsItsOwnCompaction) (greatest : LastIsGreatest) (none : NoLastIsNoRecord) where
+    is_kept : (first : Held) (f : List Item) → first.kept.floor ≤ first.next
+        → IsCompactionOf (topic_at first f).kept (whole_log (topic_at first f))
+    is_kept first f low =
+        keeps (base_of first) f low (record { floor_rises = omega arith; is_below_floor = (itself first.kept).is_below_floor })
 
-    kept_of_log : (first : Held) (f : List Item) → first.kept.floor ≤ first.next → (r : Record) → contains (topic_at first f).kept.records r ≡ true → contains (topic_at first f).log r ≡ true
+    kept_of_log : (first : Held) (f : List Item) → first.kept.floor ≤ first.next → (r : Record)
+        → contains (topic_at first f).kept.records r ≡ true → contains (topic_at first f).log r ≡ true
     kept_of_log first f low r h = (is_kept first f low).is_below_floor.is_part r h
 
     -- what was drawn is of the log
-    of_log : (first : Held) (low : first.kept.floor ≤ first.next) (s : Records) (floor : ℕ) (from : List Item) (ds : List Draw) (g : List Item) → AreDrawn first s floor from ds g
-        → ((r : Record) → contains s r ≡ true → contains (topic_at first g).log r ≡ true) → (r : Record) → contains (fold with_draw s ds) r ≡ true → contains (topic_at first g).log r ≡ true
+    of_log : (first : Held) (low : first.kept.floor ≤ first.next) (s : Records)
+        (floor : ℕ) (from : List Item) (ds : List Draw) (g : List Item)
+        → AreDrawn first s floor from ds g
+        → ((r : Record) → contains s r ≡ true → contains (topic_at first g).log r ≡ true) → (r : Record)
+        → contains (fold with_draw s ds) r ≡ true → contains (topic_at first g).log r ≡ true
     of_log first low s floor from [] g d had r h = had r h
     of_log first low s floor from (draws.Take t ∷ ts) g d had r h =
         of_log first low (with_draw s (draws.Take t)) floor d.0 ts g d.3 (λ q within. one_of {C = contains (topic_at first g).log q ≡ true}
@@ -229,11 +262,16 @@ module _ (order : IsTotalOrder record_cmp) (apart : IsAntisymmetric record_cmp) 
         (λ old. had q old)
         (either (eq_by_cmp record_cmp q t.kept) (contains s q) (sym (contains-insert order s t.kept q) ∙ within))) r h
     of_log first low s floor from (draws.Rebase b ∷ ts) g d had r h =
-        of_log first low (with_draw s (draws.Rebase b)) b.floor d.0 ts g d.3 (λ q within. one_of {C = contains (topic_at first g).log q ≡ true}
+        of_log first low (with_draw s (draws.Rebase b)) b.floor d.0 ts g d.3
+        (λ q within. one_of {C = contains (topic_at first g).log q ≡ true}
         (λ own. had q (both_true (contains s q) (nat_le (topic_at first d.0).kept.floor q.offset) own).0)
         (λ its. log_of_front grows first d.0 g (last_front first (with_draw s (draws.Rebase b)) b.floor d.0 g ts d.3) q
-        (kept_of_log first d.0 low q (both_true (contains (topic_at first d.0).kept.records q) (nat_lt q.offset (topic_at first d.0).kept.floor) its).0))
-        (either (contains s q && nat_le (topic_at first d.0).kept.floor q.offset) (contains (topic_at first d.0).kept.records q && nat_lt q.offset (topic_at first d.0).kept.floor) (sym (in_rebased s (topic_at first d.0).kept q) ∙ (sym (ap (λ x. contains x q) d.2.3) ∙ within)))) r h
+        (kept_of_log first d.0 low q (
+        both_true (contains (topic_at first d.0).kept.records q) (nat_lt q.offset (topic_at first d.0).kept.floor) its).0))
+        (either (contains s q && nat_le (topic_at first d.0).kept.floor q.offset)
+        (contains (topic_at first d.0).kept.records q && nat_lt q.offset (topic_at first d.0).kept.floor)
+        (sym (in_rebased s (topic_at first d.0).kept q) ∙ (sym (ap (λ x. contains x q) d.2.3) ∙ within))))
+        r h
 
     absent : (S : Records) (key : Key) → ((q : Record) → contains S q ≡ true → q.key ≡ key → ⊥) → last S key ≡ None
     absent S key nothing = elim (last S key) as (λ o. last S key ≡ o → o ≡ None) [
@@ -245,8 +283,10 @@ module _ (order : IsTotalOrder record_cmp) (apart : IsAntisymmetric record_cmp) 
     no_other S key gone q h same = none S q h (ap (last S) same ∙ gone)
 
     -- What a pull adds is enough.
-    module _ (first : Held) (low : first.kept.floor ≤ first.next) (g : List Item) (ds : List Draw) (upto : ℕ) (c : IsCaught first g ds upto) (after : Records)
-        (adds : Adds (topic_at first g).kept (floor_of ds) upto (taken ds) after) (equal_floors : (floor_of ds ≡ (topic_at first g).kept.floor) ⊎ (floor_of ds ≢ (topic_at first g).kept.floor)) where
+    module _ (first : Held) (low : first.kept.floor ≤ first.next) (g : List Item)
+        (ds : List Draw) (upto : ℕ) (c : IsCaught first g ds upto) (after : Records)
+        (adds : Adds (topic_at first g).kept (floor_of ds) upto (taken ds) after)
+        (equal_floors : (floor_of ds ≡ (topic_at first g).kept.floor) ⊎ (floor_of ds ≢ (topic_at first g).kept.floor)) where
       abbrev t : Topic
       t = topic_at first g
 
@@ -267,7 +307,8 @@ module _ (order : IsTotalOrder record_cmp) (apart : IsAntisymmetric record_cmp) 
         no_later q h same = offset_le q r (top.is_greatest q h (same ∙ top.is_of_key))
 
         -- where the key is gone, no record of it comes back
-        gone_from : r.value ≡ None → r.offset < t.kept.floor → ((q : Record) → contains after q ≡ true → q.key ≡ r.key → ⊥) → (contains after r ≡ true) ⊎ IsGone t.kept.floor after r
+        gone_from : r.value ≡ None → r.offset < t.kept.floor → ((q : Record) → contains after q ≡ true → q.key ≡ r.key → ⊥)
+            → (contains after r ≡ true) ⊎ IsGone t.kept.floor after r
         gone_from null is_low nothing = inr (record { deletes = null; is_below = is_low; has_no_other = absent after r.key nothing })
 
         of_kept : contains t.kept.records r ≡ true → (contains after r ≡ true) ⊎ IsGone t.kept.floor after r
@@ -318,16 +359,21 @@ module _ (order : IsTotalOrder record_cmp) (apart : IsAntisymmetric record_cmp) 
         ]
 
         last_is : (contains after r ≡ true) ⊎ IsGone t.kept.floor after r
-        last_is = elim (some_is (λ x. (contains t.kept.records x ≡ true) ⊎ IsGone t.kept.floor t.kept.records x) (last t.log key) r is ((is_kept first g low).is_below_floor.has_lasts key)) [
-          | inl k ↦ of_kept k
-          | inr k ↦ of_gone k
-        ]
+        last_is =
+            elim (
+            some_is (λ x. (contains t.kept.records x ≡ true) ⊎ IsGone t.kept.floor t.kept.records x)
+            (last t.log key) r is ((is_kept first g low).is_below_floor.has_lasts key)) [
+              | inl k ↦ of_kept k
+              | inr k ↦ of_gone k
+            ]
 
       caught_up : (more : List Draw) → taken (ds ++ more) ≡ after → floor_of (ds ++ more) ≡ t.kept.floor → AreDrawnFrom first (ds ++ more) g
-          → ((r : Record) → contains t.kept.records r ≡ true → max upto t.kept.floor ≤ r.offset → r.offset < t.next) → IsCaughtUp first g (ds ++ more)
+          → ((r : Record) → contains t.kept.records r ≡ true → max upto t.kept.floor ≤ r.offset → r.offset < t.next)
+          → IsCaughtUp first g (ds ++ more)
       caught_up more is_taken is_floor drawn ends =
           let kept_low : t.kept.floor ≤ t.next = below_next (base_of first) g low in
-          let lasts : (key : Key) (r : Record) → last t.log key ≡ Some r → (contains (taken (ds ++ more)) r ≡ true) ⊎ IsGone (floor_of (ds ++ more)) (taken (ds ++ more)) r =
+          let lasts : (key : Key) (r : Record) → last t.log key ≡ Some r
+          → (contains (taken (ds ++ more)) r ≡ true) ⊎ IsGone (floor_of (ds ++ more)) (taken (ds ++ more)) r =
           λ key r is. subst (λ (f : ℕ). (contains (taken (ds ++ more)) r ≡ true) ⊎ IsGone f (taken (ds ++ more)) r) (sym is_floor)
           (subst (λ (s : Records). (contains s r ≡ true) ⊎ IsGone t.kept.floor s r) (sym is_taken) (last_is key r is)) in record {
             caught = record {
@@ -354,7 +400,8 @@ module _ (order : IsTotalOrder record_cmp) (apart : IsAntisymmetric record_cmp) 
           }
 
     -- what is new wasn't taken before
-    none_taken : (kept : Floored) (ds : List Draw) (upto : ℕ) (records : List Record) → ((r : Record) → contains (taken ds) r ≡ true → r.offset < upto) → IsSince kept.records (max upto kept.floor) records
+    none_taken : (kept : Floored) (ds : List Draw) (upto : ℕ) (records : List Record)
+        → ((r : Record) → contains (taken ds) r ≡ true → r.offset < upto) → IsSince kept.records (max upto kept.floor) records
         → list_any (contains (taken ds)) records ≡ false
     none_taken kept ds upto records under since = none_in order (contains (taken ds)) records (λ r within.
         let from = (new_kept kept upto records since r within).1 in
@@ -369,7 +416,8 @@ module _ (order : IsTotalOrder record_cmp) (apart : IsAntisymmetric record_cmp) 
     floor_more : (ds more : List Draw) → floor_of (ds ++ more) ≡ fold floor_with (floor_of ds) more
     floor_more ds more = fold-append floor_with 0 ds more
 
-    module _ (first : Held) (front : List Item) (ds : List Draw) (upto : ℕ) (records : List Record) (low : first.kept.floor ≤ first.next) (c : IsCaught first front ds upto) where
+    module _ (first : Held) (front : List Item) (ds : List Draw) (upto : ℕ) (records : List Record)
+        (low : first.kept.floor ≤ first.next) (c : IsCaught first front ds upto) where
       abbrev kept_at : Floored
       kept_at = (topic_at first front).kept
 
@@ -379,31 +427,44 @@ module _ (order : IsTotalOrder record_cmp) (apart : IsAntisymmetric record_cmp) 
       all_kept : IsSince kept_at.records (max upto kept_at.floor) records → list_all (contains kept_at.records) records ≡ true
       all_kept since = in_all order (contains kept_at.records) records (λ r within. (new_kept kept_at upto records since r within).0)
 
-      ends_at : IsSince kept_at.records (max upto kept_at.floor) records → AllByRecursion (λ r. r.offset < (topic_at first front).next) records
+      ends_at : IsSince kept_at.records (max upto kept_at.floor) records
+          → AllByRecursion (λ r. r.offset < (topic_at first front).next) records
           → (r : Record) → contains kept_at.records r ≡ true → max upto kept_at.floor ≤ r.offset → r.offset < (topic_at first front).next
-      ends_at since ends r k high = each_of order apart (λ q. q.offset < (topic_at first front).next) records r ends (new_in kept_at upto records since r k high)
+      ends_at since ends r k high =
+          each_of order apart (λ q. q.offset < (topic_at first front).next) records r ends (new_in kept_at upto records since r k high)
 
-      by_takes : floor_of ds ≡ kept_at.floor → IsSince kept_at.records (max upto kept_at.floor) records → AllByRecursion (λ r. r.offset < (topic_at first front).next) records → IsCaughtUp first front (ds ++ takes)
+      by_takes : floor_of ds ≡ kept_at.floor → IsSince kept_at.records (max upto kept_at.floor) records
+          → AllByRecursion (λ r. r.offset < (topic_at first front).next) records → IsCaughtUp first front (ds ++ takes)
       by_takes same since ends =
-          caught_up first low front ds upto c (fold with_draw (taken ds) takes) (adds_takes kept_at (floor_of ds) upto (length front) (taken ds) records same since) (inl same) takes
+          caught_up first low front ds upto c (fold with_draw (taken ds) takes)
+          (adds_takes kept_at (floor_of ds) upto (length front) (taken ds) records same since) (inl same) takes
           (taken_more ds takes)
           (floor_more ds takes ∙ (floor_of_takes (floor_of ds) (length front) records ∙ same))
-          (drawn_more first front front ds takes c.drawn (prefix_self front) (λ from p. drawn_takes first (taken ds) (floor_of ds) from front records p same (all_kept since)))
+          (drawn_more first front front ds takes c.drawn (prefix_self front)
+          (λ from p. drawn_takes first (taken ds) (floor_of ds) from front records p same (all_kept since)))
           (ends_at since ends)
 
-      by_rebase : (base : List Record) → floor_of ds ≢ kept_at.floor → IsBelow kept_at.records kept_at.floor base → IsSince kept_at.records (max upto kept_at.floor) records
-          → AllByRecursion (λ r. r.offset < (topic_at first front).next) records → IsCaughtUp first front (ds ++ draws.Rebase (record { read = length front; floor = kept_at.floor; below = base }) ∷ takes)
+      by_rebase : (base : List Record) → floor_of ds ≢ kept_at.floor
+          → IsBelow kept_at.records kept_at.floor base → IsSince kept_at.records (max upto kept_at.floor) records
+          → AllByRecursion (λ r. r.offset < (topic_at first front).next) records
+          → IsCaughtUp first front (ds ++ draws.Rebase (record { read = length front; floor = kept_at.floor; below = base }) ∷ takes)
       by_rebase base other is since ends =
           let rebase : Draw = draws.Rebase (record { read = length front; floor = kept_at.floor; below = base }) in
           let same = same_base (taken ds) kept_at base (length front) is in
-          caught_up first low front ds upto c (fold with_draw (rebased (taken ds) kept_at) takes) (adds_base kept_at (floor_of ds) upto (length front) (taken ds) records other since) (inr other) (rebase ∷ takes)
+          caught_up first low front ds upto c (fold with_draw (rebased (taken ds) kept_at) takes)
+          (adds_base kept_at (floor_of ds) upto (length front) (taken ds) records other since) (inr other) (rebase ∷ takes)
           (taken_more ds (rebase ∷ takes) ∙ ap (λ s. fold with_draw s takes) same)
           (floor_more ds (rebase ∷ takes) ∙ floor_of_takes kept_at.floor (length front) records)
-          (drawn_more first front front ds (rebase ∷ takes) c.drawn (prefix_self front) (λ from p.
-          (front, p, (refl, c.not_ahead, refl, same), drawn_takes first (with_draw (taken ds) rebase) kept_at.floor front front records (prefix_self front) refl (all_kept since))))
+          (drawn_more first front front ds (rebase ∷ takes) c.drawn (prefix_self front) (λ from p. (
+            front,
+            p,
+            (refl, c.not_ahead, refl, same),
+            drawn_takes first (with_draw (taken ds) rebase) kept_at.floor front front records (prefix_self front) refl (all_kept since),
+          )))
           (ends_at since ends)
 
-      by_basis : (below : Option (List Record)) → IsBasis kept_at (floor_of ds) below → IsSince kept_at.records (max upto kept_at.floor) records → AllByRecursion (λ r. r.offset < (topic_at first front).next) records
+      by_basis : (below : Option (List Record)) → IsBasis kept_at (floor_of ds) below
+          → IsSince kept_at.records (max upto kept_at.floor) records → AllByRecursion (λ r. r.offset < (topic_at first front).next) records
           → IsCaughtUp first front (ds ++ draws_of (length front) kept_at.floor below records)
       by_basis None same since ends = by_takes same since ends
       by_basis (Some base) is since ends = by_rebase base is.0 is.1 since ends

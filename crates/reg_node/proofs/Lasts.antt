@@ -15,7 +15,8 @@ module _ (order : IsTotalOrder record_cmp) (apart : IsAntisymmetric record_cmp) 
   none_of_none : last_records empty ≡ empty
   unfolding last_records
   none_of_none = same_set order apart (last_records empty) empty (λ q.
-      contains-retain empty (is_last empty) q (λ x e. ap (is_last empty) (sym (apart q x e))) ∙ (ap (λ b. b && is_last empty q) (contains-empty record_cmp q) ∙ sym (contains-empty record_cmp q)))
+      contains-retain empty (is_last empty) q (λ x e. ap (is_last empty) (sym (apart q x e)))
+      ∙ (ap (λ b. b && is_last empty q) (contains-empty record_cmp q) ∙ sym (contains-empty record_cmp q)))
 
   module _ (of_insert : LastRecordsOfInsert) (of_rebased : LastRecordsOfRebased) where
     with_one : (s : Records) (d : Draw) → lasts_with_draw (last_records s) d ≡ last_records (with_draw s d)

@@ -30,10 +30,14 @@ pub matter_is : (rs : Records) (found : Matter) (s subject t text : List ℕ) (a
     → found ≡ record { subject = subject; new_text = text; standing = against rs subject }
 matter_is rs found s subject t text a made same_subject same_text is =
     let matter : List ℕ → List ℕ → Standing → Matter = λ x y z. record { subject = x; new_text = y; standing = z } in
-    made ∙ ap (matter s t) is ∙ ap (λ (y : List ℕ). matter s y (against rs s)) same_text ∙ ap (λ (x : List ℕ). matter x text (against rs x)) same_subject
+    made
+    ∙ ap (matter s t) is
+    ∙ ap (λ (y : List ℕ). matter s y (against rs s)) same_text
+    ∙ ap (λ (x : List ℕ). matter x text (against rs x)) same_subject
 
 -- the same matter against what else stands
-pub matter_anew : (rs : Records) (before : Matter) (s t : List ℕ) (a b : Standing) → record { subject = s; new_text = t; standing = a } ≡ before → b ≡ against rs s
+pub matter_anew : (rs : Records) (before : Matter) (s t : List ℕ) (a b : Standing)
+    → record { subject = s; new_text = t; standing = a } ≡ before → b ≡ against rs s
     → ◌≡◌ {A = Matter} (record { subject = s; new_text = t; standing = b }) (record before { standing = against rs before.subject })
 matter_anew rs before s t a b view is =
     let matter : Standing → Matter = λ z. record { subject = s; new_text = t; standing = z } in
@@ -47,7 +51,8 @@ alike_more ys xs f i y x within same_length at same before =
     take_more_same ys (map f xs) i y within (omega arith) before (sym at ∙ same ∙ sym (get_or-map f xs i x y (omega arith)))
 
 -- what stands is that of a registry where level and texts are
-pub stands_over : (rs : Records) (subject : List ℕ) (held : Standing) (l : Level) (olds : List VersionText) (found : List (Bor Entry)) (agree : Bool)
+pub stands_over : (rs : Records) (subject : List ℕ) (held : Standing) (l : Level)
+    (olds : List VersionText) (found : List (Bor Entry)) (agree : Bool)
     → record { level = l; olds = olds } ≡ held → l ≡ level rs (Some subject) → map (λ e. e.now) found ≡ live rs subject
     → (IsTrue agree ↔ (olds ≡ map (λ e. (e.now.version, e.now.text)) found)) → (agree ≡ true) ↔ (against rs subject ≡ held)
 stands_over rs subject held l olds found agree is at all told =

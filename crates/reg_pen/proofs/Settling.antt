@@ -26,7 +26,8 @@ pub held_alone : (ws ys : List Item) (i : Item) → ws ++ ys ≡ [] → ws ++ i 
 held_alone [] ys i clear = refl
 held_alone (w ∷ ws) ys i clear = absurd (cc clear)
 
-pub held_pen : (base : Topic) (xs ws ys : List Item) (i : Item) (p : Pending) → IsPen base xs (ws ++ ys) → ws ++ ys ≡ [] → MayFollow (after_items base xs) i → IsPending p (i ∷ [])
+pub held_pen : (base : Topic) (xs ws ys : List Item) (i : Item) (p : Pending) → IsPen base xs (ws ++ ys)
+    → ws ++ ys ≡ [] → MayFollow (after_items base xs) i → IsPending p (i ∷ [])
     → IsPen base xs (ws ++ i ∷ []) × IsPending p (ws ++ i ∷ [])
 held_pen base xs [] ys i p pen clear may pending = (record { adopted = pen.adopted; lawful = pen.lawful; pends = may }, pending)
 held_pen base xs (w ∷ ws) ys i p pen clear may pending = absurd (cc clear)
@@ -34,7 +35,8 @@ held_pen base xs (w ∷ ws) ys i p pen clear may pending = absurd (cc clear)
 abbrev state_of : {K : Type 0} → List Item → List Item → Bool → K → PenState K
 state_of published pending lost keep = record { published = published; pending = pending; lost = lost; keep = keep }
 
-pub same_state : {K : Type 0} (xs xs' ys ys' : List Item) (lost : Bool) (k k' : K) → xs ≡ xs' → ys ≡ ys' → k ≡ k' → state_of xs ys lost k ≡ state_of xs' ys' lost k'
+pub same_state : {K : Type 0} (xs xs' ys ys' : List Item) (lost : Bool) (k k' : K)
+    → xs ≡ xs' → ys ≡ ys' → k ≡ k' → state_of xs ys lost k ≡ state_of xs' ys' lost k'
 same_state xs xs' ys ys' lost k k' a b c = cc
 
 -- where nothing is pending, all is published

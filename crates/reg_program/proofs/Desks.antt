@@ -44,7 +44,9 @@ module _ (of_union : LastRecordsOfUnion) (turn : ItemsAreFoldedInTurn) (go : Law
       let there : after_items base (done ++ items.Commit commit ∷ []) ≡ after_batch true t (r ∷ rs) =
       turn base done (items.Commit commit) ∙ ap (λ b. after_batch b t (r ∷ rs)) on in
       record {
-        registry = ap (λ (rs' : Records). last_records (union rs' (from_list (r ∷ rs)))) at.registry ∙ of_union t.log (from_list (r ∷ rs)) ∙ sym (ap registry_of there);
+        registry = ap (λ (rs' : Records). last_records (union rs' (from_list (r ∷ rs)))) at.registry
+            ∙ of_union t.log (from_list (r ∷ rs))
+            ∙ sym (ap registry_of there);
         next = ap (λ n. n + length (r ∷ rs)) at.next ∙ sym (ap (λ (u : Topic). u.next) there);
         lawful = go base done (items.Commit commit) at.lawful may;
       }
@@ -55,7 +57,8 @@ module _ (of_union : LastRecordsOfUnion) (turn : ItemsAreFoldedInTurn) (go : Law
   with_step d done c reply [] at step = subst (λ is. IsDeskAt base is d) (sym (append-nil done)) at
   with_step d done c reply (r ∷ rs) at step = one_more d done c reply r rs at step
 
-  ask : (d d' : FoldDesk) (done : List Item) (query : Query) (answered : Result Answer AllocError) → IsDeskAt base done d → desk_asks d query answered d'
+  ask : (d d' : FoldDesk) (done : List Item) (query : Query) (answered : Result Answer AllocError)
+      → IsDeskAt base done d → desk_asks d query answered d'
       → (done' : List Item) × IsDeskAt base done' d' × asks base done query answered done'
   ask d d' done query answered at (same, is) =
       (done, subst (IsDeskAt base done) (sym same) at, (refl, subst (λ rs. IfOk answered (IsAnswer rs query)) at.registry is))
@@ -64,15 +67,23 @@ module _ (of_union : LastRecordsOfUnion) (turn : ItemsAreFoldedInTurn) (go : Law
       → (done' : List Item) × IsDeskAt base done' d' × commands base done c reply done'
   command d d' done c reply at (inl (batch, step, is)) =
       let here : IsStep (registry_of (after_items base done)) (after_items base done).next c reply batch =
-      subst (λ n. IsStep (registry_of (after_items base done)) n c reply batch) at.next (subst (λ rs. IsStep rs d.next c reply batch) at.registry step) in
-      (done ++ commits c batch, subst (IsDeskAt base (done ++ commits c batch)) (sym is) (with_step d done c reply batch at here), inl (batch, here, refl))
+      subst (λ n. IsStep (registry_of (after_items base done)) n c reply batch) at.next
+      (subst (λ rs. IsStep rs d.next c reply batch) at.registry step) in (
+        done ++ commits c batch,
+        subst (IsDeskAt base (done ++ commits c batch)) (sym is) (with_step d done c reply batch at here),
+        inl (batch, here, refl),
+      )
   command d d' done c reply at (inr (refused, same)) = (done, subst (IsDeskAt base done) (sym same) at, inr (refused, refl))
 
-  pub outputs : (d d' : FoldDesk) (text : List ℕ) (count : ℕ) (out : List ℕ) → IsDeskAt base [] d → IsOutput desk_asks desk_commands d text count out d'
+  pub outputs : (d d' : FoldDesk) (text : List ℕ) (count : ℕ) (out : List ℕ)
+      → IsDeskAt base [] d → IsOutput desk_asks desk_commands d text count out d'
       → (done : List Item) × IsDeskAt base done d' × IsOutput (asks base) (commands base) [] text count out done
-  outputs d d' text count out at is = output desk_asks desk_commands (asks base) (commands base) (λ desk done. IsDeskAt base done desk) ask command d d' [] text count out at is
+  outputs d d' text count out at is =
+      output desk_asks desk_commands (asks base) (commands base)
+      (λ desk done. IsDeskAt base done desk) ask command d d' [] text count out at is
 
-  pub refusals : {R W : Type 0} (reader reader' : Device R) (writer writer' : Device W) (input left before after : Option (List ℕ)) (d d' : FoldDesk) (cause : ServeError)
+  pub refusals : {R W : Type 0} (reader reader' : Device R) (writer writer' : Device W)
+      (input left before after : Option (List ℕ)) (d d' : FoldDesk) (cause : ServeError)
       → IsDeskAt base [] d → IsServeRefusal desk_asks desk_commands reader reader' writer writer' input left before after d d' cause
       → (d'' : FoldDesk) × (done : List Item) × IsDeskAt base done d''
       × IsServeRefusal (asks base) (commands base) reader reader' writer writer' input left before after [] done cause

@@ -48,24 +48,30 @@ module _ (of_union : LastRecordsOfUnion) (turn : ItemsAreFoldedInTurn) (go : Law
   served_written (Some t) left before written foreign requests desk after (base, at, adopted, (log, reads, is, counts, rest)) served =
       served_after t log before written foreign requests desk after reads counts
       (subst (λ b. IsDeskAt b [] desk) is at) (subst IsAdoptedIfOpen is adopted)
-      (subst (λ l. IfSome l (λ text. (out : List ℕ) × IsOutput desk_asks desk_commands desk text requests out after × Appends before written out)) rest served)
+      (subst (λ l.
+      IfSome l (λ text.
+      (out : List ℕ) × IsOutput desk_asks desk_commands desk text requests out after × Appends before written out)) rest served)
 
   -- the log was read, so that the reader stands after it
   read_log : (input left : Option (List ℕ)) (foreign : ℕ) (base : Topic)
-      → IfSome input (λ t. (log : LogText) × (log_of t ≡ Ok log) × (base ≡ topic_of log) × (foreign ≡ count_by is_foreign log.reads) × (left ≡ Some log.rest))
+      → IfSome input (λ t. (log : LogText) × (log_of t ≡ Ok log) × (base ≡ topic_of log)
+      × (foreign ≡ count_by is_foreign log.reads) × (left ≡ Some log.rest))
       → IfSome input (λ t. (log : LogText) × (log_of t ≡ Ok log) × (base ≡ topic_of log) × (left ≡ Some log.rest))
   read_log None left foreign base opened = tt
   read_log (Some t) left foreign base (log, reads, is, counts, rest) = (log, reads, is, rest)
 
-  pub served_refused : {R W : Type 0} (remaining : R → Option (List ℕ)) (contents : W → Option (List ℕ)) (reader mid reader' : Device R) (writer writer' : Device W)
+  pub served_refused : {R W : Type 0} (remaining : R → Option (List ℕ))
+      (contents : W → Option (List ℕ)) (reader mid reader' : Device R) (writer writer' : Device W)
       (foreign : ℕ) (desk after : FoldDesk) (e : ServeError) (error : FoldError)
       → error ≡ ended_by e → IsOpened (bytes_in remaining reader) (bytes_in remaining mid) foreign desk
       → KeepsEnd remaining reader mid → faults_of mid ≡ faults_of reader → KeepsReads reader mid
       → IsServeRefusal desk_asks desk_commands mid reader' writer writer' (bytes_in remaining mid) (bytes_in remaining reader')
       (bytes_in contents writer) (bytes_in contents writer') desk after e
       → EndsServing remaining contents reader reader' writer writer' error
-  served_refused remaining contents reader mid reader' writer writer' foreign desk after e error is (base, at, adopted, opened) end same least refused =
-      let (desk', published, there, ends) = refusals of_union turn go follow base mid reader' writer writer' (bytes_in remaining mid) (bytes_in remaining reader')
+  served_refused remaining contents reader mid reader' writer writer' foreign desk after e error is
+      (base, at, adopted, opened) end same least refused =
+      let (desk', published, there, ends) =
+      refusals of_union turn go follow base mid reader' writer writer' (bytes_in remaining mid) (bytes_in remaining reader')
       (bytes_in contents writer) (bytes_in contents writer') desk after e at refused in record {
         cause = e;
         is = is;

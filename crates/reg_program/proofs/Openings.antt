@@ -26,18 +26,21 @@ either true b h = inl refl
 either false b h = inr h
 
 module _ (order : IsTotalOrder record_cmp) (apart : IsAntisymmetric record_cmp) where
-  below_list : (next : ℕ) (rs : List Record) → All (λ r. r.offset < next) rs → (q : Record) → list_any (eq_by_cmp record_cmp q) rs ≡ true → q.offset < next
+  below_list : (next : ℕ) (rs : List Record) → All (λ r. r.offset < next) rs
+      → (q : Record) → list_any (eq_by_cmp record_cmp q) rs ≡ true → q.offset < next
   below_list next [] all q any = absurd (false≢true any)
-  below_list next (r ∷ rs) all q any = elim (either (eq_by_cmp record_cmp q r) (list_any (eq_by_cmp record_cmp q) rs) any) as (λ _. q.offset < next) [
-    | inl e ↦
-        let at = ap (λ (x : Record). x.offset) (apart q r ((Equal-is (record_cmp q r)).0 e)) in
-        let here = All-head (λ x. x.offset < next) r rs all in
-        omega (arith, at, here)
-    | inr rest ↦ below_list next rs (All-tail (λ x. x.offset < next) r rs all) q rest
-  ]
+  below_list next (r ∷ rs) all q any =
+      elim (either (eq_by_cmp record_cmp q r) (list_any (eq_by_cmp record_cmp q) rs) any) as (λ _. q.offset < next) [
+        | inl e ↦
+            let at = ap (λ (x : Record). x.offset) (apart q r ((Equal-is (record_cmp q r)).0 e)) in
+            let here = All-head (λ x. x.offset < next) r rs all in
+            omega (arith, at, here)
+        | inr rest ↦ below_list next rs (All-tail (λ x. x.offset < next) r rs all) q rest
+      ]
 
   -- records below the next offset begin an adopted topic, where they take commands
-  pub adopted : (rs : List Record) (next floor : ℕ) → All (λ r. r.offset < next) rs → floor ≤ next → IsAdoptedIfOpen (plain_topic rs next floor)
+  pub adopted : (rs : List Record) (next floor : ℕ) → All (λ r. r.offset < next) rs
+      → floor ≤ next → IsAdoptedIfOpen (plain_topic rs next floor)
   adopted rs next floor all low not_closed = record {
     not_closed = not_closed;
     ahead = λ q h. below_list next rs all q (sym (contains-from_list order rs q) ∙ h);
@@ -46,13 +49,15 @@ module _ (order : IsTotalOrder record_cmp) (apart : IsAntisymmetric record_cmp) 
   }
 
 -- a log that holds what its lines say
-pub same_topic : (log : Log) (found : LogText) → IsLogOf found.floor found.reads log → plain_topic log.records.items log.next log.floor ≡ topic_of found
+pub same_topic : (log : Log) (found : LogText) → IsLogOf found.floor found.reads log
+    → plain_topic log.records.items log.next log.floor ≡ topic_of found
 same_topic log found is = λ i. plain_topic (is.records i) (is.next i) (is.floor i)
 
 -- what the lines of a log say, of which it is known what they are
 read_of : (log : Log) (input left : Option (List ℕ))
     → IfSome input (λ text. (found : LogText) × (log_of text ≡ Ok found) × IsLogOf found.floor found.reads log × (left ≡ Some found.rest))
-    → IfSome input (λ text. (found : LogText) × (log_of text ≡ Ok found) × (plain_topic log.records.items log.next log.floor ≡ topic_of found)
+    → IfSome input (λ text.
+    (found : LogText) × (log_of text ≡ Ok found) × (plain_topic log.records.items log.next log.floor ≡ topic_of found)
     × (log.foreign ≡ count_by is_foreign found.reads) × (left ≡ Some found.rest))
 read_of log None left read = tt
 read_of log (Some text) left (found, reads, is, rest) = (found, reads, same_topic log found is, is.foreign, rest)
@@ -68,7 +73,8 @@ opens order apart log input left desk registry next read = (
   read_of log input left read,
 )
 
-pub promised : LawfulListsKeepIds → LawfulListsMeetLevels → (base : Topic) (done : List Item) → IsAdoptedIfOpen base → IsLawful base done → KeepsPromises base done
+pub promised : LawfulListsKeepIds → LawfulListsMeetLevels → (base : Topic) (done : List Item)
+    → IsAdoptedIfOpen base → IsLawful base done → KeepsPromises base done
 promised ids levels base done adopted lawful = record {
   lawful = lawful;
   ids = λ not_closed. ids base done (adopted not_closed) lawful;

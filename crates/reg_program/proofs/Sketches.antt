@@ -31,4 +31,5 @@ pub one_sketch : ((r w : List Node) → HaveOneSketch r w) → (input s t : List
 one_sketch law input s t (r, w, reader, writer, is) (r', w', reader', writer', is') =
     let readers = one_schema input r r' reader reader' in
     let writers = one_schema (after_front input) w w' writer writer' in
-    law r'.nodes w'.nodes s t (subst (λ (m : Meaning). IsSketch r'.nodes m.nodes s) writers (subst (λ (m : Meaning). IsSketch m.nodes w.nodes s) readers is)) is'
+    law r'.nodes w'.nodes s t (
+    subst (λ (m : Meaning). IsSketch r'.nodes m.nodes s) writers (subst (λ (m : Meaning). IsSketch m.nodes w.nodes s) readers is)) is'

@@ -28,7 +28,8 @@ module _ {W : Type 0} (f : W → List ℕ) where
   many_words (a ∷ b ∷ c ∷ d ∷ e ∷ g ∷ ws) h = refl
 
   pub five_words : (ws : List W) (word port nodes workers : W) → 5 ≤ length ws → length ws < 6
-      → word ≡ get_or ws 1 word → port ≡ get_or ws 2 port → nodes ≡ get_or ws 3 nodes → workers ≡ get_or ws 4 workers → bytes_eq (f word) (codes "serve") ≡ true
+      → word ≡ get_or ws 1 word → port ≡ get_or ws 2 port → nodes ≡ get_or ws 3 nodes
+      → workers ≡ get_or ws 4 workers → bytes_eq (f word) (codes "serve") ≡ true
       → serving (number_in (1, 65535) (f port)) (number_in (1, 3) (f nodes)) (number_in (1, 16) (f workers)) ≡ command_of (map f ws)
   five_words [] word port nodes workers h k w p n m is = absurd (omega (arith, h))
   five_words (a ∷ []) word port nodes workers h k w p n m is = absurd (omega (arith, h))

@@ -56,7 +56,8 @@ shown_by_index [] h = refl
 shown_by_index (x ∷ xs) h = and_from _ _ (le-leb 32 x (h 0 (omega arith))) (shown_by_index xs (λ i below. h (suc i) (omega arith)))
 
 pub are_shown-decimal : (n : ℕ) → n < 2 ^ 64 → are_shown (decimal n) ≡ true
-are_shown-decimal n h = shown_by_index (decimal n) (λ i below. let d = digit_at _ i (decimal_is_IsNumeral n h).0.1 below in omega (arith, d.0))
+are_shown-decimal n h =
+    shown_by_index (decimal n) (λ i below. let d = digit_at _ i (decimal_is_IsNumeral n h).0.1 below in omega (arith, d.0))
 
 -- a text that is shown is free of a control character c
 module _ (c : ℕ) (control : c < 32) where

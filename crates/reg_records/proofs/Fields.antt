@@ -34,7 +34,8 @@ module _ (p : ℕ → Bool) where
       rw parts.0 (omega (arith, position_or_len-none xs parts.1))
 
   -- where none passes before t, t is the first
-  pub position_or_len-seam : (xs : List ℕ) (t : ℕ) (ys : List ℕ) → is_free_of p xs ≡ true → p t ≡ true → position_or_len p (xs ++ t ∷ ys) ≡ length xs
+  pub position_or_len-seam : (xs : List ℕ) (t : ℕ) (ys : List ℕ) → is_free_of p xs ≡ true
+      → p t ≡ true → position_or_len p (xs ++ t ∷ ys) ≡ length xs
   position_or_len-seam [] t ys h e = rw (not_from_true _ e)
   position_or_len-seam (x ∷ xs) t ys h e =
       let parts = and_parts (not (p x)) _ h in
@@ -57,10 +58,12 @@ module _ (offset key value : List ℕ) (o : is_free_of is_tab offset ≡ true) (
       ∙ ap (λ fields. offset ∷ key ∷ fields) (slice_split_none is_tab value (All-free is_tab value v))
 
 -- where the first LF is
-pub position-seam : (line rest : List ℕ) → is_free_of is_line_feed line ≡ true → position is_line_feed (line ++ 10 ∷ rest) ≡ Some (length line)
+pub position-seam : (line rest : List ℕ) → is_free_of is_line_feed line ≡ true
+    → position is_line_feed (line ++ 10 ∷ rest) ≡ Some (length line)
 position-seam line rest h =
     let at = position_or_len-seam is_line_feed line 10 rest h refl in
-    let within : position_or_len is_line_feed (line ++ 10 ∷ rest) < length (line ++ 10 ∷ rest) = omega (arith, at, length-append line (10 ∷ rest)) in
+    let within : position_or_len is_line_feed (line ++ 10 ∷ rest) < length (line ++ 10 ∷ rest) =
+    omega (arith, at, length-append line (10 ∷ rest)) in
     rw (lt-ltb _ _ within) (ap Some at)
 
 -- ---- a line that has two TABs is made of its fields
@@ -118,11 +121,13 @@ has_fields line two =
     }
 
 -- the parts of a line that has two TABs are its fields
-pub slice_split-fields : (line : List ℕ) → (count_by is_tab line == 2) ≡ true → slice_split is_tab line ≡ offset_field line ∷ key_field line ∷ value_field line ∷ []
+pub slice_split-fields : (line : List ℕ) → (count_by is_tab line == 2) ≡ true
+    → slice_split is_tab line ≡ offset_field line ∷ key_field line ∷ value_field line ∷ []
 slice_split-fields line two =
     let parts = has_fields line (eqb-true _ 2 two) in
     ap (slice_split is_tab) parts.fields
-    ∙ slice_split-line_of (offset_field line) (key_field line) (value_field line) (is_free_of-before_first is_tab line) parts.key_has_no_tab parts.value_has_no_tab
+    ∙ slice_split-line_of (offset_field line) (key_field line) (value_field line)
+    (is_free_of-before_first is_tab line) parts.key_has_no_tab parts.value_has_no_tab
 
 -- as many parts as no line has say nothing
 reading_of-other : (parts : List (List ℕ)) → (length parts == 3) ≡ false → reading_of parts ≡ Err BadTabs
@@ -134,16 +139,19 @@ reading_of-other (a ∷ b ∷ c ∷ d ∷ more) e = refl
 
 pub reading_of-bad_tabs : (line : List ℕ) → (count_by is_tab line == 2) ≡ false → reading_of (slice_split is_tab line) ≡ Err BadTabs
 reading_of-bad_tabs line bad =
-    reading_of-other (slice_split is_tab line) (ne_eqb _ 3 (λ three. eqb-false (count_by is_tab line) 2 bad (omega (arith, three, length-slice_split is_tab line))))
+    reading_of-other (slice_split is_tab line)
+    (ne_eqb _ 3 (λ three. eqb-false (count_by is_tab line) 2 bad (omega (arith, three, length-slice_split is_tab line))))
 
 -- ---- how many TABs a line has, by where its first ones stand
 
 pub no_tab : (line : List ℕ) → position_or_len is_tab line ≡ length line → (count_by is_tab line == 2) ≡ false
 no_tab line none = ap (λ n. n == 2) (count_by-none is_tab line none)
 
-pub one_tab : (line : List ℕ) → position_or_len is_tab line < length line → position_or_len is_tab (after_first is_tab line) ≡ length (after_first is_tab line)
+pub one_tab : (line : List ℕ) → position_or_len is_tab line < length line
+    → position_or_len is_tab (after_first is_tab line) ≡ length (after_first is_tab line)
     → (count_by is_tab line == 2) ≡ false
-one_tab line first none = ap (λ n. n == 2) (count_by-after_first is_tab line first ∙ ap suc (count_by-none is_tab (after_first is_tab line) none))
+one_tab line first none =
+    ap (λ n. n == 2) (count_by-after_first is_tab line first ∙ ap suc (count_by-none is_tab (after_first is_tab line) none))
 
 module _ (line : List ℕ) (first : position_or_len is_tab line < length line)
     (second : position_or_len is_tab (after_first is_tab line) < length (after_first is_tab line)) where
@@ -154,4 +162,5 @@ module _ (line : List ℕ) (first : position_or_len is_tab line < length line)
   two_tabs free = ap (λ n. n == 2) (two_and_more ∙ ap (λ n. suc (suc n)) (count_by-free is_tab (value_field line) free))
 
   pub more_tabs : is_free_of is_tab (value_field line) ≡ false → (count_by is_tab line == 2) ≡ false
-  more_tabs not_free = ne_eqb _ 2 (λ two. false≢true (sym not_free ∙ is_free_of-none is_tab (value_field line) (omega (arith, two, two_and_more))))
+  more_tabs not_free =
+      ne_eqb _ 2 (λ two. false≢true (sym not_free ∙ is_free_of-none is_tab (value_field line) (omega (arith, two, two_and_more))))

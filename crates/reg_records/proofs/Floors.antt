@@ -44,10 +44,13 @@ is_utf8-mark (b ∷ field) = refl
 
 -- the reading of a line that is short enough
 pub reading-field : (line : List ℕ) → is_floor_line line ≡ true → nat_lt LINE_LIMIT (length line) ≡ false
-    → floor_reading line ≡ cond (not (is_utf8 (floor_field line))) (Err (Line BadUtf8)) (option_map_or Ok (offset_of (floor_field line)) (Err BadFloor))
+    → floor_reading line
+    ≡ cond (not (is_utf8 (floor_field line))) (Err (Line BadUtf8)) (option_map_or Ok (offset_of (floor_field line)) (Err BadFloor))
 reading-field line begins short =
     let utf8 : is_utf8 line ≡ is_utf8 (floor_field line) = ap is_utf8 (of_mark line begins) ∙ is_utf8-mark (floor_field line) in
-    ap (λ b. cond b (Err (Line TooLong)) (cond (not (is_utf8 line)) (Err (Line BadUtf8)) (option_map_or Ok (offset_of (floor_field line)) (Err BadFloor)))) short
+    ap (λ b.
+    cond b (Err (Line TooLong))
+    (cond (not (is_utf8 line)) (Err (Line BadUtf8)) (option_map_or Ok (offset_of (floor_field line)) (Err BadFloor)))) short
     ∙ ap (λ b. cond (not b) (Err (Line BadUtf8)) (option_map_or Ok (offset_of (floor_field line)) (Err BadFloor))) utf8
 
 -- the slice behind the mark
@@ -64,9 +67,11 @@ is_said : (found : Option ℕ) (floor : ℕ) → option_map_or Ok found (Err Bad
 is_said None floor e = absurd cc
 is_said (Some n) floor e = cc
 
-pub of_reading : (line : List ℕ) (floor : ℕ) → is_floor_line line ≡ true → floor_reading line ≡ Ok floor → (line ≡ floor_text floor) × (floor ≤ OFFSET_LIMIT)
+pub of_reading : (line : List ℕ) (floor : ℕ) → is_floor_line line ≡ true
+    → floor_reading line ≡ Ok floor → (line ≡ floor_text floor) × (floor ≤ OFFSET_LIMIT)
 of_reading line floor begins says =
-    let found = is_said _ floor (if_said (not (is_utf8 line)) (Line BadUtf8) _ floor (if_said (nat_lt LINE_LIMIT (length line)) (Line TooLong) _ floor says)) in
+    let found = is_said _ floor (
+    if_said (not (is_utf8 line)) (Line BadUtf8) _ floor (if_said (nat_lt LINE_LIMIT (length line)) (Line TooLong) _ floor says)) in
     let (field, fits) = decimal-offset_of (floor_field line) floor found in
     (of_mark line begins ∙ ap (λ f. floor_mark ++ f) field, fits)
 
@@ -79,7 +84,8 @@ is_ascii-decimal n h = λ i. elim (cases_lt i (length (decimal n))) [
 pub floor_reading-text : (floor : ℕ) → floor ≤ OFFSET_LIMIT → floor_reading (floor_text floor) ≡ Ok floor
 floor_reading-text floor fits =
     let small : floor < 2 ^ 64 = omega arith in
-    let short = le-ltb LINE_LIMIT (length (floor_text floor)) (omega (arith, length-append floor_mark (decimal floor), length-decimal-le 20 floor (omega arith) (omega arith) small)) in
+    let short = le-ltb LINE_LIMIT (length (floor_text floor))
+    (omega (arith, length-append floor_mark (decimal floor), length-decimal-le 20 floor (omega arith) (omega arith) small)) in
     let utf8 = is_utf8-from_IsUtf8 _ (IsUtf8-from_ascii _ (is_ascii-decimal floor small)) in
     reading-field (floor_text floor) (is_floor_line-mark (decimal floor)) short
     ∙ ap (λ b. cond (not b) (Err (Line BadUtf8)) (option_map_or Ok (offset_of (decimal floor)) (Err BadFloor))) utf8
@@ -87,7 +93,8 @@ floor_reading-text floor fits =
 
 -- the line of a floor holds no LF
 pub one_line : (floor : ℕ) → floor ≤ OFFSET_LIMIT → HasNoLineFeed (floor_text floor)
-one_line floor fits = All-free is_line_feed (floor_text floor) (is_free_of-are_shown 10 (omega arith) (decimal floor) (are_shown-decimal floor (omega arith)))
+one_line floor fits =
+    All-free is_line_feed (floor_text floor) (is_free_of-are_shown 10 (omega arith) (decimal floor) (are_shown-decimal floor (omega arith)))
 
 -- ---- no line that can be read begins as a floor's
 
@@ -105,16 +112,20 @@ pub not_floor_line : (line : List ℕ) (read : Read) → reading line ≡ Ok rea
 not_floor_line line read says =
     elim (is_floor_line line) as (λ b. is_floor_line line ≡ b → b ≡ false) [
       | true ↦ λ begins.
-          let fields : slice_split is_tab line ≡ codes "floor" ∷ slice_split is_tab (floor_field line) = ap (slice_split is_tab) (of_mark line begins) in
+          let fields : slice_split is_tab line ≡ codes "floor" ∷ slice_split is_tab (floor_field line) =
+          ap (slice_split is_tab) (of_mark line begins) in
           let (fault, none) = no_record (slice_split is_tab (floor_field line)) in
-          let both : ◌≡◌ {A = Result Read LineError} (Err fault) (Ok read) = sym (ap reading_of fields ∙ none) ∙ if_read (not (is_utf8 line)) BadUtf8 _ read (if_read (nat_lt LINE_LIMIT (length line)) TooLong _ read says) in
+          let both : ◌≡◌ {A = Result Read LineError} (Err fault) (Ok read) =
+          sym (ap reading_of fields ∙ none)
+          ∙ if_read (not (is_utf8 line)) BadUtf8 _ read (if_read (nat_lt LINE_LIMIT (length line)) TooLong _ read says) in
           absurd cc
       | false ↦ λ _. refl
     ] refl
 
 -- ---- the text whose first line it is
 
-seam : (mark line rest : List ℕ) → is_free_of is_line_feed mark ≡ true → starts_with nat_eq (line ++ 10 ∷ rest) mark ≡ starts_with nat_eq line mark
+seam : (mark line rest : List ℕ) → is_free_of is_line_feed mark ≡ true
+    → starts_with nat_eq (line ++ 10 ∷ rest) mark ≡ starts_with nat_eq line mark
 seam [] line rest free = refl
 seam (m ∷ mark) [] rest free =
     let parts = and_parts (not (m == 10)) _ free in

@@ -29,7 +29,8 @@ own = numerals_by_value _ (search rules)
 
 no_leading_zero : (n : ℕ) → n < 2 ^ 64 → (nat_lt 1 (length (decimal n)) && (get_or (decimal n) 0 0 == 48)) ≡ false
 no_leading_zero zero h = ap (λ l. nat_lt 1 (length l) && (get_or l 0 0 == 48)) (decimal_digit 0 (omega arith))
-no_leading_zero (suc n) h = and_right _ _ (ne_eqb (get_or (decimal (suc n)) 0 0) 48 (λ e. omega (arith, first_decimal (suc n) (omega arith) h)))
+no_leading_zero (suc n) h =
+    and_right _ _ (ne_eqb (get_or (decimal (suc n)) 0 0) 48 (λ e. omega (arith, first_decimal (suc n) (omega arith) h)))
 
 is_decimal-decimal : (n : ℕ) → n < 2 ^ 64 → is_decimal (decimal n) ≡ true
 is_decimal-decimal n h =
@@ -47,7 +48,8 @@ some_offset : (b : Bool) (v n : ℕ) → cond b (Some v) None ≡ Some n → (b 
 some_offset true v n e = (refl, cc)
 some_offset false v n e = absurd cc
 
-one_digit : (field : List ℕ) → (nat_lt 1 (length field) && (get_or field 0 0 == 48)) ≡ false → 0 < length field → get_or field 0 0 ≡ 48 → length field ≡ 1
+one_digit : (field : List ℕ) → (nat_lt 1 (length field) && (get_or field 0 0 == 48)) ≡ false
+    → 0 < length field → get_or field 0 0 ≡ 48 → length field ≡ 1
 one_digit field h some e =
     let first = eq-eqb _ 48 e in
     let short : nat_lt 1 (length field) ≡ false = right_true _ _ first h in
@@ -76,20 +78,24 @@ decimal-offset_of field n h =
 
 -- ---- both ways
 
-pub reading-IsLine : (line : List ℕ) (offset : ℕ) (key value : List ℕ) → IsLine line offset key value → reading line ≡ Ok (read_at offset key value)
+pub reading-IsLine : (line : List ℕ) (offset : ℕ) (key value : List ℕ)
+    → IsLine line offset key value → reading line ≡ Ok (read_at offset key value)
 reading-IsLine line offset key value h =
     let shown = is_free_of-are_shown 9 (omega arith) (decimal offset) (are_shown-decimal offset (omega (arith, h.offset_fits))) in
-    let parts = ap (slice_split is_tab) h.fields ∙ slice_split-line_of (decimal offset) key value shown h.key_has_no_tab h.value_has_no_tab in
+    let parts =
+    ap (slice_split is_tab) h.fields ∙ slice_split-line_of (decimal offset) key value shown h.key_has_no_tab h.value_has_no_tab in
     let found = offset_of-decimal offset h.offset_fits in
     let short = le-ltb LINE_LIMIT (length line) h.fits in
     let whole : reading line ≡ reading_of (slice_split is_tab line) = rw (short, h.utf8) refl in
     whole ∙ ap reading_of parts ∙ ap (λ n. option_map_or (λ offset. Ok (read_at offset key value)) n (Err BadOffset)) found
 
-if_read : (b : Bool) (fault : LineError) (next : Result Read LineError) (read : Read) → cond b (Err fault) next ≡ Ok read → (b ≡ false) × (next ≡ Ok read)
+if_read : (b : Bool) (fault : LineError) (next : Result Read LineError) (read : Read)
+    → cond b (Err fault) next ≡ Ok read → (b ≡ false) × (next ≡ Ok read)
 if_read true fault next read e = absurd cc
 if_read false fault next read e = (refl, e)
 
-with_offset : (found : Option ℕ) (f : ℕ → Read) (read : Read) → option_map_or (λ n. Ok (f n)) found (Err BadOffset) ≡ Ok read → (n : ℕ) × (found ≡ Some n) × (f n ≡ read)
+with_offset : (found : Option ℕ) (f : ℕ → Read) (read : Read)
+    → option_map_or (λ n. Ok (f n)) found (Err BadOffset) ≡ Ok read → (n : ℕ) × (found ≡ Some n) × (f n ≡ read)
 with_offset None f read e = absurd cc
 with_offset (Some n) f read e = (n, refl, cc)
 

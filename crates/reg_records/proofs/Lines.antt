@@ -21,20 +21,27 @@ abbrev pub TakesPart : Option (List ℕ) → Option (List ℕ) → LineBuffer �
 TakesPart old new buffer = (line : List ℕ) × HasNoLineFeed line × Holds buffer line × Consumes old new line
 
 -- the place after more bytes of a line
-pub place-more : (before mid after n : ℕ) (line bytes : List ℕ) → counted_by 0 mid ≡ counted_by (length line) before → after ≡ counted_by n mid
+pub place-more : (before mid after n : ℕ) (line bytes : List ℕ)
+    → counted_by 0 mid ≡ counted_by (length line) before → after ≡ counted_by n mid
     → length bytes ≡ n → counted_by 0 after ≡ counted_by (length (line ++ bytes)) before
 place-more before mid after n line bytes so_far moved len = omega (arith, so_far, moved, len, length-append line bytes)
 
 -- and after its LF
-pub place-ended : (before mid after n : ℕ) (line bytes : List ℕ) → counted_by 0 mid ≡ counted_by (length line) before → after ≡ counted_by n mid
+pub place-ended : (before mid after n : ℕ) (line bytes : List ℕ)
+    → counted_by 0 mid ≡ counted_by (length line) before → after ≡ counted_by n mid
     → length bytes + 1 ≡ n → counted_by 0 after ≡ counted_by (length ((line ++ bytes) ++ 10 ∷ [])) before
-place-ended before mid after n line bytes so_far moved len = omega (arith, so_far, moved, len, length-append line bytes, length-append (line ++ bytes) (10 ∷ []))
+place-ended before mid after n line bytes so_far moved len =
+    omega (arith, so_far, moved, len, length-append line bytes, length-append (line ++ bytes) (10 ∷ []))
 
 abbrev pub TakesPart-more : (old mid new : Option (List ℕ)) (before after : LineBuffer) (line bytes : List ℕ)
     → HasNoLineFeed line → Holds before line → Consumes old mid line
     → HasNoLineFeed bytes → Consumes mid new bytes → Grows before after bytes → TakesPart old new after
-TakesPart-more old mid new before after line bytes none held read none' read' grows =
-    (line ++ bytes, All-append (λ b. is_line_feed b ≡ false) line bytes none none', grows line held, Consumes-trans old mid new line bytes read read')
+TakesPart-more old mid new before after line bytes none held read none' read' grows = (
+  line ++ bytes,
+  All-append (λ b. is_line_feed b ≡ false) line bytes none none',
+  grows line held,
+  Consumes-trans old mid new line bytes read read',
+)
 
 abbrev pub TakesPart-kept : (old mid new : Option (List ℕ)) (before after : LineBuffer) (line : List ℕ)
     → HasNoLineFeed line → Holds before line → Consumes old mid line → Keeps mid new → after ≡ before → TakesPart old new after
@@ -44,9 +51,11 @@ TakesPart-kept old mid new before after line none held read kept same =
 pub Consumes-ended : (old mid new : Option (List ℕ)) (line bytes : List ℕ) → Consumes old mid line → Consumes mid new (bytes ++ 10 ∷ [])
     → Consumes old new ((line ++ bytes) ++ 10 ∷ [])
 Consumes-ended old mid new line bytes read read' =
-    subst (λ l. Consumes old new l) (sym (append_assoc line bytes (10 ∷ []))) (Consumes-trans old mid new line (bytes ++ 10 ∷ []) read read')
+    subst (λ l. Consumes old new l) (sym (append_assoc line bytes (10 ∷ [])))
+    (Consumes-trans old mid new line (bytes ++ 10 ∷ []) read read')
 
-pub IsAtEnd-after : (old mid new : Option (List ℕ)) (line : List ℕ) → Consumes old mid line → IsAtEnd mid → Keeps mid new → OnSome old (IsAtEnd new)
+pub IsAtEnd-after : (old mid new : Option (List ℕ)) (line : List ℕ)
+    → Consumes old mid line → IsAtEnd mid → Keeps mid new → OnSome old (IsAtEnd new)
 IsAtEnd-after None mid new line read end kept = tt
 IsAtEnd-after (Some x) None new line read end kept = absurd read
 IsAtEnd-after (Some x) (Some y) None line read end kept = absurd kept
@@ -85,4 +94,8 @@ no_line_feed bytes e =
     λ k d h. fails_before_first is_line_feed bytes k d (omega arith)
   where
     unless_within : (n m : ℕ) → cond (nat_lt n m) (Some n) None ≡ None → m ≤ n
-    unless_within n m none = elim (cases_lt n m) [ inl below ↦ absurd (none-some n (sym none ∙ ap (λ b. cond b (Some n) None) (lt-ltb n m below))) | inr past ↦ past ]
+    unless_within n m none =
+        elim (cases_lt n m) [
+          | inl below ↦ absurd (none-some n (sym none ∙ ap (λ b. cond b (Some n) None) (lt-ltb n m below)))
+          | inr past ↦ past
+        ]

@@ -53,7 +53,8 @@ parts text = slice_split is_line_feed text
 pub first_part : (text : List ℕ) → (first : List ℕ) × (more : List (List ℕ)) × (parts text ≡ first ∷ more)
 first_part [] = ([], [], refl)
 first_part (b ∷ text) =
-    elim (is_line_feed b) as (λ t. (first : List ℕ) × (more : List (List ℕ)) × (cond t ([] ∷ parts text) (onto_first b (parts text)) ≡ first ∷ more)) [
+    elim (is_line_feed b) as (λ t.
+    (first : List ℕ) × (more : List (List ℕ)) × (cond t ([] ∷ parts text) (onto_first b (parts text)) ≡ first ∷ more)) [
       | true ↦ ([], parts text, refl)
       | false ↦ let (first, more, e) = first_part text in (b ∷ first, more, ap (onto_first b) e)
     ]
@@ -64,7 +65,9 @@ in_limit past n more = cond past (Err (n, TooManyLines)) more
 
 -- a line, and the text after its LF
 abbrev pub from_line : ℕ → List ℕ → List ℕ → Result LogText (ℕ × LogFault)
-from_line n line text = cond (is_empty_line line) (Ok (record { floor = 0; reads = []; rest = text })) (in_limit (nat_lt LOG_LINES n) n (line_then n (reading line) (log_from (suc n) (parts text))))
+from_line n line text =
+    cond (is_empty_line line) (Ok (record { floor = 0; reads = []; rest = text }))
+    (in_limit (nat_lt LOG_LINES n) n (line_then n (reading line) (log_from (suc n) (parts text))))
 
 log_from-parts : (n : ℕ) (line text : List ℕ) → log_from n (line ∷ parts text) ≡ from_line n line text
 log_from-parts n line text =
@@ -74,11 +77,18 @@ log_from-parts n line text =
     ap (λ lines. log_from n (line ∷ lines)) e
     ∙ ap (λ b. cond (is_empty_line line) (Ok (record { floor = 0; reads = []; rest = join_with_byte 10 (first ∷ more) }))
     (in_limit (nat_lt LOG_LINES n) n (line_then n (cond b (Err Truncated) (reading line)) (log_from (suc n) (first ∷ more))))) some
-    ∙ ap (λ rest. cond (is_empty_line line) (Ok (record { floor = 0; reads = []; rest = rest })) (in_limit (nat_lt LOG_LINES n) n (line_then n (reading line) (log_from (suc n) (first ∷ more))))) joined
-    ∙ ap (λ lines. cond (is_empty_line line) (Ok (record { floor = 0; reads = []; rest = text })) (in_limit (nat_lt LOG_LINES n) n (line_then n (reading line) (log_from (suc n) lines)))) (sym e)
+    ∙ ap (λ rest.
+    cond (is_empty_line line) (Ok (record { floor = 0; reads = []; rest = rest }))
+    (in_limit (nat_lt LOG_LINES n) n (line_then n (reading line) (log_from (suc n) (first ∷ more))))) joined
+    ∙ ap
+    (λ lines.
+    cond (is_empty_line line) (Ok (record { floor = 0; reads = []; rest = text }))
+    (in_limit (nat_lt LOG_LINES n) n (line_then n (reading line) (log_from (suc n) lines))))
+    (sym e)
 
 -- the log of a text that begins with a line and its LF
-log_from-line : (n : ℕ) (text line rest : List ℕ) → HasNoLineFeed line → text ≡ (line ++ 10 ∷ []) ++ rest → log_from n (parts text) ≡ from_line n line rest
+log_from-line : (n : ℕ) (text line rest : List ℕ) → HasNoLineFeed line
+    → text ≡ (line ++ 10 ∷ []) ++ rest → log_from n (parts text) ≡ from_line n line rest
 log_from-line n text line rest none e =
     ap (λ t. log_from n (parts t)) (e ∙ append_assoc line (10 ∷ []) rest)
     ∙ ap (log_from n) (slice_split_at is_line_feed line 10 rest none refl)
@@ -92,7 +102,9 @@ log_from-read n (Some text) None line read none taken some says within = absurd 
 log_from-read n (Some text) (Some rest) line read none taken some says within =
     let few : nat_lt LOG_LINES n ≡ false = grind (arith, nat_tests) in
     log_from-line n text line rest none taken
-    ∙ ap (λ b. cond b (Ok (record { floor = 0; reads = []; rest = rest })) (in_limit (nat_lt LOG_LINES n) n (line_then n (reading line) (log_from (suc n) (parts rest))))) some
+    ∙ ap (λ b.
+    cond b (Ok (record { floor = 0; reads = []; rest = rest }))
+    (in_limit (nat_lt LOG_LINES n) n (line_then n (reading line) (log_from (suc n) (parts rest))))) some
     ∙ ap (λ past. in_limit past n (line_then n (reading line) (log_from (suc n) (parts rest)))) few
     ∙ ap (λ r. line_then n r (log_from (suc n) (parts rest))) says
 
@@ -104,13 +116,16 @@ log_from-refused n None new line fault none taken some refused = tt
 log_from-refused n (Some text) None line fault none taken some refused = absurd taken
 log_from-refused n (Some text) (Some rest) line fault none taken some refused =
     log_from-line n text line rest none taken
-    ∙ ap (λ b. cond b (Ok (record { floor = 0; reads = []; rest = rest })) (in_limit (nat_lt LOG_LINES n) n (line_then n (reading line) (log_from (suc n) (parts rest))))) some
+    ∙ ap (λ b.
+    cond b (Ok (record { floor = 0; reads = []; rest = rest }))
+    (in_limit (nat_lt LOG_LINES n) n (line_then n (reading line) (log_from (suc n) (parts rest))))) some
     ∙ refused (log_from (suc n) (parts rest))
 
 pub is_empty_line-some : (line : List ℕ) → 0 < length line → is_empty_line line ≡ false
 is_empty_line-some line some = grind (arith, nat_tests)
 
-fault_told : (n : ℕ) (fault : LineError) (past : Bool) → in_limit past n (Err (n, Line fault)) ≡ Err (n, cond past TooManyLines (Line fault))
+fault_told : (n : ℕ) (fault : LineError) (past : Bool)
+    → in_limit past n (Err (n, Line fault)) ≡ Err (n, cond past TooManyLines (Line fault))
 fault_told n fault true = refl
 fault_told n fault false = refl
 
@@ -123,7 +138,8 @@ log_from-unended n (Some text) (Some rest) line none some taken end =
     let whole : text ≡ line = taken ∙ ap (λ r. line ++ r) end ∙ append-nil line in
     ap (λ t. log_from n (parts t)) whole
     ∙ ap (log_from n) (slice_split_none is_line_feed line none)
-    ∙ ap (λ b. cond b (Ok (record { floor = 0; reads = []; rest = [] })) (in_limit (nat_lt LOG_LINES n) n (Err (n, Line Truncated)))) (is_empty_line-some line some)
+    ∙ ap (λ b. cond b (Ok (record { floor = 0; reads = []; rest = [] })) (in_limit (nat_lt LOG_LINES n) n (Err (n, Line Truncated))))
+    (is_empty_line-some line some)
     ∙ fault_told n Truncated (nat_lt LOG_LINES n)
 
 -- ---- how many LFs were taken
@@ -168,12 +184,14 @@ line_has_none n (Ok read) (Err fault) none = refl
 pub no_floor : (n : ℕ) (lines : List (List ℕ)) → lines_then 0 [] (log_from n lines) ≡ log_from n lines
 no_floor n [] = refl
 no_floor n (line ∷ lines) =
-    elim (is_empty_line line) as (λ b. lines_then 0 [] (cond b (Ok (record { floor = 0; reads = []; rest = join_with_byte 10 lines })) (told (nat_lt LOG_LINES n)))
+    elim (is_empty_line line) as (λ b.
+    lines_then 0 [] (cond b (Ok (record { floor = 0; reads = []; rest = join_with_byte 10 lines })) (told (nat_lt LOG_LINES n)))
     ≡ cond b (Ok (record { floor = 0; reads = []; rest = join_with_byte 10 lines })) (told (nat_lt LOG_LINES n))) [
       | true ↦ refl
       | false ↦ elim (nat_lt LOG_LINES n) as (λ b. lines_then 0 [] (told b) ≡ told b) [
         | true ↦ refl
-        | false ↦ line_has_none n (cond (length lines == 0) (Err Truncated) (reading line)) (log_from (suc n) lines) (no_floor (suc n) lines)
+        | false ↦ line_has_none n (cond (length lines == 0) (Err Truncated) (reading line))
+            (log_from (suc n) lines) (no_floor (suc n) lines)
       ]
     ]
   where
@@ -193,21 +211,28 @@ log_of-line text line rest none some e =
     let lines = ne_eqb (length (first ∷ more)) 0 (λ none. omega arith) in
     ap (λ t. log_at (parts t)) (e ∙ append_assoc line (10 ∷ []) rest)
     ∙ ap log_at (slice_split_at is_line_feed line 10 rest none refl)
-    ∙ ap (λ t. cond (is_floor_line line) (floor_then (cond (length (parts rest) == 0) (Err (Line Truncated)) (floor_reading line)) (log_from 2 (parts rest))) t)
-    (log_from-parts 1 line rest ∙ ap (λ b. cond b (Ok (record { floor = 0; reads = []; rest = rest })) (line_then 1 (reading line) (log_from 2 (parts rest)))) some)
-    ∙ ap (λ b. cond (is_floor_line line) (floor_then (cond b (Err (Line Truncated)) (floor_reading line)) (log_from 2 (parts rest))) (line_then 1 (reading line) (log_from 2 (parts rest))))
+    ∙ ap (λ t.
+    cond (is_floor_line line)
+    (floor_then (cond (length (parts rest) == 0) (Err (Line Truncated)) (floor_reading line)) (log_from 2 (parts rest))) t)
+    (log_from-parts 1 line rest
+    ∙ ap (λ b. cond b (Ok (record { floor = 0; reads = []; rest = rest })) (line_then 1 (reading line) (log_from 2 (parts rest)))) some)
+    ∙ ap (λ b.
+    cond (is_floor_line line) (floor_then (cond b (Err (Line Truncated)) (floor_reading line)) (log_from 2 (parts rest)))
+    (line_then 1 (reading line) (log_from 2 (parts rest))))
     (ap (λ lines. length lines == 0) split ∙ lines)
 
 -- a line that says no floor, or is too long to say anything
 pub first_then-line : (line : List ℕ) → (is_floor_line line ≡ true → LINE_LIMIT < length line) → (more : Result LogText (ℕ × LogFault))
     → first_then line more ≡ line_then 1 (reading line) more
 first_then-line line long more =
-    elim (is_floor_line line) as (λ b. is_floor_line line ≡ b → cond b (floor_then (floor_reading line) more) (line_then 1 (reading line) more) ≡ line_then 1 (reading line) more) [
+    elim (is_floor_line line) as (λ b. is_floor_line line ≡ b
+    → cond b (floor_then (floor_reading line) more) (line_then 1 (reading line) more) ≡ line_then 1 (reading line) more) [
       | true ↦ λ begins. let past = lt-ltb LINE_LIMIT (length line) (long begins) in rw past
       | false ↦ λ _. refl
     ] refl
 
-pub IsFirstRefusal-line : (line : List ℕ) (e : LogError) → (is_floor_line line ≡ true → LINE_LIMIT < length line) → IsLineRefusal 1 line e → IsFirstRefusal line e
+pub IsFirstRefusal-line : (line : List ℕ) (e : LogError)
+    → (is_floor_line line ≡ true → LINE_LIMIT < length line) → IsLineRefusal 1 line e → IsFirstRefusal line e
 IsFirstRefusal-line line (errors.Fault at fault) long refused = (refused.0, λ more. first_then-line line long more ∙ refused.1 more)
 IsFirstRefusal-line line (errors.ReadFault at) long refused = refused
 IsFirstRefusal-line line errors.OutOfMemory long refused = refused
@@ -218,7 +243,8 @@ pub log_of-begun : (old new : Option (List ℕ)) (line : List ℕ) (floor : ℕ)
     → IfSome old (λ text. IfSome new (λ rest. log_of text ≡ lines_then floor read (log_from 2 (parts rest))))
 log_of-begun None new line floor read none taken some says = tt
 log_of-begun (Some text) None line floor read none taken some says = absurd taken
-log_of-begun (Some text) (Some rest) line floor read none taken some says = log_of-line text line rest none some taken ∙ says (log_from 2 (parts rest)) (no_floor 2 (parts rest))
+log_of-begun (Some text) (Some rest) line floor read none taken some says =
+    log_of-line text line rest none some taken ∙ says (log_from 2 (parts rest)) (no_floor 2 (parts rest))
 
 pub log_of-refused : (old new : Option (List ℕ)) (line : List ℕ) (fault : LogFault)
     → HasNoLineFeed line → Consumes old new (line ++ 10 ∷ []) → is_empty_line line ≡ false
@@ -226,7 +252,8 @@ pub log_of-refused : (old new : Option (List ℕ)) (line : List ℕ) (fault : Lo
     → IfSome old (λ text. log_of text ≡ Err (1, fault))
 log_of-refused None new line fault none taken some refused = tt
 log_of-refused (Some text) None line fault none taken some refused = absurd taken
-log_of-refused (Some text) (Some rest) line fault none taken some refused = log_of-line text line rest none some taken ∙ refused (log_from 2 (parts rest))
+log_of-refused (Some text) (Some rest) line fault none taken some refused =
+    log_of-line text line rest none some taken ∙ refused (log_from 2 (parts rest))
 
 either_way : {A : Type 0} (b : Bool) (x : A) → cond b x x ≡ x
 either_way true x = refl
@@ -241,7 +268,11 @@ log_of-unended (Some text) (Some rest) line none some taken end =
     let whole : text ≡ line = taken ∙ ap (λ r. line ++ r) end ∙ append-nil line in
     ap (λ t. log_at (parts t)) whole
     ∙ ap log_at (slice_split_none is_line_feed line none)
-    ∙ ap (λ b. cond (is_floor_line line) (Err (1, Line Truncated)) (cond b (Ok (record { floor = 0; reads = []; rest = [] })) (Err (1, Line Truncated)))) (is_empty_line-some line some)
+    ∙ ap
+    (λ b.
+    cond (is_floor_line line) (Err (1, Line Truncated))
+    (cond b (Ok (record { floor = 0; reads = []; rest = [] })) (Err (1, Line Truncated))))
+    (is_empty_line-some line some)
     ∙ either_way (is_floor_line line) (Err (1, Line Truncated))
 
 -- ---- why a first line was refused
@@ -304,14 +335,16 @@ ends_log-at_line (Some text) (Some rest) line empty taken =
 
 lines_then-more : (floor : ℕ) (reads : List Read) (read : Read) (more : Result LogText (ℕ × LogFault))
     → lines_then floor reads (map_log (with_read read) more) ≡ lines_then floor (reads ++ read ∷ []) more
-lines_then-more floor reads read (Ok log) = ap (λ all. Ok (record { floor = floor; reads = all; rest = log.rest })) (sym (append_assoc reads (read ∷ []) log.reads))
+lines_then-more floor reads read (Ok log) =
+    ap (λ all. Ok (record { floor = floor; reads = all; rest = log.rest })) (sym (append_assoc reads (read ∷ []) log.reads))
 lines_then-more floor reads read (Err fault) = refl
 
 -- what is read of the old text so far, and what is left of it
 abbrev pub GoesOn : Option (List ℕ) → Option (List ℕ) → ℕ → List Read → ℕ → Type 0
 GoesOn old now floor reads n = IfSome old (λ text. IfSome now (λ rest. log_of text ≡ lines_then floor reads (log_from n (parts rest))))
 
-pub GoesOn-more : (old mid new : Option (List ℕ)) (floor : ℕ) (reads : List Read) (read : Read) (n : ℕ) (taken : List ℕ) → GoesOn old mid floor reads n
+pub GoesOn-more : (old mid new : Option (List ℕ)) (floor : ℕ) (reads : List Read) (read : Read) (n : ℕ) (taken : List ℕ)
+    → GoesOn old mid floor reads n
     → Consumes old mid taken
     → IfSome mid (λ text. IfSome new (λ rest. log_from n (parts text) ≡ map_log (with_read read) (log_from (suc n) (parts rest))))
     → GoesOn old new floor (reads ++ read ∷ []) (suc n)
@@ -321,7 +354,8 @@ GoesOn-more (Some text) (Some left) None floor reads read n taken so_far took st
 GoesOn-more (Some text) (Some left) (Some rest) floor reads read n taken so_far took step =
     so_far ∙ ap (lines_then floor reads) step ∙ lines_then-more floor reads read (log_from (suc n) (parts rest))
 
-records_in-append : (reads : List Read) (read : Read) → records_in (reads ++ read ∷ []) ≡ records_in reads ++ option_to_list (record_in read)
+records_in-append : (reads : List Read) (read : Read)
+    → records_in (reads ++ read ∷ []) ≡ records_in reads ++ option_to_list (record_in read)
 records_in-append reads read = filter_map-append record_in reads (read ∷ []) ∙ ap (λ last. records_in reads ++ last) (last_record read)
   where
     last_record : (r : Read) → records_in (r ∷ []) ≡ option_to_list (record_in r)
@@ -353,7 +387,8 @@ TakesLastLine-after old now new taken part took last = elim last [
 ]
 
 LosesLine-after : {R : Type 0} (before mid after : Device R)
-    → faults_of mid ≡ faults_of before → counted_by 0 (all_reads_of before) ≤ all_reads_of mid → LosesLine mid after → LosesLine before after
+    → faults_of mid ≡ faults_of before → counted_by 0 (all_reads_of before) ≤ all_reads_of mid
+    → LosesLine mid after → LosesLine before after
 LosesLine-after before mid after faults reads lost = elim lost [
   | inl counted ↦ inl (omega (arith, faults, counted))
   | inr many ↦ inr (many.0 ∙ faults, many.1, omega (arith, reads, many.2))
@@ -363,17 +398,22 @@ LosesLine-after before mid after faults reads lost = elim lost [
 lines_in : (reads : List Read) → length (records_in reads) + count_by is_foreign reads ≡ length reads
 lines_in [] = refl
 lines_in (kinds.Record r ∷ reads) =
-    one_record _ (length (records_in reads)) (count_by is_foreign reads) (length reads) _ refl (sum_by-append (λ x. cond (is_foreign x) 1 0) (kinds.Record r ∷ []) reads) (lines_in reads)
+    one_record _ (length (records_in reads)) (count_by is_foreign reads) (length reads) _ refl
+    (sum_by-append (λ x. cond (is_foreign x) 1 0) (kinds.Record r ∷ []) reads) (lines_in reads)
   where
-    one_record : (first records foreign lines both : ℕ) → first ≡ 0 → both ≡ first + foreign → records + foreign ≡ lines → suc records + both ≡ suc lines
+    one_record : (first records foreign lines both : ℕ) → first ≡ 0 → both ≡ first + foreign
+        → records + foreign ≡ lines → suc records + both ≡ suc lines
     one_record first records foreign lines both none sum e = omega (arith, none, sum, e)
 lines_in (kinds.Foreign offset ∷ reads) =
-    one_foreign _ (length (records_in reads)) (count_by is_foreign reads) (length reads) _ refl (sum_by-append (λ x. cond (is_foreign x) 1 0) (kinds.Foreign offset ∷ []) reads) (lines_in reads)
+    one_foreign _ (length (records_in reads)) (count_by is_foreign reads) (length reads) _ refl
+    (sum_by-append (λ x. cond (is_foreign x) 1 0) (kinds.Foreign offset ∷ []) reads) (lines_in reads)
   where
-    one_foreign : (first records foreign lines both : ℕ) → first ≡ 1 → both ≡ first + foreign → records + foreign ≡ lines → records + both ≡ suc lines
+    one_foreign : (first records foreign lines both : ℕ) → first ≡ 1
+        → both ≡ first + foreign → records + foreign ≡ lines → records + both ≡ suc lines
     one_foreign first records foreign lines both one sum e = omega (arith, one, sum, e)
 
-pub log_lines : (old new : Log) (floor : ℕ) (reads : List Read) → IsLogOf floor reads old → new ≡ old → length new.records.items + new.foreign ≡ length reads
+pub log_lines : (old new : Log) (floor : ℕ) (reads : List Read) → IsLogOf floor reads old
+    → new ≡ old → length new.records.items + new.foreign ≡ length reads
 log_lines old new floor reads is same =
     ap (λ (log : Log). length log.records.items + log.foreign) same
     ∙ ap (λ records. length records + old.foreign) is.records ∙ ap (λ n. length (records_in reads) + n) is.foreign ∙ lines_in reads
@@ -382,13 +422,15 @@ log_lines old new floor reads is same =
 pub AreWholeLines-more : (lines line : List ℕ) → AreWholeLines (lines ++ (line ++ 10 ∷ []))
 AreWholeLines-more lines line = inr (lines ++ line, sym (append_assoc lines line (10 ∷ [])))
 
-pub IsLogRefusal-step : {R : Type 0} (n : ℕ) (before mid after : Device R) (old now new : Option (List ℕ)) (floor : ℕ) (reads : List Read) (taken : List ℕ) (e : LogError)
+pub IsLogRefusal-step : {R : Type 0} (n : ℕ) (before mid after : Device R)
+    (old now new : Option (List ℕ)) (floor : ℕ) (reads : List Read) (taken : List ℕ) (e : LogError)
     → GoesOn old now floor reads n → Consumes old now taken → count_by is_line_feed taken + 1 ≡ n
     → AreWholeLines taken → counted_by 0 (place_of mid) ≡ counted_by (length taken) (place_of before)
     → faults_of mid ≡ faults_of before → counted_by 0 (all_reads_of before) ≤ all_reads_of mid
     → all_reads_of mid + LINE_READS ≤ all_reads_of before + n * LINE_READS → ReadsFewTimes mid after 1
     → IsStepRefusal n mid after now new e → IsLogRefusal before after old new e
-IsLogRefusal-step n before mid after old now new floor reads taken (errors.Fault line fault) so_far took count whole place faults least most few step =
+IsLogRefusal-step n before mid after old now new floor reads taken
+    (errors.Fault line fault) so_far took count whole place faults least most few step =
     let (is, same, first, part, none, last) = step in (
       same ∙ faults,
       refused old now so_far took first,
@@ -403,7 +445,8 @@ IsLogRefusal-step n before mid after old now new floor reads taken (errors.Fault
     refused None now so_far took e = tt
     refused (Some text) None so_far took e = absurd took
     refused (Some text) (Some rest) so_far took e = so_far ∙ ap (lines_then floor reads) e ∙ ap (λ k. Err (k, fault)) (sym step.0)
-IsLogRefusal-step n before mid after old now new floor reads taken (errors.ReadFault line) so_far took count whole place faults least most few step =
+IsLogRefusal-step n before mid after old now new floor reads taken
+    (errors.ReadFault line) so_far took count whole place faults least most few step =
     let (is, (lost, began, part, none, read)) = step in (
       LosesLine-after before mid after faults least lost,
       taken,
@@ -415,7 +458,9 @@ IsLogRefusal-step n before mid after old now new floor reads taken (errors.ReadF
       line_feeds-none part none,
       rw is (omega (arith, most, few)),
     )
-IsLogRefusal-step n before mid after old now new floor reads taken errors.OutOfMemory so_far took count whole place faults least most few step = step ∙ faults
+IsLogRefusal-step n before mid after old now new floor reads taken
+    errors.OutOfMemory so_far took count whole place faults least most few step =
+    step ∙ faults
 
 -- a log of one line
 pub BeginsLog-line : (line : List ℕ) (old : Log) (read : Read) (new : Log) → (is_floor_line line ≡ true → LINE_LIMIT < length line)
@@ -433,6 +478,8 @@ pub log_of-written_floor : (floor : ℕ) → floor ≤ OFFSET_LIMIT → (rest : 
     → log_of ((floor_text floor ++ 10 ∷ []) ++ rest) ≡ floor_then (Ok floor) (log_from 2 (parts rest))
 log_of-written_floor floor fits rest =
     let line = floor_text floor in
-    log_of-line ((line ++ 10 ∷ []) ++ rest) line rest (one_line floor fits) (is_empty_line-some line (omega (arith, length-append floor_mark (decimal floor)))) refl
-    ∙ ap (λ b. cond b (floor_then (floor_reading line) (log_from 2 (parts rest))) (line_then 1 (reading line) (log_from 2 (parts rest)))) (is_floor_line-mark (decimal floor))
+    log_of-line ((line ++ 10 ∷ []) ++ rest) line rest (one_line floor fits)
+    (is_empty_line-some line (omega (arith, length-append floor_mark (decimal floor)))) refl
+    ∙ ap (λ b. cond b (floor_then (floor_reading line) (log_from 2 (parts rest))) (line_then 1 (reading line) (log_from 2 (parts rest))))
+    (is_floor_line-mark (decimal floor))
     ∙ ap (λ said. floor_then said (log_from 2 (parts rest))) (floor_reading-text floor fits)

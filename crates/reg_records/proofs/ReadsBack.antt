@@ -25,12 +25,15 @@ use Rattle.reg_records.specs.Written.{key_data, written_key, IsOf32Bits, IsInLim
 pub read-compact_text : (d : Data) → HasNumbers (outline d) → depth (outline d) ≤ max_depth → read (compact_text d) ≡ of_json (outline d)
 read-compact_text d numbers shallow =
     let j = outline d in
-    let same : tokens (compact_text d) ≡ json_tokens j = ap tokens (sym (print-outline d)) ∙ tokens-print _ (ArePrintable-json_tokens j numbers) in
-    ap (λ ts. option_and_then of_json (option_and_then (λ p. json.if_last p.0 p.1) (json.value max_depth ts))) (same ∙ sym (append-nil (json_tokens j)))
+    let same : tokens (compact_text d) ≡ json_tokens j =
+    ap tokens (sym (print-outline d)) ∙ tokens-print _ (ArePrintable-json_tokens j numbers) in
+    ap (λ ts. option_and_then of_json (option_and_then (λ p. json.if_last p.0 p.1) (json.value max_depth ts)))
+    (same ∙ sym (append-nil (json_tokens j)))
     ∙ ap (λ o. option_and_then of_json (option_and_then (λ p. json.if_last p.0 p.1) o)) (value-json_tokens j max_depth [] shallow)
 
 pub HasNumbers-key_data : (k : Key) → IsOf32Bits k → HasNumbers (outline (key_data k))
-HasNumbers-key_data (Schema subject version) h = (tt, (tt, (IsNumber-decimal version (omega arith), (IsNumber-decimal 1 (omega arith), tt))))
+HasNumbers-key_data (Schema subject version) h =
+    (tt, (tt, (IsNumber-decimal version (omega arith), (IsNumber-decimal 1 (omega arith), tt))))
 HasNumbers-key_data (Config None) h = (tt, (tt, (IsNumber-decimal 0 (omega arith), tt)))
 HasNumbers-key_data (Config (Some subject)) h = (tt, (tt, (IsNumber-decimal 0 (omega arith), tt)))
 HasNumbers-key_data (Mode None) h = (tt, (tt, (IsNumber-decimal 0 (omega arith), tt)))
@@ -88,16 +91,23 @@ pub key_of-written_key : (k : Key) → IsInLimits k → key_of (written_key k) �
 key_of-written_key (Schema subject version) h =
     ap (option_and_then key_in) (read-written_key (Schema subject version) (omega (arith, h.1)))
     ∙ rw (number_of-decimal version (omega (arith, h.1)), number_of-decimal 1 (omega arith), le-leb 1 version h.0, le-leb version _ h.1)
-key_of-written_key (Config None) h = ap (option_and_then key_in) (read-written_key (Config None) tt) ∙ rw (number_of-decimal 0 (omega arith))
-key_of-written_key (Config (Some subject)) h = ap (option_and_then key_in) (read-written_key (Config (Some subject)) tt) ∙ rw (number_of-decimal 0 (omega arith))
+key_of-written_key (Config None) h =
+    ap (option_and_then key_in) (read-written_key (Config None) tt) ∙ rw (number_of-decimal 0 (omega arith))
+key_of-written_key (Config (Some subject)) h =
+    ap (option_and_then key_in) (read-written_key (Config (Some subject)) tt) ∙ rw (number_of-decimal 0 (omega arith))
 key_of-written_key (Mode None) h = ap (option_and_then key_in) (read-written_key (Mode None) tt) ∙ rw (number_of-decimal 0 (omega arith))
-key_of-written_key (Mode (Some subject)) h = ap (option_and_then key_in) (read-written_key (Mode (Some subject)) tt) ∙ rw (number_of-decimal 0 (omega arith))
-key_of-written_key (DeleteSubject subject) h = ap (option_and_then key_in) (read-written_key (DeleteSubject subject) tt) ∙ rw (number_of-decimal 0 (omega arith))
+key_of-written_key (Mode (Some subject)) h =
+    ap (option_and_then key_in) (read-written_key (Mode (Some subject)) tt) ∙ rw (number_of-decimal 0 (omega arith))
+key_of-written_key (DeleteSubject subject) h =
+    ap (option_and_then key_in) (read-written_key (DeleteSubject subject) tt) ∙ rw (number_of-decimal 0 (omega arith))
 key_of-written_key Noop h = ap (option_and_then key_in) (read-written_key Noop tt) ∙ rw (number_of-decimal 0 (omega arith))
 key_of-written_key IdMark h = ap (option_and_then key_in) (read-written_key IdMark tt) ∙ rw (number_of-decimal 0 (omega arith))
 
 pub written_key-apart : (a b : Key) → IsOf32Bits a → IsOf32Bits b → written_key a ≡ written_key b → a ≡ b
 written_key-apart a b ha hb same =
     let again : Some a ≡ Some b =
-    sym (ap any_key (read-written_key a ha) ∙ any_key-outline a ha) ∙ ap (λ text. any_key (read text)) same ∙ ap any_key (read-written_key b hb) ∙ any_key-outline b hb in
+    sym (ap any_key (read-written_key a ha) ∙ any_key-outline a ha)
+    ∙ ap (λ text. any_key (read text)) same
+    ∙ ap any_key (read-written_key b hb)
+    ∙ any_key-outline b hb in
     cc

@@ -26,7 +26,8 @@ parts_of input line rest none e =
 first_text-of : (line rest : List ℕ) → first_text (line ∷ slice_split is_line_feed rest) ≡ text_in line
 first_text-of line rest = let (first, more, e) = first_part rest in ap (λ lines. first_text (line ∷ lines)) e
 
-pub front : (old new : Option (List ℕ)) (line : List ℕ) (r : Result (List ℕ) LineError) → HasNoLineFeed line → Consumes old new (line ++ 10 ∷ []) → text_in line ≡ r
+pub front : (old new : Option (List ℕ)) (line : List ℕ) (r : Result (List ℕ) LineError)
+    → HasNoLineFeed line → Consumes old new (line ++ 10 ∷ []) → text_in line ≡ r
     → IfSome old (λ input. (front_text input ≡ r) × (new ≡ Some (after_front input)))
 front None new line r none taken says = tt
 front (Some input) None line r none taken says = absurd taken
@@ -57,7 +58,8 @@ nothing_left old new end kept = inr (Consumes-kept old old new [] (Consumes-nil 
     at_end (Some input) None end kept = absurd kept
     at_end (Some input) (Some rest) end kept = kept ∙ end
 
-fault_of : (old new : Option (List ℕ)) (e : LineError) → IfSome old (λ input. (front_text input ≡ Err e) × (new ≡ Some (after_front input))) → IfSome old (λ input. front_text input ≡ Err e)
+fault_of : (old new : Option (List ℕ)) (e : LineError)
+    → IfSome old (λ input. (front_text input ≡ Err e) × (new ≡ Some (after_front input))) → IfSome old (λ input. front_text input ≡ Err e)
 fault_of None new e h = tt
 fault_of (Some input) new e h = h.0
 

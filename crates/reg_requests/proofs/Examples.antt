@@ -37,11 +37,13 @@ request method target body = record {
   body = Some body;
 }
 
-a_query : asked_of (request (codes "GET") (codes "/subjects/a%2Fb/versions/latest") []) ≡ asked.Query (queries.Version (codes "a/b") versions.Latest false)
+a_query : asked_of (request (codes "GET") (codes "/subjects/a%2Fb/versions/latest") [])
+    ≡ asked.Query (queries.Version (codes "a/b") versions.Latest false)
 unfolding asked_of request matchit_on_literals route_of path_rows form_urlencoded_on_literals is_utf8 chars encode
 a_query = refl
 
-a_wrong_version : asked_of (request (codes "GET") (codes "/subjects/s/versions/2147483648") []) ≡ asked.Refused refusals.InvalidVersion false
+a_wrong_version : asked_of (request (codes "GET") (codes "/subjects/s/versions/2147483648") [])
+    ≡ asked.Refused refusals.InvalidVersion false
 unfolding asked_of request matchit_on_literals route_of path_rows form_urlencoded_on_literals is_utf8 chars encode
 a_wrong_version = refl
 
@@ -51,10 +53,12 @@ a_wrong_method = refl
 
 a_registration : asked_of (request (codes "POST") (codes "/subjects/s/versions") (codes "{\"schema\":\"\\\"int\\\"\",\"id\":-1}"))
     ≡ asked.Command (commands.Register (codes "s") (codes "\"int\""))
-unfolding asked_of request matchit_on_literals route_of path_rows form_urlencoded_on_literals is_utf8 chars encode serde_json_on_literals body_of
+unfolding asked_of request matchit_on_literals route_of path_rows
+    form_urlencoded_on_literals is_utf8 chars encode serde_json_on_literals body_of
 a_registration = refl
 
 a_version_without_id : asked_of (request (codes "POST") (codes "/subjects/s/versions") (codes "{\"schema\":\"x\",\"version\":2}"))
     ≡ asked.Refused (refusals.NotPermitted reasons.VersionNeedsImport) false
-unfolding asked_of request matchit_on_literals route_of path_rows form_urlencoded_on_literals is_utf8 chars encode serde_json_on_literals body_of
+unfolding asked_of request matchit_on_literals route_of path_rows
+    form_urlencoded_on_literals is_utf8 chars encode serde_json_on_literals body_of
 a_version_without_id = refl

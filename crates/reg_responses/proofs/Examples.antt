@@ -36,7 +36,8 @@ versions_deleted : answer_text false (reply_answer (replies.Versions (1 ∷ 2 �
 unfolding head_text phrase_of reply_answer response_text serde_json_on_literals digits
 versions_deleted = refl
 
-level_set : reply_answer (replies.Level levels.FullTransitive) ≡ record { status = 200; body = codes "{\"compatibility\":\"FULL_TRANSITIVE\"}" }
+level_set : reply_answer (replies.Level levels.FullTransitive)
+    ≡ record { status = 200; body = codes "{\"compatibility\":\"FULL_TRANSITIVE\"}" }
 unfolding reply_answer serde_json_on_literals
 level_set = refl
 

@@ -16,4 +16,5 @@ items_text-listed_more (n ∷ ns) =
 pub list_in_pieces : (versions : List ℕ) → codes "[" ++ (listed versions ++ codes "]") ≡ list_body number_data versions
 list_in_pieces [] = refl
 list_in_pieces (n ∷ ns) =
-    ap (λ rest. 91 ∷ rest) (append_assoc (decimal n) (listed_more ns) (codes "]") ∙ ap (λ rest. decimal n ++ rest) (sym (items_text-listed_more ns)))
+    ap (λ rest. 91 ∷ rest)
+    (append_assoc (decimal n) (listed_more ns) (codes "]") ∙ ap (λ rest. decimal n ++ rest) (sym (items_text-listed_more ns)))

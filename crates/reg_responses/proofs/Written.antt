@@ -31,13 +31,17 @@ pub AppendsFront-then : (old mid new : Option (List ℕ)) (before text after who
 AppendsFront-then old mid new before text after whole e written (front, rest, parts, appends) = (
   before ++ front,
   rest ++ after,
-  e ∙ ap (λ b. before ++ (b ++ after)) parts ∙ ap (λ b. before ++ b) (append_assoc front rest after) ∙ sym (append_assoc before front (rest ++ after)),
+  e
+      ∙ ap (λ b. before ++ (b ++ after)) parts
+      ∙ ap (λ b. before ++ b) (append_assoc front rest after)
+      ∙ sym (append_assoc before front (rest ++ after)),
   Appends-trans old mid new before front written appends,
 )
 
 -- a front of a part, after what was written before it
 pub HasFront-then : {W : Type 0} (contents : W → Option (List ℕ)) (old mid new : Device W) (before text after whole : List ℕ)
-    → whole ≡ before ++ (text ++ after) → HasWritten contents old mid before → HasFront contents mid new text → HasFront contents old new whole
+    → whole ≡ before ++ (text ++ after) → HasWritten contents old mid before
+    → HasFront contents mid new text → HasFront contents old new whole
 HasFront-then contents old mid new before text after whole e written lost = (
   LosesWriter-later old mid new written.1 lost.0,
   AppendsFront-then (bytes_in contents old) (bytes_in contents mid) (bytes_in contents new) before text after whole e written.0 lost.1,
@@ -70,9 +74,14 @@ Writes-flushed contents old mid new text result before after =
 
 -- counts that begin anew write nothing
 pub HasWritten-begun : {W : Type 0} (contents : W → Option (List ℕ)) (old new : Device W) → inner_of new ≡ inner_of old
-    → faults_of new ≡ faults_of old → interruptions_of new ≡ 0 → all_interruptions_of new ≡ all_interruptions_of old → HasWritten contents old new []
-HasWritten-begun contents old new inner faults interruptions all =
-    (subst (λ w. Appends (contents old.inner) (contents w) []) (sym inner) (Appends-nothing (contents old.inner)), faults, interruptions, omega (arith, all))
+    → faults_of new ≡ faults_of old → interruptions_of new ≡ 0
+    → all_interruptions_of new ≡ all_interruptions_of old → HasWritten contents old new []
+HasWritten-begun contents old new inner faults interruptions all = (
+  subst (λ w. Appends (contents old.inner) (contents w) []) (sym inner) (Appends-nothing (contents old.inner)),
+  faults,
+  interruptions,
+  omega (arith, all),
+)
 
 -- what stands for the elements up to one, for that one, and for those after it
 pub flat_map-split : {X : Type 0} (f : X → List ℕ) (xs : List X) (i : ℕ) (x : X) → take (i + 1) xs ≡ take i xs ++ x ∷ []
@@ -80,13 +89,16 @@ pub flat_map-split : {X : Type 0} (f : X → List ℕ) (xs : List X) (i : ℕ) (
 flat_map-split f xs i x next =
     ap (flat_map f) (sym (take-append-drop (i + 1) xs) ∙ ap (λ front. front ++ drop (i + 1) xs) next)
     ∙ flat_map-append f (take i xs ++ x ∷ []) (drop (i + 1) xs)
-    ∙ ap (λ front. front ++ flat_map f (drop (i + 1) xs)) (flat_map-append f (take i xs) (x ∷ []) ∙ ap (λ last. flat_map f (take i xs) ++ last) (append-nil (f x)))
+    ∙ ap (λ front. front ++ flat_map f (drop (i + 1) xs))
+    (flat_map-append f (take i xs) (x ∷ []) ∙ ap (λ last. flat_map f (take i xs) ++ last) (append-nil (f x)))
     ∙ append_assoc (flat_map f (take i xs)) (f x) (flat_map f (drop (i + 1) xs))
 
 -- the first n of what stands from a place on
-pub take-rest : (xs : List ℕ) (at n : ℕ) → at ≤ length xs → n ≤ length (take (length xs - at) (drop at xs)) → take (at + n) xs ≡ take at xs ++ take n (take (length xs - at) (drop at xs))
+pub take-rest : (xs : List ℕ) (at n : ℕ) → at ≤ length xs → n ≤ length (take (length xs - at) (drop at xs))
+    → take (at + n) xs ≡ take at xs ++ take n (take (length xs - at) (drop at xs))
 take-rest xs at n within fits =
-    let whole : take (length xs - at) (drop at xs) ≡ drop at xs = take_all (length xs - at) (drop at xs) (omega (arith, length-drop at xs)) in
+    let whole : take (length xs - at) (drop at xs) ≡ drop at xs =
+    take_all (length xs - at) (drop at xs) (omega (arith, length-drop at xs)) in
     sym (take-append-drop at (take (at + n) xs))
     ∙ ap (λ front. front ++ drop at (take (at + n) xs)) (take-take at (at + n) xs (omega arith))
     ∙ ap (λ rest. take at xs ++ rest) (drop-take at n xs ∙ ap (take n) (sym whole))

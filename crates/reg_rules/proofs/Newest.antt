@@ -10,7 +10,8 @@ use Rattle.reg_entries.specs.declared.entry.Entry.{Entry}
 use Rattle.reg_rules.specs.Better.{better}
 use Rattle.reg_entries.specs.Sought.{newest}
 
-reduce_push : {A : Type 0} (f : A → A → A) (xs : List A) (x : A) → reduce f (xs ++ x ∷ []) ≡ Some (option_map_or (λ a. f a x) (reduce f xs) x)
+reduce_push : {A : Type 0} (f : A → A → A) (xs : List A) (x : A)
+    → reduce f (xs ++ x ∷ []) ≡ Some (option_map_or (λ a. f a x) (reduce f xs) x)
 reduce_push f [] x = refl
 reduce_push f (y ∷ ys) x = ap Some (fold_push f y ys x)
 
@@ -18,7 +19,8 @@ newest_push : (es : List Entry) (b : Bool) (x : Entry) → newest (es ++ cond b 
 newest_push es true x = reduce_push _ es x
 newest_push es false x = ap newest (append-nil es)
 
-pub newest_more : (p : Entry → Bool) (xs : List Entry) (i : ℕ) (x : Entry) → i < length xs → x ≡ get_or xs i x → newest (filter p (take (i + 1) xs)) ≡ better (p x) x (newest (filter p (take i xs)))
+pub newest_more : (p : Entry → Bool) (xs : List Entry) (i : ℕ) (x : Entry) → i < length xs
+    → x ≡ get_or xs i x → newest (filter p (take (i + 1) xs)) ≡ better (p x) x (newest (filter p (take i xs)))
 newest_more p xs i x within at =
     ap newest (filter_more p xs i x within)
     ∙ (λ j. newest (filter p (take i xs) ++ cond (p (sym at j)) (sym at j ∷ []) []))

@@ -22,21 +22,26 @@ use Rattle.reg_rules.specs.Report.{IsReport}
 none_told : (ps : List Required) (v : LevelVerdict) → IsVerdictOn ps v → message_of v ≡ None → All IsCompatible ps
 none_told [] v is none = All-nil IsCompatible
 none_told (p ∷ ps) v (inl (compatible, is)) none = All-cons IsCompatible p ps compatible (none_told ps v is none)
-none_told (p ∷ ps) v (inr (trail, shown, is)) none = let no : Some (clash_message p.version p.direction trail) ≡ None = sym (ap message_of is) ∙ none in cc
+none_told (p ∷ ps) v (inr (trail, shown, is)) none =
+    let no : Some (clash_message p.version p.direction trail) ≡ None = sym (ap message_of is) ∙ none in cc
 
 -- the message of a verdict is what a check of the level tells
-pub reports : (level : Level) (new : List ℕ) (olds : List VersionText) (v : LevelVerdict) (told : Option (List ℕ)) → IsVerdictOfTexts level new olds v → told ≡ message_of v → IsReport level new olds told
+pub reports : (level : Level) (new : List ℕ) (olds : List VersionText) (v : LevelVerdict) (told : Option (List ℕ))
+    → IsVerdictOfTexts level new olds v → told ≡ message_of v → IsReport level new olds told
 reports level new olds v None is same = none_told (required_pairs level (nodes_in new) (versions_in olds)) v is (sym same)
 reports level new olds v (Some message) is same = (v, is, sym same)
 
 -- so is that of a verdict of the same level and versions
-pub verdict_reports : (level force : Level) (new : List ℕ) (olds kept : List VersionText) (v : LevelVerdict) (told : Option (List ℕ)) → level ≡ force → olds ≡ kept → IsVerdictOfTexts level new olds v → told ≡ message_of v → IsReport force new kept told
+pub verdict_reports : (level force : Level) (new : List ℕ) (olds kept : List VersionText) (v : LevelVerdict) (told : Option (List ℕ))
+    → level ≡ force → olds ≡ kept → IsVerdictOfTexts level new olds v → told ≡ message_of v → IsReport force new kept told
 verdict_reports level force new olds kept v told of_level of_olds is same =
     let a = subst (λ os. IsVerdictOfTexts level new os v) of_olds is in
     reports force new kept v told (subst (λ l. IsVerdictOfTexts l new kept v) of_level a) same
 
 -- a judgement that was made of these reports on them
-pub judgement_reports : (level : Level) (new : List ℕ) (olds : List VersionText) (j : Judgement) (told : Option (List ℕ)) → IsMadeOf j level new olds → IsTrueVerdict j.level j.new_text j.olds j.verdict → told ≡ message_of j.verdict → IsReport level new olds told
+pub judgement_reports : (level : Level) (new : List ℕ) (olds : List VersionText) (j : Judgement) (told : Option (List ℕ))
+    → IsMadeOf j level new olds → IsTrueVerdict j.level j.new_text j.olds j.verdict
+    → told ≡ message_of j.verdict → IsReport level new olds told
 judgement_reports level new olds j told (of_level, of_text, of_olds) true_one same =
     let a = subst (λ os. IsVerdictOfTexts j.level j.new_text os j.verdict) of_olds true_one.is_verdict in
     let b = subst (λ text. IsVerdictOfTexts j.level text olds j.verdict) of_text a in
@@ -52,12 +57,16 @@ some_mapped f (Some a) b e = refl
 none_unread : (es : List Entry) → All HasSchema es → first_unread (texts_of es) ≡ None
 none_unread [] all = refl
 none_unread (e ∷ es) all =
-    ap (λ b. option_map (λ old. old.0) (cond (not b) (Some (e.version, e.text)) (find (λ old. not (is_schema old.1)) (texts_of es)))) (All-head HasSchema e es all)
+    ap (λ b. option_map (λ old. old.0) (cond (not b) (Some (e.version, e.text)) (find (λ old. not (is_schema old.1)) (texts_of es))))
+    (All-head HasSchema e es all)
     ∙ none_unread es (All-tail HasSchema e es all)
 
 -- the text of each live entry is a schema's
 pub live_are_read : EntriesAreRead → (rs : Records) (subject : List ℕ) → first_unread (texts_of (live rs subject)) ≡ None
 live_are_read read rs subject =
-    let each = λ (e : Entry) (there : Contains (entries rs) e). some_mapped (λ (m : Meaning). m.normal_text) (schema_of e.text) e.normal (read rs e there) in
+    let each = λ (e : Entry) (there : Contains (entries rs) e).
+    some_mapped (λ (m : Meaning). m.normal_text) (schema_of e.text) e.normal (read rs e there) in
     let all = All-weaker (Contains (entries rs)) HasSchema each (entries rs) (All-contains_itself (entries rs)) in
-    none_unread (live rs subject) (All-filter (counts false) HasSchema (of_subject (entries rs) subject) (All-filter (λ e. bytes_eq e.subject subject) HasSchema (entries rs) all))
+    none_unread (live rs subject)
+    (All-filter (counts false) HasSchema (of_subject (entries rs) subject)
+    (All-filter (λ e. bytes_eq e.subject subject) HasSchema (entries rs) all))

@@ -27,41 +27,60 @@ use Rattle.reg_running.specs.Calls.{LawfulListsAreOfActs, SubmitsAreActs}
 use Rattle.reg_running.specs.Running.{Act, AreActs, Carried, Dropped, items_of, published}
 
 -- acts, and more acts
-acts_join : (count : ℕ) (t : Topic) (xs ys : List Act) → AreActs count t xs → AreActs count (after_items t (published xs)) ys → AreActs count t (xs ++ ys)
+acts_join : (count : ℕ) (t : Topic) (xs ys : List Act) → AreActs count t xs
+    → AreActs count (after_items t (published xs)) ys → AreActs count t (xs ++ ys)
 acts_join count t [] ys h g = g
-acts_join count t (a ∷ xs) ys h g = (h.0, acts_join count (after_items t (items_of a)) xs ys h.1 (subst (λ u. AreActs count u ys) (fold-append after_item t (items_of a) (published xs)) g))
+acts_join count t (a ∷ xs) ys h g = (
+  h.0,
+  acts_join count (after_items t (items_of a)) xs ys h.1
+      (subst (λ u. AreActs count u ys) (fold-append after_item t (items_of a) (published xs)) g),
+)
 
 added_none : (count : ℕ) (base : Topic) (before after : List Item) → after ≡ before → Added count base before after []
 added_none count base before after e = record { are = tt; list = e ∙ sym (append-nil before) }
 
 pub added_more : ActsAddUp
 added_more count base before mid after xs ys h g = record {
-  are = acts_join count (after_items base before) xs ys h.are (subst (λ t. AreActs count t ys) (ap (after_items base) h.list ∙ fold-append after_item base before (published xs)) g.are);
-  list = g.list ∙ (ap (λ l. l ++ published ys) h.list ∙ (append_assoc before (published xs) (published ys) ∙ ap (λ l. before ++ l) (sym (flat_map-append items_of xs ys))));
+  are = acts_join count (after_items base before) xs ys h.are
+      (subst (λ t. AreActs count t ys) (ap (after_items base) h.list ∙ fold-append after_item base before (published xs)) g.are);
+  list = g.list
+      ∙ (
+      ap (λ l. l ++ published ys) h.list
+      ∙ (append_assoc before (published xs) (published ys) ∙ ap (λ l. before ++ l) (sym (flat_map-append items_of xs ys))));
 }
 
 -- an act of one command
-carries : (count node : ℕ) (base : Topic) (before after : List Item) (command : Command) (reply : Reply) (batch : List Record) → node < count
-    → IsStep (registry_of (after_items base before)) (after_items base before).next command reply batch → after ≡ before ++ item_of command batch
+carries : (count node : ℕ) (base : Topic) (before after : List Item) (command : Command) (reply : Reply) (batch : List Record)
+    → node < count
+    → IsStep (registry_of (after_items base before)) (after_items base before).next command reply batch
+    → after ≡ before ++ item_of command batch
     → Added count base before after (Carried node command reply batch ∷ [])
-carries count node base before after command reply batch there step e = record { are = ((there, step), tt); list = e ∙ ap (λ l. before ++ l) (sym (append-nil (item_of command batch))) }
+carries count node base before after command reply batch there step e =
+    record { are = ((there, step), tt); list = e ∙ ap (λ l. before ++ l) (sym (append-nil (item_of command batch))) }
 
-drops : (count : ℕ) (base : Topic) (before after : List Item) (c : Compaction) → may_compact (after_items base before) c ≡ true → after ≡ before ++ items.Compaction c ∷ [] → Added count base before after (Dropped c ∷ [])
+drops : (count : ℕ) (base : Topic) (before after : List Item) (c : Compaction) → may_compact (after_items base before) c ≡ true
+    → after ≡ before ++ items.Compaction c ∷ [] → Added count base before after (Dropped c ∷ [])
 drops count base before after c may e = record { are = (may, tt); list = e }
 
 -- an item that may follow is published by an act
-commit_act : (count node : ℕ) (base : Topic) (before after : List Item) (command : Command) (reply : Reply) (batch : List Record) → node < count → (batch ≡ [] → ⊥)
-    → IsStep (registry_of (after_items base before)) (after_items base before).next command reply batch → after ≡ before ++ items.Commit (record { command = command; batch = batch }) ∷ []
+commit_act : (count node : ℕ) (base : Topic) (before after : List Item) (command : Command) (reply : Reply) (batch : List Record)
+    → node < count → (batch ≡ [] → ⊥)
+    → IsStep (registry_of (after_items base before)) (after_items base before).next command reply batch
+    → after ≡ before ++ items.Commit (record { command = command; batch = batch }) ∷ []
     → (acts : List Act) × Added count base before after acts
 commit_act count node base before after command reply [] there writes step e = absurd (writes refl)
-commit_act count node base before after command reply (r ∷ rs) there writes step e = (Carried node command reply (r ∷ rs) ∷ [], carries count node base before after command reply (r ∷ rs) there step e)
+commit_act count node base before after command reply (r ∷ rs) there writes step e =
+    (Carried node command reply (r ∷ rs) ∷ [], carries count node base before after command reply (r ∷ rs) there step e)
 
-item_act : (count node : ℕ) (base : Topic) (before after : List Item) (i : Item) → node < count → MayFollow (after_items base before) i → after ≡ before ++ i ∷ [] → (acts : List Act) × Added count base before after acts
-item_act count node base before after (items.Commit commit) there may e = commit_act count node base before after commit.command may.reply commit.batch there may.writes may.step e
+item_act : (count node : ℕ) (base : Topic) (before after : List Item) (i : Item) → node < count
+    → MayFollow (after_items base before) i → after ≡ before ++ i ∷ [] → (acts : List Act) × Added count base before after acts
+item_act count node base before after (items.Commit commit) there may e =
+    commit_act count node base before after commit.command may.reply commit.batch there may.writes may.step e
 item_act count node base before after (items.Compaction c) there may e = (Dropped c ∷ [], drops count base before after c may e)
 
 -- what was pending is published by acts
-pending_acts : (count node : ℕ) (base : Topic) (before : List Item) (pending : List Item) → node < count → Pends (after_items base before) pending → (acts : List Act) × Added count base before (before ++ pending) acts
+pending_acts : (count node : ℕ) (base : Topic) (before : List Item) (pending : List Item) → node < count
+    → Pends (after_items base before) pending → (acts : List Act) × Added count base before (before ++ pending) acts
 pending_acts count node base before [] there pends = ([], added_none count base before (before ++ []) (append-nil before))
 pending_acts count node base before (i ∷ []) there pends = item_act count node base before (before ++ i ∷ []) i there pends refl
 pending_acts count node base before (i ∷ j ∷ is) there pends = absurd pends
@@ -81,7 +100,8 @@ module _ {K : Type 0} (count node : ℕ) (there : node < count) (base : Topic) w
   abbrev Adds : List Item → PenState K → Command → Reply → Type 0
   Adds before m command reply = (acts : List Act) × Added count base before m.published acts × IsToldOf acts node command reply
 
-  follows_so : (kept : Kept) (l m : PenState K) (command : Command) (replied unsettled reply : Reply) (first : Record) (rest : List Record) → IsNoOutcome unsettled
+  follows_so : (kept : Kept) (l m : PenState K) (command : Command) (replied unsettled reply : Reply) (first : Record) (rest : List Record)
+      → IsNoOutcome unsettled
       → IsStep (registry_of (after_items base l.published)) (after_items base l.published).next command replied (first ∷ rest)
       → Follows kept (item_of command (first ∷ rest)) replied unsettled l reply m → Adds l.published m command reply
   follows_so Taken l m command replied unsettled reply first rest none step (inl done) = (
@@ -89,58 +109,88 @@ module _ {K : Type 0} (count node : ℕ) (there : node < count) (base : Topic) w
     carries count node base l.published m.published command replied (first ∷ rest) there step (ap (λ (s : PenState K). s.published) done.1),
     inl ([], first ∷ rest, ap (λ (r : Reply). Carried node command r (first ∷ rest) ∷ []) (sym done.0)),
   )
-  follows_so Taken l m command replied unsettled reply first rest none step (inr left) = ([], added_none count base l.published m.published (ap (λ (s : PenState K). s.published) left.1), inr (subst IsNoOutcome (sym left.0) none))
-  follows_so (Declined lack) l m command replied unsettled reply first rest none step h = ([], added_none count base l.published m.published (ap (λ (s : PenState K). s.published) h.1), inr (subst IsNoOutcome (sym h.0) tt))
-  follows_so Lost l m command replied unsettled reply first rest none step h = ([], added_none count base l.published m.published (ap (λ (s : PenState K). s.published) h.1), inr (subst IsNoOutcome (sym h.0) none))
+  follows_so Taken l m command replied unsettled reply first rest none step (inr left) = (
+    [],
+    added_none count base l.published m.published (ap (λ (s : PenState K). s.published) left.1),
+    inr (subst IsNoOutcome (sym left.0) none),
+  )
+  follows_so (Declined lack) l m command replied unsettled reply first rest none step h =
+      ([], added_none count base l.published m.published (ap (λ (s : PenState K). s.published) h.1), inr (subst IsNoOutcome (sym h.0) tt))
+  follows_so Lost l m command replied unsettled reply first rest none step h =
+      ([], added_none count base l.published m.published (ap (λ (s : PenState K). s.published) h.1), inr (subst IsNoOutcome (sym h.0) none))
 
-  acts_so : (keeps : K → List Record → Kept → K → Type 0) (l m : PenState K) (command : Command) (reply : Reply) → Acts keeps base l command reply m → Adds l.published m command reply
+  acts_so : (keeps : K → List Record → Kept → K → Type 0) (l m : PenState K) (command : Command) (reply : Reply)
+      → Acts keeps base l command reply m → Adds l.published m command reply
   acts_so keeps l m command reply (inl none) = (
     Carried node command reply [] ∷ [],
-    carries count node base l.published m.published command reply [] there none.0 (ap (λ (s : PenState K). s.published) none.1 ∙ sym (append-nil l.published)),
+    carries count node base l.published m.published command reply [] there none.0
+        (ap (λ (s : PenState K). s.published) none.1 ∙ sym (append-nil l.published)),
     inl ([], [], refl),
   )
-  acts_so keeps l m command reply (inr (inl lends)) = follows_so lends.kept (record l { keep = lends.keep }) m command lends.replied (replies.Unsettled lends.first.offset) reply lends.first lends.rest tt lends.step lends.follows
-  acts_so keeps l m command reply (inr (inr refused)) = ([], added_none count base l.published m.published (ap (λ (s : PenState K). s.published) refused.1), inr (no_outcome reply refused.0))
+  acts_so keeps l m command reply (inr (inl lends)) =
+      follows_so lends.kept (record l { keep = lends.keep }) m command lends.replied
+      (replies.Unsettled lends.first.offset) reply lends.first lends.rest tt lends.step lends.follows
+  acts_so keeps l m command reply (inr (inr refused)) =
+      ([], added_none count base l.published m.published (ap (λ (s : PenState K). s.published) refused.1), inr (no_outcome reply refused.0))
 
   -- behind acts that published what was pending
-  behind_pending : (before mid : List Item) (m : PenState K) (command : Command) (reply : Reply) → ((acts : List Act) × Added count base before mid acts) → Adds mid m command reply → Adds before m command reply
+  behind_pending : (before mid : List Item) (m : PenState K) (command : Command) (reply : Reply)
+      → ((acts : List Act) × Added count base before mid acts) → Adds mid m command reply → Adds before m command reply
   behind_pending before mid m command reply p (ys, added, inl told) = (
     p.0 ++ ys,
     added_more count base before mid m.published p.0 ys p.1 added,
     inl (p.0 ++ told.0, told.1, ap (λ l. p.0 ++ l) told.2 ∙ sym (append_assoc p.0 told.0 (Carried node command reply told.1 ∷ []))),
   )
-  behind_pending before mid m command reply p (ys, added, inr none) = (p.0 ++ ys, added_more count base before mid m.published p.0 ys p.1 added, inr none)
+  behind_pending before mid m command reply p (ys, added, inr none) =
+      (p.0 ++ ys, added_more count base before mid m.published p.0 ys p.1 added, inr none)
 
-  submits_so : (keeps : K → List Record → Kept → K → Type 0) (since : Option (Bor (List Item))) (l m : PenState K) (command : Command) (reply : Reply) → IsPen base l.published l.pending
+  submits_so : (keeps : K → List Record → Kept → K → Type 0)
+      (since : Option (Bor (List Item))) (l m : PenState K) (command : Command) (reply : Reply)
+      → IsPen base l.published l.pending
       → Submits keeps base since l command reply m → Adds l.published m command reply
-  submits_so keeps since l m command reply pen (inl ahead) = ([], added_none count base l.published m.published (ap (λ (s : PenState K). s.published) ahead.2), inr (no_outcome reply ahead.1))
-  submits_so keeps since l m command reply pen (inr (behind, inl still)) = ([], added_none count base l.published m.published (ap (λ (s : PenState K). s.published) still.1), inr (still_none l.pending reply still.0))
+  submits_so keeps since l m command reply pen (inl ahead) =
+      ([], added_none count base l.published m.published (ap (λ (s : PenState K). s.published) ahead.2), inr (no_outcome reply ahead.1))
+  submits_so keeps since l m command reply pen (inr (behind, inl still)) = (
+    [],
+    added_none count base l.published m.published (ap (λ (s : PenState K). s.published) still.1),
+    inr (still_none l.pending reply still.0),
+  )
   submits_so keeps since l m command reply pen (inr (behind, inr acts)) =
-      behind_pending l.published (l.published ++ l.pending) m command reply (pending_acts count node base l.published l.pending there pen.pends) (acts_so keeps (settled l) m command reply acts.1)
+      behind_pending l.published (l.published ++ l.pending) m command reply
+      (pending_acts count node base l.published l.pending there pen.pends) (acts_so keeps (settled l) m command reply acts.1)
 
-  leaves_so : (floor : ℕ) (l m : PenState K) → IsPen base l.published l.pending → LeavesCompaction base floor l m → (acts : List Act) × Added count base l.published m.published acts
+  leaves_so : (floor : ℕ) (l m : PenState K) → IsPen base l.published l.pending
+      → LeavesCompaction base floor l m → (acts : List Act) × Added count base l.published m.published acts
   leaves_so floor l m pen (inl same) = ([], added_none count base l.published m.published (ap (λ (s : PenState K). s.published) same))
   leaves_so floor l m pen (inr (inl settles)) =
-      let p = pending_acts count node base l.published l.pending there pen.pends in (p.0, subst (λ is. Added count base l.published is p.0) (sym (ap (λ (s : PenState K). s.published) settles.1)) p.1)
+      let p = pending_acts count node base l.published l.pending there pen.pends in
+      (p.0, subst (λ is. Added count base l.published is p.0) (sym (ap (λ (s : PenState K). s.published) settles.1)) p.1)
   leaves_so floor l m pen (inr (inr waits)) =
-      let p = pending_acts count node base l.published l.pending there pen.pends in (p.0, subst (λ is. Added count base l.published is p.0) (sym (ap (λ (s : PenState K). s.published) waits.3)) p.1)
+      let p = pending_acts count node base l.published l.pending there pen.pends in
+      (p.0, subst (λ is. Added count base l.published is p.0) (sym (ap (λ (s : PenState K). s.published) waits.3)) p.1)
 
-  refused_so : (floor : ℕ) (l m : PenState K) (error : CompactError) → IsPen base l.published l.pending → IsCompactRefusal base floor l error m → (acts : List Act) × Added count base l.published m.published acts
-  refused_so floor l m (refused.FloorBelow kept) pen h = ([], added_none count base l.published m.published (ap (λ (s : PenState K). s.published) h.2))
-  refused_so floor l m (refused.FloorAhead next) pen h = ([], added_none count base l.published m.published (ap (λ (s : PenState K). s.published) h.3))
+  refused_so : (floor : ℕ) (l m : PenState K) (error : CompactError) → IsPen base l.published l.pending
+      → IsCompactRefusal base floor l error m → (acts : List Act) × Added count base l.published m.published acts
+  refused_so floor l m (refused.FloorBelow kept) pen h =
+      ([], added_none count base l.published m.published (ap (λ (s : PenState K). s.published) h.2))
+  refused_so floor l m (refused.FloorAhead next) pen h =
+      ([], added_none count base l.published m.published (ap (λ (s : PenState K). s.published) h.3))
   refused_so floor l m refused.Unsettled pen h = leaves_so floor l m pen h.1
 
-  compacts_so : (floor : ℕ) (l m : PenState K) → IsPen base l.published l.pending → CompactsOrNot base floor l m → (acts : List Act) × Added count base l.published m.published acts
+  compacts_so : (floor : ℕ) (l m : PenState K) → IsPen base l.published l.pending
+      → CompactsOrNot base floor l m → (acts : List Act) × Added count base l.published m.published acts
   compacts_so floor l m pen (inl done) =
       let p = pending_acts count node base l.published l.pending there pen.pends in
       let c : Compaction = record { floor = floor; dropped = done.0 } in (
         p.0 ++ Dropped c ∷ [],
-        added_more count base l.published (l.published ++ l.pending) m.published p.0 (Dropped c ∷ []) p.1 (drops count base (l.published ++ l.pending) m.published c done.2.may_be (ap (λ (s : PenState K). s.published) done.3)),
+        added_more count base l.published (l.published ++ l.pending) m.published p.0 (Dropped c ∷ []) p.1
+            (drops count base (l.published ++ l.pending) m.published c done.2.may_be (ap (λ (s : PenState K). s.published) done.3)),
       )
   compacts_so floor l m pen (inr h) = refused_so floor l m h.0 pen h.1
 
 pub submits_are_acts : {K : Type 0} (keeps : K → List Record → Kept → K → Type 0) → SubmitsAreActs keeps
-submits_are_acts keeps base since l m command reply count node there pen h = submits_so count node there base keeps since l m command reply pen h
+submits_are_acts keeps base since l m command reply count node there pen h =
+    submits_so count node there base keeps since l m command reply pen h
 
 pub compactions_are_acts : (K : Type 0) → CompactionsAreActs K
 compactions_are_acts K base floor l m count some pen h = compacts_so count 0 some base floor l m pen h

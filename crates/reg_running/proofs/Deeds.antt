@@ -21,7 +21,12 @@ no_answers set (t ∷ list) = no_answers (with_draw set t) list
 
 pub followers_are_nodes : FollowersAreNodes
 followers_are_nodes first items front list p d = (
-  record { front = front; read = p; drawn = subst (λ ts. AreDrawnFrom first ts front) (sym (draws_only list)) d; answers = no_answers empty list },
+  record {
+    front = front;
+    read = p;
+    drawn = subst (λ ts. AreDrawnFrom first ts front) (sym (draws_only list)) d;
+    answers = no_answers empty list;
+  },
   draws_only list,
 )
 
@@ -44,15 +49,22 @@ cut_at (Told query answer ∷ deeds) (t ∷ seen) rest e =
 cut_at (Drew u ∷ deeds) (t ∷ seen) rest e =
     let h = heads t u (seen ++ rest) (draws deeds) e in
     let c = cut_at deeds seen rest h.1 in
-    record { before = Drew u ∷ c.before; after = c.after; whole = ap (λ ds. Drew u ∷ ds) c.whole; shown = ap (λ x. x ∷ draws c.before) (sym h.0) ∙ ap (λ ts. t ∷ ts) c.shown }
+    record {
+      before = Drew u ∷ c.before;
+      after = c.after;
+      whole = ap (λ ds. Drew u ∷ ds) c.whole;
+      shown = ap (λ x. x ∷ draws c.before) (sym h.0) ∙ ap (λ ts. t ∷ ts) c.shown;
+    }
 
 -- one answer more
-answers_more : (set : Records) (before after : List Deed) (query : Query) (answer : Answer) → AreAnswers set (before ++ after) → IsAnswer (last_records (fold with_draw set (draws before))) query answer → AreAnswers set (before ++ Told query answer ∷ after)
+answers_more : (set : Records) (before after : List Deed) (query : Query) (answer : Answer) → AreAnswers set (before ++ after)
+    → IsAnswer (last_records (fold with_draw set (draws before))) query answer → AreAnswers set (before ++ Told query answer ∷ after)
 answers_more set [] after query answer h is = (is, h)
 answers_more set (Drew t ∷ before) after query answer h is = answers_more (with_draw set t) before after query answer h is
 answers_more set (Told q a ∷ before) after query answer h is = (h.0, answers_more set before after query answer h.1 is)
 
-draws_more : (before after : List Deed) (query : Query) (answer : Answer) → draws (before ++ Told query answer ∷ after) ≡ draws (before ++ after)
+draws_more : (before after : List Deed) (query : Query) (answer : Answer)
+    → draws (before ++ Told query answer ∷ after) ≡ draws (before ++ after)
 draws_more [] after query answer = refl
 draws_more (Drew t ∷ before) after query answer = ap (λ ts. t ∷ ts) (draws_more before after query answer)
 draws_more (Told q a ∷ before) after query answer = draws_more before after query answer
@@ -67,7 +79,9 @@ views_tell first items deeds seen query answer node p is =
       record {
         front = node.front;
         read = node.read;
-        drawn = subst (λ ts. AreDrawnFrom first ts node.front) (ap draws c.whole ∙ sym (draws_more c.before c.after query answer)) node.drawn;
-        answers = answers_more empty c.before c.after query answer (subst (AreAnswers empty) c.whole node.answers) (subst (λ ts. IsAnswer (last_records (taken ts)) query answer) (sym c.shown) is);
+        drawn =
+            subst (λ ts. AreDrawnFrom first ts node.front) (ap draws c.whole ∙ sym (draws_more c.before c.after query answer)) node.drawn;
+        answers = answers_more empty c.before c.after query answer (subst (AreAnswers empty) c.whole node.answers)
+            (subst (λ ts. IsAnswer (last_records (taken ts)) query answer) (sym c.shown) is);
       },
     )

@@ -18,11 +18,14 @@ read_is first f s floor (drawn.Take t) h = h.0
 read_is first f s floor (drawn.Rebase r) h = h.0
 
 -- the front with which they begin is one of the last
-pub last_front : (first : Held) (s : Records) (floor : ℕ) (from g : List Item) (ts : List Draw) → AreDrawn first s floor from ts g → IsPrefix from g
+pub last_front : (first : Held) (s : Records) (floor : ℕ) (from g : List Item) (ts : List Draw)
+    → AreDrawn first s floor from ts g → IsPrefix from g
 last_front first s floor from g [] d = d
-last_front first s floor from g (t ∷ ts) d = prefix_trans from d.0 g d.1 (last_front first (with_draw s t) (floor_with floor t) d.0 g ts d.3)
+last_front first s floor from g (t ∷ ts) d =
+    prefix_trans from d.0 g d.1 (last_front first (with_draw s t) (floor_with floor t) d.0 g ts d.3)
 
-pub drawn_longer : (first : Held) (s : Records) (floor : ℕ) (from f g : List Item) (ts : List Draw) → AreDrawn first s floor from ts f → IsPrefix f g → AreDrawn first s floor from ts g
+pub drawn_longer : (first : Held) (s : Records) (floor : ℕ) (from f g : List Item) (ts : List Draw)
+    → AreDrawn first s floor from ts f → IsPrefix f g → AreDrawn first s floor from ts g
 drawn_longer first s floor from f g [] d p = prefix_trans from f g d p
 drawn_longer first s floor from f g (t ∷ ts) d p = (d.0, d.1, d.2, drawn_longer first (with_draw s t) (floor_with floor t) d.0 f g ts d.3 p)
 
@@ -46,29 +49,36 @@ behind read (d ∷ ds) = if is_within read d then behind read ds else (d ∷ ds)
 
 pub both_parts : (read : ℕ) (ds : List Deed) → upto read ds ++ behind read ds ≡ ds
 both_parts read [] = refl
-both_parts read (d ∷ ds) = elim (is_within read d) as (λ b. (if b then d ∷ upto read ds else []) ++ (if b then behind read ds else (d ∷ ds)) ≡ d ∷ ds) [
-  | true ↦ ap (λ es. d ∷ es) (both_parts read ds)
-  | false ↦ refl
-]
+both_parts read (d ∷ ds) =
+    elim (is_within read d) as (λ b. (if b then d ∷ upto read ds else []) ++ (if b then behind read ds else (d ∷ ds)) ≡ d ∷ ds) [
+      | true ↦ ap (λ es. d ∷ es) (both_parts read ds)
+      | false ↦ refl
+    ]
 
 -- where no more items are there, all of it is up to there
-pub all_upto : (first : Held) (s : Records) (floor : ℕ) (read : ℕ) (from g : List Item) (ds : List Deed) → length g ≤ read → AreDrawn first s floor from (draws ds) g → upto read ds ≡ ds
+pub all_upto : (first : Held) (s : Records) (floor : ℕ) (read : ℕ) (from g : List Item) (ds : List Deed)
+    → length g ≤ read → AreDrawn first s floor from (draws ds) g → upto read ds ≡ ds
 all_upto first s floor read from g [] h d = refl
-all_upto first s floor read from g (Told query answer ∷ ds) h d = ap (λ es. Told query answer ∷ es) (all_upto first s floor read from g ds h d)
+all_upto first s floor read from g (Told query answer ∷ ds) h d =
+    ap (λ es. Told query answer ∷ es) (all_upto first s floor read from g ds h d)
 all_upto first s floor read from g (Drew t ∷ ds) h d =
     let p : IsPrefix d.0 g = last_front first (with_draw s t) (floor_with floor t) d.0 g (draws ds) d.3 in
     let small : read_of t ≤ read = omega (arith, read_is first d.0 s floor t d.2, prefix_length d.0 g p, h) in
-    ap (λ b. if b then Drew t ∷ upto read ds else []) (within (read_of t) read small) ∙ ap (λ es. Drew t ∷ es) (all_upto first (with_draw s t) (floor_with floor t) read d.0 g ds h d.3)
+    ap (λ b. if b then Drew t ∷ upto read ds else []) (within (read_of t) read small)
+    ∙ ap (λ es. Drew t ∷ es) (all_upto first (with_draw s t) (floor_with floor t) read d.0 g ds h d.3)
 
 -- what is behind so many items begins with each front that has one item more
-pub drawn_behind : (first : Held) (s : Records) (floor : ℕ) (read : ℕ) (from next g : List Item) (ds : List Deed) → IsPrefix next g → length next ≤ suc read → AreDrawn first s floor from (draws ds) g
+pub drawn_behind : (first : Held) (s : Records) (floor : ℕ) (read : ℕ) (from next g : List Item) (ds : List Deed)
+    → IsPrefix next g → length next ≤ suc read → AreDrawn first s floor from (draws ds) g
     → AnyDrawn first next (draws (behind read ds)) g
 drawn_behind first s floor read from next g [] p h d = (s, floor, p)
 drawn_behind first s floor read from next g (Told query answer ∷ ds) p h d = drawn_behind first s floor read from next g ds p h d
 drawn_behind first s floor read from next g (Drew t ∷ ds) p h d =
-    elim (nat_le (read_of t) read) as (λ b. nat_le (read_of t) read ≡ b → AnyDrawn first next (draws (if b then behind read ds else (Drew t ∷ ds))) g) [
+    elim (nat_le (read_of t) read) as (λ b.
+    nat_le (read_of t) read ≡ b → AnyDrawn first next (draws (if b then behind read ds else (Drew t ∷ ds))) g) [
       | true ↦ λ _. drawn_behind first (with_draw s t) (floor_with floor t) read d.0 next g ds p h d.3
       | false ↦ λ high.
-          let q : IsPrefix next d.0 = prefix_shorter next d.0 g p (last_front first (with_draw s t) (floor_with floor t) d.0 g (draws ds) d.3)
+          let q : IsPrefix next d.0 =
+          prefix_shorter next d.0 g p (last_front first (with_draw s t) (floor_with floor t) d.0 g (draws ds) d.3)
           (omega (arith, beyond (read_of t) read high, read_is first d.0 s floor t d.2, h)) in (s, floor, (d.0, q, d.2, d.3))
     ] refl

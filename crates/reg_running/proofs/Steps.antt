@@ -34,7 +34,11 @@ use Rattle.reg_running.specs.Woven.{ByNode, ByPen, event_of, outcome_of}
 happens_allowed : (s t : State) (e : Event) (o : Outcome) → is_allowed s e ≡ true → floors_agree s e ≡ true → Does s e o t → Happens s e o t
 unfolding Happens
 happens_allowed s t e o fine level d =
-    subst (λ b. MatchBool b (MatchBool (floors_agree s e) (Does s e o t) ((o ≡ outcomes.FloorsDiffer) × (t ≡ s))) ((o ≡ outcomes.NotAllowed) × (t ≡ s))) (sym fine)
+    subst
+    (λ b.
+    MatchBool b (MatchBool (floors_agree s e) (Does s e o t) ((o ≡ outcomes.FloorsDiffer) × (t ≡ s)))
+    ((o ≡ outcomes.NotAllowed) × (t ≡ s)))
+    (sym fine)
     (subst (λ b. MatchBool b (Does s e o t) ((o ≡ outcomes.FloorsDiffer) × (t ≡ s))) (sym level) d)
 
 abbrev pub node_with : Records → ℕ → Records → Node
@@ -42,7 +46,8 @@ node_with set floor took = record { set = record { records = set; floor = floor 
 
 -- the node after it did that
 abbrev pub with_deeds : Node → List Deed → Node
-with_deeds n deeds = node_with (fold with_draw n.set.records (draws deeds)) (fold floor_with n.set.floor (draws deeds)) (fold with_draw n.took (draws deeds))
+with_deeds n deeds =
+    node_with (fold with_draw n.set.records (draws deeds)) (fold floor_with n.set.floor (draws deeds)) (fold with_draw n.took (draws deeds))
 
 abbrev pub state_of : Held → List Item → List Node → State
 state_of first items nodes = record { base = base_of first; items = items; unsettled = None; nodes = nodes }
@@ -63,9 +68,11 @@ or_turned false false = refl
 
 module _ (first : Held) (from : List Item) (nodes : List Node) where
   -- an act of the pen's
-  pub act_happens : (a : Act) → IsAct (length nodes) (topic_at first from) a → Happens (state_of first from nodes) (event_of (ByPen a)) (outcome_of (ByPen a)) (state_of first (from ++ items_of a) nodes)
+  pub act_happens : (a : Act) → IsAct (length nodes) (topic_at first from) a
+      → Happens (state_of first from nodes) (event_of (ByPen a)) (outcome_of (ByPen a)) (state_of first (from ++ items_of a) nodes)
   act_happens (Carried node command reply []) (there, step) =
-      happens_allowed (state_of first from nodes) _ (events.Command node command Published) (outcomes.Replied reply) (is_there nodes node there) refl (record {
+      happens_allowed (state_of first from nodes) _ (events.Command node command Published)
+      (outcomes.Replied reply) (is_there nodes node there) refl (record {
         reply = reply;
         batch = [];
         step = step;
@@ -73,22 +80,27 @@ module _ (first : Held) (from : List Item) (nodes : List Node) where
         state = ap (λ is. state_of first is nodes) (append-nil from);
       })
   act_happens (Carried node command reply (r ∷ rs)) (there, step) =
-      happens_allowed (state_of first from nodes) _ (events.Command node command Published) (outcomes.Replied reply) (is_there nodes node there) refl (record {
+      happens_allowed (state_of first from nodes) _ (events.Command node command Published)
+      (outcomes.Replied reply) (is_there nodes node there) refl (record {
         reply = reply;
         batch = r ∷ rs;
         step = step;
         outcome = refl;
         state = refl;
       })
-  act_happens (Dropped c) may = happens_allowed (state_of first from nodes) _ (events.CompactTo c.floor c.dropped) outcomes.Done may refl (refl, refl)
+  act_happens (Dropped c) may =
+      happens_allowed (state_of first from nodes) _ (events.CompactTo c.floor c.dropped) outcomes.Done may refl (refl, refl)
 
   -- an answer
-  pub answer_happens : (i : ℕ) (n : Node) (query : Query) (answer : Answer) → slice_get nodes i ≡ Some n → IsAnswer (last_records n.set.records) query answer
+  pub answer_happens : (i : ℕ) (n : Node) (query : Query) (answer : Answer)
+      → slice_get nodes i ≡ Some n → IsAnswer (last_records n.set.records) query answer
       → Happens (state_of first from nodes) (events.Lookup i query) (outcomes.Answered answer) (state_of first from nodes)
   answer_happens i n query answer there is =
-      happens_allowed (state_of first from nodes) (state_of first from nodes) (events.Lookup i query) (outcomes.Answered answer) (ap is_some there) refl (
+      happens_allowed (state_of first from nodes) (state_of first from nodes)
+      (events.Lookup i query) (outcomes.Answered answer) (ap is_some there) refl (
         answer,
-        subst (λ o. IsAnswer (last_records (option_map_or (λ (node : Node). node.set) o no_records.set).records) query answer) (sym there) is,
+        subst (λ o. IsAnswer (last_records (option_map_or (λ (node : Node). node.set) o no_records.set).records) query answer)
+            (sym there) is,
         refl,
         refl,
       )
@@ -102,13 +114,17 @@ module _ (first : Held) (from : List Item) (nodes : List Node) where
   pub draw_happens : (i : ℕ) (n : Node) (d : Draw) → slice_get nodes i ≡ Some n → IsDraw first from n.set.records n.set.floor d
       → Happens (state_of first from nodes) (event_of (ByNode i (Drew d))) outcomes.Done (state_of first from (changed i (drawing d) nodes))
   draw_happens i n (drawn.Take t) there is =
-      happens_allowed (state_of first from nodes) _ (events.Take i (t.kept ∷ [])) outcomes.Done (and-true (ap is_some there) (and-true is.2 refl))
-      (ap (λ o. (option_map_or (λ (node : Node). node.set) o no_records.set).floor == (topic_at first from).kept.floor) there ∙ eq-eqb n.set.floor (topic_at first from).kept.floor is.1)
+      happens_allowed (state_of first from nodes) _ (events.Take i (t.kept ∷ [])) outcomes.Done
+      (and-true (ap is_some there) (and-true is.2 refl))
+      (ap (λ o. (option_map_or (λ (node : Node). node.set) o no_records.set).floor == (topic_at first from).kept.floor) there
+      ∙ eq-eqb n.set.floor (topic_at first from).kept.floor is.1)
       (refl, refl)
-  draw_happens i n (drawn.Rebase r) there is = happens_allowed (state_of first from nodes) _ (events.Rebase i) outcomes.Done (ap is_some there) refl (refl, refl)
+  draw_happens i n (drawn.Rebase r) there is =
+      happens_allowed (state_of first from nodes) _ (events.Rebase i) outcomes.Done (ap is_some there) refl (refl, refl)
 
 -- The nodes once one has changed.
-pub changed_one : (f : Node → Node) (nodes : List Node) (i : ℕ) (n : Node) → slice_get nodes i ≡ Some n → slice_get (changed i f nodes) i ≡ Some (f n)
+pub changed_one : (f : Node → Node) (nodes : List Node) (i : ℕ) (n : Node)
+    → slice_get nodes i ≡ Some n → slice_get (changed i f nodes) i ≡ Some (f n)
 changed_one f [] i n e = let no : None ≡ Some n = e in cc
 changed_one f (m ∷ nodes) zero n e = let same : m ≡ n = cc in ap (λ x. Some (f x)) same
 changed_one f (m ∷ nodes) (suc i) n e = changed_one f nodes i n e
@@ -133,11 +149,14 @@ module _ (order : IsTotalOrder record_cmp) (apart : IsAntisymmetric record_cmp) 
       ∙ (or_turned (contains s q) (eq_by_cmp record_cmp q r) ∙ sym (contains-insert order s r q))))
 
   -- the node with one draw more
-  pub with_one : (first : Held) (from : List Item) (nodes : List Node) (n : Node) (d : Draw) → n.took ≡ n.set.records → IsDraw first from n.set.records n.set.floor d → drawing first from nodes d n ≡ with_deeds n (Drew d ∷ [])
-  with_one first from nodes n (drawn.Take t) same is = λ i. node_with (one_more n.set.records t.kept i) n.set.floor (one_more n.took t.kept i)
+  pub with_one : (first : Held) (from : List Item) (nodes : List Node) (n : Node) (d : Draw) → n.took ≡ n.set.records
+      → IsDraw first from n.set.records n.set.floor d → drawing first from nodes d n ≡ with_deeds n (Drew d ∷ [])
+  with_one first from nodes n (drawn.Take t) same is =
+      λ i. node_with (one_more n.set.records t.kept i) n.set.floor (one_more n.took t.kept i)
   with_one first from nodes n (drawn.Rebase r) same is =
       let kept = (topic_at first from).kept in
-      let took : rebased n.took kept ≡ with_draw n.took (drawn.Rebase r) = ap (λ s. rebased s kept) same ∙ (sym is.3 ∙ ap (λ s. with_draw s (drawn.Rebase r)) (sym same)) in
+      let took : rebased n.took kept ≡ with_draw n.took (drawn.Rebase r) =
+      ap (λ s. rebased s kept) same ∙ (sym is.3 ∙ ap (λ s. with_draw s (drawn.Rebase r)) (sym same)) in
       let set : rebased n.set.records kept ≡ with_draw n.set.records (drawn.Rebase r) = sym is.3 in
       let floor : kept.floor ≡ r.floor = sym is.2 in
       λ i. node_with (set i) (floor i) (took i)

@@ -44,16 +44,21 @@ acts_woven read [] lists = no_acts read 0 lists
 acts_woven read (a ∷ acts) lists =
     let rest : List Done = weave (read + length (items_of a)) acts (map (behind read) lists) in
     acts_in-append (deeds_done read 0 lists) (ByPen a ∷ rest)
-    ∙ (ap (λ l. l ++ a ∷ acts_in rest) (no_acts read 0 lists) ∙ ap (λ l. a ∷ l) (acts_woven (read + length (items_of a)) acts (map (behind read) lists)))
+    ∙ (
+    ap (λ l. l ++ a ∷ acts_in rest) (no_acts read 0 lists)
+    ∙ ap (λ l. a ∷ l) (acts_woven (read + length (items_of a)) acts (map (behind read) lists)))
 
 -- The deeds of a node in it.
 deeds_of-append : (i : ℕ) (xs ys : List Done) → deeds_of i (xs ++ ys) ≡ deeds_of i xs ++ deeds_of i ys
 deeds_of-append i [] ys = refl
 deeds_of-append i (ByPen a ∷ xs) ys = deeds_of-append i xs ys
-deeds_of-append i (ByNode j d ∷ xs) ys = elim (j == i) as (λ b. (if b then d ∷ deeds_of i (xs ++ ys) else deeds_of i (xs ++ ys)) ≡ (if b then d ∷ deeds_of i xs else deeds_of i xs) ++ deeds_of i ys) [
-  | true ↦ ap (λ l. d ∷ l) (deeds_of-append i xs ys)
-  | false ↦ deeds_of-append i xs ys
-]
+deeds_of-append i (ByNode j d ∷ xs) ys =
+    elim (j == i) as (λ b.
+    (if b then d ∷ deeds_of i (xs ++ ys) else deeds_of i (xs ++ ys))
+    ≡ (if b then d ∷ deeds_of i xs else deeds_of i xs) ++ deeds_of i ys) [
+      | true ↦ ap (λ l. d ∷ l) (deeds_of-append i xs ys)
+      | false ↦ deeds_of-append i xs ys
+    ]
 
 all_own : (j i : ℕ) (ds : List Deed) → j ≡ i → deeds_of i (map (ByNode j) ds) ≡ ds
 all_own j i [] e = refl
@@ -67,7 +72,9 @@ below : (read j i : ℕ) (lists : List (List Deed)) → i < j → deeds_of i (de
 below read j i [] h = refl
 below read j i (ds ∷ lists) h =
     deeds_of-append i (map (ByNode j) (upto read ds)) (deeds_done read (suc j) lists)
-    ∙ (ap (λ l. l ++ deeds_of i (deeds_done read (suc j) lists)) (none_own j i (upto read ds) (λ e. omega (arith, e, h))) ∙ below read (suc j) i lists (omega (arith, h)))
+    ∙ (
+    ap (λ l. l ++ deeds_of i (deeds_done read (suc j) lists)) (none_own j i (upto read ds) (λ e. omega (arith, e, h)))
+    ∙ below read (suc j) i lists (omega (arith, h)))
 
 at_place : (read j k i : ℕ) (lists : List (List Deed)) → i ≡ j + k → deeds_of i (deeds_done read j lists) ≡ upto read (get_or lists k [])
 at_place read j k i [] e = refl
@@ -77,7 +84,9 @@ at_place read j zero i (ds ∷ lists) e =
     ∙ (ap (λ l. upto read ds ++ l) (below read (suc j) i lists (omega (arith, e))) ∙ append-nil (upto read ds)))
 at_place read j (suc k) i (ds ∷ lists) e =
     deeds_of-append i (map (ByNode j) (upto read ds)) (deeds_done read (suc j) lists)
-    ∙ (ap (λ l. l ++ deeds_of i (deeds_done read (suc j) lists)) (none_own j i (upto read ds) (λ s. omega (arith, e, s))) ∙ at_place read (suc j) k i lists (omega (arith, e)))
+    ∙ (
+    ap (λ l. l ++ deeds_of i (deeds_done read (suc j) lists)) (none_own j i (upto read ds) (λ s. omega (arith, e, s)))
+    ∙ at_place read (suc j) k i lists (omega (arith, e)))
 
 behind_at : (read i : ℕ) (lists : List (List Deed)) → get_or (map (behind read) lists) i [] ≡ behind read (get_or lists i [])
 behind_at read i [] = refl
@@ -94,22 +103,28 @@ module _ (first : Held) (g : List Item) where
   abbrev AllDrawn : List Item → List (List Deed) → Type 0
   AllDrawn from lists = AllByRecursion (λ ds. AnyDrawn first from (draws ds) g) lists
 
-  upto_at : (from : List Item) (read i : ℕ) (lists : List (List Deed)) → length g ≤ read → AllDrawn from lists → upto read (get_or lists i []) ≡ get_or lists i []
+  upto_at : (from : List Item) (read i : ℕ) (lists : List (List Deed)) → length g ≤ read
+      → AllDrawn from lists → upto read (get_or lists i []) ≡ get_or lists i []
   upto_at from read i [] h all = refl
   upto_at from read zero (ds ∷ lists) h all = all_upto first all.0.0 all.0.1 read from g ds h all.0.2
   upto_at from read (suc i) (ds ∷ lists) h all = upto_at from read i lists h all.1
 
-  all_behind : (from next : List Item) (read : ℕ) (lists : List (List Deed)) → IsPrefix next g → length next ≤ suc read → AllDrawn from lists → AllDrawn next (map (behind read) lists)
+  all_behind : (from next : List Item) (read : ℕ) (lists : List (List Deed)) → IsPrefix next g
+      → length next ≤ suc read → AllDrawn from lists → AllDrawn next (map (behind read) lists)
   all_behind from next read [] p h all = tt
-  all_behind from next read (ds ∷ lists) p h all = (drawn_behind first all.0.0 all.0.1 read from next g ds p h all.0.2, all_behind from next read lists p h all.1)
+  all_behind from next read (ds ∷ lists) p h all =
+      (drawn_behind first all.0.0 all.0.1 read from next g ds p h all.0.2, all_behind from next read lists p h all.1)
 
   -- the draws up to there are in their place
-  deeds_in_place : (s : Records) (floor : ℕ) (from : List Item) (read node : ℕ) (ds : List Deed) (rest : List Done) → read ≡ length from → AreDrawn first s floor from (draws ds) g → AreInPlace read rest
+  deeds_in_place : (s : Records) (floor : ℕ) (from : List Item) (read node : ℕ) (ds : List Deed) (rest : List Done)
+      → read ≡ length from → AreDrawn first s floor from (draws ds) g → AreInPlace read rest
       → AreInPlace read (map (ByNode node) (upto read ds) ++ rest)
   deeds_in_place s floor from read node [] rest is d places = places
-  deeds_in_place s floor from read node (Told query answer ∷ ds) rest is d places = deeds_in_place s floor from read node ds rest is d places
+  deeds_in_place s floor from read node (Told query answer ∷ ds) rest is d places =
+      deeds_in_place s floor from read node ds rest is d places
   deeds_in_place s floor from read node (Drew t ∷ ds) rest is d places =
-      elim (nat_le (read_of t) read) as (λ b. nat_le (read_of t) read ≡ b → AreInPlace read (map (ByNode node) (if b then Drew t ∷ upto read ds else []) ++ rest)) [
+      elim (nat_le (read_of t) read) as (λ b.
+      nat_le (read_of t) read ≡ b → AreInPlace read (map (ByNode node) (if b then Drew t ∷ upto read ds else []) ++ rest)) [
         | true ↦ λ low.
             let at = read_is first d.0 s floor t d.2 in
             let place : read_of t ≡ read = omega (arith, at_most (read_of t) read low, at, is, prefix_length from d.0 d.1) in
@@ -117,17 +132,22 @@ module _ (first : Held) (g : List Item) where
         | false ↦ λ _. places
       ] refl
 
-  all_in_place : (from : List Item) (read node : ℕ) (lists : List (List Deed)) (rest : List Done) → read ≡ length from → AllDrawn from lists → AreInPlace read rest → AreInPlace read (deeds_done read node lists ++ rest)
+  all_in_place : (from : List Item) (read node : ℕ) (lists : List (List Deed)) (rest : List Done) → read ≡ length from
+      → AllDrawn from lists → AreInPlace read rest → AreInPlace read (deeds_done read node lists ++ rest)
   all_in_place from read node [] rest is all places = places
   all_in_place from read node (ds ∷ lists) rest is all places =
       subst (AreInPlace read) (sym (append_assoc (map (ByNode node) (upto read ds)) (deeds_done read (suc node) lists) rest))
-      (deeds_in_place all.0.0 all.0.1 from read node ds (deeds_done read (suc node) lists ++ rest) is all.0.2 (all_in_place from read (suc node) lists rest is all.1 places))
+      (deeds_in_place all.0.0 all.0.1 from read node ds (deeds_done read (suc node) lists ++ rest) is all.0.2
+      (all_in_place from read (suc node) lists rest is all.1 places))
 
   -- all that was done from a front on
-  woven_so : (acts : List Act) (from : List Item) (read : ℕ) (lists : List (List Deed)) → read ≡ length from → g ≡ from ++ published acts → AllDrawn from lists
+  woven_so : (acts : List Act) (from : List Item) (read : ℕ) (lists : List (List Deed))
+      → read ≡ length from → g ≡ from ++ published acts → AllDrawn from lists
       → ((i : ℕ) → deeds_of i (weave read acts lists) ≡ get_or lists i []) × AreInPlace read (weave read acts lists)
   woven_so [] from read lists is goes all = (
-    (λ i. at_place read 0 i i lists (omega arith) ∙ upto_at from read i lists (omega (arith, is, ap (λ (l : List Item). length l) goes, length-append from (published []))) all),
+    (λ i.
+        at_place read 0 i i lists (omega arith)
+        ∙ upto_at from read i lists (omega (arith, is, ap (λ (l : List Item). length l) goes, length-append from (published []))) all),
     subst (AreInPlace read) (append-nil (deeds_done read 0 lists)) (all_in_place from read 0 lists [] is all tt),
   )
   woven_so (a ∷ acts) from read lists is goes all =
@@ -137,7 +157,8 @@ module _ (first : Held) (g : List Item) where
       let few : length next ≤ suc read = omega (arith, many, one_item a) in
       let left : List (List Deed) = map (behind read) lists in
       let rest : List Done = weave (read + length (items_of a)) acts left in
-      let there = woven_so acts next (read + length (items_of a)) left many on (all_behind from next read lists (published acts, sym on) few all) in (
+      let there =
+      woven_so acts next (read + length (items_of a)) left many on (all_behind from next read lists (published acts, sym on) few all) in (
         (λ i.
             deeds_of-append i (deeds_done read 0 lists) (ByPen a ∷ rest)
             ∙ (ap (λ l. l ++ deeds_of i rest) (at_place read 0 i i lists (omega arith))
@@ -145,9 +166,11 @@ module _ (first : Held) (g : List Item) where
         all_in_place from read 0 lists (ByPen a ∷ rest) is all there.1,
       )
 
-all_drawn : (first : Held) (g : List Item) (lists : List (List Deed)) → AllByRecursion (IsRunningNode first g) lists → AllDrawn first g [] lists
+all_drawn : (first : Held) (g : List Item) (lists : List (List Deed))
+    → AllByRecursion (IsRunningNode first g) lists → AllDrawn first g [] lists
 all_drawn first g [] h = tt
-all_drawn first g (ds ∷ lists) h = ((empty, 0, drawn_longer first empty 0 [] h.0.front g (draws ds) h.0.drawn h.0.read), all_drawn first g lists h.1)
+all_drawn first g (ds ∷ lists) h =
+    ((empty, 0, drawn_longer first empty 0 [] h.0.front g (draws ds) h.0.drawn h.0.read), all_drawn first g lists h.1)
 
 pub are_woven : RunningNodesAreWoven
 are_woven r h =

@@ -53,7 +53,8 @@ an_element (n ∷ nodes) (suc i) h = an_element nodes i (omega arith)
 
 module _ (order : IsTotalOrder record_cmp) (apart : IsAntisymmetric record_cmp) (first : Held) (g : List Item) where
   -- a draw in its place is from the front there
-  drawn_there : (from : List Item) (n : Node) (t : Draw) (deeds : List Deed) → IsPrefix from g → read_of t ≡ length from → Fits first g n (Drew t ∷ deeds) → IsDraw first from n.set.records n.set.floor t
+  drawn_there : (from : List Item) (n : Node) (t : Draw) (deeds : List Deed) → IsPrefix from g
+      → read_of t ≡ length from → Fits first g n (Drew t ∷ deeds) → IsDraw first from n.set.records n.set.floor t
   drawn_there from n t deeds p place fits =
       let d = fits.drawn in
       let at = read_is first d.0 n.set.records n.set.floor t d.2 in
@@ -62,29 +63,36 @@ module _ (order : IsTotalOrder record_cmp) (apart : IsAntisymmetric record_cmp) 
       subst (λ f. IsDraw first f n.set.records n.set.floor t) (sym same) d.2
 
   -- the nodes after one of them drew
-  still_fit : (nodes : List Node) (i : ℕ) (n : Node) (t : Draw) (done : List Done) (f : Node → Node) → f n ≡ with_deeds n (Drew t ∷ []) → slice_get nodes i ≡ Some n
+  still_fit : (nodes : List Node) (i : ℕ) (n : Node) (t : Draw) (done : List Done) (f : Node → Node)
+      → f n ≡ with_deeds n (Drew t ∷ []) → slice_get nodes i ≡ Some n
       → AllFit first g nodes (ByNode i (Drew t) ∷ done) → AllFit first g (changed i f nodes) done
   still_fit nodes i n t done f one there fits j m at = elim (eqb_tells i j) [
     | inl same ↦
         let now : slice_get (changed i f nodes) j ≡ Some (with_deeds n (Drew t ∷ [])) =
-        subst (λ k. slice_get (changed i f nodes) k ≡ Some (with_deeds n (Drew t ∷ []))) same.1 (changed_one f nodes i n there ∙ ap (λ x. Some x) one) in
+        subst (λ k. slice_get (changed i f nodes) k ≡ Some (with_deeds n (Drew t ∷ []))) same.1
+        (changed_one f nodes i n there ∙ ap (λ x. Some x) one) in
         let is : with_deeds n (Drew t ∷ []) ≡ m = some_same (with_deeds n (Drew t ∷ [])) m (sym now ∙ at) in
-        let was : Fits first g n (Drew t ∷ deeds_of j done) = subst (λ ds. Fits first g n ds) (own_deeds i j (Drew t) done same.1) (fits j n (subst (λ k. slice_get nodes k ≡ Some n) same.1 there)) in
-        subst (λ x. Fits first g x (deeds_of j done)) is (record { from = was.drawn.0; drawn = was.drawn.3; answers = was.answers; same = ap (λ s. with_draw s t) was.same })
+        let was : Fits first g n (Drew t ∷ deeds_of j done) = subst (λ ds. Fits first g n ds)
+        (own_deeds i j (Drew t) done same.1) (fits j n (subst (λ k. slice_get nodes k ≡ Some n) same.1 there)) in
+        subst (λ x. Fits first g x (deeds_of j done)) is
+        (record { from = was.drawn.0; drawn = was.drawn.3; answers = was.answers; same = ap (λ s. with_draw s t) was.same })
     | inr other ↦
         subst (λ ds. Fits first g m ds) (other_deeds i j (Drew t) done other.1) (fits j m (sym (changed_other f nodes i j other.1) ∙ at))
   ]
 
   -- the nodes after one of them told an answer
-  fit_after_answer : (nodes : List Node) (i : ℕ) (query : _) (answer : _) (done : List Done) → AllFit first g nodes (ByNode i (Told query answer) ∷ done) → AllFit first g nodes done
+  fit_after_answer : (nodes : List Node) (i : ℕ) (query : _) (answer : _) (done : List Done)
+      → AllFit first g nodes (ByNode i (Told query answer) ∷ done) → AllFit first g nodes done
   fit_after_answer nodes i query answer done fits j m at = elim (eqb_tells i j) [
     | inl same ↦
-        let was : Fits first g m (Told query answer ∷ deeds_of j done) = subst (λ ds. Fits first g m ds) (own_deeds i j (Told query answer) done same.1) (fits j m at) in
+        let was : Fits first g m (Told query answer ∷ deeds_of j done) =
+        subst (λ ds. Fits first g m ds) (own_deeds i j (Told query answer) done same.1) (fits j m at) in
         record { from = was.from; drawn = was.drawn; answers = was.answers.1; same = was.same }
     | inr other ↦ subst (λ ds. Fits first g m ds) (other_deeds i j (Told query answer) done other.1) (fits j m at)
   ]
 
-  each_after_draw : (nodes ends : List Node) (i : ℕ) (n : Node) (t : Draw) (done : List Done) (f : Node → Node) → f n ≡ with_deeds n (Drew t ∷ []) → slice_get nodes i ≡ Some n
+  each_after_draw : (nodes ends : List Node) (i : ℕ) (n : Node) (t : Draw) (done : List Done) (f : Node → Node)
+      → f n ≡ with_deeds n (Drew t ∷ []) → slice_get nodes i ≡ Some n
       → ((j : ℕ) (m : Node) → slice_get (changed i f nodes) j ≡ Some m → slice_get ends j ≡ Some (with_deeds m (deeds_of j done)))
       → (j : ℕ) (m : Node) → slice_get nodes j ≡ Some m → slice_get ends j ≡ Some (with_deeds m (deeds_of j (ByNode i (Drew t) ∷ done)))
   each_after_draw nodes ends i n t done f one there each j m at = elim (eqb_tells i j) [
@@ -94,19 +102,22 @@ module _ (order : IsTotalOrder record_cmp) (apart : IsAntisymmetric record_cmp) 
         subst (λ k. slice_get (changed i f nodes) k ≡ Some (with_deeds m (Drew t ∷ []))) same.1
         (changed_one f nodes i n there ∙ (ap (λ x. Some x) one ∙ ap (λ x. Some (with_deeds x (Drew t ∷ []))) is)) in
         each j (with_deeds m (Drew t ∷ [])) now ∙ ap (λ ds. Some (with_deeds m ds)) (sym (own_deeds i j (Drew t) done same.1))
-    | inr other ↦ each j m (changed_other f nodes i j other.1 ∙ at) ∙ ap (λ ds. Some (with_deeds m ds)) (sym (other_deeds i j (Drew t) done other.1))
+    | inr other ↦ each j m (changed_other f nodes i j other.1 ∙ at)
+        ∙ ap (λ ds. Some (with_deeds m ds)) (sym (other_deeds i j (Drew t) done other.1))
   ]
 
   each_after_answer : (nodes ends : List Node) (i : ℕ) (query : _) (answer : _) (done : List Done)
       → ((j : ℕ) (m : Node) → slice_get nodes j ≡ Some m → slice_get ends j ≡ Some (with_deeds m (deeds_of j done)))
-      → (j : ℕ) (m : Node) → slice_get nodes j ≡ Some m → slice_get ends j ≡ Some (with_deeds m (deeds_of j (ByNode i (Told query answer) ∷ done)))
+      → (j : ℕ) (m : Node) → slice_get nodes j ≡ Some m
+      → slice_get ends j ≡ Some (with_deeds m (deeds_of j (ByNode i (Told query answer) ∷ done)))
   each_after_answer nodes ends i query answer done each j m at = elim (eqb_tells i j) [
     | inl same ↦ each j m at ∙ ap (λ ds. Some (with_deeds m ds)) (sym (own_deeds i j (Told query answer) done same.1))
     | inr other ↦ each j m at ∙ ap (λ ds. Some (with_deeds m ds)) (sym (other_deeds i j (Told query answer) done other.1))
   ]
 
   -- what is done from there on
-  leads : (done rest : List Done) (from : List Item) (nodes : List Node) (read : ℕ) → read ≡ length from → g ≡ from ++ published (acts_in (done ++ rest))
+  leads : (done rest : List Done) (from : List Item) (nodes : List Node) (read : ℕ)
+      → read ≡ length from → g ≡ from ++ published (acts_in (done ++ rest))
       → AreActs (length nodes) (topic_at first from) (acts_in (done ++ rest)) → AreInPlace read (done ++ rest)
       → ((i : ℕ) (deed : Deed) (before after : List Done) → done ++ rest ≡ before ++ ByNode i deed ∷ after → i < length nodes)
       → AllFit first g nodes (done ++ rest) → Leads first from nodes done
@@ -117,23 +128,32 @@ module _ (order : IsTotalOrder record_cmp) (apart : IsAntisymmetric record_cmp) 
   }
   leads (ByPen a ∷ done) rest from nodes read is all are places within fits =
       let next : List Item = from ++ items_of a in
-      let goes : g ≡ next ++ published (acts_in (done ++ rest)) = all ∙ sym (append_assoc from (items_of a) (published (acts_in (done ++ rest)))) in
+      let goes : g ≡ next ++ published (acts_in (done ++ rest)) =
+      all ∙ sym (append_assoc from (items_of a) (published (acts_in (done ++ rest)))) in
       let many : read + length (items_of a) ≡ length next = omega (arith, is, length-append from (items_of a)) in
-      let topic : after_items (topic_at first from) (items_of a) ≡ topic_at first next = sym (fold-append after_item (base_of first) from (items_of a)) in
-      let there = leads done rest next nodes (read + length (items_of a)) many goes (subst (λ t. AreActs (length nodes) t (acts_in (done ++ rest))) topic are.1) places (λ i deed before after e. within i deed (ByPen a ∷ before) after (ap (λ l. ByPen a ∷ l) e)) fits in
+      let topic : after_items (topic_at first from) (items_of a) ≡ topic_at first next =
+      sym (fold-append after_item (base_of first) from (items_of a)) in
+      let there = leads done rest next nodes (read + length (items_of a)) many goes
+      (subst (λ t. AreActs (length nodes) t (acts_in (done ++ rest))) topic are.1) places
+      (λ i deed before after e. within i deed (ByPen a ∷ before) after (ap (λ l. ByPen a ∷ l) e)) fits in
       record {
         ends = there.ends;
         happens = (
           state_of first next nodes,
           act_happens first from nodes a are.0,
-          subst (λ l. HappensInTurn (state_of first next nodes) done (state_of first l there.ends)) (append_assoc from (items_of a) (published (acts_in done))) there.happens,
+          subst (λ l. HappensInTurn (state_of first next nodes) done (state_of first l there.ends))
+              (append_assoc from (items_of a) (published (acts_in done))) there.happens,
         );
         each = there.each;
       }
   leads (ByNode i (Told query answer) ∷ done) rest from nodes read is all are places within fits =
       let n = an_element nodes i (within i (Told query answer) [] (done ++ rest) refl) in
-      let fit : Fits first g n.0 (Told query answer ∷ deeds_of i (done ++ rest)) = subst (λ ds. Fits first g n.0 ds) (own_deeds i i (Told query answer) (done ++ rest) refl) (fits i n.0 n.1) in
-      let there = leads done rest from nodes read is all are places (λ j deed before after e. within j deed (ByNode i (Told query answer) ∷ before) after (ap (λ l. ByNode i (Told query answer) ∷ l) e)) (fit_after_answer nodes i query answer (done ++ rest) fits) in
+      let fit : Fits first g n.0 (Told query answer ∷ deeds_of i (done ++ rest)) =
+      subst (λ ds. Fits first g n.0 ds) (own_deeds i i (Told query answer) (done ++ rest) refl) (fits i n.0 n.1) in
+      let there = leads done rest from nodes read is all are places
+      (λ j deed before after e.
+      within j deed (ByNode i (Told query answer) ∷ before) after (ap (λ l. ByNode i (Told query answer) ∷ l) e))
+      (fit_after_answer nodes i query answer (done ++ rest) fits) in
       record {
         ends = there.ends;
         happens = (state_of first from nodes, answer_happens first from nodes i n.0 query answer n.1 fit.answers.0, there.happens);
@@ -141,15 +161,18 @@ module _ (order : IsTotalOrder record_cmp) (apart : IsAntisymmetric record_cmp) 
       }
   leads (ByNode i (Drew t) ∷ done) rest from nodes read is all are places within fits =
       let n = an_element nodes i (within i (Drew t) [] (done ++ rest) refl) in
-      let fit : Fits first g n.0 (Drew t ∷ deeds_of i (done ++ rest)) = subst (λ ds. Fits first g n.0 ds) (own_deeds i i (Drew t) (done ++ rest) refl) (fits i n.0 n.1) in
+      let fit : Fits first g n.0 (Drew t ∷ deeds_of i (done ++ rest)) =
+      subst (λ ds. Fits first g n.0 ds) (own_deeds i i (Drew t) (done ++ rest) refl) (fits i n.0 n.1) in
       let front : IsPrefix from g = (published (acts_in (done ++ rest)), sym all) in
       let is_draw = drawn_there from n.0 t (deeds_of i (done ++ rest)) front (places.0 ∙ is) fit in
       let f : Node → Node = drawing first from nodes t in
       let one : f n.0 ≡ with_deeds n.0 (Drew t ∷ []) = with_one order apart first from nodes n.0 t fit.same is_draw in
       let after : List Node = changed i f nodes in
       let count : length after ≡ length nodes = changed_count f nodes i in
-      let there = leads done rest from after read is all (subst (λ c. AreActs c (topic_at first from) (acts_in (done ++ rest))) (sym count) are) places.1
-      (λ j deed before more e. subst (λ c. j < c) (sym count) (within j deed (ByNode i (Drew t) ∷ before) more (ap (λ l. ByNode i (Drew t) ∷ l) e)))
+      let there = leads done rest from after read is all (
+      subst (λ c. AreActs c (topic_at first from) (acts_in (done ++ rest))) (sym count) are) places.1
+      (λ j deed before more e.
+      subst (λ c. j < c) (sym count) (within j deed (ByNode i (Drew t) ∷ before) more (ap (λ l. ByNode i (Drew t) ∷ l) e)))
       (still_fit nodes i n.0 t (done ++ rest) f one n.1 fits) in
       record {
         ends = there.ends;
@@ -194,7 +217,8 @@ some_deed (ByNode j d ∷ before) after i deed none = elim (eqb_tells j i) [
 less_or_not : (m n : ℕ) → (m < n) ⊎ (n ≤ m)
 less_or_not m n = grind arith
 
-by_a_node : (r : Running) (done : List Done) → IsWoven r done → (i : ℕ) (deed : Deed) (before after : List Done) → done ≡ before ++ ByNode i deed ∷ after → i < length r.nodes
+by_a_node : (r : Running) (done : List Done) → IsWoven r done → (i : ℕ) (deed : Deed) (before after : List Done)
+    → done ≡ before ++ ByNode i deed ∷ after → i < length r.nodes
 by_a_node r done woven i deed before after e = elim (less_or_not i (length r.nodes)) [
   | inl low ↦ low
   | inr high ↦ absurd (some_deed before after i deed (ap (deeds_of i) (sym e) ∙ (woven.deeds i ∙ nobody r.nodes i high)))
@@ -206,13 +230,23 @@ are_a_world order apart r h done rest woven =
     let nodes : List Node = replicate count no_records in
     let g : List Item = published r.acts in
     let goes : g ≡ published (acts_in (done ++ rest)) = ap published (sym woven.acts) in
-    let acts : AreActs (length nodes) (base_of r.first) (acts_in (done ++ rest)) = subst (λ c. AreActs c (base_of r.first) (acts_in (done ++ rest))) (sym (so_many count)) (subst (λ (l : List Act). AreActs count (base_of r.first) l) (sym woven.acts) h.acts) in
+    let acts : AreActs (length nodes) (base_of r.first) (acts_in (done ++ rest)) =
+    subst (λ c. AreActs c (base_of r.first) (acts_in (done ++ rest))) (sym (so_many count))
+    (subst (λ (l : List Act). AreActs count (base_of r.first) l) (sym woven.acts) h.acts) in
     let fits : AllFit r.first g nodes (done ++ rest) = λ i n at.
     let there = begins_with count i n at in
     let node : IsRunningNode r.first g (get_or r.nodes i []) = node_there (IsRunningNode r.first g) r.nodes i h.nodes there.0 in
     subst (λ x. Fits r.first g x (deeds_of i (done ++ rest))) there.1
-    (subst (λ ds. Fits r.first g no_records ds) (sym (woven.deeds i)) (record { from = []; drawn = drawn_longer r.first empty 0 [] node.front g (draws (get_or r.nodes i [])) node.drawn node.read; answers = node.answers; same = refl })) in
-    let there = leads order apart r.first g done rest [] nodes 0 refl goes acts woven.places (λ i deed before after e. subst (λ c. i < c) (sym (so_many count)) (by_a_node r (done ++ rest) woven i deed before after e)) fits in (
+    (subst (λ ds. Fits r.first g no_records ds) (sym (woven.deeds i))
+    (record {
+      from = [];
+      drawn = drawn_longer r.first empty 0 [] node.front g (draws (get_or r.nodes i [])) node.drawn node.read;
+      answers = node.answers;
+      same = refl;
+    }))
+    in
+    let there = leads order apart r.first g done rest [] nodes 0 refl goes acts woven.places
+    (λ i deed before after e. subst (λ c. i < c) (sym (so_many count)) (by_a_node r (done ++ rest) woven i deed before after e)) fits in (
       state_of r.first (published (acts_in done)) there.ends,
       record {
         happens = there.happens;

@@ -24,7 +24,8 @@ alone-cases [] = inl refl
 alone-cases (r ∷ []) = inr (r, refl)
 alone-cases (r ∷ q ∷ rs) = inr (some (q ∷ rs) (alone-cases (q ∷ rs)) (λ e. cc))
   where
-    some : (qs : List Record) → (qs ≡ []) ⊎ ((r : Record) × (last_alone qs ≡ r ∷ [])) → (qs ≡ [] → ⊥) → (r : Record) × (last_alone qs ≡ r ∷ [])
+    some : (qs : List Record) → (qs ≡ []) ⊎ ((r : Record) × (last_alone qs ≡ r ∷ []))
+        → (qs ≡ [] → ⊥) → (r : Record) × (last_alone qs ≡ r ∷ [])
     some qs (inl e) not = absurd (not e)
     some qs (inr found) not = found
 
@@ -57,7 +58,8 @@ pub alone-among : (r : Record) (rs : List Record) → last_alone rs ≡ r ∷ []
 alone-among r rs e = any-alone (is_same r) rs (ap (list_any (is_same r)) e ∙ ap (λ b. b || false) (itself r))
 
 -- each of those in order is at most the last one
-pub up_to_alone : (r : Record) (rs : List Record) → is_in_order rs ≡ true → last_alone rs ≡ r ∷ [] → list_all (λ q. is_le (record_cmp q r)) rs ≡ true
+pub up_to_alone : (r : Record) (rs : List Record) → is_in_order rs ≡ true
+    → last_alone rs ≡ r ∷ [] → list_all (λ q. is_le (record_cmp q r)) rs ≡ true
 up_to_alone r [] h e = refl
 up_to_alone r (q ∷ []) h e =
     let same : q ≡ r = cc in
@@ -75,7 +77,8 @@ lower p q r h k =
     ] refl h
 
 -- what stands after the last one stands after all
-pub all_before : (q r : Record) (rs : List Record) → list_all (λ p. is_le (record_cmp p q)) rs ≡ true → is_lt (record_cmp q r) ≡ true → list_all (λ p. is_lt (record_cmp p r)) rs ≡ true
+pub all_before : (q r : Record) (rs : List Record) → list_all (λ p. is_le (record_cmp p q)) rs ≡ true
+    → is_lt (record_cmp q r) ≡ true → list_all (λ p. is_lt (record_cmp p r)) rs ≡ true
 all_before q r [] h k = refl
 all_before q r (p ∷ rs) h k = both (lower p q r (first_of _ _ h) k) (all_before q r rs (second_of (is_le (record_cmp p q)) _ h) k)
 

@@ -25,23 +25,27 @@ use Rattle.reg_set.proofs.Orders.{key_cmp-ties, record_cmp-total, record_cmp-tie
 use Rattle.reg_set.proofs.Unions.{same_answers}
 
 -- a value has a place
-place_of : (r : Record) (es : List (Key × Record)) → list_any (eq_by_cmp record_cmp r) (values_of es) ≡ true → (i : ℕ) × (k : Key) × (slice_get es i ≡ Some (k, r))
+place_of : (r : Record) (es : List (Key × Record)) → list_any (eq_by_cmp record_cmp r) (values_of es) ≡ true
+    → (i : ℕ) × (k : Key) × (slice_get es i ≡ Some (k, r))
 place_of r [] h = absurd (false≢true h)
 place_of r (e ∷ es) h =
-    elim (eq_by_cmp record_cmp r e.1) as (λ b. eq_by_cmp record_cmp r e.1 ≡ b → (b || list_any (eq_by_cmp record_cmp r) (values_of es)) ≡ true → (i : ℕ) × (k : Key) × (slice_get (e ∷ es) i ≡ Some (k, r))) [
+    elim (eq_by_cmp record_cmp r e.1) as (λ b. eq_by_cmp record_cmp r e.1 ≡ b
+    → (b || list_any (eq_by_cmp record_cmp r) (values_of es)) ≡ true → (i : ℕ) × (k : Key) × (slice_get (e ∷ es) i ≡ Some (k, r))) [
       | true ↦ λ same _. (zero, e.0, ap (λ x. Some (e.0, x)) (sym (record_cmp-ties r e.1 (equal _ same))))
       | false ↦ λ _ rest. let found = place_of r es rest in (suc found.0, found.1, found.2)
     ] refl h
 
 -- what a look-up finds is among the values
-among : (test : Key → Bool) (r : Record) (es : List (Key × Record)) → lookup test es ≡ Some r → list_any (eq_by_cmp record_cmp r) (values_of es) ≡ true
+among : (test : Key → Bool) (r : Record) (es : List (Key × Record))
+    → lookup test es ≡ Some r → list_any (eq_by_cmp record_cmp r) (values_of es) ≡ true
 among test r [] h = absurd (cc)
 among test r (e ∷ es) h =
     let is : Record → Bool = eq_by_cmp record_cmp r in
     elim (test e.0) as (λ b. cond b (Some e.1) (lookup test es) ≡ Some r → (is e.1 || list_any is (values_of es)) ≡ true) [
       | true ↦ λ here.
           let same : e.1 ≡ r = cc in
-          ap (λ x. is x || list_any is (values_of es)) same ∙ ap (λ o. is_eq o || list_any is (values_of es)) (tied_itself record_cmp-total r)
+          ap (λ x. is x || list_any is (values_of es)) same
+          ∙ ap (λ o. is_eq o || list_any is (values_of es)) (tied_itself record_cmp-total r)
       | false ↦ λ rest.
           elim (is e.1) as (λ b. (b || list_any is (values_of es)) ≡ true) [ true ↦ refl | false ↦ among test r es rest ]
     ] h
@@ -79,7 +83,10 @@ module _ (m : BTreeMap Key Record) (by_key : IsByKey m) where
   contains-set_of r =
       same_answers _ _
       (λ h. ap (λ o. option_map_or (eq_by_cmp record_cmp r) o false) (found r h) ∙ ap is_eq (tied_itself record_cmp-total r))
-      (λ h. contains-from_list record_cmp-total (values m) r ∙ elim (last_at m r.key) as (λ o. last_at m r.key ≡ o → option_map_or (eq_by_cmp record_cmp r) o false ≡ true → list_any (eq_by_cmp record_cmp r) (values m) ≡ true) [
+      (λ h.
+      contains-from_list record_cmp-total (values m) r
+      ∙ elim (last_at m r.key) as (λ o. last_at m r.key ≡ o → option_map_or (eq_by_cmp record_cmp r) o false ≡ true
+      → list_any (eq_by_cmp record_cmp r) (values m) ≡ true) [
         | None ↦ λ _ k. absurd (false≢true k)
         | Some q ↦ λ e k. among _ r m.entries (e ∙ ap Some (sym (record_cmp-ties r q (equal _ k))))
       ] refl h)
@@ -88,7 +95,8 @@ module _ (m : BTreeMap Key Record) (by_key : IsByKey m) where
   compact-set_of = compact_from (set_of m) (λ r h. last-set_of r.key ∙ found r h)
 
 -- a map after one change
-module _ (m n : BTreeMap Key Record) (by_key : IsByKey m) (ordered : IsOrdered key_cmp n) (key : Key) (o : Option Record) (updates : Updates key_cmp m n key o) (of_key : IfSome o (λ r. r.key ≡ key)) where
+module _ (m n : BTreeMap Key Record) (by_key : IsByKey m) (ordered : IsOrdered key_cmp n) (key : Key)
+    (o : Option Record) (updates : Updates key_cmp m n key o) (of_key : IfSome o (λ r. r.key ≡ key)) where
   pub IsByKey-updated : IsByKey n
   IsByKey-updated = record {
     is_ordered = ordered;
@@ -109,7 +117,8 @@ IsByKey-unchanged m n same by_key = record {
   of_keys = λ q. subst (λ es. IfSome (lookup (is_at (key_cmp q)) es) (λ r. r.key ≡ q)) (sym same) (by_key.of_keys q);
 }
 
-keyed : (es : List (Key × Record)) → ((i : ℕ) (k : Key) (v : Record) → slice_get es i ≡ Some (k, v) → v.key ≡ k) → map (λ r. r.key) (values_of es) ≡ keys_of es
+keyed : (es : List (Key × Record)) → ((i : ℕ) (k : Key) (v : Record) → slice_get es i ≡ Some (k, v) → v.key ≡ k)
+    → map (λ r. r.key) (values_of es) ≡ keys_of es
 keyed [] each = refl
 keyed (e ∷ es) each = λ j. each zero e.0 e.1 refl j ∷ keyed es (λ i k v h. each (suc i) k v h) j
 
@@ -118,7 +127,9 @@ keys_now [] = refl
 keys_now (x ∷ xs) = ap (λ ks. x.now.key ∷ ks) (keys_now xs)
 
 -- its records, in the map's order, have keys that rise
-pub rising : (m : BTreeMap Key Record) (xs : List (Bor Record)) → IsByKey m → map (λ r. r.now) xs ≡ values m → IsStrictlySortedBy key_cmp (map (λ r. r.now.key) xs)
+pub rising : (m : BTreeMap Key Record) (xs : List (Bor Record)) → IsByKey m
+    → map (λ r. r.now) xs ≡ values m → IsStrictlySortedBy key_cmp (map (λ r. r.now.key) xs)
 rising m xs by_key all =
-    let same = keyed m.entries (λ i k v h. subst (λ o. IfSome o (λ q. q.key ≡ k)) (btree_map_get_place total-law m i k v by_key.is_ordered h) (by_key.of_keys k)) in
+    let same = keyed m.entries (λ i k v h.
+    subst (λ o. IfSome o (λ q. q.key ≡ k)) (btree_map_get_place total-law m i k v by_key.is_ordered h) (by_key.of_keys k)) in
     subst (IsStrictlySortedBy key_cmp) (sym (keys_now xs ∙ ap (map (λ r. r.key)) all ∙ same)) by_key.is_ordered

@@ -48,10 +48,13 @@ last-last_records s key r e =
 pub lasts_in : (C R : Records) → IsCompactionOf C R → (key : Key) (r : Record) → last R key ≡ Some r → contains C r ≡ true
 lasts_in C R h key r e = subst (λ o. IfSome o (λ r. contains C r ≡ true)) e (h.has_lasts key)
 
-pub compaction_from : (C R : Records) → ((r : Record) → contains C r ≡ true → contains R r ≡ true) → ((key : Key) (r : Record) → last R key ≡ Some r → contains C r ≡ true) → IsCompactionOf C R
+pub compaction_from : (C R : Records) → ((r : Record) → contains C r ≡ true → contains R r ≡ true)
+    → ((key : Key) (r : Record) → last R key ≡ Some r → contains C r ≡ true) → IsCompactionOf C R
 compaction_from C R part lasts = record {
   is_part = part;
-  has_lasts = λ key. elim (last R key) as (λ o. last R key ≡ o → IfSome o (λ r. contains C r ≡ true)) [ None ↦ λ _. tt | Some r ↦ λ e. lasts key r e ] refl;
+  has_lasts = λ key.
+      elim (last R key)
+      as (λ o. last R key ≡ o → IfSome o (λ r. contains C r ≡ true)) [ None ↦ λ _. tt | Some r ↦ λ e. lasts key r e ] refl;
 }
 
 pub compaction_of_itself : EachIsItsOwnCompaction
@@ -84,10 +87,12 @@ last_records_of_compaction C R h =
     (λ q inside. last-last_records C q.key q (last_of_compaction C R h q.key ∙ last_records-last R q inside))
 
 -- what is last in a set is last in each part that has it
-last_in_part : (P R : Records) → ((q : Record) → contains P q ≡ true → contains R q ≡ true) → (key : Key) (r : Record) → last R key ≡ Some r → contains P r ≡ true → last P key ≡ Some r
+last_in_part : (P R : Records) → ((q : Record) → contains P q ≡ true → contains R q ≡ true)
+    → (key : Key) (r : Record) → last R key ≡ Some r → contains P r ≡ true → last P key ≡ Some r
 last_in_part P R part key r e inside =
     let fact = last-some R key r e in
-    last-greatest P key r (record { is_in_set = inside; is_of_key = fact.is_of_key; is_greatest = λ q there same. fact.is_greatest q (part q there) same })
+    last-greatest P key r (
+    record { is_in_set = inside; is_of_key = fact.is_of_key; is_greatest = λ q there same. fact.is_greatest q (part q there) same })
 
 pub compactions_unite : CompactionsUnite
 compactions_unite C R D S c d =
@@ -100,14 +105,16 @@ compactions_unite C R D S c d =
 
 pub last_records_of_union : LastRecordsOfUnion
 last_records_of_union R S =
-    last_records_of_compaction (union (last_records R) S) (union R S) (compactions_unite (last_records R) R S S (last_records_are_compaction R) (compaction_of_itself S))
+    last_records_of_compaction (union (last_records R) S) (union R S)
+    (compactions_unite (last_records R) R S S (last_records_are_compaction R) (compaction_of_itself S))
 
 pub last_records_of_insert : LastRecordsOfInsert
 last_records_of_insert R r =
     ap last_records (insert-union (last_records R) r) ∙ last_records_of_union R (insert empty r) ∙ ap last_records (sym (insert-union R r))
 
 pub compactions_compose : CompactionsCompose
-compactions_compose B C R b c = compaction_from B R (λ r h. c.is_part r (b.is_part r h)) (λ key r e. lasts_in B C b key r (last_of_compaction C R c key ∙ e))
+compactions_compose B C R b c =
+    compaction_from B R (λ r h. c.is_part r (b.is_part r h)) (λ key r e. lasts_in B C b key r (last_of_compaction C R c key ∙ e))
 
 -- what is dropped: none of it is left, and what isn't dropped is
 contains-dropped : (R D : Records) (r : Record) → contains (difference R D) r ≡ (contains R r && not (contains D r))
@@ -129,7 +136,10 @@ stays_false false h = refl
 
 pub drops_leave_compactions : DropsLeaveCompactions
 drops_leave_compactions R D = (
-  λ left r dropped. stays_false (is_last R r) (λ is. away (contains R r) (contains D r) (sym (contains-dropped R D r) ∙ lasts_in (difference R D) R left r.key r (is_last-last R r is)) dropped),
+  λ left r dropped.
+      stays_false (is_last R r) (λ is.
+      away (contains R r) (contains D r)
+      (sym (contains-dropped R D r) ∙ lasts_in (difference R D) R left r.key r (is_last-last R r is)) dropped),
   λ no_lasts. compaction_from (difference R D) R
       (λ r h. first_of (contains R r) (not (contains D r)) (sym (contains-dropped R D r) ∙ h))
       (λ key r e.
@@ -139,10 +149,12 @@ drops_leave_compactions R D = (
 )
 
 -- what holds of each of a list, from what holds of each that is among it
-pub all_from : (p : Record → Bool) (xs : List Record) → ((q : Record) → list_any (eq_by_cmp record_cmp q) xs ≡ true → p q ≡ true) → list_all p xs ≡ true
+pub all_from : (p : Record → Bool) (xs : List Record)
+    → ((q : Record) → list_any (eq_by_cmp record_cmp q) xs ≡ true → p q ≡ true) → list_all p xs ≡ true
 all_from p [] each = refl
 all_from p (x ∷ xs) each =
-    both (each x (ap (λ o. is_eq o || list_any (eq_by_cmp record_cmp x) xs) (tied_itself record_cmp-total x))) (all_from p xs (λ q h. each q (among (eq_by_cmp record_cmp q x) _ h)))
+    both (each x (ap (λ o. is_eq o || list_any (eq_by_cmp record_cmp x) xs) (tied_itself record_cmp-total x)))
+    (all_from p xs (λ q h. each q (among (eq_by_cmp record_cmp q x) _ h)))
   where
     among : (a b : Bool) → b ≡ true → (a || b) ≡ true
     among true b h = refl

@@ -49,7 +49,8 @@ distinct-in_order (r ∷ rs) h = (
   distinct-in_order rs (second_of (list_all (λ q. is_lt (record_cmp r q)) rs) _ h),
 )
 
-distinct-joined : (xs ys : List Record) → IsDistinct is_same xs → IsDistinct is_same ys → ((r : Record) → list_any (is_same r) xs ≡ true → list_any (is_same r) ys ≡ true → ⊥) → IsDistinct is_same (xs ++ ys)
+distinct-joined : (xs ys : List Record) → IsDistinct is_same xs → IsDistinct is_same ys
+    → ((r : Record) → list_any (is_same r) xs ≡ true → list_any (is_same r) ys ≡ true → ⊥) → IsDistinct is_same (xs ++ ys)
 unfolding IsDistinct
 distinct-joined [] ys h k apart = k
 distinct-joined (x ∷ xs) ys h k apart = (
@@ -57,22 +58,26 @@ distinct-joined (x ∷ xs) ys h k apart = (
   distinct-joined xs ys h.1 k (λ r there. apart r (or_right (is_same r x) _ there)),
 )
 
-at_key : (P : Key → Type 0) (es : Entries) (i : ℕ) (k : Key) (v : Vec Record) → AllByRecursion P (keys_of es) → slice_get es i ≡ Some (k, v) → P k
+at_key : (P : Key → Type 0) (es : Entries) (i : ℕ) (k : Key) (v : Vec Record)
+    → AllByRecursion P (keys_of es) → slice_get es i ≡ Some (k, v) → P k
 at_key P [] i k v h e = absurd (cc)
 at_key P (x ∷ es) zero k v h e =
     let same : x ≡ (k, v) = cc in
     subst P (ap (λ y. y.0) same) h.0
 at_key P (x ∷ es) (suc i) k v h e = at_key P es i k v h.1 e
 
-distinct-listed : (es : Entries) → IsDistinct (eq_by_cmp key_cmp) (keys_of es) → ((i : ℕ) (k : Key) (v : Vec Record) → slice_get es i ≡ Some (k, v) → AreOf k v.items) → IsDistinct is_same (listed es)
+distinct-listed : (es : Entries) → IsDistinct (eq_by_cmp key_cmp) (keys_of es)
+    → ((i : ℕ) (k : Key) (v : Vec Record) → slice_get es i ≡ Some (k, v) → AreOf k v.items) → IsDistinct is_same (listed es)
 unfolding IsDistinct
 distinct-listed [] h each = tt
 distinct-listed (e ∷ es) h each =
     let first = each zero e.0 e.1 refl in
-    distinct-joined e.1.items (listed es) (distinct-in_order e.1.items first.in_order) (distinct-listed es h.1 (λ i k v found. each (suc i) k v found)) (λ r here there.
+    distinct-joined e.1.items (listed es) (distinct-in_order e.1.items first.in_order)
+    (distinct-listed es h.1 (λ i k v found. each (suc i) k v found)) (λ r here there.
     let place = place_of r es there in
     let of_first = is_of-is e.0 r (at_any (is_of e.0) r e.1.items first.of_key here) in
-    let of_other = is_of-is place.1 r (at_any (is_of place.1) r place.2.items (each (suc place.0) place.1 place.2 place.3).of_key place.4) in
+    let of_other =
+    is_of-is place.1 r (at_any (is_of place.1) r place.2.items (each (suc place.0) place.1 place.2 place.3).of_key place.4) in
     let apart = at_key (λ k. eq_by_cmp key_cmp e.0 k ≡ false) es place.0 place.1 place.2 h.0 place.3 in
     false≢true (sym apart ∙ key_cmp-itself e.0 place.1 (sym of_first ∙ of_other)))
 
@@ -86,7 +91,8 @@ unfolding IsStrictlySortedBy
 strict_in_order [] h = refl
 strict_in_order (r ∷ rs) h = both (later r rs h.0) (strict_in_order rs h.1)
   where
-    later : (r : Record) (qs : List Record) → AllByRecursion (λ q. record_cmp r q ≡ Less) qs → list_all (λ q. is_lt (record_cmp r q)) qs ≡ true
+    later : (r : Record) (qs : List Record) → AllByRecursion (λ q. record_cmp r q ≡ Less) qs
+        → list_all (λ q. is_lt (record_cmp r q)) qs ≡ true
     later r [] h = refl
     later r (q ∷ qs) h = both (ap is_lt h.0) (later r qs h.1)
 
@@ -100,10 +106,13 @@ rise a b h apart =
     ] refl
 
 -- sorted records of which none stands twice are in order
-pub sorted-in_order : (xs ys : List Record) → IsDistinct (eq_by_cmp record_cmp) xs → IsPermutation xs ys → IsSortedBy (λ a b. is_lt (record_cmp a b)) ys → is_in_order ys ≡ true
+pub sorted-in_order : (xs ys : List Record) → IsDistinct (eq_by_cmp record_cmp) xs
+    → IsPermutation xs ys → IsSortedBy (λ a b. is_lt (record_cmp a b)) ys → is_in_order ys ≡ true
 sorted-in_order xs [] distinct moved sorted = refl
 sorted-in_order xs (y ∷ ys) distinct moved sorted =
     let all : List Record = y ∷ ys in
-    let apart = IsDistinct-IsPermutation (eq_by_cmp record_cmp) (λ a b. (eq_by_cmp_equiv record_cmp-total).symm a b) xs all moved distinct in
+    let apart =
+    IsDistinct-IsPermutation (eq_by_cmp record_cmp) (λ a b. (eq_by_cmp_equiv record_cmp-total).symm a b) xs all moved distinct in
     strict_in_order all (sorted_from_all_adjacent record_cmp-total all y (λ k within.
-    rise (get_or all k y) (get_or all (k + 1) y) (sorted k y (omega arith) within) (apart_from_distinct (eq_by_cmp record_cmp) all k (k + 1) y apart (omega arith) within)))
+    rise (get_or all k y) (get_or all (k + 1) y) (sorted k y (omega arith) within)
+    (apart_from_distinct (eq_by_cmp record_cmp) all k (k + 1) y apart (omega arith) within)))

@@ -35,7 +35,8 @@ module _ (floor : ℕ) (part : Records) (r : Record) where
   is_kept_or_gone-of : (contains part r ≡ true) ⊎ IsGone floor part r → is_kept_or_gone floor part r ≡ true
   is_kept_or_gone-of (inl has) = or_left (contains part r) _ has
   is_kept_or_gone-of (inr gone) =
-      or_right (contains part r) _ (both (both (ap is_none gone.deletes) (lt-ltb r.offset floor gone.is_below)) (ap is_none gone.has_no_other))
+      or_right (contains part r) _
+      (both (both (ap is_none gone.deletes) (lt-ltb r.offset floor gone.is_below)) (ap is_none gone.has_no_other))
 
 -- the two tests that make a compaction
 module _ (floor : ℕ) (C R : Records) where
@@ -54,7 +55,8 @@ module _ (floor : ℕ) (C R : Records) where
           | Some r ↦ λ e.
               let fact = last-some R key r e in
               let there = at_any has_last r (records_of R) lasts (sym (contains-records_of R r) ∙ fact.is_in_set) in
-              kept_or_gone floor C r (ap (λ o. option_map_or (is_kept_or_gone floor C) o true) (sym (ap (last R) fact.is_of_key ∙ e)) ∙ there)
+              kept_or_gone floor C r (
+              ap (λ o. option_map_or (is_kept_or_gone floor C) o true) (sym (ap (last R) fact.is_of_key ∙ e)) ∙ there)
         ] refl;
   }
 
@@ -68,5 +70,6 @@ module _ (floor : ℕ) (C R : Records) where
       last_there key =
           elim (last R key) as (λ o. last R key ≡ o → option_map_or (is_kept_or_gone floor C) o true ≡ true) [
             | None ↦ λ _. refl
-            | Some r ↦ λ e. is_kept_or_gone-of floor C r (subst (λ o. IfSome o (λ r. (contains C r ≡ true) ⊎ IsGone floor C r)) e (h.has_lasts key))
+            | Some r ↦ λ e.
+                is_kept_or_gone-of floor C r (subst (λ o. IfSome o (λ r. (contains C r ≡ true) ⊎ IsGone floor C r)) e (h.has_lasts key))
           ] refl

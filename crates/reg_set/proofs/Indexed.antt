@@ -68,10 +68,14 @@ module _ (S : Records) (r : Record) where
       last-absent (insert empty r) key (λ q inside same. ⊎_elim
       (λ e. false≢true (sym apart ∙ key_cmp-itself r.key key (sym (ap (λ x. x.key) e) ∙ same)))
       (λ h. false≢true (sym (contains-empty record_cmp q) ∙ h)) (in_insert empty r q inside)) in
-      ap (λ s. last s key) (insert-union S r) ∙ last_of_union S (insert empty r) key ∙ ap (later (last S key)) none ∙ later-none (last S key)
+      ap (λ s. last s key) (insert-union S r)
+      ∙ last_of_union S (insert empty r) key
+      ∙ ap (later (last S key)) none
+      ∙ later-none (last S key)
 
 -- copies of entries that are equal to them
-pub zipped : (C : Key → Key → Type 0) (D : Record → Record → Type 0) → ((a b : Key) → C a b → b ≡ a) → ((a b : Record) → D a b → b ≡ a) → (xs ys : List (Key × Record)) → AllZip (λ p q. C p.0 q.0 × D p.1 q.1) xs ys → ys ≡ xs
+pub zipped : (C : Key → Key → Type 0) (D : Record → Record → Type 0) → ((a b : Key) → C a b → b ≡ a)
+    → ((a b : Record) → D a b → b ≡ a) → (xs ys : List (Key × Record)) → AllZip (λ p q. C p.0 q.0 × D p.1 q.1) xs ys → ys ≡ xs
 zipped C D c d [] [] h = refl
 zipped C D c d [] (y ∷ ys) h = absurd h
 zipped C D c d (x ∷ xs) [] h = absurd h

@@ -51,7 +51,9 @@ module _ (key : Key) (rs : List Record) (of_key : AreOf key rs) (r : Record) (is
   greatest k same = record {
     is_in_set = contains-from_list record_cmp-total rs r ∙ there;
     is_of_key = same;
-    is_greatest = λ q inside is. ap is_le (of_one_key q r (is ∙ sym same)) ∙ at_any (λ x. is_le (record_cmp x r)) q rs (up_to_alone r rs of_key.in_order is_last) (in_rs q inside);
+    is_greatest = λ q inside is.
+        ap is_le (of_one_key q r (is ∙ sym same))
+        ∙ at_any (λ x. is_le (record_cmp x r)) q rs (up_to_alone r rs of_key.in_order is_last) (in_rs q inside);
   }
 
   last_is_compaction : IsCompactionOf (insert empty r) (from_list rs)
@@ -69,18 +71,26 @@ module _ (key : Key) (rs : List Record) (of_key : AreOf key rs) (r : Record) (is
   pub last-joined : (L : Records) → last_records (insert L r) ≡ last_records (union L (from_list rs))
   last-joined L =
       ap last_records (insert-union L r)
-      ∙ last_records_of_compaction (union L (insert empty r)) (union L (from_list rs)) (compactions_unite L L (insert empty r) (from_list rs) (compaction_of_itself L) last_is_compaction)
+      ∙ last_records_of_compaction (union L (insert empty r)) (union L (from_list rs))
+      (compactions_unite L L (insert empty r) (from_list rs) (compaction_of_itself L) last_is_compaction)
 
 -- what holds of each of a list holds of each of another with the same records
-pub all-same : (p : Record → Bool) (xs ys : List Record) → ((q : Record) → list_any (is_same q) xs ≡ list_any (is_same q) ys) → list_all p xs ≡ list_all p ys
+pub all-same : (p : Record → Bool) (xs ys : List Record)
+    → ((q : Record) → list_any (is_same q) xs ≡ list_any (is_same q) ys) → list_all p xs ≡ list_all p ys
 all-same p xs ys each =
-    same_answers (list_all p xs) (list_all p ys) (λ h. all_from p ys (λ q k. at_any p q xs h (each q ∙ k))) (λ h. all_from p xs (λ q k. at_any p q ys h (sym (each q) ∙ k)))
+    same_answers (list_all p xs) (list_all p ys) (λ h. all_from p ys (λ q k. at_any p q xs h (each q ∙ k)))
+    (λ h. all_from p xs (λ q k. at_any p q ys h (sym (each q) ∙ k)))
 
 -- one more record, and one more list, of those that are added to a set
-pub one_more_in : (S : Records) (xs : List Record) (i : ℕ) (r : Record) → i < length xs → r ≡ get_or xs i r → insert (union S (from_list (take i xs))) r ≡ union S (from_list (take (i + 1) xs))
+pub one_more_in : (S : Records) (xs : List Record) (i : ℕ) (r : Record) → i < length xs → r ≡ get_or xs i r
+    → insert (union S (from_list (take i xs))) r ≡ union S (from_list (take (i + 1) xs))
 one_more_in S xs i r within here =
     insert-union (union S (from_list (take i xs))) r ∙ merging_is_associative S (from_list (take i xs)) (insert empty r)
-    ∙ ap (union S) (sym (insert-union (from_list (take i xs)) r) ∙ sym (ap from_list (take_more xs i r within ∙ ap (λ q. take i xs ++ q ∷ []) (sym here)) ∙ from_list_push record_cmp-total record_cmp-ties (take i xs) r))
+    ∙ ap (union S)
+    (sym (insert-union (from_list (take i xs)) r)
+    ∙ sym (
+    ap from_list (take_more xs i r within ∙ ap (λ q. take i xs ++ q ∷ []) (sym here))
+    ∙ from_list_push record_cmp-total record_cmp-ties (take i xs) r))
 
 pub list_joined : (S : Records) (xs ys : List Record) → union (union S (from_list xs)) (from_list ys) ≡ union S (from_list (xs ++ ys))
 list_joined S xs ys = merging_is_associative S (from_list xs) (from_list ys) ∙ ap (union S) (sym (from_list-both xs ys))
@@ -92,7 +102,8 @@ none_last = compact_from (from_list []) (λ r h. absurd (false≢true (sym (cont
 pub lasts_of_none : empty ≡ last_records (from_list [])
 lasts_of_none = sym none_last
 
-key_holds : (p : Key → Bool) (es : Entries) (i : ℕ) (k : Key) (v : Vec Record) → list_all p (keys_of es) ≡ true → slice_get es i ≡ Some (k, v) → p k ≡ true
+key_holds : (p : Key → Bool) (es : Entries) (i : ℕ) (k : Key) (v : Vec Record)
+    → list_all p (keys_of es) ≡ true → slice_get es i ≡ Some (k, v) → p k ≡ true
 key_holds p [] i k v h e = absurd (cc)
 key_holds p (x ∷ es) zero k v h e =
     let same : x ≡ (k, v) = cc in
@@ -114,12 +125,15 @@ module _ (m : RecordLists) (by_key : AreByKey m) (test : Record → Bool) (whole
       (λ h. all_from (λ r. has_last r.key) (records_of whole) (λ r there.
       let inside : contains (set_of m) r ≡ true = ap (λ s. contains s r) view ∙ contains-records_of whole r ∙ there in
       let place = place_of r m.entries (sym (contains-from_list record_cmp-total (all_records m) r) ∙ inside) in
-      let key : r.key ≡ place.1 = of_that_key m by_key place.1 r (ap (list_any (is_same r)) (at_place m by_key place.0 place.1 place.2 place.3) ∙ place.4) in
+      let key : r.key ≡ place.1 =
+      of_that_key m by_key place.1 r (ap (list_any (is_same r)) (at_place m by_key place.0 place.1 place.2 place.3) ∙ place.4) in
       ap has_last key ∙ key_holds has_last m.entries place.0 place.1 place.2 h place.3))
       (λ h. holds_of_all has_last (keys m) (λ key.
       elim (last whole key) as (λ o. last whole key ≡ o → option_map_or test o true ≡ true) [
         | None ↦ λ _. refl
         | Some r ↦ λ e.
             let fact = last-some whole key r e in
-            ap (λ o. option_map_or test o true) (sym e) ∙ ap has_last (sym fact.is_of_key) ∙ at_any (λ q. has_last q.key) r (records_of whole) h (sym (contains-records_of whole r) ∙ fact.is_in_set)
+            ap (λ o. option_map_or test o true) (sym e)
+            ∙ ap has_last (sym fact.is_of_key)
+            ∙ at_any (λ q. has_last q.key) r (records_of whole) h (sym (contains-records_of whole r) ∙ fact.is_in_set)
       ] refl))

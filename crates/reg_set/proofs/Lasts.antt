@@ -68,16 +68,19 @@ le-ord_max_right a b =
     ] refl
 
 -- what holds of each of a list holds of one that is among them
-pub at_any : (p : Record → Bool) (q : Record) (xs : List Record) → list_all p xs ≡ true → list_any (eq_by_cmp record_cmp q) xs ≡ true → p q ≡ true
+pub at_any : (p : Record → Bool) (q : Record) (xs : List Record)
+    → list_all p xs ≡ true → list_any (eq_by_cmp record_cmp q) xs ≡ true → p q ≡ true
 at_any p q [] all one = absurd (false≢true one)
 at_any p q (x ∷ xs) all one =
-    elim (eq_by_cmp record_cmp q x) as (λ t. eq_by_cmp record_cmp q x ≡ t → (t || list_any (eq_by_cmp record_cmp q) xs) ≡ true → p q ≡ true) [
+    elim (eq_by_cmp record_cmp q x) as (λ t.
+    eq_by_cmp record_cmp q x ≡ t → (t || list_any (eq_by_cmp record_cmp q) xs) ≡ true → p q ≡ true) [
       | true ↦ λ e _. ap p (record_cmp-ties q x (equal _ e)) ∙ first_of _ _ all
       | false ↦ λ _ rest. at_any p q xs (second_of _ _ all) rest
     ] refl one
 
 -- one is among those that pass where it passes and is among them all
-pub any_filter : (p : Record → Bool) (q : Record) (xs : List Record) → list_any (eq_by_cmp record_cmp q) (filter p xs) ≡ (p q && list_any (eq_by_cmp record_cmp q) xs)
+pub any_filter : (p : Record → Bool) (q : Record) (xs : List Record)
+    → list_any (eq_by_cmp record_cmp q) (filter p xs) ≡ (p q && list_any (eq_by_cmp record_cmp q) xs)
 any_filter p q [] = elim (p q) as (λ b. false ≡ (b && false)) [ true ↦ refl | false ↦ refl ]
 any_filter p q (x ∷ xs) =
     let is : Record → Bool = eq_by_cmp record_cmp q in
@@ -96,7 +99,8 @@ any_filter p q (x ∷ xs) =
           ]
     ] refl
 
-all_le : (m : Record) (n : Record) (xs : List Record) → is_le (age_cmp m n) ≡ true → list_all (λ q. is_le (age_cmp q m)) xs ≡ true → list_all (λ q. is_le (age_cmp q n)) xs ≡ true
+all_le : (m : Record) (n : Record) (xs : List Record) → is_le (age_cmp m n) ≡ true
+    → list_all (λ q. is_le (age_cmp q m)) xs ≡ true → list_all (λ q. is_le (age_cmp q n)) xs ≡ true
 all_le m n [] h all = refl
 all_le m n (x ∷ xs) h all = both (le_trans x m n (first_of _ _ all) h) (all_le m n xs h (second_of _ _ all))
 
@@ -105,7 +109,8 @@ most a xs = fold (ord_max age_cmp) a xs
 
 most-first : (a : Record) (xs : List Record) → is_le (age_cmp a (most a xs)) ≡ true
 most-first a [] = le_itself a
-most-first a (x ∷ xs) = le_trans a (ord_max age_cmp a x) (most (ord_max age_cmp a x) xs) (le-ord_max_left a x) (most-first (ord_max age_cmp a x) xs)
+most-first a (x ∷ xs) =
+    le_trans a (ord_max age_cmp a x) (most (ord_max age_cmp a x) xs) (le-ord_max_left a x) (most-first (ord_max age_cmp a x) xs)
 
 most-others : (a : Record) (xs : List Record) → list_all (λ q. is_le (age_cmp q (most a xs))) xs ≡ true
 most-others a [] = refl
@@ -130,7 +135,8 @@ most-among a (x ∷ xs) =
     ] (most-among (ord_max age_cmp a x) xs)
 
 -- the greatest of a list is among it, and each of the list is at most that one
-greatest-some : (xs : List Record) (r : Record) → reduce (ord_max age_cmp) xs ≡ Some r → (list_any (eq_by_cmp record_cmp r) xs ≡ true) × (list_all (λ q. is_le (age_cmp q r)) xs ≡ true)
+greatest-some : (xs : List Record) (r : Record) → reduce (ord_max age_cmp) xs ≡ Some r
+    → (list_any (eq_by_cmp record_cmp r) xs ≡ true) × (list_all (λ q. is_le (age_cmp q r)) xs ≡ true)
 greatest-some [] r e = absurd (cc)
 greatest-some (x ∷ xs) r e =
     let same : most x xs ≡ r = ap (λ o. unwrap_or o r) e in (
@@ -151,7 +157,8 @@ unfolding is_of
 is_of-of key r e = ap (λ k. eq_by_cmp key_cmp key k) e ∙ ap is_eq (tied_itself key_cmp-total key)
 
 -- a record of a key and a set is among those that its last one is chosen from
-chosen_from : (s : Records) (key : Key) (q : Record) → list_any (eq_by_cmp record_cmp q) (filter (is_of key) (records_of s)) ≡ (is_of key q && contains s q)
+chosen_from : (s : Records) (key : Key) (q : Record)
+    → list_any (eq_by_cmp record_cmp q) (filter (is_of key) (records_of s)) ≡ (is_of key q && contains s q)
 chosen_from s key q = any_filter (is_of key) q (records_of s) ∙ ap (λ b. is_of key q && b) (sym (contains-records_of s q))
 
 pub last-some : (s : Records) (key : Key) (r : Record) → last s key ≡ Some r → IsGreatestOf s key r
@@ -162,7 +169,9 @@ last-some s key r e =
     record {
       is_in_set = second_of (is_of key r) _ there;
       is_of_key = is_of-is key r (first_of _ (contains s r) there);
-      is_greatest = λ q inside same. at_any (λ x. is_le (age_cmp x r)) q (filter (is_of key) (records_of s)) facts.1 (chosen_from s key q ∙ both (is_of-of key q same) inside);
+      is_greatest = λ q inside same.
+          at_any (λ x. is_le (age_cmp x r)) q (filter (is_of key) (records_of s)) facts.1
+          (chosen_from s key q ∙ both (is_of-of key q same) inside);
     }
 
 pub last-none : (s : Records) (key : Key) → last s key ≡ None → (q : Record) → contains s q ≡ true → q.key ≡ key → ⊥
@@ -174,7 +183,8 @@ last-none s key e q inside same =
 
 pub IsGreatestOf-one : (s : Records) (key : Key) (r q : Record) → IsGreatestOf s key r → IsGreatestOf s key q → r ≡ q
 IsGreatestOf-one s key r q a b =
-    let ages : age_cmp r q ≡ Equal = both_le _ (b.is_greatest r a.is_in_set a.is_of_key) (ap is_le (sym (age_cmp-total.antisymm q r)) ∙ a.is_greatest q b.is_in_set b.is_of_key) in
+    let ages : age_cmp r q ≡ Equal = both_le _ (b.is_greatest r a.is_in_set a.is_of_key)
+    (ap is_le (sym (age_cmp-total.antisymm q r)) ∙ a.is_greatest q b.is_in_set b.is_of_key) in
     let keys : key_cmp r.key q.key ≡ Equal = ap (key_cmp r.key) (b.is_of_key ∙ sym a.is_of_key) ∙ tied_itself key_cmp-total r.key in
     record_cmp-ties r q (sym (age_cmp-of_one_key r q keys) ∙ ages)
 

@@ -58,11 +58,13 @@ place_of r (e ∷ es) h =
     ] refl (sym (list_any-append (is_same r) e.1.items (listed es)) ∙ h)
 
 -- what a look-up finds is among the records
-among : (test : Key → Bool) (r : Record) (es : Entries) → list_any (is_same r) (option_map_or (λ v. v.items) (lookup test es) []) ≡ true → list_any (is_same r) (listed es) ≡ true
+among : (test : Key → Bool) (r : Record) (es : Entries)
+    → list_any (is_same r) (option_map_or (λ v. v.items) (lookup test es) []) ≡ true → list_any (is_same r) (listed es) ≡ true
 among test r [] h = absurd (false≢true h)
 among test r (e ∷ es) h =
     list_any-append (is_same r) e.1.items (listed es)
-    ∙ elim (test e.0) as (λ b. list_any (is_same r) (option_map_or (λ v. v.items) (cond b (Some e.1) (lookup test es)) []) ≡ true → (list_any (is_same r) e.1.items || list_any (is_same r) (listed es)) ≡ true) [
+    ∙ elim (test e.0) as (λ b. list_any (is_same r) (option_map_or (λ v. v.items) (cond b (Some e.1) (lookup test es)) []) ≡ true
+    → (list_any (is_same r) e.1.items || list_any (is_same r) (listed es)) ≡ true) [
       | true ↦ λ here. ap (λ b. b || list_any (is_same r) (listed es)) here
       | false ↦ λ rest. or_right (list_any (is_same r) e.1.items) _ (among test r es rest)
     ] h
@@ -103,7 +105,10 @@ module _ (m : RecordLists) (by_key : AreByKey m) where
       last-greatest (set_of m) key r (record {
         is_in_set = in_set key r there;
         is_of_key = is_key;
-        is_greatest = λ q inside same. ap is_le (of_one_key q r (same ∙ sym is_key)) ∙ at_any (λ x. is_le (record_cmp x r)) q (records_at m key) (up_to_alone r (records_at m key) (by_key.of_keys key).in_order e) (in_list key q inside same);
+        is_greatest = λ q inside same.
+            ap is_le (of_one_key q r (same ∙ sym is_key))
+            ∙ at_any (λ x. is_le (record_cmp x r)) q (records_at m key)
+            (up_to_alone r (records_at m key) (by_key.of_keys key).in_order e) (in_list key q inside same);
       })
 
   pub last-none_at : (key : Key) → records_at m key ≡ [] → last (set_of m) key ≡ None
@@ -141,7 +146,9 @@ module _ (m n : RecordLists) (key : Key) (v : Vec Record) (updates : Updates key
   at_each : (q : Key) → records_at n q ≡ cond (is_eq (key_cmp key q)) v.items (records_at m q)
   at_each q =
       ap (λ o. option_map_or (λ v. v.items) o []) (updates.0 q)
-      ∙ elim (is_eq (key_cmp key q)) as (λ b. option_map_or (λ v. v.items) (cond b (Some v) (get key_cmp m q)) [] ≡ cond b v.items (records_at m q)) [ true ↦ refl | false ↦ refl ]
+      ∙ elim (is_eq (key_cmp key q)) as (λ b.
+      option_map_or (λ v. v.items) (cond b (Some v) (get key_cmp m q)) []
+      ≡ cond b v.items (records_at m q)) [ true ↦ refl | false ↦ refl ]
 
   pub IsTakenIn-updated : (r : Record) → r.key ≡ key → v.items ≡ placed r (records_at m key) → IsTakenIn m n r
   IsTakenIn-updated r same items q =
@@ -162,7 +169,8 @@ module _ (m n : RecordLists) (by_key : AreByKey m) (ordered : IsOrdered key_cmp 
 
   pub set_of-same : set_of n ≡ set_of m
   set_of-same =
-      same_set record_cmp-total record_cmp-ties _ _ (λ q. contains-set_of n AreByKey-same q ∙ ap (list_any (is_same q)) (same q.key) ∙ sym (contains-set_of m by_key q))
+      same_set record_cmp-total record_cmp-ties _ _ (λ q.
+      contains-set_of n AreByKey-same q ∙ ap (list_any (is_same q)) (same q.key) ∙ sym (contains-set_of m by_key q))
 
 -- a map with one more record
 module _ (m n : RecordLists) (by_key : AreByKey m) (ordered : IsOrdered key_cmp n) (r : Record) (taken : IsTakenIn m n r) where
@@ -196,8 +204,12 @@ module _ (m n : RecordLists) (by_key : AreByKey m) (ordered : IsOrdered key_cmp 
   set_of-taken =
       same_set record_cmp-total record_cmp-ties _ _ (λ q.
       contains-set_of n AreByKey-taken q ∙ ap (list_any (is_same q)) (taken q.key)
-      ∙ elim (is_eq (key_cmp r.key q.key)) as (λ b. is_eq (key_cmp r.key q.key) ≡ b → list_any (is_same q) (cond b (placed r before) (records_at m q.key)) ≡ (is_same q r || list_any (is_same q) (records_at m q.key))) [
-        | true ↦ λ e. any_placed (is_same q) r before (ties_alike q r) ∙ ap (λ k. is_same q r || list_any (is_same q) (records_at m k)) (key_cmp-ties r.key q.key (equal _ e))
+      ∙ elim (is_eq (key_cmp r.key q.key)) as (λ b. is_eq (key_cmp r.key q.key) ≡ b
+      → list_any (is_same q) (cond b (placed r before) (records_at m q.key))
+      ≡ (is_same q r || list_any (is_same q) (records_at m q.key))) [
+        | true ↦ λ e.
+            any_placed (is_same q) r before (ties_alike q r)
+            ∙ ap (λ k. is_same q r || list_any (is_same q) (records_at m k)) (key_cmp-ties r.key q.key (equal _ e))
         | false ↦ λ e. ap (λ b. b || list_any (is_same q) (records_at m q.key)) (sym (apart q e))
       ] refl
       ∙ ap (λ b. is_same q r || b) (sym (contains-set_of m by_key q)) ∙ sym (contains-insert record_cmp-total (set_of m) r q))
@@ -226,54 +238,77 @@ module _ (m n : RecordLists) (by_key : AreByKey m) (ordered : IsOrdered key_cmp 
   pub set_of-lasts : set_of n ≡ last_records (set_of m)
   set_of-lasts =
       one_set (set_of n) (last_records (set_of m))
-      (λ q h. last-last_records (set_of m) q.key q (last-some_at m by_key q.key q (alone-one q (records_at m q.key) (ap (list_any (is_same q)) (sym (lasts q.key)) ∙ sym (contains-set_of n AreByKey-lasts q) ∙ h))))
-      (λ q h. contains-set_of n AreByKey-lasts q ∙ ap (list_any (is_same q)) (lasts q.key ∙ last_there q (last_records-last (set_of m) q h)) ∙ ap (λ b. b || false) (ap is_eq (tied_itself record_cmp-total q)))
+      (λ q h. last-last_records (set_of m) q.key q (
+      last-some_at m by_key q.key q (
+      alone-one q (records_at m q.key) (ap (list_any (is_same q)) (sym (lasts q.key)) ∙ sym (contains-set_of n AreByKey-lasts q) ∙ h))))
+      (λ q h.
+      contains-set_of n AreByKey-lasts q
+      ∙ ap (list_any (is_same q)) (lasts q.key ∙ last_there q (last_records-last (set_of m) q h))
+      ∙ ap (λ b. b || false) (ap is_eq (tied_itself record_cmp-total q)))
 
 -- a map of no key
 pub AreByKey-empty : (m : RecordLists) → m.entries ≡ [] → IsOrdered key_cmp m → AreByKey m
 AreByKey-empty m none ordered = record {
   is_ordered = ordered;
-  of_keys = λ key. subst (λ es. AreOf key (option_map_or (λ v. v.items) (lookup (is_at (key_cmp key)) es) [])) (sym none) (record { in_order = refl; of_key = refl });
+  of_keys = λ key.
+      subst (λ es. AreOf key (option_map_or (λ v. v.items) (lookup (is_at (key_cmp key)) es) []))
+      (sym none) (record { in_order = refl; of_key = refl });
 }
 
 -- copies of entries
-module _ (C : Key → Key → Type 0) (D : Vec Record → Vec Record → Type 0) (same_key : (a b : Key) → C a b → b ≡ a) (same_items : (v w : Vec Record) → D v w → w.items ≡ v.items) where
+module _ (C : Key → Key → Type 0) (D : Vec Record → Vec Record → Type 0)
+    (same_key : (a b : Key) → C a b → b ≡ a) (same_items : (v w : Vec Record) → D v w → w.items ≡ v.items) where
   pub copied-keys : (es fs : Entries) → AllZip (λ p q. C p.0 q.0 × D p.1 q.1) es fs → keys_of fs ≡ keys_of es
   copied-keys [] [] h = refl
   copied-keys [] (f ∷ fs) h = absurd h
   copied-keys (e ∷ es) [] h = absurd h
   copied-keys (e ∷ es) (f ∷ fs) h = λ i. same_key e.0 f.0 h.0.0 i ∷ copied-keys es fs h.1 i
 
-  pub copied-lists : (test : Key → Bool) (es fs : Entries) → AllZip (λ p q. C p.0 q.0 × D p.1 q.1) es fs → option_map_or (λ v. v.items) (lookup test fs) [] ≡ option_map_or (λ v. v.items) (lookup test es) []
+  pub copied-lists : (test : Key → Bool) (es fs : Entries) → AllZip (λ p q. C p.0 q.0 × D p.1 q.1) es fs
+      → option_map_or (λ v. v.items) (lookup test fs) [] ≡ option_map_or (λ v. v.items) (lookup test es) []
   copied-lists test [] [] h = refl
   copied-lists test [] (f ∷ fs) h = absurd h
   copied-lists test (e ∷ es) [] h = absurd h
   copied-lists test (e ∷ es) (f ∷ fs) h =
       ap (λ k. option_map_or (λ v. v.items) (cond (test k) (Some f.1) (lookup test fs)) []) (same_key e.0 f.0 h.0.0)
-      ∙ elim (test e.0) as (λ b. option_map_or (λ v. v.items) (cond b (Some f.1) (lookup test fs)) [] ≡ option_map_or (λ v. v.items) (cond b (Some e.1) (lookup test es)) []) [
+      ∙ elim (test e.0) as (λ b.
+      option_map_or (λ v. v.items) (cond b (Some f.1) (lookup test fs)) []
+      ≡ option_map_or (λ v. v.items) (cond b (Some e.1) (lookup test es)) []) [
         | true ↦ same_items e.1 f.1 h.0.1
         | false ↦ copied-lists test es fs h.1
       ]
 
 -- what a closure that leaves the last ones leaves
-pub left-keys : {F : Type 0} (T : F → Key → Vec Record → Bool → Vec Record → F → Type 0) → ((g : F) (k : Key) (v : Vec Record) (b : Bool) (w : Vec Record) (g' : F) → T g k v b w g' → (b ≡ true) × (w.items ≡ last_alone v.items))
-    → (test : Key → Bool) (f : F) (es kept : Entries) → RetainsPairs T f es kept → option_map_or (λ v. v.items) (lookup test kept) [] ≡ last_alone (option_map_or (λ v. v.items) (lookup test es) [])
+pub left-keys : {F : Type 0} (T : F → Key → Vec Record → Bool → Vec Record → F → Type 0)
+    → ((g : F) (k : Key) (v : Vec Record) (b : Bool) (w : Vec Record) (g' : F)
+    → T g k v b w g' → (b ≡ true) × (w.items ≡ last_alone v.items))
+    → (test : Key → Bool) (f : F) (es kept : Entries) → RetainsPairs T f es kept
+    → option_map_or (λ v. v.items) (lookup test kept) [] ≡ last_alone (option_map_or (λ v. v.items) (lookup test es) [])
 left-keys T each test f [] kept h = ap (λ es. option_map_or (λ v. v.items) (lookup test es) []) h
 left-keys T each test f (e ∷ es) kept h =
     let facts = each f e.0 e.1 h.0 h.1 h.2 h.4 in
     ap (λ es. option_map_or (λ v. v.items) (lookup test es) []) (h.6 ∙ ap (λ b. cond b ((e.0, h.1) ∷ h.3) h.3) facts.0)
-    ∙ elim (test e.0) as (λ b. option_map_or (λ v. v.items) (cond b (Some h.1) (lookup test h.3)) [] ≡ last_alone (option_map_or (λ v. v.items) (cond b (Some e.1) (lookup test es)) [])) [
+    ∙ elim (test e.0) as (λ b.
+    option_map_or (λ v. v.items) (cond b (Some h.1) (lookup test h.3)) []
+    ≡ last_alone (option_map_or (λ v. v.items) (cond b (Some e.1) (lookup test es)) [])) [
       | true ↦ facts.1
       | false ↦ left-keys T each test h.2 es h.3 h.5
     ]
 
 -- one more list joined
-pub joined_more : (xs : List (Bor (Vec Record))) (x : Bor (Vec Record)) (found more : List Record) → found ≡ flat_map (λ v. v.items) (map deref xs) → more ≡ x.now.items → found ++ more ≡ flat_map (λ v. v.items) (map deref (xs ++ x ∷ []))
+pub joined_more : (xs : List (Bor (Vec Record))) (x : Bor (Vec Record)) (found more : List Record)
+    → found ≡ flat_map (λ v. v.items) (map deref xs) → more ≡ x.now.items
+    → found ++ more ≡ flat_map (λ v. v.items) (map deref (xs ++ x ∷ []))
 joined_more xs x found more done same =
     (λ i. done i ++ same i)
-    ∙ sym (ap (flat_map (λ v. v.items)) (map_push deref xs x) ∙ flat_map-append (λ v. v.items) (map deref xs) (x.now ∷ []) ∙ ap (λ l. flat_map (λ v. v.items) (map deref xs) ++ l) (append-nil x.now.items))
+    ∙ sym (
+    ap (flat_map (λ v. v.items)) (map_push deref xs x)
+    ∙ flat_map-append (λ v. v.items) (map deref xs) (x.now ∷ [])
+    ∙ ap (λ l. flat_map (λ v. v.items) (map deref xs) ++ l) (append-nil x.now.items))
 
-pub entry_more : (xs : List (Bor Key × Bor (Vec Record))) (x : Bor Key × Bor (Vec Record)) → listed (map deref_pair (xs ++ x ∷ [])) ≡ listed (map deref_pair xs) ++ x.1.now.items
+pub entry_more : (xs : List (Bor Key × Bor (Vec Record))) (x : Bor Key × Bor (Vec Record))
+    → listed (map deref_pair (xs ++ x ∷ [])) ≡ listed (map deref_pair xs) ++ x.1.now.items
 entry_more xs x =
     ap listed (map_push deref_pair xs x) ∙ ap (flat_map (λ v. v.items)) (map_push (λ e. e.1) (map deref_pair xs) (deref_pair x))
-    ∙ flat_map-append (λ v. v.items) (values_of (map deref_pair xs)) (x.1.now ∷ []) ∙ ap (λ l. listed (map deref_pair xs) ++ l) (append-nil x.1.now.items)
+    ∙ flat_map-append (λ v. v.items) (values_of (map deref_pair xs)) (x.1.now ∷ [])
+    ∙ ap (λ l. listed (map deref_pair xs) ++ l) (append-nil x.1.now.items)

@@ -63,7 +63,8 @@ tie q r same first second =
 
 -- what adding a record does to the last ones
 module _ (S : Records) (r : Record) where
-  pub last-new : is_new (last S r.key) r ≡ true → (key : Key) → last (insert S r) key ≡ cond (is_eq (key_cmp r.key key)) (Some r) (last S key)
+  pub last-new : is_new (last S r.key) r ≡ true → (key : Key)
+      → last (insert S r) key ≡ cond (is_eq (key_cmp r.key key)) (Some r) (last S key)
   last-new h key =
       elim (is_eq (key_cmp r.key key)) as (λ b. is_eq (key_cmp r.key key) ≡ b → last (insert S r) key ≡ cond b (Some r) (last S key)) [
         | true ↦ λ e. ap (last (insert S r)) (sym (key_cmp-ties r.key key (equal _ e))) ∙ last-fresh S r (new-not_later (last S r.key) r h)
@@ -105,12 +106,14 @@ module _ (S : Records) (r : Record) where
 
   pub new-changes : is_new (last S r.key) r ≡ true → last_records (insert S r) ≡ S → ⊥
   new-changes h e =
-      let there : last S r.key ≡ Some r = ap (λ s. last s r.key) (sym e) ∙ last_of_last_records (insert S r) r.key ∙ last-fresh S r (new-not_later (last S r.key) r h) in
+      let there : last S r.key ≡ Some r =
+      ap (λ s. last s r.key) (sym e) ∙ last_of_last_records (insert S r) r.key ∙ last-fresh S r (new-not_later (last S r.key) r h) in
       false≢true (sym (ap is_lt (tied_itself age_cmp-total r)) ∙ ap (λ o. is_new o r) (sym there) ∙ h)
 
   pub old-stays : last_records S ≡ S → is_new (last S r.key) r ≡ false → last_records (insert S r) ≡ S
   old-stays compact h =
-      same_lasts (last_records (insert S r)) S (compact_lasts (insert S r)) compact (λ key. last_of_last_records (insert S r) key ∙ last-old h key)
+      same_lasts (last_records (insert S r)) S (compact_lasts (insert S r)) compact
+      (λ key. last_of_last_records (insert S r) key ∙ last-old h key)
 
 -- the records of other keys
 module _ (S : Records) (key : Key) where
@@ -129,7 +132,8 @@ module _ (S : Records) (key : Key) where
   pub in_others : (q : Record) → contains S q ≡ true → (q.key ≡ key → ⊥) → contains others q ≡ true
   in_others q h apart =
       let other : not (is_of key q) ≡ true =
-      elim (is_of key q) as (λ b. is_of key q ≡ b → not b ≡ true) [ true ↦ λ e. absurd (apart (is_of-is key q e)) | false ↦ λ _. refl ] refl in
+      elim (is_of key q)
+      as (λ b. is_of key q ≡ b → not b ≡ true) [ true ↦ λ e. absurd (apart (is_of-is key q e)) | false ↦ λ _. refl ] refl in
       contains-others q ∙ both h other
 
   last-others : (q : Key) → (q ≡ key → ⊥) → last others q ≡ last S q
@@ -154,7 +158,8 @@ module _ (S : Records) (key : Key) where
   new_of_others : (r : Record) → r.key ≡ key → is_later (last others r.key) r ≡ false
   new_of_others r of_key = ap (λ o. is_later o r) (ap (last others) of_key ∙ last-others_none)
 
-  pub last-with_last : (o : Option Record) → IfSome o (λ r. r.key ≡ key) → (q : Key) → last (with_last S key o) q ≡ cond (is_eq (key_cmp key q)) o (last S q)
+  pub last-with_last : (o : Option Record) → IfSome o (λ r. r.key ≡ key) → (q : Key)
+      → last (with_last S key o) q ≡ cond (is_eq (key_cmp key q)) o (last S q)
   unfolding with_last
   last-with_last None of_key q =
       elim (is_eq (key_cmp key q)) as (λ b. is_eq (key_cmp key q) ≡ b → last others q ≡ cond b None (last S q)) [
@@ -163,11 +168,13 @@ module _ (S : Records) (key : Key) where
       ] refl
   last-with_last (Some r) of_key q =
       elim (is_eq (key_cmp key q)) as (λ b. is_eq (key_cmp key q) ≡ b → last (insert others r) q ≡ cond b (Some r) (last S q)) [
-        | true ↦ λ e. ap (last (insert others r)) (sym (of_key ∙ key_cmp-ties key q (equal _ e))) ∙ last-fresh others r (new_of_others r of_key)
+        | true ↦ λ e.
+            ap (last (insert others r)) (sym (of_key ∙ key_cmp-ties key q (equal _ e))) ∙ last-fresh others r (new_of_others r of_key)
         | false ↦ λ e. last-other others r q (ap (λ k. is_eq (key_cmp k q)) of_key ∙ e) ∙ last-others q (apart_by q e)
       ] refl
 
-  pub compact-with_last : last_records S ≡ S → (o : Option Record) → IfSome o (λ r. r.key ≡ key) → last_records (with_last S key o) ≡ with_last S key o
+  pub compact-with_last : last_records S ≡ S → (o : Option Record)
+      → IfSome o (λ r. r.key ≡ key) → last_records (with_last S key o) ≡ with_last S key o
   unfolding with_last
   compact-with_last compact None of_key =
       compact_from others (λ q h. last-others q.key (apart_in_others q h) ∙ last_there S compact q (from_others q h))
@@ -183,7 +190,8 @@ module _ (S : Records) (key : Key) where
       last-other others r q.key apart ∙ last-others q.key (apart_in_others q there) ∙ last_there S compact q (from_others q there))
       (in_insert others r q h))
 
-pub is_new-from_change : (S : Records) (r : Record) → last_records S ≡ S → (last_records (insert S r) ≡ S → ⊥) → is_new (last S r.key) r ≡ true
+pub is_new-from_change : (S : Records) (r : Record) → last_records S ≡ S
+    → (last_records (insert S r) ≡ S → ⊥) → is_new (last S r.key) r ≡ true
 is_new-from_change S r compact changes =
     elim (is_new (last S r.key) r) as (λ b. is_new (last S r.key) r ≡ b → b ≡ true) [
       | true ↦ λ _. refl
@@ -201,7 +209,8 @@ there-inserted S r =
     ] refl)
 
 -- where S and T differ in the last record of one key alone, that of S makes T be S
-pub taken_back : (S T : Records) (key : Key) (o w : Option Record) → last_records S ≡ S → last_records T ≡ T → IfSome o (λ r. r.key ≡ key) → o ≡ last S key → ((q : Key) → last T q ≡ cond (is_eq (key_cmp key q)) w (last S q)) → with_last T key o ≡ S
+pub taken_back : (S T : Records) (key : Key) (o w : Option Record) → last_records S ≡ S → last_records T ≡ T → IfSome o (λ r. r.key ≡ key)
+    → o ≡ last S key → ((q : Key) → last T q ≡ cond (is_eq (key_cmp key q)) w (last S q)) → with_last T key o ≡ S
 taken_back S T key o w s t of_key before after =
     same_lasts (with_last T key o) S (compact-with_last T key t o of_key) s (λ q. last-with_last T key o of_key q
     ∙ elim (is_eq (key_cmp key q)) as (λ b. is_eq (key_cmp key q) ≡ b → cond b o (last T q) ≡ last S q) [

@@ -26,7 +26,9 @@ age_cmp-total = then_total (on_total (λ r. r.offset) nat_cmp_total) (on_total (
 
 pub record_cmp-total : IsTotalOrder record_cmp
 unfolding record_cmp
-record_cmp-total = then_total (on_total (λ r. r.offset) nat_cmp_total) (then_total (on_total (λ r. r.key) key_cmp-total) (on_total (λ r. r.value) value_cmp-total))
+record_cmp-total =
+    then_total (on_total (λ r. r.offset) nat_cmp_total)
+    (then_total (on_total (λ r. r.key) key_cmp-total) (on_total (λ r. r.value) value_cmp-total))
 
 -- two orders one after the other tie where both do
 then_ties : (a b : Ordering) → ordering_then a b ≡ Equal → (a ≡ Equal) × (b ≡ Equal)

@@ -30,7 +30,8 @@ all_at p (x ∷ xs) (suc i) d all h = all_at p xs i d (second_of _ _ all) (omega
 abbrev is_before : Record → Record → Bool
 is_before r q = is_lt (record_cmp q r)
 
-before_up_to : (r : Record) (xs : List Record) (i : ℕ) (d : Record) → is_in_order xs ≡ true → i < length xs → is_before r (get_or xs i d) ≡ true → list_all (is_before r) (take (suc i) xs) ≡ true
+before_up_to : (r : Record) (xs : List Record) (i : ℕ) (d : Record) → is_in_order xs ≡ true
+    → i < length xs → is_before r (get_or xs i d) ≡ true → list_all (is_before r) (take (suc i) xs) ≡ true
 before_up_to r [] i d ordered h one = absurd (omega arith)
 before_up_to r (x ∷ xs) zero d ordered h one = both one refl
 before_up_to r (x ∷ xs) (suc i) d ordered h one =
@@ -39,7 +40,8 @@ before_up_to r (x ∷ xs) (suc i) d ordered h one =
     both first (before_up_to r xs i d (second_of _ _ ordered) (omega arith) one)
 
 -- what stands before a record that stands before r does too
-pub front_is_before : (r : Record) (xs : List Record) (i : ℕ) (d : Record) → is_in_order xs ≡ true → i < length xs → is_lt (record_cmp (get_or xs i d) r) ≡ true → list_all (λ q. is_lt (record_cmp q r)) (take (i + 1) xs) ≡ true
+pub front_is_before : (r : Record) (xs : List Record) (i : ℕ) (d : Record) → is_in_order xs ≡ true → i < length xs
+    → is_lt (record_cmp (get_or xs i d) r) ≡ true → list_all (λ q. is_lt (record_cmp q r)) (take (i + 1) xs) ≡ true
 front_is_before r xs i d ordered h one = rw add-one (before_up_to r xs i d ordered h one)
 
 abbrev is_after : Record → Record → Bool
@@ -52,11 +54,13 @@ back_in_order : (front back : List Record) → is_in_order (front ++ back) ≡ t
 back_in_order [] back h = h
 back_in_order (x ∷ front) back h = back_in_order front back (second_of _ _ h)
 
-all_between : (p : Record → Bool) (front back : List Record) (r : Record) → list_all p (front ++ back) ≡ true → p r ≡ true → list_all p (front ++ r ∷ back) ≡ true
+all_between : (p : Record → Bool) (front back : List Record) (r : Record)
+    → list_all p (front ++ back) ≡ true → p r ≡ true → list_all p (front ++ r ∷ back) ≡ true
 all_between p [] back r all one = both one all
 all_between p (x ∷ front) back r all one = both (first_of _ _ all) (all_between p front back r (second_of _ _ all) one)
 
-any_between : (p : Record → Bool) (front back : List Record) (r : Record) → list_any p (front ++ r ∷ back) ≡ (p r || list_any p (front ++ back))
+any_between : (p : Record → Bool) (front back : List Record) (r : Record)
+    → list_any p (front ++ r ∷ back) ≡ (p r || list_any p (front ++ back))
 any_between p [] back r = refl
 any_between p (x ∷ front) back r = ap (λ b. p x || b) (any_between p front back r) ∙ swapped (p x) (p r) (list_any p (front ++ back))
   where
@@ -66,10 +70,12 @@ any_between p (x ∷ front) back r = ap (λ b. p x || b) (any_between p front ba
     swapped false b c = refl
 
 -- a record between those that stand before it and those that stand after it
-between_in_order : (front back : List Record) (r : Record) → is_in_order (front ++ back) ≡ true → list_all (is_before r) front ≡ true → list_all (is_after r) back ≡ true → is_in_order (front ++ r ∷ back) ≡ true
+between_in_order : (front back : List Record) (r : Record) → is_in_order (front ++ back) ≡ true
+    → list_all (is_before r) front ≡ true → list_all (is_after r) back ≡ true → is_in_order (front ++ r ∷ back) ≡ true
 between_in_order [] back r ordered before after = both after ordered
 between_in_order (x ∷ front) back r ordered before after =
-    both (all_between (is_after x) front back r (first_of _ _ ordered) (first_of _ _ before)) (between_in_order front back r (second_of _ _ ordered) (second_of _ _ before) after)
+    both (all_between (is_after x) front back r (first_of _ _ ordered) (first_of _ _ before))
+    (between_in_order front back r (second_of _ _ ordered) (second_of _ _ before) after)
 
 none_before : (r : Record) (front : List Record) → list_all (is_before r) front ≡ true → list_any (is_same r) front ≡ false
 none_before r [] h = refl
@@ -84,7 +90,8 @@ after_it r q Equal e not_before apart = absurd (false≢true (sym apart))
 after_it r q Greater e not_before apart = absurd (false≢true (sym not_before ∙ ap is_lt (turned r q Greater e)))
 
 -- r is among those in order that don't stand before it only where it is the first
-first_or_none : (r q : Record) (qs : List Record) → is_in_order (q ∷ qs) ≡ true → is_before r q ≡ false → list_any (is_same r) (q ∷ qs) ≡ is_same r q
+first_or_none : (r q : Record) (qs : List Record) → is_in_order (q ∷ qs) ≡ true
+    → is_before r q ≡ false → list_any (is_same r) (q ∷ qs) ≡ is_same r q
 first_or_none r q qs ordered not_before =
     elim (is_same r q) as (λ b. is_same r q ≡ b → (b || list_any (is_same r) qs) ≡ b) [
       | true ↦ λ _. refl
@@ -93,7 +100,8 @@ first_or_none r q qs ordered not_before =
           none_of_later r r qs (tied_itself record_cmp-total r) (before_all r q qs after (first_of _ _ ordered))
     ] refl
 
-pub all_after : (r : Record) (back : List Record) → is_in_order back ≡ true → list_any (is_before r) back ≡ false → list_any (is_same r) back ≡ false → list_all (is_after r) back ≡ true
+pub all_after : (r : Record) (back : List Record) → is_in_order back ≡ true
+    → list_any (is_before r) back ≡ false → list_any (is_same r) back ≡ false → list_all (is_after r) back ≡ true
 all_after r [] ordered not_before apart = refl
 all_after r (q ∷ qs) ordered not_before apart =
     let after = after_it r q _ refl (neither_left _ _ not_before) (neither_left _ _ apart) in
@@ -110,20 +118,26 @@ module _ (r : Record) (rs : List Record) (n : ℕ) where
   -- r is in the list where it is what stands from its place on
   pub any_from_place : list_all (is_before r) (take n rs) ≡ true → list_any (is_same r) rs ≡ list_any (is_same r) (drop n rs)
   any_from_place before =
-      ap (list_any (is_same r)) (sym parted) ∙ list_any-append (is_same r) (take n rs) (drop n rs) ∙ ap (λ b. b || list_any (is_same r) (drop n rs)) (none_before r (take n rs) before)
+      ap (list_any (is_same r)) (sym parted)
+      ∙ list_any-append (is_same r) (take n rs) (drop n rs)
+      ∙ ap (λ b. b || list_any (is_same r) (drop n rs)) (none_before r (take n rs) before)
 
-  pub any_at_place : (q : Record) → n < length rs → q ≡ get_or rs n q → is_in_order rs ≡ true → list_any (is_before r) (drop n rs) ≡ false → list_any (is_same r) (drop n rs) ≡ is_same r q
+  pub any_at_place : (q : Record) → n < length rs → q ≡ get_or rs n q → is_in_order rs ≡ true
+      → list_any (is_before r) (drop n rs) ≡ false → list_any (is_same r) (drop n rs) ≡ is_same r q
   any_at_place q within here ordered not_before =
       let next : drop n rs ≡ q ∷ drop (n + 1) rs = drop_more rs n q within ∙ ap (λ x. x ∷ drop (n + 1) rs) (sym here) in
       let first = neither_left (is_before r q) _ (sym (ap (list_any (is_before r)) next) ∙ not_before) in
       ap (list_any (is_same r)) next ∙ first_or_none r q (drop (n + 1) rs) (sym (ap is_in_order next) ∙ rest_in_order ordered) first
 
-  pub insert_in_order : is_in_order rs ≡ true → list_all (is_before r) (take n rs) ≡ true → list_any (is_before r) (drop n rs) ≡ false → list_any (is_same r) rs ≡ false → is_in_order (insert rs n r) ≡ true
+  pub insert_in_order : is_in_order rs ≡ true → list_all (is_before r) (take n rs) ≡ true
+      → list_any (is_before r) (drop n rs) ≡ false → list_any (is_same r) rs ≡ false → is_in_order (insert rs n r) ≡ true
   insert_in_order ordered before not_before apart =
-      between_in_order (take n rs) (drop n rs) r (ap is_in_order parted ∙ ordered) before (all_after r (drop n rs) (rest_in_order ordered) not_before (sym (any_from_place before) ∙ apart))
+      between_in_order (take n rs) (drop n rs) r (ap is_in_order parted ∙ ordered) before
+      (all_after r (drop n rs) (rest_in_order ordered) not_before (sym (any_from_place before) ∙ apart))
 
   -- inserted at its place, it is placed
-  pub insert-placed : is_in_order rs ≡ true → list_all (is_before r) (take n rs) ≡ true → list_any (is_before r) (drop n rs) ≡ false → list_any (is_same r) rs ≡ false → insert rs n r ≡ placed r rs
+  pub insert-placed : is_in_order rs ≡ true → list_all (is_before r) (take n rs) ≡ true
+      → list_any (is_before r) (drop n rs) ≡ false → list_any (is_same r) rs ≡ false → insert rs n r ≡ placed r rs
   insert-placed ordered before not_before apart =
       one_order (insert rs n r) (placed r rs) (insert_in_order ordered before not_before apart) (is_in_order-placed r rs ordered) (λ q.
       any_between (is_same q) (take n rs) (drop n rs) r ∙ ap (λ b. is_same q r || b) (ap (list_any (is_same q)) parted)
@@ -150,7 +164,8 @@ pub not_all_before : (r : Record) (rs : List Record) → list_any (is_same r) rs
 not_all_before r rs there all = false≢true (ap is_lt (sym (tied_itself record_cmp-total r)) ∙ at_any (is_before r) r rs all there)
 
 -- what does not stand before r has none that does after it
-none_after : (r x : Record) (xs : List Record) → list_all (λ q. is_lt (record_cmp x q)) xs ≡ true → is_before r x ≡ false → list_any (is_before r) xs ≡ false
+none_after : (r x : Record) (xs : List Record) → list_all (λ q. is_lt (record_cmp x q)) xs ≡ true
+    → is_before r x ≡ false → list_any (is_before r) xs ≡ false
 none_after r x [] later not_before = refl
 none_after r x (q ∷ qs) later not_before =
     let one : is_before r q ≡ false =
@@ -161,7 +176,8 @@ none_after r x (q ∷ qs) later not_before =
     ap (λ b. b || list_any (is_before r) qs) one ∙ none_after r x qs (second_of _ _ later) not_before
 
 -- a record that does not stand before r, and what stands after it
-pub none_before_from : (r : Record) (xs : List Record) (i : ℕ) (d : Record) → is_in_order xs ≡ true → i < length xs → is_lt (record_cmp (get_or xs i d) r) ≡ false → list_any (λ q. is_lt (record_cmp q r)) (drop i xs) ≡ false
+pub none_before_from : (r : Record) (xs : List Record) (i : ℕ) (d : Record) → is_in_order xs ≡ true → i < length xs
+    → is_lt (record_cmp (get_or xs i d) r) ≡ false → list_any (λ q. is_lt (record_cmp q r)) (drop i xs) ≡ false
 none_before_from r [] i d ordered h one = absurd (omega arith)
 none_before_from r (x ∷ xs) zero d ordered h one =
     ap (λ b. b || list_any (is_before r) xs) one ∙ none_after r x xs (first_of _ _ ordered) one

@@ -18,7 +18,9 @@ module _ (S : Records) (r : Record) where
   in_removed : (q : Record) → contains S q ≡ true → (q ≡ r → ⊥) → contains (remove S r) q ≡ true
   in_removed q h apart =
       let other : not (eq_by_cmp record_cmp q r) ≡ true =
-      elim (eq_by_cmp record_cmp q r) as (λ b. eq_by_cmp record_cmp q r ≡ b → not b ≡ true) [ true ↦ λ e. absurd (apart (record_cmp-ties q r (equal _ e))) | false ↦ λ _. refl ] refl in
+      elim (eq_by_cmp record_cmp q r)
+      as (λ b. eq_by_cmp record_cmp q r ≡ b
+      → not b ≡ true) [ true ↦ λ e. absurd (apart (record_cmp-ties q r (equal _ e))) | false ↦ λ _. refl ] refl in
       contains-remove record_cmp-total S r q ∙ both other h
 
   from_removed : (q : Record) → contains (remove S r) q ≡ true → contains S q ≡ true
@@ -54,8 +56,10 @@ module _ (S : Records) (r : Record) where
     pub one_lost : LosesAtMost r S (with_last S r.key None)
     one_lost key =
         let after = last-with_last S r.key None tt key in
-        elim (is_eq (key_cmp r.key key)) as (λ b. is_eq (key_cmp r.key key) ≡ b → (last (with_last S r.key None) key ≡ last S key) ⊎ ((last S key ≡ Some r) × (last (with_last S r.key None) key ≡ None))) [
-          | true ↦ λ e. inr (ap (last S) (sym (key_cmp-ties r.key key (equal _ e))) ∙ its_last, after ∙ ap (λ b. cond b None (last S key)) e)
+        elim (is_eq (key_cmp r.key key)) as (λ b. is_eq (key_cmp r.key key) ≡ b
+        → (last (with_last S r.key None) key ≡ last S key) ⊎ ((last S key ≡ Some r) × (last (with_last S r.key None) key ≡ None))) [
+          | true ↦ λ e.
+              inr (ap (last S) (sym (key_cmp-ties r.key key (equal _ e))) ∙ its_last, after ∙ ap (λ b. cond b None (last S key)) e)
           | false ↦ λ e. inl (after ∙ ap (λ b. cond b None (last S key)) e)
         ] refl
 

@@ -44,7 +44,8 @@ any_either p xs ys h = or_case (list_any p xs) (list_any p ys) (sym (list_any-ap
 abbrev is_among : Key → List Record → Bool
 is_among key rs = list_any (λ b. eq_by_cmp key_cmp key b.key) rs
 
-module _ (order : IsTotalOrder record_cmp) (apart : IsAntisymmetric record_cmp) (keys : IsTotalOrder key_cmp) (keys_apart : IsAntisymmetric key_cmp)
+module _ (order : IsTotalOrder record_cmp) (apart : IsAntisymmetric record_cmp)
+    (keys : IsTotalOrder key_cmp) (keys_apart : IsAntisymmetric key_cmp)
     (greatest : LastIsGreatest) (of_union : LastOfUnion) (of_lasts : LastOfLastRecords) where
   same_key : (k l : Key) → eq_by_cmp key_cmp k l ≡ true → k ≡ l
   same_key k l h = keys_apart k l ((Equal-is (key_cmp k l)).0 h)
@@ -57,7 +58,8 @@ module _ (order : IsTotalOrder record_cmp) (apart : IsAntisymmetric record_cmp) 
   ]
 
   -- the last records of the batch's keys are last ones
-  were_last : (lasts : Records) (rs : List Record) (q : Record) → list_any (eq_by_cmp record_cmp q) (lasts_at lasts rs) ≡ true → contains lasts q ≡ true
+  were_last : (lasts : Records) (rs : List Record) (q : Record)
+      → list_any (eq_by_cmp record_cmp q) (lasts_at lasts rs) ≡ true → contains lasts q ≡ true
   were_last lasts [] q h = absurd (false≢true h)
   were_last lasts (r ∷ rs) q h = elim (any_either (eq_by_cmp record_cmp q) (option_to_list (last lasts r.key)) (lasts_at lasts rs) h) [
     | inl here ↦ ((greatest lasts r.key q).0 (one_of (last lasts r.key) q here)).is_in_set
@@ -65,13 +67,15 @@ module _ (order : IsTotalOrder record_cmp) (apart : IsAntisymmetric record_cmp) 
   ]
 
   -- the last record of one of the batch's keys is one of them
-  is_listed : (lasts : Records) (rs : List Record) (q : Record) → last lasts q.key ≡ Some q → is_among q.key rs ≡ true → list_any (eq_by_cmp record_cmp q) (lasts_at lasts rs) ≡ true
+  is_listed : (lasts : Records) (rs : List Record) (q : Record) → last lasts q.key ≡ Some q
+      → is_among q.key rs ≡ true → list_any (eq_by_cmp record_cmp q) (lasts_at lasts rs) ≡ true
   is_listed lasts [] q is h = absurd (false≢true h)
   is_listed lasts (r ∷ rs) q is h = elim (or_case (eq_by_cmp key_cmp q.key r.key) (is_among q.key rs) h) [
     | inl here ↦
         let there : last lasts r.key ≡ Some q = ap (last lasts) (sym (same_key q.key r.key here)) ∙ is in
         any_left (eq_by_cmp record_cmp q) (option_to_list (last lasts r.key)) (lasts_at lasts rs)
-        (ap (λ o. list_any (eq_by_cmp record_cmp q) (option_to_list o)) there ∙ left_true (eq_by_cmp record_cmp q q) false (itself order apart q))
+        (ap (λ o. list_any (eq_by_cmp record_cmp q) (option_to_list o)) there
+        ∙ left_true (eq_by_cmp record_cmp q q) false (itself order apart q))
     | inr rest ↦ any_right (eq_by_cmp record_cmp q) (option_to_list (last lasts r.key)) (lasts_at lasts rs) (is_listed lasts rs q is rest)
   ]
 
@@ -82,7 +86,8 @@ module _ (order : IsTotalOrder record_cmp) (apart : IsAntisymmetric record_cmp) 
   has_key : (rs : List Record) (b : Record) → list_any (eq_by_cmp record_cmp b) rs ≡ true → is_among b.key rs ≡ true
   has_key [] b h = absurd (false≢true h)
   has_key (r ∷ rs) b h = elim (or_case (eq_by_cmp record_cmp b r) (list_any (eq_by_cmp record_cmp b) rs) h) [
-    | inl e ↦ left_true (eq_by_cmp key_cmp b.key r.key) (is_among b.key rs) (ap (λ (x : Record). eq_by_cmp key_cmp b.key x.key) (sym (equal order apart b r e)) ∙ key_itself b.key)
+    | inl e ↦ left_true (eq_by_cmp key_cmp b.key r.key) (is_among b.key rs)
+        (ap (λ (x : Record). eq_by_cmp key_cmp b.key x.key) (sym (equal order apart b r e)) ∙ key_itself b.key)
     | inr rest ↦ right (eq_by_cmp key_cmp b.key r.key) (is_among b.key rs) (has_key rs b rest)
   ]
 
@@ -92,7 +97,8 @@ module _ (order : IsTotalOrder record_cmp) (apart : IsAntisymmetric record_cmp) 
     | None ↦ λ _. refl
     | Some b ↦ λ is.
         let g = (greatest (from_list rs) key b).0 is in
-        absurd (false≢true (sym none ∙ (ap (λ k. is_among k rs) (sym g.is_of_key) ∙ has_key rs b (sym (in_list order apart rs b) ∙ g.is_in_set))))
+        absurd (
+        false≢true (sym none ∙ (ap (λ k. is_among k rs) (sym g.is_of_key) ∙ has_key rs b (sym (in_list order apart rs b) ∙ g.is_in_set))))
   ] refl
 
   -- a last record is the last one of its key
@@ -107,9 +113,11 @@ module _ (order : IsTotalOrder record_cmp) (apart : IsAntisymmetric record_cmp) 
   is_last_one : (s : Records) (q : Record) → contains s q ≡ true → last s q.key ≡ Some q → contains (last_records s) q ≡ true
   unfolding is_last
   is_last_one s q here is =
-      in_lasts order apart s q ∙ (ap (λ b. b && is_last s q) here ∙ (ap (λ o. option_map_or (eq_by_cmp record_cmp q) o false) is ∙ itself order apart q))
+      in_lasts order apart s q
+      ∙ (ap (λ b. b && is_last s q) here ∙ (ap (λ o. option_map_or (eq_by_cmp record_cmp q) o false) is ∙ itself order apart q))
 
-  module _ (whole lasts after : Records) (older batch : List Record) (kept_is : whole ≡ kept_of lasts older) (lasts_are : lasts ≡ last_records whole)
+  module _ (whole lasts after : Records) (older batch : List Record)
+      (kept_is : whole ≡ kept_of lasts older) (lasts_are : lasts ≡ last_records whole)
       (after_are : after ≡ last_records (union whole (from_list batch))) where
     abbrev pub more : List Record
     more = older ++ (lasts_at lasts batch ++ batch)
@@ -117,23 +125,30 @@ module _ (order : IsTotalOrder record_cmp) (apart : IsAntisymmetric record_cmp) 
     in_whole : (q : Record) → contains whole q ≡ (contains lasts q || contains (from_list {R = record_cmp} older) q)
     in_whole q = ap (λ (s : Records). contains s q) kept_is ∙ is_kept order apart lasts older q
 
-    in_union : (q : Record) → contains (union whole (from_list batch)) q ≡ (contains whole q || contains (from_list {R = record_cmp} batch) q)
+    in_union : (q : Record)
+        → contains (union whole (from_list batch)) q ≡ (contains whole q || contains (from_list {R = record_cmp} batch) q)
     in_union q = contains-union order whole (from_list batch) q
 
     was_whole : (q : Record) → contains lasts q ≡ true → contains (union whole (from_list batch)) q ≡ true
     was_whole q h = in_union q ∙ left_true (contains whole q) _ (in_whole q ∙ left_true (contains lasts q) _ h)
 
     there : (q : Record) → contains (kept_of after more) q ≡ true → contains (union whole (from_list batch)) q ≡ true
-    there q h = elim (or_case (contains after q) (contains (from_list {R = record_cmp} more) q) (sym (is_kept order apart after more q) ∙ h)) [
-      | inl last ↦ (both_parts (contains (union whole (from_list batch)) q) (is_last (union whole (from_list batch)) q) (sym (in_lasts order apart (union whole (from_list batch)) q) ∙ (ap (λ (s : Records). contains s q) (sym after_are) ∙ last))).0
-      | inr listed ↦ elim (any_either (eq_by_cmp record_cmp q) older (lasts_at lasts batch ++ batch) (sym (in_list order apart more q) ∙ listed)) [
-        | inl old ↦ in_union q ∙ left_true (contains whole q) _ (in_whole q ∙ right (contains lasts q) _ (in_list order apart older q ∙ old))
-        | inr new ↦ elim (any_either (eq_by_cmp record_cmp q) (lasts_at lasts batch) batch new) [
-          | inl was ↦ was_whole q (were_last lasts batch q was)
-          | inr is ↦ in_union q ∙ right (contains whole q) _ (in_list order apart batch q ∙ is)
+    there q h =
+        elim (or_case (contains after q) (contains (from_list {R = record_cmp} more) q) (sym (is_kept order apart after more q) ∙ h)) [
+          | inl last ↦ (
+              both_parts (contains (union whole (from_list batch)) q) (is_last (union whole (from_list batch)) q)
+              (sym (in_lasts order apart (union whole (from_list batch)) q)
+              ∙ (ap (λ (s : Records). contains s q) (sym after_are) ∙ last))).0
+          | inr listed ↦ elim (
+              any_either (eq_by_cmp record_cmp q) older (lasts_at lasts batch ++ batch) (sym (in_list order apart more q) ∙ listed)) [
+                | inl old ↦ in_union q
+                    ∙ left_true (contains whole q) _ (in_whole q ∙ right (contains lasts q) _ (in_list order apart older q ∙ old))
+                | inr new ↦ elim (any_either (eq_by_cmp record_cmp q) (lasts_at lasts batch) batch new) [
+                  | inl was ↦ was_whole q (were_last lasts batch q was)
+                  | inr is ↦ in_union q ∙ right (contains whole q) _ (in_list order apart batch q ∙ is)
+                ]
+              ]
         ]
-      ]
-    ]
 
     listed : (q : Record) → list_any (eq_by_cmp record_cmp q) more ≡ true → contains (kept_of after more) q ≡ true
     listed q h = is_kept order apart after more q ∙ right (contains after q) _ (in_list order apart more q ∙ h)
@@ -143,23 +158,33 @@ module _ (order : IsTotalOrder record_cmp) (apart : IsAntisymmetric record_cmp) 
         let whole_last : last whole q.key ≡ Some q = last_of whole q (ap (λ (s : Records). contains s q) (sym lasts_are) ∙ h) in
         let its_last : last lasts q.key ≡ Some q = ap (λ s. last s q.key) lasts_are ∙ (of_lasts whole q.key ∙ whole_last) in
         elim (is_among q.key batch) as (λ b. is_among q.key batch ≡ b → contains (kept_of after more) q ≡ true) [
-          | true ↦ λ e. listed q (any_right (eq_by_cmp record_cmp q) older (lasts_at lasts batch ++ batch) (any_left (eq_by_cmp record_cmp q) (lasts_at lasts batch) batch (is_listed lasts batch q its_last e)))
+          | true ↦ λ e.
+              listed q (
+              any_right (eq_by_cmp record_cmp q) older (lasts_at lasts batch ++ batch)
+              (any_left (eq_by_cmp record_cmp q) (lasts_at lasts batch) batch (is_listed lasts batch q its_last e)))
           | false ↦ λ e.
               let still : last (union whole (from_list batch)) q.key ≡ Some q =
-              of_union whole (from_list batch) q.key ∙ (ap (λ o. later o (last (from_list batch) q.key)) whole_last ∙ ap (later (Some q)) (no_last batch q.key e)) in
+              of_union whole (from_list batch) q.key
+              ∙ (ap (λ o. later o (last (from_list batch) q.key)) whole_last ∙ ap (later (Some q)) (no_last batch q.key e)) in
               is_kept order apart after more q
-              ∙ left_true (contains after q) _ (ap (λ (s : Records). contains s q) after_are ∙ is_last_one (union whole (from_list batch)) q (was_whole q h) still)
+              ∙ left_true (contains after q) _
+              (ap (λ (s : Records). contains s q) after_are ∙ is_last_one (union whole (from_list batch)) q (was_whole q h) still)
         ] refl
 
     here : (q : Record) → contains (union whole (from_list batch)) q ≡ true → contains (kept_of after more) q ≡ true
     here q h = elim (or_case (contains whole q) (contains (from_list {R = record_cmp} batch) q) (sym (in_union q) ∙ h)) [
-      | inr new ↦ listed q (any_right (eq_by_cmp record_cmp q) older (lasts_at lasts batch ++ batch) (any_right (eq_by_cmp record_cmp q) (lasts_at lasts batch) batch (sym (in_list order apart batch q) ∙ new)))
+      | inr new ↦ listed q (
+          any_right (eq_by_cmp record_cmp q) older (lasts_at lasts batch ++ batch)
+          (any_right (eq_by_cmp record_cmp q) (lasts_at lasts batch) batch (sym (in_list order apart batch q) ∙ new)))
       | inl old ↦ elim (or_case (contains lasts q) (contains (from_list {R = record_cmp} older) q) (sym (in_whole q) ∙ old)) [
         | inl last ↦ was_last q last
-        | inr among ↦ listed q (any_left (eq_by_cmp record_cmp q) older (lasts_at lasts batch ++ batch) (sym (in_list order apart older q) ∙ among))
+        | inr among ↦ listed q (
+            any_left (eq_by_cmp record_cmp q) older (lasts_at lasts batch ++ batch) (sym (in_list order apart older q) ∙ among))
       ]
     ]
 
     -- what was last before the batch stays kept beside what is last after it
     pub grown_is : kept_of after more ≡ union whole (from_list batch)
-    grown_is = same_set order apart (kept_of after more) (union whole (from_list batch)) (λ q. alike (contains (kept_of after more) q) (contains (union whole (from_list batch)) q) (there q) (here q))
+    grown_is =
+        same_set order apart (kept_of after more) (union whole (from_list batch))
+        (λ q. alike (contains (kept_of after more) q) (contains (union whole (from_list batch)) q) (there q) (here q))

@@ -61,7 +61,8 @@ base_is_kept greatest h = record {
   };
 }
   where
-    in_own : (key : Key) (o : Option Record) → last h.kept.records key ≡ o → IfSome o (λ r. (contains h.kept.records r ≡ true) ⊎ IsGone h.kept.floor h.kept.records r)
+    in_own : (key : Key) (o : Option Record) → last h.kept.records key ≡ o
+        → IfSome o (λ r. (contains h.kept.records r ≡ true) ⊎ IsGone h.kept.floor h.kept.records r)
     in_own key None e = tt
     in_own key (Some r) e = inl ((greatest h.kept.records key r).0 e).is_in_set
 
@@ -69,14 +70,16 @@ pub folds_are_held : FoldsAreHeld
 folds_are_held first is = held_items (base_of first) is
 
 -- where the floor may be set, a compaction may be where its records may leave
-pub may_compact_is : (h : Held) (c : Compaction) (b : Bool) → h.kept.floor ≤ c.floor → c.floor ≤ h.next → may_leave c.floor h.kept.records c.dropped ≡ b → may_compact (base_of h) c ≡ b
+pub may_compact_is : (h : Held) (c : Compaction) (b : Bool) → h.kept.floor ≤ c.floor
+    → c.floor ≤ h.next → may_leave c.floor h.kept.records c.dropped ≡ b → may_compact (base_of h) c ≡ b
 may_compact_is h c b rises ahead may =
     ap (λ x. (x && nat_le c.floor h.next) && may_leave c.floor h.kept.records c.dropped) (le-leb h.kept.floor c.floor rises)
     ∙ ap (λ x. x && may_leave c.floor h.kept.records c.dropped) (le-leb c.floor h.next ahead)
     ∙ may
 
 -- What is stored after an item.
-pub held_dropped : (h : Held) (c : Compaction) (b : Bool) (kept : Floored) → b ≡ true → kept ≡ left_by (base_of h) c → (record { kept = kept; next = h.next; compacted = h.next }) ≡ held_after_compaction b h c
+pub held_dropped : (h : Held) (c : Compaction) (b : Bool) (kept : Floored) → b ≡ true → kept ≡ left_by (base_of h) c
+    → (record { kept = kept; next = h.next; compacted = h.next }) ≡ held_after_compaction b h c
 held_dropped h c true kept e is = ap (λ (k : Floored). let g : Held = record { kept = k; next = h.next; compacted = h.next } in g) is
 held_dropped h c false kept e is = absurd (false≢true e)
 
@@ -85,19 +88,25 @@ held_stays h c false e = refl
 held_stays h c true e = absurd (false≢true (sym e))
 
 pub held_grown : (h : Held) (batch : List Record) (b : Bool) (kept : Records) → b ≡ true → kept ≡ union h.kept.records (from_list batch)
-    → (record { kept = record { records = kept; floor = h.kept.floor }; next = h.next + length batch; compacted = h.compacted }) ≡ held_after_batch b h batch
+    → (record { kept = record { records = kept; floor = h.kept.floor }; next = h.next + length batch; compacted = h.compacted })
+    ≡ held_after_batch b h batch
 held_grown h batch true kept e is =
-    ap (λ (k : Records). let g : Held = record { kept = record { records = k; floor = h.kept.floor }; next = h.next + length batch; compacted = h.compacted } in g) is
+    ap (λ (k : Records).
+    let g : Held =
+    record { kept = record { records = k; floor = h.kept.floor }; next = h.next + length batch; compacted = h.compacted } in
+    g) is
 held_grown h batch false kept e is = absurd (false≢true e)
 
 -- What is held once what is due is taken in.
-pub held_begun : (rs : List Record) (next floor : ℕ) (plain begun : Held) (due : List Record) → plain ≡ held_of (plain_topic rs next floor) → due ≡ adopting (last_records (from_list rs)) next
+pub held_begun : (rs : List Record) (next floor : ℕ) (plain begun : Held) (due : List Record)
+    → plain ≡ held_of (plain_topic rs next floor) → due ≡ adopting (last_records (from_list rs)) next
     → begun ≡ held_after_batch (follows plain.next due) plain due → begun ≡ held_of (topic_from rs next floor)
 unfolding topic_from
 held_begun rs next floor plain begun due is owes taken =
     let owed : List Record = adopting (last_records (from_list rs)) next in
     let first : Held = held_of (plain_topic rs next floor) in
-    let same : held_after_batch (follows plain.next due) plain due ≡ held_after_batch (follows next owed) first owed = λ i. held_after_batch (follows (is i).next (owes i)) (is i) (owes i) in
+    let same : held_after_batch (follows plain.next due) plain due ≡ held_after_batch (follows next owed) first owed =
+    λ i. held_after_batch (follows (is i).next (owes i)) (is i) (owes i) in
     taken ∙ same ∙ held_batch (follows next owed) (plain_topic rs next floor) owed
 
 pub goes : (next : ℕ) (batch : List Record) → follows next batch ≡ true → goes_on next batch ≡ true
@@ -126,21 +135,28 @@ either true b h = inl refl
 either false b h = inr h
 
 module _ (order : IsTotalOrder record_cmp) (apart : IsAntisymmetric record_cmp) where
-  above : (n : ℕ) (rs : List Record) → AllByRecursion (λ r. n ≤ r.offset) rs → (q : Record) → list_any (eq_by_cmp record_cmp q) rs ≡ true → n ≤ q.offset
+  above : (n : ℕ) (rs : List Record) → AllByRecursion (λ r. n ≤ r.offset) rs
+      → (q : Record) → list_any (eq_by_cmp record_cmp q) rs ≡ true → n ≤ q.offset
   above n [] all q any = absurd (false≢true any)
   above n (r ∷ rs) all q any = elim (either (eq_by_cmp record_cmp q r) (list_any (eq_by_cmp record_cmp q) rs) any) [
     | inl e ↦ omega (arith, all.0, ap (λ (x : Record). x.offset) (equal order apart q r e))
     | inr rest ↦ above n rs all.1 q rest
   ]
 
-  news_batch : (b : Bool) (t : Topic) (batch : List Record) (r : Record) → (b ≡ true → goes_on t.next batch ≡ true) → contains (after_batch b t batch).log r ≡ true → (contains t.log r ≡ true) ⊎ (t.next ≤ r.offset)
+  news_batch : (b : Bool) (t : Topic) (batch : List Record) (r : Record) → (b ≡ true → goes_on t.next batch ≡ true)
+      → contains (after_batch b t batch).log r ≡ true → (contains t.log r ≡ true) ⊎ (t.next ≤ r.offset)
   news_batch false t batch r goes h = inl h
-  news_batch true t batch r goes h = elim (either (contains t.log r) (contains (from_list {R = record_cmp} batch) r) (sym (contains-union order t.log (from_list batch) r) ∙ h)) as (λ _. (contains t.log r ≡ true) ⊎ (t.next ≤ r.offset)) [
-    | inl old ↦ inl old
-    | inr new ↦ inr (above t.next batch (goes_on_is t.next batch (goes refl)).above r (sym (contains-from_list order batch r) ∙ new))
-  ]
+  news_batch true t batch r goes h =
+      elim (
+      either (contains t.log r) (contains (from_list {R = record_cmp} batch) r)
+      (sym (contains-union order t.log (from_list batch) r) ∙ h))
+      as (λ _. (contains t.log r ≡ true) ⊎ (t.next ≤ r.offset)) [
+        | inl old ↦ inl old
+        | inr new ↦ inr (above t.next batch (goes_on_is t.next batch (goes refl)).above r (sym (contains-from_list order batch r) ∙ new))
+      ]
 
-  news_compaction : (b : Bool) (t : Topic) (c : Compaction) (r : Record) → contains (after_compaction b t c).log r ≡ true → contains t.log r ≡ true
+  news_compaction : (b : Bool) (t : Topic) (c : Compaction) (r : Record)
+      → contains (after_compaction b t c).log r ≡ true → contains t.log r ≡ true
   news_compaction true t c r h = h
   news_compaction false t c r h = h
 

@@ -73,20 +73,28 @@ all_same p q same [] = refl
 all_same p q same (x ∷ xs) = ap (λ b. b && list_all p xs) (same x) ∙ ap (λ b. q x && b) (all_same p q same xs)
 
 module _ (order : IsTotalOrder record_cmp) (apart : IsAntisymmetric record_cmp) where
-  pub is_kept : (lasts : Records) (older : List Record) (q : Record) → contains (kept_of lasts older) q ≡ (contains lasts q || contains (from_list {R = record_cmp} older) q)
+  pub is_kept : (lasts : Records) (older : List Record) (q : Record)
+      → contains (kept_of lasts older) q ≡ (contains lasts q || contains (from_list {R = record_cmp} older) q)
   is_kept lasts older q = contains-union order lasts (from_list older) q
 
-  pub since_is : (lasts : Records) (older by_offset found : List Record) (from : ℕ) → ((r : Record) → contains (kept_of lasts older) r ≡ true → contains (from_list {R = record_cmp} by_offset) r ≡ true)
-      → found ≡ filter (λ r. contains lasts r || contains (from_list {R = record_cmp} older) r) (filter (λ q. nat_le from q.offset) by_offset) → IsSince (kept_of lasts older) from found
+  pub since_is : (lasts : Records) (older by_offset found : List Record) (from : ℕ)
+      → ((r : Record) → contains (kept_of lasts older) r ≡ true → contains (from_list {R = record_cmp} by_offset) r ≡ true)
+      → found
+      ≡ filter (λ r. contains lasts r || contains (from_list {R = record_cmp} older) r) (filter (λ q. nat_le from q.offset) by_offset)
+      → IsSince (kept_of lasts older) from found
   since_is lasts older by_offset found from among is = λ r.
       ap (λ l. contains (from_list {R = record_cmp} l) r) is
-      ∙ filtered order apart (λ q. contains lasts q || contains (from_list {R = record_cmp} older) q) (filter (λ q. nat_le from q.offset) by_offset) r
-      ∙ ap (λ b. b && (contains lasts r || contains (from_list {R = record_cmp} older) r)) (filtered order apart (λ q. nat_le from q.offset) by_offset r)
+      ∙ filtered order apart (λ q. contains lasts q || contains (from_list {R = record_cmp} older) q)
+      (filter (λ q. nat_le from q.offset) by_offset) r
+      ∙ ap (λ b. b && (contains lasts r || contains (from_list {R = record_cmp} older) r))
+      (filtered order apart (λ q. nat_le from q.offset) by_offset r)
       ∙ ap (λ b. (contains (from_list {R = record_cmp} by_offset) r && nat_le from r.offset) && b) (sym (is_kept lasts older r))
       ∙ found_kept (contains (from_list {R = record_cmp} by_offset) r) (nat_le from r.offset) (contains (kept_of lasts older) r) (among r)
 
-  pub below_is : (lasts : Records) (older by_offset found : List Record) (upto : ℕ) → ((r : Record) → contains (kept_of lasts older) r ≡ true → contains (from_list {R = record_cmp} by_offset) r ≡ true)
-      → found ≡ filter (λ r. nat_lt r.offset upto && (contains lasts r || contains (from_list {R = record_cmp} older) r)) by_offset → IsBelow (kept_of lasts older) upto found
+  pub below_is : (lasts : Records) (older by_offset found : List Record) (upto : ℕ)
+      → ((r : Record) → contains (kept_of lasts older) r ≡ true → contains (from_list {R = record_cmp} by_offset) r ≡ true)
+      → found ≡ filter (λ r. nat_lt r.offset upto && (contains lasts r || contains (from_list {R = record_cmp} older) r)) by_offset
+      → IsBelow (kept_of lasts older) upto found
   below_is lasts older by_offset found upto among is = λ r.
       ap (λ l. contains (from_list {R = record_cmp} l) r) is
       ∙ filtered order apart (λ q. nat_lt q.offset upto && (contains lasts q || contains (from_list {R = record_cmp} older) q)) by_offset r
@@ -94,33 +102,40 @@ module _ (order : IsTotalOrder record_cmp) (apart : IsAntisymmetric record_cmp) 
       ∙ found_below (contains (from_list {R = record_cmp} by_offset) r) (nat_lt r.offset upto) (contains (kept_of lasts older) r) (among r)
 
   -- what is older among some records, beside their last ones
-  pub adopted_is : (lasts : Records) (rs : List Record) → lasts ≡ last_records (from_list rs) → kept_of lasts (filter (λ r. not (contains lasts r)) rs) ≡ from_list rs
+  pub adopted_is : (lasts : Records) (rs : List Record) → lasts ≡ last_records (from_list rs)
+      → kept_of lasts (filter (λ r. not (contains lasts r)) rs) ≡ from_list rs
   adopted_is lasts rs same =
       same_set order apart _ (from_list {R = record_cmp} rs) (λ q.
       is_kept lasts (filter (λ r. not (contains lasts r)) rs) q
       ∙ ap (λ b. contains lasts q || b) (filtered order apart (λ r. not (contains lasts r)) rs q)
-      ∙ all_there (contains lasts q) (contains (from_list {R = record_cmp} rs) q) (is_last (from_list rs) q) (ap (λ (l : Records). contains l q) same ∙ in_lasts order apart (from_list rs) q))
+      ∙ all_there (contains lasts q) (contains (from_list {R = record_cmp} rs) q) (is_last (from_list rs) q)
+      (ap (λ (l : Records). contains l q) same ∙ in_lasts order apart (from_list rs) q))
 
   -- what is kept stands among those by offset, with a batch
-  pub among_more : (whole : Records) (xs ys batch : List Record) → ((r : Record) → contains whole r ≡ true → contains (from_list {R = record_cmp} xs) r ≡ true) → ys ≡ xs ++ batch
+  pub among_more : (whole : Records) (xs ys batch : List Record)
+      → ((r : Record) → contains whole r ≡ true → contains (from_list {R = record_cmp} xs) r ≡ true) → ys ≡ xs ++ batch
       → (r : Record) → contains (union whole (from_list batch)) r ≡ true → contains (from_list {R = record_cmp} ys) r ≡ true
   among_more whole xs ys batch among is r h =
       ap (λ l. contains (from_list {R = record_cmp} l) r) is
       ∙ (ap (λ s. contains s r) (joined order apart xs batch)
       ∙ (contains-union order (from_list xs) (from_list batch) r
-      ∙ either (contains whole r) (contains (from_list {R = record_cmp} xs) r) (contains (from_list {R = record_cmp} batch) r) (among r) (sym (contains-union order whole (from_list batch) r) ∙ h)))
+      ∙ either (contains whole r) (contains (from_list {R = record_cmp} xs) r) (contains (from_list {R = record_cmp} batch) r)
+      (among r) (sym (contains-union order whole (from_list batch) r) ∙ h)))
     where
       either : (w x b : Bool) → (w ≡ true → x ≡ true) → (w || b) ≡ true → (x || b) ≡ true
       either true x b f e = ap (λ y. y || b) (f refl)
       either false x b f e = right x b e
 
   -- and with no older ones, among those that are last ones
-  pub among_lasts : (lasts : Records) (older by_offset : List Record) → older ≡ [] → ((r : Record) → contains (kept_of lasts older) r ≡ true → contains (from_list {R = record_cmp} by_offset) r ≡ true)
-      → (r : Record) → contains (kept_of lasts older) r ≡ true → contains (from_list {R = record_cmp} (filter (contains lasts) by_offset)) r ≡ true
+  pub among_lasts : (lasts : Records) (older by_offset : List Record) → older ≡ []
+      → ((r : Record) → contains (kept_of lasts older) r ≡ true → contains (from_list {R = record_cmp} by_offset) r ≡ true)
+      → (r : Record) → contains (kept_of lasts older) r ≡ true
+      → contains (from_list {R = record_cmp} (filter (contains lasts) by_offset)) r ≡ true
   among_lasts lasts older by_offset none among r h =
       filtered order apart (contains lasts) by_offset r
       ∙ (ap (λ b. b && contains lasts r) (among r h)
-      ∙ left_alone (contains lasts r) (contains (from_list {R = record_cmp} older) r) (ap (λ l. contains (from_list {R = record_cmp} l) r) none ∙ in_list order apart [] r) (sym (is_kept lasts older r) ∙ h))
+      ∙ left_alone (contains lasts r) (contains (from_list {R = record_cmp} older) r)
+      (ap (λ l. contains (from_list {R = record_cmp} l) r) none ∙ in_list order apart [] r) (sym (is_kept lasts older r) ∙ h))
     where
       left_alone : (l t : Bool) → t ≡ false → (l || t) ≡ true → l ≡ true
       left_alone true t e f = refl

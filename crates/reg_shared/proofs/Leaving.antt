@@ -88,16 +88,19 @@ dropped_same false false false d h = refl
 
 module _ (order : IsTotalOrder record_cmp) (apart : IsAntisymmetric record_cmp) where
   -- tests that agree on each of a list
-  all_same_in : (p q : Record → Bool) (rs : List Record) → ((r : Record) → list_any (eq_by_cmp record_cmp r) rs ≡ true → p r ≡ q r) → list_all p rs ≡ list_all q rs
+  all_same_in : (p q : Record → Bool) (rs : List Record)
+      → ((r : Record) → list_any (eq_by_cmp record_cmp r) rs ≡ true → p r ≡ q r) → list_all p rs ≡ list_all q rs
   all_same_in p q [] same = refl
   all_same_in p q (r ∷ rs) same =
       ap (λ b. b && list_all p rs) (same r (ap (λ b. b || list_any (eq_by_cmp record_cmp r) rs) (itself order apart r)))
       ∙ ap (λ b. q r && b) (all_same_in p q rs (λ x any. same x (right (eq_by_cmp record_cmp x r) _ any)))
 
-  all_of : (p : Record → Bool) (rs : List Record) (r : Record) → list_all p rs ≡ true → list_any (eq_by_cmp record_cmp r) rs ≡ true → p r ≡ true
+  all_of : (p : Record → Bool) (rs : List Record) (r : Record) → list_all p rs ≡ true
+      → list_any (eq_by_cmp record_cmp r) rs ≡ true → p r ≡ true
   all_of p [] r all any = absurd (false≢true any)
   all_of p (d ∷ ds) r all any =
-      elim (eq_by_cmp record_cmp r d) as (λ b. eq_by_cmp record_cmp r d ≡ b → (b || list_any (eq_by_cmp record_cmp r) ds) ≡ true → p r ≡ true) [
+      elim (eq_by_cmp record_cmp r d) as (λ b.
+      eq_by_cmp record_cmp r d ≡ b → (b || list_any (eq_by_cmp record_cmp r) ds) ≡ true → p r ≡ true) [
         | true ↦ λ e _. ap p (equal order apart r d e) ∙ first_true (p d) (list_all p ds) all
         | false ↦ λ _ rest. all_of p ds r (second_true (p d) (list_all p ds) all) rest
       ] refl any
@@ -129,10 +132,12 @@ module _ (order : IsTotalOrder record_cmp) (apart : IsAntisymmetric record_cmp) 
         ∙ both ((greatest S q.key q).0 is).is_in_set (ap (λ o. option_map_or (eq_by_cmp record_cmp q) o false) is ∙ itself order apart q)
 
     -- a last record that a part of a set has is the part's last one
-    last_in_part : (part whole : Records) (q : Record) → ((r : Record) → contains part r ≡ true → contains whole r ≡ true) → last whole q.key ≡ Some q → contains part q ≡ true → last part q.key ≡ Some q
+    last_in_part : (part whole : Records) (q : Record) → ((r : Record) → contains part r ≡ true → contains whole r ≡ true)
+        → last whole q.key ≡ Some q → contains part q ≡ true → last part q.key ≡ Some q
     last_in_part part whole q within is has =
         let g = (greatest whole q.key q).0 is in
-        (greatest part q.key q).1 (record { is_in_set = has; is_of_key = refl; is_greatest = λ r in_part of_key. g.is_greatest r (within r in_part) of_key })
+        (greatest part q.key q).1 (
+        record { is_in_set = has; is_of_key = refl; is_greatest = λ r in_part of_key. g.is_greatest r (within r in_part) of_key })
 
     module _ (lasts : Records) (older ds : List Record) (floor : ℕ) (lasts_are : lasts ≡ last_records (kept_of lasts older)) where
       abbrev kept : Records
@@ -153,7 +158,9 @@ module _ (order : IsTotalOrder record_cmp) (apart : IsAntisymmetric record_cmp) 
       was_last : (q : Record) → contains lasts q ≡ true → last kept q.key ≡ Some q
       was_last q h = last_of kept q (ap (λ (s : Records). contains s q) (sym lasts_are) ∙ h)
 
-      in_rest : (q : Record) → contains (from_list {R = record_cmp} rest) q ≡ (contains (from_list {R = record_cmp} older) q && (not (contains gone q) && not (contains lasts q)))
+      in_rest : (q : Record)
+          → contains (from_list {R = record_cmp} rest) q
+          ≡ (contains (from_list {R = record_cmp} older) q && (not (contains gone q) && not (contains lasts q)))
       in_rest q = filtered order apart (λ r. not (contains gone r) && not (contains lasts r)) older q
 
       in_without : (q : Record) → contains (without kept ds) q ≡ (contains kept q && not (contains gone q))
@@ -167,7 +174,8 @@ module _ (order : IsTotalOrder record_cmp) (apart : IsAntisymmetric record_cmp) 
           in_without q ∙ both (in_kept q ∙ right (contains lasts q) _ among) stays
 
       -- what stays of the key of a last record that leaves is among the rest
-      stays_in_rest : (r q : Record) → contains lasts r ≡ true → contains gone r ≡ true → contains (without kept ds) q ≡ true → q.key ≡ r.key → contains (from_list {R = record_cmp} rest) q ≡ true
+      stays_in_rest : (r q : Record) → contains lasts r ≡ true → contains gone r ≡ true
+          → contains (without kept ds) q ≡ true → q.key ≡ r.key → contains (from_list {R = record_cmp} rest) q ≡ true
       stays_in_rest r q is_l is_gone_r stays same =
           let parts = sym (in_without q) ∙ stays in
           let here = first_true (contains kept q) _ parts in
@@ -178,37 +186,50 @@ module _ (order : IsTotalOrder record_cmp) (apart : IsAntisymmetric record_cmp) 
                 let is : q ≡ r = cc in
                 absurd (false≢true (sym (not_false (contains gone q) away) ∙ (ap (contains gone) is ∙ is_gone_r)))
             | false ↦ λ e.
-                let among : contains (from_list {R = record_cmp} older) q ≡ true = sym (ap (λ b. b || contains (from_list {R = record_cmp} older) q) e) ∙ (sym (in_kept q) ∙ here) in
+                let among : contains (from_list {R = record_cmp} older) q ≡ true =
+                sym (ap (λ b. b || contains (from_list {R = record_cmp} older) q) e) ∙ (sym (in_kept q) ∙ here) in
                 in_rest q ∙ both among (both away (ap not e))
           ] refl
 
-      gone_same : (r : Record) → contains gone r ≡ true → contains lasts r ≡ true → is_gone floor (from_list rest) r ≡ is_gone floor (without kept ds) r
+      gone_same : (r : Record) → contains gone r ≡ true → contains lasts r ≡ true
+          → is_gone floor (from_list rest) r ≡ is_gone floor (without kept ds) r
       gone_same r is_gone_r is_l =
           ap (λ b. deletes_below floor r && b) (alike _ _
-          (λ e. ap is_none (absent (without kept ds) r.key (λ q stays same. no_last (from_list rest) q (stays_in_rest r q is_l is_gone_r stays same) (ap (last (from_list rest)) same ∙ none_is _ e))))
-          (λ e. ap is_none (absent (from_list rest) r.key (λ q stays same. no_last (without kept ds) q (rest_stays q stays) (ap (last (without kept ds)) same ∙ none_is _ e)))))
+          (λ e. ap is_none (
+          absent (without kept ds) r.key (λ q stays same.
+          no_last (from_list rest) q (stays_in_rest r q is_l is_gone_r stays same) (ap (last (from_list rest)) same ∙ none_is _ e))))
+          (λ e.
+          ap is_none (
+          absent (from_list rest) r.key
+          (λ q stays same. no_last (without kept ds) q (rest_stays q stays) (ap (last (without kept ds)) same ∙ none_is _ e)))))
 
       -- the test of what may leave
       pub may_leave_is : list_all (may_go lasts (from_list older) (from_list rest) floor) ds ≡ may_leave floor kept ds
       may_leave_is =
-          all_same_in (may_go lasts (from_list older) (from_list rest) floor) (λ r. contains kept r && (not (is_last kept r) || is_gone floor (without kept ds) r)) ds (λ r any.
-          may_go_same (contains lasts r) (contains (from_list {R = record_cmp} older) r) (contains kept r) (is_last kept r) (is_gone floor (from_list rest) r) (is_gone floor (without kept ds) r)
+          all_same_in (may_go lasts (from_list older) (from_list rest) floor)
+          (λ r. contains kept r && (not (is_last kept r) || is_gone floor (without kept ds) r)) ds (λ r any.
+          may_go_same (contains lasts r) (contains (from_list {R = record_cmp} older) r) (contains kept r)
+          (is_last kept r) (is_gone floor (from_list rest) r) (is_gone floor (without kept ds) r)
           (in_kept r) (last_is r) (gone_same r (in_list order apart ds r ∙ any)))
 
       module _ (may : may_leave floor kept ds ≡ true) where
         -- a last record that leaves is a delete
         deletes : (q : Record) → contains lasts q ≡ true → contains gone q ≡ true → is_none q.value ≡ true
         deletes q is_l is_gone_q =
-            let leaves = all_of (λ r. contains kept r && (not (is_last kept r) || is_gone floor (without kept ds) r)) ds q may (sym (in_list order apart ds q) ∙ is_gone_q) in
+            let leaves = all_of (λ r. contains kept r && (not (is_last kept r) || is_gone floor (without kept ds) r)) ds q may
+            (sym (in_list order apart ds q) ∙ is_gone_q) in
             let il : is_last kept q ≡ true = second_true (contains kept q) _ (sym (last_is q) ∙ is_l) in
-            let facts : is_gone floor (without kept ds) q ≡ true = ap (λ b. not b || is_gone floor (without kept ds) q) (sym il) ∙ second_true (contains kept q) _ leaves in
+            let facts : is_gone floor (without kept ds) q ≡ true =
+            ap (λ b. not b || is_gone floor (without kept ds) q) (sym il) ∙ second_true (contains kept q) _ leaves in
             first_true (is_none q.value) _ (first_true (deletes_below floor q) _ facts)
 
         abbrev pub lasts_left : Records
         lasts_left = difference lasts (deletes_of ds)
 
         in_lasts_left : (q : Record) → contains lasts_left q ≡ (contains lasts q && not (contains gone q && is_none q.value))
-        in_lasts_left q = contains-difference order lasts (deletes_of ds) q ∙ ap (λ b. contains lasts q && not b) (filtered order apart (λ r. is_none r.value) ds q)
+        in_lasts_left q =
+            contains-difference order lasts (deletes_of ds) q
+            ∙ ap (λ b. contains lasts q && not b) (filtered order apart (λ r. is_none r.value) ds q)
 
         pub left_is : kept_of lasts_left rest ≡ without kept ds
         left_is = same_set order apart (kept_of lasts_left rest) (without kept ds) (λ q.
@@ -224,7 +245,9 @@ module _ (order : IsTotalOrder record_cmp) (apart : IsAntisymmetric record_cmp) 
 
         last_stays : (q : Record) → contains lasts q ≡ true → contains gone q ≡ false → contains (last_records (without kept ds)) q ≡ true
         last_stays q is_l stays =
-            is_last_one (without kept ds) q (last_in_part (without kept ds) kept q part (was_last q is_l) (in_without q ∙ both (in_kept q ∙ ap (λ b. b || contains (from_list {R = record_cmp} older) q) is_l) (ap not stays)))
+            is_last_one (without kept ds) q
+            (last_in_part (without kept ds) kept q part (was_last q is_l)
+            (in_without q ∙ both (in_kept q ∙ ap (λ b. b || contains (from_list {R = record_cmp} older) q) is_l) (ap not stays)))
 
         still_last : (q : Record) → contains lasts_left q ≡ true → contains (last_records (without kept ds)) q ≡ true
         still_last q h =
@@ -258,10 +281,14 @@ module _ (order : IsTotalOrder record_cmp) (apart : IsAntisymmetric record_cmp) 
                         let same : q ≡ r = cc in
                         ap (contains lasts) same ∙ is_l
                     | true ↦ λ f.
-                        let leaves = all_of (λ r. contains kept r && (not (is_last kept r) || is_gone floor (without kept ds) r)) ds r may (sym (in_list order apart ds r) ∙ f) in
+                        let leaves = all_of (λ r. contains kept r && (not (is_last kept r) || is_gone floor (without kept ds) r)) ds r may
+                        (sym (in_list order apart ds r) ∙ f) in
                         let il : is_last kept r ≡ true = second_true (contains kept r) _ (sym (last_is r) ∙ is_l) in
-                        let facts : is_gone floor (without kept ds) r ≡ true = ap (λ b. not b || is_gone floor (without kept ds) r) (sym il) ∙ second_true (contains kept r) _ leaves in
-                        absurd (no_last (without kept ds) q in_left (ap (last (without kept ds)) (sym g.is_of_key) ∙ none_is _ (second_true (deletes_below floor r) _ facts)))
+                        let facts : is_gone floor (without kept ds) r ≡ true =
+                        ap (λ b. not b || is_gone floor (without kept ds) r) (sym il) ∙ second_true (contains kept r) _ leaves in
+                        absurd (
+                        no_last (without kept ds) q in_left
+                        (ap (last (without kept ds)) (sym g.is_of_key) ∙ none_is _ (second_true (deletes_below floor r) _ facts)))
                   ] refl
             ] refl
 
@@ -272,18 +299,30 @@ module _ (order : IsTotalOrder record_cmp) (apart : IsAntisymmetric record_cmp) 
   pub dropped_are : (lasts : Records) (older by_offset found : List Record) (floor : ℕ) → lasts ≡ last_records (kept_of lasts older)
       → ((r : Record) → contains (kept_of lasts older) r ≡ true → contains (from_list {R = record_cmp} by_offset) r ≡ true)
       → found ≡ filter (λ r. not (contains lasts r)) older ++ filter (λ r. deletes_below floor r && contains lasts r) by_offset
-      → (r : Record) → contains (from_list {R = record_cmp} found) r ≡ (contains (kept_of lasts older) r && not (contains (compacted_to floor (kept_of lasts older)) r))
+      → (r : Record)
+      → contains (from_list {R = record_cmp} found) r
+      ≡ (contains (kept_of lasts older) r && not (contains (compacted_to floor (kept_of lasts older)) r))
   dropped_are lasts older by_offset found floor lasts_are among is r =
       let k : Records = kept_of lasts older in
       ap (λ l. contains (from_list {R = record_cmp} l) r) is
-      ∙ ap (λ s. contains s r) (joined order apart (filter (λ r. not (contains lasts r)) older) (filter (λ r. deletes_below floor r && contains lasts r) by_offset))
-      ∙ contains-union order (from_list (filter (λ r. not (contains lasts r)) older)) (from_list (filter (λ r. deletes_below floor r && contains lasts r) by_offset)) r
-      ∙ ap (λ b. b || contains (from_list {R = record_cmp} (filter (λ r. deletes_below floor r && contains lasts r) by_offset)) r) (filtered order apart (λ r. not (contains lasts r)) older r)
-      ∙ ap (λ b. (contains (from_list {R = record_cmp} older) r && not (contains lasts r)) || b) (filtered order apart (λ r. deletes_below floor r && contains lasts r) by_offset r)
-      ∙ dropped_same (contains lasts r) (contains (from_list {R = record_cmp} older) r) (contains (from_list {R = record_cmp} by_offset) r) (deletes_below floor r)
+      ∙ ap (λ s. contains s r) (
+      joined order apart (filter (λ r. not (contains lasts r)) older) (filter (λ r. deletes_below floor r && contains lasts r) by_offset))
+      ∙ contains-union order (from_list (filter (λ r. not (contains lasts r)) older))
+      (from_list (filter (λ r. deletes_below floor r && contains lasts r) by_offset)) r
+      ∙ ap (λ b. b || contains (from_list {R = record_cmp} (filter (λ r. deletes_below floor r && contains lasts r) by_offset)) r)
+      (filtered order apart (λ r. not (contains lasts r)) older r)
+      ∙ ap (λ b. (contains (from_list {R = record_cmp} older) r && not (contains lasts r)) || b)
+      (filtered order apart (λ r. deletes_below floor r && contains lasts r) by_offset r)
+      ∙ dropped_same (contains lasts r) (contains (from_list {R = record_cmp} older) r)
+      (contains (from_list {R = record_cmp} by_offset) r) (deletes_below floor r)
       (λ h. among r (is_kept order apart lasts older r ∙ ap (λ b. b || contains (from_list {R = record_cmp} older) r) h))
       ∙ ap (λ b. b && not (contains lasts r && not (deletes_below floor r))) (sym (is_kept order apart lasts older r))
-      ∙ ap (λ b. contains k r && not b) (ap (λ b. b && not (deletes_below floor r)) (ap (λ (s : Records). contains s r) lasts_are) ∙ sym (stays r))
+      ∙ ap (λ b. contains k r && not b)
+      (ap (λ b. b && not (deletes_below floor r)) (ap (λ (s : Records). contains s r) lasts_are) ∙ sym (stays r))
     where
-      stays : (r : Record) → contains (compacted_to floor (kept_of lasts older)) r ≡ (contains (last_records (kept_of lasts older)) r && not (deletes_below floor r))
-      stays r = contains-retain (last_records (kept_of lasts older)) (λ r. not (deletes_below floor r)) r (λ x e. ap (λ r. not (deletes_below floor r)) (sym (apart r x e)))
+      stays : (r : Record)
+          → contains (compacted_to floor (kept_of lasts older)) r
+          ≡ (contains (last_records (kept_of lasts older)) r && not (deletes_below floor r))
+      stays r =
+          contains-retain (last_records (kept_of lasts older)) (λ r. not (deletes_below floor r)) r
+          (λ x e. ap (λ r. not (deletes_below floor r)) (sym (apart r x e)))

@@ -33,9 +33,13 @@ any_same : {A : Type 0} (p q : A → Bool) → ((x : A) → p x ≡ q x) → (xs
 any_same p q same [] = refl
 any_same p q same (x ∷ xs) = ap (λ b. b || list_any p xs) (same x) ∙ ap (λ b. q x || b) (any_same p q same xs)
 
-pub all_members : (P : Record → Type 0) (rs : List Record) → ((q : Record) → list_any (eq_by_cmp record_cmp q) rs ≡ true → P q) → ((q : Record) → eq_by_cmp record_cmp q q ≡ true) → AllByRecursion P rs
+pub all_members : (P : Record → Type 0) (rs : List Record) → ((q : Record) → list_any (eq_by_cmp record_cmp q) rs ≡ true → P q)
+    → ((q : Record) → eq_by_cmp record_cmp q q ≡ true) → AllByRecursion P rs
 all_members P [] h itself = tt
-all_members P (r ∷ rs) h itself = (h r (ap (λ b. b || list_any (eq_by_cmp record_cmp r) rs) (itself r)), all_members P rs (λ q any. h q (right (eq_by_cmp record_cmp q r) _ any)) itself)
+all_members P (r ∷ rs) h itself = (
+  h r (ap (λ b. b || list_any (eq_by_cmp record_cmp r) rs) (itself r)),
+  all_members P rs (λ q any. h q (right (eq_by_cmp record_cmp q r) _ any)) itself,
+)
 
 module _ (order : IsTotalOrder record_cmp) (apart : IsAntisymmetric record_cmp) where
   pub in_list : (rs : List Record) (q : Record) → contains (from_list {R = record_cmp} rs) q ≡ list_any (eq_by_cmp record_cmp q) rs
@@ -44,20 +48,25 @@ module _ (order : IsTotalOrder record_cmp) (apart : IsAntisymmetric record_cmp) 
   pub itself : (q : Record) → eq_by_cmp record_cmp q q ≡ true
   itself q = ap is_eq (tied_itself order q)
 
-  among : (next : ℕ) (rs : List Record) → All (λ r. r.offset < next) rs → (q : Record) → list_any (eq_by_cmp record_cmp q) rs ≡ true → q.offset < next
+  among : (next : ℕ) (rs : List Record) → All (λ r. r.offset < next) rs
+      → (q : Record) → list_any (eq_by_cmp record_cmp q) rs ≡ true → q.offset < next
   among next [] all q any = absurd (false≢true any)
   among next (r ∷ rs) all q any =
-      elim (eq_by_cmp record_cmp q r) as (λ b. eq_by_cmp record_cmp q r ≡ b → (b || list_any (eq_by_cmp record_cmp q) rs) ≡ true → q.offset < next) [
+      elim (eq_by_cmp record_cmp q r) as (λ b.
+      eq_by_cmp record_cmp q r ≡ b → (b || list_any (eq_by_cmp record_cmp q) rs) ≡ true → q.offset < next) [
         | true ↦ λ e _. subst (λ (x : Record). x.offset < next) (sym (equal order apart q r e)) (All-head (λ x. x.offset < next) r rs all)
         | false ↦ λ _ rest. among next rs (All-tail (λ x. x.offset < next) r rs all) q rest
       ] refl any
 
   -- what lies below an offset does so in whatever order
-  pub below_members : (next : ℕ) (base rs : List Record) → All (λ r. r.offset < next) base → from_list {R = record_cmp} base ≡ from_list rs → AllByRecursion (λ r. r.offset < next) rs
+  pub below_members : (next : ℕ) (base rs : List Record) → All (λ r. r.offset < next) base
+      → from_list {R = record_cmp} base ≡ from_list rs → AllByRecursion (λ r. r.offset < next) rs
   below_members next base rs all same =
-      all_members (λ r. r.offset < next) rs (λ q any. among next base all q (sym (in_list base q) ∙ (ap (λ s. contains s q) same ∙ (in_list rs q ∙ any)))) itself
+      all_members (λ r. r.offset < next) rs
+      (λ q any. among next base all q (sym (in_list base q) ∙ (ap (λ s. contains s q) same ∙ (in_list rs q ∙ any)))) itself
 
-  pub filtered : (p : Record → Bool) (rs : List Record) (q : Record) → contains (from_list {R = record_cmp} (filter p rs)) q ≡ (contains (from_list {R = record_cmp} rs) q && p q)
+  pub filtered : (p : Record → Bool) (rs : List Record) (q : Record)
+      → contains (from_list {R = record_cmp} (filter p rs)) q ≡ (contains (from_list {R = record_cmp} rs) q && p q)
   filtered p rs q =
       in_list (filter p rs) q
       ∙ any-filter_same (eq_by_cmp record_cmp q) p (p q) (λ k e. ap p (sym (equal order apart q k e))) rs
@@ -67,7 +76,8 @@ module _ (order : IsTotalOrder record_cmp) (apart : IsAntisymmetric record_cmp) 
   pub joined : (rs qs : List Record) → from_list {R = record_cmp} (rs ++ qs) ≡ union (from_list rs) (from_list qs)
   joined rs qs = same_set order apart (from_list (rs ++ qs)) (union (from_list rs) (from_list qs)) (λ q.
       in_list (rs ++ qs) q ∙ list_any-append (eq_by_cmp record_cmp q) rs qs
-      ∙ ap (λ b. b || list_any (eq_by_cmp record_cmp q) qs) (sym (in_list rs q)) ∙ ap (λ b. contains (from_list {R = record_cmp} rs) q || b) (sym (in_list qs q))
+      ∙ ap (λ b. b || list_any (eq_by_cmp record_cmp q) qs) (sym (in_list rs q))
+      ∙ ap (λ b. contains (from_list {R = record_cmp} rs) q || b) (sym (in_list qs q))
       ∙ sym (contains-union order (from_list rs) (from_list qs) q))
 
   -- a record is among the last ones where it is in the set and the last of its key

@@ -44,11 +44,15 @@ rising_filter p (x ∷ xs) h = elim (p x) as (λ b. IsRising (cond b (x ∷ filt
   | false ↦ rising_filter p xs h.1
 ]
 
-pub rising_append : (n : ℕ) (xs ys : List Record) → IsRising xs → IsRising ys → AllByRecursion (λ r. r.offset < n) xs → AllByRecursion (λ r. n ≤ r.offset) ys → IsRising (xs ++ ys)
+pub rising_append : (n : ℕ) (xs ys : List Record) → IsRising xs → IsRising ys
+    → AllByRecursion (λ r. r.offset < n) xs → AllByRecursion (λ r. n ≤ r.offset) ys → IsRising (xs ++ ys)
 rising_append n [] ys a b below above = b
 rising_append n (x ∷ xs) ys a b below above =
-    let low : x.offset < n = below.0 in
-    (all_append (λ q. x.offset ≤ q.offset) xs ys a.0 (all_map (λ r. n ≤ r.offset) (λ q. x.offset ≤ q.offset) (λ q h. omega arith) ys above), rising_append n xs ys a.1 b below.1 above)
+    let low : x.offset < n = below.0 in (
+      all_append (λ q. x.offset ≤ q.offset) xs ys a.0
+          (all_map (λ r. n ≤ r.offset) (λ q. x.offset ≤ q.offset) (λ q h. omega arith) ys above),
+      rising_append n xs ys a.1 b below.1 above,
+    )
 
 -- a batch that goes on
 pub record GoesOn (n : ℕ) (rs : List Record) : Type 0 where
@@ -67,7 +71,10 @@ goes_on_is n (r ∷ rs) h =
     let rest = goes_on_is (suc n) rs parts.1 in record {
       above = (omega arith, all_map (λ q. suc n ≤ q.offset) (λ q. n ≤ q.offset) (λ q h. omega arith) rs rest.above);
       rises = (all_map (λ q. suc n ≤ q.offset) (λ q. r.offset ≤ q.offset) (λ q h. omega arith) rs rest.above, rest.rises);
-      below = (omega arith, all_map (λ q. q.offset < suc n + length rs) (λ q. q.offset < n + suc (length rs)) (λ q h. omega arith) rs rest.below);
+      below = (
+        omega arith,
+        all_map (λ q. q.offset < suc n + length rs) (λ q. q.offset < n + suc (length rs)) (λ q h. omega arith) rs rest.below,
+      );
     }
 
 -- records in order
@@ -78,13 +85,18 @@ less_offset : (r q : Record) → is_lt (record_cmp r q) ≡ true → r.offset �
 unfolding record_cmp
 less_offset r q h = offsets r.offset q.offset _ h
 
-all_later : (r : Record) (rs : List Record) → list_all (λ q. is_lt (record_cmp r q)) rs ≡ true → AllByRecursion (λ q. r.offset ≤ q.offset) rs
+all_later : (r : Record) (rs : List Record) → list_all (λ q. is_lt (record_cmp r q)) rs ≡ true
+    → AllByRecursion (λ q. r.offset ≤ q.offset) rs
 all_later r [] h = tt
-all_later r (q ∷ rs) h = let parts = both_true (is_lt (record_cmp r q)) (list_all (λ q. is_lt (record_cmp r q)) rs) h in (less_offset r q parts.0, all_later r rs parts.1)
+all_later r (q ∷ rs) h =
+    let parts = both_true (is_lt (record_cmp r q)) (list_all (λ q. is_lt (record_cmp r q)) rs) h in
+    (less_offset r q parts.0, all_later r rs parts.1)
 
 pub rising_in_order : (rs : List Record) → is_in_order rs ≡ true → IsRising rs
 rising_in_order [] h = tt
-rising_in_order (r ∷ rs) h = let parts = both_true (list_all (λ q. is_lt (record_cmp r q)) rs) (is_in_order rs) h in (all_later r rs parts.0, rising_in_order rs parts.1)
+rising_in_order (r ∷ rs) h =
+    let parts = both_true (list_all (λ q. is_lt (record_cmp r q)) rs) (is_in_order rs) h in
+    (all_later r rs parts.0, rising_in_order rs parts.1)
 
 -- what stands at or above an offset
 rises : (xs : List Record) → IsRising xs → (i j : ℕ) (d : Record) → i ≤ j → j < length xs → (get_or xs i d).offset ≤ (get_or xs j d).offset
@@ -101,16 +113,19 @@ pub at_or_above : (from n : ℕ) → nat_le from n ≡ not (nat_lt n from)
 at_or_above from n = grind (arith, nat_tests)
 
 pub from_point : (p q : Record → Bool) → ((r : Record) → q r ≡ not (p r)) → (xs : List Record) (k : ℕ) → k ≤ length xs
-    → ((i : ℕ) (d : Record) → i < k → p (get_or xs i d) ≡ true) → ((i : ℕ) (d : Record) → k ≤ i → i < length xs → p (get_or xs i d) ≡ false) → drop k xs ≡ filter q xs
+    → ((i : ℕ) (d : Record) → i < k → p (get_or xs i d) ≡ true)
+    → ((i : ℕ) (d : Record) → k ≤ i → i < length xs → p (get_or xs i d) ≡ false) → drop k xs ≡ filter q xs
 from_point p q other [] zero le low high = refl
 from_point p q other [] (suc k) le low high = absurd (omega arith)
 from_point p q other (x ∷ xs) zero le low high =
     let here : q x ≡ true = other x ∙ ap not (high 0 x (omega arith) (omega arith)) in
-    let rest = from_point p q other xs 0 (omega arith) (λ i d lt. absurd (omega arith)) (λ i d l m. high (suc i) d (omega arith) (omega arith)) in
+    let rest =
+    from_point p q other xs 0 (omega arith) (λ i d lt. absurd (omega arith)) (λ i d l m. high (suc i) d (omega arith) (omega arith)) in
     ap (λ ys. x ∷ ys) rest ∙ ap (λ b. cond b (x ∷ filter q xs) (filter q xs)) (sym here)
 from_point p q other (x ∷ xs) (suc k) le low high =
     let here : q x ≡ false = other x ∙ ap not (low 0 x (omega arith)) in
-    let rest = from_point p q other xs k (omega arith) (λ i d lt. low (suc i) d (omega arith)) (λ i d l m. high (suc i) d (omega arith) (omega arith)) in
+    let rest = from_point p q other xs k (omega arith) (λ i d lt. low (suc i) d (omega arith))
+    (λ i d l m. high (suc i) d (omega arith) (omega arith)) in
     rest ∙ ap (λ b. cond b (x ∷ filter q xs) (filter q xs)) (sym here)
 
 take_none : (xs : List Record) → take 0 xs ≡ []
@@ -118,7 +133,8 @@ take_none [] = refl
 take_none (x ∷ xs) = refl
 
 pub to_point : (p : Record → Bool) → (xs : List Record) (k : ℕ) → k ≤ length xs
-    → ((i : ℕ) (d : Record) → i < k → p (get_or xs i d) ≡ true) → ((i : ℕ) (d : Record) → k ≤ i → i < length xs → p (get_or xs i d) ≡ false) → take k xs ≡ filter p xs
+    → ((i : ℕ) (d : Record) → i < k → p (get_or xs i d) ≡ true)
+    → ((i : ℕ) (d : Record) → k ≤ i → i < length xs → p (get_or xs i d) ≡ false) → take k xs ≡ filter p xs
 to_point p [] zero le low high = refl
 to_point p [] (suc k) le low high = absurd (omega arith)
 to_point p (x ∷ xs) zero le low high =
@@ -127,7 +143,8 @@ to_point p (x ∷ xs) zero le low high =
     sym (take_none xs) ∙ rest ∙ ap (λ b. cond b (x ∷ filter p xs) (filter p xs)) (sym here)
 to_point p (x ∷ xs) (suc k) le low high =
     let here : p x ≡ true = low 0 x (omega arith) in
-    let rest = to_point p xs k (omega arith) (λ i d lt. low (suc i) d (omega arith)) (λ i d l m. high (suc i) d (omega arith) (omega arith)) in
+    let rest =
+    to_point p xs k (omega arith) (λ i d lt. low (suc i) d (omega arith)) (λ i d l m. high (suc i) d (omega arith) (omega arith)) in
     ap (λ ys. x ∷ ys) rest ∙ ap (λ b. cond b (x ∷ filter p xs) (filter p xs)) (sym here)
 
 no_delete : (n g : Bool) → ((n && false) && g) ≡ false
@@ -141,7 +158,11 @@ below_twice floor f [] = refl
 below_twice floor f (x ∷ xs) =
     let p : Record → Bool = λ r. deletes_below floor r && f r in
     let ys = filter (λ r. nat_lt r.offset floor) xs in
-    elim (nat_lt x.offset floor) as (λ b. nat_lt x.offset floor ≡ b → filter p (cond b (x ∷ ys) ys) ≡ cond (p x) (x ∷ filter p xs) (filter p xs)) [
+    elim (nat_lt x.offset floor) as (λ b.
+    nat_lt x.offset floor ≡ b → filter p (cond b (x ∷ ys) ys) ≡ cond (p x) (x ∷ filter p xs) (filter p xs)) [
       | true ↦ λ e. ap (λ zs. cond (p x) (x ∷ zs) zs) (below_twice floor f xs)
-      | false ↦ λ e. below_twice floor f xs ∙ ap (λ b. cond b (x ∷ filter p xs) (filter p xs)) (sym (ap (λ b. (is_none x.value && b) && f x) e ∙ no_delete (is_none x.value) (f x)))
+      | false ↦ λ e.
+          below_twice floor f xs
+          ∙ ap (λ b. cond b (x ∷ filter p xs) (filter p xs))
+          (sym (ap (λ b. (is_none x.value && b) && f x) e ∙ no_delete (is_none x.value) (f x)))
     ] refl

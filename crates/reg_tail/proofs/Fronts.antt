@@ -74,7 +74,9 @@ module _ (file : List ℕ) (end : ℕ) (begins : is_floor_line file ≡ true) (a
       let line = take end file in
       let behind = cut.behind in
       ap log_at (ap parts cut.is ∙ parts-line line behind cut.free)
-      ∙ ap (λ b. at_first b (length (parts behind) == 0) (floor_reading line) (log_from 2 (parts behind)) (log_from 1 (line ∷ parts behind))) line_begins
+      ∙ ap (λ b.
+      at_first b (length (parts behind) == 0) (floor_reading line)
+      (log_from 2 (parts behind)) (log_from 1 (line ∷ parts behind))) line_begins
       ∙ ap (λ b. at_first true b (floor_reading line) (log_from 2 (parts behind)) (log_from 1 (line ∷ parts behind))) (has_parts behind)
 
   reads : (floor : ℕ) → HasFloor file floor → floor_reading (take end file) ≡ Ok floor
@@ -88,7 +90,8 @@ module _ (file : List ℕ) (end : ℕ) (begins : is_floor_line file ≡ true) (a
     λ floor has. let both : Err fault ≡ Ok floor = sym is ∙ reads floor has in absurd cc,
   )
 
-  pub begins_floor : (floor : ℕ) → floor_reading (take end file) ≡ Ok floor → BeginsAs file (record { len = end + 1; lines = 1; floor = floor })
+  pub begins_floor : (floor : ℕ) → floor_reading (take end file) ≡ Ok floor
+      → BeginsAs file (record { len = end + 1; lines = 1; floor = floor })
   begins_floor floor is =
       let line = take end file in
       record {
@@ -99,5 +102,8 @@ module _ (file : List ℕ) (end : ℕ) (begins : is_floor_line file ≡ true) (a
         len = omega (arith, cut.size, length-append line (10 ∷ []));
         count = refl;
         only = λ other has. let both : Ok floor ≡ Ok other = sym is ∙ reads other has in cc;
-        faults = λ number fault found. log_floor ∙ ap (λ says. floor_then says (log_from 2 (parts cut.behind))) is ∙ ap (λ (more : Outcome). floor_then (Ok floor) more) found;
+        faults = λ number fault found.
+            log_floor
+            ∙ ap (λ says. floor_then says (log_from 2 (parts cut.behind))) is
+            ∙ ap (λ (more : Outcome). floor_then (Ok floor) more) found;
       }

@@ -31,13 +31,17 @@ adds from read line old new taken is added =
     (λ no. no.1 ∙ sym (append-nil old) ∙ ap (λ b. old ++ text_of (one b line)) (sym no.0))
     added
 
-pub takes : (text : List ℕ) (old mid : Gathered) (tail : Tail) (len : ℕ) (read : Read) → IsFront (old.tail.lines + 1) text len read → mid.tail ≡ old.tail
-    → tail.place ≡ mid.tail.place + len → tail.lines ≡ mid.tail.lines + 1 → tail.from ≡ mid.tail.from → tail.next ≡ max mid.tail.next (suc (offset_in read))
-    → Adds old.tail.from (offset_in read) old.text.items mid.text.items (take len text) → Takes text old (record { tail = tail; text = mid.text }) len
+pub takes : (text : List ℕ) (old mid : Gathered) (tail : Tail) (len : ℕ) (read : Read)
+    → IsFront (old.tail.lines + 1) text len read → mid.tail ≡ old.tail
+    → tail.place ≡ mid.tail.place + len → tail.lines ≡ mid.tail.lines + 1
+    → tail.from ≡ mid.tail.from → tail.next ≡ max mid.tail.next (suc (offset_in read))
+    → Adds old.tail.from (offset_in read) old.text.items mid.text.items (take len text)
+    → Takes text old (record { tail = tail; text = mid.text }) len
 takes text old mid tail len read front same place count from next added = record {
   read = read;
   front = front;
-  given = adds old.tail.from read front.line old.text.items mid.text.items (take len text) (line_of front.line front.behind text len front.parts front.size) added;
+  given = adds old.tail.from read front.line old.text.items mid.text.items (take len text)
+      (line_of front.line front.behind text len front.parts front.size) added;
   passed = record {
     place = omega (arith, place, ap (λ (t : Tail). t.place) same, front.size, length-append front.line (10 ∷ []));
     count = omega (arith, count, ap (λ (t : Tail). t.lines) same);
@@ -93,7 +97,8 @@ module _ (piece rest : List ℕ) (old now : Gathered) (go : Gathers piece rest o
             ∙ sym (append_assoc (text_of go.lines) (line ++ 10 ∷ []) behind)
             ∙ ap (λ (l : List ℕ). l ++ behind) (sym (text_of-append go.lines (line ∷ [])));
         say = Say-append go.lines (line ∷ []) go.read (t.read ∷ []) go.say (t.front.some, t.front.free, t.front.says, tt);
-        given = given_then old.tail.from go.lines (line ∷ []) go.read (t.read ∷ []) old.text.items now.text.items new.text.items go.say go.given given;
+        given = given_then old.tail.from go.lines (line ∷ []) go.read
+            (t.read ∷ []) old.text.items now.text.items new.text.items go.say go.given given;
         passed = passed_then go.lines (line ∷ []) go.read (t.read ∷ []) old.tail now.tail new.tail go.passed t.passed;
       }
 

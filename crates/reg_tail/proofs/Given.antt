@@ -21,7 +21,8 @@ use Rattle.reg_tail.proofs.Texts.{Say-append, lines_from-append, lines_log, next
 -- ---- the line of the floor
 
 -- how much of it is given
-pub given_front : (from : ℕ) (file : List ℕ) (lines : List (List ℕ)) (rest : List ℕ) (len given : ℕ) → file ≡ text_of lines ++ rest → len ≡ length (text_of lines)
+pub given_front : (from : ℕ) (file : List ℕ) (lines : List (List ℕ)) (rest : List ℕ) (len given : ℕ)
+    → file ≡ text_of lines ++ rest → len ≡ length (text_of lines)
     → ((0 < from) × (given ≡ 0)) ⊎ ((from ≡ 0) × (given ≡ len)) → take given file ≡ text_of (front_from from lines)
 given_front from file lines rest len given is size cases =
     ⊎_elim
@@ -29,7 +30,9 @@ given_front from file lines rest len given is size cases =
     let other : nat_eq from 0 ≡ false = ne_eqb from 0 (λ none. omega (arith, some.0)) in
     ap (λ k. take k file) some.1 ∙ ap (λ b. text_of (cond b lines [])) (sym other))
     (λ all.
-    ap (λ k. take k file) (all.1 ∙ size) ∙ ap (take (length (text_of lines))) is ∙ take_at (text_of lines) rest (length (text_of lines)) refl
+    ap (λ k. take k file) (all.1 ∙ size)
+    ∙ ap (take (length (text_of lines))) is
+    ∙ take_at (text_of lines) rest (length (text_of lines)) refl
     ∙ ap (λ k. text_of (front_from k lines)) (sym all.0))
     cases
 
@@ -43,9 +46,13 @@ fits from file front is within floor above =
 
 module _ (asked : ℕ) (file : List ℕ) (begun : Gathered) (is : BeginsFrom asked file begun) where
   pub behind_front : drop begun.tail.place file ≡ is.rest
-  behind_front = ap (λ k. drop k file) is.place ∙ ap (drop (length (text_of is.lines))) is.parts ∙ drop_at (text_of is.lines) is.rest (length (text_of is.lines)) refl
+  behind_front =
+      ap (λ k. drop k file) is.place
+      ∙ ap (drop (length (text_of is.lines))) is.parts
+      ∙ drop_at (text_of is.lines) is.rest (length (text_of is.lines)) refl
 
-  pub has_given : (piece behind : List ℕ) (new : Gathered) → piece ≡ is.rest → Gathers piece (10 ∷ behind) begun new → HasGiven new.tail file new.text.items
+  pub has_given : (piece behind : List ℕ) (new : Gathered) → piece ≡ is.rest
+      → Gathers piece (10 ∷ behind) begun new → HasGiven new.tail file new.text.items
   has_given piece behind new same go = record {
     lines = is.lines ++ go.lines;
     floor = is.floor;
@@ -63,15 +70,25 @@ module _ (asked : ℕ) (file : List ℕ) (begun : Gathered) (is : BeginsFrom ask
         ∙ ap (λ k. text_of (front_from asked is.lines) ++ text_of (lines_from k go.lines go.read)) is.from
         ∙ sym (text_of-append (front_from asked is.lines) (lines_from asked go.lines go.read))
         ∙ ap (λ k. text_of (front_from k is.lines ++ lines_from k go.lines go.read)) (sym (go.passed.from ∙ is.from));
-    place = omega (arith, go.passed.place, is.place, ap length (text_of-append is.lines go.lines), length-append (text_of is.lines) (text_of go.lines));
+    place = omega (
+      arith,
+      go.passed.place,
+      is.place,
+      ap length (text_of-append is.lines go.lines),
+      length-append (text_of is.lines) (text_of go.lines),
+    );
     count = omega (arith, go.passed.count, is.count, length-append is.lines go.lines);
     next = omega (arith, go.passed.next, is.next, go.passed.from, is.from);
   }
 
-  pub begin_refused : (piece : List ℕ) (e : TailError) → piece ≡ is.rest → IsPieceRefusal (begun.tail.lines + 1) piece e → IsBeginRefusal asked file e
+  pub begin_refused : (piece : List ℕ) (e : TailError) → piece ≡ is.rest
+      → IsPieceRefusal (begun.tail.lines + 1) piece e → IsBeginRefusal asked file e
   begin_refused piece (Line line fault) same bad =
-      let number : suc (length is.lines) ≡ begun.tail.lines + 1 = omega (arith, is.count) in
-      (is.faults line fault (ap (λ n. log_from n (parts is.rest)) number ∙ ap (λ (p : List ℕ). log_from (begun.tail.lines + 1) (parts p)) (sym same) ∙ bad), is.fits)
+      let number : suc (length is.lines) ≡ begun.tail.lines + 1 = omega (arith, is.count) in (
+        is.faults line fault (
+            ap (λ n. log_from n (parts is.rest)) number ∙ ap (λ (p : List ℕ). log_from (begun.tail.lines + 1) (parts p)) (sym same) ∙ bad),
+        is.fits,
+      )
   begin_refused piece NoEmptyLine same bad = (
     record {
       lines = is.lines ++ bad.lines;
@@ -92,7 +109,8 @@ module _ (asked : ℕ) (file : List ℕ) (begun : Gathered) (is : BeginsFrom ask
 -- ---- from there on
 
 -- what was gathered behind no text
-pub goes_on : (file : List ℕ) (begun new : Gathered) (piece behind : List ℕ) → Gathers piece (10 ∷ behind) begun new → piece ≡ drop begun.tail.place file
+pub goes_on : (file : List ℕ) (begun new : Gathered) (piece behind : List ℕ)
+    → Gathers piece (10 ∷ behind) begun new → piece ≡ drop begun.tail.place file
     → begun.text.items ≡ [] → GoesOn file begun.tail new.tail new.text.items
 goes_on file begun new piece behind go is none = record {
   lines = go.lines;
@@ -104,7 +122,8 @@ goes_on file begun new piece behind go is none = record {
   passed = go.passed;
 }
 
-module _ (file before text : List ℕ) (old new : Tail) (seen : List ℕ) (has : HasGiven old seen before) (stand : Stand seen file) (on : GoesOn file old new text) where
+module _ (file before text : List ℕ) (old new : Tail) (seen : List ℕ)
+    (has : HasGiven old seen before) (stand : Stand seen file) (on : GoesOn file old new text) where
   front : take old.place file ≡ text_of has.lines
   front =
       ap (λ k. take k file) has.place
@@ -138,11 +157,23 @@ module _ (file before text : List ℕ) (old new : Tail) (seen : List ℕ) (has :
     given =
         ap (λ (l : List ℕ). l ++ text) has.given
         ∙ ap (λ (l : List ℕ). text_of (front_from old.from has.say.front ++ lines_from old.from has.say.others has.read) ++ l) on.given
-        ∙ sym (text_of-append (front_from old.from has.say.front ++ lines_from old.from has.say.others has.read) (lines_from old.from on.lines on.read))
-        ∙ ap text_of (append_assoc (front_from old.from has.say.front) (lines_from old.from has.say.others has.read) (lines_from old.from on.lines on.read))
-        ∙ ap (λ (l : List (List ℕ)). text_of (front_from old.from has.say.front ++ l)) (sym (lines_from-append old.from has.say.others on.lines has.read on.read has.say.say))
-        ∙ ap (λ k. text_of (front_from k has.say.front ++ lines_from k (has.say.others ++ on.lines) (has.read ++ on.read))) (sym on.passed.from);
-    place = omega (arith, on.passed.place, has.place, ap length (text_of-append has.lines on.lines), length-append (text_of has.lines) (text_of on.lines));
+        ∙ sym (
+        text_of-append (front_from old.from has.say.front ++ lines_from old.from has.say.others has.read)
+        (lines_from old.from on.lines on.read))
+        ∙ ap text_of (
+        append_assoc (front_from old.from has.say.front)
+        (lines_from old.from has.say.others has.read) (lines_from old.from on.lines on.read))
+        ∙ ap (λ (l : List (List ℕ)). text_of (front_from old.from has.say.front ++ l))
+        (sym (lines_from-append old.from has.say.others on.lines has.read on.read has.say.say))
+        ∙ ap (λ k. text_of (front_from k has.say.front ++ lines_from k (has.say.others ++ on.lines) (has.read ++ on.read)))
+        (sym on.passed.from);
+    place = omega (
+      arith,
+      on.passed.place,
+      has.place,
+      ap length (text_of-append has.lines on.lines),
+      length-append (text_of has.lines) (text_of on.lines),
+    );
     count = omega (arith, on.passed.count, has.count, length-append has.lines on.lines);
     next = omega (arith, on.passed.next, on.passed.from, has.next, next_after-append has.read on.read);
   }

@@ -55,7 +55,9 @@ cut_at text end at =
     record {
       within = found.0;
       behind = drop (suc end) text;
-      is = sym (take-append-drop end text) ∙ ap (λ (l : List ℕ). take end text ++ l) (drop-cons text end 0 found.0 ∙ ap (λ b. b ∷ drop (suc end) text) (eqb-true _ _ found.1));
+      is = sym (take-append-drop end text)
+          ∙ ap (λ (l : List ℕ). take end text ++ l)
+          (drop-cons text end 0 found.0 ∙ ap (λ b. b ∷ drop (suc end) text) (eqb-true _ _ found.1));
       free = All-from_get_or (λ b. is_line_feed b ≡ false) (take end text) 0 (λ k h.
           let below : k < end = omega (arith, length-take end text, h) in
           rw (get_or-take end text k 0 below) (found.2 k below));
@@ -68,7 +70,11 @@ no_line_feed text e =
     λ k d h. fails_before_first is_line_feed text k d (omega arith)
   where
     unless_within : (n m : ℕ) → cond (nat_lt n m) (Some n) None ≡ None → m ≤ n
-    unless_within n m none = elim (cases_lt n m) [ inl below ↦ absurd (none-some n (sym none ∙ ap (λ b. cond b (Some n) None) (lt-ltb n m below))) | inr past ↦ past ]
+    unless_within n m none =
+        elim (cases_lt n m) [
+          | inl below ↦ absurd (none-some n (sym none ∙ ap (λ b. cond b (Some n) None) (lt-ltb n m below)))
+          | inr past ↦ past
+        ]
 
 -- bytes with an LF have one
 pub has_line_feed : (line more : List ℕ) → HasNoLineFeed (line ++ 10 ∷ more) → ⊥
@@ -76,7 +82,8 @@ has_line_feed [] more free = true≢false (All-head (λ b. is_line_feed b ≡ fa
 has_line_feed (b ∷ line) more free = has_line_feed line more (All-tail (λ b. is_line_feed b ≡ false) b (line ++ 10 ∷ more) free)
 
 -- two first lines of one text
-pub same_first : (line more other behind : List ℕ) → HasNoLineFeed line → HasNoLineFeed other → line ++ 10 ∷ more ≡ other ++ 10 ∷ behind → line ≡ other
+pub same_first : (line more other behind : List ℕ) → HasNoLineFeed line
+    → HasNoLineFeed other → line ++ 10 ∷ more ≡ other ++ 10 ∷ behind → line ≡ other
 same_first line more other behind free free' is =
     let both : line ∷ parts more ≡ other ∷ parts behind = sym (parts-line line more free) ∙ ap parts is ∙ parts-line other behind free' in
     cc
@@ -105,18 +112,21 @@ module _ (n : ℕ) (line : List ℕ) (lines : List (List ℕ)) (some : 0 < lengt
       ap (λ b. from_tests b (nat_lt LOG_LINES n) (length lines == 0) n lines (reading line) (log_from (suc n) lines)) filled
       ∙ ap (λ b. from_tests false b (length lines == 0) n lines (reading line) (log_from (suc n) lines)) past
 
-  pub within : n ≤ LOG_LINES → log_from n (line ∷ lines) ≡ line_then n (cond (length lines == 0) (Err Truncated) (reading line)) (log_from (suc n) lines)
+  pub within : n ≤ LOG_LINES
+      → log_from n (line ∷ lines) ≡ line_then n (cond (length lines == 0) (Err Truncated) (reading line)) (log_from (suc n) lines)
   within few =
       let past : nat_lt LOG_LINES n ≡ false = grind (arith, nat_tests) in
       ap (λ b. from_tests b (nat_lt LOG_LINES n) (length lines == 0) n lines (reading line) (log_from (suc n) lines)) filled
       ∙ ap (λ b. from_tests false b (length lines == 0) n lines (reading line) (log_from (suc n) lines)) past
 
 -- bytes without LF
-pub truncated : (n : ℕ) (text : List ℕ) → 0 < length text → n ≤ LOG_LINES → HasNoLineFeed text → log_from n (parts text) ≡ Err (n, Line Truncated)
+pub truncated : (n : ℕ) (text : List ℕ) → 0 < length text → n ≤ LOG_LINES
+    → HasNoLineFeed text → log_from n (parts text) ≡ Err (n, Line Truncated)
 truncated n text some few free = ap (log_from n) (parts-none text free) ∙ within n text [] some few
 
 -- a line that says nothing
-pub faulty : (n : ℕ) (line behind : List ℕ) (fault : LineError) → 0 < length line → n ≤ LOG_LINES → HasNoLineFeed line → reading line ≡ Err fault
+pub faulty : (n : ℕ) (line behind : List ℕ) (fault : LineError) → 0 < length line
+    → n ≤ LOG_LINES → HasNoLineFeed line → reading line ≡ Err fault
     → log_from n (parts (line ++ 10 ∷ behind)) ≡ Err (n, Line fault)
 faulty n line behind fault some few free is =
     ap (log_from n) (parts-line line behind free)
@@ -133,7 +143,8 @@ fault_behind n [] (r ∷ read) tail at fault say few is = absurd say
 fault_behind n (line ∷ lines) [] tail at fault say few is = absurd say
 fault_behind n (line ∷ lines) (r ∷ read) tail at fault say few is =
     let text = text_of lines ++ tail in
-    let later = fault_behind (suc n) lines read tail at fault say.3 (omega (arith, few)) (ap (λ k. log_from k (parts tail)) (omega arith) ∙ is) in
+    let later =
+    fault_behind (suc n) lines read tail at fault say.3 (omega (arith, few)) (ap (λ k. log_from k (parts tail)) (omega arith) ∙ is) in
     ap (λ (l : List ℕ). log_from n (parts l)) (append_assoc line (10 ∷ text_of lines) tail)
     ∙ ap (log_from n) (parts-line line text say.1)
     ∙ within n line (parts text) say.0 (omega (arith, few))
@@ -153,7 +164,8 @@ some_before text end at other = elim (cases_lt 0 end) [
 ]
 
 -- what the line at the front says
-pub read_front : (text : List ℕ) (end : ℕ) (says : Result Read LineError) → position is_line_feed text ≡ Some end → reading_at_front text ≡ says → reading (take end text) ≡ says
+pub read_front : (text : List ℕ) (end : ℕ) (says : Result Read LineError)
+    → position is_line_feed text ≡ Some end → reading_at_front text ≡ says → reading (take end text) ≡ says
 read_front text end says at is = sym (ap (λ (found : Option ℕ). option_map_or (λ n. reading (take n text)) found (Err Truncated)) at) ∙ is
 
 pub nothing : (text : List ℕ) → (length text == 0) ≡ true → text ≡ []

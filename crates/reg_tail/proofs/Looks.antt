@@ -17,12 +17,14 @@ use Rattle.reg_tail.proofs.Texts.{lines_from-append, lines_log, next_after-appen
 
 -- a last look, behind a text that was given before
 given_behind : (before : List ℕ) (look : Look) (more : List Look) → HasGiven look.tail look.file (before ++ look.text) → Follow look more
-    → HasGiven (last_look look more).tail (last_look look more).file (before ++ texts_of look more) × ((last_look look more).tail.from ≡ look.tail.from)
+    → HasGiven (last_look look more).tail (last_look look more).file (before ++ texts_of look more)
+    × ((last_look look more).tail.from ≡ look.tail.from)
 given_behind before look [] has follow = (has, refl)
 given_behind before look (next ∷ more) has follow =
     let on = given_on next.file (before ++ look.text) next.text look.tail next.tail look.file has follow.0 follow.1 in
     let rest = given_behind (before ++ look.text) next more on follow.2 in (
-      subst (λ (t : List ℕ). HasGiven (last_look next more).tail (last_look next more).file t) (append_assoc before look.text (texts_of next more)) rest.0,
+      subst (λ (t : List ℕ). HasGiven (last_look next more).tail (last_look next more).file t)
+          (append_assoc before look.text (texts_of next more)) rest.0,
       rest.1 ∙ follow.1.passed.from,
     )
 
@@ -59,7 +61,8 @@ passed_stand tail file text c has stand =
     ∙ ap (λ k. take k file) (sym has.place)
 
 -- lines that are all below an offset
-none_below : (from : ℕ) (lines : List (List ℕ)) (read : List Read) → Say lines read → next_after read ≤ from → lines_from from lines read ≡ []
+none_below : (from : ℕ) (lines : List (List ℕ)) (read : List Read)
+    → Say lines read → next_after read ≤ from → lines_from from lines read ≡ []
 none_below from [] read say low = refl
 none_below from (line ∷ lines) [] say low = refl
 none_below from (line ∷ lines) (r ∷ read) say low =

@@ -23,7 +23,8 @@ use Rattle.reg_tail.specs.Tail.{lines_from}
 
 pub text_of-append : (lines more : List (List ℕ)) → text_of (lines ++ more) ≡ text_of lines ++ text_of more
 text_of-append [] more = refl
-text_of-append (line ∷ lines) more = ap (λ (l : List ℕ). line ++ 10 ∷ l) (text_of-append lines more) ∙ sym (append_assoc line (10 ∷ text_of lines) (text_of more))
+text_of-append (line ∷ lines) more =
+    ap (λ (l : List ℕ). line ++ 10 ∷ l) (text_of-append lines more) ∙ sym (append_assoc line (10 ∷ text_of lines) (text_of more))
 
 pub Say-append : (lines more : List (List ℕ)) (read next : List Read) → Say lines read → Say more next → Say (lines ++ more) (read ++ next)
 Say-append [] more [] next say then = then
@@ -80,7 +81,8 @@ line_of line behind rest len is size =
     ap (λ (l : List ℕ). take len l) (is ∙ sym (append_assoc line (10 ∷ []) behind))
     ∙ take_at (line ++ 10 ∷ []) behind len (omega (arith, size, length-append line (10 ∷ [])))
 
-pub rest_of : (line behind rest : List ℕ) (len : ℕ) → rest ≡ line ++ 10 ∷ behind → len ≡ length line + 1 → behind ≡ take (length rest - len) (drop len rest)
+pub rest_of : (line behind rest : List ℕ) (len : ℕ) → rest ≡ line ++ 10 ∷ behind
+    → len ≡ length line + 1 → behind ≡ take (length rest - len) (drop len rest)
 rest_of line behind rest len is size =
     let back : drop len rest ≡ behind =
     ap (λ (l : List ℕ). drop len l) (is ∙ sym (append_assoc line (10 ∷ []) behind))
@@ -91,7 +93,8 @@ rest_of line behind rest len is size =
 -- ---- its offset
 
 offset_at : (offset : ℕ) (found : Option Key) (value : Option (List ℕ))
-    → offset_in (option_map_or (λ key. reads.Record (record { offset = offset; key = key; value = value })) found (reads.Foreign offset)) ≡ offset
+    → offset_in (option_map_or (λ key. reads.Record (record { offset = offset; key = key; value = value })) found (reads.Foreign offset))
+    ≡ offset
 offset_at offset None value = refl
 offset_at offset (Some key) value = refl
 

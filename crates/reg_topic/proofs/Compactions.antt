@@ -15,5 +15,7 @@ drops_leave_compactions drops t c =
           let rises = leb-true t.kept.floor c.floor floors.0 in
           let leaves = (drops t.kept c.floor c.dropped rises).0 parts.1 in
           (rises, leb-true c.floor t.next floors.1, leaves.0, leaves.1)),
-      (λ is. both (both (le-leb t.kept.floor c.floor is.0) (le-leb c.floor t.next is.1)) ((drops t.kept c.floor c.dropped is.0).1 (is.2, is.3))),
+      (λ is.
+          both (both (le-leb t.kept.floor c.floor is.0) (le-leb c.floor t.next is.1))
+          ((drops t.kept c.floor c.dropped is.0).1 (is.2, is.3))),
     )

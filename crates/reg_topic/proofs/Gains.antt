@@ -33,7 +33,8 @@ other_one none (inl a) = absurd (none a)
 other_one none (inr b) = b
 
 module _ (order : IsTotalOrder record_cmp) (apart : IsAntisymmetric record_cmp) where
-  in_both : (log : Records) (rs : List Record) (q : Record) → contains (union log (from_list rs)) q ≡ (contains log q || list_any (eq_by_cmp record_cmp q) rs)
+  in_both : (log : Records) (rs : List Record) (q : Record)
+      → contains (union log (from_list rs)) q ≡ (contains log q || list_any (eq_by_cmp record_cmp q) rs)
   in_both log rs q = contains-union order log (from_list rs) q ∙ ap (λ b. contains log q || b) (contains-from_list order rs q)
 
   with_none : (log : Records) → log ≡ union log (from_list [])
@@ -47,7 +48,9 @@ module _ (order : IsTotalOrder record_cmp) (apart : IsAntisymmetric record_cmp) 
 
   module _ (go : BatchesGoOn) (ends : BatchesEndByTheLimit) where
     pub follows-commit : (t : Topic) (commit : Commit) → MayCommit t commit → follows t.next commit.batch ≡ true
-    follows-commit t commit m = both (go (registry_of t) t.next commit.command m.reply commit.batch m.step) (le-leb _ _ (other_one m.writes (ends (registry_of t) t.next commit.command m.reply commit.batch m.step)))
+    follows-commit t commit m =
+        both (go (registry_of t) t.next commit.command m.reply commit.batch m.step)
+        (le-leb _ _ (other_one m.writes (ends (registry_of t) t.next commit.command m.reply commit.batch m.step)))
 
     log-batch : (b : Bool) (t : Topic) (batch : List Record) → b ≡ true → (after_batch b t batch).log ≡ union t.log (from_list batch)
     log-batch true t batch e = refl
@@ -64,4 +67,6 @@ module _ (order : IsTotalOrder record_cmp) (apart : IsAntisymmetric record_cmp) 
     pub log_is_published : LogIsWhatWasPublished
     log_is_published t [] l = with_none t.log
     log_is_published t (i ∷ is) l =
-        log_is_published (after_item t i) is l.1 ∙ ap (λ s. union s (from_list (published_by is))) (log-item t i l.0) ∙ joined t.log (records_of_item i) (published_by is)
+        log_is_published (after_item t i) is l.1
+        ∙ ap (λ s. union s (from_list (published_by is))) (log-item t i l.0)
+        ∙ joined t.log (records_of_item i) (published_by is)

@@ -59,11 +59,26 @@ module _ (R S : Records) (same : (key : Key) → (key ≡ keys.IdMark → ⊥) �
   soft_same : (subject : List ℕ) (version offset : ℕ) → is_soft_deleted R subject version offset ≡ is_soft_deleted S subject version offset
   unfolding is_soft_deleted
   soft_same subject version offset =
-      ap (λ (o : Option Record). option_map_or (λ r. option_map_or (λ value. covers r.offset value version offset) (value_of r) false) o false) (same (keys.DeleteSubject subject) (λ e. cc))
+      ap
+      (λ (o : Option Record).
+      option_map_or (λ r. option_map_or (λ value. covers r.offset value version offset) (value_of r) false) o false)
+      (same (keys.DeleteSubject subject) (λ e. cc))
 
   in_same : (offset : ℕ) (v : Value) → entry_in R offset v ≡ entry_in S offset v
   in_same offset (values.Schema subject version id schema deleted) =
-      ap (λ b. let e : Entry = record { subject = subject; version = version; id = id; text = schema; normal = normal_of schema; offset = offset; soft = deleted || b } in Some e) (soft_same subject version offset)
+      ap
+      (λ b.
+      let e : Entry = record {
+        subject = subject;
+        version = version;
+        id = id;
+        text = schema;
+        normal = normal_of schema;
+        offset = offset;
+        soft = deleted || b;
+      } in
+      Some e)
+      (soft_same subject version offset)
   in_same offset (values.Config level) = refl
   in_same offset (values.Mode mode) = refl
   in_same offset (values.DeleteSubject subject version) = refl
@@ -72,16 +87,20 @@ module _ (R S : Records) (same : (key : Key) → (key ≡ keys.IdMark → ⊥) �
 
   entry_same : (r : Record) → entry_of R r ≡ entry_of S r
   unfolding entry_of
-  entry_same r = elim (value_of r) as (λ o. option_and_then (entry_in R r.offset) o ≡ option_and_then (entry_in S r.offset) o) [ None ↦ refl | Some v ↦ in_same r.offset v ]
+  entry_same r =
+      elim (value_of r) as (λ o.
+      option_and_then (entry_in R r.offset) o ≡ option_and_then (entry_in S r.offset) o) [ None ↦ refl | Some v ↦ in_same r.offset v ]
 
-module _ (order : IsTotalOrder record_cmp) (apart : IsAntisymmetric record_cmp) (greatest : LastIsGreatest) (of_union : LastOfUnion) (of_lasts : LastOfLastRecords)
+module _ (order : IsTotalOrder record_cmp) (apart : IsAntisymmetric record_cmp)
+    (greatest : LastIsGreatest) (of_union : LastOfUnion) (of_lasts : LastOfLastRecords)
     (stand : EntriesAreOfPlaces) (opaque_lasts : NoneIsNoOpaqueLast) (one : NoneIsOneTextEach) where
   is_mark : (rs : List Record) → AreMarks rs → (q : Record) → list_any (eq_by_cmp record_cmp q) rs ≡ true → q.key ≡ keys.IdMark
   is_mark [] all q any = absurd (false≢true any)
-  is_mark (r ∷ rs) all q any = elim (either (eq_by_cmp record_cmp q r) (list_any (eq_by_cmp record_cmp q) rs) any) as (λ _. q.key ≡ keys.IdMark) [
-    | inl e ↦ ap (λ (x : Record). x.key) (equal order apart q r e) ∙ all.0
-    | inr rest ↦ is_mark rs all.1 q rest
-  ]
+  is_mark (r ∷ rs) all q any =
+      elim (either (eq_by_cmp record_cmp q r) (list_any (eq_by_cmp record_cmp q) rs) any) as (λ _. q.key ≡ keys.IdMark) [
+        | inl e ↦ ap (λ (x : Record). x.key) (equal order apart q r e) ∙ all.0
+        | inr rest ↦ is_mark rs all.1 q rest
+      ]
 
   module _ (log : Records) (due : List Record) (marks : AreMarks due) where
     abbrev marks_set : Records
@@ -108,12 +127,16 @@ module _ (order : IsTotalOrder record_cmp) (apart : IsAntisymmetric record_cmp) 
     stood : (e : Entry) → Contains (entries (last_records after)) e → Contains (entries (last_records log)) e
     stood e c =
         let found = (stand after e).0 c in
-        let place : last log (keys.Schema e.subject e.version) ≡ Some found.0 = sym (other_last (keys.Schema e.subject e.version) (λ e. cc)) ∙ found.1 in
-        let gives : entry_of (last_records log) found.0 ≡ Some e = sym (entry_same (last_records after) (last_records log) other_of_lasts found.0) ∙ found.2 in
+        let place : last log (keys.Schema e.subject e.version) ≡ Some found.0 =
+        sym (other_last (keys.Schema e.subject e.version) (λ e. cc)) ∙ found.1 in
+        let gives : entry_of (last_records log) found.0 ≡ Some e =
+        sym (entry_same (last_records after) (last_records log) other_of_lasts found.0) ∙ found.2 in
         (stand log e).1 (found.0, place, gives)
 
     one_schema : two_schemas (last_records log) ≡ None → two_schemas (last_records after) ≡ None
-    one_schema none = (one (entries (last_records after))).1 (λ e f in_e in_f same. (one (entries (last_records log))).0 none e f (stood e in_e) (stood f in_f) same)
+    one_schema none =
+        (one (entries (last_records after))).1 (λ e f in_e in_f same.
+        (one (entries (last_records log))).0 none e f (stood e in_e) (stood f in_f) same)
 
     mark_read : (r : Record) → r.key ≡ keys.IdMark → is_opaque r ≡ false
     unfolding is_opaque
@@ -121,14 +144,19 @@ module _ (order : IsTotalOrder record_cmp) (apart : IsAntisymmetric record_cmp) 
 
     none_opaque : opaque (last_records log) ≡ None → (key : Key) (r : Record) → last after key ≡ Some r → is_opaque r ≡ false
     none_opaque none keys.IdMark r is = mark_read r ((greatest after keys.IdMark r).0 is).is_of_key
-    none_opaque none (keys.Schema subject version) r is = (opaque_lasts log).0 none (keys.Schema subject version) r (sym (other_last (keys.Schema subject version) (λ e. cc)) ∙ is)
-    none_opaque none (keys.Config scope) r is = (opaque_lasts log).0 none (keys.Config scope) r (sym (other_last (keys.Config scope) (λ e. cc)) ∙ is)
-    none_opaque none (keys.Mode scope) r is = (opaque_lasts log).0 none (keys.Mode scope) r (sym (other_last (keys.Mode scope) (λ e. cc)) ∙ is)
-    none_opaque none (keys.DeleteSubject subject) r is = (opaque_lasts log).0 none (keys.DeleteSubject subject) r (sym (other_last (keys.DeleteSubject subject) (λ e. cc)) ∙ is)
+    none_opaque none (keys.Schema subject version) r is =
+        (opaque_lasts log).0 none (keys.Schema subject version) r (sym (other_last (keys.Schema subject version) (λ e. cc)) ∙ is)
+    none_opaque none (keys.Config scope) r is =
+        (opaque_lasts log).0 none (keys.Config scope) r (sym (other_last (keys.Config scope) (λ e. cc)) ∙ is)
+    none_opaque none (keys.Mode scope) r is =
+        (opaque_lasts log).0 none (keys.Mode scope) r (sym (other_last (keys.Mode scope) (λ e. cc)) ∙ is)
+    none_opaque none (keys.DeleteSubject subject) r is =
+        (opaque_lasts log).0 none (keys.DeleteSubject subject) r (sym (other_last (keys.DeleteSubject subject) (λ e. cc)) ∙ is)
     none_opaque none keys.Noop r is = (opaque_lasts log).0 none keys.Noop r (sym (other_last keys.Noop (λ e. cc)) ∙ is)
 
     pub marks_leave_open : is_closed (last_records log) ≡ false → is_closed (last_records after) ≡ false
     marks_leave_open open_before =
-        let unread : opaque (last_records after) ≡ None = (opaque_lasts after).1 (none_opaque (no_first (opaque (last_records log)) _ open_before)) in
+        let unread : opaque (last_records after) ≡ None =
+        (opaque_lasts after).1 (none_opaque (no_first (opaque (last_records log)) _ open_before)) in
         let two : two_schemas (last_records after) ≡ None = one_schema (no_second _ (two_schemas (last_records log)) open_before) in
         λ i. is_some (unread i) || is_some (two i)

@@ -17,5 +17,7 @@ or_left a b e = ap (λ a. a || b) e
 pub more_keeps : IsTotalOrder record_cmp → MoreKeepsLasts
 more_keeps order C P R is part = record {
   is_part = λ r h. ⊎_elim (is.is_part r) (part r) (either (contains C r) (contains P r) (sym (contains-union order C P r) ∙ h));
-  has_lasts = λ key. if_some (λ r. contains C r ≡ true) (λ r. contains (union C P) r ≡ true) (last R key) (λ r h. contains-union order C P r ∙ or_left (contains C r) (contains P r) h) (is.has_lasts key);
+  has_lasts = λ key.
+      if_some (λ r. contains C r ≡ true) (λ r. contains (union C P) r ≡ true) (last R key)
+      (λ r h. contains-union order C P r ∙ or_left (contains C r) (contains P r) h) (is.has_lasts key);
 }

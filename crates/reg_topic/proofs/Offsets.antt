@@ -16,7 +16,8 @@ use Rattle.reg_topic.specs.declared.published.Compaction.{Compaction}
 use Rattle.reg_topic.specs.declared.topic.Topic.{Topic}
 use Rattle.reg_topic.proofs.Bools.{both_true, either}
 
-pub below_compaction : (b : Bool) (t : Topic) (c : Compaction) → AreBelow t.log t.next → AreBelow (after_compaction b t c).log (after_compaction b t c).next
+pub below_compaction : (b : Bool) (t : Topic) (c : Compaction) → AreBelow t.log t.next
+    → AreBelow (after_compaction b t c).log (after_compaction b t c).next
 below_compaction true t c h = h
 below_compaction false t c h = h
 
@@ -24,17 +25,20 @@ module _ (order : IsTotalOrder record_cmp) (apart : IsAntisymmetric record_cmp) 
   pub equal : (r d : Record) → eq_by_cmp record_cmp r d ≡ true → r ≡ d
   equal r d h = apart r d ((Equal-is (record_cmp r d)).0 h)
 
-  pub below_list : (next : ℕ) (rs : List Record) → All (λ r. r.offset < next) rs → (q : Record) → list_any (eq_by_cmp record_cmp q) rs ≡ true → q.offset < next
+  pub below_list : (next : ℕ) (rs : List Record) → All (λ r. r.offset < next) rs
+      → (q : Record) → list_any (eq_by_cmp record_cmp q) rs ≡ true → q.offset < next
   below_list next [] all q any = absurd (false≢true any)
-  below_list next (r ∷ rs) all q any = elim (either (eq_by_cmp record_cmp q r) (list_any (eq_by_cmp record_cmp q) rs) any) as (λ _. q.offset < next) [
-    | inl e ↦
-        let at = ap (λ (x : Record). x.offset) (equal q r e) in
-        let here = All-head (λ x. x.offset < next) r rs all in
-        omega (arith, at, here)
-    | inr rest ↦ below_list next rs (All-tail (λ x. x.offset < next) r rs all) q rest
-  ]
+  below_list next (r ∷ rs) all q any =
+      elim (either (eq_by_cmp record_cmp q r) (list_any (eq_by_cmp record_cmp q) rs) any) as (λ _. q.offset < next) [
+        | inl e ↦
+            let at = ap (λ (x : Record). x.offset) (equal q r e) in
+            let here = All-head (λ x. x.offset < next) r rs all in
+            omega (arith, at, here)
+        | inr rest ↦ below_list next rs (All-tail (λ x. x.offset < next) r rs all) q rest
+      ]
 
-  pub from_first : (n : ℕ) (rs : List Record) (q : Record) → goes_on n rs ≡ true → list_any (eq_by_cmp record_cmp q) rs ≡ true → n ≤ q.offset
+  pub from_first : (n : ℕ) (rs : List Record) (q : Record) → goes_on n rs ≡ true
+      → list_any (eq_by_cmp record_cmp q) rs ≡ true → n ≤ q.offset
   from_first n [] q on any = absurd (false≢true any)
   from_first n (r ∷ rs) q on any =
       let parts = both_true (r.offset == n) (goes_on (suc n) rs) on in
@@ -43,7 +47,8 @@ module _ (order : IsTotalOrder record_cmp) (apart : IsAntisymmetric record_cmp) 
         | inr rest ↦ let h = from_first (suc n) rs q parts.1 rest in omega (arith, h)
       ]
 
-  in_batch : (n : ℕ) (rs : List Record) (q : Record) → goes_on n rs ≡ true → list_any (eq_by_cmp record_cmp q) rs ≡ true → q.offset < n + length rs
+  in_batch : (n : ℕ) (rs : List Record) (q : Record) → goes_on n rs ≡ true
+      → list_any (eq_by_cmp record_cmp q) rs ≡ true → q.offset < n + length rs
   in_batch n [] q on any = absurd (false≢true any)
   in_batch n (r ∷ rs) q on any =
       let parts = both_true (r.offset == n) (goes_on (suc n) rs) on in
@@ -53,10 +58,14 @@ module _ (order : IsTotalOrder record_cmp) (apart : IsAntisymmetric record_cmp) 
       ]
 
   -- where a batch is published, it goes on
-  pub below_batch : (b : Bool) (t : Topic) (batch : List Record) → (b ≡ true → goes_on t.next batch ≡ true) → AreBelow t.log t.next → AreBelow (after_batch b t batch).log (after_batch b t batch).next
+  pub below_batch : (b : Bool) (t : Topic) (batch : List Record) → (b ≡ true → goes_on t.next batch ≡ true)
+      → AreBelow t.log t.next → AreBelow (after_batch b t batch).log (after_batch b t batch).next
   below_batch false t batch on below q h = below q h
   below_batch true t batch on below q h =
-      elim (either (contains t.log q) (contains (from_list {R = record_cmp} batch) q) (sym (contains-union order t.log (from_list batch) q) ∙ h)) as (λ _. q.offset < t.next + length batch) [
+      elim (
+      either (contains t.log q) (contains (from_list {R = record_cmp} batch) q)
+      (sym (contains-union order t.log (from_list batch) q) ∙ h))
+      as (λ _. q.offset < t.next + length batch) [
         | inl old ↦ let k = below q old in omega (arith, k)
         | inr new ↦ in_batch t.next batch q (on refl) (sym (contains-from_list order batch q) ∙ new)
       ]

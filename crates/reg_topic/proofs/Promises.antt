@@ -51,18 +51,22 @@ steady : (base : Topic) → IsAdopted base → IsSteady base
 steady base adopted = record { not_closed = adopted.not_closed; below = adopted.ahead }
 
 module _ (order : IsTotalOrder record_cmp) (apart : IsAntisymmetric record_cmp) (go : BatchesGoOn) (stay : StepsStayOpen) where
-  open_batch : (b : Bool) (t : Topic) (batch : List Record) → is_closed (last_records (union t.log (from_list batch))) ≡ false → is_closed (registry_of t) ≡ false → is_closed (registry_of (after_batch b t batch)) ≡ false
+  open_batch : (b : Bool) (t : Topic) (batch : List Record) → is_closed (last_records (union t.log (from_list batch))) ≡ false
+      → is_closed (registry_of t) ≡ false → is_closed (registry_of (after_batch b t batch)) ≡ false
   open_batch true t batch more h = more
   open_batch false t batch more h = h
 
-  open_compaction : (b : Bool) (t : Topic) (c : Compaction) → is_closed (registry_of t) ≡ false → is_closed (registry_of (after_compaction b t c)) ≡ false
+  open_compaction : (b : Bool) (t : Topic) (c : Compaction) → is_closed (registry_of t) ≡ false
+      → is_closed (registry_of (after_compaction b t c)) ≡ false
   open_compaction true t c h = h
   open_compaction false t c h = h
 
   steady_item : (t : Topic) (i : Item) → MayFollow t i → IsSteady t → IsSteady (after_item t i)
   steady_item t (items.Commit commit) m h = record {
-    not_closed = open_batch (follows t.next commit.batch) t commit.batch (stay t.log t.next commit.command m.reply commit.batch h.not_closed m.step) h.not_closed;
-    below = below_batch order apart (follows t.next commit.batch) t commit.batch (λ _. go (registry_of t) t.next commit.command m.reply commit.batch m.step) h.below;
+    not_closed = open_batch (follows t.next commit.batch) t commit.batch
+        (stay t.log t.next commit.command m.reply commit.batch h.not_closed m.step) h.not_closed;
+    below = below_batch order apart (follows t.next commit.batch) t commit.batch
+        (λ _. go (registry_of t) t.next commit.command m.reply commit.batch m.step) h.below;
   }
   steady_item t (items.Compaction c) m h = record {
     not_closed = open_compaction (may_compact t c) t c h.not_closed;
@@ -77,25 +81,32 @@ module _ (order : IsTotalOrder record_cmp) (apart : IsAntisymmetric record_cmp) 
   stay_open base is adopted lawful = (steady_items base is lawful (steady base adopted)).not_closed
 
   module _ (take : EntriesHaveGivenIds) (keep : StepsKeepGivenIds) where
-    taken_batch : (b : Bool) (t : Topic) (batch : List Record) (id : ℕ) (normal : List ℕ) → IsGiven (last_after t.log batch) id normal → IsGiven (registry_of t) id normal → IsGiven (registry_of (after_batch b t batch)) id normal
+    taken_batch : (b : Bool) (t : Topic) (batch : List Record) (id : ℕ) (normal : List ℕ) → IsGiven (last_after t.log batch) id normal
+        → IsGiven (registry_of t) id normal → IsGiven (registry_of (after_batch b t batch)) id normal
     taken_batch true t batch id normal more h = more
     taken_batch false t batch id normal more h = h
 
-    taken_compaction : (b : Bool) (t : Topic) (c : Compaction) (id : ℕ) (normal : List ℕ) → IsGiven (registry_of t) id normal → IsGiven (registry_of (after_compaction b t c)) id normal
+    taken_compaction : (b : Bool) (t : Topic) (c : Compaction) (id : ℕ) (normal : List ℕ)
+        → IsGiven (registry_of t) id normal → IsGiven (registry_of (after_compaction b t c)) id normal
     taken_compaction true t c id normal h = h
     taken_compaction false t c id normal h = h
 
-    taken_item : (t : Topic) (i : Item) (id : ℕ) (normal : List ℕ) → MayFollow t i → IsSteady t → IsGiven (registry_of t) id normal → IsGiven (registry_of (after_item t i)) id normal
+    taken_item : (t : Topic) (i : Item) (id : ℕ) (normal : List ℕ) → MayFollow t i → IsSteady t
+        → IsGiven (registry_of t) id normal → IsGiven (registry_of (after_item t i)) id normal
     taken_item t (items.Commit commit) id normal m s h =
-        taken_batch (follows t.next commit.batch) t commit.batch id normal (keep t.log t.next commit.command m.reply commit.batch s.not_closed s.below m.step id normal h) h
+        taken_batch (follows t.next commit.batch) t commit.batch id normal
+        (keep t.log t.next commit.command m.reply commit.batch s.not_closed s.below m.step id normal h) h
     taken_item t (items.Compaction c) id normal m s h = taken_compaction (may_compact t c) t c id normal h
 
-    taken_items : (t : Topic) (is : List Item) (id : ℕ) (normal : List ℕ) → IsLawful t is → IsSteady t → IsGiven (registry_of t) id normal → IsGiven (registry_of (after_items t is)) id normal
+    taken_items : (t : Topic) (is : List Item) (id : ℕ) (normal : List ℕ) → IsLawful t is → IsSteady t
+        → IsGiven (registry_of t) id normal → IsGiven (registry_of (after_items t is)) id normal
     taken_items t [] id normal l s h = h
-    taken_items t (i ∷ is) id normal l s h = taken_items (after_item t i) is id normal l.1 (steady_item t i l.0 s) (taken_item t i id normal l.0 s h)
+    taken_items t (i ∷ is) id normal l s h =
+        taken_items (after_item t i) is id normal l.1 (steady_item t i l.0 s) (taken_item t i id normal l.0 s h)
 
     -- an entry of a front, and one of the list
-    later_on : (base : Topic) (one more : List Item) → IsAdopted base → IsLawful base (one ++ more) → (e f : Entry) → StoodAfter base one e → StoodAfter base (one ++ more) f → e.id ≡ f.id → e.normal ≡ f.normal
+    later_on : (base : Topic) (one more : List Item) → IsAdopted base → IsLawful base (one ++ more) → (e f : Entry)
+        → StoodAfter base one e → StoodAfter base (one ++ more) f → e.id ≡ f.id → e.normal ≡ f.normal
     later_on base one more adopted lawful e f in_e in_f same =
         let parts = (lawful_parts base one more).0 lawful in
         let t : Topic = after_items base one in
@@ -106,8 +117,11 @@ module _ (order : IsTotalOrder record_cmp) (apart : IsAntisymmetric record_cmp) 
     pub keep_ids : LawfulListsKeepIds
     keep_ids base is adopted lawful one other p q e f in_e in_f same =
         elim (fronts one other p.0 q.0 (p.1 ∙ sym q.1)) as (λ _. e.normal ≡ f.normal) [
-          | inl d ↦ later_on base one d.0 adopted (subst (IsLawful base) (sym d.1) (lawful_front base other is q lawful)) e f in_e (subst (λ (js : List Item). StoodAfter base js f) (sym d.1) in_f) same
-          | inr d ↦ sym (later_on base other d.0 adopted (subst (IsLawful base) (sym d.1) (lawful_front base one is p lawful)) f e in_f (subst (λ (js : List Item). StoodAfter base js e) (sym d.1) in_e) (sym same))
+          | inl d ↦ later_on base one d.0 adopted (subst (IsLawful base) (sym d.1) (lawful_front base other is q lawful)) e f in_e
+              (subst (λ (js : List Item). StoodAfter base js f) (sym d.1) in_f) same
+          | inr d ↦ sym (
+              later_on base other d.0 adopted (subst (IsLawful base) (sym d.1) (lawful_front base one is p lawful)) f e in_f
+              (subst (λ (js : List Item). StoodAfter base js e) (sym d.1) in_e) (sym same))
         ]
 
 pub meet_levels : StepsMeetLevels → LawfulListsMeetLevels

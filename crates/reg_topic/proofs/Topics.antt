@@ -50,11 +50,14 @@ lawful_parts t is js = (apart t is js, joined t is js)
 
 -- Logs.
 module _ (order : IsTotalOrder record_cmp) where
-  grows-batch : (b : Bool) (t : Topic) (batch : List Record) (r : Record) → contains t.log r ≡ true → contains (after_batch b t batch).log r ≡ true
-  grows-batch true t batch r h = contains-union order t.log (from_list batch) r ∙ ap (λ b. b || contains (from_list {R = record_cmp} batch) r) h
+  grows-batch : (b : Bool) (t : Topic) (batch : List Record) (r : Record)
+      → contains t.log r ≡ true → contains (after_batch b t batch).log r ≡ true
+  grows-batch true t batch r h =
+      contains-union order t.log (from_list batch) r ∙ ap (λ b. b || contains (from_list {R = record_cmp} batch) r) h
   grows-batch false t batch r h = h
 
-  grows-compaction : (b : Bool) (t : Topic) (c : Compaction) (r : Record) → contains t.log r ≡ true → contains (after_compaction b t c).log r ≡ true
+  grows-compaction : (b : Bool) (t : Topic) (c : Compaction) (r : Record)
+      → contains t.log r ≡ true → contains (after_compaction b t c).log r ≡ true
   grows-compaction true t c r h = h
   grows-compaction false t c r h = h
 
@@ -94,7 +97,8 @@ rises-batch true t batch = omega arith
 rises-batch false t batch = omega arith
 
 rises-compaction : (b : Bool) (t : Topic) (c : Compaction) → may_compact t c ≡ b → t.kept.floor ≤ (after_compaction b t c).kept.floor
-rises-compaction true t c e = leb-true t.kept.floor c.floor (both_true (nat_le t.kept.floor c.floor) (nat_le c.floor t.next) (floors t c e)).0
+rises-compaction true t c e =
+    leb-true t.kept.floor c.floor (both_true (nat_le t.kept.floor c.floor) (nat_le c.floor t.next) (floors t c e)).0
 rises-compaction false t c e = omega arith
 
 rises-item : (t : Topic) (i : Item) → t.kept.floor ≤ (after_item t i).kept.floor
@@ -109,7 +113,8 @@ rise t (i ∷ is) =
     omega (arith, here, more)
 
 -- Kept sets.
-module _ (order : IsTotalOrder record_cmp) (apart : IsAntisymmetric record_cmp) (across : CompactionsCompose) (join : LaterRecordsMayJoin) (drops : AllowedDropsLeaveCompactions) where
+module _ (order : IsTotalOrder record_cmp) (apart : IsAntisymmetric record_cmp)
+    (across : CompactionsCompose) (join : LaterRecordsMayJoin) (drops : AllowedDropsLeaveCompactions) where
   abbrev IsKept : Topic → Type 0
   IsKept t = IsCompactionOf t.kept (whole_log t)
 

@@ -44,7 +44,8 @@ inside : {X : Type 0} (a b : X) → Some a ≡ Some b → a ≡ b
 inside a b same = cc
 
 -- what is kept by a test passes it
-passes : {X : Type 0} (test : X → Bool) (o : Option X) (x : X) → option_and_then (λ y. cond (test y) (Some y) None) o ≡ Some x → test x ≡ true
+passes : {X : Type 0} (test : X → Bool) (o : Option X) (x : X)
+    → option_and_then (λ y. cond (test y) (Some y) None) o ≡ Some x → test x ≡ true
 passes test None x is = absurd (cc)
 passes test (Some y) x is =
     elim (test y) as (λ b. test y ≡ b → cond b (Some y) None ≡ Some x → test x ≡ true) [
@@ -55,7 +56,8 @@ passes test (Some y) x is =
 -- a number that is read is within the limits
 number_fits : (name : List ℕ) (d : Data) (n : ℕ) → number_at name d ≡ Some n → IsVersionOrId n
 number_fits name d n is =
-    let within = both_true (nat_le 1 n) (nat_le n NUMBER_LIMIT) (passes (λ n. nat_le 1 n && nat_le n NUMBER_LIMIT) (option_and_then as_u64 (option_and_then as_number (get name d))) n is) in
+    let within = both_true (nat_le 1 n) (nat_le n NUMBER_LIMIT)
+    (passes (λ n. nat_le 1 n && nat_le n NUMBER_LIMIT) (option_and_then as_u64 (option_and_then as_number (get name d))) n is) in
     (leb-true 1 n within.0, leb-true n NUMBER_LIMIT within.1)
 
 named_fits : (name : List ℕ) (n : ℕ) (d : Data) → has_number_at name n d ≡ true → IsVersionOrId n
@@ -68,7 +70,8 @@ named_fits name n d is =
 value_in-of : (key : Key) (d : Data) → IfSome (value_in key d) (IsOf key)
 value_in-of (keys.Schema subject version) d =
     let P : Value → Type 0 = IsOf (keys.Schema subject version) in
-    let of_deleted : ℕ → List ℕ → Option Value = λ id schema. option_map (λ deleted. values.Schema subject version id schema deleted) (deleted_in d) in
+    let of_deleted : ℕ → List ℕ → Option Value =
+    λ id schema. option_map (λ deleted. values.Schema subject version id schema deleted) (deleted_in d) in
     let of_schema : ℕ → Option Value = λ id. option_and_then (of_deleted id) (text_where is_schema (codes "schema") d) in
     let named = has_text_at (codes "subject") subject d in
     let numbered = has_number_at (codes "version") version d in
@@ -81,14 +84,17 @@ value_in-of (keys.Schema subject version) d =
 value_in-of (keys.Config scope) d =
     mapped (IsOf (keys.Config scope)) (text_where is_level (codes "compatibilityLevel") d) (λ level. values.Config level) (λ level is.
     inl (scope, refl, passes is_level (text_at (codes "compatibilityLevel") d) level is))
-value_in-of (keys.Mode scope) d = mapped (IsOf (keys.Mode scope)) (text_at (codes "mode") d) (λ mode. values.Mode mode) (λ mode _. inl (scope, refl))
+value_in-of (keys.Mode scope) d =
+    mapped (IsOf (keys.Mode scope)) (text_at (codes "mode") d) (λ mode. values.Mode mode) (λ mode _. inl (scope, refl))
 value_in-of (keys.DeleteSubject subject) d =
     let P : Value → Type 0 = IsOf (keys.DeleteSubject subject) in
-    if_so P (has_text_at (codes "subject") subject d) (option_map (λ version. values.DeleteSubject subject version) (number_at (codes "version") d)) (λ _.
+    if_so P (has_text_at (codes "subject") subject d)
+    (option_map (λ version. values.DeleteSubject subject version) (number_at (codes "version") d)) (λ _.
     mapped P (number_at (codes "version") d) (λ version. values.DeleteSubject subject version) (λ version at.
     inl (refl, number_fits (codes "version") d version at)))
 value_in-of keys.Noop d = inr (refl, refl)
-value_in-of keys.IdMark d = mapped (IsOf keys.IdMark) (number_at (codes "id") d) (λ id. values.IdMark id) (λ id at. inl (refl, number_fits (codes "id") d id at))
+value_in-of keys.IdMark d =
+    mapped (IsOf keys.IdMark) (number_at (codes "id") d) (λ id. values.IdMark id) (λ id at. inl (refl, number_fits (codes "id") d id at))
 
 read-of : (key : Key) (text : List ℕ) → IfSome (option_and_then (value_in key) (read text)) (IsOf key)
 read-of key text = each_some (IsOf key) (read text) (value_in key) (λ d _. value_in-of key d)

@@ -30,13 +30,18 @@ same_number : (n : ℕ) → (n == n) ≡ true
 same_number n = eq-eqb n n refl
 
 -- where compact texts read back
-module _ (read-compact_text : (d : Data) → HasNumbers (outline d) → depth (outline d) ≤ max_depth → read (compact_text d) ≡ of_json (outline d)) where
-  schema_again : (subject : List ℕ) (version id : ℕ) (schema : List ℕ) (deleted : Bool) → IsVersionOrId version → IsVersionOrId id → is_schema schema ≡ true
-      → option_and_then (value_in (Schema subject version)) (read (compact_text (data_of (values.Schema subject version id schema deleted)))) ≡ Some (values.Schema subject version id schema deleted)
+module _ (read-compact_text : (d : Data) → HasNumbers (outline d)
+    → depth (outline d) ≤ max_depth → read (compact_text d) ≡ of_json (outline d)) where
+  schema_again : (subject : List ℕ) (version id : ℕ) (schema : List ℕ) (deleted : Bool)
+      → IsVersionOrId version → IsVersionOrId id → is_schema schema ≡ true
+      → option_and_then (value_in (Schema subject version))
+      (read (compact_text (data_of (values.Schema subject version id schema deleted))))
+      ≡ Some (values.Schema subject version id schema deleted)
   schema_again subject version id schema deleted v i read =
       let n = IsNumber-decimal version (omega arith) in
       let m = IsNumber-decimal id (omega arith) in
-      ap (option_and_then (value_in (Schema subject version))) (read-compact_text (data_of (values.Schema subject version id schema deleted)) (tt, (n, (m, (tt, (tt, tt))))) (omega arith))
+      ap (option_and_then (value_in (Schema subject version)))
+      (read-compact_text (data_of (values.Schema subject version id schema deleted)) (tt, (n, (m, (tt, (tt, tt))))) (omega arith))
       ∙ rw (
         number_of-decimal version (omega arith),
         number_of-decimal id (omega arith),
@@ -49,26 +54,36 @@ module _ (read-compact_text : (d : Data) → HasNumbers (outline d) → depth (o
         read,
       )
 
-  config_again : (scope : Option (List ℕ)) (level : List ℕ) → is_level level ≡ true → option_and_then (value_in (Config scope)) (read (compact_text (data_of (values.Config level)))) ≡ Some (values.Config level)
-  config_again scope level named = ap (option_and_then (value_in (Config scope))) (read-compact_text (data_of (values.Config level)) (tt, tt) (omega arith)) ∙ rw named refl
+  config_again : (scope : Option (List ℕ)) (level : List ℕ) → is_level level ≡ true
+      → option_and_then (value_in (Config scope)) (read (compact_text (data_of (values.Config level)))) ≡ Some (values.Config level)
+  config_again scope level named =
+      ap (option_and_then (value_in (Config scope))) (read-compact_text (data_of (values.Config level)) (tt, tt) (omega arith))
+      ∙ rw named refl
 
   delete_subject_again : (subject : List ℕ) (version : ℕ) → IsVersionOrId version
-      → option_and_then (value_in (DeleteSubject subject)) (read (compact_text (data_of (values.DeleteSubject subject version)))) ≡ Some (values.DeleteSubject subject version)
+      → option_and_then (value_in (DeleteSubject subject)) (read (compact_text (data_of (values.DeleteSubject subject version))))
+      ≡ Some (values.DeleteSubject subject version)
   delete_subject_again subject version v =
       let n = IsNumber-decimal version (omega arith) in
-      ap (option_and_then (value_in (DeleteSubject subject))) (read-compact_text (data_of (values.DeleteSubject subject version)) (tt, (n, tt)) (omega arith))
+      ap (option_and_then (value_in (DeleteSubject subject)))
+      (read-compact_text (data_of (values.DeleteSubject subject version)) (tt, (n, tt)) (omega arith))
       ∙ rw (number_of-decimal version (omega arith), same_bytes subject, le-leb 1 version v.0, le-leb version _ v.1)
 
-  id_mark_again : (id : ℕ) → IsVersionOrId id → option_and_then (value_in IdMark) (read (compact_text (data_of (values.IdMark id)))) ≡ Some (values.IdMark id)
+  id_mark_again : (id : ℕ) → IsVersionOrId id
+      → option_and_then (value_in IdMark) (read (compact_text (data_of (values.IdMark id)))) ≡ Some (values.IdMark id)
   id_mark_again id i =
-      ap (option_and_then (value_in IdMark)) (read-compact_text (data_of (values.IdMark id)) (IsNumber-decimal id (omega arith), tt) (omega arith))
+      ap (option_and_then (value_in IdMark))
+      (read-compact_text (data_of (values.IdMark id)) (IsNumber-decimal id (omega arith), tt) (omega arith))
       ∙ rw (number_of-decimal id (omega arith), le-leb 1 id i.0, le-leb id _ i.1)
 
-  pub value_of-written_value : (offset : ℕ) (k : Key) (v : Value) → IsValueOf k v → value_of (record { offset = offset; key = k; value = written_value v }) ≡ Some v
+  pub value_of-written_value : (offset : ℕ) (k : Key) (v : Value) → IsValueOf k v
+      → value_of (record { offset = offset; key = k; value = written_value v }) ≡ Some v
   unfolding written_value
-  value_of-written_value offset k (values.Schema subject version id schema deleted) h = rw h.0 (schema_again subject version id schema deleted h.1 h.2 h.3)
+  value_of-written_value offset k (values.Schema subject version id schema deleted) h =
+      rw h.0 (schema_again subject version id schema deleted h.1 h.2 h.3)
   value_of-written_value offset k (values.Config level) h = rw h.1 (config_again h.0 level h.2)
-  value_of-written_value offset k (values.Mode mode) h = rw h.1 (ap (option_and_then (value_in (Mode h.0))) (read-compact_text (data_of (values.Mode mode)) (tt, tt) (omega arith)))
+  value_of-written_value offset k (values.Mode mode) h =
+      rw h.1 (ap (option_and_then (value_in (Mode h.0))) (read-compact_text (data_of (values.Mode mode)) (tt, tt) (omega arith)))
   value_of-written_value offset k (values.DeleteSubject subject version) h = rw h.0 (delete_subject_again subject version h.1)
   value_of-written_value offset k values.Noop h = absurd h
   value_of-written_value offset k (values.IdMark id) h = rw h.0 (id_mark_again id h.1)

@@ -27,20 +27,28 @@ value-with_schema None = refl
 value-with_schema (Some v) = refl
 
 -- what is decoded has the value that was found
-pub value_in-decoded : (decoded : Result (Option Decoded) AllocError) (found value : Option Value) → IfOk decoded (λ d. d ≡ option_map with_schema found) → found ≡ value
+pub value_in-decoded : (decoded : Result (Option Decoded) AllocError) (found value : Option Value)
+    → IfOk decoded (λ d. d ≡ option_map with_schema found) → found ≡ value
     → IfOk decoded (λ d. option_map (λ e. e.value) d ≡ value)
-value_in-decoded decoded found value is same = IfOk-weaker decoded _ _ (λ d e. ap (option_map (λ x. x.value)) e ∙ value-with_schema found ∙ same) is
+value_in-decoded decoded found value is same =
+    IfOk-weaker decoded _ _ (λ d e. ap (option_map (λ x. x.value)) e ∙ value-with_schema found ∙ same) is
 
 -- and the schema of that value
-pub schema_in-decoded : (decoded : Result (Option Decoded) AllocError) (found : Option Value) → IfOk decoded (λ d. d ≡ option_map with_schema found)
+pub schema_in-decoded : (decoded : Result (Option Decoded) AllocError) (found : Option Value)
+    → IfOk decoded (λ d. d ≡ option_map with_schema found)
     → IfOk decoded (λ d. IfSome d (λ e. e.schema ≡ schema_in e.value))
-schema_in-decoded decoded found is = IfOk-weaker decoded _ _ (λ d e. subst (λ (o : Option Decoded). IfSome o (λ x. x.schema ≡ schema_in x.value)) (sym e) (schema-with_schema found)) is
+schema_in-decoded decoded found is =
+    IfOk-weaker decoded _ _ (λ d e.
+    subst (λ (o : Option Decoded). IfSome o (λ x. x.schema ≡ schema_in x.value)) (sym e) (schema-with_schema found)) is
 
 -- the value of a text that is a JSON value, under every key but that of no operation
-pub value_of_text-read : (key : Key) (text : List ℕ) (found : Option Json) (json : Json) → is_noop key ≡ false → option_map view found ≡ read text → found ≡ Some json
+pub value_of_text-read : (key : Key) (text : List ℕ) (found : Option Json) (json : Json)
+    → is_noop key ≡ false → option_map view found ≡ read text → found ≡ Some json
     → value_in key (view json) ≡ value_of_text key text
 value_of_text-read key text found json other is_read is =
-    sym (ap (λ b. if b then Some Noop else option_and_then (value_in key) (read text)) other ∙ ap (option_and_then (value_in key)) (sym is_read ∙ ap (option_map view) is))
+    sym (
+    ap (λ b. if b then Some Noop else option_and_then (value_in key) (read text)) other
+    ∙ ap (option_and_then (value_in key)) (sym is_read ∙ ap (option_map view) is))
 
 -- the value of a record that has a text
 pub value_of-text : (r : Record) (text : List ℕ) → r.value ≡ Some text → value_of_text r.key text ≡ value_of r
@@ -51,25 +59,38 @@ module _ (subject : List ℕ) (version : ℕ) (d : Data) (id : ℕ) (text : List
     (numbered : number_at (codes "id") d ≡ Some id) (written : text_at (codes "schema") d ≡ Some text) where
   -- the members of a version leave its text to be read and its mark to be looked at
   schema_value-members : value_in (keys.Schema subject version) d
-      ≡ option_and_then (λ schema. option_map (λ deleted. Schema subject version id schema deleted) (deleted_in d)) (if is_schema text then Some text else None)
+      ≡ option_and_then (λ schema. option_map (λ deleted. Schema subject version id schema deleted) (deleted_in d))
+      (if is_schema text then Some text else None)
   schema_value-members = rw (about, plain, numbered, written) refl
 
   pub schema_value-marked : (deleted : Bool) → deleted_in d ≡ Some deleted
-      → option_map with_schema (value_in (keys.Schema subject version) d) ≡ option_map (λ meaning. record { value = Schema subject version id text deleted; schema = Some meaning }) (schema_of text)
+      → option_map with_schema (value_in (keys.Schema subject version) d)
+      ≡ option_map (λ meaning. record { value = Schema subject version id text deleted; schema = Some meaning }) (schema_of text)
   schema_value-marked deleted marked =
-      ap (option_map with_schema) (schema_value-members ∙ ap (λ mark. option_and_then (λ schema. option_map (λ deleted. Schema subject version id schema deleted) mark) (if is_schema text then Some text else None)) marked)
+      ap (option_map with_schema) (
+      schema_value-members
+      ∙ ap (λ mark.
+      option_and_then (λ schema. option_map (λ deleted. Schema subject version id schema deleted) mark)
+      (if is_schema text then Some text else None)) marked)
       ∙ elim (schema_of text) as (λ m. schema_of text ≡ m
-      → option_map with_schema (option_and_then (λ schema. Some (Schema subject version id schema deleted)) (if is_some m then Some text else None))
+      → option_map with_schema (
+      option_and_then (λ schema. Some (Schema subject version id schema deleted)) (if is_some m then Some text else None))
       ≡ option_map (λ meaning. record { value = Schema subject version id text deleted; schema = Some meaning }) m) [
         | None ↦ λ _. refl
         | Some meaning ↦ λ is.
-            let decoded : Option Meaning → Option Decoded = λ found. Some (record { value = Schema subject version id text deleted; schema = found }) in
+            let decoded : Option Meaning → Option Decoded =
+            λ found. Some (record { value = Schema subject version id text deleted; schema = found }) in
             ap decoded is
       ] refl
 
   pub schema_value-unmarked : deleted_in d ≡ None → None ≡ option_map with_schema (value_in (keys.Schema subject version) d)
   schema_value-unmarked marked =
-      sym (ap (option_map with_schema) (schema_value-members ∙ ap (λ mark. option_and_then (λ schema. option_map (λ deleted. Schema subject version id schema deleted) mark) (if is_schema text then Some text else None)) marked)
+      sym (
+      ap (option_map with_schema) (
+      schema_value-members
+      ∙ ap (λ mark.
+      option_and_then (λ schema. option_map (λ deleted. Schema subject version id schema deleted) mark)
+      (if is_schema text then Some text else None)) marked)
       ∙ elim (is_schema text) as (λ b. option_map with_schema (option_and_then (λ schema. None) (if b then Some text else None)) ≡ None) [
         | true ↦ refl
         | false ↦ refl

@@ -35,7 +35,8 @@ answered-same : (a b : Answer) → outcomes.Answered a ≡ outcomes.Answered b �
 answered-same a b e = cc
 
 -- a lookup answers by the records that the node has
-answer_of : (w v : State) (i : ℕ) (query : Query) (answer : Answer) → Happens w (events.Lookup i query) (outcomes.Answered answer) v → IsAnswerOver (set_at w i).records query answer
+answer_of : (w v : State) (i : ℕ) (query : Query) (answer : Answer)
+    → Happens w (events.Lookup i query) (outcomes.Answered answer) v → IsAnswerOver (set_at w i).records query answer
 answer_of w v i query answer happens =
     elim (went w v (events.Lookup i query) (outcomes.Answered answer) happens) as (λ _. IsAnswerOver (set_at w i).records query answer) [
       | inl did ↦ subst (IsAnswerOver (set_at w i).records query) (answered-same answer did.does.0 did.does.2) did.does.1
@@ -44,8 +45,10 @@ answer_of w v i query answer happens =
     ]
 
 -- and where the node is there, whatever is an answer by them is one that it gives
-gives_of : (w : State) (i : ℕ) (query : Query) (answer : Answer) (node : Node) → slice_get w.nodes i ≡ Some node → IsAnswerOver (set_at w i).records query answer → Gives w i query answer
-gives_of w i query answer node there is = allowed w w (events.Lookup i query) (outcomes.Answered answer) (a_node w i node there) refl (answer, is, refl, refl)
+gives_of : (w : State) (i : ℕ) (query : Query) (answer : Answer) (node : Node)
+    → slice_get w.nodes i ≡ Some node → IsAnswerOver (set_at w i).records query answer → Gives w i query answer
+gives_of w i query answer node there is =
+    allowed w w (events.Lookup i query) (outcomes.Answered answer) (a_node w i node there) refl (answer, is, refl, refl)
 
 module _ (l : LowerLaws) where
   pub kept_is_compaction : KeptIsCompaction
@@ -73,7 +76,8 @@ module _ (l : LowerLaws) where
   -- the set of a node is a compaction of whatever it took a compaction of
   set_of : (w : State) (i : ℕ) (whole : Floored) → IsSound w → (took : Took w i whole) → IsCompactionOf took.node.set whole
   set_of w i whole h took =
-      l.across took.node.set (taken_by took.node) whole (node-compaction l (topic_of w) took.node (node_at l w i took.node took.is_there h)) took.compaction
+      l.across took.node.set (taken_by took.node) whole
+      (node-compaction l (topic_of w) took.node (node_at l w i took.node took.is_there h)) took.compaction
 
   pub answers_are_of_the_set : AnswersAreOfTheSet
   answers_are_of_the_set es w a i whole took = answers_of w i took.node whole took.is_there (set_of w i whole (sound-after l es w a) took)
@@ -81,7 +85,8 @@ module _ (l : LowerLaws) where
   -- at the kept floor, a part of the log is a compaction of it where it has all kept last records, and else nothing of their keys
   compaction_of_log : (w : State) (part : Floored) → IsSound w → part.floor ≡ (topic_of w).kept.floor → IsPart part.records (topic_of w).log
       → ((key : Key) → IfSome (last (topic_of w).kept.records key) (λ r. contains part.records r ≡ true))
-      → ((r : Record) → last (topic_of w).log r.key ≡ Some r → r.value ≡ None → r.offset < part.floor → (last part.records r.key ≡ None) ⊎ (contains part.records r ≡ true))
+      → ((r : Record) → last (topic_of w).log r.key ≡ Some r → r.value ≡ None → r.offset < part.floor
+      → (last part.records r.key ≡ None) ⊎ (contains part.records r ≡ true))
       → IsCompactionOf part (whole_log (topic_of w))
   compaction_of_log w part h at_floor inside lasts alone =
       let t = topic_of w in
@@ -89,9 +94,13 @@ module _ (l : LowerLaws) where
       let stands : (key : Key) (r : Record) → last t.log key ≡ Some r → (contains t.kept.records r ≡ true) ⊎ IsGone t.kept.floor t.kept.records r
       → (contains part.records r ≡ true) ⊎ IsGone part.floor part.records r =
       λ key r is. ⊎_elim
-      (λ has. inl (of_some (last t.kept.records key) _ r (lasts key) (last_of_part l t.kept.records t.log c.is_below_floor.is_part key r is has)))
+      (λ has.
+      inl (
+      of_some (last t.kept.records key) _ r (lasts key) (last_of_part l t.kept.records t.log c.is_below_floor.is_part key r is has)))
       (λ gone. let under = gone.is_below in let low : r.offset < part.floor = omega (arith, under, at_floor) in
-      ⊎_elim (λ no. inr (record { deletes = gone.deletes; is_below = low; has_no_other = no })) (λ has. inl has) (alone r (own_last l t.log key r is) gone.deletes low)) in
+      ⊎_elim (λ no. inr (record { deletes = gone.deletes; is_below = low; has_no_other = no }))
+      (λ has. inl has) (alone r (own_last l t.log key r is) gone.deletes low))
+      in
       record {
         floor_rises = omega arith;
         is_below_floor = record {
@@ -122,7 +131,8 @@ module _ (l : LowerLaws) where
             -- what was taken of a key has its last record in the set
             (λ no. inl (last_absent l node.took r.key (λ q inside same.
             let some = last_some l node.took r.key q inside same in
-            no_record l node.set.records r.key no some.0 (of_some (last node.took r.key) _ some.0 (n.lasts.has_lasts r.key) some.1) (key_is l node.took r.key some.0 some.1))))
+            no_record l node.set.records r.key no some.0 (of_some (last node.took r.key) _ some.0 (n.lasts.has_lasts r.key) some.1)
+            (key_is l node.took r.key some.0 some.1))))
             (λ has. inr (n.lasts.is_part r has)) (n.none_is_back r is deletes low));
       }
 
@@ -132,7 +142,8 @@ module _ (l : LowerLaws) where
   -- with the law that a query has one answer
   pub same_answers : HaveOneAnswer → SameAnswers
   same_answers one es fs w v a b i j whole took tooks query x y gives givess =
-      one (last_records whole.records) query x y ((answers_are_of_the_set es w a i whole took query x).0 gives) ((answers_are_of_the_set fs v b j whole tooks query y).0 givess)
+      one (last_records whole.records) query x y ((answers_are_of_the_set es w a i whole took query x).0 gives)
+      ((answers_are_of_the_set fs v b j whole tooks query y).0 givess)
 
   pub ids : LawfulListsKeepIds → Ids
   ids keep es w a = let h = sound-after l es w a in keep w.base w.items h.adopted h.lawful

@@ -15,12 +15,14 @@ batch_stays false t batch e = refl
 batch_stays true t batch e = absurd (false≢true (sym e))
 
 -- the registry over the log that goes on
-pub batch_registry : (b : Bool) (t u : Topic) (batch : List Record) (registry : Records) → b ≡ true → u ≡ after_batch b t batch → registry ≡ last_records (union t.log (from_list batch)) → registry ≡ registry_of u
+pub batch_registry : (b : Bool) (t u : Topic) (batch : List Record) (registry : Records) → b ≡ true
+    → u ≡ after_batch b t batch → registry ≡ last_records (union t.log (from_list batch)) → registry ≡ registry_of u
 batch_registry true t u batch registry e after is = is ∙ ap registry_of (sym after)
 batch_registry false t u batch registry e after is = absurd (false≢true e)
 
 -- the topic that a base begins is that of its records alone with what is due
-pub begun_is : (base : List Record) (next floor : ℕ) (plain begun : Topic) (due : List Record) → plain ≡ plain_topic base next floor → due ≡ adopting (last_records plain.log) plain.next
+pub begun_is : (base : List Record) (next floor : ℕ) (plain begun : Topic) (due : List Record)
+    → plain ≡ plain_topic base next floor → due ≡ adopting (last_records plain.log) plain.next
     → begun ≡ after_batch (follows plain.next due) plain due → begun ≡ topic_from base next floor
 unfolding topic_from
 begun_is base next floor plain begun due is owes after =

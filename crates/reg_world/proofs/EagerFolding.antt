@@ -33,7 +33,8 @@ module _ (l : LastLaws) where
   folded log [] p fits = refl
   folded log (r ∷ rs) p fits = ap (λ o. after_records p o rs) (one_record l log r p fits.0 fits.1) ∙ folded (insert log r) rs p fits.2
 
-  in_each : (log : Records) (rs : List Record) (q : Record) → contains (insert_each log rs) q ≡ (contains log q || list_any (eq_by_cmp record_cmp q) rs)
+  in_each : (log : Records) (rs : List Record) (q : Record)
+      → contains (insert_each log rs) q ≡ (contains log q || list_any (eq_by_cmp record_cmp q) rs)
   in_each log [] q = or_false (contains log q)
   in_each log (r ∷ rs) q =
       in_each (insert log r) rs q ∙ ap (λ b. b || list_any (eq_by_cmp record_cmp q) rs) (contains-insert l.order log r q)
@@ -41,7 +42,10 @@ module _ (l : LastLaws) where
 
   each_union : (log : Records) (rs : List Record) → insert_each log rs ≡ union log (from_list rs)
   each_union log rs = same_set l.order l.apart (insert_each log rs) (union log (from_list rs)) (λ q.
-      in_each log rs q ∙ ap (λ b. contains log q || b) (sym (contains-from_list l.order rs q)) ∙ sym (contains-union l.order log (from_list rs) q))
+      in_each log rs q
+      ∙ ap (λ b. contains log q || b) (sym (contains-from_list l.order rs q))
+      ∙ sym (contains-union l.order log (from_list rs) q))
 
-  pub all_records : (log : Records) (rs : List Record) (p : Place) → Fits log rs → after_records p (seen log p) rs ≡ seen (union log (from_list rs)) p
+  pub all_records : (log : Records) (rs : List Record) (p : Place) → Fits log rs
+      → after_records p (seen log p) rs ≡ seen (union log (from_list rs)) p
   all_records log rs p fits = folded log rs p fits ∙ ap (λ s. seen s p) (each_union log rs)

@@ -60,14 +60,17 @@ is_found es alone e = (
 )
 
 -- One more of some items.
-after-append : (p : Place) (o : Option Entry) (xs ys : List Record) → after_records p o (xs ++ ys) ≡ after_records p (after_records p o xs) ys
+after-append : (p : Place) (o : Option Entry) (xs ys : List Record)
+    → after_records p o (xs ++ ys) ≡ after_records p (after_records p o xs) ys
 after-append p o xs ys = fold-append (λ found r. after_key r.key p found r) o xs ys
 
 flat-append : (xs ys : List Item) → flat_map records_of_item (xs ++ ys) ≡ flat_map records_of_item xs ++ flat_map records_of_item ys
 flat-append [] ys = refl
 flat-append (x ∷ xs) ys =
     flat_map-cons records_of_item x (xs ++ ys) ∙ ap (λ rs. records_of_item x ++ rs) (flat-append xs ys)
-    ∙ sym (ap (λ rs. rs ++ flat_map records_of_item ys) (flat_map-cons records_of_item x xs) ∙ assoc (records_of_item x) (flat_map records_of_item xs) (flat_map records_of_item ys))
+    ∙ sym (
+    ap (λ rs. rs ++ flat_map records_of_item ys) (flat_map-cons records_of_item x xs)
+    ∙ assoc (records_of_item x) (flat_map records_of_item xs) (flat_map records_of_item ys))
   where
     assoc : (a b c : List Record) → (a ++ b) ++ c ≡ a ++ (b ++ c)
     assoc [] b c = refl
@@ -80,8 +83,10 @@ flat-one i = flat_map-cons records_of_item i [] ∙ nil (records_of_item i)
     nil [] = refl
     nil (r ∷ rs) = ap (λ qs. r ∷ qs) (nil rs)
 
-pub items_more : (base : Topic) (is : List Item) (i : ℕ) (item : Item) (before after : Standing) → i < length is → item ≡ get_or is i item → ((p : Place) → finmap.get before p ≡ eager_after base (take i is) p)
-    → ((p : Place) → finmap.get after p ≡ after_records p (finmap.get before p) (records_of_item item)) → (p : Place) → finmap.get after p ≡ eager_after base (take (i + 1) is) p
+pub items_more : (base : Topic) (is : List Item) (i : ℕ) (item : Item) (before after : Standing) → i < length is
+    → item ≡ get_or is i item → ((p : Place) → finmap.get before p ≡ eager_after base (take i is) p)
+    → ((p : Place) → finmap.get after p ≡ after_records p (finmap.get before p) (records_of_item item))
+    → (p : Place) → finmap.get after p ≡ eager_after base (take (i + 1) is) p
 items_more base is i item before after within at had next p =
     let start = standing_at p (entries (last_records base.log)) in
     next p ∙ ap (λ o. after_records p o (records_of_item item)) (had p)
@@ -90,17 +95,22 @@ items_more base is i item before after within at had next p =
     ap (flat_map records_of_item) (take_more is i item within ∙ ap (λ x. take i is ++ x ∷ []) (sym at))
     ∙ flat-append (take i is) (item ∷ []) ∙ ap (λ rs. flat_map records_of_item (take i is) ++ rs) (flat-one item)))
 
-pub items_all : (base : Topic) (is : List Item) (i : ℕ) (standing : Standing) → length is ≤ i → ((p : Place) → finmap.get standing p ≡ eager_after base (take i is) p) → (p : Place) → finmap.get standing p ≡ eager_after base is p
+pub items_all : (base : Topic) (is : List Item) (i : ℕ) (standing : Standing) → length is ≤ i
+    → ((p : Place) → finmap.get standing p ≡ eager_after base (take i is) p) → (p : Place) → finmap.get standing p ≡ eager_after base is p
 items_all base is i standing past had p = had p ∙ ap (λ js. eager_after base js p) (take_all i is past)
 
-pub records_more : (start before after : Standing) (rs : List Record) (i : ℕ) (r : Record) → i < length rs → r ≡ get_or rs i r → ((p : Place) → finmap.get before p ≡ after_records p (finmap.get start p) (take i rs))
-    → ((p : Place) → finmap.get after p ≡ after_key r.key p (finmap.get before p) r) → (p : Place) → finmap.get after p ≡ after_records p (finmap.get start p) (take (i + 1) rs)
+pub records_more : (start before after : Standing) (rs : List Record) (i : ℕ) (r : Record) → i < length rs
+    → r ≡ get_or rs i r → ((p : Place) → finmap.get before p ≡ after_records p (finmap.get start p) (take i rs))
+    → ((p : Place) → finmap.get after p ≡ after_key r.key p (finmap.get before p) r)
+    → (p : Place) → finmap.get after p ≡ after_records p (finmap.get start p) (take (i + 1) rs)
 records_more start before after rs i r within at had next p =
     next p ∙ ap (λ o. after_key r.key p o r) (had p)
     ∙ sym (after-append p (finmap.get start p) (take i rs) (r ∷ []))
     ∙ ap (after_records p (finmap.get start p)) (sym (take_more rs i r within ∙ ap (λ x. take i rs ++ x ∷ []) (sym at)))
 
-pub records_all : (start standing : Standing) (rs : List Record) (i : ℕ) → length rs ≤ i → ((p : Place) → finmap.get standing p ≡ after_records p (finmap.get start p) (take i rs)) → (p : Place) → finmap.get standing p ≡ after_records p (finmap.get start p) rs
+pub records_all : (start standing : Standing) (rs : List Record) (i : ℕ) → length rs ≤ i
+    → ((p : Place) → finmap.get standing p ≡ after_records p (finmap.get start p) (take i rs))
+    → (p : Place) → finmap.get standing p ≡ after_records p (finmap.get start p) rs
 records_all start standing rs i past had p = had p ∙ ap (after_records p (finmap.get start p)) (take_all i rs past)
 
 -- an element of a beginning is one of the whole
@@ -108,13 +118,16 @@ in_take : {A : Type 0} (i : ℕ) (xs : List A) (x : A) → Contains (take i xs) 
 in_take i xs x c = subst (λ l. Contains l x) (take-append-drop i xs) (Contains-append_left (take i xs) (drop i xs) x c)
 
 -- one entry more, alone at its place
-pub entry_more : (before : Standing) (es : List Entry) (i : ℕ) (e : Entry) → AreAlone es → i < length es → e ≡ get_or es i e → ((p : Place) → finmap.get before p ≡ standing_at p (take i es))
+pub entry_more : (before : Standing) (es : List Entry) (i : ℕ) (e : Entry) → AreAlone es → i < length es
+    → e ≡ get_or es i e → ((p : Place) → finmap.get before p ≡ standing_at p (take i es))
     → (p : Place) → finmap.get (finmap.insert before (place_of e) e) p ≡ standing_at p (take (i + 1) es)
 entry_more before es i e alone within at had p =
     finmap.get-insert place_cmp-total before (place_of e) e p
     ∙ ap (cond (eq_by_cmp place_cmp p (place_of e)) (Some e)) (had p)
     ∙ chosen (eq_by_cmp place_cmp p (place_of e)) refl
-    ∙ sym (ap (standing_at p) (take_more es i e within ∙ ap (λ x. take i es ++ x ∷ []) (sym at)) ∙ find-append (λ f. eq_by_cmp place_cmp p (place_of f)) (take i es) (e ∷ []))
+    ∙ sym (
+    ap (standing_at p) (take_more es i e within ∙ ap (λ x. take i es ++ x ∷ []) (sym at))
+    ∙ find-append (λ f. eq_by_cmp place_cmp p (place_of f)) (take i es) (e ∷ []))
   where
     here : Contains es e
     here = subst (Contains es) (sym at) (Contains-get_or es i e within)
@@ -123,7 +136,8 @@ entry_more before es i e alone within at had p =
     or_none None = refl
     or_none (Some f) = refl
 
-    chosen : (b : Bool) → eq_by_cmp place_cmp p (place_of e) ≡ b → cond b (Some e) (standing_at p (take i es)) ≡ option_or (standing_at p (take i es)) (cond b (Some e) None)
+    chosen : (b : Bool) → eq_by_cmp place_cmp p (place_of e) ≡ b
+        → cond b (Some e) (standing_at p (take i es)) ≡ option_or (standing_at p (take i es)) (cond b (Some e) None)
     chosen true is = elim (standing_at p (take i es)) as (λ o. standing_at p (take i es) ≡ o → Some e ≡ option_or o (Some e)) [
       | None ↦ λ _. refl
       | Some f ↦ λ some.
@@ -142,7 +156,8 @@ ArePlaced = AllByRecursion (λ kept. kept.0 ≡ place_of kept.1)
 put-each : (e : Entry) (es : List (Place × Entry)) → ArePlaced es → ArePlaced (put place_cmp (place_of e) e es)
 put-each e [] all = (refl, tt)
 put-each e (f ∷ fs) all =
-    elim (place_cmp (place_of e) f.0) as (λ o. place_cmp (place_of e) f.0 ≡ o → ArePlaced (by_order o ((place_of e, e) ∷ f ∷ fs) ((f.0, e) ∷ fs) (f ∷ put place_cmp (place_of e) e fs))) [
+    elim (place_cmp (place_of e) f.0) as (λ o. place_cmp (place_of e) f.0 ≡ o
+    → ArePlaced (by_order o ((place_of e, e) ∷ f ∷ fs) ((f.0, e) ∷ fs) (f ∷ put place_cmp (place_of e) e fs))) [
       | Less ↦ λ _. (refl, all)
       | Equal ↦ λ tie. (sym (place_cmp-ties (place_of e) f.0 tie), all.1)
       | Greater ↦ λ _. (all.0, put-each e fs all.1)
@@ -150,7 +165,9 @@ put-each e (f ∷ fs) all =
 
 fold-each : (es : List Entry) (m : Standing) → ArePlaced (finmap.entries m) → ArePlaced (finmap.entries (fold placed m es))
 fold-each [] m all = all
-fold-each (e ∷ es) m all = fold-each es (placed m e) (subst ArePlaced (sym (finmap.entries-insert place_cmp-total m (place_of e) e)) (put-each e (finmap.entries m) all))
+fold-each (e ∷ es) m all =
+    fold-each es (placed m e)
+    (subst ArePlaced (sym (finmap.entries-insert place_cmp-total m (place_of e) e)) (put-each e (finmap.entries m) all))
 
 no_length : {A : Type 0} (es : List A) → length es ≡ 0 → es ≡ []
 no_length [] e = refl
@@ -171,7 +188,8 @@ found-values (e ∷ es) all p =
     ∙ ap (cond (eq_by_cmp place_cmp p e.0) (Some e.1)) (found-values es all.1 p)
 
 -- a map that has at each place the entry of a set has the entries of the set
-pub same_entries : (m : Standing) (rs : Records) → ((p : Place) → finmap.get m p ≡ standing_at p (entries rs)) → finmap.values m ≡ entries rs
+pub same_entries : (m : Standing) (rs : Records)
+    → ((p : Place) → finmap.get m p ≡ standing_at p (entries rs)) → finmap.values m ≡ entries rs
 unfolding entries
 same_entries m rs is = ap finmap.values (finmap.same_map place_cmp-total place_cmp-ties m (entry_map rs) (λ p.
     is p ∙ found-values (finmap.entries (entry_map rs)) (entry_map-placed rs) p ∙ sym (finmap.get-entries (entry_map rs) p)))
@@ -179,7 +197,8 @@ same_entries m rs is = ap finmap.values (finmap.same_map place_cmp-total place_c
 -- A version's record puts its entry at the place of its key.
 place-put : ValuesAreOfKeys → (r : Record) (e : Entry) → put_by r ≡ Some e → r.key ≡ keys.Schema e.subject e.version
 place-put of_keys r e is =
-    elim (value_of r) as (λ o. value_of r ≡ o → option_and_then (entry_as_written r.offset) o ≡ Some e → r.key ≡ keys.Schema e.subject e.version) [
+    elim (value_of r) as (λ o.
+    value_of r ≡ o → option_and_then (entry_as_written r.offset) o ≡ Some e → r.key ≡ keys.Schema e.subject e.version) [
       | None ↦ λ _ h. absurd (cc)
       | Some v ↦ λ has h. of_value v has h
     ] refl is
@@ -196,7 +215,8 @@ place-put of_keys r e is =
     of_value values.Noop has h = absurd (cc)
     of_value (values.IdMark id) has h = absurd (cc)
 
-pub version_put : ValuesAreOfKeys → (m : Standing) (r : Record) (subject : List ℕ) (version : ℕ) (e : Entry) → r.key ≡ keys.Schema subject version → put_by r ≡ Some e
+pub version_put : ValuesAreOfKeys → (m : Standing) (r : Record) (subject : List ℕ) (version : ℕ) (e : Entry)
+    → r.key ≡ keys.Schema subject version → put_by r ≡ Some e
     → (p : Place) → finmap.get (finmap.insert m (place_of e) e) p ≡ after_key (keys.Schema subject version) p (finmap.get m p) r
 version_put of_keys m r subject version e key is p =
     let k : keys.Schema e.subject e.version ≡ keys.Schema subject version = sym (place-put of_keys r e is) ∙ key in
@@ -206,14 +226,16 @@ version_put of_keys m r subject version e key is p =
     ∙ ap (λ (q : Place). cond (eq_by_cmp place_cmp p q) (Some e) (finmap.get m p)) (λ i. (s i, v i))
     ∙ ap (λ o. cond (eq_by_cmp place_cmp p (subject, version)) o (finmap.get m p)) (sym is)
 
-pub version_gone : (m : Standing) (r : Record) (subject : List ℕ) (version : ℕ) → put_by r ≡ None → (p : Place) → finmap.get (finmap.remove m (subject, version)) p ≡ after_key (keys.Schema subject version) p (finmap.get m p) r
+pub version_gone : (m : Standing) (r : Record) (subject : List ℕ) (version : ℕ) → put_by r ≡ None → (p : Place)
+    → finmap.get (finmap.remove m (subject, version)) p ≡ after_key (keys.Schema subject version) p (finmap.get m p) r
 version_gone m r subject version is p =
     finmap.get-remove place_cmp-total m (subject, version) p
     ∙ ap (λ o. cond (eq_by_cmp place_cmp p (subject, version)) o (finmap.get m p)) (sym is)
 
 -- The flags of a soft delete.
 pub flagged_up_to : (subject : List ℕ) (greatest : ℕ) (e : Entry)
-    → cond (bytes_eq e.subject subject) (with_soft (e.soft || nat_le e.version greatest) e) e ≡ flagged_with (values.DeleteSubject subject greatest) e
+    → cond (bytes_eq e.subject subject) (with_soft (e.soft || nat_le e.version greatest) e) e
+    ≡ flagged_with (values.DeleteSubject subject greatest) e
 flagged_up_to subject greatest e = by_subject (bytes_eq e.subject subject)
   where
     by_version : (b s : Bool) → s ≡ e.soft → with_soft (s || b) e ≡ cond b (with_soft true e) e
@@ -222,6 +244,7 @@ flagged_up_to subject greatest e = by_subject (bytes_eq e.subject subject)
     by_version false true is = ap (λ s. with_soft s e) is
     by_version false false is = ap (λ s. with_soft s e) is
 
-    by_subject : (b : Bool) → cond b (with_soft (e.soft || nat_le e.version greatest) e) e ≡ cond (b && nat_le e.version greatest) (with_soft true e) e
+    by_subject : (b : Bool)
+        → cond b (with_soft (e.soft || nat_le e.version greatest) e) e ≡ cond (b && nat_le e.version greatest) (with_soft true e) e
     by_subject true = by_version (nat_le e.version greatest) e.soft refl
     by_subject false = refl

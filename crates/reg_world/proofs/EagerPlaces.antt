@@ -56,7 +56,8 @@ module _ {A : Type 0} where
 pub found-some : (p : Place) (es : List Entry) (e : Entry) → standing_at p es ≡ Some e → Contains es e × (place_of e ≡ p)
 found-some p [] e h = cc
 found-some p (x ∷ xs) e h =
-    elim (eq_by_cmp place_cmp p (place_of x)) as (λ b. eq_by_cmp place_cmp p (place_of x) ≡ b → cond b (Some x) (standing_at p xs) ≡ Some e → Contains (x ∷ xs) e × (place_of e ≡ p)) [
+    elim (eq_by_cmp place_cmp p (place_of x)) as (λ b.
+    eq_by_cmp place_cmp p (place_of x) ≡ b → cond b (Some x) (standing_at p xs) ≡ Some e → Contains (x ∷ xs) e × (place_of e ≡ p)) [
       | true ↦ λ t same.
           let is : x ≡ e = cc in
           (subst (Contains (x ∷ xs)) is (head x xs), ap place_of (sym is) ∙ sym (same_place p (place_of x) t))
@@ -67,7 +68,8 @@ found-some p (x ∷ xs) e h =
 pub found-none : (p : Place) (es : List Entry) → standing_at p es ≡ None → (e : Entry) → Contains es e → place_of e ≡ p → ⊥
 found-none p [] none e (k, lt, is) here = omega arith
 found-none p (x ∷ xs) none e c here =
-    elim (eq_by_cmp place_cmp p (place_of x)) as (λ b. eq_by_cmp place_cmp p (place_of x) ≡ b → cond b (Some x) (standing_at p xs) ≡ None → ⊥) [
+    elim (eq_by_cmp place_cmp p (place_of x)) as (λ b.
+    eq_by_cmp place_cmp p (place_of x) ≡ b → cond b (Some x) (standing_at p xs) ≡ None → ⊥) [
       | true ↦ λ _ h. cc
       | false ↦ λ apart h. elim (first_or_rest x xs e c) [
         | inl same ↦ false≢true (sym apart ∙ ap (eq_by_cmp place_cmp p) (ap place_of same ∙ here) ∙ at_itself p)
@@ -83,17 +85,22 @@ module _ (greatest : LastIsGreatest) (keyed : EntriesAreOfKeys) (stand : Entries
   pub at_place : (log : Records) (p : Place) → standing_at p (entries (last_records log)) ≡ there log p
   at_place log p =
       elim (standing_at p (entries (last_records log))) as (λ o. standing_at p (entries (last_records log)) ≡ o → o ≡ there log p) [
-        | None ↦ λ none. elim (last log (keys.Schema p.0 p.1)) as (λ o. last log (keys.Schema p.0 p.1) ≡ o → None ≡ option_and_then (entry_of (last_records log)) o) [
-          | None ↦ λ _. refl
-          | Some r ↦ λ here. elim (entry_of (last_records log) r) as (λ o. entry_of (last_records log) r ≡ o → None ≡ o) [
-            | None ↦ λ _. refl
-            | Some e ↦ λ gives.
-                let k : keys.Schema p.0 p.1 ≡ keys.Schema e.subject e.version = sym ((greatest log (keys.Schema p.0 p.1) r).0 here).is_of_key ∙ keyed (last_records log) r e gives in
-                let subject : e.subject ≡ p.0 = cc in
-                let version : e.version ≡ p.1 = cc in
-                absurd (found-none p (entries (last_records log)) none e ((stand log e).1 (r, ap (last log) (sym k) ∙ here, gives)) (λ i. (subject i, version i)))
-          ] refl
-        ] refl
+        | None ↦ λ none.
+            elim (last log (keys.Schema p.0 p.1)) as (λ o.
+            last log (keys.Schema p.0 p.1) ≡ o → None ≡ option_and_then (entry_of (last_records log)) o) [
+              | None ↦ λ _. refl
+              | Some r ↦ λ here. elim (entry_of (last_records log) r) as (λ o. entry_of (last_records log) r ≡ o → None ≡ o) [
+                | None ↦ λ _. refl
+                | Some e ↦ λ gives.
+                    let k : keys.Schema p.0 p.1 ≡ keys.Schema e.subject e.version =
+                    sym ((greatest log (keys.Schema p.0 p.1) r).0 here).is_of_key ∙ keyed (last_records log) r e gives in
+                    let subject : e.subject ≡ p.0 = cc in
+                    let version : e.version ≡ p.1 = cc in
+                    absurd (
+                    found-none p (entries (last_records log)) none e
+                    ((stand log e).1 (r, ap (last log) (sym k) ∙ here, gives)) (λ i. (subject i, version i)))
+              ] refl
+            ] refl
         | Some e ↦ λ some.
             let f = found-some p (entries (last_records log)) e some in
             let s = (stand log e).0 f.0 in

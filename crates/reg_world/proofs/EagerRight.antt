@@ -52,7 +52,8 @@ pub record EagerLaws : Type 0 where
   pub alike : CompactionsGiveAlike
   pub keyed : EntriesAreOfKeys
   pub stand : EntriesAreOfPlaces
-  pub read : (offset : ℕ) (k : Key) (v : Value) → IsValueOf k v → value_of (record { offset = offset; key = k; value = written_value v }) ≡ Some v
+  pub read : (offset : ℕ) (k : Key) (v : Value) → IsValueOf k v
+      → value_of (record { offset = offset; key = k; value = written_value v }) ≡ Some v
   pub go_on : BatchesGoOn
   pub ends : BatchesEndByTheLimit
   pub deletes : DeletesNameGreatest
@@ -62,7 +63,8 @@ filter_in : {A : Type 0} (p : A → Bool) (xs : List A) (x : A) → Contains xs 
 filter_in p [] x (k, lt, is) e = absurd (omega arith)
 filter_in p (y ∷ ys) x c e =
     elim (first_or_rest y ys x c) [
-      | inl is ↦ subst (λ b. Contains (cond b (y ∷ filter p ys) (filter p ys)) x) (sym (ap p is ∙ e)) (subst (Contains (y ∷ filter p ys)) is (head y (filter p ys)))
+      | inl is ↦ subst (λ b. Contains (cond b (y ∷ filter p ys) (filter p ys)) x)
+          (sym (ap p is ∙ e)) (subst (Contains (y ∷ filter p ys)) is (head y (filter p ys)))
       | inr rest ↦
           let found = filter_in p ys x rest e in
           elim (p y) as (λ b. Contains (cond b (y ∷ filter p ys) (filter p ys)) x) [ true ↦ tail y (filter p ys) x found | false ↦ found ]
@@ -96,7 +98,8 @@ at_most_greatest : (xs : List ℕ) (m x : ℕ) → reduce max xs ≡ Some m → 
 at_most_greatest [] m x e c = cc
 at_most_greatest (a ∷ xs) m x e c = let is : fold max a xs ≡ m = cc in subst (λ n. x ≤ n) is (at_most_max a xs x c)
 
-after-append : (p : Place) (o : Option Entry) (xs ys : List Record) → after_records p o (xs ++ ys) ≡ after_records p (after_records p o xs) ys
+after-append : (p : Place) (o : Option Entry) (xs ys : List Record)
+    → after_records p o (xs ++ ys) ≡ after_records p (after_records p o xs) ys
 after-append p o xs ys = fold-append (λ found r. after_key r.key p found r) o xs ys
 
 -- all offsets are below that one
@@ -120,7 +123,8 @@ module _ (l : EagerLaws) where
       ]
 
   -- a batch without soft deletes of subjects
-  fits_plain : (log : Records) (n : ℕ) (rs : List Record) → Below log n → goes_on n rs ≡ true → All (λ r. is_delete r.key ≡ false) rs → Fits log rs
+  fits_plain : (log : Records) (n : ℕ) (rs : List Record) → Below log n
+      → goes_on n rs ≡ true → All (λ r. is_delete r.key ≡ false) rs → Fits log rs
   fits_plain log n [] below on all = tt
   fits_plain log n (r ∷ rs) below on all =
       let parts = both_true (r.offset == n) (goes_on (suc n) rs) on in
@@ -134,7 +138,8 @@ module _ (l : EagerLaws) where
   up_to_greatest : (log : Records) (subject : List ℕ) (greatest : ℕ) → greatest_version (last_records log) subject ≡ Some greatest
       → (p : Place) (e : Entry) → seen log p ≡ Some e → e.subject ≡ subject → e.version ≤ greatest
   up_to_greatest log subject greatest is p e stands own =
-      let found = found-some p (entries (last_records log)) e (at_place l.last.greatest l.keyed l.stand log p ∙ there_seen l.last log p ∙ stands) in
+      let found =
+      found-some p (entries (last_records log)) e (at_place l.last.greatest l.keyed l.stand log p ∙ there_seen l.last log p ∙ stands) in
       at_most_greatest (map (λ (e : Entry). e.version) (of_subject (entries (last_records log)) subject)) greatest e.version is
       (map_in (λ (e : Entry). e.version) (of_subject (entries (last_records log)) subject) e
       (filter_in (λ e. bytes_eq e.subject subject) (entries (last_records log)) e found.0 ((bytes_eq-Decides e.subject subject).1 own)))
@@ -143,15 +148,21 @@ module _ (l : EagerLaws) where
   fits_delete log n batch below one =
       subst (Fits log) (sym one.one_record) (
         below,
-        (one.greatest, l.read n (keys.DeleteSubject one.subject) (values.DeleteSubject one.subject one.greatest) (refl, one.greatest_fits), up_to_greatest log one.subject one.greatest one.is_greatest),
+        (
+          one.greatest,
+          l.read n (keys.DeleteSubject one.subject) (values.DeleteSubject one.subject one.greatest) (refl, one.greatest_fits),
+          up_to_greatest log one.subject one.greatest one.is_greatest,
+        ),
         tt,
       )
 
-  fits : (log : Records) (n : ℕ) (batch : List Record) → Below log n → goes_on n batch ≡ true → All (λ r. is_delete r.key ≡ false) batch ⊎ IsSoftDelete (last_records log) n batch → Fits log batch
+  fits : (log : Records) (n : ℕ) (batch : List Record) → Below log n → goes_on n batch ≡ true
+      → All (λ r. is_delete r.key ≡ false) batch ⊎ IsSoftDelete (last_records log) n batch → Fits log batch
   fits log n batch below on (inl plain) = fits_plain log n batch below on plain
   fits log n batch below on (inr one) = fits_delete log n batch below one
 
-  batch_below : (n : ℕ) (rs : List Record) (q : Record) → goes_on n rs ≡ true → list_any (eq_by_cmp record_cmp q) rs ≡ true → q.offset < n + length rs
+  batch_below : (n : ℕ) (rs : List Record) (q : Record) → goes_on n rs ≡ true
+      → list_any (eq_by_cmp record_cmp q) rs ≡ true → q.offset < n + length rs
   batch_below n [] q on any = absurd (false≢true any)
   batch_below n (r ∷ rs) q on any =
       let parts = both_true (r.offset == n) (goes_on (suc n) rs) on in
@@ -160,39 +171,50 @@ module _ (l : EagerLaws) where
         | inr later ↦ let h = batch_below (suc n) rs q parts.1 later in omega (arith, h)
       ]
 
-  below_batch : (t : Topic) (batch : List Record) → goes_on t.next batch ≡ true → Below t.log t.next → Below (after_batch true t batch).log (after_batch true t batch).next
+  below_batch : (t : Topic) (batch : List Record) → goes_on t.next batch ≡ true
+      → Below t.log t.next → Below (after_batch true t batch).log (after_batch true t batch).next
   below_batch t batch on below q h =
-      elim (either (contains t.log q) (contains (from_list {R = record_cmp} batch) q) (sym (contains-union l.last.order t.log (from_list batch) q) ∙ h)) [
+      elim (
+      either (contains t.log q) (contains (from_list {R = record_cmp} batch) q)
+      (sym (contains-union l.last.order t.log (from_list batch) q) ∙ h)) [
         | inl old ↦ let k = below q old in omega (arith, k)
         | inr new ↦ batch_below t.next batch q on (sym (contains-from_list l.last.order batch q) ∙ new)
       ]
 
   -- a batch that isn't empty and goes on joins the log
-  joins : (n : ℕ) (batch : List Record) → goes_on n batch ≡ true → (batch ≡ []) ⊎ (n + length batch ≤ suc OFFSET_LIMIT) → batch ≢ [] → follows n batch ≡ true
+  joins : (n : ℕ) (batch : List Record) → goes_on n batch ≡ true
+      → (batch ≡ []) ⊎ (n + length batch ≤ suc OFFSET_LIMIT) → batch ≢ [] → follows n batch ≡ true
   joins n batch on (inl none) some = absurd (some none)
-  joins n batch on (inr ends) some = ap (λ b. b && nat_le (n + length batch) (suc OFFSET_LIMIT)) on ∙ le-leb (n + length batch) (suc OFFSET_LIMIT) ends
+  joins n batch on (inr ends) some =
+      ap (λ b. b && nat_le (n + length batch) (suc OFFSET_LIMIT)) on ∙ le-leb (n + length batch) (suc OFFSET_LIMIT) ends
 
-  compaction_log : (t : Topic) (c : Compaction) (b : Bool) → ((after_compaction b t c).log ≡ t.log) × ((after_compaction b t c).next ≡ t.next)
+  compaction_log : (t : Topic) (c : Compaction) (b : Bool)
+      → ((after_compaction b t c).log ≡ t.log) × ((after_compaction b t c).next ≡ t.next)
   compaction_log t c true = (refl, refl)
   compaction_log t c false = (refl, refl)
 
-  all_items : (t : Topic) (is : List Item) (p : Place) → IsLawful t is → Below t.log t.next → after_records p (seen t.log p) (published_by is) ≡ seen (after_items t is).log p
+  all_items : (t : Topic) (is : List Item) (p : Place) → IsLawful t is → Below t.log t.next
+      → after_records p (seen t.log p) (published_by is) ≡ seen (after_items t is).log p
   all_items t [] p lawful below = refl
   all_items t (items.Commit commit ∷ is) p lawful below =
       let may = lawful.0 in
       let on = l.go_on (registry_of t) t.next commit.command may.reply commit.batch may.step in
-      let joined : follows t.next commit.batch ≡ true = joins t.next commit.batch on (l.ends (registry_of t) t.next commit.command may.reply commit.batch may.step) may.writes in
+      let joined : follows t.next commit.batch ≡ true =
+      joins t.next commit.batch on (l.ends (registry_of t) t.next commit.command may.reply commit.batch may.step) may.writes in
       let after : after_item t (items.Commit commit) ≡ after_batch true t commit.batch = ap (λ b. after_batch b t commit.batch) joined in
       let f = fits t.log t.next commit.batch below on (l.deletes (registry_of t) t.next commit.command may.reply commit.batch may.step) in
       ap (after_records p (seen t.log p)) (flat_map-cons records_of_item (items.Commit commit) is)
       ∙ after-append p (seen t.log p) commit.batch (published_by is)
-      ∙ ap (λ o. after_records p o (published_by is)) (all_records l.last t.log commit.batch p f ∙ ap (λ (u : Topic). seen u.log p) (sym after))
-      ∙ all_items (after_item t (items.Commit commit)) is p lawful.1 (subst (λ (u : Topic). Below u.log u.next) (sym after) (below_batch t commit.batch on below))
+      ∙ ap (λ o. after_records p o (published_by is))
+      (all_records l.last t.log commit.batch p f ∙ ap (λ (u : Topic). seen u.log p) (sym after))
+      ∙ all_items (after_item t (items.Commit commit)) is p lawful.1
+      (subst (λ (u : Topic). Below u.log u.next) (sym after) (below_batch t commit.batch on below))
   all_items t (items.Compaction c ∷ is) p lawful below =
       let same = compaction_log t c (may_compact t c) in
       ap (after_records p (seen t.log p)) (flat_map-cons records_of_item (items.Compaction c) is)
       ∙ ap (λ log. after_records p (seen log p) (published_by is)) (sym same.0)
-      ∙ all_items (after_item t (items.Compaction c)) is p lawful.1 (λ q h. subst (λ n. q.offset < n) (sym same.1) (below q (ap (λ log. contains log q) (sym same.0) ∙ h)))
+      ∙ all_items (after_item t (items.Compaction c)) is p lawful.1
+      (λ q h. subst (λ n. q.offset < n) (sym same.1) (below q (ap (λ log. contains log q) (sym same.0) ∙ h)))
 
   -- the entry at a place, by the entries and by the last records
   by_seen : (log : Records) (p : Place) → standing_at p (entries (last_records log)) ≡ seen log p

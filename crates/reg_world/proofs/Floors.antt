@@ -16,10 +16,12 @@ use Rattle.reg_world.specs.declared.node.Node.{Node}
 use Rattle.reg_world.proofs.Steps.{set_there}
 
 -- whether the sets have one floor, as the code compares them
-pub one_floor : (s : State) (i : ℕ) (n : Node) (floor : ℕ) → slice_get s.nodes i ≡ Some n → n.set.floor ≡ floor → ((set_at s i).floor == floor) ≡ true
+pub one_floor : (s : State) (i : ℕ) (n : Node) (floor : ℕ) → slice_get s.nodes i ≡ Some n
+    → n.set.floor ≡ floor → ((set_at s i).floor == floor) ≡ true
 one_floor s i n floor there same = ap (λ (x : Floored). x.floor == floor) (set_there s i n there) ∙ eq-eqb n.set.floor floor same
 
-pub two_floors : (s : State) (i : ℕ) (n : Node) (floor : ℕ) → slice_get s.nodes i ≡ Some n → n.set.floor ≢ floor → ((set_at s i).floor == floor) ≡ false
+pub two_floors : (s : State) (i : ℕ) (n : Node) (floor : ℕ) → slice_get s.nodes i ≡ Some n
+    → n.set.floor ≢ floor → ((set_at s i).floor == floor) ≡ false
 two_floors s i n floor there other = ap (λ (x : Floored). x.floor == floor) (set_there s i n there) ∙ ne_eqb n.set.floor floor other
 
 -- a node that is there
@@ -44,7 +46,8 @@ batch_floor false t batch = refl
 settle_floor : ItemsAreFoldedInTurn → (s : State) (u : Option Commit) → (topic_of (settle u s)).kept.floor ≡ (topic_of s).kept.floor
 settle_floor in_turn s None = refl
 settle_floor in_turn s (Some commit) =
-    ap (λ (t : Topic). t.kept.floor) (in_turn s.base s.items (items.Commit commit)) ∙ batch_floor (follows (topic_of s).next commit.batch) (topic_of s) commit.batch
+    ap (λ (t : Topic). t.kept.floor) (in_turn s.base s.items (items.Commit commit))
+    ∙ batch_floor (follows (topic_of s).next commit.batch) (topic_of s) commit.batch
 
 -- so a compaction without a floor of its own is one to the kept floor
 pub compacts_at : ItemsAreFoldedInTurn → (s t : State) (floor : ℕ) (dropped : List Record) (o : Outcome) → floor ≡ (topic_of s).kept.floor

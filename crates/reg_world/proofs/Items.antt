@@ -21,19 +21,25 @@ same_state s none = sym (ap (λ u. settle u s) none)
 replied : (reply : Reply) → outcomes.Replied reply ≢ outcomes.NotAllowed
 replied reply e = cc
 
-steps : (s : State) (command : Command) (reply : Reply) (batch : List Record) → batch ≢ [] → IsStep (registry_of (topic_of s)) (topic_of s).next command reply batch
-    → Steps s command Published (outcomes.Replied (told Published reply batch)) (publish s (items.Commit (record { command = command; batch = batch })))
+steps : (s : State) (command : Command) (reply : Reply) (batch : List Record)
+    → batch ≢ [] → IsStep (registry_of (topic_of s)) (topic_of s).next command reply batch
+    → Steps s command Published (outcomes.Replied (told Published reply batch))
+    (publish s (items.Commit (record { command = command; batch = batch })))
 steps s command reply [] writes step = absurd (writes refl)
 steps s command reply (r ∷ rs) writes step = record { reply = reply; batch = r ∷ rs; step = step; outcome = refl; state = refl }
 
 pub items_happen : ItemsHappen
 items_happen s node (items.Commit commit) none fine may = (
   outcomes.Replied (told Published may.reply commit.batch),
-  allowed s _ (events.Command node commit.command Published) _ fine refl (subst (λ w. Steps w commit.command Published (outcomes.Replied (told Published may.reply commit.batch)) (publish s (items.Commit commit))) (same_state s none) (steps s commit.command may.reply commit.batch may.writes may.step)),
+  allowed s _ (events.Command node commit.command Published) _ fine refl (
+      subst
+      (λ w. Steps w commit.command Published (outcomes.Replied (told Published may.reply commit.batch)) (publish s (items.Commit commit)))
+      (same_state s none) (steps s commit.command may.reply commit.batch may.writes may.step)),
   replied _,
 )
 items_happen s node (items.Compaction c) none fine may = (
   outcomes.Done,
-  allowed s _ (events.CompactTo c.floor c.dropped) outcomes.Done (subst (λ w. may_compact (topic_of w) c ≡ true) (same_state s none) may) refl (refl, ap (λ w. publish w (items.Compaction c)) (same_state s none)),
+  allowed s _ (events.CompactTo c.floor c.dropped) outcomes.Done (subst (λ w. may_compact (topic_of w) c ≡ true) (same_state s none) may)
+      refl (refl, ap (λ w. publish w (items.Compaction c)) (same_state s none)),
   (λ e. cc),
 )

@@ -33,7 +33,8 @@ abbrev pub IsPart : Records → Records → Type 0
 IsPart C R = (r : Record) → contains C r ≡ true → contains R r ≡ true
 
 -- a set that keeps each last record is a compaction at each floor
-pub keeps_compacted : (C R : Records) (f g : ℕ) → g ≤ f → KeepsLasts C R → IsCompactionOf (record { records = C; floor = f }) (record { records = R; floor = g })
+pub keeps_compacted : (C R : Records) (f g : ℕ) → g ≤ f → KeepsLasts C R
+    → IsCompactionOf (record { records = C; floor = f }) (record { records = R; floor = g })
 keeps_compacted C R f g rises keeps = record {
   floor_rises = rises;
   is_below_floor = record {
@@ -43,7 +44,8 @@ keeps_compacted C R f g rises keeps = record {
 }
 
 -- what a compaction has of a key
-pub lasts_in : (C R : Floored) → IsCompactionOf C R → (key : Key) (r : Record) → last R.records key ≡ Some r → (contains C.records r ≡ true) ⊎ IsGone C.floor C.records r
+pub lasts_in : (C R : Floored) → IsCompactionOf C R → (key : Key) (r : Record)
+    → last R.records key ≡ Some r → (contains C.records r ≡ true) ⊎ IsGone C.floor C.records r
 lasts_in C R c key r is = of_some (last R.records key) _ r (c.is_below_floor.has_lasts key) is
 
 -- an older record of a key stands no later
@@ -89,13 +91,16 @@ module _ (l : LowerLaws) where
       ] refl
 
   -- a last record that a part has is the part's last one
-  pub last_of_part : (C R : Records) → IsPart C R → (key : Key) (r : Record) → last R key ≡ Some r → contains C r ≡ true → last C key ≡ Some r
+  pub last_of_part : (C R : Records) → IsPart C R → (key : Key) (r : Record)
+      → last R key ≡ Some r → contains C r ≡ true → last C key ≡ Some r
   last_of_part C R part key r is has =
       let g = (l.greatest R key r).0 is in
-      (l.greatest C key r).1 (record { is_in_set = has; is_of_key = g.is_of_key; is_greatest = λ q in_c of_key. g.is_greatest q (part q in_c) of_key })
+      (l.greatest C key r).1 (
+      record { is_in_set = has; is_of_key = g.is_of_key; is_greatest = λ q in_c of_key. g.is_greatest q (part q in_c) of_key })
 
   -- the last record of a compaction is that of the whole
-  pub last_of_whole : (C R : Floored) → IsCompactionOf C R → (key : Key) (r : Record) → last C.records key ≡ Some r → last R.records key ≡ Some r
+  pub last_of_whole : (C R : Floored) → IsCompactionOf C R → (key : Key) (r : Record)
+      → last C.records key ≡ Some r → last R.records key ≡ Some r
   last_of_whole C R c key r is =
       elim (l.last_of C R c key) [
         | inl same ↦ sym same ∙ is
@@ -113,7 +118,8 @@ module _ (l : LowerLaws) where
   in_either R S q h = either (contains R q) (contains S q) (sym (contains-union l.order R S q) ∙ h)
 
   -- what stands of a key that two sets have none of, or have that record of
-  pub joined_of : (C D : Records) (r : Record) → (last C r.key ≡ None) ⊎ (contains C r ≡ true) → (last D r.key ≡ None) ⊎ (contains D r ≡ true)
+  pub joined_of : (C D : Records) (r : Record) → (last C r.key ≡ None) ⊎ (contains C r ≡ true)
+      → (last D r.key ≡ None) ⊎ (contains D r ≡ true)
       → (last (union C D) r.key ≡ None) ⊎ (contains (union C D) r ≡ true)
   joined_of C D r (inr has) other = inr (in_left C D r has)
   joined_of C D r (inl none) (inr has) = inr (in_right C D r has)

@@ -8,7 +8,8 @@ use Rattle.reg_lookup.specs.Answers.{IsAnswerOver}
 use Rattle.reg_world.specs.Headline.{AnswerAlike, Merging}
 
 alike : (R S : Floored) → R ≡ S → AnswerAlike R S
-alike R S e query answer = (subst (λ (x : Floored). IsAnswerOver x.records query answer) e, subst (λ (x : Floored). IsAnswerOver x.records query answer) (sym e))
+alike R S e query answer =
+    (subst (λ (x : Floored). IsAnswerOver x.records query answer) e, subst (λ (x : Floored). IsAnswerOver x.records query answer) (sym e))
 
 pub merging : MergingIsCommutative → MergingIsAssociative → MergingIsIdempotent → CompactionsUnite → CompactionsAnswerAlike → Merging
 merging commutes associates repeats unite answer_alike = record {

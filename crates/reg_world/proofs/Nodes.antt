@@ -54,9 +54,11 @@ module _ (l : LowerLaws) where
         | inr rest ↦ let h = from_first (suc n) rs q parts.1 rest in omega (arith, h)
       ]
 
-  late : (n : ℕ) (batch : List Record) (q : Record) → follows n batch ≡ true → contains (from_list {R = record_cmp} batch) q ≡ true → n ≤ q.offset
+  late : (n : ℕ) (batch : List Record) (q : Record) → follows n batch ≡ true
+      → contains (from_list {R = record_cmp} batch) q ≡ true → n ≤ q.offset
   late n batch q on there =
-      from_first n batch q (both_true (goes_on n batch) (nat_le (n + length batch) (suc OFFSET_LIMIT)) on).0 (sym (contains-from_list l.order batch q) ∙ there)
+      from_first n batch q (both_true (goes_on n batch) (nat_le (n + length batch) (suc OFFSET_LIMIT)) on).0
+      (sym (contains-from_list l.order batch q) ∙ there)
 
   -- a node's set is a compaction of what it took, and both are parts of the log
   pub node-compaction : (t : Topic) (n : Node) → IsNodeOf t n → IsCompactionOf n.set (taken_by n)
@@ -71,7 +73,9 @@ module _ (l : LowerLaws) where
     part = λ r h. absurd (false≢true (sym (contains-empty record_cmp r) ∙ h));
     not_ahead = omega arith;
     none_is_back = λ r is null low. absurd (omega (arith, low));
-    has_lower = λ e key. if_some (last t.kept.records key) (λ (r : Record). r.offset < 0 → contains no_records.set.records r ≡ true) (λ r is low. absurd (omega (arith, low)));
+    has_lower = λ e key.
+        if_some (last t.kept.records key) (λ (r : Record). r.offset < 0 → contains no_records.set.records r ≡ true)
+        (λ r is low. absurd (omega (arith, low)));
   }
 
   -- records that join, where what the log deletes doesn't come back by them
@@ -83,13 +87,19 @@ module _ (l : LowerLaws) where
     part = λ r e. elim (in_either l n.took more r e) [ inl old ↦ h.part r old | inr new ↦ part r new ];
     not_ahead = h.not_ahead;
     none_is_back = alone;
-    has_lower = λ e key. if_some (last t.kept.records key) _ (λ r is low. in_left l n.set.records more r (of_some (last t.kept.records key) _ r (h.has_lower e key) is low));
+    has_lower = λ e key.
+        if_some (last t.kept.records key) _
+        (λ r is low. in_left l n.set.records more r (of_some (last t.kept.records key) _ r (h.has_lower e key) is low));
   }
 
-  pub node-merging : (t : Topic) (n m : Node) → n.set.floor ≡ m.set.floor → IsNodeOf t m → IsNodeOf t n → IsNodeOf t (taking m.set.records n)
+  pub node-merging : (t : Topic) (n m : Node) → n.set.floor ≡ m.set.floor
+      → IsNodeOf t m → IsNodeOf t n → IsNodeOf t (taking m.set.records n)
   node-merging t n m one_floor other h =
       node-joining t m.set.records n (node-part t m other)
-      (λ r is null low. joined_of l n.set.records m.set.records r (h.none_is_back r is null low) (other.none_is_back r is null (omega (arith, one_floor, low)))) h
+      (λ r is null low.
+      joined_of l n.set.records m.set.records r (h.none_is_back r is null low)
+      (other.none_is_back r is null (omega (arith, one_floor, low))))
+      h
 
   pub node-compacted : (t : Topic) → IsCompactionOf t.kept (whole_log t) → (n : Node) → IsNodeOf t n → IsNodeOf t (compacted n)
   node-compacted t kept n h =
@@ -107,19 +117,23 @@ module _ (l : LowerLaws) where
           | inr has ↦ inr (stays r.key r is has)
         ];
         has_lower = λ e key. if_some (last t.kept.records key) _ (λ r is low.
-            stays key r (last_of_whole l t.kept (whole_log t) kept key r is) (of_some (last t.kept.records key) _ r (h.has_lower e key) is low));
+            stays key r (last_of_whole l t.kept (whole_log t) kept key r is)
+            (of_some (last t.kept.records key) _ r (h.has_lower e key) is low));
       }
 
-  pub node-taking : (t : Topic) → IsCompactionOf t.kept (whole_log t) → (more : Records) → IsPart more t.kept.records → (n : Node) → n.set.floor ≡ t.kept.floor
+  pub node-taking : (t : Topic) → IsCompactionOf t.kept (whole_log t) → (more : Records)
+      → IsPart more t.kept.records → (n : Node) → n.set.floor ≡ t.kept.floor
       → IsNodeOf t n → IsNodeOf t (taking more n)
   node-taking t kept more are_kept n at_floor h =
       let part = kept.is_below_floor.is_part in
       node-joining t more n (λ r e. part r (are_kept r e))
       (λ r is null low. elim (lasts_in t.kept (whole_log t) kept r.key r is) [
         | inl has ↦ inr (in_left l n.set.records more r
-            (of_some (last t.kept.records r.key) _ r (h.has_lower at_floor r.key) (last_of_part l t.kept.records t.log part r.key r is has) low))
+            (of_some (last t.kept.records r.key) _ r (h.has_lower at_floor r.key)
+            (last_of_part l t.kept.records t.log part r.key r is has) low))
         | inr gone ↦ joined_of l n.set.records more r (h.none_is_back r is null low)
-            (inl (last_absent l more r.key (λ q inside same. no_record l t.kept.records r.key gone.has_no_other q (are_kept q inside) same)))
+            (inl (
+            last_absent l more r.key (λ q inside same. no_record l t.kept.records r.key gone.has_no_other q (are_kept q inside) same)))
       ]) h
 
   pub node-rebasing : (t : Topic) → IsCompactionOf t.kept (whole_log t) → (n : Node) → IsNodeOf t n → IsNodeOf t (rebasing t.kept n)
@@ -153,13 +167,15 @@ module _ (l : LowerLaws) where
       }
 
   -- items
-  node-batch : (b : Bool) (t : Topic) (batch : List Record) → follows t.next batch ≡ b → t.kept.floor ≤ t.next → (n : Node) → IsNodeOf t n → IsNodeOf (after_batch b t batch) n
+  node-batch : (b : Bool) (t : Topic) (batch : List Record) → follows t.next batch ≡ b
+      → t.kept.floor ≤ t.next → (n : Node) → IsNodeOf t n → IsNodeOf (after_batch b t batch) n
   node-batch false t batch e low n h = h
   node-batch true t batch e low n h =
       let more : Records = from_list batch in
       let ahead = h.not_ahead in
       -- below the node's floor stands no record of the batch, so that a last record there is the one before
-      let before : (S : Records) (key : Key) (r : Record) → last (union S more) key ≡ Some r → r.offset < n.set.floor → last S key ≡ Some r =
+      let before : (S : Records) (key : Key) (r : Record) → last (union S more) key ≡ Some r
+      → r.offset < n.set.floor → last S key ≡ Some r =
       λ S key r is under. last_of_part l S (union S more) (in_left l S more) key r is
       (elim (in_either l S more r (in_set l (union S more) key r is)) [
         | inl old ↦ old
@@ -174,7 +190,8 @@ module _ (l : LowerLaws) where
             of_some (last t.kept.records key) _ r (h.has_lower same key) (before t.kept.records key r is under) under);
       }
 
-  node-drop : (b : Bool) (t : Topic) (c : Compaction) → may_compact t c ≡ b → (n : Node) → IsNodeOf t n → IsNodeOf (after_compaction b t c) n
+  node-drop : (b : Bool) (t : Topic) (c : Compaction) → may_compact t c ≡ b
+      → (n : Node) → IsNodeOf t n → IsNodeOf (after_compaction b t c) n
   node-drop false t c e n h = h
   node-drop true t c e n h =
       let may = (l.drops t c).0 e in
@@ -186,7 +203,8 @@ module _ (l : LowerLaws) where
         not_ahead = omega (arith, rises, ahead);
         none_is_back = h.none_is_back;
         has_lower = λ same key. if_some (last (left_by t c).records key) _ (λ r is under.
-            of_some (last t.kept.records key) _ r (h.has_lower (omega (arith, rises, ahead, same)) key) (last_of_whole l (left_by t c) t.kept may.3 key r is) under);
+            of_some (last t.kept.records key) _ r (h.has_lower (omega (arith, rises, ahead, same)) key)
+            (last_of_whole l (left_by t c) t.kept may.3 key r is) under);
       }
 
   pub node-item : (t : Topic) (i : Item) → t.kept.floor ≤ t.next → (n : Node) → IsNodeOf t n → IsNodeOf (after_item t i) n

@@ -23,7 +23,8 @@ pub record IsSound (s : State) : Type 0 where
   pub nodes : AllByRecursion (IsNodeOf (topic_of s)) s.nodes
 
 -- Nodes.
-pub all_changed : (P : Node → Type 0) (f : Node → Node) (i : ℕ) (ns : List Node) → ((n : Node) → slice_get ns i ≡ Some n → P n → P (f n)) → AllByRecursion P ns → AllByRecursion P (changed i f ns)
+pub all_changed : (P : Node → Type 0) (f : Node → Node) (i : ℕ) (ns : List Node)
+    → ((n : Node) → slice_get ns i ≡ Some n → P n → P (f n)) → AllByRecursion P ns → AllByRecursion P (changed i f ns)
 all_changed P f i [] h a = tt
 all_changed P f zero (n ∷ ns) h a = (h n refl a.0, a.1)
 all_changed P f (suc i) (n ∷ ns) h a = (a.0, all_changed P f i ns h a.1)
@@ -60,28 +61,40 @@ module _ (l : LowerLaws) where
   low s h = l.below s.base s.items h.adopted.floor_below
 
   -- an item that may follow
-  sound-add : (s : State) (i : Item) (unsettled : Option Commit) → IsSound s → MayFollow (topic_of s) i → IfSome unsettled (MayCommit (after_items s.base (s.items ++ i ∷ [])))
+  sound-add : (s : State) (i : Item) (unsettled : Option Commit) → IsSound s → MayFollow (topic_of s) i
+      → IfSome unsettled (MayCommit (after_items s.base (s.items ++ i ∷ [])))
       → IsSound (record { base = s.base; items = s.items ++ i ∷ []; unsettled = unsettled; nodes = s.nodes })
   sound-add s i unsettled h m pending = record {
     adopted = h.adopted;
     lawful = l.go_on s.base s.items i h.lawful m;
     pending = pending;
     nodes = all_kept (IsNodeOf (topic_of s)) (IsNodeOf (after_items s.base (s.items ++ i ∷ [])))
-        (λ n k. subst (λ (t : Topic). IsNodeOf t n) (sym (l.in_turn s.base s.items i)) (node-item l (topic_of s) i (low s h) n k)) s.nodes h.nodes;
+        (λ n k. subst (λ (t : Topic). IsNodeOf t n) (sym (l.in_turn s.base s.items i)) (node-item l (topic_of s) i (low s h) n k))
+        s.nodes h.nodes;
   }
 
   pub sound-publish : (s : State) (i : Item) → s.unsettled ≡ None → IsSound s → MayFollow (topic_of s) i → IsSound (publish s i)
-  sound-publish s i none h m = sound-add s i s.unsettled h m (subst (λ u. IfSome u (MayCommit (after_items s.base (s.items ++ i ∷ [])))) (sym none) tt)
+  sound-publish s i none h m =
+      sound-add s i s.unsettled h m (subst (λ u. IfSome u (MayCommit (after_items s.base (s.items ++ i ∷ [])))) (sym none) tt)
 
   sound-settle : (u : Option Commit) (s : State) → s.unsettled ≡ u → IsSound s → IsSound (settle u s)
   sound-settle None s e h = h
-  sound-settle (Some commit) s e h = sound-add s (items.Commit commit) None h (subst (λ u. IfSome u (MayCommit (topic_of s))) e h.pending) tt
+  sound-settle (Some commit) s e h =
+      sound-add s (items.Commit commit) None h (subst (λ u. IfSome u (MayCommit (topic_of s))) e h.pending) tt
 
   pub sound-settled : (s : State) → IsSound s → IsSound (settled s)
   sound-settled s h = sound-settle s.unsettled s refl h
 
-  pub sound-node : (s : State) (i : ℕ) (f : Node → Node) → ((n : Node) → slice_get s.nodes i ≡ Some n → IsNodeOf (topic_of s) n → IsNodeOf (topic_of s) (f n)) → IsSound s → IsSound (with_node s i f)
-  sound-node s i f g h = record { adopted = h.adopted; lawful = h.lawful; pending = h.pending; nodes = all_changed (IsNodeOf (topic_of s)) f i s.nodes g h.nodes }
+  pub sound-node : (s : State) (i : ℕ) (f : Node → Node)
+      → ((n : Node) → slice_get s.nodes i ≡ Some n → IsNodeOf (topic_of s) n → IsNodeOf (topic_of s) (f n))
+      → IsSound s → IsSound (with_node s i f)
+  sound-node s i f g h = record {
+    adopted = h.adopted;
+    lawful = h.lawful;
+    pending = h.pending;
+    nodes = all_changed (IsNodeOf (topic_of s)) f i s.nodes g h.nodes;
+  }
 
   pub sound-start : (base : Topic) (count : ℕ) → IsAdopted base → IsSound (start base count)
-  sound-start base count h = record { adopted = h; lawful = tt; pending = tt; nodes = all_equal (IsNodeOf base) no_records (node-empty l base) count }
+  sound-start base count h =
+      record { adopted = h; lawful = tt; pending = tt; nodes = all_equal (IsNodeOf base) no_records (node-empty l base) count }

@@ -46,17 +46,25 @@ module _ (l : LowerLaws) where
   sound-batch s Unsettled command reply [] none h step = h
   sound-batch s Lost command reply [] none h step = h
   sound-batch s Published command reply (r ∷ rs) none h step =
-      sound-publish l s (items.Commit (record { command = command; batch = r ∷ rs })) none h (record { reply = reply; step = step; writes = cons-not-nil r rs })
+      sound-publish l s (items.Commit (record { command = command; batch = r ∷ rs })) none h
+      (record { reply = reply; step = step; writes = cons-not-nil r rs })
   sound-batch s Unsettled command reply (r ∷ rs) none h step =
-      record { adopted = h.adopted; lawful = h.lawful; pending = record { reply = reply; step = step; writes = cons-not-nil r rs }; nodes = h.nodes }
+      record {
+        adopted = h.adopted;
+        lawful = h.lawful;
+        pending = record { reply = reply; step = step; writes = cons-not-nil r rs };
+        nodes = h.nodes;
+      }
   sound-batch s Lost command reply (r ∷ rs) none h step = h
 
   -- records that are all kept
-  all_in : (kept : Records) (ds : List Record) (r : Record) → list_all (contains kept) ds ≡ true → list_any (eq_by_cmp record_cmp r) ds ≡ true → contains kept r ≡ true
+  all_in : (kept : Records) (ds : List Record) (r : Record) → list_all (contains kept) ds ≡ true
+      → list_any (eq_by_cmp record_cmp r) ds ≡ true → contains kept r ≡ true
   all_in kept [] r all any = absurd (false≢true any)
   all_in kept (d ∷ ds) r all any =
       let parts = both_true _ _ all in
-      elim (eq_by_cmp record_cmp r d) as (λ b. eq_by_cmp record_cmp r d ≡ b → (b || list_any (eq_by_cmp record_cmp r) ds) ≡ true → contains kept r ≡ true) [
+      elim (eq_by_cmp record_cmp r d) as (λ b.
+      eq_by_cmp record_cmp r d ≡ b → (b || list_any (eq_by_cmp record_cmp r) ds) ≡ true → contains kept r ≡ true) [
         | true ↦ λ e _. ap (contains kept) (l.apart r d ((Equal-is (record_cmp r d)).0 e)) ∙ parts.0
         | false ↦ λ _ rest. all_in kept ds r parts.1 rest
       ] refl any
@@ -64,11 +72,13 @@ module _ (l : LowerLaws) where
   pub node_at : (s : State) (i : ℕ) (n : Node) → slice_get s.nodes i ≡ Some n → IsSound s → IsNodeOf (topic_of s) n
   node_at s i n there h = of_some (slice_get s.nodes i) (IsNodeOf (topic_of s)) n (at_index (IsNodeOf (topic_of s)) s.nodes i h.nodes) there
 
-  sound-taking : (s : State) (node : ℕ) (records : List Record) → list_all (contains (topic_of s).kept.records) records ≡ true → ((set_at s node).floor == (topic_of s).kept.floor) ≡ true
+  sound-taking : (s : State) (node : ℕ) (records : List Record) → list_all (contains (topic_of s).kept.records) records ≡ true
+      → ((set_at s node).floor == (topic_of s).kept.floor) ≡ true
       → IsSound s → IsSound (with_node s node (taking (from_list records)))
   sound-taking s node records all agree h =
       sound-node l s node (taking (from_list records)) (λ n there k.
-      node-taking l (topic_of s) (kept l s h) (from_list records) (λ r e. all_in (topic_of s).kept.records records r all (sym (contains-from_list l.order records r) ∙ e)) n
+      node-taking l (topic_of s) (kept l s h) (from_list records)
+      (λ r e. all_in (topic_of s).kept.records records r all (sym (contains-from_list l.order records r) ∙ e)) n
       (sym (ap (λ (x : Floored). x.floor) (set_there s node n there)) ∙ eqb-true _ _ agree) k) h
 
   sound-merging : (s : State) (node other : ℕ) → has_node s other ≡ true → ((set_at s node).floor == (set_at s other).floor) ≡ true
@@ -78,21 +88,32 @@ module _ (l : LowerLaws) where
       let its = set_there s other m there in
       sound-node l s node (taking (set_at s other).records) (λ n here k.
       subst (λ (x : Floored). IsNodeOf (topic_of s) (taking x.records n)) (sym its)
-      (node-merging l (topic_of s) n m (sym (ap (λ (x : Floored). x.floor) (set_there s node n here)) ∙ eqb-true _ _ agree ∙ ap (λ (x : Floored). x.floor) its) (node_at s other m there h) k)) h
+      (node-merging l (topic_of s) n m
+      (sym (ap (λ (x : Floored). x.floor) (set_there s node n here)) ∙ eqb-true _ _ agree ∙ ap (λ (x : Floored). x.floor) its)
+      (node_at s other m there h) k))
+      h
 
-  sound-does : (s t : State) (e : Event) (o : Outcome) → is_allowed s e ≡ true → floors_agree s e ≡ true → Does s e o t → IsSound s → IsSound t
+  sound-does : (s t : State) (e : Event) (o : Outcome) → is_allowed s e ≡ true
+      → floors_agree s e ≡ true → Does s e o t → IsSound s → IsSound t
   sound-does s t (events.Command node command fate) o fine agree d h =
-      subst Stays (sym d.state) (sound-batch (settled s) fate command d.reply d.batch (settle-none s.unsettled s refl) (sound-settled l s h) d.step)
+      subst Stays (sym d.state)
+      (sound-batch (settled s) fate command d.reply d.batch (settle-none s.unsettled s refl) (sound-settled l s h) d.step)
   sound-does s t (events.Compact dropped) o fine agree d h =
-      subst Stays (sym d.1) (sound-publish l (settled s) (items.Compaction (at_floor (topic_of (settled s)).kept.floor dropped)) (settle-none s.unsettled s refl) (sound-settled l s h) fine)
+      subst Stays (sym d.1)
+      (sound-publish l (settled s) (items.Compaction (at_floor (topic_of (settled s)).kept.floor dropped))
+      (settle-none s.unsettled s refl) (sound-settled l s h) fine)
   sound-does s t (events.CompactTo floor dropped) o fine agree d h =
-      subst Stays (sym d.1) (sound-publish l (settled s) (items.Compaction (at_floor floor dropped)) (settle-none s.unsettled s refl) (sound-settled l s h) fine)
-  sound-does s t (events.Take node records) o fine agree d h = subst Stays (sym d.1) (sound-taking s node records (both_true _ _ fine).1 agree h)
+      subst Stays (sym d.1) (
+      sound-publish l (settled s) (items.Compaction (at_floor floor dropped)) (settle-none s.unsettled s refl) (sound-settled l s h) fine)
+  sound-does s t (events.Take node records) o fine agree d h =
+      subst Stays (sym d.1) (sound-taking s node records (both_true _ _ fine).1 agree h)
   sound-does s t (events.CompactNode node) o fine agree d h =
       subst Stays (sym d.1) (sound-node l s node compacted (λ n there k. node-compacted l (topic_of s) (kept l s h) n k) h)
-  sound-does s t (events.MergeFrom node other) o fine agree d h = subst Stays (sym d.1) (sound-merging s node other (both_true _ _ fine).1 agree h)
+  sound-does s t (events.MergeFrom node other) o fine agree d h =
+      subst Stays (sym d.1) (sound-merging s node other (both_true _ _ fine).1 agree h)
   sound-does s t (events.Rebase node) o fine agree d h =
-      subst Stays (sym d.1) (sound-node l s node (rebasing (topic_of s).kept) (λ n there k. node-rebasing l (topic_of s) (kept l s h) n k) h)
+      subst Stays (sym d.1)
+      (sound-node l s node (rebasing (topic_of s).kept) (λ n there k. node-rebasing l (topic_of s) (kept l s h) n k) h)
   sound-does s t (events.Restart node) o fine agree d h =
       subst Stays (sym d.1) (sound-node l s node (λ _. no_records) (λ n there k. node-empty l (topic_of s)) h)
   sound-does s t (events.Lookup node query) o fine agree d h = subst Stays (sym d.3) h

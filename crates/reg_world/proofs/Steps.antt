@@ -35,9 +35,12 @@ pub went : (s t : State) (e : Event) (o : Outcome) → Happens s e o t → Went 
 unfolding Happens
 went s t e o happens =
     elim (is_allowed s e) as (λ b. is_allowed s e ≡ b
-    → MatchBool b (MatchBool (floors_agree s e) (Does s e o t) ((o ≡ outcomes.FloorsDiffer) × (t ≡ s))) ((o ≡ outcomes.NotAllowed) × (t ≡ s)) → Went s t e o) [
+    → MatchBool b (MatchBool (floors_agree s e) (Does s e o t) ((o ≡ outcomes.FloorsDiffer) × (t ≡ s)))
+    ((o ≡ outcomes.NotAllowed) × (t ≡ s))
+    → Went s t e o) [
       | true ↦ λ fine h.
-          elim (floors_agree s e) as (λ b. floors_agree s e ≡ b → MatchBool b (Does s e o t) ((o ≡ outcomes.FloorsDiffer) × (t ≡ s)) → Went s t e o) [
+          elim (floors_agree s e) as (λ b.
+          floors_agree s e ≡ b → MatchBool b (Does s e o t) ((o ≡ outcomes.FloorsDiffer) × (t ≡ s)) → Went s t e o) [
             | true ↦ λ agree d. inl (record { fine = fine; agree = agree; does = d })
             | false ↦ λ differ d. inr (inl (record { fine = fine; differ = differ; told = d.0; same = d.1 }))
           ] refl h
@@ -47,21 +50,35 @@ went s t e o happens =
 pub allowed : (s t : State) (e : Event) (o : Outcome) → is_allowed s e ≡ true → floors_agree s e ≡ true → Does s e o t → Happens s e o t
 unfolding Happens
 allowed s t e o fine agree d =
-    subst (λ b. MatchBool b (MatchBool (floors_agree s e) (Does s e o t) ((o ≡ outcomes.FloorsDiffer) × (t ≡ s))) ((o ≡ outcomes.NotAllowed) × (t ≡ s))) (sym fine)
+    subst
+    (λ b.
+    MatchBool b (MatchBool (floors_agree s e) (Does s e o t) ((o ≡ outcomes.FloorsDiffer) × (t ≡ s)))
+    ((o ≡ outcomes.NotAllowed) × (t ≡ s)))
+    (sym fine)
     (subst (λ b. MatchBool b (Does s e o t) ((o ≡ outcomes.FloorsDiffer) × (t ≡ s))) (sym agree) d)
 
 pub differing : (s t : State) (e : Event) → is_allowed s e ≡ true → floors_agree s e ≡ false → t ≡ s → Happens s e outcomes.FloorsDiffer t
 unfolding Happens
 differing s t e fine differ same =
     let told : outcomes.FloorsDiffer ≡ outcomes.FloorsDiffer = refl in
-    subst (λ b. MatchBool b (MatchBool (floors_agree s e) (Does s e outcomes.FloorsDiffer t) ((outcomes.FloorsDiffer ≡ outcomes.FloorsDiffer) × (t ≡ s))) ((outcomes.FloorsDiffer ≡ outcomes.NotAllowed) × (t ≡ s))) (sym fine)
-    (subst (λ b. MatchBool b (Does s e outcomes.FloorsDiffer t) ((outcomes.FloorsDiffer ≡ outcomes.FloorsDiffer) × (t ≡ s))) (sym differ) (told, same))
+    subst
+    (λ b. MatchBool b
+    (MatchBool (floors_agree s e) (Does s e outcomes.FloorsDiffer t) ((outcomes.FloorsDiffer ≡ outcomes.FloorsDiffer) × (t ≡ s)))
+    ((outcomes.FloorsDiffer ≡ outcomes.NotAllowed) × (t ≡ s)))
+    (sym fine)
+    (subst (λ b. MatchBool b (Does s e outcomes.FloorsDiffer t) ((outcomes.FloorsDiffer ≡ outcomes.FloorsDiffer) × (t ≡ s)))
+    (sym differ) (told, same))
 
 pub not_allowed : (s t : State) (e : Event) → is_allowed s e ≡ false → t ≡ s → Happens s e outcomes.NotAllowed t
 unfolding Happens
 not_allowed s t e refused same =
     let told : outcomes.NotAllowed ≡ outcomes.NotAllowed = refl in
-    subst (λ b. MatchBool b (MatchBool (floors_agree s e) (Does s e outcomes.NotAllowed t) ((outcomes.NotAllowed ≡ outcomes.FloorsDiffer) × (t ≡ s))) ((outcomes.NotAllowed ≡ outcomes.NotAllowed) × (t ≡ s))) (sym refused) (told, same)
+    subst
+    (λ b.
+    MatchBool b
+    (MatchBool (floors_agree s e) (Does s e outcomes.NotAllowed t) ((outcomes.NotAllowed ≡ outcomes.FloorsDiffer) × (t ≡ s)))
+    ((outcomes.NotAllowed ≡ outcomes.NotAllowed) × (t ≡ s)))
+    (sym refused) (told, same)
 
 -- Nodes.
 pub node-set : (f : Node → Node) (i : ℕ) (ns : List Node) (n : Node) → slice_get ns i ≡ Some n → set ns i (f n) ≡ changed i f ns
@@ -69,9 +86,12 @@ node-set f i [] n e = let no : None ≡ Some n = e in cc
 node-set f zero (m ∷ ns) n e = let same : m ≡ n = cc in ap (λ x. f x ∷ ns) (sym same)
 node-set f (suc i) (m ∷ ns) n e = ap (λ l. m ∷ l) (node-set f i ns n e)
 
-pub node-done : (s t : State) (f : Node → Node) (i : ℕ) (n x : Node) → slice_get s.nodes i ≡ Some n → x ≡ f n → t ≡ record { base = s.base; items = s.items; unsettled = s.unsettled; nodes = set s.nodes i x } → t ≡ with_node s i f
+pub node-done : (s t : State) (f : Node → Node) (i : ℕ) (n x : Node) → slice_get s.nodes i ≡ Some n → x ≡ f n
+    → t ≡ record { base = s.base; items = s.items; unsettled = s.unsettled; nodes = set s.nodes i x } → t ≡ with_node s i f
 node-done s t f i n x there is written =
-    written ∙ ap (λ ns. record { base = s.base; items = s.items; unsettled = s.unsettled; nodes = ns }) (ap (set s.nodes i) is ∙ node-set f i s.nodes n there)
+    written
+    ∙ ap (λ ns. record { base = s.base; items = s.items; unsettled = s.unsettled; nodes = ns })
+    (ap (set s.nodes i) is ∙ node-set f i s.nodes n there)
 
 pub no_node : (s : State) (i : ℕ) → slice_get s.nodes i ≡ None → has_node s i ≡ false
 no_node s i none = ap is_some none

@@ -57,12 +57,16 @@ first_of s t commit e (inr (b, more)) = (b ∷ [], more ∙ ap (λ u. (settle u 
 left_as : (s t x : State) → t ≡ x → x.items ≡ s.items → x.unsettled ≡ s.unsettled → IsLeft s t
 left_as s t x is listed left = (ap (λ (y : State). y.items) is ∙ listed, ap (λ (y : State). y.unsettled) is ∙ left)
 
-does_first : (s t : State) (e : Event) (o : Outcome) (commit : Commit) → s.unsettled ≡ Some commit → Does s e o t → MatchBool (settles_first e) (IsFirst s t commit) (IsLeft s t)
+does_first : (s t : State) (e : Event) (o : Outcome) (commit : Commit) → s.unsettled ≡ Some commit
+    → Does s e o t → MatchBool (settles_first e) (IsFirst s t commit) (IsLeft s t)
 does_first s t (events.Command node command fate) o commit is d =
-    first_of s t commit is (subst (λ (x : State). OneMore (settle s.unsettled s).items x.items) (sym d.state) (of_batch (settle s.unsettled s) fate command d.batch))
+    first_of s t commit is (
+    subst (λ (x : State). OneMore (settle s.unsettled s).items x.items)
+    (sym d.state) (of_batch (settle s.unsettled s) fate command d.batch))
 does_first s t (events.Compact dropped) o commit is d =
     first_of s t commit is (inr (items.Compaction (at_floor (topic_of (settled s)).kept.floor dropped), ap (λ (x : State). x.items) d.1))
-does_first s t (events.CompactTo floor dropped) o commit is d = first_of s t commit is (inr (items.Compaction (at_floor floor dropped), ap (λ (x : State). x.items) d.1))
+does_first s t (events.CompactTo floor dropped) o commit is d =
+    first_of s t commit is (inr (items.Compaction (at_floor floor dropped), ap (λ (x : State). x.items) d.1))
 does_first s t (events.Take node records) o commit is d = left_as s t _ d.1 refl refl
 does_first s t (events.CompactNode node) o commit is d = left_as s t _ d.1 refl refl
 does_first s t (events.MergeFrom node other) o commit is d = left_as s t _ d.1 refl refl
@@ -94,9 +98,12 @@ settles_alone s (events.Lookup node query) differ = refl
 pub unsettled_comes_first : UnsettledComesFirst
 unsettled_comes_first s t e o happens = where_some s.unsettled (λ commit is.
     elim (went s t e o happens) as (λ _. MatchBool (settles_first e && is_allowed s e) (IsFirst s t commit) (IsLeft s t)) [
-      | inl did ↦ and_allowed (IsFirst s t commit) (IsLeft s t) (settles_first e) (is_allowed s e) did.fine (does_first s t e o commit is did.does)
-      | inr (inl differed) ↦ subst (λ a. MatchBool (a && is_allowed s e) (IsFirst s t commit) (IsLeft s t)) (sym (settles_alone s e differed.differ)) (left_as s t s differed.same refl refl)
-      | inr (inr refused) ↦ and_not (IsFirst s t commit) (IsLeft s t) (settles_first e) (is_allowed s e) refused.no (left_as s t s refused.same refl refl)
+      | inl did ↦ and_allowed (IsFirst s t commit) (IsLeft s t) (settles_first e)
+          (is_allowed s e) did.fine (does_first s t e o commit is did.does)
+      | inr (inl differed) ↦ subst (λ a. MatchBool (a && is_allowed s e) (IsFirst s t commit) (IsLeft s t))
+          (sym (settles_alone s e differed.differ)) (left_as s t s differed.same refl refl)
+      | inr (inr refused) ↦ and_not (IsFirst s t commit) (IsLeft s t) (settles_first e)
+          (is_allowed s e) refused.no (left_as s t s refused.same refl refl)
     ])
 
 -- what is settled stays as it is when it is settled again
@@ -108,9 +115,12 @@ settled_once : (s : State) → settled (settled s) ≡ settled s
 settled_once s = ap (λ u. settle u (settled s)) (settle-none s.unsettled s refl)
 
 allowed_alike : (s : State) (e : Event) → settles_first e ≡ true → is_allowed s e ≡ is_allowed (settled s) e
-allowed_alike s (events.Command node command fate) first = ap (λ (ns : List Node). is_some (slice_get ns node)) (sym (same_nodes s.unsettled s))
-allowed_alike s (events.Compact dropped) first = ap (λ (x : State). may_compact (topic_of x) (at_floor (topic_of x).kept.floor dropped)) (sym (settled_once s))
-allowed_alike s (events.CompactTo floor dropped) first = ap (λ (x : State). may_compact (topic_of x) (at_floor floor dropped)) (sym (settled_once s))
+allowed_alike s (events.Command node command fate) first =
+    ap (λ (ns : List Node). is_some (slice_get ns node)) (sym (same_nodes s.unsettled s))
+allowed_alike s (events.Compact dropped) first =
+    ap (λ (x : State). may_compact (topic_of x) (at_floor (topic_of x).kept.floor dropped)) (sym (settled_once s))
+allowed_alike s (events.CompactTo floor dropped) first =
+    ap (λ (x : State). may_compact (topic_of x) (at_floor floor dropped)) (sym (settled_once s))
 allowed_alike s (events.Take node records) first = absurd (false≢true first)
 allowed_alike s (events.CompactNode node) first = absurd (false≢true first)
 allowed_alike s (events.MergeFrom node other) first = absurd (false≢true first)
@@ -118,13 +128,16 @@ allowed_alike s (events.Rebase node) first = absurd (false≢true first)
 allowed_alike s (events.Restart node) first = absurd (false≢true first)
 allowed_alike s (events.Lookup node query) first = absurd (false≢true first)
 
-does_alike : (s : State) (e : Event) (o : Outcome) (t : State) → settles_first e ≡ true → (Does s e o t → Does (settled s) e o t) × (Does (settled s) e o t → Does s e o t)
+does_alike : (s : State) (e : Event) (o : Outcome) (t : State) → settles_first e ≡ true
+    → (Does s e o t → Does (settled s) e o t) × (Does (settled s) e o t → Does s e o t)
 does_alike s (events.Command node command fate) o t first =
     let at : State → Type 0 = λ x. Steps x command fate o t in (subst at (sym (settled_once s)), subst at (settled_once s))
 does_alike s (events.Compact dropped) o t first =
-    let at : State → Type 0 = λ x. (o ≡ outcomes.Done) × (t ≡ publish x (items.Compaction (at_floor (topic_of x).kept.floor dropped))) in (subst at (sym (settled_once s)), subst at (settled_once s))
+    let at : State → Type 0 = λ x. (o ≡ outcomes.Done) × (t ≡ publish x (items.Compaction (at_floor (topic_of x).kept.floor dropped))) in
+    (subst at (sym (settled_once s)), subst at (settled_once s))
 does_alike s (events.CompactTo floor dropped) o t first =
-    let at : State → Type 0 = λ x. (o ≡ outcomes.Done) × (t ≡ publish x (items.Compaction (at_floor floor dropped))) in (subst at (sym (settled_once s)), subst at (settled_once s))
+    let at : State → Type 0 = λ x. (o ≡ outcomes.Done) × (t ≡ publish x (items.Compaction (at_floor floor dropped))) in
+    (subst at (sym (settled_once s)), subst at (settled_once s))
 does_alike s (events.Take node records) o t first = absurd (false≢true first)
 does_alike s (events.CompactNode node) o t first = absurd (false≢true first)
 does_alike s (events.MergeFrom node other) o t first = absurd (false≢true first)
@@ -152,13 +165,18 @@ unsettled_counts s e first =
     let same = allowed_alike s e first in (
       same,
       λ fine o t. (
-        (λ happens. allowed (settled s) t e o (sym same ∙ fine) (agree_first (settled s) e first) ((does_alike s e o t first).0 (done_of s t e o first fine happens))),
-        (λ happens. allowed s t e o fine (agree_first s e first) ((does_alike s e o t first).1 (done_of (settled s) t e o first (sym same ∙ fine) happens))),
+        (λ happens.
+            allowed (settled s) t e o (sym same ∙ fine) (agree_first (settled s) e first)
+            ((does_alike s e o t first).0 (done_of s t e o first fine happens))),
+        (λ happens.
+            allowed s t e o fine (agree_first s e first)
+            ((does_alike s e o t first).1 (done_of (settled s) t e o first (sym same ∙ fine) happens))),
       ),
     )
 
 module _ (l : LowerLaws) where
-  goes_on : (w : State) (u : Option Commit) → IfSome u (MayCommit (topic_of w)) → IfSome u (λ commit. topic_of (settle u w) ≡ after_batch true (topic_of w) commit.batch)
+  goes_on : (w : State) (u : Option Commit) → IfSome u (MayCommit (topic_of w))
+      → IfSome u (λ commit. topic_of (settle u w) ≡ after_batch true (topic_of w) commit.batch)
   goes_on w None may = tt
   goes_on w (Some commit) may =
       l.in_turn w.base w.items (items.Commit commit) ∙ ap (λ b. after_batch b (topic_of w) commit.batch) (l.commits (topic_of w) commit may)

@@ -32,7 +32,8 @@ rounds-smaller c =
     let size : length c.give.new.table.items ≡ length nodes = next.size ∙ c.rounds.invariant.are.size in
     let count = c.in_ok-given.ensures.count in
     let fewer : c.rounds.round ≤ given_count c.rounds.table.items = c.rounds.invariant.fewer in
-    let one : 0 < length c.in_ok-given.given.items = some_given (length c.in_ok-given.given.items) (vec_len c.in_ok-given.given) (omega (arith, c.in_ok-given.given.ok)) c.if-is_empty.ensures in
+    let one : 0 < length c.in_ok-given.given.items = some_given (length c.in_ok-given.given.items)
+    (vec_len c.in_ok-given.given) (omega (arith, c.in_ok-given.given.ok)) c.if-is_empty.ensures in
     omega arith
 
 pub rounds-preserved : goal.rounds-preserved
@@ -41,14 +42,19 @@ rounds-preserved c =
     let users = c.in_ok-users.users.items in
     let are_users = c.in_ok-users.ensures in
     let next : IsNext nodes c.rounds.table.items c.rounds.round c.give.new.table.items = c.in_ok-given.ensures.next in
-    let are : AreRounds nodes c.give.new.table.items (c.rounds.round + 1) = next_are nodes c.rounds.table.items c.rounds.round c.rounds.invariant.are c.give.new.table.items next in
+    let are : AreRounds nodes c.give.new.table.items (c.rounds.round + 1) =
+    next_are nodes c.rounds.table.items c.rounds.round c.rounds.invariant.are c.give.new.table.items next in
     let count = c.in_ok-given.ensures.count in
     let fewer : c.rounds.round ≤ given_count c.rounds.table.items = c.rounds.invariant.fewer in
-    let one : 0 < length c.in_ok-given.given.items = some_given (length c.in_ok-given.given.items) (vec_len c.in_ok-given.given) (omega (arith, c.in_ok-given.given.ok)) c.if-is_empty.ensures in
+    let one : 0 < length c.in_ok-given.given.items = some_given (length c.in_ok-given.given.items)
+    (vec_len c.in_ok-given.given) (omega (arith, c.in_ok-given.given.ok)) c.if-is_empty.ensures in
     record {
       are = are;
-      candidates = candidates_next nodes users are_users c.give.new.table.items c.rounds.round are c.in_ok-given.given.items c.in_ok-candidates-2.candidates.items c.in_ok-given.ensures.given
+      candidates =
+          candidates_next nodes users are_users c.give.new.table.items c.rounds.round are
+          c.in_ok-given.given.items c.in_ok-candidates-2.candidates.items c.in_ok-given.ensures.given
           (subst (λ (js : List NodeId). AreUsersOf users js c.in_ok-candidates-2.candidates.items) c.as_slice-in-rounds-2.ensures.value
-          (subst (λ (us : List (Vec NodeId)). AreUsersOf us c.as_slice-in-rounds-2.result.now c.in_ok-candidates-2.candidates.items) c.as_slice-in-rounds.ensures.value c.in_ok-candidates-2.ensures));
+          (subst (λ (us : List (Vec NodeId)). AreUsersOf us c.as_slice-in-rounds-2.result.now c.in_ok-candidates-2.candidates.items)
+          c.as_slice-in-rounds.ensures.value c.in_ok-candidates-2.ensures));
       fewer = omega arith;
     }

@@ -12,8 +12,10 @@ loop-id-preserved c =
     let at : slice_get ids l.id-index ≡ Some x = slice_get-get_or ids l.id-index (record { index = 0 }) c.loop-id-test.true in
     record {
       kept = λ i has. c.in_ok-add.ensures.kept i (l.invariant.kept i has);
-      added = one_further ids l.id-index x (λ i. Contains c.add.new.list.items i) at (λ n i lt here. c.in_ok-add.ensures.kept i (l.invariant.added n i lt here)) c.in_ok-add.ensures.added;
+      added = one_further ids l.id-index x (λ i. Contains c.add.new.list.items i) at
+          (λ n i lt here. c.in_ok-add.ensures.kept i (l.invariant.added n i lt here)) c.in_ok-add.ensures.added;
     }
 
 pub returns-clause-added : goal.returns-clause-added
-returns-clause-added c = all_of c.args.ids.now c.loop-id.id-index (λ i. Contains c.loop-id.found.items i) c.loop-id-test.false c.loop-id.invariant.added
+returns-clause-added c =
+    all_of c.args.ids.now c.loop-id.id-index (λ i. Contains c.loop-id.found.items i) c.loop-id-test.false c.loop-id.invariant.added

@@ -14,7 +14,8 @@ loop-field-preserved c =
     let before = l.users.items in
     let users = c.add_user.new.users.items in
     let step = c.in_ok-add_user-in-Record.ensures in
-    let at : slice_get fs l.field-index ≡ Some c.field-item.result = slice_get_read fs (length fs) l.field-index c.field-item.result refl c.loop-field-test.true c.field-item.is in
+    let at : slice_get fs l.field-index ≡ Some c.field-item.result =
+    slice_get_read fs (length fs) l.field-index c.field-item.result refl c.loop-field-test.true c.field-item.is in
     record {
       grown = grown_on c.args.users.now.items before users l.invariant.grown step.grown;
       size = step.size ∙ l.invariant.size;
@@ -47,7 +48,9 @@ returns-after-loop-field-clause-added c =
     let users = l.users.items in
     subst (λ (n : Node). IsUserOf users c.args.user (awaited n)) (sym c.in-Record.is)
     (uses_of_fields users c.args.user c.in-Record.fields
-    (λ f has. all_of fs l.field-index (λ g. g.node.index < length users → HasUser users g.node c.args.user) c.loop-field-test.false l.invariant.added f (subst (λ (xs : List Field). Contains xs f) (sym c.as_slice-field-items.ensures.items) has)))
+    (λ f has.
+    all_of fs l.field-index (λ g. g.node.index < length users → HasUser users g.node c.args.user) c.loop-field-test.false
+    l.invariant.added f (subst (λ (xs : List Field). Contains xs f) (sym c.as_slice-field-items.ensures.items) has)))
 
 pub returns-after-loop-branch-clause-added : goal.returns-after-loop-branch-clause-added
 returns-after-loop-branch-clause-added c =
@@ -55,4 +58,6 @@ returns-after-loop-branch-clause-added c =
     let js = c.as_slice-branch-items.result.now in
     let users = l.users.items in
     subst (λ (n : Node). IsUserOf users c.args.user (awaited n)) (sym c.in-Union.is)
-    (λ j has. all_of js l.branch-index (λ i. i.index < length users → HasUser users i c.args.user) c.loop-branch-test.false l.invariant.added j (subst (λ (xs : List NodeId). Contains xs j) (sym c.as_slice-branch-items.ensures) has))
+    (λ j has.
+    all_of js l.branch-index (λ i. i.index < length users → HasUser users i c.args.user) c.loop-branch-test.false l.invariant.added j
+    (subst (λ (xs : List NodeId). Contains xs j) (sym c.as_slice-branch-items.ensures) has))

@@ -9,7 +9,8 @@ loop-index-preserved c =
     let step = c.in_ok-add_uses.ensures in
     record {
       size = step.size ∙ l.invariant.size;
-      each = uses_step c.args.schema.now.nodes l.users.items c.add_uses.new.users.items l.index (record { index = l.index }) c.node.result.now refl c.node.ensures.at step.size step.grown l.invariant.each step.added;
+      each = uses_step c.args.schema.now.nodes l.users.items c.add_uses.new.users.items l.index
+          (record { index = l.index }) c.node.result.now refl c.node.ensures.at step.size step.grown l.invariant.each step.added;
     }
 
 pub returns : goal.returns
@@ -17,5 +18,7 @@ returns c =
     let l = c.loop-index in
     record {
       size = l.invariant.size;
-      each = λ i n at. l.invariant.each i n (let lt : i.index < length c.args.schema.now.nodes = slice_get_within c.args.schema.now.nodes i.index n at in omega arith) at;
+      each = λ i n at.
+          l.invariant.each i n (let lt : i.index < length c.args.schema.now.nodes = slice_get_within c.args.schema.now.nodes i.index n at in
+          omega arith) at;
     }

@@ -17,10 +17,13 @@ loop-of-preserved c =
     let users = c.args.users.now in
     elim c.if-of-users.branch [
       | then-of-users+in_ok-add_all w ↦
-          users_step users given l.of-index x at w.index-users-of.result (slice_get_read users (length users) x.index w.index-users-of.result refl w.if-of-users.true w.index-users-of.is)
+          users_step users given l.of-index x at w.index-users-of.result (
+          slice_get_read users (length users) x.index w.index-users-of.result refl w.if-of-users.true w.index-users-of.is)
           l.found.items c.if-of-users.found.items l.invariant
           (λ i has. subst (λ (v : Vec NodeId). Contains v.items i) (sym w.found-is) (w.in_ok-add_all.ensures.kept i has))
-          (λ i has. subst (λ (v : Vec NodeId). Contains v.items i) (sym w.found-is) (w.in_ok-add_all.ensures.added i (subst (λ (xs : List NodeId). Contains xs i) (sym w.as_slice.ensures.value) has)))
+          (λ i has.
+          subst (λ (v : Vec NodeId). Contains v.items i) (sym w.found-is)
+          (w.in_ok-add_all.ensures.added i (subst (λ (xs : List NodeId). Contains xs i) (sym w.as_slice.ensures.value) has)))
       | else-of-users w ↦
           users_skip users given l.of-index x at w.if-of-users.false c.if-of-users.found.items
           (λ n j i lt here has. subst (λ (v : Vec NodeId). Contains v.items i) (sym w.found-is) (l.invariant n j i lt here has))
@@ -32,5 +35,8 @@ returns c =
     let users = c.args.users.now in
     let given = c.args.given.now in
     if_ok c.once_each.result (λ once. (i : NodeId) → Contains found i → Contains once.items i) (λ once. AreUsersOf users given once.items)
-    (λ once kept j i has uses. kept i (all_of given c.loop-of.of-index (λ x. HasUser users x i → Contains found i) c.loop-of-test.false (λ n x lt at x_has. c.loop-of.invariant n x i lt at x_has) j has uses))
+    (λ once kept j i has uses.
+    kept i (
+    all_of given c.loop-of.of-index (λ x. HasUser users x i → Contains found i) c.loop-of-test.false
+    (λ n x lt at x_has. c.loop-of.invariant n x i lt at x_has) j has uses))
     c.once_each.ensures

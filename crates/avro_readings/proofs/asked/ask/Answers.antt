@@ -17,7 +17,10 @@ returns-in_ok-push-clause-asked c = λ test.
     let reads : Some k ≡ place_read c.args.others.now c.args.field.now = sym c.in-Some.is ∙ c.place_read.ensures in
     let below : k < length c.args.others.now = place_within c.args.others.now c.args.field.now k (sym reads) in
     let inside : k < length before = omega (arith, below, c.requires) in
-    let at : slice_get lists k ≡ Some is = slice_get-map (λ x. x.items) before k ∙ ap (option_map (λ x. x.items)) (slice_get-get_or before k c.index_mut.result.now inside ∙ ap Some (sym c.index_mut.ensures.value)) in
+    let at : slice_get lists k ≡ Some is =
+    slice_get-map (λ x. x.items) before k
+    ∙ ap (option_map (λ x. x.items))
+    (slice_get-get_or before k c.index_mut.result.now inside ∙ ap Some (sym c.index_mut.ensures.value)) in
     let grown : c.push.new.self.items ≡ is ++ i ∷ [] = c.in_ok-push.ensures.items in
     ap (lists_pass test 0) (map-set (λ x. x.items) before k c.push.new.self ∙ ap (set lists k) grown)
     ∙ one_asked test lists 0 k i is at

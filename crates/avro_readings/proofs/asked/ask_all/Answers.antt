@@ -33,4 +33,5 @@ pub returns-clause-asked : goal.returns-clause-asked
 returns-clause-asked c = λ test.
     let l = c.loop-field in
     l.invariant.asked test
-    ∙ ap (λ fs. lists_pass test 0 (map (λ x. x.items) c.args.asked.now.items) && list_all (field_passes test c.args.others.now) fs) (take_all l.field-index c.args.fields.now (omega arith))
+    ∙ ap (λ fs. lists_pass test 0 (map (λ x. x.items) c.args.asked.now.items) && list_all (field_passes test c.args.others.now) fs)
+    (take_all l.field-index c.args.fields.now (omega arith))

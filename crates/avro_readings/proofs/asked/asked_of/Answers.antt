@@ -26,7 +26,8 @@ loop-reader-preserved c =
           let before = list_all (λ i. type_passes r w test gs (pair_of i c.args.j)) (take l.reader-index all) in
           c.in_ok-ask_all-in-Some.ensures.asked test
           ∙ ap (λ b. b && list_all (field_passes test gs) c.in-Some.fields.now) (l.invariant.asked test)
-          ∙ ap (λ o. before && option_map_or (λ fs. list_all (field_passes test gs) fs) o false) (ap (option_map (λ fs. fs.now)) (sym c.in-Some.is) ∙ c.fields_type.ensures)
+          ∙ ap (λ o. before && option_map_or (λ fs. list_all (field_passes test gs) fs) o false)
+          (ap (option_map (λ fs. fs.now)) (sym c.in-Some.is) ∙ c.fields_type.ensures)
           ∙ sym (list_all_more (λ i. type_passes r w test gs (pair_of i c.args.j)) all l.reader-index 0 (omega arith));
     }
 
@@ -37,9 +38,13 @@ returns-in-None-clause-asked c = λ test.
     let w = c.args.w.now.nodes in
     let gs = c.args.others.now in
     list_all_at (λ i. type_passes r w test gs (pair_of i c.args.j)) c.args.readers.now l.reader-index 0 (omega arith)
-    (ap (λ o. option_map_or (λ fs. list_all (field_passes test gs) fs) o false) (sym c.fields_type.ensures ∙ ap (option_map (λ fs. fs.now)) c.in-None.is))
+    (ap (λ o. option_map_or (λ fs. list_all (field_passes test gs) fs) o false)
+    (sym c.fields_type.ensures ∙ ap (option_map (λ fs. fs.now)) c.in-None.is))
 
 pub returns-clause-asked : goal.returns-clause-asked
 returns-clause-asked c = λ test.
     let l = c.loop-reader in
-    sym (l.invariant.asked test ∙ ap (list_all (λ i. type_passes c.args.r.now.nodes c.args.w.now.nodes test c.args.others.now (pair_of i c.args.j))) (take_all l.reader-index c.args.readers.now (omega arith)))
+    sym (
+    l.invariant.asked test
+    ∙ ap (list_all (λ i. type_passes c.args.r.now.nodes c.args.w.now.nodes test c.args.others.now (pair_of i c.args.j)))
+    (take_all l.reader-index c.args.readers.now (omega arith)))

@@ -27,7 +27,8 @@ can_all_read-returns-then-is_any_barred t c =
     let k = c.in-Branch.k in
     let x = view c.in-Branch.inner.value in
     let one : view (Branch k c.in-Branch.inner) ≡ branch k x = search (rules, the_lemmas) in
-    let at : branch_at (slice_get w c.args.j.index) k ≡ Some c.in-Some.b = sym (c.branch_at.ensures ∙ ap (λ n. branch_at n k) c.node_at-in-Branch.ensures) ∙ c.in-Some.is in
+    let at : branch_at (slice_get w c.args.j.index) k ≡ Some c.in-Some.b =
+    sym (c.branch_at.ensures ∙ ap (λ n. branch_at n k) c.node_at-in-Branch.ensures) ∙ c.in-Some.is in
     sym (ap (all_read r w is c.args.j) (ap view c.in-Branch.is ∙ one)
     ∙ all_branches r w is c.args.j c.in-Some.b k x at
     ∙ ap (λ a. not a && all_read r w is c.in-Some.b x) (sym c.is_any_barred.ensures ∙ c.if-is_any_barred.true))
@@ -40,7 +41,8 @@ can_all_read-returns-else-is_any_barred t c =
     let k = c.in-Branch.k in
     let x = view c.in-Branch.inner.value in
     let one : view (Branch k c.in-Branch.inner) ≡ branch k x = search (rules, the_lemmas) in
-    let at : branch_at (slice_get w c.args.j.index) k ≡ Some c.in-Some.b = sym (c.branch_at.ensures ∙ ap (λ n. branch_at n k) c.node_at-in-Branch.ensures) ∙ c.in-Some.is in
+    let at : branch_at (slice_get w c.args.j.index) k ≡ Some c.in-Some.b =
+    sym (c.branch_at.ensures ∙ ap (λ n. branch_at n k) c.node_at-in-Branch.ensures) ∙ c.in-Some.is in
     let same : all_read r w is c.args.j (view c.args.given.now) ≡ all_read r w is c.in-Some.b (view c.deref.result.now) =
     ap (all_read r w is c.args.j) (ap view c.in-Branch.is ∙ one)
     ∙ all_branches r w is c.args.j c.in-Some.b k x at
@@ -54,7 +56,8 @@ can_read_items-returns-in_default t c =
     let w = c.args.w.now.nodes in
     let vs = values_view c.args.items.now.items in
     sym (all_lists r w c.args.readers.now c.args.j c.args.inner vs c.requires.writer
-    ∙ ap (λ o. option_map_or (λ ts. all_items r w ts c.args.inner vs) o false) (sym c.in_ok-types.ensures ∙ ap (option_map (λ ts. ts.items)) c.in_default.is))
+    ∙ ap (λ o. option_map_or (λ ts. all_items r w ts c.args.inner vs) o false)
+    (sym c.in_ok-types.ensures ∙ ap (option_map (λ ts. ts.items)) c.in_default.is))
 
 pub can_read_items-returns-then-not-branch : goal.can_read_items-returns-then-not-branch
 can_read_items-returns-then-not-branch t c =
@@ -66,11 +69,14 @@ can_read_items-returns-then-not-branch t c =
     let all = c.deref-item-items.result.now in
     let x = c.item-item.result in
     let rest = values_view (drop (l.item-index + 1) all) in
-    let here : drop l.item-index all ≡ x ∷ drop (l.item-index + 1) all = drop_more all l.item-index x (omega arith) ∙ ap (λ y. y ∷ drop (l.item-index + 1) all) (sym c.item-item.is) in
+    let here : drop l.item-index all ≡ x ∷ drop (l.item-index + 1) all =
+    drop_more all l.item-index x (omega arith) ∙ ap (λ y. y ∷ drop (l.item-index + 1) all) (sym c.item-item.is) in
     let answer : c.in_ok-can_all_read.field-0 ≡ false = first_of (search rules, grind (arith, common_steps)) in
-    let no : all_read r w ts i (view x) ≡ false = ap (λ is. all_read r w is i (view x)) (sym c.as_slice.ensures.value) ∙ sym c.in_ok-can_all_read.ensures ∙ answer in
+    let no : all_read r w ts i (view x) ≡ false =
+    ap (λ is. all_read r w is i (view x)) (sym c.as_slice.ensures.value) ∙ sym c.in_ok-can_all_read.ensures ∙ answer in
     sym (all_lists r w c.args.readers.now c.args.j i (values_view c.args.items.now.items) c.requires.writer
-    ∙ ap (λ o. option_map_or (λ is. all_items r w is i (values_view c.args.items.now.items)) o false) (sym c.in_ok-types.ensures ∙ ap (option_map (λ is. is.items)) c.in-Some.is)
+    ∙ ap (λ o. option_map_or (λ is. all_items r w is i (values_view c.args.items.now.items)) o false)
+    (sym c.in_ok-types.ensures ∙ ap (option_map (λ is. is.items)) c.in-Some.is)
     ∙ ap (λ ys. all_items r w ts i (values_view ys)) (sym c.deref-item-items.ensures.value)
     ∙ l.invariant.left
     ∙ ap (λ ys. all_items r w ts i (values_view ys)) here
@@ -87,11 +93,16 @@ can_read_items-loop-item-preserved t c =
     let all = c.deref-item-items.result.now in
     let x = c.item-item.result in
     let rest = values_view (drop (l.item-index + 1) all) in
-    let here : drop l.item-index all ≡ x ∷ drop (l.item-index + 1) all = drop_more all l.item-index x (omega arith) ∙ ap (λ y. y ∷ drop (l.item-index + 1) all) (sym c.item-item.is) in
+    let here : drop l.item-index all ≡ x ∷ drop (l.item-index + 1) all =
+    drop_more all l.item-index x (omega arith) ∙ ap (λ y. y ∷ drop (l.item-index + 1) all) (sym c.item-item.is) in
     let answer : c.in_ok-can_all_read.field-0 ≡ true = first_of (search rules, grind (arith, common_steps)) in
-    let yes : all_read r w ts i (view x) ≡ true = ap (λ is. all_read r w is i (view x)) (sym c.as_slice.ensures.value) ∙ sym c.in_ok-can_all_read.ensures ∙ answer in
+    let yes : all_read r w ts i (view x) ≡ true =
+    ap (λ is. all_read r w is i (view x)) (sym c.as_slice.ensures.value) ∙ sym c.in_ok-can_all_read.ensures ∙ answer in
     record {
-      left = l.invariant.left ∙ ap (λ ys. all_items r w ts i (values_view ys)) here ∙ one_item r w ts i (view x) rest ∙ ap (λ b. b && all_items r w ts i rest) yes;
+      left = l.invariant.left
+          ∙ ap (λ ys. all_items r w ts i (values_view ys)) here
+          ∙ one_item r w ts i (view x) rest
+          ∙ ap (λ b. b && all_items r w ts i rest) yes;
       fit = and_right (fits w i (view x)) (items_fit w i rest) (sym (ap (λ ys. items_fit w i (values_view ys)) here) ∙ l.invariant.fit);
     }
 
@@ -105,7 +116,8 @@ can_read_items-returns t c =
     let all = c.deref-item-items.result.now in
     let none : drop l.item-index all ≡ [] = drop_all l.item-index all c.loop-item-test.false in
     sym (all_lists r w c.args.readers.now c.args.j i (values_view c.args.items.now.items) c.requires.writer
-    ∙ ap (λ o. option_map_or (λ is. all_items r w is i (values_view c.args.items.now.items)) o false) (sym c.in_ok-types.ensures ∙ ap (option_map (λ is. is.items)) c.in-Some.is)
+    ∙ ap (λ o. option_map_or (λ is. all_items r w is i (values_view c.args.items.now.items)) o false)
+    (sym c.in_ok-types.ensures ∙ ap (option_map (λ is. is.items)) c.in-Some.is)
     ∙ ap (λ ys. all_items r w ts i (values_view ys)) (sym c.deref-item-items.ensures.value)
     ∙ l.invariant.left
     ∙ ap (λ ys. all_items r w ts i (values_view ys)) none
@@ -117,7 +129,8 @@ can_read_values-returns-in_default t c =
     let w = c.args.w.now.nodes in
     let ms = members_view c.args.members.now.entries in
     sym (all_maps r w c.args.readers.now c.args.j c.args.inner ms c.requires.writer
-    ∙ ap (λ o. option_map_or (λ ts. all_values r w ts c.args.inner ms) o false) (sym c.in_ok-types.ensures ∙ ap (option_map (λ ts. ts.items)) c.in_default.is))
+    ∙ ap (λ o. option_map_or (λ ts. all_values r w ts c.args.inner ms) o false)
+    (sym c.in_ok-types.ensures ∙ ap (option_map (λ ts. ts.items)) c.in_default.is))
 
 pub can_read_values-loop-key-init : goal.can_read_values-loop-key-init
 can_read_values-loop-key-init t c =
@@ -141,9 +154,11 @@ can_read_values-returns-then-not-branch t c =
     let here : l._key-iterator ≡ e ∷ c.next.new.self = c.in-Some-2.ensures.steps in
     let rest = members_view c.next.new.self in
     let answer : c.in_ok-can_all_read.field-0 ≡ false = first_of (search rules, grind (arith, common_steps)) in
-    let no : all_read r w ts i (view e.1) ≡ false = ap (λ is. all_read r w is i (view e.1)) (sym c.as_slice.ensures.value) ∙ sym c.in_ok-can_all_read.ensures ∙ answer in
+    let no : all_read r w ts i (view e.1) ≡ false =
+    ap (λ is. all_read r w is i (view e.1)) (sym c.as_slice.ensures.value) ∙ sym c.in_ok-can_all_read.ensures ∙ answer in
     sym (all_maps r w c.args.readers.now c.args.j i (members_view c.args.members.now.entries) c.requires.writer
-    ∙ ap (λ o. option_map_or (λ is. all_values r w is i (members_view c.args.members.now.entries)) o false) (sym c.in_ok-types.ensures ∙ ap (option_map (λ is. is.items)) c.in-Some.is)
+    ∙ ap (λ o. option_map_or (λ is. all_values r w is i (members_view c.args.members.now.entries)) o false)
+    (sym c.in_ok-types.ensures ∙ ap (option_map (λ is. is.items)) c.in-Some.is)
     ∙ l.invariant.left
     ∙ ap (λ es. all_values r w ts i (members_view es)) here
     ∙ one_value r w ts i e.0 (view e.1) rest
@@ -160,10 +175,15 @@ can_read_values-loop-key-preserved t c =
     let here : l._key-iterator ≡ e ∷ c.next.new.self = c.in-Some-2.ensures.steps in
     let rest = members_view c.next.new.self in
     let answer : c.in_ok-can_all_read.field-0 ≡ true = first_of (search rules, grind (arith, common_steps)) in
-    let yes : all_read r w ts i (view e.1) ≡ true = ap (λ is. all_read r w is i (view e.1)) (sym c.as_slice.ensures.value) ∙ sym c.in_ok-can_all_read.ensures ∙ answer in
+    let yes : all_read r w ts i (view e.1) ≡ true =
+    ap (λ is. all_read r w is i (view e.1)) (sym c.as_slice.ensures.value) ∙ sym c.in_ok-can_all_read.ensures ∙ answer in
     record {
-      left = l.invariant.left ∙ ap (λ es. all_values r w ts i (members_view es)) here ∙ one_value r w ts i e.0 (view e.1) rest ∙ ap (λ b. b && all_values r w ts i rest) yes;
-      fit = and_right (fits w i (view e.1)) (values_fit w i rest) (sym (ap (λ es. values_fit w i (members_view es)) here) ∙ l.invariant.fit);
+      left = l.invariant.left
+          ∙ ap (λ es. all_values r w ts i (members_view es)) here
+          ∙ one_value r w ts i e.0 (view e.1) rest
+          ∙ ap (λ b. b && all_values r w ts i rest) yes;
+      fit =
+          and_right (fits w i (view e.1)) (values_fit w i rest) (sym (ap (λ es. values_fit w i (members_view es)) here) ∙ l.invariant.fit);
     }
 
 pub can_read_values-returns : goal.can_read_values-returns
@@ -174,7 +194,8 @@ can_read_values-returns t c =
     let i = c.args.inner in
     let ts = c.in-Some.types.items in
     sym (all_maps r w c.args.readers.now c.args.j i (members_view c.args.members.now.entries) c.requires.writer
-    ∙ ap (λ o. option_map_or (λ is. all_values r w is i (members_view c.args.members.now.entries)) o false) (sym c.in_ok-types.ensures ∙ ap (option_map (λ is. is.items)) c.in-Some.is)
+    ∙ ap (λ o. option_map_or (λ is. all_values r w is i (members_view c.args.members.now.entries)) o false)
+    (sym c.in_ok-types.ensures ∙ ap (option_map (λ is. is.items)) c.in-Some.is)
     ∙ l.invariant.left
     ∙ ap (λ es. all_values r w ts i (members_view es)) c.in-None.ensures.steps.0
     ∙ no_members_left r w ts i)
@@ -200,8 +221,12 @@ can_read_fields-member_fits-requires t c =
     let all = c.deref-member-items.result.now in
     let x = c.member-item.result in
     let other = c.in-Some-field_at.other.now in
-    let field : slice_get gs k ≡ Some other = ap (λ fs. slice_get fs k) (sym c.as_slice.ensures.items) ∙ sym c.field_at.ensures ∙ ap option_copied c.in-Some-field_at.is in
-    let there : slice_get es k ≡ Some x = ap (λ ys. slice_get ys k) (sym c.deref-member-items.ensures.value) ∙ slice_get-get_or all k x (omega arith) ∙ ap Some (sym c.member-item.is) in
+    let field : slice_get gs k ≡ Some other =
+    ap (λ fs. slice_get fs k) (sym c.as_slice.ensures.items) ∙ sym c.field_at.ensures ∙ ap option_copied c.in-Some-field_at.is in
+    let there : slice_get es k ≡ Some x =
+    ap (λ ys. slice_get ys k) (sym c.deref-member-items.ensures.value)
+    ∙ slice_get-get_or all k x (omega arith)
+    ∙ ap Some (sym c.member-item.is) in
     record { fit = c.requires.fit; field = field; member = there }
 
 pub can_read_fields-returns-then-not-branch : goal.can_read_fields-returns-then-not-branch
@@ -215,15 +240,24 @@ can_read_fields-returns-then-not-branch t c =
     let all = c.deref-member-items.result.now in
     let x = c.member-item.result in
     let other = c.in-Some-field_at.other.now in
-    let field : slice_get gs k ≡ Some other = ap (λ fs. slice_get fs k) (sym c.as_slice.ensures.items) ∙ sym c.field_at.ensures ∙ ap option_copied c.in-Some-field_at.is in
-    let there : slice_get es k ≡ Some x = ap (λ ys. slice_get ys k) (sym c.deref-member-items.ensures.value) ∙ slice_get-get_or all k x (omega arith) ∙ ap Some (sym c.member-item.is) in
+    let field : slice_get gs k ≡ Some other =
+    ap (λ fs. slice_get fs k) (sym c.as_slice.ensures.items) ∙ sym c.field_at.ensures ∙ ap option_copied c.in-Some-field_at.is in
+    let there : slice_get es k ≡ Some x =
+    ap (λ ys. slice_get ys k) (sym c.deref-member-items.ensures.value)
+    ∙ slice_get-get_or all k x (omega arith)
+    ∙ ap Some (sym c.member-item.is) in
     let asked = c.in-Some.asked.items in
     let lists : List (List ℕ) = map (λ y. y.items) asked in
     let test : ℕ → ℕ → Bool = place_reads r w gs ms in
     let types = c.in_ok-types.types.items in
-    let each : (p : ℕ → Bool) → list_all p types ≡ list_all p (unwrap_or (slice_get lists k) []) = λ p. c.in_ok-types.ensures p ∙ ap (list_all p) (c.list_at.ensures ∙ ap (λ o. unwrap_or o []) (sym (slice_get-map (λ y. y.items) asked k))) in
+    let each : (p : ℕ → Bool) → list_all p types ≡ list_all p (unwrap_or (slice_get lists k) []) = λ p.
+    c.in_ok-types.ensures p
+    ∙ ap (list_all p) (c.list_at.ensures ∙ ap (λ o. unwrap_or o []) (sym (slice_get-map (λ y. y.items) asked k))) in
     let answer : c.in_ok-can_all_read-in-Some-field_at.field-0 ≡ false = first_of (search rules, grind (arith, common_steps)) in
-    let told : all_read r w types other.node (view x.1) ≡ false = ap (λ is. all_read r w is other.node (view x.1)) (sym c.as_slice-in-Some-field_at.ensures.value) ∙ sym c.in_ok-can_all_read-in-Some-field_at.ensures ∙ answer in
+    let told : all_read r w types other.node (view x.1) ≡ false =
+    ap (λ is. all_read r w is other.node (view x.1)) (sym c.as_slice-in-Some-field_at.ensures.value)
+    ∙ sym c.in_ok-can_all_read-in-Some-field_at.ensures
+    ∙ answer in
     sym (all_records r w c.args.readers.now c.args.j c.requires.writer.0 c.requires.writer.1 gs ms c.requires.writer.2 c.requires.fit
     ∙ c.in_ok-asked.ensures.asked test
     ∙ ap (λ o. option_map_or (λ found. lists_pass test 0 (map (λ y. y.items) found.items)) o false) c.in-Some.is
@@ -240,8 +274,11 @@ can_read_fields-returns-in-None t c =
     let ms = members_view es in
     let k = c.loop-k.k in
     let all = c.deref-member-items.result.now in
-    let none : slice_get gs k ≡ None = ap (λ fs. slice_get fs k) (sym c.as_slice.ensures.items) ∙ sym c.field_at.ensures ∙ ap option_copied c.in-None.is in
-    absurd (none_past gs k (omega (arith, fit_length r w gs es c.requires.fit, ap length c.deref-member-items.ensures.value, c.loop-k-test.true)) none)
+    let none : slice_get gs k ≡ None =
+    ap (λ fs. slice_get fs k) (sym c.as_slice.ensures.items) ∙ sym c.field_at.ensures ∙ ap option_copied c.in-None.is in
+    absurd (
+    none_past gs k (
+    omega (arith, fit_length r w gs es c.requires.fit, ap length c.deref-member-items.ensures.value, c.loop-k-test.true)) none)
 
 pub can_read_fields-loop-k-preserved : goal.can_read_fields-loop-k-preserved
 can_read_fields-loop-k-preserved t c =
@@ -254,15 +291,24 @@ can_read_fields-loop-k-preserved t c =
     let all = c.deref-member-items.result.now in
     let x = c.member-item.result in
     let other = c.in-Some-field_at.other.now in
-    let field : slice_get gs k ≡ Some other = ap (λ fs. slice_get fs k) (sym c.as_slice.ensures.items) ∙ sym c.field_at.ensures ∙ ap option_copied c.in-Some-field_at.is in
-    let there : slice_get es k ≡ Some x = ap (λ ys. slice_get ys k) (sym c.deref-member-items.ensures.value) ∙ slice_get-get_or all k x (omega arith) ∙ ap Some (sym c.member-item.is) in
+    let field : slice_get gs k ≡ Some other =
+    ap (λ fs. slice_get fs k) (sym c.as_slice.ensures.items) ∙ sym c.field_at.ensures ∙ ap option_copied c.in-Some-field_at.is in
+    let there : slice_get es k ≡ Some x =
+    ap (λ ys. slice_get ys k) (sym c.deref-member-items.ensures.value)
+    ∙ slice_get-get_or all k x (omega arith)
+    ∙ ap Some (sym c.member-item.is) in
     let asked = c.in-Some.asked.items in
     let lists : List (List ℕ) = map (λ y. y.items) asked in
     let test : ℕ → ℕ → Bool = place_reads r w gs ms in
     let types = c.in_ok-types.types.items in
-    let each : (p : ℕ → Bool) → list_all p types ≡ list_all p (unwrap_or (slice_get lists k) []) = λ p. c.in_ok-types.ensures p ∙ ap (list_all p) (c.list_at.ensures ∙ ap (λ o. unwrap_or o []) (sym (slice_get-map (λ y. y.items) asked k))) in
+    let each : (p : ℕ → Bool) → list_all p types ≡ list_all p (unwrap_or (slice_get lists k) []) = λ p.
+    c.in_ok-types.ensures p
+    ∙ ap (list_all p) (c.list_at.ensures ∙ ap (λ o. unwrap_or o []) (sym (slice_get-map (λ y. y.items) asked k))) in
     let answer : c.in_ok-can_all_read-in-Some-field_at.field-0 ≡ true = first_of (search rules, grind (arith, common_steps)) in
-    let told : all_read r w types other.node (view x.1) ≡ true = ap (λ is. all_read r w is other.node (view x.1)) (sym c.as_slice-in-Some-field_at.ensures.value) ∙ sym c.in_ok-can_all_read-in-Some-field_at.ensures ∙ answer in
+    let told : all_read r w types other.node (view x.1) ≡ true =
+    ap (λ is. all_read r w is other.node (view x.1)) (sym c.as_slice-in-Some-field_at.ensures.value)
+    ∙ sym c.in_ok-can_all_read-in-Some-field_at.ensures
+    ∙ answer in
     c.loop-k.invariant
     ∙ place_passes r w gs ms k other (view x.1) types lists field (value_of es k x there) each
     ∙ ap (λ b. b && lists_pass test (k + 1) (drop (k + 1) lists)) told
@@ -279,8 +325,16 @@ can_read_fields-returns t c =
     let asked = c.in-Some.asked.items in
     let lists : List (List ℕ) = map (λ y. y.items) asked in
     let test : ℕ → ℕ → Bool = place_reads r w gs ms in
-    let as_many : length asked ≡ length gs = subst (λ o. IfSome o (λ found. length found.items ≡ length gs)) c.in-Some.is c.in_ok-asked.ensures.len in
-    let past : length lists ≤ k = omega (arith, length-map asked (λ y. y.items), as_many, fit_length r w gs es c.requires.fit, ap length c.deref-member-items.ensures.value, c.loop-k-test.false) in
+    let as_many : length asked ≡ length gs =
+    subst (λ o. IfSome o (λ found. length found.items ≡ length gs)) c.in-Some.is c.in_ok-asked.ensures.len in
+    let past : length lists ≤ k = omega (
+      arith,
+      length-map asked (λ y. y.items),
+      as_many,
+      fit_length r w gs es c.requires.fit,
+      ap length c.deref-member-items.ensures.value,
+      c.loop-k-test.false,
+    ) in
     sym (all_records r w c.args.readers.now c.args.j c.requires.writer.0 c.requires.writer.1 gs ms c.requires.writer.2 c.requires.fit
     ∙ c.in_ok-asked.ensures.asked test
     ∙ ap (λ o. option_map_or (λ found. lists_pass test 0 (map (λ y. y.items) found.items)) o false) c.in-Some.is

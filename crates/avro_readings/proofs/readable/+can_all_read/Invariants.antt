@@ -8,13 +8,15 @@ use Rattle.avro_readings.proofs.readable.+can_all_read.Given as goal
 
 abbrev pub invariant-can_read_items-loop-item : goal.invariant-can_read_items-loop-item
 invariant-can_read_items-loop-item l = record {
-  left : all_items l.r.nodes l.w.nodes l.types.items l.inner (values_view l.item-items) ≡ all_items l.r.nodes l.w.nodes l.types.items l.inner (values_view (drop l.item-index l.item-items));
+  left : all_items l.r.nodes l.w.nodes l.types.items l.inner (values_view l.item-items)
+      ≡ all_items l.r.nodes l.w.nodes l.types.items l.inner (values_view (drop l.item-index l.item-items));
   fit : items_fit l.w.nodes l.inner (values_view (drop l.item-index l.item-items)) ≡ true;
 }
 
 abbrev pub invariant-can_read_values-loop-key : goal.invariant-can_read_values-loop-key
 invariant-can_read_values-loop-key l = record {
-  left : all_values l.r.nodes l.w.nodes l.types.items l.inner (members_view l.members.entries) ≡ all_values l.r.nodes l.w.nodes l.types.items l.inner (members_view l._key-iterator);
+  left : all_values l.r.nodes l.w.nodes l.types.items l.inner (members_view l.members.entries)
+      ≡ all_values l.r.nodes l.w.nodes l.types.items l.inner (members_view l._key-iterator);
   fit : values_fit l.w.nodes l.inner (members_view l._key-iterator) ≡ true;
 }
 

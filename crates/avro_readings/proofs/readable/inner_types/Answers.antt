@@ -6,7 +6,8 @@ use Rattle.avro_readings.proofs.readable.inner_types.Goals as goal
 
 pub loop-reader-init : goal.loop-reader-init
 loop-reader-init c = none_before (spec.inner_types c.args.r.now.nodes c.args.w.now.nodes c.args.j c.args.readers.now)
-    ∙ ap (λ ys. option_map (λ ts. ys ++ ts) (spec.inner_types c.args.r.now.nodes c.args.w.now.nodes c.args.j c.args.readers.now)) (sym c.new-types.ensures.items)
+    ∙ ap (λ ys. option_map (λ ts. ys ++ ts) (spec.inner_types c.args.r.now.nodes c.args.w.now.nodes c.args.j c.args.readers.now))
+    (sym c.new-types.ensures.items)
 
 pub loop-reader-preserved : goal.loop-reader-preserved
 loop-reader-preserved c =
@@ -14,11 +15,16 @@ loop-reader-preserved c =
     let all = c.args.readers.now in
     let x = get_or all l.reader-index 0 in
     let here : drop l.reader-index all ≡ x ∷ drop (l.reader-index + 1) all = drop_more all l.reader-index 0 (omega arith) in
-    let inner : spec.inner_type c.args.r.now.nodes c.args.w.now.nodes (spec.pair_of x c.args.j) ≡ c.inner_type.result = ap (spec.inner_type c.args.r.now.nodes c.args.w.now.nodes) (sym c.pair_of.ensures) ∙ sym c.inner_type.ensures in
+    let inner : spec.inner_type c.args.r.now.nodes c.args.w.now.nodes (spec.pair_of x c.args.j) ≡ c.inner_type.result =
+    ap (spec.inner_type c.args.r.now.nodes c.args.w.now.nodes) (sym c.pair_of.ensures) ∙ sym c.inner_type.ensures in
     l.invariant
     ∙ ap (λ is. option_map (λ ts. l.types.items ++ ts) (spec.inner_types c.args.r.now.nodes c.args.w.now.nodes c.args.j is)) here
-    ∙ types_last c.args.r.now.nodes c.args.w.now.nodes c.args.j l.types.items x c.in-Some.inner (drop (l.reader-index + 1) all) (inner ∙ c.in-Some.is)
-    ∙ ap (λ ys. option_map (λ ts. ys ++ ts) (spec.inner_types c.args.r.now.nodes c.args.w.now.nodes c.args.j (drop (l.reader-index + 1) all))) (sym c.in_ok-push-in-Some.ensures.items)
+    ∙ types_last c.args.r.now.nodes c.args.w.now.nodes c.args.j l.types.items x c.in-Some.inner
+    (drop (l.reader-index + 1) all) (inner ∙ c.in-Some.is)
+    ∙ ap
+    (λ ys.
+    option_map (λ ts. ys ++ ts) (spec.inner_types c.args.r.now.nodes c.args.w.now.nodes c.args.j (drop (l.reader-index + 1) all)))
+    (sym c.in_ok-push-in-Some.ensures.items)
 
 pub returns-in-None : goal.returns-in-None
 returns-in-None c =
@@ -26,7 +32,8 @@ returns-in-None c =
     let all = c.args.readers.now in
     let x = get_or all l.reader-index 0 in
     let here : drop l.reader-index all ≡ x ∷ drop (l.reader-index + 1) all = drop_more all l.reader-index 0 (omega arith) in
-    let inner : spec.inner_type c.args.r.now.nodes c.args.w.now.nodes (spec.pair_of x c.args.j) ≡ c.inner_type.result = ap (spec.inner_type c.args.r.now.nodes c.args.w.now.nodes) (sym c.pair_of.ensures) ∙ sym c.inner_type.ensures in
+    let inner : spec.inner_type c.args.r.now.nodes c.args.w.now.nodes (spec.pair_of x c.args.j) ≡ c.inner_type.result =
+    ap (spec.inner_type c.args.r.now.nodes c.args.w.now.nodes) (sym c.pair_of.ensures) ∙ sym c.inner_type.ensures in
     sym (l.invariant
     ∙ ap (λ is. option_map (λ ts. l.types.items ++ ts) (spec.inner_types c.args.r.now.nodes c.args.w.now.nodes c.args.j is)) here
     ∙ types_none c.args.r.now.nodes c.args.w.now.nodes c.args.j l.types.items x (drop (l.reader-index + 1) all) (inner ∙ c.in-None.is))

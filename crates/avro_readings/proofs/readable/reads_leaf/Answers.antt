@@ -11,4 +11,7 @@ returns-in-Some c =
     c.both_leaves.ensures
     ∙ ap (λ m. both_leaves m (option_copied c.node_at-in-Some.result)) c.node_at.ensures
     ∙ ap (both_leaves (slice_get r c.in-Some.reader.index)) c.node_at-in-Some.ensures
-    ∙ sym (leaf_reads r w c.args.pair ∙ ap (λ o. option_map_or (λ t. both_leaves (slice_get r t.index) (slice_get w c.args.pair.writer.index)) o false) (sym c.row_type.ensures ∙ c.in-Some.is))
+    ∙ sym (
+    leaf_reads r w c.args.pair
+    ∙ ap (λ o. option_map_or (λ t. both_leaves (slice_get r t.index) (slice_get w c.args.pair.writer.index)) o false)
+    (sym c.row_type.ensures ∙ c.in-Some.is))

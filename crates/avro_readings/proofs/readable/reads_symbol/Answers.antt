@@ -15,4 +15,7 @@ returns-in-Some c =
     ∙ ap is_some (c.symbol_at.ensures
     ∙ ap (λ m. symbol_at m (option_copied c.node_at-in-Some.result) s) c.node_at.ensures
     ∙ ap (λ n. symbol_at (slice_get r c.in-Some.reader.index) n s) c.node_at-in-Some.ensures)
-    ∙ sym (symbol_reads r w c.args.pair s ∙ ap (λ o. option_map_or (λ t. is_some (symbol_at (slice_get r t.index) (slice_get w c.args.pair.writer.index) s)) o false) (sym c.row_type.ensures ∙ c.in-Some.is))
+    ∙ sym (
+    symbol_reads r w c.args.pair s
+    ∙ ap (λ o. option_map_or (λ t. is_some (symbol_at (slice_get r t.index) (slice_get w c.args.pair.writer.index) s)) o false)
+    (sym c.row_type.ensures ∙ c.in-Some.is))

@@ -10,7 +10,8 @@ use Rattle.avro_readings.proofs.reading.+read.Given as goal
 abbrev pub invariant-read_items-loop-item : goal.invariant-read_items-loop-item
 invariant-read_items-loop-item l = record {
   read : spec.items_read l.r.nodes l.w.nodes l.pair (values_view l.item-items)
-      ≡ option_map (values_before (map view l.done.items)) (spec.items_read l.r.nodes l.w.nodes l.pair (values_view (drop l.item-index l.item-items)));
+      ≡ option_map (values_before (map view l.done.items))
+      (spec.items_read l.r.nodes l.w.nodes l.pair (values_view (drop l.item-index l.item-items)));
   room : IsTaken l.fn.room l.room (values_room (values_view l.done.items));
 }
 
@@ -25,6 +26,7 @@ invariant-read_values-loop-key l = record {
 abbrev pub invariant-read_fields-loop-field : goal.invariant-read_fields-loop-field
 invariant-read_fields-loop-field l = record {
   read : all_fields_read l.r.nodes l.w.nodes (members_view l.members.items) l.others l.fields
-      ≡ option_map (members_before (map seen l.done.items)) (all_fields_read l.r.nodes l.w.nodes (members_view l.members.items) l.others (drop l.field-index l.fields));
+      ≡ option_map (members_before (map seen l.done.items))
+      (all_fields_read l.r.nodes l.w.nodes (members_view l.members.items) l.others (drop l.field-index l.fields));
   room : IsTaken l.fn.room l.room (members_room (members_view l.done.items));
 }

@@ -17,8 +17,11 @@ returns-then-branch-clause-refused c =
     let e = c.in-Err-TooLarge.field-0 in
     let fit : fits w roots.writer v ≡ true = first_of (search rules, grind (arith, common_steps)) in
     let is : e ≡ TooLarge = first_of (search rules, grind (arith, common_steps)) in
-    let same : pair c.root-2.result c.root-3.result ≡ roots = ap (λ i. pair i c.root-3.result) c.root-2.ensures.first ∙ ap (pair (record { index = 0 })) c.root-3.ensures.first in
-    let halted : IsHalt c.whole.result (option_map value_room (reads r w roots v)) e = subst (λ p. IsHalt c.whole.result (option_map value_room (reads r w p v)) e) same c.in-Err-TooLarge.ensures.halted in
+    let same : pair c.root-2.result c.root-3.result ≡ roots =
+    ap (λ i. pair i c.root-3.result) c.root-2.ensures.first ∙ ap (pair (record { index = 0 })) c.root-3.ensures.first in
+    let halted : IsHalt c.whole.result (option_map value_room (reads r w roots v)) e =
+    subst (λ p. IsHalt c.whole.result (option_map value_room (reads r w p v)) e) same c.in-Err-TooLarge.ensures.halted in
     let yes : c.in_ok-can_read-in-Err-TooLarge.field-0 ≡ true = first_of (search rules, grind (arith, common_steps)) in
-    let found = too_large c.whole.result (reads r w roots v) e c.whole.ensures is halted (sym c.in_ok-can_read-in-Err-TooLarge.ensures ∙ yes) in
+    let found =
+    too_large c.whole.result (reads r w roots v) e c.whole.ensures is halted (sym c.in_ok-can_read-in-Err-TooLarge.ensures ∙ yes) in
     (fit, found.0, found.1, found.2)

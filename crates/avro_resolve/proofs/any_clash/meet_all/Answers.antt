@@ -22,16 +22,21 @@ loop-pair-preserved c =
     let i = c.loop-pair.invariant in
     let met = c.in_ok-meet.ensures in
     record {
-      grown = met_more many c.args.agenda.now c.loop-pair.agenda c.meet.new.self i.grown c.number_of.result c.number_of.ensures.below met.met met.waits;
+      grown = met_more many c.args.agenda.now c.loop-pair.agenda c.meet.new.self
+          i.grown c.number_of.result c.number_of.ensures.below met.met met.waits;
       each = λ k e from below.
           ⊎_elim
-          (λ low. met_still many c.args.agenda.now c.loop-pair.agenda c.meet.new.self i.grown c.number_of.result c.number_of.ensures.below met.met met.waits _ (i.each k e from low))
+          (λ low.
+          met_still many c.args.agenda.now c.loop-pair.agenda c.meet.new.self i.grown
+          c.number_of.result c.number_of.ensures.below met.met met.waits _ (i.each k e from low))
           (λ high.
           let here : k ≡ c.loop-pair.pair-index = omega arith in
-          let same : get_or c.args.owed.now k e ≡ get_or c.args.owed.now c.loop-pair.pair-index d = ap (λ n. get_or c.args.owed.now n e) here ∙ any_default c.args.owed.now c.loop-pair.pair-index e d c.loop-pair-test.true in
+          let same : get_or c.args.owed.now k e ≡ get_or c.args.owed.now c.loop-pair.pair-index d =
+          ap (λ n. get_or c.args.owed.now n e) here ∙ any_default c.args.owed.now c.loop-pair.pair-index e d c.loop-pair-test.true in
           ap (λ p. is_met c.meet.new.self (number_of c.args.w.now.nodes p)) same
           ∙ ap (is_met c.meet.new.self) (sym c.number_of.ensures.number)
-          ∙ met_it many c.args.agenda.now c.loop-pair.agenda c.meet.new.self i.grown c.number_of.result c.number_of.ensures.below met.met met.waits)
+          ∙ met_it many c.args.agenda.now c.loop-pair.agenda c.meet.new.self i.grown
+          c.number_of.result c.number_of.ensures.below met.met met.waits)
           (cases_lt k c.loop-pair.pair-index);
       room = met.room ∙ i.room;
       orderly = met.orderly;

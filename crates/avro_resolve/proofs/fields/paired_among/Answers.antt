@@ -19,7 +19,8 @@ returns-then-left-eq0 c =
     let i = c.loop-x.invariant in
     let f = c.index-reader-x.result in
     let rest = filter (λ (g : Field). is_some (partner gs g)) (drop (x.holder.field + 1) fs) in
-    let first = found_first fs gs xs c.requires.found n c.loop-x.next x c.loop-x-test.true read i.earlier c.if-x-next.true f c.index-reader-x.is in
+    let first =
+    found_first fs gs xs c.requires.found n c.loop-x.next x c.loop-x-test.true read i.earlier c.if-x-next.true f c.index-reader-x.is in
     let copied = has_partner c.field_at.result (partner gs f) (c.field_at.ensures ∙ first) in
     let tested = c.is_some.ensures in
     let passes = c.if-is_some.true in
@@ -27,7 +28,8 @@ returns-then-left-eq0 c =
     let none_left : c.loop-x.left ≡ 0 = omega (arith, c.if-left-eq0.true) in
     sym
     (i.left
-    ∙ ap (λ l. slice_get l c.loop-x.left) (paired_to fs gs xs c.requires.found n c.loop-x.next x c.loop-x-test.true read i.earlier c.if-x-next.true f c.index-reader-x.is)
+    ∙ ap (λ l. slice_get l c.loop-x.left)
+    (paired_to fs gs xs c.requires.found n c.loop-x.next x c.loop-x-test.true read i.earlier c.if-x-next.true f c.index-reader-x.is)
     ∙ ap (λ b. slice_get (cond b (f ∷ rest) rest) c.loop-x.left) has
     ∙ ap (slice_get (f ∷ rest)) none_left)
 
@@ -56,10 +58,12 @@ loop-x-preserved c =
           let some_left : 0 < c.loop-x.left = omega (arith, w.if-left-eq0.false) in
           rw (w.left-is, w.next-is) (record {
             left = i.left
-                ∙ ap (λ l. slice_get l c.loop-x.left) (paired_to fs gs xs c.requires.found n next x test read i.earlier up f w.index-reader-x.is)
+                ∙ ap (λ l. slice_get l c.loop-x.left)
+                (paired_to fs gs xs c.requires.found n next x test read i.earlier up f w.index-reader-x.is)
                 ∙ ap (λ b. slice_get (cond b (f ∷ rest) rest) c.loop-x.left) has
                 ∙ slice_get_behind f rest c.loop-x.left some_left;
-            earlier = earlier_more fs gs xs c.requires.found n next x test read i.earlier (x.holder.field + 1) (omega (arith, up)) (omega arith);
+            earlier =
+                earlier_more fs gs xs c.requires.found n next x test read i.earlier (x.holder.field + 1) (omega (arith, up)) (omega arith);
             within = omega (arith, inside);
           })
       | then-x-next+else-is_some w ↦
@@ -72,9 +76,11 @@ loop-x-preserved c =
           let has_none : is_some (partner gs f) ≡ false = cc in
           rw (w.left-is, w.next-is) (record {
             left = i.left
-                ∙ ap (λ l. slice_get l c.loop-x.left) (paired_to fs gs xs c.requires.found n next x test read i.earlier up f w.index-reader-x.is)
+                ∙ ap (λ l. slice_get l c.loop-x.left)
+                (paired_to fs gs xs c.requires.found n next x test read i.earlier up f w.index-reader-x.is)
                 ∙ ap (λ b. slice_get (cond b (f ∷ rest) rest) c.loop-x.left) has_none;
-            earlier = earlier_more fs gs xs c.requires.found n next x test read i.earlier (x.holder.field + 1) (omega (arith, up)) (omega arith);
+            earlier =
+                earlier_more fs gs xs c.requires.found n next x test read i.earlier (x.holder.field + 1) (omega (arith, up)) (omega arith);
             within = omega (arith, inside);
           })
       | else-x-next w ↦
@@ -89,4 +95,8 @@ loop-x-preserved c =
 pub returns : goal.returns
 returns c =
     let i = c.loop-x.invariant in
-    sym (i.left ∙ ap (λ l. slice_get l c.loop-x.left) (paired_rest c.args.reader.now c.args.writer.now c.args.found.now c.requires.found c.loop-x.x-index c.loop-x.next c.loop-x-test.false c.loop-x.auto.x-index-end i.earlier i.within))
+    sym (
+    i.left
+    ∙ ap (λ l. slice_get l c.loop-x.left)
+    (paired_rest c.args.reader.now c.args.writer.now c.args.found.now c.requires.found c.loop-x.x-index
+    c.loop-x.next c.loop-x-test.false c.loop-x.auto.x-index-end i.earlier i.within))

@@ -6,4 +6,6 @@ use Rattle.avro_resolve.proofs.follow.field_pair.Given as goal
 
 -- the fields so far are not of the name, or have no partner
 abbrev pub invariant-loop-f : goal.invariant-loop-f
-invariant-loop-f l = pair_by (filter_map (to_partner l.writer) l.fn.reader) (hop.Field l.name) ≡ pair_by (filter_map (to_partner l.writer) (drop l.f-index l.reader)) (hop.Field l.name)
+invariant-loop-f l =
+    pair_by (filter_map (to_partner l.writer) l.fn.reader) (hop.Field l.name)
+    ≡ pair_by (filter_map (to_partner l.writer) (drop l.f-index l.reader)) (hop.Field l.name)

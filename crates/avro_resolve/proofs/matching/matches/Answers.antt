@@ -4,7 +4,8 @@ use Rattle.avro_resolve.proofs.matching.matches.Goals as goal
 
 pub inward-preserved : goal.inward-preserved
 inward-preserved c =
-    further c.inward.invariant c.node-reader.ensures.at c.node-writer.ensures.at c.node-reader.ensures.sound c.node-writer.ensures.sound c.in-Some.a c.in-Some.b (sym c.in-Some.ensures) c.if-left-eq0.false
+    further c.inward.invariant c.node-reader.ensures.at c.node-writer.ensures.at c.node-reader.ensures.sound
+    c.node-writer.ensures.sound c.in-Some.a c.in-Some.b (sym c.in-Some.ensures) c.if-left-eq0.false
 
 pub returns-in-None-clause-by_cases : goal.returns-in-None-clause-by_cases
 returns-in-None-clause-by_cases c = matches-cases c.args.r.now.nodes c.args.w.now.nodes c.node-reader.ensures.sound

@@ -31,7 +31,10 @@ returns-then-is_none-clause-clash c =
     let inside : x.holder.field < length fs = found_inside fs gs xs all n next x test read i.earlier in
     let here = owed_to fs gs xs all n next x test read i.earlier _ i.owed up in
     let at = drop_at fs x.holder.field c.index-reader-x.result inside c.index-reader-x.is in
-    let has = ap option_copied (sym c.in_default.is) ∙ c.field_at.ensures ∙ found_first fs gs xs all n next x test read i.earlier up c.index-reader-x.result c.index-reader-x.is in
+    let has =
+    ap option_copied (sym c.in_default.is)
+    ∙ c.field_at.ensures
+    ∙ found_first fs gs xs all n next x test read i.earlier up c.index-reader-x.result c.index-reader-x.is in
     ap result_err (sym (owed_lacking _ _ _ _ here c.index-reader-x.result at has (sym c.if-is_none.true ∙ none_if _ _ c.is_none.ensures)))
 
 pub loop-x-preserved : goal.loop-x-preserved
@@ -52,7 +55,10 @@ loop-x-preserved c =
           let up : next ≤ x.holder.field = w.if-x-next.true in
           let here = owed_to fs gs xs all n next x test read i.earlier _ i.owed up in
           let at = drop_at fs x.holder.field w.index-reader-x.result inside w.index-reader-x.is in
-          let has = ap option_copied (sym w.in-Some.is) ∙ w.field_at.ensures ∙ found_first fs gs xs all n next x test read i.earlier up w.index-reader-x.result w.index-reader-x.is in
+          let has =
+          ap option_copied (sym w.in-Some.is)
+          ∙ w.field_at.ensures
+          ∙ found_first fs gs xs all n next x test read i.earlier up w.index-reader-x.result w.index-reader-x.is in
           rw (w.owed-is, w.next-is) (record {
             owed = owed_pair _ _ _ _ here w.index-reader-x.result at w.in-Some.g.now has w.push.new.self.items w.in_ok-push.ensures.items;
             earlier = earlier_more fs gs xs all n next x test read i.earlier (x.holder.field + 1) (omega (arith, up)) (omega arith);
@@ -62,7 +68,10 @@ loop-x-preserved c =
           let up : next ≤ x.holder.field = w.if-x-next.true in
           let here = owed_to fs gs xs all n next x test read i.earlier _ i.owed up in
           let at = drop_at fs x.holder.field w.index-reader-x.result inside w.index-reader-x.is in
-          let has = ap option_copied (sym w.in_default.is) ∙ w.field_at.ensures ∙ found_first fs gs xs all n next x test read i.earlier up w.index-reader-x.result w.index-reader-x.is in
+          let has =
+          ap option_copied (sym w.in_default.is)
+          ∙ w.field_at.ensures
+          ∙ found_first fs gs xs all n next x test read i.earlier up w.index-reader-x.result w.index-reader-x.is in
           rw (w.owed-is, w.next-is) (record {
             owed = owed_none _ _ _ _ here w.index-reader-x.result at has (sym w.if-is_none.false ∙ none_if _ _ w.is_none.ensures);
             earlier = earlier_more fs gs xs all n next x test read i.earlier (x.holder.field + 1) (omega (arith, up)) (omega arith);
@@ -81,12 +90,14 @@ pub returns-clause-clash : goal.returns-clause-clash
 returns-clause-clash c =
     let i = c.loop-x.invariant in
     let fs = c.args.reader.now in
-    let all = owed_rest fs c.args.writer.now c.args.found.now c.requires.found c.loop-x.x-index c.loop-x.next c.loop-x-test.false c.loop-x.auto.x-index-end i.earlier i.within _ i.owed in
+    let all = owed_rest fs c.args.writer.now c.args.found.now c.requires.found c.loop-x.x-index
+    c.loop-x.next c.loop-x-test.false c.loop-x.auto.x-index-end i.earlier i.within _ i.owed in
     ap result_err (sym (none_lacking _ _ _ _ all (drop_all (length fs) fs (omega arith))))
 
 pub returns-clause-owed : goal.returns-clause-owed
 returns-clause-owed c = λ none.
     let i = c.loop-x.invariant in
     let fs = c.args.reader.now in
-    let all = owed_rest fs c.args.writer.now c.args.found.now c.requires.found c.loop-x.x-index c.loop-x.next c.loop-x-test.false c.loop-x.auto.x-index-end i.earlier i.within _ i.owed in
+    let all = owed_rest fs c.args.writer.now c.args.found.now c.requires.found c.loop-x.x-index
+    c.loop-x.next c.loop-x-test.false c.loop-x.auto.x-index-end i.earlier i.within _ i.owed in
     owed_all _ _ _ _ all (drop_all (length fs) fs (omega arith))

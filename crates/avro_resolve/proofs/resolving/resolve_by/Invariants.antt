@@ -6,7 +6,9 @@ use Rattle.avro_resolve.proofs.BreadthFirst.{IsSearched}
 use Rattle.avro_resolve.proofs.resolving.resolve_by.Given as goal
 
 abbrev pub invariant-heads : goal.invariant-heads
-invariant-heads l = AgreesWith l.search.seen l.search.entries.items × IsSearched l.r.nodes l.w.nodes l.search.entries.items l.head × (l.head ≤ vec_len l.search.entries) × AreIndexes l.r.nodes l.unions.of × AreSieves l.r.nodes l.sieves.of
+invariant-heads l =
+    AgreesWith l.search.seen l.search.entries.items × IsSearched l.r.nodes l.w.nodes l.search.entries.items l.head
+    × (l.head ≤ vec_len l.search.entries) × AreIndexes l.r.nodes l.unions.of × AreSieves l.r.nodes l.sieves.of
 
 abbrev pub decreases-heads : goal.decreases-heads
 decreases-heads l = length l.r.nodes * length l.w.nodes - l.head

@@ -8,9 +8,12 @@ use Rattle.avro_resolve.proofs.search.field_hop.Goals as goal
 pub unreachable-requires : goal.unreachable-requires
 unreachable-requires c =
     hop_below (owed_in (to_fields c.args.reader.now c.args.writer.now)) c.args.number c.requires
-    (hop_of_field c.args.writer.now c.args.reader.now c.args.number c.requires ∙ ap (option_map (λ f. hop.Field f.name)) (sym c.paired_at.ensures ∙ ap option_copied c.in-None.is))
+    (hop_of_field c.args.writer.now c.args.reader.now c.args.number c.requires
+    ∙ ap (option_map (λ f. hop.Field f.name)) (sym c.paired_at.ensures ∙ ap option_copied c.in-None.is))
 
 pub returns : goal.returns
 returns c =
-    let found = hop_of_field c.args.writer.now c.args.reader.now c.args.number c.requires ∙ ap (option_map (λ f. hop.Field f.name)) (sym c.paired_at.ensures ∙ ap option_copied c.in-Some.is) in
+    let found =
+    hop_of_field c.args.writer.now c.args.reader.now c.args.number c.requires
+    ∙ ap (option_map (λ f. hop.Field f.name)) (sym c.paired_at.ensures ∙ ap option_copied c.in-Some.is) in
     found ∙ ap (λ s. Some (hop.Field s)) (sym c.in_ok-clone-in-Some.ensures.cases)

@@ -7,4 +7,6 @@ use Rattle.avro_resolve.proofs.search.short_hop.Goals as goal
 pub returns-in-WriterBranches : goal.returns-in-WriterBranches
 returns-in-WriterBranches c =
     let owed = ap owed_in (sym c.row_by_index.ensures.row) ∙ ap (λ row. owed_in (outcome_of row)) c.in-WriterBranches.is in
-    ap (λ os. hop_in os c.args.number) owed ∙ hop_of_branch c.in-WriterBranches.field-0 c.in-WriterBranches.field-1.now c.args.number (subst (λ os. c.args.number < length os) owed c.requires.numbered)
+    ap (λ os. hop_in os c.args.number) owed
+    ∙ hop_of_branch c.in-WriterBranches.field-0 c.in-WriterBranches.field-1.now c.args.number
+    (subst (λ os. c.args.number < length os) owed c.requires.numbered)

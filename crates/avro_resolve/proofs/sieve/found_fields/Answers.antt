@@ -15,9 +15,12 @@ returns c =
     record {
       upto = record {
         each = All-permutation (IsFound c.args.«_reader».now c.args.writer.now) old new moved upto.each;
-        whole = λ k r q f g at at_q below named none. upto.whole k r q f g at at_q below named (All-permutation (λ (x : Found). x.holder.field ≡ k → r < x.holder.rank) new old back none);
+        whole = λ k r q f g at at_q below named none.
+            upto.whole k r q f g at at_q below named (
+            All-permutation (λ (x : Found). x.holder.field ≡ k → r < x.holder.rank) new old back none);
         lacking = λ k f at none. upto.lacking k f at (All-permutation (λ (x : Found). x.holder.field ≢ k) new old back none);
       };
-      within = all_inside c.args.«_reader».now c.args.writer.now new (All-permutation (IsFound c.args.«_reader».now c.args.writer.now) old new moved upto.each);
+      within = all_inside c.args.«_reader».now c.args.writer.now new (
+          All-permutation (IsFound c.args.«_reader».now c.args.writer.now) old new moved upto.each);
       rise = do_rise new (λ k d within. c.sort_unstable.ensures.sorted k d (omega arith) within);
     }

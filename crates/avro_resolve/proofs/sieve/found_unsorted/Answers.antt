@@ -10,7 +10,9 @@ loop-place-init c =
     let gs = c.args.writer.now in
     let s = c.args.sieve.now in
     let is : c.add_found.new.found.items ≡ map (at_place (length gs)) s.others.items =
-    c.in_ok-add_found.ensures ∙ ap (λ xs. xs ++ map (at_place (length gs)) c.as_slice.result.now) c.new-found.ensures.items ∙ ap (map (at_place (length gs))) c.as_slice.ensures.value in
+    c.in_ok-add_found.ensures
+    ∙ ap (λ xs. xs ++ map (at_place (length gs)) c.as_slice.result.now) c.new-found.ensures.items
+    ∙ ap (map (at_place (length gs))) c.as_slice.ensures.value in
     subst (AreFoundUpto fs gs 0) (sym is) (found_none fs gs s.others.items c.requires.sieve.others)
 
 pub loop-place-preserved : goal.loop-place-preserved
@@ -22,5 +24,6 @@ loop-place-preserved c =
     let g = c.index-writer-place.result in
     let xs = c.loop-place.found.items in
     let at : slice_get gs p ≡ Some g = slice_get_read gs (length gs) p g refl c.loop-place-test.true c.index-writer-place.is in
-    found_more fs gs s c.requires.sieve c.requires.distinct p g at xs c.loop-place.invariant (record { ref_ptr = c.args.writer.ref_ptr; now = g.name }) refl c.add_found-in-loop-place.new.found.items
+    found_more fs gs s c.requires.sieve c.requires.distinct p g at xs c.loop-place.invariant
+    (record { ref_ptr = c.args.writer.ref_ptr; now = g.name }) refl c.add_found-in-loop-place.new.found.items
     (c.in_ok-add_found-2.ensures ∙ ap (λ hs. xs ++ map (at_place p) hs) c.with_name.ensures)

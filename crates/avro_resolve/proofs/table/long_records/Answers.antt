@@ -11,4 +11,5 @@ returns-then-names_match-clause-readers c =
 pub returns-then-names_match-clause-writers : goal.returns-then-names_match-clause-writers
 returns-then-names_match-clause-writers c =
     let OfNode : Node → Type 0 = λ n. HaveDistinctNames (fields_of_node n) in
-    subst OfNode c.in-Record-node.is (c.node-2.ensures.sound.distinct_fields c.args.pair.writer.index c.node-2.result.now c.node-2.ensures.at)
+    subst OfNode c.in-Record-node.is (
+    c.node-2.ensures.sound.distinct_fields c.args.pair.writer.index c.node-2.result.now c.node-2.ensures.at)

@@ -8,4 +8,8 @@ use Rattle.avro_resolve.proofs.unions.add_aliases.Given as goal
 
 -- the labels of the aliases so far are there
 abbrev pub invariant-loop-alias : goal.invariant-loop-alias
-invariant-loop-alias l = (q : Label) → get label_cmp l.labelled q ≡ with_one l.branch (list_any (λ a. is_label l.head.shape a.name (Some a.namespace) q) (take l.alias-index l.head.aliases.now)) (get label_cmp l.initial.labelled q)
+invariant-loop-alias l =
+    (q : Label)
+    → get label_cmp l.labelled q
+    ≡ with_one l.branch (list_any (λ a. is_label l.head.shape a.name (Some a.namespace) q) (take l.alias-index l.head.aliases.now))
+    (get label_cmp l.initial.labelled q)

@@ -11,8 +11,11 @@ loop-k-preserved c =
     let bs = c.args.branches.now in
     let k = c.loop-k.k in
     let d : NodeId = record { index = 0 } in
-    index_more c.args.r.now.nodes bs k (get_or bs k d) c.node.result.now c.loop-k.index c.add.new.self c.loop-k-test.true (any_default bs k d (get_or bs k d) c.loop-k-test.true)
+    index_more c.args.r.now.nodes bs k (get_or bs k d) c.node.result.now c.loop-k.index c.add.new.self c.loop-k-test.true
+    (any_default bs k d (get_or bs k d) c.loop-k-test.true)
     c.node.ensures.at c.in_ok-add.ensures.labelled c.in_ok-add.ensures.unnamed c.loop-k.invariant
 
 pub returns : goal.returns
-returns c = subst (λ bs. IsIndex c.args.r.now.nodes bs c.loop-k.index) (take_all c.loop-k.k c.args.branches.now c.loop-k-test.false) c.loop-k.invariant
+returns c =
+    subst (λ bs. IsIndex c.args.r.now.nodes bs c.loop-k.index)
+    (take_all c.loop-k.k c.args.branches.now c.loop-k-test.false) c.loop-k.invariant

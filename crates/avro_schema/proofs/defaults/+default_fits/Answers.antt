@@ -13,8 +13,11 @@ pub default_fits-returns-then-fields_fit : goal.default_fits-returns-then-fields
 default_fits-returns-then-fields_fit t c =
     let nodes = c.args.schema.now.nodes in
     let ms = members_view c.in-Object.members.entries in
-    let node : c.in-Some-Record.field-0.now ≡ kind.Record c.in-Some-Record.field-0-0 c.in-Some-Record.field-0-1 c.in-Some-Record.fields = search (rules, c.in-Some-Record.field-0-is, c.in-Some-Record.is) in
-    let is : spec.default_type nodes c.args.id ≡ Some (kind.Record c.in-Some-Record.field-0-0 c.in-Some-Record.field-0-1 c.in-Some-Record.fields) = sym c.in-Some-Record.ensures ∙ ap Some node in
+    let node : c.in-Some-Record.field-0.now ≡ kind.Record c.in-Some-Record.field-0-0 c.in-Some-Record.field-0-1 c.in-Some-Record.fields =
+    search (rules, c.in-Some-Record.field-0-is, c.in-Some-Record.is) in
+    let is : spec.default_type nodes c.args.id
+    ≡ Some (kind.Record c.in-Some-Record.field-0-0 c.in-Some-Record.field-0-1 c.in-Some-Record.fields) =
+    sym c.in-Some-Record.ensures ∙ ap Some node in
     let whole : view c.args.value.now ≡ object ms = ap view c.in-Object.is ∙ view-Object c.in-Object.members in
     c.have_required.ensures
     ∙ ap (λ o. option_map_or (have_all ms) o true) (c.required_names.ensures ∙ ap (option_map required_of) is)

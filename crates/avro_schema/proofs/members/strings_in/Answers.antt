@@ -10,7 +10,8 @@ nothing_before : (l : List (List ℕ)) (o : Option (List (List ℕ))) → l ≡ 
 nothing_before l None e = refl
 nothing_before l (Some ss) e = ap (λ k. Some (k ++ ss)) e
 
-one_more : (l : List (List ℕ)) (s : List ℕ) (o : Option (List (List ℕ))) → option_map (λ ss. (l ++ s ∷ []) ++ ss) o ≡ option_map (λ ss. l ++ ss) (option_map (λ ss. s ∷ ss) o)
+one_more : (l : List (List ℕ)) (s : List ℕ) (o : Option (List (List ℕ)))
+    → option_map (λ ss. (l ++ s ∷ []) ++ ss) o ≡ option_map (λ ss. l ++ ss) (option_map (λ ss. s ∷ ss) o)
 one_more l s None = refl
 one_more l s (Some ss) = ap Some (append_assoc l (s ∷ []) ss)
 

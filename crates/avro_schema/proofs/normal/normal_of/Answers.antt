@@ -15,5 +15,6 @@ returns-clause-same c =
     IfOk-weaker c.of_string.result _ _ (λ normal same.
     let written : normal ≡ compact_text d = same ∙ search rules in
     let back : read normal ≡ Some d = ap read written ∙ compact_text_reads_back text d c.requires.of_text c.requires.whole in
-    let short : length normal ≤ length text = subst (λ s. length s ≤ length text) (sym written) (c.compact_texts_are_no_longer.ensures text d c.requires.of_text) in
+    let short : length normal ≤ length text =
+    subst (λ s. length s ≤ length text) (sym written) (c.compact_texts_are_no_longer.ensures text d c.requires.of_text) in
     same_meaning normal text d back c.requires.of_text (omega arith) c.requires.within) c.of_string.ensures

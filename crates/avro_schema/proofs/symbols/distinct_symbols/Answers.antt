@@ -8,4 +8,5 @@ pub returns : goal.returns
 returns c =
     let ss = c.args.symbols.items in
     listed_once (all_distinct bytes_eq ss) ss c.of.result
-    (subst (λ (names : List (List ℕ)). IfOk c.of.result (λ o. o ≡ cond (all_distinct bytes_eq names) (Some ss) None)) (map-id ss) c.of.ensures)
+    (subst (λ (names : List (List ℕ)). IfOk c.of.result (λ o. o ≡ cond (all_distinct bytes_eq names) (Some ss) None))
+    (map-id ss) c.of.ensures)

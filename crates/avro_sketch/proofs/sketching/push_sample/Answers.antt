@@ -16,5 +16,6 @@ returns-in-Err-TooLarge c =
     let new = string_bytes c.push_str-in-Err-TooLarge.new.self in
     let (v, is, large) = c.in-Err-TooLarge.ensures.too_large c.in-Err-TooLarge.field-0-is in
     let bytes : OnOk c.push_str-in-Err-TooLarge.result (new ≡ old ++ codes "value too large\n") = search rules in
-    where_ok {P = new ≡ old ++ codes "value too large\n"} {Q = (x : Option Value) × IsSample w root x × (new ≡ old ++ sample_lines r w x)} c.push_str-in-Err-TooLarge.result
+    where_ok {P = new ≡ old ++ codes "value too large\n"}
+    {Q = (x : Option Value) × IsSample w root x × (new ≡ old ++ sample_lines r w x)} c.push_str-in-Err-TooLarge.result
     (λ e. (Some v, is, e ∙ ap (λ b. old ++ cond b (codes "value too large\n") (value_lines r w v)) (sym large))) bytes

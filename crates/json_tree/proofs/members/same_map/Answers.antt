@@ -17,7 +17,10 @@ loop-name-preserved c =
     let last = put_last done e left (subst (λ es. IsInOrder (members_view es)) all c.requires) in (
       done ++ e ∷ [],
       all ∙ sym (append_assoc done (e ∷ []) left),
-      ap members_view c.in_ok-insert.ensures.entries ∙ members_view-insert_entry l.map.entries c.in-Some.name c.in-Some.value ∙ ap (put c.in-Some.name.now (view c.in-Some.value)) l.invariant.2 ∙ last,
+      ap members_view c.in_ok-insert.ensures.entries
+          ∙ members_view-insert_entry l.map.entries c.in-Some.name c.in-Some.value
+          ∙ ap (put c.in-Some.name.now (view c.in-Some.value)) l.invariant.2
+          ∙ last,
     )
 
 pub returns : goal.returns

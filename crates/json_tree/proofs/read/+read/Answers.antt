@@ -38,13 +38,21 @@ read-returns-then-depth-eq0-2-clause-err t c never =
 pub read-returns-in_err-read_items-in-BeginArray-clause-err : goal.read-returns-in_err-read_items-in-BeginArray-clause-err
 read-returns-in_err-read_items-in-BeginArray-clause-err t c refused =
     let first : c.args.reader.now ≡ token_of c.in_ok-token.token ∷ c.next.new.self = grind arith in
-    let opened = ap (converted of_json) (ap (value c.args.depth) (first ∙ ap (λ k. token_of k ∷ c.next.new.self) c.in-BeginArray.is) ∙ value-begin_array c.args.depth c.next.new.self (omega arith)) ∙ converted-array (items (value (c.args.depth - 1)) (length c.next.new.self) c.next.new.self) in
+    let opened =
+    ap (converted of_json)
+    (ap (value c.args.depth) (first ∙ ap (λ k. token_of k ∷ c.next.new.self) c.in-BeginArray.is)
+    ∙ value-begin_array c.args.depth c.next.new.self (omega arith))
+    ∙ converted-array (items (value (c.args.depth - 1)) (length c.next.new.self) c.next.new.self) in
     opened ∙ ap (parse_map array) (c.read_items.ensures.err (grind arith))
 
 pub read-returns-in_err-read_members-in-BeginObject-clause-err : goal.read-returns-in_err-read_members-in-BeginObject-clause-err
 read-returns-in_err-read_members-in-BeginObject-clause-err t c refused =
     let first : c.args.reader.now ≡ token_of c.in_ok-token.token ∷ c.next.new.self = grind arith in
-    let opened = ap (converted of_json) (ap (value c.args.depth) (first ∙ ap (λ k. token_of k ∷ c.next.new.self) c.in-BeginObject.is) ∙ value-begin_object c.args.depth c.next.new.self (omega arith)) ∙ converted-object (members (value (c.args.depth - 1)) (length c.next.new.self) c.next.new.self) in
+    let opened =
+    ap (converted of_json)
+    (ap (value c.args.depth) (first ∙ ap (λ k. token_of k ∷ c.next.new.self) c.in-BeginObject.is)
+    ∙ value-begin_object c.args.depth c.next.new.self (omega arith))
+    ∙ converted-object (members (value (c.args.depth - 1)) (length c.next.new.self) c.next.new.self) in
     opened ∙ ap (parse_map object) (c.read_members.ensures.err (grind arith))
 
 pub read-returns-in-String-clause-ok : goal.read-returns-in-String-clause-ok
@@ -90,21 +98,33 @@ read-returns-in-EndObject-clause-err t c refused =
 pub read-returns-in_ok-read_items-in-BeginArray-clause-ok : goal.read-returns-in_ok-read_items-in-BeginArray-clause-ok
 read-returns-in_ok-read_items-in-BeginArray-clause-ok t c =
     let first : c.args.reader.now ≡ token_of c.in_ok-token.token ∷ c.next.new.self = grind arith in
-    let opened = ap (converted of_json) (ap (value c.args.depth) (first ∙ ap (λ k. token_of k ∷ c.next.new.self) c.in-BeginArray.is) ∙ value-begin_array c.args.depth c.next.new.self (omega arith)) ∙ converted-array (items (value (c.args.depth - 1)) (length c.next.new.self) c.next.new.self) in
+    let opened =
+    ap (converted of_json)
+    (ap (value c.args.depth) (first ∙ ap (λ k. token_of k ∷ c.next.new.self) c.in-BeginArray.is)
+    ∙ value-begin_array c.args.depth c.next.new.self (omega arith))
+    ∙ converted-array (items (value (c.args.depth - 1)) (length c.next.new.self) c.next.new.self) in
     let found = c.in_ok-read_items-in-BeginArray in
     opened ∙ ap (parse_map array) found.ensures.ok ∙ ap (λ d. Some (d, c.read_items.new.reader)) (sym (view-Array found.field-0))
 
 pub read-returns-in_ok-read_members-in-BeginObject-clause-ok : goal.read-returns-in_ok-read_members-in-BeginObject-clause-ok
 read-returns-in_ok-read_members-in-BeginObject-clause-ok t c =
     let first : c.args.reader.now ≡ token_of c.in_ok-token.token ∷ c.next.new.self = grind arith in
-    let opened = ap (converted of_json) (ap (value c.args.depth) (first ∙ ap (λ k. token_of k ∷ c.next.new.self) c.in-BeginObject.is) ∙ value-begin_object c.args.depth c.next.new.self (omega arith)) ∙ converted-object (members (value (c.args.depth - 1)) (length c.next.new.self) c.next.new.self) in
+    let opened =
+    ap (converted of_json)
+    (ap (value c.args.depth) (first ∙ ap (λ k. token_of k ∷ c.next.new.self) c.in-BeginObject.is)
+    ∙ value-begin_object c.args.depth c.next.new.self (omega arith))
+    ∙ converted-object (members (value (c.args.depth - 1)) (length c.next.new.self) c.next.new.self) in
     let found = c.in_ok-read_members-in-BeginObject in
     opened ∙ ap (parse_map object) found.ensures.ok ∙ ap (λ d. Some (d, c.read_members.new.reader)) (sym (view-Object found.field-0))
 
 pub read_items-items-init : goal.read_items-items-init
 read_items-items-init t c =
-    let all = converted of_items (items (value c.args.depth) (length c.args.reader.now) c.args.reader.now) in
-    (length c.args.reader.now, omega arith, none_before all ∙ ap (λ vs. parse_map (items_before vs) all) (sym c.new-found.ensures.items), omega arith)
+    let all = converted of_items (items (value c.args.depth) (length c.args.reader.now) c.args.reader.now) in (
+      length c.args.reader.now,
+      omega arith,
+      none_before all ∙ ap (λ vs. parse_map (items_before vs) all) (sym c.new-found.ensures.items),
+      omega arith,
+    )
 
 pub read_items-returns-in_err-item-clause-err : goal.read_items-returns-in_err-item-clause-err
 read_items-returns-in_err-item-clause-err t c refused =
@@ -112,7 +132,8 @@ read_items-returns-in_err-item-clause-err t c refused =
     let l = c.items in
     let n = l.invariant.0 in
     let going : (after_end_array l.reader ≡ None) × (c.take_end_array.new.self ≡ l.reader) = grind arith in
-    l.invariant.2 ∙ ap (parse_map (items_before l.found.items)) (item_refused p n l.reader going.0 (rw (← going.1) (c.read.ensures.err (grind arith))))
+    l.invariant.2
+    ∙ ap (parse_map (items_before l.found.items)) (item_refused p n l.reader going.0 (rw (← going.1) (c.read.ensures.err (grind arith))))
 
 pub read_items-items-preserved : goal.read_items-items-preserved
 read_items-items-preserved t c =
@@ -138,13 +159,20 @@ read_items-returns-clause-ok t c =
     let l = c.items in
     let n = l.invariant.0 in
     let r = c.take_end_array.new.self in
-    l.invariant.2 ∙ ap (parse_map (items_before l.found.items)) (items_over p n l.reader r l.invariant.1 (grind arith)) ∙ ap (λ ds. Some (ds, r)) (items_before-no_items l.found.items)
+    l.invariant.2
+    ∙ ap (parse_map (items_before l.found.items)) (items_over p n l.reader r l.invariant.1 (grind arith))
+    ∙ ap (λ ds. Some (ds, r)) (items_before-no_items l.found.items)
 
 pub read_members-members-init : goal.read_members-members-init
 read_members-members-init t c =
     let all = members (value c.args.depth) (length c.args.reader.now) c.args.reader.now in
-    let none : [] ≡ c.new-found.result.items = sym c.new-found.ensures.items in
-    (length c.args.reader.now, omega arith, ap (λ es. converted (λ ms. of_members ms (members_view es)) all) none, omega arith, subst (λ es. IsInOrder (members_view es)) none tt)
+    let none : [] ≡ c.new-found.result.items = sym c.new-found.ensures.items in (
+      length c.args.reader.now,
+      omega arith,
+      ap (λ es. converted (λ ms. of_members ms (members_view es)) all) none,
+      omega arith,
+      subst (λ es. IsInOrder (members_view es)) none tt,
+    )
 
 pub read_members-returns-in_err-name-clause-err : goal.read_members-returns-in_err-name-clause-err
 read_members-returns-in_err-name-clause-err t c refused =
@@ -201,7 +229,8 @@ read_members-members-preserved t c =
 
 -- one more member was read, and the rest is read beside a map
 many : (t : ℕ) (c : goal.read_members-After-read_many t) → (turns : ℕ) × (length c.read.new.reader ≤ turns)
-    × (converted (λ ms. of_members ms no_members) (members (value c.args.depth) (length c.args.reader.now) c.args.reader.now) ≡ converted (λ ms. of_members ms (members_view c.in_ok-found.found.entries)) (members (value c.args.depth) turns c.read.new.reader))
+    × (converted (λ ms. of_members ms no_members) (members (value c.args.depth) (length c.args.reader.now) c.args.reader.now)
+    ≡ converted (λ ms. of_members ms (members_view c.in_ok-found.found.entries)) (members (value c.args.depth) turns c.read.new.reader))
 many t c =
     let p = value c.args.depth in
     let l = c.members in
@@ -221,7 +250,8 @@ many t c =
     )
 
 pub read_members-returns-then-not-is_last-clause-ok : goal.read_members-returns-then-not-is_last-clause-ok
-read_members-returns-then-not-is_last-clause-ok t c = let w = many t c in IfOk-weaker c.read_many.result _ _ (λ v e. w.2 ∙ e w.0 w.1) c.read_many.ensures.ok
+read_members-returns-then-not-is_last-clause-ok t c =
+    let w = many t c in IfOk-weaker c.read_many.result _ _ (λ v e. w.2 ∙ e w.0 w.1) c.read_many.ensures.ok
 
 pub read_members-returns-then-not-is_last-clause-err : goal.read_members-returns-then-not-is_last-clause-err
 read_members-returns-then-not-is_last-clause-err t c refused = let w = many t c in w.2 ∙ c.read_many.ensures.err refused w.0 w.1
@@ -229,7 +259,8 @@ read_members-returns-then-not-is_last-clause-err t c refused = let w = many t c 
 pub read_members-returns-clause-ok : goal.read_members-returns-clause-ok
 read_members-returns-clause-ok t c =
     let l = c.members in
-    l.invariant.2 ∙ members_over (value c.args.depth) (members_view l.found.items) l.invariant.0 l.reader c.next_key.new.self l.invariant.1 (grind arith)
+    l.invariant.2
+    ∙ members_over (value c.args.depth) (members_view l.found.items) l.invariant.0 l.reader c.next_key.new.self l.invariant.1 (grind arith)
 
 pub read_many-members-preserved : goal.read_many-members-preserved
 read_many-members-preserved t c =
@@ -244,7 +275,8 @@ read_many-members-preserved t c =
     let r = c.read.new.reader in
     let less = read_key-shorter l.reader (Some k) s named in
     let lesser = done.shorter in
-    let inserted : members_view c.insert.new.self.entries ≡ put k (view v) old = ap members_view c.in_ok-insert.ensures.entries ∙ members_view-insert_entry l.found.entries c.in-Some.name v in (
+    let inserted : members_view c.insert.new.self.entries ≡ put k (view v) old =
+    ap members_view c.in_ok-insert.ensures.entries ∙ members_view-insert_entry l.found.entries c.in-Some.name v in (
       λ turns enough.
           let w = l.invariant.0 turns enough in
           let n = w.0 in

@@ -11,7 +11,8 @@ returns-then-eq c =
     let name = c.args.name.now in
     let m = c.member-item.result in
     let all = c.args.members.now in
-    let here : drop l.member-index all ≡ m ∷ drop (l.member-index + 1) all = drop_more all l.member-index m (omega arith) ∙ ap (λ y. y ∷ drop (l.member-index + 1) all) (sym c.member-item.is) in
+    let here : drop l.member-index all ≡ m ∷ drop (l.member-index + 1) all =
+    drop_more all l.member-index m (omega arith) ∙ ap (λ y. y ∷ drop (l.member-index + 1) all) (sym c.member-item.is) in
     let same : bytes_eq name m.0.now ≡ true = grind arith in
     sym (l.invariant ∙ ap (λ ms. get_member name (members_view ms)) here ∙ member_here name m _ same)
 
@@ -21,6 +22,7 @@ loop-member-preserved c =
     let name = c.args.name.now in
     let m = c.member-item.result in
     let all = c.args.members.now in
-    let here : drop l.member-index all ≡ m ∷ drop (l.member-index + 1) all = drop_more all l.member-index m (omega arith) ∙ ap (λ y. y ∷ drop (l.member-index + 1) all) (sym c.member-item.is) in
+    let here : drop l.member-index all ≡ m ∷ drop (l.member-index + 1) all =
+    drop_more all l.member-index m (omega arith) ∙ ap (λ y. y ∷ drop (l.member-index + 1) all) (sym c.member-item.is) in
     let other : bytes_eq name m.0.now ≡ false = grind arith in
     l.invariant ∙ ap (λ ms. get_member name (members_view ms)) here ∙ member_later name m _ other

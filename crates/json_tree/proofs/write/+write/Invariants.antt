@@ -21,5 +21,6 @@ invariant-write_members-loop-member l =
     record {
       whole : members_have_float left ≡ false;
       before : l.out.before ≡ l.fn.out.before;
-      tokens : l.out.tokens ++ members_tokens (members_outline left) ≡ l.fn.out.tokens ++ json_tokens (outline (object (members_view l.members)));
+      tokens : l.out.tokens ++ members_tokens (members_outline left)
+          ≡ l.fn.out.tokens ++ json_tokens (outline (object (members_view l.members)));
     }

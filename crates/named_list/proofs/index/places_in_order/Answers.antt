@@ -6,10 +6,12 @@ use Rattle.named_list.proofs.index.places_in_order.Goals as goal
 pub returns-then-not-do_rise : goal.returns-then-not-do_rise
 returns-then-not-do_rise c =
     let sort = c.sort_unstable in
-    none_ordered c.args.entries.items sort.new.self.items c.as_slice.result.now sort.ensures.permutation c.as_slice.ensures.value c.if-not-do_rise.ensures sort.ensures.sorted
+    none_ordered c.args.entries.items sort.new.self.items c.as_slice.result.now
+    sort.ensures.permutation c.as_slice.ensures.value c.if-not-do_rise.ensures sort.ensures.sorted
 
 pub returns : goal.returns
 returns c =
     let sort = c.sort_unstable in
-    ordered c.args.entries.items sort.new.self.items c.as_slice.result.now sort.ensures.permutation c.as_slice.ensures.value c.if-not-do_rise.ensures
+    ordered c.args.entries.items sort.new.self.items c.as_slice.result.now
+    sort.ensures.permutation c.as_slice.ensures.value c.if-not-do_rise.ensures
     c.in_ok-places_of.field-0.items (c.in_ok-places_of.ensures ∙ ap (map (λ (e : Entry). e.1)) c.as_slice-2.ensures.value)

@@ -41,7 +41,9 @@ returns-in-Equal g c =
     let below : middle < c.loop-low.high = omega arith in
     let within : middle < length c.args.by_name.now = omega arith in
     let place = get_or c.args.by_name.now middle 0 in
-    sym (named_at s (map name items) place c.requires.distinct (c.requires.index.within middle 0 within) (sym c.compare_at.ensures ∙ c.in-Equal.is))
+    sym (
+    named_at s (map name items) place c.requires.distinct
+    (c.requires.index.within middle 0 within) (sym c.compare_at.ensures ∙ c.in-Equal.is))
     ∙ position-map (λ n. bytes_eq n s) name items
 
 pub returns : goal.returns

@@ -22,8 +22,14 @@ loop-place-preserved g c =
           let le : k ≤ place = omega (arith, h) in
           ⊎_elim
           (λ e.
-          let item = ap (λ j. get_or (map name items) j d) e ∙ get_or-map name items place c.index-items-place.result d inside ∙ ap name (sym c.index-items-place.is) in
-          put slots slot v within c.slot_at.ensures (spec.slot_of (get_or (map name items) k d) count) (ap (λ n. spec.slot_of n count) (item ∙ sym c.name.ensures ∙ sym c.as_str.ensures) ∙ sym c.slot_of-slot.ensures.is))
-          (λ lt. kept slots slot v within c.slot_at.ensures (spec.slot_of (get_or (map name items) k d) count) (c.loop-place.invariant.some k d lt))
+          let item =
+          ap (λ j. get_or (map name items) j d) e
+          ∙ get_or-map name items place c.index-items-place.result d inside
+          ∙ ap name (sym c.index-items-place.is) in
+          put slots slot v within c.slot_at.ensures (spec.slot_of (get_or (map name items) k d) count)
+          (ap (λ n. spec.slot_of n count) (item ∙ sym c.name.ensures ∙ sym c.as_str.ensures) ∙ sym c.slot_of-slot.ensures.is))
+          (λ lt.
+          kept slots slot v within c.slot_at.ensures
+          (spec.slot_of (get_or (map name items) k d) count) (c.loop-place.invariant.some k d lt))
           (eq-or-lt_of_le le);
     }

@@ -11,5 +11,6 @@ pub returns-clause-refused : goal.returns-clause-refused
 returns-clause-refused g c =
     fails-known g.D.Desk.asks g.D.Desk.commands c.new-reader.result c.answer_next.new.reader c.args.writer.now c.answer_next.new.writer
     c.args.desk.now c.answer_next.new.desk (Some c.new-reader.result.inner.now) c.args.bytes.now
-    (g.W.Write.contents c.args.writer.now.inner) (g.W.Write.contents c.answer_next.new.writer.inner) (Some c.answer_next.new.reader.inner.now) c.answer_next.result
+    (g.W.Write.contents c.args.writer.now.inner) (g.W.Write.contents c.answer_next.new.writer.inner)
+    (Some c.answer_next.new.reader.inner.now) c.answer_next.result
     (ap (λ b. Some b.now) c.new-reader.ensures.inner) c.answer_next.ensures.refused

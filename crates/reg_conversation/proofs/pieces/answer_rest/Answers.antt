@@ -6,7 +6,8 @@ pub returns-in-Ok-true-clause-answered : goal.returns-in-Ok-true-clause-answered
 returns-in-Ok-true-clause-answered g c =
     let now = c.in-Ok-true in
     let goes : now.field-0 ≡ true = search rules in
-    rest-replies g.D.Desk.asks g.D.Desk.commands c.answer_last.result c.args.desk.now c.answer_whole.new.desk c.answer_last.new.desk c.args.conversation.now
+    rest-replies g.D.Desk.asks g.D.Desk.commands c.answer_last.result c.args.desk.now
+    c.answer_whole.new.desk c.answer_last.new.desk c.args.conversation.now
     c.answer_whole.new.conversation _ _ _ now.field-0 goes now.ensures.answered c.answer_last.ensures.answered
 
 pub returns-in-Ok-true-clause-refused : goal.returns-in-Ok-true-clause-refused
@@ -15,17 +16,20 @@ returns-in-Ok-true-clause-refused g c =
     let goes : now.field-0 ≡ true = search rules in
     rest-stops g.D.Desk.asks g.D.Desk.commands c.answer_last.result c.args.writer.now c.answer_whole.new.writer c.answer_last.new.writer
     c.args.desk.now c.answer_whole.new.desk c.answer_last.new.desk c.args.conversation.now c.answer_whole.new.conversation
-    (g.W.Write.contents c.args.writer.now.inner) (g.W.Write.contents c.answer_whole.new.writer.inner) (g.W.Write.contents c.answer_last.new.writer.inner)
+    (g.W.Write.contents c.args.writer.now.inner) (g.W.Write.contents c.answer_whole.new.writer.inner)
+    (g.W.Write.contents c.answer_last.new.writer.inner)
     now.field-0 goes now.ensures.faults now.ensures.answered c.answer_last.ensures.refused
 
 pub returns-in-Ok-false-clause-answered : goal.returns-in-Ok-false-clause-answered
 returns-in-Ok-false-clause-answered g c =
     let now = c.in-Ok-false in
     let ends : now.field-0 ≡ false = search rules in
-    rest-closed g.D.Desk.asks g.D.Desk.commands c.args.desk.now c.answer_whole.new.desk c.args.conversation.now c.answer_whole.new.conversation _ _
+    rest-closed g.D.Desk.asks g.D.Desk.commands c.args.desk.now c.answer_whole.new.desk
+    c.args.conversation.now c.answer_whole.new.conversation _ _
     now.field-0 ends now.ensures.answered
 
 pub returns-in-Err-clause-refused : goal.returns-in-Err-clause-refused
 returns-in-Err-clause-refused g c =
-    stops-now g.D.Desk.asks g.D.Desk.commands c.args.writer.now c.answer_whole.new.writer c.args.desk.now c.answer_whole.new.desk c.args.conversation.now
+    stops-now g.D.Desk.asks g.D.Desk.commands c.args.writer.now c.answer_whole.new.writer
+    c.args.desk.now c.answer_whole.new.desk c.args.conversation.now
     (g.W.Write.contents c.args.writer.now.inner) (g.W.Write.contents c.answer_whole.new.writer.inner) c.in-Err.e c.in-Err.ensures.refused

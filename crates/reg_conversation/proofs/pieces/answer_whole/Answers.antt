@@ -10,7 +10,8 @@ loop-len-preserved g c =
     let (some, faults, few) = c.loop-len.invariant in
     let now = c.in-Ok-true in
     let goes : now.field-0 ≡ true = search rules in (
-      turn-more g.D.Desk.asks g.D.Desk.commands c.args.desk.now c.loop-len.desk c.answer_front.new.desk c.args.conversation.now c.loop-len.conversation
+      turn-more g.D.Desk.asks g.D.Desk.commands c.args.desk.now c.loop-len.desk
+          c.answer_front.new.desk c.args.conversation.now c.loop-len.conversation
           c.front_len.new.self c.answer_front.new.self _ _ _ now.field-0 true goes c.front_len.ensures.same some now.ensures.answered,
       now.ensures.faults ∙ faults,
       now.ensures.interruptions,
@@ -20,12 +21,15 @@ pub returns-in-Ok-false-clause-answered : goal.returns-in-Ok-false-clause-answer
 returns-in-Ok-false-clause-answered g c =
     let now = c.in-Ok-false in
     let ends : now.field-0 ≡ false = search rules in
-    turn-closed g.D.Desk.asks g.D.Desk.commands c.args.desk.now c.loop-len.desk c.answer_front.new.desk c.args.conversation.now c.loop-len.conversation
+    turn-closed g.D.Desk.asks g.D.Desk.commands c.args.desk.now c.loop-len.desk
+    c.answer_front.new.desk c.args.conversation.now c.loop-len.conversation
     c.front_len.new.self c.answer_front.new.self _ _ _ now.field-0 ends c.front_len.ensures.same c.loop-len.invariant.0 now.ensures.answered
 
 pub returns-in-Err-clause-refused : goal.returns-in-Err-clause-refused
 returns-in-Err-clause-refused g c =
     let (some, faults, few) = c.loop-len.invariant in
-    stops-held g.D.Desk.asks g.D.Desk.commands c.args.writer.now c.loop-len.writer c.answer_front.new.writer c.args.desk.now c.loop-len.desk c.answer_front.new.desk
-    c.args.conversation.now c.loop-len.conversation c.front_len.new.self (g.W.Write.contents c.args.writer.now.inner) (g.W.Write.contents c.loop-len.writer.inner)
+    stops-held g.D.Desk.asks g.D.Desk.commands c.args.writer.now c.loop-len.writer
+    c.answer_front.new.writer c.args.desk.now c.loop-len.desk c.answer_front.new.desk
+    c.args.conversation.now c.loop-len.conversation c.front_len.new.self
+    (g.W.Write.contents c.args.writer.now.inner) (g.W.Write.contents c.loop-len.writer.inner)
     (g.W.Write.contents c.answer_front.new.writer.inner) c.in-Err.e faults c.front_len.ensures.same some c.in-Err.ensures.refused

@@ -24,11 +24,14 @@ returns-in-Some c =
     let d = c.delete_of-delete.result in
     let m = c.args.entries.now in
     let all = entries_between place_cmp Unbounded (Included p) m.entries in
-    let backward = YieldsList-at c.map.ensures.source (YieldsList-from_last deref_pair all (c.rev.ensures.source ∙ c.range.ensures.between tt)) in
+    let backward =
+    YieldsList-at c.map.ensures.source (YieldsList-from_last deref_pair all (c.rev.ensures.source ∙ c.range.ensures.between tt)) in
     let found : option_copied c.find-found.result ≡ find (stops p.0) (reverse (map (under d) (values_of all))) =
     find_from_yields_List (stops p.0) _ _ c.find-found.result c.find-found.ensures.ran
-    (YieldsList-from_map_by _ (λ e. e.now) (λ (e : Place × Entry). under d e.1) backward c.map.ensures.closure (λ x r q k. search rules)) (λ x b q k. search (rules, tests))
-    ∙ ap (find (stops p.0)) (map-reverse (λ (e : Place × Entry). under d e.1) all ∙ ap reverse (map_map (λ (e : Place × Entry). e.1) (under d) all)) in
+    (YieldsList-from_map_by _ (λ e. e.now) (λ (e : Place × Entry). under d e.1) backward c.map.ensures.closure (λ x r q k. search rules))
+    (λ x b q k. search (rules, tests))
+    ∙ ap (find (stops p.0))
+    (map-reverse (λ (e : Place × Entry). under d e.1) all ∙ ap reverse (map_map (λ (e : Place × Entry). e.1) (under d) all)) in
     let same : c.as_str.result.now ≡ p.0 = search rules in
     let delete : d ≡ get_by_text c.args.deletes.now p.0 = c.delete_of-delete.ensures ∙ ap (get_by_text c.args.deletes.now) same in
     c.eq.ensures
@@ -43,11 +46,14 @@ returns-in-None c =
     let d = c.delete_of-delete.result in
     let m = c.args.entries.now in
     let all = entries_between place_cmp Unbounded (Included p) m.entries in
-    let backward = YieldsList-at c.map.ensures.source (YieldsList-from_last deref_pair all (c.rev.ensures.source ∙ c.range.ensures.between tt)) in
+    let backward =
+    YieldsList-at c.map.ensures.source (YieldsList-from_last deref_pair all (c.rev.ensures.source ∙ c.range.ensures.between tt)) in
     let found : option_copied c.find-found.result ≡ find (stops p.0) (reverse (map (under d) (values_of all))) =
     find_from_yields_List (stops p.0) _ _ c.find-found.result c.find-found.ensures.ran
-    (YieldsList-from_map_by _ (λ e. e.now) (λ (e : Place × Entry). under d e.1) backward c.map.ensures.closure (λ x r q k. search rules)) (λ x b q k. search (rules, tests))
-    ∙ ap (find (stops p.0)) (map-reverse (λ (e : Place × Entry). under d e.1) all ∙ ap reverse (map_map (λ (e : Place × Entry). e.1) (under d) all)) in
+    (YieldsList-from_map_by _ (λ e. e.now) (λ (e : Place × Entry). under d e.1) backward c.map.ensures.closure (λ x r q k. search rules))
+    (λ x b q k. search (rules, tests))
+    ∙ ap (find (stops p.0))
+    (map-reverse (λ (e : Place × Entry). under d e.1) all ∙ ap reverse (map_map (λ (e : Place × Entry). e.1) (under d) all)) in
     let same : c.as_str.result.now ≡ p.0 = search rules in
     let delete : d ≡ get_by_text c.args.deletes.now p.0 = c.delete_of-delete.ensures ∙ ap (get_by_text c.args.deletes.now) same in
     ap (λ o. option_map_or (is_of p.0) (option_copied o) false) (sym c.in-None.is)

@@ -17,7 +17,12 @@ use Rattle.reg_entries.proofs.lists.last_counting.Goals as goal
 pub returns : goal.returns
 returns c =
     let all = entries_between place_cmp (Included c.args.first.now) (Included c.args.last.now) c.args.entries.now.entries in
-    let backward = YieldsList-at c.map.ensures.source (YieldsList-from_last deref_pair all (c.rev.ensures.source ∙ c.range.ensures.between tt)) in
+    let backward =
+    YieldsList-at c.map.ensures.source (YieldsList-from_last deref_pair all (c.rev.ensures.source ∙ c.range.ensures.between tt)) in
     find_from_yields_List (counts c.args.deleted) _ _ c.find.result c.find.ensures.ran
-    (YieldsList-from_map_by _ (λ e. e.now) (λ (e : Place × Entry). under c.args.delete e.1) backward c.map.ensures.closure (λ x r q k. search rules)) (λ x b q k. search (rules, tests))
-    ∙ ap (find (counts c.args.deleted)) (map-reverse (λ (e : Place × Entry). under c.args.delete e.1) all ∙ ap reverse (map_map (λ (e : Place × Entry). e.1) (under c.args.delete) all))
+    (YieldsList-from_map_by _ (λ e. e.now)
+    (λ (e : Place × Entry). under c.args.delete e.1) backward c.map.ensures.closure (λ x r q k. search rules))
+    (λ x b q k. search (rules, tests))
+    ∙ ap (find (counts c.args.deleted))
+    (map-reverse (λ (e : Place × Entry). under c.args.delete e.1) all
+    ∙ ap reverse (map_map (λ (e : Place × Entry). e.1) (under c.args.delete) all))

@@ -11,6 +11,8 @@ use Rattle.reg_entries.proofs.lists.list_between.Goals as goal
 pub returns : goal.returns
 returns c =
     let all = entries_between place_cmp (Included c.args.first.now) (Included c.args.last.now) c.args.entries.now.entries in
-    let start : c.into_iter-entry-iterator.result ≡ all = c.into_iter-entry-iterator.ensures.into_iter_gives ∙ c.range-entry-items.ensures.between tt in
-    let end = iter_end deref_pair all c.loop-entry.yielded c.into_iter-entry-iterator.result c.loop-entry.entry-iterator c.next.new.self c.next.result start c.loop-entry.yielded_by c.in-None.is c.next.ensures.steps in
+    let start : c.into_iter-entry-iterator.result ≡ all =
+    c.into_iter-entry-iterator.ensures.into_iter_gives ∙ c.range-entry-items.ensures.between tt in
+    let end = iter_end deref_pair all c.loop-entry.yielded c.into_iter-entry-iterator.result c.loop-entry.entry-iterator
+    c.next.new.self c.next.result start c.loop-entry.yielded_by c.in-None.is c.next.ensures.steps in
     c.loop-entry.invariant ∙ map_map deref_pair (λ e. e.1) c.loop-entry.yielded ∙ ap values_of end.0

@@ -9,5 +9,6 @@ abbrev pub invariant-loop-flag : goal.invariant-loop-flag
 invariant-loop-flag l = record {
   subject : l.place.0 ≡ l.fn.subject;
   ordered : IsOrdered place_cmp l.entries;
-  flagged : (p : Place) → entry_at l.entries p ≡ option_map (flagged l.fn.subject (take l.flag-index l.flags)) (entry_at l.initial.entries p);
+  flagged : (p : Place)
+      → entry_at l.entries p ≡ option_map (flagged l.fn.subject (take l.flag-index l.flags)) (entry_at l.initial.entries p);
 }

@@ -24,7 +24,9 @@ returns-clause-doubled c =
     let mid = c.insert.new.self in
     let id = c.own-own.result.now.id in
     doubled_refreshed c.args.meanings.now c.insert-added.new.self before mid c.refresh_doubled.new.doubled id c.requires
-    (λ k apart. added_others c.insert-added.new.self c.args.meanings.now (c.from.result, c.in_ok-clone.field-0) c.in_ok-added.ensures.updates.0 k (λ same. apart (same ∙ c.from.ensures)))
+    (λ k apart.
+    added_others c.insert-added.new.self c.args.meanings.now
+    (c.from.result, c.in_ok-clone.field-0) c.in_ok-added.ensures.updates.0 k (λ same. apart (same ∙ c.from.ensures)))
     (id_others before mid id true ids)
     (λ two. id_here before mid id true ids)
     c.refresh_doubled.ensures

@@ -6,7 +6,8 @@ pub returns-in-Some-clause-refreshed : goal.returns-in-Some-clause-refreshed
 returns-in-Some-clause-refreshed c =
     let s = c.args.schemas.now in
     let mid = c.refresh_meaning.new.meanings in
-    both_refreshed s c.args.one c.args.other c.args.meanings.now mid c.refresh_meaning-in-Some.new.meanings c.refresh_meaning.ensures.refreshed
+    both_refreshed s c.args.one c.args.other c.args.meanings.now mid
+    c.refresh_meaning-in-Some.new.meanings c.refresh_meaning.ensures.refreshed
     (some_refreshed s _ c.args.other mid c.refresh_meaning-in-Some.new.meanings c.in-Some.is c.refresh_meaning-in-Some.ensures.refreshed)
 
 pub returns-clause-refreshed : goal.returns-clause-refreshed

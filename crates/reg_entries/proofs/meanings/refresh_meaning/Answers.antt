@@ -11,8 +11,12 @@ returns-then-not-is_meant-clause-refreshed c =
     let no : c.is_meant.result ≡ false = search (rules, tests) in
     let old = c.args.meanings.now in
     let new = c.forget_meaning.new.meanings in
-    let gone : (k : Meaning) → contains meaning_cmp new k ≡ cond (eq_by_cmp meaning_cmp (c.args.id, c.args.normal) k) false (contains meaning_cmp old k) =
-    subst (λ i. (k : Meaning) → contains meaning_cmp new k ≡ cond (eq_by_cmp meaning_cmp (i, c.args.normal) k) false (contains meaning_cmp old k)) c.from.ensures c.forget_meaning.ensures.gone in
+    let gone : (k : Meaning)
+    → contains meaning_cmp new k ≡ cond (eq_by_cmp meaning_cmp (c.args.id, c.args.normal) k) false (contains meaning_cmp old k) =
+    subst (λ i. (k : Meaning)
+    → contains meaning_cmp new k
+    ≡ cond (eq_by_cmp meaning_cmp (i, c.args.normal) k) false
+    (contains meaning_cmp old k)) c.from.ensures c.forget_meaning.ensures.gone in
     refreshes_gone new old (c.args.id, c.args.normal) gone c.args.schemas.now (λ is. false≢true (sym no ∙ c.is_meant.ensures.1 is))
 
 pub returns-else-not-is_meant-clause-refreshed : goal.returns-else-not-is_meant-clause-refreshed

@@ -15,5 +15,7 @@ range-requires c =
 pub returns-clause-texts : goal.returns-clause-texts
 returns-clause-texts c =
     c.range.ensures.between tt
-    ∙ (λ i. keys_between meaning_cmp (Included (c.first_meaning-first.ensures i)) (Excluded (c.first_meaning-above.ensures i)) c.args.meanings.now)
+    ∙ (λ i.
+    keys_between meaning_cmp (Included (c.first_meaning-first.ensures i))
+    (Excluded (c.first_meaning-above.ensures i)) c.args.meanings.now)
     ∙ (λ i. keys_between meaning_cmp (Included (c.from-id.ensures i, [])) (Excluded (c.from-id.ensures i + 1, [])) c.args.meanings.now)

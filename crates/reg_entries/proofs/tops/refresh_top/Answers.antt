@@ -7,7 +7,8 @@ use Rattle.reg_entries.proofs.tops.refresh_top.Goals as goal
 pub returns-in-Some-clause-top : goal.returns-in-Some-clause-top
 returns-in-Some-clause-top c = λ room.
     let m = c.args.entries.now in
-    subst (IsTop m c.args.place.0) (sym (c.set_top.ensures.top room)) (top_is m c.requires c.args.place.0 (Some c.in-Some.version) (search rules))
+    subst (IsTop m c.args.place.0) (sym (c.set_top.ensures.top room))
+    (top_is m c.requires c.args.place.0 (Some c.in-Some.version) (search rules))
 
 pub returns-in-None-clause-top : goal.returns-in-None-clause-top
 returns-in-None-clause-top c = λ room.

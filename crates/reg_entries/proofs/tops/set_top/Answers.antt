@@ -10,11 +10,13 @@ returns-in-Some-clause-top c = λ room.
     let key = c.as_str.result.now in
     let after = c.get_mut.follows.lender c.args.place in
     let updates = (c.get_mut.follows.holds c.args.place).3 (search rules) in
-    ap (get_by_text after) (sym c.as_str.ensures) ∙ at_text c.args.tops.now after key _ (btree_map_updates_text key c.args.tops.now after _ updates)
+    ap (get_by_text after) (sym c.as_str.ensures)
+    ∙ at_text c.args.tops.now after key _ (btree_map_updates_text key c.args.tops.now after _ updates)
 
 pub returns-in-Some-clause-others : goal.returns-in-Some-clause-others
 returns-in-Some-clause-others c = λ s apart.
     let key = c.as_str.result.now in
     let after = c.get_mut.follows.lender c.args.place in
     let updates = (c.get_mut.follows.holds c.args.place).3 (search rules) in
-    other_text c.args.tops.now after key _ (btree_map_updates_text key c.args.tops.now after _ updates) s (ap (λ k. bytes_eq k s) c.as_str.ensures ∙ apart)
+    other_text c.args.tops.now after key _ (btree_map_updates_text key c.args.tops.now after _ updates) s
+    (ap (λ k. bytes_eq k s) c.as_str.ensures ∙ apart)

@@ -16,5 +16,6 @@ loop-len-preserved c =
     ap (λ k. take k bytes) (add-suc len) ∙ take-suc bytes len 0 (omega (arith, c.loop-len-test.true)) in
     let unended : ends_in_empty_line (take (len + 1) bytes) ≡ false = sym c.if-ends_in_empty_line.ensures in (
       omega (arith, c.loop-len-test.true),
-      subst (HasNoEnd []) (sym grown) (HasNoEnd-more [] (take len bytes) (take (len + 1) bytes) (get_or bytes len 0) c.loop-len.invariant.1 grown unended),
+      subst (HasNoEnd []) (sym grown)
+          (HasNoEnd-more [] (take len bytes) (take (len + 1) bytes) (get_or bytes len 0) c.loop-len.invariant.1 grown unended),
     )

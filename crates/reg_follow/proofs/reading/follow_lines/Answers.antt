@@ -13,7 +13,8 @@ loop-read-preserved-in-Nothing g c text read has =
     let mid = g.B.Read.remaining c.loop-read.reader in
     let new = g.B.Read.remaining c.take_piece.new.reader in
     let f = c.loop-read.invariant text read has in
-    let it = subst (λ (p : Piece). TakesPiece mid new (text ++ f.bytes) (read ++ f.more) c.loop-read.intake c.take_piece.new.intake p) c.in-Nothing.is
+    let it = subst (λ (p : Piece).
+    TakesPiece mid new (text ++ f.bytes) (read ++ f.more) c.loop-read.intake c.take_piece.new.intake p) c.in-Nothing.is
     (c.in_ok-take_piece.ensures (text ++ f.bytes) (read ++ f.more) f.taken) in
     kept old mid new text read c.loop-read.intake c.take_piece.new.intake f it.0 it.1
 
@@ -23,7 +24,8 @@ returns-in-End g c text read has =
     let mid = g.B.Read.remaining c.loop-read.reader in
     let new = g.B.Read.remaining c.take_piece.new.reader in
     let f = c.loop-read.invariant text read has in
-    let it = subst (λ (p : Piece). TakesPiece mid new (text ++ f.bytes) (read ++ f.more) c.loop-read.intake c.take_piece.new.intake p) c.in-End.is
+    let it = subst (λ (p : Piece).
+    TakesPiece mid new (text ++ f.bytes) (read ++ f.more) c.loop-read.intake c.take_piece.new.intake p) c.in-End.is
     (c.in_ok-take_piece.ensures (text ++ f.bytes) (read ++ f.more) f.taken) in (
       kept old mid new text read c.loop-read.intake c.take_piece.new.intake f it.1 it.2,
       ended old mid new text read c.loop-read.intake c.take_piece.new.intake c.end_of.result f it.0 it.1 c.end_of.ensures,
@@ -35,11 +37,14 @@ returns-then-not-branch g c text read has =
     let mid = g.B.Read.remaining c.loop-read.reader in
     let new = g.B.Read.remaining c.take_piece.new.reader in
     let f = c.loop-read.invariant text read has in
-    let it = subst (λ (p : Piece). TakesPiece mid new (text ++ f.bytes) (read ++ f.more) c.loop-read.intake c.take_piece.new.intake p) c.in-Some.is
+    let it = subst (λ (p : Piece).
+    TakesPiece mid new (text ++ f.bytes) (read ++ f.more) c.loop-read.intake c.take_piece.new.intake p) c.in-Some.is
     (c.in_ok-take_piece.ensures (text ++ f.bytes) (read ++ f.more) f.taken) in
     let p = piece old mid new text read c.loop-read.intake c.take_piece.new.intake f it.0 it.1 it.2 in
-    let published = c.in_ok-publish_all.ensures (text ++ p.bytes) (read ++ p.more) p.taken in
-    (shown old new text read c.take_piece.new.intake c.publish_all.new.intake p published.more published.taken, stops_before _ _ _ c.if-not-branch.true published.stops)
+    let published = c.in_ok-publish_all.ensures (text ++ p.bytes) (read ++ p.more) p.taken in (
+      shown old new text read c.take_piece.new.intake c.publish_all.new.intake p published.more published.taken,
+      stops_before _ _ _ c.if-not-branch.true published.stops,
+    )
 
 pub loop-read-preserved : goal.loop-read-preserved
 loop-read-preserved g c text read has =
@@ -47,7 +52,8 @@ loop-read-preserved g c text read has =
     let mid = g.B.Read.remaining c.loop-read.reader in
     let new = g.B.Read.remaining c.take_piece.new.reader in
     let f = c.loop-read.invariant text read has in
-    let it = subst (λ (p : Piece). TakesPiece mid new (text ++ f.bytes) (read ++ f.more) c.loop-read.intake c.take_piece.new.intake p) c.in-Some.is
+    let it = subst (λ (p : Piece).
+    TakesPiece mid new (text ++ f.bytes) (read ++ f.more) c.loop-read.intake c.take_piece.new.intake p) c.in-Some.is
     (c.in_ok-take_piece.ensures (text ++ f.bytes) (read ++ f.more) f.taken) in
     let p = piece old mid new text read c.loop-read.intake c.take_piece.new.intake f it.0 it.1 it.2 in
     let published = c.in_ok-publish_all.ensures (text ++ p.bytes) (read ++ p.more) p.taken in

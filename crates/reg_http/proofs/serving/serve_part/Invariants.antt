@@ -14,7 +14,8 @@ invariant-loop-requests g l =
     HasAnswered g.D.Desk.asks g.D.Desk.commands l.fn.desk (bytes_in g.R.Read.remaining l.fn.reader) l.requests
     (bytes_in g.W.Write.contents l.fn.writer) (bytes_in g.W.Write.contents l.writer) (bytes_in g.R.Read.remaining l.reader) l.desk
     × (faults_of l.reader ≡ faults_of l.fn.reader) × (faults_of l.writer ≡ faults_of l.fn.writer)
-    × ((0 < l.requests → reads_of l.reader ≤ REQUEST_READS) × (all_reads_of l.reader ≤ all_reads_of l.fn.reader + l.requests * REQUEST_READS)
+    × (
+    (0 < l.requests → reads_of l.reader ≤ REQUEST_READS) × (all_reads_of l.reader ≤ all_reads_of l.fn.reader + l.requests * REQUEST_READS)
     × (interruptions_of l.writer ≤ INTERRUPTION_LIMIT))
     × (counted_by 0 (all_reads_of l.fn.reader) ≤ all_reads_of l.reader) × KeepsEnd g.R.Read.remaining l.fn.reader l.reader
     × (counted_by 0 (all_interruptions_of l.fn.writer) ≤ all_interruptions_of l.writer)

@@ -11,6 +11,8 @@ returns c =
     same_counts c.args.log.now.foreign c.args.log.now.floor c.args.log.now.next
     records
     c.in_ok-count_subjects.ensures
-    (ap (λ (n : ℕ). length found - n) c.count_soft-deleted.ensures ∙ sym (live_are found) ∙ ap (λ (l : List Entry). count_by (λ (e : Entry). not e.soft) l) c.requires.found)
+    (ap (λ (n : ℕ). length found - n) c.count_soft-deleted.ensures
+    ∙ sym (live_are found)
+    ∙ ap (λ (l : List Entry). count_by (λ (e : Entry). not e.soft) l) c.requires.found)
     (c.count_soft-deleted.ensures ∙ sym (soft_are found) ∙ ap (λ (l : List Entry). count_by (λ (e : Entry). e.soft) l) c.requires.found)
     (c.len-2.ensures.len ∙ ap (λ (ks : List ℕ). length ks) c.requires.ids)

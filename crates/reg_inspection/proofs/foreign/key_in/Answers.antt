@@ -13,7 +13,8 @@ second x (y ∷ ys) = refl
 pub returns-in-Some : goal.returns-in-Some
 returns-in-Some c =
     let line = c.args.line.now in
-    let at : (position_or_len is_tab line < length line) × (c.in-Some.field-0-0.now ≡ before_first is_tab line) × (c.in-Some.rest.now ≡ after_first is_tab line) =
+    let at : (position_or_len is_tab line < length line) × (c.in-Some.field-0-0.now ≡ before_first is_tab line)
+    × (c.in-Some.rest.now ≡ after_first is_tab line) =
     rw c.in-Some.is at (split_once_first 9 line c.split_once.result c.split_once.ensures.cases (omega arith)) in
     sym c.first_field.ensures
     ∙ ap (λ (r : List ℕ). slice_get (slice_split is_tab r) 0) at.2
@@ -23,5 +24,7 @@ returns-in-Some c =
 pub returns-in-None : goal.returns-in-None
 returns-in-None c =
     let line = c.args.line.now in
-    let none : position_or_len is_tab line ≡ length line = rw c.in-None.is at (split_once_first 9 line c.split_once.result c.split_once.ensures.cases (omega arith)) in
-    ap (λ (l : List (List ℕ)). slice_get l 1) (sym (slice_split_none is_tab line (λ k d below. fails_before_first is_tab line k d (omega (arith, none, below)))))
+    let none : position_or_len is_tab line ≡ length line =
+    rw c.in-None.is at (split_once_first 9 line c.split_once.result c.split_once.ensures.cases (omega arith)) in
+    ap (λ (l : List (List ℕ)). slice_get l 1)
+    (sym (slice_split_none is_tab line (λ k d below. fails_before_first is_tab line k d (omega (arith, none, below)))))

@@ -12,7 +12,8 @@ returns c lines read has =
 
 pub returns-in_default : goal.returns-in_default
 returns-in_default c lines read has =
-    let f = front lines c.loop-line.found.items c.loop-line.found.items c.loop-line.rest.now c.loop-line._line c.args.count (c.loop-line.invariant lines read has) c.loop-line-test.true in
+    let f = front lines c.loop-line.found.items c.loop-line.found.items c.loop-line.rest.now c.loop-line._line c.args.count (
+    c.loop-line.invariant lines read has) c.loop-line-test.true in
     absurd (c.in_default.not-Some _ (c.in_ok-len.ensures.pushed f).0)
 
 pub loop-line-preserved : goal.loop-line-preserved

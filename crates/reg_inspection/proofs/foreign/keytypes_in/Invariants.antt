@@ -6,4 +6,6 @@ use Rattle.reg_inspection.proofs.foreign.keytypes_in.Given as goal
 
 -- the keytypes of the lines that are left are what is left of all
 abbrev pub invariant-loop-line : goal.invariant-loop-line
-invariant-loop-line l = (lines : List (List ℕ)) (read : List Read) → HasLines l.fn.text lines read l.fn.count → GoesOn lines l.found.items l.rest l._line l.fn.count
+invariant-loop-line l =
+    (lines : List (List ℕ)) (read : List Read) → HasLines l.fn.text lines read l.fn.count
+    → GoesOn lines l.found.items l.rest l._line l.fn.count

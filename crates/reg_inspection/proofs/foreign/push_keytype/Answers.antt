@@ -9,14 +9,16 @@ pub returns-in-Record : goal.returns-in-Record
 returns-in-Record c says =
     let found = c.args.found.now.items in
     let line = c.args.line.now in
-    let none : foreign_keytypes (line ∷ []) ≡ [] = keytype_of_line line c.args.read.now says ∙ ap (λ (r : Read). cond (is_foreign r) (keytype_in line ∷ []) []) c.in-Record.is in
+    let none : foreign_keytypes (line ∷ []) ≡ [] =
+    keytype_of_line line c.args.read.now says ∙ ap (λ (r : Read). cond (is_foreign r) (keytype_in line ∷ []) []) c.in-Record.is in
     sym (ap (λ (l : List (Option (List ℕ))). found ++ l) none ∙ append-nil found)
 
 pub returns-in_ok-push-in-Foreign : goal.returns-in_ok-push-in-Foreign
 returns-in_ok-push-in-Foreign c says =
     let found = c.args.found.now.items in
     let line = c.args.line.now in
-    let one : foreign_keytypes (line ∷ []) ≡ keytype_in line ∷ [] = keytype_of_line line c.args.read.now says ∙ ap (λ (r : Read). cond (is_foreign r) (keytype_in line ∷ []) []) c.in-Foreign.is in
+    let one : foreign_keytypes (line ∷ []) ≡ keytype_in line ∷ [] =
+    keytype_of_line line c.args.read.now says ∙ ap (λ (r : Read). cond (is_foreign r) (keytype_in line ∷ []) []) c.in-Foreign.is in
     c.in_ok-push-in-Foreign.ensures.items
     ∙ ap (λ (k : Option (List ℕ)). found ++ k ∷ []) (c.in_ok-keytype_in-in-Foreign.ensures c.args.read.now says)
     ∙ ap (λ (l : List (Option (List ℕ))). found ++ l) (sym one)

@@ -19,5 +19,7 @@ returns-clause-described c =
           ∙ ap (λ (n : Counts). report_text n found.foreign.entries found.obstacles.items) is.2.counts
           ∙ ap (λ (es : List (Option (List ℕ) × ℕ)). report_text (counts_of is.0.floor is.0.reads) es found.obstacles.items) is.2.foreign
           ∙ ap (λ (os : List Obstacle). report_text (counts_of is.0.floor is.0.reads) (foreign_tally c.args.log.now) os) is.2.obstacles;
-      servable = c.is_servable.ensures ∙ servable_without_obstacles c.no_obstacle_is_open.ensures (lasts_in is.0.reads) (next_of is.0.floor is.0.reads) found.obstacles.items is.2.obstacles;
+      servable = c.is_servable.ensures
+          ∙ servable_without_obstacles c.no_obstacle_is_open.ensures (lasts_in is.0.reads)
+          (next_of is.0.floor is.0.reads) found.obstacles.items is.2.obstacles;
     }

@@ -4,8 +4,14 @@ use Rattle.reg_inspection.proofs.inspection.lines_text.Goals as goal
 
 -- the pieces, one after another
 joined : (records foreign floor next : List ℕ)
-    → codes "records: " ++ (records ++ (codes "\nforeign lines: " ++ (foreign ++ (codes "\nfloor: " ++ (floor ++ (codes "\nnext offset: " ++ (next ++ codes "\n")))))))
-    ≡ codes "records: " ++ records ++ codes "\nforeign lines: " ++ foreign ++ codes "\nfloor: " ++ floor ++ codes "\nnext offset: " ++ next ++ codes "\n"
+    → codes "records: "
+    ++ (
+    records
+    ++ (
+    codes "\nforeign lines: "
+    ++ (foreign ++ (codes "\nfloor: " ++ (floor ++ (codes "\nnext offset: " ++ (next ++ codes "\n")))))))
+    ≡ codes "records: " ++ records ++ codes "\nforeign lines: " ++ foreign
+    ++ codes "\nfloor: " ++ floor ++ codes "\nnext offset: " ++ next ++ codes "\n"
 joined records foreign floor next = simp append_assoc
 
 pub returns : goal.returns

@@ -16,7 +16,11 @@ returns-in-Opaque c =
     let obstacle = c.args.obstacle.now in
     let text = c.as_str-text.ensures.value ∙ c.in_ok-text.ensures in
     IfOk-weaker c.format.result _ _
-    (λ s h. h ∙ joined _ _ ∙ ap (λ (t : List ℕ). t ++ (codes ": " ++ cause_text c.in-Opaque.cause ++ codes "\n")) text ∙ ap (λ (part : List ℕ). obstacle_text obstacle ++ part) (ap cause_part (sym c.in-Opaque.is)))
+    (λ s h.
+    h
+    ∙ joined _ _
+    ∙ ap (λ (t : List ℕ). t ++ (codes ": " ++ cause_text c.in-Opaque.cause ++ codes "\n")) text
+    ∙ ap (λ (part : List ℕ). obstacle_text obstacle ++ part) (ap cause_part (sym c.in-Opaque.is)))
     c.format.ensures.ok
 
 -- nothing stands behind an obstacle without a cause
@@ -28,5 +32,8 @@ returns c =
     let obstacle = c.args.obstacle.now in
     let text = c.as_str-text.ensures.value ∙ c.in_ok-text.ensures in
     IfOk-weaker c.format-in-TwoSchemas.result _ _
-    (λ s h. h ∙ ap (λ (t : List ℕ). t ++ codes "\n") text ∙ ap (λ (part : List ℕ). obstacle_text obstacle ++ part) (sym (alone obstacle c.in-TwoSchemas.is)))
+    (λ s h.
+    h
+    ∙ ap (λ (t : List ℕ). t ++ codes "\n") text
+    ∙ ap (λ (part : List ℕ). obstacle_text obstacle ++ part) (sym (alone obstacle c.in-TwoSchemas.is)))
     c.format-in-TwoSchemas.ensures.ok

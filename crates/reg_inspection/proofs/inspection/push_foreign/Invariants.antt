@@ -4,4 +4,5 @@ use Rattle.reg_inspection.specs.Report.{foreign_line}
 use Rattle.reg_inspection.proofs.inspection.push_foreign.Given as goal
 
 abbrev pub invariant-loop-keytype : goal.invariant-loop-keytype
-invariant-loop-keytype l = string_bytes l.text ++ flat_map foreign_line l.keytype-iterator ≡ string_bytes l.fn.text ++ flat_map foreign_line l.foreign.entries
+invariant-loop-keytype l =
+    string_bytes l.text ++ flat_map foreign_line l.keytype-iterator ≡ string_bytes l.fn.text ++ flat_map foreign_line l.foreign.entries

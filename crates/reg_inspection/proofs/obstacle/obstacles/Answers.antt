@@ -11,7 +11,8 @@ pub returns-clause-none : goal.returns-clause-none
 returns-clause-none c =
     let log = c.args.log.now in
     let lasts : Records = last_records (from_list log.records.items) in
-    let set : c.in_ok-last.last ≡ lasts = c.in_ok-last.ensures.set ∙ ap (λ (l : List Record). last_records (from_list l)) c.deref.ensures.value in
+    let set : c.in_ok-last.last ≡ lasts =
+    c.in_ok-last.ensures.set ∙ ap (λ (l : List Record). last_records (from_list l)) c.deref.ensures.value in
     let law = c.no_obstacle_is_open.ensures lasts log.next in
     IfOk-weaker c.obstacles_in.result _ _
     (λ found h.

@@ -10,5 +10,7 @@ joined offset subject version = simp append_assoc
 
 pub returns : goal.returns
 returns c =
-    let text : List ℕ → List ℕ = λ subject. codes "opaque record at " ++ decimal c.args.offset ++ codes ": subject " ++ subject ++ codes ", version " ++ decimal c.args.version in
+    let text : List ℕ → List ℕ = λ subject.
+    codes "opaque record at " ++ decimal c.args.offset ++ codes ": subject "
+    ++ subject ++ codes ", version " ++ decimal c.args.version in
     IfOk-weaker c.format.result _ _ (λ s h. h ∙ joined _ _ _ ∙ ap text c.in_ok-subject.ensures) c.format.ensures.ok

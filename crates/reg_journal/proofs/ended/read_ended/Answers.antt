@@ -15,13 +15,16 @@ returns-clause-found c =
     let rest : c.read_log.new.reader.inner.now ≡ found.0.rest = cc (found.3) in
     let same : c.into_inner-left.result.now ≡ c.read_log.new.reader.inner.now = search rules in
     let left : c.into_inner-left.result.now ≡ found.0.rest = same ∙ rest in
-    let some : 0 < length found.0.rest = omega (arith, ap length left, filled c.into_inner-left.result.now (sym c.is_empty.ensures ∙ c.if-is_empty.false)) in
+    let some : 0 < length found.0.rest =
+    omega (arith, ap length left, filled c.into_inner-left.result.now (sym c.is_empty.ensures ∙ c.if-is_empty.false)) in
     let it = ended file found.0 reads some in
-    let size : c.len.result ≡ length file + 1 = omega (arith, c.len.ensures, ap length c.in_ok-push.ensures.items, length-append file (10 ∷ [])) in
+    let size : c.len.result ≡ length file + 1 =
+    omega (arith, c.len.ensures, ap length c.in_ok-push.ensures.items, length-append file (10 ∷ [])) in
     let lines = counted found.0.reads in
     let records : length c.in_ok-log.log.records.items ≡ length (records_in found.0.reads) = ap length found.2.records in
     let copied : c.in_ok-behind.behind.items ≡ take (length c.into_inner-left.result.now - 1) c.into_inner-left.result.now = search rules in
-    let behind : c.in_ok-behind.behind.items ≡ take (length found.0.rest - 1) found.0.rest = copied ∙ ap (λ (l : List ℕ). take (length l - 1) l) left in
+    let behind : c.in_ok-behind.behind.items ≡ take (length found.0.rest - 1) found.0.rest =
+    copied ∙ ap (λ (l : List ℕ). take (length l - 1) l) left in
     let front : c.floor_lines.result ≡ cond (is_floor_line (file ++ 10 ∷ [])) 1 0 =
     c.floor_lines.ensures ∙ ap (λ (t : List ℕ). cond (is_floor_line t) 1 0) (c.deref-2.ensures.value ∙ c.in_ok-push.ensures.items) in
     record {
@@ -46,9 +49,11 @@ returns-clause-within c =
     let rest : c.read_log.new.reader.inner.now ≡ found.0.rest = cc (found.3) in
     let same : c.into_inner-left.result.now ≡ c.read_log.new.reader.inner.now = search rules in
     let left : c.into_inner-left.result.now ≡ found.0.rest = same ∙ rest in
-    let some : 0 < length found.0.rest = omega (arith, ap length left, filled c.into_inner-left.result.now (sym c.is_empty.ensures ∙ c.if-is_empty.false)) in
+    let some : 0 < length found.0.rest =
+    omega (arith, ap length left, filled c.into_inner-left.result.now (sym c.is_empty.ensures ∙ c.if-is_empty.false)) in
     let it = ended file found.0 reads some in
-    let size : c.len.result ≡ length file + 1 = omega (arith, c.len.ensures, ap length c.in_ok-push.ensures.items, length-append file (10 ∷ [])) in
+    let size : c.len.result ≡ length file + 1 =
+    omega (arith, c.len.ensures, ap length c.in_ok-push.ensures.items, length-append file (10 ∷ [])) in
     omega (arith, size, ap length left, it.size)
 
 pub returns-then-is_empty-clause-refused : goal.returns-then-is_empty-clause-refused
@@ -70,9 +75,11 @@ overflow_sub-end c =
     let rest : c.read_log.new.reader.inner.now ≡ found.0.rest = cc (found.3) in
     let same : c.into_inner-left.result.now ≡ c.read_log.new.reader.inner.now = search rules in
     let left : c.into_inner-left.result.now ≡ found.0.rest = same ∙ rest in
-    let some : 0 < length found.0.rest = omega (arith, ap length left, filled c.into_inner-left.result.now (sym c.is_empty.ensures ∙ c.if-is_empty.false)) in
+    let some : 0 < length found.0.rest =
+    omega (arith, ap length left, filled c.into_inner-left.result.now (sym c.is_empty.ensures ∙ c.if-is_empty.false)) in
     let it = ended file found.0 reads some in
-    let size : c.len.result ≡ length file + 1 = omega (arith, c.len.ensures, ap length c.in_ok-push.ensures.items, length-append file (10 ∷ [])) in
+    let size : c.len.result ≡ length file + 1 =
+    omega (arith, c.len.ensures, ap length c.in_ok-push.ensures.items, length-append file (10 ∷ [])) in
     omega (arith, size, ap length left, it.size)
 
 pub overflow_sub-end-2 : goal.overflow_sub-end-2
@@ -85,9 +92,11 @@ overflow_sub-end-2 c =
     let rest : c.read_log.new.reader.inner.now ≡ found.0.rest = cc (found.3) in
     let same : c.into_inner-left.result.now ≡ c.read_log.new.reader.inner.now = search rules in
     let left : c.into_inner-left.result.now ≡ found.0.rest = same ∙ rest in
-    let some : 0 < length found.0.rest = omega (arith, ap length left, filled c.into_inner-left.result.now (sym c.is_empty.ensures ∙ c.if-is_empty.false)) in
+    let some : 0 < length found.0.rest =
+    omega (arith, ap length left, filled c.into_inner-left.result.now (sym c.is_empty.ensures ∙ c.if-is_empty.false)) in
     let it = ended file found.0 reads some in
-    let size : c.len.result ≡ length file + 1 = omega (arith, c.len.ensures, ap length c.in_ok-push.ensures.items, length-append file (10 ∷ [])) in
+    let size : c.len.result ≡ length file + 1 =
+    omega (arith, c.len.ensures, ap length c.in_ok-push.ensures.items, length-append file (10 ∷ [])) in
     omega (arith, size, ap length left, it.size)
 
 pub overflow_add-lines : goal.overflow_add-lines
@@ -100,9 +109,11 @@ overflow_add-lines c =
     let rest : c.read_log.new.reader.inner.now ≡ found.0.rest = cc (found.3) in
     let same : c.into_inner-left.result.now ≡ c.read_log.new.reader.inner.now = search rules in
     let left : c.into_inner-left.result.now ≡ found.0.rest = same ∙ rest in
-    let some : 0 < length found.0.rest = omega (arith, ap length left, filled c.into_inner-left.result.now (sym c.is_empty.ensures ∙ c.if-is_empty.false)) in
+    let some : 0 < length found.0.rest =
+    omega (arith, ap length left, filled c.into_inner-left.result.now (sym c.is_empty.ensures ∙ c.if-is_empty.false)) in
     let it = ended file found.0 reads some in
-    let size : c.len.result ≡ length file + 1 = omega (arith, c.len.ensures, ap length c.in_ok-push.ensures.items, length-append file (10 ∷ [])) in
+    let size : c.len.result ≡ length file + 1 =
+    omega (arith, c.len.ensures, ap length c.in_ok-push.ensures.items, length-append file (10 ∷ [])) in
     let lines = counted found.0.reads in
     let records : length c.in_ok-log.log.records.items ≡ length (records_in found.0.reads) = ap length found.2.records in
     omega (arith, records, lines, found.2.foreign, c.len-2.ensures, it.few, it.told)
@@ -117,9 +128,11 @@ overflow_add-lines-2 c =
     let rest : c.read_log.new.reader.inner.now ≡ found.0.rest = cc (found.3) in
     let same : c.into_inner-left.result.now ≡ c.read_log.new.reader.inner.now = search rules in
     let left : c.into_inner-left.result.now ≡ found.0.rest = same ∙ rest in
-    let some : 0 < length found.0.rest = omega (arith, ap length left, filled c.into_inner-left.result.now (sym c.is_empty.ensures ∙ c.if-is_empty.false)) in
+    let some : 0 < length found.0.rest =
+    omega (arith, ap length left, filled c.into_inner-left.result.now (sym c.is_empty.ensures ∙ c.if-is_empty.false)) in
     let it = ended file found.0 reads some in
-    let size : c.len.result ≡ length file + 1 = omega (arith, c.len.ensures, ap length c.in_ok-push.ensures.items, length-append file (10 ∷ [])) in
+    let size : c.len.result ≡ length file + 1 =
+    omega (arith, c.len.ensures, ap length c.in_ok-push.ensures.items, length-append file (10 ∷ [])) in
     let lines = counted found.0.reads in
     let records : length c.in_ok-log.log.records.items ≡ length (records_in found.0.reads) = ap length found.2.records in
     let front : c.floor_lines.result ≡ cond (is_floor_line (file ++ 10 ∷ [])) 1 0 =

@@ -14,5 +14,6 @@ invariant-loop-place l = record {
 abbrev pub invariant-loop-direction : goal.invariant-loop-direction
 invariant-loop-direction l = record {
   verdicts : AreVerdicts l.used.items;
-  leads : LeadsTo (asked_from l.fn.level l.new l.olds) (pairs_of l.used.items) (map (asked l.new l.old) (drop l.direction-index (directions l.fn.level)) ++ asked_from l.fn.level l.new (take l.place l.olds));
+  leads : LeadsTo (asked_from l.fn.level l.new l.olds) (pairs_of l.used.items)
+      (map (asked l.new l.old) (drop l.direction-index (directions l.fn.level)) ++ asked_from l.fn.level l.new (take l.place l.olds));
 }

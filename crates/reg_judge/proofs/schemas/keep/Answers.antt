@@ -10,5 +10,7 @@ unfolding IsSchemaOf
 returns c =
     let kept = c.of.result in
     let is : IsSchemaOf (c.source.inside.text, kept) = c.source.invariant ∙ sym (ap Some c.of.ensures) in
-    either c.put-kept.result (λ cache. AreSchemas cache.entries) c.put-kept.new.self _ c.args.kept.now c.put-kept.ensures.entries c.put-kept.ensures.err
-    (with_put IsSchemaOf string_eq c.args.kept.now c.source.inside.text kept c.requires is (λ j. of_equal c.source.inside.text j kept is)) c.requires
+    either c.put-kept.result
+    (λ cache. AreSchemas cache.entries) c.put-kept.new.self _ c.args.kept.now c.put-kept.ensures.entries c.put-kept.ensures.err
+    (with_put IsSchemaOf string_eq c.args.kept.now c.source.inside.text kept c.requires is (λ j. of_equal c.source.inside.text j kept is))
+    c.requires

@@ -7,8 +7,10 @@ use Rattle.reg_judge.proofs.Keeping.{found, without}
 use Rattle.reg_judge.proofs.schemas.take.Goals as goal
 
 -- what was taken out is right, and its text is the one that was asked for
-taken : (c : goal.After-into_schema) → IsSchemaOf (c.in-Some.text, c.in-Some.stored) × (bytes_eq c.args.text.now (string_bytes c.in-Some.text) ≡ true)
-taken c = found IsSchemaOf _ c.args.kept.now.entries (c.in-Some.text, c.in-Some.stored) c.requires (sym c.pop_entry.ensures.value ∙ c.in-Some.is)
+taken : (c : goal.After-into_schema)
+    → IsSchemaOf (c.in-Some.text, c.in-Some.stored) × (bytes_eq c.args.text.now (string_bytes c.in-Some.text) ≡ true)
+taken c =
+    found IsSchemaOf _ c.args.kept.now.entries (c.in-Some.text, c.in-Some.stored) c.requires (sym c.pop_entry.ensures.value ∙ c.in-Some.is)
 
 same : (c : goal.After-into_schema) → c.args.text.now ≡ string_bytes c.in-Some.text
 same c = (bytes_eq-Decides c.args.text.now (string_bytes c.in-Some.text)).0 (taken c).1
@@ -25,16 +27,21 @@ unfolding IsSchemaOf
 returns-in-Some-clause-read c = sym (ap is_some (ap schema_of (same c) ∙ (taken c).0))
 
 pub returns-in-Some-clause-left : goal.returns-in-Some-clause-left
-returns-in-Some-clause-left c = subst (λ cache. AreSchemas cache.entries) (sym c.pop_entry.ensures.entries) (without IsSchemaOf _ c.args.kept.now.entries c.requires)
+returns-in-Some-clause-left c =
+    subst (λ cache. AreSchemas cache.entries) (sym c.pop_entry.ensures.entries) (without IsSchemaOf _ c.args.kept.now.entries c.requires)
 
 pub returns-in_err-schema-clause-left : goal.returns-in_err-schema-clause-left
-returns-in_err-schema-clause-left c = subst (λ cache. AreSchemas cache.entries) (sym c.pop_entry.ensures.entries) (without IsSchemaOf _ c.args.kept.now.entries c.requires)
+returns-in_err-schema-clause-left c =
+    subst (λ cache. AreSchemas cache.entries) (sym c.pop_entry.ensures.entries) (without IsSchemaOf _ c.args.kept.now.entries c.requires)
 
 pub returns-in_err-from_str-in-Some-2-clause-left : goal.returns-in_err-from_str-in-Some-2-clause-left
-returns-in_err-from_str-in-Some-2-clause-left c = subst (λ cache. AreSchemas cache.entries) (sym c.pop_entry.ensures.entries) (without IsSchemaOf _ c.args.kept.now.entries c.requires)
+returns-in_err-from_str-in-Some-2-clause-left c =
+    subst (λ cache. AreSchemas cache.entries) (sym c.pop_entry.ensures.entries) (without IsSchemaOf _ c.args.kept.now.entries c.requires)
 
 pub returns-in_ok-from_str-in-Some-2-clause-left : goal.returns-in_ok-from_str-in-Some-2-clause-left
-returns-in_ok-from_str-in-Some-2-clause-left c = subst (λ cache. AreSchemas cache.entries) (sym c.pop_entry.ensures.entries) (without IsSchemaOf _ c.args.kept.now.entries c.requires)
+returns-in_ok-from_str-in-Some-2-clause-left c =
+    subst (λ cache. AreSchemas cache.entries) (sym c.pop_entry.ensures.entries) (without IsSchemaOf _ c.args.kept.now.entries c.requires)
 
 pub returns-in-None-clause-left : goal.returns-in-None-clause-left
-returns-in-None-clause-left c = subst (λ cache. AreSchemas cache.entries) (sym c.pop_entry.ensures.entries) (without IsSchemaOf _ c.args.kept.now.entries c.requires)
+returns-in-None-clause-left c =
+    subst (λ cache. AreSchemas cache.entries) (sym c.pop_entry.ensures.entries) (without IsSchemaOf _ c.args.kept.now.entries c.requires)

@@ -9,5 +9,6 @@ abbrev pub invariant-loop-old : goal.invariant-loop-old
 invariant-loop-old l = record {
   left : AreSchemas l.kept.entries;
   texts : l.taken.items ≡ map (λ old. (old.0, old.1.now)) (take l.old-index l.olds);
-  rest : first_unread (map (λ old. (old.0, old.1.now)) l.olds) ≡ first_unread (map {B = VersionText} (λ old. (old.0, old.1.now)) (drop l.old-index l.olds));
+  rest : first_unread (map (λ old. (old.0, old.1.now)) l.olds)
+      ≡ first_unread (map {B = VersionText} (λ old. (old.0, old.1.now)) (drop l.old-index l.olds));
 }

@@ -9,5 +9,7 @@ invariant-loop-pair l = record {
   kept : AreVerdicts l.kept.entries;
   left : AreVerdicts l.pair-iterator.rest.items;
   capacity : l.kept.cap ≡ l.fn.kept.cap;
-  used : l.all ≡ true → used_all l.fn.kept.cap (pairs_of l.pair-iterator.rest.items) (pairs_of l.kept.entries) ≡ used_all l.fn.kept.cap (pairs_of l.fn.used.items) (pairs_of l.fn.kept.entries);
+  used : l.all ≡ true
+      → used_all l.fn.kept.cap (pairs_of l.pair-iterator.rest.items) (pairs_of l.kept.entries)
+      ≡ used_all l.fn.kept.cap (pairs_of l.fn.used.items) (pairs_of l.fn.kept.entries);
 }

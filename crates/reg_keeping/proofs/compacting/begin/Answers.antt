@@ -14,7 +14,8 @@ overflow_add-result c =
     let found = c.in_ok-read.ensures.read in
     let records : length c.in_ok-read.read.records.items ≡ length (records_in found.0.reads) = ap length found.2.records in
     let (lines, say, most, whole) = c.lines_are_logs.ensures.lines c.new.result.inner.now found.0 found.1 in
-    let few : length found.0.reads ≤ LOG_LINES = omega (arith, most, ap length say.parts, length-append say.front say.others, Say-length say.others found.0.reads say.say) in
+    let few : length found.0.reads ≤ LOG_LINES =
+    omega (arith, most, ap length say.parts, length-append say.front say.others, Say-length say.others found.0.reads say.say) in
     omega (arith, c.len.ensures, records, counted found.0.reads, found.2.foreign, few)
 
 pub returns-clause-begun : goal.returns-clause-begun

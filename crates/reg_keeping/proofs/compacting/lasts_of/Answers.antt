@@ -11,6 +11,7 @@ loop-record-preserved c =
     let xs = c.args.records.now in
     let i = c.loop-record.record-index in
     let r = c.record-item.result in
-    one_more c.records_are_ordered.ensures.all c.records_are_ordered.ensures.apart c.last_records_of_unions.ensures.insert (take i xs) r c.loop-record.lasts c.add.new.lasts c.loop-record.invariant c.in_ok-add.ensures
+    one_more c.records_are_ordered.ensures.all c.records_are_ordered.ensures.apart c.last_records_of_unions.ensures.insert
+    (take i xs) r c.loop-record.lasts c.add.new.lasts c.loop-record.invariant c.in_ok-add.ensures
     ∙ ap (λ (l : List Record). last_records (from_list l))
     (ap (λ (d : Record). take i xs ++ d ∷ []) c.record-item.is ∙ sym (take_more xs i r c.loop-record-test.true))

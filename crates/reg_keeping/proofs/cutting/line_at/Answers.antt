@@ -17,5 +17,6 @@ returns-in-Ok-clause-line c line more read is free reads =
 
 pub returns-in-Err-Line-clause-line : goal.returns-in-Err-Line-clause-line
 returns-in-Err-Line-clause-line c line more read is free reads =
-    let said : Err c.in-Err-Line.field-0-0 ≡ Ok read = sym (rw c.in-Err-Line.field-0-is at c.in-Err-Line.ensures.fault) ∙ ap reading_at_front is ∙ says line more read free reads in
+    let said : Err c.in-Err-Line.field-0-0 ≡ Ok read =
+    sym (rw c.in-Err-Line.field-0-is at c.in-Err-Line.ensures.fault) ∙ ap reading_at_front is ∙ says line more read free reads in
     cc

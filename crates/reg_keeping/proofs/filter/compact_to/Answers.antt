@@ -17,12 +17,16 @@ if_read P text (Some i) is p = subst P is p
 kept : (held : Option (List ℕ)) → Keeps held held
 kept held = search rules
 
-refusal : (floor : ℕ) (text : List ℕ) (input held : Option (List ℕ)) (e : ToFloorError) → IfSome input (λ i. text ≡ i) → IsToFloorRefusal text floor e → IsFilterRefusalTo floor input held held (filter_error_to e)
-refusal floor text input held (Log (logs.Fault line fault)) is why = (if_read (λ t. log_of t ≡ Err (line, fault)) text input is why, kept held)
+refusal : (floor : ℕ) (text : List ℕ) (input held : Option (List ℕ)) (e : ToFloorError) → IfSome input (λ i. text ≡ i)
+    → IsToFloorRefusal text floor e → IsFilterRefusalTo floor input held held (filter_error_to e)
+refusal floor text input held (Log (logs.Fault line fault)) is why =
+    (if_read (λ t. log_of t ≡ Err (line, fault)) text input is why, kept held)
 refusal floor text input held (Log (logs.ReadFault line)) is why = kept held
 refusal floor text input held (Log logs.OutOfMemory) is why = kept held
-refusal floor text input held (FloorBelow own) is why = (if_read (λ t. IsToFloorRefusal t floor (FloorBelow own)) text input is why, kept held)
-refusal floor text input held (FloorAhead next) is why = (if_read (λ t. IsToFloorRefusal t floor (FloorAhead next)) text input is why, kept held)
+refusal floor text input held (FloorBelow own) is why =
+    (if_read (λ t. IsToFloorRefusal t floor (FloorBelow own)) text input is why, kept held)
+refusal floor text input held (FloorAhead next) is why =
+    (if_read (λ t. IsToFloorRefusal t floor (FloorAhead next)) text input is why, kept held)
 refusal floor text input held NoRoom is why = (if_read (λ t. IsToFloorRefusal t floor NoRoom) text input is why, kept held)
 
 pub returns-clause-refused : goal.returns-clause-refused

@@ -51,9 +51,11 @@ returns-in-Err-renew-clause-any_moment g c modelled sound =
     let l = g.D.Disk.left_since in
     let P = IsBeforeOrCompacted c.args.floor (seen j.disk) in
     let start = begun m l may P j.disk (λ f left. g.met.D.Disk.only_now j.disk f known left) (λ f left. inl (ap said (s.durable f left))) in
-    let read = quietly m l may P j.disk j.disk c.read_shrunk.new.disk start (c.in-Ok.ensures.time modelled) (c.in-Ok.ensures.crash modelled) in
+    let read =
+    quietly m l may P j.disk j.disk c.read_shrunk.new.disk start (c.in-Ok.ensures.time modelled) (c.in-Ok.ensures.crash modelled) in
     let kept : (f : List ℕ) → may c.renew.new.self f → P f = λ f left.
-    ⊎_elim (λ was. read.now f was) (λ is. inr (subst (λ (t : List ℕ). IsCompactedBy c.args.floor (seen j.disk) t) (sym (is ∙ bytes)) all)) (c.in-Err-renew.ensures.crash same.0 f left) in
+    ⊎_elim (λ was. read.now f was) (λ is. inr (subst (λ (t : List ℕ). IsCompactedBy c.args.floor (seen j.disk) t) (sym (is ∙ bytes)) all))
+    (c.in-Err-renew.ensures.crash same.0 f left) in
     (then m l may P j.disk c.read_shrunk.new.disk c.renew.new.self read (c.in-Err-renew.ensures.time same.0) kept).leaves
 
 pub returns-clause-any_moment : goal.returns-clause-any_moment
@@ -72,9 +74,11 @@ returns-clause-any_moment g c modelled sound =
     let l = g.D.Disk.left_since in
     let P = IsBeforeOrCompacted c.args.floor (seen j.disk) in
     let start = begun m l may P j.disk (λ f left. g.met.D.Disk.only_now j.disk f known left) (λ f left. inl (ap said (s.durable f left))) in
-    let read = quietly m l may P j.disk j.disk c.read_shrunk.new.disk start (c.in-Ok.ensures.time modelled) (c.in-Ok.ensures.crash modelled) in
+    let read =
+    quietly m l may P j.disk j.disk c.read_shrunk.new.disk start (c.in-Ok.ensures.time modelled) (c.in-Ok.ensures.crash modelled) in
     let kept : (f : List ℕ) → may c.renew.new.self f → P f = λ f left.
-    ⊎_elim (λ was. read.now f was) (λ is. inr (subst (λ (t : List ℕ). IsCompactedBy c.args.floor (seen j.disk) t) (sym (is ∙ bytes)) all)) (c.in_default.ensures.crash same.0 f left) in
+    ⊎_elim (λ was. read.now f was) (λ is. inr (subst (λ (t : List ℕ). IsCompactedBy c.args.floor (seen j.disk) t) (sym (is ∙ bytes)) all))
+    (c.in_default.ensures.crash same.0 f left) in
     (then m l may P j.disk c.read_shrunk.new.disk c.renew.new.self read (c.in_default.ensures.time same.0) kept).leaves
 
 pub returns-clause-many : goal.returns-clause-many
@@ -119,5 +123,8 @@ returns-clause-ready g c modelled sound =
     let bytes : c.deref.result.now ≡ c.in-Ok.shrunk.bytes.items = c.deref.ensures.value in
     let done = c.in_default.ensures.seen same.0 in
     let durable : Only (seen c.renew.new.self) (may c.renew.new.self) = λ f left. c.in_default.ensures.durable same.0 f left ∙ sym done.1 in
-    let ends : c.len.result - 1 ≡ length c.in-Ok.shrunk.bytes.items - 1 = omega (arith, c.len.ensures) in
-    (done.0, steadies laws.read laws.ended seen may j.disk j.end j.lines s c.args.floor c.in-Ok.shrunk it c.renew.new.self (c.len.result - 1) (done.1 ∙ bytes) durable ends)
+    let ends : c.len.result - 1 ≡ length c.in-Ok.shrunk.bytes.items - 1 = omega (arith, c.len.ensures) in (
+      done.0,
+      steadies laws.read laws.ended seen may j.disk j.end j.lines s c.args.floor c.in-Ok.shrunk it c.renew.new.self
+          (c.len.result - 1) (done.1 ∙ bytes) durable ends,
+    )

@@ -22,8 +22,10 @@ loop-record-preserved c =
     let now : Records = c.loop-record.lasts in
     elim c.if-deletes_below.branch [
       | then-deletes_below w ↦ subst (λ (s : Records). AreDropped floor (take (i + 1) rs) old s) (sym w.lasts-is)
-          (one_dropped o.all o.apart o.keys o.keys_apart floor rs i r c.loop-record-test.true old now c.loop-record.invariant w.remove.new.self
-          (ap (deletes_below floor) (sym c.record-item.is) ∙ sym c.deletes_below.ensures ∙ w.if-deletes_below.true) (w.remove.ensures.removed ∙ ap (remove now) c.record-item.is))
+          (one_dropped o.all o.apart o.keys o.keys_apart floor rs i r
+          c.loop-record-test.true old now c.loop-record.invariant w.remove.new.self
+          (ap (deletes_below floor) (sym c.record-item.is) ∙ sym c.deletes_below.ensures ∙ w.if-deletes_below.true) (
+          w.remove.ensures.removed ∙ ap (remove now) c.record-item.is))
       | else-deletes_below w ↦ subst (λ (s : Records). AreDropped floor (take (i + 1) rs) old s) (sym w.lasts-is)
           (none_dropped o.all o.apart o.keys o.keys_apart floor rs i r c.loop-record-test.true old now c.loop-record.invariant
           (ap (deletes_below floor) (sym c.record-item.is) ∙ sym c.deletes_below.ensures ∙ w.if-deletes_below.false))
@@ -34,5 +36,6 @@ returns c =
     let o = c.records_are_ordered.ensures in
     let rs : List Record = c.args.records.now in
     let all = take_all c.loop-record.record-index rs c.loop-record-test.false in
-    all_dropped o.all o.apart o.keys o.keys_apart c.last_records_are_enough.ensures.least c.args.floor rs c.in_ok-lasts.lasts c.loop-record.lasts c.in_ok-lasts.ensures
+    all_dropped o.all o.apart o.keys o.keys_apart c.last_records_are_enough.ensures.least
+    c.args.floor rs c.in_ok-lasts.lasts c.loop-record.lasts c.in_ok-lasts.ensures
     (subst (λ (l : List Record). AreDropped c.args.floor l c.in_ok-lasts.lasts c.loop-record.lasts) all c.loop-record.invariant)

@@ -24,7 +24,8 @@ four (a ∷ b ∷ x ∷ []) d e least most = absurd (omega (arith, least))
 four (a ∷ b ∷ x ∷ y ∷ []) d e least most = refl
 four (a ∷ b ∷ x ∷ y ∷ z ∷ words) d e least most = absurd (omega (arith, most))
 
-five : (words : List Word) (d : Word) → 5 ≤ length words → length words < 6 → command_at (string_bytes (get_or words 1 d)) ≡ command_of (map string_bytes words)
+five : (words : List Word) (d : Word) → 5 ≤ length words → length words < 6
+    → command_at (string_bytes (get_or words 1 d)) ≡ command_of (map string_bytes words)
 five [] d least most = absurd (omega (arith, least))
 five (a ∷ []) d least most = absurd (omega (arith, least))
 five (a ∷ b ∷ []) d least most = absurd (omega (arith, least))
@@ -33,7 +34,8 @@ five (a ∷ b ∷ c ∷ e ∷ []) d least most = absurd (omega (arith, least))
 five (a ∷ b ∷ c ∷ e ∷ f ∷ []) d least most = refl
 five (a ∷ b ∷ c ∷ e ∷ f ∷ g ∷ words) d least most = absurd (omega (arith, most))
 
-six : (words : List Word) (d : Word) → 6 ≤ length words → length words < 7 → command_over (string_bytes (get_or words 1 d)) ≡ command_of (map string_bytes words)
+six : (words : List Word) (d : Word) → 6 ≤ length words → length words < 7
+    → command_over (string_bytes (get_or words 1 d)) ≡ command_of (map string_bytes words)
 six [] d least most = absurd (omega (arith, least))
 six (a ∷ []) d least most = absurd (omega (arith, least))
 six (a ∷ b ∷ []) d least most = absurd (omega (arith, least))
@@ -58,8 +60,10 @@ returns-in-len3-clause-command c =
     let word = c.word-item-then-words-lt4.result in
     let given = c.given-item.result in
     c.command_to.ensures.command
-    ∙ ap (λ (w : List ℕ). command_to w c.as_str-in-len3-2.result.now) (c.as_str-in-len3.ensures.value ∙ ap string_bytes c.word-item-then-words-lt4.is)
-    ∙ ap (λ (w : List ℕ). command_to (string_bytes (get_or c.args.words.now 1 word)) w) (c.as_str-in-len3-2.ensures.value ∙ ap string_bytes c.given-item.is)
+    ∙ ap (λ (w : List ℕ). command_to w c.as_str-in-len3-2.result.now)
+    (c.as_str-in-len3.ensures.value ∙ ap string_bytes c.word-item-then-words-lt4.is)
+    ∙ ap (λ (w : List ℕ). command_to (string_bytes (get_or c.args.words.now 1 word)) w)
+    (c.as_str-in-len3-2.ensures.value ∙ ap string_bytes c.given-item.is)
     ∙ three c.args.words.now word given c.in-len3.len_at_least c.in-len3.len_below
 
 pub returns-in-len4-clause-command : goal.returns-in-len4-clause-command
@@ -67,8 +71,10 @@ returns-in-len4-clause-command c =
     let word = c.word-item-then-words-lt5.result in
     let offset = c.offset-item.result in
     c.command_from.ensures.command
-    ∙ ap (λ (w : List ℕ). command_from w c.as_str-in-len4-2.result.now) (c.as_str-in-len4.ensures.value ∙ ap string_bytes c.word-item-then-words-lt5.is)
-    ∙ ap (λ (w : List ℕ). command_from (string_bytes (get_or c.args.words.now 1 word)) w) (c.as_str-in-len4-2.ensures.value ∙ ap string_bytes c.offset-item.is)
+    ∙ ap (λ (w : List ℕ). command_from w c.as_str-in-len4-2.result.now)
+    (c.as_str-in-len4.ensures.value ∙ ap string_bytes c.word-item-then-words-lt5.is)
+    ∙ ap (λ (w : List ℕ). command_from (string_bytes (get_or c.args.words.now 1 word)) w)
+    (c.as_str-in-len4-2.ensures.value ∙ ap string_bytes c.offset-item.is)
     ∙ four c.args.words.now word offset c.in-len4.len_at_least c.in-len4.len_below
 
 pub returns-in-len5-clause-command : goal.returns-in-len5-clause-command

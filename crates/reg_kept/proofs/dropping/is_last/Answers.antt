@@ -12,7 +12,10 @@ returns-in-Some c =
     let s = c.args.set.now in
     let r = c.args.given.now in
     let is : last s r.key ≡ Some c.in-Some.last.now = search rules in
-    c.eq.ensures ∙ eq-by_cmp o.all o.apart c.in-Some.last.now r ∙ ap (λ o. option_map_or (eq_by_cmp record_cmp r) o false) (sym is) ∙ sym (is_last-of s r)
+    c.eq.ensures
+    ∙ eq-by_cmp o.all o.apart c.in-Some.last.now r
+    ∙ ap (λ o. option_map_or (eq_by_cmp record_cmp r) o false) (sym is)
+    ∙ sym (is_last-of s r)
 
 pub returns-in-None : goal.returns-in-None
 returns-in-None c =

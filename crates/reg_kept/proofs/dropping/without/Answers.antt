@@ -12,12 +12,15 @@ pub loop-record-preserved : goal.loop-record-preserved
 loop-record-preserved c =
     let o = c.records_are_ordered.ensures in
     let l = c.loop-record in
-    let more = left_more o.all o.apart (from_list c.args.dropped.now) c.in_ok-gone.gone l.left c.deref-record-items.result.now l.record-index c.record-item.result c.in_ok-gone.ensures c.loop-record-test.true c.record-item.is l.invariant in
+    let more = left_more o.all o.apart (from_list c.args.dropped.now) c.in_ok-gone.gone l.left c.deref-record-items.result.now
+    l.record-index c.record-item.result c.in_ok-gone.ensures c.loop-record-test.true c.record-item.is l.invariant in
     λ q. ap (λ s. contains s q) c.in_ok-take_unless_gone.ensures ∙ more q
 
 pub returns : goal.returns
 returns c =
     let o = c.records_are_ordered.ensures in
     let rs = c.deref-record-items.result.now in
-    let all = subst (λ l. HasLeft (from_list c.args.dropped.now) l c.loop-record.left) (take_all c.loop-record.record-index rs (omega (arith, c.loop-record-test.false))) c.loop-record.invariant in
-    left_all o.all o.apart c.args.set.now c.loop-record.left c.args.dropped.now rs (c.in_ok-records.ensures.members ∙ ap from_list (sym c.deref-record-items.ensures.value)) all
+    let all = subst (λ l. HasLeft (from_list c.args.dropped.now) l c.loop-record.left)
+    (take_all c.loop-record.record-index rs (omega (arith, c.loop-record-test.false))) c.loop-record.invariant in
+    left_all o.all o.apart c.args.set.now c.loop-record.left c.args.dropped.now rs (
+    c.in_ok-records.ensures.members ∙ ap from_list (sym c.deref-record-items.ensures.value)) all

@@ -6,4 +6,5 @@ returns-clause-last c = last_of_compaction c.last_is_greatest.ensures.greatest c
 
 pub returns-clause-standing : goal.returns-clause-standing
 returns-clause-standing c =
-    standing_of_compaction c.last_is_greatest.ensures.greatest c.last_is_greatest.ensures.none c.records_are_ordered.ensures.all c.records_are_ordered.ensures.apart
+    standing_of_compaction c.last_is_greatest.ensures.greatest c.last_is_greatest.ensures.none
+    c.records_are_ordered.ensures.all c.records_are_ordered.ensures.apart

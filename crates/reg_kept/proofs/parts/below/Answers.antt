@@ -7,4 +7,6 @@ use Rattle.reg_kept.proofs.parts.below.Goals as goal
 pub returns : goal.returns
 returns c =
     IfOk-weaker c.set_of.result _ _ (λ found is. is ∙ ap from_list c.keep_below.ensures
-    ∙ from_list-filter c.records_are_ordered.ensures.all c.records_are_ordered.ensures.apart c.args.set.now c.in_ok-found.found.items (λ r. nat_lt r.offset c.args.floor) c.in_ok-found.ensures.members) c.set_of.ensures
+    ∙ from_list-filter c.records_are_ordered.ensures.all c.records_are_ordered.ensures.apart c.args.set.now c.in_ok-found.found.items
+    (λ r. nat_lt r.offset c.args.floor) c.in_ok-found.ensures.members)
+    c.set_of.ensures

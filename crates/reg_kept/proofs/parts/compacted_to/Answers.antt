@@ -11,5 +11,6 @@ pub returns : goal.returns
 returns c =
     let stays : Record → Bool = λ r. not (deletes_below c.args.floor r) in
     IfOk-weaker c.set_of.result _ _ (λ found is. is ∙ ap from_list c.drop_deletes_below.ensures
-    ∙ from_list-filter c.records_are_ordered.ensures.all c.records_are_ordered.ensures.apart c.compact.new.self c.in_ok-found.found.items stays c.in_ok-found.ensures.members
+    ∙ from_list-filter c.records_are_ordered.ensures.all c.records_are_ordered.ensures.apart
+    c.compact.new.self c.in_ok-found.found.items stays c.in_ok-found.ensures.members
     ∙ ap (λ s. retain s stays) (c.compact.ensures.left ∙ ap last_records c.in_ok-lasts.ensures.cases)) c.set_of.ensures

@@ -7,4 +7,6 @@ use Rattle.reg_kept.proofs.parts.from_floor.Goals as goal
 pub returns : goal.returns
 returns c =
     IfOk-weaker c.set_of.result _ _ (λ found is. is ∙ ap from_list c.keep_from.ensures
-    ∙ from_list-filter c.records_are_ordered.ensures.all c.records_are_ordered.ensures.apart c.args.set.now c.in_ok-found.found.items (λ r. nat_le c.args.floor r.offset) c.in_ok-found.ensures.members) c.set_of.ensures
+    ∙ from_list-filter c.records_are_ordered.ensures.all c.records_are_ordered.ensures.apart c.args.set.now c.in_ok-found.found.items
+    (λ r. nat_le c.args.floor r.offset) c.in_ok-found.ensures.members)
+    c.set_of.ensures

@@ -10,13 +10,15 @@ use Rattle.reg_leader.proofs.deletes.delete_all_softly.Goals as goal
 pub returns-then-is_empty : goal.returns-then-is_empty
 returns-then-is_empty c =
     let none = ap (λ n. n == 0) (sym c.in_ok-live.live.ok.0) ∙ sym c.is_empty.ensures ∙ c.if-is_empty.true in
-    let dead = has_live-live (λ e. e.now) c.in_ok-live.live.items (entries c.args.registry.now) c.args.subject.now true (c.in_ok-live.ensures.all ∙ ap (live c.args.registry.now) c.as_str.ensures) none in
+    let dead = has_live-live (λ e. e.now) c.in_ok-live.live.items (entries c.args.registry.now) c.args.subject.now true
+    (c.in_ok-live.ensures.all ∙ ap (live c.args.registry.now) c.as_str.ensures) none in
     inr (refused_unless _ _ _ dead)
 
 pub returns : goal.returns
 returns c =
     let some = ap (λ n. n == 0) (sym c.in_ok-live.live.ok.0) ∙ sym c.is_empty.ensures ∙ c.if-is_empty.false in
-    let stands = has_live-live (λ e. e.now) c.in_ok-live.live.items (entries c.args.registry.now) c.args.subject.now false (c.in_ok-live.ensures.all ∙ ap (live c.args.registry.now) c.as_str.ensures) some in
+    let stands = has_live-live (λ e. e.now) c.in_ok-live.live.items (entries c.args.registry.now) c.args.subject.now false
+    (c.in_ok-live.ensures.all ∙ ap (live c.args.registry.now) c.as_str.ensures) some in
     let all = c.in_ok-live.ensures.all ∙ ap (live c.args.registry.now) c.as_str.ensures in
     let versions = ap (map (λ e. e.version)) (sym all) ∙ ap (λ xs. map (λ e. e.version) (map (λ e. e.now) xs)) (sym c.deref.ensures.value)
     ∙ sym c.in_ok-versions.ensures ∙ sym c.from.ensures in

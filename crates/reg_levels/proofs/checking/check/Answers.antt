@@ -10,7 +10,10 @@ use Rattle.reg_levels.proofs.checking.check.Goals as goal
 same_pairs : (c : goal.After-check_each)
     → flat_map (required_of c.args.level c.args.new.now.nodes) (reverse (map (λ old. (old.0, old.1.now.nodes)) c.looked_at.result.now))
     ≡ required_pairs c.args.level c.args.new.now.nodes (map (λ old. (old.0, old.1.now.nodes)) c.args.olds.now)
-same_pairs c = ap (λ vs. flat_map (required_of c.args.level c.args.new.now.nodes) (reverse vs)) (ap (map (λ old. (old.0, old.1.now.nodes))) c.looked_at.ensures ∙ looked_at-map (λ old. (old.0, old.1.now.nodes)) c.args.level c.args.olds.now)
+same_pairs c =
+    ap (λ vs. flat_map (required_of c.args.level c.args.new.now.nodes) (reverse vs))
+    (ap (map (λ old. (old.0, old.1.now.nodes))) c.looked_at.ensures
+    ∙ looked_at-map (λ old. (old.0, old.1.now.nodes)) c.args.level c.args.olds.now)
 
 pub returns-clause-verdict : goal.returns-clause-verdict
 returns-clause-verdict c = IfOk-weaker c.check_each.result _ _ (λ v h. subst (λ ps. IsVerdictOn ps v) (same_pairs c) h) c.check_each.ensures

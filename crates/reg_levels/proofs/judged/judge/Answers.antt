@@ -16,6 +16,8 @@ returns-clause-judged c = with_both c.check_texts.result _ _ (λ read verdict is
   new_is_read = search rules;
   olds_are_read = read;
   versions_rise = rising-map c.args.olds.now (λ text. text.now) c.requires;
-  is_verdict = subst (λ nodes. IsLevelVerdict c.args.level nodes (versions_in (map {B = VersionText} (λ old. (old.0, old.1.now)) c.args.olds.now)) verdict)
+  is_verdict =
+      subst (λ nodes.
+      IsLevelVerdict c.args.level nodes (versions_in (map {B = VersionText} (λ old. (old.0, old.1.now)) c.args.olds.now)) verdict)
       (ap (λ schema. option_map_or (λ m. m.nodes) schema []) (sym c.in-Some.is ∙ c.in_ok-new.ensures)) is;
 }) c.check_texts.ensures.read c.check_texts.ensures.verdict

@@ -20,7 +20,11 @@ returns-then-not-verdict c =
     let fails : c.in_ok-verdict.verdict.ok ≡ false = search rules in
     let old = get_or c.args.olds.now (c.loop-place.place - 1) none in
     c.loop-place.invariant c.in_ok-verdict.verdict
-    (subst (λ ps. IsVerdictOn ps c.in_ok-verdict.verdict) (sym (pairs_from-take (required_of c.args.level c.args.new.now.nodes) (λ old. (old.0, nodes_in old.1.now)) c.args.olds.now c.loop-place.place old (omega arith) (omega arith) (get_or_default c.args.olds.now (c.loop-place.place - 1) none old (omega arith))))
+    (subst (λ ps. IsVerdictOn ps c.in_ok-verdict.verdict)
+    (sym (
+    pairs_from-take (required_of c.args.level c.args.new.now.nodes)
+    (λ old. (old.0, nodes_in old.1.now)) c.args.olds.now c.loop-place.place old (omega arith)
+    (omega arith) (get_or_default c.args.olds.now (c.loop-place.place - 1) none old (omega arith))))
     (first_clash _ _ c.in_ok-verdict.verdict c.in_ok-verdict.ensures fails))
 
 pub loop-place-preserved : goal.loop-place-preserved
@@ -28,5 +32,9 @@ loop-place-preserved c v is =
     let passes : c.in_ok-verdict.verdict.ok ≡ true = search rules in
     let old = get_or c.args.olds.now (c.loop-place.place - 1) none in
     c.loop-place.invariant v
-    (subst (λ ps. IsVerdictOn ps v) (sym (pairs_from-take (required_of c.args.level c.args.new.now.nodes) (λ old. (old.0, nodes_in old.1.now)) c.args.olds.now c.loop-place.place old (omega arith) (omega arith) (get_or_default c.args.olds.now (c.loop-place.place - 1) none old (omega arith))))
+    (subst (λ ps. IsVerdictOn ps v)
+    (sym (
+    pairs_from-take (required_of c.args.level c.args.new.now.nodes)
+    (λ old. (old.0, nodes_in old.1.now)) c.args.olds.now c.loop-place.place old (omega arith)
+    (omega arith) (get_or_default c.args.olds.now (c.loop-place.place - 1) none old (omega arith))))
     (first_pass _ _ c.in_ok-verdict.verdict v c.in_ok-verdict.ensures passes is))

@@ -12,4 +12,5 @@ check_each_text-requires c =
 pub returns : goal.returns
 returns c =
     IfOk-weaker c.check_each_text.result _ _ (λ v is.
-    looked_at-decide (λ text. text.now) c.args.level c.args.olds.now c.args.new.now.nodes v c.looked_at.result.now c.looked_at.ensures is) c.check_each_text.ensures
+    looked_at-decide (λ text. text.now) c.args.level c.args.olds.now c.args.new.now.nodes v c.looked_at.result.now c.looked_at.ensures is)
+    c.check_each_text.ensures

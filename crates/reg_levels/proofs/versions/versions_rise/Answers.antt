@@ -8,11 +8,15 @@ returns-then-olds-place g c =
     let p = ap (λ x. x.0) c.index-olds-place.is in
     let q = ap (λ x. x.0) c.index-olds-place-in-loop-place.is in (
       λ no. absurd (false≢true no),
-      λ rise. absurd (not_rising c.args.olds.now c.loop-place.place c.index-olds-place.result c.index-olds-place-in-loop-place.result (omega arith) (omega arith) c.index-olds-place.is c.index-olds-place-in-loop-place.is (omega (arith, p, q)) rise),
+      λ rise.
+          absurd (
+          not_rising c.args.olds.now c.loop-place.place c.index-olds-place.result c.index-olds-place-in-loop-place.result
+          (omega arith) (omega arith) c.index-olds-place.is c.index-olds-place-in-loop-place.is (omega (arith, p, q)) rise),
     )
 
 pub loop-place-preserved : goal.loop-place-preserved
 loop-place-preserved g c =
     let p = ap (λ x. x.0) c.index-olds-place.is in
     let q = ap (λ x. x.0) c.index-olds-place-in-loop-place.is in
-    rising_more c.args.olds.now c.loop-place.place c.index-olds-place.result c.index-olds-place-in-loop-place.result (omega arith) (omega arith) c.index-olds-place.is c.index-olds-place-in-loop-place.is (omega (arith, p, q)) c.loop-place.invariant
+    rising_more c.args.olds.now c.loop-place.place c.index-olds-place.result c.index-olds-place-in-loop-place.result (omega arith)
+    (omega arith) c.index-olds-place.is c.index-olds-place-in-loop-place.is (omega (arith, p, q)) c.loop-place.invariant

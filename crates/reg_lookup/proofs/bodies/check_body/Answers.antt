@@ -7,7 +7,8 @@ use Rattle.reg_lookup.proofs.bodies.check_body.Goals as goal
 
 pub returns-then-not-verbose : goal.returns-then-not-verbose
 unfolding escape_byte
-returns-then-not-verbose c = rw c.if-not-verbose.true (IfOk-weaker c.of_string.result _ _ (λ _ same. same ∙ search rules) c.of_string.ensures)
+returns-then-not-verbose c =
+    rw c.if-not-verbose.true (IfOk-weaker c.of_string.result _ _ (λ _ same. same ∙ search rules) c.of_string.ensures)
 
 pub returns-in_default : goal.returns-in_default
 unfolding escape_byte

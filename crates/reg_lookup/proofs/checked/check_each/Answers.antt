@@ -8,7 +8,10 @@ use Rattle.reg_lookup.proofs.checked.check_each.Goals as goal
 
 pub check_read_texts-requires-clause-rising : goal.check_read_texts-requires-clause-rising
 check_read_texts-requires-clause-rising c =
-    let same = ap (map (λ old. old.0)) c.deref.ensures.value ∙ c.in_ok-lent.ensures.versions ∙ ap (map {A = VersionText} (λ old. old.0)) c.as_slice.ensures in
+    let same =
+    ap (map (λ old. old.0)) c.deref.ensures.value
+    ∙ c.in_ok-lent.ensures.versions
+    ∙ ap (map {A = VersionText} (λ old. old.0)) c.as_slice.ensures in
     subst IsStrictlyIncreasing (sym same) c.requires.0
 
 pub check_read_texts-requires-clause-read : goal.check_read_texts-requires-clause-read
@@ -22,4 +25,5 @@ returns c =
     let same : map {B = VersionText} (λ old. (old.0, old.1.now)) c.deref.result.now ≡ c.args.olds.now =
     ap (map {B = VersionText} (λ old. (old.0, old.1.now))) c.deref.ensures.value ∙ c.in_ok-lent.ensures.texts ∙ c.as_slice.ensures in
     IfOk-weaker c.check_read_texts.result _ _ (λ v is.
-    subst (λ (olds : List VersionText). IsLevelVerdict c.args.level c.args.schema.now.nodes (versions_in olds) v) same is) c.check_read_texts.ensures
+    subst (λ (olds : List VersionText). IsLevelVerdict c.args.level c.args.schema.now.nodes (versions_in olds) v) same is)
+    c.check_read_texts.ensures

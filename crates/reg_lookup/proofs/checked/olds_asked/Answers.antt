@@ -18,10 +18,13 @@ returns-in_ok-texts_of-in-Some-clause-rising c =
 pub returns-in_ok-texts_of-in-None-clause-read : goal.returns-in_ok-texts_of-in-None-clause-read
 returns-in_ok-texts_of-in-None-clause-read c =
     ap first_unread
-    (c.in_ok-texts_of-in-None.ensures.texts ∙ ap (λ es. texts_of (map (λ e. e.now) es)) c.deref.ensures.value ∙ ap texts_of c.in_ok-live-in-None.ensures.all)
+    (c.in_ok-texts_of-in-None.ensures.texts
+    ∙ ap (λ es. texts_of (map (λ e. e.now) es)) c.deref.ensures.value
+    ∙ ap texts_of c.in_ok-live-in-None.ensures.all)
     ∙ live_are_read c.entries_are_read.ensures c.args.registry.now c.args.subject.now
 
 pub returns-in_ok-texts_of-in-Some-clause-read : goal.returns-in_ok-texts_of-in-Some-clause-read
 returns-in_ok-texts_of-in-Some-clause-read c =
     ap first_unread c.in_ok-texts_of-in-Some.ensures.texts
-    ∙ found_is_read c.entries_are_read.ensures c.args.registry.now c.found_entries_stand.ensures c.args.subject.now c.in-Some.which c.in_ok-found-in-Some.found.now c.in_ok-found-in-Some.ensures.found
+    ∙ found_is_read c.entries_are_read.ensures c.args.registry.now c.found_entries_stand.ensures
+    c.args.subject.now c.in-Some.which c.in_ok-found-in-Some.found.now c.in_ok-found-in-Some.ensures.found

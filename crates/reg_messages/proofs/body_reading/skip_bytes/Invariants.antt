@@ -9,7 +9,8 @@ abbrev pub invariant-loop-left : goal.invariant-loop-left
 invariant-loop-left g l =
     ((bytes : List ℕ) × (length bytes + l.left ≡ l.len)
     × Consumes (bytes_in g.R.Read.remaining l.initial.reader) (bytes_in g.R.Read.remaining l.reader) bytes)
-    × (faults_of l.reader ≡ faults_of l.initial.reader) × CountsReads l.initial.reader l.reader × KeepsEnd g.R.Read.remaining l.initial.reader l.reader
+    × (faults_of l.reader ≡ faults_of l.initial.reader) × CountsReads l.initial.reader l.reader
+    × KeepsEnd g.R.Read.remaining l.initial.reader l.reader
 
 abbrev pub decreases-loop-left : goal.decreases-loop-left
 decreases-loop-left g l = l.left

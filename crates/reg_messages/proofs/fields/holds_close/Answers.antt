@@ -7,5 +7,6 @@ use Rattle.reg_messages.proofs.fields.holds_close.Goals as goal
 pub returns : goal.returns
 returns c =
     any_from_yields_List is_close _ _ _ c.any.ensures.ran
-    (YieldsList-from_slice_split _ is_comma c.args.value.now c.split.ensures.rest c.split.ensures.done c.split.ensures.closure (λ x b q k. search (rules, tests)))
+    (YieldsList-from_slice_split _ is_comma c.args.value.now c.split.ensures.rest c.split.ensures.done c.split.ensures.closure (λ x b q k.
+    search (rules, tests)))
     (λ x b q k. search (rules, tests))

@@ -9,14 +9,16 @@ use Rattle.reg_messages.proofs.Counts.{counts_then}
 use Rattle.reg_messages.proofs.head.take_blank.Goals as goal
 
 -- one more that is skipped
-all_skipped-more : (bytes : List ℕ) (b : ℕ) → list_all is_skipped bytes ≡ true → is_skipped b ≡ true → list_all is_skipped (bytes ++ b ∷ []) ≡ true
+all_skipped-more : (bytes : List ℕ) (b : ℕ) → list_all is_skipped bytes ≡ true
+    → is_skipped b ≡ true → list_all is_skipped (bytes ++ b ∷ []) ≡ true
 all_skipped-more bytes b all one = list_all-append is_skipped bytes (b ∷ []) ∙ rw (all, one) refl
 
 pub loop-count-preserved : goal.loop-count-preserved
 loop-count-preserved g c =
     let ((bytes, many, all, took), faults, fits, reads, end) = c.loop-count.invariant in
     let b = c.in-Some.b in
-    let byte = subst (λ o. TakesByte (g.R.Read.remaining c.loop-count.reader.inner) (g.R.Read.remaining c.take_byte.new.reader.inner) o) c.in-Some.is c.in_ok-take_byte.ensures.taken in
+    let byte = subst (λ o. TakesByte (g.R.Read.remaining c.loop-count.reader.inner) (g.R.Read.remaining c.take_byte.new.reader.inner) o)
+    c.in-Some.is c.in_ok-take_byte.ensures.taken in
     let one : is_skipped b ≡ true = grind (arith, c.if-not-is_skipped.ensures) in (
       (
         bytes ++ b ∷ [],

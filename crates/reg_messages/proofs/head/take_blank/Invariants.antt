@@ -12,7 +12,8 @@ abbrev pub invariant-loop-count : goal.invariant-loop-count
 invariant-loop-count g l =
     ((bytes : List ℕ) × (length bytes ≡ l.count) × (list_all is_skipped bytes ≡ true)
     × Consumes (bytes_in g.R.Read.remaining l.initial.reader) (bytes_in g.R.Read.remaining l.reader) bytes)
-    × (faults_of l.reader ≡ faults_of l.initial.reader) × (l.count ≤ HEAD_LIMIT + 1) × CountsReads l.initial.reader l.reader × KeepsEnd g.R.Read.remaining l.initial.reader l.reader
+    × (faults_of l.reader ≡ faults_of l.initial.reader) × (l.count ≤ HEAD_LIMIT + 1)
+    × CountsReads l.initial.reader l.reader × KeepsEnd g.R.Read.remaining l.initial.reader l.reader
 
 abbrev pub decreases-loop-count : goal.decreases-loop-count
 decreases-loop-count g l = HEAD_LIMIT + 1 - l.count

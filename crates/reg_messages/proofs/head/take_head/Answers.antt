@@ -13,9 +13,12 @@ loop-len-preserved g c =
     let ((taken, many, kept, none, took), faults, fits, reads, end) = c.loop-len.invariant in
     let b = c.in-Some.b in
     let first = take 1 c.args.buffer.now in
-    let byte = subst (λ o. TakesByte (g.R.Read.remaining c.loop-len.reader.inner) (g.R.Read.remaining c.take_byte.new.reader.inner) o) c.in-Some.is c.in_ok-take_byte.ensures.taken in
-    let grown = take_more_set c.loop-len.buffer c.loop-len.len b (omega arith) ∙ ap (λ t. t ++ b ∷ []) kept ∙ append_assoc first taken (b ∷ []) in
-    let unended : ends_in_empty_line (take (c.loop-len.len + 1) (slice_set c.loop-len.buffer c.loop-len.len b)) ≡ false = sym c.if-ends_in_empty_line.ensures in (
+    let byte = subst (λ o. TakesByte (g.R.Read.remaining c.loop-len.reader.inner) (g.R.Read.remaining c.take_byte.new.reader.inner) o)
+    c.in-Some.is c.in_ok-take_byte.ensures.taken in
+    let grown =
+    take_more_set c.loop-len.buffer c.loop-len.len b (omega arith) ∙ ap (λ t. t ++ b ∷ []) kept ∙ append_assoc first taken (b ∷ []) in
+    let unended : ends_in_empty_line (take (c.loop-len.len + 1) (slice_set c.loop-len.buffer c.loop-len.len b)) ≡ false =
+    sym c.if-ends_in_empty_line.ensures in (
       (
         taken ++ b ∷ [],
         ap (λ n. n + 1) (length-append taken (b ∷ []) ∙ many),
@@ -34,7 +37,8 @@ returns-then-ends_in_empty_line-clause-taken g c =
     let ((taken, many, kept, none, took), faults, fits, reads, end) = c.loop-len.invariant in
     let b = c.in-Some.b in
     let first = take 1 c.args.buffer.now in
-    let byte = subst (λ o. TakesByte (g.R.Read.remaining c.loop-len.reader.inner) (g.R.Read.remaining c.take_byte.new.reader.inner) o) c.in-Some.is c.in_ok-take_byte.ensures.taken in (
+    let byte = subst (λ o. TakesByte (g.R.Read.remaining c.loop-len.reader.inner) (g.R.Read.remaining c.take_byte.new.reader.inner) o)
+    c.in-Some.is c.in_ok-take_byte.ensures.taken in (
       taken,
       b,
       Consumes-trans _ _ _ taken (b ∷ []) took byte,

@@ -9,7 +9,8 @@ use Rattle.reg_messages.proofs.taking.take_some.Given as goal
 abbrev pub invariant-loop-reader : goal.invariant-loop-reader
 invariant-loop-reader g l =
     Keeps (bytes_in g.R.Read.remaining l.initial.reader) (bytes_in g.R.Read.remaining l.reader)
-    × (faults_of l.reader ≡ faults_of l.initial.reader) × CountsReads l.initial.reader l.reader × KeepsEnd g.R.Read.remaining l.initial.reader l.reader
+    × (faults_of l.reader ≡ faults_of l.initial.reader) × CountsReads l.initial.reader l.reader
+    × KeepsEnd g.R.Read.remaining l.initial.reader l.reader
 
 abbrev pub decreases-loop-reader : goal.decreases-loop-reader
 decreases-loop-reader g l = REQUEST_READS - reads_of l.reader

@@ -4,7 +4,8 @@ use Rattle.reg_node.proofs.laws.followers_catch_up.Goals as goal
 pub returns-clause-stays : goal.returns-clause-stays
 returns-clause-stays c =
     let later = c.later_records_are_news.ensures in
-    caught_stays c.kept_sets_are_compactions.ensures.grows c.last_is_greatest.ensures.greatest later.news later.rise c.floors_stay_below.ensures.rise
+    caught_stays c.kept_sets_are_compactions.ensures.grows c.last_is_greatest.ensures.greatest
+    later.news later.rise c.floors_stay_below.ensures.rise
 
 pub returns-clause-news : goal.returns-clause-news
 returns-clause-news c =

@@ -12,4 +12,6 @@ loop-record-preserved c =
     let i = c.loop-record.record-index in
     let within : i < length xs = c.loop-record-test.true in
     c.in_ok-take.ensures.added
-    ∙ (ap (λ (s : Records). insert s c.record-item.result.now) c.loop-record.invariant ∙ lent-more o.all o.apart xs i c.record-item.result within c.record-item.is)
+    ∙ (
+    ap (λ (s : Records). insert s c.record-item.result.now) c.loop-record.invariant
+    ∙ lent-more o.all o.apart xs i c.record-item.result within c.record-item.is)

@@ -12,4 +12,5 @@ returns-clause-answered g c =
     let rs = last_records (taken c.copy_grounds.new.reader) in
     IfOk-weaker c.answer.result _ _ (λ a all.
     subst (λ (t : List ℕ). IsAnswer rs (Check c.args.subject.now c.args.which t c.args.verbose) a) c.as_str-2.ensures
-    (all rs c.args.subject.now c.args.which (c.in_ok-grounds.ensures.grounds ∙ ap (λ s. checked_on rs s c.args.which) c.as_str.ensures))) c.answer.ensures
+    (all rs c.args.subject.now c.args.which (c.in_ok-grounds.ensures.grounds ∙ ap (λ s. checked_on rs s c.args.which) c.as_str.ensures)))
+    c.answer.ensures

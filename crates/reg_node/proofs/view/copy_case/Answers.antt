@@ -9,6 +9,8 @@ pub returns-clause-case : goal.returns-clause-case
 returns-clause-case g c = (
   c.in-Some.schema,
   sym (sym c.in-Some.is ∙ c.in_ok-schema.ensures ∙ ap schema_of c.as_str.ensures),
-  matter_is (last_records (taken c.copy_against.new.reader)) c.of.result c.in_ok-subject.subject c.args.subject.now c.in_ok-new_text.new_text c.in-Some.schema.normal_text
-      c.in_ok-against.against c.of.ensures c.in_ok-subject.ensures.cases (c.in_ok-new_text.ensures.cases ∙ c.normal.ensures.text) c.in_ok-against.ensures.against,
+  matter_is (last_records (taken c.copy_against.new.reader)) c.of.result c.in_ok-subject.subject
+      c.args.subject.now c.in_ok-new_text.new_text c.in-Some.schema.normal_text
+      c.in_ok-against.against c.of.ensures c.in_ok-subject.ensures.cases
+      (c.in_ok-new_text.ensures.cases ∙ c.normal.ensures.text) c.in_ok-against.ensures.against,
 )

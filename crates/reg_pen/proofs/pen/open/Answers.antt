@@ -14,16 +14,22 @@ invariant_of-pen g c =
     let topic : Topic = topic_from b.records.items b.next b.floor in
     let same : g.N.FeedName.first ≡ held_of topic = search rules in
     let lists : c.in_ok-writer-2.writer.value ≡ ([], []) = search rules in
-    let begun : IsAdopted topic = c.adopted_logs_begin.ensures b.records.items b.next b.floor b.ahead b.above c.in_ok-begun.ensures.takes_commands in
-    let adopted : IsAdopted (base_of g.N.FeedName.first) = subst (λ (h : Held). IsAdopted (base_of h)) (sym same) (subst IsAdopted (sym (base_whole topic begun.whole)) begun) in
+    let begun : IsAdopted topic =
+    c.adopted_logs_begin.ensures b.records.items b.next b.floor b.ahead b.above c.in_ok-begun.ensures.takes_commands in
+    let adopted : IsAdopted (base_of g.N.FeedName.first) =
+    subst (λ (h : Held). IsAdopted (base_of h)) (sym same) (subst IsAdopted (sym (base_whole topic begun.whole)) begun) in
     let floor : c.floor-floor.result ≡ g.N.FeedName.first.kept.floor = search rules in
     let next : c.next-next.result ≡ g.N.FeedName.first.next = search rules in
-    subst (λ (l : List Item × List Item). IsPen (base_of g.N.FeedName.first) l.0 (l.1 ++ []) × (l.1 ++ [] ≡ []) × (0 ≡ batches l.0) × AreOf (after_items (base_of g.N.FeedName.first) (l.0 ++ (l.1 ++ []))) c.floor-floor.result c.next-next.result) (sym lists) (record { adopted = adopted; lawful = tt; pends = tt }, refl, refl, (floor, next))
+    subst
+    (λ (l : List Item × List Item). IsPen (base_of g.N.FeedName.first) l.0 (l.1 ++ []) × (l.1 ++ [] ≡ []) × (0 ≡ batches l.0)
+    × AreOf (after_items (base_of g.N.FeedName.first) (l.0 ++ (l.1 ++ []))) c.floor-floor.result c.next-next.result)
+    (sym lists) (record { adopted = adopted; lawful = tt; pends = tt }, refl, refl, (floor, next))
 
 pub returns-clause-adopted : goal.returns-clause-adopted
 returns-clause-adopted g c =
     let b = c.args.base.now in
     let topic : Topic = topic_from b.records.items b.next b.floor in
     let same : g.N.FeedName.first ≡ held_of topic = search rules in
-    let begun : IsAdopted topic = c.adopted_logs_begin.ensures b.records.items b.next b.floor b.ahead b.above c.in_ok-begun.ensures.takes_commands in
+    let begun : IsAdopted topic =
+    c.adopted_logs_begin.ensures b.records.items b.next b.floor b.ahead b.above c.in_ok-begun.ensures.takes_commands in
     subst (λ (h : Held). IsAdopted (base_of h)) (sym same) (subst IsAdopted (sym (base_whole topic begun.whole)) begun)

@@ -20,4 +20,5 @@ pub returns-clause-opened : goal.returns-clause-opened
 returns-clause-opened g c =
     opens c.records_are_ordered.ensures.all c.records_are_ordered.ensures.apart c.in-Ok.log
     (g.R.Read.remaining c.args.reader.now.inner) (g.R.Read.remaining c.read_log.new.reader.inner)
-    _ (c.in_ok-registry.ensures ∙ ap (λ (rs : List Record). last_records (from_list {R = record_cmp} rs)) c.deref.ensures.value) refl c.in-Ok.ensures.read
+    _ (c.in_ok-registry.ensures ∙ ap (λ (rs : List Record). last_records (from_list {R = record_cmp} rs)) c.deref.ensures.value)
+    refl c.in-Ok.ensures.read

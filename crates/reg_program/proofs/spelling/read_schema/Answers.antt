@@ -11,5 +11,6 @@ use Rattle.reg_program.proofs.spelling.read_schema.Goals as goal
 pub returns-in-Ok-clause-schema : goal.returns-in-Ok-clause-schema
 returns-in-Ok-clause-schema g c =
     let after = bytes_in g.R.Read.remaining c.read_text_line.new.reader in IfOk-weaker c.schema_of.result _ _ (λ schema is.
-    IfSome_then _ {P = λ (input : List ℕ). (front_text input ≡ Ok c.in-Ok.text) × (after ≡ Some (after_front input))} {Q = λ input. SpellsSchema input schema × (after ≡ Some (after_front input))} c.in-Ok.ensures.text
+    IfSome_then _ {P = λ (input : List ℕ). (front_text input ≡ Ok c.in-Ok.text) × (after ≡ Some (after_front input))}
+    {Q = λ input. SpellsSchema input schema × (after ≡ Some (after_front input))} c.in-Ok.ensures.text
     (λ input read. ((c.in-Ok.text, read.0, ap schema_of (sym c.as_str.ensures) ∙ is), read.1))) c.schema_of.ensures.schema

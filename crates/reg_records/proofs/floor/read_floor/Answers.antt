@@ -33,7 +33,8 @@ returns-in-None c =
     let line = c.args.line.now in
     let short : nat_lt LINE_LIMIT (length line) ≡ false = grind (arith, nat_tests) in
     let whole : is_utf8 (floor_field line) ≡ true = ap is_utf8 (sym (field-slice line)) ∙ c.in-Some.ensures.0 in
-    let says : offset_of (floor_field line) ≡ None = ap offset_of (sym (c.in-Some.ensures.1 ∙ field-slice line)) ∙ sym c.in-None.ensures.value in
+    let says : offset_of (floor_field line) ≡ None =
+    ap offset_of (sym (c.in-Some.ensures.1 ∙ field-slice line)) ∙ sym c.in-None.ensures.value in
     sym (reading-field line c.requires short
     ∙ ap (λ b. cond (not b) (Err (Line BadUtf8)) (option_map_or Ok (offset_of (floor_field line)) (Err BadFloor))) whole
     ∙ ap (λ found. option_map_or Ok found (Err BadFloor)) says)

@@ -6,7 +6,8 @@ use Rattle.reg_records.proofs.key.scope_key_text.Goals as goal
 joined : (kind written subject : List ℕ) → written ≡ subject
     → codes "{\"keytype\":\"" ++ (kind ++ (codes "\",\"subject\":" ++ (written ++ codes ",\"magic\":0}")))
     ≡ codes "{\"keytype\":\"" ++ kind ++ codes "\",\"subject\":" ++ subject ++ codes ",\"magic\":0}"
-joined kind written subject e = ap (λ s. codes "{\"keytype\":\"" ++ (kind ++ (codes "\",\"subject\":" ++ (s ++ codes ",\"magic\":0}")))) e ∙ simp append_assoc
+joined kind written subject e =
+    ap (λ s. codes "{\"keytype\":\"" ++ (kind ++ (codes "\",\"subject\":" ++ (s ++ codes ",\"magic\":0}")))) e ∙ simp append_assoc
 
 pub returns : goal.returns
 returns c =

@@ -12,7 +12,8 @@ own : IsNumeralModel (λ ds. list_all is_ascii_digit ds ≡ true) (digits_value 
 own = numerals_by_value _ (search rules)
 
 -- digits that fit no u64 spell no offset
-offset_of-unparsed : (field : List ℕ) → is_decimal field ≡ true → ((list_all is_ascii_digit field ≡ true) → ¬ ((0 < length field) × (digits_value 10 field < 2 ^ 64))) → None ≡ offset_of field
+offset_of-unparsed : (field : List ℕ) → is_decimal field ≡ true
+    → ((list_all is_ascii_digit field ≡ true) → ¬ ((0 < length field) × (digits_value 10 field < 2 ^ 64))) → None ≡ offset_of field
 offset_of-unparsed field e h = grind (arith, nat_tests)
 
 pub returns-in_default-2-clause-value : goal.returns-in_default-2-clause-value

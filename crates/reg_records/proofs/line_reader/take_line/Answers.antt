@@ -16,7 +16,8 @@ loop-i-init g c = (
   [],
   All-nil (λ b. is_line_feed b ≡ false),
   c.new-line.ensures,
-  subst (λ r. Consumes (g.R.Read.remaining r) (g.R.Read.remaining c.begin_count.new.self.inner) []) c.begin_count.ensures.inner (Consumes-nil _),
+  subst (λ r. Consumes (g.R.Read.remaining r) (g.R.Read.remaining c.begin_count.new.self.inner) []) c.begin_count.ensures.inner
+      (Consumes-nil _),
   c.begin_count.ensures.faults,
   c.begin_count.ensures.reads,
   omega (arith, c.begin_count.ensures.all_reads),
@@ -54,21 +55,24 @@ returns-in-Ended-clause-end g c =
     let (line, none, held, read, faults, reads, all, place, begun) = c.loop-i.invariant in
     let (bytes, none', read', grows, len) = rw c.in-Ended.is at c.in_ok-take_piece.ensures.taken in
     let moved = rw c.in-Ended.is at c.in_ok-take_piece.ensures.place in
-    end_taken g.R.Read.remaining c.args.reader.now c.take_piece.new.self ((line ++ bytes) ++ 10 ∷ []) (Consumes-ended _ _ _ line bytes read read') (place-ended _ _ _ _ line bytes place moved len)
+    end_taken g.R.Read.remaining c.args.reader.now c.take_piece.new.self ((line ++ bytes) ++ 10 ∷ [])
+    (Consumes-ended _ _ _ line bytes read read') (place-ended _ _ _ _ line bytes place moved len)
 
 pub returns-in-NoMore-clause-end : goal.returns-in-NoMore-clause-end
 returns-in-NoMore-clause-end g c =
     let (line, none, held, read, faults, reads, all, place, begun) = c.loop-i.invariant in
     let (end, kept, same) = rw c.in-NoMore.is at c.in_ok-take_piece.ensures.taken in
     let moved = rw c.in-NoMore.is at c.in_ok-take_piece.ensures.place in
-    end_taken g.R.Read.remaining c.args.reader.now c.take_piece.new.self line (Consumes-kept _ _ _ line read kept) (omega (arith, place, moved))
+    end_taken g.R.Read.remaining c.args.reader.now c.take_piece.new.self line
+    (Consumes-kept _ _ _ line read kept) (omega (arith, place, moved))
 
 pub returns-in-Failed-clause-end : goal.returns-in-Failed-clause-end
 returns-in-Failed-clause-end g c =
     let (line, none, held, read, faults, reads, all, place, begun) = c.loop-i.invariant in
     let (kept, same) = rw c.in-Failed.is at c.in_ok-take_piece.ensures.taken in
     let moved = rw c.in-Failed.is at c.in_ok-take_piece.ensures.place in
-    end_taken g.R.Read.remaining c.args.reader.now c.take_piece.new.self line (Consumes-kept _ _ _ line read kept) (omega (arith, place, moved))
+    end_taken g.R.Read.remaining c.args.reader.now c.take_piece.new.self line
+    (Consumes-kept _ _ _ line read kept) (omega (arith, place, moved))
 
 pub returns-clause-end : goal.returns-clause-end
 returns-clause-end g c =
@@ -83,12 +87,30 @@ loop-i-preserved g c =
           let (bytes, none', read', grows, len) = rw w.in-More.is at c.in_ok-take_piece.ensures.taken in
           let moved = rw w.in-More.is at c.in_ok-take_piece.ensures.place in
           let part = TakesPart-more _ _ _ c.loop-i.line c.take_piece.new.line line bytes none held read none' read' grows in
-          let same = rw w.in-More.is at c.in_ok-take_piece.ensures.faults in
-          (part.0, part.1, part.2, part.3, same ∙ faults, omega (arith, reads), omega (arith, all), place-more _ _ _ _ line bytes place moved len, c.take_piece.ensures.begun ∙ begun)
+          let same = rw w.in-More.is at c.in_ok-take_piece.ensures.faults in (
+            part.0,
+            part.1,
+            part.2,
+            part.3,
+            same ∙ faults,
+            omega (arith, reads),
+            omega (arith, all),
+            place-more _ _ _ _ line bytes place moved len,
+            c.take_piece.ensures.begun ∙ begun,
+          )
       | in-Failed-Interrupted w ↦
           let (kept, same) = rw w.in-Failed-Interrupted.is at c.in_ok-take_piece.ensures.taken in
           let part = TakesPart-kept _ _ _ c.loop-i.line c.take_piece.new.line line none held read kept same in
           let counts = rw w.in-Failed-Interrupted.is at c.in_ok-take_piece.ensures.faults in
-          let moved = rw w.in-Failed-Interrupted.is at c.in_ok-take_piece.ensures.place in
-          (part.0, part.1, part.2, part.3, counts.0 w.in-Failed-Interrupted.field-0-is ∙ faults, omega (arith, reads), omega (arith, all), omega (arith, place, moved), c.take_piece.ensures.begun ∙ begun)
+          let moved = rw w.in-Failed-Interrupted.is at c.in_ok-take_piece.ensures.place in (
+            part.0,
+            part.1,
+            part.2,
+            part.3,
+            counts.0 w.in-Failed-Interrupted.field-0-is ∙ faults,
+            omega (arith, reads),
+            omega (arith, all),
+            omega (arith, place, moved),
+            c.take_piece.ensures.begun ∙ begun,
+          )
     ]

@@ -10,4 +10,5 @@ returns-in_err-read_numbered-in-None-clause-refused c = λ bytes held.
 pub returns-in_ok-add-in-None-clause-said : goal.returns-in_ok-add-in-None-clause-said
 returns-in_ok-add-in-None-clause-said c = λ bytes held.
     let (within, says) = c.in_ok-read_numbered-in-None.ensures.read bytes held in
-    BeginsLog-line bytes c.args.log.now c.in_ok-read_numbered-in-None.field-0 c.add.new.self (c.in-None.ensures bytes held) c.requires c.in_ok-add-in-None.ensures says
+    BeginsLog-line bytes c.args.log.now c.in_ok-read_numbered-in-None.field-0 c.add.new.self
+    (c.in-None.ensures bytes held) c.requires c.in_ok-add-in-None.ensures says

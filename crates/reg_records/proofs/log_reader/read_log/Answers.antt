@@ -9,14 +9,18 @@ use Rattle.reg_records.proofs.log_reader.read_log.Goals as goal
 
 pub returns-in_err-read_next-clause-refused : goal.returns-in_err-read_next-clause-refused
 returns-in_err-read_next-clause-refused g c =
-    let (floor, reads, is, low, high, within, (taken, took, feeds, whole, place), so_far, faults, least, most, end) = c.loop-log.invariant in
+    let (floor, reads, is, low, high, within, (taken, took, feeds, whole, place), so_far, faults, least, most, end) =
+    c.loop-log.invariant in
     let p = err_from_is_err_and c.from_residual-in_err-read_next.result c.from_residual-in_err-read_next.ensures.1 in
-    rw (p.1, p.2) (IsLogRefusal-step c.loop-log.number c.args.reader.now c.loop-log.reader c.read_next.new.reader _ _ _ floor reads taken _ so_far took feeds whole place faults least most
+    rw (p.1, p.2)
+    (IsLogRefusal-step c.loop-log.number c.args.reader.now c.loop-log.reader c.read_next.new.reader
+    _ _ _ floor reads taken _ so_far took feeds whole place faults least most
     c.in_err-read_next.ensures.few c.in_err-read_next.ensures.refused)
 
 pub loop-log-preserved : goal.loop-log-preserved
 loop-log-preserved g c =
-    let (floor, reads, is, low, high, within, (taken, took, feeds, whole, place), so_far, faults, least, most, end) = c.loop-log.invariant in
+    let (floor, reads, is, low, high, within, (taken, took, feeds, whole, place), so_far, faults, least, most, end) =
+    c.loop-log.invariant in
     let (few, read, adds, (line, (took', moved), none), step) = rw c.if-branch-2.true at c.in_ok-read_next.ensures.step in
     let number = c.loop-log.number in
     let more = line ++ 10 ∷ [] in
@@ -34,7 +38,9 @@ loop-log-preserved g c =
         AreWholeLines-more taken line,
         omega (arith, place, moved, length-append taken more),
       ),
-      subst (λ k. GoesOn (bytes_in g.R.Read.remaining c.args.reader.now) (bytes_in g.R.Read.remaining c.read_next.new.reader) floor (reads ++ read ∷ []) k) next
+      subst (λ k.
+          GoesOn (bytes_in g.R.Read.remaining c.args.reader.now)
+          (bytes_in g.R.Read.remaining c.read_next.new.reader) floor (reads ++ read ∷ []) k) next
           (GoesOn-more _ _ _ floor reads read number taken so_far took step),
       c.in_ok-read_next.ensures.faults ∙ faults,
       omega (arith, least, c.in_ok-read_next.ensures.reads),

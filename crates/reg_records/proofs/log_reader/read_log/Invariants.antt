@@ -12,7 +12,8 @@ use Rattle.reg_records.proofs.log_reader.read_log.Given as goal
 -- the log holds what the lines so far say, of which one may be the floor's, and what is left begins with the line of that number
 abbrev pub invariant-loop-log : goal.invariant-loop-log
 invariant-loop-log g l =
-    (floor : ℕ) × (reads : List Read) × IsLogOf floor reads l.log × (length reads + 1 ≤ l.number) × (l.number ≤ length reads + 2) × (l.number ≤ LOG_LINES + 1)
+    (floor : ℕ) × (reads : List Read) × IsLogOf floor reads l.log × (length reads + 1 ≤ l.number)
+    × (l.number ≤ length reads + 2) × (l.number ≤ LOG_LINES + 1)
     × ((taken : List ℕ) × Consumes (bytes_in g.R.Read.remaining l.fn.reader) (bytes_in g.R.Read.remaining l.reader) taken
     × (count_by is_line_feed taken + 1 ≡ l.number) × AreWholeLines taken
     × (counted_by 0 (place_of l.reader) ≡ counted_by (length taken) (place_of l.fn.reader)))

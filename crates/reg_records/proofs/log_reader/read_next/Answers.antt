@@ -11,7 +11,9 @@ pub returns-in_err-read-clause-refused : goal.returns-in_err-read-clause-refused
 returns-in_err-read-clause-refused g c =
     let (line, none, some, read, held) = rw c.in-Some.is at c.in_ok-line.ensures.taken in
     let p = err_from_is_err_and c.from_residual-in_err-read.result c.from_residual-in_err-read.ensures.1 in
-    rw (p.1, p.2) (IsStepRefusal-line c.args.number c.args.reader.now c.take_numbered.new.reader _ _ line _ c.in_ok-line.ensures.faults none read.0 (is_empty_line-some line some)
+    rw (p.1, p.2)
+    (IsStepRefusal-line c.args.number c.args.reader.now c.take_numbered.new.reader _ _ line _ c.in_ok-line.ensures.faults none read.0
+    (is_empty_line-some line some)
     (c.in_err-read.ensures.refused line held))
 
 pub returns-clause-step : goal.returns-clause-step

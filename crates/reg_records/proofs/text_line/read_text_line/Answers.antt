@@ -22,7 +22,8 @@ returns-in-Unended-clause-refused g c =
 pub returns-in_ok-of_string-in-Ok-clause-text : goal.returns-in_ok-of_string-in-Ok-clause-text
 returns-in_ok-of_string-in-Ok-clause-text g c =
     let (line, none, read, held) = rw (c.in-Some.is, c.in-Line.is) at c.in_ok-next.ensures.taken in
-    front _ _ line (Ok c.in_ok-of_string-in-Ok.field-0) none read.0 (c.in-Ok.ensures line held ∙ ap Ok (sym c.in_ok-of_string-in-Ok.ensures))
+    front _ _ line (Ok c.in_ok-of_string-in-Ok.field-0) none read.0
+    (c.in-Ok.ensures line held ∙ ap Ok (sym c.in_ok-of_string-in-Ok.ensures))
 
 pub returns-in-Err-clause-refused : goal.returns-in-Err-clause-refused
 returns-in-Err-clause-refused g c =

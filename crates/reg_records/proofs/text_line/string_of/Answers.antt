@@ -25,6 +25,7 @@ pub returns : goal.returns
 returns c =
     let bytes = c.args.bytes.items in
     let short : nat_lt LINE_LIMIT (length bytes) ≡ false = grind (arith, nat_tests) in
-    let broken : is_utf8 bytes ≡ false = unless_true (is_utf8 bytes) (λ utf8. false≢true (c.in-Err.ensures.succeeds (IsUtf8-from_is_utf8 bytes utf8))) in
+    let broken : is_utf8 bytes ≡ false =
+    unless_true (is_utf8 bytes) (λ utf8. false≢true (c.in-Err.ensures.succeeds (IsUtf8-from_is_utf8 bytes utf8))) in
     ap (λ b. cond b (Err TooLong) (cond (is_utf8 bytes) (Ok bytes) (Err BadUtf8))) short
     ∙ ap (λ b. cond b (Ok bytes) (Err BadUtf8)) broken

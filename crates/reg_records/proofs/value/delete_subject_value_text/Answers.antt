@@ -6,10 +6,14 @@ use Rattle.reg_records.specs.Written.{written_value}
 use Rattle.reg_records.proofs.value.delete_subject_value_text.Goals as goal
 
 value_text : (written subject : List ℕ) (version : ℕ) → written ≡ quoted subject
-    → Some (codes "{\"subject\":" ++ (written ++ (codes ",\"version\":" ++ (decimal version ++ codes "}")))) ≡ written_value (DeleteSubject subject version)
+    → Some (codes "{\"subject\":" ++ (written ++ (codes ",\"version\":" ++ (decimal version ++ codes "}"))))
+    ≡ written_value (DeleteSubject subject version)
 unfolding written_value escape_byte
-value_text written subject version e = ap (λ s. Some (codes "{\"subject\":" ++ (s ++ (codes ",\"version\":" ++ (decimal version ++ codes "}"))))) e ∙ simp append_assoc
+value_text written subject version e =
+    ap (λ s. Some (codes "{\"subject\":" ++ (s ++ (codes ",\"version\":" ++ (decimal version ++ codes "}"))))) e ∙ simp append_assoc
 
 pub returns : goal.returns
 returns c =
-    IfOk-weaker c.of_string.result _ _ (λ _ same. ap Some (same ∙ c.in_ok-text.ensures.ok) ∙ value_text _ _ _ (c.in_ok-subject.ensures ∙ ap quoted c.as_str.ensures)) c.of_string.ensures
+    IfOk-weaker c.of_string.result _ _ (λ _ same.
+    ap Some (same ∙ c.in_ok-text.ensures.ok)
+    ∙ value_text _ _ _ (c.in_ok-subject.ensures ∙ ap quoted c.as_str.ensures)) c.of_string.ensures

@@ -6,8 +6,17 @@ use Rattle.reg_records.proofs.value.schema_value_object.Goals as goal
 
 -- the pieces, one after another
 joined : (subject version id schema : List ℕ) (deleted : Bool)
-    → codes "{\"subject\":" ++ (subject ++ (codes ",\"version\":" ++ (version ++ (codes ",\"id\":" ++ (id ++ (codes ",\"schema\":" ++ (schema ++ (codes ",\"deleted\":" ++ (cond deleted (codes "true") (codes "false") ++ codes "}")))))))))
-    ≡ codes "{\"subject\":" ++ subject ++ codes ",\"version\":" ++ version ++ codes ",\"id\":" ++ id ++ codes ",\"schema\":" ++ schema ++ codes ",\"deleted\":" ++ compact_text (boolean deleted) ++ codes "}"
+    → codes "{\"subject\":"
+    ++ (
+    subject
+    ++ (codes ",\"version\":"
+    ++ (version
+    ++ (codes ",\"id\":"
+    ++ (id
+    ++ (codes ",\"schema\":"
+    ++ (schema ++ (codes ",\"deleted\":" ++ (cond deleted (codes "true") (codes "false") ++ codes "}")))))))))
+    ≡ codes "{\"subject\":" ++ subject ++ codes ",\"version\":" ++ version ++ codes ",\"id\":" ++ id
+    ++ codes ",\"schema\":" ++ schema ++ codes ",\"deleted\":" ++ compact_text (boolean deleted) ++ codes "}"
 joined subject version id schema true = simp append_assoc
 joined subject version id schema false = simp append_assoc
 

@@ -8,7 +8,10 @@ use Rattle.reg_records.specs.Written.{written_value}
 use Rattle.reg_records.proofs.value.schema_value_text.Goals as goal
 
 value_text : (subject : List ℕ) (version id : ℕ) (schema : List ℕ) (deleted : Bool)
-    → Some (codes "{\"subject\":" ++ quoted subject ++ codes ",\"version\":" ++ decimal version ++ codes ",\"id\":" ++ decimal id ++ codes ",\"schema\":" ++ quoted schema ++ codes ",\"deleted\":" ++ compact_text (boolean deleted) ++ codes "}") ≡ written_value (Schema subject version id schema deleted)
+    → Some (
+    codes "{\"subject\":" ++ quoted subject ++ codes ",\"version\":" ++ decimal version ++ codes ",\"id\":" ++ decimal id
+    ++ codes ",\"schema\":" ++ quoted schema ++ codes ",\"deleted\":" ++ compact_text (boolean deleted) ++ codes "}")
+    ≡ written_value (Schema subject version id schema deleted)
 unfolding written_value escape_byte
 value_text subject version id schema deleted = simp append_assoc
 

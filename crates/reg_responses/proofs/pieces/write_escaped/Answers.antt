@@ -10,4 +10,7 @@ returns-in_err-write_escaped_byte-clause-written g c =
     let all = c.args.bytes.now in
     let i = c.loop-b.b-index in
     let p = err_from_is_err_and c.from_residual.result c.from_residual.ensures.1 in
-    rw p.1 (HasFront-then g.W.Write.contents c.args.writer.now c.loop-b.writer c.write_escaped_byte.new.writer _ _ _ _ (flat_map-split escape_byte all i _ (take_more all i _ (omega arith))) c.loop-b.invariant c.in_err-write_escaped_byte.ensures.written)
+    rw p.1 (
+    HasFront-then g.W.Write.contents c.args.writer.now c.loop-b.writer c.write_escaped_byte.new.writer _ _ _ _
+    (flat_map-split escape_byte all i _ (take_more all i _
+    (omega arith))) c.loop-b.invariant c.in_err-write_escaped_byte.ensures.written)

@@ -7,7 +7,8 @@ returns-in-Level-clause-written g c = rw c.in-Level.is (rw c.as_str.ensures at c
 
 pub returns-in-LevelRemoved-clause-written : goal.returns-in-LevelRemoved-clause-written
 unfolding reply_answer
-returns-in-LevelRemoved-clause-written g c = rw c.in-LevelRemoved.is (rw c.as_str-in-LevelRemoved.ensures at c.write_member-in-LevelRemoved.ensures.written)
+returns-in-LevelRemoved-clause-written g c =
+    rw c.in-LevelRemoved.is (rw c.as_str-in-LevelRemoved.ensures at c.write_member-in-LevelRemoved.ensures.written)
 
 pub returns-in-Mode-clause-written : goal.returns-in-Mode-clause-written
 unfolding reply_answer
@@ -15,4 +16,5 @@ returns-in-Mode-clause-written g c = rw c.in-Mode.is (rw c.as_str-in-Mode.ensure
 
 pub returns-in-ModeRemoved-clause-written : goal.returns-in-ModeRemoved-clause-written
 unfolding reply_answer
-returns-in-ModeRemoved-clause-written g c = rw c.in-ModeRemoved.is (rw c.as_str-in-ModeRemoved.ensures at c.write_member-in-ModeRemoved.ensures.written)
+returns-in-ModeRemoved-clause-written g c =
+    rw c.in-ModeRemoved.is (rw c.as_str-in-ModeRemoved.ensures at c.write_member-in-ModeRemoved.ensures.written)

@@ -8,4 +8,5 @@ use Rattle.reg_responses.proofs.writing.flush.Goals as goal
 pub returns-then-ne-clause-ended : goal.returns-then-ne-clause-ended
 returns-then-ne-clause-ended g c =
     let kind : error_kind c.in-Err.e ≢ Interrupted = search rules in
-    lost_by_flush g.W.Output.writes g.W.Output.flushes c.loop-i.writer c.flush.new.self c.in-Err.e (c.in-Err.ensures.interruptions.1 kind).0 kind c.in-Err.ensures.answer
+    lost_by_flush g.W.Output.writes g.W.Output.flushes c.loop-i.writer c.flush.new.self c.in-Err.e
+    (c.in-Err.ensures.interruptions.1 kind).0 kind c.in-Err.ensures.answer

@@ -25,5 +25,7 @@ loop-at-preserved g c =
     let some = c.in_ok-at.ensures.some in
     let more = c.in_ok-at.ensures.written in
     let whole = take-rest c.args.bytes.now c.loop-at.at n within some.1 in
-    let fits : c.loop-at.at + n ≤ length c.args.bytes.now = fits-rest c.args.bytes.now c.loop-at.at n within some.1 in
-    ((subst (Appends _ _) (sym whole) (Appends-trans _ _ _ _ _ written more.0), more.1 ∙ faults, more.2, omega (arith, least, more.3)), fits)
+    let fits : c.loop-at.at + n ≤ length c.args.bytes.now = fits-rest c.args.bytes.now c.loop-at.at n within some.1 in (
+      (subst (Appends _ _) (sym whole) (Appends-trans _ _ _ _ _ written more.0), more.1 ∙ faults, more.2, omega (arith, least, more.3)),
+      fits,
+    )

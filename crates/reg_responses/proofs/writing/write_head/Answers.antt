@@ -11,5 +11,6 @@ pub returns-clause-written : goal.returns-clause-written
 unfolding head_text
 returns-clause-written g c =
     let parts = c.allow_field.result in
-    let allow = in_three parts.0.now parts.1.now parts.2.now (allow_field c.args.allow) (closing_field c.args.closes ++ codes "\r\n") c.allow_field.ensures in
+    let allow = in_three parts.0.now parts.1.now parts.2.now (allow_field c.args.allow)
+    (closing_field c.args.closes ++ codes "\r\n") c.allow_field.ensures in
     rw (c.from.ensures, c.phrase_of.ensures, c.closing_field.ensures, allow) at c.write_pieces.ensures.written

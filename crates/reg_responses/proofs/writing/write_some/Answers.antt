@@ -14,5 +14,6 @@ returns-then-ne-clause-cause g c =
 pub loop-i-preserved : goal.loop-i-preserved
 loop-i-preserved g c =
     let kind : error_kind c.in-Err.e ≡ Interrupted = search rules in
-    let failed = failed_by_write g.W.Output.writes g.W.Output.flushes c.loop-i.writer c.write.new.self c.args.bytes.now c.in-Err.e c.in-Err.ensures.answer in
+    let failed = failed_by_write g.W.Output.writes g.W.Output.flushes c.loop-i.writer
+    c.write.new.self c.args.bytes.now c.in-Err.e c.in-Err.ensures.answer in
     (search rules, search rules, search rules, search rules, λ _. (c.in-Err.e, kind, failed))

@@ -15,7 +15,8 @@ path_of path = (path.0.now, path.1)
 
 -- one path more
 with_next : (paths : List (Bor (List ℕ) × Route)) (i : ℕ) (d : Bor (List ℕ) × Route) → i < length paths
-    → with_path (fold with_path [] (map path_of (take i paths))) (path_of (get_or paths i d)) ≡ fold with_path [] (map path_of (take (i + 1) paths))
+    → with_path (fold with_path [] (map path_of (take i paths))) (path_of (get_or paths i d))
+    ≡ fold with_path [] (map path_of (take (i + 1) paths))
 with_next paths i d lt =
     sym (fold-append with_path [] (map path_of (take i paths)) (path_of (get_or paths i d) ∷ []))
     ∙ ap (fold with_path []) (sym (map_more path_of paths i d lt))
@@ -28,7 +29,8 @@ both false b e = absurd (cc)
 -- the next path can be added, and those after it then
 next_can : (rows : RowsOf (RouteOf Route)) (paths : List (Bor (List ℕ) × Route)) (i : ℕ) (d : Bor (List ℕ) × Route) → i < length paths
     → all_can_be_added rows (map path_of (drop i paths)) ≡ true
-    → (can_be_added rows (path_of (get_or paths i d)) ≡ true) × (all_can_be_added (with_path rows (path_of (get_or paths i d))) (map path_of (drop (i + 1) paths)) ≡ true)
+    → (can_be_added rows (path_of (get_or paths i d)) ≡ true)
+    × (all_can_be_added (with_path rows (path_of (get_or paths i d))) (map path_of (drop (i + 1) paths)) ≡ true)
 next_can rows paths i d lt all =
     both _ _ (subst (λ ps. all_can_be_added rows (map path_of ps) ≡ true) (drop_more paths i d lt) all)
 
@@ -41,8 +43,11 @@ add-requires c = (next_can c.loop-path.router c.args.paths.now c.loop-path.path-
 pub loop-path-preserved : goal.loop-path-preserved
 loop-path-preserved c = (
   rw (c.in_ok-add.ensures, c.loop-path.invariant.0) (with_next c.args.paths.now c.loop-path.path-index _ c.loop-path-test.true),
-  rw c.in_ok-add.ensures (next_can c.loop-path.router c.args.paths.now c.loop-path.path-index _ c.loop-path-test.true c.loop-path.invariant.1).1,
+  rw c.in_ok-add.ensures (
+      next_can c.loop-path.router c.args.paths.now c.loop-path.path-index _ c.loop-path-test.true c.loop-path.invariant.1).1,
 )
 
 pub returns : goal.returns
-returns c = c.loop-path.invariant.0 ∙ ap (λ paths. fold with_path [] (map path_of paths)) (take_all c.loop-path.path-index c.args.paths.now c.loop-path-test.false)
+returns c =
+    c.loop-path.invariant.0
+    ∙ ap (λ paths. fold with_path [] (map path_of paths)) (take_all c.loop-path.path-index c.args.paths.now c.loop-path-test.false)

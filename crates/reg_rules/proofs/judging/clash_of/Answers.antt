@@ -44,7 +44,8 @@ returns-in-Some c =
     let normal = c.as_str-3.ensures ∙ c.normal.ensures.text in
     IfOk-weaker c.message.result _ _ (λ told is.
     judgement_reports (level rs (Some s)) c.args.schema.now.normal_text (texts_of (live rs s)) c.in-Some.judged.now told
-    (made.0 ∙ in_force, made.1 ∙ normal, made.2 ∙ same) c.verdict.ensures.is_true (is ∙ ap message_of c.verdict.ensures.verdict)) c.message.ensures
+    (made.0 ∙ in_force, made.1 ∙ normal, made.2 ∙ same) c.verdict.ensures.is_true (is ∙ ap message_of c.verdict.ensures.verdict))
+    c.message.ensures
 
 pub returns : goal.returns
 returns c =

@@ -5,7 +5,8 @@ pub returns-clause-moments : goal.returns-clause-moments
 returns-clause-moments c = after_events
 
 pub returns-clause-claims : goal.returns-clause-claims
-returns-clause-claims c = claims_hold c.nodes_answer_alike.ensures.of_the_set c.ids_name_one_schema.ensures c.registered_versions_meet_levels.ensures
+returns-clause-claims c =
+    claims_hold c.nodes_answer_alike.ensures.of_the_set c.ids_name_one_schema.ensures c.registered_versions_meet_levels.ensures
 
 pub returns-clause-alike : goal.returns-clause-alike
 returns-clause-alike c = same_at_moments c.nodes_answer_alike.ensures.alike

@@ -16,10 +16,13 @@ loop-records-preserved c =
     let done = flat_map (λ v. v.items) (map deref c.loop-records.yielded) in
     c.in_ok-add_each.ensures ∙ ap (λ s. union s (from_list c.deref.result.now)) c.loop-records.invariant
     ∙ list_joined c.args.into.now done c.deref.result.now
-    ∙ ap (λ l. union c.args.into.now (from_list l)) (joined_more c.loop-records.yielded c.in-Some.records done c.deref.result.now refl c.deref.ensures.value)
+    ∙ ap (λ l. union c.args.into.now (from_list l))
+    (joined_more c.loop-records.yielded c.in-Some.records done c.deref.result.now refl c.deref.ensures.value)
 
 pub returns : goal.returns
 returns c =
     let all = values c.args.by_key.now in
-    let end = iter_end deref all c.loop-records.yielded c.into_iter-records-iterator.result c.loop-records.records-iterator c.next.new.self c.next.result (c.into_iter-records-iterator.ensures.into_iter_gives ∙ c.values-records-items.ensures.rest) c.loop-records.yielded_by c.in-None.is c.next.ensures.steps in
+    let end = iter_end deref all c.loop-records.yielded c.into_iter-records-iterator.result c.loop-records.records-iterator
+    c.next.new.self c.next.result (c.into_iter-records-iterator.ensures.into_iter_gives ∙ c.values-records-items.ensures.rest)
+    c.loop-records.yielded_by c.in-None.is c.next.ensures.steps in
     c.loop-records.invariant ∙ ap (λ vs. union c.args.into.now (from_list (flat_map (λ v. v.items) vs))) end.0

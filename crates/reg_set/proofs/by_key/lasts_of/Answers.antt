@@ -29,7 +29,9 @@ pub put_last-requires-clause-of_key : goal.put_last-requires-clause-of_key
 put_last-requires-clause-of_key c =
     let m = c.args.by_key.now in
     let key = c.in-Some.key.now in
-    let turn = btree_map_turn deref_pair c.loop-key.yielded c.into_iter-key-iterator.result c.loop-key.key-iterator c.next.new.self c.next.result (c.in-Some.key, c.in-Some.records) c.loop-key.yielded_by c.in-Some.is c.next.ensures.steps total-law m c.into_iter-key-iterator.ensures.into_iter_gives.0 c.requires.is_ordered in
+    let turn = btree_map_turn deref_pair c.loop-key.yielded c.into_iter-key-iterator.result c.loop-key.key-iterator
+    c.next.new.self c.next.result (c.in-Some.key, c.in-Some.records) c.loop-key.yielded_by c.in-Some.is
+    c.next.ensures.steps total-law m c.into_iter-key-iterator.ensures.into_iter_gives.0 c.requires.is_ordered in
     let at : get key_cmp m key ≡ Some c.in-Some.records.now = turn.1 in
     subst (AreOf key) (ap (λ o. option_map_or (λ v. v.items) o []) at ∙ sym c.deref.ensures.value) (c.requires.of_keys key)
 
@@ -39,10 +41,12 @@ loop-key-preserved c =
     let seen = c.deref.result.now in
     c.in_ok-put_last.ensures ∙ ap (λ s. last_records (union s (from_list seen))) c.loop-key.invariant
     ∙ last_records_of_union (from_list done) (from_list seen) ∙ ap last_records (sym (from_list-both done seen))
-    ∙ ap (λ (l : List Record). last_records (from_list l)) (ap (λ l. done ++ l) c.deref.ensures.value ∙ sym (entry_more c.loop-key.yielded (c.in-Some.key, c.in-Some.records)))
+    ∙ ap (λ (l : List Record). last_records (from_list l))
+    (ap (λ l. done ++ l) c.deref.ensures.value ∙ sym (entry_more c.loop-key.yielded (c.in-Some.key, c.in-Some.records)))
 
 pub returns : goal.returns
 returns c =
     let all = c.args.by_key.now.entries in
-    let end = iter_end deref_pair all c.loop-key.yielded c.into_iter-key-iterator.result c.loop-key.key-iterator c.next.new.self c.next.result c.into_iter-key-iterator.ensures.into_iter_gives.0 c.loop-key.yielded_by c.in-None.is c.next.ensures.steps in
+    let end = iter_end deref_pair all c.loop-key.yielded c.into_iter-key-iterator.result c.loop-key.key-iterator c.next.new.self
+    c.next.result c.into_iter-key-iterator.ensures.into_iter_gives.0 c.loop-key.yielded_by c.in-None.is c.next.ensures.steps in
     c.loop-key.invariant ∙ ap (λ es. last_records (from_list (flat_map (λ v. v.items) (values_of es)))) end.0

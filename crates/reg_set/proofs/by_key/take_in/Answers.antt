@@ -32,4 +32,6 @@ returns-in_err-taken-in-Some-clause-refused c =
     let m = c.args.by_key.now in
     let w = c.take_among.new.records in
     let is : get key_cmp m r.key ≡ Some c.in-Some.records.now = search rules in
-    on_err _ (AreSame-updated m (c.get_mut.follows.lender w) r.key w ((c.get_mut.follows.holds w).3 (ap is_some is)) (c.in_err-taken-in-Some.ensures.refused ∙ sym (ap (λ o. option_map_or (λ v. v.items) o []) is)))
+    on_err _ (
+    AreSame-updated m (c.get_mut.follows.lender w) r.key w ((c.get_mut.follows.holds w).3 (ap is_some is))
+    (c.in_err-taken-in-Some.ensures.refused ∙ sym (ap (λ o. option_map_or (λ v. v.items) o []) is)))

@@ -5,7 +5,8 @@ use Rattle.reg_set.proofs.order.compare_at_offset.Goals as goal
 
 pub returns-in-Equal : goal.returns-in-Equal
 unfolding value_cmp
-returns-in-Equal c = c.cmp-in-Equal.ensures ∙ record_cmp-by_value c.args.one.now c.args.other.now c.requires (sym c.cmp.ensures ∙ c.in-Equal.is)
+returns-in-Equal c =
+    c.cmp-in-Equal.ensures ∙ record_cmp-by_value c.args.one.now c.args.other.now c.requires (sym c.cmp.ensures ∙ c.in-Equal.is)
 
 pub returns-in_default : goal.returns-in_default
 returns-in_default c =

@@ -29,7 +29,8 @@ loop-low-preserved-then-eq-2 c =
     let within : middle < length c.args.records.now = omega arith in (
       omega arith,
       c.loop-low.invariant.1,
-      front_is_before r c.args.records.now middle found c.requires within (ap (λ q. is_lt (record_cmp q r)) (sym c.index-records-middle.is) ∙ is_less),
+      front_is_before r c.args.records.now middle found c.requires within (ap (λ q. is_lt (record_cmp q r)) (sym c.index-records-middle.is)
+          ∙ is_less),
       c.loop-low.invariant.3,
     )
 
@@ -44,5 +45,6 @@ loop-low-preserved c =
       omega arith,
       omega arith,
       c.loop-low.invariant.2,
-      none_before_from r c.args.records.now middle found c.requires within (ap (λ q. is_lt (record_cmp q r)) (sym c.index-records-middle.is) ∙ not_less),
+      none_before_from r c.args.records.now middle found c.requires within (ap (λ q. is_lt (record_cmp q r)) (sym c.index-records-middle.is)
+          ∙ not_less),
     )

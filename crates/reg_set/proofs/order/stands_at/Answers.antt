@@ -14,7 +14,9 @@ returns-in-Some c =
     let other = c.in-Some.other.now in
     let lookup = c.in-Some.ensures.lookup in
     c.eq.ensures ∙ eq-by_cmp r other
-    ∙ sym (any_from_place r rs c.args.place c.requires.before ∙ any_at_place r rs c.args.place other lookup.3.0 lookup.1 c.requires.in_order c.requires.not_before)
+    ∙ sym (
+    any_from_place r rs c.args.place c.requires.before
+    ∙ any_at_place r rs c.args.place other lookup.3.0 lookup.1 c.requires.in_order c.requires.not_before)
 
 pub returns-in-None : goal.returns-in-None
 returns-in-None c =

@@ -7,7 +7,9 @@ pub returns-then-is_part_of : goal.returns-then-is_part_of
 returns-then-is_part_of c =
     let C = c.args.compaction.now in
     let R = c.args.whole.now in (
-      λ e. IsCompactionBelow-from_tests c.args.floor C R (sym c.is_part_of.ensures ∙ c.if-is_part_of.true) (sym c.has_lasts_below.ensures ∙ e),
+      λ e.
+          IsCompactionBelow-from_tests c.args.floor C R
+          (sym c.is_part_of.ensures ∙ c.if-is_part_of.true) (sym c.has_lasts_below.ensures ∙ e),
       λ h. c.has_lasts_below.ensures ∙ (tests-from_IsCompactionBelow c.args.floor C R h).1,
     )
 

@@ -6,11 +6,15 @@ use Rattle.reg_set.proofs.record_set.is_compaction_of.Goals as goal
 pub returns-then-is_part_of : goal.returns-then-is_part_of
 returns-then-is_part_of c =
     let C = c.args.compaction.now in
-    let R = c.args.whole.now in
-    (λ e. IsCompactionOf-from_tests C R (sym c.is_part_of.ensures ∙ c.if-is_part_of.true) (sym c.has_lasts_of.ensures ∙ e), λ h. c.has_lasts_of.ensures ∙ (tests-from_IsCompactionOf C R h).1)
+    let R = c.args.whole.now in (
+      λ e. IsCompactionOf-from_tests C R (sym c.is_part_of.ensures ∙ c.if-is_part_of.true) (sym c.has_lasts_of.ensures ∙ e),
+      λ h. c.has_lasts_of.ensures ∙ (tests-from_IsCompactionOf C R h).1,
+    )
 
 pub returns-else-is_part_of : goal.returns-else-is_part_of
 returns-else-is_part_of c =
     let C = c.args.compaction.now in
-    let R = c.args.whole.now in
-    (λ e. absurd (false≢true (sym c.if-is_part_of.false ∙ e)), λ h. absurd (false≢true (sym c.if-is_part_of.false ∙ c.is_part_of.ensures ∙ (tests-from_IsCompactionOf C R h).0)))
+    let R = c.args.whole.now in (
+      λ e. absurd (false≢true (sym c.if-is_part_of.false ∙ e)),
+      λ h. absurd (false≢true (sym c.if-is_part_of.false ∙ c.is_part_of.ensures ∙ (tests-from_IsCompactionOf C R h).0)),
+    )

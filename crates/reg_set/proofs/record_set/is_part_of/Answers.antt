@@ -20,4 +20,7 @@ pub returns : goal.returns
 returns c =
     let m = c.part.inside.by_key in
     c.are_all_in.ensures ∙ all_joined (contains c.args.whole.now) (values m)
-    ∙ all-same (contains c.args.whole.now) (all_records m) (records_of c.args.part.now) (λ q. sym (contains-from_list record_cmp-total (all_records m) q) ∙ ap (λ s. contains s q) c.part.view_is ∙ contains-records_of c.args.part.now q)
+    ∙ all-same (contains c.args.whole.now) (all_records m) (records_of c.args.part.now) (λ q.
+    sym (contains-from_list record_cmp-total (all_records m) q)
+    ∙ ap (λ s. contains s q) c.part.view_is
+    ∙ contains-records_of c.args.part.now q)

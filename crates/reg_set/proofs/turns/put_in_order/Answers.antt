@@ -9,4 +9,5 @@ use Rattle.reg_set.proofs.turns.put_in_order.Goals as goal
 pub returns-clause-in_order : goal.returns-clause-in_order
 returns-clause-in_order c =
     sorted-in_order _ _ c.requires c.sort_unstable_by.ensures.permutation
-    (c.sort_unstable_by.ensures.sorted (λ x y. is_lt (record_cmp x y)) (ranks_by record_cmp-total (λ r. r)) (answers_always _ _ _ (λ f a r g k. search rules)))
+    (c.sort_unstable_by.ensures.sorted (λ x y. is_lt (record_cmp x y))
+    (ranks_by record_cmp-total (λ r. r)) (answers_always _ _ _ (λ f a r g k. search rules)))

@@ -11,6 +11,8 @@ returns c =
     let xs : List Record = c.args.by_offset.now in
     let k : ℕ = c.partition_point-start.result in
     let from : ℕ = c.args.from in
-    let point = c.partition_point-start.ensures.partitioned (λ r. nat_lt r.offset from) (always_returns_same _ _ _ (λ a r f k. search (rules, of_calls))) (parted from xs c.requires) in
+    let point = c.partition_point-start.ensures.partitioned (λ r. nat_lt r.offset from)
+    (always_returns_same _ _ _ (λ a r f k. search (rules, of_calls))) (parted from xs c.requires) in
     take_all (length xs - k) (drop k xs) (omega (arith, length-drop k xs))
-    ∙ from_point (λ r. nat_lt r.offset from) (λ r. nat_le from r.offset) (λ r. at_or_above from r.offset) xs k c.partition_point-start.ensures.bound (λ i d lt. point.0 i d (omega arith) lt) (λ i d l m. point.1 i d l m)
+    ∙ from_point (λ r. nat_lt r.offset from) (λ r. nat_le from r.offset) (λ r. at_or_above from r.offset) xs k
+    c.partition_point-start.ensures.bound (λ i d lt. point.0 i d (omega arith) lt) (λ i d l m. point.1 i d l m)

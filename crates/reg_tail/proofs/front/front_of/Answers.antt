@@ -12,11 +12,13 @@ returns-in_default-clause-fault c =
 pub returns-in_err-floor-clause-fault : goal.returns-in_err-floor-clause-fault
 returns-in_err-floor-clause-fault c =
     let file = c.args.file.now in
-    let bad = floor_faulty file c.in-Some.end (sym c.is_floor_line.ensures ∙ c.if-not-is_floor_line.false) (sym c.line_len.ensures ∙ c.in-Some.is) c.in_err-floor.field-0.0 (sym c.in_err-floor.ensures) in
+    let bad = floor_faulty file c.in-Some.end (sym c.is_floor_line.ensures ∙ c.if-not-is_floor_line.false)
+    (sym c.line_len.ensures ∙ c.in-Some.is) c.in_err-floor.field-0.0 (sym c.in_err-floor.ensures) in
     search (rules, bad)
 
 pub returns-clause-front : goal.returns-clause-front
 returns-clause-front c =
     let file = c.args.file.now in
     let end = c.in-Some.end in
-    begins_floor file end (sym c.is_floor_line.ensures ∙ c.if-not-is_floor_line.false) (sym c.line_len.ensures ∙ c.in-Some.is) c.in_ok-floor.floor (sym c.in_ok-floor.ensures)
+    begins_floor file end (sym c.is_floor_line.ensures ∙ c.if-not-is_floor_line.false)
+    (sym c.line_len.ensures ∙ c.in-Some.is) c.in_ok-floor.floor (sym c.in_ok-floor.ensures)

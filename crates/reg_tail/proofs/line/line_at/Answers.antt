@@ -11,7 +11,13 @@ use Rattle.reg_tail.proofs.line.line_at.Goals as goal
 
 pub returns-then-is_empty-clause-refused : goal.returns-then-is_empty-clause-refused
 returns-then-is_empty-clause-refused c =
-    record { lines = []; read = []; parts = nothing c.args.text.now (sym c.is_empty.ensures ∙ c.if-is_empty.true); say = tt; few = omega (arith, c.requires) }
+    record {
+      lines = [];
+      read = [];
+      parts = nothing c.args.text.now (sym c.is_empty.ensures ∙ c.if-is_empty.true);
+      say = tt;
+      few = omega (arith, c.requires);
+    }
 
 pub returns-in_default-clause-refused : goal.returns-in_default-clause-refused
 returns-in_default-clause-refused c =
@@ -20,7 +26,8 @@ returns-in_default-clause-refused c =
     let empty : (length text == 0) ≡ false = sym c.is_empty.ensures ∙ c.if-is_empty.false in
     let some : 0 < length text = grind (arith, nat_tests) in
     let free = no_line_feed text (sym c.line_len.ensures ∙ c.in_default.is) in
-    subst (λ e. IsPieceRefusal n text e) (sym c.fault_at-in_default.ensures) (truncated n text some (omega (arith, c.if-number-gt-LOG_LINES.false)) free)
+    subst (λ e. IsPieceRefusal n text e) (sym c.fault_at-in_default.ensures)
+    (truncated n text some (omega (arith, c.if-number-gt-LOG_LINES.false)) free)
 
 pub returns-in-Ok-clause-line : goal.returns-in-Ok-clause-line
 returns-in-Ok-clause-line c =
@@ -51,4 +58,5 @@ returns-in-Err-Line-clause-refused c =
     let some : 0 < length (take end text) = omega (arith, cut.size, some_before text end at c.if-text-eq10.false) in
     subst (λ e. IsPieceRefusal n text e) (sym c.fault_at-in-Err-Line.ensures)
     (subst (λ t. IsPieceRefusal n t (tails.Line n (logs.Line fault))) (sym cut.is)
-    (faulty n (take end text) cut.behind fault some (omega (arith, c.if-number-gt-LOG_LINES.false)) cut.free (read_front text end (Err fault) at says)))
+    (faulty n (take end text) cut.behind fault some
+    (omega (arith, c.if-number-gt-LOG_LINES.false)) cut.free (read_front text end (Err fault) at says)))

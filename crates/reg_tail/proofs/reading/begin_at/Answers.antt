@@ -19,7 +19,8 @@ returns-clause-begun c =
       | else-from-gt0-via-else-from-gt0 w ↦ λ some. absurd (omega (arith, w.if-from-gt0.false))
     ] in
     let given = c.if-from-gt0-2.given in
-    let cases : ((0 < from) × (given ≡ 0)) ⊎ ((from ≡ 0) × (given ≡ front.len)) = elim c.if-from-gt0-2.branch as (λ _. ((0 < from) × (given ≡ 0)) ⊎ ((from ≡ 0) × (given ≡ front.len))) [
+    let cases : ((0 < from) × (given ≡ 0)) ⊎ ((from ≡ 0) × (given ≡ front.len)) =
+    elim c.if-from-gt0-2.branch as (λ _. ((0 < from) × (given ≡ 0)) ⊎ ((from ≡ 0) × (given ≡ front.len))) [
       | then-from-gt0-2 w ↦ inl (omega (arith, w.if-from-gt0-2.true), w.given-is)
       | else-from-gt0-2 w ↦ inr (omega (arith, w.if-from-gt0-2.false), w.given-is)
     ] in

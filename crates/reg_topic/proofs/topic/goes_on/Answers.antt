@@ -7,13 +7,18 @@ loop-record-preserved c =
     let l = c.loop-record in
     record {
       counted = omega (arith, l.invariant.counted);
-      rest = goes_on_more l.expected (l.expected + 1) l.record-index c.args.batch.now c.record-item.result c.loop-record-test.true c.record-item.is c.if-record-expected.false (omega arith) ∙ l.invariant.rest;
+      rest = goes_on_more l.expected (l.expected + 1) l.record-index c.args.batch.now c.record-item.result
+          c.loop-record-test.true c.record-item.is c.if-record-expected.false (omega arith)
+          ∙ l.invariant.rest;
     }
 
 pub returns-then-record-expected : goal.returns-then-record-expected
 returns-then-record-expected c =
     let l = c.loop-record in
-    sym (goes_astray l.expected l.record-index c.args.batch.now c.record-item.result c.loop-record-test.true c.record-item.is c.if-record-expected.true) ∙ l.invariant.rest
+    sym (
+    goes_astray l.expected l.record-index c.args.batch.now c.record-item.result
+    c.loop-record-test.true c.record-item.is c.if-record-expected.true)
+    ∙ l.invariant.rest
 
 pub returns : goal.returns
 returns c =

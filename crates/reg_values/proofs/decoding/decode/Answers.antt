@@ -8,7 +8,9 @@ returns-in-Some-clause-value c =
     let given = c.args.given.now in
     let text = c.in-Some.text in
     let valued : given.value ≡ Some text = search rules in
-    value_in-decoded c.decode_text.result (value_of_text given.key text) (value_of given) c.decode_text.ensures (value_of-text given text valued)
+    value_in-decoded c.decode_text.result (value_of_text given.key text)
+    (value_of given) c.decode_text.ensures (value_of-text given text valued)
 
 pub returns-in-Some-clause-schema : goal.returns-in-Some-clause-schema
-returns-in-Some-clause-schema c = schema_in-decoded c.decode_text.result (value_of_text c.args.given.now.key c.in-Some.text) c.decode_text.ensures
+returns-in-Some-clause-schema c =
+    schema_in-decoded c.decode_text.result (value_of_text c.args.given.now.key c.in-Some.text) c.decode_text.ensures

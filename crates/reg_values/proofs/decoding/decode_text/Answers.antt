@@ -12,5 +12,6 @@ returns-in-Some c =
     let key = c.args.key.now in
     let text = c.args.text.now in
     let other : is_noop key ≡ false = sym c.is_noop.ensures ∙ c.if-is_noop.false in
-    let same : value_in key (view c.in-Some.json) ≡ value_of_text key text = value_of_text-read key text c.in_ok-json.field-0 c.in-Some.json other (c.in_ok-json.ensures ∙ ap read c.as_str.ensures) c.in-Some.is in
+    let same : value_in key (view c.in-Some.json) ≡ value_of_text key text = value_of_text-read key text
+    c.in_ok-json.field-0 c.in-Some.json other (c.in_ok-json.ensures ∙ ap read c.as_str.ensures) c.in-Some.is in
     subst (λ (o : Option Value). IfOk c.decode_in.result (λ found. found ≡ option_map with_schema o)) same c.decode_in.ensures

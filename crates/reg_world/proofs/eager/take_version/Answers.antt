@@ -11,7 +11,9 @@ returns-in-Some c =
     let e = c.in-Some.entry in
     let is : put_by r ≡ Some e = search rules in
     IfOk-weaker c.put.result _ _ (λ _ put p.
-    ap (λ m. finmap.get m p) put ∙ version_put c.values_are_of_keys.ensures c.args.standing.now r c.args.subject.now c.args.version e c.requires is p) c.put.ensures.put
+    ap (λ m. finmap.get m p) put
+    ∙ version_put c.values_are_of_keys.ensures c.args.standing.now r c.args.subject.now c.args.version e c.requires is p)
+    c.put.ensures.put
 
 pub returns-in_ok-clone-in-None : goal.returns-in_ok-clone-in-None
 returns-in_ok-clone-in-None c =

@@ -17,4 +17,5 @@ returns-clause-registry c =
     let t : Topic = c.args.topic.now in
     let due : List Record = c.args.due.now in
     let on : follows t.next due ≡ true = search rules in
-    batch_registry (follows t.next due) t c.publish_batch.new.self due c.apply_all.new.self on c.in_ok-publish_batch.ensures.added (c.in_ok-apply_all.ensures.whole t.log c.requires)
+    batch_registry (follows t.next due) t c.publish_batch.new.self due c.apply_all.new.self on c.in_ok-publish_batch.ensures.added
+    (c.in_ok-apply_all.ensures.whole t.log c.requires)

@@ -4,4 +4,5 @@ use Rattle.reg_extent.specs.Extent.{IsWhole}
 use Rattle.test_serve.proofs.turns.answer_front.Goals as goal
 
 pub answer_one-requires-clause-whole : goal.answer_one-requires-clause-whole
-answer_one-requires-clause-whole g c = subst (λ (w : List ℕ). IsWhole (take c.in-Some.len w)) (sym c.front_len.ensures.same) c.in-Some.ensures.whole
+answer_one-requires-clause-whole g c =
+    subst (λ (w : List ℕ). IsWhole (take c.in-Some.len w)) (sym c.front_len.ensures.same) c.in-Some.ensures.whole

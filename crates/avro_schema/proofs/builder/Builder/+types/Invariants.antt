@@ -13,12 +13,16 @@ use Rattle.avro_schema.proofs.builder.Builder.+types.Given as goal
 abbrev pub invariant-read_branches-loop-item : goal.invariant-read_branches-loop-item
 invariant-read_branches-loop-item l =
     (ms : List BranchKind) × HoldsKinds l.kinds ms × (opened l.fn.self ≤ opened l.self) × Keeps l.fn.self l.self
-    × ((ds : List Definition) → HasMet l.fn.self ds → BranchesFit l.fn.self l.namespace.text (forms (items_view l.item-items)) l.self (forms (items_view (drop l.item-index l.item-items))) l.branches.items ms ds)
+    × ((ds : List Definition) → HasMet l.fn.self ds
+    → BranchesFit l.fn.self l.namespace.text (forms (items_view l.item-items)) l.self
+    (forms (items_view (drop l.item-index l.item-items))) l.branches.items ms ds)
 
 abbrev pub invariant-read_fields-loop-item : goal.invariant-read_fields-loop-item
 invariant-read_fields-loop-item l =
     (opened l.fn.self ≤ opened l.self) × Keeps l.fn.self l.self
-    × ((ds : List Definition) → HasMet l.fn.self ds → FieldsAlong l.fn.self l.namespace.text (fields_of_items (items_view l.item-items)) l.self (fields_of_items (items_view (drop l.item-index l.item-items))) l.fields.items ds
+    × ((ds : List Definition) → HasMet l.fn.self ds
+    → FieldsAlong l.fn.self l.namespace.text (fields_of_items (items_view l.item-items)) l.self
+    (fields_of_items (items_view (drop l.item-index l.item-items))) l.fields.items ds
     × TestsAlong (fields_of_items (items_view l.item-items)) (fields_of_items (items_view (drop l.item-index l.item-items))))
 
 abbrev pub decreases-read_type : goal.decreases-read_type

@@ -17,7 +17,8 @@ returns-in_err-index-clause-err c =
     let r = c.args.self.now in
     let ns = c.args.namespace.now.text in
     exit_err c.from_residual.result (RefusesType r ns (form_of_name c.args.name.now)) e c.from_residual.ensures.1 (λ ds met.
-    subst (λ (f : Form). IsRefusalBy (type_faults ds ns f (opened r)) e) (sym (form_plain c.args.name.now c.in-Some.primitive c.in-Some.ensures))
+    subst (λ (f : Form). IsRefusalBy (type_faults ds ns f (opened r)) e)
+    (sym (form_plain c.args.name.now c.in-Some.primitive c.in-Some.ensures))
     (refused_open ds ns (plain c.in-Some.primitive) (opened r) e (omega arith) c.in_err-index.ensures.err))
 
 pub returns-in_ok-copy_of-in-None-clause-err : goal.returns-in_ok-copy_of-in-None-clause-err
@@ -27,8 +28,10 @@ returns-in_ok-copy_of-in-None-clause-err c = λ ds met.
     let ns = c.args.namespace.now.text in
     let none : definition_used ds (opened r) ns s ≡ None = no_node _ (sym (c.find.ensures ds met) ∙ c.in-None.is) in
     let refused : IsRefusalBy (type_faults ds ns (by_name s) (opened r)) (fault.Unknown s) = refused_use ds ns s (opened r) none in
-    let formed : IsRefusalBy (type_faults ds ns (form_of_name s) (opened r)) (fault.Unknown s) = subst (λ (f : Form). IsRefusalBy (type_faults ds ns f (opened r)) (fault.Unknown s)) (sym (form_use s c.in_default.ensures)) refused in
-    subst (λ (t : List ℕ). IsRefusalBy (type_faults ds ns (form_of_name s) (opened r)) (fault.Unknown t)) (sym c.in_ok-copy_of-in-None.ensures) formed
+    let formed : IsRefusalBy (type_faults ds ns (form_of_name s) (opened r)) (fault.Unknown s) = subst
+    (λ (f : Form). IsRefusalBy (type_faults ds ns f (opened r)) (fault.Unknown s)) (sym (form_use s c.in_default.ensures)) refused in
+    subst (λ (t : List ℕ). IsRefusalBy (type_faults ds ns (form_of_name s) (opened r)) (fault.Unknown t))
+    (sym c.in_ok-copy_of-in-None.ensures) formed
 
 pub returns-in-Some-find-clause-ok : goal.returns-in-Some-find-clause-ok
 returns-in-Some-find-clause-ok c =

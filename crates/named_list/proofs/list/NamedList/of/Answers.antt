@@ -10,7 +10,9 @@ use Rattle.named_list.proofs.list.NamedList.of.Goals.{In_ok-slots}
 module _ (g : Over) (c : In_ok-slots g) where
   index : IsIndex (map g.T.Named.name c.args.items.items) c.in-Some.by_name.items
   index =
-      let found = subst (λ o. MatchOption o (all_distinct bytes_eq (map g.T.Named.name c.as_slice-2.result.now) ≡ false) (λ places. IsIndex (map g.T.Named.name c.as_slice-2.result.now) places.items)) c.in-Some.is c.in_ok-by_name.ensures in
+      let found = subst (λ o.
+      MatchOption o (all_distinct bytes_eq (map g.T.Named.name c.as_slice-2.result.now) ≡ false)
+      (λ places. IsIndex (map g.T.Named.name c.as_slice-2.result.now) places.items)) c.in-Some.is c.in_ok-by_name.ensures in
       subst (λ items. IsIndex (map g.T.Named.name items) c.in-Some.by_name.items) c.as_slice-2.ensures.value found
 
   marked : HaveSlots c.in_ok-slots.slots.items (map g.T.Named.name c.args.items.items)

@@ -19,5 +19,6 @@ returns-in-Ok-Closed-clause-answered g c =
 pub returns-in-Err-clause-refused : goal.returns-in-Err-clause-refused
 returns-in-Err-clause-refused g c = λ more.
     held-fails g.D.Desk.asks g.D.Desk.commands c.args.writer.now c.answer_held.new.writer c.args.desk.now c.answer_held.new.desk
-    c.args.self.now c.args.len (g.W.Write.contents c.args.writer.now.inner) (g.W.Write.contents c.answer_held.new.writer.inner) c.in-Err.e c.requires.whole
+    c.args.self.now c.args.len (g.W.Write.contents c.args.writer.now.inner)
+    (g.W.Write.contents c.answer_held.new.writer.inner) c.in-Err.e c.requires.whole
     c.in-Err.ensures.refused more

@@ -6,5 +6,6 @@ pub returns : goal.returns
 returns g c =
     let done = c.submit-reply.ensures in
     let shown = c.catch_up-self-inside.ensures in
-    commands g.K.Keep.keeps g.N.FeedName.first _ c.args.self.now _ c.args.command.now c.submit-reply.result.reply c.submit-reply.result.seen c.of-ruling.new.view
+    commands g.K.Keep.keeps g.N.FeedName.first _ c.args.self.now _ c.args.command.now
+    c.submit-reply.result.reply c.submit-reply.result.seen c.of-ruling.new.view
     c.self.view_is refl done.counted done.next c.of-ruling.ensures shown.shows shown.fresh

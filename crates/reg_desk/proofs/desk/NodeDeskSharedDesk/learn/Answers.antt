@@ -15,7 +15,8 @@ returns-then-is_news g c =
     (ap Some c.again.ensures ∙ topic)
     c.fresh-self-inside.ensures
     (ap (λ (k : Known). k.submits) c.self.view_is)
-    (subst (λ (w : Option (List Item)). IsPrefix (front_of c.args.self.now.seen) (front_of w)) topic (subst (λ (w : List Item). IsPrefix w c.in-Some.topic.now) before known))
+    (subst (λ (w : Option (List Item)). IsPrefix (front_of c.args.self.now.seen) (front_of w)) topic
+    (subst (λ (w : List Item). IsPrefix w c.in-Some.topic.now) before known))
     (subst (λ (w : List Draw). IsPrefix w c.learn.new.self) (ap (λ (k : Known). k.view) c.self.view_is) c.learn.ensures.this)
     (subst (λ (w : List Draw). IsPrefix w c.learn.new.self) c.node.ensures c.learn.ensures.that)
     c.in-Some.ensures.shown
@@ -29,7 +30,8 @@ returns-else-is_news g c =
     (ap (λ (k : Known). k.seen) c.self.view_is)
     (ap (λ (k : Known). k.fresh) c.self.view_is)
     (ap (λ (k : Known). k.submits) c.self.view_is)
-    (subst (λ (w : Option (List Item)). IsPrefix (front_of w) (front_of c.args.self.now.seen)) topic (subst (λ (w : List Item). IsPrefix c.in-Some.topic.now w) before known))
+    (subst (λ (w : Option (List Item)). IsPrefix (front_of w) (front_of c.args.self.now.seen)) topic
+    (subst (λ (w : List Item). IsPrefix c.in-Some.topic.now w) before known))
     (subst (λ (w : List Draw). IsPrefix w c.learn.new.self) (ap (λ (k : Known). k.view) c.self.view_is) c.learn.ensures.this)
     (subst (λ (w : List Draw). IsPrefix w c.learn.new.self) c.node.ensures c.learn.ensures.that)
     (subst (λ (k : Known). k.fresh ≡ true → IsFresh g.N.FeedName.first (front_of k.seen) k.view) c.self.view_is c.self.invariant)

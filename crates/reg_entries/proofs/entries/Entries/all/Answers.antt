@@ -14,4 +14,5 @@ pub returns-clause-in_order : goal.returns-clause-in_order
 returns-clause-in_order c =
     let m = c.self.inside.entries in
     let i = c.self.invariant.0 in
-    subst IsInOrder (sym (c.in_ok-found.ensures ∙ ap (map (λ e. e.now)) c.deref.ensures.value ∙ c.in_ok-twins.ensures)) (values_in_order m.entries (at_places m i.ordered i.placed) i.ordered)
+    subst IsInOrder (sym (c.in_ok-found.ensures ∙ ap (map (λ e. e.now)) c.deref.ensures.value ∙ c.in_ok-twins.ensures))
+    (values_in_order m.entries (at_places m i.ordered i.placed) i.ordered)

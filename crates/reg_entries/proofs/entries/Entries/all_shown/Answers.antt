@@ -10,11 +10,17 @@ pub returns-clause-all : goal.returns-clause-all
 returns-clause-all c =
     let deletes = c.args.deletes.now in
     c.in_ok-found.ensures
-    ∙ ap (shown_all deletes) (ap (map (λ e. e.now)) c.deref.ensures.value ∙ c.in_ok-twins.ensures ∙ sym (values-view c.self.inside.entries c.self.invariant.0.ordered) ∙ ap finmap.values c.self.view_is)
+    ∙ ap (shown_all deletes)
+    (ap (map (λ e. e.now)) c.deref.ensures.value
+    ∙ c.in_ok-twins.ensures
+    ∙ sym (values-view c.self.inside.entries c.self.invariant.0.ordered)
+    ∙ ap finmap.values c.self.view_is)
 
 pub returns-clause-in_order : goal.returns-clause-in_order
 returns-clause-in_order c =
     let m = c.self.inside.entries in
     let i = c.self.invariant.0 in
     let deletes = c.args.deletes.now in
-    subst IsInOrder (sym (c.in_ok-found.ensures ∙ ap (shown_all deletes) (ap (map (λ e. e.now)) c.deref.ensures.value ∙ c.in_ok-twins.ensures))) (in_order_shown deletes m i.ordered i.placed)
+    subst IsInOrder
+    (sym (c.in_ok-found.ensures ∙ ap (shown_all deletes) (ap (map (λ e. e.now)) c.deref.ensures.value ∙ c.in_ok-twins.ensures)))
+    (in_order_shown deletes m i.ordered i.placed)

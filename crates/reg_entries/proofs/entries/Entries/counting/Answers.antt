@@ -35,6 +35,11 @@ returns-clause-in_order c =
     let deletes = c.args.deletes.now in
     let es = shown_all deletes (values_of m.entries) in
     let rise : AreInVersionOrder (filter (λ e. bytes_eq e.subject s && counts deleted e) es) =
-    versions_rise s (λ e. bytes_eq e.subject s && counts deleted e) (λ e h. (bytes_eq-Decides e.subject s).0 (left_of _ _ h)) es (in_order_shown deletes m i.ordered i.placed) in
-    let here : AreInVersionOrder (counting es s deleted) = subst AreInVersionOrder (sym (filter_filter (λ e. bytes_eq e.subject s) (counts deleted) es)) rise in
-    subst AreInVersionOrder (sym (all_here c ∙ ap (λ es. counting (shown_all deletes es) s deleted) (sym (ap finmap.values c.self.view_is) ∙ values-view m i.ordered))) here
+    versions_rise s (λ e. bytes_eq e.subject s && counts deleted e)
+    (λ e h. (bytes_eq-Decides e.subject s).0 (left_of _ _ h)) es (in_order_shown deletes m i.ordered i.placed) in
+    let here : AreInVersionOrder (counting es s deleted) =
+    subst AreInVersionOrder (sym (filter_filter (λ e. bytes_eq e.subject s) (counts deleted) es)) rise in
+    subst AreInVersionOrder (
+    sym (
+    all_here c
+    ∙ ap (λ es. counting (shown_all deletes es) s deleted) (sym (ap finmap.values c.self.view_is) ∙ values-view m i.ordered))) here

@@ -16,11 +16,14 @@ returns-in_err-last c =
 pub returns-in_err-entry : goal.returns-in_err-entry
 returns-in_err-entry c =
     let a = c.self.inside in
-    absurd (some_at_name a.entries a.names c.self.invariant.0.named c.in_ok-last.last.now c.in_ok-last.ensures.member (sym c.in_err-entry.ensures.value))
+    absurd (
+    some_at_name a.entries a.names c.self.invariant.0.named c.in_ok-last.last.now c.in_ok-last.ensures.member
+    (sym c.in_err-entry.ensures.value))
 
 pub returns : goal.returns
 returns c =
     let a = c.self.inside in
     ap (λ (e : Entry). Some e.id) c.own.ensures
-    ∙ greatest_id_some a.entries a.names a.tops c.self.invariant.0 c.in_ok-last.last.now c.in_ok-entry.entry.now c.in_ok-last.ensures.member (sym c.in_ok-entry.ensures.value) c.in_ok-last.ensures.greatest
+    ∙ greatest_id_some a.entries a.names a.tops c.self.invariant.0 c.in_ok-last.last.now c.in_ok-entry.entry.now c.in_ok-last.ensures.member
+    (sym c.in_ok-entry.ensures.value) c.in_ok-last.ensures.greatest
     ∙ ap greatest_id (sym (values-view a.entries c.self.invariant.0.ordered) ∙ ap finmap.values c.self.view_is)

@@ -8,5 +8,6 @@ use Rattle.reg_entries.proofs.entries.Entries.has_live.Goals as goal
 pub returns-in-None : goal.returns-in-None
 returns-in-None c =
     c.any_live.ensures
-    ∙ ap (λ es. has_live (shown_all c.args.deletes.now es) None) (sym (values-view c.self.inside.entries c.self.invariant.0.ordered) ∙ ap finmap.values c.self.view_is)
+    ∙ ap (λ es. has_live (shown_all c.args.deletes.now es) None)
+    (sym (values-view c.self.inside.entries c.self.invariant.0.ordered) ∙ ap finmap.values c.self.view_is)
     ∙ ap (λ o. has_live (shown_all c.args.deletes.now (finmap.values c.args.self.now)) (option_map (λ s. s.now) o)) (sym c.in-None.is)

@@ -28,7 +28,13 @@ returns c =
     let deletes = c.args.deletes.now in
     let d = get_by_text deletes s in
     c.last_counting.ensures
-    ∙ (λ i. find (counts deleted) (reverse (map (under (c.delete_of-delete.ensures i)) (values_of (entries_between place_cmp (Included (c.in_ok-copy_of.ensures i, 0)) (Included (c.in_ok-copy_of-2.ensures i, 4294967295)) m.entries)))))
+    ∙ (λ i.
+    find (counts deleted)
+    (reverse (
+    map (under (c.delete_of-delete.ensures i))
+    (values_of (
+    entries_between place_cmp (Included (c.in_ok-copy_of.ensures i, 0))
+    (Included (c.in_ok-copy_of-2.ensures i, 4294967295)) m.entries)))))
     ∙ ap (λ es. find (counts deleted) (reverse (map (under d) es))) (between_is_subject s m.entries (at_places m i.ordered i.placed))
     ∙ latest_shown deletes m i.ordered i.placed s deleted
     ∙ ap (λ es. latest (shown_all deletes es) s deleted) (sym (values-view m i.ordered) ∙ ap finmap.values c.self.view_is)

@@ -16,7 +16,8 @@ returns-in_default c =
     let v = c.args.version in
     let deleted = c.args.deleted in
     let deletes = c.args.deletes.now in
-    ap (λ o. option_filter (counts deleted) (option_map (shown deletes) o)) (c.in_default.ensures.value ∙ (λ i. entry_at m (c.in_ok-copy_of.ensures i, v)))
+    ap (λ o. option_filter (counts deleted) (option_map (shown deletes) o))
+    (c.in_default.ensures.value ∙ (λ i. entry_at m (c.in_ok-copy_of.ensures i, v)))
     ∙ of_version_shown deletes m i.ordered i.placed s deleted v
     ∙ ap (λ es. of_version (shown_all deletes es) s v deleted) (sym (values-view m i.ordered) ∙ ap finmap.values c.self.view_is)
 
@@ -32,7 +33,8 @@ returns-then-counts c =
     let is : counts deleted entry ≡ true = sym c.counts.ensures ∙ c.if-counts.true in
     ap (λ b. cond b (Some entry) None) (sym is)
     ∙ ap (λ e. option_filter (counts deleted) (Some e)) c.shown-entry.ensures
-    ∙ ap (λ o. option_filter (counts deleted) (option_map (shown deletes) o)) (c.in-Some.ensures.value ∙ (λ i. entry_at m (c.in_ok-copy_of.ensures i, v)))
+    ∙ ap (λ o. option_filter (counts deleted) (option_map (shown deletes) o))
+    (c.in-Some.ensures.value ∙ (λ i. entry_at m (c.in_ok-copy_of.ensures i, v)))
     ∙ of_version_shown deletes m i.ordered i.placed s deleted v
     ∙ ap (λ es. of_version (shown_all deletes es) s v deleted) (sym (values-view m i.ordered) ∙ ap finmap.values c.self.view_is)
 
@@ -48,6 +50,7 @@ returns c =
     let isnt : counts deleted entry ≡ false = sym c.counts.ensures ∙ c.if-counts.false in
     ap (λ b. cond b (Some entry) None) (sym isnt)
     ∙ ap (λ e. option_filter (counts deleted) (Some e)) c.shown-entry.ensures
-    ∙ ap (λ o. option_filter (counts deleted) (option_map (shown deletes) o)) (c.in-Some.ensures.value ∙ (λ i. entry_at m (c.in_ok-copy_of.ensures i, v)))
+    ∙ ap (λ o. option_filter (counts deleted) (option_map (shown deletes) o))
+    (c.in-Some.ensures.value ∙ (λ i. entry_at m (c.in_ok-copy_of.ensures i, v)))
     ∙ of_version_shown deletes m i.ordered i.placed s deleted v
     ∙ ap (λ es. of_version (shown_all deletes es) s v deleted) (sym (values-view m i.ordered) ∙ ap finmap.values c.self.view_is)

@@ -15,7 +15,8 @@ use Rattle.reg_entries.proofs.Views.{view-written}
 use Rattle.reg_entries.proofs.entries.Entries.put_twin.Goals as goal
 
 pub write_all-written-requires-clause-old : goal.write_all-written-requires-clause-old
-write_all-written-requires-clause-old c = c.in_ok-old.ensures ∙ ap (λ p. option_map schema_of (entry_at c.self.inside.entries p)) c.in_ok-place.ensures.place
+write_all-written-requires-clause-old c =
+    c.in_ok-old.ensures ∙ ap (λ p. option_map schema_of (entry_at c.self.inside.entries p)) c.in_ok-place.ensures.place
 
 pub invariant_of-self : goal.invariant_of-self
 invariant_of-self c =
@@ -40,8 +41,11 @@ invariant_of-self-in-Err c =
         ordered = i.0.ordered;
         placed = i.0.placed;
         named = i.0.named;
-        top = tops_refreshed a.entries a.entries place (Some c.args.entry) (inr refl) (get_by_text a.tops) (get_by_text c.refresh_top.new.tops) i.0.top
-            (c.refresh_top.ensures.top c.in_ok-leave_room.ensures.room) (λ s apart. c.refresh_top.ensures.others s apart ∙ c.leave_room.ensures.others s apart);
+        top =
+            tops_refreshed a.entries a.entries place (Some c.args.entry) (inr refl)
+            (get_by_text a.tops) (get_by_text c.refresh_top.new.tops) i.0.top
+            (c.refresh_top.ensures.top c.in_ok-leave_room.ensures.room) (λ s apart.
+            c.refresh_top.ensures.others s apart ∙ c.leave_room.ensures.others s apart);
       },
       i.1,
       meant_same a.schemas a.meanings c.mean.new.meanings i.2 c.in-Err.ensures.refused,
@@ -56,20 +60,32 @@ invariant_of-self-2 c =
     let n = c.write_all-written.new.entries in
     let e = c.args.entry in
     let place = c.in_ok-place.place in
-    let ends : HasAt m n (place_of e) (Some e) ⊎ (n.entries ≡ m.entries) = either c.write_all-written.result c.write_all-written.ensures.written c.write_all-written.ensures.refused in
-    let here : HasAt m n place (Some e) ⊎ (n.entries ≡ m.entries) = subst (λ p. HasAt m n p (Some e) ⊎ (n.entries ≡ m.entries)) (sym c.in_ok-place.ensures.place) ends in
+    let ends : HasAt m n (place_of e) (Some e) ⊎ (n.entries ≡ m.entries) =
+    either c.write_all-written.result c.write_all-written.ensures.written c.write_all-written.ensures.refused in
+    let here : HasAt m n place (Some e) ⊎ (n.entries ≡ m.entries) =
+    subst (λ p. HasAt m n p (Some e) ⊎ (n.entries ≡ m.entries)) (sym c.in_ok-place.ensures.place) ends in
     let old_is = c.in_ok-old.ensures ∙ ap (λ p. option_map schema_of (entry_at m p)) c.in_ok-place.ensures.place in
-    let refreshed : (k : Meaning) → (contains meaning_cmp c.refresh_both.new.meanings k ≡ true) ↔ ((contains meaning_cmp c.mean.new.meanings k ≡ true) × (IsMeaningOf (schema_of e) c.in_ok-old.old k → IsMeant c.write_all-written.new.schemas k)) =
-    subst (λ (s : Schema). (k : Meaning) → (contains meaning_cmp c.refresh_both.new.meanings k ≡ true) ↔ ((contains meaning_cmp c.mean.new.meanings k ≡ true) × (IsMeaningOf s c.in_ok-old.old k → IsMeant c.write_all-written.new.schemas k))) c.in_ok-new.ensures c.refresh_both.ensures.refreshed in (
+    let refreshed : (k : Meaning)
+    → (contains meaning_cmp c.refresh_both.new.meanings k ≡ true) ↔ (
+    (contains meaning_cmp c.mean.new.meanings k ≡ true)
+    × (IsMeaningOf (schema_of e) c.in_ok-old.old k → IsMeant c.write_all-written.new.schemas k)) =
+    subst
+    (λ (s : Schema). (k : Meaning)
+    → (contains meaning_cmp c.refresh_both.new.meanings k ≡ true) ↔ (
+    (contains meaning_cmp c.mean.new.meanings k ≡ true)
+    × (IsMeaningOf s c.in_ok-old.old k → IsMeant c.write_all-written.new.schemas k)))
+    c.in_ok-new.ensures c.refresh_both.ensures.refreshed in (
       record {
         ordered = c.write_all-written.ensures.still_ordered;
         placed = c.write_all-written.ensures.still_placed;
         named = c.write_all-written.ensures.still_named;
         top = tops_refreshed m n place (Some e) here (get_by_text a.tops) (get_by_text c.refresh_top-2.new.tops) i.0.top
-            (c.refresh_top-2.ensures.top c.in_ok-leave_room.ensures.room) (λ s apart. c.refresh_top-2.ensures.others s apart ∙ c.leave_room.ensures.others s apart);
+            (c.refresh_top-2.ensures.top c.in_ok-leave_room.ensures.room) (λ s apart.
+            c.refresh_top-2.ensures.others s apart ∙ c.leave_room.ensures.others s apart);
       },
       c.write_all-written.ensures.still_listed,
-      meant_written m n e c.in_ok-old.old i.0.placed (else_same m n (place_of e) (Some e) ends) (here_either m n (place_of e) (Some e) ends) old_is a.schemas c.write_all-written.new.schemas i.1 c.write_all-written.ensures.still_listed
+      meant_written m n e c.in_ok-old.old i.0.placed (else_same m n (place_of e) (Some e) ends) (here_either m n (place_of e) (Some e) ends)
+          old_is a.schemas c.write_all-written.new.schemas i.1 c.write_all-written.ensures.still_listed
           a.meanings c.mean.new.meanings c.refresh_both.new.meanings i.2 c.in_default.ensures.meant refreshed,
       c.refresh_both.ensures.doubled,
     )
@@ -79,8 +95,11 @@ returns-clause-put c =
     let m = c.self.inside.entries in
     let n = c.write_all-written.new.entries in
     let p = place_of c.args.entry in
-    on_ok c.write_all-written.result (λ at. view-written m n p c.args.entry at ∙ ap (λ f. finmap.insert f p c.args.entry) c.self.view_is) c.write_all-written.ensures.written
+    on_ok c.write_all-written.result (λ at.
+    view-written m n p c.args.entry at ∙ ap (λ f. finmap.insert f p c.args.entry) c.self.view_is) c.write_all-written.ensures.written
 
 pub returns-clause-refused : goal.returns-clause-refused
 returns-clause-refused c =
-    on_err c.write_all-written.result (λ same. ap (λ (es : List (Place × Entry)). finmap.from_entries {R = place_cmp} es) same ∙ c.self.view_is) c.write_all-written.ensures.refused
+    on_err c.write_all-written.result (λ same.
+    ap (λ (es : List (Place × Entry)). finmap.from_entries {R = place_cmp} es) same
+    ∙ c.self.view_is) c.write_all-written.ensures.refused

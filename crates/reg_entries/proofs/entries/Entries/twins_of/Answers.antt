@@ -21,7 +21,8 @@ all_here c =
     let m = c.self.inside.entries in
     let s = c.args.subject.now in
     c.in_ok-found.ensures
-    ∙ (λ i. values_of (entries_between place_cmp (Included (c.in_ok-copy_of.ensures i, 0)) (Included (c.in_ok-copy_of-2.ensures i, 4294967295)) m.entries))
+    ∙ (λ i. values_of (
+    entries_between place_cmp (Included (c.in_ok-copy_of.ensures i, 0)) (Included (c.in_ok-copy_of-2.ensures i, 4294967295)) m.entries))
     ∙ between_is_subject s m.entries (at_places m c.self.invariant.0.ordered c.self.invariant.0.placed)
     ∙ ap (λ es. of_subject es s) (sym (values-view m c.self.invariant.0.ordered) ∙ ap finmap.values c.self.view_is)
 
@@ -34,5 +35,7 @@ returns-clause-in_order c =
     let s = c.args.subject.now in
     let i = c.self.invariant.0 in
     let es = values_of m.entries in
-    let rise : AreInVersionOrder (of_subject es s) = versions_rise s (λ e. bytes_eq e.subject s) (λ e. (bytes_eq-Decides e.subject s).0) es (values_in_order m.entries (at_places m i.ordered i.placed) i.ordered) in
-    subst AreInVersionOrder (sym (all_here c ∙ ap (λ es. of_subject es s) (sym (ap finmap.values c.self.view_is) ∙ values-view m i.ordered))) rise
+    let rise : AreInVersionOrder (of_subject es s) = versions_rise s (λ e. bytes_eq e.subject s)
+    (λ e. (bytes_eq-Decides e.subject s).0) es (values_in_order m.entries (at_places m i.ordered i.placed) i.ordered) in
+    subst AreInVersionOrder (
+    sym (all_here c ∙ ap (λ es. of_subject es s) (sym (ap finmap.values c.self.view_is) ∙ values-view m i.ordered))) rise

@@ -14,4 +14,5 @@ returns c =
     c.in_ok-found.ensures
     ∙ ap (shown_all deletes) (ap (map (λ e. e.now)) c.deref.ensures.value ∙ c.in_ok-twins.ensures)
     ∙ shown_with_id deletes id (values_of c.self.inside.entries.entries)
-    ∙ ap (λ es. with_id (shown_all deletes es) id) (sym (values-view c.self.inside.entries c.self.invariant.0.ordered) ∙ ap finmap.values c.self.view_is)
+    ∙ ap (λ es. with_id (shown_all deletes es) id)
+    (sym (values-view c.self.inside.entries c.self.invariant.0.ordered) ∙ ap finmap.values c.self.view_is)

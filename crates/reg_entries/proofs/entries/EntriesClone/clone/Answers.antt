@@ -7,7 +7,8 @@ use Rattle.reg_entries.proofs.entries.EntriesClone.clone.Goals as goal
 pub invariant_of-result : goal.invariant_of-result
 invariant_of-result c =
     let kept = c.self.inside in
-    let same = entries-copied (λ a b. b ≡ a) (λ a b same. same) kept.entries.entries c.in_ok-clone.field-0.entries c.in_ok-clone.ensures.cases in
+    let same =
+    entries-copied (λ a b. b ≡ a) (λ a b same. same) kept.entries.entries c.in_ok-clone.field-0.entries c.in_ok-clone.ensures.cases in
     let schemas = names-copied kept.schemas.keys c.in_ok-clone-4.field-0.keys c.in_ok-clone-4.ensures.cases in
     let meanings = meanings-copied kept.meanings.keys c.in_ok-clone-5.field-0.keys c.in_ok-clone-5.ensures.cases in
     let doubled = ids-copied kept.doubled.keys c.in_ok-clone-6.field-0.keys c.in_ok-clone-6.ensures.cases in (
@@ -22,4 +23,10 @@ invariant_of-result c =
 
 pub returns : goal.returns
 returns c =
-    record { cases = ap finmap.from_entries (entries-copied (λ a b. b ≡ a) (λ a b same. same) c.self.inside.entries.entries c.in_ok-clone.field-0.entries c.in_ok-clone.ensures.cases) ∙ c.self.view_is }
+    record {
+      cases =
+          ap finmap.from_entries (
+          entries-copied (λ a b. b ≡ a)
+          (λ a b same. same) c.self.inside.entries.entries c.in_ok-clone.field-0.entries c.in_ok-clone.ensures.cases)
+          ∙ c.self.view_is;
+    }

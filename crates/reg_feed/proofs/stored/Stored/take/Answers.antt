@@ -10,5 +10,9 @@ invariant_of-self-2 g c =
     let applied = g.V.Fold.applied in
     let longer = c.longer-seen.ensures in
     let took : c.take_item.new.self ≡ applied c.self.inside.value e = search rules in
-    let front : c.longer-seen.result ≡ xs ++ e ∷ [] = next_item xs c.op.inside.seen c.op.invariant.0 c.longer-seen.result e longer.one longer.this longer.that c.op.invariant.1 (omega arith) in
-    took ∙ (ap (λ v. applied v e) c.self.invariant ∙ (sym (fold-append applied g.N.FeedName.first xs (e ∷ [])) ∙ sym (ap (fold applied g.N.FeedName.first) front)))
+    let front : c.longer-seen.result ≡ xs ++ e ∷ [] = next_item xs c.op.inside.seen c.op.invariant.0
+    c.longer-seen.result e longer.one longer.this longer.that c.op.invariant.1 (omega arith) in
+    took
+    ∙ (
+    ap (λ v. applied v e) c.self.invariant
+    ∙ (sym (fold-append applied g.N.FeedName.first xs (e ∷ [])) ∙ sym (ap (fold applied g.N.FeedName.first) front)))

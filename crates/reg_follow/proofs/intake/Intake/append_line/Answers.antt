@@ -8,13 +8,16 @@ use Rattle.reg_follow.proofs.intake.Intake.append_line.Goals as goal
 pub returns-in-Err-clause-refused : goal.returns-in-Err-clause-refused
 returns-in-Err-clause-refused g c text read has =
     let came = subst (λ (x : Came). ComesTo text read x c.next_line.new.self) c.in-Line.is (c.in_ok-read.ensures.came text read has) in
-    subst (λ (s : Following). IsStopped text read intakes.OutOfMemory s) (sym c.in-Err.ensures.refused) (stopped_behind text read c.in-Line.read intakes.OutOfMemory c.next_line.new.self came.0 came.1 tt)
+    subst (λ (s : Following). IsStopped text read intakes.OutOfMemory s) (sym c.in-Err.ensures.refused)
+    (stopped_behind text read c.in-Line.read intakes.OutOfMemory c.next_line.new.self came.0 came.1 tt)
 
 pub returns-in-End-clause-taken : goal.returns-in-End-clause-taken
-returns-in-End-clause-taken g c text read has = subst (λ (x : Came). ComesTo text read x c.next_line.new.self) c.in-End.is (c.in_ok-read.ensures.came text read has)
+returns-in-End-clause-taken g c text read has =
+    subst (λ (x : Came). ComesTo text read x c.next_line.new.self) c.in-End.is (c.in_ok-read.ensures.came text read has)
 
 pub returns-in-Nothing-clause-taken : goal.returns-in-Nothing-clause-taken
-returns-in-Nothing-clause-taken g c text read has = subst (λ (x : Came). ComesTo text read x c.next_line.new.self) c.in-Nothing.is (c.in_ok-read.ensures.came text read has)
+returns-in-Nothing-clause-taken g c text read has =
+    subst (λ (x : Came). ComesTo text read x c.next_line.new.self) c.in-Nothing.is (c.in_ok-read.ensures.came text read has)
 
 pub returns-in-Ok-clause-taken : goal.returns-in-Ok-clause-taken
 returns-in-Ok-clause-taken g c text read has =
@@ -23,4 +26,5 @@ returns-in-Ok-clause-taken g c text read has =
 
 pub returns-in-Floor-clause-taken : goal.returns-in-Floor-clause-taken
 returns-in-Floor-clause-taken g c text read has =
-    more_of_none text read c.next_line.new.self (subst (λ (x : Came). ComesTo text read x c.next_line.new.self) c.in-Floor.is (c.in_ok-read.ensures.came text read has))
+    more_of_none text read c.next_line.new.self (
+    subst (λ (x : Came). ComesTo text read x c.next_line.new.self) c.in-Floor.is (c.in_ok-read.ensures.came text read has))

@@ -5,4 +5,5 @@ use Rattle.reg_follow.proofs.intake.Intake.append_lines.Given as goal
 
 -- more lines were taken
 abbrev pub invariant-loop-line : goal.invariant-loop-line
-invariant-loop-line g l = (text : List ℕ) (read : List Read) → HasTaken text read l.fn.self → (more : List Read) × HasTaken text (read ++ more) l.self
+invariant-loop-line g l =
+    (text : List ℕ) (read : List Read) → HasTaken text read l.fn.self → (more : List Read) × HasTaken text (read ++ more) l.self

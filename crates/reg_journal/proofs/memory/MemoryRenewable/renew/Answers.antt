@@ -4,4 +4,5 @@ use Rattle.reg_journal.proofs.memory.MemoryRenewable.renew.Goals as goal
 pub returns-clause-time : goal.returns-clause-time
 returns-clause-time c known =
     let past = c.in_ok-replace.ensures.past in
-    elapses_to c.args.self.now.past.items c.replace.new.past.items past.0 c.args.self.now.bytes.items c.replace.new.bytes.items past.1 past.2
+    elapses_to c.args.self.now.past.items c.replace.new.past.items past.0
+    c.args.self.now.bytes.items c.replace.new.bytes.items past.1 past.2

@@ -5,4 +5,5 @@ use Rattle.reg_judge.proofs.judge.Judge.has.Given as goal
 
 -- what is left decides
 abbrev pub invariant-loop-pair : goal.invariant-loop-pair
-invariant-loop-pair l = has_pair (pairs_of l.pair-iterator) (l.reader_text, l.writer_text) ≡ has_pair l.self.pairs (l.reader_text, l.writer_text)
+invariant-loop-pair l =
+    has_pair (pairs_of l.pair-iterator) (l.reader_text, l.writer_text) ≡ has_pair l.self.pairs (l.reader_text, l.writer_text)

@@ -33,17 +33,23 @@ use Rattle.reg_judge.proofs.kept_schema.KeptSchema.into_schema.Code as compiled
 pub into_schema_spec : {M : Type 1} → statement M
 into_schema_spec 𝓤 𝓛 𝓜 𝓡 wired =
     let H = 𝓛.H in let C = (tables 𝓤 H 𝓜 𝓡 𝓡.env).C in let Λ = (tables 𝓤 H 𝓜 𝓡 𝓡.env).Λ in
-    let c = clauses 𝓛 𝓜.mem 𝓡.returns in let fn : Fn = compiled.function in let R : RattleType = schema.the_row in let K : RattleType = kept.the_row in
+    let c = clauses 𝓛 𝓜.mem 𝓡.returns in
+    let fn : Fn = compiled.function in let R : RattleType = schema.the_row in let K : RattleType = kept.the_row in
     let stays : Stays ended.signature.params ended.kept = (stay_dropped (plain (λ _. K)) ended.kept.0, tt) in
-    proved_at 𝓛 ended stays c 𝓜 𝓡 (Goes-blank 𝓛 0 (plain (λ _. K)) ended.kept.0 (λ κs x f. tt), tt) #self fn (compiled.unfolded 𝓤 H 𝓜 𝓡 wired) (λ z are.
+    proved_at 𝓛 ended stays c 𝓜 𝓡 (Goes-blank 𝓛 0 (plain (λ _. K)) ended.kept.0 (λ κs x f. tt), tt) #self fn
+    (compiled.unfolded 𝓤 H 𝓜 𝓡 wired) (λ z are.
     let Post : Val → SProp 𝓤 = (walk_of 𝓛 ended stays c).post z in
     let a = z.0.3 in let vss = z.0.4 in let x = a.0.schema in
-    qed 𝓛 ((raw (alive 𝓛 ended.signature z.0.0 z.0.1) ⊛ ‵ (owns (types_at ended.signature.params z.0.0) a vss)) ∷ raw ((c z.0.0 a).requires z.1) ∷ []) ∵
-    split ! $ move ! (1 ∷ []) $ fsplit ! $ fsplit ! $ fpick ! (λ ws. fsplit ! $ feq_l ! (λ is. fsplit ! $ peeks ! R (Is R) (shows 𝓛 R) x ws.0 (λ so.
+    qed 𝓛 (
+    (raw (alive 𝓛 ended.signature z.0.0 z.0.1) ⊛ ‵ (owns (types_at ended.signature.params z.0.0) a vss))
+    ∷ raw ((c z.0.0 a).requires z.1) ∷ []) ∵
+    split ! $ move ! (1 ∷ []) $ fsplit ! $ fsplit ! $ fpick !
+    (λ ws. fsplit ! $ feq_l ! (λ is. fsplit ! $ peeks ! R (Is R) (shows 𝓛 R) x ws.0 (λ so.
     let got = one (layout R) ws.0 ((laws.the_row_laws.lawful 𝓛).typed x ws.0 so) in
     let w : Val = got.0 in let good = got.2 in
     rewrite ! 0 (λ (us : List Val). ‵ (R.own_val x us)) got.1 refl $ keep ! (0 ∷ 4 ∷ []) $
-    regoal ! (λ (us : List Val). prop (WpFn 𝓤 H C Λ fn us Post)) (λ i. (is ∙ ap (λ (us : List Val). vstruct (of_list (us ++ [])) ∷ []) got.1) i ++ []) refl $
+    regoal ! (λ (us : List Val). prop (WpFn 𝓤 H C Λ fn us Post))
+    (λ i. (is ∙ ap (λ (us : List Val). vstruct (of_list (us ++ [])) ∷ []) got.1) i ++ []) refl $
     enter ! C Λ fn (round w ∷ []) Post $ alloc_all ! (λ l. pass_all ! refl ((and_tt _ good.0, (good.1, tt)), tt) $
     sets ! (of_opd ! (get_in ! (fld ! refl (stop !)) (sub ! 0 refl (whole !)))) refl good $
     sets ! (of_opd ! (get ! refl)) refl good $

@@ -34,18 +34,22 @@ of_spec 𝓤 𝓛 𝓜 𝓡 wired =
     let H = 𝓛.H in let C = (tables 𝓤 H 𝓜 𝓡 𝓡.env).C in let Λ = (tables 𝓤 H 𝓜 𝓡 𝓡.env).Λ in
     let c = clauses 𝓛 𝓜.mem 𝓡.returns in let fn : Fn = compiled.function in let R : RattleType = schema.the_row in
     let stays : Stays ended.signature.params ended.kept = (stay_dropped (plain (λ _. R)) ended.kept.0, tt) in
-    proved_at 𝓛 ended stays c 𝓜 𝓡 (Goes-blank 𝓛 0 (plain (λ _. R)) ended.kept.0 (λ κs x f. tt), tt) #self fn (compiled.unfolded 𝓤 H 𝓜 𝓡 wired) (λ z are.
+    proved_at 𝓛 ended stays c 𝓜 𝓡 (Goes-blank 𝓛 0 (plain (λ _. R)) ended.kept.0 (λ κs x f. tt), tt) #self fn
+    (compiled.unfolded 𝓤 H 𝓜 𝓡 wired) (λ z are.
     let Post : Val → SProp 𝓤 = (walk_of 𝓛 ended stays c).post z in
     let a = z.0.3 in let vss = z.0.4 in let x = a.0 in
     let got = one (layout R) vss.0 ((laws.the_row_laws.lawful 𝓛).typed x vss.0 are.0) in
     let w : Val = got.0 in let good = got.2 in
-    qed 𝓛 ((raw (alive 𝓛 ended.signature z.0.0 z.0.1) ⊛ ‵ (owns (types_at ended.signature.params z.0.0) a vss)) ∷ raw ((c z.0.0 a).requires z.1) ∷ []) ∵
+    qed 𝓛 (
+    (raw (alive 𝓛 ended.signature z.0.0 z.0.1) ⊛ ‵ (owns (types_at ended.signature.params z.0.0) a vss))
+    ∷ raw ((c z.0.0 a).requires z.1) ∷ []) ∵
     move ! (1 ∷ []) $ drop ! $ split ! $ move ! (1 ∷ []) $ fsplit ! $ move ! (1 ∷ []) $ drop ! $
     rewrite ! 0 (λ (us : List Val). ‵ (R.own_val x us)) got.1 refl $
     regoal ! (λ (us : List Val). prop (WpFn 𝓤 H C Λ fn us Post)) (λ i. got.1 i ++ []) refl $
     nothing ! $ move ! (1 ∷ 0 ∷ []) $ fjoin ! $
     feq_i ! (List Val) (round w ∷ []) (round w ∷ []) refl $ fjoin ! $
-    fpack ! (Valss (R ∷ [])) (λ us. fsep (feq (List Val) (round w ∷ []) (vstruct (of_list (us.0 ++ [])) ∷ [])) (owns (R ∷ []) (x, tt) us)) (w ∷ [], tt) $
+    fpack ! (Valss (R ∷ []))
+    (λ us. fsep (feq (List Val) (round w ∷ []) (vstruct (of_list (us.0 ++ [])) ∷ [])) (owns (R ∷ []) (x, tt) us)) (w ∷ [], tt) $
     nothing ! $ move ! (1 ∷ 0 ∷ []) $ fjoin ! $
     enter ! C Λ fn (w ∷ []) Post $ alloc_all ! (λ l. pass_all ! refl (good, tt) $
     sets ! (of_opd ! (get ! refl)) refl good $

@@ -9,4 +9,6 @@ pub returns : goal.returns
 returns c =
     IfOk-weaker c.answer_on.result _ _ (λ a told rs subject which taken.
     told_of_all (checked_on rs subject which).level c.args.text.now c.args.verbose (olds_of (entries rs) subject which) a
-    (subst (λ (g : CheckedOn). TellsVerdict g.level c.args.text.now c.args.verbose (asked_on g.olds c.args.text.now) a) (c.self.view_is ∙ taken) told)) c.answer_on.ensures
+    (subst (λ (g : CheckedOn). TellsVerdict g.level c.args.text.now c.args.verbose (asked_on g.olds c.args.text.now) a)
+    (c.self.view_is ∙ taken) told))
+    c.answer_on.ensures

@@ -16,4 +16,6 @@ returns c =
     let rs = c.args.registry.now in
     stands c.level-level.result (level rs (Some c.args.subject.now)) _ (texts_of (live rs c.args.subject.now))
     (c.level-level.ensures ∙ ap (λ subject. level rs (Some subject)) c.as_str.ensures)
-    (c.in_ok-olds.ensures ∙ ap (λ es. texts_of (map (λ e. e.now) es)) c.deref.ensures.value ∙ ap texts_of (c.in_ok-live.ensures.all ∙ ap (live rs) c.as_str-2.ensures))
+    (c.in_ok-olds.ensures
+    ∙ ap (λ es. texts_of (map (λ e. e.now) es)) c.deref.ensures.value
+    ∙ ap texts_of (c.in_ok-live.ensures.all ∙ ap (live rs) c.as_str-2.ensures))

@@ -9,7 +9,9 @@ pub returns : goal.returns
 returns c =
     let rs = c.args.registry.now in
     let same : c.level.result ≡ c.self.inside.level = search rules in
-    stands_over rs c.args.subject.now c.args.self.now c.self.inside.level c.self.inside.olds c.deref.result.now c.are_texts_of.result c.self.view_is
+    stands_over rs c.args.subject.now c.args.self.now c.self.inside.level
+    c.self.inside.olds c.deref.result.now c.are_texts_of.result c.self.view_is
     (sym same ∙ c.level.ensures ∙ ap (λ subject. level rs (Some subject)) c.as_str.ensures)
     (ap (map (λ e. e.now)) c.deref.ensures.value ∙ c.in_ok-live.ensures.all ∙ ap (live rs) c.as_str-2.ensures)
-    (subst (λ (olds : List VersionText). IsTrue c.are_texts_of.result ↔ (olds ≡ map (λ e. (e.now.version, e.now.text)) c.deref.result.now)) c.as_slice.ensures c.are_texts_of.ensures)
+    (subst (λ (olds : List VersionText). IsTrue c.are_texts_of.result ↔ (olds ≡ map (λ e. (e.now.version, e.now.text)) c.deref.result.now))
+    c.as_slice.ensures c.are_texts_of.ensures)

@@ -16,7 +16,8 @@ invariant_of-self g c =
     let before = c.self.inside.out.value in
     let rest = c.self.inside.rest.items in
     let ds : List Draw = before.0 ++ (before.1 ++ rest) in
-    let caught : IsCaught first front ds c.self.inside.upto = c.followers_catch_up.ensures.stays first c.self.inside.topic front ds c.self.inside.upto c.read_news.ensures.longer c.self.invariant.2 in
+    let caught : IsCaught first front ds c.self.inside.upto = c.followers_catch_up.ensures.stays first
+    c.self.inside.topic front ds c.self.inside.upto c.read_news.ensures.longer c.self.invariant.2 in
     (c.self.invariant.0, c.self.invariant.1, caught, c.self.invariant.3)
 
 pub invariant_of-self-then-is_nothing : goal.invariant_of-self-then-is_nothing
@@ -26,18 +27,24 @@ invariant_of-self-then-is_nothing g c =
     let before = c.self.inside.out.value in
     let rest = c.self.inside.rest.items in
     let ds : List Draw = before.0 ++ (before.1 ++ rest) in
-    let caught : IsCaught first front ds c.self.inside.upto = c.followers_catch_up.ensures.stays first c.self.inside.topic front ds c.self.inside.upto c.read_news.ensures.longer c.self.invariant.2 in
+    let caught : IsCaught first front ds c.self.inside.upto = c.followers_catch_up.ensures.stays first
+    c.self.inside.topic front ds c.self.inside.upto c.read_news.ensures.longer c.self.invariant.2 in
     let records : List Record = c.in_ok-found.found.records.items in
     let below : Option (List Record) = c.in_ok-found.found.below in
     let news : IsNews (held_of (topic_at first front)) (floor_of ds) c.self.inside.upto below records =
-    subst (λ (f : ℕ). IsNews (held_of (topic_at first front)) f c.self.inside.upto below records) c.self.invariant.3 c.in_ok-found.ensures.news in
+    subst (λ (f : ℕ).
+    IsNews (held_of (topic_at first front)) f c.self.inside.upto below records) c.self.invariant.3 c.in_ok-found.ensures.news in
     let found = c.followers_catch_up.ensures.news first front ds c.self.inside.upto below records c.self.invariant.1 caught news in
     let no_base : below ≡ None = search rules in
     let no_record : records ≡ [] = search rules in
     let kept = (topic_at first front).kept in
     let none : draws_of (length front) kept.floor below records ≡ [] = λ i. draws_of (length front) kept.floor (no_base i) (no_record i) in
-    let now : IsCaughtUp first front ds = subst (IsCaughtUp first front) (ap (λ (w : List Draw). ds ++ w) none ∙ append-nil ds) found.0 in
-    (c.self.invariant.0, c.self.invariant.1, subst (IsCaught first front ds) (sym {A = ℕ} c.in_ok-found.ensures.next) now.caught, c.self.invariant.3)
+    let now : IsCaughtUp first front ds = subst (IsCaughtUp first front) (ap (λ (w : List Draw). ds ++ w) none ∙ append-nil ds) found.0 in (
+      c.self.invariant.0,
+      c.self.invariant.1,
+      subst (IsCaught first front ds) (sym {A = ℕ} c.in_ok-found.ensures.next) now.caught,
+      c.self.invariant.3,
+    )
 
 pub returns-then-is_nothing-clause-compaction : goal.returns-then-is_nothing-clause-compaction
 returns-then-is_nothing-clause-compaction g c =
@@ -46,11 +53,13 @@ returns-then-is_nothing-clause-compaction g c =
     let before = c.self.inside.out.value in
     let rest = c.self.inside.rest.items in
     let ds : List Draw = before.0 ++ (before.1 ++ rest) in
-    let caught : IsCaught first front ds c.self.inside.upto = c.followers_catch_up.ensures.stays first c.self.inside.topic front ds c.self.inside.upto c.read_news.ensures.longer c.self.invariant.2 in
+    let caught : IsCaught first front ds c.self.inside.upto = c.followers_catch_up.ensures.stays first
+    c.self.inside.topic front ds c.self.inside.upto c.read_news.ensures.longer c.self.invariant.2 in
     let records : List Record = c.in_ok-found.found.records.items in
     let below : Option (List Record) = c.in_ok-found.found.below in
     let news : IsNews (held_of (topic_at first front)) (floor_of ds) c.self.inside.upto below records =
-    subst (λ (f : ℕ). IsNews (held_of (topic_at first front)) f c.self.inside.upto below records) c.self.invariant.3 c.in_ok-found.ensures.news in
+    subst (λ (f : ℕ).
+    IsNews (held_of (topic_at first front)) f c.self.inside.upto below records) c.self.invariant.3 c.in_ok-found.ensures.news in
     let found = c.followers_catch_up.ensures.news first front ds c.self.inside.upto below records c.self.invariant.1 caught news in
     let no_base : below ≡ None = search rules in
     let no_record : records ≡ [] = search rules in
@@ -66,7 +75,8 @@ invariant_of-self-in_err-add_draws g c =
     let before = c.self.inside.out.value in
     let rest = c.self.inside.rest.items in
     let ds : List Draw = before.0 ++ (before.1 ++ rest) in
-    let caught : IsCaught first front ds c.self.inside.upto = c.followers_catch_up.ensures.stays first c.self.inside.topic front ds c.self.inside.upto c.read_news.ensures.longer c.self.invariant.2 in
+    let caught : IsCaught first front ds c.self.inside.upto = c.followers_catch_up.ensures.stays first
+    c.self.inside.topic front ds c.self.inside.upto c.read_news.ensures.longer c.self.invariant.2 in
     let same : rest ≡ c.add_draws.new.draws.items = sym {A = List Draw} c.in_err-add_draws.ensures.refused in (
       c.self.invariant.0,
       c.self.invariant.1,
@@ -81,11 +91,13 @@ invariant_of-self-2 g c =
     let before = c.self.inside.out.value in
     let rest = c.self.inside.rest.items in
     let ds : List Draw = before.0 ++ (before.1 ++ rest) in
-    let caught : IsCaught first front ds c.self.inside.upto = c.followers_catch_up.ensures.stays first c.self.inside.topic front ds c.self.inside.upto c.read_news.ensures.longer c.self.invariant.2 in
+    let caught : IsCaught first front ds c.self.inside.upto = c.followers_catch_up.ensures.stays first
+    c.self.inside.topic front ds c.self.inside.upto c.read_news.ensures.longer c.self.invariant.2 in
     let records : List Record = c.in_ok-found.found.records.items in
     let below : Option (List Record) = c.in_ok-found.found.below in
     let news : IsNews (held_of (topic_at first front)) (floor_of ds) c.self.inside.upto below records =
-    subst (λ (f : ℕ). IsNews (held_of (topic_at first front)) f c.self.inside.upto below records) c.self.invariant.3 c.in_ok-found.ensures.news in
+    subst (λ (f : ℕ).
+    IsNews (held_of (topic_at first front)) f c.self.inside.upto below records) c.self.invariant.3 c.in_ok-found.ensures.news in
     let found = c.followers_catch_up.ensures.news first front ds c.self.inside.upto below records c.self.invariant.1 caught news in
     let kept = (topic_at first front).kept in
     let more : List Draw = draws_of (length front) kept.floor below records in
@@ -109,11 +121,13 @@ returns-clause-pulled g c =
     let before = c.self.inside.out.value in
     let rest = c.self.inside.rest.items in
     let ds : List Draw = before.0 ++ (before.1 ++ rest) in
-    let caught : IsCaught first front ds c.self.inside.upto = c.followers_catch_up.ensures.stays first c.self.inside.topic front ds c.self.inside.upto c.read_news.ensures.longer c.self.invariant.2 in
+    let caught : IsCaught first front ds c.self.inside.upto = c.followers_catch_up.ensures.stays first
+    c.self.inside.topic front ds c.self.inside.upto c.read_news.ensures.longer c.self.invariant.2 in
     let records : List Record = c.in_ok-found.found.records.items in
     let below : Option (List Record) = c.in_ok-found.found.below in
     let news : IsNews (held_of (topic_at first front)) (floor_of ds) c.self.inside.upto below records =
-    subst (λ (f : ℕ). IsNews (held_of (topic_at first front)) f c.self.inside.upto below records) c.self.invariant.3 c.in_ok-found.ensures.news in
+    subst (λ (f : ℕ).
+    IsNews (held_of (topic_at first front)) f c.self.inside.upto below records) c.self.invariant.3 c.in_ok-found.ensures.news in
     let found = c.followers_catch_up.ensures.news first front ds c.self.inside.upto below records c.self.invariant.1 caught news in
     let kept = (topic_at first front).kept in
     let more : List Draw = draws_of (length front) kept.floor below records in
@@ -123,7 +137,8 @@ returns-clause-pulled g c =
     let added : after ≡ rest ++ more = c.in_ok-add_draws.ensures.added ∙ (λ i. rest ++ draws_of (read i) (floor i) below records) in
     let same = more_behind before.0 before.1 rest more after added in
     let now : IsCaughtUp first front (before.0 ++ (before.1 ++ after)) = subst (IsCaughtUp first front) same found.0 in
-    let pending : before.1 ++ after ≡ (before.1 ++ rest) ++ more = ap (λ (w : List Draw). before.1 ++ w) added ∙ sym {A = List Draw} (append_assoc before.1 rest more) in
+    let pending : before.1 ++ after ≡ (before.1 ++ rest) ++ more =
+    ap (λ (w : List Draw). before.1 ++ w) added ∙ sym {A = List Draw} (append_assoc before.1 rest more) in
     let some : (read floor : ℕ) → draws_of read floor below records ≢ [] = search rules in
     let pulls : Pulls first front (before.0, before.1 ++ rest) (before.0, before.1 ++ after) = record {
       below = below;
@@ -144,11 +159,13 @@ returns-clause-compaction g c =
     let before = c.self.inside.out.value in
     let rest = c.self.inside.rest.items in
     let ds : List Draw = before.0 ++ (before.1 ++ rest) in
-    let caught : IsCaught first front ds c.self.inside.upto = c.followers_catch_up.ensures.stays first c.self.inside.topic front ds c.self.inside.upto c.read_news.ensures.longer c.self.invariant.2 in
+    let caught : IsCaught first front ds c.self.inside.upto = c.followers_catch_up.ensures.stays first
+    c.self.inside.topic front ds c.self.inside.upto c.read_news.ensures.longer c.self.invariant.2 in
     let records : List Record = c.in_ok-found.found.records.items in
     let below : Option (List Record) = c.in_ok-found.found.below in
     let news : IsNews (held_of (topic_at first front)) (floor_of ds) c.self.inside.upto below records =
-    subst (λ (f : ℕ). IsNews (held_of (topic_at first front)) f c.self.inside.upto below records) c.self.invariant.3 c.in_ok-found.ensures.news in
+    subst (λ (f : ℕ).
+    IsNews (held_of (topic_at first front)) f c.self.inside.upto below records) c.self.invariant.3 c.in_ok-found.ensures.news in
     let found = c.followers_catch_up.ensures.news first front ds c.self.inside.upto below records c.self.invariant.1 caught news in
     let kept = (topic_at first front).kept in
     let more : List Draw = draws_of (length front) kept.floor below records in

@@ -9,7 +9,8 @@ lend-requires-clause-may g c =
     let d = c.decision-batch.result in
     let same : c.in-Ok.command ≡ c.args.command.now = search rules in
     let first : IsFirst d.batch (Some c.in-Some.first) = search rules in
-    may_commit (base_of g.N.FeedName.first) c.args.self.now.published c.args.command.now c.in-Ok.command d c.in-Some.first same c.decision-batch.ensures first
+    may_commit (base_of g.N.FeedName.first) c.args.self.now.published c.args.command.now
+    c.in-Ok.command d c.in-Some.first same c.decision-batch.ensures first
 
 pub returns-clause-acts : goal.returns-clause-acts
 returns-clause-acts g c =
@@ -17,4 +18,5 @@ returns-clause-acts g c =
     let same : c.in-Ok.command ≡ c.args.command.now = search rules in
     let first : IsFirst d.batch (Some c.in-Some.first) = search rules in
     let lent = c.lend.ensures.lent in
-    lends g.K.Keep.keeps (base_of g.N.FeedName.first) c.args.self.now c.lend.new.self c.args.command.now c.in-Ok.command d c.in-Some.first lent.0 lent.1 c.lend.result same c.decision-batch.ensures first lent.2 lent.3
+    lends g.K.Keep.keeps (base_of g.N.FeedName.first) c.args.self.now c.lend.new.self c.args.command.now
+    c.in-Ok.command d c.in-Some.first lent.0 lent.1 c.lend.result same c.decision-batch.ensures first lent.2 lent.3

@@ -13,17 +13,29 @@ invariant_of-self g c =
     let s = c.self.inside in
     let clear : s.writer.value.1 ++ option_to_list s.held ≡ [] = search rules in
     let may : MayFollow (after_items (base_of g.N.FeedName.first) s.writer.value.0) c.args.item = search rules in
-    let held = held_pen (base_of g.N.FeedName.first) s.writer.value.0 s.writer.value.1 (option_to_list s.held) c.args.item c.args.pending c.self.invariant.0 clear may c.requires.pending in
+    let held = held_pen (base_of g.N.FeedName.first) s.writer.value.0 s.writer.value.1
+    (option_to_list s.held) c.args.item c.args.pending c.self.invariant.0 clear may c.requires.pending in
     let xs : List Item = s.writer.value.0 in
     let here : AreOf (after_items (base_of g.N.FeedName.first) xs) s.floor s.next =
     subst (λ (ys : List Item). AreOf (after_items (base_of g.N.FeedName.first) ys) s.floor s.next) (append-nil xs)
     (subst (λ (ys : List Item). AreOf (after_items (base_of g.N.FeedName.first) (xs ++ ys)) s.floor s.next) clear c.self.invariant.3) in
     let turn = c.lawful_items_follow.ensures.in_turn in
     let ahead = are_after_one c.commits_follow.ensures turn (base_of g.N.FeedName.first) xs c.args.item s.floor s.next may here in
-    let alone : s.writer.value.1 ++ c.args.item ∷ [] ≡ c.args.item ∷ [] = held_alone s.writer.value.1 (option_to_list s.held) c.args.item clear in
-    let now : AreOf (after_items (base_of g.N.FeedName.first) (xs ++ (s.writer.value.1 ++ c.args.item ∷ []))) (after c.args.item s.floor s.next).0 (after c.args.item s.floor s.next).1 =
-    subst (λ (ys : List Item). AreOf (after_items (base_of g.N.FeedName.first) (xs ++ ys)) (after c.args.item s.floor s.next).0 (after c.args.item s.floor s.next).1) (sym alone) ahead in
-    (held.0, held.1, c.self.invariant.2, subst (λ (p : ℕ × ℕ). AreOf (after_items (base_of g.N.FeedName.first) (xs ++ (s.writer.value.1 ++ c.args.item ∷ []))) p.0 p.1) (sym c.after.ensures) now)
+    let alone : s.writer.value.1 ++ c.args.item ∷ [] ≡ c.args.item ∷ [] =
+    held_alone s.writer.value.1 (option_to_list s.held) c.args.item clear in
+    let now : AreOf (after_items (base_of g.N.FeedName.first) (xs ++ (s.writer.value.1 ++ c.args.item ∷ [])))
+    (after c.args.item s.floor s.next).0 (after c.args.item s.floor s.next).1 =
+    subst
+    (λ (ys : List Item).
+    AreOf (after_items (base_of g.N.FeedName.first) (xs ++ ys))
+    (after c.args.item s.floor s.next).0 (after c.args.item s.floor s.next).1)
+    (sym alone) ahead in (
+      held.0,
+      held.1,
+      c.self.invariant.2,
+      subst (λ (p : ℕ × ℕ). AreOf (after_items (base_of g.N.FeedName.first) (xs ++ (s.writer.value.1 ++ c.args.item ∷ []))) p.0 p.1)
+          (sym c.after.ensures) now,
+    )
 
 pub returns : goal.returns
 returns g c =
@@ -32,7 +44,8 @@ returns g c =
     let alone = held_alone s.writer.value.1 (option_to_list s.held) c.args.item clear in
     let published : s.writer.value.0 ≡ c.args.self.now.published = search rules in
     let keep : s.keep ≡ c.args.self.now.keep = search rules in
-    same_state s.writer.value.0 c.args.self.now.published (s.writer.value.1 ++ c.args.item ∷ []) (c.args.item ∷ []) (is_lost c.args.pending) s.keep c.args.self.now.keep published alone keep
+    same_state s.writer.value.0 c.args.self.now.published (s.writer.value.1 ++ c.args.item ∷ [])
+    (c.args.item ∷ []) (is_lost c.args.pending) s.keep c.args.self.now.keep published alone keep
 
 pub after-requires : goal.after-requires
 after-requires g c =

@@ -32,10 +32,16 @@ invariant_of-self-2 g c =
     let rest : c.publish.new.self.1 ≡ [] = search rules in
     let clear = none_pending c.publish.new.self.1 c.hand_over.new.held rest none in
     let count : c.with_batch-self-inside.result ≡ batches (xs ++ ys) =
-    c.with_batch-self-inside.ensures ∙ (ap (λ n. n + batches_in c.self.inside.pending) c.self.invariant.2 ∙ sym (with_pending c.self.inside.pending xs ys c.self.invariant.1)) in
+    c.with_batch-self-inside.ensures
+    ∙ (
+    ap (λ n. n + batches_in c.self.inside.pending) c.self.invariant.2 ∙ sym (with_pending c.self.inside.pending xs ys c.self.invariant.1))
+    in
     let pen = settled_pen c.lawful_items_follow.ensures.go_on (base_of g.N.FeedName.first) xs ys c.self.invariant.0 in (
-      subst (λ (w : List Item). IsPen (base_of g.N.FeedName.first) c.publish.new.self.0 w) (sym clear) (subst (λ (w : List Item). IsPen (base_of g.N.FeedName.first) w []) (sym whole) pen),
+      subst (λ (w : List Item). IsPen (base_of g.N.FeedName.first) c.publish.new.self.0 w) (sym clear)
+          (subst (λ (w : List Item). IsPen (base_of g.N.FeedName.first) w []) (sym whole) pen),
       clear,
       count ∙ ap batches (sym whole),
-      subst (λ (w : List Item). AreOf (after_items (base_of g.N.FeedName.first) w) c.self.inside.floor c.self.inside.next) (sym (all c.publish.new.self.0 (c.publish.new.self.1 ++ option_to_list c.hand_over.new.held) (xs ++ ys) whole clear)) c.self.invariant.3,
+      subst (λ (w : List Item). AreOf (after_items (base_of g.N.FeedName.first) w) c.self.inside.floor c.self.inside.next) (sym (
+          all c.publish.new.self.0 (c.publish.new.self.1 ++ option_to_list c.hand_over.new.held) (xs ++ ys) whole clear))
+          c.self.invariant.3,
     )

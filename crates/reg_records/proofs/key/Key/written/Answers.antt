@@ -10,7 +10,8 @@ use Rattle.reg_records.specs.Written.{written_key}
 use Rattle.reg_records.proofs.key.Key.written.Goals as goal
 
 abbrev text_of : List ℕ → Option (List ℕ) → List ℕ
-text_of kind scope = codes "{\"keytype\":\"" ++ kind ++ codes "\",\"subject\":" ++ compact_text (option_map_or string scope null) ++ codes ",\"magic\":0}"
+text_of kind scope =
+    codes "{\"keytype\":\"" ++ kind ++ codes "\",\"subject\":" ++ compact_text (option_map_or string scope null) ++ codes ",\"magic\":0}"
 
 config_text : (scope : Option (List ℕ)) → text_of (codes "CONFIG") scope ≡ written_key (Config scope)
 unfolding written_key escape_byte digits
@@ -31,7 +32,9 @@ pub returns-in-Mode : goal.returns-in-Mode
 returns-in-Mode c = search (rules, mode_text)
 
 pub returns-in-DeleteSubject : goal.returns-in-DeleteSubject
-returns-in-DeleteSubject c = rw c.in-DeleteSubject.is (IfOk-weaker c.scope_key_text-in-DeleteSubject.result _ _ (λ text is. is ∙ delete_text _) c.scope_key_text-in-DeleteSubject.ensures)
+returns-in-DeleteSubject c =
+    rw c.in-DeleteSubject.is (
+    IfOk-weaker c.scope_key_text-in-DeleteSubject.result _ _ (λ text is. is ∙ delete_text _) c.scope_key_text-in-DeleteSubject.ensures)
 
 pub returns-in-Noop : goal.returns-in-Noop
 unfolding written_key escape_byte digits

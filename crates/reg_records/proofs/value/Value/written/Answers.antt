@@ -7,7 +7,8 @@ use Rattle.reg_records.proofs.value.Value.written.Goals.{in-Mode+in_ok-text-in-M
 use Rattle.reg_records.proofs.value.Value.written.Goals.{in-DeleteSubject+in_ok-text-in-DeleteSubject, in-IdMark+in_ok-text-in-IdMark}
 use Rattle.reg_records.proofs.value.Value.written.Goals as goal
 
-config_text : (level : List ℕ) → Some (codes "{\"" ++ codes "compatibilityLevel" ++ codes "\":" ++ quoted level ++ codes "}") ≡ written_value (Config level)
+config_text : (level : List ℕ)
+    → Some (codes "{\"" ++ codes "compatibilityLevel" ++ codes "\":" ++ quoted level ++ codes "}") ≡ written_value (Config level)
 unfolding written_value escape_byte
 config_text level = simp append_assoc
 

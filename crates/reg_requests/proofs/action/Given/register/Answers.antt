@@ -12,4 +12,6 @@ returns-in-Ok c =
 pub returns-in-Err : goal.returns-in-Err
 returns-in-Err c =
     ap (map_ok (λ command. asked.Command command))
-    (sym c.in-Err.is ∙ c.in_ok-command.ensures ∙ ap (λ subject. registration_in subject (view c.args.self.now.object.now)) c.subject.ensures)
+    (sym c.in-Err.is
+    ∙ c.in_ok-command.ensures
+    ∙ ap (λ subject. registration_in subject (view c.args.self.now.object.now)) c.subject.ensures)

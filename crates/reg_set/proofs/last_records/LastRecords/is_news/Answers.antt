@@ -12,7 +12,8 @@ returns-in-Some-clause-news c = λ yes.
     let r = c.args.given.now in
     let m = c.self.inside.by_key in
     let is : last_at m r.key ≡ Some c.in-Some.last.now = search rules in
-    let there : last S r.key ≡ Some c.in-Some.last.now = ap (λ s. last s r.key) (sym c.self.view_is) ∙ last-set_of m c.self.invariant r.key ∙ is in
+    let there : last S r.key ≡ Some c.in-Some.last.now =
+    ap (λ s. last s r.key) (sym c.self.view_is) ∙ last-set_of m c.self.invariant r.key ∙ is in
     new-changes S r (ap (λ o. is_new o r) there ∙ sym c.is_older.ensures ∙ yes)
 
 pub returns-in-Some-clause-no_news : goal.returns-in-Some-clause-no_news
@@ -21,7 +22,8 @@ returns-in-Some-clause-no_news c = λ no.
     let r = c.args.given.now in
     let m = c.self.inside.by_key in
     let is : last_at m r.key ≡ Some c.in-Some.last.now = search rules in
-    let there : last S r.key ≡ Some c.in-Some.last.now = ap (λ s. last s r.key) (sym c.self.view_is) ∙ last-set_of m c.self.invariant r.key ∙ is in
+    let there : last S r.key ≡ Some c.in-Some.last.now =
+    ap (λ s. last s r.key) (sym c.self.view_is) ∙ last-set_of m c.self.invariant r.key ∙ is in
     let P : Records → Type 0 = λ s. last_records s ≡ s in
     old-stays S r (subst P c.self.view_is (compact-set_of m c.self.invariant)) (ap (λ o. is_new o r) there ∙ sym c.is_older.ensures ∙ no)
 

@@ -18,7 +18,8 @@ returns-then-not-is_news-clause-there c =
 
 pub invariant_of-self-2 : goal.invariant_of-self-2
 invariant_of-self-2 c =
-    IsByKey-updated c.self.inside.by_key c.insert_copy.new.by_key c.self.invariant c.in_ok-before.ensures.in_order c.args.given.now.key (Some c.args.given.now) c.in_ok-before.ensures.put refl
+    IsByKey-updated c.self.inside.by_key c.insert_copy.new.by_key c.self.invariant c.in_ok-before.ensures.in_order c.args.given.now.key
+    (Some c.args.given.now) c.in_ok-before.ensures.put refl
 
 pub returns-clause-added : goal.returns-clause-added
 returns-clause-added c =

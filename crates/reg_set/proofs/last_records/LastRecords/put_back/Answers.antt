@@ -11,7 +11,8 @@ replace-requires c =
 
 pub invariant_of-self : goal.invariant_of-self
 invariant_of-self c =
-    IsByKey-updated c.self.inside.by_key c.replace.new.by_key c.self.invariant c.replace.ensures.in_order c.args.key.now c.args.before c.replace.ensures.replaced c.requires.of_key
+    IsByKey-updated c.self.inside.by_key c.replace.new.by_key c.self.invariant c.replace.ensures.in_order
+    c.args.key.now c.args.before c.replace.ensures.replaced c.requires.of_key
 
 pub returns : goal.returns
 returns c =
@@ -21,7 +22,8 @@ returns c =
     let n = c.replace.new.by_key in
     let compact = compact-set_of m c.self.invariant in
     let same : set_of n ≡ with_last (set_of m) key o =
-    same_lasts (set_of n) (with_last (set_of m) key o) (compact-set_of n (invariant_of-self c)) (compact-with_last (set_of m) key compact o c.requires.of_key)
+    same_lasts (set_of n) (with_last (set_of m) key o) (compact-set_of n (invariant_of-self c))
+    (compact-with_last (set_of m) key compact o c.requires.of_key)
     (λ q. last-updated m n c.self.invariant c.replace.ensures.in_order key o c.replace.ensures.replaced c.requires.of_key q
     ∙ sym (last-with_last (set_of m) key o c.requires.of_key q)) in
     same ∙ ap (λ s. with_last s key o) c.self.view_is

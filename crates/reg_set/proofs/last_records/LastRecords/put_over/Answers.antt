@@ -16,7 +16,8 @@ exchange-requires c =
 
 pub invariant_of-self : goal.invariant_of-self
 invariant_of-self c =
-    IsByKey-updated c.self.inside.by_key c.exchange.new.by_key c.self.invariant c.exchange.ensures.in_order c.args.given.key (Some c.args.given) c.exchange.ensures.put refl
+    IsByKey-updated c.self.inside.by_key c.exchange.new.by_key c.self.invariant c.exchange.ensures.in_order c.args.given.key
+    (Some c.args.given) c.exchange.ensures.put refl
 
 pub returns-clause-added : goal.returns-clause-added
 returns-clause-added c =

@@ -12,7 +12,8 @@ invariant_of-self c =
 
 pub returns-clause-left : goal.returns-clause-left
 returns-clause-left c =
-    set_of-lasts c.self.inside.by_key c.leave_lasts.new.by_key c.self.invariant c.leave_lasts.ensures.in_order c.leave_lasts.ensures.left ∙ ap last_records c.self.view_is
+    set_of-lasts c.self.inside.by_key c.leave_lasts.new.by_key c.self.invariant c.leave_lasts.ensures.in_order c.leave_lasts.ensures.left
+    ∙ ap last_records c.self.view_is
 
 pub returns-clause-lasts : goal.returns-clause-lasts
 returns-clause-lasts c = λ key. ap (λ s. last s key) (returns-clause-left c) ∙ last_of_last_records c.args.self.now key

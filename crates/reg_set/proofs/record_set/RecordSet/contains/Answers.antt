@@ -20,7 +20,8 @@ returns-in-Some c =
     let r = c.args.given.now in
     let m = c.self.inside.by_key in
     let is : get key_cmp m r.key ≡ Some c.in-Some.records.now = search rules in
-    c.is_among.ensures ∙ ap (list_any (eq_by_cmp record_cmp r)) (c.deref.ensures.value ∙ sym (ap (λ o. option_map_or (λ v. v.items) o []) is))
+    c.is_among.ensures
+    ∙ ap (list_any (eq_by_cmp record_cmp r)) (c.deref.ensures.value ∙ sym (ap (λ o. option_map_or (λ v. v.items) o []) is))
     ∙ sym (contains-set_of m c.self.invariant r) ∙ ap (λ s. contains s r) c.self.view_is
 
 pub returns-in-None : goal.returns-in-None

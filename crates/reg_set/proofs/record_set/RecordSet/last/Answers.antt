@@ -12,7 +12,8 @@ returns-in-Some c =
     let key = c.args.key.now in
     let m = c.self.inside.by_key in
     let is : get key_cmp m key ≡ Some c.in-Some.records.now = search rules in
-    c.last.ensures.value ∙ ap (λ xs. slice_get xs (length xs - 1)) (c.deref.ensures.value ∙ sym (ap (λ o. option_map_or (λ v. v.items) o []) is))
+    c.last.ensures.value
+    ∙ ap (λ xs. slice_get xs (length xs - 1)) (c.deref.ensures.value ∙ sym (ap (λ o. option_map_or (λ v. v.items) o []) is))
     ∙ last-at m c.self.invariant key ∙ ap (λ s. last s key) c.self.view_is
 
 pub returns-in-None : goal.returns-in-None

@@ -11,17 +11,21 @@ invariant_of-self c =
 
 pub returns-in_err-taken-clause-refused : goal.returns-in_err-taken-clause-refused
 returns-in_err-taken-clause-refused c =
-    let same = set_of-same c.self.inside.by_key c.take_in.new.by_key c.self.invariant c.take_in.ensures.in_order c.in_err-taken.ensures.refused ∙ c.self.view_is in
+    let same =
+    set_of-same c.self.inside.by_key c.take_in.new.by_key c.self.invariant c.take_in.ensures.in_order c.in_err-taken.ensures.refused
+    ∙ c.self.view_is in
     search (rules, same)
 
 pub invariant_of-self-2 : goal.invariant_of-self-2
 invariant_of-self-2 c =
-    AreByKey-taken c.self.inside.by_key c.take_in.new.by_key c.self.invariant c.take_in.ensures.in_order c.args.given.now c.in_ok-taken.ensures.added
+    AreByKey-taken c.self.inside.by_key c.take_in.new.by_key c.self.invariant
+    c.take_in.ensures.in_order c.args.given.now c.in_ok-taken.ensures.added
 
 pub returns-clause-added : goal.returns-clause-added
 returns-clause-added c =
     let r = c.args.given.now in
-    set_of-taken c.self.inside.by_key c.take_in.new.by_key c.self.invariant c.take_in.ensures.in_order r c.in_ok-taken.ensures.added ∙ ap (λ s. insert s r) c.self.view_is
+    set_of-taken c.self.inside.by_key c.take_in.new.by_key c.self.invariant c.take_in.ensures.in_order r c.in_ok-taken.ensures.added
+    ∙ ap (λ s. insert s r) c.self.view_is
 
 pub returns-clause-fresh : goal.returns-clause-fresh
 returns-clause-fresh c =

@@ -12,8 +12,12 @@ invariant_of-result c =
     let m = c.self.inside.by_key in
     let n = c.in_ok-clone.field-0 in
     let P : List Key → Type 0 = IsStrictlySortedBy key_cmp in
-    AreByKey-same m n c.self.invariant (subst P (sym (copied-keys _ _ key_copy (λ v w h. listed _ record_copy v.items w.items h.0) m.entries n.entries c.in_ok-clone.ensures.cases)) c.self.invariant.is_ordered)
-    (λ key. copied-lists _ _ key_copy (λ v w h. listed _ record_copy v.items w.items h.0) (is_at (key_cmp key)) m.entries n.entries c.in_ok-clone.ensures.cases)
+    AreByKey-same m n c.self.invariant (subst P
+    (sym (copied-keys _ _ key_copy (λ v w h. listed _ record_copy v.items w.items h.0) m.entries n.entries c.in_ok-clone.ensures.cases))
+    c.self.invariant.is_ordered)
+    (λ key.
+    copied-lists _ _ key_copy (λ v w h. listed _ record_copy v.items w.items h.0)
+    (is_at (key_cmp key)) m.entries n.entries c.in_ok-clone.ensures.cases)
 
 pub returns : goal.returns
 returns c =
@@ -21,6 +25,14 @@ returns c =
     let n = c.in_ok-clone.field-0 in
     let P : List Key → Type 0 = IsStrictlySortedBy key_cmp in
     record {
-      cases = set_of-same m n c.self.invariant (subst P (sym (copied-keys _ _ key_copy (λ v w h. listed _ record_copy v.items w.items h.0) m.entries n.entries c.in_ok-clone.ensures.cases)) c.self.invariant.is_ordered)
-          (λ key. copied-lists _ _ key_copy (λ v w h. listed _ record_copy v.items w.items h.0) (is_at (key_cmp key)) m.entries n.entries c.in_ok-clone.ensures.cases) ∙ c.self.view_is;
+      cases =
+          set_of-same m n c.self.invariant (
+          subst P (
+          sym (
+          copied-keys _ _ key_copy (λ v w h. listed _ record_copy v.items w.items h.0)
+          m.entries n.entries c.in_ok-clone.ensures.cases)) c.self.invariant.is_ordered)
+          (λ key.
+          copied-lists _ _ key_copy (λ v w h. listed _ record_copy v.items w.items h.0)
+          (is_at (key_cmp key)) m.entries n.entries c.in_ok-clone.ensures.cases)
+          ∙ c.self.view_is;
     }

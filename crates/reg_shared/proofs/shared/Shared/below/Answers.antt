@@ -16,9 +16,15 @@ returns c =
     let older : List Record = c.self.inside.older.items in
     let xs : List Record = c.self.inside.by_offset.items in
     let upto = c.args.upto in
-    let is : c.in_ok-found.found.items ≡ filter (λ r. nat_lt r.offset upto && (contains lasts r || contains (from_list {R = record_cmp} older) r)) xs =
+    let is : c.in_ok-found.found.items
+    ≡ filter (λ r. nat_lt r.offset upto && (contains lasts r || contains (from_list {R = record_cmp} older) r)) xs =
     c.in_ok-found.ensures
-    ∙ (ap (λ (l : List Record). filter (λ r. nat_lt r.offset upto && (contains lasts r || contains (from_list {R = record_cmp} l) r)) c.deref-2.result.now) c.deref.ensures.value
-    ∙ ap (filter (λ r. nat_lt r.offset upto && (contains lasts r || contains (from_list {R = record_cmp} older) r))) c.deref-2.ensures.value) in
+    ∙ (
+    ap (λ (l : List Record).
+    filter (λ r. nat_lt r.offset upto && (contains lasts r || contains (from_list {R = record_cmp} l) r))
+    c.deref-2.result.now) c.deref.ensures.value
+    ∙ ap (
+    filter (λ r. nat_lt r.offset upto && (contains lasts r || contains (from_list {R = record_cmp} older) r))) c.deref-2.ensures.value)
+    in
     subst (λ (h : Held). IsBelow h.kept.records upto c.in_ok-found.found.items) c.self.view_is
     (below_is o.all o.apart lasts older xs c.in_ok-found.found.items upto c.self.invariant.among is)

@@ -32,14 +32,23 @@ invariant_of-self c =
     let rest : c.in_ok-rest.rest ≡ from_list (filter (λ r. not (contains (from_list {R = record_cmp} ds) r) && not (contains lasts r)) xs) =
     c.in_ok-rest.ensures ∙ ap from_list (c.deref-3.ensures.value ∙ left) in
     let found : list_all (may_go lasts c.in_ok-older.older c.in_ok-rest.rest floor) c.as_slice-dropped.result.now ≡ true = search rules in
-    let all : list_all (may_go lasts (from_list xs) (from_list (filter (λ r. not (contains (from_list {R = record_cmp} ds) r) && not (contains lasts r)) xs)) floor) ds ≡ true =
+    let all : list_all (
+    may_go lasts (from_list xs)
+    (from_list (filter (λ r. not (contains (from_list {R = record_cmp} ds) r) && not (contains lasts r)) xs)) floor) ds
+    ≡ true =
     sym (λ i. list_all (may_go lasts (older i) (rest i) floor) (same i)) ∙ found in
-    let may : may_leave floor whole ds ≡ true = sym (may_leave_is o.all o.apart g.greatest g.none lasts xs ds floor c.self.invariant.of_kept) ∙ all in
-    let after : c.forget_all.new.self ≡ difference lasts (from_list (filter (λ r. is_none r.value) ds)) = c.forget_all.ensures.left ∙ ap (λ rs. difference lasts (from_list (filter (λ r. is_none r.value) rs))) same in
+    let may : may_leave floor whole ds ≡ true =
+    sym (may_leave_is o.all o.apart g.greatest g.none lasts xs ds floor c.self.invariant.of_kept) ∙ all in
+    let after : c.forget_all.new.self ≡ difference lasts (from_list (filter (λ r. is_none r.value) ds)) =
+    c.forget_all.ensures.left ∙ ap (λ rs. difference lasts (from_list (filter (λ r. is_none r.value) rs))) same in
     let kept : kept_of c.forget_all.new.self c.in_ok-left.left.items ≡ without whole ds =
     (λ i. kept_of (after i) (left i)) ∙ left_is o.all o.apart g.greatest g.none lasts xs ds floor c.self.invariant.of_kept may in record {
-      of_kept = after ∙ (lasts_left_are o.all o.apart g.greatest g.none lasts xs ds floor c.self.invariant.of_kept may ∙ ap last_records (sym kept));
-      among = λ r h. c.self.invariant.among r (part o.all o.apart g.greatest g.none lasts xs ds floor c.self.invariant.of_kept may r (ap (λ (s : Records). contains s r) (sym kept) ∙ h));
+      of_kept = after
+          ∙ (lasts_left_are o.all o.apart g.greatest g.none lasts xs ds floor c.self.invariant.of_kept may ∙ ap last_records (sym kept));
+      among = λ r h.
+          c.self.invariant.among r (
+          part o.all o.apart g.greatest g.none lasts xs ds floor c.self.invariant.of_kept may r
+          (ap (λ (s : Records). contains s r) (sym kept) ∙ h));
       rising = c.self.invariant.rising;
       below = c.self.invariant.below;
     }
@@ -62,17 +71,34 @@ returns-clause-taken c =
     let rest : c.in_ok-rest.rest ≡ from_list (filter (λ r. not (contains (from_list {R = record_cmp} ds) r) && not (contains lasts r)) xs) =
     c.in_ok-rest.ensures ∙ ap from_list (c.deref-3.ensures.value ∙ left) in
     let found : list_all (may_go lasts c.in_ok-older.older c.in_ok-rest.rest floor) c.as_slice-dropped.result.now ≡ true = search rules in
-    let all : list_all (may_go lasts (from_list xs) (from_list (filter (λ r. not (contains (from_list {R = record_cmp} ds) r) && not (contains lasts r)) xs)) floor) ds ≡ true =
+    let all : list_all (
+    may_go lasts (from_list xs)
+    (from_list (filter (λ r. not (contains (from_list {R = record_cmp} ds) r) && not (contains lasts r)) xs)) floor) ds
+    ≡ true =
     sym (λ i. list_all (may_go lasts (older i) (rest i) floor) (same i)) ∙ found in
-    let may : may_leave floor whole ds ≡ true = sym (may_leave_is o.all o.apart g.greatest g.none lasts xs ds floor c.self.invariant.of_kept) ∙ all in
-    let after : c.forget_all.new.self ≡ difference lasts (from_list (filter (λ r. is_none r.value) ds)) = c.forget_all.ensures.left ∙ ap (λ rs. difference lasts (from_list (filter (λ r. is_none r.value) rs))) same in
+    let may : may_leave floor whole ds ≡ true =
+    sym (may_leave_is o.all o.apart g.greatest g.none lasts xs ds floor c.self.invariant.of_kept) ∙ all in
+    let after : c.forget_all.new.self ≡ difference lasts (from_list (filter (λ r. is_none r.value) ds)) =
+    c.forget_all.ensures.left ∙ ap (λ rs. difference lasts (from_list (filter (λ r. is_none r.value) rs))) same in
     let kept : kept_of c.forget_all.new.self c.in_ok-left.left.items ≡ without whole ds =
     (λ i. kept_of (after i) (left i)) ∙ left_is o.all o.apart g.greatest g.none lasts xs ds floor c.self.invariant.of_kept may in
-    let here : Held = record { kept = record { records = whole; floor = c.self.inside.floor }; next = c.self.inside.next; compacted = c.self.inside.compacted } in
-    let there : Held = record { kept = record { records = kept_of c.forget_all.new.self c.in_ok-left.left.items; floor = floor }; next = c.self.inside.next; compacted = c.self.inside.next } in
-    let goes : may_compact (base_of here) c.args.compaction.now ≡ true = may_compact_is here c.args.compaction.now true (subst (λ (h : Held). h.kept.floor ≤ floor) (sym c.self.view_is) c.requires.rises) (subst (λ (h : Held). floor ≤ h.next) (sym c.self.view_is) c.requires.ahead) may in
-    subst (λ (h : Held). there ≡ held_after_compaction (may_compact (base_of h) c.args.compaction.now) h c.args.compaction.now) c.self.view_is
-    (held_dropped here c.args.compaction.now (may_compact (base_of here) c.args.compaction.now) there.kept goes (ap (λ (s : Records). let k : Floored = record { records = s; floor = floor } in k) kept))
+    let here : Held = record {
+      kept = record { records = whole; floor = c.self.inside.floor };
+      next = c.self.inside.next;
+      compacted = c.self.inside.compacted;
+    } in
+    let there : Held = record {
+      kept = record { records = kept_of c.forget_all.new.self c.in_ok-left.left.items; floor = floor };
+      next = c.self.inside.next;
+      compacted = c.self.inside.next;
+    } in
+    let goes : may_compact (base_of here) c.args.compaction.now ≡ true =
+    may_compact_is here c.args.compaction.now true (subst (λ (h : Held). h.kept.floor ≤ floor) (sym c.self.view_is) c.requires.rises)
+    (subst (λ (h : Held). floor ≤ h.next) (sym c.self.view_is) c.requires.ahead) may in
+    subst (λ (h : Held).
+    there ≡ held_after_compaction (may_compact (base_of h) c.args.compaction.now) h c.args.compaction.now) c.self.view_is
+    (held_dropped here c.args.compaction.now (may_compact (base_of here) c.args.compaction.now) there.kept goes
+    (ap (λ (s : Records). let k : Floored = record { records = s; floor = floor } in k) kept))
 
 pub returns-then-not-may_leave-clause-taken : goal.returns-then-not-may_leave-clause-taken
 returns-then-not-may_leave-clause-taken c =
@@ -92,10 +118,20 @@ returns-then-not-may_leave-clause-taken c =
     let rest : c.in_ok-rest.rest ≡ from_list (filter (λ r. not (contains (from_list {R = record_cmp} ds) r) && not (contains lasts r)) xs) =
     c.in_ok-rest.ensures ∙ ap from_list (c.deref-3.ensures.value ∙ left) in
     let found : list_all (may_go lasts c.in_ok-older.older c.in_ok-rest.rest floor) c.as_slice-dropped.result.now ≡ false = search rules in
-    let all : list_all (may_go lasts (from_list xs) (from_list (filter (λ r. not (contains (from_list {R = record_cmp} ds) r) && not (contains lasts r)) xs)) floor) ds ≡ false =
+    let all : list_all (
+    may_go lasts (from_list xs)
+    (from_list (filter (λ r. not (contains (from_list {R = record_cmp} ds) r) && not (contains lasts r)) xs)) floor) ds
+    ≡ false =
     sym (λ i. list_all (may_go lasts (older i) (rest i) floor) (same i)) ∙ found in
-    let may : may_leave floor whole ds ≡ false = sym (may_leave_is o.all o.apart g.greatest g.none lasts xs ds floor c.self.invariant.of_kept) ∙ all in
-    let here : Held = record { kept = record { records = whole; floor = c.self.inside.floor }; next = c.self.inside.next; compacted = c.self.inside.compacted } in
-    let goes : may_compact (base_of here) c.args.compaction.now ≡ false = may_compact_is here c.args.compaction.now false (subst (λ (h : Held). h.kept.floor ≤ floor) (sym c.self.view_is) c.requires.rises) (subst (λ (h : Held). floor ≤ h.next) (sym c.self.view_is) c.requires.ahead) may in
+    let may : may_leave floor whole ds ≡ false =
+    sym (may_leave_is o.all o.apart g.greatest g.none lasts xs ds floor c.self.invariant.of_kept) ∙ all in
+    let here : Held = record {
+      kept = record { records = whole; floor = c.self.inside.floor };
+      next = c.self.inside.next;
+      compacted = c.self.inside.compacted;
+    } in
+    let goes : may_compact (base_of here) c.args.compaction.now ≡ false =
+    may_compact_is here c.args.compaction.now false (subst (λ (h : Held). h.kept.floor ≤ floor) (sym c.self.view_is) c.requires.rises)
+    (subst (λ (h : Held). floor ≤ h.next) (sym c.self.view_is) c.requires.ahead) may in
     subst (λ (h : Held). h ≡ held_after_compaction (may_compact (base_of h) c.args.compaction.now) h c.args.compaction.now) c.self.view_is
     (held_stays here c.args.compaction.now (may_compact (base_of here) c.args.compaction.now) goes)

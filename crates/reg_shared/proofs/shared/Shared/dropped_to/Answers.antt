@@ -19,13 +19,18 @@ returns-clause-may_go c =
     let xs : List Record = c.self.inside.by_offset.items in
     let floor = c.args.floor in
     let found : List Record = c.append.new.self.items in
-    let first : c.in_ok-found.found.items ≡ filter (λ r. not (contains lasts r)) older = c.in_ok-found.ensures ∙ ap (filter (λ r. not (contains lasts r))) c.deref.ensures.value in
+    let first : c.in_ok-found.found.items ≡ filter (λ r. not (contains lasts r)) older =
+    c.in_ok-found.ensures ∙ ap (filter (λ r. not (contains lasts r))) c.deref.ensures.value in
     let second : c.in_ok-deletes.deletes.items ≡ filter (λ r. deletes_below floor r && contains lasts r) xs =
-    c.in_ok-deletes.ensures ∙ ap (filter (λ r. deletes_below floor r && contains lasts r)) (c.until-below.ensures ∙ ap (filter (λ r. nat_lt r.offset floor)) c.deref-2.ensures.value)
+    c.in_ok-deletes.ensures
+    ∙ ap (filter (λ r. deletes_below floor r && contains lasts r))
+    (c.until-below.ensures ∙ ap (filter (λ r. nat_lt r.offset floor)) c.deref-2.ensures.value)
     ∙ below_twice floor (contains lasts) xs in
     let added : found ≡ c.in_ok-found.found.items ++ c.in_ok-deletes.deletes.items = c.in_ok-append.ensures.items in
-    let is : found ≡ filter (λ r. not (contains lasts r)) older ++ filter (λ r. deletes_below floor r && contains lasts r) xs = added ∙ (λ i. first i ++ second i) in
-    let laws = c.compacting_drops_what_may_leave.ensures floor (kept_of lasts older) found (dropped_are o.all o.apart lasts older xs found floor c.self.invariant.of_kept c.self.invariant.among is) in
+    let is : found ≡ filter (λ r. not (contains lasts r)) older ++ filter (λ r. deletes_below floor r && contains lasts r) xs =
+    added ∙ (λ i. first i ++ second i) in
+    let laws = c.compacting_drops_what_may_leave.ensures floor (kept_of lasts older) found
+    (dropped_are o.all o.apart lasts older xs found floor c.self.invariant.of_kept c.self.invariant.among is) in
     subst (λ (h : Held). may_leave floor h.kept.records found ≡ true) c.self.view_is laws.0
 
 pub returns-clause-rest : goal.returns-clause-rest
@@ -36,11 +41,16 @@ returns-clause-rest c =
     let xs : List Record = c.self.inside.by_offset.items in
     let floor = c.args.floor in
     let found : List Record = c.append.new.self.items in
-    let first : c.in_ok-found.found.items ≡ filter (λ r. not (contains lasts r)) older = c.in_ok-found.ensures ∙ ap (filter (λ r. not (contains lasts r))) c.deref.ensures.value in
+    let first : c.in_ok-found.found.items ≡ filter (λ r. not (contains lasts r)) older =
+    c.in_ok-found.ensures ∙ ap (filter (λ r. not (contains lasts r))) c.deref.ensures.value in
     let second : c.in_ok-deletes.deletes.items ≡ filter (λ r. deletes_below floor r && contains lasts r) xs =
-    c.in_ok-deletes.ensures ∙ ap (filter (λ r. deletes_below floor r && contains lasts r)) (c.until-below.ensures ∙ ap (filter (λ r. nat_lt r.offset floor)) c.deref-2.ensures.value)
+    c.in_ok-deletes.ensures
+    ∙ ap (filter (λ r. deletes_below floor r && contains lasts r))
+    (c.until-below.ensures ∙ ap (filter (λ r. nat_lt r.offset floor)) c.deref-2.ensures.value)
     ∙ below_twice floor (contains lasts) xs in
     let added : found ≡ c.in_ok-found.found.items ++ c.in_ok-deletes.deletes.items = c.in_ok-append.ensures.items in
-    let is : found ≡ filter (λ r. not (contains lasts r)) older ++ filter (λ r. deletes_below floor r && contains lasts r) xs = added ∙ (λ i. first i ++ second i) in
-    let laws = c.compacting_drops_what_may_leave.ensures floor (kept_of lasts older) found (dropped_are o.all o.apart lasts older xs found floor c.self.invariant.of_kept c.self.invariant.among is) in
+    let is : found ≡ filter (λ r. not (contains lasts r)) older ++ filter (λ r. deletes_below floor r && contains lasts r) xs =
+    added ∙ (λ i. first i ++ second i) in
+    let laws = c.compacting_drops_what_may_leave.ensures floor (kept_of lasts older) found
+    (dropped_are o.all o.apart lasts older xs found floor c.self.invariant.of_kept c.self.invariant.among is) in
     subst (λ (h : Held). without h.kept.records found ≡ compacted_to floor h.kept.records) c.self.view_is laws.1

@@ -22,7 +22,8 @@ invariant_of-result c =
     let same : from_list {R = record_cmp} b.records.items ≡ from_list rs = sym log ∙ c.in_ok-by_offset.ensures.members in
     let are : lasts ≡ last_records (from_list rs) = c.requires.registry ∙ ap last_records c.in_ok-by_offset.ensures.members in
     let older = c.in_ok-older.ensures ∙ ap (filter (λ r. not (contains lasts r))) c.deref.ensures.value in
-    let kept : kept_of lasts c.in_ok-older.older.items ≡ from_list rs = ap (kept_of lasts) older ∙ adopted_is o.all o.apart lasts rs are in record {
+    let kept : kept_of lasts c.in_ok-older.older.items ≡ from_list rs = ap (kept_of lasts) older ∙ adopted_is o.all o.apart lasts rs are in
+    record {
       of_kept = are ∙ ap last_records (sym kept);
       among = λ r h. ap (λ (s : Records). contains s r) (sym kept) ∙ h;
       rising = rising_in_order rs c.in_ok-by_offset.ensures.in_order;
@@ -39,4 +40,5 @@ returns c =
     let are : lasts ≡ last_records (from_list rs) = c.requires.registry ∙ ap last_records c.in_ok-by_offset.ensures.members in
     let older = c.in_ok-older.ensures ∙ ap (filter (λ r. not (contains lasts r))) c.deref.ensures.value in
     let kept : kept_of lasts c.in_ok-older.older.items ≡ from_list rs = ap (kept_of lasts) older ∙ adopted_is o.all o.apart lasts rs are in
-    ap (λ (k : Records). let h : Held = record { kept = record { records = k; floor = b.floor }; next = b.next; compacted = b.floor } in h) (kept ∙ (sym c.in_ok-by_offset.ensures.members ∙ log))
+    ap (λ (k : Records). let h : Held = record { kept = record { records = k; floor = b.floor }; next = b.next; compacted = b.floor } in h)
+    (kept ∙ (sym c.in_ok-by_offset.ensures.members ∙ log))

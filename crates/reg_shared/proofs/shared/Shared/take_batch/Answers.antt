@@ -25,15 +25,21 @@ invariant_of-self-2 c =
     let on = goes_on_is next batch (goes next batch go) in
     let is : c.grow.new.by_offset.items ≡ xs ++ batch = c.in_ok-grow.ensures.by_offset in
     let whole : Records = kept_of lasts older in
-    let after : c.grow.new.registry ≡ last_records (union whole (from_list batch)) = c.in_ok-grow.ensures.registry whole c.self.invariant.of_kept in
+    let after : c.grow.new.registry ≡ last_records (union whole (from_list batch)) =
+    c.in_ok-grow.ensures.registry whole c.self.invariant.of_kept in
     let kept : kept_of c.grow.new.registry c.grow.new.older.items ≡ union whole (from_list batch) =
     ap (kept_of c.grow.new.registry) c.in_ok-grow.ensures.older
-    ∙ grown_is o.all o.apart o.keys o.keys_apart c.last_is_greatest.ensures.greatest c.merging_joins_sets.ensures.last c.last_records_are_enough.ensures.last_of_last
+    ∙ grown_is o.all o.apart o.keys o.keys_apart c.last_is_greatest.ensures.greatest
+    c.merging_joins_sets.ensures.last c.last_records_are_enough.ensures.last_of_last
     whole lasts c.grow.new.registry older batch refl c.self.invariant.of_kept after in record {
       of_kept = after ∙ ap last_records (sym kept);
-      among = λ r h. among_more o.all o.apart whole xs c.grow.new.by_offset.items batch c.self.invariant.among is r (ap (λ (s : Records). contains s r) (sym kept) ∙ h);
+      among = λ r h.
+          among_more o.all o.apart whole xs c.grow.new.by_offset.items batch c.self.invariant.among is r
+          (ap (λ (s : Records). contains s r) (sym kept) ∙ h);
       rising = subst IsRising (sym is) (rising_append next xs batch c.self.invariant.rising on.rises c.self.invariant.below on.above);
-      below = subst (AllByRecursion (λ r. r.offset < next + length batch)) (sym is) (all_append (λ r. r.offset < next + length batch) xs batch (all_map (λ r. r.offset < next) (λ r. r.offset < next + length batch) (λ r h. omega arith) xs c.self.invariant.below) on.below);
+      below = subst (AllByRecursion (λ r. r.offset < next + length batch)) (sym is)
+          (all_append (λ r. r.offset < next + length batch) xs batch (
+          all_map (λ r. r.offset < next) (λ r. r.offset < next + length batch) (λ r h. omega arith) xs c.self.invariant.below) on.below);
     }
 
 pub returns-clause-taken : goal.returns-clause-taken
@@ -45,11 +51,19 @@ returns-clause-taken c =
     let batch : List Record = c.args.batch.now in
     let go : follows next batch ≡ true = search rules in
     let whole : Records = kept_of lasts older in
-    let after : c.grow.new.registry ≡ last_records (union whole (from_list batch)) = c.in_ok-grow.ensures.registry whole c.self.invariant.of_kept in
+    let after : c.grow.new.registry ≡ last_records (union whole (from_list batch)) =
+    c.in_ok-grow.ensures.registry whole c.self.invariant.of_kept in
     let kept : kept_of c.grow.new.registry c.grow.new.older.items ≡ union whole (from_list batch) =
     ap (kept_of c.grow.new.registry) c.in_ok-grow.ensures.older
-    ∙ grown_is o.all o.apart o.keys o.keys_apart c.last_is_greatest.ensures.greatest c.merging_joins_sets.ensures.last c.last_records_are_enough.ensures.last_of_last
+    ∙ grown_is o.all o.apart o.keys o.keys_apart c.last_is_greatest.ensures.greatest
+    c.merging_joins_sets.ensures.last c.last_records_are_enough.ensures.last_of_last
     whole lasts c.grow.new.registry older batch refl c.self.invariant.of_kept after in
-    let here : Held = record { kept = record { records = whole; floor = c.self.inside.floor }; next = next; compacted = c.self.inside.compacted } in
-    let there : Held = record { kept = record { records = kept_of c.grow.new.registry c.grow.new.older.items; floor = c.self.inside.floor }; next = next + length batch; compacted = c.self.inside.compacted } in
-    subst (λ (h : Held). there ≡ held_after_batch (follows h.next batch) h batch) c.self.view_is (held_grown here batch (follows next batch) (kept_of c.grow.new.registry c.grow.new.older.items) go kept)
+    let here : Held =
+    record { kept = record { records = whole; floor = c.self.inside.floor }; next = next; compacted = c.self.inside.compacted } in
+    let there : Held = record {
+      kept = record { records = kept_of c.grow.new.registry c.grow.new.older.items; floor = c.self.inside.floor };
+      next = next + length batch;
+      compacted = c.self.inside.compacted;
+    } in
+    subst (λ (h : Held). there ≡ held_after_batch (follows h.next batch) h batch) c.self.view_is
+    (held_grown here batch (follows next batch) (kept_of c.grow.new.registry c.grow.new.older.items) go kept)

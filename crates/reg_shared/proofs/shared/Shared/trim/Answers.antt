@@ -18,7 +18,9 @@ invariant_of-self c =
     let none : older ≡ [] = search rules in
     let is : c.keep_lasts.new.by_offset.items ≡ filter (contains lasts) xs = c.keep_lasts.ensures in record {
       of_kept = c.self.invariant.of_kept;
-      among = λ r h. ap (λ l. contains (from_list {R = record_cmp} l) r) is ∙ among_lasts o.all o.apart lasts older xs none c.self.invariant.among r h;
+      among = λ r h.
+          ap (λ l. contains (from_list {R = record_cmp} l) r) is ∙ among_lasts o.all o.apart lasts older xs none c.self.invariant.among r h;
       rising = subst IsRising (sym is) (rising_filter (contains lasts) xs c.self.invariant.rising);
-      below = subst (AllByRecursion (λ r. r.offset < c.self.inside.next)) (sym is) (all_filter (λ r. r.offset < c.self.inside.next) (contains lasts) xs c.self.invariant.below);
+      below = subst (AllByRecursion (λ r. r.offset < c.self.inside.next)) (sym is)
+          (all_filter (λ r. r.offset < c.self.inside.next) (contains lasts) xs c.self.invariant.below);
     }

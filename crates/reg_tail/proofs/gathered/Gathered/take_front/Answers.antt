@@ -10,7 +10,8 @@ use Rattle.reg_tail.proofs.gathered.Gathered.take_front.Goals as goal
 
 pub pass-requires-clause-within : goal.pass-requires-clause-within
 pass-requires-clause-within c =
-    let front : IsFront (c.args.self.now.tail.lines + 1) c.args.text.now c.in-Some.len c.in-Some.read = rw c.in-Some.is at c.in_ok-len.ensures.line in
+    let front : IsFront (c.args.self.now.tail.lines + 1) c.args.text.now c.in-Some.len c.in-Some.read =
+    rw c.in-Some.is at c.in_ok-len.ensures.line in
     omega (arith, c.offset_in-offset.ensures, offset_fits front.line c.in-Some.read front.says)
 
 pub returns-clause-taken : goal.returns-clause-taken
@@ -22,13 +23,17 @@ returns-clause-taken c =
     let read = c.in-Some.read in
     let front : IsFront (old.tail.lines + 1) text len read = rw c.in-Some.is at c.in_ok-len.ensures.line in
     let both : (mid.tail ≡ old.tail) × Adds old.tail.from (offset_in read) old.text.items mid.text.items (take len text) =
-    elim c.if-self-offset.branch as (λ _. (mid.tail ≡ old.tail) × Adds old.tail.from (offset_in read) old.text.items mid.text.items (take len text)) [
+    elim c.if-self-offset.branch as (λ _.
+    (mid.tail ≡ old.tail) × Adds old.tail.from (offset_in read) old.text.items mid.text.items (take len text)) [
       | then-self-offset+in_ok-extend_from_slice w ↦
-          let within : old.tail.from ≤ offset_in read = omega (arith, w.if-self-offset.true, c.offset_in-offset.ensures) in
-          (ap (λ (g : Gathered). g.tail) w.self-is, inl (grind (arith, nat_tests), ap (λ (g : Gathered). g.text.items) w.self-is ∙ w.in_ok-extend_from_slice.ensures.items))
+          let within : old.tail.from ≤ offset_in read = omega (arith, w.if-self-offset.true, c.offset_in-offset.ensures) in (
+            ap (λ (g : Gathered). g.tail) w.self-is,
+            inl (grind (arith, nat_tests), ap (λ (g : Gathered). g.text.items) w.self-is ∙ w.in_ok-extend_from_slice.ensures.items),
+          )
       | else-self-offset w ↦
           let below : offset_in read < old.tail.from = omega (arith, w.if-self-offset.false, c.offset_in-offset.ensures) in
           (ap (λ (g : Gathered). g.tail) w.self-is, inr (grind (arith, nat_tests), ap (λ (g : Gathered). g.text.items) w.self-is))
     ] in
     let passed = c.in_ok-pass.ensures in
-    takes text old mid c.pass.new.self len read front both.0 passed.place passed.count passed.from (passed.next ∙ ap (λ o. max mid.tail.next (suc o)) c.offset_in-offset.ensures) both.1
+    takes text old mid c.pass.new.self len read front both.0 passed.place passed.count passed.from
+    (passed.next ∙ ap (λ o. max mid.tail.next (suc o)) c.offset_in-offset.ensures) both.1

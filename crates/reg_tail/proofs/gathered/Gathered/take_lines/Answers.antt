@@ -10,7 +10,8 @@ loop-gathered-init c = begun c.args.piece.now c.args.self
 
 pub returns-in_err-len-clause-refused : goal.returns-in_err-len-clause-refused
 returns-in_err-len-clause-refused c =
-    let bad = refused c.args.piece.now c.loop-gathered.rest.now c.args.self c.loop-gathered.gathered c.loop-gathered.invariant c.in_err-len.field-0.0 c.in_err-len.ensures.refused in
+    let bad = refused c.args.piece.now c.loop-gathered.rest.now c.args.self c.loop-gathered.gathered
+    c.loop-gathered.invariant c.in_err-len.field-0.0 c.in_err-len.ensures.refused in
     search (rules, bad)
 
 pub loop-gathered-smaller : goal.loop-gathered-smaller
@@ -24,12 +25,14 @@ pub loop-gathered-preserved : goal.loop-gathered-preserved
 loop-gathered-preserved c =
     let rest = c.loop-gathered.rest.now in
     let t : Takes rest c.loop-gathered.gathered c.take_front.new.self c.in-Some.len = rw c.in-Some.is at c.in_ok-len.ensures.taken in
-    subst (λ (r : List ℕ). Gathers c.args.piece.now r c.args.self c.take_front.new.self) (rest_of t.front.line t.front.behind rest c.in-Some.len t.front.parts t.front.size)
+    subst (λ (r : List ℕ). Gathers c.args.piece.now r c.args.self c.take_front.new.self)
+    (rest_of t.front.line t.front.behind rest c.in-Some.len t.front.parts t.front.size)
     (stepped c.args.piece.now rest c.args.self c.loop-gathered.gathered c.loop-gathered.invariant c.take_front.new.self c.in-Some.len t)
 
 pub returns-clause-taken : goal.returns-clause-taken
 returns-clause-taken c =
-    let ended : (c.take_front.new.self ≡ c.loop-gathered.gathered) × ((behind : List ℕ) × (c.loop-gathered.rest.now ≡ 10 ∷ behind)) = rw c.in_default.is at c.in_ok-len.ensures.taken in
+    let ended : (c.take_front.new.self ≡ c.loop-gathered.gathered) × ((behind : List ℕ) × (c.loop-gathered.rest.now ≡ 10 ∷ behind)) =
+    rw c.in_default.is at c.in_ok-len.ensures.taken in
     let behind = ended.1.0 in (
       behind,
       subst (λ (g : Gathered). Gathers c.args.piece.now (10 ∷ behind) c.args.self g) (sym ended.0)

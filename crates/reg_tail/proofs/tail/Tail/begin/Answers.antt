@@ -23,7 +23,8 @@ returns-in_err-tail-clause-refused g c known =
     let text = c.deref-2.result.now in
     let piece : take (length text - begun.tail.place) (drop begun.tail.place text) ≡ is.rest =
     take_rest text begun.tail.place ∙ ap (drop begun.tail.place) again ∙ behind_front c.args.from file begun is in
-    let bad = begin_refused c.args.from file begun is (take (length text - begun.tail.place) (drop begun.tail.place text)) c.in_err-tail.field-0.0 piece c.in_err-tail.ensures.refused in
+    let bad = begin_refused c.args.from file begun is
+    (take (length text - begun.tail.place) (drop begun.tail.place text)) c.in_err-tail.field-0.0 piece c.in_err-tail.ensures.refused in
     search (rules, bad)
 
 pub returns-clause-given : goal.returns-clause-given

@@ -12,6 +12,7 @@ returns-clause-whole g c known before has =
     let new = c.in_ok-tail.field-0 in
     let piece : c.deref.result.now ≡ drop old.place file = c.deref.ensures.value ∙ c.in_ok-piece.ensures.bytes known in
     let taken = c.in_ok-tail.ensures.taken in
-    let on : GoesOn file old new.tail new.text.items = goes_on file (record { tail = old; text = c.new.result }) new c.deref.result.now taken.0 taken.1 piece c.new.ensures.items in
+    let on : GoesOn file old new.tail new.text.items =
+    goes_on file (record { tail = old; text = c.new.result }) new c.deref.result.now taken.0 taken.1 piece c.new.ensures.items in
     subst (λ (f : List ℕ). HasGiven new.tail f (before ++ new.text.items)) (sym stays)
     (given_on file before new.text.items old new.tail (g.S.Source.seen c.args.source.now) has stand.1 on)

@@ -18,11 +18,12 @@ returns-clause-happens c =
     let d = c.decision-decision.result in
     elim c.decision-decision.ensures [
       | inl memory ↦ absurd (false≢true (sym c.if-is_no_memory.false ∙ c.is_no_memory.ensures.1 memory.0))
-      | inr step ↦ allowed s _ (events.Command c.args.node c.args.command.now c.args.fate) (outcomes.Replied c.in_ok-reply.reply) (a_node s c.args.node _ there) refl (record {
-        reply = d.reply;
-        batch = d.batch;
-        step = step;
-        outcome = ap outcomes.Replied c.in_ok-reply.ensures.told;
-        state = c.in_ok-reply.ensures.state;
-      })
+      | inr step ↦ allowed s _ (events.Command c.args.node c.args.command.now c.args.fate)
+          (outcomes.Replied c.in_ok-reply.reply) (a_node s c.args.node _ there) refl (record {
+            reply = d.reply;
+            batch = d.batch;
+            step = step;
+            outcome = ap outcomes.Replied c.in_ok-reply.ensures.told;
+            state = c.in_ok-reply.ensures.state;
+          })
     ]

@@ -12,5 +12,6 @@ returns-clause-happens c =
     let t = c.compact_to.new.self in
     let floor = c.in_ok-floor.floor in
     let dropped = c.args.dropped.now in
-    IfOk-weaker c.compact_to.result _ _ (λ o h. compacts_at c.lawful_items_follow.ensures.in_turn s t floor dropped o c.in_ok-floor.ensures.told
+    IfOk-weaker c.compact_to.result _ _ (λ o h.
+    compacts_at c.lawful_items_follow.ensures.in_turn s t floor dropped o c.in_ok-floor.ensures.told
     (subst (λ (w : State). Happens w (events.CompactTo floor dropped) o t) c.in_ok-floor.ensures.same h)) c.compact_to.ensures.happens

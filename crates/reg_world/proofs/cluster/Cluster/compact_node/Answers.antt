@@ -15,5 +15,9 @@ pub returns-clause-happens : goal.returns-clause-happens
 returns-clause-happens c =
     let s = c.args.self.now in
     let there : slice_get s.nodes c.args.node ≡ Some c.in-Some.found.now = search rules in
-    let written = ap (λ (w : State). record { base = w.base; items = w.items; unsettled = w.unsettled; nodes = set w.nodes c.args.node c.in_ok-compacted.compacted }) c.self.view_is in
-    allowed s _ (events.CompactNode c.args.node) outcomes.Done (a_node s c.args.node c.in-Some.found.now there) refl (refl, node-done s _ compacted c.args.node c.in-Some.found.now c.in_ok-compacted.compacted there c.in_ok-compacted.ensures written)
+    let written = ap
+    (λ (w : State).
+    record { base = w.base; items = w.items; unsettled = w.unsettled; nodes = set w.nodes c.args.node c.in_ok-compacted.compacted })
+    c.self.view_is in
+    allowed s _ (events.CompactNode c.args.node) outcomes.Done (a_node s c.args.node c.in-Some.found.now there) refl
+    (refl, node-done s _ compacted c.args.node c.in-Some.found.now c.in_ok-compacted.compacted there c.in_ok-compacted.ensures written)

@@ -13,7 +13,8 @@ returns-then-not-may-clause-happens c =
     let s = c.args.self.now in
     let floor = c.args.floor in
     let same : c.in_ok-dropped.dropped ≡ c.args.dropped.now = search rules in
-    let told : may_compact (topic_of (settled s)) (at_floor floor c.args.dropped.now) ≡ c.in_ok-may.may = ap (λ ds. may_compact (topic_of (settled s)) (at_floor floor ds)) (sym same) ∙ sym c.in_ok-may.ensures.told in
+    let told : may_compact (topic_of (settled s)) (at_floor floor c.args.dropped.now) ≡ c.in_ok-may.may =
+    ap (λ ds. may_compact (topic_of (settled s)) (at_floor floor ds)) (sym same) ∙ sym c.in_ok-may.ensures.told in
     let refused : c.in_ok-may.may ≡ false = search rules in
     not_allowed s _ (events.CompactTo floor c.args.dropped.now) (told ∙ refused) c.in_ok-may.ensures.same
 
@@ -22,7 +23,12 @@ returns-clause-happens c =
     let s = c.args.self.now in
     let floor = c.args.floor in
     let same : c.in_ok-dropped.dropped ≡ c.args.dropped.now = search rules in
-    let told : may_compact (topic_of (settled s)) (at_floor floor c.args.dropped.now) ≡ c.in_ok-may.may = ap (λ ds. may_compact (topic_of (settled s)) (at_floor floor ds)) (sym same) ∙ sym c.in_ok-may.ensures.told in
+    let told : may_compact (topic_of (settled s)) (at_floor floor c.args.dropped.now) ≡ c.in_ok-may.may =
+    ap (λ ds. may_compact (topic_of (settled s)) (at_floor floor ds)) (sym same) ∙ sym c.in_ok-may.ensures.told in
     let fine : c.in_ok-may.may ≡ true = search rules in
-    allowed s _ (events.CompactTo floor c.args.dropped.now) outcomes.Done (told ∙ fine) refl
-    (refl, c.in_ok-publish_compaction.ensures.published ∙ ap (λ (t : State). publish (settled t) (items.Compaction (at_floor floor c.in_ok-dropped.dropped))) c.in_ok-may.ensures.same ∙ ap (λ ds. publish (settled s) (items.Compaction (at_floor floor ds))) same)
+    allowed s _ (events.CompactTo floor c.args.dropped.now) outcomes.Done (told ∙ fine) refl (
+      refl,
+      c.in_ok-publish_compaction.ensures.published
+          ∙ ap (λ (t : State). publish (settled t) (items.Compaction (at_floor floor c.in_ok-dropped.dropped))) c.in_ok-may.ensures.same
+          ∙ ap (λ ds. publish (settled s) (items.Compaction (at_floor floor ds))) same,
+    )

@@ -22,5 +22,7 @@ returns-clause-happens c =
     let there : slice_get s.nodes c.args.node ≡ Some found = search rules in
     let gives = set_there s c.args.node found there in
     let lasts = c.in_ok-registry.ensures.lasts ∙ ap last_records (c.set.ensures ∙ ap (λ (x : Floored). x.records) (sym gives)) in
-    let is : IsAnswerOver (set_at s c.args.node).records c.args.query.now a = subst (λ rs. IsAnswer rs c.args.query.now a) lasts c.in_ok-answer.ensures.answered in
-    allowed s _ (events.Lookup c.args.node c.args.query.now) (outcomes.Answered a) (a_node s c.args.node found there) refl (a, is, refl, refl)
+    let is : IsAnswerOver (set_at s c.args.node).records c.args.query.now a =
+    subst (λ rs. IsAnswer rs c.args.query.now a) lasts c.in_ok-answer.ensures.answered in
+    allowed s _ (events.Lookup c.args.node c.args.query.now) (outcomes.Answered a)
+    (a_node s c.args.node found there) refl (a, is, refl, refl)

@@ -15,5 +15,7 @@ pub returns-clause-happens : goal.returns-clause-happens
 returns-clause-happens c =
     let s = c.args.self.now in
     let there : slice_get s.nodes c.args.node ≡ Some c.in-Some._found.now = search rules in
-    let written = ap (λ (w : State). record { base = w.base; items = w.items; unsettled = w.unsettled; nodes = set w.nodes c.args.node c.new.result }) c.self.view_is in
-    allowed s _ (events.Restart c.args.node) outcomes.Done (a_node s c.args.node c.in-Some._found.now there) refl (refl, node-done s _ (λ _. no_records) c.args.node c.in-Some._found.now c.new.result there c.new.ensures written)
+    let written = ap (λ (w : State).
+    record { base = w.base; items = w.items; unsettled = w.unsettled; nodes = set w.nodes c.args.node c.new.result }) c.self.view_is in
+    allowed s _ (events.Restart c.args.node) outcomes.Done (a_node s c.args.node c.in-Some._found.now there) refl
+    (refl, node-done s _ (λ _. no_records) c.args.node c.in-Some._found.now c.new.result there c.new.ensures written)

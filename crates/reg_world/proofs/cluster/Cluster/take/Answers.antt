@@ -10,6 +10,7 @@ use Rattle.reg_world.proofs.cluster.Cluster.take.Goals as goal
 pub returns-then-not-are_kept-clause-happens : goal.returns-then-not-are_kept-clause-happens
 returns-then-not-are_kept-clause-happens c =
     let s = c.args.self.now in
-    let all : list_all (contains (topic_of s).kept.records) c.args.records.now ≡ c.in_ok-are_kept.are_kept = sym (c.in_ok-are_kept.ensures.told ∙ ap (list_all (contains (topic_of s).kept.records)) c.as_slice.ensures) in
+    let all : list_all (contains (topic_of s).kept.records) c.args.records.now ≡ c.in_ok-are_kept.are_kept =
+    sym (c.in_ok-are_kept.ensures.told ∙ ap (list_all (contains (topic_of s).kept.records)) c.as_slice.ensures) in
     let no : c.in_ok-are_kept.are_kept ≡ false = search rules in
     not_allowed s _ (events.Take c.args.node c.args.records.now) (and_right (has_node s c.args.node) _ (all ∙ no)) c.are_kept.ensures.same

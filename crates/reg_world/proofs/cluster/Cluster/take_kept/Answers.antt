@@ -14,7 +14,8 @@ pub returns-in_default-clause-happens : goal.returns-in_default-clause-happens
 returns-in_default-clause-happens c =
     let s = c.args.self.now in
     let none : slice_get s.nodes c.args.node ≡ None = search rules in
-    not_allowed s s (events.Take c.args.node c.args.records.now) (ap (λ b. b && list_all (contains (topic_of s).kept.records) c.args.records.now) (no_node s c.args.node none)) refl
+    not_allowed s s (events.Take c.args.node c.args.records.now)
+    (ap (λ b. b && list_all (contains (topic_of s).kept.records) c.args.records.now) (no_node s c.args.node none)) refl
 
 pub returns-then-floor-clause-happens : goal.returns-then-floor-clause-happens
 returns-then-floor-clause-happens c =
@@ -22,15 +23,23 @@ returns-then-floor-clause-happens c =
     let taker = c.in-Some.taker.now in
     let there : slice_get s.nodes c.args.node ≡ Some taker = search rules in
     let other : taker.set.floor ≢ (topic_of s).kept.floor = λ e. c.if-floor.true (c.floor.ensures ∙ e ∙ sym c.requires.1) in
-    differing s s (events.Take c.args.node c.args.records.now) (and-true (a_node s c.args.node taker there) c.requires.0) (two_floors s c.args.node taker _ there other) refl
+    differing s s (events.Take c.args.node c.args.records.now)
+    (and-true (a_node s c.args.node taker there) c.requires.0) (two_floors s c.args.node taker _ there other) refl
 
 pub returns-clause-happens : goal.returns-clause-happens
 returns-clause-happens c =
     let s = c.args.self.now in
     let taker = c.in-Some.taker.now in
     let there : slice_get s.nodes c.args.node ≡ Some taker = search rules in
-    let written = ap (λ (w : State). record { base = w.base; items = w.items; unsettled = w.unsettled; nodes = set w.nodes c.args.node c.in_ok-taker.taker }) c.self.view_is in
+    let written = ap
+    (λ (w : State).
+    record { base = w.base; items = w.items; unsettled = w.unsettled; nodes = set w.nodes c.args.node c.in_ok-taker.taker })
+    c.self.view_is in
     let more = c.in_ok-more.ensures ∙ ap (from_list {R = record_cmp}) c.as_slice.ensures in
     let same : taker.set.floor ≡ (topic_of s).kept.floor = sym c.floor.ensures ∙ c.if-floor.false ∙ c.requires.1 in
-    allowed s _ (events.Take c.args.node c.args.records.now) outcomes.Done (and-true (a_node s c.args.node taker there) c.requires.0) (one_floor s c.args.node taker _ there same)
-    (refl, node-done s _ (taking (from_list {R = record_cmp} c.args.records.now)) c.args.node taker c.in_ok-taker.taker there (c.in_ok-taker.ensures ∙ ap (λ m. taking m taker) more) written)
+    allowed s _ (events.Take c.args.node c.args.records.now) outcomes.Done
+    (and-true (a_node s c.args.node taker there) c.requires.0) (one_floor s c.args.node taker _ there same) (
+      refl,
+      node-done s _ (taking (from_list {R = record_cmp} c.args.records.now)) c.args.node taker c.in_ok-taker.taker there
+          (c.in_ok-taker.ensures ∙ ap (λ m. taking m taker) more) written,
+    )

@@ -6,7 +6,8 @@ use Rattle.reg_world.proofs.folding.Folded.catch_up.Given as goal
 abbrev pub invariant-loop-self : goal.invariant-loop-self
 invariant-loop-self l = record {
   within : l.self.count ≤ length l.items;
-  folds : (base : Topic) → l.fn.self.topic ≡ after_items base (take l.fn.self.count l.items) → l.self.topic ≡ after_items base (take l.self.count l.items);
+  folds : (base : Topic) → l.fn.self.topic ≡ after_items base (take l.fn.self.count l.items)
+      → l.self.topic ≡ after_items base (take l.self.count l.items);
 }
 
 abbrev pub decreases-loop-self : goal.decreases-loop-self

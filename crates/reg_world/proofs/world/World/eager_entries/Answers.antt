@@ -16,8 +16,11 @@ returns-clause-eager c =
     let folded : IsFoldedEagerly w = c.eager_folding_is_right.ensures led.0 w (subst (After led.0) c.self.view_is led.1) in
     let base = c.base.ensures ∙ ap (λ (s : State). s.base) c.self.view_is in
     let items = c.items.ensures ∙ ap (λ (s : State). s.items) c.self.view_is in
-    let stands : (p : Place) → finmap.get c.in_ok-standing.standing p ≡ eager w p = λ p. c.in_ok-standing.ensures p ∙ (λ i. eager_after (base i) (items i) p) in
-    IfOk-weaker c.listed.result _ _ (λ found is. eager_values w itself folded c.entries_are_of_places.ensures.stand found.items (is ∙ right_values w itself folded c.in_ok-standing.standing stands)) c.listed.ensures
+    let stands : (p : Place) → finmap.get c.in_ok-standing.standing p ≡ eager w p =
+    λ p. c.in_ok-standing.ensures p ∙ (λ i. eager_after (base i) (items i) p) in
+    IfOk-weaker c.listed.result _ _ (λ found is.
+    eager_values w itself folded c.entries_are_of_places.ensures.stand found.items
+    (is ∙ right_values w itself folded c.in_ok-standing.standing stands)) c.listed.ensures
 
 pub returns-clause-right : goal.returns-clause-right
 returns-clause-right c =
@@ -27,5 +30,6 @@ returns-clause-right c =
     let folded : IsFoldedEagerly w = c.eager_folding_is_right.ensures led.0 w (subst (After led.0) c.self.view_is led.1) in
     let base = c.base.ensures ∙ ap (λ (s : State). s.base) c.self.view_is in
     let items = c.items.ensures ∙ ap (λ (s : State). s.items) c.self.view_is in
-    let stands : (p : Place) → finmap.get c.in_ok-standing.standing p ≡ eager w p = λ p. c.in_ok-standing.ensures p ∙ (λ i. eager_after (base i) (items i) p) in
+    let stands : (p : Place) → finmap.get c.in_ok-standing.standing p ≡ eager w p =
+    λ p. c.in_ok-standing.ensures p ∙ (λ i. eager_after (base i) (items i) p) in
     IfOk-weaker c.listed.result _ _ (λ found is. is ∙ right_values w itself folded c.in_ok-standing.standing stands) c.listed.ensures

@@ -15,7 +15,8 @@ pub returns-clause-start : goal.returns-clause-start
 returns-clause-start c =
     let b = c.args.base.now in
     let begun : c.publish_due.new.topic ≡ topic_from b.records.items b.next b.floor =
-    begun_is b.records.items b.next b.floor c.in_ok-topic.topic c.publish_due.new.topic _ c.in_ok-topic.ensures (c.deref.ensures.value ∙ c.in_ok-registry.ensures.due) c.in_ok-publish_due.ensures.topic in
+    begun_is b.records.items b.next b.floor c.in_ok-topic.topic c.publish_due.new.topic _ c.in_ok-topic.ensures
+    (c.deref.ensures.value ∙ c.in_ok-registry.ensures.due) c.in_ok-publish_due.ensures.topic in
     c.in_ok-cluster.ensures ∙ ap (λ (t : Topic). start t c.args.nodes) begun
 
 pub returns-clause-place : goal.returns-clause-place
@@ -28,7 +29,11 @@ pub invariant_of-world : goal.invariant_of-world
 invariant_of-world c =
     let b = c.args.base.now in
     let begun : c.publish_due.new.topic ≡ topic_from b.records.items b.next b.floor =
-    begun_is b.records.items b.next b.floor c.in_ok-topic.topic c.publish_due.new.topic _ c.in_ok-topic.ensures (c.deref.ensures.value ∙ c.in_ok-registry.ensures.due) c.in_ok-publish_due.ensures.topic in
-    let fine : is_closed (last_records (from_list b.records.items)) ≡ false = subst (λ (t : Topic). is_closed (last_records t.log) ≡ false) c.in_ok-topic.ensures c.in_ok-registry.ensures.takes_commands in
+    begun_is b.records.items b.next b.floor c.in_ok-topic.topic c.publish_due.new.topic _ c.in_ok-topic.ensures
+    (c.deref.ensures.value ∙ c.in_ok-registry.ensures.due) c.in_ok-publish_due.ensures.topic in
+    let fine : is_closed (last_records (from_list b.records.items)) ≡ false =
+    subst (λ (t : Topic). is_closed (last_records t.log) ≡ false) c.in_ok-topic.ensures c.in_ok-registry.ensures.takes_commands in
     let adopted = c.adopted_logs_begin.ensures b.records.items b.next b.floor b.ahead b.above fine in
-    subst IsReached (sym c.in_ok-cluster.ensures) (subst (λ (t : Topic). IsReached (start t c.args.nodes)) (sym begun) (reached_at_start (topic_from b.records.items b.next b.floor) c.args.nodes adopted))
+    subst IsReached (sym c.in_ok-cluster.ensures)
+    (subst (λ (t : Topic). IsReached (start t c.args.nodes)) (sym begun)
+    (reached_at_start (topic_from b.records.items b.next b.floor) c.args.nodes adopted))
