@@ -124,8 +124,8 @@ pub(crate) fn make_desks<
     Ok(desks)
 }
 
-/// The node of that number, which isn't opened yet. Where there are three nodes, each is made in place: its listener
-/// and its follower have two lifetimes then, which the borrow checker doesn't part through a call.
+/// The node of that number, which isn't opened yet. Where there are three nodes, each is made in place: through a call
+/// the borrow checker takes a reference in it to stand at several lifetimes at once, and refuses it.
 pub(crate) fn make_node<
     'a,
     'x: 'a,
