@@ -19,16 +19,16 @@ use Rattle.reg_set.specs.Records.{Records}
 use Rattle.reg_entries.specs.EntryOrder.{place_cmp}
 use Rattle.reg_entries.specs.Flagged.{with_soft}
 use Rattle.reg_entries.specs.declared.entry.Entry.{Entry}
-use Rattle.reg_fold.specs.Entries.{entries, entry_map, entry_of}
+use Rattle.reg_fold.specs.Entries.{covered_in, entries, entry_map, entry_of, own_entry_in}
 use Rattle.reg_fold.specs.IdMark.{id_mark, id_marked_in, id_marked_of}
 use Rattle.reg_fold.specs.InForce.{Scope, level_in, level_of, mode_name_in, mode_name_of, own_level, own_mode_name}
 use Rattle.reg_fold.specs.Covers.{covers, is_soft_deleted}
 use Rattle.reg_fold.specs.Opaque.{is_opaque, opaque}
-use Rattle.reg_fold.specs.Own.{AreOwnEntries, own_entry_in, own_entry_of}
+use Rattle.reg_fold.specs.Own.{AreOwnEntries, own_entry_of}
 use Rattle.reg_fold.specs.SoftDeletes.{delete_in, delete_of, own_delete}
 use Rattle.reg_fold.specs.Spots.{HasSpots, Spot, spot_cmp}
 use Rattle.reg_fold.specs.Step.{EntriesAreOfLasts}
-use Rattle.reg_fold.proofs.Own.{covered_in, own_covered, own_none}
+use Rattle.reg_fold.proofs.Own.{own_covered, own_none}
 use Rattle.reg_fold.proofs.Placed.{place_cmp-ties, place_cmp-total}
 use Rattle.reg_fold.proofs.Places.{equal}
 use Rattle.reg_fold.proofs.SameOpaque.{opaque-same}

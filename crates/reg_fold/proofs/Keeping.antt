@@ -16,7 +16,7 @@ use Rattle.reg_records.specs.declared.record.Record.{Record}
 use Rattle.reg_set.specs.LastRecords.{is_of, last}
 use Rattle.reg_set.specs.RecordOrder.{age_cmp, record_cmp}
 use Rattle.reg_set.specs.Records.{Records, in_order, records_of}
-use Rattle.reg_fold.specs.Entries.{entries, entry_map, entry_of}
+use Rattle.reg_fold.specs.Entries.{covered_in, entries, entry_map, entry_of}
 use Rattle.reg_entries.specs.Covered.{shown, shown_all}
 use Rattle.reg_entries.specs.EntryOrder.{Place, place_cmp}
 use Rattle.reg_entries.specs.Flagged.{with_soft}
@@ -31,7 +31,7 @@ use Rattle.reg_fold.specs.Spots.{Spot, HasSpots, is_spot, spot_cmp}
 use Rattle.reg_fold.specs.Step.{EntriesAreOfLasts}
 use Rattle.reg_entries.specs.declared.entry.Entry.{Entry}
 use Rattle.reg_fold.specs.declared.index.Index.{Index}
-use Rattle.reg_fold.proofs.Own.{covered_in, own_covered}
+use Rattle.reg_fold.proofs.Own.{own_covered}
 use Rattle.reg_fold.proofs.Shown.{values_by}
 use Rattle.reg_fold.proofs.SoftDeletes.{covered_by_own}
 use Rattle.reg_fold.proofs.Spotted.{spots-same}

@@ -1,5 +1,5 @@
 -- The entries that are kept: what a step does to them, and how they are shown.
-use Rattle.std.proofs.Common.{◌≡◌, true, false, cond, ◌||◌, Option, Some, None, option_and_then, option_map, refl, sym, ap, ◌∙◌}
+use Rattle.std.proofs.Common.{◌≡◌, true, false, cond, Option, Some, None, option_and_then, option_map, refl, sym, ap, ◌∙◌}
 use Rattle.std.proofs.lemmas.Bool.{false≢true}
 use Rattle.std.proofs.lemmas.Cmp.{tied_itself}
 use Rattle.std.specs.FinMap as finmap
@@ -8,24 +8,17 @@ use Rattle.reg_values.specs.Value.{value_of}
 use Rattle.reg_records.specs.declared.key.Key.TheVariants as keys
 use Rattle.reg_records.specs.declared.record.Record.{Record}
 use Rattle.reg_records.specs.declared.value.Value.{Value}
-use Rattle.reg_records.specs.declared.value.Value.TheVariants as values
 use Rattle.reg_set.specs.LastRecords.{last}
 use Rattle.reg_set.specs.Records.{Records}
 use Rattle.reg_entries.specs.EntryOrder.{Place, place_cmp, place_of}
-use Rattle.reg_entries.specs.Flagged.{with_soft}
 use Rattle.reg_entries.specs.declared.entry.Entry.{Entry}
-use Rattle.reg_fold.specs.Entries.{entry_in, entry_of}
-use Rattle.reg_fold.specs.Covers.{is_soft_deleted}
+use Rattle.reg_fold.specs.Entries.{covered_in, entry_in, entry_of, own_entry_in}
 use Rattle.reg_fold.specs.Opaque.{is_version}
-use Rattle.reg_fold.specs.Own.{AreOwnEntries, own_entry_in, own_entry_of}
+use Rattle.reg_fold.specs.Own.{AreOwnEntries, own_entry_of}
 use Rattle.reg_fold.specs.Step.{IsStep}
 use Rattle.reg_fold.proofs.Placed.{place_cmp-ties, place_cmp-total}
 use Rattle.reg_fold.proofs.Places.{entry_of-key, equal, subject_of, version_of}
 use Rattle.reg_fold.proofs.Steps.{no_version}
-
--- an entry with the mark that its subject's last soft delete gives it
-abbrev pub covered_in : Records → Entry → Entry
-covered_in rs e = with_soft (e.soft || is_soft_deleted rs e.subject e.version e.offset) e
 
 -- an entry is what its record gives by itself, marked
 pub own_covered : (rs : Records) (r : Record) → entry_of rs r ≡ option_map (covered_in rs) (own_entry_of r)
@@ -34,12 +27,7 @@ own_covered rs r = each (value_of r)
   where
     each : (o : Option Value) → option_and_then (entry_in rs r.offset) o ≡ option_map (covered_in rs) (option_and_then (own_entry_in r.offset) o)
     each None = refl
-    each (Some (values.Schema subject version id schema deleted)) = refl
-    each (Some (values.Config level)) = refl
-    each (Some (values.Mode mode)) = refl
-    each (Some (values.DeleteSubject subject version)) = refl
-    each (Some values.Noop) = refl
-    each (Some (values.IdMark id)) = refl
+    each (Some v) = refl
 
 pub own_some : (rs : Records) (r : Record) (e : Entry) → own_entry_of r ≡ Some e → entry_of rs r ≡ Some (covered_in rs e)
 own_some rs r e gives = own_covered rs r ∙ ap (option_map (covered_in rs)) gives

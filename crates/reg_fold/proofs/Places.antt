@@ -3,7 +3,6 @@ use Rattle.std.proofs.Common.{◌≡◌, ℕ, Bool, true, false, cond, ◌||◌,
 use Rattle.std.proofs.Common.{◌∷◌, Option, Some, None, option_and_then, refl, sym, ap, ◌∙◌}
 use Rattle.std.proofs.lemmas.Bool.{false≢true}
 use Rattle.std.proofs.lemmas.Cmp.{tied_itself}
-use Rattle.std.specs.Prelude.{IfSome}
 use Rattle.std.specs.Cmp.{IsTotalOrder}
 use Rattle.std.specs.FinMap as finmap
 use Rattle.std.specs.FinSet.{IsAntisymmetric, contains, contains-items, items}
@@ -12,22 +11,19 @@ use Rattle.std.specs.Option.{option_or, unwrap_or}
 use Rattle.std.specs.Ordering.{eq_by_cmp, is_eq, match_ordering}
 use Rattle.std.specs.declared.cmp.Ordering.{Ordering}
 use Rattle.std.specs.declared.cmp.Ordering.TheVariants.{Less, Equal, Greater}
-use Rattle.reg_values.specs.Value.{value_of}
 use Rattle.reg_records.specs.declared.key.Key.{Key}
 use Rattle.reg_records.specs.declared.key.Key.TheVariants as keys
 use Rattle.reg_records.specs.declared.record.Record.{Record}
-use Rattle.reg_records.specs.declared.value.Value.{Value}
-use Rattle.reg_records.specs.declared.value.Value.TheVariants as values
 use Rattle.reg_set.specs.Join.{LastIsGreatest}
 use Rattle.reg_set.specs.LastRecords.{last}
 use Rattle.reg_set.specs.RecordOrder.{record_cmp}
 use Rattle.reg_set.specs.Records.{Records, in_order, records_of}
 use Rattle.reg_set.specs.Records.{placed as placed_record}
-use Rattle.reg_fold.specs.Entries.{entry_in, entry_of, entry_map}
+use Rattle.reg_fold.specs.Entries.{entry_of, entry_map}
 use Rattle.reg_entries.specs.EntryOrder.{Place, place_cmp, place_of}
 use Rattle.reg_entries.specs.declared.entry.Entry.{Entry}
 use Rattle.reg_fold.proofs.Placed.{place_cmp-ties, place_cmp-total, placed}
-use Rattle.reg_fold.proofs.Values.{IsUnder, value_of-under}
+use Rattle.reg_fold.proofs.Values.{entry_of-under}
 
 pub equal : (o : Ordering) → is_eq o ≡ true → o ≡ Equal
 equal Less h = absurd (false≢true h)
@@ -36,21 +32,7 @@ equal Greater h = absurd (false≢true h)
 
 -- an entry stands at the place of its record's key
 pub entry_of-key : (rs : Records) (r : Record) (e : Entry) → entry_of rs r ≡ Some e → r.key ≡ keys.Schema e.subject e.version
-unfolding entry_of
-entry_of-key rs r e is =
-    elim (value_of r) as (λ o. IfSome o (IsUnder r.key) → option_and_then (entry_in rs r.offset) o ≡ Some e → r.key ≡ keys.Schema e.subject e.version) [
-      | None ↦ λ _ is. absurd (cc)
-      | Some v ↦ λ under is. of_value v under is
-    ] (value_of-under r) is
-  where
-    of_value : (v : Value) → IsUnder r.key v → entry_in rs r.offset v ≡ Some e → r.key ≡ keys.Schema e.subject e.version
-    of_value (values.Schema subject version id schema deleted) under is =
-        under.0 ∙ ap (λ o. keys.Schema (unwrap_or o e).subject (unwrap_or o e).version) is
-    of_value (values.Config level) under is = absurd (cc)
-    of_value (values.Mode mode) under is = absurd (cc)
-    of_value (values.DeleteSubject subject version) under is = absurd (cc)
-    of_value values.Noop under is = absurd (cc)
-    of_value (values.IdMark id) under is = absurd (cc)
+entry_of-key rs r e is = (entry_of-under rs r e is).0
 
 abbrev pub subject_of : Key → List ℕ
 subject_of (keys.Schema subject version) = subject

@@ -26,7 +26,7 @@ use Rattle.reg_entries.specs.declared.entry.Entry.{Entry}
 use Rattle.reg_fold.proofs.Placed.{place_cmp-ties, place_cmp-total, then_ties}
 use Rattle.reg_fold.proofs.Places.{equal, subject_of, version_of}
 use Rattle.reg_fold.proofs.Steps.{no_version}
-use Rattle.reg_fold.proofs.Values.{IsUnder, value_of-under}
+use Rattle.reg_fold.proofs.Values.{IsUnder, entry_of-shown, value_of-under}
 
 pub spot_cmp-ties : (s t : Spot) → spot_cmp s t ≡ Equal → s ≡ t
 spot_cmp-ties s t e =
@@ -74,12 +74,9 @@ none_opaque a false h = refl
 
 -- what gives an entry isn't opaque
 pub readable : (S : Records) (r : Record) (e : Entry) → entry_of S r ≡ Some e → is_opaque r ≡ false
-unfolding entry_of is_opaque
+unfolding is_opaque
 readable S r e gives =
-    elim (value_of r) as (λ o. option_and_then (entry_in S r.offset) o ≡ Some e → (is_version r.key && is_some r.value && is_none o) ≡ false) [
-      | None ↦ λ h. absurd (cc)
-      | Some v ↦ λ _. last_false (is_version r.key) (is_some r.value)
-    ] gives
+    ap (λ o. is_version r.key && is_some r.value && is_none o) (entry_of-shown S r e gives).value ∙ last_false (is_version r.key) (is_some r.value)
   where
     last_false : (a b : Bool) → (a && b && false) ≡ false
     last_false true true = refl

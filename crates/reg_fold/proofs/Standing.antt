@@ -1,18 +1,16 @@
 -- Which entries stand by the last records, and which records are opaque.
-use Rattle.std.proofs.Common.{◌≡◌, ◌↔◌, ◌⊎◌, inl, inr, ℕ, Bool, true, false, List, [], ◌∷◌, map, min}
-use Rattle.std.proofs.Common.{Some, None, Contains, option_and_then, refl, sym, ap, subst, ◌∙◌}
+use Rattle.std.proofs.Common.{◌≡◌, ◌↔◌, inl, inr, ℕ, Bool, true, false, List, [], ◌∷◌, map, min}
+use Rattle.std.proofs.Common.{Some, None, Contains, refl, sym, ap, ◌∙◌}
 use Rattle.std.proofs.lemmas.Bool.{false≢true}
 use Rattle.std.specs.Cmp.{IsTotalOrder}
 use Rattle.std.specs.FinMap as finmap
 use Rattle.std.specs.FinSet.{IsAntisymmetric, contains}
 use Rattle.std.specs.List.{filter, reduce}
-use Rattle.reg_values.specs.Value.{value_of}
 use Rattle.reg_records.specs.Written.{IsVersionOrId}
-use Rattle.reg_values.specs.OfKey.{IsValueOf, ValuesAreOfKeys}
+use Rattle.reg_values.specs.OfKey.{ValuesAreOfKeys}
 use Rattle.reg_records.specs.declared.key.Key.{Key}
 use Rattle.reg_records.specs.declared.key.Key.TheVariants as keys
 use Rattle.reg_records.specs.declared.record.Record.{Record}
-use Rattle.reg_records.specs.declared.value.Value.{Value}
 use Rattle.reg_records.specs.declared.value.Value.TheVariants as values
 use Rattle.reg_set.specs.Join.{LastIsGreatest, LastOfLastRecords, LastRecordsAreCompaction, LastRecordsOfCompaction}
 use Rattle.reg_set.specs.LastRecords.{last, last_records}
@@ -20,7 +18,7 @@ use Rattle.reg_set.specs.RecordOrder.{record_cmp}
 use Rattle.reg_set.specs.Records.{Records, records_of}
 use Rattle.reg_entries.specs.declared.entry.Entry.{Entry}
 use Rattle.reg_fold.specs.Entries.{EntriesAreInLimits, EntriesAreOfKeys}
-use Rattle.reg_fold.specs.Entries.{EntriesAreOfPlaces, IsOfLast, entries, entry_in}
+use Rattle.reg_fold.specs.Entries.{EntriesAreOfPlaces, IsOfLast, entries}
 use Rattle.reg_fold.specs.Entries.{entry_map, entry_of}
 use Rattle.reg_fold.specs.Opaque.{NoneIsNoOpaqueLast, is_opaque, opaque}
 use Rattle.reg_fold.proofs.Least.{Has, among, none_opaque, there}
@@ -28,8 +26,8 @@ use Rattle.reg_fold.proofs.OfLasts.{are_of_lasts, last_of_itself, last_records-l
 use Rattle.reg_fold.proofs.Placed.{entry_map-each}
 use Rattle.reg_fold.proofs.Places.{entry_of-key, inside}
 use Rattle.reg_fold.proofs.Readable.{of_kept}
-use Rattle.reg_fold.proofs.Readable.{inside as inside_some}
 use Rattle.reg_fold.proofs.Steps.{entries_are_of_lasts}
+use Rattle.reg_fold.proofs.Values.{entry_of-shown}
 
 pub entries-of_keys : EntriesAreOfKeys
 entries-of_keys rs r e is = entry_of-key rs r e is
@@ -39,21 +37,12 @@ abbrev IsFit : Entry → Type 0
 IsFit e = IsVersionOrId e.version × IsVersionOrId e.id
 
 entry_of-fits : ValuesAreOfKeys → (rs : Records) (r : Record) (e : Entry) → entry_of rs r ≡ Some e → IsFit e
-unfolding entry_of
 entry_of-fits of_keys rs r e is =
-    elim (value_of r) as (λ o. value_of r ≡ o → option_and_then (entry_in rs r.offset) o ≡ Some e → IsFit e) [
-      | None ↦ λ _ is. absurd (cc)
-      | Some v ↦ λ has is. of_value v (of_keys r v has) is
-    ] refl is
-  where
-    of_value : (v : Value) → IsValueOf r.key v ⊎ ((r.key ≡ keys.Noop) × (v ≡ values.Noop)) → entry_in rs r.offset v ≡ Some e → IsFit e
-    of_value (values.Schema subject version id schema deleted) (inl fits) is = subst IsFit (inside_some _ e is) (fits.1, fits.2)
-    of_value (values.Schema subject version id schema deleted) (inr other) is = absurd (cc)
-    of_value (values.Config level) under is = absurd (cc)
-    of_value (values.Mode mode) under is = absurd (cc)
-    of_value (values.DeleteSubject subject version) under is = absurd (cc)
-    of_value values.Noop under is = absurd (cc)
-    of_value (values.IdMark id) under is = absurd (cc)
+    let s = entry_of-shown rs r e is in
+    elim (of_keys r (values.Schema e.subject e.version e.id e.text s.deleted) s.value) [
+      | inl fits ↦ (fits.1, fits.2)
+      | inr other ↦ absurd (cc)
+    ]
 
 pub entries-in_limits : ValuesAreOfKeys → EntriesAreInLimits
 unfolding entries

@@ -16,7 +16,8 @@ use Rattle.reg_set.specs.LastRecords.{last, last_records}
 use Rattle.reg_set.specs.RecordOrder.{record_cmp}
 use Rattle.reg_set.specs.Records.{Records}
 use Rattle.reg_fold.specs.Opaque.{is_version}
-use Rattle.reg_fold.specs.Own.{own_entry_in, own_entry_of}
+use Rattle.reg_fold.specs.Entries.{own_entry_in}
+use Rattle.reg_fold.specs.Own.{own_entry_of}
 use Rattle.reg_fold.specs.Tombstones.{is_tombstone}
 
 first_true : (a b : Bool) → (a && b) ≡ true → a ≡ true

@@ -1,6 +1,6 @@
 -- What the value of a record is under its key.
-use Rattle.std.proofs.Common.{◌≡◌, ℕ, Bool, true, false, cond, ◌&&◌, codes, List, option_map}
-use Rattle.std.proofs.Common.{Option, Some, None, option_and_then, refl, sym, ap, ◌∙◌}
+use Rattle.std.proofs.Common.{◌≡◌, ℕ, Bool, true, false, cond, ◌&&◌, codes, List, option_map, subst}
+use Rattle.std.proofs.Common.{Option, Some, None, option_and_then, unwrap_or, refl, sym, ap, ◌∙◌}
 use Rattle.std.specs.Prelude.{IfSome}
 use Rattle.serde_json.specs.Data.{Data}
 use Rattle.serde_json.specs.Read.{read}
@@ -13,6 +13,9 @@ use Rattle.reg_records.specs.declared.key.Key.TheVariants as keys
 use Rattle.reg_records.specs.declared.record.Record.{Record}
 use Rattle.reg_records.specs.declared.value.Value.{Value}
 use Rattle.reg_records.specs.declared.value.Value.TheVariants as values
+use Rattle.reg_set.specs.Records.{Records}
+use Rattle.reg_entries.specs.declared.entry.Entry.{Entry}
+use Rattle.reg_fold.specs.Entries.{entry_in, entry_of, normal_of}
 use Rattle.reg_fold.specs.Opaque.{is_version}
 
 -- a version's value names its key and has a schema's text, and a version's key has no other value
@@ -81,3 +84,28 @@ value_of_text-under keys.IdMark text = read-under keys.IdMark text
 
 pub value_of-under : (r : Record) → IfSome (value_of r) (IsUnder r.key)
 value_of-under r = each_some (IsUnder r.key) r.value (value_of_text r.key) (λ text _. value_of_text-under r.key text)
+
+-- a value that gives an entry is a version's, with that subject, version, id and text
+pub record IsShown (o : Option Value) (e : Entry) : Type 0 where
+  pub deleted : Bool
+  pub value : o ≡ Some (values.Schema e.subject e.version e.id e.text deleted)
+  pub normal : e.normal ≡ normal_of e.text
+
+shown : (rs : Records) (offset : ℕ) (o : Option Value) (e : Entry) → option_and_then (entry_in rs offset) o ≡ Some e → IsShown o e
+shown rs offset None e is = absurd (cc)
+shown rs offset (Some (values.Schema subject version id schema deleted)) e is =
+    subst (λ f. IsShown (Some (values.Schema subject version id schema deleted)) (unwrap_or f e)) is (record { deleted = deleted; value = refl; normal = refl })
+shown rs offset (Some (values.Config level)) e is = absurd (cc)
+shown rs offset (Some (values.Mode mode)) e is = absurd (cc)
+shown rs offset (Some (values.DeleteSubject subject version)) e is = absurd (cc)
+shown rs offset (Some values.Noop) e is = absurd (cc)
+shown rs offset (Some (values.IdMark id)) e is = absurd (cc)
+
+module _ (rs : Records) (r : Record) (e : Entry) (is : entry_of rs r ≡ Some e) where
+  pub entry_of-shown : IsShown (value_of r) e
+  unfolding entry_of
+  entry_of-shown = shown rs r.offset (value_of r) e is
+
+  -- it stands under the key of that subject and version, and its text is a schema's
+  pub entry_of-under : (r.key ≡ keys.Schema e.subject e.version) × (is_schema e.text ≡ true)
+  entry_of-under = subst (λ o. IfSome o (IsUnder r.key)) entry_of-shown.value (value_of-under r)

@@ -14,6 +14,7 @@ use Rattle.reg_records.specs.declared.value.Value.TheVariants as values
 use Rattle.reg_set.specs.LastRecords.{last, last_records}
 use Rattle.reg_set.specs.Records.{Records, records_of}
 use Rattle.reg_entries.specs.EntryOrder.{place_cmp, place_of}
+use Rattle.reg_entries.specs.Flagged.{with_soft}
 use Rattle.reg_fold.specs.Covers.{is_soft_deleted}
 use Rattle.reg_entries.specs.declared.entry.Entry.{Entry}
 
@@ -21,22 +22,30 @@ use Rattle.reg_entries.specs.declared.entry.Entry.{Entry}
 abbrev pub normal_of : List ℕ → List ℕ
 normal_of text = option_map_or (λ meaning. meaning.normal_text) (schema_of text) []
 
--- a version's value gives its entry: soft where the value says deleted, or where its subject was soft-deleted later
-abbrev pub entry_in : Records → ℕ → Value → Option Entry
-entry_in rs offset (values.Schema subject version id schema deleted) = Some (record {
+-- a version's value gives its entry by itself: soft where the value says deleted
+abbrev pub own_entry_in : ℕ → Value → Option Entry
+own_entry_in offset (values.Schema subject version id schema deleted) = Some (record {
   subject = subject;
   version = version;
   id = id;
   text = schema;
   normal = normal_of schema;
   offset = offset;
-  soft = deleted || is_soft_deleted rs subject version offset;
+  soft = deleted;
 })
-entry_in rs offset (values.Config level) = None
-entry_in rs offset (values.Mode mode) = None
-entry_in rs offset (values.DeleteSubject subject version) = None
-entry_in rs offset values.Noop = None
-entry_in rs offset (values.IdMark id) = None
+own_entry_in offset (values.Config level) = None
+own_entry_in offset (values.Mode mode) = None
+own_entry_in offset (values.DeleteSubject subject version) = None
+own_entry_in offset values.Noop = None
+own_entry_in offset (values.IdMark id) = None
+
+-- that entry among the others: soft by itself, or where its subject was soft-deleted later
+abbrev pub covered_in : Records → Entry → Entry
+covered_in rs e = with_soft (e.soft || is_soft_deleted rs e.subject e.version e.offset) e
+
+-- a version's value gives its entry
+abbrev pub entry_in : Records → ℕ → Value → Option Entry
+entry_in rs offset value = option_map (covered_in rs) (own_entry_in offset value)
 
 -- the entry of a record; one without a version's value has none
 unfoldable pub entry_of : Records → Record → Option Entry

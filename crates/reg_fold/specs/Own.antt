@@ -1,33 +1,14 @@
 -- Private: the entries that records give by themselves, whatever their subjects' soft deletes say. Below, rs are the last records.
-use Rattle.std.specs.Prelude.{◌≡◌, ℕ, Option, Some, None, option_and_then}
+use Rattle.std.specs.Prelude.{◌≡◌, Option, option_and_then}
 use Rattle.std.specs.FinMap as finmap
 use Rattle.reg_values.specs.Value.{value_of}
 use Rattle.reg_records.specs.declared.key.Key.TheVariants as keys
 use Rattle.reg_records.specs.declared.record.Record.{Record}
-use Rattle.reg_records.specs.declared.value.Value.{Value}
-use Rattle.reg_records.specs.declared.value.Value.TheVariants as values
 use Rattle.reg_set.specs.LastRecords.{last}
 use Rattle.reg_set.specs.Records.{Records}
 use Rattle.reg_entries.specs.EntryOrder.{Place, place_cmp}
-use Rattle.reg_fold.specs.Entries.{normal_of}
+use Rattle.reg_fold.specs.Entries.{own_entry_in}
 use Rattle.reg_entries.specs.declared.entry.Entry.{Entry}
-
--- a version's value gives its entry: soft where the value says deleted
-abbrev pub own_entry_in : ℕ → Value → Option Entry
-own_entry_in offset (values.Schema subject version id schema deleted) = Some (record {
-  subject = subject;
-  version = version;
-  id = id;
-  text = schema;
-  normal = normal_of schema;
-  offset = offset;
-  soft = deleted;
-})
-own_entry_in offset (values.Config level) = None
-own_entry_in offset (values.Mode mode) = None
-own_entry_in offset (values.DeleteSubject subject version) = None
-own_entry_in offset values.Noop = None
-own_entry_in offset (values.IdMark id) = None
 
 -- the entry that a record gives by itself
 unfoldable pub own_entry_of : Record → Option Entry

@@ -1,8 +1,9 @@
 use Rattle.std.proofs.Common.{ap, sym, subst, ◌∙◌}
+use Rattle.reg_fold.specs.Entries.{covered_in}
 use Rattle.reg_fold.specs.Opaque.{is_opaque}
 use Rattle.reg_fold.specs.Own.{AreOwnEntries}
 use Rattle.reg_fold.specs.Spots.{Forgets}
-use Rattle.reg_fold.proofs.Own.{covered_in, own-put, own_some}
+use Rattle.reg_fold.proofs.Own.{own-put, own_some}
 use Rattle.reg_fold.proofs.Owned.{is_config, is_id_mark, is_mode, levels-stay, mark-stays, modes-stay}
 use Rattle.reg_records.specs.Key.{is_delete}
 use Rattle.reg_fold.proofs.SoftDeletes.{deletes-stay}
