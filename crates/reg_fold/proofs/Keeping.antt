@@ -1,5 +1,5 @@
 -- What a registry keeps, as a whole.
-use Rattle.std.proofs.Common.{◌≡◌, Bool, false, ◌||◌, ◌&&◌, List, [], ◌∷◌, Option, Some, None}
+use Rattle.std.proofs.Common.{◌≡◌, ℕ, Bool, false, ◌||◌, ◌&&◌, List, [], ◌∷◌, Option, Some, None}
 use Rattle.std.proofs.Common.{option_and_then, option_map, unwrap_or, refl, sym, ap, subst, ◌∙◌}
 use Rattle.std.proofs.lemmas.Bool.{false≢true}
 use Rattle.std.proofs.lemmas.Cmp.{tied_itself}
@@ -10,6 +10,7 @@ use Rattle.std.specs.FinSet as set
 use Rattle.std.specs.List.{AllZip, filter, list_any, reduce}
 use Rattle.std.specs.Option.{option_map_or}
 use Rattle.std.specs.Ordering.{eq_by_cmp, is_eq, ord_max}
+use Rattle.reg_records.specs.Key.{is_delete}
 use Rattle.reg_records.specs.declared.key.Key.{Key}
 use Rattle.reg_records.specs.declared.key.Key.TheVariants as keys
 use Rattle.reg_records.specs.declared.record.Record.{Record}
@@ -23,18 +24,22 @@ use Rattle.reg_entries.specs.Flagged.{with_soft}
 use Rattle.reg_fold.specs.IdMark.{id_mark, id_marked_of}
 use Rattle.reg_fold.specs.InForce.{Scope, level_of, mode_name_of, own_level, own_mode_name}
 use Rattle.reg_fold.specs.Kept.{IsKept}
-use Rattle.reg_fold.specs.Opaque.{is_opaque}
+use Rattle.reg_fold.specs.Opaque.{is_opaque, is_version}
 use Rattle.reg_fold.specs.Own.{AreOwnEntries, own_entry_of}
-use Rattle.reg_fold.specs.Scopes.{kept_own}
+use Rattle.reg_fold.specs.Scopes.{AreOwn, kept_own}
 use Rattle.reg_fold.specs.SoftDeletes.{delete_of, own_delete}
 use Rattle.reg_fold.specs.Spots.{Spot, HasSpots, is_spot, spot_cmp}
-use Rattle.reg_fold.specs.Step.{EntriesAreOfLasts}
+use Rattle.reg_fold.specs.Step.{EntriesAreOfLasts, IsStep}
 use Rattle.reg_entries.specs.declared.entry.Entry.{Entry}
+use Rattle.reg_entries.specs.declared.soft_delete.SoftDelete.{SoftDelete}
+use Rattle.reg_level_names.specs.declared.level.Level.{Level}
 use Rattle.reg_fold.specs.declared.index.Index.{Index}
-use Rattle.reg_fold.proofs.Own.{own_covered}
+use Rattle.reg_fold.specs.declared.scoped.Scoped.{Scoped}
+use Rattle.reg_fold.proofs.Own.{own-other, own_covered}
+use Rattle.reg_fold.proofs.Owned.{is_config, is_id_mark, is_mode, levels-stay, mark-stays, modes-stay}
 use Rattle.reg_fold.proofs.Shown.{values_by}
-use Rattle.reg_fold.proofs.SoftDeletes.{covered_by_own}
-use Rattle.reg_fold.proofs.Spotted.{spots-same}
+use Rattle.reg_fold.proofs.SoftDeletes.{covered_by_own, deletes-stay}
+use Rattle.reg_fold.proofs.Spotted.{spots-other, spots-same}
 
 module _ (index : Index) (kept : IsKept index) where
   -- an entry is shown as its subject's last soft delete marks it
@@ -109,6 +114,37 @@ module _ (total : IsTotalOrder record_cmp) where
     all_levels = λ q. no_level q ∙ sym (own_level-empty index.last last_is q);
     all_modes = λ q. no_mode q ∙ sym (own_mode_name-empty index.last last_is q);
     the_mark = no_mark ∙ sym (id_mark-empty index.last last_is);
+  }
+
+-- what one more record does to what is kept
+module _ (old : Index) (kept : IsKept old) (after : Records) (r : Record) (step : IsStep old.last after r) where
+  -- one of a version changes only the entries and the opaque versions
+  pub IsKept-version : (place : Place) → r.key ≡ keys.Schema place.0 place.1
+      → (entries : finmap.FinMap place_cmp Entry) → AreOwnEntries after entries → (unread : BTreeSet Spot) → HasSpots is_opaque after unread
+      → IsKept (record old { last = after; entries = entries; unread = unread })
+  IsKept-version place of_key entries all_entries unread all_unread = record {
+    of_lasts = step.from_after;
+    all_entries = all_entries;
+    all_unread = all_unread;
+    all_deletes = deletes-stay old.last after r step old.deletes kept.all_deletes (ap is_delete of_key);
+    all_levels = levels-stay old.last after r step old.levels kept.all_levels (ap is_config of_key);
+    all_modes = modes-stay old.last after r step old.modes kept.all_modes (ap is_mode of_key);
+    the_mark = kept.the_mark ∙ sym (mark-stays old.last after r step (ap is_id_mark of_key));
+  }
+
+  -- one of another kind leaves these
+  pub IsKept-other : is_version r.key ≡ false
+      → (deletes : Scoped SoftDelete) → AreOwn (own_delete after) deletes → (levels : Scoped Level) → AreOwn (own_level after) levels
+      → (modes : Scoped (List ℕ)) → AreOwn (own_mode_name after) modes → (mark : ℕ) → mark ≡ id_mark after
+      → IsKept (record old { last = after; deletes = deletes; levels = levels; modes = modes; id_mark = mark })
+  IsKept-other no_version deletes all_deletes levels all_levels modes all_modes mark the_mark = record {
+    of_lasts = step.from_after;
+    all_entries = own-other old.last after r step old.entries kept.all_entries no_version;
+    all_unread = spots-other is_opaque old.last after r step no_version old.unread kept.all_unread;
+    all_deletes = all_deletes;
+    all_levels = all_levels;
+    all_modes = all_modes;
+    the_mark = the_mark;
   }
 
 -- copies of spots that are equal to them

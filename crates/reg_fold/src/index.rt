@@ -63,7 +63,7 @@ impl Clone for Index {
 }
 
 impl Index {
-    ghost use Rattle.reg_fold.specs.Kept.{IsKept};
+    ghost use Rattle.reg_fold.specs.Kept.{AddsOnOk, IsKept, IsNewsTo};
 
     /// Of no record.
     pub(crate) fn new(alloc: Global) -> Index
@@ -88,9 +88,7 @@ impl Index {
     /// Adds a record. The only error is out of memory; the last records are then as they were.
     pub(crate) fn apply(&mut self, given: &Record) -> Result<(), AllocError>
         requires { IsKept self.old }
-        ensures kept { IsKept self.new }
-        ensures added { OnOk result (self.new.last ≡ last_records (set.insert self.old.last given.now)) }
-        ensures refused { OnErr result (self.new.last ≡ self.old.last) }
+        ensures { AddsOnOk self.old given.now result self.new }
     {
         if !self.last.is_news(given) {
             return Ok(());
@@ -112,12 +110,9 @@ impl Index {
         subject: &Text,
         version: u32,
     ) -> Result<(), AllocError>
-        requires kept { IsKept self.old }
-        requires news { last_records (set.insert self.old.last given.now) ≢ self.old.last }
+        requires news { IsNewsTo given.now self.old }
         requires of_key { given.now.key ≡ keys.Schema subject.now version }
-        ensures kept { IsKept self.new }
-        ensures added { OnOk result (self.new.last ≡ last_records (set.insert self.old.last given.now)) }
-        ensures refused { OnErr result (self.new.last ≡ self.old.last) }
+        ensures { AddsOnOk self.old given.now result self.new }
     {
         let place = (subject.clone()?, version);
         match own_entry_of(self.alloc, given)? {
@@ -134,13 +129,10 @@ impl Index {
         place: (Text, u32),
         entry: Entry,
     ) -> Result<(), AllocError>
-        requires kept { IsKept self.old }
-        requires news { last_records (set.insert self.old.last given.now) ≢ self.old.last }
+        requires news { IsNewsTo given.now self.old }
         requires of_key { given.now.key ≡ keys.Schema place.0 place.1 }
         requires gives { own_entry_of given.now ≡ Some entry }
-        ensures kept { IsKept self.new }
-        ensures added { OnOk result (self.new.last ≡ last_records (set.insert self.old.last given.now)) }
-        ensures refused { OnErr result (self.new.last ≡ self.old.last) }
+        ensures { AddsOnOk self.old given.now result self.new }
     {
         let before = put_with(&mut self.last, &mut self.entries, given, entry)?;
         let spot = spot_of(before, place);
@@ -150,14 +142,11 @@ impl Index {
 
     /// Adds a version's record without a value.
     fn put_tombstone(&mut self, given: &Record, place: (Text, u32)) -> Result<(), AllocError>
-        requires kept { IsKept self.old }
-        requires news { last_records (set.insert self.old.last given.now) ≢ self.old.last }
+        requires news { IsNewsTo given.now self.old }
         requires of_key { given.now.key ≡ keys.Schema place.0 place.1 }
         requires gives { own_entry_of given.now ≡ None }
         requires no_value { is_some given.now.value ≡ false }
-        ensures kept { IsKept self.new }
-        ensures added { OnOk result (self.new.last ≡ last_records (set.insert self.old.last given.now)) }
-        ensures refused { OnErr result (self.new.last ≡ self.old.last) }
+        ensures { AddsOnOk self.old given.now result self.new }
     {
         let before = put_last(&mut self.last, given)?;
         self.entries.remove(&place);
@@ -180,8 +169,7 @@ impl Index {
 
     /// Adds one that is news.
     fn bury_news(&mut self, given: Record)
-        requires kept { IsKept self.old }
-        requires news { last_records (set.insert self.old.last given) ≢ self.old.last }
+        requires news { IsNewsTo given self.old }
         requires tombstone { is_tombstone self.old.last given ≡ true }
         ensures kept { IsKept self.new }
         ensures added { self.new.last ≡ last_records (set.insert self.old.last given) }
@@ -213,14 +201,11 @@ impl Index {
 
     /// Adds a version's record that has a text and can't be read.
     fn put_unread(&mut self, given: &Record, place: (Text, u32)) -> Result<(), AllocError>
-        requires kept { IsKept self.old }
-        requires news { last_records (set.insert self.old.last given.now) ≢ self.old.last }
+        requires news { IsNewsTo given.now self.old }
         requires of_key { given.now.key ≡ keys.Schema place.0 place.1 }
         requires gives { own_entry_of given.now ≡ None }
         requires has_text { is_some given.now.value ≡ true }
-        ensures kept { IsKept self.new }
-        ensures added { OnOk result (self.new.last ≡ last_records (set.insert self.old.last given.now)) }
-        ensures refused { OnErr result (self.new.last ≡ self.old.last) }
+        ensures { AddsOnOk self.old given.now result self.new }
     {
         let here = (given.offset, (place.0.clone()?, place.1));
         let before = put_last(&mut self.last, given)?;
@@ -237,12 +222,9 @@ impl Index {
 
     /// Adds the record of a soft delete that is news.
     fn apply_delete(&mut self, given: &Record, subject: &Text) -> Result<(), AllocError>
-        requires kept { IsKept self.old }
-        requires news { last_records (set.insert self.old.last given.now) ≢ self.old.last }
+        requires news { IsNewsTo given.now self.old }
         requires of_key { given.now.key ≡ keys.DeleteSubject subject.now }
-        ensures kept { IsKept self.new }
-        ensures added { OnOk result (self.new.last ≡ last_records (set.insert self.old.last given.now)) }
-        ensures refused { OnErr result (self.new.last ≡ self.old.last) }
+        ensures { AddsOnOk self.old given.now result self.new }
     {
         let delete = delete_of(self.alloc, given)?;
         let scope = Some(subject.clone()?);
@@ -259,12 +241,9 @@ impl Index {
 
     /// Adds a record that says nothing and is news.
     fn apply_noop(&mut self, given: &Record) -> Result<(), AllocError>
-        requires kept { IsKept self.old }
-        requires news { last_records (set.insert self.old.last given.now) ≢ self.old.last }
+        requires news { IsNewsTo given.now self.old }
         requires of_key { given.now.key ≡ keys.Noop }
-        ensures kept { IsKept self.new }
-        ensures added { OnOk result (self.new.last ≡ last_records (set.insert self.old.last given.now)) }
-        ensures refused { OnErr result (self.new.last ≡ self.old.last) }
+        ensures { AddsOnOk self.old given.now result self.new }
     {
         put_last(&mut self.last, given)?;
         Ok(())
@@ -272,12 +251,9 @@ impl Index {
 
     /// Adds a mark of ids that is news.
     fn apply_id_mark(&mut self, given: &Record) -> Result<(), AllocError>
-        requires kept { IsKept self.old }
-        requires news { last_records (set.insert self.old.last given.now) ≢ self.old.last }
+        requires news { IsNewsTo given.now self.old }
         requires of_key { given.now.key ≡ keys.IdMark }
-        ensures kept { IsKept self.new }
-        ensures added { OnOk result (self.new.last ≡ last_records (set.insert self.old.last given.now)) }
-        ensures refused { OnErr result (self.new.last ≡ self.old.last) }
+        ensures { AddsOnOk self.old given.now result self.new }
     {
         let marked = id_marked_of(self.alloc, given)?;
         put_last(&mut self.last, given)?;

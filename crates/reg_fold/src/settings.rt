@@ -16,7 +16,7 @@ use reg_set::LastRecords;
 use std::alloc::{AllocError, Global};
 
 impl Index {
-    ghost use Rattle.reg_fold.specs.Kept.{IsKept};
+    ghost use Rattle.reg_fold.specs.Kept.{AddsOnOk, IsNewsTo};
 
     /// Adds the record of a level that is news.
     pub(crate) fn apply_config(
@@ -24,12 +24,9 @@ impl Index {
         given: &Record,
         scope: &Option<Text>,
     ) -> Result<(), AllocError>
-        requires kept { IsKept self.old }
-        requires news { last_records (set.insert self.old.last given.now) ≢ self.old.last }
+        requires news { IsNewsTo given.now self.old }
         requires of_key { given.now.key ≡ keys.Config scope.now }
-        ensures kept { IsKept self.new }
-        ensures added { OnOk result (self.new.last ≡ last_records (set.insert self.old.last given.now)) }
-        ensures refused { OnErr result (self.new.last ≡ self.old.last) }
+        ensures { AddsOnOk self.old given.now result self.new }
     {
         let level = level_of(self.alloc, given)?;
         put_own(
@@ -49,12 +46,9 @@ impl Index {
         given: &Record,
         scope: &Option<Text>,
     ) -> Result<(), AllocError>
-        requires kept { IsKept self.old }
-        requires news { last_records (set.insert self.old.last given.now) ≢ self.old.last }
+        requires news { IsNewsTo given.now self.old }
         requires of_key { given.now.key ≡ keys.Mode scope.now }
-        ensures kept { IsKept self.new }
-        ensures added { OnOk result (self.new.last ≡ last_records (set.insert self.old.last given.now)) }
-        ensures refused { OnErr result (self.new.last ≡ self.old.last) }
+        ensures { AddsOnOk self.old given.now result self.new }
     {
         let name = mode_name_of(self.alloc, given)?;
         put_own(

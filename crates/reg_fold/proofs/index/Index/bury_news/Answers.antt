@@ -3,9 +3,7 @@ use Rattle.reg_records.specs.declared.key.Key.TheVariants as keys
 use Rattle.reg_fold.specs.Opaque.{is_opaque, is_version}
 use Rattle.reg_fold.specs.Own.{AreOwnEntries}
 use Rattle.reg_fold.proofs.Own.{own-removed}
-use Rattle.reg_fold.proofs.Owned.{is_config, is_id_mark, is_mode, levels-stay, mark-stays, modes-stay}
-use Rattle.reg_records.specs.Key.{is_delete}
-use Rattle.reg_fold.proofs.SoftDeletes.{deletes-stay}
+use Rattle.reg_fold.proofs.Keeping.{IsKept-version}
 use Rattle.reg_fold.proofs.Spotted.{spots-forgotten, without_text}
 use Rattle.reg_fold.proofs.Tombstones.{gives_none, has_last, has_no_value, is_of_version}
 use Rattle.reg_fold.proofs.index.Index.bury_news.Goals as goal
@@ -20,17 +18,13 @@ place_in-place-requires c =
 pub returns-clause-kept : goal.returns-clause-kept
 returns-clause-kept c =
     let old = c.args.self.now in
+    let kept = c.requires.news.kept in
     let after = c.put_over-before.new.lasts in
     let r = c.args.given in
     let place = c.place_in-place.result in
     let last = c.put_over-before.ensures in
     let of_key : r.key ≡ keys.Schema place.0 place.1 = sym last.of_key ∙ c.place_in-place.ensures in
-    record {
-      of_lasts = last.step.from_after;
-      all_entries = subst (AreOwnEntries after) (sym c.remove.ensures) (own-removed old.last after r last.step old.entries c.requires.kept.all_entries place of_key (gives_none old.last r c.requires.tombstone));
-      all_unread = spots-forgotten is_opaque old.last after r last.step place of_key (Some c.put_over-before.result) (sym last.before) old.unread c.requires.kept.all_unread (without_text r (has_no_value old.last r c.requires.tombstone)) c.forget.new.spots c.forget.ensures;
-      all_deletes = deletes-stay old.last after r last.step old.deletes c.requires.kept.all_deletes (ap is_delete of_key);
-      all_levels = levels-stay old.last after r last.step old.levels c.requires.kept.all_levels (ap is_config of_key);
-      all_modes = modes-stay old.last after r last.step old.modes c.requires.kept.all_modes (ap is_mode of_key);
-      the_mark = c.requires.kept.the_mark ∙ sym (mark-stays old.last after r last.step (ap is_id_mark of_key));
-    }
+    IsKept-version old kept after r last.step place of_key _
+    (subst (AreOwnEntries after) (sym c.remove.ensures) (own-removed old.last after r last.step old.entries kept.all_entries place of_key (gives_none old.last r c.requires.tombstone)))
+    _
+    (spots-forgotten is_opaque old.last after r last.step place of_key (Some c.put_over-before.result) (sym last.before) old.unread kept.all_unread (without_text r (has_no_value old.last r c.requires.tombstone)) c.forget.new.spots c.forget.ensures)
