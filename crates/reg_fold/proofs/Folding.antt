@@ -30,34 +30,44 @@ module _ (total : IsTotalOrder record_cmp) (ties : IsAntisymmetric record_cmp) w
   pub union-empty : (S : Records) → set.union S set.empty ≡ S
   union-empty S =
       set.same_set total ties (set.union S set.empty) S (λ q.
-      set.contains-union total S set.empty q ∙ ap (λ b. set.contains S q || b) (set.contains-empty record_cmp q) ∙ or_false (set.contains S q))
+      set.contains-union total S set.empty q
+      ∙ ap (λ b. set.contains S q || b) (set.contains-empty record_cmp q)
+      ∙ or_false (set.contains S q))
 
   union-insert : (S X : Records) (r : Record) → set.union S (set.insert X r) ≡ set.insert (set.union S X) r
   union-insert S X r =
       set.same_set total ties (set.union S (set.insert X r)) (set.insert (set.union S X) r) (λ q.
       set.contains-union total S (set.insert X r) q ∙ ap (λ b. set.contains S q || b) (set.contains-insert total X r q)
       ∙ turned (set.contains S q) (eq_by_cmp record_cmp q r) (set.contains X q)
-      ∙ ap (λ b. eq_by_cmp record_cmp q r || b) (sym (set.contains-union total S X q)) ∙ sym (set.contains-insert total (set.union S X) r q))
+      ∙ ap (λ b. eq_by_cmp record_cmp q r || b) (sym (set.contains-union total S X q))
+      ∙ sym (set.contains-insert total (set.union S X) r q))
 
-  list-more : (xs : List Record) (i : ℕ) (r : Record) → i < length xs → r ≡ get_or xs i r → with_one (of_list (take i xs)) r ≡ of_list (take (i + 1) xs)
+  list-more : (xs : List Record) (i : ℕ) (r : Record) → i < length xs
+      → r ≡ get_or xs i r → with_one (of_list (take i xs)) r ≡ of_list (take (i + 1) xs)
   list-more xs i r within at =
-      sym (set.from_list_push total ties (take i xs) r) ∙ ap (λ (y : Record). of_list (take i xs ++ y ∷ [])) at ∙ ap of_list (sym (take_more xs i r within))
+      sym (set.from_list_push total ties (take i xs) r)
+      ∙ ap (λ (y : Record). of_list (take i xs ++ y ∷ [])) at
+      ∙ ap of_list (sym (take_more xs i r within))
 
-  pub union-more : (S : Records) (xs : List Record) (i : ℕ) (r : Record) → i < length xs → r ≡ get_or xs i r → set.insert (set.union S (set.from_list (take i xs))) r ≡ set.union S (set.from_list (take (i + 1) xs))
+  pub union-more : (S : Records) (xs : List Record) (i : ℕ) (r : Record) → i < length xs → r ≡ get_or xs i r
+      → set.insert (set.union S (set.from_list (take i xs))) r ≡ set.union S (set.from_list (take (i + 1) xs))
   union-more S xs i r within at =
       sym (union-insert S (set.from_list (take i xs)) r) ∙ ap (set.union S) (list-more xs i r within at)
 
-  pub union-push : (S : Records) (xs : List Record) (r : Record) → set.insert (set.union S (set.from_list xs)) r ≡ set.union S (set.from_list (xs ++ r ∷ []))
+  pub union-push : (S : Records) (xs : List Record) (r : Record)
+      → set.insert (set.union S (set.from_list xs)) r ≡ set.union S (set.from_list (xs ++ r ∷ []))
   union-push S xs r = sym (union-insert S (set.from_list xs) r) ∙ ap (set.union S) (sym (set.from_list_push total ties xs r))
 
-  pub lent-more : (xs : List (Bor Record)) (i : ℕ) (r : Bor Record) → i < length xs → r ≡ get_or xs i r → with_one (of_list (map (λ (x : Bor Record). x.now) (take i xs))) r.now ≡ of_list (map (λ (x : Bor Record). x.now) (take (i + 1) xs))
+  pub lent-more : (xs : List (Bor Record)) (i : ℕ) (r : Bor Record) → i < length xs → r ≡ get_or xs i r
+      → with_one (of_list (map (λ (x : Bor Record). x.now) (take i xs))) r.now ≡ of_list (map (λ (x : Bor Record). x.now) (take (i + 1) xs))
   lent-more xs i r within at =
       sym (set.from_list_push total ties (map (λ (x : Bor Record). x.now) (take i xs)) r.now)
       ∙ ap of_list (sym (map-append (λ (x : Bor Record). x.now) (take i xs) (r ∷ [])))
       ∙ ap (λ (y : Bor Record). of_list (map (λ (x : Bor Record). x.now) (take i xs ++ y ∷ []))) at
       ∙ ap (λ (ys : List (Bor Record)). of_list (map (λ (x : Bor Record). x.now) ys)) (sym (take_more xs i r within))
 
-  pub union-one : (S : Records) (xs : List Record) (r : Record) → length xs ≡ 1 → r ≡ get_or xs 0 r → set.insert S r ≡ set.union S (set.from_list xs)
+  pub union-one : (S : Records) (xs : List Record) (r : Record) → length xs ≡ 1
+      → r ≡ get_or xs 0 r → set.insert S r ≡ set.union S (set.from_list xs)
   union-one S [] r one at = absurd (omega arith)
   union-one S (x ∷ []) r one at =
       ap (λ s. set.insert s r) (sym (union-empty S)) ∙ union-more S (x ∷ []) 0 r (omega arith) at

@@ -51,19 +51,24 @@ module _ (r : Record) (no_value : r.value ≡ None) where
 
   module _ (S T : Records) (loses : LosesAtMost r S T) where
     -- what the record doesn't say, no key says otherwise than before
-    said : {A : Type 0} (says : Record → Option A) → says r ≡ None → (key : Key) → option_and_then says (last T key) ≡ option_and_then says (last S key)
+    said : {A : Type 0} (says : Record → Option A) → says r ≡ None → (key : Key)
+        → option_and_then says (last T key) ≡ option_and_then says (last S key)
     said says nothing key =
         ⊎_elim (λ (same : last T key ≡ last S key). ap (option_and_then says) same)
-        (λ (lost : (last S key ≡ Some r) × (last T key ≡ None)). ap (option_and_then says) lost.1 ∙ sym (ap (option_and_then says) lost.0 ∙ nothing))
+        (λ (lost : (last S key ≡ Some r) × (last T key ≡ None)).
+        ap (option_and_then says) lost.1 ∙ sym (ap (option_and_then says) lost.0 ∙ nothing))
         (loses key)
 
-    passed : (test : Record → Bool) → test r ≡ false → (key : Key) → option_map_or test (last T key) false ≡ option_map_or test (last S key) false
+    passed : (test : Record → Bool) → test r ≡ false → (key : Key)
+        → option_map_or test (last T key) false ≡ option_map_or test (last S key) false
     passed test fails key =
         ⊎_elim (λ (same : last T key ≡ last S key). ap (λ o. option_map_or test o false) same)
-        (λ (lost : (last S key ≡ Some r) × (last T key ≡ None)). ap (λ o. option_map_or test o false) lost.1 ∙ sym (ap (λ o. option_map_or test o false) lost.0 ∙ fails))
+        (λ (lost : (last S key ≡ Some r) × (last T key ≡ None)).
+        ap (λ o. option_map_or test o false) lost.1 ∙ sym (ap (λ o. option_map_or test o false) lost.0 ∙ fails))
         (loses key)
 
-    covers-same : (subject : List ℕ) (version offset : ℕ) → is_soft_deleted T subject version offset ≡ is_soft_deleted S subject version offset
+    covers-same : (subject : List ℕ) (version offset : ℕ)
+        → is_soft_deleted T subject version offset ≡ is_soft_deleted S subject version offset
     unfolding is_soft_deleted
     covers-same subject version offset =
         passed (λ x. option_map_or (λ value. covers x.offset value version offset) (value_of x) false)
@@ -73,7 +78,8 @@ module _ (r : Record) (no_value : r.value ≡ None) where
     covered-same e = ap (λ b. with_soft (e.soft || b) e) (covers-same e.subject e.version e.offset)
 
     entry_of-same : (x : Record) → entry_of T x ≡ entry_of S x
-    entry_of-same x = own_covered T x ∙ ap (λ (f : Entry → Entry). option_map f (own_entry_of x)) (λ i e. covered-same e i) ∙ sym (own_covered S x)
+    entry_of-same x =
+        own_covered T x ∙ ap (λ (f : Entry → Entry). option_map f (own_entry_of x)) (λ i e. covered-same e i) ∙ sym (own_covered S x)
 
     pub own-left : (m : finmap.FinMap place_cmp Entry) → AreOwnEntries S m → AreOwnEntries T m
     own-left m own p = own p ∙ sym (said own_entry_of own_gives_none (keys.Schema p.0 p.1))
@@ -88,7 +94,9 @@ module _ (r : Record) (no_value : r.value ≡ None) where
     pub spots-left : (kind : Record → Bool) → kind r ≡ false → (u : BTreeSet Spot) → HasSpots kind S u → HasSpots kind T u
     spots-left kind clear u has s =
         has s
-        ∙ sym (passed (λ x. kind x && eq_by_cmp spot_cmp (x.offset, s.1) s) (ap (λ b. b && eq_by_cmp spot_cmp (r.offset, s.1) s) clear) (keys.Schema s.1.0 s.1.1))
+        ∙ sym (
+        passed (λ x. kind x && eq_by_cmp spot_cmp (x.offset, s.1) s)
+        (ap (λ b. b && eq_by_cmp spot_cmp (r.offset, s.1) s) clear) (keys.Schema s.1.0 s.1.1))
 
     pub levels-left : (scope : Scope) → own_level T scope ≡ own_level S scope
     unfolding own_level level_of
@@ -107,9 +115,11 @@ module _ (r : Record) (no_value : r.value ≡ None) where
     unfolding id_mark id_marked_of
     mark-left = ap (λ o. unwrap_or o 0) (said id_marked_of (ap (option_and_then id_marked_in) reads_none) keys.IdMark)
 
-    pub opaque-left : IsTotalOrder record_cmp → IsAntisymmetric record_cmp → LastIsGreatest → last_records S ≡ S → last_records T ≡ T → T ≡ remove S r → opaque S ≡ opaque T
+    pub opaque-left : IsTotalOrder record_cmp → IsAntisymmetric record_cmp → LastIsGreatest
+        → last_records S ≡ S → last_records T ≡ T → T ≡ remove S r → opaque S ≡ opaque T
     opaque-left total ties greatest are_S are_T left =
-        opaque-same total ties greatest S T are_S are_T (λ w is. sym (ap (λ s. contains s w) left ∙ contains-remove total S r w ∙ stays w is))
+        opaque-same total ties greatest S T are_S are_T (λ w is.
+        sym (ap (λ s. contains s w) left ∙ contains-remove total S r w ∙ stays w is))
       where
         stays : (w : Record) → is_opaque w ≡ true → (not (eq_by_cmp record_cmp w r) && contains S w) ≡ contains S w
         stays w is =

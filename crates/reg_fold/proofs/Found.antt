@@ -37,10 +37,12 @@ ord_max-picks cmp a b = elim (is_lt (cmp b a)) as (λ c. (cond c a b ≡ a) ⊎ 
 
 all_count : (es : List Entry) (subject : List ℕ) (deleted : Bool) → All (Contains es) (counting es subject deleted)
 all_count es subject deleted =
-    All-filter (counts deleted) (Contains es) (of_subject es subject) (All-filter (λ e. bytes_eq e.subject subject) (Contains es) es (All-contains_itself es))
+    All-filter (counts deleted) (Contains es) (of_subject es subject)
+    (All-filter (λ e. bytes_eq e.subject subject) (Contains es) es (All-contains_itself es))
 
 pub found_stand : FoundEntriesStand
 found_stand es subject Latest deleted e is =
-    reduce_has (Contains es) (ord_max (on (λ e. e.version) nat_cmp)) (ord_max-picks (on (λ e. e.version) nat_cmp)) (counting es subject deleted) e (all_count es subject deleted) is
+    reduce_has (Contains es) (ord_max (on (λ e. e.version) nat_cmp)) (ord_max-picks (on (λ e. e.version) nat_cmp))
+    (counting es subject deleted) e (all_count es subject deleted) is
 found_stand es subject (Number version) deleted e is =
     find_has (Contains es) (λ e. e.version == version) (counting es subject deleted) e (all_count es subject deleted) is

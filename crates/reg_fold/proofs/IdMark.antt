@@ -16,7 +16,8 @@ inside a b same = cc
 
 -- what a record marks is an id
 module _ (of_keys : ValuesAreOfKeys) (r : Record) where
-  of_value : (v : Value) → IsValueOf r.key v ⊎ ((r.key ≡ keys.Noop) × (v ≡ values.Noop)) → (id : ℕ) → id_marked_in v ≡ Some id → IsVersionOrId id
+  of_value : (v : Value) → IsValueOf r.key v ⊎ ((r.key ≡ keys.Noop) × (v ≡ values.Noop))
+      → (id : ℕ) → id_marked_in v ≡ Some id → IsVersionOrId id
   of_value (values.Schema subject version given schema deleted) under id is = absurd (cc)
   of_value (values.Config level) under id is = absurd (cc)
   of_value (values.Mode mode) under id is = absurd (cc)

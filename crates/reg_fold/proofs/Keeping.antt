@@ -44,15 +44,18 @@ use Rattle.reg_fold.proofs.Spotted.{spots-other, spots-same}
 module _ (index : Index) (kept : IsKept index) where
   -- an entry is shown as its subject's last soft delete marks it
   covered_shown : (e : Entry) → covered_in index.last e ≡ shown index.deletes.of_subjects e
-  covered_shown e = ap (λ b. with_soft (e.soft || b) e) (sym (covered_by_own index.last index.deletes kept.all_deletes e.subject e.version e.offset))
+  covered_shown e =
+      ap (λ b. with_soft (e.soft || b) e) (sym (covered_by_own index.last index.deletes kept.all_deletes e.subject e.version e.offset))
 
   at-kept : (p : Place) → finmap.get (entry_map index.last) p ≡ option_map (shown index.deletes.of_subjects) (finmap.get index.entries p)
   at-kept p =
       kept.of_lasts p ∙ each (last index.last (keys.Schema p.0 p.1))
-      ∙ ap (λ (f : Entry → Entry). option_map f (option_and_then own_entry_of (last index.last (keys.Schema p.0 p.1)))) (λ i e. covered_shown e i)
+      ∙ ap (λ (f : Entry → Entry). option_map f (option_and_then own_entry_of (last index.last (keys.Schema p.0 p.1))))
+      (λ i e. covered_shown e i)
       ∙ ap (option_map (shown index.deletes.of_subjects)) (sym (kept.all_entries p))
     where
-      each : (o : Option Record) → option_and_then (entry_of index.last) o ≡ option_map (covered_in index.last) (option_and_then own_entry_of o)
+      each : (o : Option Record)
+          → option_and_then (entry_of index.last) o ≡ option_map (covered_in index.last) (option_and_then own_entry_of o)
       each None = refl
       each (Some r) = own_covered index.last r
 
@@ -69,7 +72,8 @@ module _ (total : IsTotalOrder record_cmp) where
 
   records_of-empty : records_of set.empty ≡ []
   unfolding records_of
-  records_of-empty = ap in_order (no_items (set.items set.empty) (λ q. sym (set.contains-items set.empty q) ∙ set.contains-empty record_cmp q))
+  records_of-empty =
+      ap in_order (no_items (set.items set.empty) (λ q. sym (set.contains-items set.empty q) ∙ set.contains-empty record_cmp q))
 
   last-empty : (key : Key) → last set.empty key ≡ None
   unfolding last
@@ -84,7 +88,9 @@ module _ (total : IsTotalOrder record_cmp) where
   AreOwnEntries-empty : (m : finmap.FinMap place_cmp Entry) (rs : Records) → rs ≡ set.empty → m ≡ finmap.empty → AreOwnEntries rs m
   AreOwnEntries-empty m rs rs_are none p =
       ap (λ (n : finmap.FinMap place_cmp Entry). finmap.get n p) none ∙ finmap.get-empty place_cmp p
-      ∙ sym (ap (λ rs. option_and_then own_entry_of (last rs (keys.Schema p.0 p.1))) rs_are ∙ ap (option_and_then own_entry_of) (last-empty (keys.Schema p.0 p.1)))
+      ∙ sym (
+      ap (λ rs. option_and_then own_entry_of (last rs (keys.Schema p.0 p.1))) rs_are
+      ∙ ap (option_and_then own_entry_of) (last-empty (keys.Schema p.0 p.1)))
 
   own_level-empty : (rs : Records) → rs ≡ set.empty → (q : Scope) → own_level rs q ≡ None
   unfolding own_level
@@ -97,15 +103,19 @@ module _ (total : IsTotalOrder record_cmp) where
   own_delete-empty : (rs : Records) → rs ≡ set.empty → (q : Scope) → own_delete rs q ≡ None
   unfolding own_delete
   own_delete-empty rs rs_are None = refl
-  own_delete-empty rs rs_are (Some s) = ap (λ rs. option_and_then delete_of (last rs (keys.DeleteSubject s))) rs_are ∙ ap (option_and_then delete_of) (last-empty (keys.DeleteSubject s))
+  own_delete-empty rs rs_are (Some s) =
+      ap (λ rs. option_and_then delete_of (last rs (keys.DeleteSubject s))) rs_are
+      ∙ ap (option_and_then delete_of) (last-empty (keys.DeleteSubject s))
 
   id_mark-empty : (rs : Records) → rs ≡ set.empty → id_mark rs ≡ 0
   unfolding id_mark
   id_mark-empty rs rs_are = ap id_mark rs_are ∙ ap (λ o. unwrap_or (option_and_then id_marked_of o) 0) (last-empty keys.IdMark)
 
   -- without a record nothing is kept
-  pub IsKept-empty : (index : Index) → index.last ≡ set.empty → EntriesAreOfLasts index.last → index.entries ≡ finmap.empty → IsEmpty index.unread
-      → ((q : Scope) → kept_own index.deletes q ≡ None) → ((q : Scope) → kept_own index.levels q ≡ None) → ((q : Scope) → kept_own index.modes q ≡ None) → index.id_mark ≡ 0 → IsKept index
+  pub IsKept-empty : (index : Index) → index.last ≡ set.empty
+      → EntriesAreOfLasts index.last → index.entries ≡ finmap.empty → IsEmpty index.unread
+      → ((q : Scope) → kept_own index.deletes q ≡ None) → ((q : Scope) → kept_own index.levels q ≡ None)
+      → ((q : Scope) → kept_own index.modes q ≡ None) → index.id_mark ≡ 0 → IsKept index
   IsKept-empty index last_is of_lasts entries_are none_unread no_delete no_level no_mode no_mark = record {
     of_lasts = of_lasts;
     all_entries = AreOwnEntries-empty index.entries index.last last_is entries_are;
@@ -156,10 +166,14 @@ spots-copied (x ∷ xs) (y ∷ ys) h = λ i. (h.0.0 i, (h.0.1.0 i, h.0.1.1 i)) �
 
 -- what is kept of the same records and spots is kept
 pub IsKept-same : (old new : Index) → new.last ≡ old.last → new.entries ≡ old.entries → IsUnchanged old.unread new.unread
-    → ((q : Scope) → kept_own new.deletes q ≡ kept_own old.deletes q) → ((q : Scope) → kept_own new.levels q ≡ kept_own old.levels q) → ((q : Scope) → kept_own new.modes q ≡ kept_own old.modes q) → new.id_mark ≡ old.id_mark → IsKept old → IsKept new
+    → ((q : Scope) → kept_own new.deletes q ≡ kept_own old.deletes q) → ((q : Scope) → kept_own new.levels q ≡ kept_own old.levels q)
+    → ((q : Scope) → kept_own new.modes q ≡ kept_own old.modes q) → new.id_mark ≡ old.id_mark → IsKept old → IsKept new
 IsKept-same old new last_is entries_are unread deletes levels modes mark kept = record {
   of_lasts = subst EntriesAreOfLasts (sym last_is) kept.of_lasts;
-  all_entries = λ p. ap (λ (m : finmap.FinMap place_cmp Entry). finmap.get m p) entries_are ∙ kept.all_entries p ∙ sym (ap (λ rs. option_and_then own_entry_of (last rs (keys.Schema p.0 p.1))) last_is);
+  all_entries = λ p.
+      ap (λ (m : finmap.FinMap place_cmp Entry). finmap.get m p) entries_are
+      ∙ kept.all_entries p
+      ∙ sym (ap (λ rs. option_and_then own_entry_of (last rs (keys.Schema p.0 p.1))) last_is);
   all_unread = spots-same is_opaque old.last new.last old.unread new.unread last_is unread kept.all_unread;
   all_deletes = λ q. deletes q ∙ kept.all_deletes q ∙ sym (ap (λ rs. own_delete rs q) last_is);
   all_levels = λ q. levels q ∙ kept.all_levels q ∙ sym (ap (λ rs. own_level rs q) last_is);

@@ -94,31 +94,38 @@ module _ (total : IsTotalOrder record_cmp) (ties : IsAntisymmetric record_cmp) w
   pub later_among : (q r : Record) (rs : List Record) → among q rs ≡ true → among q (r ∷ rs) ≡ true
   later_among q r rs h = or_later (eq_by_cmp record_cmp q r) (list_any (eq_by_cmp record_cmp q) rs) h
 
-  above : (rs : List Record) (m : ℕ) → ((r : Record) → among r rs ≡ true → is_opaque r ≡ true → m ≤ r.offset) → AllByRecursion (λ k. m ≤ k) (map (λ r. r.offset) (filter is_opaque rs))
+  above : (rs : List Record) (m : ℕ) → ((r : Record) → among r rs ≡ true → is_opaque r ≡ true → m ≤ r.offset)
+      → AllByRecursion (λ k. m ≤ k) (map (λ r. r.offset) (filter is_opaque rs))
   above [] m each = tt
   above (r ∷ rs) m each =
       let rest = above rs m (λ q h. each q (later_among q r rs h)) in
-      elim (is_opaque r) as (λ b. is_opaque r ≡ b → AllByRecursion (λ k. m ≤ k) (map (λ r. r.offset) (cond b (r ∷ filter is_opaque rs) (filter is_opaque rs)))) [
+      elim (is_opaque r) as (λ b.
+      is_opaque r ≡ b → AllByRecursion (λ k. m ≤ k) (map (λ r. r.offset) (cond b (r ∷ filter is_opaque rs) (filter is_opaque rs)))) [
         | true ↦ λ h. (each r (first_among r rs) h, rest)
         | false ↦ λ _. rest
       ] refl
 
-  pub there : (rs : List Record) (w : Record) → among w rs ≡ true → is_opaque w ≡ true → Has w.offset (map (λ r. r.offset) (filter is_opaque rs))
+  pub there : (rs : List Record) (w : Record) → among w rs ≡ true
+      → is_opaque w ≡ true → Has w.offset (map (λ r. r.offset) (filter is_opaque rs))
   there [] w h unread = false≢true h
   there (r ∷ rs) w h unread =
-      elim (eq_by_cmp record_cmp w r) as (λ b. eq_by_cmp record_cmp w r ≡ b → (b || list_any (eq_by_cmp record_cmp w) rs) ≡ true → Has w.offset (map (λ r. r.offset) (filter is_opaque (r ∷ rs)))) [
+      elim (eq_by_cmp record_cmp w r) as (λ b. eq_by_cmp record_cmp w r ≡ b → (b || list_any (eq_by_cmp record_cmp w) rs) ≡ true
+      → Has w.offset (map (λ r. r.offset) (filter is_opaque (r ∷ rs)))) [
         | true ↦ λ t _.
             let same : w ≡ r = ties w r (equal _ t) in
             ap_has same
         | false ↦ λ _ later. keep (is_opaque r) (there rs w later unread)
       ] refl h
     where
-      keep : (b : Bool) → Has w.offset (map (λ r. r.offset) (filter is_opaque rs)) → Has w.offset (map (λ r. r.offset) (cond b (r ∷ filter is_opaque rs) (filter is_opaque rs)))
+      keep : (b : Bool) → Has w.offset (map (λ r. r.offset) (filter is_opaque rs))
+          → Has w.offset (map (λ r. r.offset) (cond b (r ∷ filter is_opaque rs) (filter is_opaque rs)))
       keep true rest = inr rest
       keep false rest = rest
 
       ap_has : w ≡ r → Has w.offset (map (λ r. r.offset) (filter is_opaque (r ∷ rs)))
-      ap_has same = subst (λ b. Has w.offset (map (λ r. r.offset) (cond b (r ∷ filter is_opaque rs) (filter is_opaque rs)))) (sym unread ∙ ap is_opaque same) (inl (ap (λ (q : Record). q.offset) (sym same)))
+      ap_has same =
+          subst (λ b. Has w.offset (map (λ r. r.offset) (cond b (r ∷ filter is_opaque rs) (filter is_opaque rs))))
+          (sym unread ∙ ap is_opaque same) (inl (ap (λ (q : Record). q.offset) (sym same)))
 
   pub none_opaque : (rs : List Record) → ((r : Record) → among r rs ≡ true → is_opaque r ≡ true → ⊥) → filter is_opaque rs ≡ []
   none_opaque [] each = refl
@@ -129,20 +136,26 @@ module _ (total : IsTotalOrder record_cmp) (ties : IsAntisymmetric record_cmp) w
         | false ↦ λ _. rest
       ] refl
 
-  module _ (greatest : LastIsGreatest) (S : Records) (are_last : last_records S ≡ S) (unread : BTreeSet Spot) (has : HasSpots is_opaque S unread) where
+  module _ (greatest : LastIsGreatest) (S : Records) (are_last : last_records S ≡ S)
+      (unread : BTreeSet Spot) (has : HasSpots is_opaque S unread) where
     lasts : (r : Record) → set.contains S r ≡ true → last S r.key ≡ Some r
     lasts = last_of_itself total ties S are_last
 
     -- an opaque version has its spot in the set
-    has_spot : (r : Record) → among r (records_of S) ≡ true → is_opaque r ≡ true → (p : Place) × (contains spot_cmp unread (r.offset, p) ≡ true)
+    has_spot : (r : Record) → among r (records_of S) ≡ true → is_opaque r ≡ true
+        → (p : Place) × (contains spot_cmp unread (r.offset, p) ≡ true)
     unfolding is_opaque
     has_spot r inside_list unread_too =
-        let (p, of_key) = version_place r.key ((both_true (is_version r.key) (is_some r.value && is_none (value_of r)) (three (is_version r.key) (is_some r.value) (is_none (value_of r)) unread_too)).0) in
+        let (p, of_key) = version_place r.key (
+        (both_true (is_version r.key) (is_some r.value && is_none (value_of r))
+        (three (is_version r.key) (is_some r.value) (is_none (value_of r)) unread_too)).0) in
         let own : last S r.key ≡ Some r = lasts r (inside total ties greatest S lasts r ∙ inside_list) in (
           p,
           has (r.offset, p)
-              ∙ ap (λ o. option_map_or (λ x. is_opaque x && eq_by_cmp spot_cmp (x.offset, p) (r.offset, p)) o false) (ap (last S) (sym of_key) ∙ own)
-              ∙ ap (λ b. b && eq_by_cmp spot_cmp (r.offset, p) (r.offset, p)) unread_too ∙ ap is_eq (tied_itself spot_cmp-total (r.offset, p)),
+              ∙ ap (λ o. option_map_or (λ x. is_opaque x && eq_by_cmp spot_cmp (x.offset, p) (r.offset, p)) o false)
+              (ap (last S) (sym of_key) ∙ own)
+              ∙ ap (λ b. b && eq_by_cmp spot_cmp (r.offset, p) (r.offset, p)) unread_too
+              ∙ ap is_eq (tied_itself spot_cmp-total (r.offset, p)),
         )
 
     pub opaque-none : IsEmpty unread → None ≡ opaque S
@@ -155,17 +168,23 @@ module _ (total : IsTotalOrder record_cmp) (ties : IsAntisymmetric record_cmp) w
     pub opaque-least : (k : Spot) → contains spot_cmp unread k ≡ true → IsLowerBound spot_cmp unread k → Some k.0 ≡ opaque S
     unfolding opaque
     opaque-least k member least =
-        elim (last S (keys.Schema k.1.0 k.1.1)) as (λ o. last S (keys.Schema k.1.0 k.1.1) ≡ o → option_map_or (λ r. is_opaque r && eq_by_cmp spot_cmp (r.offset, k.1) k) o false ≡ true → Some k.0 ≡ opaque S) [
+        elim (last S (keys.Schema k.1.0 k.1.1)) as (λ o. last S (keys.Schema k.1.0 k.1.1) ≡ o
+        → option_map_or (λ r. is_opaque r && eq_by_cmp spot_cmp (r.offset, k.1) k) o false ≡ true → Some k.0 ≡ opaque S) [
           | None ↦ λ _ h. absurd (false≢true h)
           | Some w ↦ λ own h. of_record w own h
         ] refl (sym (has k) ∙ member)
       where
-        of_record : (w : Record) → last S (keys.Schema k.1.0 k.1.1) ≡ Some w → (is_opaque w && eq_by_cmp spot_cmp (w.offset, k.1) k) ≡ true → Some k.0 ≡ opaque S
+        of_record : (w : Record) → last S (keys.Schema k.1.0 k.1.1) ≡ Some w
+            → (is_opaque w && eq_by_cmp spot_cmp (w.offset, k.1) k) ≡ true → Some k.0 ≡ opaque S
         of_record w own h =
             let both = both_true (is_opaque w) _ h in
             let offset : w.offset ≡ k.0 = ap (λ (s : Spot). s.0) (same_spot (w.offset, k.1) k both.1) in
-            let here : among w (records_of S) ≡ true = sym (inside total ties greatest S lasts w) ∙ ((greatest S (keys.Schema k.1.0 k.1.1) w).0 own).is_in_set in
-            ap Some (sym offset) ∙ sym (reduce_least w.offset (map (λ r. r.offset) (filter is_opaque (records_of S))) (above (records_of S) w.offset (λ r inside_list unread_too.
+            let here : among w (records_of S) ≡ true =
+            sym (inside total ties greatest S lasts w) ∙ ((greatest S (keys.Schema k.1.0 k.1.1) w).0 own).is_in_set in
+            ap Some (sym offset)
+            ∙ sym (
+            reduce_least w.offset (map (λ r. r.offset) (filter is_opaque (records_of S)))
+            (above (records_of S) w.offset (λ r inside_list unread_too.
             let (p, there) = has_spot r inside_list unread_too in
             let low : k.0 ≤ r.offset = offset_below k (r.offset, p) (least (r.offset, p) there) in
             subst (λ n. n ≤ r.offset) (sym offset) low)) (there (records_of S) w here both.0))

@@ -25,28 +25,39 @@ module _ (total : IsTotalOrder record_cmp) (ties : IsAntisymmetric record_cmp) (
   pub difference-empty : S ≡ set.difference S set.empty
   difference-empty =
       set.same_set total ties S (set.difference S set.empty) (λ q.
-      all_of (set.contains S q) ∙ ap (λ b. set.contains S q && not b) (sym (set.contains-empty record_cmp q)) ∙ sym (set.contains-difference total S set.empty q))
+      all_of (set.contains S q)
+      ∙ ap (λ b. set.contains S q && not b) (sym (set.contains-empty record_cmp q))
+      ∙ sym (set.contains-difference total S set.empty q))
 
   difference-insert : (X : Records) (r : Record) → set.remove (set.difference S X) r ≡ set.difference S (set.insert X r)
   difference-insert X r =
       set.same_set total ties (set.remove (set.difference S X) r) (set.difference S (set.insert X r)) (λ q.
-      set.contains-remove total (set.difference S X) r q ∙ ap (λ b. not (eq_by_cmp record_cmp q r) && b) (set.contains-difference total S X q)
+      set.contains-remove total (set.difference S X) r q
+      ∙ ap (λ b. not (eq_by_cmp record_cmp q r) && b) (set.contains-difference total S X q)
       ∙ either_out (eq_by_cmp record_cmp q r) (set.contains S q) (set.contains X q)
-      ∙ ap (λ b. set.contains S q && not b) (sym (set.contains-insert total X r q)) ∙ sym (set.contains-difference total S (set.insert X r) q))
+      ∙ ap (λ b. set.contains S q && not b) (sym (set.contains-insert total X r q))
+      ∙ sym (set.contains-difference total S (set.insert X r) q))
 
   pub difference-more : (test : Record → Bool) (xs : List Record) (i : ℕ) (r : Record) → i < length xs → r ≡ get_or xs i r
-      → cond (test r) (set.remove (set.difference S (of_list (filter test (take i xs)))) r) (set.difference S (of_list (filter test (take i xs))))
+      → cond (test r) (set.remove (set.difference S (of_list (filter test (take i xs)))) r)
+      (set.difference S (of_list (filter test (take i xs))))
       ≡ set.difference S (of_list (filter test (take (i + 1) xs)))
   difference-more test xs i r within at =
       let before = filter test (take i xs) in
       let last : Record → List Record = λ x. cond (test x) (x ∷ []) [] in
-      one (test r) ∙ ap (λ ys. set.difference S (of_list (before ++ ys))) (ap last at) ∙ ap (λ ys. set.difference S (of_list ys)) (sym (filter_more test xs i r within))
+      one (test r)
+      ∙ ap (λ ys. set.difference S (of_list (before ++ ys))) (ap last at)
+      ∙ ap (λ ys. set.difference S (of_list ys)) (sym (filter_more test xs i r within))
     where
       nothing : (ys : List Record) → ys ≡ ys ++ []
       nothing [] = refl
       nothing (y ∷ ys) = ap (λ zs. y ∷ zs) (nothing ys)
 
-      one : (b : Bool) → cond b (set.remove (set.difference S (of_list (filter test (take i xs)))) r) (set.difference S (of_list (filter test (take i xs))))
+      one : (b : Bool)
+          → cond b (set.remove (set.difference S (of_list (filter test (take i xs)))) r)
+          (set.difference S (of_list (filter test (take i xs))))
           ≡ set.difference S (of_list (filter test (take i xs) ++ cond b (r ∷ []) []))
-      one true = difference-insert (of_list (filter test (take i xs))) r ∙ ap (set.difference S) (sym (set.from_list_push total ties (filter test (take i xs)) r))
+      one true =
+          difference-insert (of_list (filter test (take i xs))) r
+          ∙ ap (set.difference S) (sym (set.from_list_push total ties (filter test (take i xs)) r))
       one false = ap (λ ys. set.difference S (of_list ys)) (nothing (filter test (take i xs)))

@@ -42,7 +42,8 @@ less Equal h = absurd h
 less Greater h = absurd h
 
 -- the last records have no others
-pub last_records-last_records : LastRecordsAreCompaction → LastRecordsOfCompaction → (rs : Records) → last_records (last_records rs) ≡ last_records rs
+pub last_records-last_records : LastRecordsAreCompaction → LastRecordsOfCompaction
+    → (rs : Records) → last_records (last_records rs) ≡ last_records rs
 last_records-last_records compaction same rs = same (last_records rs) rs (compaction rs)
 
 -- no record is the last of no key
@@ -88,10 +89,12 @@ Contains-find (f ∷ fs) q e is =
 find-below : (q : Place) (fs : List (Place × Entry)) → T (below_all place_cmp q fs) → find place_cmp q fs ≡ None
 find-below q [] h = refl
 find-below q (f ∷ fs) h =
-    ap (λ o. cond (is_eq o) (Some f.1) (find place_cmp q fs)) (less _ (left_of _ _ h)) ∙ find-below q fs (right_of (is_lt (place_cmp q f.0)) _ h)
+    ap (λ o. cond (is_eq o) (Some f.1) (find place_cmp q fs)) (less _ (left_of _ _ h))
+    ∙ find-below q fs (right_of (is_lt (place_cmp q f.0)) _ h)
 
 -- an entry among sorted ones is found at its place
-pub find-contained : (es : List (Place × Entry)) (e : Entry) → ArePlaced es → T (is_sorted place_cmp es) → (k : ℕ) → k < length (map (λ x. x.1) es) → get_or (map (λ x. x.1) es) k e ≡ e → find place_cmp (place_of e) es ≡ Some e
+pub find-contained : (es : List (Place × Entry)) (e : Entry) → ArePlaced es → T (is_sorted place_cmp es) → (k : ℕ)
+    → k < length (map (λ x. x.1) es) → get_or (map (λ x. x.1) es) k e ≡ e → find place_cmp (place_of e) es ≡ Some e
 find-contained [] e placed sorted k within at = absurd (omega arith)
 find-contained (f ∷ fs) e placed sorted zero within at =
     let here : place_of e ≡ f.0 = sym (placed.0 ∙ ap place_of at) in
@@ -99,14 +102,16 @@ find-contained (f ∷ fs) e placed sorted zero within at =
     ∙ ap (λ o. cond (is_eq o) (Some f.1) (find place_cmp (place_of e) fs)) (tied_itself place_cmp-total (place_of e)) ∙ ap Some at
 find-contained (f ∷ fs) e placed sorted (suc k) within at =
     let later = find-contained fs e placed.1 (right_of (below_all place_cmp f.0 fs) _ sorted) k (omega arith) at in
-    elim (eq_by_cmp place_cmp (place_of e) f.0) as (λ b. eq_by_cmp place_cmp (place_of e) f.0 ≡ b → cond b (Some f.1) (find place_cmp (place_of e) fs) ≡ Some e) [
+    elim (eq_by_cmp place_cmp (place_of e) f.0) as (λ b.
+    eq_by_cmp place_cmp (place_of e) f.0 ≡ b → cond b (Some f.1) (find place_cmp (place_of e) fs) ≡ Some e) [
       | true ↦ λ tie.
           let same : place_of e ≡ f.0 = place_cmp-ties (place_of e) f.0 (equal _ tie) in
           absurd (none_some e (sym (find-below f.0 fs (left_of _ _ sorted)) ∙ ap (λ p. find place_cmp p fs) (sym same) ∙ later))
       | false ↦ λ _. later
     ] refl
 
-pub and_then_some : {A B : Type 0} (f : A → Option B) (o : Option A) (b : B) → option_and_then f o ≡ Some b → (a : A) × (o ≡ Some a) × (f a ≡ Some b)
+pub and_then_some : {A B : Type 0} (f : A → Option B) (o : Option A) (b : B)
+    → option_and_then f o ≡ Some b → (a : A) × (o ≡ Some a) × (f a ≡ Some b)
 and_then_some f None b is = absurd (none_some b is)
 and_then_some f (Some a) b is = (a, refl, is)
 
@@ -121,13 +126,16 @@ are_of_lasts greatest S of_lasts e = (given, gives)
     given : Contains (entries S) e → IsOfLast S e
     given has =
         let (k, within, at) = has in
-        let found = find-contained (finmap.entries (entry_map S)) e (entry_map-placed S) (finmap.entries_sorted (entry_map S)) k within at in
-        let (r, is_last, gives) = and_then_some (entry_of S) (last S (keys.Schema e.subject e.version)) e (sym at_place ∙ finmap.get-entries (entry_map S) (place_of e) ∙ found) in
+        let found =
+        find-contained (finmap.entries (entry_map S)) e (entry_map-placed S) (finmap.entries_sorted (entry_map S)) k within at in
+        let (r, is_last, gives) = and_then_some (entry_of S) (last S (keys.Schema e.subject e.version)) e
+        (sym at_place ∙ finmap.get-entries (entry_map S) (place_of e) ∙ found) in
         (keys.Schema e.subject e.version, r, is_last, gives)
 
     gives : IsOfLast S e → Contains (entries S) e
     gives of_last =
         let (key, r, is, has) = of_last in
         let own : key ≡ keys.Schema e.subject e.version = sym (((greatest S key r).0 is).is_of_key) ∙ entry_of-key S r e has in
-        let found : finmap.get (entry_map S) (place_of e) ≡ Some e = at_place ∙ ap (λ k. option_and_then (entry_of S) (last S k)) (sym own) ∙ ap (option_and_then (entry_of S)) is ∙ has in
+        let found : finmap.get (entry_map S) (place_of e) ≡ Some e =
+        at_place ∙ ap (λ k. option_and_then (entry_of S) (last S k)) (sym own) ∙ ap (option_and_then (entry_of S)) is ∙ has in
         Contains-find (finmap.entries (entry_map S)) (place_of e) e (sym (finmap.get-entries (entry_map S) (place_of e)) ∙ found)

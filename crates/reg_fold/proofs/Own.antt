@@ -25,7 +25,8 @@ pub own_covered : (rs : Records) (r : Record) → entry_of rs r ≡ option_map (
 unfolding entry_of own_entry_of
 own_covered rs r = each (value_of r)
   where
-    each : (o : Option Value) → option_and_then (entry_in rs r.offset) o ≡ option_map (covered_in rs) (option_and_then (own_entry_in r.offset) o)
+    each : (o : Option Value)
+        → option_and_then (entry_in rs r.offset) o ≡ option_map (covered_in rs) (option_and_then (own_entry_in r.offset) o)
     each None = refl
     each (Some v) = refl
 
@@ -39,12 +40,15 @@ own_none rs r gives = own_covered rs r ∙ ap (option_map (covered_in rs)) gives
 module _ (S T : Records) (r : Record) (step : IsStep S T r) (m : finmap.FinMap place_cmp Entry) (own : AreOwnEntries S m) where
   module _ (p : Place) (of_key : r.key ≡ keys.Schema p.0 p.1) where
     -- at the place of a version's record stands what it gives, and elsewhere what stood there
-    at : (o : Option Entry) → own_entry_of r ≡ o → (q : Place) → cond (eq_by_cmp place_cmp q p) o (finmap.get m q) ≡ option_and_then own_entry_of (last T (keys.Schema q.0 q.1))
+    at : (o : Option Entry) → own_entry_of r ≡ o → (q : Place)
+        → cond (eq_by_cmp place_cmp q p) o (finmap.get m q) ≡ option_and_then own_entry_of (last T (keys.Schema q.0 q.1))
     at o gives q =
-        elim (eq_by_cmp place_cmp q p) as (λ b. eq_by_cmp place_cmp q p ≡ b → cond b o (finmap.get m q) ≡ option_and_then own_entry_of (last T (keys.Schema q.0 q.1))) [
+        elim (eq_by_cmp place_cmp q p) as (λ b.
+        eq_by_cmp place_cmp q p ≡ b → cond b o (finmap.get m q) ≡ option_and_then own_entry_of (last T (keys.Schema q.0 q.1))) [
           | true ↦ λ e.
               let same : q ≡ p = place_cmp-ties q p (equal _ e) in
-              let first : last T (keys.Schema q.0 q.1) ≡ Some r = ap (λ x. last T (keys.Schema x.0 x.1)) same ∙ ap (last T) (sym of_key) ∙ step.newest in
+              let first : last T (keys.Schema q.0 q.1) ≡ Some r =
+              ap (λ x. last T (keys.Schema x.0 x.1)) same ∙ ap (last T) (sym of_key) ∙ step.newest in
               sym (ap (option_and_then own_entry_of) first ∙ gives)
           | false ↦ λ e.
               let apart : ¬ (r.key ≡ keys.Schema q.0 q.1) = λ h.
@@ -56,9 +60,12 @@ module _ (S T : Records) (r : Record) (step : IsStep S T r) (m : finmap.FinMap p
 
     pub own-put : (e : Entry) → own_entry_of r ≡ Some e → AreOwnEntries T (finmap.insert m (place_of e) e)
     own-put e gives q =
-        let same : keys.Schema p.0 p.1 ≡ keys.Schema e.subject e.version = sym of_key ∙ entry_of-key S r (covered_in S e) (own_some S r e gives) in
+        let same : keys.Schema p.0 p.1 ≡ keys.Schema e.subject e.version =
+        sym of_key ∙ entry_of-key S r (covered_in S e) (own_some S r e gives) in
         let place : p ≡ place_of e = λ i. (subject_of (same i), version_of (same i)) in
-        finmap.get-insert place_cmp-total m (place_of e) e q ∙ ap (λ x. cond (eq_by_cmp place_cmp q x) (Some e) (finmap.get m q)) (sym place) ∙ at (Some e) gives q
+        finmap.get-insert place_cmp-total m (place_of e) e q
+        ∙ ap (λ x. cond (eq_by_cmp place_cmp q x) (Some e) (finmap.get m q)) (sym place)
+        ∙ at (Some e) gives q
 
     pub own-removed : own_entry_of r ≡ None → AreOwnEntries T (finmap.remove m p)
     own-removed gives q = finmap.get-remove place_cmp-total m p q ∙ at None gives q

@@ -43,13 +43,18 @@ module _ {A : Type 0} (says : Record → Option A) (key_of : Scope → Key) wher
     stays apart q = own q ∙ sym (ap (option_and_then says) (step.others (key_of q) (apart q)))
 
     -- a record of a scope's key changes that of the scope
-    changes : ((a b : Scope) → key_of a ≡ key_of b → a ≡ b) → (scope : Scope) → r.key ≡ key_of scope → (new : Scoped A) → HasOwn old new scope (says r) → AreOwn (own_in T) new
+    changes : ((a b : Scope) → key_of a ≡ key_of b → a ≡ b) → (scope : Scope) → r.key ≡ key_of scope
+        → (new : Scoped A) → HasOwn old new scope (says r) → AreOwn (own_in T) new
     changes one scope of_key new has q =
         has q
         ∙ elim (same_scope scope q) as (λ b. same_scope scope q ≡ b → cond b (says r) (kept_own old q) ≡ own_in T q) [
-          | true ↦ λ e. sym (ap (option_and_then says) (ap (λ s. last T (key_of s)) (sym (same_scope-same scope q e)) ∙ ap (last T) (sym of_key) ∙ step.newest))
+          | true ↦ λ e.
+              sym (
+              ap (option_and_then says)
+              (ap (λ s. last T (key_of s)) (sym (same_scope-same scope q e)) ∙ ap (last T) (sym of_key) ∙ step.newest))
           | false ↦ λ e.
-              let apart : ¬ (r.key ≡ key_of q) = λ same. false≢true (sym e ∙ ap (same_scope scope) (sym (one scope q (sym of_key ∙ same))) ∙ same_scope-itself scope) in
+              let apart : ¬ (r.key ≡ key_of q) =
+              λ same. false≢true (sym e ∙ ap (same_scope scope) (sym (one scope q (sym of_key ∙ same))) ∙ same_scope-itself scope) in
               own q ∙ sym (ap (option_and_then says) (step.others (key_of q) apart))
         ] refl
 
@@ -89,7 +94,8 @@ module _ (S T : Records) (r : Record) (step : IsStep S T r) where
     unfolding own_level
     levels-stay other = stays level_of (λ q. keys.Config q) S T r step levels own (λ q same. false≢true (sym other ∙ ap is_config same))
 
-    pub levels-change : (scope : Scope) → r.key ≡ keys.Config scope → (new : Scoped Level) → HasOwn levels new scope (level_of r) → AreOwn (own_level T) new
+    pub levels-change : (scope : Scope) → r.key ≡ keys.Config scope → (new : Scoped Level)
+        → HasOwn levels new scope (level_of r) → AreOwn (own_level T) new
     unfolding own_level
     levels-change = changes level_of (λ q. keys.Config q) S T r step levels own one_level
 
@@ -109,7 +115,8 @@ module _ (S T : Records) (r : Record) (step : IsStep S T r) where
     unfolding own_mode_name
     modes-stay other = stays mode_name_of (λ q. keys.Mode q) S T r step modes own (λ q same. false≢true (sym other ∙ ap is_mode same))
 
-    pub modes-change : (scope : Scope) → r.key ≡ keys.Mode scope → (new : Scoped (List ℕ)) → HasOwn modes new scope (mode_name_of r) → AreOwn (own_mode_name T) new
+    pub modes-change : (scope : Scope) → r.key ≡ keys.Mode scope → (new : Scoped (List ℕ))
+        → HasOwn modes new scope (mode_name_of r) → AreOwn (own_mode_name T) new
     unfolding own_mode_name
     modes-change = changes mode_name_of (λ q. keys.Mode q) S T r step modes own one_mode
 
@@ -127,7 +134,8 @@ option-copied D d (Some a) None h = absurd h
 option-copied D d (Some a) (Some b) h = ap Some (d a b h)
 
 -- what is found in copies is a copy of what is found
-pub lookup-copied : {Y A : Type 0} (D : A → A → Type 0) → ((a b : A) → D a b → b ≡ a) → (s : List ℕ) (xs ys : List (String Y × A)) → AllZip (λ p q. (string_bytes q.0 ≡ string_bytes p.0) × D p.1 q.1) xs ys
+pub lookup-copied : {Y A : Type 0} (D : A → A → Type 0) → ((a b : A) → D a b → b ≡ a)
+    → (s : List ℕ) (xs ys : List (String Y × A)) → AllZip (λ p q. (string_bytes q.0 ≡ string_bytes p.0) × D p.1 q.1) xs ys
     → lookup (is_at (λ k. slice_cmp nat_cmp s (string_bytes k))) ys ≡ lookup (is_at (λ k. slice_cmp nat_cmp s (string_bytes k))) xs
 lookup-copied D d s [] [] h = refl
 lookup-copied D d s [] (y ∷ ys) h = absurd h

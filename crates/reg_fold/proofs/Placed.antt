@@ -50,21 +50,26 @@ entries-empty = no_length _ (sym (finmap.len-entries finmap.empty) ∙ finmap.le
 
 -- what holds of each entry that a record gives, at its place, holds of each that is kept
 module _ (P : Place × Entry → Type 0) where
-  put-each : (e : Entry) (es : List (Place × Entry)) → P (place_of e, e) → AllByRecursion P es → AllByRecursion P (put place_cmp (place_of e) e es)
+  put-each : (e : Entry) (es : List (Place × Entry)) → P (place_of e, e)
+      → AllByRecursion P es → AllByRecursion P (put place_cmp (place_of e) e es)
   put-each e [] one all = (one, tt)
   put-each e (f ∷ fs) one all =
-      elim (place_cmp (place_of e) f.0) as (λ o. place_cmp (place_of e) f.0 ≡ o → AllByRecursion P (by_order o ((place_of e, e) ∷ f ∷ fs) ((f.0, e) ∷ fs) (f ∷ put place_cmp (place_of e) e fs))) [
+      elim (place_cmp (place_of e) f.0) as (λ o. place_cmp (place_of e) f.0 ≡ o
+      → AllByRecursion P (by_order o ((place_of e, e) ∷ f ∷ fs) ((f.0, e) ∷ fs) (f ∷ put place_cmp (place_of e) e fs))) [
         | Less ↦ λ _. (one, all)
         | Equal ↦ λ tie. (subst (λ (p : Place). P (p, e)) (place_cmp-ties (place_of e) f.0 tie) one, all.1)
         | Greater ↦ λ _. (all.0, put-each e fs one all.1)
       ] refl
 
-  fold-each : (es : List Entry) (m : finmap.FinMap place_cmp Entry) → AllByRecursion (λ e. P (place_of e, e)) es → AllByRecursion P (finmap.entries m) → AllByRecursion P (finmap.entries (fold placed m es))
+  fold-each : (es : List Entry) (m : finmap.FinMap place_cmp Entry) → AllByRecursion (λ e. P (place_of e, e)) es
+      → AllByRecursion P (finmap.entries m) → AllByRecursion P (finmap.entries (fold placed m es))
   fold-each [] m each all = all
   fold-each (e ∷ es) m each all =
-      fold-each es (placed m e) each.1 (subst (AllByRecursion P) (sym (finmap.entries-insert place_cmp-total m (place_of e) e)) (put-each e (finmap.entries m) each.0 all))
+      fold-each es (placed m e) each.1 (
+      subst (AllByRecursion P) (sym (finmap.entries-insert place_cmp-total m (place_of e) e)) (put-each e (finmap.entries m) each.0 all))
 
-  given-each : (h : Record → Option Entry) → ((r : Record) (e : Entry) → h r ≡ Some e → P (place_of e, e)) → (rs : List Record) → AllByRecursion (λ e. P (place_of e, e)) (filter_map h rs)
+  given-each : (h : Record → Option Entry) → ((r : Record) (e : Entry) → h r ≡ Some e → P (place_of e, e))
+      → (rs : List Record) → AllByRecursion (λ e. P (place_of e, e)) (filter_map h rs)
   given-each h gives [] = tt
   given-each h gives (r ∷ rs) =
       elim (h r) as (λ o. h r ≡ o → AllByRecursion (λ e. P (place_of e, e)) (cons_option o (filter_map h rs))) [
@@ -72,10 +77,12 @@ module _ (P : Place × Entry → Type 0) where
         | Some e ↦ λ is. (gives r e is, given-each h gives rs)
       ] refl
 
-  pub entry_map-each : (rs : Records) → ((r : Record) (e : Entry) → entry_of rs r ≡ Some e → P (place_of e, e)) → AllByRecursion P (finmap.entries (entry_map rs))
+  pub entry_map-each : (rs : Records) → ((r : Record) (e : Entry) → entry_of rs r ≡ Some e → P (place_of e, e))
+      → AllByRecursion P (finmap.entries (entry_map rs))
   unfolding entry_map
   entry_map-each rs gives =
-      fold-each (filter_map (entry_of rs) (records_of rs)) finmap.empty (given-each (entry_of rs) gives (records_of rs)) (subst (AllByRecursion P) (sym entries-empty) tt)
+      fold-each (filter_map (entry_of rs) (records_of rs)) finmap.empty
+      (given-each (entry_of rs) gives (records_of rs)) (subst (AllByRecursion P) (sym entries-empty) tt)
 
 -- each entry is kept at its own place
 abbrev pub ArePlaced : List (Place × Entry) → Type 0

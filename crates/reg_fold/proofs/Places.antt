@@ -50,7 +50,8 @@ version_of (keys.DeleteSubject subject) = 0
 version_of keys.Noop = 0
 version_of keys.IdMark = 0
 
-module _ (h : Record → Option Entry) (keyed : (r : Record) (e : Entry) → h r ≡ Some e → r.key ≡ keys.Schema e.subject e.version) (p : Place) where
+module _ (h : Record → Option Entry)
+    (keyed : (r : Record) (e : Entry) → h r ≡ Some e → r.key ≡ keys.Schema e.subject e.version) (p : Place) where
   -- the entry, if it stands at the place
   abbrev here : Entry → Option Entry
   here e = cond (eq_by_cmp place_cmp p (place_of e)) (Some e) None
@@ -68,13 +69,17 @@ module _ (h : Record → Option Entry) (keyed : (r : Record) (e : Entry) → h r
   or_none None = refl
   or_none (Some x) = refl
 
-  get-fold : (xs : List Record) (m : finmap.FinMap place_cmp Entry) → finmap.get (fold placed m (filter_map h xs)) p ≡ option_or (found xs) (finmap.get m p)
+  get-fold : (xs : List Record) (m : finmap.FinMap place_cmp Entry)
+      → finmap.get (fold placed m (filter_map h xs)) p ≡ option_or (found xs) (finmap.get m p)
   get-fold [] m = refl
   get-fold (x ∷ xs) m =
-      elim (h x) as (λ o. finmap.get (fold placed m (cons_option o (filter_map h xs))) p ≡ option_or (option_or (found xs) (option_and_then here o)) (finmap.get m p)) [
+      elim (h x) as (λ o.
+      finmap.get (fold placed m (cons_option o (filter_map h xs))) p
+      ≡ option_or (option_or (found xs) (option_and_then here o)) (finmap.get m p)) [
         | None ↦ get-fold xs m ∙ ap (λ o. option_or o (finmap.get m p)) (sym (or_none (found xs)))
         | Some e ↦ get-fold xs (placed m e)
-            ∙ ap (option_or (found xs)) (finmap.get-insert place_cmp-total m (place_of e) e p ∙ chosen (eq_by_cmp place_cmp p (place_of e)) e (finmap.get m p))
+            ∙ ap (option_or (found xs))
+            (finmap.get-insert place_cmp-total m (place_of e) e p ∙ chosen (eq_by_cmp place_cmp p (place_of e)) e (finmap.get m p))
             ∙ or_assoc (found xs) (here e) (finmap.get m p)
       ]
     where
@@ -86,10 +91,11 @@ module _ (h : Record → Option Entry) (keyed : (r : Record) (e : Entry) → h r
   of_other_key x apart =
       elim (h x) as (λ o. h x ≡ o → option_and_then here o ≡ None) [
         | None ↦ λ _. refl
-        | Some e ↦ λ is. elim (eq_by_cmp place_cmp p (place_of e)) as (λ b. eq_by_cmp place_cmp p (place_of e) ≡ b → cond b (Some e) None ≡ None) [
-          | true ↦ λ t. absurd (apart (keyed x e is ∙ ap (λ q. keys.Schema q.0 q.1) (sym (place_cmp-ties p (place_of e) (equal _ t)))))
-          | false ↦ λ _. refl
-        ] refl
+        | Some e ↦ λ is.
+            elim (eq_by_cmp place_cmp p (place_of e)) as (λ b. eq_by_cmp place_cmp p (place_of e) ≡ b → cond b (Some e) None ≡ None) [
+              | true ↦ λ t. absurd (apart (keyed x e is ∙ ap (λ q. keys.Schema q.0 q.1) (sym (place_cmp-ties p (place_of e) (equal _ t)))))
+              | false ↦ λ _. refl
+            ] refl
       ] refl
 
   of_its_key : (q : Record) → q.key ≡ keys.Schema p.0 p.1 → option_and_then here (h q) ≡ h q
@@ -113,7 +119,8 @@ module _ (h : Record → Option Entry) (keyed : (r : Record) (e : Entry) → h r
     or_right true b h = refl
     or_right false b h = h
 
-    found-none : (xs : List Record) → ((x : Record) → list_any (eq_by_cmp record_cmp x) xs ≡ true → ¬ (x.key ≡ keys.Schema p.0 p.1)) → found xs ≡ None
+    found-none : (xs : List Record)
+        → ((x : Record) → list_any (eq_by_cmp record_cmp x) xs ≡ true → ¬ (x.key ≡ keys.Schema p.0 p.1)) → found xs ≡ None
     found-none [] each = refl
     found-none (x ∷ xs) each =
         ap (λ o. option_or o (option_and_then here (h x))) (found-none xs (λ y there. each y (or_right (eq_by_cmp record_cmp y x) _ there)))
@@ -131,29 +138,40 @@ module _ (h : Record → Option Entry) (keyed : (r : Record) (e : Entry) → h r
       twice None = refl
       twice (Some e) = refl
 
-      found-either : (xs : List Record) → ((x : Record) → list_any (eq_by_cmp record_cmp x) xs ≡ true → x.key ≡ keys.Schema p.0 p.1 → x ≡ q) → (found xs ≡ None) ⊎ (found xs ≡ h q)
+      found-either : (xs : List Record) → ((x : Record) → list_any (eq_by_cmp record_cmp x) xs ≡ true → x.key ≡ keys.Schema p.0 p.1 → x ≡ q)
+          → (found xs ≡ None) ⊎ (found xs ≡ h q)
       found-either [] each = inl refl
       found-either (x ∷ xs) each =
           let rest = found-either xs (λ y there. each y (or_right (eq_by_cmp record_cmp y x) _ there)) in
           elim (eq_by_cmp record_cmp q x) as (λ b. eq_by_cmp record_cmp q x ≡ b → (found (x ∷ xs) ≡ None) ⊎ (found (x ∷ xs) ≡ h q)) [
-            | true ↦ λ same. inr (ap (option_or (found xs)) (itself x same) ∙ ⊎_elim (λ none. ap (λ o. option_or o (h q)) none) (λ some. ap (λ o. option_or o (h q)) some ∙ twice (h q)) rest)
+            | true ↦ λ same.
+                inr (
+                ap (option_or (found xs)) (itself x same)
+                ∙ ⊎_elim (λ none. ap (λ o. option_or o (h q)) none) (λ some. ap (λ o. option_or o (h q)) some ∙ twice (h q)) rest)
             | false ↦ λ apart.
                 let stays = ap (option_or (found xs)) (other x (each x (among_first x xs)) apart) ∙ or_none (found xs) in
                 ⊎_elim (λ none. inl (stays ∙ none)) (λ some. inr (stays ∙ some)) rest
           ] refl
 
-      found-some : (xs : List Record) → ((x : Record) → list_any (eq_by_cmp record_cmp x) xs ≡ true → x.key ≡ keys.Schema p.0 p.1 → x ≡ q) → list_any (eq_by_cmp record_cmp q) xs ≡ true → found xs ≡ h q
+      found-some : (xs : List Record) → ((x : Record) → list_any (eq_by_cmp record_cmp x) xs ≡ true → x.key ≡ keys.Schema p.0 p.1 → x ≡ q)
+          → list_any (eq_by_cmp record_cmp q) xs ≡ true → found xs ≡ h q
       found-some [] each there = absurd (false≢true there)
       found-some (x ∷ xs) each there =
-          let later : (y : Record) → list_any (eq_by_cmp record_cmp y) xs ≡ true → y.key ≡ keys.Schema p.0 p.1 → y ≡ q = λ y h. each y (or_right (eq_by_cmp record_cmp y x) _ h) in
-          elim (eq_by_cmp record_cmp q x) as (λ b. eq_by_cmp record_cmp q x ≡ b → (b || list_any (eq_by_cmp record_cmp q) xs) ≡ true → found (x ∷ xs) ≡ h q) [
-            | true ↦ λ same _. ap (option_or (found xs)) (itself x same) ∙ ⊎_elim (λ none. ap (λ o. option_or o (h q)) none) (λ some. ap (λ o. option_or o (h q)) some ∙ twice (h q)) (found-either xs later)
+          let later : (y : Record) → list_any (eq_by_cmp record_cmp y) xs ≡ true → y.key ≡ keys.Schema p.0 p.1 → y ≡ q =
+          λ y h. each y (or_right (eq_by_cmp record_cmp y x) _ h) in
+          elim (eq_by_cmp record_cmp q x) as (λ b.
+          eq_by_cmp record_cmp q x ≡ b → (b || list_any (eq_by_cmp record_cmp q) xs) ≡ true → found (x ∷ xs) ≡ h q) [
+            | true ↦ λ same _.
+                ap (option_or (found xs)) (itself x same)
+                ∙ ⊎_elim (λ none. ap (λ o. option_or o (h q)) none)
+                (λ some. ap (λ o. option_or o (h q)) some ∙ twice (h q)) (found-either xs later)
             | false ↦ λ apart there.
                 ap (option_or (found xs)) (other x (each x (among_first x xs)) apart) ∙ or_none (found xs) ∙ found-some xs later there
           ] refl there
 
 -- where each record of a set is the last of its key, the entry at a place is that of the last record of its key
-module _ (total : IsTotalOrder record_cmp) (ties : IsAntisymmetric record_cmp) (greatest : LastIsGreatest) (S : Records) (lasts : (r : Record) → contains S r ≡ true → last S r.key ≡ Some r) where
+module _ (total : IsTotalOrder record_cmp) (ties : IsAntisymmetric record_cmp) (greatest : LastIsGreatest)
+    (S : Records) (lasts : (r : Record) → contains S r ≡ true → last S r.key ≡ Some r) where
   same_or : (a b c : Bool) → a ≡ b → (b || c) ≡ (a || (b || c))
   same_or true b c h = ap (λ x. x || c) (sym h)
   same_or false b c h = refl
@@ -164,13 +182,20 @@ module _ (total : IsTotalOrder record_cmp) (ties : IsAntisymmetric record_cmp) (
   turned_or false true c = refl
   turned_or false false c = refl
 
-  any_placed : (q r : Record) (xs : List Record) → list_any (eq_by_cmp record_cmp q) (placed_record r xs) ≡ (eq_by_cmp record_cmp q r || list_any (eq_by_cmp record_cmp q) xs)
+  any_placed : (q r : Record) (xs : List Record)
+      → list_any (eq_by_cmp record_cmp q) (placed_record r xs) ≡ (eq_by_cmp record_cmp q r || list_any (eq_by_cmp record_cmp q) xs)
   any_placed q r [] = refl
   any_placed q r (x ∷ xs) =
-      elim (record_cmp r x) as (λ o. record_cmp r x ≡ o → list_any (eq_by_cmp record_cmp q) (match_ordering o (r ∷ x ∷ xs) (x ∷ xs) (x ∷ placed_record r xs)) ≡ (eq_by_cmp record_cmp q r || (eq_by_cmp record_cmp q x || list_any (eq_by_cmp record_cmp q) xs))) [
+      elim (record_cmp r x) as (λ o. record_cmp r x ≡ o
+      → list_any (eq_by_cmp record_cmp q) (match_ordering o (r ∷ x ∷ xs) (x ∷ xs) (x ∷ placed_record r xs))
+      ≡ (eq_by_cmp record_cmp q r || (eq_by_cmp record_cmp q x || list_any (eq_by_cmp record_cmp q) xs))) [
         | Less ↦ λ _. refl
-        | Equal ↦ λ tie. same_or (eq_by_cmp record_cmp q r) (eq_by_cmp record_cmp q x) (list_any (eq_by_cmp record_cmp q) xs) (ap (eq_by_cmp record_cmp q) (ties r x tie))
-        | Greater ↦ λ _. ap (λ b. eq_by_cmp record_cmp q x || b) (any_placed q r xs) ∙ turned_or (eq_by_cmp record_cmp q r) (eq_by_cmp record_cmp q x) (list_any (eq_by_cmp record_cmp q) xs)
+        | Equal ↦ λ tie.
+            same_or (eq_by_cmp record_cmp q r) (eq_by_cmp record_cmp q x)
+            (list_any (eq_by_cmp record_cmp q) xs) (ap (eq_by_cmp record_cmp q) (ties r x tie))
+        | Greater ↦ λ _.
+            ap (λ b. eq_by_cmp record_cmp q x || b) (any_placed q r xs)
+            ∙ turned_or (eq_by_cmp record_cmp q r) (eq_by_cmp record_cmp q x) (list_any (eq_by_cmp record_cmp q) xs)
       ] refl
 
   any_in_order : (q : Record) (xs : List Record) → list_any (eq_by_cmp record_cmp q) (in_order xs) ≡ list_any (eq_by_cmp record_cmp q) xs
@@ -191,7 +216,9 @@ module _ (total : IsTotalOrder record_cmp) (ties : IsAntisymmetric record_cmp) (
       get-fold h keyed p all finmap.empty
       ∙ ap (option_or (found h keyed p all)) (finmap.get-empty place_cmp p) ∙ or_none h keyed p (found h keyed p all)
       ∙ elim (last S key) as (λ o. last S key ≡ o → found h keyed p all ≡ option_and_then h o) [
-        | None ↦ λ none. found-none h keyed p total ties all (λ x there same. none_some x (sym none ∙ ap (last S) (sym same) ∙ lasts x (inside x ∙ there)))
+        | None ↦ λ none.
+            found-none h keyed p total ties all (λ x there same.
+            none_some x (sym none ∙ ap (last S) (sym same) ∙ lasts x (inside x ∙ there)))
         | Some q ↦ λ some.
             let fact = (greatest S key q).0 some in
             found-some h keyed p total ties q fact.is_of_key all

@@ -17,7 +17,8 @@ use Rattle.reg_fold.proofs.Values.{entry_of-shown, entry_of-under}
 abbrev IsRead : Entry → Type 0
 IsRead e = option_map (λ meaning. meaning.normal_text) (schema_of e.text) ≡ Some e.normal
 
-meaning_of : (o : Option Meaning) → is_some o ≡ true → option_map (λ meaning. meaning.normal_text) o ≡ Some (option_map_or (λ meaning. meaning.normal_text) o [])
+meaning_of : (o : Option Meaning) → is_some o ≡ true
+    → option_map (λ meaning. meaning.normal_text) o ≡ Some (option_map_or (λ meaning. meaning.normal_text) o [])
 meaning_of None is = absurd (false≢true is)
 meaning_of (Some meaning) is = refl
 
@@ -26,7 +27,8 @@ entry_of-read : (rs : Records) (r : Record) (e : Entry) → entry_of rs r ≡ So
 entry_of-read rs r e is = meaning_of (schema_of e.text) (entry_of-under rs r e is).1 ∙ ap Some (sym (entry_of-shown rs r e is).normal)
 
 -- what holds of each entry that is kept holds of one among them
-pub of_kept : (P : Entry → Type 0) (es : List (Place × Entry)) → AllByRecursion (λ kept. P kept.1) es → (e : Entry) (k : ℕ) → k < length (map (λ kept. kept.1) es) → get_or (map (λ kept. kept.1) es) k e ≡ e → P e
+pub of_kept : (P : Entry → Type 0) (es : List (Place × Entry)) → AllByRecursion (λ kept. P kept.1) es
+    → (e : Entry) (k : ℕ) → k < length (map (λ kept. kept.1) es) → get_or (map (λ kept. kept.1) es) k e ≡ e → P e
 of_kept P [] all e k within at = absurd (omega arith)
 of_kept P (f ∷ fs) all e zero within at = subst P at all.0
 of_kept P (f ∷ fs) all e (suc k) within at = of_kept P fs all.1 e k (omega arith) at
@@ -34,4 +36,5 @@ of_kept P (f ∷ fs) all e (suc k) within at = of_kept P fs all.1 e k (omega ari
 pub entries-read : EntriesAreRead
 unfolding entries
 entries-read rs e has =
-    of_kept IsRead (finmap.entries (entry_map rs)) (entry_map-each (λ kept. IsRead kept.1) rs (λ r e is. entry_of-read rs r e is)) e has.0 has.1 has.2
+    of_kept IsRead (finmap.entries (entry_map rs))
+    (entry_map-each (λ kept. IsRead kept.1) rs (λ r e is. entry_of-read rs r e is)) e has.0 has.1 has.2

@@ -54,7 +54,8 @@ same_least [] [] f g = refl
 same_least [] (k ∷ ks) f g = absurd (g k (inl refl))
 same_least (n ∷ ns) ks f g =
     let (m, has, low) = least_of n ns in
-    reduce_least m (n ∷ ns) low has ∙ sym (reduce_least m ks (all_have (λ k. m ≤ k) ks (λ k h. each_has (λ k. m ≤ k) (n ∷ ns) low k (g k h))) (f m has))
+    reduce_least m (n ∷ ns) low has
+    ∙ sym (reduce_least m ks (all_have (λ k. m ≤ k) ks (λ k h. each_has (λ k. m ≤ k) (n ∷ ns) low k (g k h))) (f m has))
 
 abbrev offsets : List Record → List ℕ
 offsets rs = map (λ r. r.offset) (filter is_opaque rs)
@@ -64,7 +65,8 @@ module _ (total : IsTotalOrder record_cmp) (ties : IsAntisymmetric record_cmp) w
   record_at : (rs : List Record) (m : ℕ) → Has m (offsets rs) → (w : Record) × (among w rs ≡ true) × (is_opaque w ≡ true) × (w.offset ≡ m)
   record_at [] m h = absurd h
   record_at (r ∷ rs) m h =
-      elim (is_opaque r) as (λ b. is_opaque r ≡ b → Has m (map (λ r. r.offset) (cond b (r ∷ filter is_opaque rs) (filter is_opaque rs))) → (w : Record) × (among w (r ∷ rs) ≡ true) × (is_opaque w ≡ true) × (w.offset ≡ m)) [
+      elim (is_opaque r) as (λ b. is_opaque r ≡ b → Has m (map (λ r. r.offset) (cond b (r ∷ filter is_opaque rs) (filter is_opaque rs)))
+      → (w : Record) × (among w (r ∷ rs) ≡ true) × (is_opaque w ≡ true) × (w.offset ≡ m)) [
         | true ↦ λ unread.
             ⊎_elim (λ (e : r.offset ≡ m). (r, first_among total ties r rs, unread, e))
             (λ (rest : Has m (offsets rs)). let (w, here, is, at) = record_at rs m rest in (w, later_among total ties w r rs here, is, at))
@@ -72,14 +74,20 @@ module _ (total : IsTotalOrder record_cmp) (ties : IsAntisymmetric record_cmp) w
       ] refl h
 
   module _ (greatest : LastIsGreatest) where
-    into : (S T : Records) → last_records S ≡ S → last_records T ≡ T → ((w : Record) → is_opaque w ≡ true → contains S w ≡ contains T w) → (m : ℕ) → Has m (offsets (records_of S)) → Has m (offsets (records_of T))
+    into : (S T : Records) → last_records S ≡ S → last_records T ≡ T → ((w : Record) → is_opaque w ≡ true → contains S w ≡ contains T w)
+        → (m : ℕ) → Has m (offsets (records_of S)) → Has m (offsets (records_of T))
     into S T are_S are_T same m h =
         let (w, here, is, at) = record_at (records_of S) m h in
         let listed : among w (records_of T) ≡ true =
-        sym (inside total ties greatest T (last_of_itself total ties T are_T) w) ∙ sym (same w is) ∙ inside total ties greatest S (last_of_itself total ties S are_S) w ∙ here in
+        sym (inside total ties greatest T (last_of_itself total ties T are_T) w)
+        ∙ sym (same w is)
+        ∙ inside total ties greatest S (last_of_itself total ties S are_S) w
+        ∙ here in
         subst (λ n. Has n (offsets (records_of T))) at (there total ties (records_of T) w listed is)
 
-    pub opaque-same : (S T : Records) → last_records S ≡ S → last_records T ≡ T → ((w : Record) → is_opaque w ≡ true → contains S w ≡ contains T w) → opaque S ≡ opaque T
+    pub opaque-same : (S T : Records) → last_records S ≡ S → last_records T ≡ T
+        → ((w : Record) → is_opaque w ≡ true → contains S w ≡ contains T w) → opaque S ≡ opaque T
     unfolding opaque
     opaque-same S T are_S are_T same =
-        same_least (offsets (records_of S)) (offsets (records_of T)) (into S T are_S are_T same) (into T S are_T are_S (λ w is. sym (same w is)))
+        same_least (offsets (records_of S)) (offsets (records_of T))
+        (into S T are_S are_T same) (into T S are_T are_S (λ w is. sym (same w is)))

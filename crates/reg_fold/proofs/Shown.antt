@@ -22,7 +22,9 @@ map_map f g (x ∷ xs) = ap (λ ys. g (f x) ∷ ys) (map_map f g xs)
 filter_map : {X Y : Type 0} (f : X → Y) (p : Y → Bool) (xs : List X) → filter p (map f xs) ≡ map f (filter (λ x. p (f x)) xs)
 filter_map f p [] = refl
 filter_map {X} {Y} f p (x ∷ xs) =
-    elim (p (f x)) as (λ b. cond b (f x ∷ filter p (map f xs)) (filter p (map f xs)) ≡ map f (cond b (x ∷ filter (λ x. p (f x)) xs) (filter (λ x. p (f x)) xs))) [
+    elim (p (f x)) as (λ b.
+    cond b (f x ∷ filter p (map f xs)) (filter p (map f xs))
+    ≡ map f (cond b (x ∷ filter (λ x. p (f x)) xs) (filter (λ x. p (f x)) xs))) [
       | true ↦ ap (λ ys. f x ∷ ys) (filter_map f p xs)
       | false ↦ filter_map f p xs
     ]
@@ -47,18 +49,24 @@ module _ (f : Entry → Entry) where
   find_by : (q : Place) (es : List (Place × Entry)) → find place_cmp q (by es) ≡ option_map f (find place_cmp q es)
   find_by q [] = refl
   find_by q (e ∷ es) =
-      elim (eq_by_cmp place_cmp q e.0) as (λ b. cond b (Some (f e.1)) (find place_cmp q (by es)) ≡ option_map f (cond b (Some e.1) (find place_cmp q es))) [
+      elim (eq_by_cmp place_cmp q e.0) as (λ b.
+      cond b (Some (f e.1)) (find place_cmp q (by es)) ≡ option_map f (cond b (Some e.1) (find place_cmp q es))) [
         | true ↦ refl
         | false ↦ find_by q es
       ]
 
-  pub values_by : (m n : finmap.FinMap place_cmp Entry) → ((p : Place) → finmap.get n p ≡ option_map f (finmap.get m p)) → map f (finmap.values m) ≡ finmap.values n
+  pub values_by : (m n : finmap.FinMap place_cmp Entry)
+      → ((p : Place) → finmap.get n p ≡ option_map f (finmap.get m p)) → map f (finmap.values m) ≡ finmap.values n
   values_by m n has =
       let es = by (finmap.entries m) in
       let s : T (is_sorted place_cmp es) = subst T (sym (sorted_by (finmap.entries m))) (finmap.entries_sorted m) in
       let same : n ≡ finmap.from_sorted es =
       finmap.same_map place_cmp-total place_cmp-ties n (finmap.from_sorted es) (λ q.
-      has q ∙ ap (option_map f) (finmap.get-entries m q) ∙ sym (find_by q (finmap.entries m)) ∙ sym (finmap.get-from_sorted place_cmp es q s)) in
+      has q
+      ∙ ap (option_map f) (finmap.get-entries m q)
+      ∙ sym (find_by q (finmap.entries m))
+      ∙ sym (finmap.get-from_sorted place_cmp es q s))
+      in
       let entries_are : finmap.entries n ≡ es = ap finmap.entries same ∙ finmap.entries-from_sorted place_cmp es s in
       map_map (λ (e : Place × Entry). e.1) f (finmap.entries m)
       ∙ sym (map_map (λ (e : Place × Entry). (e.0, f e.1)) (λ (e : Place × Entry). e.1) (finmap.entries m))

@@ -20,11 +20,14 @@ use Rattle.reg_fold.specs.declared.scoped.Scoped.{Scoped}
 use Rattle.reg_records.specs.Key.{is_delete}
 
 -- the soft delete that a record is covers what its value covers
-pub covered_by : (r : Record) (version offset : ℕ) → is_covered (delete_of r) version offset ≡ option_map_or (λ value. covers r.offset value version offset) (value_of r) false
+pub covered_by : (r : Record) (version offset : ℕ)
+    → is_covered (delete_of r) version offset ≡ option_map_or (λ value. covers r.offset value version offset) (value_of r) false
 unfolding delete_of
 covered_by r version offset = each (value_of r)
   where
-    each : (o : Option Value) → is_covered (option_and_then (delete_in r.offset) o) version offset ≡ option_map_or (λ value. covers r.offset value version offset) o false
+    each : (o : Option Value)
+        → is_covered (option_and_then (delete_in r.offset) o) version offset
+        ≡ option_map_or (λ value. covers r.offset value version offset) o false
     each None = refl
     each (Some (values.Schema subject number id schema deleted)) = refl
     each (Some (values.Config level)) = refl
@@ -34,12 +37,15 @@ covered_by r version offset = each (value_of r)
     each (Some (values.IdMark id)) = refl
 
 -- what is marked is what the soft delete that is kept covers
-pub covered_by_own : (rs : Records) (deletes : Scoped SoftDelete) → AreOwn (own_delete rs) deletes → (subject : List ℕ) (version offset : ℕ) → is_covered (kept_own deletes (Some subject)) version offset ≡ is_soft_deleted rs subject version offset
+pub covered_by_own : (rs : Records) (deletes : Scoped SoftDelete) → AreOwn (own_delete rs) deletes → (subject : List ℕ) (version offset : ℕ)
+    → is_covered (kept_own deletes (Some subject)) version offset ≡ is_soft_deleted rs subject version offset
 unfolding is_soft_deleted own_delete
 covered_by_own rs deletes own subject version offset =
     ap (λ d. is_covered d version offset) (own (Some subject)) ∙ each (last rs (keys.DeleteSubject subject))
   where
-    each : (o : Option Record) → is_covered (option_and_then delete_of o) version offset ≡ option_map_or (λ r. option_map_or (λ value. covers r.offset value version offset) (value_of r) false) o false
+    each : (o : Option Record)
+        → is_covered (option_and_then delete_of o) version offset
+        ≡ option_map_or (λ r. option_map_or (λ value. covers r.offset value version offset) (value_of r) false) o false
     each None = refl
     each (Some r) = covered_by r version offset
 
@@ -52,17 +58,26 @@ module _ (S T : Records) (r : Record) (step : IsStep S T r) (deletes : Scoped So
   unfolding own_delete
   deletes-stay other None = own None
   deletes-stay other (Some s) =
-      own (Some s) ∙ sym (ap (option_and_then delete_of) (step.others (keys.DeleteSubject s) (λ same. false≢true (sym other ∙ ap is_delete same))))
+      own (Some s)
+      ∙ sym (ap (option_and_then delete_of) (step.others (keys.DeleteSubject s) (λ same. false≢true (sym other ∙ ap is_delete same))))
 
   -- a soft delete changes that of its subject
-  pub deletes-change : (subject : List ℕ) → r.key ≡ keys.DeleteSubject subject → (new : Scoped SoftDelete) → HasOwn deletes new (Some subject) (delete_of r) → AreOwn (own_delete T) new
+  pub deletes-change : (subject : List ℕ) → r.key ≡ keys.DeleteSubject subject → (new : Scoped SoftDelete)
+      → HasOwn deletes new (Some subject) (delete_of r) → AreOwn (own_delete T) new
   unfolding own_delete
   deletes-change subject of_key new has None = has None ∙ own None
   deletes-change subject of_key new has (Some s) =
       has (Some s)
-      ∙ elim (bytes_eq subject s) as (λ b. bytes_eq subject s ≡ b → cond b (delete_of r) (kept_own deletes (Some s)) ≡ option_and_then delete_of (last T (keys.DeleteSubject s))) [
-        | true ↦ λ e. sym (ap (option_and_then delete_of) (ap (λ x. last T (keys.DeleteSubject x)) (sym ((bytes_eq-Decides subject s).0 e)) ∙ ap (last T) (sym of_key) ∙ step.newest))
+      ∙ elim (bytes_eq subject s) as (λ b. bytes_eq subject s ≡ b
+      → cond b (delete_of r) (kept_own deletes (Some s)) ≡ option_and_then delete_of (last T (keys.DeleteSubject s))) [
+        | true ↦ λ e.
+            sym (
+            ap (option_and_then delete_of) (
+            ap (λ x. last T (keys.DeleteSubject x)) (sym ((bytes_eq-Decides subject s).0 e)) ∙ ap (last T) (sym of_key) ∙ step.newest))
         | false ↦ λ e.
             own (Some s)
-            ∙ sym (ap (option_and_then delete_of) (step.others (keys.DeleteSubject s) (λ same. false≢true (sym e ∙ (bytes_eq-Decides subject s).1 (one_subject subject s (sym of_key ∙ same))))))
+            ∙ sym (
+            ap (option_and_then delete_of)
+            (step.others (keys.DeleteSubject s)
+            (λ same. false≢true (sym e ∙ (bytes_eq-Decides subject s).1 (one_subject subject s (sym of_key ∙ same))))))
       ] refl

@@ -76,7 +76,8 @@ none_opaque a false h = refl
 pub readable : (S : Records) (r : Record) (e : Entry) → entry_of S r ≡ Some e → is_opaque r ≡ false
 unfolding is_opaque
 readable S r e gives =
-    ap (λ o. is_version r.key && is_some r.value && is_none o) (entry_of-shown S r e gives).value ∙ last_false (is_version r.key) (is_some r.value)
+    ap (λ o. is_version r.key && is_some r.value && is_none o) (entry_of-shown S r e gives).value
+    ∙ last_false (is_version r.key) (is_some r.value)
   where
     last_false : (a b : Bool) → (a && b && false) ≡ false
     last_false true true = refl
@@ -94,10 +95,13 @@ without_text r none = middle_false (is_version r.key) (is_some r.value) (is_none
     middle_false false b c h = refl
 
 -- a version's text that gives no entry is opaque
-pub unreadable : (S : Records) (r : Record) (p : Place) → r.key ≡ keys.Schema p.0 p.1 → is_some r.value ≡ true → entry_of S r ≡ None → is_opaque r ≡ true
+pub unreadable : (S : Records) (r : Record) (p : Place) → r.key ≡ keys.Schema p.0 p.1
+    → is_some r.value ≡ true → entry_of S r ≡ None → is_opaque r ≡ true
 unfolding entry_of is_opaque
 unreadable S r p of_key text gives =
-    ap (λ k. is_version k && is_some r.value && is_none (value_of r)) of_key ∙ ap (λ b. b && is_none (value_of r)) text ∙ ap is_none no_value
+    ap (λ k. is_version k && is_some r.value && is_none (value_of r)) of_key
+    ∙ ap (λ b. b && is_none (value_of r)) text
+    ∙ ap is_none no_value
   where
     no_other : is_version r.key ≡ false → ⊥
     no_other other = false≢true (sym other ∙ ap is_version of_key)
@@ -124,12 +128,14 @@ is_that spot s = option_map_or (λ t. eq_by_cmp spot_cmp t s) spot false
 module _ (kind : Record → Bool) (S T : Records) (r : Record) (step : IsStep S T r) where
   -- a version of another place is where it was
   same_spots : (s : Spot) → ¬ (r.key ≡ keys.Schema s.1.0 s.1.1) → is_spot kind T s ≡ is_spot kind S s
-  same_spots s apart = ap (λ o. option_map_or (λ x. kind x && eq_by_cmp spot_cmp (x.offset, s.1) s) o false) (step.others (keys.Schema s.1.0 s.1.1) apart)
+  same_spots s apart =
+      ap (λ o. option_map_or (λ x. kind x && eq_by_cmp spot_cmp (x.offset, s.1) s) o false) (step.others (keys.Schema s.1.0 s.1.1) apart)
 
   pub spots-other : is_version r.key ≡ false → (u : BTreeSet Spot) → HasSpots kind S u → HasSpots kind T u
   spots-other other u has s = has s ∙ sym (same_spots s (no_version r.key other s.1))
 
-  module _ (p : Place) (of_key : r.key ≡ keys.Schema p.0 p.1) (before : Option Record) (was : before ≡ last S r.key) (u : BTreeSet Spot) (has : HasSpots kind S u) where
+  module _ (p : Place) (of_key : r.key ≡ keys.Schema p.0 p.1) (before : Option Record)
+      (was : before ≡ last S r.key) (u : BTreeSet Spot) (has : HasSpots kind S u) where
     other_key : (s : Spot) → ¬ (s.1 ≡ p) → ¬ (r.key ≡ keys.Schema s.1.0 s.1.1)
     other_key s apart same =
         let k : keys.Schema s.1.0 s.1.1 ≡ keys.Schema p.0 p.1 = sym same ∙ of_key in
@@ -150,36 +156,51 @@ module _ (kind : Record → Bool) (S T : Records) (r : Record) (step : IsStep S 
     pub spots-forgotten : kind r ≡ false → (n : BTreeSet Spot) → Forgets (spot_of before p) u n → HasSpots kind T n
     spots-forgotten clear n forgets s =
         forgets s ∙ ap (λ b. b && not (is_that (spot_of before p) s)) (has s)
-        ∙ elim (eq_by_cmp place_cmp s.1 p) as (λ b. eq_by_cmp place_cmp s.1 p ≡ b → (is_spot kind S s && not (is_that (spot_of before p) s)) ≡ is_spot kind T s) [
+        ∙ elim (eq_by_cmp place_cmp s.1 p) as (λ b.
+        eq_by_cmp place_cmp s.1 p ≡ b → (is_spot kind S s && not (is_that (spot_of before p) s)) ≡ is_spot kind T s) [
           | true ↦ λ t.
               let here : s.1 ≡ p = place_cmp-ties s.1 p (equal _ t) in
-              ap (λ b. b && not (is_that (spot_of before p) s)) (was_spot s here) ∙ none_left before s ∙ sym (now_spot s here ∙ ap (λ b. b && eq_by_cmp spot_cmp (r.offset, p) s) clear)
+              ap (λ b. b && not (is_that (spot_of before p) s)) (was_spot s here)
+              ∙ none_left before s
+              ∙ sym (now_spot s here ∙ ap (λ b. b && eq_by_cmp spot_cmp (r.offset, p) s) clear)
           | false ↦ λ t.
               let apart : ¬ (s.1 ≡ p) = λ h. false≢true (sym t ∙ itself s.1 p h) in
-              ap (λ b. is_spot kind S s && not b) (not_spot s apart before) ∙ stays (is_spot kind S s) ∙ sym (same_spots s (other_key s apart))
+              ap (λ b. is_spot kind S s && not b) (not_spot s apart before)
+              ∙ stays (is_spot kind S s)
+              ∙ sym (same_spots s (other_key s apart))
         ] refl
       where
         not_spot : (s : Spot) → ¬ (s.1 ≡ p) → (o : Option Record) → is_that (spot_of o p) s ≡ false
         not_spot s apart None = refl
         not_spot s apart (Some b) = other_place b.offset p s apart
 
-        none_left : (o : Option Record) (s : Spot) → (option_map_or (λ x. kind x && eq_by_cmp spot_cmp (x.offset, p) s) o false && not (is_that (spot_of o p) s)) ≡ false
+        none_left : (o : Option Record) (s : Spot)
+            → (option_map_or (λ x. kind x && eq_by_cmp spot_cmp (x.offset, p) s) o false && not (is_that (spot_of o p) s)) ≡ false
         none_left None s = refl
         none_left (Some b) s = gone (kind b) (eq_by_cmp spot_cmp (b.offset, p) s)
 
     -- the record's own spot is put, and the earlier one's is forgotten
-    pub spots-put : kind r ≡ true → (m n : BTreeSet Spot) → Updates spot_cmp u m (r.offset, p) true → Forgets (elsewhere (spot_of before p) r.offset) m n → HasSpots kind T n
+    pub spots-put : kind r ≡ true → (m n : BTreeSet Spot) → Updates spot_cmp u m (r.offset, p) true
+        → Forgets (elsewhere (spot_of before p) r.offset) m n → HasSpots kind T n
     spots-put own m n put forgets s =
-        forgets s ∙ ap (λ b. b && not (is_that (elsewhere (spot_of before p) r.offset) s)) (put.0 s ∙ ap (cond (eq_by_cmp spot_cmp (r.offset, p) s) true) (has s))
-        ∙ elim (eq_by_cmp place_cmp s.1 p) as (λ b. eq_by_cmp place_cmp s.1 p ≡ b → (cond (eq_by_cmp spot_cmp (r.offset, p) s) true (is_spot kind S s) && not (is_that (elsewhere (spot_of before p) r.offset) s)) ≡ is_spot kind T s) [
+        forgets s
+        ∙ ap (λ b. b && not (is_that (elsewhere (spot_of before p) r.offset) s))
+        (put.0 s ∙ ap (cond (eq_by_cmp spot_cmp (r.offset, p) s) true) (has s))
+        ∙ elim (eq_by_cmp place_cmp s.1 p) as (λ b. eq_by_cmp place_cmp s.1 p ≡ b
+        → (cond (eq_by_cmp spot_cmp (r.offset, p) s) true (is_spot kind S s) && not (is_that (elsewhere (spot_of before p) r.offset) s))
+        ≡ is_spot kind T s) [
           | true ↦ λ t.
               let here : s.1 ≡ p = place_cmp-ties s.1 p (equal _ t) in
-              ap (λ b. cond (eq_by_cmp spot_cmp (r.offset, p) s) true b && not (is_that (elsewhere (spot_of before p) r.offset) s)) (was_spot s here)
+              ap (λ b. cond (eq_by_cmp spot_cmp (r.offset, p) s) true b && not (is_that (elsewhere (spot_of before p) r.offset) s))
+              (was_spot s here)
               ∙ one_left before s ∙ sym (now_spot s here ∙ ap (λ b. b && eq_by_cmp spot_cmp (r.offset, p) s) own)
           | false ↦ λ t.
               let apart : ¬ (s.1 ≡ p) = λ h. false≢true (sym t ∙ itself s.1 p h) in
-              ap (λ b. cond b true (is_spot kind S s) && not (is_that (elsewhere (spot_of before p) r.offset) s)) (other_place r.offset p s apart)
-              ∙ ap (λ b. is_spot kind S s && not b) (not_elsewhere s apart before) ∙ stays (is_spot kind S s) ∙ sym (same_spots s (other_key s apart))
+              ap (λ b. cond b true (is_spot kind S s) && not (is_that (elsewhere (spot_of before p) r.offset) s))
+              (other_place r.offset p s apart)
+              ∙ ap (λ b. is_spot kind S s && not b) (not_elsewhere s apart before)
+              ∙ stays (is_spot kind S s)
+              ∙ sym (same_spots s (other_key s apart))
         ] refl
       where
         not_elsewhere : (s : Spot) → ¬ (s.1 ≡ p) → (o : Option Record) → is_that (elsewhere (spot_of o p) r.offset) s ≡ false
@@ -190,28 +211,43 @@ module _ (kind : Record → Bool) (S T : Records) (r : Record) (step : IsStep S 
               | false ↦ other_place b.offset p s apart
             ]
 
-        one_left : (o : Option Record) (s : Spot) → (cond (eq_by_cmp spot_cmp (r.offset, p) s) true (option_map_or (λ x. kind x && eq_by_cmp spot_cmp (x.offset, p) s) o false) && not (is_that (elsewhere (spot_of o p) r.offset) s)) ≡ eq_by_cmp spot_cmp (r.offset, p) s
+        one_left : (o : Option Record) (s : Spot)
+            → (
+            cond (eq_by_cmp spot_cmp (r.offset, p) s) true (option_map_or (λ x. kind x && eq_by_cmp spot_cmp (x.offset, p) s) o false)
+            && not (is_that (elsewhere (spot_of o p) r.offset) s))
+            ≡ eq_by_cmp spot_cmp (r.offset, p) s
         one_left None s = put_here (eq_by_cmp spot_cmp (r.offset, p) s) false
         one_left (Some b) s =
-            elim (b.offset == r.offset) as (λ t. (b.offset == r.offset) ≡ t → (cond (eq_by_cmp spot_cmp (r.offset, p) s) true (kind b && eq_by_cmp spot_cmp (b.offset, p) s) && not (is_that (cond t None (Some (b.offset, p))) s)) ≡ eq_by_cmp spot_cmp (r.offset, p) s) [
+            elim (b.offset == r.offset) as (λ t. (b.offset == r.offset) ≡ t
+            → (
+            cond (eq_by_cmp spot_cmp (r.offset, p) s) true (kind b && eq_by_cmp spot_cmp (b.offset, p) s)
+            && not (is_that (cond t None (Some (b.offset, p))) s))
+            ≡ eq_by_cmp spot_cmp (r.offset, p) s) [
               | true ↦ λ t.
-                  ap (λ (o : ℕ). cond (eq_by_cmp spot_cmp (r.offset, p) s) true (kind b && eq_by_cmp spot_cmp (o, p) s) && true) (eqb-true b.offset r.offset t)
+                  ap (λ (o : ℕ). cond (eq_by_cmp spot_cmp (r.offset, p) s) true (kind b && eq_by_cmp spot_cmp (o, p) s) && true)
+                  (eqb-true b.offset r.offset t)
                   ∙ put_here (eq_by_cmp spot_cmp (r.offset, p) s) (kind b)
               | false ↦ λ t.
                   put_elsewhere (eq_by_cmp spot_cmp (r.offset, p) s) (kind b) (eq_by_cmp spot_cmp (b.offset, p) s) (λ x y.
-                  false≢true (sym t ∙ eq-eqb b.offset r.offset (ap (λ (z : Spot). z.0) (same_spot (b.offset, p) s y ∙ sym (same_spot (r.offset, p) s x)))))
+                  false≢true (
+                  sym t
+                  ∙ eq-eqb b.offset r.offset (ap (λ (z : Spot). z.0) (same_spot (b.offset, p) s y ∙ sym (same_spot (r.offset, p) s x)))))
             ] refl
 
 -- a spot that was put is taken back, where it was new, and none has changed
-pub spots-taken_back : (kind : Record → Bool) (S : Records) (u m n : BTreeSet Spot) (t : Spot) → HasSpots kind S u → contains spot_cmp u t ≡ false → Updates spot_cmp u m t true → Updates spot_cmp m n t false → HasSpots kind S n
+pub spots-taken_back : (kind : Record → Bool) (S : Records) (u m n : BTreeSet Spot) (t : Spot) → HasSpots kind S u
+    → contains spot_cmp u t ≡ false → Updates spot_cmp u m t true → Updates spot_cmp m n t false → HasSpots kind S n
 spots-taken_back kind S u m n t has is_new put back s =
     back.0 s ∙ ap (cond (eq_by_cmp spot_cmp t s) false) (put.0 s)
-    ∙ elim (eq_by_cmp spot_cmp t s) as (λ b. eq_by_cmp spot_cmp t s ≡ b → cond b false (cond b true (contains spot_cmp u s)) ≡ contains spot_cmp u s) [
+    ∙ elim (eq_by_cmp spot_cmp t s) as (λ b.
+    eq_by_cmp spot_cmp t s ≡ b → cond b false (cond b true (contains spot_cmp u s)) ≡ contains spot_cmp u s) [
       | true ↦ λ e. sym is_new ∙ ap (contains spot_cmp u) (same_spot t s e)
       | false ↦ λ _. refl
     ] refl
     ∙ has s
 
 -- spots that are the same keys are the same spots
-pub spots-same : (kind : Record → Bool) (S T : Records) (u n : BTreeSet Spot) → T ≡ S → n.keys ≡ u.keys → HasSpots kind S u → HasSpots kind T n
-spots-same kind S T u n records spots has s = ap (list_any (λ k. is_eq (spot_cmp s k))) spots ∙ has s ∙ sym (ap (λ rs. is_spot kind rs s) records)
+pub spots-same : (kind : Record → Bool) (S T : Records) (u n : BTreeSet Spot)
+    → T ≡ S → n.keys ≡ u.keys → HasSpots kind S u → HasSpots kind T n
+spots-same kind S T u n records spots has s =
+    ap (list_any (λ k. is_eq (spot_cmp s k))) spots ∙ has s ∙ sym (ap (λ rs. is_spot kind rs s) records)

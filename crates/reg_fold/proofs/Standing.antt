@@ -47,7 +47,8 @@ entry_of-fits of_keys rs r e is =
 pub entries-in_limits : ValuesAreOfKeys → EntriesAreInLimits
 unfolding entries
 entries-in_limits of_keys rs e has =
-    of_kept IsFit (finmap.entries (entry_map rs)) (entry_map-each (λ kept. IsFit kept.1) rs (λ r e is. entry_of-fits of_keys rs r e is)) e has.0 has.1 has.2
+    of_kept IsFit (finmap.entries (entry_map rs))
+    (entry_map-each (λ kept. IsFit kept.1) rs (λ r e is. entry_of-fits of_keys rs r e is)) e has.0 has.1 has.2
 
 some_first : (n : ℕ) (ns : List ℕ) → reduce min (n ∷ ns) ≡ None → ⊥
 some_first n ns e = cc
@@ -60,7 +61,8 @@ stays_false : (b : Bool) → (b ≡ true → ⊥) → b ≡ false
 stays_false true h = absurd (h refl)
 stays_false false h = refl
 
-module _ (total : IsTotalOrder record_cmp) (ties : IsAntisymmetric record_cmp) (greatest : LastIsGreatest) (of_last : LastOfLastRecords) (compaction : LastRecordsAreCompaction) (same : LastRecordsOfCompaction) where
+module _ (total : IsTotalOrder record_cmp) (ties : IsAntisymmetric record_cmp) (greatest : LastIsGreatest)
+    (of_last : LastOfLastRecords) (compaction : LastRecordsAreCompaction) (same : LastRecordsOfCompaction) where
   once : (whole : Records) → last_records (last_records whole) ≡ last_records whole
   once whole = last_records-last_records compaction same whole
 
@@ -70,13 +72,16 @@ module _ (total : IsTotalOrder record_cmp) (ties : IsAntisymmetric record_cmp) (
       both : Contains (entries (last_records whole)) e ↔ IsOfLast (last_records whole) e
       both = are_of_lasts greatest (last_records whole) (entries_are_of_lasts total ties greatest (last_records whole) (once whole)) e
 
-      given : Contains (entries (last_records whole)) e → (r : Record) × (last whole (keys.Schema e.subject e.version) ≡ Some r) × (entry_of (last_records whole) r ≡ Some e)
+      given : Contains (entries (last_records whole)) e
+          → (r : Record) × (last whole (keys.Schema e.subject e.version) ≡ Some r) × (entry_of (last_records whole) r ≡ Some e)
       given has =
           let (key, r, is, made) = both.0 has in
-          let own : keys.Schema e.subject e.version ≡ key = sym (entry_of-key (last_records whole) r e made) ∙ ((greatest (last_records whole) key r).0 is).is_of_key in
+          let own : keys.Schema e.subject e.version ≡ key =
+          sym (entry_of-key (last_records whole) r e made) ∙ ((greatest (last_records whole) key r).0 is).is_of_key in
           (r, ap (last whole) own ∙ sym (of_last whole key) ∙ is, made)
 
-      gives : ((r : Record) × (last whole (keys.Schema e.subject e.version) ≡ Some r) × (entry_of (last_records whole) r ≡ Some e)) → Contains (entries (last_records whole)) e
+      gives : ((r : Record) × (last whole (keys.Schema e.subject e.version) ≡ Some r) × (entry_of (last_records whole) r ≡ Some e))
+          → Contains (entries (last_records whole)) e
       gives one =
           let key = keys.Schema e.subject e.version in
           both.1 (key, one.0, of_last whole key ∙ one.1, one.2)
@@ -92,13 +97,16 @@ module _ (total : IsTotalOrder record_cmp) (ties : IsAntisymmetric record_cmp) (
   unfolding opaque
   none-no_opaque_last whole = (forth, back)
     where
-      forth : reduce min (map (λ r. r.offset) (filter is_opaque (records_of (last_records whole)))) ≡ None → (key : Key) (r : Record) → last whole key ≡ Some r → is_opaque r ≡ false
+      forth : reduce min (map (λ r. r.offset) (filter is_opaque (records_of (last_records whole)))) ≡ None
+          → (key : Key) (r : Record) → last whole key ≡ Some r → is_opaque r ≡ false
       forth none key r is =
           let inside_set = ((greatest (last_records whole) key r).0 (of_last whole key ∙ is)).is_in_set in
           stays_false (is_opaque r) (λ unread.
-          none_of (map (λ r. r.offset) (filter is_opaque (records_of (last_records whole)))) none r.offset (there total ties (records_of (last_records whole)) r (sym (listed whole r) ∙ inside_set) unread))
+          none_of (map (λ r. r.offset) (filter is_opaque (records_of (last_records whole)))) none r.offset
+          (there total ties (records_of (last_records whole)) r (sym (listed whole r) ∙ inside_set) unread))
 
-      back : ((key : Key) (r : Record) → last whole key ≡ Some r → is_opaque r ≡ false) → reduce min (map (λ r. r.offset) (filter is_opaque (records_of (last_records whole)))) ≡ None
+      back : ((key : Key) (r : Record) → last whole key ≡ Some r → is_opaque r ≡ false)
+          → reduce min (map (λ r. r.offset) (filter is_opaque (records_of (last_records whole)))) ≡ None
       back each =
           ap (λ rs. reduce min (map (λ r. r.offset) rs)) (none_opaque total ties (records_of (last_records whole)) (λ r h unread.
           false≢true (sym (each r.key r (sym (of_last whole r.key) ∙ own whole r (listed whole r ∙ h))) ∙ unread)))

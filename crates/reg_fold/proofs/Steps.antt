@@ -15,7 +15,8 @@ use Rattle.reg_fold.specs.Step.{EntriesAreOfLasts}
 use Rattle.reg_fold.proofs.OfLasts.{last_of_itself}
 use Rattle.reg_fold.proofs.Places.{entry_at}
 
-pub entries_are_of_lasts : IsTotalOrder record_cmp → IsAntisymmetric record_cmp → LastIsGreatest → (S : Records) → last_records S ≡ S → EntriesAreOfLasts S
+pub entries_are_of_lasts : IsTotalOrder record_cmp → IsAntisymmetric record_cmp
+    → LastIsGreatest → (S : Records) → last_records S ≡ S → EntriesAreOfLasts S
 entries_are_of_lasts total ties greatest S are_last = entry_at total ties greatest S (last_of_itself total ties S are_last)
 
 pub no_version : (key : Key) → is_version key ≡ false → (p : Place) → ¬ (key ≡ keys.Schema p.0 p.1)

@@ -53,7 +53,8 @@ module _ (rs : Records) (r : Record) (tombstone : is_tombstone rs r ≡ true) wh
   gives_none = ap (option_and_then (own_entry_in r.offset)) says_nothing
 
 -- what all pass, the one at a place passes
-pub each_passes : (p : Record → Bool) (rs : List Record) (i : ℕ) (r : Record) → i < length rs → r ≡ get_or rs i r → list_all p rs ≡ true → p r ≡ true
+pub each_passes : (p : Record → Bool) (rs : List Record) (i : ℕ) (r : Record)
+    → i < length rs → r ≡ get_or rs i r → list_all p rs ≡ true → p r ≡ true
 each_passes p rs i r within is all =
     ap p is
     ∙ elim (p (get_or rs i r)) as (λ b. p (get_or rs i r) ≡ b → b ≡ true) [
@@ -78,14 +79,16 @@ moved false l x = refl
 module _ (total : IsTotalOrder record_cmp) where
   module _ (greatest : LastIsGreatest) (none : NoLastIsNoRecord) (lasts : LastOfLastRecords) where
     -- a key keeps having a record
-    last_stays : (rs : Records) (r : Record) (key : Key) → is_some (last rs key) ≡ true → is_some (last (last_records (insert rs r)) key) ≡ true
+    last_stays : (rs : Records) (r : Record) (key : Key) → is_some (last rs key) ≡ true
+        → is_some (last (last_records (insert rs r)) key) ≡ true
     last_stays rs r key there =
         ap is_some (lasts (insert rs r) key)
         ∙ elim (last rs key) as (λ o. last rs key ≡ o → is_some o ≡ true → is_some (last (insert rs r) key) ≡ true) [
           | None ↦ λ _ h. absurd (false≢true h)
           | Some x ↦ λ is _.
               let top = (greatest rs key x).0 is in
-              let inside : contains (insert rs r) x ≡ true = contains-insert total rs r x ∙ or_right (eq_by_cmp record_cmp x r) (contains rs x) top.is_in_set in
+              let inside : contains (insert rs r) x ≡ true =
+              contains-insert total rs r x ∙ or_right (eq_by_cmp record_cmp x r) (contains rs x) top.is_in_set in
               some (last (insert rs r) key) (λ gone. none (insert rs r) x inside (ap (last (insert rs r)) top.is_of_key ∙ gone))
         ] refl there
       where
@@ -96,12 +99,15 @@ module _ (total : IsTotalOrder record_cmp) where
     -- so a tombstone stays one
     pub stays_tombstone : (rs : Records) (r q : Record) → is_tombstone rs q ≡ true → is_tombstone (last_records (insert rs r)) q ≡ true
     stays_tombstone rs r q h =
-        and_last (is_version q.key) (is_none q.value) (is_some (last rs q.key)) (is_some (last (last_records (insert rs r)) q.key)) (last_stays rs r q.key) h
+        and_last (is_version q.key) (is_none q.value) (is_some (last rs q.key))
+        (is_some (last (last_records (insert rs r)) q.key)) (last_stays rs r q.key) h
 
-    pub stay_tombstones : (rs : Records) (r : Record) (qs : List Record) → list_all (is_tombstone rs) qs ≡ true → list_all (is_tombstone (last_records (insert rs r))) qs ≡ true
+    pub stay_tombstones : (rs : Records) (r : Record) (qs : List Record)
+        → list_all (is_tombstone rs) qs ≡ true → list_all (is_tombstone (last_records (insert rs r))) qs ≡ true
     stay_tombstones rs r [] h = refl
     stay_tombstones rs r (q ∷ qs) h =
-        ap (λ b. b && list_all (is_tombstone (last_records (insert rs r))) qs) (stays_tombstone rs r q (first_true (is_tombstone rs q) (list_all (is_tombstone rs) qs) h))
+        ap (λ b. b && list_all (is_tombstone (last_records (insert rs r))) qs)
+        (stays_tombstone rs r q (first_true (is_tombstone rs q) (list_all (is_tombstone rs) qs) h))
         ∙ stay_tombstones rs r qs (second_true (is_tombstone rs q) (list_all (is_tombstone rs) qs) h)
 
   module _ (ties : IsAntisymmetric record_cmp) where

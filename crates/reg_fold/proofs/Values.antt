@@ -41,7 +41,8 @@ module _ (P : Value → Type 0) where
   if_so false o h = tt
 
 -- a text that is found with a test passes it
-passes : (test : List ℕ → Bool) (o : Option (List ℕ)) (text : List ℕ) → option_and_then (λ t. cond (test t) (Some t) None) o ≡ Some text → test text ≡ true
+passes : (test : List ℕ → Bool) (o : Option (List ℕ)) (text : List ℕ)
+    → option_and_then (λ t. cond (test t) (Some t) None) o ≡ Some text → test text ≡ true
 passes test None text is = absurd (cc)
 passes test (Some t) text is =
     elim (test t) as (λ b. test t ≡ b → cond b (Some t) None ≡ Some text → test text ≡ true) [
@@ -55,18 +56,22 @@ passes test (Some t) text is =
 value_in-under : (key : Key) (d : Data) → IfSome (value_in key d) (IsUnder key)
 value_in-under (keys.Schema subject version) d =
     let P : Value → Type 0 = IsUnder (keys.Schema subject version) in
-    let of_deleted : ℕ → List ℕ → Option Value = λ id schema. option_map (λ deleted. values.Schema subject version id schema deleted) (deleted_in d) in
+    let of_deleted : ℕ → List ℕ → Option Value =
+    λ id schema. option_map (λ deleted. values.Schema subject version id schema deleted) (deleted_in d) in
     let of_schema : ℕ → Option Value = λ id. option_and_then (of_deleted id) (text_where is_schema (codes "schema") d) in
-    if_so P (has_text_at (codes "subject") subject d && has_number_at (codes "version") version d && is_plain_avro d) (option_and_then of_schema (number_at (codes "id") d))
+    if_so P (has_text_at (codes "subject") subject d && has_number_at (codes "version") version d && is_plain_avro d)
+    (option_and_then of_schema (number_at (codes "id") d))
     (each_some P (number_at (codes "id") d) of_schema (λ id _.
     each_some P (text_where is_schema (codes "schema") d) (of_deleted id) (λ schema is.
-    mapped P (deleted_in d) (λ deleted. values.Schema subject version id schema deleted) (λ deleted. (refl, passes is_schema (text_at (codes "schema") d) schema is)))))
+    mapped P (deleted_in d) (λ deleted. values.Schema subject version id schema deleted)
+    (λ deleted. (refl, passes is_schema (text_at (codes "schema") d) schema is)))))
 value_in-under (keys.Config scope) d =
     mapped (IsUnder (keys.Config scope)) (text_where is_level (codes "compatibilityLevel") d) (λ level. values.Config level) (λ level. refl)
 value_in-under (keys.Mode scope) d = mapped (IsUnder (keys.Mode scope)) (text_at (codes "mode") d) (λ mode. values.Mode mode) (λ mode. refl)
 value_in-under (keys.DeleteSubject subject) d =
     let P : Value → Type 0 = IsUnder (keys.DeleteSubject subject) in
-    if_so P (has_text_at (codes "subject") subject d) (option_map (λ version. values.DeleteSubject subject version) (number_at (codes "version") d))
+    if_so P (has_text_at (codes "subject") subject d)
+    (option_map (λ version. values.DeleteSubject subject version) (number_at (codes "version") d))
     (mapped P (number_at (codes "version") d) (λ version. values.DeleteSubject subject version) (λ version. refl))
 value_in-under keys.Noop d = refl
 value_in-under keys.IdMark d = mapped (IsUnder keys.IdMark) (number_at (codes "id") d) (λ id. values.IdMark id) (λ id. refl)
@@ -94,7 +99,8 @@ pub record IsShown (o : Option Value) (e : Entry) : Type 0 where
 shown : (rs : Records) (offset : ℕ) (o : Option Value) (e : Entry) → option_and_then (entry_in rs offset) o ≡ Some e → IsShown o e
 shown rs offset None e is = absurd (cc)
 shown rs offset (Some (values.Schema subject version id schema deleted)) e is =
-    subst (λ f. IsShown (Some (values.Schema subject version id schema deleted)) (unwrap_or f e)) is (record { deleted = deleted; value = refl; normal = refl })
+    subst (λ f. IsShown (Some (values.Schema subject version id schema deleted)) (unwrap_or f e)) is
+    (record { deleted = deleted; value = refl; normal = refl })
 shown rs offset (Some (values.Config level)) e is = absurd (cc)
 shown rs offset (Some (values.Mode mode)) e is = absurd (cc)
 shown rs offset (Some (values.DeleteSubject subject version)) e is = absurd (cc)

@@ -15,6 +15,7 @@ returns-clause-step c =
     record {
       from_before = c.entries_are_of_lasts.ensures;
       from_after = c.entries_are_of_lasts-2.ensures;
-      newest = ap (λ rs. last rs r.key) after ∙ last-newest order.all order.apart greatest.greatest lasts before r greatest.none c.is_compact.ensures compact c.requires;
+      newest = ap (λ rs. last rs r.key) after
+          ∙ last-newest order.all order.apart greatest.greatest lasts before r greatest.none c.is_compact.ensures compact c.requires;
       others = λ key apart. ap (λ rs. last rs key) after ∙ last-others order.all order.apart greatest.greatest lasts before r key apart;
     }

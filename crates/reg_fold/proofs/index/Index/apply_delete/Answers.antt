@@ -18,7 +18,9 @@ returns c =
     (subst (HasOwn old.deletes c.put_own.new.owns (Some c.in_ok-clone.field-0)) c.in_ok-delete.ensures put.set) in
     record {
       kept = IsKept-other old kept after r put.step (ap is_version c.requires.of_key)
-          _ (deletes-change old.last after r put.step old.deletes kept.all_deletes c.args.subject.now c.requires.of_key c.put_own.new.owns has)
+          _ (
+          deletes-change old.last after r put.step old.deletes kept.all_deletes
+          c.args.subject.now c.requires.of_key c.put_own.new.owns has)
           _ (levels-stay old.last after r put.step old.levels kept.all_levels (ap is_config c.requires.of_key))
           _ (modes-stay old.last after r put.step old.modes kept.all_modes (ap is_mode c.requires.of_key))
           _ (kept.the_mark ∙ sym (mark-stays old.last after r put.step (ap is_id_mark c.requires.of_key)));

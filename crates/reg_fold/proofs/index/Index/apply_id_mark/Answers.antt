@@ -18,7 +18,10 @@ returns c =
           _ (deletes-stay old.last after r step old.deletes kept.all_deletes (ap is_delete c.requires.of_key))
           _ (levels-stay old.last after r step old.levels kept.all_levels (ap is_config c.requires.of_key))
           _ (modes-stay old.last after r step old.modes kept.all_modes (ap is_mode c.requires.of_key))
-          _ (c.unwrap_or-self.ensures ∙ ap (λ o. unwrap_or o 0) c.in_ok-marked.ensures ∙ sym (mark-changes old.last after r step c.requires.of_key));
+          _ (
+          c.unwrap_or-self.ensures
+          ∙ ap (λ o. unwrap_or o 0) c.in_ok-marked.ensures
+          ∙ sym (mark-changes old.last after r step c.requires.of_key));
       added = c.in_ok-put_last.ensures.added;
       refused = tt;
     }

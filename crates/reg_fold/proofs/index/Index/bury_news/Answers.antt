@@ -25,6 +25,8 @@ returns-clause-kept c =
     let last = c.put_over-before.ensures in
     let of_key : r.key ≡ keys.Schema place.0 place.1 = sym last.of_key ∙ c.place_in-place.ensures in
     IsKept-version old kept after r last.step place of_key _
-    (subst (AreOwnEntries after) (sym c.remove.ensures) (own-removed old.last after r last.step old.entries kept.all_entries place of_key (gives_none old.last r c.requires.tombstone)))
+    (subst (AreOwnEntries after) (sym c.remove.ensures)
+    (own-removed old.last after r last.step old.entries kept.all_entries place of_key (gives_none old.last r c.requires.tombstone)))
     _
-    (spots-forgotten is_opaque old.last after r last.step place of_key (Some c.put_over-before.result) (sym last.before) old.unread kept.all_unread (without_text r (has_no_value old.last r c.requires.tombstone)) c.forget.new.spots c.forget.ensures)
+    (spots-forgotten is_opaque old.last after r last.step place of_key (Some c.put_over-before.result) (sym last.before) old.unread
+    kept.all_unread (without_text r (has_no_value old.last r c.requires.tombstone)) c.forget.new.spots c.forget.ensures)

@@ -33,7 +33,8 @@ returns-clause-alike c =
     let order = c.records_are_ordered.ensures in
     record {
       entries_alike = entries_given-left r no_value before after loses c.entries_are_of_lasts.ensures c.entries_are_of_lasts-2.ensures;
-      opaque_alike = opaque-left r no_value before after loses order.all order.apart c.last_is_greatest.ensures.greatest c.is_compact.ensures c.is_compact-2.ensures c.remove.ensures.removed;
+      opaque_alike = opaque-left r no_value before after loses order.all order.apart
+          c.last_is_greatest.ensures.greatest c.is_compact.ensures c.is_compact-2.ensures c.remove.ensures.removed;
       levels_alike = λ scope. sym (levels-left r no_value before after loses scope);
       modes_alike = λ scope. sym (modes-left r no_value before after loses scope);
       marks_alike = sym (mark-left r no_value before after loses);

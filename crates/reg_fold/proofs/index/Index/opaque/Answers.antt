@@ -13,11 +13,13 @@ returns-in_err-first c =
     let order = c.records_are_ordered.ensures in
     let unread = c.args.self.now.unread in
     c.from_residual.ensures
-    ∙ opaque-none order.all order.apart c.last_is_greatest.ensures.greatest c.args.self.now.last c.is_compact.ensures unread c.requires.all_unread (no_spot unread.keys c.in_err-first.ensures.variant.1)
+    ∙ opaque-none order.all order.apart c.last_is_greatest.ensures.greatest c.args.self.now.last
+    c.is_compact.ensures unread c.requires.all_unread (no_spot unread.keys c.in_err-first.ensures.variant.1)
 
 pub returns : goal.returns
 returns c =
     let order = c.records_are_ordered.ensures in
     let unread = c.args.self.now.unread in
     let least = c.in_ok-first.ensures in
-    opaque-least order.all order.apart c.last_is_greatest.ensures.greatest c.args.self.now.last c.is_compact.ensures unread c.requires.all_unread c.in_ok-first.first.now least.member least.least
+    opaque-least order.all order.apart c.last_is_greatest.ensures.greatest c.args.self.now.last
+    c.is_compact.ensures unread c.requires.all_unread c.in_ok-first.first.now least.member least.least

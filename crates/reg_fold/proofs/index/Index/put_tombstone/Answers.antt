@@ -17,9 +17,11 @@ returns c =
     let last = c.in_ok-before.ensures in
     record {
       kept = IsKept-version old kept after r last.step place c.requires.of_key _
-          (subst (AreOwnEntries after) (sym c.remove.ensures) (own-removed old.last after r last.step old.entries kept.all_entries place c.requires.of_key c.requires.gives))
+          (subst (AreOwnEntries after) (sym c.remove.ensures)
+          (own-removed old.last after r last.step old.entries kept.all_entries place c.requires.of_key c.requires.gives))
           _
-          (spots-forgotten is_opaque old.last after r last.step place c.requires.of_key c.in_ok-before.before last.before old.unread kept.all_unread (without_text r c.requires.no_value) c.forget.new.spots
+          (spots-forgotten is_opaque old.last after r last.step place c.requires.of_key c.in_ok-before.before
+          last.before old.unread kept.all_unread (without_text r c.requires.no_value) c.forget.new.spots
           (subst (λ o. Forgets o old.unread c.forget.new.spots) c.spot_of-spot.ensures c.forget.ensures));
       added = last.added;
       refused = tt;

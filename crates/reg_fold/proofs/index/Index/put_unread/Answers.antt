@@ -17,14 +17,19 @@ returns c =
     let place = c.args.place in
     let last = c.in_ok-before.ensures in
     let put : Updates spot_cmp old.unread c.insert.new.self (r.offset, place) true =
-    subst (λ (s : List ℕ). Updates spot_cmp old.unread c.insert.new.self (r.offset, (s, place.1)) true) c.in_ok-clone.ensures.cases c.in_default.ensures.updates in
+    subst (λ (s : List ℕ). Updates spot_cmp old.unread c.insert.new.self (r.offset, (s, place.1)) true)
+    c.in_ok-clone.ensures.cases c.in_default.ensures.updates in
     record {
       kept = IsKept-version old kept after r last.step place c.requires.of_key _
-          (subst (AreOwnEntries after) (sym c.remove.ensures) (own-removed old.last after r last.step old.entries kept.all_entries place c.requires.of_key c.requires.gives))
+          (subst (AreOwnEntries after) (sym c.remove.ensures)
+          (own-removed old.last after r last.step old.entries kept.all_entries place c.requires.of_key c.requires.gives))
           _
-          (spots-put is_opaque old.last after r last.step place c.requires.of_key c.in_ok-before.before last.before old.unread kept.all_unread
-          (unreadable old.last r place c.requires.of_key c.requires.has_text (own_none old.last r c.requires.gives)) c.insert.new.self c.forget_elsewhere.new.spots put
-          (subst (λ o. Forgets (elsewhere o r.offset) c.insert.new.self c.forget_elsewhere.new.spots) c.spot_of-spot.ensures c.forget_elsewhere.ensures));
+          (spots-put is_opaque old.last after r last.step place c.requires.of_key
+          c.in_ok-before.before last.before old.unread kept.all_unread
+          (unreadable old.last r place c.requires.of_key c.requires.has_text (own_none old.last r c.requires.gives))
+          c.insert.new.self c.forget_elsewhere.new.spots put
+          (subst (λ o. Forgets (elsewhere o r.offset) c.insert.new.self c.forget_elsewhere.new.spots)
+          c.spot_of-spot.ensures c.forget_elsewhere.ensures));
       added = last.added;
       refused = tt;
     }

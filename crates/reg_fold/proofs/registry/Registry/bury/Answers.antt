@@ -11,4 +11,5 @@ returns-clause-others c other h =
     let greatest = c.last_is_greatest.ensures in
     subst (λ rs. is_tombstone rs other ≡ true) (sym c.bury.ensures.added)
     (subst (λ rs. is_tombstone (last_records (set.insert rs c.args.tombstone)) other ≡ true) (sym c.self.view_is)
-    (stays_tombstone order.all greatest.greatest greatest.none c.last_records_are_enough.ensures.last_of_last c.args.self.now c.args.tombstone other h))
+    (stays_tombstone order.all greatest.greatest greatest.none
+    c.last_records_are_enough.ensures.last_of_last c.args.self.now c.args.tombstone other h))

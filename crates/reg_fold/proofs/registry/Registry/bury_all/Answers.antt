@@ -14,7 +14,8 @@ pub loop-tombstone-init : goal.loop-tombstone-init
 loop-tombstone-init c =
     let order = c.records_are_ordered.ensures in
     record {
-      added = sym (ap last_records (union-empty order.all order.apart c.args.self.now ∙ sym c.self.view_is) ∙ c.is_compact.ensures ∙ c.self.view_is);
+      added = sym (
+          ap last_records (union-empty order.all order.apart c.args.self.now ∙ sym c.self.view_is) ∙ c.is_compact.ensures ∙ c.self.view_is);
       others = λ other h. h;
     }
 
@@ -22,8 +23,11 @@ pub bury-requires : goal.bury-requires
 bury-requires c =
     let xs = c.args.tombstones.items in
     let gives = c.into_iter-tombstone-iterator.ensures.into_iter_gives in
-    let t = YieldsList-turn (YieldsList-from_vec xs gives.0 (gives.1 ∙ c.args.tombstones.ok.0)) c.loop-tombstone.yielded c.loop-tombstone.tombstone-iterator c.loop-tombstone.yielded_by c.next.result c.next.new.self c.in-Some.tombstone c.in-Some.is c.next.ensures.steps in
-    c.loop-tombstone.invariant.others c.in-Some.tombstone (each_passes (is_tombstone c.args.self.now) xs (length c.loop-tombstone.yielded) c.in-Some.tombstone t.0 t.1 c.requires)
+    let t = YieldsList-turn
+    (YieldsList-from_vec xs gives.0 (gives.1 ∙ c.args.tombstones.ok.0)) c.loop-tombstone.yielded c.loop-tombstone.tombstone-iterator
+    c.loop-tombstone.yielded_by c.next.result c.next.new.self c.in-Some.tombstone c.in-Some.is c.next.ensures.steps in
+    c.loop-tombstone.invariant.others c.in-Some.tombstone (
+    each_passes (is_tombstone c.args.self.now) xs (length c.loop-tombstone.yielded) c.in-Some.tombstone t.0 t.1 c.requires)
 
 pub loop-tombstone-preserved : goal.loop-tombstone-preserved
 loop-tombstone-preserved c =
@@ -38,5 +42,7 @@ pub returns : goal.returns
 returns c =
     let xs = c.args.tombstones.items in
     let gives = c.into_iter-tombstone-iterator.ensures.into_iter_gives in
-    let t = YieldsList-end (YieldsList-from_vec xs gives.0 (gives.1 ∙ c.args.tombstones.ok.0)) c.loop-tombstone.yielded c.loop-tombstone.tombstone-iterator c.loop-tombstone.yielded_by c.next.result c.next.new.self c.in-None.is c.next.ensures.steps in
-    c.loop-tombstone.invariant.added ∙ ap (λ (ys : List Record). last_records (set.union c.args.self.now (set.from_list ys))) (sym (map-id c.loop-tombstone.yielded) ∙ t.0)
+    let t = YieldsList-end (YieldsList-from_vec xs gives.0 (gives.1 ∙ c.args.tombstones.ok.0)) c.loop-tombstone.yielded
+    c.loop-tombstone.tombstone-iterator c.loop-tombstone.yielded_by c.next.result c.next.new.self c.in-None.is c.next.ensures.steps in
+    c.loop-tombstone.invariant.added
+    ∙ ap (λ (ys : List Record). last_records (set.union c.args.self.now (set.from_list ys))) (sym (map-id c.loop-tombstone.yielded) ∙ t.0)

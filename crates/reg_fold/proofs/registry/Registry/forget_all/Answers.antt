@@ -23,5 +23,6 @@ loop-record-preserved c =
     record {
       left = c.forget.ensures.left ∙ ap (λ (s : Records). cond (is_none r.value) (set.remove s r) s) kept.left
           ∙ difference-more order.all order.apart c.args.self.now (λ x. is_none x.value) xs i r within c.record-item.is;
-      alike = c.giving_alike_is_an_equivalence.ensures.across c.args.self.now c.loop-record.self c.forget.new.self kept.alike c.forget.ensures.alike;
+      alike = c.giving_alike_is_an_equivalence.ensures.across c.args.self.now
+          c.loop-record.self c.forget.new.self kept.alike c.forget.ensures.alike;
     }

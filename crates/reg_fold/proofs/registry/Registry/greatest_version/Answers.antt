@@ -10,4 +10,6 @@ pub returns : goal.returns
 returns c =
     let index = c.self.inside.index in
     let all = values-kept c.self.inside.index c.self.invariant ∙ ap entries c.self.view_is in
-    c.greatest_version.ensures ∙ greatest_version-shown index.deletes.of_subjects (finmap.values index.entries) c.args.subject.now ∙ ap (λ es. sought.greatest_version es c.args.subject.now) all
+    c.greatest_version.ensures
+    ∙ greatest_version-shown index.deletes.of_subjects (finmap.values index.entries) c.args.subject.now
+    ∙ ap (λ es. sought.greatest_version es c.args.subject.now) all

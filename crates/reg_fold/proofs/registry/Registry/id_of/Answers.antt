@@ -11,4 +11,7 @@ pub returns : goal.returns
 returns c =
     let index = c.self.inside.index in
     let all = values-kept c.self.inside.index c.self.invariant ∙ ap entries c.self.view_is in
-    IfOk-weaker c.id_of.result _ _ (λ found is. is ∙ id_of-shown index.deletes.of_subjects (finmap.values index.entries) c.args.normal.now ∙ ap (λ es. sought.id_of es c.args.normal.now) all) c.id_of.ensures
+    IfOk-weaker c.id_of.result _ _ (λ found is.
+    is
+    ∙ id_of-shown index.deletes.of_subjects (finmap.values index.entries) c.args.normal.now
+    ∙ ap (λ es. sought.id_of es c.args.normal.now) all) c.id_of.ensures

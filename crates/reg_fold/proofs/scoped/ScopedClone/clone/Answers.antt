@@ -12,6 +12,7 @@ returns g c =
       cases = λ same q.
           elim q as (λ q. kept_own copy q ≡ kept_own owns q) [
             | None ↦ option-copied g.T.Clone.is_clone same owns.of_all copy.of_all c.in_ok-clone.ensures.cases
-            | Some s ↦ lookup-copied g.T.Clone.is_clone same s owns.of_subjects.entries copy.of_subjects.entries c.in_ok-clone-2.ensures.cases
+            | Some s ↦ lookup-copied g.T.Clone.is_clone same s owns.of_subjects.entries
+                copy.of_subjects.entries c.in_ok-clone-2.ensures.cases
           ];
     }
