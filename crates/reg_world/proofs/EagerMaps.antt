@@ -24,11 +24,11 @@ use Rattle.reg_set.specs.Records.{Records, records_of}
 use Rattle.reg_entries.specs.EntryOrder.{Place, place_cmp, place_of}
 use Rattle.reg_entries.specs.Flagged.{with_soft}
 use Rattle.reg_entries.specs.declared.entry.Entry.{Entry}
-use Rattle.reg_fold.specs.Entries.{EntriesAreOfPlaces, entries, entry_map, entry_of}
+use Rattle.reg_fold.specs.Entries.{EntriesAreOfPlaces, entries, entry_map, entry_of, own_entry_in}
 use Rattle.reg_topic.specs.Topic.{records_of_item}
 use Rattle.reg_topic.specs.declared.published.Item.{Item}
 use Rattle.reg_topic.specs.declared.topic.Topic.{Topic}
-use Rattle.reg_world.specs.Eager.{after_key, after_records, eager_after, entry_as_written, flagged_with, put_by, standing_at}
+use Rattle.reg_world.specs.Eager.{after_key, after_records, eager_after, flagged_with, put_by, standing_at}
 use Rattle.reg_world.proofs.EagerPlaces.{found-none, found-some, place_cmp-ties, place_cmp-total, same_place}
 
 abbrev Standing : Type 0
@@ -198,12 +198,12 @@ same_entries m rs is = ap finmap.values (finmap.same_map place_cmp-total place_c
 place-put : ValuesAreOfKeys → (r : Record) (e : Entry) → put_by r ≡ Some e → r.key ≡ keys.Schema e.subject e.version
 place-put of_keys r e is =
     elim (value_of r) as (λ o.
-    value_of r ≡ o → option_and_then (entry_as_written r.offset) o ≡ Some e → r.key ≡ keys.Schema e.subject e.version) [
+    value_of r ≡ o → option_and_then (own_entry_in r.offset) o ≡ Some e → r.key ≡ keys.Schema e.subject e.version) [
       | None ↦ λ _ h. absurd (cc)
       | Some v ↦ λ has h. of_value v has h
     ] refl is
   where
-    of_value : (v : Value) → value_of r ≡ Some v → entry_as_written r.offset v ≡ Some e → r.key ≡ keys.Schema e.subject e.version
+    of_value : (v : Value) → value_of r ≡ Some v → own_entry_in r.offset v ≡ Some e → r.key ≡ keys.Schema e.subject e.version
     of_value (values.Schema subject version id schema deleted) has h =
         elim (of_keys r (values.Schema subject version id schema deleted) has) [
           | inl of ↦ of.0 ∙ ap (λ o. keys.Schema (unwrap_or o e).subject (unwrap_or o e).version) h

@@ -17,10 +17,10 @@ use Rattle.reg_set.specs.Records.{Records}
 use Rattle.reg_entries.specs.EntryOrder.{Place, place_cmp}
 use Rattle.reg_entries.specs.Flagged.{with_soft}
 use Rattle.reg_entries.specs.declared.entry.Entry.{Entry}
-use Rattle.reg_fold.specs.Entries.{entry_of}
+use Rattle.reg_fold.specs.Entries.{entry_of, own_entry_in}
 use Rattle.reg_fold.specs.Entries as of_lasts
 use Rattle.reg_fold.specs.Covers.{covers, is_soft_deleted}
-use Rattle.reg_world.specs.Eager.{after_key, entry_as_written, flagged_by, flagged_with, put_by}
+use Rattle.reg_world.specs.Eager.{after_key, flagged_by, flagged_with, put_by}
 use Rattle.reg_world.proofs.EagerPlaces.{at_itself, same_place, there}
 use Rattle.reg_world.proofs.Tops.{IsAbove, LastLaws, other_last, top_last}
 
@@ -44,10 +44,10 @@ seen log p = option_and_then (λ x. option_map (reflagged log) (put_by x)) (last
 at_offset : (x : Record) (e : Entry) → put_by x ≡ Some e → e.offset ≡ x.offset
 at_offset x e is =
     elim (value_of x)
-    as (λ o. option_and_then (entry_as_written x.offset) o ≡ Some e
+    as (λ o. option_and_then (own_entry_in x.offset) o ≡ Some e
     → e.offset ≡ x.offset) [ None ↦ λ h. absurd (cc) | Some v ↦ of_value v ] is
   where
-    of_value : (v : Value) → entry_as_written x.offset v ≡ Some e → e.offset ≡ x.offset
+    of_value : (v : Value) → own_entry_in x.offset v ≡ Some e → e.offset ≡ x.offset
     of_value (values.Schema subject version id schema deleted) h = ap (λ o. (unwrap_or o e).offset) (sym h)
     of_value (values.Config level) h = absurd (cc)
     of_value (values.Mode mode) h = absurd (cc)
@@ -90,7 +90,7 @@ IsFit log keys.IdMark r = Unit {0}
 
 module _ (l : LastLaws) where
   gives : (log : Records) (offset : ℕ) (v : Value)
-      → of_lasts.entry_in (last_records log) offset v ≡ option_map (reflagged log) (entry_as_written offset v)
+      → of_lasts.entry_in (last_records log) offset v ≡ option_map (reflagged log) (own_entry_in offset v)
   unfolding is_soft_deleted
   gives log offset (values.Schema subject version id schema deleted) =
       ap
@@ -117,7 +117,7 @@ module _ (l : LastLaws) where
   given log x =
       elim (value_of x) as (λ o.
       option_and_then (of_lasts.entry_in (last_records log) x.offset) o
-      ≡ option_map (reflagged log) (option_and_then (entry_as_written x.offset) o)) [ None ↦ refl | Some v ↦ gives log x.offset v ]
+      ≡ option_map (reflagged log) (option_and_then (own_entry_in x.offset) o)) [ None ↦ refl | Some v ↦ gives log x.offset v ]
 
   pub there_seen : (log : Records) (p : Place) → there log p ≡ seen log p
   there_seen log p =

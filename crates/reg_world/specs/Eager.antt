@@ -1,5 +1,5 @@
 -- Taking the records of a log one after the other, as a follower of the topic is usually described.
-use Rattle.std.specs.Prelude.{◌≡◌, ℕ, List, true, ◌&&◌, nat_le, Option, Some, None}
+use Rattle.std.specs.Prelude.{◌≡◌, ℕ, List, true, ◌&&◌, nat_le, Option}
 use Rattle.std.specs.Prelude.{option_map, option_and_then, find, fold, bytes_eq, if◌then◌else◌}
 use Rattle.std.specs.Option.{option_map_or}
 use Rattle.std.specs.Ordering.{eq_by_cmp}
@@ -15,7 +15,7 @@ use Rattle.reg_kept.specs.Floored.{Floored}
 use Rattle.reg_entries.specs.EntryOrder.{Place, place_cmp, place_of}
 use Rattle.reg_entries.specs.Flagged.{with_soft}
 use Rattle.reg_entries.specs.declared.entry.Entry.{Entry}
-use Rattle.reg_fold.specs.Entries.{entries, normal_of}
+use Rattle.reg_fold.specs.Entries.{entries, own_entry_in}
 use Rattle.reg_topic.specs.Topic.{published_by, registry_of, whole_log}
 use Rattle.reg_topic.specs.declared.published.Item.{Item}
 use Rattle.reg_topic.specs.declared.topic.Topic.{Topic}
@@ -23,26 +23,10 @@ use Rattle.reg_world.specs.Runs.{After}
 use Rattle.reg_world.specs.State.{State, topic_of}
 use Rattle.reg_world.specs.declared.event.Event.{Event}
 
--- the entry that a version's value is, soft where the value itself says deleted
-abbrev pub entry_as_written : ℕ → Value → Option Entry
-entry_as_written offset (values.Schema subject version id schema deleted) = Some (record {
-  subject = subject;
-  version = version;
-  id = id;
-  text = schema;
-  normal = normal_of schema;
-  offset = offset;
-  soft = deleted;
-})
-entry_as_written offset (values.Config level) = None
-entry_as_written offset (values.Mode mode) = None
-entry_as_written offset (values.DeleteSubject subject version) = None
-entry_as_written offset values.Noop = None
-entry_as_written offset (values.IdMark id) = None
-
--- what a record puts at the place of its version: an entry, and nothing where it has no value that can be read
+-- what a record puts at the place of its version: its own entry, soft where its value itself says deleted, and nothing
+-- where it has no value that can be read
 abbrev pub put_by : Record → Option Entry
-put_by r = option_and_then (entry_as_written r.offset) (value_of r)
+put_by r = option_and_then (own_entry_in r.offset) (value_of r)
 
 -- a soft delete with that value flags an entry of its subject, up to the version that it names
 abbrev pub flagged_with : Value → Entry → Entry
