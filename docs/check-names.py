@@ -21,13 +21,13 @@ CITING = [f"{name}.md" for name in "DEFINITIONS LAYERS CLAIMS HEADLINE READING K
 OTHER = set("""
     Ok Err None Some Option Result Box Write BufRead Serialize RandomState impl match let else use while unsafe ghost requires ensures
     IfOk IfErr IfSome OnOk OnErr Brand Absorb matchit http httparse serde_json null stdin stdout library result READONLY_OVERRIDE Old
-    Key::X Value::X crates/NAME crates/NAME/must-fail/plain_name.edit out/
+    Key::X Value::X crates/NAME crates/NAME/wrong/ must-fail/ wrong/ out/
 """.split())
 NAME = re.compile(r"[A-Za-z_]\w*(?:::\w+)?(?:\(\))?")
 PATH = re.compile(r"([\w+-]+/)*[\w+-]+\.(?:rt|antt|edit|md|py|txt)|([\w+-]+/)+[\w.+-]*")
 
 CRATES = {p.name for p in (TOP / "crates").iterdir() if p.is_dir()}
-FILES = [p.relative_to(TOP / "crates").as_posix() for part in ("src", "specs", "proofs", "must-fail")
+FILES = [p.relative_to(TOP / "crates").as_posix() for part in ("src", "specs", "proofs", "must-fail", "wrong")
          for p in sorted((TOP / "crates").glob(f"*/{part}/**/*")) if p.is_file()]
 places = defaultdict(set)  # each name, and the files in which it stands, as crate/specs/File.antt
 clauses = defaultdict(set)  # each label of a clause, and the functions that have such a clause
