@@ -1,11 +1,11 @@
-//! Tests of records: their keys, their values, their lines and logs, and devices that fail, over the crates' public calls.
+//! Tests of records: their lines and values, devices that fail, and sets of records, with a floor too, over the crates' public calls.
 #![tactic(auto)]
 
 #[cfg(test)]
-mod devices;
+mod kept;
 #[cfg(test)]
-mod faults;
-#[cfg(test)]
-mod floors;
+mod lines;
 #[cfg(test)]
 mod records;
+#[cfg(test)]
+mod sets;

@@ -1,31 +1,26 @@
 // What lines say, and how it is written again.
+mod devices;
+mod faults;
+mod floors;
 mod rows;
 
+use crate::lines::{Line, log_of, records_of};
 use base_text::Text;
 use reg_records::{
-    Device, Key, LogError, Record, Value, ValueText, has_line, limits_are_as_written,
-    lines_are_of_the_grammar, read_log, write_line, written_keys_are_apart,
+    Key, LogError, Record, Value, ValueText, has_line, limits_are_as_written,
+    lines_are_of_the_grammar, write_line, written_keys_are_apart,
 };
 use reg_values::{decode_value, written_values_have_lines, written_values_read_back};
 use rows::{AS_WRITTEN, FOREIGN, OTHER_KEYS, OTHER_VALUES};
 use std::alloc::{AllocError, Global};
 
-/// A line's key and value, as the line has them.
-#[derive(Clone, Copy)]
-struct Line<'a> {
-    key: &'a str,
-    value: &'a str,
-}
-
-fn log_of(alloc: Global, line: Line) -> Result<String, AllocError> {
-    format!(in alloc; "7\t{}\t{}\n", line.key, line.value)
-}
-
-/// The records of the log of one line, as the library reads them.
-fn records_of(alloc: Global, line: Line) -> Result<Vec<Record>, LogError> {
-    let log = log_of(alloc, line)?;
-    let mut reader = Device::new(log.as_bytes());
-    Ok(read_log(alloc, &mut reader)?.records)
+/// The line of that key and value.
+fn at_7<'a>(key: &'a str, value: &'a str) -> Line<'a> {
+    Line {
+        offset: 7,
+        key,
+        value: Some(value),
+    }
 }
 
 fn is_text(text: &Option<ValueText>, wanted: &str) -> bool {
@@ -48,7 +43,7 @@ fn is_value(alloc: Global, found: &Record, wanted: &str) -> Result<bool, AllocEr
 
 /// Whether the line that is written for a record is that one.
 fn is_written_again(alloc: Global, found: &Record, line: Line) -> Result<bool, AllocError> {
-    let wanted = log_of(alloc, line)?;
+    let wanted = log_of(alloc, &[line])?;
     Ok(
         has_line(found)
             && matches!(write_line(alloc, found), Ok(text) if text.as_slice() == wanted.as_bytes()),
@@ -67,19 +62,13 @@ struct Row<'a> {
     value: &'a str,
 }
 
-fn line_of(text: &str) -> Option<Line> {
-    let (key, value) = text.split_once("|")?;
-    let value = if value == "null␠" { "null " } else { value };
-    Some(Line { key, value })
-}
-
 fn row_of(text: &str) -> Option<Row> {
-    let (line, written) = text.split_once("\n")?;
-    let (key, value) = written.split_once("\n")?;
-    let line = line_of(line)?;
+    let (line, value) = text.rsplit_once('|')?;
+    let (line, key) = line.rsplit_once('|')?;
+    let (own, said) = line.split_once('|')?;
     Some(Row {
-        line,
-        key: if key == "=" { line.key } else { key },
+        line: at_7(own, if said == "null␠" { "null " } else { said }),
+        key: if key == "=" { own } else { key },
         value: if value == "nothing" { "" } else { value },
     })
 }
@@ -92,7 +81,7 @@ fn is_said(alloc: Global, found: &Record, row: Row) -> Result<bool, AllocError> 
 }
 
 fn holds(alloc: Global, row: Row) -> Result<bool, LogError> {
-    let records = records_of(alloc, row.line)?;
+    let records = records_of(alloc, &[row.line])?;
     match records.first() {
         Some(found) => Ok(is_said(alloc, found, row)?),
         None => Ok(false),
@@ -109,15 +98,14 @@ fn text_holds(alloc: Global, text: &str) -> Result<bool, LogError> {
 #[test]
 fn lines_say_what_their_texts_do(rt: HostRuntime) {
     for rows in [AS_WRITTEN, OTHER_KEYS, OTHER_VALUES] {
-        for text in rows.split("\n\n") {
+        for text in rows.lines() {
             assert!(rt; text_holds(rt.alloc(), text) == Ok(true), "{text}");
         }
     }
 }
 
 fn is_foreign(alloc: Global, key: &str) -> Result<bool, LogError> {
-    let line = Line { key, value: "null" };
-    Ok(records_of(alloc, line)?.is_empty())
+    Ok(records_of(alloc, &[at_7(key, "null")])?.is_empty())
 }
 
 #[test]
@@ -139,11 +127,8 @@ static OPERATIONS: [(&str, bool); 7] = [
 ];
 
 fn is_no_operation(alloc: Global, value: &str) -> Result<bool, LogError> {
-    let line = Line {
-        key: r#"{"keytype":"NOOP","magic":0}"#,
-        value,
-    };
-    match records_of(alloc, line)?.first() {
+    let line = at_7(r#"{"keytype":"NOOP","magic":0}"#, value);
+    match records_of(alloc, &[line])?.first() {
         Some(found) => Ok(matches!(decode_value(alloc, found)?, Some(Value::Noop))),
         None => Ok(false),
     }

@@ -1,0 +1,3 @@
+// What is said of a log.
+mod causes;
+mod reports;

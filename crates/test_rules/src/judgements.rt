@@ -1,0 +1,3 @@
+// Judges: what they answer, and what they keep.
+mod answers;
+mod kept;

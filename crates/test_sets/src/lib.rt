@@ -1,7 +1,0 @@
-//! Tests of sets of records over the public calls.
-#![tactic(auto)]
-
-#[cfg(test)]
-mod lines;
-#[cfg(test)]
-mod sets;
