@@ -21,7 +21,7 @@ CITING = [f"{name}.md" for name in "DEFINITIONS LAYERS CLAIMS HEADLINE READING K
 OTHER = set("""
     Ok Err None Some Option Result Box Write BufRead Serialize RandomState impl match let else use while unsafe ghost requires ensures
     IfOk IfErr IfSome OnOk OnErr Brand Absorb matchit http httparse serde_json null stdin stdout library result READONLY_OVERRIDE Old
-    Key::X Value::X crates/NAME crates/NAME/wrong/ must-fail/ wrong/ out/
+    Key::X Value::X crates/NAME crates/NAME/wrong/ must-fail/ wrong/ specs/ proofs/ data/ out/ out/NAME.log exec
 """.split())
 NAME = re.compile(r"[A-Za-z_]\w*(?:::\w+)?(?:\(\))?")
 PATH = re.compile(r"([\w+-]+/)*[\w+-]+\.(?:rt|antt|edit|md|py|txt)|([\w+-]+/)+[\w.+-]*")
