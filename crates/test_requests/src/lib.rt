@@ -1,11 +1,15 @@
-//! Tests of what requests ask, over the public calls.
+//! Tests of what requests ask, of responses, of the HTTP front and of conversations at a desk of its own.
 #![tactic(auto)]
 
 #[cfg(test)]
-mod fields;
+mod conversations;
+#[cfg(test)]
+mod desk;
+#[cfg(test)]
+mod notation;
 #[cfg(test)]
 mod requests;
 #[cfg(test)]
-mod rows;
+mod responses;
 #[cfg(test)]
-mod shown;
+mod serving;

@@ -9,14 +9,14 @@ use std::alloc::{AllocError, Global};
 
 /// Answers each query with an empty list, and replies to each command with the number of what was
 /// noted. It has no memory for the schema of the id 13.
-#[derive(Debug, Drop)]
-pub struct NotingDesk {
-    pub notes: String,
-    pub count: u32,
+#[derive(Drop)]
+pub(crate) struct NotingDesk {
+    pub(crate) notes: String,
+    pub(crate) count: u32,
 }
 
 impl NotingDesk {
-    pub fn new(alloc: Global) -> NotingDesk {
+    pub(crate) fn new(alloc: Global) -> NotingDesk {
         NotingDesk {
             notes: String::new(alloc),
             count: 0,
@@ -25,8 +25,10 @@ impl NotingDesk {
 
     fn note(&mut self, kind: &str, what: &str) {
         self.count = self.count.saturating_add(1);
-        if write!(self.notes, "{kind} {what};").is_err() {
-            self.count = 0;
+        for part in [kind, " ", what, ";"] {
+            if self.notes.push_str(part).is_err() {
+                self.count = 0;
+            }
         }
     }
 }

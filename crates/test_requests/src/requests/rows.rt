@@ -25,7 +25,7 @@ fn push_fields(alloc: Global, fields: &mut Vec<Field>, row: &str) -> Result<(), 
 }
 
 /// The fields of a row, with ` & ` between two; `-` is for no fields.
-pub fn fields_of(alloc: Global, row: &str) -> Result<Listed<Field>, Fail> {
+pub(crate) fn fields_of(alloc: Global, row: &str) -> Result<Listed<Field>, Fail> {
     let mut fields = Vec::new(alloc);
     if row != "-" {
         push_fields(alloc, &mut fields, row)?;
@@ -35,7 +35,7 @@ pub fn fields_of(alloc: Global, row: &str) -> Result<Listed<Field>, Fail> {
 
 static NO_TEXT: &[u8] = b"{\"a\":\"\xff\"}";
 
-// The body of a row: `(end)` where the input ends in it, `(not utf-8)` for bytes that are no text.
+/// The body of a row: `(end)` where the input ends in it, `(not utf-8)` for bytes that are no text.
 fn body_of(alloc: Global, row: &str) -> Result<Option<Listed<u8>>, AllocError> {
     if row == "(end)" {
         return Ok(None);
@@ -56,7 +56,7 @@ fn method_of(alloc: Global, word: &str) -> Result<Method, Fail> {
 }
 
 /// The request of a row: its method, its target, and its body, where it has one.
-pub fn request_of(alloc: Global, fields: &str, row: &str) -> Result<Request, Fail> {
+pub(crate) fn request_of(alloc: Global, fields: &str, row: &str) -> Result<Request, Fail> {
     let (method, rest) = row.split_once(" ").ok_or("a method")?;
     let (target, body) = rest.split_once(" ").unwrap_or((rest, ""));
     Ok(Request {

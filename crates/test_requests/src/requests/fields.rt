@@ -1,8 +1,9 @@
 // What the fields of a request tell.
-use crate::rows::fields_of;
+use super::rows::fields_of;
+use crate::notation::is_number;
 use reg_messages::{asks_to_close, limits_are_as_written, told_length};
 use reg_refusals::Refusal;
-use std::alloc::{AllocError, Global};
+use std::alloc::Global;
 use std::test::Fail;
 
 // The length of the body: a number of bytes, `none`, or the code of a refusal after `refused`.
@@ -44,50 +45,42 @@ Connection:  => no
 X-Connection: close => no
 Host: close => no";
 
-fn length_text(alloc: Global, told: Result<Option<u64>, Refusal>) -> Result<String, AllocError> {
+fn is_length(told: Result<Option<u64>, Refusal>, expected: &str) -> bool {
     match told {
-        Ok(Some(length)) => format!(in alloc; "{length}"),
-        Ok(None) => String::from_str(alloc, "none"),
-        Err(refusal) => {
-            let code = refusal.code();
-            format!(in alloc; "refused {code}")
-        }
+        Ok(Some(length)) => expected.parse::<u64>().ok() == Some(length),
+        Ok(None) => expected == "none",
+        Err(refusal) => match expected.strip_prefix("refused ") {
+            Some(code) => is_number(code, refusal.code()),
+            None => false,
+        },
     }
 }
 
-// The first row whose length isn't the expected one.
-fn first_other_length(alloc: Global) -> Result<Option<&'static str>, Fail> {
-    for row in LENGTHS.lines() {
-        let (fields, expected) = row.split_once(" => ").ok_or("fields")?;
-        let fields = fields_of(alloc, fields)?;
-        if length_text(alloc, told_length(fields.as_slice()))?.as_str() != expected {
-            return Ok(Some(row));
-        }
-    }
-    Ok(None)
+fn tells_its_length(alloc: Global, row: &str) -> Result<bool, Fail> {
+    let (fields, expected) = row.split_once(" => ").unwrap_or((row, ""));
+    let fields = fields_of(alloc, fields)?;
+    Ok(is_length(told_length(fields.as_slice()), expected))
 }
 
-// The first row that is closed, or isn't, against what is expected.
-fn first_other_close(alloc: Global) -> Result<Option<&'static str>, Fail> {
-    for row in CLOSES.lines() {
-        let (fields, expected) = row.split_once(" => ").ok_or("fields")?;
-        let fields = fields_of(alloc, fields)?;
-        if asks_to_close(fields.as_slice()) != (expected == "closes") {
-            return Ok(Some(row));
-        }
-    }
-    Ok(None)
+fn closes_as_told(alloc: Global, row: &str) -> Result<bool, Fail> {
+    let (fields, expected) = row.split_once(" => ").unwrap_or((row, ""));
+    let fields = fields_of(alloc, fields)?;
+    Ok(asks_to_close(fields.as_slice()) == (expected == "closes"))
 }
 
 #[test]
 fn fields_tell_a_length_or_are_refused(rt: HostRuntime) -> Result<(), Fail> {
     limits_are_as_written();
-    assert_eq!(rt; first_other_length(rt.alloc())?, None);
+    for row in LENGTHS.lines() {
+        assert!(rt; tells_its_length(rt.alloc(), row)?, "{row}");
+    }
     Ok(())
 }
 
 #[test]
 fn fields_ask_to_close(rt: HostRuntime) -> Result<(), Fail> {
-    assert_eq!(rt; first_other_close(rt.alloc())?, None);
+    for row in CLOSES.lines() {
+        assert!(rt; closes_as_told(rt.alloc(), row)?, "{row}");
+    }
     Ok(())
 }

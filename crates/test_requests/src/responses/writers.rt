@@ -1,4 +1,5 @@
 // Writers that are full, are interrupted, or fail.
+use crate::notation::push_response;
 use base_text::{Listed, Text};
 use reg_leader::Reply;
 use reg_lookup::Answer;
@@ -9,7 +10,7 @@ use std::alloc::{AllocError, Global};
 use std::io::{self, ErrorKind, Write};
 
 /// What is responded.
-#[derive(Debug, Drop)]
+#[derive(Drop)]
 enum Response {
     Answer(Answer),
     Reply(Reply),
@@ -26,36 +27,27 @@ fn write_response<W: Write>(writer: &mut Device<W>, response: &Response) -> Resu
     }
 }
 
-/// The kinds of what is reported, and their whole responses.
-static TEXTS: [(&str, &str); 4] = [
-    (
-        "answer",
-        "HTTP/1.1 200 OK\r\nContent-Type: application/vnd.schemaregistry.v1+json\r\nContent-Length: 4\r\n\r\n\"é\"",
-    ),
-    (
-        "reply",
-        "HTTP/1.1 200 OK\r\nContent-Type: application/vnd.schemaregistry.v1+json\r\nContent-Length: 8\r\n\r\n[1,2,30]",
-    ),
-    (
-        "refusal",
-        "HTTP/1.1 405 Method Not Allowed\r\nContent-Type: application/vnd.schemaregistry.v1+json\r\nContent-Length: 49\r\nAllow: GET, PUT\r\nConnection: close\r\n\r\n{\"error_code\":405,\"message\":\"Method Not Allowed\"}",
-    ),
-    (
-        "",
-        "HTTP/1.1 500 Internal Server Error\r\nContent-Type: application/vnd.schemaregistry.v1+json\r\nContent-Length: 52\r\nConnection: close\r\n\r\n{\"error_code\":50001,\"message\":\"Store error: memory\"}",
-    ),
-];
+/// The kinds of what is reported, and the responses.
+static ROWS: &str = r#"answer => 200 OK|4||"é"
+reply => 200 OK|8||[1,2,30]
+refusal => 405 Method Not Allowed|49|Allow: GET, PUT|Connection: close||{"error_code":405,"message":"Method Not Allowed"}
+no memory => 500 Internal Server Error|52|Connection: close||{"error_code":50001,"message":"Store error: memory"}"#;
+
+fn answer_of(alloc: Global) -> Result<Answer, AllocError> {
+    Ok(Answer {
+        status: 200,
+        body: Text::copy_of(alloc, "\"é\"")?,
+    })
+}
+
+fn versions_of(alloc: Global) -> Result<Listed<u32>, AllocError> {
+    Ok(Listed::from(Vec::from_slice(alloc, &[1, 2, 30])?))
+}
 
 fn response_of(alloc: Global, kind: &str) -> Result<Response, AllocError> {
     match kind {
-        "answer" => Ok(Response::Answer(Answer {
-            status: 200,
-            body: Text::copy_of(alloc, "\"é\"")?,
-        })),
-        "reply" => Ok(Response::Reply(Reply::Versions(Listed::from(Vec::from_slice(
-            alloc,
-            &[1, 2, 30],
-        )?)))),
+        "answer" => Ok(Response::Answer(answer_of(alloc)?)),
+        "reply" => Ok(Response::Reply(Reply::Versions(versions_of(alloc)?))),
         "refusal" => Ok(Response::Refusal(Refusal::MethodNotAllowed(Allow::GetPut))),
         _ => Ok(Response::NoMemory),
     }
@@ -68,23 +60,6 @@ fn has_a_front(response: &Response, text: &str, room: usize) -> bool {
     let end = write_response(&mut writer, response);
     let faults = writer.faults();
     (end, faults) == (Err(WriteFault), 1) && bytes.get(..room) == text.as_bytes().get(..room)
-}
-
-fn has_fronts(alloc: Global, kind: &str, text: &str) -> Result<bool, AllocError> {
-    let response = response_of(alloc, kind)?;
-    for room in 0..text.len() {
-        if !has_a_front(&response, text, room) {
-            return Ok(false);
-        }
-    }
-    Ok(true)
-}
-
-#[test]
-fn a_writer_that_is_full_has_a_front_of_the_response(rt: HostRuntime) {
-    for (kind, text) in &TEXTS {
-        assert!(rt; has_fronts(rt.alloc(), kind, text) == Ok(true), "{text}");
-    }
 }
 
 /// Takes one byte at each write. Each write and each flush answers an interruption so many times
@@ -128,7 +103,9 @@ impl Write for Faulty {
 
 /// How many interruptions come before each write, after how many bytes more than the response has an
 /// error comes, whether the response is written, and how many faults are counted.
-static FAULTS: [(u64, usize, ErrorKind, bool, u64); 5] = [
+type FaultRow = (u64, usize, ErrorKind, bool, u64);
+
+static FAULTS: [FaultRow; 5] = [
     (0, 1, ErrorKind::BrokenPipe, true, 0),
     (3, 1, ErrorKind::BrokenPipe, true, 0),
     (3, 0, ErrorKind::BrokenPipe, false, 1),
@@ -137,12 +114,7 @@ static FAULTS: [(u64, usize, ErrorKind, bool, u64); 5] = [
 ];
 
 /// Whether all bytes are written, and the result and the faults are those of the row.
-fn holds(
-    alloc: Global,
-    kind: &str,
-    text: &str,
-    row: &(u64, usize, ErrorKind, bool, u64),
-) -> Result<bool, AllocError> {
+fn is_met(alloc: Global, response: &Response, text: &str, row: &FaultRow) -> bool {
     let (times, more, error, is_ok, faults) = *row;
     let mut writer = Device::new(Faulty {
         bytes: Vec::new(alloc),
@@ -151,16 +123,47 @@ fn holds(
         room: text.len().saturating_add(more),
         kind: error,
     });
-    let end = write_response(&mut writer, &response_of(alloc, kind)?);
+    let end = write_response(&mut writer, response);
     let counted = (writer.faults(), writer.interruptions()) == (faults, 0);
-    Ok(counted && end.is_ok() == is_ok && writer.into_inner().bytes.as_slice() == text.as_bytes())
+    counted && end.is_ok() == is_ok && writer.into_inner().bytes.as_slice() == text.as_bytes()
+}
+
+fn fills(response: &Response, text: &str) -> bool {
+    for room in 0..text.len() {
+        if !has_a_front(response, text, room) {
+            return false;
+        }
+    }
+    true
+}
+
+fn meets_faults(alloc: Global, response: &Response, text: &str) -> bool {
+    for row in &FAULTS {
+        if !is_met(alloc, response, text, row) {
+            return false;
+        }
+    }
+    true
+}
+
+fn text_of(alloc: Global, row: &str) -> Result<String, AllocError> {
+    let mut text = String::new(alloc);
+    push_response(&mut text, row)?;
+    Ok(text)
+}
+
+/// Whether a writer that is full has a front of the response; interruptions are passed over, and a
+/// flush that fails is reported.
+fn holds(alloc: Global, row: &str) -> Result<bool, AllocError> {
+    let (kind, told) = row.split_once(" => ").unwrap_or((row, ""));
+    let text = text_of(alloc, told)?;
+    let response = response_of(alloc, kind)?;
+    Ok(fills(&response, text.as_str()) && meets_faults(alloc, &response, text.as_str()))
 }
 
 #[test]
-fn interruptions_are_passed_over_and_a_flush_that_fails_is_reported(rt: HostRuntime) {
-    for (kind, text) in &TEXTS {
-        for row in &FAULTS {
-            assert!(rt; holds(rt.alloc(), kind, text, row) == Ok(true), "{text}");
-        }
+fn writers_are_full_are_interrupted_or_fail(rt: HostRuntime) {
+    for row in ROWS.lines() {
+        assert!(rt; holds(rt.alloc(), row) == Ok(true), "{row}");
     }
 }
