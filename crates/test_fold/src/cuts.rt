@@ -1,5 +1,5 @@
 // Inputs that end, and readers that fail, at each place.
-use crate::folds::said;
+use crate::commands::said;
 use crate::pieces::Pieces;
 use crate::worked::{end_at, input_of, place_of, responses_before, responses_to};
 use reg_records::Device;
@@ -18,7 +18,7 @@ struct Outcome {
 fn outcome_of(alloc: Global, reader: Pieces<'_>) -> Result<Outcome, AllocError> {
     let mut reader = Device::new(reader);
     let mut writer = Device::new(Vec::new(alloc));
-    let said = said(alloc, &mut reader, &mut writer)?;
+    let said = said(alloc, "registryd fold", &mut reader, &mut writer)?;
     Ok(Outcome {
         said,
         written: writer.into_inner(),

@@ -1,34 +1,25 @@
-//! Tests of whole folds: a log, requests, and what is written.
+//! Tests of folds, sketches and runs of the program by what a stored input and output don't show: where an input ends,
+//! readers and writers that fail, what is counted, served and left unread, and what is too large to be written out.
 #![tactic(auto)]
 
 #[cfg(test)]
-mod answers;
+mod commands;
 #[cfg(test)]
-mod clients;
+mod counts;
 #[cfg(test)]
 mod cuts;
 #[cfg(test)]
-mod ends;
-#[cfg(test)]
-mod folds;
-#[cfg(test)]
-mod limits;
-#[cfg(test)]
 mod pieces;
-#[cfg(test)]
-mod raw;
-#[cfg(test)]
-mod raw_rows;
-#[cfg(test)]
-mod raw_table;
 #[cfg(test)]
 mod readers;
 #[cfg(test)]
-mod rows;
-#[cfg(test)]
 mod runs;
 #[cfg(test)]
+mod sizes;
+#[cfg(test)]
 mod stops;
+#[cfg(test)]
+mod words;
 #[cfg(test)]
 mod worked;
 #[cfg(test)]

@@ -1,5 +1,5 @@
 // Whole runs of the program: its arguments and its input, and what it writes, tells, serves and leaves.
-use crate::folds::{SHORT_LOG, WHOLE, words_of};
+use crate::commands::{FOLDED, SHORT_LOG, SKETCHED, TWO_LINES, run_status, words_of};
 use reg_program::run;
 use reg_records::Device;
 use std::alloc::{AllocError, Global};
@@ -100,11 +100,11 @@ fn words_that_are_no_command_read_and_write_nothing(rt: HostRuntime) {
     }
 }
 
-static ROWS: [Row; 7] = [
+static ROWS: [Row; 11] = [
     Row {
         line: "registryd fold",
         input: SHORT_LOG,
-        output: WHOLE,
+        output: FOLDED,
         errors: "",
         served: None,
         left: "",
@@ -138,10 +138,47 @@ static ROWS: [Row; 7] = [
         left: "\nGET /mode HTTP/1.1\r\n\r\n",
         status: 0,
     },
+    // What stands after the two lines of a sketch is left, whatever it is.
+    Row {
+        line: "registryd sketch",
+        input: TWO_LINES,
+        output: SKETCHED,
+        errors: "",
+        served: None,
+        left: "",
+        status: 0,
+    },
+    Row {
+        line: "registryd sketch",
+        input: "\"long\"\n\"int\"\n\n",
+        output: SKETCHED,
+        errors: "",
+        served: None,
+        left: "\n",
+        status: 0,
+    },
+    Row {
+        line: "registryd sketch",
+        input: "\"long\"\n\"int\"\n\"no end",
+        output: SKETCHED,
+        errors: "",
+        served: None,
+        left: "\"no end",
+        status: 0,
+    },
+    Row {
+        line: "registryd sketch",
+        input: "\"long\"\n\"int\"\nx\n\n\u{e9}\n",
+        output: SKETCHED,
+        errors: "",
+        served: None,
+        left: "x\n\n\u{e9}\n",
+        status: 0,
+    },
     Row {
         line: "registryd sketch",
         input: "\"long\"\n\"int\"\n\"long\"\n\"int\"\n",
-        output: "compatible\nvalue leaf\nreads leaf\n",
+        output: SKETCHED,
         errors: "",
         served: None,
         left: "\"long\"\n\"int\"\n",
@@ -174,22 +211,13 @@ fn a_command_is_done_once_and_its_end_is_reported(rt: HostRuntime) {
     }
 }
 
-/// The status of a run whose standard error takes so many bytes, and how many it took.
+/// The status of a run whose standard error takes so many bytes, and how many faults that had.
 fn status_of(alloc: Global, row: &Row, room: usize) -> Result<(u8, u64), AllocError> {
-    let words = words_of(alloc, row.line)?;
     let mut bytes = [0u8; 16];
     let mut reader = Device::new(row.input.as_bytes());
     let mut writer = Device::new(Vec::new(alloc));
     let mut errors = Device::new(&mut bytes[..room.min(16)]);
-    let mut serve = |_port: u64, _nodes: u64, _workers: u64| 9u8;
-    let status = run(
-        alloc,
-        &words,
-        &mut reader,
-        &mut writer,
-        &mut errors,
-        &mut serve,
-    );
+    let status = run_status(alloc, row.line, &mut reader, &mut writer, &mut errors)?;
     Ok((status, errors.faults()))
 }
 

@@ -1,5 +1,5 @@
 // Writers that fail at each write and each flush.
-use crate::folds::said;
+use crate::commands::said;
 use crate::pieces::Taking;
 use crate::worked::{input_of, output_of};
 use reg_records::Device;
@@ -30,7 +30,7 @@ fn outcome_of(
         left,
         fault,
     });
-    let said = said(alloc, &mut reader, &mut writer)?;
+    let said = said(alloc, "registryd fold", &mut reader, &mut writer)?;
     let faults = writer.faults();
     Ok(Outcome {
         said,

@@ -1,9 +1,13 @@
-//! Tests of a pen and its keep.
+//! Tests of feeds, of pens and their keeps, and of what a node's view judges.
 #![tactic(auto)]
 
 #[cfg(test)]
-mod floors;
+mod changes;
 #[cfg(test)]
-mod keeping;
+mod feeds;
 #[cfg(test)]
-mod serving;
+mod pens;
+#[cfg(test)]
+mod topics;
+#[cfg(test)]
+mod views;

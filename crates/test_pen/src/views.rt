@@ -1,0 +1,4 @@
+// What a node's view judges.
+mod cases;
+mod judged;
+mod shown;

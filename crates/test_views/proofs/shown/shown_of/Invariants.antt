@@ -1,7 +1,0 @@
-use Rattle.reg_topic.specs.Topic.{topic_from}
-use Rattle.reg_shared.specs.Held.{held_of}
-use Rattle.test_views.proofs.shown.shown_of.Given as goal
-
-abbrev pub ghosts-in_topic : goal.ghosts-in_topic
-ghosts-in_topic g a =
-    record { book = a.list.reached.book; first = held_of (topic_from a.base.now.records.items a.base.now.next a.base.now.floor) }
