@@ -1,84 +1,93 @@
-// A world in which the same happens.
+// A world of three nodes in which the same happens.
 use base_text::Listed;
 use reg_http::reply_answer;
 use reg_leader::Command;
 use reg_lookup::{Answer, Query};
-use reg_records::{Log, Record};
+use reg_records::{Device, Record, read_log};
 use reg_world::{Event, Fate, Outcome, World};
 use std::alloc::{AllocError, Global};
 use std::test::Fail;
 
-/// A world of three nodes in which the same happens.
-#[derive(Drop)]
-pub(crate) struct Beside {
-    world: World,
+pub(crate) fn start_world(alloc: Global) -> Result<World, Fail> {
+    let base = read_log(alloc, &mut Device::new(b"".as_slice()))?;
+    Ok(World::start(alloc, 3, &base)?)
 }
 
-impl Beside {
-    pub(crate) fn over(alloc: Global, base: &Log) -> Result<Beside, Fail> {
-        let world = World::start(alloc, 3, base)?;
-        Ok(Beside { world })
-    }
-
-    /// The answer that the reply has, if there is one.
-    pub(crate) fn command(
-        &mut self,
-        alloc: Global,
-        command: Command,
-    ) -> Result<Option<Answer>, AllocError> {
-        let event = Event::Command {
+/// Does a command; whether the answer that its reply has is that one.
+pub(crate) fn replies(
+    alloc: Global,
+    world: &mut World,
+    command: Command,
+    answer: &Answer,
+) -> Result<bool, AllocError> {
+    let outcome = step(
+        world,
+        Event::Command {
             node: 0,
             command,
             fate: Fate::Published,
-        };
-        let outcome = self.world.step(&event)?;
-        replied(alloc, &outcome)
-    }
+        },
+    )?;
+    is_replied(alloc, &outcome, answer)
+}
 
-    /// Whether these records may be dropped at that floor; then they are.
-    pub(crate) fn compact(&mut self, floor: u64, dropped: Vec<Record>) -> Result<bool, AllocError> {
-        let event = Event::CompactTo {
-            floor,
-            dropped: Listed::from(dropped),
-        };
-        let outcome = self.world.step(&event)?;
-        Ok(matches!(outcome, Outcome::Done))
-    }
+/// Asks the node; whether it answers so.
+pub(crate) fn answers(
+    world: &mut World,
+    node: usize,
+    query: Query,
+    answer: &Answer,
+) -> Result<bool, AllocError> {
+    let outcome = step(world, Event::Lookup { node, query })?;
+    Ok(is_answered(&outcome, answer))
+}
 
-    /// Whether the node may be rebased; then it is.
-    pub(crate) fn rebase(&mut self, node: usize) -> Result<bool, AllocError> {
-        let outcome = self.world.step(&Event::Rebase(node))?;
-        Ok(matches!(outcome, Outcome::Done))
-    }
+/// Whether these records may be dropped at that floor; then they are.
+pub(crate) fn drops(
+    world: &mut World,
+    floor: u64,
+    dropped: Vec<Record>,
+) -> Result<bool, AllocError> {
+    let dropped = Listed::from(dropped);
+    let outcome = step(world, Event::CompactTo { floor, dropped })?;
+    Ok(is_done(&outcome))
+}
 
-    /// Whether the node may take these records; then it does.
-    pub(crate) fn take(&mut self, node: usize, records: Vec<Record>) -> Result<bool, AllocError> {
-        let event = Event::Take {
-            node,
-            records: Listed::from(records),
-        };
-        let outcome = self.world.step(&event)?;
-        Ok(matches!(outcome, Outcome::Done))
-    }
+/// Whether the node may be rebased; then it is.
+pub(crate) fn rebases(world: &mut World, node: usize) -> Result<bool, AllocError> {
+    let outcome = step(world, Event::Rebase(node))?;
+    Ok(is_done(&outcome))
+}
 
-    /// What the node answers, if it is there.
-    pub(crate) fn answer(
-        &mut self,
-        node: usize,
-        query: Query,
-    ) -> Result<Option<Answer>, AllocError> {
-        let event = Event::Lookup { node, query };
-        match self.world.step(&event)? {
-            Outcome::Answered(answer) => Ok(Some(answer)),
-            _ => Ok(None),
-        }
+/// Whether the node may take these records; then it does.
+pub(crate) fn takes(
+    world: &mut World,
+    node: usize,
+    records: Vec<Record>,
+) -> Result<bool, AllocError> {
+    let records = Listed::from(records);
+    let outcome = step(world, Event::Take { node, records })?;
+    Ok(is_done(&outcome))
+}
+
+fn step(world: &mut World, event: Event) -> Result<Outcome, AllocError> {
+    world.step(&event)
+}
+
+fn is_replied(alloc: Global, outcome: &Outcome, answer: &Answer) -> Result<bool, AllocError> {
+    match outcome {
+        Outcome::Replied(reply) => Ok(reply_answer(alloc, reply)? == *answer),
+        _ => Ok(false),
     }
 }
 
-/// The answer that a reply has.
-fn replied(alloc: Global, outcome: &Outcome) -> Result<Option<Answer>, AllocError> {
+fn is_answered(outcome: &Outcome, answer: &Answer) -> bool {
     match outcome {
-        Outcome::Replied(reply) => Ok(Some(reply_answer(alloc, reply)?)),
-        _ => Ok(None),
+        Outcome::Answered(answered) => answered == answer,
+        _ => false,
     }
+}
+
+fn is_done(outcome: &Outcome) -> bool {
+    matches!(outcome, Outcome::Done)
 }

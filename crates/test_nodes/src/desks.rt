@@ -3,11 +3,11 @@ ghost use Rattle.std.specs.Prelude.{◌≡◌, ◌≤◌};
 ghost use Rattle.std.specs.FinSet.{empty};
 
 use crate::nodes::{Asked, Node, Peer, make_node};
-use crate::source::read_kept;
-use crate::topics::Seats;
+use crate::runs::{Answers, Change, Row, Told, UNSEEN, command_of};
+use crate::topics::{Course, kept_records, reader_of};
 use base_text::Text;
 use reg_desk::{Gate, NodeDesk, Wake};
-use reg_feed::{Copies, FeedName, FeedReader, Seen, Unnamed};
+use reg_feed::{Copies, FeedName, Seen, Unnamed};
 use reg_http::{Desk, reply_answer};
 use reg_judge::Judge;
 use reg_leader::Command;
@@ -20,14 +20,12 @@ use reg_topic::Item;
 use std::alloc::{AllocError, Global};
 use std::hash::RandomState;
 use std::marker::Brand;
-use std::random::RandomSource;
 use std::sync::atomic::AtomicU64;
 use std::sync::{Mutex, Wait};
-use std::test::Fail;
 
 /// Lets each call pass.
 #[derive(Drop)]
-pub(crate) struct NoGate;
+struct NoGate;
 
 impl Gate for NoGate {
     fn before_answer(&self, _call: u64) {}
@@ -35,14 +33,14 @@ impl Gate for NoGate {
 
 /// Wakes nobody.
 #[derive(Drop)]
-pub(crate) struct NoWake;
+struct NoWake;
 
 impl Wake for NoWake {
     fn topic_grew(&self) {}
 }
 
 /// A desk, whatever its feeds are named.
-pub(crate) trait Worker: Asked {
+trait Worker: Asked {
     /// The answer that the reply has, and whether the desk is fresh then.
     fn work(&mut self, alloc: Global, command: &Command) -> Result<(Answer, bool), AllocError>;
 
@@ -57,8 +55,7 @@ impl<
     M: FeedName<Draw, Taken>,
     U: Copies<Draw, Taken, M>,
     R: Wait + Drop,
-    G: Gate,
-> Asked for NodeDesk<'a, N, S, MemoryAlone, M, U, R, G, NoWake> {
+> Asked for NodeDesk<'a, N, S, MemoryAlone, M, U, R, NoGate, NoWake> {
     fn answer_to(&mut self, alloc: Global, query: &Query) -> Result<Answer, AllocError> {
         self.ask(alloc, query)
     }
@@ -71,8 +68,7 @@ impl<
     M: FeedName<Draw, Taken>,
     U: Copies<Draw, Taken, M>,
     R: Wait + Drop,
-    G: Gate,
-> Worker for NodeDesk<'a, N, S, MemoryAlone, M, U, R, G, NoWake> {
+> Worker for NodeDesk<'a, N, S, MemoryAlone, M, U, R, NoGate, NoWake> {
     fn work(&mut self, alloc: Global, command: &Command) -> Result<(Answer, bool), AllocError> {
         let reply = self.command(command);
         let is_fresh = self.fresh();
@@ -85,128 +81,66 @@ impl<
     }
 }
 
-/// A judge for a desk.
-pub(crate) fn make_judge<R: RandomSource>(alloc: Global, rt: &R) -> Result<Judge, Fail> {
-    let keys = RandomState::new(rt)?;
-    Ok(Judge::new(alloc, keys, 16, 64)?)
+/// The commands of a row at a desk of the first node, and what comes of them.
+#[derive(Drop)]
+pub(crate) struct DeskRun<'x> {
+    pub(crate) row: &'x Row,
+    pub(crate) keys: RandomState,
+    /// What doesn't come out as the row says, if anything doesn't.
+    pub(crate) wrong: Option<&'static str>,
 }
 
-/// Does the commands at a desk of the first node, and asks the second one. It tells the replies, and then
-/// a line each: what was counted; what is kept; what the desk answers; what the second node does before
-/// it takes anything; how many takes it has then, and what it answers; what it does by a new view; and how
-/// many takes a node has that is made anew, and what it answers.
-pub(crate) fn run_desk<
-    'x,
+impl<'x> Course for DeskRun<'x> {
+    fn go<N: FeedName<Item, Shared>, S: Copies<Item, Shared, N>, R: Wait + Drop + Copy>(
+        &mut self,
+        alloc: Global,
+        rt: R,
+        pen: &Mutex<Pen<N, S, MemoryAlone, R>>,
+        pass: Pass<N>,
+    ) -> Result<(), AllocError> {
+        self.wrong = run_desk(alloc, rt, pen, pass, self.row, self.keys)?;
+        Ok(())
+    }
+}
+
+fn run_desk<N: FeedName<Item, Shared>, S: Copies<Item, Shared, N>, R: Wait + Drop + Copy>(
+    alloc: Global,
+    rt: R,
+    pen: &Mutex<Pen<N, S, MemoryAlone, R>>,
+    pass: Pass<N>,
+    row: &Row,
+    keys: RandomState,
+) -> Result<Option<&'static str>, AllocError>
+    requires { N.first.kept.floor ≤ N.first.next }
+{
+    with_second::<N, S, Brand, R>(alloc, rt, pen, pass, Unnamed::new(), row, keys)
+}
+
+/// Makes the second node, and lends it.
+fn with_second<
     N: FeedName<Item, Shared>,
     S: Copies<Item, Shared, N>,
-    L: FeedName<Draw, Taken>,
-    T: Copies<Draw, Taken, L>,
     M: FeedName<Draw, Taken>,
-    U: Copies<Draw, Taken, M>,
-    R: Wait + RandomSource + Drop + Copy,
+    R: Wait + Drop + Copy,
 >(
     alloc: Global,
     rt: R,
-    pen: &'x Mutex<Pen<N, S, MemoryAlone, R>>,
-    seats: Seats<N, S>,
-    first: Node<N, S, L, T, R>,
-    second: Node<N, S, M, U, R>,
-    commands: &[Command],
-) -> Result<String, Fail> {
-    let Seats {
-        pass,
-        topic,
-        readers,
-    } = seats;
-    let Node { follower, view } = first;
-    let follower = Mutex::new(follower);
-    let mut out = String::new(alloc);
-    let seen = at_desk(alloc, &rt, pen, &follower, pass, view, commands, &mut out)?;
-    drop(follower);
-    finish(alloc, rt, pen, topic, readers, second, seen, out)
-}
-
-/// Does the commands at a desk, and gives the topic's front of the last one.
-fn at_desk<
-    'a,
-    N: FeedName<Item, Shared>,
-    S: Copies<Item, Shared, N>,
-    M: FeedName<Draw, Taken>,
-    U: Copies<Draw, Taken, M>,
-    R: Wait + RandomSource + Drop,
->(
-    alloc: Global,
-    rt: &'a R,
-    pen: &'a Mutex<Pen<N, S, MemoryAlone, R>>,
-    follower: &'a Mutex<Follower<N, S, M, U, R>>,
+    pen: &Mutex<Pen<N, S, MemoryAlone, R>>,
     pass: Pass<N>,
-    view: View<M, U>,
-    commands: &[Command],
-    out: &mut String,
-) -> Result<Seen<Item, Shared, N>, Fail> {
-    let calls = AtomicU64::new(0);
-    let gate = NoGate;
-    let wake = NoWake;
-    let judge = make_judge(alloc, rt)?;
-    let mut desk = NodeDesk::new(rt, pen, follower, &gate, &wake, &calls, pass, view, judge);
-    do_commands(alloc, &mut desk, commands, out)?;
-    let seen = desk.seen().map(|seen| seen.again());
-    match seen {
-        Some(seen) => Ok(seen),
-        None => Err(Fail::from(AllocError)),
-    }
+    list: Unnamed<Draw>,
+    row: &Row,
+    keys: RandomState,
+) -> Result<Option<&'static str>, AllocError>
+    requires name { (list.reached.book ≡ M.book) × (M.first ≡ empty) }
+    requires floor { N.first.kept.floor ≤ N.first.next }
+{
+    let mut second = make_node::<N, S, M, R>(alloc, rt, pen, list)?;
+    wrong_part(alloc, rt, pen, pass, &mut second, row, keys)
 }
 
-/// Writes what the desk replies and answers.
-fn do_commands<D: Worker>(
-    alloc: Global,
-    desk: &mut D,
-    commands: &[Command],
-    out: &mut String,
-) -> Result<(), AllocError> {
-    for command in commands {
-        let (answer, is_fresh) = desk.work(alloc, command)?;
-        let fresh = if is_fresh { "fresh" } else { "not fresh" };
-        write!(out, "{} {fresh}\n", answer.body.as_str())?;
-    }
-    let submits = desk.submitted();
-    write!(out, "{submits} submits\n")?;
-    write_answers(alloc, desk, out)
-}
-
-/// Writes the answers for the versions of `t` and for the level for all.
-fn write_answers<A: Asked>(
-    alloc: Global,
-    asked: &mut A,
-    out: &mut String,
-) -> Result<(), AllocError> {
-    let versions = Query::Versions {
-        subject: Text::copy_of(alloc, "t")?,
-        deleted: false,
-    };
-    let level = Query::Level {
-        subject: None,
-        default_global: false,
-    };
-    write_answer(alloc, asked, &versions, out)?;
-    out.push(' ')?;
-    write_answer(alloc, asked, &level, out)?;
-    out.push('\n')?;
-    Ok(())
-}
-
-fn write_answer<A: Asked>(
-    alloc: Global,
-    asked: &mut A,
-    query: &Query,
-    out: &mut String,
-) -> Result<(), AllocError> {
-    let answer = asked.answer_to(alloc, query)?;
-    write!(out, "{} {}", answer.status, answer.body.as_str())
-}
-
-/// Adds what comes after the desk.
-fn finish<
+/// Does the commands at a desk of the first node; then looks at what is kept, asks the second node, and one
+/// that is made then. Gives what doesn't come out as the row says.
+fn wrong_part<
     N: FeedName<Item, Shared>,
     S: Copies<Item, Shared, N>,
     M: FeedName<Draw, Taken>,
@@ -216,22 +150,188 @@ fn finish<
     alloc: Global,
     rt: R,
     pen: &Mutex<Pen<N, S, MemoryAlone, R>>,
-    topic: FeedReader<Item, Shared, N, S>,
-    readers: Vec<FeedReader<Item, Shared, N, S>>,
-    second: Node<N, S, M, U, R>,
-    seen: Seen<Item, Shared, N>,
-    out: String,
-) -> Result<String, Fail>
+    pass: Pass<N>,
+    second: &mut Node<N, S, M, U, R>,
+    row: &Row,
+    keys: RandomState,
+) -> Result<Option<&'static str>, AllocError>
     requires { N.first.kept.floor ≤ N.first.next }
 {
-    let mut out = out;
-    let batches = batches_of(&rt, pen);
-    write_kept(topic, batches, &mut out)?;
-    catch_up(alloc, second, seen, &mut out)?;
-    add_anew(alloc, rt, readers, out)
+    let found = with_first::<N, S, Brand, R>(alloc, rt, pen, pass, Unnamed::new(), row, keys)?;
+    let Some(seen) = found else {
+        return Ok(Some("the desk"));
+    };
+    if !catches_up(alloc, second, &seen, row)? {
+        return Ok(Some("the second node"));
+    }
+    if !is_kept(&rt, pen, row)? {
+        return Ok(Some("what is kept"));
+    }
+    if !by_another::<N, S, Brand, R>(alloc, rt, pen, Unnamed::new(), row)? {
+        return Ok(Some("a node made anew"));
+    }
+    Ok(None)
 }
 
-/// How many batches were published.
+/// Makes the first node, and does the commands at a desk of it. Gives the topic's front of the last one,
+/// where all comes out as the row says.
+fn with_first<
+    N: FeedName<Item, Shared>,
+    S: Copies<Item, Shared, N>,
+    M: FeedName<Draw, Taken>,
+    R: Wait + Drop + Copy,
+>(
+    alloc: Global,
+    rt: R,
+    pen: &Mutex<Pen<N, S, MemoryAlone, R>>,
+    pass: Pass<N>,
+    list: Unnamed<Draw>,
+    row: &Row,
+    keys: RandomState,
+) -> Result<Option<Seen<Item, Shared, N>>, AllocError>
+    requires name { (list.reached.book ≡ M.book) × (M.first ≡ empty) }
+    requires floor { N.first.kept.floor ≤ N.first.next }
+{
+    let Node { follower, view } = make_node::<N, S, M, R>(alloc, rt, pen, list)?;
+    let follower = Mutex::new(follower);
+    at_desk(alloc, &rt, pen, &follower, pass, view, row, keys)
+}
+
+fn at_desk<
+    'a,
+    N: FeedName<Item, Shared>,
+    S: Copies<Item, Shared, N>,
+    M: FeedName<Draw, Taken>,
+    U: Copies<Draw, Taken, M>,
+    R: Wait + Drop,
+>(
+    alloc: Global,
+    rt: &'a R,
+    pen: &'a Mutex<Pen<N, S, MemoryAlone, R>>,
+    follower: &'a Mutex<Follower<N, S, M, U, R>>,
+    pass: Pass<N>,
+    view: View<M, U>,
+    row: &Row,
+    keys: RandomState,
+) -> Result<Option<Seen<Item, Shared, N>>, AllocError> {
+    let calls = AtomicU64::new(0);
+    let gate = NoGate;
+    let wake = NoWake;
+    let judge = make_judge(alloc, keys)?;
+    let mut desk = NodeDesk::new(rt, pen, follower, &gate, &wake, &calls, pass, view, judge);
+    done_at(alloc, &mut desk, row)
+}
+
+fn make_judge(alloc: Global, keys: RandomState) -> Result<Judge, AllocError> {
+    match Judge::new(alloc, keys, 16, 64) {
+        Ok(judge) => Ok(judge),
+        Err(_) => Err(AllocError),
+    }
+}
+
+/// Does the commands at the desk, which is lent, so that it hasn't to be dropped on the way.
+fn done_at<
+    'a,
+    N: FeedName<Item, Shared>,
+    S: Copies<Item, Shared, N>,
+    M: FeedName<Draw, Taken>,
+    U: Copies<Draw, Taken, M>,
+    R: Wait + Drop,
+>(
+    alloc: Global,
+    desk: &mut NodeDesk<'a, N, S, MemoryAlone, M, U, R, NoGate, NoWake>,
+    row: &Row,
+) -> Result<Option<Seen<Item, Shared, N>>, AllocError> {
+    if !desk_holds(alloc, desk, row)? {
+        return Ok(None);
+    }
+    match desk.seen() {
+        Some(seen) => Ok(Some(seen.again())),
+        None => Ok(None),
+    }
+}
+
+/// Whether the desk replies, submits and answers as the row says.
+fn desk_holds<D: Worker>(alloc: Global, desk: &mut D, row: &Row) -> Result<bool, AllocError> {
+    for _time in 0..row.times {
+        if !all_replied(alloc, desk, row.commands)? {
+            return Ok(false);
+        }
+    }
+    Ok(desk.submitted() == row.submits && answers_hold(alloc, desk, &row.answers)?)
+}
+
+fn all_replied<D: Worker>(
+    alloc: Global,
+    desk: &mut D,
+    commands: &[(Change, &str)],
+) -> Result<bool, AllocError> {
+    for (change, reply) in commands {
+        if !is_replied(alloc, desk, &command_of(alloc, change)?, reply)? {
+            return Ok(false);
+        }
+    }
+    Ok(true)
+}
+
+/// Whether that is replied to the command, and the desk is fresh then.
+fn is_replied<D: Worker>(
+    alloc: Global,
+    desk: &mut D,
+    command: &Command,
+    reply: &str,
+) -> Result<bool, AllocError> {
+    let (answer, is_fresh) = desk.work(alloc, command)?;
+    Ok(is_fresh && answer.body.as_str() == reply)
+}
+
+/// Whether it answers so for the versions of `t` and for the level for all.
+fn answers_hold<A: Asked>(
+    alloc: Global,
+    asked: &mut A,
+    answers: &Answers,
+) -> Result<bool, AllocError> {
+    let is_same = versions_hold(alloc, asked, answers.versions)?;
+    Ok(is_same && level_holds(alloc, asked, answers.level)?)
+}
+
+fn versions_hold<A: Asked>(alloc: Global, asked: &mut A, told: Told) -> Result<bool, AllocError> {
+    let versions = Query::Versions {
+        subject: Text::copy_of(alloc, "t")?,
+        deleted: false,
+    };
+    is_told(alloc, asked, &versions, told)
+}
+
+fn level_holds<A: Asked>(alloc: Global, asked: &mut A, told: Told) -> Result<bool, AllocError> {
+    let level = Query::Level {
+        subject: None,
+        default_global: false,
+    };
+    is_told(alloc, asked, &level, told)
+}
+
+fn is_told<A: Asked>(
+    alloc: Global,
+    asked: &mut A,
+    query: &Query,
+    told: Told,
+) -> Result<bool, AllocError> {
+    let answer = asked.answer_to(alloc, query)?;
+    Ok(answer.status == told.0 && answer.body.as_str() == told.1)
+}
+
+/// Whether there were so many batches, and those records are kept.
+fn is_kept<N: FeedName<Item, Shared>, S: Copies<Item, Shared, N>, R: Wait + Drop>(
+    rt: &R,
+    pen: &Mutex<Pen<N, S, MemoryAlone, R>>,
+    row: &Row,
+) -> Result<bool, AllocError> {
+    let mut topic = reader_of(rt, pen)?;
+    let records = kept_records(&mut topic)?;
+    Ok(batches_of(rt, pen) == row.batches && extent_of(&records) == row.kept)
+}
+
 fn batches_of<N: FeedName<Item, Shared>, S: Copies<Item, Shared, N>, R: Wait + Drop>(
     rt: &R,
     pen: &Mutex<Pen<N, S, MemoryAlone, R>>,
@@ -240,30 +340,17 @@ fn batches_of<N: FeedName<Item, Shared>, S: Copies<Item, Shared, N>, R: Wait + D
     pen.batches()
 }
 
-/// Writes how many batches there were, and which records are kept.
-fn write_kept<N: FeedName<Item, Shared>, S: Copies<Item, Shared, N>>(
-    topic: FeedReader<Item, Shared, N, S>,
-    batches: u64,
-    out: &mut String,
-) -> Result<(), AllocError> {
-    let mut topic = topic;
-    let records = read_kept(&mut topic)?;
-    write_records(&records, batches, out)
-}
-
-fn write_records(records: &[Record], batches: u64, out: &mut String) -> Result<(), AllocError> {
-    let first = records.first().map(|record| record.offset).unwrap_or(0);
-    let last = records.last().map(|record| record.offset).unwrap_or(0);
-    write!(
-        out,
-        "{batches} batches, {} kept from {first} to {last}\n",
-        records.len()
-    )
+/// How many records there are, and the offsets of the first and the last one.
+fn extent_of(records: &[Record]) -> (usize, u64, u64) {
+    match (records.first(), records.last()) {
+        (Some(first), Some(last)) => (records.len(), first.offset, last.offset),
+        _ => (0, 0, 0),
+    }
 }
 
 /// Asks the node before it takes anything, once it took what begins with the front, and by a view made
-/// anew.
-fn catch_up<
+/// anew; whether it answers so.
+fn catches_up<
     N: FeedName<Item, Shared>,
     S: Copies<Item, Shared, N>,
     M: FeedName<Draw, Taken>,
@@ -271,47 +358,29 @@ fn catch_up<
     R: Wait + Drop,
 >(
     alloc: Global,
-    node: Node<N, S, M, U, R>,
-    seen: Seen<Item, Shared, N>,
-    out: &mut String,
-) -> Result<(), AllocError> {
-    let mut node = node;
-    write_answers(alloc, &mut node, out)?;
-    node.learn(&seen);
-    take_all(alloc, &mut node, out)?;
-    renew(alloc, &mut node, out)
+    node: &mut Node<N, S, M, U, R>,
+    seen: &Seen<Item, Shared, N>,
+    row: &Row,
+) -> Result<bool, AllocError> {
+    let is_unseen = answers_hold(alloc, node, &UNSEEN)?;
+    node.follower.learn(seen);
+    Ok(is_unseen && takes_all(alloc, node, row)? && holds_anew(alloc, node, row)?)
 }
 
-/// Writes how many takes the node has once it took what is new, and asks it.
-fn take_all<A: Peer>(alloc: Global, node: &mut A, out: &mut String) -> Result<(), AllocError> {
+/// Whether the node has so many takes once it took what is new, and answers so.
+fn takes_all<A: Peer>(alloc: Global, node: &mut A, row: &Row) -> Result<bool, AllocError> {
     let takes = node.take()?;
-    write!(out, "{takes} takes\n")?;
-    write_answers(alloc, node, out)
+    Ok(takes == row.takes && answers_hold(alloc, node, &row.answers)?)
 }
 
-/// Asks the node by a view made anew.
-fn renew<A: Peer>(alloc: Global, node: &mut A, out: &mut String) -> Result<(), AllocError> {
+/// Whether the node answers so by a view made anew.
+fn holds_anew<A: Peer>(alloc: Global, node: &mut A, row: &Row) -> Result<bool, AllocError> {
     node.renew()?;
-    write_answers(alloc, node, out)
+    answers_hold(alloc, node, &row.answers)
 }
 
-/// Adds what a node answers that is made now.
-fn add_anew<N: FeedName<Item, Shared>, S: Copies<Item, Shared, N>, R: Wait + Drop + Copy>(
-    alloc: Global,
-    rt: R,
-    readers: Vec<FeedReader<Item, Shared, N, S>>,
-    out: String,
-) -> Result<String, Fail>
-    requires { N.first.kept.floor ≤ N.first.next }
-{
-    let mut out = out;
-    let anew = make_anew::<N, S, Brand, R>(alloc, rt, readers, Unnamed::new())?;
-    out.push_str(anew.as_str())?;
-    Ok(out)
-}
-
-/// What a node answers that is made now, once it took all that is kept.
-fn make_anew<
+/// Whether a node that is made now has so many takes once it took all that is kept, and answers so.
+fn by_another<
     N: FeedName<Item, Shared>,
     S: Copies<Item, Shared, N>,
     M: FeedName<Draw, Taken>,
@@ -319,15 +388,13 @@ fn make_anew<
 >(
     alloc: Global,
     rt: R,
-    readers: Vec<FeedReader<Item, Shared, N, S>>,
+    pen: &Mutex<Pen<N, S, MemoryAlone, R>>,
     list: Unnamed<Draw>,
-) -> Result<String, Fail>
+    row: &Row,
+) -> Result<bool, AllocError>
     requires name { (list.reached.book ≡ M.book) × (M.first ≡ empty) }
     requires floor { N.first.kept.floor ≤ N.first.next }
 {
-    let mut readers = readers;
-    let mut out = String::new(alloc);
-    let mut node = make_node::<N, S, M, R>(alloc, rt, &mut readers, list)?;
-    take_all(alloc, &mut node, &mut out)?;
-    Ok(out)
+    let mut node = make_node::<N, S, M, R>(alloc, rt, pen, list)?;
+    takes_all(alloc, &mut node, row)
 }

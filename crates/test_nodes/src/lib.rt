@@ -6,6 +6,8 @@ mod beside;
 #[cfg(test)]
 mod desks;
 #[cfg(test)]
+mod drawn;
+#[cfg(test)]
 mod nodes;
 #[cfg(test)]
 mod random;

@@ -1,14 +1,16 @@
 // A node of one view, and what tests do with it.
-ghost use Rattle.std.specs.Prelude.{◌≡◌, ◌≤◌};
+ghost use Rattle.std.specs.Prelude.{◌≡◌, ◌≤◌, [], IfOk};
 ghost use Rattle.std.specs.FinSet.{empty};
 
-use reg_feed::{Copies, FeedName, FeedReader, Seen, Stored, Unnamed, feed};
+use crate::topics::reader_of;
+use reg_feed::{Copies, FeedName, FeedWriter, Stored, Unnamed, feed};
 use reg_lookup::{Answer, Query};
 use reg_node::{Draw, Follower, Taken, View};
+use reg_pen::{MemoryAlone, Pen};
 use reg_shared::Shared;
 use reg_topic::Item;
 use std::alloc::{AllocError, Global};
-use std::sync::Wait;
+use std::sync::{Mutex, Wait};
 
 /// What answers queries.
 pub(crate) trait Asked {
@@ -37,41 +39,52 @@ pub(crate) struct Node<
     pub(crate) view: View<M, U>,
 }
 
-/// A node that has taken nothing. It takes from one of the readers.
-pub(crate) fn make_node<
-    N: FeedName<Item, Shared>,
-    S: Copies<Item, Shared, N>,
-    M: FeedName<Draw, Taken>,
-    R: Wait + Drop,
->(
+fn make_out<M: FeedName<Draw, Taken>, R: Wait + Drop>(
     alloc: Global,
     rt: R,
-    readers: &mut Vec<FeedReader<Item, Shared, N, S>>,
     list: Unnamed<Draw>,
-) -> Result<Node<N, S, M, Stored<Draw, Taken, M>, R>, AllocError>
-    requires name { (list.reached.book ≡ M.book) × (M.first ≡ empty) }
-    requires floor { N.first.kept.floor ≤ N.first.next }
+) -> Result<Box<FeedWriter<Draw, Taken, M, Stored<Draw, Taken, M>, R>>, AllocError>
+    requires { (list.reached.book ≡ M.book) × (M.first ≡ empty) }
+    ensures { IfOk result (λ out. out.value ≡ ([], [])) }
 {
-    let topic = readers.pop().ok_or(AllocError)?;
     let out = feed::<Draw, Taken, M, R>(rt, alloc, list, Taken::new(alloc), 2)?;
-    let mut follower = Follower::new(topic, Box::new(alloc, out)?);
-    let Ok(view) = follower.view() else {
-        return Err(AllocError);
-    };
-    Ok(Node { follower, view })
+    Ok(Box::new(alloc, out)?)
 }
 
-impl<
+/// A view that is made anew.
+fn view_of<
     N: FeedName<Item, Shared>,
     S: Copies<Item, Shared, N>,
     M: FeedName<Draw, Taken>,
     U: Copies<Draw, Taken, M>,
     R: Wait + Drop,
-> Node<N, S, M, U, R> {
-    /// Its next take is from a list of the topic that begins with that front.
-    pub(crate) fn learn(&mut self, seen: &Seen<Item, Shared, N>) {
-        self.follower.learn(seen);
+>(follower: &mut Follower<N, S, M, U, R>) -> Result<View<M, U>, AllocError> {
+    match follower.view() {
+        Ok(view) => Ok(view),
+        Err(_) => Err(AllocError),
     }
+}
+
+/// A node that has taken nothing.
+pub(crate) fn make_node<
+    N: FeedName<Item, Shared>,
+    S: Copies<Item, Shared, N>,
+    M: FeedName<Draw, Taken>,
+    R: Wait + Drop + Copy,
+>(
+    alloc: Global,
+    rt: R,
+    pen: &Mutex<Pen<N, S, MemoryAlone, R>>,
+    list: Unnamed<Draw>,
+) -> Result<Node<N, S, M, Stored<Draw, Taken, M>, R>, AllocError>
+    requires name { (list.reached.book ≡ M.book) × (M.first ≡ empty) }
+    requires floor { N.first.kept.floor ≤ N.first.next }
+{
+    let topic = reader_of(&rt, pen)?;
+    let out = make_out::<M, R>(alloc, rt, list)?;
+    let mut follower = Follower::new(topic, out);
+    let view = view_of(&mut follower)?;
+    Ok(Node { follower, view })
 }
 
 impl<
@@ -101,10 +114,7 @@ impl<
     }
 
     fn renew(&mut self) -> Result<(), AllocError> {
-        let Ok(view) = self.follower.view() else {
-            return Err(AllocError);
-        };
-        self.view = view;
+        self.view = view_of(&mut self.follower)?;
         Ok(())
     }
 }

@@ -1,21 +1,20 @@
 // Commands, compactions, takes and lookups that are drawn, at three nodes and in a world beside them.
-use crate::beside::Beside;
-use crate::nodes::{Node, Peer};
+ghost use Rattle.std.specs.Prelude.{◌≡◌, ◌≤◌};
+ghost use Rattle.std.specs.FinSet.{empty};
+
+use crate::beside::{answers, drops, rebases, replies, start_world, takes};
+use crate::drawn::{drawn_command, drawn_query};
+use crate::nodes::{Node, Peer, make_node};
 use crate::source::{Source, Writing};
-use crate::topics::{Seats, Task, run};
-use base_text::Text;
-use reg_feed::{Copies, FeedName};
-use reg_fold::VersionRef;
-use reg_leader::Command;
-use reg_level_names::Level;
-use reg_lookup::Query;
-use reg_modes::Mode;
+use crate::topics::{Course, go_through, reader_of};
+use reg_feed::{Copies, FeedName, Stored, Unnamed};
 use reg_node::{Draw, Taken};
-use reg_pen::{MemoryAlone, Pen};
-use reg_records::Log;
+use reg_pen::{MemoryAlone, Pass, Pen};
 use reg_shared::Shared;
 use reg_topic::Item;
+use reg_world::World;
 use std::alloc::{AllocError, Global};
+use std::marker::Brand;
 use std::sync::{Mutex, Wait};
 use std::test::Fail;
 use test_tools::Draws;
@@ -26,128 +25,26 @@ const TOPICS: u64 = 20;
 /// How much happens in each.
 const STEPS: u64 = 500;
 
-static SUBJECTS: [&str; 3] = ["r", "s", "t"];
-
-static SCHEMAS: [&str; 5] = [
-    "\"int\"",
-    "\"long\"",
-    "\"double\"",
-    "\"string\"",
-    "{\"type\":\"record\",\"name\":\"R\",\"fields\":[]}",
-];
-
-fn drawn(alloc: Global, texts: &[&str], draws: &mut Draws) -> Result<Text, AllocError> {
-    let place = draws.place(texts.len());
-    Text::copy_of(alloc, texts.get(place).copied().unwrap_or(""))
-}
-
-fn drawn_version(draws: &mut Draws) -> VersionRef {
-    if draws.below(2) == 0 {
-        VersionRef::Latest
-    } else {
-        VersionRef::Number(draws.number(4))
-    }
-}
-
-fn drawn_command(alloc: Global, draws: &mut Draws) -> Result<Command, AllocError> {
-    let text = drawn(alloc, &SCHEMAS, draws)?;
-    let subject = drawn(alloc, &SUBJECTS, draws)?;
-    Ok(command_on(subject, text, draws))
-}
-
-fn command_on(subject: Text, text: Text, draws: &mut Draws) -> Command {
-    let switch = draws.below(2) == 0;
-    match draws.below(12) {
-        0 | 1 => Command::DeleteVersion {
-            subject,
-            version: VersionRef::Latest,
-            permanent: false,
-        },
-        2 => Command::DeleteVersion {
-            subject,
-            version: VersionRef::Number(draws.number(4)),
-            permanent: switch,
-        },
-        3 => Command::DeleteSubject {
-            subject,
-            permanent: switch,
-        },
-        4 => Command::SetLevel {
-            subject: Some(subject),
-            level: if switch { Level::None } else { Level::Full },
-        },
-        5 => Command::SetMode {
-            subject: Some(subject),
-            mode: if draws.below(4) == 0 {
-                Mode::Readonly
-            } else {
-                Mode::Readwrite
-            },
-            force: switch,
-        },
-        6 => Command::ClearLevel(subject),
-        _ => Command::Register { subject, text },
-    }
-}
-
-fn drawn_query(alloc: Global, draws: &mut Draws) -> Result<Query, AllocError> {
-    let text = drawn(alloc, &SCHEMAS, draws)?;
-    let subject = drawn(alloc, &SUBJECTS, draws)?;
-    Ok(query_on(subject, text, draws))
-}
-
-fn query_on(subject: Text, text: Text, draws: &mut Draws) -> Query {
-    let deleted = draws.below(2) == 0;
-    match draws.below(7) {
-        0 => Query::SchemaById {
-            id: draws.number(8),
-        },
-        1 => Query::Versions { subject, deleted },
-        2 => Query::Version {
-            subject,
-            version: drawn_version(draws),
-            deleted,
-        },
-        3 => Query::Subjects { deleted },
-        4 => Query::Level {
-            subject: Some(subject),
-            default_global: deleted,
-        },
-        5 => Query::Check {
-            subject,
-            version: None,
-            text,
-            verbose: deleted,
-        },
-        _ => Query::Lookup {
-            subject,
-            text,
-            deleted,
-        },
-    }
-}
-
 /// Submits a command; whether the answer is that of the world.
 fn submit<P: Source>(
     alloc: Global,
     draws: &mut Draws,
     source: &mut P,
-    beside: &mut Beside,
+    world: &mut World,
 ) -> Result<bool, AllocError> {
     let command = drawn_command(alloc, draws)?;
-    let found = source.submit(alloc, &command)?;
-    let expected = beside.command(alloc, command)?;
-    Ok(expected == Some(found))
+    let answer = source.submit(alloc, &command)?;
+    replies(alloc, world, command, &answer)
 }
 
 /// Publishes a compaction; whether the world allows it.
 fn compact<P: Source>(
     draws: &mut Draws,
     source: &mut P,
-    beside: &mut Beside,
+    world: &mut World,
 ) -> Result<bool, AllocError> {
     let (floor, dropped) = source.compact(draws.below(2) == 0)?;
-    beside.compact(floor, dropped)
+    drops(world, floor, dropped)
 }
 
 /// Lets the node draw what is new, where in the world it is rebased and takes all that is kept; whether
@@ -156,12 +53,11 @@ fn take<P: Source, A: Peer>(
     source: &mut P,
     node: &mut A,
     place: usize,
-    beside: &mut Beside,
+    world: &mut World,
 ) -> Result<bool, AllocError> {
     let _takes = node.take()?;
-    let kept = source.kept()?;
-    let may_rebase = beside.rebase(place)?;
-    let may_take = beside.take(place, kept)?;
+    let may_rebase = rebases(world, place)?;
+    let may_take = takes(world, place, source.kept()?)?;
     Ok(may_rebase && may_take)
 }
 
@@ -171,12 +67,11 @@ fn ask<A: Peer>(
     draws: &mut Draws,
     node: &mut A,
     place: usize,
-    beside: &mut Beside,
+    world: &mut World,
 ) -> Result<bool, AllocError> {
     let query = drawn_query(alloc, draws)?;
-    let found = node.answer_to(alloc, &query)?;
-    let expected = beside.answer(place, query)?;
-    Ok(expected == Some(found))
+    let answer = node.answer_to(alloc, &query)?;
+    answers(world, place, query, &answer)
 }
 
 /// Lets the node take what is new, or makes its view anew, or neither, and asks it; whether all is as in
@@ -187,17 +82,17 @@ fn visit<P: Source, A: Peer>(
     source: &mut P,
     node: &mut A,
     place: usize,
-    beside: &mut Beside,
+    world: &mut World,
 ) -> Result<bool, AllocError> {
     let may_take = match draws.below(5) {
-        0 | 1 => take(source, node, place, beside)?,
+        0 | 1 => take(source, node, place, world)?,
         2 => {
             node.renew()?;
             true
         }
         _ => true,
     };
-    let is_same = ask(alloc, draws, node, place, beside)?;
+    let is_same = ask(alloc, draws, node, place, world)?;
     Ok(may_take && is_same)
 }
 
@@ -209,18 +104,18 @@ fn step<P: Source, A: Peer, B: Peer, C: Peer>(
     first: &mut A,
     second: &mut B,
     third: &mut C,
-    beside: &mut Beside,
+    world: &mut World,
 ) -> Result<bool, AllocError> {
     match draws.below(13) {
-        0 => compact(draws, source, beside),
-        1 | 2 => visit(alloc, draws, source, first, 0, beside),
-        3 | 4 => visit(alloc, draws, source, second, 1, beside),
-        5 | 6 => visit(alloc, draws, source, third, 2, beside),
-        _ => submit(alloc, draws, source, beside),
+        0 => compact(draws, source, world),
+        1 | 2 => visit(alloc, draws, source, first, 0, world),
+        3 | 4 => visit(alloc, draws, source, second, 1, world),
+        5 | 6 => visit(alloc, draws, source, third, 2, world),
+        _ => submit(alloc, draws, source, world),
     }
 }
 
-/// The first step that comes out otherwise than in the world; nothing where none does.
+/// The first step that comes out otherwise than in the world, if there is one.
 fn drive<P: Source, A: Peer, B: Peer, C: Peer>(
     alloc: Global,
     seed: u64,
@@ -228,88 +123,183 @@ fn drive<P: Source, A: Peer, B: Peer, C: Peer>(
     first: &mut A,
     second: &mut B,
     third: &mut C,
-    beside: &mut Beside,
-) -> Result<String, AllocError> {
+    world: &mut World,
+) -> Result<Option<u64>, AllocError> {
     let mut draws = Draws::new(seed);
-    let mut out = String::new(alloc);
     for count in 0..STEPS {
-        let is_same = step(alloc, &mut draws, source, first, second, third, beside)?;
-        if !is_same {
-            write!(out, "topic {seed}, step {count}")?;
-            return Ok(out);
+        if !step(alloc, &mut draws, source, first, second, third, world)? {
+            return Ok(Some(count));
         }
     }
-    Ok(out)
+    Ok(None)
 }
 
-/// The first step of that topic that comes out otherwise than in a world.
-pub(crate) fn run_draws<
-    'x,
-    N: FeedName<Item, Shared>,
-    S: Copies<Item, Shared, N>,
-    L: FeedName<Draw, Taken>,
-    T: Copies<Draw, Taken, L>,
-    M: FeedName<Draw, Taken>,
-    U: Copies<Draw, Taken, M>,
-    O: FeedName<Draw, Taken>,
-    V: Copies<Draw, Taken, O>,
-    R: Wait + Drop,
->(
+/// What is drawn in a topic from that number on.
+#[derive(Drop)]
+struct DrawnRun<'x> {
+    seed: u64,
+    world: &'x mut World,
+    /// The first step that comes out otherwise than in the world, if there is one.
+    wrong: Option<u64>,
+}
+
+impl<'x> Course for DrawnRun<'x> {
+    fn go<N: FeedName<Item, Shared>, S: Copies<Item, Shared, N>, R: Wait + Drop + Copy>(
+        &mut self,
+        alloc: Global,
+        rt: R,
+        pen: &Mutex<Pen<N, S, MemoryAlone, R>>,
+        pass: Pass<N>,
+    ) -> Result<(), AllocError> {
+        self.wrong = in_topic(alloc, rt, pen, pass, self.seed, self.world)?;
+        Ok(())
+    }
+}
+
+fn in_topic<N: FeedName<Item, Shared>, S: Copies<Item, Shared, N>, R: Wait + Drop + Copy>(
     alloc: Global,
     rt: R,
-    pen: &'x Mutex<Pen<N, S, MemoryAlone, R>>,
-    seats: Seats<N, S>,
-    first: Node<N, S, L, T, R>,
-    second: Node<N, S, M, U, R>,
-    third: Node<N, S, O, V, R>,
-    base: &Log,
+    pen: &Mutex<Pen<N, S, MemoryAlone, R>>,
+    pass: Pass<N>,
     seed: u64,
-) -> Result<String, Fail> {
-    let mut first = first;
-    let mut second = second;
-    let mut third = third;
-    let Seats {
-        pass,
-        topic,
-        readers,
-    } = seats;
-    drop(readers);
+    world: &mut World,
+) -> Result<Option<u64>, AllocError>
+    requires { N.first.kept.floor ≤ N.first.next }
+{
+    let topic = reader_of(&rt, pen)?;
     let mut source = Writing {
         rt,
         pen,
         pass,
         topic,
     };
-    drive_beside(
+    with_first::<N, S, Brand, R, Writing<N, S, R>>(
         alloc,
-        seed,
+        rt,
+        pen,
+        Unnamed::new(),
         &mut source,
-        &mut first,
-        &mut second,
-        &mut third,
-        base,
+        seed,
+        world,
     )
 }
 
-fn drive_beside<P: Source, A: Peer, B: Peer, C: Peer>(
+fn with_first<
+    N: FeedName<Item, Shared>,
+    S: Copies<Item, Shared, N>,
+    L: FeedName<Draw, Taken>,
+    R: Wait + Drop + Copy,
+    P: Source,
+>(
     alloc: Global,
+    rt: R,
+    pen: &Mutex<Pen<N, S, MemoryAlone, R>>,
+    list: Unnamed<Draw>,
+    source: &mut P,
     seed: u64,
+    world: &mut World,
+) -> Result<Option<u64>, AllocError>
+    requires name { (list.reached.book ≡ L.book) × (L.first ≡ empty) }
+    requires floor { N.first.kept.floor ≤ N.first.next }
+{
+    let mut first = make_node::<N, S, L, R>(alloc, rt, pen, list)?;
+    with_second::<N, S, Brand, R, P, Node<N, S, L, Stored<Draw, Taken, L>, R>>(
+        alloc,
+        rt,
+        pen,
+        Unnamed::new(),
+        source,
+        &mut first,
+        seed,
+        world,
+    )
+}
+
+fn with_second<
+    N: FeedName<Item, Shared>,
+    S: Copies<Item, Shared, N>,
+    M: FeedName<Draw, Taken>,
+    R: Wait + Drop + Copy,
+    P: Source,
+    A: Peer,
+>(
+    alloc: Global,
+    rt: R,
+    pen: &Mutex<Pen<N, S, MemoryAlone, R>>,
+    list: Unnamed<Draw>,
+    source: &mut P,
+    first: &mut A,
+    seed: u64,
+    world: &mut World,
+) -> Result<Option<u64>, AllocError>
+    requires name { (list.reached.book ≡ M.book) × (M.first ≡ empty) }
+    requires floor { N.first.kept.floor ≤ N.first.next }
+{
+    let mut second = make_node::<N, S, M, R>(alloc, rt, pen, list)?;
+    with_third::<N, S, Brand, R, P, A, Node<N, S, M, Stored<Draw, Taken, M>, R>>(
+        alloc,
+        rt,
+        pen,
+        Unnamed::new(),
+        source,
+        first,
+        &mut second,
+        seed,
+        world,
+    )
+}
+
+fn with_third<
+    N: FeedName<Item, Shared>,
+    S: Copies<Item, Shared, N>,
+    O: FeedName<Draw, Taken>,
+    R: Wait + Drop + Copy,
+    P: Source,
+    A: Peer,
+    B: Peer,
+>(
+    alloc: Global,
+    rt: R,
+    pen: &Mutex<Pen<N, S, MemoryAlone, R>>,
+    list: Unnamed<Draw>,
     source: &mut P,
     first: &mut A,
     second: &mut B,
-    third: &mut C,
-    base: &Log,
-) -> Result<String, Fail> {
-    let mut beside = Beside::over(alloc, base)?;
-    Ok(drive(alloc, seed, source, first, second, third, &mut beside)?)
+    seed: u64,
+    world: &mut World,
+) -> Result<Option<u64>, AllocError>
+    requires name { (list.reached.book ≡ O.book) × (O.first ≡ empty) }
+    requires floor { N.first.kept.floor ≤ N.first.next }
+{
+    let mut third = make_node::<N, S, O, R>(alloc, rt, pen, list)?;
+    drive(alloc, seed, source, first, second, &mut third, world)
+}
+
+/// The first step of that topic that comes out otherwise than in a world.
+fn wrong_step<R: Wait + Drop + Copy>(alloc: Global, rt: R, seed: u64) -> Result<Option<u64>, Fail> {
+    let mut world = start_world(alloc)?;
+    wrong_beside(alloc, rt, seed, &mut world)
+}
+
+fn wrong_beside<R: Wait + Drop + Copy>(
+    alloc: Global,
+    rt: R,
+    seed: u64,
+    world: &mut World,
+) -> Result<Option<u64>, Fail> {
+    let mut run = DrawnRun {
+        seed,
+        world,
+        wrong: None,
+    };
+    go_through(alloc, rt, &mut run)?;
+    Ok(run.wrong)
 }
 
 #[test]
 fn nodes_answer_as_a_world_does(rt: HostRuntime) -> Result<(), Fail> {
     for topic in 0..TOPICS {
-        let task = Task::Draws(topic);
-        let other = run(rt.alloc(), &rt, &task)?;
-        assert_eq!(rt; other.as_str(), "");
+        assert_eq!(rt; (topic, wrong_step(rt.alloc(), &rt, topic)?), (topic, None));
     }
     Ok(())
 }

@@ -1,155 +1,199 @@
 // Runs of commands at a desk, and what comes of them.
-use crate::topics::{Task, run};
+use crate::desks::DeskRun;
+use crate::topics::go_through;
 use base_text::Text;
 use reg_leader::Command;
 use reg_level_names::Level;
 use std::alloc::{AllocError, Global};
-use std::random::RandomSource;
+use std::hash::RandomState;
 use std::sync::Wait;
 use std::test::Fail;
 
-/// Commands that are done time after time, and what comes of them.
-struct Row {
-    /// A subject with the text of a schema to register, or `level` with the one to set for all.
-    commands: &'static str,
-    times: u32,
-    /// A reply a line, each time.
-    replies: &'static str,
-    /// How many submits the desk has.
-    submits: &'static str,
-    /// How many batches there are, and which records are kept.
-    kept: &'static str,
-    /// How many takes a node has that took all of it at once: one of each kept record.
-    takes: &'static str,
-    /// What each node answers that has seen all.
-    answers: &'static str,
+/// A command that owns nothing.
+#[derive(Clone, Copy)]
+pub(crate) enum Change {
+    /// A subject, and a schema's text.
+    Register(&'static str, &'static str),
+    /// For all subjects.
+    SetLevel(Level),
 }
 
-/// What a node answers that has taken nothing.
-const UNSEEN: &str =
-    "404 {\"error_code\":40401,\"message\":\"Subject not found\"} 200 {\"compatibilityLevel\":\"BACKWARD\"}\n";
-
-const NONE_SET: &str =
-    "404 {\"error_code\":40401,\"message\":\"Subject not found\"} 200 {\"compatibilityLevel\":\"NONE\"}\n";
-
-const LEVELS: &str = "level FULL\nlevel NONE";
-
-const LEVELS_SET: &str = "{\"compatibility\":\"FULL\"} fresh\n{\"compatibility\":\"NONE\"} fresh\n";
-
-static ROWS: [Row; 6] = [
-    Row {
-        commands: r#"s {"type":"record","name":"R","fields":[]}
-t { "name":"R", "fields":[ ], "type":"record" }
-t { "name":"R", "fields":[ ], "type":"record" }"#,
-        times: 1,
-        replies: "{\"id\":1} fresh\n{\"id\":1} fresh\n{\"id\":1} fresh\n",
-        submits: "3 submits\n",
-        kept: "2 batches, 2 kept from 0 to 1\n",
-        takes: "2 takes\n",
-        answers: "200 [1] 200 {\"compatibilityLevel\":\"BACKWARD\"}\n",
-    },
-    Row {
-        commands: "level FULL",
-        times: 1,
-        replies: "{\"compatibility\":\"FULL\"} fresh\n",
-        submits: "1 submits\n",
-        kept: "1 batches, 1 kept from 0 to 0\n",
-        takes: "1 takes\n",
-        answers: "404 {\"error_code\":40401,\"message\":\"Subject not found\"} 200 {\"compatibilityLevel\":\"FULL\"}\n",
-    },
-    Row {
-        commands: LEVELS,
-        times: 31,
-        replies: LEVELS_SET,
-        submits: "62 submits\n",
-        kept: "62 batches, 62 kept from 0 to 61\n",
-        takes: "62 takes\n",
-        answers: NONE_SET,
-    },
-    Row {
-        commands: LEVELS,
-        times: 32,
-        replies: LEVELS_SET,
-        submits: "64 submits\n",
-        kept: "64 batches, 1 kept from 63 to 63\n",
-        takes: "1 takes\n",
-        answers: NONE_SET,
-    },
-    Row {
-        commands: LEVELS,
-        times: 33,
-        replies: LEVELS_SET,
-        submits: "66 submits\n",
-        kept: "66 batches, 3 kept from 63 to 65\n",
-        takes: "3 takes\n",
-        answers: NONE_SET,
-    },
-    Row {
-        commands: LEVELS,
-        times: 64,
-        replies: LEVELS_SET,
-        submits: "128 submits\n",
-        kept: "128 batches, 1 kept from 127 to 127\n",
-        takes: "1 takes\n",
-        answers: NONE_SET,
-    },
-];
-
-fn command_of(alloc: Global, line: &str) -> Result<Command, AllocError> {
-    let Some((subject, text)) = line.split_once(" ") else {
-        return Ok(Command::Noop);
-    };
-    if subject == "level" {
-        return Ok(Command::SetLevel {
+pub(crate) fn command_of(alloc: Global, change: &Change) -> Result<Command, AllocError> {
+    match change {
+        Change::Register(subject, text) => registration(alloc, subject, text),
+        Change::SetLevel(level) => Ok(Command::SetLevel {
             subject: None,
-            level: Level::parse(text).unwrap_or(Level::Backward),
-        });
+            level: *level,
+        }),
     }
+}
+
+fn registration(alloc: Global, subject: &str, text: &str) -> Result<Command, AllocError> {
     Ok(Command::Register {
         subject: Text::copy_of(alloc, subject)?,
         text: Text::copy_of(alloc, text)?,
     })
 }
 
-fn commands_of(alloc: Global, row: &Row) -> Result<Vec<Command>, AllocError> {
-    let mut commands = Vec::new(alloc);
-    for _time in 0..row.times {
-        for line in row.commands.split("\n") {
-            commands.push(command_of(alloc, line)?)?;
-        }
-    }
-    Ok(commands)
+/// A status and a body.
+pub(crate) type Told = (u16, &'static str);
+
+/// What is answered for the versions of `t`, and for the level for all.
+pub(crate) struct Answers {
+    pub(crate) versions: Told,
+    pub(crate) level: Told,
 }
 
-/// What is to come of it.
-fn expected(alloc: Global, row: &Row) -> Result<String, AllocError> {
-    let mut text = String::new(alloc);
-    for _time in 0..row.times {
-        text.push_str(row.replies)?;
-    }
-    let Row { takes, answers, .. } = row;
-    write!(text, "{}{answers}{}", row.submits, row.kept)?;
-    write!(text, "{UNSEEN}{takes}{answers}{answers}{takes}{answers}")?;
-    Ok(text)
+/// Commands that are done time after time, and what comes of them.
+pub(crate) struct Row {
+    /// With a reply each. The desk is fresh then.
+    pub(crate) commands: &'static [(Change, &'static str)],
+    pub(crate) times: u32,
+    /// How many submits the desk has.
+    pub(crate) submits: u64,
+    /// How many batches there are.
+    pub(crate) batches: u64,
+    /// How many records are kept, from which offset to which.
+    pub(crate) kept: (usize, u64, u64),
+    /// How many takes a node has that took all of it at once: one of each kept record.
+    pub(crate) takes: u64,
+    /// What each node answers that has seen all.
+    pub(crate) answers: Answers,
 }
 
-/// What came of it.
-fn outcome_of<R: Wait + RandomSource + Drop + Copy>(
+const NOT_FOUND: Told = (
+    404,
+    "{\"error_code\":40401,\"message\":\"Subject not found\"}",
+);
+
+const BACKWARD: Told = (200, "{\"compatibilityLevel\":\"BACKWARD\"}");
+
+const FULL: Told = (200, "{\"compatibilityLevel\":\"FULL\"}");
+
+const NONE: Told = (200, "{\"compatibilityLevel\":\"NONE\"}");
+
+/// What a node answers that has taken nothing.
+pub(crate) static UNSEEN: Answers = Answers {
+    versions: NOT_FOUND,
+    level: BACKWARD,
+};
+
+const NONE_SET: Answers = Answers {
+    versions: NOT_FOUND,
+    level: NONE,
+};
+
+const LEVELS: &[(Change, &str)] = &[
+    (
+        Change::SetLevel(Level::Full),
+        "{\"compatibility\":\"FULL\"}",
+    ),
+    (
+        Change::SetLevel(Level::None),
+        "{\"compatibility\":\"NONE\"}",
+    ),
+];
+
+static ROWS: [Row; 6] = [
+    Row {
+        commands: &[
+            (
+                Change::Register("s", r#"{"type":"record","name":"R","fields":[]}"#),
+                "{\"id\":1}",
+            ),
+            (
+                Change::Register("t", r#"{ "name":"R", "fields":[ ], "type":"record" }"#),
+                "{\"id\":1}",
+            ),
+            (
+                Change::Register("t", r#"{ "name":"R", "fields":[ ], "type":"record" }"#),
+                "{\"id\":1}",
+            ),
+        ],
+        times: 1,
+        submits: 3,
+        batches: 2,
+        kept: (2, 0, 1),
+        takes: 2,
+        answers: Answers {
+            versions: (200, "[1]"),
+            level: BACKWARD,
+        },
+    },
+    Row {
+        commands: &[(
+            Change::SetLevel(Level::Full),
+            "{\"compatibility\":\"FULL\"}",
+        )],
+        times: 1,
+        submits: 1,
+        batches: 1,
+        kept: (1, 0, 0),
+        takes: 1,
+        answers: Answers {
+            versions: NOT_FOUND,
+            level: FULL,
+        },
+    },
+    Row {
+        commands: LEVELS,
+        times: 31,
+        submits: 62,
+        batches: 62,
+        kept: (62, 0, 61),
+        takes: 62,
+        answers: NONE_SET,
+    },
+    Row {
+        commands: LEVELS,
+        times: 32,
+        submits: 64,
+        batches: 64,
+        kept: (1, 63, 63),
+        takes: 1,
+        answers: NONE_SET,
+    },
+    Row {
+        commands: LEVELS,
+        times: 33,
+        submits: 66,
+        batches: 66,
+        kept: (3, 63, 65),
+        takes: 3,
+        answers: NONE_SET,
+    },
+    Row {
+        commands: LEVELS,
+        times: 64,
+        submits: 128,
+        batches: 128,
+        kept: (1, 127, 127),
+        takes: 1,
+        answers: NONE_SET,
+    },
+];
+
+/// What doesn't come out as the row says, if anything doesn't.
+fn wrong_part<R: Wait + Drop + Copy>(
     alloc: Global,
     rt: R,
     row: &Row,
-) -> Result<String, Fail> {
-    let task = Task::Commands(commands_of(alloc, row)?);
-    run(alloc, rt, &task)
+    keys: RandomState,
+) -> Result<Option<&'static str>, Fail> {
+    let mut run = DeskRun {
+        row,
+        keys,
+        wrong: None,
+    };
+    go_through(alloc, rt, &mut run)?;
+    Ok(run.wrong)
 }
 
 #[test]
 fn a_desk_does_each_command_once(rt: HostRuntime) -> Result<(), Fail> {
-    let alloc = rt.alloc();
+    let keys = RandomState::new(&rt)?;
     for row in &ROWS {
-        let found = outcome_of(alloc, &rt, row)?;
-        let wanted = expected(alloc, row)?;
-        assert_eq!(rt; found, wanted);
+        assert_eq!(rt; wrong_part(rt.alloc(), &rt, row, keys)?, None);
     }
     Ok(())
 }

@@ -1,9 +1,10 @@
 // A topic, whatever its feed is named.
+use crate::topics::kept_records;
 use reg_feed::{Copies, FeedName, FeedReader, Seen};
 use reg_http::reply_answer;
-use reg_leader::Command;
+use reg_leader::{Command, Reply};
 use reg_lookup::Answer;
-use reg_pen::{MemoryAlone, Pass, Pen};
+use reg_pen::{MemoryAlone, Pass, Pen, Submitted};
 use reg_records::Record;
 use reg_shared::Shared;
 use reg_topic::Item;
@@ -40,29 +41,33 @@ pub(crate) struct Writing<
 impl<'x, N: FeedName<Item, Shared>, S: Copies<Item, Shared, N>, R: Wait + Drop> Source
     for Writing<'x, N, S, R> {
     fn submit(&mut self, alloc: Global, command: &Command) -> Result<Answer, AllocError> {
-        lock_and_submit(alloc, &self.rt, self.pen, &mut self.pass, command)
+        let reply = lock_and_submit(&self.rt, self.pen, &mut self.pass, command);
+        reply_answer(alloc, &reply)
     }
 
     fn compact(&mut self, rises: bool) -> Result<(u64, Vec<Record>), AllocError> {
         let floor = floor_for(&self.rt, self.pen, rises);
-        let dropped = self
-            .topic
-            .read(|shared| shared.dropped_to(floor))
-            .ok_or(AllocError)??;
-        lock_and_compact(&self.rt, self.pen, floor)?;
+        let dropped = records_dropped(&mut self.topic, floor)?;
+        if !lock_and_compact(&self.rt, self.pen, floor) {
+            return Err(AllocError);
+        }
         Ok((floor, dropped))
     }
 
     fn kept(&mut self) -> Result<Vec<Record>, AllocError> {
-        read_kept(&mut self.topic)
+        kept_records(&mut self.topic)
     }
 }
 
-/// All records that the topic keeps.
-pub(crate) fn read_kept<N: FeedName<Item, Shared>, S: Copies<Item, Shared, N>>(
+/// The records that a compaction to that floor drops.
+fn records_dropped<N: FeedName<Item, Shared>, S: Copies<Item, Shared, N>>(
     topic: &mut FeedReader<Item, Shared, N, S>,
+    floor: u64,
 ) -> Result<Vec<Record>, AllocError> {
-    topic.read(|shared| shared.since(0)).ok_or(AllocError)?
+    match topic.read(|shared| shared.dropped_to(floor)) {
+        Some(records) => records,
+        None => Err(AllocError),
+    }
 }
 
 /// The kept floor, or what the next offset was at the last compaction.
@@ -75,36 +80,32 @@ fn floor_for<N: FeedName<Item, Shared>, S: Copies<Item, Shared, N>, R: Wait + Dr
     if rises { pen.compacted() } else { pen.floor() }
 }
 
+/// Whether a compaction to that floor is published.
 fn lock_and_compact<N: FeedName<Item, Shared>, S: Copies<Item, Shared, N>, R: Wait + Drop>(
     rt: &R,
     pen: &Mutex<Pen<N, S, MemoryAlone, R>>,
     floor: u64,
-) -> Result<(), AllocError> {
+) -> bool {
     let mut pen = pen.lock(rt);
-    match pen.compact_to(floor) {
-        Ok(()) => Ok(()),
-        Err(_refused) => Err(AllocError),
-    }
+    pen.compact_to(floor).is_ok()
 }
 
 fn lock_and_submit<N: FeedName<Item, Shared>, S: Copies<Item, Shared, N>, R: Wait + Drop>(
-    alloc: Global,
     rt: &R,
     pen: &Mutex<Pen<N, S, MemoryAlone, R>>,
     pass: &mut Pass<N>,
     command: &Command,
-) -> Result<Answer, AllocError> {
+) -> Reply {
     let mut pen = pen.lock(rt);
-    submit_to(alloc, &mut pen, pass, command)
+    submit_to(&mut pen, pass, command)
 }
 
 fn submit_to<N: FeedName<Item, Shared>, S: Copies<Item, Shared, N>, R: Wait + Drop>(
-    alloc: Global,
     pen: &mut Pen<N, S, MemoryAlone, R>,
     pass: &mut Pass<N>,
     command: &Command,
-) -> Result<Answer, AllocError> {
+) -> Reply {
     let unseen: Option<Seen<Item, Shared, N>> = None;
-    let submitted = pen.submit(pass, unseen.as_ref(), command, None);
-    reply_answer(alloc, &submitted.reply)
+    let Submitted { reply, seen: _ } = pen.submit(pass, unseen.as_ref(), command, None);
+    reply
 }

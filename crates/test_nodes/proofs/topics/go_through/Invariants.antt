@@ -1,7 +1,7 @@
 use Rattle.reg_topic.specs.Topic.{topic_from}
 use Rattle.reg_shared.specs.Held.{held_of}
-use Rattle.test_nodes.proofs.topics.run.Given as goal
+use Rattle.test_nodes.proofs.topics.go_through.Given as goal
 
-abbrev pub ghosts-run_topic : goal.ghosts-run_topic
-ghosts-run_topic g a =
+abbrev pub ghosts-in_topic : goal.ghosts-in_topic
+ghosts-in_topic g a =
     record { book = a.list.reached.book; first = held_of (topic_from a.base.now.records.items a.base.now.next a.base.now.floor) }

@@ -1,5 +1,0 @@
-use Rattle.std.specs.FinSet.{empty}
-use Rattle.test_nodes.proofs.topics.run_first.Given as goal
-
-abbrev pub ghosts-run_second : goal.ghosts-run_second
-ghosts-run_second g a = record { book = a.list.reached.book; first = empty }
