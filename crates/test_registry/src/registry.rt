@@ -184,18 +184,31 @@ fn the_last_records_give_the_answers(rt: HostRuntime) {
     }
 }
 
-/// Whether each record's copy, as a registry over all of them gives it, is that record.
-fn copies_hold(alloc: Global, row: &Row) -> Result<bool, LogError> {
-    let records = records_of(alloc, row.lines)?;
-    let mut registry = Registry::empty(alloc);
-    grow(&mut registry, &records)?;
-    for record in &records {
-        let copy = registry.copy_of(record)?;
-        if copy != *record {
+/// Whether the registry's copy of the record is that record.
+fn copy_holds(registry: &Registry, record: &Record) -> Result<bool, AllocError> {
+    Ok(registry.copy_of(record)? == *record)
+}
+
+/// The registry and the records are lent, so that none has to be dropped on the way.
+fn copies_hold_in(registry: &mut Registry, records: &[Record]) -> Result<bool, AllocError> {
+    grow(registry, records)?;
+    for record in records {
+        if !copy_holds(registry, record)? {
             return Ok(false);
         }
     }
     Ok(true)
+}
+
+fn all_copies_hold(alloc: Global, records: &[Record]) -> Result<bool, AllocError> {
+    let mut registry = Registry::empty(alloc);
+    copies_hold_in(&mut registry, records)
+}
+
+/// Whether each record's copy, as a registry over all of them gives it, is that record.
+fn copies_hold(alloc: Global, row: &Row) -> Result<bool, LogError> {
+    let records = records_of(alloc, row.lines)?;
+    Ok(all_copies_hold(alloc, &records)?)
 }
 
 #[test]
