@@ -1,15 +1,10 @@
-//! Tests of connections by scripts of their own, and of nodes over sockets.
+//! Tests of connections by scripts of their own, of nodes over sockets, of lines that come in pieces, and of nodes
+//! that follow them.
 #![tactic(auto)]
 
 #[cfg(test)]
-mod clients;
+mod asking;
 #[cfg(test)]
-mod fakes;
+mod follow;
 #[cfg(test)]
-mod looks;
-#[cfg(test)]
-mod nodes;
-#[cfg(test)]
-mod pieces;
-#[cfg(test)]
-mod turns;
+mod serve;

@@ -1,7 +1,7 @@
 // Requests in random pieces, on many connections at a time.
-use crate::fakes::Ledger;
-use crate::nodes::{patient, with_node};
-use std::alloc::Global;
+use crate::serve::fakes::Ledger;
+use crate::serve::nodes::{patient, with_node};
+use std::alloc::{AllocError, Global};
 use std::io::{self, Read, Write};
 use std::net::{Net, SocketAddr, TcpListener, TcpStream};
 use std::sync::Wait;
@@ -32,6 +32,19 @@ struct Talk {
     sent: usize,
 }
 
+/// Adds a request for an id, and its answer.
+fn add_talk(requests: &mut String, answers: &mut String, id: u64) -> Result<(), AllocError> {
+    let len = 2 + id.checked_ilog10().unwrap_or(0) + 1;
+    write!(
+        requests,
+        "GET /schemas/ids/{id} HTTP/1.1\r\nHost: a\r\n\r\n"
+    )?;
+    write!(
+        answers,
+        "HTTP/1.1 200 OK\r\nContent-Type: application/vnd.schemaregistry.v1+json\r\nContent-Length: {len}\r\n\r\n[{id}]"
+    )
+}
+
 impl Talk {
     /// Begins a round of one to three requests, whose ids count on from that one; how many they are.
     fn begin(&mut self, id: u64, random: u64) -> io::Result<u64> {
@@ -40,20 +53,7 @@ impl Talk {
         self.sent = 0;
         let count = 1 + (random >> 33) % 3;
         for id in id..id.saturating_add(count) {
-            let len = 2 + id.checked_ilog10().unwrap_or(0) + 1;
-            if write!(
-                self.requests,
-                "GET /schemas/ids/{id} HTTP/1.1\r\nHost: a\r\n\r\n"
-            )
-            .is_err()
-                || write!(
-                    self.answers,
-                    "HTTP/1.1 200 OK\r\nContent-Type: application/vnd.schemaregistry.v1+json\r\nContent-Length: {len}\r\n\r\n[{id}]"
-                )
-                .is_err()
-            {
-                return Err(io::Error::from(io::ErrorKind::OutOfMemory));
-            }
+            add_talk(&mut self.requests, &mut self.answers, id)?;
         }
         Ok(count)
     }
@@ -78,24 +78,20 @@ impl Talk {
     }
 }
 
-/// Connects so many times.
-fn connect_all<R: Net<Stream = TcpStream>>(
+/// A connection on which nothing was sent.
+fn connect<R: Net<Stream = TcpStream>>(
     rt: &R,
     alloc: Global,
     address: SocketAddr,
-) -> io::Result<Vec<Talk>> {
-    let mut talks = Vec::new(alloc);
-    for _connection in 0..CONNECTIONS {
-        let stream = TcpStream::connect(rt, address)?;
-        stream.set_read_timeout(Some(Duration::from_secs(20)))?;
-        talks.push(Talk {
-            stream,
-            requests: String::new(alloc),
-            answers: String::new(alloc),
-            sent: 0,
-        })?;
-    }
-    Ok(talks)
+) -> io::Result<Talk> {
+    let stream = TcpStream::connect(rt, address)?;
+    stream.set_read_timeout(Some(Duration::from_secs(20)))?;
+    Ok(Talk {
+        stream,
+        requests: String::new(alloc),
+        answers: String::new(alloc),
+        sent: 0,
+    })
 }
 
 /// One round of all connections: each sends a piece, then another one, then the rest, and then all answers
@@ -127,27 +123,41 @@ fn go_round(
     Ok((count, wrong))
 }
 
-/// What one client does: how many requests it made, and how often it was answered otherwise.
-fn visit<R: Net<Stream = TcpStream>>(
+/// What one client does: how many requests it made, and how often it was answered otherwise. Its connections
+/// are lent, so that none has to be dropped on the way.
+fn go_rounds<R: Net<Stream = TcpStream>>(
     rt: &R,
     alloc: Global,
     address: SocketAddr,
     client: u64,
+    talks: &mut Vec<Talk>,
+    buffer: &mut Vec<u8>,
 ) -> io::Result<(u64, u64)> {
-    let mut talks = connect_all(rt, alloc, address)?;
-    let mut buffer = Vec::new(alloc);
+    for _connection in 0..CONNECTIONS {
+        talks.push(connect(rt, alloc, address)?)?;
+    }
     let (mut count, mut wrong) = (0u64, 0u64);
     for round in 0..ROUNDS {
         let first = client
             .saturating_mul(1_000_000)
             .saturating_add(round.saturating_mul(300))
             .saturating_add(1);
-        let seed = next_random(first);
-        let (more, missed) = go_round(&mut talks, &mut buffer, first, seed)?;
+        let (more, missed) = go_round(talks, buffer, first, next_random(first))?;
         count = count.saturating_add(more);
         wrong = wrong.saturating_add(missed);
     }
     Ok((count, wrong))
+}
+
+fn visit<R: Net<Stream = TcpStream>>(
+    rt: &R,
+    alloc: Global,
+    address: SocketAddr,
+    client: u64,
+) -> io::Result<(u64, u64)> {
+    let mut talks = Vec::new(alloc);
+    let mut buffer = Vec::new(alloc);
+    go_rounds(rt, alloc, address, client, &mut talks, &mut buffer)
 }
 
 /// What all clients did at the same time.

@@ -1,8 +1,7 @@
 // What becomes of connections at a look, and when they are late.
-use crate::fakes::{FakeStream, Step};
+use crate::serve::fakes::{FakeStream, Step, Taker};
 use reg_connection::{Connection, Limits, Turn, Waits};
-use std::alloc::Global;
-use std::cell::Cell;
+use std::alloc::{AllocError, Global};
 
 /// A whole request.
 const WHOLE: &[u8] = b"GET /subjects HTTP/1.1\r\nHost: a\r\n\r\n";
@@ -36,18 +35,19 @@ static LOOKS: [(&[Step], Turn, usize); 9] = [
 
 /// What becomes of a connection whose client does these steps, at one look, and how many bytes it holds.
 fn look(alloc: Global, steps: &[Step]) -> (Turn, usize) {
-    let (room, taken, ended) = (Cell::new(0), Cell::new(0), Cell::new(false));
-    let stream = FakeStream {
-        steps,
-        at: Cell::new(0),
-        room: &room,
-        taken: &taken,
-        ended: &ended,
-    };
-    let mut connection: Connection<FakeStream<'_>, u64> = Connection::new(alloc, stream, 0, 0);
-    let mut buffer = [0u8; 64];
-    let turn = connection.look(alloc, &Limits::of_nodes(1), &mut buffer, 0);
+    let taker = Taker::new(0);
+    let mut connection = connection_of(alloc, steps, &taker);
+    let turn = connection.look(alloc, &Limits::of_nodes(1), &mut [0u8; 64], 0);
     (turn, connection.weight())
+}
+
+/// A new connection of that client.
+fn connection_of<'a>(
+    alloc: Global,
+    steps: &'a [Step],
+    taker: &'a Taker,
+) -> Connection<FakeStream<'a>, u64> {
+    Connection::new(alloc, FakeStream::new(steps, taker), 0, 0)
 }
 
 #[test]
@@ -76,37 +76,43 @@ fn patience_ends_at_its_limit(rt: HostRuntime) {
     }
 }
 
-/// What a client reads of 1,000 bytes that are left, at looks at which it takes so many each, and whether
-/// its side is told to be over.
-fn give(alloc: Global, at_once: usize, closes: bool) -> (u32, usize, bool, Turn) {
-    let (room, taken, ended) = (Cell::new(0), Cell::new(0), Cell::new(false));
-    let stream = FakeStream {
-        steps: &[Step::Nothing],
-        at: Cell::new(0),
-        room: &room,
-        taken: &taken,
-        ended: &ended,
-    };
-    let mut connection: Connection<FakeStream<'_>, u64> = Connection::new(alloc, stream, 0, 0);
-    let mut answers = Vec::new(alloc);
-    if answers.resize(1_000, b'x').is_err() {
-        return (0, 0, false, Turn::Over);
-    }
-    connection.keep(answers, 0, closes);
-    let mut buffer = [0u8; 64];
+/// How many looks it takes until the connection holds nothing, where its client takes so many bytes at each,
+/// and what becomes of it at the last one.
+fn give_all(
+    alloc: Global,
+    connection: &mut Connection<FakeStream<'_>, u64>,
+    taker: &Taker,
+    at_once: usize,
+) -> (u32, Turn) {
     let mut turn = Turn::Waits;
     for n in 1..=1_000u32 {
-        room.set(at_once);
-        turn = connection.look(alloc, &Limits::of_nodes(1), &mut buffer, 0);
+        taker.room.set(at_once);
+        turn = connection.look(alloc, &Limits::of_nodes(1), &mut [0u8; 64], 0);
         if connection.weight() == 0 {
-            return (n, taken.get(), ended.get(), turn);
+            return (n, turn);
         }
     }
-    (1_000, taken.get(), ended.get(), turn)
+    (1_000, turn)
+}
+
+/// What a client reads of 1,000 bytes that are left, at looks at which it takes so many each, and whether
+/// its side is told to be over.
+fn give(
+    alloc: Global,
+    at_once: usize,
+    closes: bool,
+) -> Result<(u32, usize, bool, Turn), AllocError> {
+    let mut answers = Vec::new(alloc);
+    answers.resize(1_000, b'x')?;
+    let taker = Taker::new(0);
+    let mut connection = connection_of(alloc, &[Step::Nothing], &taker);
+    connection.keep(answers, 0, closes);
+    let (looks, turn) = give_all(alloc, &mut connection, &taker, at_once);
+    Ok((looks, taker.taken.get(), taker.ended.get(), turn))
 }
 
 #[test]
-fn answers_that_are_left_are_given_once(rt: HostRuntime) {
+fn answers_that_are_left_are_given_once(rt: HostRuntime) -> Result<(), AllocError> {
     let rows = [
         (1, false, (1_000, 1_000, false, Turn::Waits)),
         (300, false, (4, 1_000, false, Turn::Waits)),
@@ -114,41 +120,33 @@ fn answers_that_are_left_are_given_once(rt: HostRuntime) {
         (999, true, (2, 1_000, true, Turn::Again)),
     ];
     for (at_once, closes, wanted) in rows {
-        assert_eq!(rt; give(rt.alloc(), at_once, closes), wanted);
+        assert_eq!(rt; give(rt.alloc(), at_once, closes)?, wanted);
     }
+    Ok(())
 }
 
-/// How many bytes of a client that sends on without end are dropped after the last answer, at looks one
-/// after the other.
-fn dropped(alloc: Global) -> (usize, Turn) {
-    let (room, taken, ended) = (Cell::new(1), Cell::new(0), Cell::new(false));
-    let stream = FakeStream {
-        steps: &[Step::Gives(WHOLE)],
-        at: Cell::new(0),
-        room: &room,
-        taken: &taken,
-        ended: &ended,
-    };
-    let mut connection: Connection<FakeStream<'_>, u64> = Connection::new(alloc, stream, 0, 0);
+/// How many looks one after the other it takes until a client that sends on without end after the last
+/// answer has sent too much, and what becomes of its connection then.
+fn dropped(alloc: Global) -> Result<(usize, Turn), AllocError> {
     let mut answers = Vec::new(alloc);
-    if answers.push(b'x').is_err() {
-        return (0, Turn::Waits);
-    }
+    answers.push(b'x')?;
+    let taker = Taker::new(1);
+    let mut connection = connection_of(alloc, &[Step::Gives(WHOLE)], &taker);
     connection.keep(answers, 0, true);
     let mut limits = Limits::of_nodes(1);
     limits.dropped = 35 * 300;
-    let mut buffer = [0u8; 64];
     for n in 0..100usize {
-        let turn = connection.look(alloc, &limits, &mut buffer, 0);
+        let turn = connection.look(alloc, &limits, &mut [0u8; 64], 0);
         if turn == Turn::Over {
-            return (n, turn);
+            return Ok((n, turn));
         }
     }
-    (100, Turn::Waits)
+    Ok((100, Turn::Waits))
 }
 
 #[test]
-fn what_is_dropped_has_a_limit(rt: HostRuntime) {
+fn what_is_dropped_has_a_limit(rt: HostRuntime) -> Result<(), AllocError> {
     // The answer at the first look, and 300 reads at three looks of at most 128.
-    assert_eq!(rt; dropped(rt.alloc()), (3, Turn::Over));
+    assert_eq!(rt; dropped(rt.alloc())?, (3, Turn::Over));
+    Ok(())
 }

@@ -28,17 +28,43 @@ pub enum Step {
     Reset,
 }
 
-/// A connection whose client does these steps, the last one again and again, and takes so many bytes.
+/// What a client takes.
+#[derive(Drop)]
+pub struct Taker {
+    /// How many bytes it still takes.
+    pub room: Cell<usize>,
+    /// How many bytes it took.
+    pub taken: Cell<usize>,
+    /// Whether it was told that nothing more will be written.
+    pub ended: Cell<bool>,
+}
+
+impl Taker {
+    pub fn new(room: usize) -> Taker {
+        Taker {
+            room: Cell::new(room),
+            taken: Cell::new(0),
+            ended: Cell::new(false),
+        }
+    }
+}
+
+/// A connection whose client does these steps, the last one again and again.
 #[derive(Drop)]
 pub struct FakeStream<'a> {
-    pub steps: &'a [Step],
-    pub at: Cell<usize>,
-    /// How many bytes the client still takes.
-    pub room: &'a Cell<usize>,
-    /// How many bytes it took.
-    pub taken: &'a Cell<usize>,
-    /// Whether it was told that nothing more will be written.
-    pub ended: &'a Cell<bool>,
+    steps: &'a [Step],
+    at: Cell<usize>,
+    taker: &'a Taker,
+}
+
+impl<'a> FakeStream<'a> {
+    pub fn new(steps: &'a [Step], taker: &'a Taker) -> FakeStream<'a> {
+        FakeStream {
+            steps,
+            at: Cell::new(0),
+            taker,
+        }
+    }
 }
 
 impl Stream for FakeStream<'_> {
@@ -62,17 +88,18 @@ impl Stream for FakeStream<'_> {
     }
 
     fn send(&self, buf: &[u8]) -> io::Result<usize> {
-        let n = self.room.get().min(buf.len());
+        let taker = self.taker;
+        let n = taker.room.get().min(buf.len());
         if n == 0 {
             return Err(io::Error::from(ErrorKind::WouldBlock));
         }
-        self.room.set(self.room.get().saturating_sub(n));
-        self.taken.set(self.taken.get().saturating_add(n));
+        taker.room.set(taker.room.get().saturating_sub(n));
+        taker.taken.set(taker.taken.get().saturating_add(n));
         Ok(n)
     }
 
     fn end_writing(&self) -> io::Result<()> {
-        self.ended.set(true);
+        self.taker.ended.set(true);
         Ok(())
     }
 
@@ -109,30 +136,29 @@ pub struct EchoDesk<'a, R: Clock> {
     pub ledger: &'a Ledger,
 }
 
-impl<R: Clock> EchoDesk<'_, R> {
-    fn answer_of(alloc: Global, number: u64) -> Result<Answer, AllocError> {
-        let mut text = String::new(alloc);
-        if write!(text, "[{number}]").is_err() {
-            return Err(AllocError);
-        }
-        Ok(Answer {
-            status: 200,
-            body: Text::copy_of(alloc, text.as_str())?,
-        })
-    }
+fn answer_of(alloc: Global, text: &str) -> Result<Answer, AllocError> {
+    Ok(Answer {
+        status: 200,
+        body: Text::copy_of(alloc, text)?,
+    })
 }
 
-impl<R: Clock> EchoDesk<'_, R> {
-    fn long_answer(alloc: Global) -> Result<Answer, AllocError> {
-        let mut text = String::new(alloc);
-        for _piece in 0..100_000 {
-            text.push_str("xxxxxxxxxx")?;
-        }
-        Ok(Answer {
-            status: 200,
-            body: Text::copy_of(alloc, text.as_str())?,
-        })
+fn number_answer(alloc: Global, number: u64) -> Result<Answer, AllocError> {
+    let text = format!(in alloc; "[{number}]")?;
+    answer_of(alloc, text.as_str())
+}
+
+fn push_million(text: &mut String) -> Result<(), AllocError> {
+    for _piece in 0..100_000 {
+        text.push_str("xxxxxxxxxx")?;
     }
+    Ok(())
+}
+
+fn long_answer(alloc: Global) -> Result<Answer, AllocError> {
+    let mut text = String::new(alloc);
+    push_million(&mut text)?;
+    answer_of(alloc, text.as_str())
 }
 
 impl<R: Clock> Desk for EchoDesk<'_, R> {
@@ -142,9 +168,9 @@ impl<R: Clock> Desk for EchoDesk<'_, R> {
 
     fn ask(&mut self, alloc: Global, query: &Query) -> Result<Answer, AllocError> {
         match query {
-            Query::SchemaById { id } => EchoDesk::<R>::answer_of(alloc, u64::from(*id)),
-            Query::Mode { .. } => EchoDesk::<R>::long_answer(alloc),
-            _ => EchoDesk::<R>::answer_of(alloc, self.known),
+            Query::SchemaById { id } => number_answer(alloc, u64::from(*id)),
+            Query::Mode { .. } => long_answer(alloc),
+            _ => number_answer(alloc, self.known),
         }
     }
 

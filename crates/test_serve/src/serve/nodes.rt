@@ -1,5 +1,5 @@
 // A node over a listening socket, and what its clients meet.
-use crate::fakes::{EchoDesk, Ledger};
+use crate::serve::fakes::{EchoDesk, Ledger};
 use reg_connection::Limits;
 use reg_serve::{Follow, Latch, Node, StartError, begin, open_node};
 use std::alloc::Global;

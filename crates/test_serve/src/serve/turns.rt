@@ -1,5 +1,5 @@
 // Requests of one connection at desks in turn.
-use crate::fakes::{EchoDesk, Ledger};
+use crate::serve::fakes::{EchoDesk, Ledger};
 use reg_connection::{answer_last, answer_one};
 use reg_conversation::Conversation;
 use reg_http::Paths;

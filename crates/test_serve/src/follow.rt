@@ -1,0 +1,4 @@
+// Lines that come in pieces, and nodes that follow them, over sockets.
+mod nodes;
+mod pieces;
+mod scripted;
