@@ -5,8 +5,8 @@
 //! has paragraphs, with an empty line between two of them. First come the lines of a log, each with a `|` in the place of a TAB. Then
 //! comes a command, as `registrylog compact 10`, and below it what it writes, likewise; further commands, each on that log, may follow.
 //!
-//! - A line `ends with 2: TEXT` gives the exit status and what is written on standard error. Where there is none, the status is 0
-//!   and nothing is written there.
+//! - A line `ends with 2: TEXT` gives the exit status and the text of the error. Where there is none, the status is 0 and there is no
+//!   error.
 //! - A line that begins with `# ` is a remark.
 //! - `(empty)` is an empty line, and a line has no LF where it ends with `(no LF)`; `(CR)` and `(space)` stand for a CR and a space.
 //!
