@@ -4,7 +4,9 @@ use reg_desk::Wake;
 use reg_serve::Latch;
 use std::alloc::Global;
 use std::hash::RandomState;
+use std::mem;
 use std::sync::atomic::AtomicU64;
+use std::sync::{Mutex, Wait};
 use std::thread::Parker;
 
 /// What all nodes share.
@@ -44,4 +46,10 @@ impl Wake for Others<'_> {
             }
         }
     }
+}
+
+/// Takes all that a list has.
+pub(crate) fn take_all<T, R: Wait>(rt: &R, alloc: Global, list: &Mutex<Vec<T>>) -> Vec<T> {
+    let mut list = list.lock(rt);
+    mem::replace(&mut *list, Vec::new(alloc))
 }

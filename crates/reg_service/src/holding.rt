@@ -1,26 +1,25 @@
-// Nodes that are made: their followers stand here while their threads run.
-use crate::common::{Common, Others};
+// Nodes that are made, one after the other: what each is made of stands here while their threads run.
+use crate::common::{Others, take_all};
 use crate::entrance::Entrance;
 use crate::error::StartFault;
-use crate::following::Following;
 use crate::running::{serve_one, serve_three, serve_two};
-use crate::seats::{Parts, make_desks, make_node};
+use crate::seats::{Parts, Stage, make_desks, make_node};
 use reg_conversation::SharedDesk;
 use reg_desk::Gate;
 use reg_feed::{Copies, FeedName};
 use reg_node::{Draw, Taken};
-use reg_pen::{Keep, Pass, Pen};
+use reg_pen::{Keep, Pass};
 use reg_serve::{Follow, Node};
 use reg_shared::Shared;
 use reg_topic::Item;
-use std::net::{Net, TcpListener};
-use std::sync::{Mutex, Wait};
+use std::net::Net;
+use std::sync::Wait;
 use std::thread::Threads;
 use std::time::Clock;
 
-/// Makes the desks of one node, and serves by it.
+/// Makes the one node, and serves by it.
 pub(crate) fn hold_one<
-    'x,
+    'y,
     N: FeedName<Item, Shared> + Send + Sync,
     S: Copies<Item, Shared, N> + Send + Sync,
     K: Keep + Send + Drop,
@@ -30,36 +29,26 @@ pub(crate) fn hold_one<
     G: Gate + Sync,
     E: Entrance,
 >(
-    common: &'x Common<'x, R, G>,
-    pen: &'x Mutex<Pen<N, S, K, R>>,
-    passes: Vec<Pass<N>>,
-    first: Parts<N, S, L, T, R>,
+    stage: &'y Stage<'y, N, S, K, R, G>,
+    passes: &mut Vec<Pass<N>>,
+    first: &'y Parts<N, S, L, T, R>,
     entrance: &mut E,
 ) -> Result<(), StartFault> {
-    let mut passes = passes;
-    let listeners = entrance.listen()?;
-    let Parts { follower, views } = first;
-    let follower = Mutex::new(follower);
+    let common = stage.common;
     let others = Others {
         grown: common.grown,
         own: 0,
     };
-    let desks = make_desks(common, pen, &mut passes, &follower, &others, views)?;
-    let node = make_node(common, &listeners, 0, &follower)?;
-    serve_one(
-        common.rt,
-        common.alloc,
-        common.latch,
-        common.limit,
-        &node,
-        desks,
-        || entrance.ready(),
-    )
+    let views = take_all(common.rt, common.alloc, &first.views);
+    let follower = &first.follower;
+    let mut desks = make_desks(common, stage.pen, passes, follower, &others, views)?;
+    let node = make_node(common, stage.listeners, 0, follower)?;
+    serve_one(common, &node, &mut desks, entrance)
 }
 
-/// Makes the desks of two nodes, and serves by them.
+/// Makes the first of two nodes, and goes on with the second.
 pub(crate) fn hold_two<
-    'x,
+    'y,
     N: FeedName<Item, Shared> + Send + Sync,
     S: Copies<Item, Shared, N> + Send + Sync,
     K: Keep + Send + Drop,
@@ -71,67 +60,61 @@ pub(crate) fn hold_two<
     G: Gate + Sync,
     E: Entrance,
 >(
-    common: &'x Common<'x, R, G>,
-    pen: &'x Mutex<Pen<N, S, K, R>>,
-    passes: Vec<Pass<N>>,
-    first: Parts<N, S, L, T, R>,
-    second: Parts<N, S, M, U, R>,
+    stage: &'y Stage<'y, N, S, K, R, G>,
+    passes: &mut Vec<Pass<N>>,
+    first: &'y Parts<N, S, L, T, R>,
+    second: &'y Parts<N, S, M, U, R>,
     entrance: &mut E,
 ) -> Result<(), StartFault> {
-    let mut passes = passes;
-    let listeners = entrance.listen()?;
-    let Parts {
-        follower: first_follower,
-        views: first_views,
-    } = first;
-    let first_follower = Mutex::new(first_follower);
-    let first_others = Others {
+    let common = stage.common;
+    let others = Others {
         grown: common.grown,
         own: 0,
     };
-    let first_desks = make_desks(
-        common,
-        pen,
-        &mut passes,
-        &first_follower,
-        &first_others,
-        first_views,
-    )?;
-    let first_node = make_node(common, &listeners, 0, &first_follower)?;
-    let Parts {
-        follower: second_follower,
-        views: second_views,
-    } = second;
-    let second_follower = Mutex::new(second_follower);
-    let second_others = Others {
+    let views = take_all(common.rt, common.alloc, &first.views);
+    let follower = &first.follower;
+    let mut desks = make_desks(common, stage.pen, passes, follower, &others, views)?;
+    let node = make_node(common, stage.listeners, 0, follower)?;
+    hold_other(stage, passes, &node, &mut desks, second, entrance)
+}
+
+/// Makes the second of two nodes, and serves by both.
+fn hold_other<
+    'y,
+    T1: Send + Drop + 'y,
+    D1: SharedDesk<Standing = T1> + Send + Drop + 'y,
+    W1: Follow + Sync + Drop + 'y,
+    N: FeedName<Item, Shared> + Send + Sync,
+    S: Copies<Item, Shared, N> + Send + Sync,
+    K: Keep + Send + Drop,
+    M: FeedName<Draw, Taken> + Send + Sync,
+    U: Copies<Draw, Taken, M> + Send + Sync,
+    R: Threads + Wait + Clock + Net + Sync + Send + Copy + Drop,
+    G: Gate + Sync,
+    E: Entrance,
+>(
+    stage: &'y Stage<'y, N, S, K, R, G>,
+    passes: &mut Vec<Pass<N>>,
+    first: &'y Node<'y, W1, T1>,
+    first_desks: &mut Vec<D1>,
+    second: &'y Parts<N, S, M, U, R>,
+    entrance: &mut E,
+) -> Result<(), StartFault> {
+    let common = stage.common;
+    let others = Others {
         grown: common.grown,
         own: 1,
     };
-    let second_desks = make_desks(
-        common,
-        pen,
-        &mut passes,
-        &second_follower,
-        &second_others,
-        second_views,
-    )?;
-    let second_node = make_node(common, &listeners, 1, &second_follower)?;
-    serve_two(
-        common.rt,
-        common.alloc,
-        common.latch,
-        common.limit,
-        &first_node,
-        first_desks,
-        &second_node,
-        second_desks,
-        || entrance.ready(),
-    )
+    let views = take_all(common.rt, common.alloc, &second.views);
+    let follower = &second.follower;
+    let mut desks = make_desks(common, stage.pen, passes, follower, &others, views)?;
+    let node = make_node(common, stage.listeners, 1, follower)?;
+    serve_two(common, first, first_desks, &node, &mut desks, entrance)
 }
 
-/// Makes the desks of the first of three nodes, and goes on with the second.
+/// Makes the first of three nodes, and goes on with the second.
 pub(crate) fn hold_three<
-    'x,
+    'y,
     N: FeedName<Item, Shared> + Send + Sync,
     S: Copies<Item, Shared, N> + Send + Sync,
     K: Keep + Send + Drop,
@@ -145,42 +128,26 @@ pub(crate) fn hold_three<
     G: Gate + Sync,
     E: Entrance,
 >(
-    common: &'x Common<'x, R, G>,
-    pen: &'x Mutex<Pen<N, S, K, R>>,
-    passes: Vec<Pass<N>>,
-    first: Parts<N, S, L, T, R>,
-    second: Parts<N, S, M, U, R>,
-    third: Parts<N, S, O, V, R>,
+    stage: &'y Stage<'y, N, S, K, R, G>,
+    passes: &mut Vec<Pass<N>>,
+    first: &'y Parts<N, S, L, T, R>,
+    second: &'y Parts<N, S, M, U, R>,
+    third: &'y Parts<N, S, O, V, R>,
     entrance: &mut E,
 ) -> Result<(), StartFault> {
-    let mut passes = passes;
-    let listeners = entrance.listen()?;
-    let Parts { follower, views } = first;
-    let follower = Mutex::new(follower);
+    let common = stage.common;
     let others = Others {
         grown: common.grown,
         own: 0,
     };
-    let desks = make_desks(common, pen, &mut passes, &follower, &others, views)?;
-    let following = Following {
-        rt: common.rt,
-        follower: &follower,
-        grown: common.grown.get(0).ok_or(StartFault::NoPlace)?,
-    };
-    let node = Node::new(
-        common.rt,
-        common.alloc,
-        listeners.get(0).ok_or(StartFault::NoPlace)?,
-        following,
-        common.workers as usize,
-        common.limits,
-    )?;
-    hold_second(
-        common, &listeners, pen, passes, &node, desks, second, third, entrance,
-    )
+    let views = take_all(common.rt, common.alloc, &first.views);
+    let follower = &first.follower;
+    let mut desks = make_desks(common, stage.pen, passes, follower, &others, views)?;
+    let node = make_node(common, stage.listeners, 0, follower)?;
+    hold_second(stage, passes, &node, &mut desks, second, third, entrance)
 }
 
-/// Makes the desks of the second of three nodes, and goes on with the third.
+/// Makes the second of three nodes, and goes on with the third.
 fn hold_second<
     'y,
     T1: Send + Drop + 'y,
@@ -197,52 +164,36 @@ fn hold_second<
     G: Gate + Sync,
     E: Entrance,
 >(
-    common: &'y Common<'y, R, G>,
-    listeners: &'y [TcpListener],
-    pen: &'y Mutex<Pen<N, S, K, R>>,
-    passes: Vec<Pass<N>>,
+    stage: &'y Stage<'y, N, S, K, R, G>,
+    passes: &mut Vec<Pass<N>>,
     first: &'y Node<'y, W1, T1>,
-    first_desks: Vec<D1>,
-    second: Parts<N, S, M, U, R>,
-    third: Parts<N, S, O, V, R>,
+    first_desks: &mut Vec<D1>,
+    second: &'y Parts<N, S, M, U, R>,
+    third: &'y Parts<N, S, O, V, R>,
     entrance: &mut E,
 ) -> Result<(), StartFault> {
-    let mut passes = passes;
-    let Parts { follower, views } = second;
-    let follower = Mutex::new(follower);
+    let common = stage.common;
     let others = Others {
         grown: common.grown,
         own: 1,
     };
-    let desks = make_desks(common, pen, &mut passes, &follower, &others, views)?;
-    let following = Following {
-        rt: common.rt,
-        follower: &follower,
-        grown: common.grown.get(1).ok_or(StartFault::NoPlace)?,
-    };
-    let node = Node::new(
-        common.rt,
-        common.alloc,
-        listeners.get(1).ok_or(StartFault::NoPlace)?,
-        following,
-        common.workers as usize,
-        common.limits,
-    )?;
+    let views = take_all(common.rt, common.alloc, &second.views);
+    let follower = &second.follower;
+    let mut desks = make_desks(common, stage.pen, passes, follower, &others, views)?;
+    let node = make_node(common, stage.listeners, 1, follower)?;
     hold_third(
-        common,
-        listeners,
-        pen,
+        stage,
         passes,
         first,
         first_desks,
         &node,
-        desks,
+        &mut desks,
         third,
         entrance,
     )
 }
 
-/// Makes the desks of the third node, and serves by all three.
+/// Makes the third node, and serves by all three.
 fn hold_third<
     'y,
     T1: Send + Drop + 'y,
@@ -260,49 +211,32 @@ fn hold_third<
     G: Gate + Sync,
     E: Entrance,
 >(
-    common: &'y Common<'y, R, G>,
-    listeners: &'y [TcpListener],
-    pen: &'y Mutex<Pen<N, S, K, R>>,
-    passes: Vec<Pass<N>>,
+    stage: &'y Stage<'y, N, S, K, R, G>,
+    passes: &mut Vec<Pass<N>>,
     first: &'y Node<'y, W1, T1>,
-    first_desks: Vec<D1>,
+    first_desks: &mut Vec<D1>,
     second: &'y Node<'y, W2, T2>,
-    second_desks: Vec<D2>,
-    third: Parts<N, S, O, V, R>,
+    second_desks: &mut Vec<D2>,
+    third: &'y Parts<N, S, O, V, R>,
     entrance: &mut E,
 ) -> Result<(), StartFault> {
-    let mut passes = passes;
-    let Parts { follower, views } = third;
-    let follower = Mutex::new(follower);
+    let common = stage.common;
     let others = Others {
         grown: common.grown,
         own: 2,
     };
-    let desks = make_desks(common, pen, &mut passes, &follower, &others, views)?;
-    let following = Following {
-        rt: common.rt,
-        follower: &follower,
-        grown: common.grown.get(2).ok_or(StartFault::NoPlace)?,
-    };
-    let node = Node::new(
-        common.rt,
-        common.alloc,
-        listeners.get(2).ok_or(StartFault::NoPlace)?,
-        following,
-        common.workers as usize,
-        common.limits,
-    )?;
+    let views = take_all(common.rt, common.alloc, &third.views);
+    let follower = &third.follower;
+    let mut desks = make_desks(common, stage.pen, passes, follower, &others, views)?;
+    let node = make_node(common, stage.listeners, 2, follower)?;
     serve_three(
-        common.rt,
-        common.alloc,
-        common.latch,
-        common.limit,
+        common,
         first,
         first_desks,
         second,
         second_desks,
         &node,
-        desks,
-        || entrance.ready(),
+        &mut desks,
+        entrance,
     )
 }

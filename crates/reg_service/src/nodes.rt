@@ -9,13 +9,13 @@ use crate::common::Common;
 use crate::entrance::Entrance;
 use crate::error::StartFault;
 use crate::holding::{hold_one, hold_three, hold_two};
-use crate::seats::{Parts, Seats, make_parts};
+use crate::seats::{Parts, Seats, Stage, make_parts};
 use crate::size::Size;
 use reg_connection::Limits;
 use reg_desk::Gate;
-use reg_feed::{Copies, FeedName, Stored, Unnamed};
+use reg_feed::{Copies, FeedName, FeedReader, Stored, Unnamed};
 use reg_node::{Draw, Taken};
-use reg_pen::{Keep, MemoryAlone, Pen, open};
+use reg_pen::{Keep, MemoryAlone, Opened, Pen, open};
 use reg_records::{Device, Log, read_log};
 use reg_serve::Latch;
 use reg_shared::Shared;
@@ -106,14 +106,33 @@ fn serve_topic<
 {
     let readers = common.nodes.clamp(1, NODES_LIMIT);
     let passes = common.workers.saturating_mul(readers as u32);
-    let opened = open::<N, K, R>(*common.rt, common.alloc, list, &base, keep, passes, readers)?;
+    let opened = open::<N, K, R>(*common.rt, common.alloc, list, &base, keep, passes, readers);
     drop(base);
-    let mut pen = opened.pen;
-    let mut topic = Vec::new(common.alloc);
-    for _reader in 0..readers {
-        topic.push(pen.reader()?)?;
-    }
-    let pen = Mutex::new(pen);
+    let Opened { pen, passes } = opened?;
+    let mut pen = Mutex::new(pen);
+    let mut seats = Seats {
+        passes,
+        readers: Vec::new(common.alloc),
+    };
+    serve_pen(common, &mut pen, &mut seats, readers, entrance)
+}
+
+/// Makes the readers of the topic, and goes on with the nodes.
+fn serve_pen<
+    N: FeedName<Item, Shared> + Send + Sync,
+    S: Copies<Item, Shared, N> + Send + Sync,
+    K: Keep + Send + Drop,
+    R: Threads + Wait + Clock + Net + Sync + Send + Copy + Drop,
+    G: Gate + Sync,
+    E: Entrance,
+>(
+    common: &Common<'_, R, G>,
+    pen: &mut Mutex<Pen<N, S, K, R>>,
+    seats: &mut Seats<N, S>,
+    readers: usize,
+    entrance: &mut E,
+) -> Result<(), StartFault> {
+    add_readers(pen.get_mut(), &mut seats.readers, readers)?;
     // For as long as the pen.
     let here = Common {
         rt: common.rt,
@@ -128,17 +147,24 @@ fn serve_topic<
         limit: common.limit,
         limits: common.limits,
     };
-    let seats = Seats {
-        passes: opened.passes,
-        readers: topic,
-    };
-    add_first::<N, Stored<Item, Shared, N>, K, Brand, R, G, E>(
-        &here,
-        &pen,
-        seats,
-        Unnamed::new(),
-        entrance,
-    )
+    add_first::<N, S, K, Brand, R, G, E>(&here, pen, seats, Unnamed::new(), entrance)
+}
+
+/// Adds so many readers of the topic.
+fn add_readers<
+    N: FeedName<Item, Shared>,
+    S: Copies<Item, Shared, N>,
+    K: Keep + Drop,
+    R: Wait + Drop,
+>(
+    pen: &mut Pen<N, S, K, R>,
+    readers: &mut Vec<FeedReader<Item, Shared, N, S>>,
+    count: usize,
+) -> Result<(), StartFault> {
+    for _reader in 0..count {
+        readers.push(pen.reader()?)?;
+    }
+    Ok(())
 }
 
 /// Makes the first node's feed, and goes on with the next one if there is one.
@@ -154,25 +180,31 @@ fn add_first<
 >(
     common: &'x Common<'x, R, G>,
     pen: &'x Mutex<Pen<N, S, K, R>>,
-    seats: Seats<N, S>,
+    seats: &mut Seats<N, S>,
     list: Unnamed<Draw>,
     entrance: &mut E,
 ) -> Result<(), StartFault>
     requires { (list.reached.book ≡ L.book) × (L.first ≡ empty) }
 {
-    let mut seats = seats;
-    let first = make_parts::<N, S, L, R, G>(common, &mut seats, list)?;
+    let first = make_parts::<N, S, L, R, G>(common, seats, list)?;
     if common.nodes <= 1 {
-        return hold_one(common, pen, seats.passes, first, entrance);
+        let listeners = entrance.listen()?;
+        let stage = Stage {
+            common,
+            pen,
+            listeners: &listeners,
+        };
+        hold_one(&stage, &mut seats.passes, &first, entrance)
+    } else {
+        add_second::<N, S, K, L, Stored<Draw, Taken, L>, Brand, R, G, E>(
+            common,
+            pen,
+            seats,
+            &first,
+            Unnamed::new(),
+            entrance,
+        )
     }
-    add_second::<N, S, K, L, Stored<Draw, Taken, L>, Brand, R, G, E>(
-        common,
-        pen,
-        seats,
-        first,
-        Unnamed::new(),
-        entrance,
-    )
 }
 
 /// Makes the second node's feed, and goes on with the next one if there is one.
@@ -190,27 +222,33 @@ fn add_second<
 >(
     common: &'x Common<'x, R, G>,
     pen: &'x Mutex<Pen<N, S, K, R>>,
-    seats: Seats<N, S>,
-    first: Parts<N, S, L, T, R>,
+    seats: &mut Seats<N, S>,
+    first: &'x Parts<N, S, L, T, R>,
     list: Unnamed<Draw>,
     entrance: &mut E,
 ) -> Result<(), StartFault>
     requires { (list.reached.book ≡ M.book) × (M.first ≡ empty) }
 {
-    let mut seats = seats;
-    let second = make_parts::<N, S, M, R, G>(common, &mut seats, list)?;
+    let second = make_parts::<N, S, M, R, G>(common, seats, list)?;
     if common.nodes <= 2 {
-        return hold_two(common, pen, seats.passes, first, second, entrance);
+        let listeners = entrance.listen()?;
+        let stage = Stage {
+            common,
+            pen,
+            listeners: &listeners,
+        };
+        hold_two(&stage, &mut seats.passes, first, &second, entrance)
+    } else {
+        add_third::<N, S, K, L, T, M, Stored<Draw, Taken, M>, Brand, R, G, E>(
+            common,
+            pen,
+            seats,
+            first,
+            &second,
+            Unnamed::new(),
+            entrance,
+        )
     }
-    add_third::<N, S, K, L, T, M, Stored<Draw, Taken, M>, Brand, R, G, E>(
-        common,
-        pen,
-        seats,
-        first,
-        second,
-        Unnamed::new(),
-        entrance,
-    )
 }
 
 /// Makes the third node's feed.
@@ -230,15 +268,20 @@ fn add_third<
 >(
     common: &'x Common<'x, R, G>,
     pen: &'x Mutex<Pen<N, S, K, R>>,
-    seats: Seats<N, S>,
-    first: Parts<N, S, L, T, R>,
-    second: Parts<N, S, M, U, R>,
+    seats: &mut Seats<N, S>,
+    first: &'x Parts<N, S, L, T, R>,
+    second: &'x Parts<N, S, M, U, R>,
     list: Unnamed<Draw>,
     entrance: &mut E,
 ) -> Result<(), StartFault>
     requires { (list.reached.book ≡ O.book) × (O.first ≡ empty) }
 {
-    let mut seats = seats;
-    let third = make_parts::<N, S, O, R, G>(common, &mut seats, list)?;
-    hold_three(common, pen, seats.passes, first, second, third, entrance)
+    let third = make_parts::<N, S, O, R, G>(common, seats, list)?;
+    let listeners = entrance.listen()?;
+    let stage = Stage {
+        common,
+        pen,
+        listeners: &listeners,
+    };
+    hold_three(&stage, &mut seats.passes, first, second, &third, entrance)
 }

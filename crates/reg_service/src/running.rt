@@ -1,8 +1,11 @@
 // Threads over one, two or three nodes, of which each has types of its own.
+use crate::common::Common;
+use crate::entrance::Entrance;
 use crate::error::StartFault;
 use reg_conversation::SharedDesk;
-use reg_serve::{Follow, Latch, Node, begin, open_node};
+use reg_serve::{Follow, Node, begin, open_node};
 use std::alloc::Global;
+use std::mem;
 use std::sync::Wait;
 use std::thread::{self, Threads};
 use std::time::Clock;
@@ -14,29 +17,24 @@ pub(crate) fn serve_one<
     D1: SharedDesk<Standing = T1> + Send + Drop + 's,
     W1: Follow + Sync + Drop + 's,
     R: Threads + Wait + Clock + Sync + 's,
-    F: FnOnce() -> bool,
+    G,
+    E: Entrance,
 >(
-    rt: &'s R,
-    alloc: Global,
-    latch: &'s Latch,
-    limit: Option<u64>,
+    common: &'s Common<'s, R, G>,
     first: &'s Node<'s, W1, T1>,
-    first_desks: Vec<D1>,
-    ready: F,
-) -> Result<(), StartFault>
-    requires { F.IsAlwaysCallable ready }
-{
-    thread::scope(
-        thread::scope_env(),
-        rt,
-        |scope| -> Result<(), StartFault>
-            requires { F.IsAlwaysCallable ready }
-        {
-            let started = open_node(scope, rt, alloc, latch, first, first_desks, limit);
-            begin(latch, started, ready)?;
-            Ok(())
-        },
-    )
+    first_desks: &mut Vec<D1>,
+    entrance: &mut E,
+) -> Result<(), StartFault> {
+    let rt = common.rt;
+    let alloc = common.alloc;
+    let latch = common.latch;
+    let limit = common.limit;
+    thread::scope(thread::scope_env(), rt, |scope| -> Result<(), StartFault> {
+        let desks = take(first_desks, alloc);
+        let started = open_node(scope, rt, alloc, latch, first, desks, limit);
+        begin(latch, started, || entrance.ready())?;
+        Ok(())
+    })
 }
 
 /// Serves by two nodes: starts their threads, lets them begin, and returns once all have ended.
@@ -49,35 +47,33 @@ pub(crate) fn serve_two<
     D2: SharedDesk<Standing = T2> + Send + Drop + 's,
     W2: Follow + Sync + Drop + 's,
     R: Threads + Wait + Clock + Sync + 's,
-    F: FnOnce() -> bool,
+    G,
+    E: Entrance,
 >(
-    rt: &'s R,
-    alloc: Global,
-    latch: &'s Latch,
-    limit: Option<u64>,
+    common: &'s Common<'s, R, G>,
     first: &'s Node<'s, W1, T1>,
-    first_desks: Vec<D1>,
+    first_desks: &mut Vec<D1>,
     second: &'s Node<'s, W2, T2>,
-    second_desks: Vec<D2>,
-    ready: F,
-) -> Result<(), StartFault>
-    requires { F.IsAlwaysCallable ready }
-{
-    thread::scope(
-        thread::scope_env(),
-        rt,
-        |scope| -> Result<(), StartFault>
-            requires { F.IsAlwaysCallable ready }
-        {
-            let started = open_node(scope, rt, alloc, latch, first, first_desks, limit);
-            let started = match started {
-                Ok(()) => open_node(scope, rt, alloc, latch, second, second_desks, limit),
-                Err(e) => Err(e),
-            };
-            begin(latch, started, ready)?;
-            Ok(())
-        },
-    )
+    second_desks: &mut Vec<D2>,
+    entrance: &mut E,
+) -> Result<(), StartFault> {
+    let rt = common.rt;
+    let alloc = common.alloc;
+    let latch = common.latch;
+    let limit = common.limit;
+    thread::scope(thread::scope_env(), rt, |scope| -> Result<(), StartFault> {
+        let desks = take(first_desks, alloc);
+        let started = open_node(scope, rt, alloc, latch, first, desks, limit);
+        let started = match started {
+            Ok(()) => {
+                let desks = take(second_desks, alloc);
+                open_node(scope, rt, alloc, latch, second, desks, limit)
+            }
+            Err(e) => Err(e),
+        };
+        begin(latch, started, || entrance.ready())?;
+        Ok(())
+    })
 }
 
 /// Serves by three nodes: starts their threads, lets them begin, and returns once all have ended.
@@ -93,39 +89,45 @@ pub(crate) fn serve_three<
     D3: SharedDesk<Standing = T3> + Send + Drop + 's,
     W3: Follow + Sync + Drop + 's,
     R: Threads + Wait + Clock + Sync + 's,
-    F: FnOnce() -> bool,
+    G,
+    E: Entrance,
 >(
-    rt: &'s R,
-    alloc: Global,
-    latch: &'s Latch,
-    limit: Option<u64>,
+    common: &'s Common<'s, R, G>,
     first: &'s Node<'s, W1, T1>,
-    first_desks: Vec<D1>,
+    first_desks: &mut Vec<D1>,
     second: &'s Node<'s, W2, T2>,
-    second_desks: Vec<D2>,
+    second_desks: &mut Vec<D2>,
     third: &'s Node<'s, W3, T3>,
-    third_desks: Vec<D3>,
-    ready: F,
-) -> Result<(), StartFault>
-    requires { F.IsAlwaysCallable ready }
-{
-    thread::scope(
-        thread::scope_env(),
-        rt,
-        |scope| -> Result<(), StartFault>
-            requires { F.IsAlwaysCallable ready }
-        {
-            let started = open_node(scope, rt, alloc, latch, first, first_desks, limit);
-            let started = match started {
-                Ok(()) => open_node(scope, rt, alloc, latch, second, second_desks, limit),
-                Err(e) => Err(e),
-            };
-            let started = match started {
-                Ok(()) => open_node(scope, rt, alloc, latch, third, third_desks, limit),
-                Err(e) => Err(e),
-            };
-            begin(latch, started, ready)?;
-            Ok(())
-        },
-    )
+    third_desks: &mut Vec<D3>,
+    entrance: &mut E,
+) -> Result<(), StartFault> {
+    let rt = common.rt;
+    let alloc = common.alloc;
+    let latch = common.latch;
+    let limit = common.limit;
+    thread::scope(thread::scope_env(), rt, |scope| -> Result<(), StartFault> {
+        let desks = take(first_desks, alloc);
+        let started = open_node(scope, rt, alloc, latch, first, desks, limit);
+        let started = match started {
+            Ok(()) => {
+                let desks = take(second_desks, alloc);
+                open_node(scope, rt, alloc, latch, second, desks, limit)
+            }
+            Err(e) => Err(e),
+        };
+        let started = match started {
+            Ok(()) => {
+                let desks = take(third_desks, alloc);
+                open_node(scope, rt, alloc, latch, third, desks, limit)
+            }
+            Err(e) => Err(e),
+        };
+        begin(latch, started, || entrance.ready())?;
+        Ok(())
+    })
+}
+
+/// Takes all desks.
+fn take<D>(desks: &mut Vec<D>, alloc: Global) -> Vec<D> {
+    mem::replace(desks, Vec::new(alloc))
 }

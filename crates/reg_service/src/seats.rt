@@ -13,6 +13,7 @@ use reg_pen::{Keep, Pass, Pen};
 use reg_serve::Node;
 use reg_shared::Shared;
 use reg_topic::Item;
+use std::alloc::Global;
 use std::net::{Net, TcpListener};
 use std::sync::{Mutex, Wait};
 
@@ -42,8 +43,24 @@ pub(crate) struct Parts<
     U: Copies<Draw, Taken, M>,
     R: Wait + Drop,
 > {
-    pub(crate) follower: Follower<N, S, M, U, R>,
-    pub(crate) views: Vec<View<M, U>>,
+    pub(crate) follower: Mutex<Follower<N, S, M, U, R>>,
+    /// In a `Mutex`, so that parts can be lent by `&`.
+    pub(crate) views: Mutex<Vec<View<M, U>>>,
+}
+
+/// Where nodes are made: what they share, the pen of the topic, and where they listen.
+#[derive(Drop)]
+pub(crate) struct Stage<
+    'a,
+    N: FeedName<Item, Shared>,
+    S: Copies<Item, Shared, N>,
+    K: Keep + Drop,
+    R: Wait + Drop,
+    G,
+> {
+    pub(crate) common: &'a Common<'a, R, G>,
+    pub(crate) pen: &'a Mutex<Pen<N, S, K, R>>,
+    pub(crate) listeners: &'a [TcpListener],
 }
 
 /// Makes a node's feed, its follower and its views.
@@ -60,6 +77,28 @@ pub(crate) fn make_parts<
 ) -> Result<Parts<N, S, M, Stored<Draw, Taken, M>, R>, StartFault>
     requires { (list.reached.book ≡ M.book) × (M.first ≡ empty) }
 {
+    let mut follower = make_follower::<N, S, M, R, G>(common, seats, list)?;
+    let views = begin_to_follow(&mut follower, common.alloc, common.workers.max(1))?;
+    Ok(Parts {
+        follower: Mutex::new(follower),
+        views: Mutex::new(views),
+    })
+}
+
+/// Makes a node's feed and its follower, which has read nothing yet.
+fn make_follower<
+    N: FeedName<Item, Shared>,
+    S: Copies<Item, Shared, N>,
+    M: FeedName<Draw, Taken>,
+    R: Wait + Copy + Drop,
+    G,
+>(
+    common: &Common<'_, R, G>,
+    seats: &mut Seats<N, S>,
+    list: Unnamed<Draw>,
+) -> Result<Follower<N, S, M, Stored<Draw, Taken, M>, R>, StartFault>
+    requires { (list.reached.book ≡ M.book) × (M.first ≡ empty) }
+{
     let alloc = common.alloc;
     let topic = seats.readers.pop().ok_or(StartFault::NoPlace)?;
     let workers = common.workers.max(1);
@@ -70,7 +109,21 @@ pub(crate) fn make_parts<
         Taken::new(alloc),
         workers as usize,
     )?;
-    let mut follower = Follower::new(topic, Box::new(alloc, out)?);
+    Ok(Follower::new(topic, Box::new(alloc, out)?))
+}
+
+/// Reads the topic, and makes so many views of what was read.
+fn begin_to_follow<
+    N: FeedName<Item, Shared>,
+    S: Copies<Item, Shared, N>,
+    M: FeedName<Draw, Taken>,
+    U: Copies<Draw, Taken, M>,
+    R: Wait + Drop,
+>(
+    follower: &mut Follower<N, S, M, U, R>,
+    alloc: Global,
+    workers: u32,
+) -> Result<Vec<View<M, U>>, StartFault> {
     // What the topic begins with is there before the first request is.
     follower.pull()?;
     follower.publish()?;
@@ -78,7 +131,7 @@ pub(crate) fn make_parts<
     for _worker in 0..workers {
         views.push(follower.view()?)?;
     }
-    Ok(Parts { follower, views })
+    Ok(views)
 }
 
 /// A desk of a node for each view, with a judge of its own.
@@ -104,9 +157,7 @@ pub(crate) fn make_desks<
     let alloc = common.alloc;
     let mut desks = Vec::new(alloc);
     for view in views {
-        let Some(pass) = passes.pop() else {
-            return Err(StartFault::NoPlace);
-        };
+        let pass = passes.pop().ok_or(StartFault::NoPlace)?;
         let judge = Judge::new(alloc, common.keys, SCHEMAS, VERDICTS)?;
         let desk = NodeDesk::new(
             common.rt,
@@ -124,8 +175,7 @@ pub(crate) fn make_desks<
     Ok(desks)
 }
 
-/// The node of that number, which isn't opened yet. Where there are three nodes, each is made in place: through a call
-/// the borrow checker takes a reference in it to stand at several lifetimes at once, and refuses it.
+/// The node of that number, which isn't opened yet.
 pub(crate) fn make_node<
     'a,
     'x: 'a,
