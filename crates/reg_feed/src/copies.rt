@@ -3,20 +3,29 @@
 // in its place.
 ghost use Rattle.std.specs.Prelude.{◌≡◌, List, fold};
 ghost use Rattle.reg_feed.specs.Growing.{grown};
+ghost use Rattle.reg_feed.specs.Published.{WasPublished};
 
 use crate::fold::Fold;
-use crate::seen::FeedName;
+use crate::front::FeedName;
 use crate::stored::{Op, Stored};
+use crossbeam_utils::rule::Protocol;
 use left_right::Absorb;
 
-/// A copy of a feed's list with the value that it folds to.
-pub trait Copies<T: Drop, V: Fold<T> + Drop, N: FeedName<T, V>>: Absorb<Op<T, V, N>> + Drop {
+/// A copy of a feed's list with the value that it folds to. Its rule is that what readers are shown was
+/// published.
+pub trait Copies<T: Drop, V: Fold<T> + Drop, N: FeedName<T, V>>: Absorb<Op<T, V, N>>
+    + Protocol<Self, ()>
+    + Drop {
     ghost list: { Self → List T };
 
     fn stored(&self) -> &Stored<T, V, N>
         ensures { result.now ≡ list self.now };
 
     ghost grows: { (x y : Self) (fronts : List (List T)) → Self.state y ≡ fold Self.applied (Self.state x) fronts → list y ≡ fold grown (list x) fronts };
+
+    ghost shows: { (x : Self) (views : List (Unit {0})) → Self.holds x views → WasPublished (V.publishes N.first) (list x) };
+
+    ghost may_show: { (x : Self) (views : List (Unit {0})) → WasPublished (V.publishes N.first) (list x) → Self.holds x views };
 }
 
 impl<T: Drop, V: Fold<T> + Drop, N: FeedName<T, V>> Copies<T, V, N> for Stored<T, V, N> {
@@ -27,4 +36,8 @@ impl<T: Drop, V: Fold<T> + Drop, N: FeedName<T, V>> Copies<T, V, N> for Stored<T
     }
 
     ghost grows = { λ x y fronts is. is };
+
+    ghost shows = { λ x views is. is };
+
+    ghost may_show = { λ x views is. is };
 }

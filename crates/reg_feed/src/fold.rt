@@ -1,11 +1,15 @@
 // What the items of a list come to.
-ghost use Rattle.std.specs.Prelude.{◌≡◌, OnErr, OnOk};
+ghost use Rattle.std.specs.Prelude.{◌≡◌, List, OnErr, OnOk};
 
 use std::alloc::AllocError;
 
 /// A value that takes in items, one after the other.
 pub trait Fold<T> {
     ghost applied: { Self → T → Self };
+
+    // A fact of each list that a feed over that first value publishes: `FeedWriter::publish` asks it, and
+    // `FeedReader::read` gives it. To a feed it is any fact at all, so what it shows was published.
+    ghost publishes: { Self → List T → Type 0 } = { λ first list. Unit {0} };
 
     /// The only error is out of memory; the value is then as it was.
     fn take_item(&mut self, item: &T) -> Result<(), AllocError>

@@ -3,14 +3,17 @@
 
 mod copies;
 mod fold;
+mod front;
 mod reader;
 mod seen;
+mod shelf;
 mod stored;
 mod writer;
 
 pub use copies::Copies;
 pub use fold::Fold;
+pub use front::{FeedName, Unnamed};
 pub use reader::FeedReader;
-pub use seen::{FeedName, Seen, Unnamed};
+pub use seen::Seen;
 pub use stored::{Op, Stored};
 pub use writer::{FeedWriter, NoPlace, feed};

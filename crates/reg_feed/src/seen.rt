@@ -1,139 +1,55 @@
-// Fronts of a feed's one list.
-ghost use Rattle.std.specs.Prelude.{◌≡◌, ◌+◌, ◌<◌, ◌≤◌, ◌++◌, ◌∷◌, ◌⊎◌, [], length, MatchBool};
+// Fronts of a feed's list that readers were shown.
+ghost use Rattle.std.specs.Prelude.{◌≡◌, ◌<◌, ◌⊎◌, length, MatchBool};
 ghost use mathlib.Core.List.{IsPrefix};
-ghost use Rattle.reg_feed.specs.Fronts.{head_of};
+ghost use Rattle.reg_feed.specs.Published.{WasPublished};
 
 use crate::fold::Fold;
-use logbook::{Gain, Offer, Plain, Play, Rule, Seen as Reached, Start, Word};
-use std::marker::{Model, PhantomData};
+use crate::front::{FeedName, Front};
+use std::marker::Model;
 
-/// What holds of the word that counts the items: it is their number.
-pub struct Law;
-
-impl<T> Rule<T, u64> for Law {
-    ghost use Rattle.std.specs.Prelude.{[]};
-    ghost use base.Fml.{ftrue};
-    ghost use Rattle.reg_feed.specs.Fronts.{IsKept};
-
-    ghost holds = { λ cells log. IsKept cells log };
-
-    ghost first = { [] };
-
-    ghost hinted = { λ n log. Unit {0} };
-
-    ghost shows = { λ log. [] };
-
-    ghost keeps = { λ names log. ftrue };
-
-    ghost moves = { λ ask before after answer. Unit {0} };
-}
-
-/// Callers trade nothing.
-pub struct Nothing;
-
-impl<T> Gain<T, u64> for Nothing {
-    ghost use base.Fml.{ftrue};
-
-    ghost after = { λ names about answer. ftrue };
-}
-
-/// A step that adds an item.
-pub struct Add;
-
-impl<T> Play<T, u64> for Add {
-    ghost use Rattle.reg_feed.specs.Fronts.{Adds};
-
-    ghost then = { Adds };
-}
-
-/// What a step asks for: the item.
-impl<T> Plain<T, T, u64> for Add {
-    ghost use Rattle.std.specs.Prelude.{None};
-
-    ghost ask = { λ item. item };
-
-    ghost state = { λ item. None };
-}
-
-/// Which feed it is, and what its list begins to be folded from. Each call of a program picks both.
-pub trait FeedName<T, V: Fold<T>> {
-    ghost use Rattle.logbook.specs.Pages.{Book};
-
-    ghost book: { Book };
-
-    ghost first: { V };
-}
-
-/// A list without items, which has no name yet.
-#[derive(Drop)]
-pub struct Unnamed<T> {
-    head: Word<T, u64, Law>,
-    reached: Reached<T, u64, Law>,
-    pub ghost empty: { reached.log ≡ [] },
-    pub ghost head_is: { head ≡ head_of reached.book },
-}
-
-impl<T> Unnamed<T> {
-    pub fn new() -> Unnamed<T> {
-        let (reached, mut first, _second) = Reached::open(Start::alone(), 0, 0);
-        Unnamed {
-            head: Word::tracked(0, &mut first),
-            reached,
-        }
-    }
-
-    /// The word that counts the items, under a name, and the front that has none.
-    pub(crate) fn named<V: Fold<T>, N: FeedName<T, V>>(self) -> (History<T, V, N>, Seen<T, V, N>)
-        requires { self.reached.book ≡ N.book }
-        ensures { result.1 ≡ [] }
-    {
-        let Unnamed { head, reached } = self;
-        (
-            History {
-                head,
-                of: PhantomData,
-            },
-            Seen {
-                count: 0,
-                reached,
-                of: PhantomData,
-            },
-        )
-    }
-}
-
-/// The word that counts the items.
-#[derive(Drop)]
-pub struct History<T, V: Fold<T>, N: FeedName<T, V>> {
-    head: Word<T, u64, Law>,
-    of: PhantomData<(V, N)>,
-    ghost head_is: { head ≡ head_of N.book },
-}
-
-/// A front of a feed's list. Contracts see it as its items; it holds none of them.
+/// A list that a feed published. Contracts see it as its items; it holds none of them.
 #[derive(Drop)]
 pub struct Seen<T, V: Fold<T>, N: FeedName<T, V>> {
-    count: u64,
-    reached: Reached<T, u64, Law>,
-    of: PhantomData<(V, N)>,
+    front: Front<T, V, N>,
 }
 
 impl<T, V: Fold<T>, N: FeedName<T, V>> Model for Seen<T, V, N> {
-    ghost use Rattle.std.specs.Prelude.{◌≡◌, List, length};
+    ghost use Rattle.std.specs.Prelude.{List};
+    ghost use Rattle.reg_feed.specs.Published.{WasPublished};
 
     ghost Value = { List T };
 
-    ghost view = { λ f. f.reached.log };
+    ghost view = { λ s. s.front };
 
-    ghost invariant = { λ f. (f.count ≡ length f.reached.log) × (f.reached.book ≡ N.book) };
+    ghost invariant = { λ s. WasPublished (V.publishes N.first) s.front };
 }
 
 impl<T, V: Fold<T>, N: FeedName<T, V>> Seen<T, V, N> {
+    pub(crate) fn of(front: Front<T, V, N>) -> Seen<T, V, N>
+        requires { WasPublished (V.publishes N.first) front }
+        ensures { result ≡ front }
+    {
+        Seen { front }
+    }
+
+    pub(crate) fn front(&self) -> &Front<T, V, N>
+        ensures { result.now ≡ self.now }
+    {
+        &self.front
+    }
+
+    /// It was published. This costs nothing at run time.
+    pub fn was_published(&self)
+        ensures { WasPublished (V.publishes N.first) self.now }
+    {
+        let _front = &self.front;
+    }
+
     /// How many items it has.
     pub fn len(&self) -> u64
         ensures { result ≡ length self.now }
     {
-        self.count
+        self.front.len()
     }
 
     /// A copy.
@@ -141,9 +57,7 @@ impl<T, V: Fold<T>, N: FeedName<T, V>> Seen<T, V, N> {
         ensures { result ≡ self.now }
     {
         Seen {
-            count: self.count,
-            reached: self.reached.again(),
-            of: PhantomData,
+            front: self.front.again(),
         }
     }
 
@@ -151,12 +65,7 @@ impl<T, V: Fold<T>, N: FeedName<T, V>> Seen<T, V, N> {
     pub fn begins(&self, other: &Seen<T, V, N>) -> bool
         ensures { MatchBool result (IsPrefix self.now other.now) ((length other.now < length self.now) × IsPrefix other.now self.now) }
     {
-        let mut both = self.reached.again();
-        both.learn(&other.reached);
-        if other.count < self.count {
-            return false;
-        }
-        true
+        self.front.begins(&other.front)
     }
 
     /// The longer of two fronts, which begins with the other.
@@ -170,27 +79,5 @@ impl<T, V: Fold<T>, N: FeedName<T, V>> Seen<T, V, N> {
         } else {
             self.again()
         }
-    }
-
-    /// Adds an item behind this front, where that is the whole list. With one writer it always is.
-    pub(crate) fn add(&mut self, history: &History<T, V, N>, item: &T) -> bool
-        ensures { MatchBool result (self.new ≡ self.old ++ item.now ∷ []) (self.new ≡ self.old) }
-    {
-        let count = self.count;
-        if count == u64::MAX {
-            return false;
-        }
-        let mut reached = self.reached.again();
-        let mut offer: Offer<T, u64, Law, Nothing> = reached.plain::<Nothing, T, Add>(item);
-        let mut pen = reached.no_pen();
-        let found = history
-            .head
-            .compare_exchange::<Add, Nothing>(count, count + 1, &mut reached, &mut offer, &mut pen);
-        if found != count {
-            return false;
-        }
-        self.count = count + 1;
-        self.reached = reached;
-        true
     }
 }

@@ -4,7 +4,8 @@ ghost use Rattle.std.specs.Prelude.{◌≡◌, ◌++◌, ◌∷◌, [], List, On
 ghost use Rattle.reg_feed.specs.Growing.{grown};
 
 use crate::fold::Fold;
-use crate::seen::{FeedName, Seen};
+use crate::front::{FeedName, Front};
+use crossbeam_utils::rule::Protocol;
 use left_right::Absorb;
 use std::alloc::AllocError;
 use std::marker::Model;
@@ -13,7 +14,7 @@ use std::marker::Model;
 #[derive(Drop)]
 pub struct Op<T, V: Fold<T>, N: FeedName<T, V>> {
     item: T,
-    seen: Seen<T, V, N>,
+    front: Front<T, V, N>,
 }
 
 impl<T, V: Fold<T>, N: FeedName<T, V>> Model for Op<T, V, N> {
@@ -21,16 +22,16 @@ impl<T, V: Fold<T>, N: FeedName<T, V>> Model for Op<T, V, N> {
 
     ghost Value = { List T };
 
-    ghost view = { λ o. o.seen };
+    ghost view = { λ o. o.front };
 
-    ghost invariant = { λ o. (l : List T) × (o.seen ≡ l ++ o.item ∷ []) };
+    ghost invariant = { λ o. (l : List T) × (o.front ≡ l ++ o.item ∷ []) };
 }
 
 /// The value that a list folds to, and the front that the list is. Contracts see the list.
 #[derive(Drop)]
 pub struct Stored<T, V: Fold<T>, N: FeedName<T, V>> {
     value: V,
-    seen: Seen<T, V, N>,
+    front: Front<T, V, N>,
 }
 
 impl<T, V: Fold<T>, N: FeedName<T, V>> Model for Stored<T, V, N> {
@@ -38,9 +39,9 @@ impl<T, V: Fold<T>, N: FeedName<T, V>> Model for Stored<T, V, N> {
 
     ghost Value = { List T };
 
-    ghost view = { λ s. s.seen };
+    ghost view = { λ s. s.front };
 
-    ghost invariant = { λ s. s.value ≡ fold V.applied N.first s.seen };
+    ghost invariant = { λ s. s.value ≡ fold V.applied N.first s.front };
 }
 
 impl<T: Drop, V: Fold<T> + Drop, N: FeedName<T, V>> Absorb<Op<T, V, N>> for Stored<T, V, N> {
@@ -62,23 +63,32 @@ impl<T: Drop, V: Fold<T> + Drop, N: FeedName<T, V>> Absorb<Op<T, V, N>> for Stor
     }
 }
 
+/// What readers are shown was published.
+impl<T, V: Fold<T>, N: FeedName<T, V>> Protocol<Stored<T, V, N>, ()> for Stored<T, V, N> {
+    ghost use Rattle.reg_feed.specs.Published.{WasPublished};
+
+    ghost holds = { λ shown views. WasPublished (V.publishes N.first) shown };
+
+    ghost first = { tt };
+}
+
 impl<T, V: Fold<T>, N: FeedName<T, V>> Op<T, V, N> {
-    pub(crate) fn new(item: T, seen: Seen<T, V, N>) -> Op<T, V, N>
-        requires ends { (l : List T) × (seen ≡ l ++ item ∷ []) }
-        ensures { result ≡ seen }
+    pub(crate) fn new(item: T, front: Front<T, V, N>) -> Op<T, V, N>
+        requires ends { (l : List T) × (front ≡ l ++ item ∷ []) }
+        ensures { result ≡ front }
     {
-        Op { item, seen }
+        Op { item, front }
     }
 }
 
 impl<T, V: Fold<T>, N: FeedName<T, V>> Stored<T, V, N> {
-    pub(crate) fn new(value: V, origin: &Seen<T, V, N>) -> Stored<T, V, N>
+    pub(crate) fn new(value: V, origin: &Front<T, V, N>) -> Stored<T, V, N>
         requires { (origin.now ≡ []) × (value ≡ N.first) }
         ensures { result ≡ [] }
     {
         Stored {
             value,
-            seen: origin.again(),
+            front: origin.again(),
         }
     }
 
@@ -88,10 +98,10 @@ impl<T, V: Fold<T>, N: FeedName<T, V>> Stored<T, V, N> {
         &self.value
     }
 
-    pub(crate) fn seen(&self) -> &Seen<T, V, N>
+    pub(crate) fn front(&self) -> &Front<T, V, N>
         ensures { result.now ≡ self.now }
     {
-        &self.seen
+        &self.front
     }
 }
 
@@ -102,12 +112,12 @@ impl<T: Drop, V: Fold<T> + Drop, N: FeedName<T, V>> Stored<T, V, N> {
         ensures taken { OnOk result (self.new ≡ grown self.old op.now) }
         ensures refused { OnErr result (self.new ≡ self.old) }
     {
-        if op.seen.len() - 1 != self.seen.len() {
+        if op.front.len() - 1 != self.front.len() {
             return Ok(());
         }
-        let seen = self.seen.longer(&op.seen);
+        let front = self.front.longer(&op.front);
         self.value.take_item(&op.item)?;
-        self.seen = seen;
+        self.front = front;
         Ok(())
     }
 }

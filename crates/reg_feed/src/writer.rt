@@ -1,14 +1,15 @@
 // The one writer of a feed.
-ghost use Rattle.std.specs.Prelude.{◌≡◌, ◌<◌, ◌^◌, ◌++◌, ◌∷◌, [], length, fold, IfOk, OnErr, OnOk, MatchBool, MatchResult, None, option_to_list};
-ghost use Rattle.left_right.specs.Handles.{published, pending};
+ghost use Rattle.std.specs.Prelude.{◌≡◌, ◌<◌, ◌^◌, ◌++◌, ◌∷◌, [], length, drop, fold, IfOk, OnErr, OnOk, MatchBool, MatchResult, None, option_to_list};
 ghost use Rattle.reg_feed.specs.Growing.{grown};
+ghost use Rattle.reg_feed.specs.Published.{WasPublished};
 
 use crate::copies::Copies;
 use crate::fold::Fold;
+use crate::front::{FeedName, Front, History, Unnamed};
 use crate::reader::FeedReader;
-use crate::seen::{FeedName, History, Seen, Unnamed};
+use crate::seen::Seen;
+use crate::shelf::Shelf;
 use crate::stored::{Op, Stored};
-use left_right::WriteHandle;
 use std::alloc::{AllocError, Global};
 use std::error::Error;
 use std::fmt;
@@ -44,10 +45,10 @@ pub struct FeedWriter<
 > {
     history: History<T, V, N>,
     // The published items and the pending ones.
-    whole: Seen<T, V, N>,
+    whole: Front<T, V, N>,
     // No item.
     origin: Seen<T, V, N>,
-    writer: WriteHandle<S, Op<T, V, N>, R>,
+    shelf: Shelf<S, Op<T, V, N>, R>,
     // The last pending item, if it isn't in the writer's log yet.
     next: Option<Op<T, V, N>>,
 }
@@ -56,12 +57,13 @@ impl<T: Drop, V: Fold<T> + Drop, N: FeedName<T, V>, S: Copies<T, V, N>, R: Wait 
     for FeedWriter<T, V, N, S, R> {
     ghost use Rattle.std.specs.Prelude.{◌≡◌, ◌++◌, List, [], length, drop, option_to_list};
     ghost use Rattle.reg_feed.specs.Growing.{GrowsTo};
+    ghost use Rattle.reg_feed.specs.Published.{WasPublished};
 
     ghost Value = { List T × List T };
 
-    ghost view = { λ w. (S.list w.writer.writer.desk.shown.value, drop (length (S.list w.writer.writer.desk.shown.value)) w.whole) };
+    ghost view = { λ w. (S.list w.shelf.writer.desk.shown.value, drop (length (S.list w.shelf.writer.desk.shown.value)) w.whole) };
 
-    ghost invariant = { λ w. (w.origin ≡ []) × GrowsTo (S.list w.writer.writer.desk.shown.value) (drop w.writer.writer.behind w.writer.writer.log.items ++ option_to_list w.next) w.whole };
+    ghost invariant = { λ w. (w.origin ≡ []) × WasPublished (V.publishes N.first) (S.list w.shelf.writer.desk.shown.value) × GrowsTo (S.list w.shelf.writer.desk.shown.value) (drop w.shelf.writer.behind w.shelf.writer.log.items ++ option_to_list w.next) w.whole };
 }
 
 /// A feed whose list has no item, with places for so many readers. The only error is out of memory.
@@ -81,12 +83,12 @@ pub fn feed<T: Drop, V: Fold<T> + Clone + Drop, N: FeedName<T, V>, R: Wait + Dro
     let (history, origin) = list.named::<V, N>();
     let one = Stored::new(first, &origin);
     let other = Stored::new(second, &origin);
-    let writer = WriteHandle::new(alloc, rt, one, other, readers)?;
+    let shelf = Shelf::new(alloc, rt, one, other, readers)?;
     Ok(FeedWriter {
         history,
         whole: origin.again(),
-        origin,
-        writer,
+        origin: Seen::of(origin),
+        shelf,
         next: None,
     })
 }
@@ -94,17 +96,17 @@ pub fn feed<T: Drop, V: Fold<T> + Clone + Drop, N: FeedName<T, V>, R: Wait + Dro
 /// Brings an item into the log of the copies, if there is one. The only error is out of memory; all
 /// is then as it was.
 fn hand_over<T: Drop, V: Fold<T> + Drop, N: FeedName<T, V>, S: Copies<T, V, N>, R: Wait + Drop>(
-    writer: &mut WriteHandle<S, Op<T, V, N>, R>,
+    shelf: &mut Shelf<S, Op<T, V, N>, R>,
     next: &mut Option<Op<T, V, N>>,
 ) -> Result<(), AllocError>
-    ensures published { published writer.new ≡ published writer.old }
-    ensures pending { OnOk result ((pending writer.new ≡ pending writer.old ++ option_to_list next.old) × (next.new ≡ None)) }
-    ensures refused { OnErr result ((pending writer.new ≡ pending writer.old) × (next.new ≡ next.old)) }
+    ensures published { shelf.new.writer.desk.shown.value ≡ shelf.old.writer.desk.shown.value }
+    ensures pending { OnOk result ((drop shelf.new.writer.behind shelf.new.writer.log.items ≡ drop shelf.old.writer.behind shelf.old.writer.log.items ++ option_to_list next.old) × (next.new ≡ None)) }
+    ensures refused { OnErr result ((drop shelf.new.writer.behind shelf.new.writer.log.items ≡ drop shelf.old.writer.behind shelf.old.writer.log.items) × (next.new ≡ next.old)) }
 {
     let Some(op) = next.take() else {
         return Ok(());
     };
-    if let Err(op) = writer.append(op) {
+    if let Err(op) = shelf.append(op) {
         *next = Some(op);
         return Err(AllocError);
     }
@@ -113,12 +115,15 @@ fn hand_over<T: Drop, V: Fold<T> + Drop, N: FeedName<T, V>, S: Copies<T, V, N>, 
 
 /// Shows readers what is in the log of the copies.
 fn show<T: Drop, V: Fold<T> + Drop, N: FeedName<T, V>, S: Copies<T, V, N>, R: Wait + Drop>(
-    writer: &mut WriteHandle<S, Op<T, V, N>, R>,
+    shelf: &mut Shelf<S, Op<T, V, N>, R>,
 ) -> Result<(), AllocError>
-    ensures shown { OnOk result ((S.list (published writer.new) ≡ fold grown (S.list (published writer.old)) (pending writer.old)) × (pending writer.new ≡ [])) }
-    ensures refused { OnErr result ((published writer.new ≡ published writer.old) × (pending writer.new ≡ pending writer.old)) }
+    requires was { WasPublished (V.publishes N.first) (S.list shelf.old.writer.desk.shown.value) }
+    requires may { V.publishes N.first (fold grown (S.list shelf.old.writer.desk.shown.value) (drop shelf.old.writer.behind shelf.old.writer.log.items)) }
+    ensures published { WasPublished (V.publishes N.first) (S.list shelf.new.writer.desk.shown.value) }
+    ensures shown { OnOk result ((S.list (shelf.new.writer.desk.shown.value) ≡ fold grown (S.list (shelf.old.writer.desk.shown.value)) (drop shelf.old.writer.behind shelf.old.writer.log.items)) × (drop shelf.new.writer.behind shelf.new.writer.log.items ≡ [])) }
+    ensures refused { OnErr result ((shelf.new.writer.desk.shown.value ≡ shelf.old.writer.desk.shown.value) × (drop shelf.new.writer.behind shelf.new.writer.log.items ≡ drop shelf.old.writer.behind shelf.old.writer.log.items)) }
 {
-    writer.publish()
+    shelf.publish()
 }
 
 impl<T: Drop, V: Fold<T> + Drop, N: FeedName<T, V>, S: Copies<T, V, N>, R: Wait + Drop> FeedWriter<
@@ -134,7 +139,7 @@ impl<T: Drop, V: Fold<T> + Drop, N: FeedName<T, V>, S: Copies<T, V, N>, R: Wait 
         ensures published { self.new.0 ≡ self.old.0 }
         ensures pending { MatchResult result (λ _. self.new.1 ≡ self.old.1 ++ item ∷ []) (λ x. (x ≡ item) × (self.new.1 ≡ self.old.1)) }
     {
-        if hand_over(&mut self.writer, &mut self.next).is_err() {
+        if hand_over(&mut self.shelf, &mut self.next).is_err() {
             return Err(item);
         }
         if !self.whole.add(&self.history, &item) {
@@ -144,35 +149,37 @@ impl<T: Drop, V: Fold<T> + Drop, N: FeedName<T, V>, S: Copies<T, V, N>, R: Wait 
         Ok(())
     }
 
-    /// Publishes the pending items, all at once. It may wait for readers of an older list. The only
-    /// error is out of memory; the items then stay pending.
+    /// Publishes the pending items, all at once: no reader is shown them before this call, nor some of
+    /// them alone. It may wait for readers of an older list. The only error is out of memory; the items
+    /// then stay pending.
     pub fn publish(&mut self) -> Result<(), AllocError>
+        requires may { V.publishes N.first (self.old.0 ++ self.old.1) }
         ensures published { OnOk result (self.new ≡ (self.old.0 ++ self.old.1, [])) }
         ensures refused { OnErr result (self.new ≡ self.old) }
     {
-        hand_over(&mut self.writer, &mut self.next)?;
-        show(&mut self.writer)
+        hand_over(&mut self.shelf, &mut self.next)?;
+        show(&mut self.shelf)
     }
 
     /// The front that is the whole published list.
     pub fn tell(&self) -> Seen<T, V, N>
         ensures { result ≡ self.now.0 }
     {
-        self.writer.published().stored().seen().again()
+        Seen::of(self.shelf.published().stored().front().again())
     }
 
     /// What the published list folds to.
     pub fn value(&self) -> &V
         ensures { result.now ≡ fold V.applied N.first self.now.0 }
     {
-        self.writer.published().stored().value()
+        self.shelf.published().stored().value()
     }
 
     /// Whether an item is pending.
     pub fn has_pending(&self) -> bool
         ensures { MatchBool result (0 < length self.now.1) (self.now.1 ≡ []) }
     {
-        self.writer.published().stored().seen().len() < self.whole.len()
+        self.shelf.published().stored().front().len() < self.whole.len()
     }
 
     /// A reader that has seen nothing. It may be refused at any call.
@@ -180,7 +187,7 @@ impl<T: Drop, V: Fold<T> + Drop, N: FeedName<T, V>, S: Copies<T, V, N>, R: Wait 
         ensures new { IfOk result (λ r. r ≡ []) }
         ensures same { self.new ≡ self.old }
     {
-        match self.writer.handle() {
+        match self.shelf.reader() {
             Ok(reader) => Ok(FeedReader::new(reader, self.origin.again())),
             Err(_) => Err(NoPlace),
         }
