@@ -15,5 +15,5 @@ mod users;
 pub use data::Data;
 pub use error::SampleError;
 pub use laws::{samples_are_single, samples_are_values, values_have_samples};
-pub use limits::{MOST_LEVELS, MOST_PARTS, MOST_TEXT};
+pub use limits::{MOST_LEVELS, MOST_PARTS, MOST_TEXT, limits_are_as_written};
 pub use sampling::sample;

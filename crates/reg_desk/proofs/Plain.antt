@@ -5,7 +5,7 @@ use Rattle.reg_leader.specs.declared.reply.Reply.{Reply}
 use Rattle.reg_topic.specs.declared.published.Item.{Item}
 use Rattle.reg_topic.specs.declared.topic.Topic.{Topic}
 use Rattle.reg_pen.specs.Keep.{TakesAll}
-use Rattle.reg_desk.specs.Desk.{IsDeclined}
+use Rattle.reg_pen.specs.Pen.{IsDeclined}
 
 pub never_declined : {K : Type 0} (base : Topic) (front : List Item) (c : Command) (reply : Reply)
     → IsDeclined (TakesAll {K = K}) base front c reply → ⊥

@@ -1,6 +1,6 @@
 -- What the pen tells of a command.
 use Rattle.std.proofs.Common.{◌≡◌, ◌⊎◌, inl, inr, ◌+◌, ◌≤◌, List, [], ◌∷◌, ◌++◌, true, length, Option}
-use Rattle.std.proofs.Common.{Some, None, refl, sym, ap, subst, ◌∙◌, arith, length-append, Bor}
+use Rattle.std.proofs.Common.{Some, None, MatchBool, option_map, refl, sym, ap, subst, ◌∙◌, arith, length-append, Bor}
 use mathlib.Core.List.{IsPrefix}
 use Rattle.reg_records.specs.declared.record.Record.{Record}
 use Rattle.reg_leader.specs.declared.command.Command.{Command}
@@ -10,11 +10,12 @@ use Rattle.reg_topic.specs.declared.published.Item.{Item}
 use Rattle.reg_topic.specs.declared.published.Item.TheVariants as items
 use Rattle.reg_topic.specs.declared.topic.Topic.{Topic}
 use Rattle.reg_shared.specs.Held.{Held, base_of}
-use Rattle.reg_pen.specs.Pen.{Acts, Follows, IsBehind, IsStepAfter, PenState, Submits, StillPends, item_of, counted, settled}
+use Rattle.reg_pen.specs.Pen.{Acts, Follows, IsBehind, IsPen, IsStepAfter, PenState, Submits, StillPends, item_of, counted, settled}
+use Rattle.reg_pen.specs.Writing.{SubmitsAndCompacts}
 use Rattle.reg_pen.specs.declared.keep.Kept.{Kept}
 use Rattle.reg_pen.specs.declared.keep.Kept.TheVariants.{Taken, Declined, Lost}
 use Rattle.reg_node.specs.declared.take.Draw.{Draw}
-use Rattle.reg_desk.specs.Desk.{DeskCommands, IsFresh, IsNext, Known, Replies, front_of}
+use Rattle.reg_desk.specs.Desk.{DeskCommands, IsFresh, IsNext, IsSubmitted, IsWritten, Known, Replies, front_of}
 use Rattle.reg_desk.specs.Told.{IsTold, front_at}
 use Rattle.reg_desk.proofs.Fresh.{prefix_trans}
 
@@ -33,6 +34,10 @@ same_front before told found (inl e) p q =
     let here : IsPrefix told before = subst (λ (w : List _). IsPrefix told w) e p in
     let a : length told + length here.0 ≡ length before = sym (length-append told here.0) ∙ ap length here.1 in
     e ∙ no_more before told (omega (arith, a)) q
+
+front_is : (since : Option (Bor (List Item))) → front_at since ≡ front_of (option_map (λ (s : Bor (List Item)). s.now) since)
+front_is None = refl
+front_is (Some since) = refl
 
 behind_front : (since : Option (Bor (List Item))) (is : List Item) → IsBehind since is → IsPrefix (front_at since) is
 behind_front None is h = (is, refl)
@@ -126,18 +131,44 @@ module _ {K : Type 0} (keeps : K → List Record → Kept → K → Type 0) wher
   is_next base before told found c reply (inr next) grows same =
       subst (λ (w : List Item). IsNext keeps base before c reply w) (sym (same next.grows)) next
 
-  -- the view may show more before the command is submitted, and again after it
-  pub commands : (first : Held) (inside before after : Known) (c : Command) (reply : Reply) (front : List Item) (shown : List Draw)
-      → inside ≡ before → after.seen ≡ Some front
-      → after.submits ≡ counted inside.submits → IsNext keeps (base_of first) (front_of inside.seen) c reply front
-      → IsPrefix inside.view shown → IsPrefix shown after.view
-      → (after.fresh ≡ true → IsFresh first front after.view) → DeskCommands keeps first before c reply after
-  commands first inside before after c reply front shown same seen counts next grows shows fresh =
-      subst (λ (k : Known). DeskCommands keeps first k c reply after) same (record {
-        counts = counts;
-        front = front;
-        seen = seen;
-        next = next;
-        shows = prefix_trans inside.view shown after.view grows shows;
-        fresh = fresh;
-      })
+  -- what a pen did is a submit
+  pub is_submitted : (base : Topic) (before : Option (List Item)) (since : Option (Bor (List Item))) (old new : PenState K)
+      (c : Command) (reply : Reply) (told : List Item) → SubmitsAndCompacts keeps base since old c reply told new
+      → IsPen base old.published old.pending → option_map (λ (s : Bor (List Item)). s.now) since ≡ before
+      → IsSubmitted keeps base before c reply told
+  is_submitted base before since old new c reply told done was same =
+      record { old = old; was = was; since = since; with_front = same; new = new; done = done }
+
+  pub is_written : (base : Topic) (before : Option (List Item)) (c : Command) (reply : Reply) (told found : List Item)
+      → IsSubmitted keeps base before c reply told → (IsPrefix (front_of before) told → found ≡ told)
+      → IsWritten keeps base before c reply found
+  is_written base before c reply told found s same = record { told = told; submitted = s; is_told = same }
+
+  -- what comes of a submit by whoever had that front
+  pub submitted_told : (base : Topic) (before : Option (List Item)) (c : Command) (reply : Reply) (told : List Item)
+      → IsSubmitted keeps base before c reply told → IsTold keeps base (front_of before) c reply told
+  submitted_told base before c reply told s =
+      subst (λ (w : List Item). IsTold keeps base w c reply told) (front_is s.since ∙ ap front_of s.with_front)
+      (is_told base s.since s.old s.done.submitted c reply told s.done.submits s.done.tells)
+
+  module _ {W : Type 0} (wakes : W → List Item → W → Type 0) where
+    -- the view may show more before the command is submitted, and again after it
+    pub commands : (first : Held) (inside before after : Known W) (c : Command) (reply : Reply) (front : List Item) (shown : List Draw)
+        → inside ≡ before → after.seen ≡ Some front
+        → after.submits ≡ counted inside.submits → IsWritten keeps (base_of first) inside.seen c reply front
+        → IsNext keeps (base_of first) (front_of inside.seen) c reply front → wakes inside.wake front after.wake
+        → IsPrefix inside.view shown
+        → MatchBool after.fresh (IsPrefix shown after.view × IsFresh first front after.view) (after.view ≡ shown)
+        → DeskCommands keeps wakes first before c reply after
+    commands first inside before after c reply front shown same seen counts written next woken grows shows =
+        subst (λ (k : Known W). DeskCommands keeps wakes first k c reply after) same (record {
+          counts = counts;
+          front = front;
+          seen = seen;
+          written = written;
+          next = next;
+          woken = woken;
+          judged = shown;
+          judges = grows;
+          shows = shows;
+        })

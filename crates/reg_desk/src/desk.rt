@@ -29,7 +29,8 @@ use std::sync::{Mutex, Wait};
 /// before the reply is given. Queries are answered from the view.
 ///
 /// Contracts see the topic's front of the last command, its own or one that it learnt of, the view's
-/// front, the count of submits, and whether nothing after that command's submit was refused.
+/// front, the count of submits, whether nothing after that command's submit was refused, and what wakes the
+/// other nodes.
 #[derive(Drop)]
 pub struct NodeDesk<
     'a,
@@ -40,13 +41,13 @@ pub struct NodeDesk<
     U: Copies<Draw, Taken, M>,
     R: Wait + Drop,
     G: Gate,
-    W: Wake,
+    W: Wake<N> + Drop,
 > {
     rt: &'a R,
     pen: &'a Mutex<Pen<N, S, K, R>>,
     follower: &'a Mutex<Follower<N, S, M, U, R>>,
     gate: &'a G,
-    wake: &'a W,
+    wake: W,
     calls: &'a AtomicU64,
     pass: Pass<N>,
     view: View<M, U>,
@@ -64,14 +65,14 @@ impl<
     U: Copies<Draw, Taken, M>,
     R: Wait + Drop,
     G: Gate,
-    W: Wake,
+    W: Wake<N> + Drop,
 > Model for NodeDesk<'a, N, S, K, M, U, R, G, W> {
     ghost use Rattle.std.specs.Prelude.{◌≡◌, true};
     ghost use Rattle.reg_desk.specs.Desk.{IsFresh, Known, front_of};
 
-    ghost Value = { Known };
+    ghost Value = { Known W };
 
-    ghost view = { λ d. record { seen = d.seen; view = d.view; submits = d.pass.submits; fresh = d.fresh } };
+    ghost view = { λ d. record { seen = d.seen; view = d.view; submits = d.pass.submits; fresh = d.fresh; wake = d.wake } };
 
     ghost invariant = { λ d. d.fresh ≡ true → IsFresh N.first (front_of d.seen) d.view };
 }
@@ -85,7 +86,7 @@ impl<
     U: Copies<Draw, Taken, M>,
     R: Wait + Drop,
     G: Gate,
-    W: Wake,
+    W: Wake<N> + Drop,
 > NodeDesk<'a, N, S, K, M, U, R, G, W> {
     /// A desk that has done no command.
     pub fn new(
@@ -93,13 +94,13 @@ impl<
         pen: &'a Mutex<Pen<N, S, K, R>>,
         follower: &'a Mutex<Follower<N, S, M, U, R>>,
         gate: &'a G,
-        wake: &'a W,
+        wake: W,
         calls: &'a AtomicU64,
         pass: Pass<N>,
         view: View<M, U>,
         judge: Judge,
     ) -> NodeDesk<'a, N, S, K, M, U, R, G, W>
-        ensures { result ≡ record { seen = None; view = view; submits = pass.submits; fresh = false } }
+        ensures { result ≡ record { seen = None; view = view; submits = pass.submits; fresh = false; wake = wake } }
     {
         NodeDesk {
             rt,
@@ -148,13 +149,13 @@ impl<
     U: Copies<Draw, Taken, M>,
     R: Wait + Drop,
     G: Gate,
-    W: Wake,
+    W: Wake<N> + Drop,
 > Desk for NodeDesk<'a, N, S, K, M, U, R, G, W> {
     ghost use Rattle.reg_desk.specs.Desk.{DeskAsks, DeskCommands};
 
     ghost asks = { DeskAsks };
 
-    ghost commands = { DeskCommands K.keeps N.first };
+    ghost commands = { DeskCommands K.keeps W.wakes N.first };
 
     fn ask(&mut self, alloc: Global, query: &Query) -> Result<Answer, AllocError> {
         pass_gate(self.gate, self.calls);
@@ -173,7 +174,7 @@ impl<
             ruling,
             &mut self.judge,
         );
-        self.wake.topic_grew();
+        self.wake.topic_grew(&seen);
         self.fresh = catch_up(self.rt, self.follower, &mut self.view, &seen);
         self.seen = Some(seen);
         reply
@@ -189,7 +190,7 @@ impl<
     U: Copies<Draw, Taken, M>,
     R: Wait + Drop,
     G: Gate,
-    W: Wake,
+    W: Wake<N> + Drop,
 > SharedDesk for NodeDesk<'a, N, S, K, M, U, R, G, W> {
     type Standing = Standing<N, M>;
 

@@ -29,14 +29,18 @@ impl Ruling {
     ) -> Option<Ruling>
         ensures { IsPrefix view.old view.new }
     {
-        let case = view.case(command)?;
+        let Ok(Some(case)) = view.case(command) else {
+            return None;
+        };
         Ruling::on(case, judge)
     }
 
     /// The judgement of that case.
     pub(crate) fn on(case: Case, judge: &mut Judge) -> Option<Ruling> {
-        let judged = case.judged(judge)?;
-        Some(Ruling { case, judged })
+        match case.judged(judge) {
+            Ok(judged) => Some(Ruling { case, judged }),
+            Err(_) => None,
+        }
     }
 }
 

@@ -3,8 +3,7 @@ ghost use Rattle.std.specs.Prelude.{◌≡◌, IfOk, OnErr, OnOk};
 ghost use mathlib.Core.List.{IsPrefix};
 ghost use Rattle.reg_pen.specs.Pen.{counted};
 ghost use Rattle.reg_shared.specs.Held.{base_of};
-ghost use Rattle.reg_desk.specs.Desk.{IsNext, front_of};
-ghost use Rattle.reg_desk.specs.Told.{IsTold, front_at};
+ghost use Rattle.reg_desk.specs.Desk.{IsNext, IsSubmitted, IsWritten, front_of};
 
 use crate::ruling::{Ruling, overtaken};
 use reg_feed::{Copies, FeedName, Seen};
@@ -17,15 +16,12 @@ use reg_shared::Shared;
 use reg_topic::Item;
 use std::sync::{Mutex, Wait};
 
-/// How many batches there are from one compaction to the next.
-const BATCHES: u64 = 64;
-
 /// How often a registration is judged again before it takes the pen for good.
 const JUDGED_AGAIN: u32 = 3;
 
 /// Submits the command, once, and gives the pen back. The front is the longer one of that before and
 /// the one told.
-#[tactic(auto, using(crate::proofs::Told::is_next))]
+#[tactic(auto, using(crate::proofs::Told::is_next, crate::proofs::Told::is_written, crate::proofs::Told::submitted_told))]
 pub(crate) fn submit<
     N: FeedName<Item, Shared>,
     S: Copies<Item, Shared, N>,
@@ -40,6 +36,7 @@ pub(crate) fn submit<
     ruling: Option<Ruling>,
     judge: &mut Judge,
 ) -> Submitted<N>
+    ensures written { IsWritten K.keeps (base_of N.first) before.now command.now result.reply result.seen }
     ensures next { IsNext K.keeps (base_of N.first) (front_of before.now) command.now result.reply result.seen }
     ensures counted { pass.new.submits ≡ counted pass.old.submits }
 {
@@ -65,7 +62,7 @@ fn submit_once<
     ruling: Option<Ruling>,
     judge: &mut Judge,
 ) -> Submitted<N>
-    ensures told { IsTold K.keeps (base_of N.first) (front_of before.now) command.now result.reply result.seen }
+    ensures submitted { IsSubmitted K.keeps (base_of N.first) before.now command.now result.reply result.seen }
     ensures counted { pass.new.submits ≡ counted pass.old.submits }
 {
     match ruling {
@@ -90,7 +87,7 @@ fn submit_judged<
     ruling: Ruling,
     judge: &mut Judge,
 ) -> Submitted<N>
-    ensures told { IsTold K.keeps (base_of N.first) (front_of before.now) command.now result.reply result.seen }
+    ensures submitted { IsSubmitted K.keeps (base_of N.first) before.now command.now result.reply result.seen }
     ensures counted { pass.new.submits ≡ counted pass.old.submits }
 {
     let mut ruling = ruling;
@@ -122,7 +119,7 @@ fn lend_pen_if_fits<
     command: &Command,
     ruling: Ruling,
 ) -> Result<Submitted<N>, Case>
-    ensures told { IfOk result (λ s. IsTold K.keeps (base_of N.first) (front_of before.now) command.now s.reply s.seen) }
+    ensures submitted { IfOk result (λ s. IsSubmitted K.keeps (base_of N.first) before.now command.now s.reply s.seen) }
     ensures counted { OnOk result (pass.new.submits ≡ counted pass.old.submits) }
     ensures same { OnErr result (pass.new ≡ pass.old) }
 {
@@ -143,14 +140,15 @@ fn lend_pen<N: FeedName<Item, Shared>, S: Copies<Item, Shared, N>, K: Keep + Dro
     command: &Command,
     judged: Option<&Judged>,
 ) -> Submitted<N>
-    ensures told { IsTold K.keeps (base_of N.first) (front_of before.now) command.now result.reply result.seen }
+    ensures submitted { IsSubmitted K.keeps (base_of N.first) before.now command.now result.reply result.seen }
     ensures counted { pass.new.submits ≡ counted pass.old.submits }
 {
     let mut pen = pen.lock(rt);
     submit_after(&mut pen, pass, before, command, judged)
 }
 
-/// Submits the command, once, for a caller with that front.
+/// Submits the command, once, for a caller with that front; a compaction may follow.
+#[tactic(auto, using(crate::proofs::Told::is_submitted))]
 fn submit_after<
     N: FeedName<Item, Shared>,
     S: Copies<Item, Shared, N>,
@@ -163,49 +161,10 @@ fn submit_after<
     command: &Command,
     judged: Option<&Judged>,
 ) -> Submitted<N>
-    ensures told { IsTold K.keeps (base_of N.first) (front_of before.now) command.now result.reply result.seen }
+    ensures submitted { IsSubmitted K.keeps (base_of N.first) before.now command.now result.reply result.seen }
     ensures counted { pass.new.submits ≡ counted pass.old.submits }
 {
-    submit_and_compact(pen, pass, before.as_ref(), command, judged)
-}
-
-/// Submits the command, once; where the count of batches reaches or passes a multiple of 64, a
-/// compaction follows. A refusal of it leaves the reply.
-#[tactic(auto, using(crate::proofs::Told::is_told))]
-fn submit_and_compact<
-    N: FeedName<Item, Shared>,
-    S: Copies<Item, Shared, N>,
-    K: Keep + Drop,
-    R: Wait + Drop,
->(
-    pen: &mut Pen<N, S, K, R>,
-    pass: &mut Pass<N>,
-    since: Option<&Seen<Item, Shared, N>>,
-    command: &Command,
-    judged: Option<&Judged>,
-) -> Submitted<N>
-    ensures told { IsTold K.keeps (base_of N.first) (front_at since.entry) command.now result.reply result.seen }
-    ensures counted { pass.new.submits ≡ counted pass.old.submits }
-{
-    let before = pen.batches();
-    let submitted = pen.submit(pass, since, command, judged);
-    if pen.batches() / BATCHES > before / BATCHES {
-        let floor = floor_for(pen);
-        let _refused = pen.compact_to(floor).is_err();
-    }
-    submitted
-}
-
-/// The floor of a compaction: what the next offset was at the one before, so that a delete is kept over one
-/// compaction at least; but the kept floor where few deletes were published, since a floor that rises has
-/// each node rebased.
-fn floor_for<N: FeedName<Item, Shared>, S: Copies<Item, Shared, N>, K: Keep + Drop, R: Wait + Drop>(
-    pen: &Pen<N, S, K, R>,
-) -> u64 {
-    if pen.has_many_deletes() {
-        return pen.compacted();
-    }
-    pen.floor()
+    pen.submit_and_compact(pass, before.as_ref(), command, judged)
 }
 
 /// The longer one of two fronts.

@@ -2,7 +2,7 @@
 use Rattle.std.proofs.Common.{◌≡◌, ◌++◌, ℕ, Bool, List, [], ◌∷◌, true, false, refl, sym, ap, subst, ◌∙◌, inl, inr, ◌&&◌, ◌||◌}
 use Rattle.std.specs.Prelude.{bytes_eq}
 use Rattle.std.proofs.lemmas.Slice.Eq.{bytes_eq-Decides}
-use Rattle.reg_judge.specs.Judge.{TextPair, AreJudged, has_pair, is_pair, used, used_all}
+use Rattle.reg_judge.specs.Judge.{TextPair, AreJudged, UsesInTurn, has_pair, is_pair, used, used_all}
 use Rattle.reg_judge.specs.LastJudged.{HasLastJudged}
 
 -- no other pairs are judged
@@ -32,9 +32,15 @@ has_first p rest =
     or_holds (is_pair p p) (has_pair rest p)
     (both_hold (bytes_eq p.0 p.0) (bytes_eq p.1 p.1) ((bytes_eq-Decides p.0 p.0).1 refl) ((bytes_eq-Decides p.1 p.1).1 refl))
 
+-- where each was kept, they were used one after the other
+all_used : (capacity : ℕ) (ps before after : List TextPair) → UsesInTurn capacity ps before after true → after ≡ used_all capacity ps before
+all_used capacity [] before after u = u.0
+all_used capacity (p ∷ ps) before after (inl u) = all_used capacity ps (used capacity p before) after u
+all_used capacity (p ∷ ps) before after (inr none) = absurd (cc (none.1))
+
 pub has_last : HasLastJudged
 has_last capacity required before after last (judged, are, is) (ps, also) =
     let end = used_last capacity ps last before in
     let same : after ≡ last ∷ end.0 =
-    is ∙ ap (λ js. used_all capacity js before) (one_judged required judged (ps ++ last ∷ []) are also) ∙ end.1 in
+    all_used capacity judged before after is ∙ ap (λ js. used_all capacity js before) (one_judged required judged (ps ++ last ∷ []) are also) ∙ end.1 in
     subst (λ pairs. has_pair pairs last ≡ true) (sym same) (has_first last end.0)

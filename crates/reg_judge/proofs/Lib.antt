@@ -2,5 +2,6 @@ pub mod Keeping
 pub mod Last
 pub mod Refused
 pub mod Runs
+pub mod TextsOut
 pub mod Texts
 pub mod Using

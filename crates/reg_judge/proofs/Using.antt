@@ -3,7 +3,7 @@ use Rattle.std.proofs.Common.{◌≡◌, ◌-◌, Bool, true, false, List, [], �
 use Rattle.std.proofs.Common.{cond, is_some, take, refl, sym, ap, ◌∙◌, String, ◌&&◌, ◌||◌}
 use Rattle.std.specs.Prelude.{string_eq}
 use Rattle.std.specs.Option.{option_map_or}
-use Rattle.std.specs.Map.{lookup_entry, remove_entry}
+use Rattle.std.specs.Map.{lookup, lookup_entry, remove_entry}
 use Rattle.std.proofs.lemmas.List.{take-map}
 use Rattle.avro_resolve.specs.declared.resolving.Verdict.{Verdict}
 use Rattle.lru.specs.LruCache.{LruCache, put_entries}
@@ -32,6 +32,23 @@ module _ (Z : Type 0) where
           | true ↦ refl
           | false ↦ found_where_had es
         ]
+
+    value_where_had : (es : List Entry) → is_some (lookup (same_key k) es) ≡ has_pair (pairs_of es) (texts_of k)
+    value_where_had [] = refl
+    value_where_had (e ∷ es) =
+        elim (same_key k e.0) as (λ b.
+        is_some (cond b (Some e.1) (lookup (same_key k) es)) ≡ (b || has_pair (pairs_of es) (texts_of k))) [
+          | true ↦ refl
+          | false ↦ value_where_had es
+        ]
+
+    -- where nothing is found, it isn't among them
+    pub none_is_had : (es : List Entry) → (is_some (lookup (same_key k) es) ≡ true → ⊥) → has_pair (pairs_of es) (texts_of k) ≡ false
+    none_is_had es never = by_test (has_pair (pairs_of es) (texts_of k)) (λ had. never (value_where_had es ∙ had))
+      where
+        by_test : (b : Bool) → (b ≡ true → ⊥) → b ≡ false
+        by_test true never = absurd (never refl)
+        by_test false never = refl
 
     removed : (es : List Entry) → pairs_of (remove_entry (same_key k) es) ≡ without (texts_of k) (pairs_of es)
     removed [] = refl

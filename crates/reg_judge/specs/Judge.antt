@@ -1,14 +1,15 @@
 -- What a judge keeps, and what a judgement changes of it.
-use Rattle.std.specs.Prelude.{◌≡◌, ◌≤◌, ◌-◌, ◌⊎◌, ◌&&◌, ⊤, ℕ, List, [], ◌∷◌, Bool, true}
-use Rattle.std.specs.Prelude.{cond, bytes_eq, codes, take, map, reverse, flat_map}
+use Rattle.std.specs.Prelude.{◌≡◌, ◌≤◌, ◌-◌, ◌⊎◌, ◌&&◌, ◌++◌, ⊤, ℕ, List, [], ◌∷◌, Bool, true, false}
+use Rattle.std.specs.Prelude.{cond, bytes_eq, codes, fold, take, map, reverse, flat_map}
 use Rattle.std.specs.List.{list_any}
+use mathlib.Core.List.{IsPrefix}
 use Rattle.avro_resolve.specs.Trails.{AreCompatible}
 use Rattle.reg_level_names.specs.declared.level.Level.{Level}
 use Rattle.reg_levels.specs.RequiredPairs.{directions, looked_at}
 use Rattle.reg_levels.specs.Texts.{VersionText, nodes_in}
 use Rattle.reg_levels.specs.declared.direction.Direction.{Direction}
 use Rattle.reg_levels.specs.declared.direction.Direction.TheVariants.{Backward, Forward}
-use Rattle.reg_judge.specs.declared.judge.TheConstants.{MOST_KEPT}
+use Rattle.reg_judge.specs.declared.limits.TheConstants.{MOST_KEPT}
 use Rattle.reg_judge.specs.declared.judge_error.JudgeError.{JudgeError}
 use Rattle.reg_judge.specs.declared.judge_error.JudgeError.TheVariants.{BadCapacity, OutOfMemory}
 
@@ -16,16 +17,52 @@ use Rattle.reg_judge.specs.declared.judge_error.JudgeError.TheVariants.{BadCapac
 abbrev pub TextPair : Type 0
 TextPair = List ℕ × List ℕ
 
--- what is seen of a judge: the pairs whose verdict it has, the one used last first; how many there may be; and whether each
--- verdict of its last judgement was kept, for which memory may be refused
+-- how many schemas there may be, and how many verdicts
+pub record Capacities : Type 0 where
+  pub schemas : ℕ
+  pub verdicts : ℕ
+
+-- what is seen of a judge: the texts whose schemas it has, and the pairs whose verdict it has, those used last first; how
+-- many there may be; and whether each verdict of its last judgement was kept, for which memory may be refused
 pub record Keeping : Type 0 where
+  pub texts : List (List ℕ)
   pub pairs : List TextPair
-  pub capacity : ℕ
+  pub capacities : Capacities
   pub kept_all : Bool
 
 -- a judge that has judged nothing
-abbrev pub keeps_none : ℕ → Keeping
-keeps_none capacity = record { pairs = []; capacity = capacity; kept_all = true }
+abbrev pub keeps_none : ℕ → ℕ → Keeping
+keeps_none schemas verdicts =
+    record { texts = []; pairs = []; capacities = record { schemas = schemas; verdicts = verdicts }; kept_all = true }
+
+abbrev pub has_text : List (List ℕ) → List ℕ → Bool
+has_text texts t = list_any (bytes_eq t) texts
+
+abbrev pub without_text : List ℕ → List (List ℕ) → List (List ℕ)
+without_text t [] = []
+without_text t (s ∷ ss) = cond (bytes_eq t s) ss (s ∷ without_text t ss)
+
+-- the texts without each of those
+abbrev pub without_texts : List (List ℕ) → List (List ℕ) → List (List ℕ)
+without_texts taken texts = fold (λ left t. without_text t left) texts taken
+
+-- a text's schema is kept: it goes first, and where it is new, the one whose use is longest ago leaves a full judge
+abbrev pub with_text : ℕ → List ℕ → List (List ℕ) → List (List ℕ)
+with_text capacity t texts = t ∷ cond (has_text texts t) (without_text t texts) (take (capacity - 1) texts)
+
+-- schemas are kept in turn; for any of them memory may be refused, and then it isn't kept
+abbrev pub KeepsInTurn : ℕ → List (List ℕ) → List (List ℕ) → List (List ℕ) → Type 0
+KeepsInTurn capacity [] before after = after ≡ before
+KeepsInTurn capacity (t ∷ ts) before after =
+    KeepsInTurn capacity ts before after ⊎ KeepsInTurn capacity ts (with_text capacity t before) after
+
+-- a judgement takes out the schemas of its texts, and keeps them again, that of the new one last
+abbrev pub KeepsSchemas : ℕ → List ℕ → List (List ℕ) → List (List ℕ) → List (List ℕ) → Type 0
+KeepsSchemas capacity new olds before after = KeepsInTurn capacity (olds ++ new ∷ []) (without_texts (new ∷ olds) before) after
+
+-- some of the texts, from the first on, were taken out
+abbrev pub LosesTexts : List (List ℕ) → List (List ℕ) → List (List ℕ) → Type 0
+LosesTexts texts before after = (taken : List (List ℕ)) × IsPrefix taken texts × (after ≡ without_texts taken before)
 
 abbrev pub is_pair : TextPair → TextPair → Bool
 is_pair p q = bytes_eq p.0 q.0 && bytes_eq p.1 q.1
@@ -66,10 +103,16 @@ AreJudged (p ∷ ps) judged =
     (rest : List TextPair) × (judged ≡ p ∷ rest)
     × ((IsCompatiblePair p × AreJudged ps rest) ⊎ (¬ IsCompatiblePair p × (rest ≡ [])))
 
--- what a judge has after a judgement: the pairs judged were used in turn
-abbrev pub HasUsed : ℕ → List TextPair → List TextPair → List TextPair → Type 0
-HasUsed capacity required before after =
-    (judged : List TextPair) × AreJudged required judged × (after ≡ used_all capacity judged before)
+-- pairs are used in turn; memory may be refused for one that isn't there, and then it isn't kept, and not all are
+abbrev pub UsesInTurn : ℕ → List TextPair → List TextPair → List TextPair → Bool → Type 0
+UsesInTurn capacity [] before after all = (after ≡ before) × (all ≡ true)
+UsesInTurn capacity (p ∷ ps) before after all =
+    UsesInTurn capacity ps (used capacity p before) after all
+    ⊎ ((has_pair before p ≡ false) × (all ≡ false) × ((rest : Bool) × UsesInTurn capacity ps before after rest))
+
+-- what a judge has after a judgement, and whether it kept each verdict: the pairs judged were used in turn
+abbrev pub HasUsed : ℕ → List TextPair → List TextPair → List TextPair → Bool → Type 0
+HasUsed capacity required before after all = (judged : List TextPair) × AreJudged required judged × UsesInTurn capacity judged before after all
 
 -- so many may be kept
 abbrev pub IsCapacity : ℕ → Type 0

@@ -34,6 +34,10 @@ module _ {Z : Type 0} where
   abbrev pub AreSchemas : List (String Z × KeptSchema) → Type 0
   AreSchemas = AllAre IsSchemaOf
 
+  -- the texts that there is a schema of
+  abbrev pub texts_in : List (String Z × KeptSchema) → List (List ℕ)
+  texts_in es = map (λ e. string_bytes e.0) es
+
   abbrev pub texts_of : String Z × String Z → TextPair
   texts_of pair = (string_bytes pair.0, string_bytes pair.1)
 

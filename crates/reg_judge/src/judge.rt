@@ -1,14 +1,15 @@
 // A judge, and what it answers.
-ghost use Rattle.std.specs.Prelude.{◌≡◌, IsTrue, IfOk, IfErr, OnOk, OnErr, map};
+ghost use Rattle.std.specs.Prelude.{◌≡◌, ◌∷◌, IfOk, IfErr, OnOk, OnErr, map};
 ghost use Rattle.reg_levels.specs.RequiredPairs.{HasRisingVersions};
 ghost use Rattle.reg_levels.specs.Judgement.{IsTrueVerdict, IsMadeOf};
 ghost use Rattle.reg_levels.specs.JudgedError.{IsJudgedRefusal};
 ghost use Rattle.reg_levels.specs.declared.verdict.LevelVerdict.{LevelVerdict as Verdict};
 ghost use Rattle.reg_judge.specs.LastJudged.{HasLastJudged};
-ghost use Rattle.reg_judge.specs.Judge.{HasUsed, IsCapacity, IsJudgeRefusal, has_pair, keeps_none, text_pairs};
+ghost use Rattle.reg_judge.specs.Judge.{HasUsed, IsCapacity, IsJudgeRefusal, KeepsSchemas, LosesTexts, has_pair, keeps_none, text_pairs};
 
 use crate::judge_error::JudgeError;
 use crate::judging::{Run, judge_each};
+use crate::limits::MOST_KEPT;
 use crate::schemas::{Schemas, keep, keep_olds, take, take_olds};
 use crate::verdicts::{Verdicts, keep_all};
 use avro_resolve::schemas_have_one_verdict;
@@ -23,13 +24,11 @@ use std::hash::RandomState;
 use std::marker::Model;
 use std::num::NonZeroUsize;
 
-/// The most schemas, and the most verdicts, that a judge keeps.
-pub const MOST_KEPT: usize = 65_536;
-
 /// A judge of levels, which keeps the schemas that it read last and the verdicts that it used last.
 ///
-/// Contracts see the pairs of a reader's text and a writer's whose verdict it has, the one used
-/// last first, how many there may be, and whether each verdict of the last judgement was kept.
+/// Contracts see the texts whose schemas it has, and the pairs of a reader's text and a writer's whose verdict it
+/// has, those used last first; how many of each there may be; and whether each verdict of the last judgement was
+/// kept.
 #[derive(Drop)]
 pub struct Judge {
     alloc: Global,
@@ -40,11 +39,11 @@ pub struct Judge {
 
 impl Model for Judge {
     ghost use Rattle.reg_judge.specs.Judge.{Keeping};
-    ghost use Rattle.reg_judge.specs.Kept.{AreSchemas, AreVerdicts, pairs_of};
+    ghost use Rattle.reg_judge.specs.Kept.{AreSchemas, AreVerdicts, pairs_of, texts_in};
 
     ghost Value = { Keeping };
 
-    ghost view = { λ j. record { pairs = pairs_of j.verdicts.entries; capacity = j.verdicts.cap; kept_all = j.kept_all } };
+    ghost view = { λ j. record { texts = texts_in j.schemas.entries; pairs = pairs_of j.verdicts.entries; capacities = record { schemas = j.schemas.cap; verdicts = j.verdicts.cap }; kept_all = j.kept_all } };
 
     ghost invariant = { λ j. AreSchemas j.schemas.entries × AreVerdicts j.verdicts.entries };
 }
@@ -59,7 +58,7 @@ impl Judge {
         schemas: usize,
         verdicts: usize,
     ) -> Result<Judge, JudgeError>
-        ensures new { IfOk result (λ judge. judge ≡ keeps_none verdicts) }
+        ensures new { IfOk result (λ judge. judge ≡ keeps_none schemas verdicts) }
         ensures capacities { OnOk result (IsCapacity schemas × IsCapacity verdicts) }
         ensures refused { IfErr result (IsJudgeRefusal schemas verdicts) }
     {
@@ -83,8 +82,9 @@ impl Judge {
     /// Whether a new schema's text meets a level against old ones, which stand by ascending
     /// version: as `Judged::make` judges it, whatever was asked before.
     ///
-    /// Refused is the new text that is no schema's, else the first such old one. What memory is
-    /// refused for isn't kept, and changes no answer.
+    /// Refused is the new text that is no schema's, else the first such old one; schemas that were taken
+    /// out by then are read again when they are asked for next. What memory is refused for isn't kept,
+    /// and changes no answer.
     pub fn check(
         &mut self,
         level: Level,
@@ -95,10 +95,13 @@ impl Judge {
         ensures verdict { IfOk result (IsTrueVerdict level new_text.now (map (λ old. (old.0, old.1.now)) olds.now)) }
         ensures only { IfOk result (λ v. (u : Verdict) → IsTrueVerdict level new_text.now (map (λ old. (old.0, old.1.now)) olds.now) u → u ≡ v) }
         ensures refused { IfErr result (IsJudgedRefusal new_text.now (map (λ old. (old.0, old.1.now)) olds.now)) }
-        ensures capacity { self.new.capacity ≡ self.old.capacity }
-        ensures used { OnOk result (IsTrue self.new.kept_all → HasUsed self.old.capacity
-            (text_pairs level new_text.now (map (λ old. (old.0, old.1.now)) olds.now)) self.old.pairs self.new.pairs) }
-        ensures unchanged { OnErr result (self.new ≡ self.old) }
+        ensures capacities { self.new.capacities ≡ self.old.capacities }
+        ensures used { OnOk result (HasUsed self.old.capacities.verdicts
+            (text_pairs level new_text.now (map (λ old. (old.0, old.1.now)) olds.now)) self.old.pairs self.new.pairs self.new.kept_all) }
+        ensures schemas { OnOk result
+            (KeepsSchemas self.old.capacities.schemas new_text.now (map (λ old. old.1.now) olds.now) self.old.texts self.new.texts) }
+        ensures unchanged { OnErr result (self.new ≡ record self.old { texts = self.new.texts }) }
+        ensures taken_out { OnErr result (LosesTexts (new_text.now ∷ map (λ old. old.1.now) olds.now) self.old.texts self.new.texts) }
     {
         schemas_have_one_verdict();
         level_verdicts_are_single();
@@ -133,10 +136,13 @@ impl Judge {
         requires { HasRisingVersions olds.now }
         ensures made { IfOk result (λ j. IsMadeOf j level new_text.now (map (λ old. (old.0, old.1.now)) olds.now)) }
         ensures refused { IfErr result (IsJudgedRefusal new_text.now (map (λ old. (old.0, old.1.now)) olds.now)) }
-        ensures capacity { self.new.capacity ≡ self.old.capacity }
-        ensures used { OnOk result (IsTrue self.new.kept_all → HasUsed self.old.capacity
-            (text_pairs level new_text.now (map (λ old. (old.0, old.1.now)) olds.now)) self.old.pairs self.new.pairs) }
-        ensures unchanged { OnErr result (self.new ≡ self.old) }
+        ensures capacities { self.new.capacities ≡ self.old.capacities }
+        ensures used { OnOk result (HasUsed self.old.capacities.verdicts
+            (text_pairs level new_text.now (map (λ old. (old.0, old.1.now)) olds.now)) self.old.pairs self.new.pairs self.new.kept_all) }
+        ensures schemas { OnOk result
+            (KeepsSchemas self.old.capacities.schemas new_text.now (map (λ old. old.1.now) olds.now) self.old.texts self.new.texts) }
+        ensures unchanged { OnErr result (self.new ≡ record self.old { texts = self.new.texts }) }
+        ensures taken_out { OnErr result (LosesTexts (new_text.now ∷ map (λ old. old.1.now) olds.now) self.old.texts self.new.texts) }
     {
         let kept_text = Text::copy_of(self.alloc, new_text)?;
         let kept_olds = copy_of(self.alloc, olds)?;
@@ -156,7 +162,8 @@ impl Judge {
         false
     }
 
-    /// Whether each verdict of the last judgement was kept. Takes no memory.
+    /// Whether each verdict of the last judgement was kept. Only where memory was refused for one that
+    /// the judge didn't have yet is it not. Takes no memory.
     pub fn kept_all(&self) -> bool
         ensures { result ≡ self.now.kept_all }
     {

@@ -6,9 +6,11 @@ mod judge;
 mod judge_error;
 mod judging;
 mod kept_schema;
+mod limits;
 mod schemas;
 mod source;
 mod verdicts;
 
-pub use judge::{Judge, MOST_KEPT, pairs_judged_last_are_kept};
+pub use judge::{Judge, pairs_judged_last_are_kept};
 pub use judge_error::JudgeError;
+pub use limits::{MOST_KEPT, limits_are_as_written};

@@ -1,8 +1,9 @@
 // The schemas that a judge keeps.
-ghost use Rattle.std.specs.Prelude.{◌≡◌, None, IfOk, IfErr, IfSome, OnOk, is_some, map};
+ghost use Rattle.std.specs.Prelude.{◌≡◌, ◌⊎◌, None, IfOk, IfErr, IfSome, OnErr, OnOk, is_some, map};
 ghost use Rattle.avro_schema.specs.Schema.{is_schema};
 ghost use Rattle.reg_levels.specs.Judgement.{first_unread};
-ghost use Rattle.reg_judge.specs.Kept.{AreSchemas, IsUnread};
+ghost use Rattle.reg_judge.specs.Judge.{KeepsInTurn, LosesTexts, with_text, without_text, without_texts};
+ghost use Rattle.reg_judge.specs.Kept.{AreSchemas, IsUnread, texts_in};
 
 use crate::kept_schema::KeptSchema;
 use crate::source::Source;
@@ -27,6 +28,8 @@ pub(crate) fn take(
     ensures text { IfOk result (λ found. IfSome found (λ source. source ≡ text.now)) }
     ensures read { IfOk result (λ found. is_some found ≡ is_schema text.now) }
     ensures left { AreSchemas kept.new.entries }
+    ensures out { texts_in kept.new.entries ≡ without_text text.now (texts_in kept.old.entries) }
+    ensures capacity { kept.new.cap ≡ kept.old.cap }
 {
     if let Some((text, stored)) = kept.pop_entry(text) {
         return Ok(Some(Source {
@@ -54,6 +57,9 @@ pub(crate) fn take_olds(
     ensures read { OnOk result (first_unread (map (λ old. (old.0, old.1.now)) olds.now) ≡ None) }
     ensures refused { IfErr result (IsUnread (map (λ old. (old.0, old.1.now)) olds.now)) }
     ensures left { AreSchemas kept.new.entries }
+    ensures out { OnOk result (texts_in kept.new.entries ≡ without_texts (map (λ old. old.1.now) olds.now) (texts_in kept.old.entries)) }
+    ensures out_by_then { OnErr result (LosesTexts (map (λ old. old.1.now) olds.now) (texts_in kept.old.entries) (texts_in kept.new.entries)) }
+    ensures capacity { kept.new.cap ≡ kept.old.cap }
 {
     let mut taken = Vec::new(alloc);
     for old in olds {
@@ -68,7 +74,10 @@ pub(crate) fn take_olds(
 /// Keeps a schema. Where memory is refused, it isn't kept.
 pub(crate) fn keep(kept: &mut Schemas, source: Source)
     requires { AreSchemas kept.old.entries }
-    ensures { AreSchemas kept.new.entries }
+    ensures schemas { AreSchemas kept.new.entries }
+    ensures kept { (texts_in kept.new.entries ≡ texts_in kept.old.entries)
+        ⊎ (texts_in kept.new.entries ≡ with_text kept.old.cap source (texts_in kept.old.entries)) }
+    ensures capacity { kept.new.cap ≡ kept.old.cap }
 {
     let Source { text, schema } = source;
     let _kept = kept.put(text, KeptSchema::of(schema));
@@ -77,7 +86,9 @@ pub(crate) fn keep(kept: &mut Schemas, source: Source)
 /// Keeps the schemas.
 pub(crate) fn keep_olds(kept: &mut Schemas, olds: Vec<(u32, Source)>)
     requires { AreSchemas kept.old.entries }
-    ensures { AreSchemas kept.new.entries }
+    ensures schemas { AreSchemas kept.new.entries }
+    ensures kept { KeepsInTurn kept.old.cap (map (λ old. old.1) olds.items) (texts_in kept.old.entries) (texts_in kept.new.entries) }
+    ensures capacity { kept.new.cap ≡ kept.old.cap }
 {
     for (_, source) in olds {
         keep(kept, source);

@@ -1,6 +1,6 @@
 // The verdicts that a judge keeps.
-ghost use Rattle.std.specs.Prelude.{◌≡◌, IfOk, IsTrue};
-ghost use Rattle.reg_judge.specs.Judge.{used as with_used, used_all};
+ghost use Rattle.std.specs.Prelude.{◌≡◌, IfOk, MatchBool, false};
+ghost use Rattle.reg_judge.specs.Judge.{UsesInTurn, has_pair, used as with_used};
 ghost use Rattle.reg_judge.specs.Kept.{AreVerdicts, IsVerdictOf, pairs_of, texts_of};
 
 use crate::source::Source;
@@ -35,15 +35,16 @@ pub(crate) fn verdict_on(
     }
 }
 
-/// Keeps a verdict, as the one that was used last. Where memory is refused, it isn't kept, and
-/// the answer is no.
+/// Keeps a verdict, as the one that was used last. Where memory is refused for one that isn't there, it
+/// isn't kept, and the answer is no.
 fn keep(kept: &mut Verdicts, pair: Pair, verdict: Verdict) -> bool
     requires kept { AreVerdicts kept.old.entries }
     requires made { IsVerdictOf (pair, verdict) }
     ensures verdicts { AreVerdicts kept.new.entries }
     ensures capacity { kept.new.cap ≡ kept.old.cap }
-    ensures kept { IsTrue result → pairs_of kept.new.entries
-        ≡ with_used kept.old.cap (texts_of pair) (pairs_of kept.old.entries) }
+    ensures kept { MatchBool result
+        (pairs_of kept.new.entries ≡ with_used kept.old.cap (texts_of pair) (pairs_of kept.old.entries))
+        ((pairs_of kept.new.entries ≡ pairs_of kept.old.entries) × (has_pair (pairs_of kept.old.entries) (texts_of pair) ≡ false)) }
 {
     kept.put(pair, verdict).is_ok()
 }
@@ -55,8 +56,7 @@ pub(crate) fn keep_all(kept: &mut Verdicts, used: Vec<(Pair, Verdict)>) -> bool
     requires used { AreVerdicts used.items }
     ensures verdicts { AreVerdicts kept.new.entries }
     ensures capacity { kept.new.cap ≡ kept.old.cap }
-    ensures kept { IsTrue result → pairs_of kept.new.entries
-        ≡ used_all kept.old.cap (pairs_of used.items) (pairs_of kept.old.entries) }
+    ensures kept { UsesInTurn kept.old.cap (pairs_of used.items) (pairs_of kept.old.entries) (pairs_of kept.new.entries) result }
 {
     let mut all = true;
     for (pair, verdict) in used {

@@ -76,3 +76,12 @@ module _ (first : Held) where
   pub drawn_more : (f g : List Item) (ds more : List Draw) → AreDrawnFrom first ds f → IsPrefix f g
       → ((from : List Item) → IsPrefix from g → AreDrawn first (taken ds) (floor_of ds) from more g) → AreDrawnFrom first (ds ++ more) g
   drawn_more f g ds more d p next = drawn_behind empty 0 [] f g ds more d p next
+
+  -- the first ones of draws
+  drawn_first : (s : Records) (floor : ℕ) (from g : List Item) (ds more : List Draw)
+      → AreDrawn first s floor from (ds ++ more) g → AreDrawn first s floor from ds g
+  drawn_first s floor from g [] more d = last_front s floor from g more d
+  drawn_first s floor from g (t ∷ ts) more d = (d.0, d.1, d.2, drawn_first (with_draw s t) (floor_with floor t) d.0 g ts more d.3)
+
+  pub drawn_from_first : (g : List Item) (ds more : List Draw) → AreDrawnFrom first (ds ++ more) g → AreDrawnFrom first ds g
+  drawn_from_first g ds more d = drawn_first empty 0 [] g ds more d

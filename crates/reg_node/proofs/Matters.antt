@@ -1,6 +1,6 @@
 -- What is judged.
-use Rattle.std.proofs.Common.{◌≡◌, ◌↔◌, ℕ, Bor, ◌+◌, ◌<◌, Bool, true, IsTrue, List, length}
-use Rattle.std.proofs.Common.{map, get_or, take, Some, sym, ap, subst, ◌∙◌, arith}
+use Rattle.std.proofs.Common.{◌≡◌, ◌≢◌, ◌↔◌, inl, inr, ℕ, Bor, ◌+◌, ◌<◌, Bool, true, IsTrue, List, length}
+use Rattle.std.proofs.Common.{map, get_or, take, Some, is_some, refl, sym, ap, subst, ◌∙◌, arith}
 use Rattle.std.proofs.lemmas.List.{take_more_same, get_or-map, length-map}
 use Rattle.std.proofs.lemmas.Simd.{map-map}
 use Rattle.std.specs.List.Sorted.{IsStrictlyIncreasing}
@@ -13,7 +13,14 @@ use Rattle.reg_levels.specs.RequiredPairs.{HasRisingVersions}
 use Rattle.reg_levels.specs.Texts.{VersionText}
 use Rattle.reg_entries.specs.Sought.{texts_of}
 use Rattle.reg_set.specs.Records.{Records}
-use Rattle.reg_node.specs.Judging.{Matter, Standing, against}
+use Rattle.avro_schema.specs.Schema.{Meaning, is_schema, schema_of}
+use Rattle.reg_leader.specs.declared.command.Command.{Command}
+use Rattle.reg_leader.specs.declared.command.Command.TheVariants as commands
+use Rattle.reg_levels.specs.Judgement.{first_unread}
+use Rattle.reg_levels.specs.JudgedError.{IsJudgedRefusal}
+use Rattle.reg_levels.specs.declared.judged_error.JudgedError.{JudgedError}
+use Rattle.reg_levels.specs.declared.judged_error.JudgedError.TheVariants.{NewText, OldText, OutOfMemory}
+use Rattle.reg_node.specs.Judging.{HasNoJudgement, HasNoMatter, IsMatterOf, Matter, Standing, against}
 
 -- texts of entries whose versions rise
 pub texts_rise : (es : List Entry) → sought.AreInVersionOrder es → HasRisingVersions (texts_of es)
@@ -61,3 +68,26 @@ stands_over rs subject held l olds found agree is at all told =
       λ same. stands (level rs (Some subject)) l (texts_of (live rs subject)) olds (sym at) (texts ∙ sym (told.0 same)) ∙ is,
       λ same. told.1 (sym (ap (λ (s : Standing). s.olds) (same ∙ sym is)) ∙ texts),
     )
+
+-- a matter that isn't judged for want of a schema is one of a registration that has no judgement
+pub no_judgement : ((text : List ℕ) (m : Meaning) → schema_of text ≡ Some m → schema_of m.normal_text ≡ Some m)
+    → (rs : Records) (c : Command) (m : Matter) (e : JudgedError) → IsMatterOf rs c m → IsJudgedRefusal m.new_text m.standing.olds e
+    → e ≢ OutOfMemory → HasNoJudgement rs c
+no_judgement read rs (commands.Register subject text) m NewText h refused other =
+    let same : m.new_text ≡ h.0.normal_text = ap (λ (x : Matter). x.new_text) h.2 in
+    let is : is_schema m.new_text ≡ true = ap is_some (ap schema_of same ∙ read text h.0 h.1) in
+    absurd (cc (sym is ∙ refused))
+no_judgement read rs (commands.Register subject text) m (OldText version) h refused other =
+    inr (ap is_some (ap (λ (x : Matter). first_unread x.standing.olds) (sym h.2) ∙ refused.1))
+no_judgement read rs (commands.Register subject text) m OutOfMemory h refused other = absurd (other refl)
+no_judgement read rs c m e h refused other = tt
+
+-- where there is nothing to judge, there is no judgement
+pub nothing_judged : (rs : Records) (c : Command) → HasNoMatter c → HasNoJudgement rs c
+nothing_judged rs (commands.Register subject text) h = inl h
+nothing_judged rs c h = tt
+
+-- of no registration there is nothing to judge
+pub no_matter : (c : Command) → ((subject text : List ℕ) → c ≡ commands.Register subject text → ⊥) → HasNoMatter c
+no_matter (commands.Register subject text) h = absurd (h subject text refl)
+no_matter c h = tt

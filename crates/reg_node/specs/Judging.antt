@@ -1,10 +1,10 @@
 -- What a registration is judged by. Below, rs are the last records.
-use Rattle.std.specs.Prelude.{◌≡◌, ℕ, List, Some}
+use Rattle.std.specs.Prelude.{◌≡◌, ◌⊎◌, ⊤, ℕ, List, Some, None, IsSome}
 use Rattle.avro_schema.specs.Schema.{Meaning, schema_of}
 use Rattle.reg_fold.specs.InForce.{level}
 use Rattle.reg_fold.specs.Standing.{live}
 use Rattle.reg_level_names.specs.declared.level.Level.{Level}
-use Rattle.reg_levels.specs.Judgement.{Judgement, IsMadeOf}
+use Rattle.reg_levels.specs.Judgement.{Judgement, IsMadeOf, first_unread}
 use Rattle.reg_levels.specs.Texts.{VersionText}
 use Rattle.reg_leader.specs.declared.command.Command.{Command}
 use Rattle.reg_leader.specs.declared.command.Command.TheVariants.{Register}
@@ -35,3 +35,13 @@ IsMatterOf rs c m = ⊥
 -- the judgement is that of the command
 abbrev pub IsJudgementOf : Records → Command → Judgement → Type 0
 IsJudgementOf rs c j = (m : Matter) × IsMatterOf rs c m × IsMadeOf j m.standing.level m.new_text m.standing.olds
+
+-- why there is nothing to judge of a command: it is no registration, or its text means no schema
+abbrev pub HasNoMatter : Command → Type 0
+HasNoMatter (Register subject text) = schema_of text ≡ None
+HasNoMatter c = ⊤
+
+-- why a command has no judgement: there is nothing to judge, or the text of a live version means no schema
+abbrev pub HasNoJudgement : Records → Command → Type 0
+HasNoJudgement rs (Register subject text) = (schema_of text ≡ None) ⊎ IsSome (first_unread (against rs subject).olds)
+HasNoJudgement rs c = ⊤

@@ -1,6 +1,7 @@
 // What a new schema of a subject is judged against.
-ghost use Rattle.std.specs.Prelude.{◌≡◌, ◌↔◌, true, IsTrue, IfOk, map};
+ghost use Rattle.std.specs.Prelude.{◌≡◌, ◌↔◌, true, IsTrue, IfErr, IfOk, map};
 ghost use Rattle.reg_levels.specs.Judgement.{IsMadeOf};
+ghost use Rattle.reg_levels.specs.JudgedError.{IsJudgedRefusal};
 ghost use Rattle.reg_levels.specs.RequiredPairs.{HasRisingVersions};
 ghost use Rattle.reg_entries.specs.Sought.{texts_of};
 ghost use Rattle.reg_node.specs.Judging.{against};
@@ -72,7 +73,8 @@ impl Against {
         judge: &mut Judge,
     ) -> Result<Judged, JudgedError>
         ensures made { IfOk result (λ j. IsMadeOf j self.now.level new_text.now self.now.olds) }
-        ensures capacity { judge.new.capacity ≡ judge.old.capacity }
+        ensures refused { IfErr result (IsJudgedRefusal new_text.now self.now.olds) }
+        ensures capacities { judge.new.capacities ≡ judge.old.capacities }
     {
         let olds = lend_texts(alloc, self.olds.as_slice())?;
         judge_lent(alloc, self.level, new_text, &olds, judge)
@@ -89,7 +91,8 @@ fn judge_lent(
 ) -> Result<Judged, JudgedError>
     requires { HasRisingVersions olds.now }
     ensures made { IfOk result (λ j. IsMadeOf j level new_text.now (map (λ old. (old.0, old.1.now)) olds.now)) }
-    ensures capacity { judge.new.capacity ≡ judge.old.capacity }
+    ensures refused { IfErr result (IsJudgedRefusal new_text.now (map (λ old. (old.0, old.1.now)) olds.now)) }
+    ensures capacities { judge.new.capacities ≡ judge.old.capacities }
 {
     if is_kept(new_text) && olds.iter().all(|old| is_kept(old.1)) {
         judge.make(level, new_text, olds)

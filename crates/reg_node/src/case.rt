@@ -1,13 +1,14 @@
 // A registration that is to be judged.
-ghost use Rattle.std.specs.Prelude.{◌≡◌, ◌↔◌, true, IfOk, IfSome};
+ghost use Rattle.std.specs.Prelude.{◌≡◌, ◌↔◌, true, IfErr, IfOk};
 ghost use Rattle.reg_levels.specs.Judgement.{IsMadeOf};
+ghost use Rattle.reg_levels.specs.JudgedError.{IsJudgedRefusal};
 ghost use Rattle.reg_node.specs.Judging.{against};
 
 use crate::against::Against;
 use base_text::Text;
 use reg_fold::Registry;
 use reg_judge::Judge;
-use reg_levels::Judged;
+use reg_levels::{Judged, JudgedError};
 use std::alloc::{AllocError, Global};
 use std::marker::Model;
 
@@ -42,19 +43,15 @@ impl Case {
         }
     }
 
-    /// The judgement, by the judge where no text is longer than 4,096 bytes, else without it. `None`
-    /// where a text is no schema's, or where memory was refused.
-    pub fn judged(&self, judge: &mut Judge) -> Option<Judged>
-        ensures made { IfSome result (λ j. IsMadeOf j self.now.standing.level self.now.new_text self.now.standing.olds) }
-        ensures capacity { judge.new.capacity ≡ judge.old.capacity }
+    /// The judgement, by the judge where no text is longer than 4,096 bytes, else without it. Refused where a
+    /// text is no schema's, the new one's fault first, or where memory is.
+    pub fn judged(&self, judge: &mut Judge) -> Result<Judged, JudgedError>
+        ensures made { IfOk result (λ j. IsMadeOf j self.now.standing.level self.now.new_text self.now.standing.olds) }
+        ensures refused { IfErr result (IsJudgedRefusal self.now.new_text self.now.standing.olds) }
+        ensures capacities { judge.new.capacities ≡ judge.old.capacities }
     {
-        match self
-            .against
+        self.against
             .judged(self.alloc, self.new_text.as_str(), judge)
-        {
-            Ok(judged) => Some(judged),
-            Err(_) => None,
-        }
     }
 
     /// Whether it is the case of the same registration over a registry. The only error is out of memory.

@@ -98,7 +98,9 @@ impl<
 
     /// The front of the topic's list that it saw or learnt.
     pub fn topic_seen(&self) -> &Seen<Item, Shared, N>
-        ensures { result.now ≡ self.now.0 }
+        ensures front { result.now ≡ self.now.0 }
+        ensures drawn { AreDrawnFrom N.first (self.now.1.0 ++ self.now.1.1) self.now.0 }
+        ensures published { AreDrawnFrom N.first self.now.1.0 self.now.0 }
     {
         self.topic.seen()
     }

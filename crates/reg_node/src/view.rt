@@ -1,5 +1,5 @@
 // A node's view, which waits for nobody.
-ghost use Rattle.std.specs.Prelude.{◌≡◌, ◌⊎◌, IfOk, IfSome};
+ghost use Rattle.std.specs.Prelude.{◌≡◌, ◌≢◌, ◌⊎◌, None, IfNone, IfOk, IfSome, OnOk};
 ghost use Rattle.std.specs.FinSet.{empty};
 ghost use mathlib.Core.List.{IsPrefix};
 ghost use Rattle.reg_set.specs.LastRecords.{last_records};
@@ -7,20 +7,21 @@ ghost use Rattle.reg_lookup.specs.Answers.{IsAnswer};
 ghost use Rattle.reg_lookup.specs.Checked.{checked_on};
 ghost use Rattle.reg_lookup.specs.declared.query.Query.TheVariants.{Check};
 ghost use Rattle.reg_leader.specs.declared.command.Command.TheVariants.{Register};
-ghost use Rattle.reg_node.specs.Judging.{IsJudgementOf, IsMatterOf, against};
+ghost use Rattle.avro_schema.specs.Schema.{schema_of};
+ghost use Rattle.reg_node.specs.Judging.{HasNoJudgement, HasNoMatter, IsJudgementOf, IsMatterOf, against};
 ghost use Rattle.reg_node.specs.Takes.{taken};
 
 use crate::against::Against;
 use crate::case::Case;
 use crate::laws::draws_fold_to_last_records;
 use crate::take::{Draw, Taken};
-use avro_schema::Schema;
+use avro_schema::{Schema, normal_texts_read_back};
 use base_text::Text;
 use reg_feed::{Copies, FeedName, FeedReader, Seen};
 use reg_fold::VersionRef;
 use reg_judge::Judge;
 use reg_leader::Command;
-use reg_levels::Judged;
+use reg_levels::{Judged, JudgedError};
 use reg_lookup::{Answer, Grounds, Query, answer};
 use std::alloc::{AllocError, Global};
 use std::marker::Model;
@@ -92,32 +93,70 @@ impl<M: FeedName<Draw, Taken>, U: Copies<Draw, Taken, M>> View<M, U> {
     }
 
     /// The judgement of a registration over what the node took by some published list that begins with
-    /// all that this view saw or was told of; that list is then what it saw. `None` for each other
-    /// command, where the text is no schema's, where memory was refused, and where the follower is gone.
-    ///
-    /// What it is judged against is copied, and then judged, so that a long judgement holds nobody up.
+    /// all that this view saw or was told of; that list is then what it saw. `None` where `try_judge` has
+    /// none, where memory was refused, and where the follower is gone.
     pub fn judge(&mut self, command: &Command, judge: &mut Judge) -> Option<Judged>
         ensures judged { IfSome result (IsJudgementOf (last_records (taken self.new)) command.now) }
         ensures longer { IsPrefix self.old self.new }
-        ensures capacity { judge.new.capacity ≡ judge.old.capacity }
+        ensures capacities { judge.new.capacities ≡ judge.old.capacities }
     {
-        let case = self.case(command)?;
-        case.judged(judge)
+        match self.try_judge(command, judge) {
+            Ok(found) => found,
+            Err(AllocError) => None,
+        }
     }
 
-    /// What is to be judged of a registration, over such a list. `None` for each other command, where
-    /// the text is no schema's, where memory was refused, and where the follower is gone.
-    pub fn case(&mut self, command: &Command) -> Option<Case>
-        ensures case { IfSome result (IsMatterOf (last_records (taken self.new)) command.now) }
+    /// The judgement of a registration over such a list. `None` for each other command, where the text is no
+    /// schema's, and where that of a live version isn't. The only error is out of memory, or that the
+    /// follower is gone.
+    ///
+    /// What it is judged against is copied, and then judged, so that a long judgement holds nobody up.
+    #[tactic(auto, using(crate::proofs::Matters::no_judgement, crate::proofs::Matters::nothing_judged))]
+    pub fn try_judge(
+        &mut self,
+        command: &Command,
+        judge: &mut Judge,
+    ) -> Result<Option<Judged>, AllocError>
+        ensures judged { IfOk result (λ found. IfSome found (IsJudgementOf (last_records (taken self.new)) command.now)) }
+        ensures none { IfOk result (λ found. IfNone found (HasNoJudgement (last_records (taken self.new)) command.now)) }
+        ensures longer { IsPrefix self.old self.new }
+        ensures capacities { judge.new.capacities ≡ judge.old.capacities }
+    {
+        normal_texts_read_back();
+        let Some(case) = self.case(command)? else {
+            return Ok(None);
+        };
+        match case.judged(judge) {
+            Ok(judged) => Ok(Some(judged)),
+            Err(error) => {
+                must_be_unread(error)?;
+                Ok(None)
+            }
+        }
+    }
+
+    /// What is to be judged of a registration, over such a list. `None` for each other command, and where the
+    /// text is no schema's. The only error is out of memory, or that the follower is gone.
+    #[tactic(auto, using(crate::proofs::Matters::no_matter))]
+    pub fn case(&mut self, command: &Command) -> Result<Option<Case>, AllocError>
+        ensures case { IfOk result (λ found. IfSome found (IsMatterOf (last_records (taken self.new)) command.now)) }
+        ensures none { IfOk result (λ found. IfNone found (HasNoMatter command.now)) }
         ensures longer { IsPrefix self.old self.new }
     {
         let Command::Register { subject, text } = command else {
-            return None;
+            return Ok(None);
         };
-        match copy_case(self.alloc, &mut self.reader, subject, text) {
-            Ok(case) => case,
-            Err(_) => None,
-        }
+        copy_case(self.alloc, &mut self.reader, subject, text)
+    }
+}
+
+/// Refuses a judgement for which memory was refused: every other cause is a text that isn't read.
+fn must_be_unread(error: JudgedError) -> Result<(), AllocError>
+    ensures { OnOk result (error ≢ JudgedError.OutOfMemory) }
+{
+    match error {
+        JudgedError::OutOfMemory => Err(AllocError),
+        JudgedError::NewText | JudgedError::OldText(_) => Ok(()),
     }
 }
 
@@ -170,6 +209,7 @@ fn copy_case<M: FeedName<Draw, Taken>, U: Copies<Draw, Taken, M>>(
 ) -> Result<Option<Case>, AllocError>
     requires { M.first ≡ empty }
     ensures case { IfOk result (λ found. IfSome found (IsMatterOf (last_records (taken reader.new)) (Register subject.now text.now))) }
+    ensures none { IfOk result (λ found. IfNone found (schema_of text.now ≡ None)) }
     ensures longer { IsPrefix reader.old reader.new }
 {
     let Some(schema) = Schema::read_if_any(alloc, text.as_str())? else {

@@ -2,5 +2,6 @@ pub mod Acting
 pub mod Ahead
 pub mod Batches
 pub mod Begun
+pub mod Compacting
 pub mod Prefixes
 pub mod Settling

@@ -1,4 +1,6 @@
+pub mod Deletes
 pub mod Keep
 pub mod Opening
 pub mod Pen
 pub mod Pending
+pub mod Writing

@@ -21,6 +21,7 @@ use Rattle.reg_pen.specs.declared.compact_error.CompactError.{CompactError}
 use Rattle.reg_pen.specs.declared.compact_error.CompactError.TheVariants as refused
 use Rattle.reg_pen.specs.declared.keep.Kept.{Kept}
 use Rattle.reg_pen.specs.declared.keep.Kept.TheVariants.{Taken, Declined, Lost}
+use Rattle.reg_pen.specs.declared.keep.Lack.{Lack}
 
 -- the published items and the pending ones, whether a pending batch is lost, and the keep
 pub record PenState (K : Type 0) : Type 0 where
@@ -120,6 +121,18 @@ module _ {K : Type 0} (keeps : K → List Record → Kept → K → Type 0) wher
       (IsAhead since l.published × IsNoMemory reply × (m ≡ l))
       ⊎ (IsBehind since l.published × (StillPends l.pending reply × (m ≡ l) ⊎ (l.lost ≡ false) × Acts base (settled l) c reply m))
 
+  -- the reply is that of a batch of a step from the log of the list, which the keep declined
+  pub record IsDeclined (base : Topic) (front : List Item) (c : Command) (reply : Reply) : Type 0 where
+    pub replied : Reply
+    pub first : Record
+    pub rest : List Record
+    pub step : IsStepAfter base front c replied (first ∷ rest)
+    pub lack : Lack
+    pub keep : K
+    pub keep' : K
+    pub lent : keeps keep (first ∷ rest) (Declined lack) keep'
+    pub told : reply ≡ replies.Refused (refusals.Store (fault_of lack))
+
 -- the topic with what is pending
 abbrev pub with_pending : {K : Type 0} → Topic → PenState K → Topic
 with_pending base l = after_items base (l.published ++ l.pending)
@@ -153,3 +166,7 @@ IsCompactRefusal base floor l (refused.FloorBelow kept) m = (kept ≡ (with_pend
 IsCompactRefusal base floor l (refused.FloorAhead next) m =
     (next ≡ (with_pending base l).next) × ((with_pending base l).kept.floor ≤ floor) × (next < floor) × (m ≡ l)
 IsCompactRefusal base floor l refused.Unsettled m = MaySetFloor (with_pending base l) floor × LeavesCompaction base floor l m
+
+-- a compaction to a floor is done or refused
+abbrev pub CompactsOrNot : {K : Type 0} → Topic → ℕ → PenState K → PenState K → Type 0
+CompactsOrNot base floor l m = Compacts base floor l m ⊎ ((error : CompactError) × IsCompactRefusal base floor l error m)

@@ -2,10 +2,12 @@
 #![tactic(auto)]
 
 mod compact_error;
+mod deletes;
 mod keep;
 mod open_error;
 mod pass;
 mod pen;
+mod writing;
 
 pub use compact_error::CompactError;
 pub use keep::{Keep, Kept, Lack, MemoryAlone};

@@ -9,12 +9,14 @@ ghost use Rattle.reg_fold.specs.GiveAlike.{GiveAlike};
 ghost use Rattle.reg_kept.specs.Floors.{compacted_to, without};
 ghost use Rattle.reg_topic.specs.Topic.{IsAdopted, MayCommit, MayFollow, after_items, may_compact, owed_by, registry_of, topic_from};
 ghost use Rattle.reg_shared.specs.Held.{base_of, held_of, topic_at};
+ghost use Rattle.reg_pen.specs.Deletes.{floor_due};
 ghost use Rattle.reg_pen.specs.Opening.{IsKeepRefusal, IsOpenRefusal, KeepsDue};
-ghost use Rattle.reg_pen.specs.Pen.{Acts, Compacts, CompactsTo, Follows, IsAhead, IsBehind, IsCompactRefusal, IsNoMemory, IsStepAfter, LeavesCompaction, MaySetFloor, Submits, StillPends, batches, counted, settled, with_pending};
+ghost use Rattle.reg_pen.specs.Pen.{Acts, Compacts, CompactsTo, Follows, IsAhead, IsBehind, IsCompactRefusal, IsNoMemory, IsPen, IsStepAfter, LeavesCompaction, MaySetFloor, Submits, StillPends, batches, counted, settled, with_pending};
 ghost use Rattle.reg_pen.specs.Pending.{EndsByLimit, IsClear, IsFirst, IsPending, after, batches_in, is_lost, reply_of};
 ghost use Rattle.reg_pen.specs.declared.keep.Kept.{Kept};
 
 use crate::compact_error::CompactError;
+use crate::deletes::Deletes;
 use crate::keep::{Keep, Kept};
 use crate::open_error::OpenError;
 use crate::pass::Pass;
@@ -72,12 +74,15 @@ pub struct Pen<
     // The kept set's floor and the next offset, with what is pending.
     floor: u64,
     next: u64,
+    // What is counted of the list with what is pending.
+    deletes: Deletes,
 }
 
 impl<N: FeedName<Item, Shared>, S: Copies<Item, Shared, N>, K: Keep + Drop, R: Wait + Drop> Model
     for Pen<N, S, K, R> {
     ghost use Rattle.std.specs.Prelude.{◌≡◌, ◌++◌, option_to_list};
     ghost use Rattle.reg_shared.specs.Held.{base_of};
+    ghost use Rattle.reg_pen.specs.Deletes.{deletes_of};
     ghost use Rattle.reg_pen.specs.Pen.{IsPen, PenState, batches};
     ghost use Rattle.reg_pen.specs.Pending.{AreOf, IsPending, is_lost};
     ghost use Rattle.reg_topic.specs.Topic.{after_items};
@@ -87,7 +92,8 @@ impl<N: FeedName<Item, Shared>, S: Copies<Item, Shared, N>, K: Keep + Drop, R: W
     ghost view = { λ p. record { published = p.writer.value.0; pending = p.writer.value.1 ++ option_to_list p.held; lost = is_lost p.pending; keep = p.keep } };
 
     ghost invariant = { λ p. IsPen (base_of N.first) p.writer.value.0 (p.writer.value.1 ++ option_to_list p.held) × IsPending p.pending (p.writer.value.1 ++ option_to_list p.held) × (p.committed ≡ batches p.writer.value.0)
-        × AreOf (after_items (base_of N.first) (p.writer.value.0 ++ (p.writer.value.1 ++ option_to_list p.held))) p.floor p.next };
+        × AreOf (after_items (base_of N.first) (p.writer.value.0 ++ (p.writer.value.1 ++ option_to_list p.held))) p.floor p.next
+        × (p.deletes ≡ deletes_of (base_of N.first) (p.writer.value.0 ++ (p.writer.value.1 ++ option_to_list p.held))) };
 }
 
 /// A pen with the passes to submit to it.
@@ -144,6 +150,7 @@ pub fn open<N: FeedName<Item, Shared>, K: Keep + Drop, R: Wait + Drop>(
         committed: 0,
         floor,
         next,
+        deletes: Deletes::none(floor),
     };
     Ok(Opened { pen, passes })
 }
@@ -211,7 +218,8 @@ impl<N: FeedName<Item, Shared>, S: Copies<Item, Shared, N>, K: Keep + Drop, R: W
 
     /// How many batches were published, without what the topic began with. Takes no memory.
     pub fn batches(&self) -> u64
-        ensures { result ≡ batches self.now.published }
+        ensures count { result ≡ batches self.now.published }
+        ensures kept { IsPen (base_of N.first) self.now.published self.now.pending }
     {
         self.committed
     }
@@ -243,10 +251,15 @@ impl<N: FeedName<Item, Shared>, S: Copies<Item, Shared, N>, K: Keep + Drop, R: W
         self.writer.value().floor()
     }
 
-    /// Whether so many deletes were published since the floor rose that it pays to raise it again: nodes are
-    /// rebased then, which costs what is kept. No contract speaks of it.
-    pub fn has_many_deletes(&self) -> bool {
-        self.writer.value().has_many_deletes()
+    /// The floor to which `submit_and_compact` compacts: what the next offset was at the last compaction, where
+    /// many deletes are due, else the floor of the published kept set. Takes no memory.
+    pub fn floor_due(&self) -> u64
+        ensures { result ≡ floor_due (base_of N.first) self.now }
+    {
+        if self.deletes.are_many() {
+            return self.compacted();
+        }
+        self.floor()
     }
 
     /// Publishes what is pending, and then a compaction to that floor, which isn't lent to the keep: it
@@ -379,6 +392,7 @@ impl<N: FeedName<Item, Shared>, S: Copies<Item, Shared, N>, K: Keep + Drop, R: W
         lawful_items_follow();
         commits_follow();
         (self.floor, self.next) = after(&item, self.floor, self.next);
+        self.deletes = self.deletes.after(&item);
         self.held = Some(item);
         self.pending = pending;
     }

@@ -14,7 +14,7 @@ use Rattle.reg_topic.specs.declared.published.Compaction.{Compaction}
 use Rattle.reg_topic.specs.declared.published.Item.{Item}
 use Rattle.reg_topic.specs.declared.published.Item.TheVariants as items
 use Rattle.reg_topic.specs.declared.topic.Topic.{Topic}
-use Rattle.reg_pen.specs.Pen.{Acts, Compacts, Follows, IsCompactRefusal, IsNoMemory, IsPen}
+use Rattle.reg_pen.specs.Pen.{Acts, Compacts, CompactsOrNot, Follows, IsCompactRefusal, IsPen, IsStepAfter}
 use Rattle.reg_pen.specs.Pen.{LeavesCompaction, Pends, PenState, StillPends, Submits}
 use Rattle.reg_pen.specs.Pen.{item_of, settled}
 use Rattle.reg_pen.specs.declared.compact_error.CompactError.{CompactError}
@@ -22,7 +22,7 @@ use Rattle.reg_pen.specs.declared.compact_error.CompactError.TheVariants as refu
 use Rattle.reg_pen.specs.declared.keep.Kept.{Kept}
 use Rattle.reg_pen.specs.declared.keep.Kept.TheVariants.{Taken, Declined, Lost}
 use Rattle.reg_running.specs.Calls.{ActsAddUp, ActsAreLawful, Added, CompactionsAreActs}
-use Rattle.reg_running.specs.Calls.{CompactsOrNot, IsNoOutcome, IsToldOf}
+use Rattle.reg_running.specs.Calls.{IsNoOutcome, IsToldOf}
 use Rattle.reg_running.specs.Calls.{LawfulListsAreOfActs, SubmitsAreActs}
 use Rattle.reg_running.specs.Running.{Act, AreActs, Carried, Dropped, items_of, published}
 
@@ -36,7 +36,7 @@ acts_join count t (a ∷ xs) ys h g = (
       (subst (λ u. AreActs count u ys) (fold-append after_item t (items_of a) (published xs)) g),
 )
 
-added_none : (count : ℕ) (base : Topic) (before after : List Item) → after ≡ before → Added count base before after []
+pub added_none : (count : ℕ) (base : Topic) (before after : List Item) → after ≡ before → Added count base before after []
 added_none count base before after e = record { are = tt; list = e ∙ sym (append-nil before) }
 
 pub added_more : ActsAddUp
@@ -85,53 +85,68 @@ pending_acts count node base before [] there pends = ([], added_none count base 
 pending_acts count node base before (i ∷ []) there pends = item_act count node base before (before ++ i ∷ []) i there pends refl
 pending_acts count node base before (i ∷ j ∷ is) there pends = absurd pends
 
-no_outcome : (reply : Reply) → IsNoMemory reply → IsNoOutcome reply
-no_outcome reply e = subst IsNoOutcome (sym e) tt
+still_none : {K : Type 0} (keeps : K → List Record → Kept → K → Type 0) (base : Topic) (after : List Item) (command : Command)
+    (pending : List Item) (reply : Reply) → StillPends pending reply → IsNoOutcome keeps base after command reply
+still_none keeps base after command [] reply h = absurd h
+still_none keeps base after command (items.Commit commit ∷ []) reply h = inr (inl (h.0.offset, h.3))
+still_none keeps base after command (items.Compaction c ∷ []) reply h = inl h
+still_none keeps base after command (items.Commit commit ∷ j ∷ is) reply h = absurd h
+still_none keeps base after command (items.Compaction c ∷ j ∷ is) reply h = absurd h
 
-still_none : (pending : List Item) (reply : Reply) → StillPends pending reply → IsNoOutcome reply
-still_none [] reply h = absurd h
-still_none (items.Commit commit ∷ []) reply h = subst IsNoOutcome (sym h.3) tt
-still_none (items.Compaction c ∷ []) reply h = no_outcome reply h
-still_none (items.Commit commit ∷ j ∷ is) reply h = absurd h
-still_none (items.Compaction c ∷ j ∷ is) reply h = absurd h
-
-module _ {K : Type 0} (count node : ℕ) (there : node < count) (base : Topic) where
+module _ {K : Type 0} (keeps : K → List Record → Kept → K → Type 0) (count node : ℕ) (there : node < count) (base : Topic) where
   -- what a call adds where the batch follows so
   abbrev Adds : List Item → PenState K → Command → Reply → Type 0
-  Adds before m command reply = (acts : List Act) × Added count base before m.published acts × IsToldOf acts node command reply
+  Adds before m command reply =
+      (acts : List Act) × Added count base before m.published acts × IsToldOf keeps base acts node m.published command reply
 
-  follows_so : (kept : Kept) (l m : PenState K) (command : Command) (replied unsettled reply : Reply) (first : Record) (rest : List Record)
-      → IsNoOutcome unsettled
+  follows_so : (kept : Kept) (keep : K) (l m : PenState K) (command : Command) (replied reply : Reply) (first : Record) (rest : List Record)
       → IsStep (registry_of (after_items base l.published)) (after_items base l.published).next command replied (first ∷ rest)
-      → Follows kept (item_of command (first ∷ rest)) replied unsettled l reply m → Adds l.published m command reply
-  follows_so Taken l m command replied unsettled reply first rest none step (inl done) = (
+      → keeps keep (first ∷ rest) kept l.keep
+      → Follows kept (item_of command (first ∷ rest)) replied (replies.Unsettled first.offset) l reply m → Adds l.published m command reply
+  follows_so Taken keep l m command replied reply first rest step lent (inl done) = (
     Carried node command replied (first ∷ rest) ∷ [],
     carries count node base l.published m.published command replied (first ∷ rest) there step (ap (λ (s : PenState K). s.published) done.1),
     inl ([], first ∷ rest, ap (λ (r : Reply). Carried node command r (first ∷ rest) ∷ []) (sym done.0)),
   )
-  follows_so Taken l m command replied unsettled reply first rest none step (inr left) = (
+  follows_so Taken keep l m command replied reply first rest step lent (inr left) = (
     [],
     added_none count base l.published m.published (ap (λ (s : PenState K). s.published) left.1),
-    inr (subst IsNoOutcome (sym left.0) none),
+    inr (inr (inl (first.offset, left.0))),
   )
-  follows_so (Declined lack) l m command replied unsettled reply first rest none step h =
-      ([], added_none count base l.published m.published (ap (λ (s : PenState K). s.published) h.1), inr (subst IsNoOutcome (sym h.0) tt))
-  follows_so Lost l m command replied unsettled reply first rest none step h =
-      ([], added_none count base l.published m.published (ap (λ (s : PenState K). s.published) h.1), inr (subst IsNoOutcome (sym h.0) none))
+  follows_so (Declined lack) keep l m command replied reply first rest step lent h =
+      let same : m.published ≡ l.published = ap (λ (s : PenState K). s.published) h.1 in (
+        [],
+        added_none count base l.published m.published same,
+        inr (inr (inr (record {
+          replied = replied;
+          first = first;
+          rest = rest;
+          step = subst (λ (w : List Item). IsStepAfter base w command replied (first ∷ rest)) (sym same) step;
+          lack = lack;
+          keep = keep;
+          keep' = l.keep;
+          lent = lent;
+          told = h.0;
+        }))),
+      )
+  follows_so Lost keep l m command replied reply first rest step lent h = (
+    [],
+    added_none count base l.published m.published (ap (λ (s : PenState K). s.published) h.1),
+    inr (inr (inl (first.offset, h.0))),
+  )
 
-  acts_so : (keeps : K → List Record → Kept → K → Type 0) (l m : PenState K) (command : Command) (reply : Reply)
-      → Acts keeps base l command reply m → Adds l.published m command reply
-  acts_so keeps l m command reply (inl none) = (
+  acts_so : (l m : PenState K) (command : Command) (reply : Reply) → Acts keeps base l command reply m → Adds l.published m command reply
+  acts_so l m command reply (inl none) = (
     Carried node command reply [] ∷ [],
     carries count node base l.published m.published command reply [] there none.0
         (ap (λ (s : PenState K). s.published) none.1 ∙ sym (append-nil l.published)),
     inl ([], [], refl),
   )
-  acts_so keeps l m command reply (inr (inl lends)) =
-      follows_so lends.kept (record l { keep = lends.keep }) m command lends.replied
-      (replies.Unsettled lends.first.offset) reply lends.first lends.rest tt lends.step lends.follows
-  acts_so keeps l m command reply (inr (inr refused)) =
-      ([], added_none count base l.published m.published (ap (λ (s : PenState K). s.published) refused.1), inr (no_outcome reply refused.0))
+  acts_so l m command reply (inr (inl lends)) =
+      follows_so lends.kept l.keep (record l { keep = lends.keep }) m command lends.replied reply lends.first lends.rest
+      lends.step lends.lent lends.follows
+  acts_so l m command reply (inr (inr refused)) =
+      ([], added_none count base l.published m.published (ap (λ (s : PenState K). s.published) refused.1), inr (inl refused.0))
 
   -- behind acts that published what was pending
   behind_pending : (before mid : List Item) (m : PenState K) (command : Command) (reply : Reply)
@@ -144,21 +159,21 @@ module _ {K : Type 0} (count node : ℕ) (there : node < count) (base : Topic) w
   behind_pending before mid m command reply p (ys, added, inr none) =
       (p.0 ++ ys, added_more count base before mid m.published p.0 ys p.1 added, inr none)
 
-  submits_so : (keeps : K → List Record → Kept → K → Type 0)
-      (since : Option (Bor (List Item))) (l m : PenState K) (command : Command) (reply : Reply)
+  submits_so : (since : Option (Bor (List Item))) (l m : PenState K) (command : Command) (reply : Reply)
       → IsPen base l.published l.pending
       → Submits keeps base since l command reply m → Adds l.published m command reply
-  submits_so keeps since l m command reply pen (inl ahead) =
-      ([], added_none count base l.published m.published (ap (λ (s : PenState K). s.published) ahead.2), inr (no_outcome reply ahead.1))
-  submits_so keeps since l m command reply pen (inr (behind, inl still)) = (
+  submits_so since l m command reply pen (inl ahead) =
+      ([], added_none count base l.published m.published (ap (λ (s : PenState K). s.published) ahead.2), inr (inl ahead.1))
+  submits_so since l m command reply pen (inr (behind, inl still)) = (
     [],
     added_none count base l.published m.published (ap (λ (s : PenState K). s.published) still.1),
-    inr (still_none l.pending reply still.0),
+    inr (still_none keeps base m.published command l.pending reply still.0),
   )
-  submits_so keeps since l m command reply pen (inr (behind, inr acts)) =
+  submits_so since l m command reply pen (inr (behind, inr acts)) =
       behind_pending l.published (l.published ++ l.pending) m command reply
-      (pending_acts count node base l.published l.pending there pen.pends) (acts_so keeps (settled l) m command reply acts.1)
+      (pending_acts count node base l.published l.pending there pen.pends) (acts_so (settled l) m command reply acts.1)
 
+module _ {K : Type 0} (count node : ℕ) (there : node < count) (base : Topic) where
   leaves_so : (floor : ℕ) (l m : PenState K) → IsPen base l.published l.pending
       → LeavesCompaction base floor l m → (acts : List Act) × Added count base l.published m.published acts
   leaves_so floor l m pen (inl same) = ([], added_none count base l.published m.published (ap (λ (s : PenState K). s.published) same))
@@ -190,7 +205,7 @@ module _ {K : Type 0} (count node : ℕ) (there : node < count) (base : Topic) w
 
 pub submits_are_acts : {K : Type 0} (keeps : K → List Record → Kept → K → Type 0) → SubmitsAreActs keeps
 submits_are_acts keeps base since l m command reply count node there pen h =
-    submits_so count node there base keeps since l m command reply pen h
+    submits_so keeps count node there base since l m command reply pen h
 
 pub compactions_are_acts : (K : Type 0) → CompactionsAreActs K
 compactions_are_acts K base floor l m count some pen h = compacts_so count 0 some base floor l m pen h

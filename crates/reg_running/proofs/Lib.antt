@@ -1,6 +1,7 @@
 pub mod Acts
 pub mod Claims
 pub mod Deeds
+pub mod Desks
 pub mod Drawn
 pub mod Lists
 pub mod Pens

@@ -9,12 +9,12 @@ use Rattle.reg_leader.specs.declared.reply.Reply.TheVariants as replies
 use Rattle.reg_topic.specs.Topic.{IsLawful, after_item, after_items, registry_of}
 use Rattle.reg_topic.specs.declared.published.Item.{Item}
 use Rattle.reg_topic.specs.declared.topic.Topic.{Topic}
-use Rattle.reg_pen.specs.Pen.{Acts, Follows, IsCompactRefusal, IsPen, LeavesCompaction, Pends, PenState, Submits, item_of, settled}
+use Rattle.reg_pen.specs.Pen.{Acts, CompactsOrNot, Follows, IsCompactRefusal, IsPen, LeavesCompaction, Pends, PenState, Submits, item_of, settled}
 use Rattle.reg_pen.specs.declared.compact_error.CompactError.{CompactError}
 use Rattle.reg_pen.specs.declared.compact_error.CompactError.TheVariants as refused
 use Rattle.reg_pen.specs.declared.keep.Kept.{Kept}
 use Rattle.reg_pen.specs.declared.keep.Kept.TheVariants.{Taken, Declined, Lost}
-use Rattle.reg_running.specs.Calls.{Added, CallsKeepPens, CompactsOrNot}
+use Rattle.reg_running.specs.Calls.{Added, CallsKeepPens}
 use Rattle.reg_running.specs.Running.{Act, published}
 use Rattle.reg_running.proofs.Acts.{acts_are_lawful, compactions_are_acts, submits_are_acts}
 

@@ -1,9 +1,8 @@
 -- What the calls of a pen, of a follower and of a view do, by what their contracts say: acts and deeds.
-use Rattle.std.specs.Prelude.{◌≡◌, ◌⊎◌, ⊤, ℕ, ◌<◌, List, [], ◌∷◌, ◌++◌, Option, map}
+use Rattle.std.specs.Prelude.{◌≡◌, ◌⊎◌, ℕ, ◌<◌, List, [], ◌∷◌, ◌++◌, Option, map}
 use Rattle.std.specs.Borrow.{Bor}
 use mathlib.Core.List.{IsPrefix}
 use Rattle.reg_records.specs.declared.record.Record.{Record}
-use Rattle.reg_refusals.specs.declared.refusal.Refusal.TheVariants as refusals
 use Rattle.reg_set.specs.LastRecords.{last_records}
 use Rattle.reg_lookup.specs.Answers.{IsAnswer}
 use Rattle.reg_lookup.specs.declared.answered.Answer.{Answer}
@@ -14,12 +13,12 @@ use Rattle.reg_leader.specs.declared.reply.Reply.TheVariants as replies
 use Rattle.reg_topic.specs.Topic.{IsLawful, after_items}
 use Rattle.reg_topic.specs.declared.published.Item.{Item}
 use Rattle.reg_topic.specs.declared.topic.Topic.{Topic}
-use Rattle.reg_shared.specs.Held.{Held}
-use Rattle.reg_pen.specs.Pen.{Compacts, IsCompactRefusal, IsPen, PenState, Submits}
-use Rattle.reg_pen.specs.declared.compact_error.CompactError.{CompactError}
+use Rattle.reg_shared.specs.Held.{Held, base_of}
+use Rattle.reg_pen.specs.Pen.{CompactsOrNot, IsDeclined, IsNoMemory, IsPen, PenState, Submits}
 use Rattle.reg_pen.specs.declared.keep.Kept.{Kept}
 use Rattle.reg_node.specs.Takes.{AreDrawnFrom, taken}
 use Rattle.reg_node.specs.declared.take.Draw.{Draw}
+use Rattle.reg_desk.specs.Desk.{DeskCommands, Known}
 use Rattle.reg_running.specs.Running.{Act, AreActs, Carried, Deed, Drew, IsRunningNode, Told, published, draws}
 
 -- these acts, done by a pen with so many nodes, made the one list the other
@@ -34,27 +33,24 @@ ActsAddUp = (count : ℕ) (base : Topic) (before mid after : List Item) (acts mo
     → Added count base mid after more
     → Added count base before after (acts ++ more)
 
--- memory or the keep refused the command, or its batch, or one before it, isn't settled
-abbrev pub IsNoOutcome : Reply → Type 0
-IsNoOutcome (replies.Refused (refusals.Store fault)) = ⊤
-IsNoOutcome (replies.Unsettled offset) = ⊤
-IsNoOutcome _ = ⊥
+-- why a caller got no outcome: memory was refused; a batch isn't settled, its own or one before it; or the keep declined its batch. What a
+-- step refuses by itself is an outcome, also that no number is left
+abbrev pub IsNoOutcome : {K : Type 0} → (K → List Record → Kept → K → Type 0) → Topic → List Item → Command → Reply → Type 0
+IsNoOutcome keeps base after command reply =
+    IsNoMemory reply ⊎ ((offset : ℕ) × (reply ≡ replies.Unsettled offset)) ⊎ IsDeclined keeps base after command reply
 
--- the caller got the outcome of the last act, or none
-abbrev pub IsToldOf : List Act → ℕ → Command → Reply → Type 0
-IsToldOf acts node command reply =
-    ((before : List Act) × (batch : List Record) × (acts ≡ before ++ Carried node command reply batch ∷ [])) ⊎ IsNoOutcome reply
+-- the caller got the outcome of the last act, or none; the list is then that one
+abbrev pub IsToldOf : {K : Type 0} → (K → List Record → Kept → K → Type 0) → Topic → List Act → ℕ → List Item → Command → Reply → Type 0
+IsToldOf keeps base acts node after command reply =
+    ((before : List Act) × (batch : List Record) × (acts ≡ before ++ Carried node command reply batch ∷ []))
+    ⊎ IsNoOutcome keeps base after command reply
 
 -- a submit of a node: what was pending may be published by it, and then its own command is carried out, with the reply that its caller got
 abbrev pub SubmitsAreActs : {K : Type 0} → (K → List Record → Kept → K → Type 0) → Type 0
 SubmitsAreActs {K} keeps = (base : Topic) (since : Option (Bor (List Item))) (l m : PenState K) (command : Command)
     (reply : Reply) (count node : ℕ)
     → node < count → IsPen base l.published l.pending → Submits keeps base since l command reply m
-    → (acts : List Act) × Added count base l.published m.published acts × IsToldOf acts node command reply
-
--- a compaction to a floor is done or refused
-abbrev pub CompactsOrNot : {K : Type 0} → Topic → ℕ → PenState K → PenState K → Type 0
-CompactsOrNot base floor l m = Compacts base floor l m ⊎ ((error : CompactError) × IsCompactRefusal base floor l error m)
+    → (acts : List Act) × Added count base l.published m.published acts × IsToldOf keeps base acts node m.published command reply
 
 abbrev pub CompactionsAreActs : Type 0 → Type 0
 CompactionsAreActs K = (base : Topic) (floor : ℕ) (l m : PenState K) (count : ℕ)
@@ -62,6 +58,15 @@ CompactionsAreActs K = (base : Topic) (floor : ℕ) (l m : PenState K) (count : 
     → IsPen base l.published l.pending
     → CompactsOrNot base floor l m
     → (acts : List Act) × Added count base l.published m.published acts
+
+-- a desk's command of a node: what was pending may be published by it, and then the command is carried out, with the reply that its client
+-- got; then acts of the compaction that followed, if one did
+abbrev pub DesksDoActs : {K W : Type 0} → (K → List Record → Kept → K → Type 0) → (W → List Item → W → Type 0) → Type 0
+DesksDoActs {K} {W} keeps wakes = (first : Held) (before after : Known W) (command : Command) (reply : Reply) (count node : ℕ)
+    → node < count → (does : DeskCommands keeps wakes first before command reply after)
+    → (acts : List Act) × Added count (base_of first) does.written.submitted.old.published does.written.told acts
+    × IsToldOf keeps (base_of first) acts node does.written.told command reply
+    × ((more : List Act) × Added count (base_of first) does.written.told does.written.submitted.new.published more)
 
 -- what a pen keeps stays so at each call, so it holds of each pen that was opened over an adopted base
 abbrev pub CallsKeepPens : {K : Type 0} → (K → List Record → Kept → K → Type 0) → Type 0

@@ -1,7 +1,10 @@
 // What all nodes share.
 use reg_connection::Limits;
 use reg_desk::Wake;
+use reg_feed::{FeedName, Seen};
 use reg_serve::Latch;
+use reg_shared::Shared;
+use reg_topic::Item;
 use std::alloc::Global;
 use std::hash::RandomState;
 use std::mem;
@@ -32,14 +35,18 @@ pub(crate) struct Common<'a, R, G> {
 }
 
 /// Wakes the followers of the other nodes.
-#[derive(Drop)]
+#[derive(Clone, Copy)]
 pub(crate) struct Others<'a> {
     pub(crate) grown: &'a [Parker],
     pub(crate) own: usize,
 }
 
-impl Wake for Others<'_> {
-    fn topic_grew(&self) {
+impl<N: FeedName<Item, Shared>> Wake<N> for Others<'_> {
+    ghost use Rattle.std.specs.Prelude.{⊤};
+
+    ghost wakes = { λ _ _ _. ⊤ };
+
+    fn topic_grew(&mut self, _front: &Seen<Item, Shared, N>) {
         for (place, grown) in self.grown.iter().enumerate() {
             if place != self.own {
                 grown.unpark();

@@ -41,7 +41,7 @@ pub(crate) fn hold_one<
     };
     let views = take_all(common.rt, common.alloc, &first.views);
     let follower = &first.follower;
-    let mut desks = make_desks(common, stage.pen, passes, follower, &others, views)?;
+    let mut desks = make_desks(common, stage.pen, passes, follower, others, views)?;
     let node = make_node(common, stage.listeners, 0, follower)?;
     serve_one(common, &node, &mut desks, entrance)
 }
@@ -73,7 +73,7 @@ pub(crate) fn hold_two<
     };
     let views = take_all(common.rt, common.alloc, &first.views);
     let follower = &first.follower;
-    let mut desks = make_desks(common, stage.pen, passes, follower, &others, views)?;
+    let mut desks = make_desks(common, stage.pen, passes, follower, others, views)?;
     let node = make_node(common, stage.listeners, 0, follower)?;
     hold_other(stage, passes, &node, &mut desks, second, entrance)
 }
@@ -107,7 +107,7 @@ fn hold_other<
     };
     let views = take_all(common.rt, common.alloc, &second.views);
     let follower = &second.follower;
-    let mut desks = make_desks(common, stage.pen, passes, follower, &others, views)?;
+    let mut desks = make_desks(common, stage.pen, passes, follower, others, views)?;
     let node = make_node(common, stage.listeners, 1, follower)?;
     serve_two(common, first, first_desks, &node, &mut desks, entrance)
 }
@@ -142,7 +142,7 @@ pub(crate) fn hold_three<
     };
     let views = take_all(common.rt, common.alloc, &first.views);
     let follower = &first.follower;
-    let mut desks = make_desks(common, stage.pen, passes, follower, &others, views)?;
+    let mut desks = make_desks(common, stage.pen, passes, follower, others, views)?;
     let node = make_node(common, stage.listeners, 0, follower)?;
     hold_second(stage, passes, &node, &mut desks, second, third, entrance)
 }
@@ -179,7 +179,7 @@ fn hold_second<
     };
     let views = take_all(common.rt, common.alloc, &second.views);
     let follower = &second.follower;
-    let mut desks = make_desks(common, stage.pen, passes, follower, &others, views)?;
+    let mut desks = make_desks(common, stage.pen, passes, follower, others, views)?;
     let node = make_node(common, stage.listeners, 1, follower)?;
     hold_third(
         stage,
@@ -227,7 +227,7 @@ fn hold_third<
     };
     let views = take_all(common.rt, common.alloc, &third.views);
     let follower = &third.follower;
-    let mut desks = make_desks(common, stage.pen, passes, follower, &others, views)?;
+    let mut desks = make_desks(common, stage.pen, passes, follower, others, views)?;
     let node = make_node(common, stage.listeners, 2, follower)?;
     serve_three(
         common,

@@ -145,13 +145,13 @@ pub(crate) fn make_desks<
     U: Copies<Draw, Taken, M>,
     R: Wait + Drop,
     G: Gate,
-    W: Wake,
+    W: Wake<N> + Copy + Drop,
 >(
     common: &Common<'x, R, G>,
     pen: &'a Mutex<Pen<N, S, K, R>>,
     passes: &mut Vec<Pass<N>>,
     follower: &'a Mutex<Follower<N, S, M, U, R>>,
-    wake: &'a W,
+    wake: W,
     views: Vec<View<M, U>>,
 ) -> Result<Vec<NodeDesk<'a, N, S, K, M, U, R, G, W>>, StartFault> {
     let alloc = common.alloc;

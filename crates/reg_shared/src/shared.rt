@@ -28,9 +28,6 @@ use std::marker::{Brand, Model};
 /// How many dropped records there may be among those by offset, at least, before they go.
 const DROPPED: usize = 64;
 
-/// How many deletes may be kept, at least, before they are many.
-const DELETES: usize = 64;
-
 /// The kept set of a topic with its floor and its next offset, with the registry over the last records. A
 /// commit costs what it holds. Contracts see the kept set, the next offset, and what that was at the last
 /// compaction.
@@ -45,10 +42,6 @@ pub struct Shared {
     by_offset: Vec<Record>,
     // How many were dropped since only kept ones stood there.
     dropped: usize,
-    // How many records without a value joined since the floor rose, and before the last compaction.
-    deletes: usize,
-    // How many joined since.
-    new_deletes: usize,
     floor: u64,
     next: u64,
     compacted: u64,
@@ -115,8 +108,6 @@ impl Shared {
             older,
             by_offset,
             dropped: 0,
-            deletes: count_deletes(&base.records),
-            new_deletes: 0,
             floor: base.floor,
             next: base.next,
             compacted: base.floor,
@@ -150,12 +141,6 @@ impl Shared {
         ensures { result ≡ self.now.compacted }
     {
         self.compacted
-    }
-
-    /// Whether so many records without a value joined before the last compaction, and since the floor rose, that
-    /// it pays to raise it: nodes are rebased then, which costs what is kept. No contract speaks of it.
-    pub fn has_many_deletes(&self) -> bool {
-        self.deletes > DELETES && self.deletes > self.by_offset.len() / 4
     }
 
     /// Copies of the kept records at or above an offset. The only error is out of memory.
@@ -218,7 +203,6 @@ impl Shared {
             &mut self.by_offset,
             batch,
         )?;
-        self.new_deletes = self.new_deletes.saturating_add(count_deletes(batch));
         self.next += batch.len() as u64;
         Ok(())
     }
@@ -256,9 +240,6 @@ impl Shared {
         self.older = left;
         self.registry.forget_all(dropped);
         self.dropped = self.dropped.saturating_add(dropped.len());
-        let before = deletes_left(self.deletes, self.floor < compaction.floor);
-        self.deletes = before.saturating_add(self.new_deletes);
-        self.new_deletes = 0;
         self.floor = compaction.floor;
         self.compacted = self.next;
         Ok(())
@@ -319,24 +300,9 @@ impl Clone for Shared {
             older,
             by_offset,
             dropped: self.dropped,
-            deletes: self.deletes,
-            new_deletes: self.new_deletes,
             floor: self.floor,
             next: self.next,
             compacted: self.compacted,
         })
     }
-}
-
-/// How many of the records have no value.
-fn count_deletes(records: &[Record]) -> usize {
-    records
-        .iter()
-        .filter(|record| record.value.is_none())
-        .count()
-}
-
-/// How many of the deletes that were counted are left by a compaction.
-fn deletes_left(count: usize, rises: bool) -> usize {
-    if rises { 0 } else { count }
 }

@@ -35,8 +35,12 @@ impl Gate for NoGate {
 #[derive(Drop)]
 struct NoWake;
 
-impl Wake for NoWake {
-    fn topic_grew(&self) {}
+impl<N: FeedName<Item, Shared>> Wake<N> for NoWake {
+    ghost use Rattle.std.specs.Prelude.{⊤};
+
+    ghost wakes = { λ _ _ _. ⊤ };
+
+    fn topic_grew(&mut self, _front: &Seen<Item, Shared, N>) {}
 }
 
 /// A desk, whatever its feeds are named.
@@ -216,9 +220,8 @@ fn at_desk<
 ) -> Result<Option<Seen<Item, Shared, N>>, AllocError> {
     let calls = AtomicU64::new(0);
     let gate = NoGate;
-    let wake = NoWake;
     let judge = make_judge(alloc, keys)?;
-    let mut desk = NodeDesk::new(rt, pen, follower, &gate, &wake, &calls, pass, view, judge);
+    let mut desk = NodeDesk::new(rt, pen, follower, &gate, NoWake, &calls, pass, view, judge);
     done_at(alloc, &mut desk, row)
 }
 

@@ -126,7 +126,7 @@ fn anew_holds(
         return Ok(false);
     }
     let (_, _, level, olds) = time;
-    is_plain(alloc, &anew.judged(judge), *level, STRING, olds)
+    is_plain(alloc, &anew.judged(judge).ok(), *level, STRING, olds)
 }
 
 /// Whether the case stands over the registry as the time says, and is judged anew.

@@ -151,7 +151,7 @@ fn by_view<
     let Ok(mut view) = follower.view() else {
         return Err(AllocError);
     };
-    shown.case = view.case(asked);
+    shown.case = view.case(asked)?;
     shown.judged = view.judge(asked, judge);
     Ok(())
 }

@@ -2,8 +2,10 @@ use Rattle.std.proofs.Common.{◌≡◌, true, Some, sym, ◌∙◌, subst, ap, 
 use Rattle.std.specs.Prelude.{bytes_eq, string_bytes}
 use Rattle.std.proofs.lemmas.Slice.Eq.{bytes_eq-Decides}
 use Rattle.avro_schema.specs.Schema.{schema_of}
-use Rattle.reg_judge.specs.Kept.{AreSchemas, IsSchemaOf}
+use Rattle.reg_judge.specs.Judge.{without_text}
+use Rattle.reg_judge.specs.Kept.{AreSchemas, IsSchemaOf, texts_in}
 use Rattle.reg_judge.proofs.Keeping.{found, without}
+use Rattle.reg_judge.proofs.TextsOut.{removed}
 use Rattle.reg_judge.proofs.schemas.take.Goals as goal
 
 -- what was taken out is right, and its text is the one that was asked for
@@ -45,3 +47,28 @@ returns-in_ok-from_str-in-Some-2-clause-left c =
 pub returns-in-None-clause-left : goal.returns-in-None-clause-left
 returns-in-None-clause-left c =
     subst (λ cache. AreSchemas cache.entries) (sym c.pop_entry.ensures.entries) (without IsSchemaOf _ c.args.kept.now.entries c.requires)
+
+pub returns-in-Some-clause-out : goal.returns-in-Some-clause-out
+returns-in-Some-clause-out c =
+    subst (λ cache. texts_in cache.entries ≡ without_text c.args.text.now (texts_in c.args.kept.now.entries))
+    (sym c.pop_entry.ensures.entries) (removed _ c.args.text.now c.args.kept.now.entries)
+
+pub returns-in_err-schema-clause-out : goal.returns-in_err-schema-clause-out
+returns-in_err-schema-clause-out c =
+    subst (λ cache. texts_in cache.entries ≡ without_text c.args.text.now (texts_in c.args.kept.now.entries))
+    (sym c.pop_entry.ensures.entries) (removed _ c.args.text.now c.args.kept.now.entries)
+
+pub returns-in_err-from_str-in-Some-2-clause-out : goal.returns-in_err-from_str-in-Some-2-clause-out
+returns-in_err-from_str-in-Some-2-clause-out c =
+    subst (λ cache. texts_in cache.entries ≡ without_text c.args.text.now (texts_in c.args.kept.now.entries))
+    (sym c.pop_entry.ensures.entries) (removed _ c.args.text.now c.args.kept.now.entries)
+
+pub returns-in_ok-from_str-in-Some-2-clause-out : goal.returns-in_ok-from_str-in-Some-2-clause-out
+returns-in_ok-from_str-in-Some-2-clause-out c =
+    subst (λ cache. texts_in cache.entries ≡ without_text c.args.text.now (texts_in c.args.kept.now.entries))
+    (sym c.pop_entry.ensures.entries) (removed _ c.args.text.now c.args.kept.now.entries)
+
+pub returns-in-None-clause-out : goal.returns-in-None-clause-out
+returns-in-None-clause-out c =
+    subst (λ cache. texts_in cache.entries ≡ without_text c.args.text.now (texts_in c.args.kept.now.entries))
+    (sym c.pop_entry.ensures.entries) (removed _ c.args.text.now c.args.kept.now.entries)

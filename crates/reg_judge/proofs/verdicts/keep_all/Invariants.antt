@@ -1,5 +1,5 @@
-use Rattle.std.proofs.Common.{◌≡◌, true}
-use Rattle.reg_judge.specs.Judge.{used_all}
+use Rattle.std.proofs.Common.{◌≡◌, Bool, ◌&&◌, List}
+use Rattle.reg_judge.specs.Judge.{TextPair, UsesInTurn}
 use Rattle.reg_judge.specs.Kept.{AreVerdicts, pairs_of}
 use Rattle.reg_judge.proofs.verdicts.keep_all.Given as goal
 
@@ -9,7 +9,7 @@ invariant-loop-pair l = record {
   kept : AreVerdicts l.kept.entries;
   left : AreVerdicts l.pair-iterator.rest.items;
   capacity : l.kept.cap ≡ l.fn.kept.cap;
-  used : l.all ≡ true
-      → used_all l.fn.kept.cap (pairs_of l.pair-iterator.rest.items) (pairs_of l.kept.entries)
-      ≡ used_all l.fn.kept.cap (pairs_of l.fn.used.items) (pairs_of l.fn.kept.entries);
+  used : (after : List TextPair) (rest : Bool)
+      → UsesInTurn l.fn.kept.cap (pairs_of l.pair-iterator.rest.items) (pairs_of l.kept.entries) after rest
+      → UsesInTurn l.fn.kept.cap (pairs_of l.fn.used.items) (pairs_of l.fn.kept.entries) after (l.all && rest);
 }

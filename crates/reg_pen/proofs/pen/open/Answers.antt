@@ -1,8 +1,9 @@
-use Rattle.std.proofs.Common.{rules, ◌≡◌, ◌++◌, [], refl, sym, subst, List}
+use Rattle.std.proofs.Common.{rules, ◌≡◌, ◌++◌, ◌∙◌, [], ap, refl, sym, subst, List}
 use Rattle.reg_topic.specs.Topic.{IsAdopted, after_items, topic_from}
 use Rattle.reg_topic.specs.declared.published.Item.{Item}
 use Rattle.reg_topic.specs.declared.topic.Topic.{Topic}
 use Rattle.reg_shared.specs.Held.{Held, base_of, held_of}
+use Rattle.reg_pen.specs.Deletes.{deletes_of, no_deletes}
 use Rattle.reg_pen.specs.Pen.{IsPen, batches}
 use Rattle.reg_pen.specs.Pending.{AreOf}
 use Rattle.reg_pen.proofs.Begun.{base_whole}
@@ -22,8 +23,9 @@ invariant_of-pen g c =
     let next : c.next-next.result ≡ g.N.FeedName.first.next = search rules in
     subst
     (λ (l : List Item × List Item). IsPen (base_of g.N.FeedName.first) l.0 (l.1 ++ []) × (l.1 ++ [] ≡ []) × (0 ≡ batches l.0)
-    × AreOf (after_items (base_of g.N.FeedName.first) (l.0 ++ (l.1 ++ []))) c.floor-floor.result c.next-next.result)
-    (sym lists) (record { adopted = adopted; lawful = tt; pends = tt }, refl, refl, (floor, next))
+    × AreOf (after_items (base_of g.N.FeedName.first) (l.0 ++ (l.1 ++ []))) c.floor-floor.result c.next-next.result
+    × (c.none.result ≡ deletes_of (base_of g.N.FeedName.first) (l.0 ++ (l.1 ++ []))))
+    (sym lists) (record { adopted = adopted; lawful = tt; pends = tt }, refl, refl, (floor, next), c.none.ensures ∙ ap no_deletes floor)
 
 pub returns-clause-adopted : goal.returns-clause-adopted
 returns-clause-adopted g c =

@@ -1,9 +1,12 @@
-use Rattle.std.proofs.Common.{rules, ◌≡◌, ℕ, List, [], ◌∷◌, ◌++◌, option_to_list, sym, subst}
+use Rattle.std.proofs.Common.{rules, ◌≡◌, ◌∙◌, ℕ, List, [], ◌∷◌, ◌++◌, option_to_list, ap, sym, subst}
 use Rattle.std.proofs.lemmas.List.{append-nil}
+use Rattle.std.proofs.lemmas.List.Sums.{fold-append}
 use Rattle.reg_topic.specs.declared.published.Item.{Item}
 use Rattle.reg_topic.specs.Topic.{MayFollow, after_items}
 use Rattle.reg_shared.specs.Held.{base_of}
+use Rattle.reg_pen.specs.Deletes.{deletes_after, deletes_of, no_deletes}
 use Rattle.reg_pen.specs.Pending.{AreOf, after, is_lost}
+use Rattle.reg_pen.specs.declared.deletes.Deletes.{Deletes}
 use Rattle.reg_pen.proofs.Ahead.{are_after_one, ends}
 use Rattle.reg_pen.proofs.Settling.{held_alone, held_pen, same_state}
 use Rattle.reg_pen.proofs.pen.Pen.hold.Goals as goal
@@ -29,12 +32,21 @@ invariant_of-self g c =
     (λ (ys : List Item).
     AreOf (after_items (base_of g.N.FeedName.first) (xs ++ ys))
     (after c.args.item s.floor s.next).0 (after c.args.item s.floor s.next).1)
-    (sym alone) ahead in (
+    (sym alone) ahead in
+    let base = base_of g.N.FeedName.first in
+    let counts : s.deletes ≡ deletes_of base xs =
+    c.self.invariant.4 ∙ ap (λ (ys : List Item). deletes_of base (xs ++ ys)) clear ∙ ap (deletes_of base) (append-nil xs) in
+    let counted : c.after-self-inside.result ≡ deletes_of base (xs ++ (s.writer.value.1 ++ c.args.item ∷ [])) =
+    c.after-self-inside.ensures
+    ∙ (ap (λ (d : Deletes). deletes_after d c.args.item) counts
+    ∙ (sym (fold-append deletes_after (no_deletes base.kept.floor) xs (c.args.item ∷ []))
+    ∙ ap (λ (ys : List Item). deletes_of base (xs ++ ys)) (sym alone))) in (
       held.0,
       held.1,
       c.self.invariant.2,
       subst (λ (p : ℕ × ℕ). AreOf (after_items (base_of g.N.FeedName.first) (xs ++ (s.writer.value.1 ++ c.args.item ∷ []))) p.0 p.1)
           (sym c.after.ensures) now,
+      counted,
     )
 
 pub returns : goal.returns

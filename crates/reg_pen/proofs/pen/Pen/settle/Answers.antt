@@ -1,6 +1,7 @@
 use Rattle.std.proofs.Common.{rules, ◌≡◌, ◌+◌, List, [], ◌++◌, None, option_to_list, length, sym, ap, subst, ◌∙◌, arith}
 use Rattle.reg_topic.specs.declared.published.Item.{Item}
 use Rattle.reg_shared.specs.Held.{base_of}
+use Rattle.reg_pen.specs.Deletes.{deletes_of}
 use Rattle.reg_pen.specs.Pen.{IsPen, batches}
 use Rattle.reg_topic.specs.Topic.{after_items}
 use Rattle.reg_pen.specs.Pending.{AreOf, batches_in}
@@ -44,4 +45,6 @@ invariant_of-self-2 g c =
       subst (λ (w : List Item). AreOf (after_items (base_of g.N.FeedName.first) w) c.self.inside.floor c.self.inside.next) (sym (
           all c.publish.new.self.0 (c.publish.new.self.1 ++ option_to_list c.hand_over.new.held) (xs ++ ys) whole clear))
           c.self.invariant.3,
+      c.self.invariant.4 ∙ ap (deletes_of (base_of g.N.FeedName.first)) (sym (
+          all c.publish.new.self.0 (c.publish.new.self.1 ++ option_to_list c.hand_over.new.held) (xs ++ ys) whole clear)),
     )
