@@ -1,6 +1,7 @@
 pub mod Disk
 pub mod Found
 pub mod Journal
+pub mod JournalState
 pub mod Lines
 pub mod Loss
 pub mod Memory

@@ -1,7 +1,14 @@
--- Which errors of an append write nothing.
-use Rattle.std.specs.Prelude.{Bool, true, false}
+-- Why a batch isn't appended.
+use Rattle.std.specs.Prelude.{◌≡◌, ⊤, ◌⊎◌, ◌<◌, ◌≤◌, ◌+◌, ◌-◌, ◌^◌, ℕ, List, Bool, true, false, Contains, length}
+use Rattle.reg_records.specs.Written.{line_text}
+use Rattle.reg_records.specs.declared.limits.TheConstants.{LINE_LIMIT, LOG_LINES}
+use Rattle.reg_records.specs.declared.record.Record.{Record}
 use Rattle.reg_records.specs.declared.write.WriteLineError.{WriteLineError}
 use Rattle.reg_records.specs.declared.write.WriteLineError.TheVariants as lines
+use Rattle.reg_journal.specs.Disk.{GaveFault}
+use Rattle.reg_journal.specs.JournalState.{JournalState}
+use Rattle.reg_journal.specs.Lines.{batch_lines, text_of}
+use Rattle.reg_journal.specs.declared.disk.DiskError.{DiskError}
 use Rattle.reg_journal.specs.declared.journal.AppendError.{AppendError}
 use Rattle.reg_journal.specs.declared.journal.AppendError.TheVariants.{LineTooLong, TooManyLines, OutOfMemory, Changed, Failed, Broken}
 
@@ -18,3 +25,21 @@ is_refusal Broken = false
 abbrev pub refusal_of : WriteLineError → AppendError
 refusal_of lines.TooLong = LineTooLong
 refusal_of lines.OutOfMemory = OutOfMemory
+
+-- a record's line is longer than a line may be
+abbrev pub HasLongLine : List Record → Type 0
+HasLongLine batch = (r : Record) × Contains batch r × (LINE_LIMIT < length (line_text r))
+
+-- the file or what the batch adds has 2^60 bytes or more
+abbrev pub IsTooLarge : ℕ → List Record → Type 0
+IsTooLarge end batch = (2 ^ 60 ≤ end) ⊎ (2 ^ 60 ≤ length (text_of (batch_lines batch)) + 1)
+
+-- why a batch isn't acknowledged: a file of another length is none that is modelled, and a disk that failed gave a fault
+abbrev pub HasCause : {D : Type 0} → Type 0 → (D → DiskError → D → Type 0)
+    → JournalState D → List Record → AppendError → JournalState D → Type 0
+HasCause is_modelled faults old batch LineTooLong new = HasLongLine batch
+HasCause is_modelled faults old batch TooManyLines new = LOG_LINES - old.lines < length batch
+HasCause is_modelled faults old batch OutOfMemory new = ⊤
+HasCause is_modelled faults old batch Changed new = is_modelled → IsTooLarge old.end batch
+HasCause is_modelled faults old batch Failed new = GaveFault faults new.disk
+HasCause is_modelled faults old batch Broken new = old.is_broken ≡ true

@@ -1,16 +1,21 @@
 // Lines and an empty one behind them, to which batches are added.
-ghost use Rattle.std.specs.Prelude.{◌≡◌, All, true, false, Err, OnOk, IfErr, IsTrue};
-ghost use Rattle.reg_records.specs.Written.{HasLine};
+ghost use Rattle.std.specs.Prelude.{◌≡◌, ◌≤◌, ◌<◌, ◌-◌, ◌⊎◌, All, length, true, false, Err, OnOk, IfErr, IfOk};
+ghost use Rattle.reg_records.specs.Written.{HasLine, line_text};
+ghost use Rattle.reg_records.specs.declared.limits.TheConstants.{LINE_LIMIT, LOG_LINES};
 ghost use Rattle.reg_journal.specs.Disk.{LeavesOnly};
 ghost use Rattle.reg_journal.specs.Lines.{said, with_batch, IsBeforeOrAfter};
-ghost use Rattle.reg_journal.specs.Journal.{IsReady};
-ghost use Rattle.reg_journal.specs.Refusals.{is_refusal};
+ghost use Rattle.reg_journal.specs.Journal.{IsEndedLog, IsReady, IsSteady};
+ghost use Rattle.reg_journal.specs.Refusals.{HasCause, is_refusal};
+ghost use Rattle.reg_journal.specs.Renewal.{IsLostOrKept};
 
 use crate::batch::lines_of;
-use crate::disk::Disk;
+use crate::disk::{Disk, DiskError};
 use crate::gate::{PutError, put};
+use crate::opening::Found;
+use crate::renewal::{RenewError, Renewable};
 use reg_records::{LOG_LINES, Record, WriteLineError};
 use std::alloc::{AllocFailed, Global};
+use std::marker::Model;
 
 /// Why a batch isn't acknowledged.
 #[derive(Clone, Copy, Debug, PartialEq, Eq)]
@@ -69,34 +74,99 @@ impl<T: Drop> From<AllocFailed<T>> for AppendError {
     }
 }
 
+/// The log of a file, to which batches are appended.
+///
+/// Contracts see its disk, where the file's empty line stands, how many lines stand before that, and whether it takes no
+/// batch any more. Until then its file is such lines, all of it on the disk.
 #[derive(Drop)]
 pub struct Journal<D: Disk> {
-    pub disk: D,
-    /// Where the empty line stands.
-    pub end: usize,
-    /// How many lines stand before it.
-    pub lines: u64,
-    pub is_broken: bool,
+    disk: D,
+    end: usize,
+    lines: u64,
+    is_broken: bool,
+}
+
+impl<D: Disk> Model for Journal<D> {
+    ghost use Rattle.reg_journal.specs.Journal.{IsReady};
+    ghost use Rattle.reg_journal.specs.JournalState.{JournalState};
+
+    ghost Value = { JournalState D };
+
+    ghost view = { λ j. record { disk = j.disk; «end» = j.end; lines = j.lines; is_broken = j.is_broken } };
+
+    ghost invariant = { λ j. D.is_modelled → IsReady D.known D.seen D.may_leave (record { disk = j.disk; «end» = j.end; lines = j.lines; is_broken = j.is_broken }) };
 }
 
 impl<D: Disk> Journal<D> {
+    /// The journal of a file whose log was found there, with nothing behind its empty line.
+    pub fn over(disk: D, end: usize, lines: u64) -> Journal<D>
+        requires known { D.is_modelled → D.known disk }
+        requires steady { D.is_modelled → IsSteady D.seen D.may_leave disk end lines }
+        ensures { result ≡ record { disk = disk; «end» = end; lines = lines; is_broken = false } }
+    {
+        Journal {
+            disk,
+            end,
+            lines,
+            is_broken: false,
+        }
+    }
+
+    pub fn disk(&self) -> &D
+        ensures { result.now ≡ self.now.disk }
+    {
+        &self.disk
+    }
+
+    /// Where the file's empty line stands.
+    pub fn end(&self) -> usize
+        ensures { result ≡ self.now.end }
+    {
+        self.end
+    }
+
+    /// How many lines stand before it.
+    pub fn lines(&self) -> u64
+        ensures { result ≡ self.now.lines }
+    {
+        self.lines
+    }
+
+    /// Whether it takes no batch any more.
+    pub fn is_broken(&self) -> bool
+        ensures { result ≡ self.now.is_broken }
+    {
+        self.is_broken
+    }
+
+    /// That its file is so many lines and an empty one, all of it on the disk, unless it is broken. It costs nothing.
+    pub fn is_steady(&self)
+        ensures { D.is_modelled → IsReady D.known D.seen D.may_leave self.now }
+    {
+        let _sound = !self.is_broken;
+    }
+
     /// Adds the batch's lines, all of them or none. At `Ok` they are acknowledged: from then on each crash leaves
     /// a file that has them.
     pub fn append(&mut self, alloc: Global, batch: &[Record]) -> Result<(), AppendError>
-        requires have_lines { All HasLine batch.now }
-        requires ready { D.is_modelled → IsReady D.known D.seen D.may_leave self.old }
+        requires { All HasLine batch.now }
 
         ensures acknowledged { D.is_modelled → OnOk result (said (D.seen self.new.disk) ≡ with_batch batch.now (said (D.seen self.old.disk))) }
-        ensures ready { D.is_modelled → IsReady D.known D.seen D.may_leave self.new }
         ensures goes_on { OnOk result (self.new.is_broken ≡ false) }
 
         // A crash at any moment of the call leaves a file that says what it said before, or that with the whole batch.
-        ensures any_moment { D.is_modelled → self.old.is_broken ≡ false → LeavesOnly D.moment D.left_since self.old.disk self.new.disk
+        ensures any_moment { D.is_modelled → self.old.is_broken ≡ false → LeavesOnly D.moment D.left_since D.may_leave self.old.disk self.new.disk
             (IsBeforeOrAfter (said (D.seen self.old.disk)) batch.now) }
 
         ensures refused { IfErr result (λ e. is_refusal e ≡ true → self.new ≡ self.old) }
         ensures then_broken { IfErr result (λ e. is_refusal e ≡ false → self.new.is_broken ≡ true) }
         ensures broken { self.old.is_broken ≡ true → (result ≡ Err AppendError.Broken) × (self.new ≡ self.old) }
+
+        // Each refusal comes only where its cause stands; that for too many lines wherever it does, and no batch is taken
+        // that has a line which is too long.
+        ensures cause { IfErr result (λ e. HasCause D.is_modelled D.faults self.old batch.now e self.new) }
+        ensures many { self.old.is_broken ≡ false → LOG_LINES - self.old.lines < length batch.now → result ≡ Err AppendError.TooManyLines }
+        ensures short { OnOk result (All (λ r. length (line_text r) ≤ LINE_LIMIT) batch.now) }
     {
         if self.is_broken {
             return Err(AppendError::Broken);
@@ -113,5 +183,57 @@ impl<D: Disk> Journal<D> {
         self.lines += count;
         self.is_broken = false;
         Ok(())
+    }
+
+    /// All the bytes of the file. It changes nothing, though it fails.
+    pub fn read(&mut self, alloc: Global) -> Result<Vec<u8>, DiskError>
+        ensures bytes { D.is_modelled → self.old.is_broken ≡ false → IfOk result (λ bytes. bytes.items ≡ D.seen self.old.disk) }
+        ensures same { self.new ≡ record self.old { disk = self.new.disk } }
+        ensures seen { D.is_modelled → self.old.is_broken ≡ false → D.seen self.new.disk ≡ D.seen self.old.disk }
+        ensures any_moment { D.is_modelled → self.old.is_broken ≡ false → LeavesOnly D.moment D.left_since D.may_leave self.old.disk self.new.disk (λ c. c ≡ D.seen self.old.disk) }
+        ensures fault { IfErr result (λ e. D.faults self.old.disk e self.new.disk) }
+    {
+        self.disk.read(alloc)
+    }
+
+    /// Takes no batch any more.
+    pub fn give_up(&mut self)
+        ensures { self.new ≡ record self.old { is_broken = true } }
+    {
+        self.is_broken = true;
+    }
+}
+
+impl<D: Renewable> Journal<D> {
+    /// Puts a new file in the file's place, of so many lines and an empty one behind them. One that wasn't finished leaves
+    /// the journal as it was; where the new file may stand there or not, no batch is taken any more.
+    pub fn renew(&mut self, bytes: &[u8], lines: u64) -> Result<(), RenewError>
+        requires sound { self.old.is_broken ≡ false }
+        requires some { 0 < length bytes.now }
+        requires log { D.is_modelled → IsEndedLog bytes.now lines }
+        ensures renewed { D.is_modelled → OnOk result (D.seen self.new.disk ≡ bytes.now) }
+        ensures lines { OnOk result (self.new ≡ record { disk = self.new.disk; «end» = length bytes.now - 1; lines = lines; is_broken = false }) }
+        ensures refused { IfErr result (λ e. IsLostOrKept D.is_modelled D.seen self.old e self.new) }
+
+        // A crash at any moment leaves the file as it was, or the new one.
+        ensures any_moment { D.is_modelled → LeavesOnly D.moment D.left_since D.may_leave self.old.disk self.new.disk
+            (λ c. (c ≡ D.seen self.old.disk) ⊎ (c ≡ bytes.now)) }
+
+        ensures fault { IfErr result (λ e. D.renewals self.old.disk e self.new.disk) }
+    {
+        self.is_broken = true;
+        match self.disk.renew(bytes) {
+            Ok(()) => {
+                self.end = bytes.len() - 1;
+                self.lines = lines;
+                self.is_broken = false;
+                Ok(())
+            }
+            Err(RenewError::Kept(error)) => {
+                self.is_broken = false;
+                Err(RenewError::Kept(error))
+            }
+            Err(RenewError::Lost) => Err(RenewError::Lost),
+        }
     }
 }

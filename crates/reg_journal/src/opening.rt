@@ -4,7 +4,7 @@ ghost use Rattle.reg_records.specs.Log.{IsLogOf};
 ghost use Rattle.reg_journal.specs.Disk.{Only, Keeps, LeavesOnly};
 ghost use Rattle.reg_journal.specs.Found.{IsFound, IsLookRefusal, IsUnchanged, LeavesFile};
 ghost use Rattle.reg_journal.specs.Lines.{Said, said};
-ghost use Rattle.reg_journal.specs.Journal.{IsSteady, IsReady};
+ghost use Rattle.reg_journal.specs.Journal.{IsSteady};
 
 use crate::disk::{Disk, DiskError};
 use crate::ended::read_ended;
@@ -94,7 +94,7 @@ pub fn look<D: Disk>(alloc: Global, disk: &mut D) -> Result<Found, OpenError>
     ensures untouched { D.is_modelled → IfErr result (LeavesFile D.known D.seen disk.old disk.new) }
 
     // A crash leaves what it might have left before the call.
-    ensures any_moment { D.is_modelled → LeavesOnly D.moment D.left_since disk.old disk.new (D.may_leave disk.old) }
+    ensures any_moment { D.is_modelled → LeavesOnly D.moment D.left_since D.may_leave disk.old disk.new (D.may_leave disk.old) }
 {
     // What is read has to be on the disk: another process may have been killed before its sync.
     disk.sync()?;
@@ -110,7 +110,7 @@ pub fn cut_behind<D: Disk>(disk: &mut D, found: &Found) -> Result<(), OpenError>
     requires durable { D.is_modelled → Only (D.seen disk.old) (D.may_leave disk.old) }
     ensures same { D.is_modelled → OnOk result (D.known disk.new × (said (D.seen disk.new) ≡ said (D.seen disk.old))) }
     ensures steady { D.is_modelled → OnOk result (IsSteady D.seen D.may_leave disk.new found.now.end found.now.lines) }
-    ensures any_moment { D.is_modelled → LeavesOnly D.moment D.left_since disk.old disk.new (λ c. said c ≡ said (D.seen disk.old)) }
+    ensures any_moment { D.is_modelled → LeavesOnly D.moment D.left_since D.may_leave disk.old disk.new (λ c. said c ≡ said (D.seen disk.old)) }
 {
     disk.cut(found.end + 1)?;
     Ok(disk.sync()?)
@@ -124,7 +124,7 @@ pub fn recover<D: Disk>(alloc: Global, disk: &mut D) -> Result<Found, OpenError>
     ensures steady { D.is_modelled → IfOk result (λ found. IsSteady D.seen D.may_leave disk.new found.end found.lines) }
 
     // A crash leaves what it might have left before the call, or a file that says the same.
-    ensures any_moment { D.is_modelled → LeavesOnly D.moment D.left_since disk.old disk.new
+    ensures any_moment { D.is_modelled → LeavesOnly D.moment D.left_since D.may_leave disk.old disk.new
         (λ c. D.may_leave disk.old c ⊎ (said c ≡ said (D.seen disk.old))) }
 {
     let found = look(alloc, disk)?;
@@ -137,18 +137,13 @@ pub fn open<D: Disk + Drop>(alloc: Global, disk: D) -> Result<(Log, Journal<D>),
     requires { D.is_modelled → D.known disk }
     ensures log { D.is_modelled → IfOk result (λ found. (says : Said) × (said (D.seen disk) ≡ Ok says) × IsLogOf says.floor says.reads found.0) }
     ensures same { D.is_modelled → IfOk result (λ found. D.known found.1.disk × (said (D.seen found.1.disk) ≡ said (D.seen disk))) }
-    ensures ready { D.is_modelled → IfOk result (λ found. IsReady D.known D.seen D.may_leave found.1) }
-    ensures any_moment { D.is_modelled → IfOk result (λ found. LeavesOnly D.moment D.left_since disk found.1.disk
+    ensures sound { IfOk result (λ found. found.1.is_broken ≡ false) }
+    ensures any_moment { D.is_modelled → IfOk result (λ found. LeavesOnly D.moment D.left_since D.may_leave disk found.1.disk
         (λ c. D.may_leave disk c ⊎ (said c ≡ said (D.seen disk)))) }
 {
     let mut disk = disk;
     let found = recover(alloc, &mut disk)?;
-    let journal = Journal {
-        disk,
-        end: found.end,
-        lines: found.lines,
-        is_broken: false,
-    };
+    let journal = Journal::over(disk, found.end, found.lines);
     Ok((found.log, journal))
 }
 
@@ -158,7 +153,7 @@ pub fn write_end<D: Disk>(alloc: Global, disk: &mut D) -> Result<(), OpenError>
     ensures same { D.is_modelled → OnOk result (D.known disk.new × (said (D.seen disk.new) ≡ said (D.seen disk.old))) }
     ensures written { D.is_modelled → OnOk result (D.seen disk.new ≡ D.seen disk.old ++ 10 ∷ []) }
     ensures durable { D.is_modelled → OnOk result (Only (D.seen disk.new) (D.may_leave disk.new)) }
-    ensures any_moment { D.is_modelled → LeavesOnly D.moment D.left_since disk.old disk.new
+    ensures any_moment { D.is_modelled → LeavesOnly D.moment D.left_since D.may_leave disk.old disk.new
         (λ c. D.may_leave disk.old c ⊎ Keeps (length (D.seen disk.old)) (D.seen disk.old) c) }
 {
     disk.sync()?;

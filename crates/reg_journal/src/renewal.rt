@@ -28,6 +28,11 @@ impl From<AllocError> for RenewError {
 
 /// A disk whose file can be replaced by a new one, whole.
 pub trait Renewable: Disk {
+    ghost use Rattle.reg_journal.specs.declared.renewal.RenewError.{RenewError};
+
+    /// The disk before a renewal, the error that it answered, and the disk after, as `faults` of a disk.
+    ghost renewals: { Self → RenewError → Self → Type 0 } = { λ _ _ _. Unit {0} };
+
     /// Puts a new file of these bytes in the file's place. After it, a crash leaves them; a crash at any moment leaves
     /// what it might have left before, or these bytes.
     fn renew(&mut self, bytes: &[u8]) -> Result<(), RenewError>
@@ -35,5 +40,6 @@ pub trait Renewable: Disk {
         ensures durable { Self.known self.old → OnOk result (Only bytes.now (Self.may_leave self.new)) }
         ensures crash { Self.known self.old → (c : List ℕ) → Self.may_leave self.new c → Self.may_leave self.old c ⊎ (c ≡ bytes.now) }
         ensures kept { Self.known self.old → IfErr result (LeavesDisk Self.known Self.seen Self.may_leave self.old self.new) }
-        ensures time { Self.known self.old → Elapses (Self.moment self.old) (Self.moment self.new) (Self.left_since self.old) (Self.left_since self.new) (Self.may_leave self.new) };
+        ensures time { Self.known self.old → Elapses (Self.moment self.old) (Self.moment self.new) (Self.left_since self.old) (Self.left_since self.new) (Self.may_leave self.new) }
+        ensures fault { IfErr result (λ e. renewals self.old e self.new) };
 }

@@ -1,3 +1,4 @@
 mod Opened
 mod Rooms
+mod Starts
 mod Submitted

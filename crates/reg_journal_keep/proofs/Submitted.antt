@@ -2,8 +2,10 @@
 use Rattle.std.proofs.Common.{◌≡◌, ⊎_elim, ℕ, Bool, true, false, List, [], ◌∷◌, ◌++◌, Option, Result, Ok, Err}
 use Rattle.std.proofs.Common.{refl, sym, ap, subst, subst₂, ◌∙◌, append_assoc, append-nil, true≢false}
 use Rattle.std.specs.Borrow.{Bor}
-use Rattle.reg_journal.specs.Lines.{Said, batch_reads, said, with_batch}
-use Rattle.reg_journal.specs.declared.journal.Journal.{Journal}
+use Rattle.reg_journal.specs.Disk.{Only}
+use Rattle.reg_journal.specs.Lines.{IsBeforeOrAfter, Said, batch_reads, said, with_batch}
+use Rattle.reg_journal.specs.declared.disk.DiskError.{DiskError}
+use Rattle.reg_journal.specs.declared.renewal.RenewError.{RenewError}
 use Rattle.reg_keeping.specs.Said.{BatchesFollowCompactions, SaidCompactionsCompose, SaysCompaction}
 use Rattle.reg_leader.specs.declared.command.Command.{Command}
 use Rattle.reg_leader.specs.declared.reply.Reply.{Reply}
@@ -18,6 +20,7 @@ use Rattle.reg_records.specs.declared.record.Record.{Record}
 use Rattle.reg_topic.specs.declared.published.Item.{Item}
 use Rattle.reg_topic.specs.declared.published.Item.TheVariants as items
 use Rattle.reg_topic.specs.declared.topic.Topic.{Topic}
+use Rattle.reg_journal_keep.specs.KeepState.{KeepState}
 use Rattle.reg_journal_keep.specs.Keeping.{Ends, KeepsFile}
 use Rattle.reg_journal_keep.specs.Published.{SaysPublished, batched}
 
@@ -37,20 +40,37 @@ batched_both (items.Commit commit ∷ xs) ys =
     ap (λ (l : List Record). commit.batch ++ l) (batched_both xs ys) ∙ sym (append_assoc commit.batch (batched xs) (batched ys))
 batched_both (items.Compaction c ∷ xs) ys = batched_both xs ys
 
-module _ {D : Type 0} (across : SaidCompactionsCompose) (follow : BatchesFollowCompactions) (is_modelled : Type 0) (moment : D → ℕ)
-    (left_since : D → ℕ → List ℕ → Type 0) (seen : D → List ℕ) (modelled : is_modelled) (first : Result Said (ℕ × LogFault)) where
-  abbrev says_items : List Item → Journal D → Type 0
-  says_items is keep = SaysCompaction (with_batch (batched is) first) (said (seen keep.disk))
+module _ {D : Type 0} (seen : D → List ℕ) (may_leave : D → List ℕ → Type 0) (first : Result Said (ℕ × LogFault)) where
+  abbrev pub says_items : List Item → KeepState D → Type 0
+  says_items is keep = SaysCompaction (with_batch (batched is) first) (said (seen keep.journal.disk))
 
-  none_pending : (published : List Item) (keep : Journal D) → says_items published keep → says_items (published ++ []) keep
-  none_pending published keep says = subst (λ (is : List Item). says_items is keep) (sym (append-nil published)) says
+  -- the file says a compaction of the items' batches behind what was said at first, and a crash leaves it
+  abbrev pub Here : List Item → KeepState D → Type 0
+  Here is keep = (keep.journal.is_broken ≡ false) × says_items is keep × Only (seen keep.journal.disk) (may_leave keep.journal.disk)
 
+  pub says_now : (l : PenState (KeepState D)) → l.lost ≡ false → Here (l.published ++ l.pending) l.keep
+      → SaysPublished seen may_leave first l
+  says_now l kept here = record {
+    sound = λ is. here.0;
+    file = λ is. here.1;
+    durable = λ is. here.2;
+    lost = λ is c left. absurd (true≢false (sym is ∙ kept));
+  }
+
+  none_pending : (published : List Item) (keep : KeepState D) → Here published keep → Here (published ++ []) keep
+  none_pending published keep here = subst (λ (is : List Item). Here is keep) (sym (append-nil published)) here
+
+module _ {D : Type 0} (across : SaidCompactionsCompose) (follow : BatchesFollowCompactions) (is_modelled : Type 0)
+    (moment : D → ℕ) (left_since : D → ℕ → List ℕ → Type 0) (may_leave : D → List ℕ → Type 0) (seen : D → List ℕ)
+    (faults : D → DiskError → D → Type 0) (renewals : D → RenewError → D → Type 0)
+    (modelled : is_modelled) (first : Result Said (ℕ × LogFault)) where
   -- a batch that is taken
-  taken : (keep old : Journal D) (published is : List Item) (batch : List Record) → batched is ≡ batch → says_items published old
-      → Ends is_modelled seen old batch Taken keep → says_items (published ++ is) keep
+  taken : (keep old : KeepState D) (published is : List Item) (batch : List Record) → batched is ≡ batch
+      → says_items seen may_leave first published old
+      → Ends is_modelled seen old.journal batch Taken keep.journal → says_items seen may_leave first (published ++ is) keep
   taken keep old published is batch same says ends =
       let now = ends.1 modelled in
-      let before = across (with_batch (batched published) first) (said (seen old.disk)) now.0 says now.1 in
+      let before = across (with_batch (batched published) first) (said (seen old.journal.disk)) now.0 says now.1 in
       subst₂ SaysCompaction
       (both_said (batched published) batch first
       ∙ ap (λ (l : List Record). with_batch l first)
@@ -59,57 +79,81 @@ module _ {D : Type 0} (across : SaidCompactionsCompose) (follow : BatchesFollowC
       (follow batch (with_batch (batched published) first) now.0 before now.2)
 
   -- what becomes of a batch that is lent, where nothing is pending
-  lent : (kept : Kept) (keep : Journal D) (published : List Item) (old : Journal D) (is : List Item)
-      (batch : List Record) (replied unsettled reply : Reply) (m : PenState (Journal D))
+  lent : (kept : Kept) (keep : KeepState D) (published : List Item) (old : KeepState D) (is : List Item)
+      (batch : List Record) (replied unsettled reply : Reply) (m : PenState (KeepState D))
       → batched is ≡ batch
-      → says_items published old
-      → Ends is_modelled seen old batch kept keep
+      → Here seen may_leave first published old
+      → KeepsFile is_modelled moment left_since may_leave seen faults renewals old batch kept keep
       → Follows kept is replied unsettled (record { published = published; pending = []; lost = false; keep = keep }) reply m
-      → SaysPublished seen first m
-  lent Taken keep published old is batch replied unsettled reply m same says ends follows =
-      let all : says_items (published ++ is) keep = taken keep old published is batch same says ends in
+      → SaysPublished seen may_leave first m
+  lent Taken keep published old is batch replied unsettled reply m same here keeps follows =
+      let all : Here seen may_leave first (published ++ is) keep =
+      (keeps.ends.0, taken keep old published is batch same here.1 keeps.ends, keeps.durable modelled keeps.ends.0) in
       ⊎_elim
       (λ done.
-      subst (λ (n : PenState (Journal D)). SaysPublished seen first n) (sym done.1) (λ kept. none_pending (published ++ is) keep all))
-      (λ pends. subst (λ (n : PenState (Journal D)). SaysPublished seen first n) (sym pends.1) (λ kept. all))
+      subst (λ (n : PenState (KeepState D)). SaysPublished seen may_leave first n) (sym done.1)
+      (says_now seen may_leave first (record { published = published ++ is; pending = []; lost = false; keep = keep }) refl
+      (none_pending seen may_leave first (published ++ is) keep all)))
+      (λ pends.
+      subst (λ (n : PenState (KeepState D)). SaysPublished seen may_leave first n) (sym pends.1)
+      (says_now seen may_leave first (record { published = published; pending = is; lost = false; keep = keep }) refl all))
       follows
-  lent (Declined lack) keep published old is batch replied unsettled reply m same says ends follows =
-      subst (λ (n : PenState (Journal D)). SaysPublished seen first n) (sym follows.1)
-      (λ kept.
-      none_pending published keep (
-      across (with_batch (batched published) first) (said (seen old.disk)) (said (seen keep.disk)) says (ends.1 modelled)))
-  lent Lost keep published old is batch replied unsettled reply m same says ends follows =
-      subst (λ (n : PenState (Journal D)). SaysPublished seen first n) (sym follows.1) (λ kept. absurd (true≢false kept))
+  lent (Declined lack) keep published old is batch replied unsettled reply m same here keeps follows =
+      let now : Here seen may_leave first published keep = (
+        keeps.ends.0,
+        across (with_batch (batched published) first) (said (seen old.journal.disk)) (said (seen keep.journal.disk)) here.1
+            (keeps.ends.1 modelled),
+        keeps.durable modelled keeps.ends.0,
+      ) in
+      subst (λ (n : PenState (KeepState D)). SaysPublished seen may_leave first n) (sym follows.1)
+      (says_now seen may_leave first (record { published = published; pending = []; lost = false; keep = keep }) refl
+      (none_pending seen may_leave first published keep now))
+  lent Lost keep published old is batch replied unsettled reply m same here keeps follows =
+      subst (λ (n : PenState (KeepState D)). SaysPublished seen may_leave first n) (sym follows.1)
+      (record {
+        sound = λ kept. absurd (true≢false kept);
+        file = λ kept. absurd (true≢false kept);
+        durable = λ kept. absurd (true≢false kept);
+        lost = λ is_lost c left.
+            let a = (keeps.any_moment modelled here.0).now c left in (
+              a.0,
+              across (with_batch (batched published) first) (said (seen old.journal.disk)) a.0 here.1 a.1,
+              subst (λ (b : List Record). IsBeforeOrAfter a.0 b c) (sym same) a.2,
+            );
+      })
 
-  acted : (base : Topic) (published : List Item) (old : Journal D) (lost : Bool) (c : Command) (reply : Reply) (m : PenState (Journal D))
+  acted : (base : Topic) (published : List Item) (old : KeepState D) (lost : Bool) (c : Command) (reply : Reply)
+      (m : PenState (KeepState D))
       → lost ≡ false
-      → says_items published old
-      → Acts (KeepsFile is_modelled moment left_since seen) base
+      → Here seen may_leave first published old
+      → Acts (KeepsFile is_modelled moment left_since may_leave seen faults renewals) base
       (record { published = published; pending = []; lost = lost; keep = old }) c reply m
-      → SaysPublished seen first m
-  acted base published old true c reply m kept says acts = absurd (true≢false kept)
-  acted base published old false c reply m kept says acts =
-      let here : SaysPublished seen first (record { published = published; pending = []; lost = false; keep = old }) =
-      λ none. none_pending published old says in
+      → SaysPublished seen may_leave first m
+  acted base published old true c reply m kept here acts = absurd (true≢false kept)
+  acted base published old false c reply m kept here acts =
+      let still : SaysPublished seen may_leave first (record { published = published; pending = []; lost = false; keep = old }) =
+      says_now seen may_leave first (record { published = published; pending = []; lost = false; keep = old }) refl
+      (none_pending seen may_leave first published old here) in
       ⊎_elim
-      (λ wrote_nothing. subst (λ (n : PenState (Journal D)). SaysPublished seen first n) (sym wrote_nothing.1) here)
+      (λ wrote_nothing. subst (λ (n : PenState (KeepState D)). SaysPublished seen may_leave first n) (sym wrote_nothing.1) still)
       (λ more. ⊎_elim
       (λ lends.
       lent lends.kept lends.keep published old (item_of c (lends.first ∷ lends.rest))
       (lends.first ∷ lends.rest) lends.replied (replies.Unsettled lends.first.offset) reply m
-      (append-nil (lends.first ∷ lends.rest)) says lends.lent.ends lends.follows)
-      (λ refused. subst (λ (n : PenState (Journal D)). SaysPublished seen first n) (sym refused.1) here)
+      (append-nil (lends.first ∷ lends.rest)) here lends.lent lends.follows)
+      (λ refused. subst (λ (n : PenState (KeepState D)). SaysPublished seen may_leave first n) (sym refused.1) still)
       more)
       acts
 
-  pub submitted : (base : Topic) (since : Option (Bor (List Item))) (l m : PenState (Journal D)) (c : Command) (reply : Reply)
-      → Submits (KeepsFile is_modelled moment left_since seen) base since l c reply m
-      → SaysPublished seen first l → SaysPublished seen first m
+  pub submitted : (base : Topic) (since : Option (Bor (List Item))) (l m : PenState (KeepState D)) (c : Command) (reply : Reply)
+      → Submits (KeepsFile is_modelled moment left_since may_leave seen faults renewals) base since l c reply m
+      → SaysPublished seen may_leave first l → SaysPublished seen may_leave first m
   submitted base since l m c reply submits says =
       ⊎_elim
-      (λ ahead. subst (λ (n : PenState (Journal D)). SaysPublished seen first n) (sym ahead.2) says)
+      (λ ahead. subst (λ (n : PenState (KeepState D)). SaysPublished seen may_leave first n) (sym ahead.2) says)
       (λ behind. ⊎_elim
-      (λ still. subst (λ (n : PenState (Journal D)). SaysPublished seen first n) (sym still.1) says)
-      (λ acts. acted base (l.published ++ l.pending) l.keep l.lost c reply m acts.0 (says acts.0) acts.1)
+      (λ still. subst (λ (n : PenState (KeepState D)). SaysPublished seen may_leave first n) (sym still.1) says)
+      (λ acts. acted base (l.published ++ l.pending) l.keep l.lost c reply m acts.0
+      (says.sound acts.0, says.file acts.0, says.durable acts.0) acts.1)
       behind.1)
       submits

@@ -1,16 +1,24 @@
 -- What a keep over a file does with a batch.
-use Rattle.std.specs.Prelude.{◌≡◌, ◌≤◌, ℕ, List, Result, true, false, IfOk}
-use Rattle.reg_journal.specs.Disk.{LeavesOnly}
+use Rattle.std.specs.Prelude.{◌≡◌, ⊤, ◌⊎◌, ◌<◌, ◌≤◌, ◌-◌, max, ℕ, List, length, Result, true, false, None, Some, All, IfOk}
+use Rattle.reg_journal.specs.Disk.{GaveFault, LeavesOnly, Only}
+use Rattle.reg_journal.specs.JournalState.{JournalState}
 use Rattle.reg_journal.specs.Lines.{IsBeforeOrAfter, Said, said, with_batch}
+use Rattle.reg_journal.specs.Refusals.{HasLongLine, IsTooLarge}
+use Rattle.reg_journal.specs.declared.disk.DiskError.{DiskError}
 use Rattle.reg_journal.specs.declared.journal.AppendError.{AppendError}
 use Rattle.reg_journal.specs.declared.journal.AppendError.TheVariants as errors
-use Rattle.reg_journal.specs.declared.journal.Journal.{Journal}
+use Rattle.reg_journal.specs.declared.renewal.RenewError.{RenewError}
 use Rattle.reg_keeping.specs.Said.{IsFromFloor, SaysCompaction}
+use Rattle.reg_keeping.specs.declared.in_place.CompactError.{CompactError}
 use Rattle.reg_pen.specs.declared.keep.Kept.{Kept}
 use Rattle.reg_pen.specs.declared.keep.Kept.TheVariants.{Taken, Declined, Lost}
 use Rattle.reg_pen.specs.declared.keep.Lack.TheVariants as lacks
+use Rattle.reg_records.specs.Written.{HasLine}
+use Rattle.reg_records.specs.declared.limits.TheConstants.{LOG_LINES}
 use Rattle.reg_records.specs.declared.log.LogFault.{LogFault}
 use Rattle.reg_records.specs.declared.record.Record.{Record}
+use Rattle.reg_journal_keep.specs.KeepState.{KeepState}
+use Rattle.reg_journal_keep.specs.Next.{next_behind}
 
 -- what became of a batch that isn't acknowledged: nothing of it is there, or it may be there or not
 abbrev pub kept_of : AppendError → Kept
@@ -29,13 +37,47 @@ says_compaction before file = SaysCompaction before (said file)
 abbrev pub SaysCompactionOrMore : Result Said (ℕ × LogFault) → List Record → List ℕ → Type 0
 SaysCompactionOrMore before batch file = (kept : Result Said (ℕ × LogFault)) × SaysCompaction before kept × IsBeforeOrAfter kept batch file
 
--- unless the journal is broken then, its file says a compaction of what it said
-abbrev pub MakesRoom : {D : Type 0} → Type 0 → (D → List ℕ) → Journal D → Journal D → Type 0
-MakesRoom is_modelled seen old new = is_modelled → new.is_broken ≡ false → SaysCompaction (said (seen old.disk)) (said (seen new.disk))
+-- unless the journal is broken, its file says a floor no higher than that
+abbrev pub HasFloorUpTo : {D : Type 0} → (D → List ℕ) → ℕ → JournalState D → Type 0
+HasFloorUpTo seen floor journal = journal.is_broken ≡ false → IfOk (said (seen journal.disk)) (λ says. says.floor ≤ floor)
+
+-- nothing was due, a batch passed
+pub record Passes {D : Type 0} (old new : KeepState D) : Type 0 where
+  pub patience : new.patience ≡ old.patience - 1
+  pub floor : new.floor ≡ old.floor
+  pub fault : new.fault ≡ old.fault
+
+-- the lines were counted, or the file was compacted, after which the next compaction goes to the offset that is the next one now
+pub record Counts {D : Type 0} (old new : KeepState D) : Type 0 where
+  pub patience : new.patience ≡ 0
+  pub floor : (new.floor ≡ old.floor) ⊎ (new.floor ≡ max old.floor old.next)
+  pub fault : new.fault ≡ None
+
+-- it failed, and is tried again after 1,000 batches
+pub record Fails {D : Type 0} (old new : KeepState D) : Type 0 where
+  pub error : CompactError
+  pub patience : new.patience ≡ 1000
+  pub floor : new.floor ≡ old.floor
+  pub fault : new.fault ≡ Some error
+
+-- a compaction is tried only where no batch is to pass before
+abbrev pub Tries : {D : Type 0} → KeepState D → KeepState D → Type 0
+Tries old new = Passes old new ⊎ ((old.patience ≡ 0) × (Counts old new ⊎ Fails old new))
+
+-- what making room does: unless the journal is broken then, its file says a compaction of what it said, to no higher floor than
+-- the next one, so that each delete from there on stays; only a renewal that gave a fault breaks it
+pub record MakesRoom {D : Type 0} (is_modelled : Type 0) (seen : D → List ℕ) (renewals : D → RenewError → D → Type 0)
+    (old new : KeepState D) : Type 0 where
+  pub says : is_modelled → new.journal.is_broken ≡ false → SaysCompaction (said (seen old.journal.disk)) (said (seen new.journal.disk))
+  pub low : is_modelled → HasFloorUpTo seen old.floor new.journal
+  pub still : 0 < old.patience → new.journal ≡ old.journal
+  pub next : new.next ≡ old.next
+  pub tries : Tries old new
+  pub lost : is_modelled → old.journal.is_broken ≡ false → new.journal.is_broken ≡ true → GaveFault renewals new.journal.disk
 
 -- what the journal's file says after what became of a batch: a compaction of what it said, and all
 -- of a batch that was taken behind it, none of it below the floor that is said
-abbrev pub Ends : {D : Type 0} → Type 0 → (D → List ℕ) → Journal D → List Record → Kept → Journal D → Type 0
+abbrev pub Ends : {D : Type 0} → Type 0 → (D → List ℕ) → JournalState D → List Record → Kept → JournalState D → Type 0
 Ends is_modelled seen old batch Taken new =
     (new.is_broken ≡ false)
     × (is_modelled → (kept : Result Said (ℕ × LogFault)) × SaysCompaction (said (seen old.disk)) kept
@@ -44,16 +86,41 @@ Ends is_modelled seen old batch (Declined lack) new = (new.is_broken ≡ false)
     × (is_modelled → SaysCompaction (said (seen old.disk)) (said (seen new.disk)))
 Ends is_modelled seen old batch Lost new = new.is_broken ≡ true
 
--- a batch that is taken stands in the file, whole, behind what was said or a compaction of it; of one that is declined
--- nothing does; one that is lost breaks the journal for good; a crash at any moment leaves a file without the batch or
--- with all of it
-pub record KeepsFile {D : Type 0} (is_modelled : Type 0) (moment : D → ℕ) (left_since : D → ℕ → List ℕ → Type 0) (seen : D → List ℕ)
-    (old : Journal D) (batch : List Record) (kept : Kept) (new : Journal D) : Type 0 where
-  pub ends : Ends is_modelled seen old batch kept new
-  pub any_moment : is_modelled → old.is_broken ≡ false
-      → LeavesOnly moment left_since old.disk new.disk (SaysCompactionOrMore (said (seen old.disk)) batch)
-  pub broken : old.is_broken ≡ true → (kept ≡ Lost) × (new ≡ old)
+-- a batch can't be kept: not each record has a line and is from the floor on, a line is too long, or there are too many lines
+abbrev pub CannotStand : {D : Type 0} → KeepState D → List Record → KeepState D → Type 0
+CannotStand old batch new = (All HasLine batch × All (λ r. old.floor ≤ r.offset) batch → ⊥)
+    ⊎ HasLongLine batch ⊎ (LOG_LINES - new.journal.lines < length batch)
 
--- Private: unless the journal is broken, its file says a floor no higher than that
-abbrev pub HasFloorUpTo : {D : Type 0} → (D → List ℕ) → ℕ → Journal D → Type 0
-HasFloorUpTo seen floor journal = journal.is_broken ≡ false → IfOk (said (seen journal.disk)) (λ says. says.floor ≤ floor)
+-- why a batch isn't taken; one is lost only where one was before, or where the disk gave a fault
+abbrev pub HasReason : {D : Type 0} → Type 0 → (D → DiskError → D → Type 0) → (D → RenewError → D → Type 0)
+    → KeepState D → List Record → Kept → KeepState D → Type 0
+HasReason is_modelled faults renewals old batch Taken new = ⊤
+HasReason is_modelled faults renewals old batch (Declined lacks.Memory) new = ⊤
+HasReason is_modelled faults renewals old batch (Declined lacks.Numbers) new = CannotStand old batch new
+HasReason is_modelled faults renewals old batch Lost new = is_modelled → (old.journal.is_broken ≡ true)
+    ⊎ GaveFault faults new.journal.disk ⊎ GaveFault renewals new.journal.disk ⊎ ((end : ℕ) × IsTooLarge end batch)
+
+-- the next offset behind a batch that is taken
+abbrev pub next_after : ℕ → List Record → Kept → ℕ
+next_after next batch Taken = next_behind next batch
+next_after next batch (Declined lack) = next
+next_after next batch Lost = next
+
+-- a batch that is taken stands in the file, whole, behind what was said or a compaction of it; of one that is declined
+-- nothing does; one that is lost breaks the journal for good; from the answer on each crash leaves the file as it is; a
+-- crash at any moment leaves a file without the batch or with all of it
+pub record KeepsFile {D : Type 0} (is_modelled : Type 0) (moment : D → ℕ) (left_since : D → ℕ → List ℕ → Type 0)
+    (may_leave : D → List ℕ → Type 0) (seen : D → List ℕ) (faults : D → DiskError → D → Type 0)
+    (renewals : D → RenewError → D → Type 0) (old : KeepState D) (batch : List Record) (kept : Kept) (new : KeepState D) : Type 0 where
+  pub ends : Ends is_modelled seen old.journal batch kept new.journal
+  pub durable : is_modelled → new.journal.is_broken ≡ false → Only (seen new.journal.disk) (may_leave new.journal.disk)
+  pub any_moment : is_modelled → old.journal.is_broken ≡ false
+      → LeavesOnly moment left_since may_leave old.journal.disk new.journal.disk
+      (SaysCompactionOrMore (said (seen old.journal.disk)) batch)
+  pub broken : old.journal.is_broken ≡ true → (kept ≡ Lost) × (new ≡ old)
+  pub reason : HasReason is_modelled faults renewals old batch kept new
+  -- what was appended counts for the floor of the next compaction, a delete from the floor on stays, and a compaction
+  -- that failed isn't tried again at once
+  pub counts : new.next ≡ next_after old.next batch kept
+  pub stays : is_modelled → HasFloorUpTo seen old.floor new.journal
+  pub tries : (new ≡ old) ⊎ Tries old new

@@ -1,4 +1,6 @@
+pub mod KeepState
 pub mod Keeping
+pub mod Next
 pub mod Published
 pub mod Room
 pub mod Upkeep

@@ -12,15 +12,11 @@ abbrev pub tenth : ℕ → ℕ
 tenth lines = (lines + 9) / 10
 
 -- a tenth where the log would have too many lines; more than half where it has many and they are to be counted again
-abbrev pub due_now : Room → ℕ → ℕ → Option ℕ
-due_now room lines more =
+abbrev pub due : Room → ℕ → ℕ → Option ℕ
+due room lines more =
     if nat_lt (LOG_LINES - lines) more then (if nat_lt (lines - room.kept) (tenth lines) then None else Some (tenth lines))
     else (if nat_le lines 100000 || nat_le lines room.again then None else Some (lines / 2 + 1))
 
--- unless a compaction has failed shortly before
-abbrev pub due : Room → ℕ → ℕ → Option ℕ
-due room lines more = if nat_lt 0 room.patience then None else due_now room lines more
-
--- one batch has passed
+-- one batch has passed, where some are to pass
 abbrev pub waited : Room → Room
 waited room = record room { patience = room.patience - 1 }

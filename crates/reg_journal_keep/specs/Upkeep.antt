@@ -1,16 +1,23 @@
 -- Private: what a keep knows of its file.
-use Rattle.std.specs.Prelude.{ℕ, ◌+◌, ◌-◌, ◌^◌, max, min, List, fold, nat_lt, None, if◌then◌else◌}
-use Rattle.reg_records.specs.declared.record.Record.{Record}
+use Rattle.std.specs.Prelude.{ℕ, ◌-◌, max, nat_lt, None, if◌then◌else◌}
+use Rattle.reg_journal.specs.JournalState.{JournalState}
+use Rattle.reg_journal_keep.specs.KeepState.{KeepState}
 use Rattle.reg_journal_keep.specs.Room.{next_count}
 use Rattle.reg_journal_keep.specs.declared.upkeep.Upkeep.{Upkeep}
+
+-- what contracts see of it, with its journal
+abbrev pub state_of : {D : Type 0} → JournalState D → Upkeep → KeepState D
+state_of journal upkeep = record {
+  journal = journal;
+  floor = upkeep.floor;
+  next = upkeep.next;
+  patience = upkeep.room.patience;
+  fault = upkeep.fault;
+}
 
 -- that floor and that next offset
 abbrev pub at_first : ℕ → ℕ → Upkeep
 at_first floor next = record { room = record { kept = 0; again = 0; patience = 0 }; floor = floor; next = next; fault = None }
-
--- the next offset behind a batch
-abbrev pub next_behind : ℕ → List Record → ℕ
-next_behind next batch = fold (λ n r. max n (min (r.offset + 1) (2 ^ 64 - 1))) next batch
 
 -- where the file was compacted, its floor rises to the next offset at the next compaction, and nothing is known of the deletes that stay
 abbrev pub after_count : Upkeep → ℕ → ℕ → ℕ → Upkeep

@@ -1,8 +1,7 @@
 // A keep that appends each batch to a log in a file.
-ghost use Rattle.std.specs.Prelude.{◌≡◌, ◌↔◌, ◌≤◌, All, IsTrue, true, false};
+ghost use Rattle.std.specs.Prelude.{◌≡◌, ◌↔◌, ◌≤◌, All, IsTrue, None, true, false};
 ghost use Rattle.reg_records.specs.Written.{HasLine};
 ghost use Rattle.reg_journal.specs.Disk.{LeavesOnly};
-ghost use Rattle.reg_journal.specs.Journal.{IsReady};
 ghost use Rattle.reg_journal.specs.Lines.{said};
 ghost use Rattle.reg_journal_keep.specs.Keeping.{HasFloorUpTo, KeepsFile, MakesRoom, kept_of, says_compaction};
 
@@ -16,7 +15,8 @@ use std::marker::Model;
 
 /// A keep over a journal: a batch that is taken stands in the file, and is on the disk. The file is compacted where
 /// many of its lines would go: those that others supersede, and deletes that were there before the compaction before.
-/// Contracts see the journal.
+/// Contracts see the journal, to which floor the file is compacted next, its next offset, and what became of the last
+/// compaction.
 #[derive(Drop)]
 pub struct FileKeep<D: Renewable + Drop> {
     alloc: Global,
@@ -25,23 +25,23 @@ pub struct FileKeep<D: Renewable + Drop> {
 }
 
 impl<D: Renewable + Drop> Model for FileKeep<D> {
-    ghost use Rattle.reg_journal.specs.Journal.{IsReady};
-    ghost use Rattle.reg_journal.specs.declared.journal.Journal.{Journal};
+    ghost use Rattle.reg_journal_keep.specs.KeepState.{KeepState};
+
+    ghost Value = { KeepState D };
+
     ghost use Rattle.reg_journal_keep.specs.Keeping.{HasFloorUpTo};
+    ghost use Rattle.reg_journal_keep.specs.Upkeep.{state_of};
 
-    ghost Value = { Journal D };
+    ghost view = { λ k. state_of k.journal k.upkeep };
 
-    ghost view = { λ k. k.journal };
-
-    ghost invariant = { λ k. D.is_modelled → IsReady D.known D.seen D.may_leave k.journal × HasFloorUpTo D.seen k.upkeep.floor k.journal };
+    ghost invariant = { λ k. D.is_modelled → HasFloorUpTo D.seen k.upkeep.floor k.journal };
 }
 
 impl<D: Renewable + Drop> FileKeep<D> {
     /// A keep over a journal whose file has that floor and that next offset.
     pub fn new(alloc: Global, journal: Journal<D>, floor: u64, next: u64) -> FileKeep<D>
-        requires ready { D.is_modelled → IsReady D.known D.seen D.may_leave journal }
-        requires floor { D.is_modelled → HasFloorUpTo D.seen floor journal }
-        ensures { result ≡ journal }
+        requires { D.is_modelled → HasFloorUpTo D.seen floor journal }
+        ensures { result ≡ record { journal = journal; floor = floor; next = next; patience = 0; fault = None } }
     {
         FileKeep {
             alloc,
@@ -52,37 +52,40 @@ impl<D: Renewable + Drop> FileKeep<D> {
 
     /// The journal.
     pub fn journal(&self) -> &Journal<D>
-        ensures { result.now ≡ self.now }
+        ensures { result.now ≡ self.now.journal }
     {
         &self.journal
     }
 
     /// Why the file couldn't be compacted when that was tried last, if it couldn't.
-    pub fn compaction_fault(&self) -> Option<CompactError> {
+    pub fn compaction_fault(&self) -> Option<CompactError>
+        ensures { result ≡ self.now.fault }
+    {
         self.upkeep.fault
     }
 
     /// Compacts the file where that is due before a batch of so many lines is appended. A crash at any moment leaves a
     /// file that says what it said, or a compaction of that.
     pub fn make_room(&mut self, lines: u64)
-        ensures room { MakesRoom D.is_modelled D.seen self.old self.new }
-        ensures any_moment { D.is_modelled → self.old.is_broken ≡ false → LeavesOnly D.moment D.left_since self.old.disk self.new.disk (says_compaction (said (D.seen self.old.disk))) }
-        ensures broken { self.old.is_broken ≡ true → self.new ≡ self.old }
+        ensures room { self.old.journal.is_broken ≡ false → MakesRoom D.is_modelled D.seen D.renewals self.old self.new }
+        ensures any_moment { D.is_modelled → self.old.journal.is_broken ≡ false → LeavesOnly D.moment D.left_since D.may_leave self.old.journal.disk self.new.journal.disk (says_compaction (said (D.seen self.old.journal.disk))) }
+        ensures broken { self.old.journal.is_broken ≡ true → self.new ≡ self.old }
     {
         make_room(self.alloc, &mut self.journal, &mut self.upkeep, lines);
     }
 }
 
 impl<D: Renewable + Drop> Keep for FileKeep<D> {
-    ghost keeps = { KeepsFile D.is_modelled D.moment D.left_since D.seen };
+    ghost keeps = { KeepsFile D.is_modelled D.moment D.left_since D.may_leave D.seen D.faults D.renewals };
 
     fn keep(&mut self, batch: &[Record]) -> Kept {
         compactions_stand_for_logs();
         lines_are_logs();
-        if self.journal.is_broken {
+        if self.journal.is_broken() {
             return Kept::Lost;
         }
-        if !have_lines(batch) || !are_from(batch, self.upkeep.floor) {
+        self.journal.is_steady();
+        if !can_stand(batch, self.upkeep.floor) {
             return Kept::Declined(Lack::Numbers);
         }
         make_room(
@@ -94,11 +97,22 @@ impl<D: Renewable + Drop> Keep for FileKeep<D> {
         match self.journal.append(self.alloc, batch) {
             Ok(()) => {
                 self.upkeep.append(batch);
+                self.journal.is_steady();
                 Kept::Taken
             }
-            Err(error) => kept_of(error),
+            Err(error) => {
+                self.journal.is_steady();
+                kept_of(error)
+            }
         }
     }
+}
+
+/// Whether each record has a line and none is below the floor.
+fn can_stand(batch: &[Record], floor: u64) -> bool
+    ensures { IsTrue result ↔ (All HasLine batch.now × All (λ r. floor ≤ r.offset) batch.now) }
+{
+    have_lines(batch) && are_from(batch, floor)
 }
 
 /// Whether each record has a line.

@@ -4,7 +4,9 @@
 mod keeping;
 mod laws;
 mod room;
+mod starting;
 mod upkeep;
 
 pub use keeping::FileKeep;
 pub use laws::{opens_keep_the_file, submits_keep_the_file};
+pub use starting::{KeptLog, start};

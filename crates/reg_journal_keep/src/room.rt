@@ -2,8 +2,8 @@
 // counted last is used as long as it tells enough: of the keys whose lines would stay none goes before the floor to which
 // the file is compacted rises, so until then there are never fewer such lines. A compaction raises it, and then nothing is
 // known of the deletes that were kept.
-ghost use Rattle.std.specs.Prelude.{◌≡◌};
-ghost use Rattle.reg_journal_keep.specs.Room.{due, due_now, next_count, tenth, waited};
+ghost use Rattle.std.specs.Prelude.{◌≡◌, ◌<◌, true, false};
+ghost use Rattle.reg_journal_keep.specs.Room.{due, next_count, waited};
 
 use reg_records::LOG_LINES;
 
@@ -64,21 +64,23 @@ impl Room {
         self.patience = PATIENCE;
     }
 
-    /// How many of a file's lines would have to go for it to be compacted before a batch of so many more; none where
-    /// they aren't to be counted now.
-    pub(crate) fn due(&mut self, lines: u64, more: u64) -> Option<u64>
-        ensures due { result ≡ due self.old lines more }
+    /// Whether a batch is to pass before the lines are counted again; then it has passed.
+    pub(crate) fn waits(&mut self) -> bool
+        ensures waits { result ≡ true → 0 < self.old.patience }
+        ensures none { result ≡ false → self.old.patience ≡ 0 }
         ensures waited { self.new ≡ waited self.old }
     {
         if self.patience > 0 {
             self.patience -= 1;
-            return None;
+            return true;
         }
-        self.due_now(lines, more)
+        false
     }
 
-    fn due_now(&self, lines: u64, more: u64) -> Option<u64>
-        ensures { result ≡ due_now self.now lines more }
+    /// How many of a file's lines would have to go for it to be compacted before a batch of so many more; none where
+    /// they aren't to be counted now.
+    pub(crate) fn due(&self, lines: u64, more: u64) -> Option<u64>
+        ensures { result ≡ due self.now lines more }
     {
         if more > LOG_LINES.saturating_sub(lines) {
             let least = lines.div_ceil(10);

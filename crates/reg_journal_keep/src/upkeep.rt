@@ -1,10 +1,11 @@
 // What a keep knows of its file, and making room in it.
-ghost use Rattle.std.specs.Prelude.{◌≡◌, ◌≤◌, true, false};
-ghost use Rattle.reg_journal.specs.Disk.{LeavesOnly};
-ghost use Rattle.reg_journal.specs.Journal.{IsReady};
+ghost use Rattle.std.specs.Prelude.{◌≡◌, ◌⊎◌, ◌<◌, ◌≤◌, max, None, Some, true, false};
+ghost use Rattle.reg_journal.specs.Disk.{GaveFault, LeavesOnly};
 ghost use Rattle.reg_journal.specs.Lines.{said};
-ghost use Rattle.reg_journal_keep.specs.Keeping.{HasFloorUpTo, MakesRoom, says_compaction};
-ghost use Rattle.reg_journal_keep.specs.Upkeep.{after_count, at_first, next_behind};
+ghost use Rattle.reg_keeping.specs.Said.{SaysCompaction};
+ghost use Rattle.reg_journal_keep.specs.Keeping.{HasFloorUpTo, Tries, says_compaction};
+ghost use Rattle.reg_journal_keep.specs.Next.{next_behind};
+ghost use Rattle.reg_journal_keep.specs.Upkeep.{after_count, at_first, state_of};
 
 use crate::room::Room;
 use reg_journal::{Journal, Renewable, lines_are_logs};
@@ -49,7 +50,12 @@ impl Upkeep {
 
     /// So many of the file's lines stay; it had so many, and was compacted where at least so many of them would go.
     fn count(&mut self, kept: u64, lines: u64, least: u64)
-        ensures { self.new ≡ after_count self.old kept lines least }
+        ensures count { self.new ≡ after_count self.old kept lines least }
+        ensures patience { self.new.room.patience ≡ 0 }
+        ensures floor { (self.new.floor ≡ self.old.floor) ⊎ (self.new.floor ≡ max self.old.floor self.old.next) }
+        ensures rises { self.old.floor ≤ self.new.floor }
+        ensures next { self.new.next ≡ self.old.next }
+        ensures fault { self.new.fault ≡ None }
     {
         self.fault = None;
         if lines.saturating_sub(kept) < least {
@@ -58,6 +64,14 @@ impl Upkeep {
         }
         self.room = Room::left(kept);
         self.floor = self.floor.max(self.next);
+    }
+
+    /// The file couldn't be compacted.
+    fn fail(&mut self, error: CompactError)
+        ensures { self.new ≡ record self.old { room = record self.old.room { patience = 1000 }; fault = Some error } }
+    {
+        self.room.wait();
+        self.fault = Some(error);
     }
 }
 
@@ -68,30 +82,33 @@ pub(crate) fn make_room<D: Renewable>(
     upkeep: &mut Upkeep,
     lines: u64,
 )
-    requires ready { D.is_modelled → IsReady D.known D.seen D.may_leave journal.old }
-    requires floor { D.is_modelled → HasFloorUpTo D.seen upkeep.old.floor journal.old }
-    ensures room { MakesRoom D.is_modelled D.seen journal.old journal.new }
-    ensures any_moment { D.is_modelled → journal.old.is_broken ≡ false → LeavesOnly D.moment D.left_since journal.old.disk journal.new.disk (says_compaction (said (D.seen journal.old.disk))) }
-    ensures ready { D.is_modelled → IsReady D.known D.seen D.may_leave journal.new }
-    ensures floor { D.is_modelled → HasFloorUpTo D.seen upkeep.old.floor journal.new }
+    requires { D.is_modelled → HasFloorUpTo D.seen upkeep.old.floor journal.old }
+    ensures says { D.is_modelled → journal.new.is_broken ≡ false → SaysCompaction (said (D.seen journal.old.disk)) (said (D.seen journal.new.disk)) }
+    ensures low { D.is_modelled → HasFloorUpTo D.seen upkeep.old.floor journal.new }
+    ensures still { 0 < upkeep.old.room.patience → journal.new ≡ journal.old }
+    ensures next { upkeep.new.next ≡ upkeep.old.next }
+    ensures tries { journal.old.is_broken ≡ false → Tries (state_of journal.old upkeep.old) (state_of journal.new upkeep.new) }
+    ensures lost { D.is_modelled → journal.old.is_broken ≡ false → journal.new.is_broken ≡ true → GaveFault D.renewals journal.new.disk }
+    ensures any_moment { D.is_modelled → journal.old.is_broken ≡ false → LeavesOnly D.moment D.left_since D.may_leave journal.old.disk journal.new.disk (says_compaction (said (D.seen journal.old.disk))) }
     ensures rises { upkeep.old.floor ≤ upkeep.new.floor }
-    ensures broken { journal.old.is_broken ≡ true → journal.new ≡ journal.old }
+    ensures broken { journal.old.is_broken ≡ true → (journal.new ≡ journal.old) × (upkeep.new ≡ upkeep.old) }
 {
-    if journal.is_broken {
+    if journal.is_broken() {
         return;
     }
+    journal.is_steady();
     lines_are_logs();
     compactions_stand_for_logs();
-    let before = journal.lines;
+    if upkeep.room.waits() {
+        return;
+    }
+    let before = journal.lines();
     let Some(least) = upkeep.room.due(before, lines) else {
         return;
     };
     let floor = Some(upkeep.floor.min(OFFSET_LIMIT));
     match compact_superseded(alloc, journal, least, floor) {
         Ok(kept) => upkeep.count(kept, before, least),
-        Err(error) => {
-            upkeep.room.wait();
-            upkeep.fault = Some(error);
-        }
+        Err(error) => upkeep.fail(error),
     }
 }

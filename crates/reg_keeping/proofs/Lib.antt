@@ -1,3 +1,4 @@
+mod Asides
 mod Compacts
 mod Counts
 mod Drops

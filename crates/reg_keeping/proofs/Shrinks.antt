@@ -1,11 +1,11 @@
 -- What a journal's file is once it is compacted.
-use Rattle.std.proofs.Common.{◌≡◌, inl, inr, ⊎_elim, Option, Some, None, ◌+◌, ◌-◌, ◌++◌, ℕ, false, List, [], ◌∷◌, Ok}
-use Rattle.std.proofs.Common.{Err, length, take, sym, ap, subst, ◌∙◌, arith, length-append, count_by, true≢false}
+use Rattle.std.proofs.Common.{◌≡◌, ◌⊎◌, inl, inr, ⊎_elim, Option, Some, None, ◌+◌, ◌++◌, ℕ, List, [], ◌∷◌, Ok}
+use Rattle.std.proofs.Common.{Err, length, take, sym, ap, subst, ◌∙◌, arith, length-append, count_by}
 use Rattle.std.proofs.lemmas.List.{take_at}
-use Rattle.reg_journal.specs.Disk.{Only}
-use Rattle.reg_journal.specs.Journal.{IsSteady}
-use Rattle.reg_journal.specs.Lines.{EndedLinesAreRead, LinesAreRead, text_of}
-use Rattle.reg_journal.specs.Renewal.{LeavesDisk}
+use Rattle.reg_journal.proofs.Moments.{joined, weaker}
+use Rattle.reg_journal.specs.Disk.{LeavesOnly}
+use Rattle.reg_journal.specs.Journal.{IsEndedLog, IsSteady}
+use Rattle.reg_journal.specs.Lines.{EndedLinesAreRead, LinesAreRead, said, text_of}
 use Rattle.reg_journal.specs.declared.disk.DiskError.TheVariants as disks
 use Rattle.reg_journal.specs.declared.renewal.RenewError.{RenewError}
 use Rattle.reg_journal.specs.declared.renewal.RenewError.TheVariants as renewals
@@ -15,10 +15,10 @@ use Rattle.reg_records.specs.declared.log.LogFault.{LogFault}
 use Rattle.reg_keeping.proofs.Counts.{all_counted}
 use Rattle.reg_keeping.specs.Compacted.{IsCompacted, IsLines}
 use Rattle.reg_keeping.specs.CompactedTo.{HasKept, IsCompactedBy, IsCompactedTo, LacksFloor}
-use Rattle.reg_keeping.specs.InPlace.{breaks, renew_refusal}
+use Rattle.reg_keeping.specs.InPlace.{IsBeforeOrCompacted, renew_refusal}
 use Rattle.reg_keeping.specs.Shrunk.{IsNoShrinking, ShrinksTo}
 use Rattle.reg_keeping.specs.declared.in_place.CompactError.{CompactError}
-use Rattle.reg_keeping.specs.declared.in_place.CompactError.TheVariants.{Changed}
+use Rattle.reg_keeping.specs.declared.in_place.CompactError.TheVariants.{Broken, Changed, Lost}
 use Rattle.reg_keeping.specs.declared.shrinking.Shrunk.{Shrunk}
 
 same_log : (text : List ℕ) (a b : LogText) → log_of text ≡ Ok a → log_of text ≡ Ok b → a ≡ b
@@ -27,17 +27,22 @@ same_log text a b p q = cc
 not_both : (text : List ℕ) (a : LogText) (e : ℕ × LogFault) → log_of text ≡ Ok a → log_of text ≡ Err e → ⊥
 not_both text a e p q = cc
 
--- a new file that wasn't finished left the disk as it was
-pub kept_disk : {D : Type 0} (known : D → Type 0) (seen : D → List ℕ) (may_leave : D → List ℕ → Type 0) (old new : D) (e : RenewError)
-    → breaks (renew_refusal e) ≡ false
-    → LeavesDisk known seen may_leave old new e → known new × (seen new ≡ seen old) × ((c : List ℕ) → may_leave new c → may_leave old c)
-kept_disk known seen may_leave old new (renewals.Kept e) kept leaves = leaves
-kept_disk known seen may_leave old new renewals.Lost kept leaves = absurd (true≢false kept)
-
 pub never_changed : (e : RenewError) → renew_refusal e ≡ Changed → ⊥
 never_changed (renewals.Kept disks.OutOfMemory) is = cc
 never_changed (renewals.Kept disks.Failed) is = cc
 never_changed renewals.Lost is = cc
+
+-- a reading that failed lost no renewal
+pub never_lost : (file : List ℕ) (end : ℕ) (e : CompactError) → IsNoShrinking file end e → e ≡ Lost → ⊥
+never_lost file end e why is = subst (λ (k : CompactError). IsNoShrinking file end k) is why
+
+pub never_broken : (file : List ℕ) (end : ℕ) (e : CompactError) → IsNoShrinking file end e → e ≡ Broken → ⊥
+never_broken file end e why is = subst (λ (k : CompactError). IsNoShrinking file end k) is why
+
+pub no_renewal_broken : (e : RenewError) → renew_refusal e ≡ Broken → ⊥
+no_renewal_broken (renewals.Kept disks.OutOfMemory) is = cc
+no_renewal_broken (renewals.Kept disks.Failed) is = cc
+no_renewal_broken renewals.Lost is = cc
 
 module _ (are_read : LinesAreRead) (ended_are_read : EndedLinesAreRead) {D : Type 0} (seen : D → List ℕ)
     (may_leave : D → List ℕ → Type 0) (disk : D) (end count : ℕ) (s : IsSteady seen may_leave disk end count) where
@@ -165,16 +170,26 @@ module _ (are_read : LinesAreRead) (ended_are_read : EndedLinesAreRead) {D : Typ
     pub has_kept : HasKept floor (seen disk) shrunk.kept
     has_kept = (it.text, by it.text lines floor it.compacted, sym it.kept)
 
-    pub steadies : (new : D) (end' : ℕ) → seen new ≡ shrunk.bytes.items → Only (seen new) (may_leave new)
-        → end' ≡ length shrunk.bytes.items - 1 → IsSteady seen may_leave new end' shrunk.kept
-    steadies new end' is only ends = record {
+    pub ended_log : IsEndedLog shrunk.bytes.items shrunk.kept
+    ended_log = record {
       lines = lines.lines;
       floor = lines.floor;
       read = lines.read;
-      file = is ∙ bytes;
+      file = bytes;
       say = lines.say;
-      ends = omega (arith, ends, ap length bytes, length-append (text_of lines.lines) (10 ∷ []));
       counts = sym kept_count;
       few = lines.few;
-      durable = only;
     }
+
+    -- a renewal leaves the file as it was, or compacted
+    pub renewed : (moment : D → ℕ) (left_since : D → ℕ → List ℕ → Type 0) (mid new : D) (given : List ℕ)
+        → given ≡ shrunk.bytes.items → seen mid ≡ seen disk
+        → LeavesOnly moment left_since may_leave disk mid (λ c. c ≡ seen disk)
+        → LeavesOnly moment left_since may_leave mid new (λ c. (c ≡ seen mid) ⊎ (c ≡ given))
+        → LeavesOnly moment left_since may_leave disk new (IsBeforeOrCompacted floor (seen disk))
+    renewed moment left_since mid new given is same first next =
+        weaker moment left_since may_leave disk new _ (IsBeforeOrCompacted floor (seen disk))
+        (joined moment left_since may_leave disk mid new (λ c. c ≡ seen disk) (λ c. (c ≡ seen mid) ⊎ (c ≡ given)) first next)
+        (λ c left. ⊎_elim (λ was. inl (ap said was))
+        (λ more. ⊎_elim (λ was. inl (ap said (was ∙ same)))
+        (λ now. inr (subst (λ (t : List ℕ). IsCompactedBy floor (seen disk) t) (sym (now ∙ is)) whole)) more) left)

@@ -1,9 +1,9 @@
 -- What compacting does to a journal and its file.
 use Rattle.std.specs.Prelude.{◌≡◌, ◌⊎◌, ℕ, List, Bool, true, false, Option}
+use Rattle.reg_journal.specs.JournalState.{JournalState}
 use Rattle.reg_journal.specs.Lines.{said}
 use Rattle.reg_journal.specs.declared.disk.DiskError.{DiskError}
 use Rattle.reg_journal.specs.declared.disk.DiskError.TheVariants as disks
-use Rattle.reg_journal.specs.declared.journal.Journal.{Journal}
 use Rattle.reg_journal.specs.declared.renewal.RenewError.{RenewError}
 use Rattle.reg_journal.specs.declared.renewal.RenewError.TheVariants as renewals
 use Rattle.reg_keeping.specs.CompactedTo.{IsCompactedBy}
@@ -23,15 +23,15 @@ breaks Lost = true
 breaks Broken = true
 
 -- the journal and the bytes of its file are as they were
-pub record IsAsItWas {D : Type 0} (is_modelled : Type 0) (seen : D → List ℕ) (old new : Journal D) : Type 0 where
+pub record IsAsItWas {D : Type 0} (is_modelled : Type 0) (seen : D → List ℕ) (old new : JournalState D) : Type 0 where
   pub bytes : is_modelled → seen new.disk ≡ seen old.disk
   pub «end» : new.end ≡ old.end
   pub lines : new.lines ≡ old.lines
   pub is_broken : new.is_broken ≡ old.is_broken
 
 -- the file is a compaction of what it was, of so many lines
-pub record IsShrunk {D : Type 0} (is_modelled : Type 0) (seen : D → List ℕ) (floor : Option ℕ) (old : Journal D)
-    (kept : ℕ) (new : Journal D) : Type 0 where
+pub record IsShrunk {D : Type 0} (is_modelled : Type 0) (seen : D → List ℕ) (floor : Option ℕ) (old : JournalState D)
+    (kept : ℕ) (new : JournalState D) : Type 0 where
   pub compacted : is_modelled → IsCompactedBy floor (seen old.disk) (seen new.disk)
   pub lines : new.lines ≡ kept
   pub is_broken : new.is_broken ≡ false

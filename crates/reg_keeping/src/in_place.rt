@@ -1,7 +1,6 @@
 // Compacting the file of a journal, in its place.
-ghost use Rattle.std.specs.Prelude.{◌≡◌, ◌≢◌, ◌≤◌, ◌<◌, ◌-◌, true, false, None, Err, IfErr, IfOk, IfSome};
-ghost use Rattle.reg_journal.specs.Disk.{LeavesOnly};
-ghost use Rattle.reg_journal.specs.Journal.{IsReady};
+ghost use Rattle.std.specs.Prelude.{◌≡◌, ◌≢◌, ◌≤◌, ◌<◌, ◌-◌, true, false, None, Err, IfErr, IfOk, IfSome, OnOk};
+ghost use Rattle.reg_journal.specs.Disk.{GaveFault, LeavesOnly};
 ghost use Rattle.reg_records.specs.declared.limits.TheConstants.{OFFSET_LIMIT};
 ghost use Rattle.reg_keeping.specs.Compacted.{IsCompacted};
 ghost use Rattle.reg_keeping.specs.CompactedTo.{HasKept};
@@ -82,17 +81,20 @@ pub fn compact_journal<D: Renewable>(
     alloc: Global,
     journal: &mut Journal<D>,
 ) -> Result<u64, CompactError>
-    requires ready { D.is_modelled → IsReady D.known D.seen D.may_leave journal.old }
     ensures compacted { D.is_modelled → IfOk result (λ lines. IsCompacted (D.seen journal.old.disk) (D.seen journal.new.disk) × (journal.new.lines ≡ lines)) }
-    ensures ready { D.is_modelled → IsReady D.known D.seen D.may_leave journal.new }
 
     // A crash at any moment of the call leaves a file that says what it said before, or a compaction of it.
-    ensures any_moment { D.is_modelled → journal.old.is_broken ≡ false → LeavesOnly D.moment D.left_since journal.old.disk journal.new.disk
+    ensures any_moment { D.is_modelled → journal.old.is_broken ≡ false → LeavesOnly D.moment D.left_since D.may_leave journal.old.disk journal.new.disk
         (IsBeforeOrCompacted None (D.seen journal.old.disk)) }
 
     ensures refused { IfErr result (λ e. breaks e ≡ false → IsAsItWas D.is_modelled D.seen journal.old journal.new) }
     ensures then_broken { IfErr result (λ e. breaks e ≡ true → journal.new.is_broken ≡ true) }
     ensures changed { D.is_modelled → IfErr result (λ e. e ≢ CompactError.Changed) }
+    ensures sound { OnOk result (journal.new.is_broken ≡ false) }
+    ensures was_broken { D.is_modelled → IfErr result (λ e. e ≡ CompactError.Broken → journal.old.is_broken ≡ true) }
+
+    // It is lost only where a renewal gave a fault.
+    ensures lost { D.is_modelled → IfErr result (λ e. e ≡ CompactError.Lost → GaveFault D.renewals journal.new.disk) }
     ensures broken { journal.old.is_broken ≡ true → (result ≡ Err CompactError.Broken) × (journal.new ≡ journal.old) }
 {
     compact_superseded(alloc, journal, 0, None)
@@ -106,44 +108,41 @@ pub fn compact_superseded<D: Renewable>(
     least: u64,
     floor: Option<u64>,
 ) -> Result<u64, CompactError>
-    requires ready { D.is_modelled → IsReady D.known D.seen D.may_leave journal.old }
-    requires floor { IfSome floor (λ f. f ≤ OFFSET_LIMIT) }
+    requires { IfSome floor (λ f. f ≤ OFFSET_LIMIT) }
     ensures kept { D.is_modelled → IfOk result (HasKept floor (D.seen journal.old.disk)) }
     ensures few { IfOk result (λ kept. journal.old.lines - kept < least → IsAsItWas D.is_modelled D.seen journal.old journal.new) }
     ensures many { IfOk result (λ kept. least ≤ journal.old.lines - kept → IsShrunk D.is_modelled D.seen floor journal.old kept journal.new) }
-    ensures ready { D.is_modelled → IsReady D.known D.seen D.may_leave journal.new }
 
     // Unless the journal is broken then, its file says what it said before, or a compaction of it; a crash at any moment
     // of the call leaves such a file.
     ensures left { D.is_modelled → journal.new.is_broken ≡ false → IsBeforeOrCompacted floor (D.seen journal.old.disk) (D.seen journal.new.disk) }
-    ensures any_moment { D.is_modelled → journal.old.is_broken ≡ false → LeavesOnly D.moment D.left_since journal.old.disk journal.new.disk
+    ensures any_moment { D.is_modelled → journal.old.is_broken ≡ false → LeavesOnly D.moment D.left_since D.may_leave journal.old.disk journal.new.disk
         (IsBeforeOrCompacted floor (D.seen journal.old.disk)) }
 
     ensures refused { IfErr result (λ e. breaks e ≡ false → IsAsItWas D.is_modelled D.seen journal.old journal.new) }
     ensures then_broken { IfErr result (λ e. breaks e ≡ true → journal.new.is_broken ≡ true) }
     ensures changed { D.is_modelled → IfErr result (λ e. e ≢ CompactError.Changed) }
+    ensures sound { OnOk result (journal.new.is_broken ≡ false) }
+    ensures was_broken { D.is_modelled → IfErr result (λ e. e ≡ CompactError.Broken → journal.old.is_broken ≡ true) }
+
+    // It is lost only where a renewal gave a fault.
+    ensures lost { D.is_modelled → IfErr result (λ e. e ≡ CompactError.Lost → GaveFault D.renewals journal.new.disk) }
     ensures broken { journal.old.is_broken ≡ true → (result ≡ Err CompactError.Broken) × (journal.new ≡ journal.old) }
 {
-    if journal.is_broken {
+    if journal.is_broken() {
         return Err(CompactError::Broken);
     }
+    journal.is_steady();
     lines_are_logs();
-    let Shrunk { bytes, kept } = match read_shrunk(alloc, &mut journal.disk, journal.end, floor) {
+    let Shrunk { bytes, kept } = match read_shrunk(alloc, journal, floor) {
         Ok(shrunk) => shrunk,
-        Err(error) => {
-            journal.is_broken = error.breaks();
-            return Err(error);
-        }
+        Err(error) => return Err(error),
     };
-    if journal.lines.saturating_sub(kept) < least {
+    if journal.lines().saturating_sub(kept) < least {
         return Ok(kept);
     }
-    if let Err(error) = journal.disk.renew(&bytes) {
-        let error = CompactError::from(error);
-        journal.is_broken = error.breaks();
-        return Err(error);
+    if let Err(error) = journal.renew(&bytes, kept) {
+        return Err(CompactError::from(error));
     }
-    journal.end = bytes.len() - 1;
-    journal.lines = kept;
     Ok(kept)
 }

@@ -19,7 +19,7 @@ pub use cutting::{floor_len, line_at};
 pub use filter::{FilterError, compact, compact_to, filter_error, read_input, write_output};
 pub use in_place::{CompactError, compact_journal, compact_superseded};
 pub use laws::compactions_stand_for_logs;
-pub use opening::open_aside;
+pub use opening::{Aside, Opens, open_aside};
 pub use sorting::{compacted_in_order, compacted_to_in_order};
 pub use to_floor::{ToFloorError, compacted_to};
 pub use words::{Command, USAGE, command_of};

@@ -1,15 +1,16 @@
 // What compacting makes of the file of a journal.
-ghost use Rattle.std.specs.Prelude.{◌≡◌, ◌≤◌, ◌<◌, ◌++◌, ◌∷◌, [], ℕ, List, length, count_by, IfErr, IfOk, IfSome};
-ghost use Rattle.reg_journal.specs.Disk.{Elapses};
+ghost use Rattle.std.specs.Prelude.{◌≡◌, ◌≤◌, ◌<◌, ◌++◌, ◌∷◌, [], false, length, count_by, IfErr, IfOk, IfSome, OnOk};
+ghost use Rattle.reg_journal.specs.Disk.{LeavesOnly};
 ghost use Rattle.reg_records.specs.Line.{is_line_feed};
 ghost use Rattle.reg_records.specs.declared.limits.TheConstants.{OFFSET_LIMIT};
+ghost use Rattle.reg_keeping.specs.InPlace.{breaks};
 ghost use Rattle.reg_keeping.specs.Shrunk.{IsNoShrinking, ShrinksTo};
 ghost use Rattle.reg_keeping.specs.declared.in_place.CompactError.TheVariants.{OutOfMemory};
 
 use crate::cutting::count_lines;
 use crate::in_place::CompactError;
 use crate::to_floor::compacted_by;
-use reg_journal::Disk;
+use reg_journal::{Disk, Journal};
 use reg_records::LogError;
 use std::alloc::Global;
 
@@ -20,24 +21,42 @@ pub(crate) struct Shrunk {
     pub kept: u64,
 }
 
-/// Reads a file that has an empty line at `end`, and compacts what was read.
+/// Reads the file of a journal, and compacts what was read. A file that isn't what was left breaks the journal.
 pub(crate) fn read_shrunk<D: Disk>(
     alloc: Global,
-    disk: &mut D,
-    end: usize,
+    journal: &mut Journal<D>,
     floor: Option<u64>,
 ) -> Result<Shrunk, CompactError>
-    requires known { D.is_modelled → D.known disk.old }
+    requires sound { journal.old.is_broken ≡ false }
     requires floor { IfSome floor (λ f. f ≤ OFFSET_LIMIT) }
-    ensures shrinks { D.is_modelled → IfOk result (ShrinksTo floor (D.seen disk.old) end) }
+    ensures shrinks { D.is_modelled → IfOk result (ShrinksTo floor (D.seen journal.old.disk) journal.old.end) }
     ensures some { IfOk result (λ shrunk. 0 < length shrunk.bytes.items) }
-    ensures refused { D.is_modelled → IfErr result (IsNoShrinking (D.seen disk.old) end) }
-    ensures same { D.is_modelled → D.known disk.new × (D.seen disk.new ≡ D.seen disk.old) }
-    ensures crash { D.is_modelled → (c : List ℕ) → D.may_leave disk.new c → D.may_leave disk.old c }
-    ensures time { D.is_modelled → Elapses (D.moment disk.old) (D.moment disk.new) (D.left_since disk.old) (D.left_since disk.new) (D.may_leave disk.new) }
+    ensures refused { D.is_modelled → IfErr result (IsNoShrinking (D.seen journal.old.disk) journal.old.end) }
+    ensures goes_on { OnOk result (journal.new.is_broken ≡ false) }
+    ensures broken { IfErr result (λ e. journal.new.is_broken ≡ breaks e) }
+    ensures end { journal.new.end ≡ journal.old.end }
+    ensures lines { journal.new.lines ≡ journal.old.lines }
+    ensures seen { D.is_modelled → D.seen journal.new.disk ≡ D.seen journal.old.disk }
+    ensures any_moment { D.is_modelled → LeavesOnly D.moment D.left_since D.may_leave journal.old.disk journal.new.disk (λ c. c ≡ D.seen journal.old.disk) }
 {
-    let file = disk.read(alloc)?;
-    shrink(alloc, &file, end, floor)
+    let file = journal.read(alloc)?;
+    match shrink(alloc, &file, journal.end(), floor) {
+        Ok(shrunk) => Ok(shrunk),
+        Err(error) => {
+            give_up_at(journal, error);
+            Err(error)
+        }
+    }
+}
+
+/// Breaks a journal where the error does.
+fn give_up_at<D: Disk>(journal: &mut Journal<D>, error: CompactError)
+    requires { journal.old.is_broken ≡ false }
+    ensures { journal.new ≡ record journal.old { is_broken = breaks error } }
+{
+    if error.breaks() {
+        journal.give_up();
+    }
 }
 
 fn shrink(

@@ -1,11 +1,10 @@
 // `registrylog keep`: nodes over a log in a file.
 use crate::fault::KeepFault;
-use crate::opening::{Locked, lock, make_ready, open_or_make};
+use crate::opening::{Locked, lock, open_or_make, start_log};
 use crate::telling::Telling;
 use crate::words::Place;
 use reg_inspection::obstacles;
-use reg_journal::{Journal, StoredFile, look};
-use reg_journal_keep::FileKeep;
+use reg_journal::{StoredFile, look};
 use reg_records::Log;
 use reg_serve::listen;
 use reg_service::{Entrance, Size, StartFault};
@@ -65,32 +64,26 @@ pub(crate) fn open_log<R: Files<File = File> + Eprint + Copy + Drop>(
         file: opened,
         lock,
     } = lock(&rt, alloc, file)?;
-    let mut disk = StoredFile::new(alloc, rt, path.as_str(), opened)?;
+    let disk = StoredFile::new(alloc, rt, path.as_str(), opened)?;
     disk.remove_unfinished()?;
-    let found = make_ready(rt, alloc, &mut disk, path.as_str())?;
-    let journal = Journal {
-        disk,
-        end: found.end,
-        lines: found.lines,
-        is_broken: false,
-    };
-    let (floor, next) = (found.log.floor, found.log.next);
-    let mut keep = Telling::new(rt, FileKeep::new(alloc, journal, floor, next));
-    keep.make_room();
+    let kept = start_log(rt, alloc, disk, path.as_str())?;
+    let end = kept.end();
+    let (log, keep) = kept.parts();
+    let mut keep = Telling::new(rt, keep);
+    keep.tell_fault();
     let door = Door {
         rt,
         alloc,
         place,
-        records: found.log.records.len() as u64,
-        next: found.log.next,
-        bytes: (found.end as u64).saturating_add(1),
+        records: log.records.len() as u64,
+        next: log.next,
+        bytes: (end as u64).saturating_add(1),
     };
     let size = Size {
         nodes: usize::try_from(place.nodes).unwrap_or(1),
         workers: u32::try_from(place.workers).unwrap_or(1),
         limit: None,
     };
-    let log = found.log;
     Ok(Opened {
         path,
         lock,

@@ -1,7 +1,8 @@
 // Opening a log's file, under its lock.
 use crate::fault::KeepFault;
-use reg_journal::{Found, OpenError, StoredFile, cut_behind, look, write_end};
-use reg_keeping::open_aside;
+use reg_journal::{DiskError, StoredFile};
+use reg_journal_keep::{KeptLog, start};
+use reg_keeping::{Aside, Opens};
 use std::alloc::Global;
 use std::fs::{File, Files, TryLockError};
 use std::io::Eprint;
@@ -63,31 +64,73 @@ pub(crate) fn lock<R: Files<File = File>>(
     Ok(Locked { path, file, lock })
 }
 
-/// Reads the log of a file, and ends it with an empty line where it has none. What stands behind that line is
-/// copied to a file of its own, with `.cut` behind the name, before it is cut off.
-pub(crate) fn make_ready<R: Files<File = File> + Eprint + Copy + Drop>(
+/// Opens the file for what stands behind a log, and puts its name on the disk.
+#[derive(Drop)]
+struct CutFile<R: Drop> {
     rt: R,
     alloc: Global,
-    disk: &mut StoredFile<R>,
-    path: &str,
-) -> Result<Found, KeepFault> {
-    let found = match look(alloc, disk) {
-        Err(OpenError::NoEmptyLine) => {
-            write_end(alloc, disk)?;
-            look(alloc, disk)?
-        }
-        other => other?,
-    };
-    if found.behind.is_empty() {
-        cut_behind(disk, &found)?;
-        return Ok(found);
+    path: String,
+    /// Why it wasn't opened.
+    fault: Option<KeepFault>,
+}
+
+impl<R: Files<File = File> + Copy + Drop> CutFile<R> {
+    fn open_named(&self) -> Result<StoredFile<R>, KeepFault> {
+        let path = self.path.as_str();
+        let file = open_or_make(&self.rt, path)?;
+        sync_folder(&self.rt, path)?;
+        Ok(StoredFile::new(self.alloc, self.rt, path, file)?)
     }
-    let cut = beside(alloc, path, ".cut")?;
-    let file = open_or_make(&rt, cut.as_str())?;
-    let mut aside = StoredFile::new(alloc, rt, cut.as_str(), file)?;
-    let found = open_aside(alloc, disk, &mut aside)?;
-    sync_folder(&rt, path)?;
-    let count = found.behind.len();
-    let _told = rt.eprintln(format_args!("{count} bytes behind the log were put into {cut}"));
-    Ok(found)
+}
+
+impl<R: Files<File = File> + Copy + Drop> Opens<StoredFile<R>> for CutFile<R> {
+    fn open_disk(&mut self) -> Result<StoredFile<R>, DiskError> {
+        match self.open_named() {
+            Ok(disk) => Ok(disk),
+            Err(fault) => {
+                self.fault = Some(fault);
+                Err(DiskError::Failed)
+            }
+        }
+    }
+}
+
+/// Starts over a log's file. What stands behind its empty line is copied to a file of its own, with `.cut` behind the
+/// name, before it is cut off.
+pub(crate) fn start_log<R: Files<File = File> + Eprint + Copy + Drop>(
+    rt: R,
+    alloc: Global,
+    disk: StoredFile<R>,
+    path: &str,
+) -> Result<KeptLog<StoredFile<R>>, KeepFault> {
+    let cut = CutFile {
+        rt,
+        alloc,
+        path: beside(alloc, path, ".cut")?,
+        fault: None,
+    };
+    let mut aside = Aside {
+        opener: cut,
+        disk: None,
+    };
+    let started = start(alloc, disk, &mut aside);
+    let Aside { opener, disk: _ } = aside;
+    let CutFile {
+        rt: _,
+        alloc: _,
+        path: cut,
+        fault,
+    } = opener;
+    match started {
+        Ok(kept) => {
+            let count = kept.cut();
+            if count > 0 {
+                let _told = rt.eprintln(format_args!(
+                    "{count} bytes behind the log were put into {cut}"
+                ));
+            }
+            Ok(kept)
+        }
+        Err(error) => Err(fault.unwrap_or(KeepFault::from(error))),
+    }
 }

@@ -27,13 +27,8 @@ impl<D: Renewable + Drop, R: Eprint + Drop> Telling<D, R> {
         }
     }
 
-    /// Compacts the file, where that is due.
-    pub(crate) fn make_room(&mut self) {
-        self.keep.make_room(0);
-        self.tell_fault();
-    }
-
-    fn tell_fault(&mut self)
+    /// Says that a compaction failed, where one did.
+    pub(crate) fn tell_fault(&mut self)
         ensures { self.new.keep ≡ self.old.keep }
     {
         if self.has_told_fault {
@@ -51,7 +46,7 @@ impl<D: Renewable + Drop, R: Eprint + Drop> Telling<D, R> {
 impl<D: Renewable + Drop, R: Eprint + Drop> Keep for Telling<D, R> {
     ghost use Rattle.reg_journal_keep.specs.Keeping.{KeepsFile};
 
-    ghost keeps = { λ old batch kept new. KeepsFile D.is_modelled D.moment D.left_since D.seen old.keep batch kept new.keep };
+    ghost keeps = { λ old batch kept new. KeepsFile D.is_modelled D.moment D.left_since D.may_leave D.seen D.faults D.renewals old.keep batch kept new.keep };
 
     fn keep(&mut self, batch: &[Record]) -> Kept {
         let kept = self.keep.keep(batch);

@@ -80,8 +80,8 @@ fn goes_on(
     let more = journal.append(alloc, &batch_of(alloc, 3, 1)?);
     Ok(match answer {
         Err(CompactError::Lost) => matches!(more, Err(AppendError::Broken)),
-        Err(_) => more.is_ok() && journal.lines == 4,
-        Ok(_) => more.is_ok() && journal.lines == 2,
+        Err(_) => more.is_ok() && journal.lines() == 4,
+        Ok(_) => more.is_ok() && journal.lines() == 2,
     })
 }
 
@@ -96,7 +96,7 @@ fn tried_in(
     let answer = compact_journal(alloc, journal);
     assert!(rt; is_answer(answer, fails_at));
     assert_eq!(rt;
-        journal.is_broken,
+        journal.is_broken(),
         matches!(answer, Err(CompactError::Lost))
     );
     let trial = Trial {
@@ -104,7 +104,7 @@ fn tried_in(
         left: &all[all.len().saturating_sub(1)..],
         is_compacted: answer.is_ok(),
     };
-    assert!(rt; crashes_hold(alloc, &journal.disk, trial)?);
+    assert!(rt; crashes_hold(alloc, journal.disk(), trial)?);
     assert!(rt; goes_on(alloc, journal, answer)?);
     Ok(())
 }
@@ -134,26 +134,21 @@ const CHANGED: [&str; 4] = ["0\tx\ty\n", "0\tx\ty\n\n0\tx\ty\n", "0\tx\ty", "0\t
 fn a_file_that_another_has_changed_breaks_the_journal(rt: HostRuntime) -> Result<(), Fail> {
     let alloc = rt.alloc();
     for file in CHANGED {
-        let mut journal = Journal {
-            disk: Torn::new(alloc, file.as_bytes(), NEVER)?,
-            end: 6,
-            lines: 1,
-            is_broken: false,
-        };
+        let mut journal = Journal::over(Torn::new(alloc, file.as_bytes(), NEVER)?, 6, 1);
         assert!(rt;
             matches!(
                 compact_journal(alloc, &mut journal),
                 Err(CompactError::Changed)
             )
         );
-        assert!(rt; journal.is_broken && journal.disk.bytes() == file.as_bytes());
+        assert!(rt; journal.is_broken() && journal.disk().bytes() == file.as_bytes());
         assert!(rt;
             matches!(
                 compact_journal(alloc, &mut journal),
                 Err(CompactError::Broken)
             )
         );
-        assert!(rt; journal.disk.steps() == 0);
+        assert!(rt; journal.disk().steps() == 0);
     }
     Ok(())
 }

@@ -35,7 +35,7 @@ fn with_batch(alloc: Global, old: &[Record], batch: &[Record]) -> Result<Vec<u8>
 /// The floor of a file, its next offset, and how many records and lines it has.
 fn found_in(alloc: Global, file: Vec<u8>) -> Result<(u64, u64, usize, u64), Fail> {
     match open(alloc, Memory::new(alloc, file)) {
-        Ok((log, journal)) => Ok((log.floor, log.next, log.records.len(), journal.lines)),
+        Ok((log, journal)) => Ok((log.floor, log.next, log.records.len(), journal.lines())),
         Err(_) => Err(Fail::from("not opened")),
     }
 }
@@ -46,7 +46,7 @@ fn is_appended(alloc: Global, old: &[Record], batch: &[Record]) -> Result<bool, 
 {
     let whole = with_batch(alloc, old, batch)?;
     match appended(alloc, floored(alloc, old)?, batch) {
-        Ok(journal) => Ok(journal.disk.bytes() == whole.as_slice()),
+        Ok(journal) => Ok(journal.disk().bytes() == whole.as_slice()),
         Err(_) => Ok(false),
     }
 }
@@ -71,7 +71,7 @@ fn is_compacted(alloc: Global, file: Vec<u8>, left: &[u8]) -> bool {
     };
     let mut journal = journal;
     let lines = compact_journal(alloc, &mut journal);
-    lines == Ok(2) && journal.lines == 2 && journal.disk.bytes() == left
+    lines == Ok(2) && journal.lines() == 2 && journal.disk().bytes() == left
 }
 
 #[test]

@@ -36,7 +36,7 @@ fn is_added(alloc: Global, batch: &[Record]) -> Result<bool, Fail>
 {
     let wanted = file_of(alloc, batch)?;
     match appended(alloc, file_of(alloc, &[])?, batch) {
-        Ok(journal) => Ok(journal.disk.bytes() == wanted.as_slice()),
+        Ok(journal) => Ok(journal.disk().bytes() == wanted.as_slice()),
         Err(_) => Ok(false),
     }
 }

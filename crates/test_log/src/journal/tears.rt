@@ -164,7 +164,7 @@ fn tried(
         before: all.len().saturating_sub(batch.len()),
         is_twice: all.len() < 2 && fails_at == 4,
     };
-    crashed(rt, alloc, &journal.disk, trial, is_taken)
+    crashed(rt, alloc, journal.disk(), trial, is_taken)
 }
 
 #[test]

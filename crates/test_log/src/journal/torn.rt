@@ -115,12 +115,8 @@ pub(super) fn journal_of(
     requires { All HasLine records.now }
 {
     let file = file_of(alloc, records)?;
-    Ok(Journal {
-        disk: Torn::new(alloc, &file, fails_at)?,
-        end: file.len().saturating_sub(1),
-        lines: records.len() as u64,
-        is_broken: false,
-    })
+    let disk = Torn::new(alloc, &file, fails_at)?;
+    Ok(Journal::over(disk, file.len().saturating_sub(1), records.len() as u64))
 }
 
 fn front(bytes: &[u8], len: usize) -> &[u8] {

@@ -1,9 +1,6 @@
 // Compacting the file of a journal in its place.
-ghost use Rattle.std.specs.Prelude.{IfOk, IfSome};
-ghost use Rattle.reg_journal.specs.Journal.{IsReady};
-
 use crate::texts::text;
-use reg_journal::{Disk, Journal, Memory, open};
+use reg_journal::{Journal, Memory, open};
 use reg_keeping::{compact_journal, compact_superseded};
 use reg_records::OFFSET_LIMIT;
 use std::alloc::{AllocError, Global};
@@ -40,9 +37,7 @@ const ROWS: [(&str, &str, u64); 7] = [
 ];
 
 /// The journal of a file; none where it isn't opened.
-fn journal_of(alloc: Global, file: &str) -> Result<Option<Journal<Memory>>, AllocError>
-    ensures { IfOk result (λ found. IfSome found (λ journal. IsReady ⟦<Memory as Disk>⟧.known ⟦<Memory as Disk>⟧.seen ⟦<Memory as Disk>⟧.may_leave journal)) }
-{
+fn journal_of(alloc: Global, file: &str) -> Result<Option<Journal<Memory>>, AllocError> {
     match open(alloc, Memory::new(alloc, text(alloc, file)?)) {
         Ok((_log, journal)) => Ok(Some(journal)),
         Err(_) => Ok(None),
@@ -51,10 +46,10 @@ fn journal_of(alloc: Global, file: &str) -> Result<Option<Journal<Memory>>, Allo
 
 /// Whether a journal's file has those bytes, and so many lines.
 fn has(journal: &Journal<Memory>, file: &[u8], lines: u64) -> bool {
-    journal.disk.bytes() == file
-        && journal.end == file.len().saturating_sub(1)
-        && journal.lines == lines
-        && !journal.is_broken
+    journal.disk().bytes() == file
+        && journal.end() == file.len().saturating_sub(1)
+        && journal.lines() == lines
+        && !journal.is_broken()
 }
 
 fn is_compacted(alloc: Global, row: &(&str, &str, u64)) -> Result<bool, AllocError> {

@@ -23,7 +23,7 @@ returns-in_err-cut-clause-any_moment g c modelled =
     let from = c.cut.ensures.crash known f left in
     kept_says (seen d) found is f (subst (λ o. Keeps (found.end + 1) o f) (on_disk from.0 from.1) from.2) in
     let cut = then m l may (λ f. said f ≡ said (seen d)) d d c.cut.new.self start (c.cut.ensures.time known) kept in
-    cut.leaves
+    cut
 
 pub returns-in_err-sync-clause-any_moment : goal.returns-in_err-sync-clause-any_moment
 returns-in_err-sync-clause-any_moment g c modelled =
@@ -45,7 +45,7 @@ returns-in_err-sync-clause-any_moment g c modelled =
     let within : found.end + 1 ≤ length (seen d) = end_within (seen d) found is in
     let was_cut = c.in_ok-cut.ensures.seen known within in
     (quietly m l may (λ f. said f ≡ said (seen d)) d c.cut.new.self c.sync.new.self cut
-    (c.sync.ensures.time was_cut.0) (c.sync.ensures.crash was_cut.0)).leaves
+    (c.sync.ensures.time was_cut.0) (c.sync.ensures.crash was_cut.0))
 
 pub returns-clause-any_moment : goal.returns-clause-any_moment
 returns-clause-any_moment g c modelled =
@@ -67,7 +67,7 @@ returns-clause-any_moment g c modelled =
     let within : found.end + 1 ≤ length (seen d) = end_within (seen d) found is in
     let was_cut = c.in_ok-cut.ensures.seen known within in
     (quietly m l may (λ f. said f ≡ said (seen d)) d c.cut.new.self c.sync.new.self cut
-    (c.sync.ensures.time was_cut.0) (c.sync.ensures.crash was_cut.0)).leaves
+    (c.sync.ensures.time was_cut.0) (c.sync.ensures.crash was_cut.0))
 
 pub returns-clause-same : goal.returns-clause-same
 returns-clause-same g c modelled =

@@ -13,7 +13,7 @@ returns-in_err-sync-clause-any_moment g c modelled =
     let may = g.D.Disk.may_leave in
     let start = begun g.D.Disk.moment g.D.Disk.left_since may (may d) d (λ f left. g.met.D.Disk.only_now d f known left) (λ f left. left) in
     (quietly g.D.Disk.moment g.D.Disk.left_since may (may d) d d c.sync.new.self start
-    (c.sync.ensures.time known) (c.sync.ensures.crash known)).leaves
+    (c.sync.ensures.time known) (c.sync.ensures.crash known))
 
 pub returns-in_err-bytes-clause-any_moment : goal.returns-in_err-bytes-clause-any_moment
 returns-in_err-bytes-clause-any_moment g c modelled =
@@ -25,7 +25,7 @@ returns-in_err-bytes-clause-any_moment g c modelled =
     let synced = quietly g.D.Disk.moment g.D.Disk.left_since may (may d) d d c.sync.new.self start
     (c.sync.ensures.time known) (c.sync.ensures.crash known) in
     (quietly g.D.Disk.moment g.D.Disk.left_since may (may d) d c.sync.new.self c.read.new.self synced
-    (c.read.ensures.time first.0) (c.read.ensures.crash first.0)).leaves
+    (c.read.ensures.time first.0) (c.read.ensures.crash first.0))
 
 pub returns-clause-any_moment : goal.returns-clause-any_moment
 returns-clause-any_moment g c modelled =
@@ -37,7 +37,7 @@ returns-clause-any_moment g c modelled =
     let synced = quietly g.D.Disk.moment g.D.Disk.left_since may (may d) d d c.sync.new.self start
     (c.sync.ensures.time known) (c.sync.ensures.crash known) in
     (quietly g.D.Disk.moment g.D.Disk.left_since may (may d) d c.sync.new.self c.read.new.self synced
-    (c.read.ensures.time first.0) (c.read.ensures.crash first.0)).leaves
+    (c.read.ensures.time first.0) (c.read.ensures.crash first.0))
 
 pub returns-clause-log : goal.returns-clause-log
 returns-clause-log g c modelled =

@@ -1,59 +1,105 @@
-use Rattle.std.proofs.Common.{Some, arith}
-use Rattle.reg_journal_keep.proofs.Rooms.{floor_left, moments_left, moments_same, room_left, says_same}
+use Rattle.std.proofs.Common.{◌≡◌, Some, arith, false}
+use Rattle.reg_journal_keep.proofs.Rooms.{floor_left, lost_by, moments_left, moments_same, room_left, says_same}
 use Rattle.reg_journal_keep.proofs.upkeep.make_room.Goals as goal
 
-pub returns-in-Ok-clause-room : goal.returns-in-Ok-clause-room
-returns-in-Ok-clause-room g c modelled sound =
+pub returns-in-Ok-clause-says : goal.returns-in-Ok-clause-says
+returns-in-Ok-clause-says g c modelled goes =
     let d = g.D.Disk in
+    let j = c.args.journal.now in
     let laws = c.compactions_stand_for_logs.ensures in
+    let sound : j.is_broken ≡ false = cc in
     room_left d.known d.seen d.may_leave d.moment d.left_since c.lines_are_logs.ensures.ended laws.itself laws.compacted
-    (Some c.min.result) c.args.journal.now
-    c.compact_superseded.new.journal (c.requires.ready modelled c.if-journal.false) (c.compact_superseded.ensures.left modelled sound)
+    (Some c.min.result) j c.compact_superseded.new.journal (c.is_steady.ensures modelled sound)
+    (c.compact_superseded.ensures.left modelled goes)
 
 pub returns-in-Ok-clause-any_moment : goal.returns-in-Ok-clause-any_moment
 returns-in-Ok-clause-any_moment g c modelled sound =
     let d = g.D.Disk in
+    let j = c.args.journal.now in
     let laws = c.compactions_stand_for_logs.ensures in
     moments_left d.known d.seen d.may_leave d.moment d.left_since c.lines_are_logs.ensures.ended laws.itself laws.compacted
-    (Some c.min.result) c.args.journal.now
-    c.compact_superseded.new.journal (c.requires.ready modelled c.if-journal.false)
-    (c.compact_superseded.ensures.any_moment modelled c.if-journal.false)
+    (Some c.min.result) j c.compact_superseded.new.journal (c.is_steady.ensures modelled sound)
+    (c.compact_superseded.ensures.any_moment modelled sound)
 
-pub returns-in-Ok-clause-floor : goal.returns-in-Ok-clause-floor
-returns-in-Ok-clause-floor g c modelled sound =
+pub returns-in-Ok-clause-low : goal.returns-in-Ok-clause-low
+returns-in-Ok-clause-low g c modelled goes =
     let d = g.D.Disk in
-    floor_left c.args.upkeep.now.floor c.min.result (d.seen c.args.journal.now.disk)
-    (d.seen c.compact_superseded.new.journal.disk) (omega (arith, c.min.ensures))
-    (c.compact_superseded.ensures.left modelled sound) (c.requires.floor modelled c.if-journal.false)
-
-pub returns-in-Err-clause-room : goal.returns-in-Err-clause-room
-returns-in-Err-clause-room g c modelled sound =
-    let d = g.D.Disk in
+    let j = c.args.journal.now in
     let laws = c.compactions_stand_for_logs.ensures in
+    let sound : j.is_broken ≡ false = cc in
+    floor_left c.args.upkeep.now.floor c.min.result (d.seen j.disk) (d.seen c.compact_superseded.new.journal.disk)
+    (omega (arith, c.min.ensures)) (c.compact_superseded.ensures.left modelled goes) (c.requires modelled sound)
+
+pub returns-in-Err-clause-says : goal.returns-in-Err-clause-says
+returns-in-Err-clause-says g c modelled goes =
+    let d = g.D.Disk in
+    let j = c.args.journal.now in
+    let laws = c.compactions_stand_for_logs.ensures in
+    let sound : j.is_broken ≡ false = cc in
     room_left d.known d.seen d.may_leave d.moment d.left_since c.lines_are_logs.ensures.ended laws.itself laws.compacted
-    (Some c.min.result) c.args.journal.now
-    c.compact_superseded.new.journal (c.requires.ready modelled c.if-journal.false) (c.compact_superseded.ensures.left modelled sound)
+    (Some c.min.result) j c.compact_superseded.new.journal (c.is_steady.ensures modelled sound)
+    (c.compact_superseded.ensures.left modelled goes)
 
 pub returns-in-Err-clause-any_moment : goal.returns-in-Err-clause-any_moment
 returns-in-Err-clause-any_moment g c modelled sound =
     let d = g.D.Disk in
+    let j = c.args.journal.now in
     let laws = c.compactions_stand_for_logs.ensures in
     moments_left d.known d.seen d.may_leave d.moment d.left_since c.lines_are_logs.ensures.ended laws.itself laws.compacted
-    (Some c.min.result) c.args.journal.now
-    c.compact_superseded.new.journal (c.requires.ready modelled c.if-journal.false)
-    (c.compact_superseded.ensures.any_moment modelled c.if-journal.false)
+    (Some c.min.result) j c.compact_superseded.new.journal (c.is_steady.ensures modelled sound)
+    (c.compact_superseded.ensures.any_moment modelled sound)
 
-pub returns-in_default-clause-room : goal.returns-in_default-clause-room
-returns-in_default-clause-room g c modelled sound =
+pub returns-in-Err-clause-low : goal.returns-in-Err-clause-low
+returns-in-Err-clause-low g c modelled goes =
     let d = g.D.Disk in
-    says_same d.known d.seen d.may_leave d.moment d.left_since c.lines_are_logs.ensures.ended
-    c.compactions_stand_for_logs.ensures.itself c.args.journal.now (c.requires.ready modelled c.if-journal.false)
+    let j = c.args.journal.now in
+    let laws = c.compactions_stand_for_logs.ensures in
+    let sound : j.is_broken ≡ false = cc in
+    floor_left c.args.upkeep.now.floor c.min.result (d.seen j.disk) (d.seen c.compact_superseded.new.journal.disk)
+    (omega (arith, c.min.ensures)) (c.compact_superseded.ensures.left modelled goes) (c.requires modelled sound)
+
+pub returns-in_default-clause-says : goal.returns-in_default-clause-says
+returns-in_default-clause-says g c modelled goes =
+    let d = g.D.Disk in
+    let j = c.args.journal.now in
+    let laws = c.compactions_stand_for_logs.ensures in
+    let sound : j.is_broken ≡ false = cc in
+    says_same d.known d.seen d.may_leave d.moment d.left_since c.lines_are_logs.ensures.ended laws.itself j
+    (c.is_steady.ensures modelled sound)
 
 pub returns-in_default-clause-any_moment : goal.returns-in_default-clause-any_moment
 returns-in_default-clause-any_moment g c modelled sound =
     let d = g.D.Disk in
     let j = c.args.journal.now in
-    let ready = c.requires.ready modelled c.if-journal.false in
-    moments_same d.known d.seen d.may_leave d.moment d.left_since
-    c.lines_are_logs.ensures.ended c.compactions_stand_for_logs.ensures.itself j ready
+    let laws = c.compactions_stand_for_logs.ensures in
+    let ready = c.is_steady.ensures modelled sound in
+    moments_same d.known d.seen d.may_leave d.moment d.left_since c.lines_are_logs.ensures.ended laws.itself j ready
     (λ file left. g.met.D.Disk.only_now j.disk file ready.0 left)
+
+pub returns-then-waits-clause-says : goal.returns-then-waits-clause-says
+returns-then-waits-clause-says g c modelled goes =
+    let d = g.D.Disk in
+    let j = c.args.journal.now in
+    let laws = c.compactions_stand_for_logs.ensures in
+    let sound : j.is_broken ≡ false = cc in
+    says_same d.known d.seen d.may_leave d.moment d.left_since c.lines_are_logs.ensures.ended laws.itself j
+    (c.is_steady.ensures modelled sound)
+
+pub returns-then-waits-clause-any_moment : goal.returns-then-waits-clause-any_moment
+returns-then-waits-clause-any_moment g c modelled sound =
+    let d = g.D.Disk in
+    let j = c.args.journal.now in
+    let laws = c.compactions_stand_for_logs.ensures in
+    let ready = c.is_steady.ensures modelled sound in
+    moments_same d.known d.seen d.may_leave d.moment d.left_since c.lines_are_logs.ensures.ended laws.itself j ready
+    (λ file left. g.met.D.Disk.only_now j.disk file ready.0 left)
+
+pub returns-in-Err-clause-lost : goal.returns-in-Err-clause-lost
+returns-in-Err-clause-lost g c modelled sound broken =
+    let d = g.D.Disk in
+    let j = c.args.journal.now in
+    let laws = c.compactions_stand_for_logs.ensures in
+    let e = c.compact_superseded.ensures in
+    lost_by c.compact_superseded.new.journal.is_broken j.is_broken c.in-Err.error
+    (λ goes. (c.in-Err.ensures.refused goes).is_broken) sound (c.in-Err.ensures.changed modelled)
+    (c.in-Err.ensures.lost modelled) (c.in-Err.ensures.was_broken modelled) broken

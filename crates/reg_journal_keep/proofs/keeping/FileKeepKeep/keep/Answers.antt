@@ -1,114 +1,140 @@
 -- A batch is appended once there is room, or nothing is done.
-use Rattle.std.proofs.Common.{◌≡◌, ◌≤◌, false, sym, ap, subst, ◌∙◌, arith, true≢false}
-use Rattle.reg_journal.specs.Disk.{LeavesOnly}
-use Rattle.reg_journal.specs.Journal.{IsReady}
+use Rattle.std.proofs.Common.{◌≡◌, ◌≤◌, inl, inr, false, refl, sym, ap, subst, ◌∙◌, arith, true≢false}
 use Rattle.reg_journal.specs.Lines.{said}
-use Rattle.reg_journal.specs.declared.journal.Journal.{Journal}
+use Rattle.reg_journal.specs.Refusals.{is_refusal}
 use Rattle.reg_pen.specs.declared.keep.Kept.{Kept}
-use Rattle.reg_journal_keep.specs.Keeping.{Ends, MakesRoom, says_compaction}
+use Rattle.reg_pen.specs.declared.keep.Kept.TheVariants.{Taken, Declined}
+use Rattle.reg_pen.specs.declared.keep.Lack.TheVariants as lacks
+use Rattle.reg_journal_keep.specs.KeepState.{KeepState}
+use Rattle.reg_journal_keep.specs.Keeping.{KeepsFile, kept_of}
+use Rattle.reg_journal_keep.specs.Next.{next_behind}
+use Rattle.reg_journal_keep.specs.Upkeep.{state_of}
 use Rattle.reg_journal_keep.specs.declared.upkeep.Upkeep.{Upkeep}
-use Rattle.reg_journal_keep.proofs.Rooms.{at_any_moment, ends_refused, error_of, floor_behind}
-use Rattle.reg_journal_keep.proofs.Rooms.{floor_up, from_floor, leaves_same}
-use Rattle.reg_journal_keep.proofs.Rooms.{says_same, sound_of}
+use Rattle.reg_journal_keep.proofs.Rooms.{at_any_moment, counts_same, ends_refused, error_of, floor_behind}
+use Rattle.reg_journal_keep.proofs.Rooms.{floor_up, from_floor, leaves_same, reason_of}
+use Rattle.reg_journal_keep.proofs.Rooms.{says_same, sound_of, stays_refused, tries_same}
 use Rattle.reg_journal_keep.proofs.keeping.FileKeepKeep.keep.Goals as goal
 
-pub returns-then-not-have_lines : goal.returns-then-not-have_lines
-returns-then-not-have_lines g c =
+pub returns-then-not-can_stand : goal.returns-then-not-can_stand
+returns-then-not-can_stand g c =
     let d = g.D.Disk in
-    let old = c.args.self.now in
+    let old = c.self.inside.journal in
+    let was = c.self.inside.upkeep in
+    let batch = c.args.batch.now in
+    let sound : old.is_broken ≡ false = cc in
     let laws = c.compactions_stand_for_logs.ensures in
-    let sound : old.is_broken ≡ false = subst (λ (j : Journal g.row.D.Denot). j.is_broken ≡ false) c.self.view_is c.if-self.false in
-    let ready : d.is_modelled → IsReady d.known d.seen d.may_leave old = λ modelled.
-    subst (λ (j : Journal g.row.D.Denot). IsReady d.known d.seen d.may_leave j) c.self.view_is (c.self.invariant modelled).0 in
-    record {
+    subst (λ (k : KeepState g.row.D.Denot). KeepsFile d.is_modelled d.moment d.left_since d.may_leave d.seen d.faults g.D.Renewable.renewals k batch (Declined lacks.Numbers) k) c.self.view_is
+    (record {
       ends = (
         sound,
         λ modelled.
             says_same d.known d.seen d.may_leave d.moment d.left_since c.lines_are_logs.ensures.ended laws.itself old
-            (ready modelled sound),
+            (c.is_steady.ensures modelled sound),
       );
+      durable = λ modelled goes. (c.is_steady.ensures modelled sound).1.durable;
       any_moment =
           λ modelled whole.
           leaves_same d.known d.seen d.may_leave d.moment d.left_since c.lines_are_logs.ensures.ended laws.itself old
-          (ready modelled sound) c.args.batch.now
-          (λ file left. g.met.D.Disk.only_now old.disk file (ready modelled sound).0 left);
+          (c.is_steady.ensures modelled sound) batch
+          (λ file left. g.met.D.Disk.only_now old.disk file (c.is_steady.ensures modelled sound).0 left);
       broken = λ is. absurd (true≢false (sym is ∙ sound));
-    }
+      reason = inl (λ both. let t = c.can_stand.ensures.1 both in cc);
+      counts = refl;
+      stays = c.self.invariant;
+      tries = inl refl;
+    })
 
 pub invariant_of-self : goal.invariant_of-self
-invariant_of-self g c modelled =
+invariant_of-self g c modelled goes_on =
     let d = g.D.Disk in
     let mid = c.make_room.new.journal in
     let new = c.append.new.self in
     let floor = c.self.inside.upkeep.floor in
     let sound : mid.is_broken ≡ false = sound_of mid.is_broken c.append.result _ c.in-Ok.is (λ is. (c.append.ensures.broken is).0) in
     let most : floor ≤ c.append-in-Ok.new.self.floor =
-    omega (arith, c.make_room.ensures.rises, ap (λ (u : Upkeep). u.floor) c.append-in-Ok.ensures) in (
-      c.append.ensures.ready modelled,
-      λ goes_on. floor_up floor c.append-in-Ok.new.self.floor (said (d.seen new.disk)) most
-          (floor_behind floor c.args.batch.now (said (d.seen mid.disk)) (said (d.seen new.disk))
-          (c.in-Ok.ensures.acknowledged modelled) (c.make_room.ensures.floor modelled sound)),
-    )
+    omega (arith, c.make_room.ensures.rises, ap (λ (u : Upkeep). u.floor) c.append-in-Ok.ensures) in
+    floor_up floor c.append-in-Ok.new.self.floor (said (d.seen new.disk)) most
+    (floor_behind floor c.args.batch.now (said (d.seen mid.disk)) (said (d.seen new.disk))
+    (c.in-Ok.ensures.acknowledged modelled) (c.make_room.ensures.low modelled sound))
 
 pub returns-in-Ok : goal.returns-in-Ok
 returns-in-Ok g c =
     let d = g.D.Disk in
-    let old = c.args.self.now in
-    let mid = c.make_room.new.journal in
-    let new = c.append.new.self in
+    let old = c.self.inside.journal in
+    let was = c.self.inside.upkeep in
     let batch = c.args.batch.now in
-    let sound : old.is_broken ≡ false = subst (λ (j : Journal g.row.D.Denot). j.is_broken ≡ false) c.self.view_is c.if-self.false in
-    let room : MakesRoom d.is_modelled d.seen old mid =
-    subst (λ (j : Journal g.row.D.Denot). MakesRoom d.is_modelled d.seen j mid) c.self.view_is c.make_room.ensures.room in
-    let leaves : d.is_modelled → old.is_broken ≡ false
-    → LeavesOnly d.moment d.left_since old.disk mid.disk (says_compaction (said (d.seen old.disk))) =
-    subst (λ (j : Journal g.row.D.Denot). d.is_modelled → j.is_broken ≡ false
-    → LeavesOnly d.moment d.left_since j.disk mid.disk
-    (says_compaction (said (d.seen j.disk)))) c.self.view_is c.make_room.ensures.any_moment in
+    let sound : old.is_broken ≡ false = cc in
+    let mid = c.make_room.new.journal in
+    let has = c.make_room.new.upkeep in
+    let new = c.append.new.self in
+    let then = c.append-in-Ok.new.self in
+    let room = c.make_room.ensures in
     let mid_sound : mid.is_broken ≡ false = sound_of mid.is_broken c.append.result _ c.in-Ok.is (λ is. (c.append.ensures.broken is).0) in
-    record {
+    let can = c.can_stand.ensures.0 c.if-not-can_stand.false in
+    subst (λ (k : KeepState g.row.D.Denot). KeepsFile d.is_modelled d.moment d.left_since d.may_leave d.seen d.faults g.D.Renewable.renewals k batch Taken (state_of new then)) c.self.view_is
+    (record {
       ends = (
         c.in-Ok.ensures.goes_on,
         λ modelled. (
           said (d.seen mid.disk),
-          room modelled mid_sound,
-          from_floor c.self.inside.upkeep.floor batch (said (d.seen mid.disk))
-              (c.are_from.ensures.0 c.if-not-are_from.false) (c.make_room.ensures.floor modelled mid_sound),
+          room.says modelled mid_sound,
+          from_floor was.floor batch (said (d.seen mid.disk)) can.1 (room.low modelled mid_sound),
           c.in-Ok.ensures.acknowledged modelled,
         ),
       );
+      durable = λ modelled goes. (c.is_steady-in-Ok.ensures modelled goes).1.durable;
       any_moment =
           λ modelled whole.
-          at_any_moment d.moment d.left_since d.seen old mid new batch
-          (leaves modelled whole) (room modelled) (c.append.ensures.any_moment modelled)
+          at_any_moment d.moment d.left_since d.may_leave d.seen old mid new batch
+          (room.any_moment modelled whole) (room.says modelled) (c.append.ensures.any_moment modelled)
           (λ is. (c.append.ensures.broken is).1);
       broken = λ is. absurd (true≢false (sym is ∙ sound));
-    }
+      reason = tt;
+      counts = ap (λ (u : Upkeep). u.next) c.append-in-Ok.ensures ∙ ap (λ n. next_behind n batch) room.next;
+      stays =
+          λ modelled goes.
+          floor_behind was.floor batch (said (d.seen mid.disk)) (said (d.seen new.disk))
+          (c.in-Ok.ensures.acknowledged modelled) (room.low modelled mid_sound);
+      tries = inr (tries_same (state_of old was) (state_of mid has) (state_of new then)
+          (ap (λ (u : Upkeep). u.room.patience) c.append-in-Ok.ensures)
+          (ap (λ (u : Upkeep). u.floor) c.append-in-Ok.ensures)
+          (ap (λ (u : Upkeep). u.fault) c.append-in-Ok.ensures) (room.tries sound));
+    })
 
 pub returns-in-Err : goal.returns-in-Err
 returns-in-Err g c =
     let d = g.D.Disk in
-    let old = c.args.self.now in
-    let mid = c.make_room.new.journal in
-    let new = c.append.new.self in
+    let old = c.self.inside.journal in
+    let was = c.self.inside.upkeep in
     let batch = c.args.batch.now in
-    let sound : old.is_broken ≡ false = subst (λ (j : Journal g.row.D.Denot). j.is_broken ≡ false) c.self.view_is c.if-self.false in
-    let room : MakesRoom d.is_modelled d.seen old mid =
-    subst (λ (j : Journal g.row.D.Denot). MakesRoom d.is_modelled d.seen j mid) c.self.view_is c.make_room.ensures.room in
-    let leaves : d.is_modelled → old.is_broken ≡ false
-    → LeavesOnly d.moment d.left_since old.disk mid.disk (says_compaction (said (d.seen old.disk))) =
-    subst (λ (j : Journal g.row.D.Denot). d.is_modelled → j.is_broken ≡ false
-    → LeavesOnly d.moment d.left_since j.disk mid.disk
-    (says_compaction (said (d.seen j.disk)))) c.self.view_is c.make_room.ensures.any_moment in
+    let sound : old.is_broken ≡ false = cc in
+    let mid = c.make_room.new.journal in
+    let has = c.make_room.new.upkeep in
+    let new = c.append.new.self in
+    let error = c.in-Err.error in
+    let room = c.make_room.ensures in
+    let kept : KeepsFile d.is_modelled d.moment d.left_since d.may_leave d.seen d.faults g.D.Renewable.renewals (state_of old was) batch (kept_of error) (state_of new has) =
     record {
-      ends = subst (λ (k : Kept). Ends d.is_modelled d.seen old batch k new) (sym c.kept_of.ensures)
-          (ends_refused d.moment d.left_since d.seen old mid new batch d.is_modelled
-          c.in-Err.error room c.in-Err.ensures.refused c.in-Err.ensures.then_broken
-          (λ is. error_of c.append.result c.in-Err.error c.in-Err.is (c.append.ensures.broken is).0));
+      ends = ends_refused d.moment d.left_since d.may_leave d.seen old mid new batch d.is_modelled
+          error room.says c.in-Err.ensures.refused c.in-Err.ensures.then_broken
+          (λ is. error_of c.append.result error c.in-Err.is (c.append.ensures.broken is).0);
+      durable = λ modelled goes. (c.is_steady-in-Err.ensures modelled goes).1.durable;
       any_moment =
           λ modelled whole.
-          at_any_moment d.moment d.left_since d.seen old mid new batch
-          (leaves modelled whole) (room modelled) (c.append.ensures.any_moment modelled)
+          at_any_moment d.moment d.left_since d.may_leave d.seen old mid new batch
+          (room.any_moment modelled whole) (room.says modelled) (c.append.ensures.any_moment modelled)
           (λ is. (c.append.ensures.broken is).1);
       broken = λ is. absurd (true≢false (sym is ∙ sound));
-    }
+      reason = reason_of d.is_modelled d.faults g.D.Renewable.renewals (state_of old was) (state_of mid has) (state_of new has) batch error
+          c.in-Err.ensures.cause c.in-Err.ensures.refused (λ is. (c.append.ensures.broken is).1)
+          (λ modelled is. room.lost modelled sound is);
+      counts = room.next ∙ counts_same d.is_modelled d.faults g.D.Renewable.renewals (state_of old was) (state_of mid has) (state_of new has)
+          batch error was.next;
+      stays =
+          λ modelled.
+          stays_refused d.seen was.floor mid new (is_refusal error) c.in-Err.ensures.refused c.in-Err.ensures.then_broken
+          (room.low modelled);
+      tries = inr (tries_same (state_of old was) (state_of mid has) (state_of new has) refl refl refl (room.tries sound));
+    } in
+    subst (λ (k : KeepState g.row.D.Denot). KeepsFile d.is_modelled d.moment d.left_since d.may_leave d.seen d.faults g.D.Renewable.renewals k batch c.kept_of.result (state_of new has)) c.self.view_is
+    (subst (λ (k : Kept). KeepsFile d.is_modelled d.moment d.left_since d.may_leave d.seen d.faults g.D.Renewable.renewals (state_of old was) batch k (state_of new has)) (sym c.kept_of.ensures) kept)

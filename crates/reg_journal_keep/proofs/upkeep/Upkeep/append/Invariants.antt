@@ -1,5 +1,5 @@
 use Rattle.std.proofs.Common.{◌≡◌, take}
-use Rattle.reg_journal_keep.specs.Upkeep.{next_behind}
+use Rattle.reg_journal_keep.specs.Next.{next_behind}
 use Rattle.reg_journal_keep.proofs.upkeep.Upkeep.append.Given as goal
 
 abbrev pub invariant-loop-given : goal.invariant-loop-given
