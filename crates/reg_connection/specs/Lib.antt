@@ -1,2 +1,5 @@
 pub mod Answering
+pub mod Connection
+pub mod Sending
+pub mod TurnKinds
 pub mod Waiting

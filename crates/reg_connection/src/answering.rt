@@ -1,12 +1,12 @@
 // An answer on a connection, at whichever desk has it.
-ghost use Rattle.std.specs.Prelude.{◌≡◌, ◌≤◌, ℕ, List, length, take, drop, IfOk, OnOk, Some};
+ghost use Rattle.std.specs.Prelude.{◌≡◌, ◌≤◌, ◌++◌, ℕ, List, [], length, take, drop, IfErr, IfOk, OnOk, Some};
 ghost use Rattle.reg_records.specs.Device.{bytes_in, interruptions_of};
 ghost use Rattle.reg_messages.specs.Head.{front_of};
 ghost use Rattle.reg_messages.specs.Reading.{IsShort};
 ghost use Rattle.reg_responses.specs.declared.limits.TheConstants.{INTERRUPTION_LIMIT};
 ghost use Rattle.reg_extent.specs.Extent.{IsWhole};
 ghost use Rattle.reg_conversation.specs.Conversation.{RepliesAll};
-ghost use Rattle.reg_connection.specs.Answering.{AnswersKnowing, HasLearnt};
+ghost use Rattle.reg_connection.specs.Answering.{AnswersKnowing, FailsKnowing, HasLearnt, StandsOn};
 
 use reg_conversation::{Conversation, SharedDesk};
 use reg_http::{Paths, ServeError};
@@ -24,7 +24,8 @@ fn learn<D: SharedDesk>(desk: &mut D, standing: &Option<D::Standing>)
 }
 
 /// Answers the request at the front, which is whole and takes so many bytes. The desk learns first of
-/// what the last answer on the connection stood on. Says whether the connection goes on.
+/// what the last answer on the connection stood on. Says whether the connection goes on. After an error nothing was done and
+/// written, or the request was done and its response is written in part.
 pub fn answer_one<W: Write, D: SharedDesk>(
     alloc: Global,
     paths: &mut Option<Paths>,
@@ -39,6 +40,10 @@ pub fn answer_one<W: Write, D: SharedDesk>(
     requires few { interruptions_of writer.old ≤ INTERRUPTION_LIMIT }
     ensures answered { IfOk result (AnswersKnowing D.asks D.commands D.stands D.learns desk.old standing.old conversation.old
         (bytes_in W.contents writer.old) (bytes_in W.contents writer.new) standing.new conversation.new desk.new) }
+    ensures refused { IfErr result (λ e. (more : List ℕ) → FailsKnowing D.asks D.commands D.learns desk.old standing.old writer.old writer.new
+        (conversation.old ++ more) (bytes_in W.contents writer.old) (bytes_in W.contents writer.new) desk.new e) }
+    ensures stands { StandsOn D.stands desk.new standing.new }
+    ensures dropped { conversation.new ≡ drop len conversation.old }
     ensures interruptions { interruptions_of writer.new ≤ INTERRUPTION_LIMIT }
 {
     learn(desk, standing);
@@ -60,6 +65,10 @@ pub fn answer_last<W: Write, D: SharedDesk>(
     requires few { interruptions_of writer.old ≤ INTERRUPTION_LIMIT }
     ensures answered { OnOk result ((told : D) × HasLearnt D.learns desk.old standing.old told
         × RepliesAll D.asks D.commands told conversation.old (bytes_in W.contents writer.old) (bytes_in W.contents writer.new) desk.new) }
+    ensures refused { IfErr result (FailsKnowing D.asks D.commands D.learns desk.old standing.old writer.old writer.new
+        conversation.old (bytes_in W.contents writer.old) (bytes_in W.contents writer.new) desk.new) }
+    ensures stands { StandsOn D.stands desk.new standing.new }
+    ensures dropped { conversation.new ≡ [] }
     ensures interruptions { interruptions_of writer.new ≤ INTERRUPTION_LIMIT }
 {
     learn(desk, standing);

@@ -1,11 +1,16 @@
 // A connection: what came on it, what is to be sent, and what it waits for.
+ghost use Rattle.std.specs.Prelude.{◌≡◌, ◌≢◌, ◌⊎◌, [], length, nat_lt};
+ghost use Rattle.reg_connection.specs.Connection.{Gives, KeepsTimes, since_after};
+ghost use Rattle.reg_connection.specs.Waiting.{is_late};
+
 use crate::limits::Limits;
+use crate::sending::send_some;
 use crate::stream::Stream;
+use crate::turn_kinds::TurnKind;
 use crate::waiting::Waits;
 use reg_conversation::Conversation;
 use std::alloc::Global;
-use std::io::{self, ErrorKind};
-use std::mem;
+use std::io::ErrorKind;
 
 /// The most reads of one look at a connection.
 const READS_AT_ONCE: u64 = 128;
@@ -50,13 +55,18 @@ pub struct Connection<S: Stream, T: Drop> {
     pub watched: bool,
     /// Whether bytes may be there that weren't read when it was last looked at.
     pub stirred: bool,
-    /// Whether it has waited for its turn to write.
-    pub queued: bool,
+    /// The turn that it was given while it waited for one, until its request is answered.
+    pub turn: Option<TurnKind>,
 }
 
 impl<S: Stream, T: Drop> Connection<S, T> {
     /// One that has just come.
-    pub fn new(alloc: Global, stream: S, place: usize, now: u64) -> Connection<S, T> {
+    pub fn new(alloc: Global, stream: S, place: usize, now: u64) -> Connection<S, T>
+        ensures since { result.since ≡ now }
+        ensures asked { result.asked ≡ now }
+        ensures waits { result.waits ≡ Waits.Request }
+        ensures empty { result.conversation ≡ [] }
+    {
         Connection {
             stream,
             place,
@@ -72,12 +82,14 @@ impl<S: Stream, T: Drop> Connection<S, T> {
             ended: false,
             watched: false,
             stirred: true,
-            queued: false,
+            turn: None,
         }
     }
 
     /// When its last whole request came, or it came itself.
-    pub fn asked(&self) -> u64 {
+    pub fn asked(&self) -> u64
+        ensures { result ≡ self.now.asked }
+    {
         self.asked
     }
 
@@ -89,20 +101,35 @@ impl<S: Stream, T: Drop> Connection<S, T> {
     }
 
     /// Whether it has waited for as long as it may, or longer.
-    pub fn is_late(&self, limits: &Limits, now: u64) -> bool {
+    pub fn is_late(&self, limits: &Limits, now: u64) -> bool
+        ensures { result ≡ is_late limits.now self.now.waits (nat_lt 0 (length self.now.conversation)) self.now.since now }
+    {
         let begun = self.conversation.held_len() > 0;
         self.waits.is_late(limits, begun, self.since, now)
     }
 
     /// A worker gives it back: what it waits for begins now. It holds no memory that it doesn't need.
-    pub fn rest(&mut self, alloc: Global, now: u64) {
+    pub fn rest(&mut self, alloc: Global, now: u64)
+        ensures since { self.new.since ≡ now }
+        ensures asked { self.new.asked ≡ now }
+        ensures waits { self.new.waits ≡ self.old.waits }
+        ensures held { self.new.conversation ≡ self.old.conversation }
+    {
         self.since = now;
         self.asked = now;
         self.conversation.release(alloc);
     }
 
-    /// Does what can be done on it without waiting and without an answer.
-    pub fn look(&mut self, alloc: Global, limits: &Limits, buffer: &mut [u8], now: u64) -> Turn {
+    /// Does what can be done on it without waiting and without an answer. What it waits for began at that moment where the first
+    /// byte of a request came now, and where the client took the last byte of the answers.
+    pub fn look(&mut self, alloc: Global, limits: &Limits, buffer: &mut [u8], now: u64) -> Turn
+        ensures request { self.old.waits ≡ Waits.Request → (self.new.waits ≡ Waits.Request)
+            × (self.new.since ≡ since_after now (length self.old.conversation) (length self.new.conversation) self.old.since) }
+        ensures answering { self.old.waits ≡ Waits.Client → self.new.waits ≡ Waits.Client → self.new.since ≡ self.old.since }
+        ensures answered { self.old.waits ≡ Waits.Client → self.new.waits ≢ Waits.Client → self.new.since ≡ now }
+        ensures given { self.old.waits ≡ Waits.Client → Gives S.took self.old self.new }
+        ensures ending { self.old.waits ≡ Waits.End → (self.new.waits ≡ Waits.End) × (self.new.since ≡ self.old.since) }
+    {
         match self.waits {
             Waits::Request => self.take(buffer, now),
             Waits::Client => self.give(alloc, buffer, now),
@@ -111,7 +138,11 @@ impl<S: Stream, T: Drop> Connection<S, T> {
     }
 
     /// Reads what there is of a request.
-    fn take(&mut self, buffer: &mut [u8], now: u64) -> Turn {
+    fn take(&mut self, buffer: &mut [u8], now: u64) -> Turn
+        ensures since { self.new.since ≡ since_after now (length self.old.conversation) (length self.new.conversation) self.old.since }
+        ensures waits { self.new.waits ≡ self.old.waits }
+        ensures stream { self.new.stream ≡ self.old.stream }
+    {
         let begun = self.conversation.held_len() > 0;
         let turn = self.take_some(buffer);
         if !begun && self.conversation.held_len() > 0 {
@@ -123,8 +154,11 @@ impl<S: Stream, T: Drop> Connection<S, T> {
         turn
     }
 
-    fn take_some(&mut self, buffer: &mut [u8]) -> Turn {
-        for _ in 0..READS_AT_ONCE {
+    fn take_some(&mut self, buffer: &mut [u8]) -> Turn
+        ensures times { KeepsTimes self.old self.new }
+        ensures stream { self.new.stream ≡ self.old.stream }
+    {
+        'reads: for _ in 0..READS_AT_ONCE {
             match self.receive(buffer) {
                 Turn::Again => {}
                 other => return other,
@@ -134,7 +168,10 @@ impl<S: Stream, T: Drop> Connection<S, T> {
     }
 
     /// Reads once of a request: `Again` where what came doesn't end it.
-    pub fn receive(&mut self, buffer: &mut [u8]) -> Turn {
+    pub fn receive(&mut self, buffer: &mut [u8]) -> Turn
+        ensures times { KeepsTimes self.old self.new }
+        ensures stream { self.new.stream ≡ self.old.stream }
+    {
         self.stirred = true;
         match self.stream.receive(buffer) {
             Ok(0) => {
@@ -152,7 +189,10 @@ impl<S: Stream, T: Drop> Connection<S, T> {
     }
 
     /// What becomes of it once bytes came.
-    fn came(&mut self, bytes: &[u8]) -> Turn {
+    fn came(&mut self, bytes: &[u8]) -> Turn
+        ensures times { KeepsTimes self.old self.new }
+        ensures stream { self.new.stream ≡ self.old.stream }
+    {
         if self.conversation.feed(bytes).is_err() {
             return Turn::Over;
         }
@@ -164,7 +204,10 @@ impl<S: Stream, T: Drop> Connection<S, T> {
     }
 
     /// What becomes of it where a read or a write gave nothing.
-    fn missed(&mut self, kind: ErrorKind) -> Turn {
+    fn missed(&mut self, kind: ErrorKind) -> Turn
+        ensures times { KeepsTimes self.old self.new }
+        ensures stream { self.new.stream ≡ self.old.stream }
+    {
         match kind {
             ErrorKind::WouldBlock => {
                 self.stirred = false;
@@ -176,7 +219,12 @@ impl<S: Stream, T: Drop> Connection<S, T> {
     }
 
     /// Keeps answers that the client hasn't taken, but for so many bytes at their front.
-    pub fn keep(&mut self, answers: Vec<u8>, sent: usize, closes: bool) {
+    pub fn keep(&mut self, answers: Vec<u8>, sent: usize, closes: bool)
+        ensures answers { self.new.unsent.items ≡ answers.items }
+        ensures sent { self.new.sent ≡ sent }
+        ensures waits { self.new.waits ≡ Waits.Client }
+        ensures since { self.new.since ≡ self.old.since }
+    {
         self.unsent = answers;
         self.sent = sent;
         self.closes = closes;
@@ -184,29 +232,49 @@ impl<S: Stream, T: Drop> Connection<S, T> {
     }
 
     /// Writes what the client takes of the answers that are left.
-    fn give(&mut self, alloc: Global, buffer: &mut [u8], now: u64) -> Turn {
-        match send_some(&self.stream, &self.unsent, &mut self.sent) {
+    fn give(&mut self, alloc: Global, buffer: &mut [u8], now: u64) -> Turn
+        requires { self.old.waits ≡ Waits.Client }
+        ensures answering { self.new.waits ≡ Waits.Client → self.new.since ≡ self.old.since }
+        ensures answered { self.new.waits ≢ Waits.Client → self.new.since ≡ now }
+        ensures given { Gives S.took self.old self.new }
+    {
+        match send_some(&mut self.stream, &self.unsent, &mut self.sent) {
             Ok(true) => {
                 self.unsent = Vec::new(alloc);
                 self.sent = 0;
                 self.waits = Waits::Request;
                 self.since = now;
-                if self.closes {
-                    return self.close();
-                }
-                if self.ended || self.conversation.front_len().is_some() {
-                    return Turn::Ready;
-                }
-                self.take(buffer, now)
+                self.go_on(buffer, now)
             }
             Ok(false) => Turn::Waits,
             Err(_) => Turn::Over,
         }
     }
 
+    /// All answers are given, at this moment.
+    fn go_on(&mut self, buffer: &mut [u8], now: u64) -> Turn
+        requires since { self.old.since ≡ now }
+        requires waits { self.old.waits ≡ Waits.Request }
+        ensures since { self.new.since ≡ now }
+        ensures waits { self.new.waits ≢ Waits.Client }
+        ensures stream { self.new.stream ≡ self.old.stream }
+    {
+        if self.closes {
+            return self.close();
+        }
+        if self.ended || self.conversation.front_len().is_some() {
+            return Turn::Ready;
+        }
+        self.take(buffer, now)
+    }
+
     /// The last answer is written: ends its own side, and then drops what the client still sends, so that
     /// the client reads that answer and meets no reset.
-    pub fn close(&mut self) -> Turn {
+    pub fn close(&mut self) -> Turn
+        ensures since { self.new.since ≡ self.old.since }
+        ensures waits { (self.new.waits ≡ self.old.waits) ⊎ (self.new.waits ≡ Waits.End) }
+        ensures stream { self.new.stream ≡ self.old.stream }
+    {
         if self.ended || self.stream.end_writing().is_err() {
             return Turn::Over;
         }
@@ -216,8 +284,11 @@ impl<S: Stream, T: Drop> Connection<S, T> {
     }
 
     /// Reads and drops what there is.
-    fn linger(&mut self, limits: &Limits, buffer: &mut [u8]) -> Turn {
-        for _ in 0..READS_AT_ONCE {
+    fn linger(&mut self, limits: &Limits, buffer: &mut [u8]) -> Turn
+        ensures since { self.new.since ≡ self.old.since }
+        ensures waits { self.new.waits ≡ self.old.waits }
+    {
+        'reads: for _ in 0..READS_AT_ONCE {
             match self.stream.receive(buffer) {
                 Ok(0) => return Turn::Over,
                 Ok(n) => {
@@ -234,26 +305,4 @@ impl<S: Stream, T: Drop> Connection<S, T> {
         }
         Turn::Again
     }
-}
-
-/// Writes bytes from a place on, as far as the client takes them now, and says whether none is left.
-pub fn send_some<S: Stream>(stream: &S, bytes: &[u8], sent: &mut usize) -> io::Result<bool> {
-    for _ in 0..=bytes.len() {
-        let Some(rest) = bytes.get(*sent..) else {
-            return Ok(true);
-        };
-        if rest.is_empty() {
-            return Ok(true);
-        }
-        match stream.send(rest) {
-            Ok(0) => return Err(io::Error::from(ErrorKind::WriteZero)),
-            Ok(n) => *sent = sent.saturating_add(n),
-            Err(e) => match e.kind() {
-                ErrorKind::WouldBlock => return Ok(false),
-                ErrorKind::Interrupted => {}
-                _ => return Err(e),
-            },
-        }
-    }
-    Ok(*sent >= bytes.len())
 }

@@ -1,19 +1,26 @@
 // A connection as the system gives it.
+ghost use Rattle.std.specs.Prelude.{⊤};
+
 use std::io::{self, Read, Write};
 use std::net::{Shutdown, TcpStream};
 
 /// A connection as the system gives it.
 pub trait Stream {
     ghost use Rattle.std.specs.Io.{ReadsAtMost, WritesAtMost};
+    ghost use Rattle.std.specs.Prelude.{[], List, MatchResult, take, ℕ};
+
+    /// The stream before, the bytes that its client took next, and the stream after.
+    ghost took: { Self → List ℕ → Self → Type 0 };
 
     /// Reads into `buf`, and says how many bytes; 0 where the client has ended its side. `WouldBlock`
     /// where nothing is there.
     fn receive(&self, buf: &mut [u8]) -> io::Result<usize>
         ensures { ReadsAtMost result buf.new };
 
-    /// Writes a front of `buf`, and says how many bytes. `WouldBlock` where the client takes none now.
-    fn send(&self, buf: &[u8]) -> io::Result<usize>
-        ensures { WritesAtMost result buf.now };
+    /// Writes a front of `buf`, and says how many bytes; none after an error. `WouldBlock` where the client takes none now.
+    fn send(&mut self, buf: &[u8]) -> io::Result<usize>
+        ensures few { WritesAtMost result buf.now }
+        ensures taken { MatchResult result (λ n. took self.old (take n buf.now) self.new) (λ _. took self.old [] self.new) };
 
     /// Tells the client that nothing more will be written.
     fn end_writing(&self) -> io::Result<()>;
@@ -23,14 +30,15 @@ pub trait Stream {
 }
 
 impl Stream for TcpStream {
+    ghost took = { λ _ _ _. ⊤ };
+
     fn receive(&self, buf: &mut [u8]) -> io::Result<usize> {
         let mut stream = self;
         stream.read(buf)
     }
 
-    fn send(&self, buf: &[u8]) -> io::Result<usize> {
-        let mut stream = self;
-        stream.write(buf)
+    fn send(&mut self, buf: &[u8]) -> io::Result<usize> {
+        self.write(buf)
     }
 
     fn end_writing(&self) -> io::Result<()> {

@@ -43,7 +43,7 @@ pub(crate) struct Hall<T: Drop> {
     idle: AtomicUsize,
     /// Whether the node is to end, whatever connections it has.
     closed: AtomicBool,
-    /// Whose turn it is to write.
+    /// Which workers are at commands and at checks.
     pub(crate) turns: Turns<T>,
 }
 

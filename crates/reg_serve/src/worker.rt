@@ -1,6 +1,8 @@
 // A worker: it answers the requests that are whole, of one connection after the other.
 use crate::hall::{Hall, Returned};
-use reg_connection::{Connection, Stream, Turn, answer_last, answer_one, send_some};
+use reg_connection::{
+    Connection, Stream, Turn, TurnKind, answer_last, answer_one, send_some, turn_kind,
+};
 use reg_conversation::SharedDesk;
 use reg_http::Paths;
 use reg_records::Device;
@@ -37,7 +39,7 @@ impl Bench {
         let mut buffer = Vec::new(alloc);
         buffer.resize(READ_SIZE, 0u8)?;
         Ok(Bench {
-            paths: None,
+            paths: Some(Paths::new(alloc)?),
             out: Vec::new(alloc),
             buffer,
             calm: 0,
@@ -54,8 +56,8 @@ enum Answered {
     Closes,
     /// As much was answered as one turn may.
     Full,
-    /// The next request may write, and it isn't this connection's turn.
-    MayWrite,
+    /// The next request takes a turn of that kind, and none is free.
+    Waits(TurnKind),
     /// An answer found no room.
     Failed,
 }
@@ -67,8 +69,8 @@ enum After {
     Rests,
     /// It goes behind those that are ready.
     GoesOn,
-    /// It waits for its turn to write.
-    Queues,
+    /// It waits for a turn.
+    Queues(TurnKind),
     /// The doorkeeper waits for its client.
     Returns,
     /// It is closed.
@@ -186,9 +188,11 @@ fn answer_next<R: Wait, D: SharedDesk>(
     let Some(len) = connection.conversation.front_len() else {
         return Some(answer_end(alloc, bench, desk, connection));
     };
-    let may_write = !connection.conversation.bytes().starts_with(b"GET ");
-    if may_write && !hall.turns.begin(rt, connection.queued) {
-        return Some(Answered::MayWrite);
+    let kind = kind_of_turn(bench, connection);
+    if let Some(kind) = kind {
+        if connection.turn.is_none() && !hall.turns.begin(rt, kind) {
+            return Some(Answered::Waits(kind));
+        }
     }
     let mut out = Device::new(mem::replace(&mut bench.out, Vec::new(alloc)));
     let goes_on = answer_one(
@@ -201,9 +205,9 @@ fn answer_next<R: Wait, D: SharedDesk>(
         desk,
     );
     bench.out = out.into_inner();
-    if may_write {
-        connection.queued = false;
-        end_turn(rt, hall);
+    if let Some(kind) = kind {
+        connection.turn = None;
+        end_turn(rt, hall, kind);
     }
     match goes_on {
         Ok(true) => {
@@ -249,9 +253,19 @@ fn answer_end<D: SharedDesk>(
     }
 }
 
-/// Ends a turn to write, and hands a connection that waits for it to the workers.
-fn end_turn<R: Wait, T: Drop>(rt: &R, hall: &Hall<T>) {
-    if let Some(next) = hall.turns.end(rt) {
+/// The turn that the request at the front takes: the one that its connection has, or by its method and its target. A worker
+/// has the paths from its start on; without them each request would take a turn.
+fn kind_of_turn<T: Drop>(bench: &Bench, connection: &Connection<TcpStream, T>) -> Option<TurnKind> {
+    match (connection.turn, &bench.paths) {
+        (Some(kind), _) => Some(kind),
+        (None, Some(paths)) => turn_kind(paths, connection.conversation.bytes()),
+        (None, None) => Some(TurnKind::Command),
+    }
+}
+
+/// Ends a turn, and hands a connection that waits for one to the workers.
+fn end_turn<R: Wait, T: Drop>(rt: &R, hall: &Hall<T>, kind: TurnKind) {
+    if let Some(next) = hall.turns.end(rt, kind) {
         let place = next.place;
         if !hall.hand(rt, next) {
             hall.give_back(
@@ -277,7 +291,7 @@ fn send_out<T: Drop>(
     }
     let closes = answered == Answered::Closes;
     let mut sent = 0;
-    match send_some(&connection.stream, &bench.out, &mut sent) {
+    match send_some(&mut connection.stream, &bench.out, &mut sent) {
         Ok(true) => {}
         Ok(false) => {
             let answers = mem::replace(&mut bench.out, Vec::new(alloc));
@@ -289,7 +303,7 @@ fn send_out<T: Drop>(
     match answered {
         Answered::All => After::Rests,
         Answered::Full => After::GoesOn,
-        Answered::MayWrite => After::Queues,
+        Answered::Waits(kind) => After::Queues(kind),
         Answered::Closes => closed(connection),
         Answered::Failed => After::Over,
     }
@@ -321,7 +335,7 @@ fn stay<T: Drop>(hall: &Hall<T>, connection: &mut Connection<TcpStream, T>) -> b
     hall.unwatch(connection) && connection.stream.set_patient(true).is_ok()
 }
 
-/// Leaves a connection to the doorkeeper, to another worker, or to its turn to write.
+/// Leaves a connection to the doorkeeper, to another worker, or to its turn.
 fn leave<R: Wait, T: Drop>(
     rt: &R,
     hall: &Hall<T>,
@@ -338,7 +352,7 @@ fn leave<R: Wait, T: Drop>(
             }
             None
         }
-        After::Queues => match hall.turns.wait(rt, connection) {
+        After::Queues(kind) => match hall.turns.wait(rt, kind, connection) {
             Ok(None) => return,
             Ok(Some(connection)) => {
                 if hall.hand(rt, connection) {

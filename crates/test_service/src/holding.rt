@@ -56,21 +56,21 @@ impl<R: Clock> Gate for Holding<'_, R> {
     }
 }
 
-/// Asks for what is held at one address, and once it is held for the subjects at another; lets it go once
-/// these are reported. Gives the bodies of both.
+/// Asks for what is held at one address, and once it is held for something else at another; lets it go once
+/// that is answered. Gives the bodies of both.
 fn ask_both<R: Clock + Net<Stream = TcpStream>>(
     alloc: Global,
     rt: &R,
     gate: &Holding<'_, R>,
     addresses: &[SocketAddr; 2],
-    request: &str,
+    requests: &[&str; 2],
 ) -> io::Result<(String, String)> {
-    let held = send(rt, addresses[0], request)?;
+    let held = send(rt, addresses[0], requests[0])?;
     await_flag(rt, &gate.is_held);
-    let subjects = ask(alloc, rt, addresses[1], SUBJECTS);
+    let other = ask(alloc, rt, addresses[1], requests[1]);
     gate.is_let_go.store(1, Ordering::SeqCst);
     let later = body(alloc, held)?;
-    Ok((later, subjects?))
+    Ok((later, other?))
 }
 
 /// What `ask_both` gives while nodes serve, each with so many workers.
@@ -88,14 +88,14 @@ fn serve<
     listeners: Vec<TcpListener>,
     workers: u32,
     addresses: &[SocketAddr; 2],
-    request: &str,
+    requests: &[&str; 2],
 ) -> io::Result<(String, String)> {
     thread::scope(
         thread::scope_env(),
         rt,
         |scope| -> io::Result<(String, String)> {
             let _server = scope.spawn(move || serve_at(alloc, rt, listeners, workers, 1, gate));
-            let bodies = ask_both(alloc, rt, gate, addresses, request);
+            let bodies = ask_both(alloc, rt, gate, addresses, requests);
             use_up(rt, addresses, 2);
             bodies
         },
@@ -116,7 +116,7 @@ fn hold<
     rt: &R,
     nodes: u32,
     workers: u32,
-    request: &str,
+    requests: &[&str; 2],
 ) -> io::Result<(u64, String, String)> {
     let mut listeners = Vec::new(alloc);
     for _node in 0..nodes {
@@ -127,7 +127,7 @@ fn hold<
         listeners.last().ok_or(AllocError)?.local_addr()?,
     ];
     let gate = Holding::new(rt);
-    let (held, other) = serve(alloc, rt, &gate, listeners, workers, &addresses, request)?;
+    let (held, other) = serve(alloc, rt, &gate, listeners, workers, &addresses, requests)?;
     Ok((gate.turns.load(Ordering::SeqCst), held, other))
 }
 
@@ -138,22 +138,42 @@ const SUBJECTS: &str = "GET /subjects HTTP/1.1\r\nHost: a\r\nConnection: close\r
 const SET_LEVEL: &str =
     "PUT /config HTTP/1.1\r\nHost: a\r\nConnection: close\r\nContent-Length: 24\r\n\r\n{\"compatibility\":\"FULL\"}";
 
-/// How many nodes there are and how many workers each has, the call that is held, and the body of its
-/// response.
-static HELD: [(u32, u32, &str, &str); 3] = [
-    (1, 2, LEVEL, "{\"compatibilityLevel\":\"BACKWARD\"}"),
-    (1, 2, SET_LEVEL, "{\"compatibility\":\"FULL\"}"),
-    (2, 1, LEVEL, "{\"compatibilityLevel\":\"BACKWARD\"}"),
+const LOOKUP: &str =
+    "POST /subjects/s HTTP/1.1\r\nHost: a\r\nConnection: close\r\nContent-Length: 20\r\n\r\n{\"schema\":\"\\\"int\\\"\"}";
+
+const CHECK: &str =
+    "POST /compatibility/subjects/s/versions HTTP/1.1\r\nHost: a\r\nConnection: close\r\nContent-Length: 20\r\n\r\n{\"schema\":\"\\\"int\\\"\"}";
+
+/// The body of the response to each.
+const BACKWARD: &str = "{\"compatibilityLevel\":\"BACKWARD\"}";
+
+const FULL: &str = "{\"compatibility\":\"FULL\"}";
+
+const NO_SUBJECT: &str = "{\"error_code\":40401,\"message\":\"Subject not found\"}";
+
+const COMPATIBLE: &str = "{\"is_compatible\":true}";
+
+/// How many nodes there are and how many workers each has, the call that is held and the one that is answered
+/// meanwhile, and the bodies of both responses.
+static HELD: [(u32, u32, [&str; 2], [&str; 2]); 7] = [
+    (1, 2, [LEVEL, SUBJECTS], [BACKWARD, "[]"]),
+    (1, 2, [SET_LEVEL, SUBJECTS], [FULL, "[]"]),
+    (2, 1, [LEVEL, SUBJECTS], [BACKWARD, "[]"]),
+    (1, 2, [SET_LEVEL, LOOKUP], [FULL, NO_SUBJECT]),
+    (1, 2, [SET_LEVEL, CHECK], [FULL, COMPATIBLE]),
+    (1, 2, [CHECK, LOOKUP], [COMPATIBLE, NO_SUBJECT]),
+    (1, 2, [CHECK, SET_LEVEL], [COMPATIBLE, FULL]),
 ];
 
 #[test]
 fn a_held_call_holds_no_other(rt: HostRuntime) -> Result<(), Fail> {
-    for (nodes, workers, held, wanted) in &HELD {
-        let (turns, first, second) = hold(rt.alloc(), &rt, *nodes, *workers, held)?;
+    for (nodes, workers, requests, wanted) in &HELD {
+        let (turns, first, second) = hold(rt.alloc(), &rt, *nodes, *workers, requests)?;
         assert_eq!(rt;
-            (turns < TURNS, first.as_str(), second.as_str()),
-            (true, *wanted, "[]"),
-            "{nodes} nodes, {held}"
+            (turns < TURNS, [first.as_str(), second.as_str()]),
+            (true, *wanted),
+            "{nodes} nodes, {}",
+            requests[0]
         );
     }
     Ok(())

@@ -6,6 +6,8 @@ mod asking;
 #[cfg(test)]
 mod crowd;
 #[cfg(test)]
+mod crowded;
+#[cfg(test)]
 mod holding;
 #[cfg(test)]
 mod kept;

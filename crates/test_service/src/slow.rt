@@ -27,10 +27,10 @@ const TIMES: u32 = 3;
 const MOST: u32 = 9_000;
 
 /// The longest that the response is waited for, in seconds.
-const PATIENCE: u64 = 40;
+pub(crate) const PATIENCE: u64 = 40;
 
 /// After how long the check is under way, in milliseconds.
-const UNDER_WAY: u64 = 500;
+pub(crate) const UNDER_WAY: u64 = 500;
 
 /// How many commands are done while the check runs.
 const COMMANDS: u64 = 5;
@@ -40,13 +40,13 @@ const SOON: u64 = 100;
 
 /// How much longer the check takes at least when they are done, in milliseconds: one that was held up would
 /// be answered when the check is done.
-const LEFT: u64 = 100;
+pub(crate) const LEFT: u64 = 100;
 
 /// How many times a check is timed. The least time is taken, since others may run beside it.
 const TIMINGS: u32 = 3;
 
 /// A record whose fields all read a field `a`.
-fn reader_text(alloc: Global, size: u32) -> Result<String, AllocError> {
+pub(crate) fn reader_text(alloc: Global, size: u32) -> Result<String, AllocError> {
     let mut text = String::from_str(alloc, r#"{"type":"record","name":"R","fields":["#)?;
     text.push_str(r#"{"name":"f","type":{"type":"fixed","name":"T","size":1},"aliases":["a"]}"#)?;
     for place in 0..size {
@@ -57,7 +57,7 @@ fn reader_text(alloc: Global, size: u32) -> Result<String, AllocError> {
 }
 
 /// A union of records with a field `a`.
-fn writer_text(alloc: Global, size: u32) -> Result<String, AllocError> {
+pub(crate) fn writer_text(alloc: Global, size: u32) -> Result<String, AllocError> {
     let mut text = String::from_str(alloc, r#"[{"type":"record","name":"w.R","fields":["#)?;
     text.push_str(r#"{"name":"a","type":{"type":"fixed","name":"T.T","size":1}}]}"#)?;
     for place in 0..size {
@@ -96,7 +96,7 @@ fn is_telling<R: Clock>(alloc: Global, rt: &R, size: u32) -> Result<bool, Fail> 
 }
 
 /// A size whose check takes some seconds here.
-fn long_size<R: Clock>(alloc: Global, rt: &R) -> Result<u32, Fail> {
+pub(crate) fn long_size<R: Clock>(alloc: Global, rt: &R) -> Result<u32, Fail> {
     for size in &SIZES {
         if is_telling(alloc, rt, *size)? {
             return Ok(size.saturating_mul(TIMES).min(MOST));
@@ -106,7 +106,7 @@ fn long_size<R: Clock>(alloc: Global, rt: &R) -> Result<u32, Fail> {
 }
 
 /// The body that asks for a schema.
-fn body_of(alloc: Global, text: &str) -> Result<String, AllocError> {
+pub(crate) fn body_of(alloc: Global, text: &str) -> Result<String, AllocError> {
     let mut body = String::from_str(alloc, "{\"schema\":\"")?;
     for letter in text.chars() {
         if letter == '"' {
@@ -118,19 +118,19 @@ fn body_of(alloc: Global, text: &str) -> Result<String, AllocError> {
     Ok(body)
 }
 
-fn post(alloc: Global, path: &str, body: &str) -> Result<String, AllocError> {
+pub(crate) fn post(alloc: Global, path: &str, body: &str) -> Result<String, AllocError> {
     let len = body.len();
     format!(in alloc;
         "POST {path} HTTP/1.1\r\nHost: a\r\nConnection: close\r\nContent-Length: {len}\r\n\r\n{body}"
     )
 }
 
-const VERSIONS: &str = "/subjects/s/versions";
+pub(crate) const VERSIONS: &str = "/subjects/s/versions";
 
-const SET_FORWARD: &str =
+pub(crate) const SET_FORWARD: &str =
     "PUT /config/s HTTP/1.1\r\nHost: a\r\nConnection: close\r\nContent-Length: 27\r\n\r\n{\"compatibility\":\"FORWARD\"}";
 
-const SET_FULL: &str =
+pub(crate) const SET_FULL: &str =
     "PUT /config/t HTTP/1.1\r\nHost: a\r\nConnection: close\r\nContent-Length: 24\r\n\r\n{\"compatibility\":\"FULL\"}";
 
 /// How many commands are answered soon.
@@ -180,8 +180,8 @@ fn visit<R: Clock + Net<Stream = TcpStream>>(
     ))
 }
 
-/// The workers of the node: one has the check, one the commands, and one is left for queries.
-const WORKERS: u32 = 3;
+/// The workers of the node: one has the check or the registration, one the commands, and two turns of commands are there.
+const WORKERS: u32 = 4;
 
 /// How many connections of a worker end the node.
 const LIMIT: u32 = 10;

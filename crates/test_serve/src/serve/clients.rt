@@ -16,6 +16,13 @@ const LAST: &[u8] = b"GET /schemas/ids/7 HTTP/1.1\r\nHost: a\r\nConnection: clos
 /// A command that closes the connection.
 const COMMAND: &[u8] = b"DELETE /subjects/s HTTP/1.1\r\nHost: a\r\nConnection: close\r\n\r\n";
 
+/// A lookup and a check that close the connection.
+const LOOKUP: &[u8] =
+    b"POST /subjects/s HTTP/1.1\r\nHost: a\r\nConnection: close\r\nContent-Length: 20\r\n\r\n{\"schema\":\"\\\"int\\\"\"}";
+
+const CHECK: &[u8] =
+    b"POST /compatibility/subjects/s/versions HTTP/1.1\r\nHost: a\r\nConnection: close\r\nContent-Length: 20\r\n\r\n{\"schema\":\"\\\"int\\\"\"}";
+
 /// The head of a request of 90,000 bytes in all, whose body is no object.
 const LONG: &[u8] =
     b"POST /subjects/s/versions HTTP/1.1\r\nHost: a\r\nContent-Length: 89930\r\n\r\n";
@@ -86,12 +93,16 @@ fn is_answered<R: Net<Stream = TcpStream>>(
 }
 
 /// What the clients of a node do.
-#[derive(Clone, Copy)]
+#[derive(Clone, Copy, PartialEq, Eq)]
 enum Client {
     /// 20 are silent, and 20 have begun a request.
     AllSilent,
     /// Six send commands that are held up.
     Held,
+    /// Six send checks that are held up.
+    HeldChecks,
+    /// Six send commands, and six checks, and all are held up.
+    HeldBoth,
     /// It is silent past the limit of idle connections.
     Silent,
     /// It begins a request, and nothing more comes within the limit of requests.
@@ -135,20 +146,48 @@ fn limits_for(client: Client) -> Limits {
     limits
 }
 
-/// Whether a new client is answered while the commands are held up, and whether these are replied to once
-/// they aren't any more.
-fn ask_among_commands<R: Net<Stream = TcpStream>>(
+/// Whether a new client that asks that is answered so.
+fn is_told<R: Net<Stream = TcpStream>>(
     rt: &R,
     alloc: Global,
     address: SocketAddr,
-    streams: &mut Vec<TcpStream>,
+    text: &[u8],
+    end: &[u8],
+) -> io::Result<bool> {
+    let mut stream = send(rt, address, text)?;
+    ends_with(alloc, &mut stream, end)
+}
+
+/// Whether others are answered while those that were sent are held up, and whether these are once they aren't any more: a
+/// lookup, and where commands alone are held up a check, where checks alone a command.
+fn ask_among_held<R: Net<Stream = TcpStream> + Clock>(
+    rt: &R,
+    alloc: Global,
+    address: SocketAddr,
+    commands: &mut Vec<TcpStream>,
+    checks: &mut Vec<TcpStream>,
     ledger: &Ledger,
+    client: Client,
 ) -> io::Result<[bool; 3]> {
-    connect_all(rt, address, streams, 6, COMMAND)?;
-    let answered = is_answered(rt, alloc, address);
+    if client != Client::HeldChecks {
+        connect_all(rt, address, commands, 6, COMMAND)?;
+    }
+    if client != Client::Held {
+        ledger.held_checks.store(1, Ordering::SeqCst);
+        connect_all(rt, address, checks, 6, CHECK)?;
+    }
+    thread::sleep(rt, Duration::from_millis(50));
+    let found = is_told(rt, alloc, address, LOOKUP, b"\r\n\r\n[0]");
+    let other = match client {
+        Client::Held => is_told(rt, alloc, address, CHECK, b"\r\n\r\n[0]"),
+        Client::HeldChecks => is_told(rt, alloc, address, COMMAND, b"\r\n\r\n{}"),
+        _ => is_answered(rt, alloc, address),
+    };
     ledger.held.store(0, Ordering::SeqCst);
-    let replied = are_answered(alloc, streams, b"", b"\r\n\r\n{}")?;
-    Ok([answered?, replied, true])
+    ledger.held_checks.store(0, Ordering::SeqCst);
+    let replied = are_answered(alloc, commands, b"", b"\r\n\r\n{}")?;
+    let answered = are_answered(alloc, checks, b"", b"]")?;
+    Ok([found?, other?, replied && answered])
 }
 
 /// Whether the client is closed in time.
@@ -264,7 +303,9 @@ fn meet<R: Net<Stream = TcpStream> + Clock>(
             connect_all(rt, address, streams, 20, b"GET /sub")?;
             Ok([is_answered(rt, alloc, address)?, true, true])
         }
-        Client::Held => ask_among_commands(rt, alloc, address, streams, ledger),
+        Client::Held | Client::HeldChecks | Client::HeldBoth => {
+            ask_among_held(rt, alloc, address, streams, others, ledger, client)
+        }
         Client::Crowd => crowd_out(rt, alloc, address, streams, others),
         Client::Heavy => {
             let bytes = long_request(alloc)?;
@@ -298,11 +339,14 @@ fn visit<R: Net<Stream = TcpStream> + Clock>(
 
 /// What the clients meet, what they do, the workers of the node, how many closed connections end it, and how
 /// many commands are held up at first, which is none or 1.
-static ROWS: [(&str, Client, u64, u64, u64); 13] = [
+static ROWS: [(&str, Client, u64, u64, u64); 16] = [
     ("silent clients hold no worker", Client::AllSilent, 1, 41, 0),
-    ("commands leave a worker for queries", Client::Held, 2, 7, 1),
-    ("commands leave two workers", Client::Held, 3, 7, 1),
-    ("commands leave three workers", Client::Held, 4, 7, 1),
+    ("one command at two workers", Client::Held, 2, 8, 1),
+    ("one check at two workers", Client::HeldChecks, 2, 8, 0),
+    ("two commands at four workers", Client::Held, 4, 8, 1),
+    ("two checks at four workers", Client::HeldChecks, 4, 8, 0),
+    ("both at three workers", Client::HeldBoth, 3, 14, 1),
+    ("both at four workers", Client::HeldBoth, 4, 14, 1),
     ("a silent client is closed", Client::Silent, 1, 1, 0),
     ("a request that is begun is closed", Client::Begins, 1, 1, 0),
     (

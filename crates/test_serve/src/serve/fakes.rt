@@ -68,6 +68,8 @@ impl<'a> FakeStream<'a> {
 }
 
 impl Stream for FakeStream<'_> {
+    ghost took = { λ _ _ _. ⊤ };
+
     fn receive(&self, buf: &mut [u8]) -> io::Result<usize> {
         let at = self.at.get();
         let next = at.saturating_add(1);
@@ -87,7 +89,7 @@ impl Stream for FakeStream<'_> {
         }
     }
 
-    fn send(&self, buf: &[u8]) -> io::Result<usize> {
+    fn send(&mut self, buf: &[u8]) -> io::Result<usize> {
         let taker = self.taker;
         let n = taker.room.get().min(buf.len());
         if n == 0 {
@@ -108,11 +110,12 @@ impl Stream for FakeStream<'_> {
     }
 }
 
-/// What the desks of a test share: how many commands there were, and whether they are held up.
+/// What the desks of a test share: how many commands there were, and whether they are held up, and checks.
 #[derive(Drop)]
 pub struct Ledger {
     pub commands: AtomicU64,
     pub held: AtomicU64,
+    pub held_checks: AtomicU64,
     /// Whether the node is to end.
     pub over: AtomicBool,
 }
@@ -122,13 +125,14 @@ impl Ledger {
         Ledger {
             commands: AtomicU64::new(0),
             held: AtomicU64::new(held),
+            held_checks: AtomicU64::new(0),
             over: AtomicBool::new(false),
         }
     }
 }
 
 /// A desk that answers the schema of an id by that number, the mode by a million bytes, and any other query
-/// by the greatest number that it knows: each command is numbered. A command waits while they are held up, but ten seconds at most.
+/// by the greatest number that it knows: each command is numbered. Commands and checks wait while they are held up.
 #[derive(Drop)]
 pub struct EchoDesk<'a, R: Clock> {
     pub rt: &'a R,
@@ -161,6 +165,16 @@ fn long_answer(alloc: Global) -> Result<Answer, AllocError> {
     answer_of(alloc, text.as_str())
 }
 
+/// Waits while the number isn't 0, but ten seconds at most.
+fn wait_while<R: Clock>(rt: &R, held: &AtomicU64) {
+    for _turn in 0..10_000 {
+        if held.load(Ordering::SeqCst) == 0 {
+            return;
+        }
+        thread::sleep(rt, Duration::from_millis(1));
+    }
+}
+
 impl<R: Clock> Desk for EchoDesk<'_, R> {
     ghost asks = { λ _ _ _ _. ⊤ };
 
@@ -170,17 +184,16 @@ impl<R: Clock> Desk for EchoDesk<'_, R> {
         match query {
             Query::SchemaById { id } => number_answer(alloc, u64::from(*id)),
             Query::Mode { .. } => long_answer(alloc),
+            Query::Check { .. } => {
+                wait_while(self.rt, &self.ledger.held_checks);
+                number_answer(alloc, self.known)
+            }
             _ => number_answer(alloc, self.known),
         }
     }
 
     fn command(&mut self, _command: &Command) -> Reply {
-        for _turn in 0..10_000 {
-            if self.ledger.held.load(Ordering::SeqCst) == 0 {
-                break;
-            }
-            thread::sleep(self.rt, Duration::from_millis(1));
-        }
+        wait_while(self.rt, &self.ledger.held);
         let before = self.ledger.commands.fetch_add(1, Ordering::SeqCst);
         self.known = before.saturating_add(1);
         Reply::Nothing

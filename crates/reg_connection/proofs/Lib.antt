@@ -1,0 +1,4 @@
+mod FirstLines
+mod NoTexts
+mod Sent
+mod Takes

@@ -1,0 +1,24 @@
+-- Since when a connection waits, and what its client takes of the answers that are left.
+use Rattle.std.specs.Prelude.{◌≡◌, ◌≢◌, ℕ, List, Bool, ◌&&◌, ◌==◌, drop, length, nat_lt, take, if◌then◌else◌}
+use Rattle.reg_connection.specs.Sending.{TakesBytes}
+use Rattle.reg_connection.specs.declared.connection.Connection.{Connection}
+use Rattle.reg_connection.specs.declared.waiting.Waits.TheVariants as waits
+
+-- what a connection waits for begins anew where the first byte of a request comes, and at no other
+abbrev pub since_after : ℕ → ℕ → ℕ → ℕ → ℕ
+since_after now before after since = if before == 0 && nat_lt 0 after then now else since
+
+module _ {S T : Type 0} where
+  -- what it waits for and since when stays, and when its last whole request came
+  abbrev pub KeepsTimes : Connection S T → Connection S T → Type 0
+  KeepsTimes old new = (new.since ≡ old.since) × (new.asked ≡ old.asked) × (new.waits ≡ old.waits)
+
+  -- the bytes of the answers that the client hasn't taken yet
+  abbrev pub left_of : Connection S T → List ℕ
+  left_of c = drop c.sent c.unsent.items
+
+  -- the client took a front of them, of which nothing is sent again, or all
+  abbrev pub Gives : (S → List ℕ → S → Type 0) → Connection S T → Connection S T → Type 0
+  Gives took old new = (n : ℕ) × TakesBytes took old.stream (take n (left_of old)) new.stream
+      × (new.waits ≡ waits.Client → left_of new ≡ drop n (left_of old))
+      × (new.waits ≢ waits.Client → take n (left_of old) ≡ left_of old)

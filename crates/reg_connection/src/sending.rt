@@ -1,0 +1,58 @@
+// Sending what a client takes.
+ghost use Rattle.std.specs.Prelude.{◌≡◌, ◌-◌, ◌<◌, ◌≤◌, ◌↔◌, true, IfOk, drop, length, take};
+ghost use Rattle.reg_connection.specs.Sending.{TakesBytes};
+
+use crate::stream::Stream;
+use std::io::{self, ErrorKind};
+
+/// What became of one call of the system.
+#[derive(Clone, Copy, Debug, PartialEq, Eq)]
+enum Step {
+    /// Some bytes were taken, or none because of an interruption.
+    Goes,
+    /// The client takes none now.
+    Waits,
+}
+
+/// Writes bytes from a place on, as far as the client takes them now, and says whether none is left. What is counted as sent is
+/// what the client took, in order, also where an error ends it.
+pub fn send_some<S: Stream>(stream: &mut S, bytes: &[u8], sent: &mut usize) -> io::Result<bool>
+    ensures onwards { sent.old ≤ sent.new }
+    ensures fits { sent.old ≤ length bytes.now → sent.new ≤ length bytes.now }
+    ensures taken { TakesBytes S.took stream.old (take (sent.new - sent.old) (drop sent.old bytes.now)) stream.new }
+    ensures all { IfOk result (λ all. (all ≡ true) ↔ (length bytes.now ≤ sent.new)) }
+{
+    'pieces: for _ in 0..bytes.len() + 1 {
+        if *sent >= bytes.len() {
+            return Ok(true);
+        }
+        match send_once(stream, bytes, sent) {
+            Ok(Step::Goes) => {}
+            Ok(Step::Waits) => return Ok(false),
+            Err(e) => return Err(e),
+        }
+    }
+    Ok(*sent >= bytes.len())
+}
+
+/// Writes some of the bytes that are left.
+fn send_once<S: Stream>(stream: &mut S, bytes: &[u8], sent: &mut usize) -> io::Result<Step>
+    requires { sent.old < length bytes.now }
+    ensures onwards { sent.old ≤ sent.new }
+    ensures fits { sent.new ≤ length bytes.now }
+    ensures taken { S.took stream.old (take (sent.new - sent.old) (drop sent.old bytes.now)) stream.new }
+    ensures waits { IfOk result (λ step. step ≡ Step.Waits → sent.new ≡ sent.old) }
+{
+    match stream.send(&bytes[*sent..]) {
+        Ok(0) => Err(io::Error::from(ErrorKind::WriteZero)),
+        Ok(n) => {
+            *sent += n;
+            Ok(Step::Goes)
+        }
+        Err(e) => match e.kind() {
+            ErrorKind::WouldBlock => Ok(Step::Waits),
+            ErrorKind::Interrupted => Ok(Step::Goes),
+            _ => Err(e),
+        },
+    }
+}
