@@ -9,7 +9,7 @@ crates/*/specs and proofs, and the names of wrong bodies; of test crates but tes
 - in the second column of CLAIMS in a crate of the heading or the row; a clause at a call in the row, a definition in any specs/;
 - else somewhere, and a path in the last crate that was named before it.
 Each statement in a text block of HEADLINE has to stand in some specs/, but for `pub`, comments and line breaks. Each link between
-documents has to lead to a file, and to a heading there.
+documents has to lead to a file, and to a heading there. `VERSION` of log_arguments is what the file VERSION at the top has.
 """
 import re
 from collections import defaultdict
@@ -20,7 +20,7 @@ CITING = [f"{name}.md" for name in "DEFINITIONS LAYERS CLAIMS HEADLINE READING K
 # What looks like a name of the code and isn't one. What has another form, as a command or `x.now`, or one or two letters is passed over.
 OTHER = set("""
     Ok Err None Some Option Result Box Write BufRead Serialize RandomState impl match let else use while unsafe ghost requires ensures
-    IfOk IfErr IfSome OnOk OnErr Brand Absorb matchit http httparse serde_json null stdin stdout library result READONLY_OVERRIDE Old
+    IfOk IfErr IfSome OnOk OnErr Brand Absorb matchit http httparse serde_json clap null stdin stdout library result READONLY_OVERRIDE Old
     Key::X Value::X crates/NAME crates/NAME/wrong/ must-fail/ wrong/ specs/ proofs/ data/ out/ out/NAME.log exec
 """.split())
 NAME = re.compile(r"[A-Za-z_]\w*(?:::\w+)?(?:\(\))?")
@@ -142,6 +142,9 @@ def main():
             looked_up.append((link.start(), link[0][2:-1], target.exists() and (link[2] is None or link[2] in anchors(target))))
         count += len(looked_up)
         faults += [f"{path.relative_to(TOP)}:{text.count(chr(10), 0, at) + 1}: {name}" for at, name, there in looked_up if not there]
+    version = (TOP / "VERSION").read_text().strip()
+    if f'pub const VERSION: &str = "{version}";' not in (TOP / "crates/log_arguments/src/command.rt").read_text():
+        faults.append(f"VERSION: {version}")
     print("\n".join(faults) or f"{count} names, statements and links were looked up, and each is there.")
     return 1 if faults else 0
 

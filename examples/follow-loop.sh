@@ -1,21 +1,25 @@
 #!/bin/bash
 # Starts a follower and the source of its lines, and both anew once one of them has ended: docs/DEPLOY.md.
 #
-#   follow-loop.sh ADDRESS:PORT NODES WORKERS SOURCE ..
+#   follow-loop.sh [OPTION ..] -- SOURCE ..
 #
-# SOURCE .. is a command that writes lines from their beginning on, as
+# The options are those of registrylog follow, and SOURCE .. is a command that writes lines from their beginning on, as
 #
-#   follow-loop.sh 0.0.0.0:8082 1 4 ssh writer registrylog tail /var/lib/registry/log
+#   follow-loop.sh --listen 0.0.0.0:8082 -- ssh writer registrylog tail /var/lib/registry/log
 #
 # A follower goes on at the end of its input, and lines that stop within one aren't taken: so it is ended here, and
 # the next one begins with nothing.
 set -u
-if [ $# -lt 4 ]; then
-    echo "usage: $0 ADDRESS:PORT NODES WORKERS SOURCE .." >&2
+options=()
+while [ $# -gt 0 ] && [ "$1" != -- ]; do
+    options+=("$1")
+    shift
+done
+if [ $# -lt 2 ]; then
+    echo "usage: $0 [OPTION ..] -- SOURCE .., with the options of registrylog follow" >&2
     exit 2
 fi
-place=("$1" "$2" "$3")
-shift 3
+shift
 
 # Each job is a group of processes, which is ended as a whole.
 set -m
@@ -39,7 +43,7 @@ while true; do
     mkfifo "$folder/lines" || exit 1
     "$@" </dev/null >"$folder/lines" &
     source=$!
-    registrylog follow "${place[@]}" <"$folder/lines" &
+    registrylog follow "${options[@]}" <"$folder/lines" &
     follower=$!
     wait -n
     end_both

@@ -33,7 +33,7 @@ def ask(port, method, path, body=None, connection=None):
 
 
 def writer():
-    p = subprocess.Popen([PROGRAM, "keep", LOG, f"127.0.0.1:{WRITER}", "1", "4"], stderr=open(f"{FOLDER}/writer.err", "ab"))
+    p = subprocess.Popen([PROGRAM, "keep", "--listen", f"127.0.0.1:{WRITER}", LOG], stderr=open(f"{FOLDER}/writer.err", "ab"))
     for _ in range(500):
         try:
             ask(WRITER, "GET", "/mode")
@@ -52,7 +52,7 @@ class Follower:
 
     def start(self):
         self.tail = subprocess.Popen([PROGRAM, "tail", LOG], stdout=subprocess.PIPE)
-        self.follow = subprocess.Popen([PROGRAM, "follow", f"127.0.0.1:{self.port}", "1", "4"], stdin=self.tail.stdout, stderr=open(f"{FOLDER}/{self.port}.err", "ab"))
+        self.follow = subprocess.Popen([PROGRAM, "follow", "--listen", f"127.0.0.1:{self.port}"], stdin=self.tail.stdout, stderr=open(f"{FOLDER}/{self.port}.err", "ab"))
         self.tail.stdout.close()
 
     def end(self):

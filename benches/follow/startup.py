@@ -32,7 +32,7 @@ after = resource.getrusage(resource.RUSAGE_CHILDREN)
 print(f"{RECORDS} records, {size / 1e6:.1f} MB; fold {after.ru_utime + after.ru_stime - before.ru_utime - before.ru_stime:.2f} s, {after.ru_maxrss / 1024:.0f} MB")
 for nodes in (1, 3):
     begun = time.time()
-    p = subprocess.Popen([FOLLOW, "follow", "127.0.0.1:19880", str(nodes), "4"], stdin=open(f"{folder}/log"), stderr=subprocess.PIPE)
+    p = subprocess.Popen([FOLLOW, "follow", "--listen", "127.0.0.1:19880", "--nodes", str(nodes)], stdin=open(f"{folder}/log"), stderr=subprocess.PIPE)
     while b"following" not in p.stderr.readline():
         pass
     taken = time.time() - begun

@@ -27,7 +27,7 @@ for n in range(SUBJECTS + LIVE):
 lines.append(line(len(lines), {"keytype": "ID_MARK", "magic": 0}, {"id": SUBJECTS + LIVE}))
 with open(f"{folder}/whole", "w") as it:
     it.write("".join(lines))
-for name, words in [("compacted", []), ("floored", [str(len(lines))])]:
+for name, words in [("compacted", []), ("floored", ["--to", str(len(lines))])]:
     with open(f"{folder}/whole") as given, open(f"{folder}/{name}", "w") as out:
         subprocess.run([PROGRAM, "compact", *words], stdin=given, stdout=out, check=True)
 for name in ("whole", "compacted", "floored"):
@@ -35,7 +35,7 @@ for name in ("whole", "compacted", "floored"):
     with open(path) as it:
         count = sum(1 for _ in it)
     size = os.path.getsize(path)
-    p = subprocess.Popen([PROGRAM, "keep", path, "127.0.0.1:19890", "1", "4"], stderr=subprocess.PIPE)
+    p = subprocess.Popen([PROGRAM, "keep", "--listen", "127.0.0.1:19890", path], stderr=subprocess.PIPE)
     said = p.stderr.readline().decode().strip()
     with open(f"/proc/{p.pid}/stat") as it:
         parts = it.read().rsplit(")", 1)[1].split()

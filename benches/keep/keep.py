@@ -30,7 +30,7 @@ class Kept:
         port += 4
         self.port = port
         self.errors = tempfile.TemporaryFile()
-        self.process = subprocess.Popen([PROGRAM, "keep", path, "127.0.0.1:%d" % port, str(nodes), "4"], stderr=self.errors)
+        self.process = subprocess.Popen([PROGRAM, "keep", "--listen", "127.0.0.1:%d" % port, "--nodes", str(nodes), "--quiet", path], stderr=self.errors)
         begun = time.time()
         while time.time() - begun < wait:
             if self.process.poll() is not None:
@@ -241,7 +241,7 @@ def full():
 def second():
     path = FOLDER + "/second"
     kept = Kept(path)
-    other = subprocess.run([PROGRAM, "keep", path, "127.0.0.1:%d" % (port + 2), "1", "1"], capture_output=True)
+    other = subprocess.run([PROGRAM, "keep", "--listen", "127.0.0.1:%d" % (port + 2), "--workers", "1", path], capture_output=True)
     if (other.returncode, other.stderr) != (2, b"log is in use\n"):
         bad("second", other)
     c = kept.connect()

@@ -1,7 +1,8 @@
 // The filters of `registrylog`, over bytes.
 use crate::cases::Outcome;
+use log_arguments::{LogCommand, read_arguments};
 use reg_inspection::inspect;
-use reg_keeping::{Command, FilterError, command_of, compact, compact_to};
+use reg_keeping::{FilterError, compact, compact_to};
 use std::alloc::{AllocError, Global};
 
 fn words_of(alloc: Global, command: &str) -> Result<Vec<String>, AllocError> {
@@ -21,10 +22,15 @@ fn filter(
     output: &mut Vec<u8>,
 ) -> Result<bool, FilterError> {
     let mut reader = log;
-    match command_of(words) {
-        Command::Check => return inspect(alloc, &mut reader, output),
-        Command::Compact => compact(alloc, &mut reader, output)?,
-        Command::CompactTo(floor) => compact_to(alloc, floor, &mut reader, output)?,
+    match read_arguments(alloc, words) {
+        Ok(LogCommand::Check { .. }) => return inspect(alloc, &mut reader, output),
+        Ok(LogCommand::Compact { to: None, .. }) => compact(alloc, &mut reader, output)?,
+        Ok(
+            LogCommand::Compact {
+                to: Some(floor),
+                ..
+            },
+        ) => { compact_to(alloc, floor, &mut reader, output)? }
         _ => return Ok(false),
     }
     Ok(true)

@@ -3,7 +3,7 @@
 //!
 //! A case that goes otherwise is printed with what was wanted and what came, so that the output is no longer the stored one. A file
 //! has paragraphs, with an empty line between two of them. First come the lines of a log, each with a `|` in the place of a TAB. Then
-//! comes a command, as `registrylog compact 10`, and below it what it writes, likewise; further commands, each on that log, may follow.
+//! comes a command, as `registrylog compact --to 10`, and below it what it writes, likewise; further commands, each on that log, may follow.
 //!
 //! - A line `ends with 2: TEXT` gives the exit status and the text of the error. Where there is none, the status is 0 and there is no
 //!   error.

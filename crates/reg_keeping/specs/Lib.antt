@@ -9,4 +9,3 @@ pub mod Said
 pub mod Shrunk
 pub mod Sorted
 pub mod Walk
-pub mod Words

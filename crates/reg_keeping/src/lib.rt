@@ -1,5 +1,4 @@
-//! Filters over logs in files: what compacting leaves of a log, also to a floor and in the place of a journal's file, and
-//! the words of their program.
+//! Filters over logs in files: what compacting leaves of a log, also to a floor and in the place of a journal's file.
 #![tactic(auto)]
 
 mod compacting;
@@ -12,7 +11,6 @@ mod shrinking;
 mod sorting;
 mod to_floor;
 mod walk;
-mod words;
 
 pub use compacting::compacted;
 pub use cutting::{floor_len, line_at};
@@ -22,4 +20,3 @@ pub use laws::compactions_stand_for_logs;
 pub use opening::{Aside, Opens, open_aside};
 pub use sorting::{compacted_in_order, compacted_to_in_order};
 pub use to_floor::{ToFloorError, compacted_to};
-pub use words::{Command, USAGE, command_of};

@@ -18,6 +18,9 @@ pub(crate) enum KeepFault {
     /// The file or one beside it failed.
     #[error("log file: {0:?}")]
     File(ErrorKind),
+    /// A file is there already that is to be written before it takes another name.
+    #[error("there is a file with .new behind the name of the output already")]
+    Unfinished,
     #[error("OutOfMemory")]
     OutOfMemory,
     #[error("{0}")]
@@ -30,7 +33,10 @@ impl KeepFault {
         match self {
             KeepFault::InUse | KeepFault::Line { line: _, fault: _ } => 2,
             KeepFault::Start(StartFault::Closed(_)) => 2,
-            KeepFault::File(_) | KeepFault::OutOfMemory | KeepFault::Start(_) => 1,
+            KeepFault::File(_)
+            | KeepFault::Unfinished
+            | KeepFault::OutOfMemory
+            | KeepFault::Start(_) => 1,
         }
     }
 }

@@ -1,5 +1,5 @@
 // `registrylog follow`: nodes over the lines of the standard input.
-use crate::words::Place;
+use crate::place::Place;
 use reg_follow::{FollowError, Gate, Size};
 use reg_serve::listen;
 use std::alloc::Global;
@@ -25,9 +25,13 @@ impl<R: Drop> Doors<R> {
 
 impl<R: Net<Listener = TcpListener, Stream = TcpStream> + Eprint + Drop> Gate for Doors<R> {
     fn listen(&mut self) -> Result<Vec<TcpListener>, FollowError> {
-        let Place { address, nodes, .. } = self.place;
-        let port = u64::from(address.port());
-        Ok(listen(&self.rt, self.alloc, address.ip(), port, nodes)?)
+        let Place {
+            listen: at,
+            nodes,
+            ..
+        } = self.place;
+        let port = u64::from(at.port());
+        Ok(listen(&self.rt, self.alloc, at.ip(), port, nodes as u64)?)
     }
 
     fn ready(&mut self, lines: u64) -> bool {
@@ -41,8 +45,8 @@ impl<R: Net<Listener = TcpListener, Stream = TcpStream> + Eprint + Drop> Gate fo
 /// How many nodes there are, and workers of each.
 pub(crate) fn size_of(place: Place) -> Size {
     Size {
-        nodes: usize::try_from(place.nodes).unwrap_or(1),
-        workers: u32::try_from(place.workers).unwrap_or(1),
+        nodes: place.nodes,
+        workers: place.workers,
         limit: None,
     }
 }

@@ -1,8 +1,9 @@
 // `registrylog keep`: nodes over a log in a file.
 use crate::fault::KeepFault;
 use crate::opening::{Locked, lock, open_or_make, start_log};
+use crate::place::Place;
+use crate::progress::Progress;
 use crate::telling::Telling;
-use crate::words::Place;
 use reg_inspection::obstacles;
 use reg_journal::{StoredFile, look};
 use reg_records::Log;
@@ -12,6 +13,8 @@ use std::alloc::Global;
 use std::fs::{File, Files};
 use std::io::Eprint;
 use std::net::{Net, TcpListener, TcpStream};
+use std::thread::Threads;
+use std::time::Clock;
 
 /// The way to the nodes.
 #[derive(Drop)]
@@ -23,17 +26,26 @@ pub(crate) struct Door<R: Drop> {
     records: u64,
     next: u64,
     bytes: u64,
+    progress: Option<Progress>,
 }
 
-impl<R: Net<Listener = TcpListener, Stream = TcpStream> + Eprint + Drop> Entrance for Door<R> {
+impl<R: Net<Listener = TcpListener, Stream = TcpStream> + Threads + Eprint + Clock + Drop> Entrance
+    for Door<R> {
     fn listen(&mut self) -> Result<Vec<TcpListener>, StartFault> {
-        let Place { address, nodes, .. } = self.place;
-        let port = u64::from(address.port());
-        Ok(listen(&self.rt, self.alloc, address.ip(), port, nodes)?)
+        let Place {
+            listen: at,
+            nodes,
+            ..
+        } = self.place;
+        let port = u64::from(at.port());
+        Ok(listen(&self.rt, self.alloc, at.ip(), port, nodes as u64)?)
     }
 
     fn ready(&mut self) -> bool {
         let (records, next, bytes) = (self.records, self.next, self.bytes);
+        if let Some(progress) = self.progress.take() {
+            progress.end(&self.rt);
+        }
         let _told = self.rt.eprintln(format_args!(
             "serving {records} records, next offset {next}, {bytes} bytes"
         ));
@@ -58,16 +70,19 @@ pub(crate) fn open_log<R: Files<File = File> + Eprint + Copy + Drop>(
     alloc: Global,
     file: &str,
     place: Place,
+    progress: Progress,
 ) -> Result<Opened<R>, KeepFault> {
     let Locked {
         path,
         file: opened,
         lock,
     } = lock(&rt, alloc, file)?;
+    progress.has_size(opened.metadata()?.len());
     let disk = StoredFile::new(alloc, rt, path.as_str(), opened)?;
     disk.remove_unfinished()?;
     let kept = start_log(rt, alloc, disk, path.as_str())?;
-    let end = kept.end();
+    let bytes = (kept.end() as u64).saturating_add(1);
+    progress.has_read(kept.keep().journal().lines(), bytes);
     let (log, keep) = kept.parts();
     let mut keep = Telling::new(rt, keep);
     keep.tell_fault();
@@ -77,11 +92,12 @@ pub(crate) fn open_log<R: Files<File = File> + Eprint + Copy + Drop>(
         place,
         records: log.records.len() as u64,
         next: log.next,
-        bytes: (end as u64).saturating_add(1),
+        bytes,
+        progress: Some(progress),
     };
     let size = Size {
-        nodes: usize::try_from(place.nodes).unwrap_or(1),
-        workers: u32::try_from(place.workers).unwrap_or(1),
+        nodes: place.nodes,
+        workers: place.workers,
         limit: None,
     };
     Ok(Opened {

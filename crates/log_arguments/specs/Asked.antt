@@ -1,0 +1,48 @@
+-- What the words of a command line ask for.
+use Rattle.std.specs.Prelude.{◌≡◌, ◌≤◌, ◌⊎◌, ⊤, List, [], Option, Some, codes, option_map, IfSome, IsSomeAnd}
+use Rattle.clap.specs.Words.{HasKind, Row, Text, fault_of, first_of, kind_of, subcommand_of}
+use Rattle.clap.specs.declared.error.Error.{Error}
+use Rattle.clap.specs.declared.error.kind.ErrorKind.TheVariants.{OutOfMemory, ValueValidation}
+use Rattle.log_arguments.specs.Line.{program_line}
+use Rattle.log_arguments.specs.Values.{IsOffsetOf, IsPlaceIn, has_quiet, path_in}
+use Rattle.log_arguments.specs.declared.command.LogCommand.{LogCommand}
+use Rattle.log_arguments.specs.declared.command.LogCommand.TheVariants.{Check, Compact, Follow, Keep, Tail}
+
+-- what a command asks for by its name and its matches
+abbrev pub IsAskedBy : Text × List Row → LogCommand → Type 0
+IsAskedBy found (Keep file listen nodes workers quiet) = (found.0 ≡ codes "keep") × (first_of (codes "file") found.1 ≡ Some file.now)
+    × IsPlaceIn found.1 listen nodes workers × (quiet ≡ has_quiet found.1)
+IsAskedBy found (Follow listen nodes workers) = (found.0 ≡ codes "follow") × IsPlaceIn found.1 listen nodes workers
+IsAskedBy found (Tail file from) = (found.0 ≡ codes "tail") × (first_of (codes "file") found.1 ≡ Some file.now)
+    × IsOffsetOf (first_of (codes "from") found.1) from
+IsAskedBy found (Check file quiet) = (found.0 ≡ codes "check") × (option_map (λ path. path.now) file ≡ path_in (codes "file") found.1)
+    × (quiet ≡ has_quiet found.1)
+IsAskedBy found (Compact file to output quiet) = (found.0 ≡ codes "compact")
+    × (option_map (λ path. path.now) file ≡ path_in (codes "file") found.1) × IsOffsetOf (first_of (codes "to") found.1) to
+    × (option_map (λ path. path.now) output ≡ path_in (codes "output") found.1) × (quiet ≡ has_quiet found.1)
+
+-- there is a command, and it asks for this
+abbrev pub Asks : Option (Text × List Row) → LogCommand → Type 0
+Asks found command = IsSomeAnd found (λ named. IsAskedBy named command)
+
+-- what the words of the program's command line ask for
+abbrev pub AskFor : List Text → LogCommand → Type 0
+AskFor words command = Asks (subcommand_of program_line words) command
+
+-- an offset or a floor that is asked for is one that a line may have
+abbrev pub HasOffsetInLimits : LogCommand → Type 0
+HasOffsetInLimits (Keep file listen nodes workers quiet) = ⊤
+HasOffsetInLimits (Follow listen nodes workers) = ⊤
+HasOffsetInLimits (Tail file from) = IfSome from (λ offset. offset ≤ 9223372036854775807)
+HasOffsetInLimits (Check file quiet) = ⊤
+HasOffsetInLimits (Compact file to output quiet) = IfSome to (λ floor. floor ≤ 9223372036854775807)
+
+-- memory was refused, or nothing is asked for, since a value is out of its range
+abbrev pub IsMisuse : Option (Text × List Row) → Error → Type 0
+IsMisuse found error = (kind_of error ≡ OutOfMemory)
+    ⊎ ((kind_of error ≡ ValueValidation) × ((command : LogCommand) → ¬ Asks found command))
+
+-- The error is one of those that `clap` has at the words, or `clap` takes the words and a value is out of its range.
+abbrev pub IsRefusalOf : List Text → Error → Type 0
+IsRefusalOf words error = HasKind (fault_of program_line words) error
+    ⊎ ((fault_of program_line words ≡ []) × (kind_of error ≡ ValueValidation) × ((command : LogCommand) → ¬ AskFor words command))

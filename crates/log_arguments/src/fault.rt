@@ -1,0 +1,63 @@
+// A value that isn't what its option wants.
+ghost use Rattle.std.specs.Prelude.{◌≡◌, IfOk};
+ghost use Rattle.clap.specs.Words.{kind_of};
+ghost use Rattle.clap.specs.declared.error.kind.ErrorKind.TheVariants.{ValueValidation};
+
+use crate::line::{compact, follow, keep, tail};
+use clap::error::ErrorKind;
+use clap::{Command, Error};
+use std::alloc::{AllocError, Global};
+use std::net::SocketAddr;
+
+/// Why a command line is refused whose words `clap` takes. It is shown as one line.
+#[derive(Clone, Copy, Debug, PartialEq, Eq, thiserror::Error)]
+pub(crate) enum Fault<'a> {
+    #[error("--listen {0}: an address with a port, as 127.0.0.1:8081 or [::1]:8081")]
+    Address(&'a str),
+    /// The first node would have no port, or the last one a port past 65535.
+    #[error("--listen {listen}: a port from 1 to {most} with --nodes {nodes}")]
+    Port {
+        listen: SocketAddr,
+        nodes: u64,
+        most: u64,
+    },
+    #[error("--{option} {text}: a number from 1 to {most}")]
+    Number {
+        option: &'static str,
+        text: &'a str,
+        most: u64,
+    },
+    #[error("--{option} {text}: an offset from 0 to 9223372036854775807")]
+    Offset {
+        option: &'static str,
+        text: &'a str,
+    },
+    /// There is no such command line: `clap` takes none without a file that is wanted.
+    #[error("a FILE is wanted")]
+    File,
+    /// There is no such command line: `clap` takes none without a command.
+    #[error("a COMMAND is wanted")]
+    Command,
+}
+
+/// The text of a fault, with the usage of the command of that name.
+pub(crate) fn refusal(alloc: Global, name: &str, fault: Fault<'_>) -> Result<Error, AllocError>
+    ensures { IfOk result (λ error. kind_of error ≡ ValueValidation) }
+{
+    let text = format!(in alloc; "{fault}")?;
+    let mut command = command_named(alloc, name)?;
+    command.error(ErrorKind::ValueValidation, text.as_str())
+}
+
+/// The command of that name which has options with values, with the name that usage has of it.
+fn command_named<'a>(alloc: Global, name: &str) -> Result<Command<'a>, AllocError> {
+    if name == "keep" {
+        keep(alloc)?.bin_name("registrylog keep")
+    } else if name == "follow" {
+        follow(alloc)?.bin_name("registrylog follow")
+    } else if name == "tail" {
+        tail(alloc)?.bin_name("registrylog tail")
+    } else {
+        compact(alloc)?.bin_name("registrylog compact")
+    }
+}

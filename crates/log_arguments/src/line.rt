@@ -1,0 +1,156 @@
+// The command line, as a parser of command lines takes it.
+ghost use Rattle.std.specs.Prelude.{IfOk, codes, false};
+ghost use Rattle.log_arguments.specs.Line.{HasLine, HasRule, check_line, compact_line, file_line, follow_line, keep_line, option_line, program_line, quiet_line, tail_line};
+
+use crate::command::VERSION;
+use clap::{Arg, ArgAction, Command};
+use std::alloc::{AllocError, Global};
+
+/// The program with all its commands.
+pub(crate) fn program<'a>(alloc: Global) -> Result<Command<'a>, AllocError>
+    ensures { IfOk result (HasLine program_line) }
+{
+    let keeping = keep(alloc)?;
+    let following = follow(alloc)?;
+    let tailing = tail(alloc)?;
+    let checking = check(alloc)?;
+    let compacting = compact(alloc)?;
+    Command::new(alloc, "registrylog")
+        .bin_name("registrylog")?
+        .version(VERSION)
+        .about("Keeps the log of a registry of Avro schemas in a file, and looks after it")
+        .after_help("Begin with: registrylog keep ~/registry.log")
+        .subcommand_required(true)
+        .arg_required_else_help(true)
+        .subcommand(keeping)?
+        .subcommand(following)?
+        .subcommand(tailing)?
+        .subcommand(checking)?
+        .subcommand(compacting)
+}
+
+/// `keep`.
+pub(crate) fn keep<'a>(alloc: Global) -> Result<Command<'a>, AllocError>
+    ensures { IfOk result (HasLine keep_line) }
+{
+    let file = file(alloc)
+        .required(true)
+        .help("The log; it is made where it isn't there");
+    Command::new(alloc, "keep")
+        .about("Serves a registry over HTTP whose log is kept in a file")
+        .after_help("Example: registrylog keep --listen 0.0.0.0:9000 ~/registry.log")
+        .arg(listen(alloc))?
+        .arg(nodes(alloc))?
+        .arg(workers(alloc))?
+        .arg(quiet(alloc))?
+        .arg(file)
+}
+
+/// `follow`.
+pub(crate) fn follow<'a>(alloc: Global) -> Result<Command<'a>, AllocError>
+    ensures { IfOk result (HasLine follow_line) }
+{
+    Command::new(alloc, "follow")
+        .about("Serves the log whose lines come on standard input, to readers alone")
+        .after_help(
+            "Example: registrylog tail ~/registry.log | registrylog follow --listen 0.0.0.0:9100",
+        )
+        .arg(listen(alloc))?
+        .arg(nodes(alloc))?
+        .arg(workers(alloc))
+}
+
+/// `tail`.
+pub(crate) fn tail<'a>(alloc: Global) -> Result<Command<'a>, AllocError>
+    ensures { IfOk result (HasLine tail_line) }
+{
+    let from = option(alloc, "from", "OFFSET").help(
+        "The offset to begin at, 0 to 9223372036854775807 [default: that of the first line]",
+    );
+    let file = file(alloc)
+        .required(true)
+        .help("The log, which registrylog keep serves");
+    Command::new(alloc, "tail")
+        .about("Writes the lines of a kept log, and each more once it is kept")
+        .after_help("Example: registrylog tail --from 1000 ~/registry.log")
+        .arg(from)?
+        .arg(file)
+}
+
+/// `check`.
+pub(crate) fn check<'a>(alloc: Global) -> Result<Command<'a>, AllocError>
+    ensures { IfOk result (HasLine check_line) }
+{
+    Command::new(alloc, "check")
+        .about("Writes what a log holds, and what keeps it from being served")
+        .after_help("Example: registrylog check ~/registry.log")
+        .arg(quiet(alloc))?
+        .arg(file(alloc).help(INPUT))
+}
+
+/// `compact`.
+pub(crate) fn compact<'a>(alloc: Global) -> Result<Command<'a>, AllocError>
+    ensures { IfOk result (HasLine compact_line) }
+{
+    let floor = option(alloc, "to", "FLOOR").help(
+        "Drop deletes below this offset, 0 to 9223372036854775807, the log's new floor [default: keep all]",
+    );
+    let output = option(alloc, "output", "SMALLER").help(
+        "The file to write, put there once all of it is on the disk [default: standard output]",
+    );
+    Command::new(alloc, "compact")
+        .about("Writes a log without the records that later ones replace")
+        .after_help(
+            "Example: registrylog compact --output smaller.log registry.log\n\n\
+            Beware of registrylog compact FILE > FILE: the shell empties FILE before it is read. --output FILE is safe.",
+        )
+        .arg(floor)?
+        .arg(output)?
+        .arg(quiet(alloc))?
+        .arg(file(alloc).help(INPUT))
+}
+
+const INPUT: &str = "The log [default: standard input, as for -]";
+
+/// An option `--NAME VALUE`.
+fn option<'a>(alloc: Global, name: &'a str, value: &'a str) -> Arg<'a>
+    ensures { HasRule (option_line name.now) result }
+{
+    Arg::new(alloc, name).long(name).value_name(value)
+}
+
+fn listen<'a>(alloc: Global) -> Arg<'a>
+    ensures { HasRule (option_line (codes "listen")) result }
+{
+    option(alloc, "listen", "ADDRESS:PORT").help(
+        "Where the first node listens, others at the ports after it [default: 127.0.0.1:8081]",
+    )
+}
+
+fn nodes<'a>(alloc: Global) -> Arg<'a>
+    ensures { HasRule (option_line (codes "nodes")) result }
+{
+    option(alloc, "nodes", "N").help("How many nodes, 1 to 3 [default: 1]")
+}
+
+fn workers<'a>(alloc: Global) -> Arg<'a>
+    ensures { HasRule (option_line (codes "workers")) result }
+{
+    option(alloc, "workers", "N").help("How many workers each node has, 1 to 16 [default: 4]")
+}
+
+fn quiet<'a>(alloc: Global) -> Arg<'a>
+    ensures { HasRule quiet_line result }
+{
+    Arg::new(alloc, "quiet")
+        .long("quiet")
+        .action(ArgAction::SetTrue)
+        .help("Don't say on standard error how far the reading is")
+}
+
+/// The file behind the options.
+fn file<'a>(alloc: Global) -> Arg<'a>
+    ensures { HasRule (file_line false) result }
+{
+    Arg::new(alloc, "file").value_name("FILE")
+}

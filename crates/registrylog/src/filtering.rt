@@ -1,0 +1,152 @@
+// `registrylog check` and `registrylog compact`: what a log holds, and what compacting leaves of it.
+ghost use Rattle.std.specs.Prelude.{◌≤◌, IfSome};
+ghost use Rattle.reg_records.specs.declared.limits.TheConstants.{OFFSET_LIMIT};
+
+use crate::ends::kept;
+use crate::fault::KeepFault;
+use crate::progress::Progress;
+use crate::replacing::NewFile;
+use reg_inspection::inspect;
+use reg_keeping::{FilterError, compact, compact_to};
+use std::alloc::Global;
+use std::fs::{File, Files};
+use std::io::{self, BufWriter, Eprint, Input, Print, Read, Write};
+use std::process::ExitCode;
+
+/// Writes what the log of a file holds, or that of the input.
+pub(crate) fn check<R: Input + Print + Eprint + Files<File = File>>(
+    rt: &R,
+    alloc: Global,
+    file: Option<&str>,
+    progress: &Progress,
+) -> io::Result<ExitCode> {
+    let Some(path) = file else {
+        let mut reader = progress.counted(rt.reader())?;
+        return check_from(rt, alloc, &mut reader);
+    };
+    match open_log_file(rt, path, progress) {
+        Ok(file) => {
+            let mut reader = progress.counted(file)?;
+            check_from(rt, alloc, &mut reader)
+        }
+        Err(error) => kept(rt, Err(KeepFault::from(error))),
+    }
+}
+
+fn check_from<R: Print + Eprint, S: Read>(
+    rt: &R,
+    alloc: Global,
+    reader: &mut S,
+) -> io::Result<ExitCode> {
+    let mut writer = BufWriter::new(alloc, io::writer(rt))?;
+    filtered(rt, inspect(alloc, reader, &mut writer))
+}
+
+/// The file of a log, open for reading.
+fn open_log_file<R: Files<File = File>>(
+    rt: &R,
+    path: &str,
+    progress: &Progress,
+) -> io::Result<File> {
+    let file = File::open(rt, path)?;
+    progress.has_size(file.metadata()?.len());
+    Ok(file)
+}
+
+/// What compacting is asked for.
+#[derive(Clone, Copy)]
+pub(crate) struct Wish<'a> {
+    /// The log's file, or none for the input.
+    pub(crate) file: Option<&'a str>,
+    /// The floor to compact to.
+    pub(crate) floor: Option<u64>,
+    /// Where to put what is left, or none for the output.
+    pub(crate) output: Option<&'a str>,
+}
+
+/// Writes what compacting leaves of the log.
+pub(crate) fn compact_log<R: Input + Print + Eprint + Files<File = File>>(
+    rt: &R,
+    alloc: Global,
+    wish: Wish<'_>,
+    progress: &Progress,
+) -> io::Result<ExitCode>
+    requires { IfSome wish.floor (λ offset. offset ≤ OFFSET_LIMIT) }
+{
+    let Some(path) = wish.file else {
+        let mut reader = progress.counted(rt.reader())?;
+        return compact_from(rt, alloc, &mut reader, wish);
+    };
+    match open_log_file(rt, path, progress) {
+        Ok(file) => {
+            let mut reader = progress.counted(file)?;
+            compact_from(rt, alloc, &mut reader, wish)
+        }
+        Err(error) => kept(rt, Err(KeepFault::from(error))),
+    }
+}
+
+fn compact_from<R: Print + Eprint + Files<File = File>, S: Read>(
+    rt: &R,
+    alloc: Global,
+    reader: &mut S,
+    wish: Wish<'_>,
+) -> io::Result<ExitCode>
+    requires { IfSome wish.floor (λ offset. offset ≤ OFFSET_LIMIT) }
+{
+    let Some(path) = wish.output else {
+        let mut writer = BufWriter::new(alloc, io::writer(rt))?;
+        let written = compacted(alloc, reader, wish.floor, &mut writer);
+        return filtered(rt, written.map(|()| true));
+    };
+    match NewFile::begin(rt, alloc, path) {
+        Ok(mut new) => {
+            let written = compacted(alloc, reader, wish.floor, &mut new.file);
+            put(rt, &new, written)
+        }
+        Err(fault) => kept(rt, Err(fault)),
+    }
+}
+
+/// Puts a new file in its place, or removes it where it wasn't written.
+fn put<R: Eprint + Files<File = File>>(
+    rt: &R,
+    new: &NewFile,
+    written: Result<(), FilterError>,
+) -> io::Result<ExitCode> {
+    if written.is_err() {
+        new.remove(rt);
+        return filtered(rt, written.map(|()| true));
+    }
+    let put = new.put(rt);
+    if put.is_err() {
+        new.remove(rt);
+    }
+    kept(rt, put)
+}
+
+fn compacted<S: Read, W: Write>(
+    alloc: Global,
+    reader: &mut S,
+    floor: Option<u64>,
+    writer: &mut W,
+) -> Result<(), FilterError>
+    requires { IfSome floor (λ offset. offset ≤ OFFSET_LIMIT) }
+{
+    match floor {
+        Some(floor) => compact_to(alloc, floor, reader, writer),
+        None => compact(alloc, reader, writer),
+    }
+}
+
+/// The end of a filter, which found nothing wrong, or something, or failed.
+fn filtered<R: Eprint>(rt: &R, ended: Result<bool, FilterError>) -> io::Result<ExitCode> {
+    match ended {
+        Ok(true) => Ok(ExitCode::SUCCESS),
+        Ok(false) => Ok(ExitCode::from(2)),
+        Err(error) => {
+            rt.eprintln(error)?;
+            Ok(ExitCode::from(error.status()))
+        }
+    }
+}
