@@ -169,9 +169,11 @@ static HELD: [(u32, u32, [&str; 2], [&str; 2]); 7] = [
 fn a_held_call_holds_no_other(rt: HostRuntime) -> Result<(), Fail> {
     for (nodes, workers, requests, wanted) in &HELD {
         let (turns, first, second) = hold(rt.alloc(), &rt, *nodes, *workers, requests)?;
+        let held = wanted[0];
+        let other = wanted[1];
         assert_eq!(rt;
-            (turns < TURNS, [first.as_str(), second.as_str()]),
-            (true, *wanted),
+            (turns < TURNS, first.as_str(), second.as_str()),
+            (true, held, other),
             "{nodes} nodes, {}",
             requests[0]
         );
