@@ -11,7 +11,7 @@ use Rattle.reg_fold.specs.InForce.{Scope}
 use Rattle.reg_fold.specs.Standing.{version_in}
 use Rattle.reg_fold.specs.declared.version_ref.VersionRef.{VersionRef}
 use Rattle.reg_fold.specs.declared.version_ref.VersionRef.TheVariants.{Latest, Number}
-use Rattle.reg_modes.specs.Permitted.{denied, granted, must_allow_registration, must_allow_writes}
+use Rattle.reg_modes.specs.Permitted.{denied, granted, may_register, may_write}
 use Rattle.reg_modes.specs.declared.mode.Mode.{Mode}
 use Rattle.reg_modes.specs.declared.mode.Mode.TheVariants as modes
 use Rattle.reg_refusals.specs.declared.reason.Reason.TheVariants as reasons
@@ -112,7 +112,7 @@ module _ (rs ss : Records) (alike : GiveAlike rs ss) where
       test.must_have_valid_defaults schema
       ▸ same_open i
       ▸ test.must_have_offset n
-      ▸ must_allow_registration (same_mode rs ss alike (Some subject) i) false
+      ▸ may_register (same_mode rs ss alike (Some subject) i) false
       ▸ where_found (newest (filter (has_schema schema.normal_text) live)) (λ same. Does (replies.Id same.id) []) (
       IfMet (same_level rs ss alike (Some subject) i) schema.normal_text (texts_of live) (
       writes [] subject schema.normal_text (same_id_for schema.normal_text i) (same_next_version subject i)
@@ -121,7 +121,7 @@ module _ (rs ss : Records) (alike : GiveAlike rs ss) where
       where_read text (λ schema.
       same_open i
       ▸ test.must_have_offset n
-      ▸ must_allow_registration (same_mode rs ss alike (Some subject) i) true
+      ▸ may_register (same_mode rs ss alike (Some subject) i) true
       ▸ same_names_no_other id schema.normal_text i
       ▸ same_above_mark id i
       ▸ same_import_as subject schema.normal_text id version i
@@ -129,25 +129,25 @@ module _ (rs ss : Records) (alike : GiveAlike rs ss) where
   same_course n (commands.DeleteVersion subject version permanent) = λ i.
       same_open i
       ▸ test.must_have_offset n
-      ▸ must_allow_writes (same_mode rs ss alike (Some subject) i)
+      ▸ may_write (same_mode rs ss alike (Some subject) i)
       ▸ refuse_unless (is_some (sought.greatest_version (entries_alike i) subject)) refusals.SubjectNotFound
       ▸ where_found (same_version_meant subject version i) (λ e. same_delete_entry permanent e i) (Refused (no_version version))
   same_course n (commands.DeleteSubject subject permanent) = λ i.
       same_open i
       ▸ test.must_have_offset n
-      ▸ must_allow_writes (same_mode rs ss alike (Some subject) i)
+      ▸ may_write (same_mode rs ss alike (Some subject) i)
       ▸ where_found (sought.greatest_version (entries_alike i) subject) (λ greatest. same_delete_all subject permanent greatest i) (
       Refused refusals.SubjectNotFound
       )
   same_course n (commands.SetLevel scope level) = λ i.
       same_open i
       ▸ test.must_have_offset n
-      ▸ must_allow_writes (same_mode rs ss alike scope i)
+      ▸ may_write (same_mode rs ss alike scope i)
       ▸ Does (replies.Level level) (level_set scope level ∷ [])
   same_course n (commands.ClearLevel subject) = λ i.
       same_open i
       ▸ test.must_have_offset n
-      ▸ must_allow_writes (same_mode rs ss alike (Some subject) i)
+      ▸ may_write (same_mode rs ss alike (Some subject) i)
       ▸ where_found (levels_alike (Some subject) i) (λ level. Does (replies.LevelRemoved level) (level_cleared subject ∷ [])) (
       Refused refusals.SubjectHasNoLevel
       )

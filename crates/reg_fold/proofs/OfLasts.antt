@@ -15,7 +15,7 @@ use Rattle.std.specs.declared.cmp.Ordering.{Ordering}
 use Rattle.std.specs.declared.cmp.Ordering.TheVariants.{Less, Equal, Greater}
 use Rattle.reg_records.specs.declared.key.Key.TheVariants as keys
 use Rattle.reg_records.specs.declared.record.Record.{Record}
-use Rattle.reg_set.specs.Join.{LastIsGreatest, LastRecordsAreCompaction, LastRecordsOfCompaction}
+use Rattle.reg_set.specs.Join.{LastIsGreatest, LastRecordsKeepLasts, LastRecordsOfPart}
 use Rattle.reg_set.specs.LastRecords.{last, is_last, last_records}
 use Rattle.reg_set.specs.RecordOrder.{record_cmp}
 use Rattle.reg_set.specs.Records.{Records}
@@ -42,7 +42,7 @@ less Equal h = absurd h
 less Greater h = absurd h
 
 -- the last records have no others
-pub last_records-last_records : LastRecordsAreCompaction → LastRecordsOfCompaction
+pub last_records-last_records : LastRecordsKeepLasts → LastRecordsOfPart
     → (rs : Records) → last_records (last_records rs) ≡ last_records rs
 last_records-last_records compaction same rs = same (last_records rs) rs (compaction rs)
 

@@ -12,7 +12,7 @@ use Rattle.reg_records.specs.declared.key.Key.{Key}
 use Rattle.reg_records.specs.declared.key.Key.TheVariants as keys
 use Rattle.reg_records.specs.declared.record.Record.{Record}
 use Rattle.reg_records.specs.declared.value.Value.TheVariants as values
-use Rattle.reg_set.specs.Join.{LastIsGreatest, LastOfLastRecords, LastRecordsAreCompaction, LastRecordsOfCompaction}
+use Rattle.reg_set.specs.Join.{LastIsGreatest, LastOfLastRecords, LastRecordsKeepLasts, LastRecordsOfPart}
 use Rattle.reg_set.specs.LastRecords.{last, last_records}
 use Rattle.reg_set.specs.RecordOrder.{record_cmp}
 use Rattle.reg_set.specs.Records.{Records, records_of}
@@ -62,7 +62,7 @@ stays_false true h = absurd (h refl)
 stays_false false h = refl
 
 module _ (total : IsTotalOrder record_cmp) (ties : IsAntisymmetric record_cmp) (greatest : LastIsGreatest)
-    (of_last : LastOfLastRecords) (compaction : LastRecordsAreCompaction) (same : LastRecordsOfCompaction) where
+    (of_last : LastOfLastRecords) (compaction : LastRecordsKeepLasts) (same : LastRecordsOfPart) where
   once : (whole : Records) → last_records (last_records whole) ≡ last_records whole
   once whole = last_records-last_records compaction same whole
 

@@ -2,9 +2,11 @@
 ghost use Rattle.std.specs.Prelude.{◌≡◌, [], ◌∷◌, true, IfOk, OnOk, OnErr, if◌then◌else◌, is_none, map, option_map};
 ghost use Rattle.std.specs.FinSet as set;
 ghost use Rattle.std.specs.List.{filter, list_all};
+ghost use Rattle.std.specs.List.Sorted.{IsStrictlySortedBy};
 ghost use Rattle.std.specs.Option.{option_copied};
-ghost use Rattle.reg_set.specs.Compaction.{IsCompactionOf};
+ghost use Rattle.reg_set.specs.Compaction.{KeepsLasts};
 ghost use Rattle.reg_set.specs.LastRecords.{last, last_records};
+ghost use Rattle.reg_set.specs.RecordOrder.{key_cmp};
 ghost use Rattle.reg_set.specs.Records.{Records};
 ghost use Rattle.reg_fold.specs.Entries.{AreOfLasts, entries};
 ghost use Rattle.reg_entries.specs.EntryOrder.{IsInOrder};
@@ -74,12 +76,12 @@ impl Registry {
         }
     }
 
-    /// The registry over a set of records, which is that over each compaction of it. The only error
-    /// is out of memory.
+    /// The registry over a set of records, which is that over each part that keeps its last records.
+    /// The only error is out of memory.
     pub fn of_set(alloc: Global, set: &RecordSet) -> Result<Registry, AllocError>
         ensures lasts { IfOk result (λ registry. registry ≡ last_records set.now) }
         ensures compactions { IfOk result (λ registry.
-            (part : Records) → IsCompactionOf part set.now → registry ≡ last_records part) }
+            (part : Records) → KeepsLasts part set.now → registry ≡ last_records part) }
     {
         last_records_are_enough();
         let last = LastRecords::of(set)?;
@@ -264,9 +266,13 @@ impl Registry {
         self.index.last.is_compact();
     }
 
-    /// The last records, one a key. The only error is out of memory.
+    /// The last records, each once: one a key, by the derived order of keys. The only error is out of
+    /// memory.
     pub fn records(&self) -> Result<Vec<&Record>, AllocError>
-        ensures { IfOk result (λ found. self.now ≡ set.from_list (map (λ r. r.now) found.items)) }
+        ensures all { IfOk result (λ found. self.now
+            ≡ set.from_list (map (λ r. r.now) found.items)) }
+        ensures one_a_key { IfOk result (λ found.
+            IsStrictlySortedBy key_cmp (map (λ r. r.now.key) found.items)) }
     {
         self.index.last.records(self.index.alloc)
     }

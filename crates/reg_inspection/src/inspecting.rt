@@ -1,26 +1,27 @@
 // The inspection of a log as a filter from a reader to a writer.
-ghost use Rattle.std.specs.Prelude.{IfErr, IfOk, IfSome};
+ghost use Rattle.std.specs.Prelude.{IfErr, IfOk, IfSome, OnOk};
 ghost use Rattle.reg_journal.specs.Found.{HasFault};
-ghost use Rattle.reg_keeping.specs.Filter.{IsFilterRefusal};
+ghost use Rattle.reg_keeping.specs.Filter.{IsFilterRefusal, IsFlushed};
 ghost use Rattle.reg_inspection.specs.Inspection.{Describes, Reports};
 
 use crate::inspection::inspected;
 use crate::laws::no_obstacle_is_open;
 use reg_keeping::{FilterError, filter_error, read_input, write_output};
-use reg_records::LogError;
+use reg_records::{LogError, Output};
 use std::alloc::Global;
-use std::io::{Read, Write};
+use std::io::Read;
 
 /// Reads a log to the end of the input, writes what it holds and what keeps it from being served, a line a fact, and
 /// says whether nothing does. What stands behind the log's empty line is left out. The log is read to its end before
 /// the first byte is written.
-pub fn inspect<R: Read, W: Write>(
+pub fn inspect<R: Read, W: Output>(
     alloc: Global,
     reader: &mut R,
     writer: &mut W,
 ) -> Result<bool, FilterError>
     ensures written { IfOk result (λ servable. IfSome (R.remaining reader.old) (λ input.
         Reports input servable (W.contents writer.old) (W.contents writer.new))) }
+    ensures flushed { OnOk result (IsFlushed W.contents W.flushes writer.new) }
     ensures refused { IfErr result (IsFilterRefusal (R.remaining reader.old) (W.contents writer.old) (W.contents writer.new)) }
 {
     let input = read_input(alloc, reader)?;

@@ -118,6 +118,19 @@ impl<D: Disk> Journal<D> {
         &self.disk
     }
 
+    /// The disk, for whoever goes on with it.
+    pub fn into_disk(self) -> D
+        ensures { result ≡ self.disk }
+    {
+        let Journal {
+            disk,
+            end: _,
+            lines: _,
+            is_broken: _,
+        } = self;
+        disk
+    }
+
     /// Where the file's empty line stands.
     pub fn end(&self) -> usize
         ensures { result ≡ self.now.end }

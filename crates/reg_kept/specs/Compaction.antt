@@ -5,7 +5,7 @@ use Rattle.reg_set.specs.Compaction.{IsCompactionBelow}
 use Rattle.reg_set.specs.LastRecords.{last_records}
 use Rattle.reg_set.specs.Records.{Records}
 use Rattle.reg_kept.specs.Floored.{Floored}
-pub use Rattle.reg_set.specs.Compaction.{IsCompactionOf as KeepsLasts}
+pub use Rattle.reg_set.specs.Compaction.{KeepsLasts}
 
 -- a compaction of the whole below its own floor, which is no lower than that of the whole
 pub record IsCompactionOf (compaction whole : Floored) : Type 0 where

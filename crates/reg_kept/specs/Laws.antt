@@ -10,6 +10,7 @@ use Rattle.reg_set.specs.Records.{Records}
 use Rattle.reg_kept.specs.Compaction.{IsCompactionOf, KeepsLasts, standing}
 use Rattle.reg_kept.specs.Floored.{Floored}
 use Rattle.reg_kept.specs.Floors.{below, compacted_to, may_leave, merged, rebased, without}
+pub use Rattle.reg_set.specs.Join.{KeepingLastsUnites}
 
 abbrev pub MergingIsCommutative : Type 0
 MergingIsCommutative = (R S : Floored) → R.floor ≡ S.floor → merged R S ≡ merged S R
@@ -68,11 +69,7 @@ CompactingDropsWhatMayLeave = (floor : ℕ) (kept : Records) (dropped : List Rec
     → ((r : Record) → contains (from_list {R = record_cmp} dropped) r ≡ (contains kept r && not (contains (compacted_to floor kept) r)))
     → (may_leave floor kept dropped ≡ true) × (without kept dropped ≡ compacted_to floor kept)
 
--- sets that keep each last record may be merged
-abbrev pub KeepingLastsUnites : Type 0
-KeepingLastsUnites = (C R D S : Records) → KeepsLasts C R → KeepsLasts D S → KeepsLasts (union C D) (union R S)
-
--- and rebased, where the wholes are rebased likewise
+-- sets that keep each last record may be rebased, where the wholes are rebased likewise
 abbrev pub RebasingKeepsLasts : Type 0
 RebasingKeepsLasts = (C R : Records) (other : Floored) → KeepsLasts C R → KeepsLasts (rebased C other) (rebased R other)
 

@@ -96,8 +96,8 @@ impl KeptSet {
         self.set.contains(given)
     }
 
-    /// Copies of the records, by offset, then by key, then no value before a text, then by the text's
-    /// bytes. The only error is out of memory.
+    /// Copies of the records, each once: by offset, then by the text that is written for the key, by
+    /// bytes, then no value before a text, then by the text's bytes. The only error is out of memory.
     pub fn records(&self) -> Result<Vec<Record>, AllocError>
         ensures all { IfOk result (λ found. found.items ≡ records_of self.now.records) }
         ensures in_order { IfOk result (λ found. IsTrue (is_in_order found.items)) }

@@ -19,7 +19,7 @@ use Rattle.reg_level_names.specs.Level.{is_level, level_text}
 use Rattle.reg_level_names.specs.declared.level.Level.{Level}
 use Rattle.reg_level_names.specs.declared.level.Level.TheVariants as levels
 use Rattle.reg_modes.specs.InForce.{mode, own_mode}
-use Rattle.reg_modes.specs.Permitted.{must_allow_registration, must_allow_writes}
+use Rattle.reg_modes.specs.Permitted.{may_register, may_write}
 use Rattle.reg_values.specs.Value.{value_of}
 use Rattle.reg_records.specs.Written.{HasLine, IsInLimits, IsVersionOrId, written_value}
 use Rattle.reg_values.specs.OfKey.{IsValueOf}
@@ -197,30 +197,30 @@ module _ (limits : EntriesAreInLimits) (marks : IdMarkIsInLimits) (rs : Records)
   course-sound (commands.Register subject text) =
       of_found _ (schema_of text) _ _ (λ schema is.
       of_then _ (test.must_have_valid_defaults schema) _ (open-sound _ (
-      of_then _ (must_allow_registration (mode rs (Some subject)) false) _ (
+      of_then _ (may_register (mode rs (Some subject)) false) _ (
       of_found _ (newest (filter (has_schema schema.normal_text) (live rs subject))) _ _ (λ same _. All-nil IsSound) (λ _ _.
       writes-sound [] subject schema.normal_text (id_for rs schema.normal_text)
       (next_version rs subject) (known text schema is) (All-nil IsSound))))))
       (λ _. tt)
   course-sound (commands.ImportRegister subject text id version) =
       of_found _ (schema_of text) _ _ (λ schema is. open-sound _ (
-      of_then _ (must_allow_registration (mode rs (Some subject)) true) _ (
+      of_then _ (may_register (mode rs (Some subject)) true) _ (
       of_then _ (test.must_name_no_other rs id schema.normal_text) _ (
       of_then _ (test.must_be_above_mark rs id) _ (import_as-sound subject schema.normal_text id version (known text schema is))))))
       (λ _. tt)
   course-sound (commands.DeleteVersion subject version permanent) =
-      open-sound _ (of_then _ (must_allow_writes (mode rs (Some subject))) _ (of_then _ (test.must_stand rs subject) _ (
+      open-sound _ (of_then _ (may_write (mode rs (Some subject))) _ (of_then _ (test.must_stand rs subject) _ (
       of_found _ (version_meant rs subject version) _ _
       (λ e is. delete_entry-sound permanent e (meant-stands rs subject version e is) (meant-whole subject version e is)) (λ _. tt))))
   course-sound (commands.DeleteSubject subject permanent) =
-      open-sound _ (of_then _ (must_allow_writes (mode rs (Some subject))) _ (
+      open-sound _ (of_then _ (may_write (mode rs (Some subject))) _ (
       of_found _ (greatest_version rs subject) _ _ (λ greatest is. delete_all-sound subject permanent greatest is) (λ _. tt)))
   course-sound (commands.SetLevel scope level) =
       open-sound _ (
-      of_then _ (must_allow_writes (mode rs scope)) _
+      of_then _ (may_write (mode rs scope)) _
       (one_sound _ (record { key_fits = tt; value_fits = inr (_, refl, (scope, refl, levels-are_named level)) })))
   course-sound (commands.ClearLevel subject) =
-      open-sound _ (of_then _ (must_allow_writes (mode rs (Some subject))) _ (
+      open-sound _ (of_then _ (may_write (mode rs (Some subject))) _ (
       of_found _ (own_level rs (Some subject)) _ _ (λ level _. one_sound _ (record { key_fits = tt; value_fits = inl refl })) (λ _. tt)))
   course-sound (commands.SetMode scope mode force) =
       open-sound _ (

@@ -8,7 +8,7 @@ use Rattle.reg_fold.specs.InForce.{own_level}
 use Rattle.reg_fold.specs.Standing.{greatest_version, live, version_in}
 use Rattle.reg_fold.specs.declared.version_ref.VersionRef.TheVariants.{Number}
 use Rattle.reg_modes.specs.InForce.{mode, own_mode}
-use Rattle.reg_modes.specs.Permitted.{must_allow_registration, must_allow_writes}
+use Rattle.reg_modes.specs.Permitted.{may_register, may_write}
 use Rattle.reg_refusals.specs.declared.reason.Reason.TheVariants as reasons
 use Rattle.reg_refusals.specs.declared.refusal.Refusal.{Refusal}
 use Rattle.reg_refusals.specs.declared.refusal.Refusal.TheVariants as refusals
@@ -62,24 +62,24 @@ module _ (rs : Records) (n : ℕ) where
   course-none (commands.Register subject text) =
       of_found _ (schema_of text) _ _ (λ schema _.
       of_then _ (test.must_have_valid_defaults schema) _ (open-none _ (
-      of_then _ (must_allow_registration (mode rs (Some subject)) false) _ (
+      of_then _ (may_register (mode rs (Some subject)) false) _ (
       of_found _ (newest (filter (has_schema schema.normal_text) (live rs subject))) _ _ (λ same _ why e. cc) (λ _ _.
       writes-none [] subject schema.normal_text (id_for rs schema.normal_text) (next_version rs subject)))))) (λ _. tt)
   course-none (commands.ImportRegister subject text id version) =
       of_found _ (schema_of text) _ _ (λ schema _. open-none _ (
-      of_then _ (must_allow_registration (mode rs (Some subject)) true) _ (
+      of_then _ (may_register (mode rs (Some subject)) true) _ (
       of_then _ (test.must_name_no_other rs id schema.normal_text) _ (
       of_then _ (test.must_be_above_mark rs id) _ (import_as-none subject schema.normal_text id version))))) (λ _. tt)
   course-none (commands.DeleteVersion subject version permanent) =
-      open-none _ (of_then _ (must_allow_writes (mode rs (Some subject))) _ (of_then _ (test.must_stand rs subject) _ (
+      open-none _ (of_then _ (may_write (mode rs (Some subject))) _ (of_then _ (test.must_stand rs subject) _ (
       of_found _ (version_meant rs subject version) _ _ (λ e _. delete_entry-none permanent e) (λ _. tt))))
   course-none (commands.DeleteSubject subject permanent) =
-      open-none _ (of_then _ (must_allow_writes (mode rs (Some subject))) _ (
+      open-none _ (of_then _ (may_write (mode rs (Some subject))) _ (
       of_found _ (greatest_version rs subject) _ _ (λ greatest _. delete_all-none subject permanent greatest) (λ _. tt)))
-  course-none (commands.SetLevel scope level) = open-none _ (of_then _ (must_allow_writes (mode rs scope)) _ (λ why e. cc))
+  course-none (commands.SetLevel scope level) = open-none _ (of_then _ (may_write (mode rs scope)) _ (λ why e. cc))
   course-none (commands.ClearLevel subject) =
       open-none _ (
-      of_then _ (must_allow_writes (mode rs (Some subject))) _
+      of_then _ (may_write (mode rs (Some subject))) _
       (of_found _ (own_level rs (Some subject)) _ _ (λ level _ why e. cc) (λ _. tt)))
   course-none (commands.SetMode scope mode force) = open-none _ (of_then _ (test.must_allow_mode rs scope mode force) _ (λ why e. cc))
   course-none (commands.ClearMode subject) = open-none _ (of_found _ (own_mode rs (Some subject)) _ _ (λ mode _ why e. cc) (λ _. tt))

@@ -10,7 +10,7 @@ use Rattle.reg_fold.specs.InForce.{own_level}
 use Rattle.reg_fold.specs.Standing.{greatest_version, live, version_in}
 use Rattle.reg_fold.specs.declared.version_ref.VersionRef.TheVariants.{Number}
 use Rattle.reg_modes.specs.InForce.{mode, own_mode}
-use Rattle.reg_modes.specs.Permitted.{must_allow_registration, must_allow_writes}
+use Rattle.reg_modes.specs.Permitted.{may_register, may_write}
 use Rattle.reg_records.specs.declared.record.Record.{Record}
 use Rattle.reg_refusals.specs.declared.reason.Reason.TheVariants as reasons
 use Rattle.reg_refusals.specs.declared.refusal.Refusal.TheVariants as refusals
@@ -80,33 +80,33 @@ module _ (rs : Records) (n : ℕ) where
       of_then _ (test.must_have_valid_defaults schema) _ (
       of_then _ (test.must_be_open rs) _ (
       of_then _ (test.must_have_offset n) _ (
-      of_then _ (must_allow_registration (mode rs (Some subject)) _) _ (
+      of_then _ (may_register (mode rs (Some subject)) _) _ (
       of_found _ (newest (filter (has_schema schema.normal_text) (live rs subject))) _ _ (λ same e. inl tt) (λ _ meets.
       writes-of [] subject schema.normal_text (id_for rs schema.normal_text) (next_version rs subject) tt)))))) (λ _. tt)
   course-names (commands.ImportRegister subject text id version) =
       of_found _ (schema_of text) _ _ (λ schema known.
       of_then _ (test.must_be_open rs) _ (
       of_then _ (test.must_have_offset n) _ (
-      of_then _ (must_allow_registration (mode rs (Some subject)) _) _ (
+      of_then _ (may_register (mode rs (Some subject)) _) _ (
       of_then _ (test.must_name_no_other rs id schema.normal_text) _ (
       of_then _ (test.must_be_above_mark rs id) _ (
       import_as-of subject schema.normal_text id version)))))) (λ _. tt)
   course-names (commands.DeleteVersion subject version permanent) =
       of_then _ (test.must_be_open rs) _ (
       of_then _ (test.must_have_offset n) _ (
-      of_then _ (must_allow_writes (mode rs (Some subject))) _ (
+      of_then _ (may_write (mode rs (Some subject))) _ (
       of_then _ (test.must_stand rs subject) _ (
       of_found _ (version_meant rs subject version) _ _ (λ e _. delete_entry-of permanent e) (λ _. tt)))))
   course-names (commands.DeleteSubject subject permanent) =
       of_then _ (test.must_be_open rs) _ (
       of_then _ (test.must_have_offset n) _ (
-      of_then _ (must_allow_writes (mode rs (Some subject))) _ (
+      of_then _ (may_write (mode rs (Some subject))) _ (
       of_found _ (greatest_version rs subject) _ _ (λ greatest is. delete_all-of subject permanent greatest is) (λ _. tt))))
   course-names (commands.SetLevel scope level) =
       of_then _ (test.must_be_open rs) _
-      (of_then _ (test.must_have_offset n) _ (of_then _ (must_allow_writes (mode rs scope)) _ (inl (refl, tt))))
+      (of_then _ (test.must_have_offset n) _ (of_then _ (may_write (mode rs scope)) _ (inl (refl, tt))))
   course-names (commands.ClearLevel subject) =
-      of_then _ (test.must_be_open rs) _ (of_then _ (test.must_have_offset n) _ (of_then _ (must_allow_writes (mode rs (Some subject))) _ (
+      of_then _ (test.must_be_open rs) _ (of_then _ (test.must_have_offset n) _ (of_then _ (may_write (mode rs (Some subject))) _ (
       of_found _ (own_level rs (Some subject)) _ _ (λ level _. inl (refl, tt)) (λ _. tt))))
   course-names (commands.SetMode scope mode force) =
       of_then _ (test.must_be_open rs) _

@@ -15,7 +15,7 @@ use Rattle.reg_fold.specs.Standing.{greatest_version, live, named, version_in}
 use Rattle.reg_fold.specs.declared.version_ref.VersionRef.{VersionRef}
 use Rattle.reg_fold.specs.declared.version_ref.VersionRef.TheVariants.{Number}
 use Rattle.reg_modes.specs.InForce.{mode, own_mode}
-use Rattle.reg_modes.specs.Permitted.{granted, must_allow_registration, must_allow_writes}
+use Rattle.reg_modes.specs.Permitted.{granted, may_register, may_write}
 use Rattle.reg_records.specs.Written.{IsVersionOrId}
 use Rattle.reg_records.specs.declared.key.Key.TheVariants as keys
 use Rattle.reg_records.specs.declared.value.Value.TheVariants as values
@@ -159,7 +159,7 @@ module _ (one : NoneIsOneTextEach) (read : EntriesAreRead) (fits : EntriesAreInL
       of_then _ (test.must_have_valid_defaults schema) _ (
       of_passed _ (test.must_be_open rs) _ (λ is.
       of_then _ (test.must_have_offset n) _ (
-      of_then _ (must_allow_registration (mode rs (Some subject)) _) _ (
+      of_then _ (may_register (mode rs (Some subject)) _) _ (
       of_found _ (newest (filter (has_schema schema.normal_text) (live rs subject))) _ _ (λ same e. inl tt) (λ _ meets.
       let id = id_for rs schema.normal_text in
       let names = new_id-only rs (one_schema one rs (open_passed rs is)) schema.normal_text in
@@ -199,7 +199,7 @@ module _ (one : NoneIsOneTextEach) (read : EntriesAreRead) (fits : EntriesAreInL
       of_found _ (schema_of text) _ _ (λ schema known.
       of_passed _ (test.must_be_open rs) _ (λ is.
       of_then _ (test.must_have_offset n) _ (
-      of_then _ (must_allow_registration (mode rs (Some subject)) _) _ (
+      of_then _ (may_register (mode rs (Some subject)) _) _ (
       of_passed _ (test.must_name_no_other rs id schema.normal_text) _ (λ names.
       of_passed _ (test.must_be_above_mark rs id) _ (λ above.
       let no_other = if_passed (names_another rs id schema.normal_text) (refusals.NotPermitted reasons.IdNamesAnotherSchema) names in
@@ -235,7 +235,7 @@ module _ (one : NoneIsOneTextEach) (read : EntriesAreRead) (fits : EntriesAreInL
   delete_version-of subject version permanent =
       of_passed _ (test.must_be_open rs) _ (λ is.
       of_then _ (test.must_have_offset n) _ (
-      of_then _ (must_allow_writes (mode rs (Some subject))) _ (
+      of_then _ (may_write (mode rs (Some subject))) _ (
       of_then _ (test.must_stand rs subject) _ (
       of_found _ (version_meant rs subject version) _ _
       (λ e meant. delete_entry-of (open_passed rs is) permanent e (meant-stands rs subject version e meant)) (λ _. tt)))))
@@ -251,7 +251,7 @@ module _ (one : NoneIsOneTextEach) (read : EntriesAreRead) (fits : EntriesAreInL
   delete_subject-of subject permanent =
       of_then _ (test.must_be_open rs) _ (
       of_then _ (test.must_have_offset n) _ (
-      of_then _ (must_allow_writes (mode rs (Some subject))) _ (
+      of_then _ (may_write (mode rs (Some subject))) _ (
       of_found _ (greatest_version rs subject) _ _ (λ greatest is. delete_all-of subject permanent greatest is) (λ _. tt))))
 
   pub course-sorted : (c : Command) → Sorted (course_of rs n c)
@@ -261,9 +261,9 @@ module _ (one : NoneIsOneTextEach) (read : EntriesAreRead) (fits : EntriesAreInL
   course-sorted (commands.DeleteSubject subject permanent) = delete_subject-of subject permanent
   course-sorted (commands.SetLevel scope level) =
       of_then _ (test.must_be_open rs) _
-      (of_then _ (test.must_have_offset n) _ (of_then _ (must_allow_writes (mode rs scope)) _ (inl ((refl, λ e. cc), tt))))
+      (of_then _ (test.must_have_offset n) _ (of_then _ (may_write (mode rs scope)) _ (inl ((refl, λ e. cc), tt))))
   course-sorted (commands.ClearLevel subject) =
-      of_then _ (test.must_be_open rs) _ (of_then _ (test.must_have_offset n) _ (of_then _ (must_allow_writes (mode rs (Some subject))) _ (
+      of_then _ (test.must_be_open rs) _ (of_then _ (test.must_have_offset n) _ (of_then _ (may_write (mode rs (Some subject))) _ (
       of_found _ (own_level rs (Some subject)) _ _ (λ level _. inl ((refl, λ e. cc), tt)) (λ _. tt))))
   course-sorted (commands.SetMode scope mode force) =
       of_then _ (test.must_be_open rs) _

@@ -11,7 +11,7 @@ use Rattle.reg_levels.specs.Message.{message_of}
 use Rattle.reg_levels.specs.RequiredPairs.{Required, required_pairs}
 use Rattle.reg_levels.specs.Texts.{TextsMeet, VersionText, nodes_in, versions_in}
 use Rattle.reg_modes.specs.InForce.{mode}
-use Rattle.reg_modes.specs.Permitted.{must_allow_registration}
+use Rattle.reg_modes.specs.Permitted.{may_register}
 use Rattle.reg_records.specs.declared.record.Record.{Record}
 use Rattle.reg_set.specs.Records.{Records}
 use Rattle.reg_rules.specs.Report.{IsClash}
@@ -93,7 +93,7 @@ module _ (rs : Records) (n : ℕ) where
       of_then _ (test.must_have_valid_defaults schema) _ (
       of_then _ (test.must_be_open rs) _ (
       of_then _ (test.must_have_offset n) _ (
-      of_then _ (must_allow_registration (mode rs (Some subject)) _) _ (
+      of_then _ (may_register (mode rs (Some subject)) _) _ (
       of_found _ (newest (filter (has_schema schema.normal_text) (live rs subject))) _ _ (λ same e. inl refl) (λ _ meets.
       writes-of subject text schema (id_for rs schema.normal_text) (next_version rs subject) known meets)))))) (λ _. tt)
 

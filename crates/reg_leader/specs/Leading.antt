@@ -5,7 +5,7 @@ use Rattle.reg_fold.specs.InForce.{level}
 use Rattle.reg_fold.specs.Standing.{live}
 use Rattle.reg_levels.specs.Texts.{TextsMeet}
 use Rattle.reg_modes.specs.InForce.{mode}
-use Rattle.reg_modes.specs.Permitted.{must_allow_registration}
+use Rattle.reg_modes.specs.Permitted.{may_register}
 use Rattle.reg_refusals.specs.Refusal.{no_memory}
 use Rattle.reg_refusals.specs.declared.refusal.Refusal.{Refusal}
 use Rattle.reg_set.specs.Records.{Records}
@@ -50,7 +50,7 @@ before rs n subject text checked =
     test.must_have_valid_defaults schema
     ▸ test.must_be_open rs
     ▸ test.must_have_offset n
-    ▸ must_allow_registration (mode rs (Some subject)) false
+    ▸ may_register (mode rs (Some subject)) false
     ▸ where_found (newest (filter (has_schema schema.normal_text) (live rs subject)))
     (λ same. Does (replies.Id same.id) []) (checked schema.normal_text))
 

@@ -12,7 +12,7 @@ use Rattle.reg_fold.specs.declared.version_ref.VersionRef.{VersionRef}
 use Rattle.reg_fold.specs.declared.version_ref.VersionRef.TheVariants.{Latest, Number}
 use Rattle.reg_level_names.specs.declared.level.Level.{Level}
 use Rattle.reg_modes.specs.InForce.{mode, own_mode}
-use Rattle.reg_modes.specs.Permitted.{must_allow_registration, must_allow_writes}
+use Rattle.reg_modes.specs.Permitted.{may_register, may_write}
 use Rattle.reg_modes.specs.declared.mode.Mode.{Mode}
 use Rattle.reg_records.specs.declared.record.Record.{Record}
 use Rattle.reg_refusals.specs.declared.reason.Reason.TheVariants as reasons
@@ -109,7 +109,7 @@ module _ (rs : Records) (n : ℕ) where
       test.must_have_valid_defaults schema
       ▸ test.must_be_open rs
       ▸ test.must_have_offset n
-      ▸ must_allow_registration (mode rs (Some subject)) false
+      ▸ may_register (mode rs (Some subject)) false
       ▸ where_found (newest (filter (has_schema schema.normal_text) (live rs subject))) (λ same. Does (replies.Id same.id) []) (
       IfMet (level rs (Some subject)) schema.normal_text (texts_of (live rs subject)) (
       writes [] subject schema.normal_text (id_for rs schema.normal_text) (next_version rs subject)
@@ -121,7 +121,7 @@ module _ (rs : Records) (n : ℕ) where
       where_read text (λ schema.
       test.must_be_open rs
       ▸ test.must_have_offset n
-      ▸ must_allow_registration (mode rs (Some subject)) true
+      ▸ may_register (mode rs (Some subject)) true
       ▸ test.must_name_no_other rs id schema.normal_text
       ▸ test.must_be_above_mark rs id
       ▸ import_as rs subject schema.normal_text id version
@@ -131,7 +131,7 @@ module _ (rs : Records) (n : ℕ) where
   delete_version subject version permanent =
       test.must_be_open rs
       ▸ test.must_have_offset n
-      ▸ must_allow_writes (mode rs (Some subject))
+      ▸ may_write (mode rs (Some subject))
       ▸ test.must_stand rs subject
       ▸ where_found (version_meant rs subject version) (delete_entry rs permanent) (Refused (no_version version))
 
@@ -139,21 +139,21 @@ module _ (rs : Records) (n : ℕ) where
   delete_subject subject permanent =
       test.must_be_open rs
       ▸ test.must_have_offset n
-      ▸ must_allow_writes (mode rs (Some subject))
+      ▸ may_write (mode rs (Some subject))
       ▸ where_found (greatest_version rs subject) (delete_all rs subject permanent) (Refused refusals.SubjectNotFound)
 
   abbrev pub set_level : Scope → Level → Course
   set_level scope level =
       test.must_be_open rs
       ▸ test.must_have_offset n
-      ▸ must_allow_writes (mode rs scope)
+      ▸ may_write (mode rs scope)
       ▸ Does (replies.Level level) (level_set scope level ∷ [])
 
   abbrev pub clear_level : List ℕ → Course
   clear_level subject =
       test.must_be_open rs
       ▸ test.must_have_offset n
-      ▸ must_allow_writes (mode rs (Some subject))
+      ▸ may_write (mode rs (Some subject))
       ▸ where_found (own_level rs (Some subject))
       (λ level. Does (replies.LevelRemoved level) (level_cleared subject ∷ [])) (Refused refusals.SubjectHasNoLevel)
 

@@ -34,7 +34,7 @@ pub enum Command {
         subject: Option<Text>,
         level: Level,
     },
-    /// LeadsTo the subject's own level away.
+    /// Takes the subject's own level away.
     ClearLevel(Text),
     /// `force` sets IMPORT over live versions too.
     SetMode {
@@ -42,7 +42,7 @@ pub enum Command {
         mode: Mode,
         force: bool,
     },
-    /// LeadsTo the subject's own mode away.
+    /// Takes the subject's own mode away.
     ClearMode(Text),
     Noop,
 }

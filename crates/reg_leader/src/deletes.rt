@@ -11,7 +11,7 @@ use crate::marking::marked;
 use crate::reply::Reply;
 use base_text::{Listed, Text};
 use reg_fold::{Entry, Refusal, Registry, VersionRef};
-use reg_modes::{mode_in_force, must_allow_writes};
+use reg_modes::{may_write, mode_in_force};
 use reg_rules::{Writing, must_be_open, must_have_offset, must_stand};
 use std::alloc::{AllocError, Global};
 
@@ -27,7 +27,7 @@ pub(crate) fn delete_version(
 {
     must_be_open(registry)?;
     must_have_offset(next)?;
-    must_allow_writes(mode_in_force(registry, Some(subject.as_str())))?;
+    may_write(mode_in_force(registry, Some(subject.as_str())))?;
     must_stand(registry, subject)?;
     let Some(entry) = version_meant(registry, subject, version)? else {
         return Err(no_version(version));
@@ -102,7 +102,7 @@ pub(crate) fn delete_subject(
 {
     must_be_open(registry)?;
     must_have_offset(next)?;
-    must_allow_writes(mode_in_force(registry, Some(subject.as_str())))?;
+    may_write(mode_in_force(registry, Some(subject.as_str())))?;
     let Some(greatest) = registry.greatest_version(subject.as_str()) else {
         return Err(Refusal::SubjectNotFound);
     };

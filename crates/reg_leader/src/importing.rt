@@ -10,7 +10,7 @@ use crate::reply::Reply;
 use avro_schema::Schema;
 use base_text::Text;
 use reg_fold::{Entry, Reason, Refusal, Registry, VersionRef};
-use reg_modes::{mode_in_force, must_allow_registration};
+use reg_modes::{may_register, mode_in_force};
 use reg_rules::{
     is_of, live_import, must_be_above_mark, must_be_open, must_have_offset, must_name_no_other,
     read_schema,
@@ -31,7 +31,7 @@ pub(crate) fn import_register(
     let schema = read_schema(alloc, text)?;
     must_be_open(registry)?;
     must_have_offset(next)?;
-    must_allow_registration(mode_in_force(registry, Some(subject.as_str())), true)?;
+    may_register(mode_in_force(registry, Some(subject.as_str())), true)?;
     must_name_no_other(registry, id, schema.normal())?;
     must_be_above_mark(registry, id)?;
     match version {

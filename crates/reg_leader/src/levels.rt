@@ -8,7 +8,7 @@ use crate::reply::Reply;
 use base_text::Text;
 use reg_fold::{Refusal, Registry};
 use reg_level_names::Level;
-use reg_modes::{mode_in_force, must_allow_writes};
+use reg_modes::{may_write, mode_in_force};
 use reg_rules::{Writing, must_be_open, must_have_offset, subject_of};
 use std::alloc::Global;
 
@@ -34,7 +34,7 @@ pub(crate) fn set_level(
 {
     must_be_open(registry)?;
     must_have_offset(next)?;
-    must_allow_writes(mode_in_force(registry, subject_of(scope)))?;
+    may_write(mode_in_force(registry, subject_of(scope)))?;
     let writing = Writing::level_set(alloc, scope, level)?;
     Ok(Deed {
         reply: Reply::Level(level),
@@ -52,7 +52,7 @@ pub(crate) fn clear_level(
 {
     must_be_open(registry)?;
     must_have_offset(next)?;
-    must_allow_writes(mode_in_force(registry, Some(subject.as_str())))?;
+    may_write(mode_in_force(registry, Some(subject.as_str())))?;
     let Some(level) = registry.own_level(Some(subject.as_str())) else {
         return Err(Refusal::SubjectHasNoLevel);
     };

@@ -11,7 +11,7 @@ use avro_schema::Schema;
 use base_text::Text;
 use reg_fold::{Refusal, Registry};
 use reg_levels::Judged;
-use reg_modes::{mode_in_force, must_allow_registration};
+use reg_modes::{may_register, mode_in_force};
 use reg_rules::{
     Writing, clash_of, live_schema, must_be_number, must_be_open, must_have_offset,
     must_have_valid_defaults, read_schema,
@@ -51,7 +51,7 @@ fn candidate(
     must_have_valid_defaults(&schema)?;
     must_be_open(registry)?;
     must_have_offset(next)?;
-    must_allow_registration(mode_in_force(registry, Some(subject.as_str())), false)?;
+    may_register(mode_in_force(registry, Some(subject.as_str())), false)?;
     let live = registry.live(subject.as_str())?;
     match live_schema(&live, schema.normal().as_str()) {
         Some(same) => Ok(Candidate::Live(same.id)),

@@ -16,6 +16,7 @@ pub use direction::Direction;
 pub use judged::{Judged, copy_of};
 pub use judged_error::JudgedError;
 pub use message::ClashMessage;
+pub use reg_level_names::Level;
 pub use texts::{check_read_texts, check_texts, lend_texts};
 pub use verdict::LevelVerdict;
 pub use versions::versions_rise;

@@ -1,6 +1,6 @@
 -- The answer to a query where rs are the last records.
 use Rattle.std.specs.Prelude.{◌≡◌, ◌↔◌, Ok, Some}
-use Rattle.reg_set.specs.Compaction.{IsCompactionOf}
+use Rattle.reg_set.specs.Compaction.{KeepsLasts}
 use Rattle.reg_set.specs.LastRecords.{last_records}
 use Rattle.reg_set.specs.Records.{Records}
 use Rattle.reg_fold.specs.Entries.{entries}
@@ -37,7 +37,7 @@ HaveOneAnswer = (rs : Records) (query : Query) (a b : Answer) → IsAnswer rs qu
 abbrev pub IsAnswerOver : Records → Query → Answer → Type 0
 IsAnswerOver set query a = IsAnswer (last_records set) query a
 
--- two sets that are compactions of one answer alike
-abbrev pub CompactionsAnswerAlike : Type 0
-CompactionsAnswerAlike = (part whole : Records) → IsCompactionOf part whole → (query : Query) (a : Answer)
+-- a set and each part that keeps its last records answer alike
+abbrev pub KeepingLastsAnswersAlike : Type 0
+KeepingLastsAnswersAlike = (part whole : Records) → KeepsLasts part whole → (query : Query) (a : Answer)
     → IsAnswerOver part query a ↔ IsAnswerOver whole query a

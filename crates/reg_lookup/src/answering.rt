@@ -1,6 +1,6 @@
 // The answer to a query.
 ghost use Rattle.std.specs.Prelude.{◌≡◌, IfOk, option_map};
-ghost use Rattle.reg_set.specs.Compaction.{IsCompactionOf};
+ghost use Rattle.reg_set.specs.Compaction.{KeepsLasts};
 ghost use Rattle.reg_set.specs.LastRecords.{last_records};
 ghost use Rattle.reg_set.specs.Records.{Records};
 ghost use Rattle.reg_lookup.specs.Answers.{IsAnswer, IsAnswerOver, HaveOneAnswer};
@@ -10,7 +10,7 @@ use crate::by_id::{id_versions, schema_by_id};
 use crate::by_schema::lookup;
 use crate::by_subject::{subjects, version, version_schema, versions};
 use crate::checked::check_answer;
-use crate::laws::{compactions_answer_alike, queries_have_one_answer};
+use crate::laws::{keeping_lasts_answers_alike, queries_have_one_answer};
 use crate::query::Query;
 use crate::settings::{level_found, mode_found};
 use base_text::Text;
@@ -19,15 +19,16 @@ use std::alloc::{AllocError, Global};
 
 /// The answer to a query; a refusal is one too. The only error is out of memory.
 ///
-/// A registry over a set of records answers as one over a compaction of that set does, to the byte.
+/// A registry over a set of records answers as one over a part that keeps its last records does, to
+/// the byte.
 pub fn answer(alloc: Global, registry: &Registry, query: &Query) -> Result<Answer, AllocError>
     ensures answered { IfOk result (IsAnswer registry.now query.now) }
     ensures one_answer { HaveOneAnswer }
     ensures compactions { IfOk result (λ a. (part whole : Records) → registry.now ≡ last_records whole
-        → IsCompactionOf part whole → IsAnswerOver part query.now a) }
+        → KeepsLasts part whole → IsAnswerOver part query.now a) }
 {
     queries_have_one_answer();
-    compactions_answer_alike();
+    keeping_lasts_answers_alike();
     answer_by_kind(alloc, registry, query)
 }
 

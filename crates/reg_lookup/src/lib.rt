@@ -18,5 +18,5 @@ mod settings;
 pub use answered::Answer;
 pub use answering::answer;
 pub use checked::Grounds;
-pub use laws::{compactions_answer_alike, queries_have_one_answer};
+pub use laws::{keeping_lasts_answers_alike, queries_have_one_answer};
 pub use query::Query;

@@ -21,20 +21,20 @@ abbrev pub denied : Reason → Permit
 denied reason = Err (NotPermitted reason)
 
 -- a registration, with an id or without one
-abbrev pub must_allow_registration : Mode → Bool → Permit
-must_allow_registration Readonly has_id = denied reasons.Readonly
-must_allow_registration Readwrite true = denied reasons.IdNeedsImport
-must_allow_registration Readwrite false = granted
-must_allow_registration Import true = granted
-must_allow_registration Import false = denied reasons.ImportNeedsId
+abbrev pub may_register : Mode → Bool → Permit
+may_register Readonly has_id = denied reasons.Readonly
+may_register Readwrite true = denied reasons.IdNeedsImport
+may_register Readwrite false = granted
+may_register Import true = granted
+may_register Import false = denied reasons.ImportNeedsId
 
 -- a delete, or a change of a level
-abbrev pub must_allow_writes : Mode → Permit
-must_allow_writes Readonly = denied reasons.Readonly
-must_allow_writes Readwrite = granted
-must_allow_writes Import = granted
+abbrev pub may_write : Mode → Permit
+may_write Readonly = denied reasons.Readonly
+may_write Readwrite = granted
+may_write Import = granted
 
 -- setting IMPORT: not over a live version of the scope, unless it is forced
-abbrev pub must_allow_import : Records → Scope → Bool → Permit
-must_allow_import rs scope force =
+abbrev pub may_set_import : Records → Scope → Bool → Permit
+may_set_import rs scope force =
     if not force && has_live (entries rs) scope then denied reasons.ScopeIsNotEmpty else granted

@@ -7,4 +7,4 @@ mod permitted;
 
 pub use in_force::{mode_in_force, own_mode};
 pub use mode::Mode;
-pub use permitted::{must_allow_import, must_allow_registration, must_allow_writes};
+pub use permitted::{may_register, may_set_import, may_write};

@@ -7,8 +7,8 @@ use reg_fold::{Reason, Refusal, Registry};
 
 /// Refuses where the mode permits no registration with an id, or without one. The only refusal is
 /// `NotPermitted`, with its reason.
-pub fn must_allow_registration(mode: Mode, has_id: bool) -> Result<(), Refusal>
-    ensures { result ≡ spec.must_allow_registration mode has_id }
+pub fn may_register(mode: Mode, has_id: bool) -> Result<(), Refusal>
+    ensures { result ≡ spec.may_register mode has_id }
 {
     match (mode, has_id) {
         (Mode::Readonly, _) => Err(Refusal::NotPermitted(Reason::Readonly)),
@@ -20,8 +20,8 @@ pub fn must_allow_registration(mode: Mode, has_id: bool) -> Result<(), Refusal>
 
 /// Refuses where the mode permits no deletes and changes of levels. The only refusal is
 /// `NotPermitted`, with its reason.
-pub fn must_allow_writes(mode: Mode) -> Result<(), Refusal>
-    ensures { result ≡ spec.must_allow_writes mode }
+pub fn may_write(mode: Mode) -> Result<(), Refusal>
+    ensures { result ≡ spec.may_write mode }
 {
     match mode {
         Mode::Readonly => Err(Refusal::NotPermitted(Reason::Readonly)),
@@ -31,12 +31,12 @@ pub fn must_allow_writes(mode: Mode) -> Result<(), Refusal>
 
 /// Refuses to set a subject, or all subjects, to IMPORT where a version of theirs is live and it isn't
 /// forced. The only refusal is `NotPermitted`, with its reason.
-pub fn must_allow_import(
+pub fn may_set_import(
     registry: &Registry,
     subject: Option<&str>,
     force: bool,
 ) -> Result<(), Refusal>
-    ensures { result ≡ spec.must_allow_import registry.now (option_map (λ s. s.now) subject.entry) force }
+    ensures { result ≡ spec.may_set_import registry.now (option_map (λ s. s.now) subject.entry) force }
 {
     if !force && registry.has_live(subject) {
         return Err(Refusal::NotPermitted(Reason::ScopeIsNotEmpty));

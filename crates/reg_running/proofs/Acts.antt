@@ -190,7 +190,9 @@ module _ {K : Type 0} (count node : ℕ) (there : node < count) (base : Topic) w
       ([], added_none count base l.published m.published (ap (λ (s : PenState K). s.published) h.2))
   refused_so floor l m (refused.FloorAhead next) pen h =
       ([], added_none count base l.published m.published (ap (λ (s : PenState K). s.published) h.3))
-  refused_so floor l m refused.Unsettled pen h = leaves_so floor l m pen h.1
+  refused_so floor l m refused.OutOfMemory pen h = leaves_so floor l m pen h.1.1
+  refused_so floor l m refused.Lost pen h =
+      ([], added_none count base l.published m.published (ap (λ (s : PenState K). s.published) h.1.1))
 
   compacts_so : (floor : ℕ) (l m : PenState K) → IsPen base l.published l.pending
       → CompactsOrNot base floor l m → (acts : List Act) × Added count base l.published m.published acts

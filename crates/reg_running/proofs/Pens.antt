@@ -69,7 +69,8 @@ module _ {K : Type 0} (base : Topic) where
       → PendsRight base l → IsCompactRefusal base floor l error m → PendsRight base m
   refused_pend floor l m (refused.FloorBelow kept) pends h = subst (PendsRight base) (sym h.2) pends
   refused_pend floor l m (refused.FloorAhead next) pends h = subst (PendsRight base) (sym h.3) pends
-  refused_pend floor l m refused.Unsettled pends h = leaves_pend floor l m pends h.1
+  refused_pend floor l m refused.OutOfMemory pends h = leaves_pend floor l m pends h.1.1
+  refused_pend floor l m refused.Lost pends h = subst (PendsRight base) (sym h.1.1) pends
 
   compacts_pend : (floor : ℕ) (l m : PenState K) → PendsRight base l → CompactsOrNot base floor l m → PendsRight base m
   compacts_pend floor l m pends (inl done) = subst (PendsRight base) (sym done.3) tt

@@ -1,27 +1,28 @@
 -- The records of a map, none of which stands twice, put in order.
 use Rattle.std.proofs.Common.{◌≡◌, ℕ, suc, zero, ◌+◌, Bool, true, false, ◌||◌, List, [], ◌∷◌}
-use Rattle.std.proofs.Common.{◌++◌, get_or, Some, refl, sym, ap, subst, ◌∙◌, arith}
+use Rattle.std.proofs.Common.{◌++◌, get_or, nat_lt, Some, refl, sym, ap, subst, ◌∙◌, arith}
 use Rattle.std.proofs.lemmas.Bool.{false≢true}
+use Rattle.std.proofs.lemmas.Bool.Decides.{nat_tests}
 use Rattle.std.proofs.lemmas.Cmp.{tied_itself}
 use Rattle.std.proofs.lemmas.Map.Keys.{IsDistinct-IsPermutation, IsDistinct-from_sorted, apart_from_distinct, sorted_from_all_adjacent}
 use Rattle.std.specs.Cmp.{eq_by_cmp_equiv}
 use Rattle.std.specs.Global.{Vec}
-use Rattle.std.specs.List.{AllByRecursion, IsDistinct, list_any, list_all, slice_get}
+use Rattle.std.specs.List.{AllByRecursion, IsAllAdjacentAnswer, IsDistinct, list_any, list_all, slice_get}
 use Rattle.std.specs.List.Sorted.{IsPermutation, IsSortedBy, IsStrictlySortedBy}
 use Rattle.std.specs.Map.{keys_of}
-use Rattle.std.specs.Ordering.{eq_by_cmp, is_eq, is_lt, ordering_reverse}
+use Rattle.std.specs.Ordering.{eq_by_cmp, is_eq, is_lt, nat_cmp, ordering_reverse}
 use Rattle.std.specs.declared.cmp.Ordering.TheVariants.{Less, Equal, Greater}
 use Rattle.reg_records.specs.declared.key.Key.{Key}
 use Rattle.reg_records.specs.declared.record.Record.{Record}
 use Rattle.reg_set.specs.ByKey.{RecordLists, AreByKey, AreOf, all_records}
 use Rattle.reg_set.specs.LastRecords.{is_of}
-use Rattle.reg_set.specs.RecordOrder.{key_cmp, record_cmp}
+use Rattle.reg_set.specs.RecordOrder.{age_cmp, key_cmp, record_cmp}
 use Rattle.reg_set.specs.Records.{is_in_order}
 use Rattle.reg_set.proofs.InOrder.{both, first_of, second_of, itself, none_of_later}
 use Rattle.reg_set.proofs.Indexed.{key_cmp-itself}
-use Rattle.reg_set.proofs.Lasts.{at_any, is_of-is}
+use Rattle.reg_set.proofs.Lasts.{at_any, equal, is_of-is}
 use Rattle.reg_set.proofs.Listed.{Entries, listed, place_of, at_place}
-use Rattle.reg_set.proofs.Orders.{record_cmp-total}
+use Rattle.reg_set.proofs.Orders.{age_cmp-of_one_key, key_cmp-total, key_cmp-ties, record_cmp-total, record_cmp-by_offset}
 use Rattle.reg_set.proofs.Unions.{or_right}
 
 abbrev is_same : Record → Record → Bool
@@ -104,6 +105,29 @@ rise a b h apart =
       | Equal ↦ λ e. absurd (false≢true (sym apart ∙ ap is_eq e))
       | Greater ↦ λ e. absurd (false≢true (sym h ∙ ap is_lt (record_cmp-total.antisymm b a ∙ ap ordering_reverse e)))
     ] refl
+
+greater : (m n : ℕ) → nat_lt m n ≡ true → nat_cmp n m ≡ Greater
+greater m n h = grind (arith, nat_tests)
+
+-- by age, at different offsets and of one key, is in order
+rise_by_age : (a b : Record) → (nat_lt a.offset b.offset || is_eq (key_cmp a.key b.key)) ≡ true
+    → is_lt (age_cmp b a) ≡ false → is_lt (record_cmp b a) ≡ false
+rise_by_age a b h aged =
+    elim (nat_lt a.offset b.offset) as (λ t.
+    nat_lt a.offset b.offset ≡ t → (t || is_eq (key_cmp a.key b.key)) ≡ true → is_lt (record_cmp b a) ≡ false) [
+      | true ↦ λ e _.
+          let above = greater a.offset b.offset e in
+          ap is_lt (sym (record_cmp-by_offset b a (λ tie. let no : Greater ≡ Equal = sym above ∙ tie in absurd (cc))) ∙ above)
+      | false ↦ λ _ same.
+          let keys : a.key ≡ b.key = key_cmp-ties a.key b.key (equal _ same) in
+          ap is_lt (sym (age_cmp-of_one_key b a (ap (key_cmp b.key) keys ∙ tied_itself key_cmp-total b.key))) ∙ aged
+    ] refl h
+
+-- records in order by age, of which neighbours of one offset are of one key, are sorted
+pub sorted_by_age : (ys : List Record) → IsSortedBy (λ a b. is_lt (age_cmp a b)) ys
+    → IsAllAdjacentAnswer (λ a b answer. answer ≡ (nat_lt a.offset b.offset || is_eq (key_cmp a.key b.key))) ys true
+    → IsSortedBy (λ a b. is_lt (record_cmp a b)) ys
+sorted_by_age ys aged apart = λ k d low within. rise_by_age _ _ (sym (apart k d within)) (aged k d low within)
 
 -- sorted records of which none stands twice are in order
 pub sorted-in_order : (xs ys : List Record) → IsDistinct (eq_by_cmp record_cmp) xs

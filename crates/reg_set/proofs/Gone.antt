@@ -9,7 +9,7 @@ use Rattle.reg_records.specs.declared.record.Record.{Record}
 use Rattle.reg_set.specs.Compaction.{IsCompactionBelow, IsGone, deletes_below, is_kept_or_gone}
 use Rattle.reg_set.specs.LastRecords.{last}
 use Rattle.reg_set.specs.Records.{Records, records_of}
-use Rattle.reg_set.proofs.Compactions.{all_from}
+use Rattle.reg_set.proofs.KeptLasts.{all_from}
 use Rattle.reg_set.proofs.InOrder.{both, first_of, second_of, contains-records_of}
 use Rattle.reg_set.proofs.Lasts.{at_any, last-some}
 use Rattle.reg_set.proofs.Unions.{either, or_left, or_right}

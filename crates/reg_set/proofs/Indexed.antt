@@ -15,7 +15,7 @@ use Rattle.reg_set.specs.Join.{later}
 use Rattle.reg_set.specs.LastRecords.{last, is_last, last_records}
 use Rattle.reg_set.specs.RecordOrder.{age_cmp, key_cmp, record_cmp}
 use Rattle.reg_set.specs.Records.{Records, is_in_order}
-use Rattle.reg_set.proofs.Compactions.{contains-last_records, last_records_of_insert}
+use Rattle.reg_set.proofs.KeptLasts.{contains-last_records, last_records_of_insert}
 use Rattle.reg_set.proofs.InOrder.{both, first_of, second_of}
 use Rattle.reg_set.proofs.Lasts.{le_itself, any_filter, last-greatest, last-absent}
 use Rattle.reg_set.proofs.Orders.{key_cmp-total, record_cmp-total, record_cmp-ties}

@@ -13,12 +13,12 @@ use Rattle.std.specs.Ordering.{eq_by_cmp, is_le}
 use Rattle.reg_records.specs.declared.key.Key.{Key}
 use Rattle.reg_records.specs.declared.record.Record.{Record}
 use Rattle.reg_set.specs.ByKey.{RecordLists, AreByKey, AreOf, all_records, last_alone, set_of}
-use Rattle.reg_set.specs.Compaction.{IsCompactionOf}
+use Rattle.reg_set.specs.Compaction.{KeepsLasts}
 use Rattle.reg_set.specs.LastRecords.{is_of, last, last_records, IsGreatestOf}
 use Rattle.reg_set.specs.RecordOrder.{record_cmp}
 use Rattle.reg_set.specs.Records.{Records, records_of}
 use Rattle.reg_set.proofs.Alone.{alone-among, up_to_alone}
-use Rattle.reg_set.proofs.Compactions.{all_from, compaction_from, compaction_of_itself, compactions_unite, last_records_of_compaction}
+use Rattle.reg_set.proofs.KeptLasts.{all_from, keeps_lasts_from, keeps_own_lasts, keeping_lasts_unites, last_records_of_part}
 use Rattle.reg_set.proofs.InOrder.{both, first_of, second_of, contains-records_of}
 use Rattle.reg_set.proofs.Lasts.{at_any, is_of-is, IsGreatestOf-one, last-some}
 use Rattle.reg_set.proofs.Listed.{Entries, at_place, of_one_key, of_that_key, place_of}
@@ -56,9 +56,9 @@ module _ (key : Key) (rs : List Record) (of_key : AreOf key rs) (r : Record) (is
         ∙ at_any (λ x. is_le (record_cmp x r)) q rs (up_to_alone r rs of_key.in_order is_last) (in_rs q inside);
   }
 
-  last_is_compaction : IsCompactionOf (insert empty r) (from_list rs)
-  last_is_compaction =
-      compaction_from (insert empty r) (from_list rs)
+  last_keeps_lasts : KeepsLasts (insert empty r) (from_list rs)
+  last_keeps_lasts =
+      keeps_lasts_from (insert empty r) (from_list rs)
       (λ q h. ⊎_elim
       (λ e. ap (contains (from_list rs)) e ∙ (contains-from_list record_cmp-total rs r ∙ there))
       (λ k. absurd (false≢true (sym (contains-empty record_cmp q) ∙ k))) (in_insert empty r q h))
@@ -71,8 +71,8 @@ module _ (key : Key) (rs : List Record) (of_key : AreOf key rs) (r : Record) (is
   pub last-joined : (L : Records) → last_records (insert L r) ≡ last_records (union L (from_list rs))
   last-joined L =
       ap last_records (insert-union L r)
-      ∙ last_records_of_compaction (union L (insert empty r)) (union L (from_list rs))
-      (compactions_unite L L (insert empty r) (from_list rs) (compaction_of_itself L) last_is_compaction)
+      ∙ last_records_of_part (union L (insert empty r)) (union L (from_list rs))
+      (keeping_lasts_unites L L (insert empty r) (from_list rs) (keeps_own_lasts L) last_keeps_lasts)
 
 -- what holds of each of a list holds of each of another with the same records
 pub all-same : (p : Record → Bool) (xs ys : List Record)

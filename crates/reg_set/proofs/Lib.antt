@@ -1,12 +1,12 @@
 mod Alone
 mod ByKey
-mod Compactions
 mod Distinct
 mod Equality
 mod Gone
 mod InOrder
 mod Indexed
 mod Joined
+mod KeptLasts
 mod Lasts
 mod Listed
 mod OneEach

@@ -25,7 +25,7 @@ use Rattle.reg_set.specs.LastRecords.{is_of, last, last_records}
 use Rattle.reg_set.specs.RecordOrder.{age_cmp, key_cmp, record_cmp}
 use Rattle.reg_set.specs.Records.{placed}
 use Rattle.reg_set.proofs.Alone.{alone-cases, alone-among, alone-get, alone-one, all-alone, all_before, in_order-alone, up_to_alone}
-use Rattle.reg_set.proofs.Compactions.{last_records-last, last-last_records}
+use Rattle.reg_set.proofs.KeptLasts.{last_records-last, last-last_records}
 use Rattle.reg_set.proofs.InOrder.{all_placed, any_placed, is_in_order-placed, ties_alike}
 use Rattle.reg_set.proofs.Indexed.{key_cmp-itself}
 use Rattle.reg_set.proofs.Lasts.{at_any, equal, is_of-is, is_of-of, last-greatest, last-absent}

@@ -14,9 +14,9 @@ use Rattle.reg_set.specs.Join.{later}
 use Rattle.reg_set.specs.LastRecords.{is_of, last, last_records, with_last}
 use Rattle.reg_set.specs.RecordOrder.{age_cmp, key_cmp}
 use Rattle.reg_set.specs.Records.{Records}
-use Rattle.reg_set.proofs.Compactions.{contains-last_records, last_records-last, last-last_records}
-use Rattle.reg_set.proofs.Compactions.{last_of_last_records}
-use Rattle.reg_set.proofs.Compactions.{last_records_are_compaction, last_records_of_compaction}
+use Rattle.reg_set.proofs.KeptLasts.{contains-last_records, last_records-last, last-last_records}
+use Rattle.reg_set.proofs.KeptLasts.{last_of_last_records}
+use Rattle.reg_set.proofs.KeptLasts.{last_records_keep_lasts, last_records_of_part}
 use Rattle.reg_set.proofs.Indexed.{is_later, last-fresh, last-other, key_cmp-itself, at_key}
 use Rattle.reg_set.proofs.InOrder.{both, first_of, second_of}
 use Rattle.reg_set.proofs.Lasts.{equal, both_le, turn_lt, is_of-is, is_of-of, last-some, last-none, last-greatest, last-absent}
@@ -32,7 +32,7 @@ pub last_there : (S : Records) → last_records S ≡ S → (r : Record) → con
 last_there S compact r h = last_records-last S r (ap (λ s. contains s r) compact ∙ h)
 
 pub compact_lasts : (S : Records) → last_records (last_records S) ≡ last_records S
-compact_lasts S = last_records_of_compaction (last_records S) S (last_records_are_compaction S)
+compact_lasts S = last_records_of_part (last_records S) S (last_records_keep_lasts S)
 
 -- such sets with the same last records are one
 pub same_lasts : (S T : Records) → last_records S ≡ S → last_records T ≡ T → ((key : Key) → last S key ≡ last T key) → S ≡ T

@@ -10,13 +10,14 @@ use Rattle.std.specs.Ordering.{eq_by_cmp, is_eq, is_lt}
 use Rattle.std.specs.declared.cmp.Ordering.{Ordering}
 use Rattle.std.specs.declared.cmp.Ordering.TheVariants.{Less, Equal, Greater}
 use Rattle.reg_records.specs.declared.record.Record.{Record}
-use Rattle.reg_set.specs.RecordOrder.{record_cmp}
+use Rattle.reg_set.specs.LastRecords.{is_of}
+use Rattle.reg_set.specs.RecordOrder.{age_cmp, key_cmp, record_cmp}
 use Rattle.reg_set.specs.Records.{is_in_order, placed}
-use Rattle.reg_set.proofs.Orders.{record_cmp-total, record_cmp-ties}
+use Rattle.reg_set.proofs.Orders.{age_cmp-of_one_key, key_cmp-total, record_cmp-total, record_cmp-ties}
 use Rattle.reg_set.proofs.InOrder.{both, first_of, second_of, less, turned, before_all}
 use Rattle.reg_set.proofs.InOrder.{none_of_later, any_placed, is_in_order-placed}
 use Rattle.reg_set.proofs.InOrder.{one_order, ties_alike}
-use Rattle.reg_set.proofs.Lasts.{at_any, equal}
+use Rattle.reg_set.proofs.Lasts.{at_any, equal, is_of-is}
 
 neither_left : (a b : Bool) → (a || b) ≡ false → a ≡ false
 neither_left true b e = absurd (false≢true (sym e))
@@ -26,6 +27,13 @@ all_at : (p : Record → Bool) (xs : List Record) (i : ℕ) (d : Record) → lis
 all_at p [] i d all h = absurd (omega arith)
 all_at p (x ∷ xs) zero d all h = first_of _ _ all
 all_at p (x ∷ xs) (suc i) d all h = all_at p xs i d (second_of _ _ all) (omega arith)
+
+-- what stands at a place of records of one key is of that key, so that the ages decide
+pub by_age : (r : Record) (xs : List Record) (i : ℕ) (q : Record) → list_all (is_of r.key) xs ≡ true → i < length xs
+    → q ≡ get_or xs i q → age_cmp q r ≡ record_cmp q r
+by_age r xs i q of_key h here =
+    let same : q.key ≡ r.key = ap (λ x. x.key) here ∙ is_of-is r.key (get_or xs i q) (all_at (is_of r.key) xs i q of_key h) in
+    age_cmp-of_one_key q r (ap (key_cmp q.key) (sym same) ∙ tied_itself key_cmp-total q.key)
 
 abbrev is_before : Record → Record → Bool
 is_before r q = is_lt (record_cmp q r)

@@ -1,4 +1,4 @@
--- A part of a set that has the last record of each of its keys, and one that may lack deleted keys as a whole.
+-- A part of a set that keeps the last record of each of its keys, and one that may lack deleted keys as a whole.
 use Rattle.std.specs.Prelude.{◌≡◌, ◌⊎◌, ◌<◌, ◌&&◌, ◌||◌, ℕ, Bool, true, nat_lt, None, IfSome, is_none}
 use Rattle.std.specs.FinSet.{contains}
 use Rattle.reg_records.specs.declared.key.Key.{Key}
@@ -6,9 +6,9 @@ use Rattle.reg_records.specs.declared.record.Record.{Record}
 use Rattle.reg_set.specs.LastRecords.{last}
 use Rattle.reg_set.specs.Records.{Records}
 
-pub record IsCompactionOf (compaction whole : Records) : Type 0 where
-  pub is_part : (r : Record) → contains compaction r ≡ true → contains whole r ≡ true
-  pub has_lasts : (key : Key) → IfSome (last whole key) (λ r. contains compaction r ≡ true)
+pub record KeepsLasts (part whole : Records) : Type 0 where
+  pub is_part : (r : Record) → contains part r ≡ true → contains whole r ≡ true
+  pub has_lasts : (key : Key) → IfSome (last whole key) (λ r. contains part r ≡ true)
 
 -- a record that deletes its key below the floor, and of whose key the part has none
 pub record IsGone (floor : ℕ) (part : Records) (r : Record) : Type 0 where

@@ -5,7 +5,7 @@ use Rattle.std.specs.Option.{option_cmp}
 use Rattle.std.specs.Ordering.{ord_max}
 use Rattle.reg_records.specs.declared.key.Key.{Key}
 use Rattle.reg_records.specs.declared.record.Record.{Record}
-use Rattle.reg_set.specs.Compaction.{IsCompactionOf}
+use Rattle.reg_set.specs.Compaction.{KeepsLasts}
 use Rattle.reg_set.specs.LastRecords.{is_last, last, last_records, IsGreatestOf}
 use Rattle.reg_set.specs.RecordOrder.{age_cmp}
 use Rattle.reg_set.specs.Records.{Records}
@@ -38,30 +38,30 @@ NoLastIsNoRecord = (R : Records) (r : Record) → contains R r ≡ true → ¬ (
 abbrev pub LastOfLastRecords : Type 0
 LastOfLastRecords = (R : Records) (key : Key) → last (last_records R) key ≡ last R key
 
--- the lasts of what a compaction keeps are those of the whole
-abbrev pub LastOfCompaction : Type 0
-LastOfCompaction = (C R : Records) → IsCompactionOf C R → (key : Key) → last C key ≡ last R key
+-- the lasts of a part that keeps them are those of the whole
+abbrev pub LastOfPart : Type 0
+LastOfPart = (C R : Records) → KeepsLasts C R → (key : Key) → last C key ≡ last R key
 
-abbrev pub CompactionsUnite : Type 0
-CompactionsUnite = (C R D S : Records) → IsCompactionOf C R → IsCompactionOf D S → IsCompactionOf (union C D) (union R S)
+abbrev pub KeepingLastsUnites : Type 0
+KeepingLastsUnites = (C R D S : Records) → KeepsLasts C R → KeepsLasts D S → KeepsLasts (union C D) (union R S)
 
-abbrev pub EachIsItsOwnCompaction : Type 0
-EachIsItsOwnCompaction = (R : Records) → IsCompactionOf R R
+abbrev pub EachKeepsItsLasts : Type 0
+EachKeepsItsLasts = (R : Records) → KeepsLasts R R
 
--- a compaction of a compaction is one of the whole
-abbrev pub CompactionsCompose : Type 0
-CompactionsCompose = (B C R : Records) → IsCompactionOf B C → IsCompactionOf C R → IsCompactionOf B R
+-- what keeps the lasts of a part that keeps those of the whole keeps these
+abbrev pub KeepingLastsComposes : Type 0
+KeepingLastsComposes = (B C R : Records) → KeepsLasts B C → KeepsLasts C R → KeepsLasts B R
 
--- what is left without some records is a compaction exactly where none of them is a last one
-abbrev pub DropsLeaveCompactions : Type 0
-DropsLeaveCompactions = (R D : Records) → IsCompactionOf (difference R D) R ↔ ((r : Record) → contains D r ≡ true → is_last R r ≡ false)
+-- what is left without some records keeps the lasts exactly where none of them is a last one
+abbrev pub DropsKeepLasts : Type 0
+DropsKeepLasts = (R D : Records) → KeepsLasts (difference R D) R ↔ ((r : Record) → contains D r ≡ true → is_last R r ≡ false)
 
--- the last records are the least compaction, and those of each compaction
-abbrev pub LastRecordsAreCompaction : Type 0
-LastRecordsAreCompaction = (R : Records) → IsCompactionOf (last_records R) R
+-- the last records are the least part that keeps them, and those of each such part
+abbrev pub LastRecordsKeepLasts : Type 0
+LastRecordsKeepLasts = (R : Records) → KeepsLasts (last_records R) R
 
-abbrev pub LastRecordsOfCompaction : Type 0
-LastRecordsOfCompaction = (C R : Records) → IsCompactionOf C R → last_records C ≡ last_records R
+abbrev pub LastRecordsOfPart : Type 0
+LastRecordsOfPart = (C R : Records) → KeepsLasts C R → last_records C ≡ last_records R
 
 -- what comes after may be added to the last records alone
 abbrev pub LastRecordsOfInsert : Type 0

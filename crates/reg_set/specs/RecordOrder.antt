@@ -7,6 +7,7 @@ use Rattle.std.specs.declared.cmp.Ordering.{Ordering}
 use Rattle.reg_records.specs.contracts.key.KeyOrd.TheImpl as keys
 use Rattle.reg_records.specs.declared.key.Key.{Key}
 use Rattle.reg_records.specs.declared.record.Record.{Record}
+use Rattle.reg_records.specs.Written.{written_key}
 
 -- no value stands before a text, and texts are ordered by their bytes
 unfoldable pub value_cmp : Option (List ℕ) → Option (List ℕ) → Ordering
@@ -20,6 +21,11 @@ key_cmp = (keys.ghosts).cmp
 unfoldable pub age_cmp : Record → Record → Ordering
 age_cmp = then_cmp (on (λ r. r.offset) nat_cmp) (on (λ r. r.value) value_cmp)
 
--- all records: by offset, then by key, then by value
+-- keys as they are listed: by their written texts, by bytes. Keys of one text are one key; the order of the type stands behind, so
+-- that only equal keys tie also where a version is no number of 32 bits, and its text says nothing of it.
+unfoldable pub listed_cmp : Key → Key → Ordering
+listed_cmp = then_cmp (on written_key (slice_cmp nat_cmp)) key_cmp
+
+-- all records: by offset, then by the written text of their keys, then as records of one key are
 unfoldable pub record_cmp : Record → Record → Ordering
-record_cmp = then_cmp (on (λ r. r.offset) nat_cmp) (then_cmp (on (λ r. r.key) key_cmp) (on (λ r. r.value) value_cmp))
+record_cmp = then_cmp (on (λ r. r.offset) nat_cmp) (then_cmp (on (λ r. r.key) listed_cmp) (on (λ r. r.value) value_cmp))

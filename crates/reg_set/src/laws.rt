@@ -3,7 +3,7 @@
 ghost use Rattle.std.specs.Cmp.{IsTotalOrder};
 ghost use Rattle.std.specs.FinSet.{IsAntisymmetric};
 ghost use Rattle.reg_set.specs.RecordOrder.{age_cmp, key_cmp, record_cmp};
-ghost use Rattle.reg_set.specs.Join.{LastIsGreatest, NoLastIsNoRecord, LastOfLastRecords, MergingIsCommutative, MergingIsAssociative, MergingIsIdempotent, LastOfUnion, LastOfCompaction, CompactionsUnite, EachIsItsOwnCompaction, CompactionsCompose, DropsLeaveCompactions, LastRecordsAreCompaction, LastRecordsOfCompaction, LastRecordsOfInsert, LastRecordsOfUnion};
+ghost use Rattle.reg_set.specs.Join.{LastIsGreatest, NoLastIsNoRecord, LastOfLastRecords, MergingIsCommutative, MergingIsAssociative, MergingIsIdempotent, LastOfUnion, LastOfPart, KeepingLastsUnites, EachKeepsItsLasts, KeepingLastsComposes, DropsKeepLasts, LastRecordsKeepLasts, LastRecordsOfPart, LastRecordsOfInsert, LastRecordsOfUnion};
 
 /// Records, and records of one key, are totally ordered, and only equal records tie.
 pub fn records_are_ordered()
@@ -29,25 +29,25 @@ pub fn merging_joins_sets()
     ensures last { LastOfUnion }
 {}
 
-/// A set and each of its compactions have the same last records.
+/// A set and each part that keeps its last records have the same last ones.
 pub fn last_records_are_enough()
     ensures last_of_last { LastOfLastRecords }
-    ensures last { LastOfCompaction }
-    ensures least { LastRecordsAreCompaction }
-    ensures last_records { LastRecordsOfCompaction }
+    ensures last { LastOfPart }
+    ensures least { LastRecordsKeepLasts }
+    ensures last_records { LastRecordsOfPart }
 {}
 
-/// Records may be added to a compaction in place of the whole set.
+/// Records may be added to a part that keeps the last ones in place of the whole set.
 pub fn last_records_of_unions()
-    ensures union { CompactionsUnite }
+    ensures union { KeepingLastsUnites }
     ensures last_records { LastRecordsOfUnion }
     ensures insert { LastRecordsOfInsert }
 {}
 
-/// A set is a compaction of itself, a compaction of a compaction is one of the whole, and what is
-/// left without some records is a compaction exactly where none of them is a last one.
-pub fn compactions_compose()
-    ensures itself { EachIsItsOwnCompaction }
-    ensures across { CompactionsCompose }
-    ensures drops { DropsLeaveCompactions }
+/// A set keeps its last records, a part of a part that keeps them keeps them, and what is left without
+/// some records keeps them exactly where none of them is a last one.
+pub fn keeping_lasts_composes()
+    ensures itself { EachKeepsItsLasts }
+    ensures across { KeepingLastsComposes }
+    ensures drops { DropsKeepLasts }
 {}

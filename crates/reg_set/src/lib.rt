@@ -8,10 +8,11 @@ mod of_one_key;
 mod order;
 mod record_set;
 mod turns;
+mod with_text;
 
 pub use last_records::LastRecords;
 pub use laws::{
-    compactions_compose, last_is_greatest, last_records_are_enough, last_records_of_unions,
+    keeping_lasts_composes, last_is_greatest, last_records_are_enough, last_records_of_unions,
     merging_joins_sets, records_are_ordered,
 };
-pub use record_set::{RecordSet, Taken, is_compaction_below, is_compaction_of};
+pub use record_set::{RecordSet, Taken, is_compaction_below, keeps_lasts};

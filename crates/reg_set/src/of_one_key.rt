@@ -6,7 +6,7 @@ ghost use Rattle.std.specs.Ordering.{eq_by_cmp, is_lt};
 ghost use Rattle.reg_set.specs.ByKey.{AreOf, last_alone};
 ghost use Rattle.reg_set.specs.LastRecords.{last_records};
 ghost use Rattle.reg_set.specs.RecordOrder.{record_cmp};
-ghost use Rattle.reg_set.specs.Records.{is_in_order, placed};
+ghost use Rattle.reg_set.specs.Records.{placed};
 
 use crate::last_records::LastRecords;
 use crate::order::{count_before, stands_at};
@@ -17,7 +17,7 @@ use std::alloc::AllocError;
 /// Takes the record in among those of its key, and says what that did. The only error is out of
 /// memory; they are then as they were.
 pub(crate) fn take_among(records: &mut Vec<Record>, given: &Record) -> Result<Taken, AllocError>
-    requires { IsTrue (is_in_order records.old.items) }
+    requires { AreOf given.now.key records.old.items }
     ensures added { OnOk result (records.new.items ≡ placed given.now records.old.items) }
     ensures fresh { IfOk result (λ taken. (taken ≡ Taken.Fresh)
         ↔ IsTrue (list_all (λ q. is_lt (record_cmp q given.now)) records.old.items)) }

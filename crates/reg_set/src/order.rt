@@ -1,36 +1,27 @@
-// The order of records, and where a record stands among others.
+// The order of records of one key, and where a record stands among others.
 ghost use Rattle.std.specs.Prelude.{◌≡◌, ◌≤◌, true, false, IsTrue, take, drop, length};
 ghost use Rattle.std.specs.List.{list_any, list_all};
 ghost use Rattle.std.specs.Ordering.{eq_by_cmp, is_lt};
-ghost use Rattle.reg_set.specs.RecordOrder.{record_cmp};
+ghost use Rattle.reg_set.specs.ByKey.{AreOf};
+ghost use Rattle.reg_set.specs.RecordOrder.{age_cmp, record_cmp};
 ghost use Rattle.reg_set.specs.Records.{is_in_order};
 
 use reg_records::Record;
 use std::cmp::Ordering;
 
-/// By offset, then by key, then no value before a text, then by the text's bytes.
+/// By offset, then no value before a text, then by the text's bytes.
 pub(crate) fn compare(one: &Record, other: &Record) -> Ordering
-    ensures { result ≡ record_cmp one.now other.now }
+    ensures { result ≡ age_cmp one.now other.now }
 {
     match one.offset.cmp(&other.offset) {
-        Ordering::Equal => compare_at_offset(one, other),
-        order => order,
-    }
-}
-
-fn compare_at_offset(one: &Record, other: &Record) -> Ordering
-    requires { one.now.offset ≡ other.now.offset }
-    ensures { result ≡ record_cmp one.now other.now }
-{
-    match one.key.cmp(&other.key) {
         Ordering::Equal => one.value.cmp(&other.value),
         order => order,
     }
 }
 
-/// How many of the records, which stand in order, stand before that one.
+/// How many of the records, which are of one key with that one and stand in order, stand before it.
 pub(crate) fn count_before(records: &[Record], given: &Record) -> usize
-    requires { IsTrue (is_in_order records.now) }
+    requires { AreOf given.now.key records.now }
     ensures within { result ≤ length records.now }
     ensures before { list_all (λ q. is_lt (record_cmp q given.now)) (take result records.now) ≡ true }
     ensures not_before { list_any (λ q. is_lt (record_cmp q given.now)) (drop result records.now) ≡ false }
@@ -67,9 +58,9 @@ pub(crate) fn stands_at(records: &[Record], place: usize, given: &Record) -> boo
     }
 }
 
-/// Whether the record is among the records, which stand in order.
+/// Whether the record is among the records, which are of its key and stand in order.
 pub(crate) fn is_among(records: &[Record], given: &Record) -> bool
-    requires { IsTrue (is_in_order records.now) }
+    requires { AreOf given.now.key records.now }
     ensures { result ≡ list_any (eq_by_cmp record_cmp given.now) records.now }
 {
     let place = count_before(records, given);

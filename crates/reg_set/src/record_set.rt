@@ -4,7 +4,7 @@ ghost use Rattle.std.specs.FinSet as set;
 ghost use Rattle.std.specs.List.{list_all};
 ghost use Rattle.std.specs.Option.{option_map_or};
 ghost use Rattle.reg_records.specs.declared.key.Key.{Key};
-ghost use Rattle.reg_set.specs.Compaction.{IsCompactionBelow, IsCompactionOf, is_kept_or_gone};
+ghost use Rattle.reg_set.specs.Compaction.{IsCompactionBelow, KeepsLasts, is_kept_or_gone};
 ghost use Rattle.reg_set.specs.Join.{later};
 ghost use Rattle.reg_set.specs.LastRecords.{last, last_records};
 ghost use Rattle.reg_set.specs.Records.{records_of, is_in_order};
@@ -121,17 +121,16 @@ impl RecordSet {
         Ok(found)
     }
 
-    /// Copies of the records, by offset, then by key, then no value before a text, then by the text's
-    /// bytes. Keys are ordered by kind, then by subject, by its bytes, and then by version. The only
-    /// error is out of memory.
+    /// Copies of the records, each once: by offset, then by the text that is written for the key, by
+    /// bytes, then no value before a text, then by the text's bytes. The only error is out of memory.
     pub fn records(&self) -> Result<Vec<Record>, AllocError>
         ensures all { IfOk result (λ found. found.items ≡ records_of self.now) }
         ensures in_order { IfOk result (λ found. IsTrue (is_in_order found.items)) }
         ensures members { IfOk result (λ found. self.now ≡ set.from_list found.items) }
     {
-        let mut found = copy_all(self.alloc, &self.by_key)?;
-        put_in_order(&mut found);
-        Ok(found)
+        let found = copy_all(self.alloc, &self.by_key)?;
+        let listed = put_in_order(self.alloc, found)?;
+        Ok(listed)
     }
 
     /// Whether the record is in the set.
@@ -162,7 +161,7 @@ impl RecordSet {
     pub fn compact(&mut self)
         ensures left { self.new ≡ last_records self.old }
         ensures lasts { (key : Key) → last self.new key ≡ last self.old key }
-        ensures compaction { IsCompactionOf self.new self.old }
+        ensures kept { KeepsLasts self.new self.old }
     {
         leave_lasts(&mut self.by_key);
     }
@@ -182,11 +181,12 @@ fn set_of(alloc: Global, records: Vec<&Record>) -> Result<RecordSet, AllocError>
     Ok(found)
 }
 
-/// Whether `compaction` is a part of `whole` that has the last record of each key of `whole`.
-pub fn is_compaction_of(compaction: &RecordSet, whole: &RecordSet) -> bool
-    ensures { IsTrue result ↔ IsCompactionOf compaction.now whole.now }
+/// Whether `part` is a part of `whole` that keeps the last record of each key of `whole`. It takes no
+/// memory.
+pub fn keeps_lasts(part: &RecordSet, whole: &RecordSet) -> bool
+    ensures { IsTrue result ↔ KeepsLasts part.now whole.now }
 {
-    is_part_of(compaction, whole) && has_lasts_of(compaction, whole)
+    is_part_of(part, whole) && has_lasts_of(part, whole)
 }
 
 fn is_part_of(part: &RecordSet, whole: &RecordSet) -> bool

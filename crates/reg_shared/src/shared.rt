@@ -261,9 +261,13 @@ impl Shared {
 }
 
 impl Fold<Item> for Shared {
-    ghost use Rattle.reg_shared.specs.Held.{held_after};
+    ghost use Rattle.reg_topic.specs.Topic.{IsLawful};
+    ghost use Rattle.reg_shared.specs.Held.{base_of, held_after};
 
     ghost applied = { held_after };
+
+    // Each item that is published may follow on those before it.
+    ghost publishes = { λ first list. IsLawful (base_of first) list };
 
     fn take_item(&mut self, item: &Item) -> Result<(), AllocError> {
         match item {

@@ -17,9 +17,9 @@ pub record LowerLaws : Type 0 where
   pub greatest : LastIsGreatest
   pub none : NoLastIsNoRecord
   pub lasts : LastOfLastRecords
-  pub keeps_own : of_sets.EachIsItsOwnCompaction
-  pub keeps_across : of_sets.CompactionsCompose
-  pub keeps_least : of_sets.LastRecordsAreCompaction
+  pub keeps_own : of_sets.EachKeepsItsLasts
+  pub keeps_across : of_sets.KeepingLastsComposes
+  pub keeps_least : of_sets.LastRecordsKeepLasts
   -- of sets with floors
   pub across : CompactionsCompose
   pub last_of : LastOfCompaction

@@ -15,8 +15,7 @@ use reg_kept::{
 use reg_leader::{batches_end_by_the_limit, batches_go_on, deletes_name_greatest};
 use reg_lookup::queries_have_one_answer;
 use reg_set::{
-    compactions_compose as plain_compactions_compose, last_is_greatest, last_records_are_enough,
-    records_are_ordered,
+    keeping_lasts_composes, last_is_greatest, last_records_are_enough, records_are_ordered,
 };
 use reg_topic::{
     allowed_drops_leave_compactions, commits_follow, floors_stay_below, kept_sets_are_compactions,
@@ -32,7 +31,7 @@ fn lower_laws()
     records_are_ordered();
     last_is_greatest();
     last_records_are_enough();
-    plain_compactions_compose();
+    keeping_lasts_composes();
     compactions_compose();
     compactions_keep_what_stands();
     rebasing_keeps_lasts();

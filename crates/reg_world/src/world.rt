@@ -77,7 +77,7 @@ impl fmt::Display for RunError {
 impl Error for RunError {}
 
 impl World {
-    /// A world over a base, whose nodes have no record. Its topic begins with the base and the flag of
+    /// A world over a base, whose nodes have no record. Its topic begins with the base and the mark of
     /// ids that the base owes. A base that isn't adopted is refused.
     pub fn start(alloc: Global, nodes: usize, base: &Log) -> Result<World, AdoptError>
         ensures start { IfOk result (λ w. w ≡ start (topic_from base.now.records.items base.now.next base.now.floor) nodes) }

@@ -6,7 +6,7 @@ mod side_by_side;
 
 use crate::lines::{Line, records_of};
 use reg_records::{Key, LogError};
-use reg_set::{RecordSet, Taken, is_compaction_of};
+use reg_set::{RecordSet, Taken, keeps_lasts};
 use rows::{ROWS, Row};
 use std::alloc::Global;
 
@@ -48,22 +48,22 @@ fn has_lasts(alloc: Global, set: &RecordSet, lines: &[Line]) -> Result<bool, Log
     Ok(set.last(&Key::Noop).is_none())
 }
 
-/// Whether a set is a compaction of itself, and its first record alone isn't one.
+/// Whether a set keeps its last records, and its first record alone doesn't.
 fn front_is_none(alloc: Global, set: &RecordSet, row: &Row) -> Result<bool, LogError> {
     let front = set_of(alloc, row.records.get(..1).unwrap_or(&[]))?;
-    Ok(is_compaction_of(set, set) && !is_compaction_of(&front, set))
+    Ok(keeps_lasts(set, set) && !keeps_lasts(&front, set))
 }
 
-/// Whether a compacted set has the last records, and the set is a compaction of it where it has no
-/// others.
+/// Whether a compacted set has the last records, and the set keeps them as a part of it where it has
+/// no others.
 fn is_compacted(alloc: Global, set: &RecordSet, row: &Row) -> Result<bool, LogError> {
     let mut compacted = set.clone()?;
     compacted.compact();
     let is_whole = row.records.len() == row.lasts.len();
     Ok(
         has_lines(alloc, &compacted, row.lasts)?
-            && is_compaction_of(&compacted, set)
-            && is_compaction_of(set, &compacted) == is_whole,
+            && keeps_lasts(&compacted, set)
+            && keeps_lasts(set, &compacted) == is_whole,
     )
 }
 

@@ -1,18 +1,13 @@
 // A set of records as the list of their lines in order, each of whose answers looks at all lines.
-use super::side_by_side::KEYS;
 use crate::lines::Line;
 use reg_set::Taken;
 use std::alloc::{AllocError, Global};
 
-/// By offset, then by key, then by value.
-type Place<'a> = (u64, (usize, usize, &'a str), Option<&'a str>);
+/// By offset, then by the text of the key, then by value.
+type Place<'a> = (u64, &'a str, Option<&'a str>);
 
-/// Keys stand in the order of the list, and before those others, which differ in their versions.
 fn place_of(line: Line) -> Place {
-    let listed = KEYS.iter().position(|key| *key == line.key);
-    let place = listed.unwrap_or(KEYS.len());
-    let key = (place, line.key.len(), line.key);
-    (line.offset, key, line.value)
+    (line.offset, line.key, line.value)
 }
 
 #[derive(Drop)]
@@ -114,7 +109,7 @@ impl<'a> PlainSet<'a> {
     }
 
     /// Whether the set is a part of another that has each of its last records.
-    pub(crate) fn is_compaction_of(&self, whole: &PlainSet) -> bool {
+    pub(crate) fn keeps_lasts(&self, whole: &PlainSet) -> bool {
         for line in &whole.lines {
             if whole.has_last(*line) && !self.has_last(*line) {
                 return false;

@@ -12,6 +12,20 @@ const TENTH: &str = r#"{"keytype":"SCHEMA","subject":"s","version":10,"magic":1}
 
 const DELETE: &str = r#"{"keytype":"DELETE_SUBJECT","subject":"s","magic":0}"#;
 
+const LEVEL: &str = r#"{"keytype":"CONFIG","subject":"s","magic":0}"#;
+
+const LEVEL_OF_SPACE: &str = r#"{"keytype":"CONFIG","subject":"s ","magic":0}"#;
+
+const LEVEL_OF_MARK: &str = r#"{"keytype":"CONFIG","subject":"s!","magic":0}"#;
+
+const LEVEL_OF_QUOTE: &str = r#"{"keytype":"CONFIG","subject":"s\"","magic":0}"#;
+
+const LEVEL_OF_ALL: &str = r#"{"keytype":"CONFIG","subject":null,"magic":0}"#;
+
+const MODE: &str = r#"{"keytype":"MODE","subject":"s","magic":0}"#;
+
+const ID_MARK: &str = r#"{"keytype":"ID_MARK","magic":0}"#;
+
 const AN_INT: &str = r#"{"subject":"s","version":1,"id":1,"schema":"\"int\"","deleted":false}"#;
 
 const A_LONG: &str = r#"{"subject":"s","version":1,"id":1,"schema":"\"long\"","deleted":false}"#;
@@ -98,6 +112,60 @@ const SECOND_LONG: Line = Line {
     value: Some(A_LONG),
 };
 
+const INT_AT_5: Line = Line {
+    offset: 5,
+    key: FIRST,
+    value: Some(AN_INT),
+};
+
+const SCHEMA_AT_5: Line = Line {
+    offset: 5,
+    key: FIRST,
+    value: None,
+};
+
+const LEVEL_AT_5: Line = Line {
+    offset: 5,
+    key: LEVEL,
+    value: None,
+};
+
+const MODE_AT_5: Line = Line {
+    offset: 5,
+    key: MODE,
+    value: None,
+};
+
+const ID_MARK_AT_5: Line = Line {
+    offset: 5,
+    key: ID_MARK,
+    value: None,
+};
+
+const ALL_AT_5: Line = Line {
+    offset: 5,
+    key: LEVEL_OF_ALL,
+    value: None,
+};
+
+const QUOTE_AT_5: Line = Line {
+    offset: 5,
+    key: LEVEL_OF_QUOTE,
+    value: None,
+};
+
+const MARK_AT_5: Line = Line {
+    offset: 5,
+    key: LEVEL_OF_MARK,
+    value: None,
+};
+
+const SPACE_AT_5: Line = Line {
+    offset: 5,
+    key: LEVEL_OF_SPACE,
+    value: None,
+};
+
 type Lines = &'static [Line<'static>];
 
 /// What a row shows, the lines that a set takes with what is said of each, those of a set that it is
@@ -110,7 +178,7 @@ pub(crate) struct Row {
     pub lasts: Lines,
 }
 
-pub(crate) static ROWS: [Row; 12] = [
+pub(crate) static ROWS: [Row; 15] = [
     Row {
         what: "Taking is fresh, a repeat or older",
         takes: &[
@@ -124,7 +192,7 @@ pub(crate) static ROWS: [Row; 12] = [
         lasts: &[DELETED],
     },
     Row {
-        what: "Records stand by offset, then by key, then no value before a text",
+        what: "Records of one key stand by offset, then no value before a text",
         takes: &[
             (NONE, Taken::Fresh),
             (INT, Taken::Fresh),
@@ -168,26 +236,77 @@ pub(crate) static ROWS: [Row; 12] = [
         lasts: &[LONG],
     },
     Row {
-        what: "Keys stand by kind, by subject and by version",
+        what: "Keys of one offset stand by their texts, and so do numbers",
         takes: &[
             (NINTH_DELETED, Taken::Fresh),
             (TENTH_DELETED, Taken::Fresh),
             (ALL_DELETED, Taken::Fresh),
         ],
         merged: &[],
-        records: &[NINTH_DELETED, TENTH_DELETED, ALL_DELETED],
-        lasts: &[NINTH_DELETED, TENTH_DELETED, ALL_DELETED],
+        records: &[ALL_DELETED, TENTH_DELETED, NINTH_DELETED],
+        lasts: &[ALL_DELETED, TENTH_DELETED, NINTH_DELETED],
     },
     Row {
-        what: "The same, the greatest first",
+        what: "The same, the least first",
         takes: &[
             (ALL_DELETED, Taken::Fresh),
             (TENTH_DELETED, Taken::Fresh),
             (NINTH_DELETED, Taken::Fresh),
         ],
         merged: &[],
-        records: &[NINTH_DELETED, TENTH_DELETED, ALL_DELETED],
-        lasts: &[NINTH_DELETED, TENTH_DELETED, ALL_DELETED],
+        records: &[ALL_DELETED, TENTH_DELETED, NINTH_DELETED],
+        lasts: &[ALL_DELETED, TENTH_DELETED, NINTH_DELETED],
+    },
+    Row {
+        what: "Kinds stand by the texts of their names",
+        takes: &[
+            (SCHEMA_AT_5, Taken::Fresh),
+            (LEVEL_AT_5, Taken::Fresh),
+            (MODE_AT_5, Taken::Fresh),
+            (ALL_DELETED, Taken::Fresh),
+            (ID_MARK_AT_5, Taken::Fresh),
+        ],
+        merged: &[],
+        records: &[
+            LEVEL_AT_5,
+            ALL_DELETED,
+            ID_MARK_AT_5,
+            MODE_AT_5,
+            SCHEMA_AT_5,
+        ],
+        lasts: &[
+            LEVEL_AT_5,
+            ALL_DELETED,
+            ID_MARK_AT_5,
+            MODE_AT_5,
+            SCHEMA_AT_5,
+        ],
+    },
+    Row {
+        what: "Subjects stand as they are written, with the quote at the end and escapes, before null",
+        takes: &[
+            (ALL_AT_5, Taken::Fresh),
+            (LEVEL_AT_5, Taken::Fresh),
+            (QUOTE_AT_5, Taken::Fresh),
+            (MARK_AT_5, Taken::Fresh),
+            (SPACE_AT_5, Taken::Fresh),
+        ],
+        merged: &[],
+        records: &[SPACE_AT_5, MARK_AT_5, LEVEL_AT_5, QUOTE_AT_5, ALL_AT_5],
+        lasts: &[SPACE_AT_5, MARK_AT_5, LEVEL_AT_5, QUOTE_AT_5, ALL_AT_5],
+    },
+    Row {
+        what: "Keys come before values, and offsets before both",
+        takes: &[
+            (INT_AT_5, Taken::Fresh),
+            (LATE_INT, Taken::Fresh),
+            (SCHEMA_AT_5, Taken::Older),
+            (ALL_DELETED, Taken::Fresh),
+            (MIDDLE_INT, Taken::Older),
+        ],
+        merged: &[],
+        records: &[MIDDLE_INT, ALL_DELETED, SCHEMA_AT_5, INT_AT_5, LATE_INT],
+        lasts: &[ALL_DELETED, LATE_INT],
     },
     Row {
         what: "Offsets come first",

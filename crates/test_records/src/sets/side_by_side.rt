@@ -3,37 +3,39 @@ use super::has_lines;
 use super::plain::PlainSet;
 use crate::lines::{Line, is_of_line, records_of};
 use reg_records::{LogError, Record};
-use reg_set::{LastRecords, RecordSet, Taken, is_compaction_of};
+use reg_set::{LastRecords, RecordSet, Taken, keeps_lasts};
 use std::alloc::{AllocError, Global};
 use test_tools::Draws;
 
-/// Keys in their order, some of whose subjects share a beginning, and some have what JSON escapes.
-pub(super) static KEYS: [&str; 25] = [
-    r#"{"keytype":"SCHEMA","subject":"","version":1,"magic":1}"#,
-    r#"{"keytype":"SCHEMA","subject":"","version":10,"magic":1}"#,
-    r#"{"keytype":"SCHEMA","subject":"s","version":1,"magic":1}"#,
-    r#"{"keytype":"SCHEMA","subject":"s","version":9,"magic":1}"#,
-    r#"{"keytype":"SCHEMA","subject":"s","version":10,"magic":1}"#,
-    r#"{"keytype":"SCHEMA","subject":"s","version":100,"magic":1}"#,
-    r#"{"keytype":"SCHEMA","subject":"s","version":2147483647,"magic":1}"#,
-    r#"{"keytype":"SCHEMA","subject":"s\n","version":9,"magic":1}"#,
-    r#"{"keytype":"SCHEMA","subject":"s!","version":1,"magic":1}"#,
-    r#"{"keytype":"SCHEMA","subject":"s!","version":9,"magic":1}"#,
-    r#"{"keytype":"SCHEMA","subject":"s\"","version":100,"magic":1}"#,
-    r#"{"keytype":"SCHEMA","subject":"sé","version":1,"magic":1}"#,
-    r#"{"keytype":"SCHEMA","subject":"sé","version":10,"magic":1}"#,
-    r#"{"keytype":"CONFIG","subject":null,"magic":0}"#,
+/// Keys by the bytes of their texts. Some subjects share a beginning, and some have what JSON escapes,
+/// or what stands before the quote that ends a text.
+static KEYS: [&str; 26] = [
     r#"{"keytype":"CONFIG","subject":"","magic":0}"#,
-    r#"{"keytype":"CONFIG","subject":"s","magic":0}"#,
     r#"{"keytype":"CONFIG","subject":"s!","magic":0}"#,
-    r#"{"keytype":"MODE","subject":null,"magic":0}"#,
-    r#"{"keytype":"MODE","subject":"s\"","magic":0}"#,
-    r#"{"keytype":"MODE","subject":"sé","magic":0}"#,
+    r#"{"keytype":"CONFIG","subject":"s","magic":0}"#,
+    r#"{"keytype":"CONFIG","subject":null,"magic":0}"#,
     r#"{"keytype":"DELETE_SUBJECT","subject":"","magic":0}"#,
     r#"{"keytype":"DELETE_SUBJECT","subject":"s","magic":0}"#,
     r#"{"keytype":"DELETE_SUBJECT","subject":"s\n","magic":0}"#,
-    r#"{"keytype":"NOOP","magic":0}"#,
     r#"{"keytype":"ID_MARK","magic":0}"#,
+    r#"{"keytype":"MODE","subject":"s\"","magic":0}"#,
+    r#"{"keytype":"MODE","subject":"sé","magic":0}"#,
+    r#"{"keytype":"MODE","subject":null,"magic":0}"#,
+    r#"{"keytype":"NOOP","magic":0}"#,
+    r#"{"keytype":"SCHEMA","subject":"","version":1,"magic":1}"#,
+    r#"{"keytype":"SCHEMA","subject":"","version":10,"magic":1}"#,
+    r#"{"keytype":"SCHEMA","subject":"s ","version":1,"magic":1}"#,
+    r#"{"keytype":"SCHEMA","subject":"s!","version":1,"magic":1}"#,
+    r#"{"keytype":"SCHEMA","subject":"s!","version":9,"magic":1}"#,
+    r#"{"keytype":"SCHEMA","subject":"s","version":1,"magic":1}"#,
+    r#"{"keytype":"SCHEMA","subject":"s","version":10,"magic":1}"#,
+    r#"{"keytype":"SCHEMA","subject":"s","version":100,"magic":1}"#,
+    r#"{"keytype":"SCHEMA","subject":"s","version":2147483647,"magic":1}"#,
+    r#"{"keytype":"SCHEMA","subject":"s","version":9,"magic":1}"#,
+    r#"{"keytype":"SCHEMA","subject":"s\"","version":100,"magic":1}"#,
+    r#"{"keytype":"SCHEMA","subject":"s\n","version":9,"magic":1}"#,
+    r#"{"keytype":"SCHEMA","subject":"sé","version":1,"magic":1}"#,
+    r#"{"keytype":"SCHEMA","subject":"sé","version":10,"magic":1}"#,
 ];
 
 fn line(draws: &mut Draws, offsets: u64) -> Line<'static> {
@@ -163,8 +165,8 @@ impl<'a> Both<'a> {
         true
     }
 
-    fn are_alike_as_compactions(&self, whole: &Both<'a>) -> bool {
-        is_compaction_of(&self.set, &whole.set) == self.plain.is_compaction_of(&whole.plain)
+    fn keep_lasts_alike(&self, whole: &Both<'a>) -> bool {
+        keeps_lasts(&self.set, &whole.set) == self.plain.keeps_lasts(&whole.plain)
     }
 
     /// Merges with sets of further lines, and tells whether the answers are alike.
@@ -174,10 +176,10 @@ impl<'a> Both<'a> {
         added: &Both<'a>,
         taking: Taking<'a>,
     ) -> Result<bool, LogError> {
-        let are_alike = self.contain_alike(taking) && self.are_alike_as_compactions(added);
+        let are_alike = self.contain_alike(taking) && self.keep_lasts_alike(added);
         self.set.merge(&added.set)?;
         self.plain.merge(alloc, &added.plain)?;
-        Ok(are_alike && added.are_alike_as_compactions(self) && self.are_same(alloc)?)
+        Ok(are_alike && added.keep_lasts_alike(self) && self.are_same(alloc)?)
     }
 
     fn have_lasts_alone(&self, alloc: Global) -> Result<bool, LogError> {
@@ -191,7 +193,7 @@ impl<'a> Both<'a> {
         let whole = self.set.clone()?;
         self.set.compact();
         self.plain.compact(alloc)?;
-        Ok(is_compaction_of(&self.set, &whole) && self.have_lasts_alone(alloc)?)
+        Ok(keeps_lasts(&self.set, &whole) && self.have_lasts_alone(alloc)?)
     }
 
     /// Takes lines, then merges with sets of others, and tells whether the answers are alike.
@@ -220,7 +222,7 @@ fn takings_alike(alloc: Global, one: Taking, other: Taking) -> Result<bool, LogE
     both.join_alike(alloc, &mut added, (one, other))
 }
 
-/// Whether taking, merging and compacting leave the same, and what is a compaction of what.
+/// Whether taking, merging and compacting leave the same, and what keeps the last records of what.
 fn are_alike(alloc: Global, one: &[Line], other: &[Line]) -> Result<bool, LogError> {
     let records = records_of(alloc, one)?;
     let others = records_of(alloc, other)?;
@@ -244,6 +246,34 @@ fn drawn_alike(
     let one = drawn(alloc, draws, count, offsets)?;
     let other = drawn(alloc, draws, 30, offsets)?;
     are_alike(alloc, &one, &other)
+}
+
+/// A line of each key at one offset, in the order of the keys.
+fn lines_of_all_keys(alloc: Global) -> Result<Vec<Line<'static>>, AllocError> {
+    let mut lines = Vec::new(alloc);
+    for key in &KEYS {
+        lines.push(Line {
+            offset: 7,
+            key: *key,
+            value: None,
+        })?;
+    }
+    Ok(lines)
+}
+
+/// Whether a set of records of all keys at one offset has them in the order of the keys, taken from the
+/// last to the first.
+fn keys_stand_in_order(alloc: Global) -> Result<bool, LogError> {
+    let mut lines = lines_of_all_keys(alloc)?;
+    let in_order = records_of(alloc, &lines)?;
+    lines.reverse();
+    let set = RecordSet::of(alloc, &records_of(alloc, &lines)?)?;
+    Ok(set.records()? == in_order)
+}
+
+#[test]
+fn keys_of_one_offset_stand_by_their_texts(rt: HostRuntime) {
+    assert!(rt; keys_stand_in_order(rt.alloc()) == Ok(true));
 }
 
 #[test]

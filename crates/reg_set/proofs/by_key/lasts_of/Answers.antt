@@ -11,7 +11,7 @@ use Rattle.reg_records.specs.declared.record.Record.{Record}
 use Rattle.reg_set.specs.ByKey.{AreOf}
 use Rattle.reg_set.specs.LastRecords.{last_records}
 use Rattle.reg_set.specs.RecordOrder.{key_cmp}
-use Rattle.reg_set.proofs.Compactions.{last_records_of_union}
+use Rattle.reg_set.proofs.KeptLasts.{last_records_of_union}
 use Rattle.reg_set.proofs.Joined.{lasts_of_none}
 use Rattle.reg_set.proofs.Listed.{entry_more}
 use Rattle.reg_set.proofs.OneEach.{compact_lasts}

@@ -1,11 +1,11 @@
-use Rattle.std.proofs.Common.{◌≡◌, [], Some, Result, Ok, Err, sym, ap, ◌∙◌, rules}
+use Rattle.std.proofs.Common.{◌≡◌, [], Some, Result, Ok, Err, sym, ap, subst, ◌∙◌, rules}
 use Rattle.std.specs.BTreeMap.{get}
 use Rattle.std.specs.Prelude.{is_some, OnErr}
 use Rattle.std.specs.List.{list_all}
 use Rattle.std.specs.Option.{option_map_or}
 use Rattle.std.specs.Ordering.{is_lt}
+use Rattle.reg_set.specs.ByKey.{AreOf}
 use Rattle.reg_set.specs.RecordOrder.{key_cmp, record_cmp}
-use Rattle.reg_set.specs.Records.{is_in_order}
 use Rattle.reg_set.proofs.Listed.{AreSame-updated}
 use Rattle.reg_set.proofs.by_key.take_in.Goals as goal
 
@@ -13,7 +13,7 @@ pub take_among-requires : goal.take_among-requires
 take_among-requires c =
     let key = c.args.given.now.key in
     let is : get key_cmp c.args.by_key.now key ≡ Some c.in-Some.records.now = search rules in
-    ap is_in_order (sym (ap (λ o. option_map_or (λ v. v.items) o []) is)) ∙ (c.requires.of_keys key).in_order
+    subst (AreOf key) (ap (λ o. option_map_or (λ v. v.items) o []) is) (c.requires.of_keys key)
 
 pub returns-in_ok-taken-in-Some-clause-fresh : goal.returns-in_ok-taken-in-Some-clause-fresh
 returns-in_ok-taken-in-Some-clause-fresh c =

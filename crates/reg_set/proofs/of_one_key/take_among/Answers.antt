@@ -14,7 +14,7 @@ returns-then-stands_at-clause-added c =
     let r = c.args.given.now in
     let rs = c.args.records.now.items in
     sym (
-    placed-there r rs 0 c.requires (
+    placed-there r rs 0 c.requires.in_order (
     ap (list_any (eq_by_cmp record_cmp r)) (sym c.deref-seen.ensures.value) ∙ sym c.stands_at.ensures ∙ c.if-stands_at.true))
 
 pub returns-then-stands_at-clause-fresh : goal.returns-then-stands_at-clause-fresh
@@ -39,14 +39,14 @@ pub returns-then-is_last-clause-added : goal.returns-then-is_last-clause-added
 returns-then-is_last-clause-added c =
     c.in_ok-insert.ensures.items
     ∙ at_its_place c.args.given.now _ c.args.records.now.items _ _ c.deref-seen.ensures.value
-    (record_copy _ _ c.in_ok-clone.ensures.cases) c.requires c.count_before-place.ensures.before c.count_before-place.ensures.not_before
+    (record_copy _ _ c.in_ok-clone.ensures.cases) c.requires.in_order c.count_before-place.ensures.before c.count_before-place.ensures.not_before
     (sym c.stands_at.ensures ∙ c.if-stands_at.false)
 
 pub returns-clause-added : goal.returns-clause-added
 returns-clause-added c =
     c.in_ok-insert.ensures.items
     ∙ at_its_place c.args.given.now _ c.args.records.now.items _ _ c.deref-seen.ensures.value
-    (record_copy _ _ c.in_ok-clone.ensures.cases) c.requires c.count_before-place.ensures.before c.count_before-place.ensures.not_before
+    (record_copy _ _ c.in_ok-clone.ensures.cases) c.requires.in_order c.count_before-place.ensures.before c.count_before-place.ensures.not_before
     (sym c.stands_at.ensures ∙ c.if-stands_at.false)
 
 pub returns-clause-fresh : goal.returns-clause-fresh

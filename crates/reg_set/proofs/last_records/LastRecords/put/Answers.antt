@@ -5,7 +5,7 @@ use Rattle.reg_set.specs.LastRecords.{last, last_records}
 use Rattle.reg_set.specs.RecordOrder.{key_cmp}
 use Rattle.reg_set.specs.Records.{Records}
 use Rattle.reg_set.proofs.ByKey.{set_of, last-set_of, compact-set_of, IsByKey-updated, last-updated}
-use Rattle.reg_set.proofs.Compactions.{last_of_last_records}
+use Rattle.reg_set.proofs.KeptLasts.{last_of_last_records}
 use Rattle.reg_set.proofs.OneEach.{same_lasts, compact_lasts, is_new-from_change, last-new, there-inserted, taken_back}
 use Rattle.reg_set.proofs.last_records.LastRecords.put.Goals as goal
 

@@ -1,8 +1,8 @@
 use Rattle.std.proofs.Common.{subst, sym, ap, ◌∙◌}
-use Rattle.reg_set.specs.Compaction.{IsCompactionOf}
+use Rattle.reg_set.specs.Compaction.{KeepsLasts}
 use Rattle.reg_set.specs.LastRecords.{last, last_records}
 use Rattle.reg_set.specs.Records.{Records}
-use Rattle.reg_set.proofs.Compactions.{last_of_last_records, last_records_are_compaction}
+use Rattle.reg_set.proofs.KeptLasts.{last_of_last_records, last_records_keep_lasts}
 use Rattle.reg_set.proofs.Listed.{AreByKey-lasts, set_of-lasts}
 use Rattle.reg_set.proofs.record_set.RecordSet.compact.Goals as goal
 
@@ -18,7 +18,7 @@ returns-clause-left c =
 pub returns-clause-lasts : goal.returns-clause-lasts
 returns-clause-lasts c = λ key. ap (λ s. last s key) (returns-clause-left c) ∙ last_of_last_records c.args.self.now key
 
-pub returns-clause-compaction : goal.returns-clause-compaction
-returns-clause-compaction c =
-    let P : Records → Type 0 = λ s. IsCompactionOf s c.args.self.now in
-    subst P (sym (returns-clause-left c)) (last_records_are_compaction c.args.self.now)
+pub returns-clause-kept : goal.returns-clause-kept
+returns-clause-kept c =
+    let P : Records → Type 0 = λ s. KeepsLasts s c.args.self.now in
+    subst P (sym (returns-clause-left c)) (last_records_keep_lasts c.args.self.now)

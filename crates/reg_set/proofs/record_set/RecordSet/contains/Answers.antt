@@ -1,11 +1,11 @@
-use Rattle.std.proofs.Common.{◌≡◌, [], Some, None, sym, ap, ◌∙◌, rules}
+use Rattle.std.proofs.Common.{◌≡◌, [], Some, None, sym, ap, subst, ◌∙◌, rules}
 use Rattle.std.specs.BTreeMap.{get}
 use Rattle.std.specs.FinSet.{contains}
 use Rattle.std.specs.List.{list_any}
 use Rattle.std.specs.Option.{option_map_or}
 use Rattle.std.specs.Ordering.{eq_by_cmp}
+use Rattle.reg_set.specs.ByKey.{AreOf}
 use Rattle.reg_set.specs.RecordOrder.{key_cmp, record_cmp}
-use Rattle.reg_set.specs.Records.{is_in_order}
 use Rattle.reg_set.proofs.Listed.{contains-set_of}
 use Rattle.reg_set.proofs.record_set.RecordSet.contains.Goals as goal
 
@@ -13,7 +13,7 @@ pub is_among-requires : goal.is_among-requires
 is_among-requires c =
     let key = c.args.given.now.key in
     let is : get key_cmp c.self.inside.by_key key ≡ Some c.in-Some.records.now = search rules in
-    ap is_in_order (c.deref.ensures.value ∙ sym (ap (λ o. option_map_or (λ v. v.items) o []) is)) ∙ (c.self.invariant.of_keys key).in_order
+    subst (AreOf key) (ap (λ o. option_map_or (λ v. v.items) o []) is ∙ sym c.deref.ensures.value) (c.self.invariant.of_keys key)
 
 pub returns-in-Some : goal.returns-in-Some
 returns-in-Some c =

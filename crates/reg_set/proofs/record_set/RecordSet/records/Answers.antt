@@ -17,8 +17,8 @@ put_in_order-requires c =
 
 pub returns-clause-members : goal.returns-clause-members
 returns-clause-members c =
-    sym c.self.view_is ∙ ap from_list (sym c.in_ok-found.ensures) ∙ from_list-permuted _ _ c.put_in_order.ensures.moved
+    sym c.self.view_is ∙ ap from_list (sym c.in_ok-found.ensures) ∙ from_list-permuted _ _ c.in_ok-listed.ensures.moved
 
 pub returns-clause-all : goal.returns-clause-all
 returns-clause-all c =
-    sym (ap records_of (returns-clause-members c) ∙ records_of-from_list _ c.put_in_order.ensures.in_order)
+    sym (ap records_of (returns-clause-members c) ∙ records_of-from_list _ c.in_ok-listed.ensures.in_order)
