@@ -7,3 +7,4 @@ pub mod Outlines
 pub mod Users
 pub mod Rounds
 pub mod Text
+pub mod Pieces

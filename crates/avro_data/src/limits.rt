@@ -7,13 +7,8 @@ pub const MOST_PARTS: usize = 1_048_576;
 /// The most levels of a value that is made here.
 pub const MOST_LEVELS: usize = 1_000;
 
-/// The most bytes of names, keys and symbols in a value that is made here; past them memory is as good
-/// as refused.
-pub const MOST_TEXT: usize = 33_554_432;
-
 /// The limits, in digits.
 pub fn limits_are_as_written()
     ensures parts { MOST_PARTS ≡ 1048576 }
     ensures levels { MOST_LEVELS ≡ 1000 }
-    ensures text { MOST_TEXT ≡ 33554432 }
 {}

@@ -1,9 +1,9 @@
-// The text of a value.
-ghost use Rattle.std.specs.Prelude.{◌≡◌, ◌++◌, OnOk, true, codes, string_bytes};
+// The text of a value, in pieces.
+ghost use Rattle.std.specs.Prelude.{◌≡◌, ◌++◌, OnOk, true, codes};
 ghost use Rattle.avro_data.specs.Text.{value_text, values_text, members_text, comma_before};
 ghost use Rattle.avro_data.specs.View.{view, values_view, members_view};
 
-use crate::Data;
+use crate::{Data, Pieces};
 use base_text::Text;
 use std::alloc::AllocError;
 use std::collections::BTreeMap;
@@ -12,47 +12,49 @@ impl Data {
     /// Appends the value's text: `leaf`, a symbol, `[a,b]`, `{KEY=a}` in byte order of the keys,
     /// `#k a` for branch `k`, `(NAME=a,NAME=b)`, `default`. Keys and symbols stand as they are, so
     /// it is a text for people. The only error is out of memory.
-    pub fn push_text(&self, out: &mut String) -> Result<(), AllocError>
-        ensures { OnOk result (string_bytes out.new ≡ string_bytes out.old ++ value_text (view self.now)) }
+    pub fn push_text(&self, out: &mut Pieces) -> Result<(), AllocError>
+        ensures { OnOk result (out.new ≡ out.old ++ value_text (view self.now)) }
     {
         push_value(out, self)
     }
 }
 
 #[cycle(text)]
-fn push_value(out: &mut String, given: &Data) -> Result<(), AllocError>
-    ensures { OnOk result (string_bytes out.new ≡ string_bytes out.old ++ value_text (view given.now)) }
+fn push_value(out: &mut Pieces, given: &Data) -> Result<(), AllocError>
+    ensures { OnOk result (out.new ≡ out.old ++ value_text (view given.now)) }
 {
     match given {
-        Data::Leaf => out.push_str("leaf"),
-        Data::Symbol(symbol) => out.push_str(symbol.as_str()),
+        Data::Leaf => out.push_fixed("leaf"),
+        Data::Symbol(symbol) => out.push_shared(symbol),
         Data::List(items) => {
-            out.push_str("[")?;
+            out.push_fixed("[")?;
             push_items(out, items)?;
-            out.push_str("]")
+            out.push_fixed("]")
         }
         Data::Map(members) => {
-            out.push_str("{")?;
+            out.push_fixed("{")?;
             push_values(out, members)?;
-            out.push_str("}")
+            out.push_fixed("}")
         }
         Data::Branch(k, inner) => {
-            write!(out, "#{k} ")?;
+            out.push_fixed("#")?;
+            out.push_number(*k)?;
+            out.push_fixed(" ")?;
             push_value(out, inner)
         }
         Data::Fields(members) => {
-            out.push_str("(")?;
+            out.push_fixed("(")?;
             push_fields(out, members)?;
-            out.push_str(")")
+            out.push_fixed(")")
         }
-        Data::Default => out.push_str("default"),
+        Data::Default => out.push_fixed("default"),
     }
 }
 
 /// The items, with commas between them.
 #[cycle(text)]
-fn push_items(out: &mut String, items: &Vec<Data>) -> Result<(), AllocError>
-    ensures { OnOk result (string_bytes out.new ≡ string_bytes out.old ++ values_text true (values_view items.now.items)) }
+fn push_items(out: &mut Pieces, items: &Vec<Data>) -> Result<(), AllocError>
+    ensures { OnOk result (out.new ≡ out.old ++ values_text true (values_view items.now.items)) }
 {
     let mut is_first = true;
     for item in items {
@@ -65,8 +67,8 @@ fn push_items(out: &mut String, items: &Vec<Data>) -> Result<(), AllocError>
 
 /// The keys and their values, with commas between them.
 #[cycle(text)]
-fn push_values(out: &mut String, members: &BTreeMap<Text, Data>) -> Result<(), AllocError>
-    ensures { OnOk result (string_bytes out.new ≡ string_bytes out.old ++ members_text true (members_view members.now.entries)) }
+fn push_values(out: &mut Pieces, members: &BTreeMap<Text, Data>) -> Result<(), AllocError>
+    ensures { OnOk result (out.new ≡ out.old ++ members_text true (members_view members.now.entries)) }
 {
     let mut is_first = true;
     for (key, value) in members.iter() {
@@ -79,8 +81,8 @@ fn push_values(out: &mut String, members: &BTreeMap<Text, Data>) -> Result<(), A
 
 /// The names and their values, with commas between them.
 #[cycle(text)]
-fn push_fields(out: &mut String, members: &Vec<(Text, Data)>) -> Result<(), AllocError>
-    ensures { OnOk result (string_bytes out.new ≡ string_bytes out.old ++ members_text true (members_view members.now.items)) }
+fn push_fields(out: &mut Pieces, members: &Vec<(Text, Data)>) -> Result<(), AllocError>
+    ensures { OnOk result (out.new ≡ out.old ++ members_text true (members_view members.now.items)) }
 {
     let mut is_first = true;
     for member in members {
@@ -92,19 +94,19 @@ fn push_fields(out: &mut String, members: &Vec<(Text, Data)>) -> Result<(), Allo
 }
 
 /// A comma, but before the first.
-fn push_comma(out: &mut String, is_first: bool) -> Result<(), AllocError>
-    ensures { OnOk result (string_bytes out.new ≡ string_bytes out.old ++ comma_before is_first) }
+fn push_comma(out: &mut Pieces, is_first: bool) -> Result<(), AllocError>
+    ensures { OnOk result (out.new ≡ out.old ++ comma_before is_first) }
 {
     if is_first {
         return Ok(());
     }
-    out.push_str(",")
+    out.push_fixed(",")
 }
 
-fn push_name(out: &mut String, is_first: bool, name: &Text) -> Result<(), AllocError>
-    ensures { OnOk result (string_bytes out.new ≡ string_bytes out.old ++ (comma_before is_first ++ name.now ++ codes "=")) }
+fn push_name(out: &mut Pieces, is_first: bool, name: &Text) -> Result<(), AllocError>
+    ensures { OnOk result (out.new ≡ out.old ++ (comma_before is_first ++ name.now ++ codes "=")) }
 {
     push_comma(out, is_first)?;
-    out.push_str(name.as_str())?;
-    out.push_str("=")
+    out.push_shared(name)?;
+    out.push_fixed("=")
 }

@@ -19,7 +19,7 @@ use crate::pairs::{
     values_at,
 };
 use crate::readable::can_read;
-use crate::room::{Halt, Room, Texts};
+use crate::room::{Halt, Room};
 use avro_data::Data;
 use avro_resolve::{Pair, partner};
 use avro_schema::{Field, Node, NodeId, Schema};
@@ -32,8 +32,8 @@ use std::collections::BTreeMap;
 ///
 /// A reader's union tells the number of its own branch, and a field that has nothing to read is
 /// `Default`. Where the two schemas are compatible, no value of the writer's schema is refused as
-/// `Unreadable`. Of a reading that is too large no more than the limit is ever made. `OutOfMemory` also
-/// comes where the names, keys and symbols in the reading have more than [`avro_data::MOST_TEXT`] bytes.
+/// `Unreadable`. Of a reading that is too large no more than the limit is ever made. `OutOfMemory` comes
+/// where memory is refused; names, keys and symbols take none, since they are shared with `r` and `given`.
 pub fn read_data(alloc: Global, r: &Schema, w: &Schema, given: &Data) -> Result<Data, ReadError>
     ensures ok { IfOk result (λ read. IsRead r.now.nodes w.now.nodes (view given.now) (view read)) }
     ensures refused { IfErr result (IsReadRefusal r.now.nodes w.now.nodes (view given.now)) }
@@ -49,15 +49,7 @@ pub fn read_data(alloc: Global, r: &Schema, w: &Schema, given: &Data) -> Result<
         reader: r.root(),
         writer: w.root(),
     };
-    match read(
-        alloc,
-        r,
-        w,
-        pair,
-        given,
-        &mut Room::whole(),
-        &mut Texts::whole(),
-    ) {
+    match read(alloc, r, w, pair, given, &mut Room::whole()) {
         Ok(found) => Ok(found),
         Err(Halt::Unreadable) => Err(ReadError::Unreadable),
         Err(Halt::TooLarge) => {
@@ -81,7 +73,6 @@ fn read(
     pair: Pair,
     given: &Data,
     room: &mut Room,
-    texts: &mut Texts,
 ) -> Result<Data, Halt>
     ensures read { IfOk result (λ found. spec.reads r.now.nodes w.now.nodes pair (view given.now) ≡ Some (view found)) }
     ensures room { IfOk result (λ found. IsTaken room.old room.new (value_room (view found))) }
@@ -97,12 +88,12 @@ fn read(
                     reader: pair.reader,
                     writer,
                 };
-                read(alloc, r, w, next, inner, room, texts)
+                read(alloc, r, w, next, inner, room)
             }
             None => Err(Halt::Unreadable),
         },
         Data::Default => Err(Halt::Unreadable),
-        _ => read_inside(alloc, r, w, pair, given, room, texts),
+        _ => read_inside(alloc, r, w, pair, given, room),
     }
 }
 
@@ -115,7 +106,6 @@ fn read_inside(
     pair: Pair,
     given: &Data,
     room: &mut Room,
-    texts: &mut Texts,
 ) -> Result<Data, Halt>
     ensures read { IfOk result (λ found. through_reader r.now.nodes w.now.nodes pair (view given.now) ≡ Some (view found)) }
     ensures room { IfOk result (λ found. IsTaken room.old room.new (value_room (view found))) }
@@ -123,9 +113,9 @@ fn read_inside(
 {
     match node_at(r, pair.reader) {
         Some(Node::Union(branches)) => {
-            read_branch(alloc, r, w, branches.as_slice(), pair, given, room, texts)
+            read_branch(alloc, r, w, branches.as_slice(), pair, given, room)
         }
-        _ => read_row(alloc, r, w, pair, given, room, texts),
+        _ => read_row(alloc, r, w, pair, given, room),
     }
 }
 
@@ -139,7 +129,6 @@ fn read_branch(
     pair: Pair,
     given: &Data,
     room: &mut Room,
-    texts: &mut Texts,
 ) -> Result<Data, Halt>
     ensures read { IfOk result (λ found. through_union r.now.nodes w.now.nodes branches.now pair (view given.now) ≡ Some (view found)) }
     ensures room { IfOk result (λ found. IsTaken room.old room.new (value_room (view found))) }
@@ -156,7 +145,7 @@ fn read_branch(
         return Err(Halt::Unreadable);
     }
     room.enter()?;
-    let inner = read_row(alloc, r, w, next, given, room, texts)?;
+    let inner = read_row(alloc, r, w, next, given, room)?;
     room.leave();
     Ok(Data::Branch(k, Box::new(alloc, inner)?))
 }
@@ -170,14 +159,13 @@ fn read_row(
     pair: Pair,
     given: &Data,
     room: &mut Room,
-    texts: &mut Texts,
 ) -> Result<Data, Halt>
     ensures read { IfOk result (λ found. row_reading r.now.nodes w.now.nodes (view given.now) pair ≡ Some (view found)) }
     ensures room { IfOk result (λ found. IsTaken room.old room.new (value_room (view found))) }
     ensures halted { IfErr result (IsHalt room.old (option_map value_room (row_reading r.now.nodes w.now.nodes (view given.now) pair))) }
 {
     room.enter()?;
-    let found = read_parts(alloc, r, w, pair, given, room, texts)?;
+    let found = read_parts(alloc, r, w, pair, given, room)?;
     room.leave();
     Ok(found)
 }
@@ -191,7 +179,6 @@ fn read_parts(
     pair: Pair,
     given: &Data,
     room: &mut Room,
-    texts: &mut Texts,
 ) -> Result<Data, Halt>
     ensures read { IfOk result (λ found. row_reading r.now.nodes w.now.nodes (view given.now) pair ≡ Some (view found)) }
     ensures room { IfOk result (λ found. IsTaken room.old room.new (inner_room (view found))) }
@@ -208,20 +195,20 @@ fn read_parts(
             }
         }
         Data::Symbol(symbol) => match symbol_at(reader, writer, symbol) {
-            Some(known) => Ok(Data::Symbol(texts.copy(known)?)),
+            Some(known) => Ok(Data::Symbol(known.clone()?)),
             None => Err(Halt::Unreadable),
         },
         Data::List(items) => match items_at(reader, writer) {
-            Some(inner) => Ok(Data::List(read_items(alloc, r, w, inner, items, room, texts)?)),
+            Some(inner) => Ok(Data::List(read_items(alloc, r, w, inner, items, room)?)),
             None => Err(Halt::Unreadable),
         },
         Data::Map(members) => match values_at(reader, writer) {
-            Some(inner) => Ok(Data::Map(read_values(alloc, r, w, inner, members, room, texts)?)),
+            Some(inner) => Ok(Data::Map(read_values(alloc, r, w, inner, members, room)?)),
             None => Err(Halt::Unreadable),
         },
         Data::Fields(members) => match fields_at(reader, writer) {
             Some((fields, others)) => {
-                Ok(Data::Fields(read_fields(alloc, r, w, fields, others, members, room, texts)?))
+                Ok(Data::Fields(read_fields(alloc, r, w, fields, others, members, room)?))
             }
             None => Err(Halt::Unreadable),
         },
@@ -237,7 +224,6 @@ fn read_items(
     pair: Pair,
     items: &Vec<Data>,
     room: &mut Room,
-    texts: &mut Texts,
 ) -> Result<Vec<Data>, Halt>
     ensures read { IfOk result (λ found. spec.items_read r.now.nodes w.now.nodes pair (values_view items.now.items) ≡ Some (values_view found.items)) }
     ensures room { IfOk result (λ found. IsTaken room.old room.new (values_room (values_view found.items))) }
@@ -245,7 +231,7 @@ fn read_items(
 {
     let mut done = Vec::new(alloc);
     for item in items {
-        let found = read(alloc, r, w, pair, item, room, texts)?;
+        let found = read(alloc, r, w, pair, item, room)?;
         done.push(found)?;
     }
     Ok(done)
@@ -259,7 +245,6 @@ fn read_values(
     pair: Pair,
     members: &BTreeMap<Text, Data>,
     room: &mut Room,
-    texts: &mut Texts,
 ) -> Result<BTreeMap<Text, Data>, Halt>
     ensures read { IfOk result (λ found. spec.values_read r.now.nodes w.now.nodes pair (members_view members.now.entries) ≡ Some (members_view found.entries)) }
     ensures room { IfOk result (λ found. IsTaken room.old room.new (members_room (members_view found.entries))) }
@@ -267,8 +252,8 @@ fn read_values(
 {
     let mut done = BTreeMap::new(alloc);
     for (key, value) in members.iter() {
-        let found = read(alloc, r, w, pair, value, room, texts)?;
-        let name = texts.copy(key)?;
+        let found = read(alloc, r, w, pair, value, room)?;
+        let name = key.clone()?;
         drop(done.insert(name, found)?);
     }
     Ok(done)
@@ -284,7 +269,6 @@ fn read_fields(
     others: &NamedList<Field>,
     members: &Vec<(Text, Data)>,
     room: &mut Room,
-    texts: &mut Texts,
 ) -> Result<Vec<(Text, Data)>, Halt>
     ensures read { IfOk result (λ found. all_fields_read r.now.nodes w.now.nodes (members_view members.now.items) others.now fields.now ≡ Some (members_view found.items)) }
     ensures room { IfOk result (λ found. IsTaken room.old room.new (members_room (members_view found.items))) }
@@ -293,8 +277,8 @@ fn read_fields(
     let are_fields = are_named(others.as_slice(), members.as_slice());
     let mut done = Vec::with_capacity(alloc, fields.len())?;
     for field in fields {
-        let found = read_field(alloc, r, w, field, others, members, are_fields, room, texts)?;
-        let name = texts.copy(&field.name)?;
+        let found = read_field(alloc, r, w, field, others, members, are_fields, room)?;
+        let name = field.name.clone()?;
         done.push((name, found))?;
     }
     Ok(done)
@@ -312,7 +296,6 @@ fn read_field(
     members: &Vec<(Text, Data)>,
     are_fields: bool,
     room: &mut Room,
-    texts: &mut Texts,
 ) -> Result<Data, Halt>
     requires { are_fields ≡ true → map (λ (f : SpecField). f.name) others.now ≡ map (λ m. m.0) members.now.items }
     ensures read { IfOk result (λ found. one_field_read r.now.nodes w.now.nodes (members_view members.now.items) others.now field.now ≡ Some (view found)) }
@@ -335,7 +318,6 @@ fn read_field(
                 members,
                 are_fields,
                 room,
-                texts,
             )
         }
         None => {
@@ -358,7 +340,6 @@ fn read_named(
     members: &Vec<(Text, Data)>,
     are_fields: bool,
     room: &mut Room,
-    texts: &mut Texts,
 ) -> Result<Data, Halt>
     requires { are_fields ≡ true → map (λ (f : SpecField). f.name) others.now ≡ map (λ m. m.0) members.now.items }
     ensures read { IfOk result (λ found. spec.named_read r.now.nodes w.now.nodes name.now pair (members_view members.now.items) ≡ Some (view found)) }
@@ -366,7 +347,7 @@ fn read_named(
     ensures halted { IfErr result (IsHalt room.old (option_map value_room (spec.named_read r.now.nodes w.now.nodes name.now pair (members_view members.now.items)))) }
 {
     match place_named(others, members, are_fields, name) {
-        Some(place) => read(alloc, r, w, pair, &members[place].1, room, texts),
+        Some(place) => read(alloc, r, w, pair, &members[place].1, room),
         None => Err(Halt::Unreadable),
     }
 }

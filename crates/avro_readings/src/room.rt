@@ -1,9 +1,8 @@
 // How much of a reading may still be made.
-ghost use Rattle.std.specs.Prelude.{◌≡◌, ◌⊎◌, ◌+◌, ◌<◌, OnOk, IfOk, IfErr};
+ghost use Rattle.std.specs.Prelude.{◌≡◌, ◌⊎◌, ◌+◌, ◌<◌, OnOk, IfErr};
 ghost use Rattle.avro_data.specs.declared.limits.TheConstants.{MOST_PARTS, MOST_LEVELS};
 
-use avro_data::{MOST_LEVELS, MOST_PARTS, MOST_TEXT};
-use base_text::Text;
+use avro_data::{MOST_LEVELS, MOST_PARTS};
 use std::alloc::{AllocError, AllocFailed};
 
 /// How many parts may still be made, and in how many levels from here.
@@ -54,31 +53,6 @@ impl Room {
         ensures { self.new ≡ record { parts = self.old.parts; levels = self.old.levels + 1 } }
     {
         self.levels += 1;
-    }
-}
-
-/// How many bytes of names, keys and symbols may still be copied.
-#[derive(Drop)]
-pub struct Texts {
-    left: usize,
-}
-
-impl Texts {
-    /// Those of a whole reading.
-    pub fn whole() -> Texts {
-        Texts { left: MOST_TEXT }
-    }
-
-    /// A copy of a text, while bytes of texts are left.
-    pub fn copy(&mut self, text: &Text) -> Result<Text, AllocError>
-        ensures { IfOk result (λ copy. copy ≡ text.now) }
-    {
-        let size = text.as_str().len();
-        if size > self.left {
-            return Err(AllocError);
-        }
-        self.left -= size;
-        text.clone()
     }
 }
 

@@ -1,5 +1,5 @@
 // The lines of a sketch.
-ghost use Rattle.std.specs.Prelude.{◌≡◌, ◌++◌, true, false, Option, IfOk, OnOk, string_bytes};
+ghost use Rattle.std.specs.Prelude.{◌≡◌, ◌++◌, true, false, Option, IfOk, OnOk};
 ghost use Rattle.avro_resolve.specs.declared.resolving.Verdict.{Verdict};
 ghost use Rattle.avro_resolve.specs.Trails.{roots};
 ghost use Rattle.avro_resolve.specs.Verdict.{IsVerdict};
@@ -12,10 +12,11 @@ ghost use Rattle.avro_readings.specs.Reads.{reads};
 ghost use Rattle.avro_sketch.specs.Sketch.{HaveOneSketch, IsSketch, reading_line, sample_lines, value_lines, verdict_line};
 
 use crate::laws::schemas_have_one_sketch;
-use avro_data::{Data, SampleError, sample};
+use avro_data::{Data, Pieces, SampleError, sample};
 use avro_readings::{ReadError, read_data};
-use avro_resolve::{Verdict, resolve};
+use avro_resolve::{Trail, Verdict, resolve};
 use avro_schema::Schema;
+use base_text::Text;
 use std::alloc::{AllocError, Global};
 
 /// The sketch of a reader's schema `r` and a writer's `w`, in lines that end in LF.
@@ -26,38 +27,48 @@ use std::alloc::{AllocError, Global};
 /// these limits, or `unreadable`.
 ///
 /// A clash says that a value of the writer's may be unreadable; the sample may have a reading all the
-/// same. Whether defaults are valid doesn't count. The only error is out of memory.
-pub fn sketch_text(alloc: Global, r: &Schema, w: &Schema) -> Result<String, AllocError>
-    ensures sketch { IfOk result (λ text. IsSketch r.now.nodes w.now.nodes (string_bytes text)) }
+/// same. Whether defaults are valid doesn't count. The names in the text are shared with the schemas,
+/// so it may be longer than what memory holds. The only error is out of memory.
+pub fn sketch_text(alloc: Global, r: &Schema, w: &Schema) -> Result<Pieces, AllocError>
+    ensures sketch { IfOk result (λ text. IsSketch r.now.nodes w.now.nodes text) }
     ensures one_sketch { HaveOneSketch r.now.nodes w.now.nodes }
 {
     schemas_have_one_sketch();
-    let mut out = String::new(alloc);
+    let mut out = Pieces::new(alloc);
     push_verdict(alloc, r, w, &mut out)?;
     push_sample(alloc, r, w, &mut out)?;
     Ok(out)
 }
 
 /// Appends the line of the verdict.
-fn push_verdict(alloc: Global, r: &Schema, w: &Schema, out: &mut String) -> Result<(), AllocError>
+fn push_verdict(alloc: Global, r: &Schema, w: &Schema, out: &mut Pieces) -> Result<(), AllocError>
     ensures { OnOk result ((verdict : Verdict) × IsVerdict r.now.nodes w.now.nodes verdict
-        × (string_bytes out.new ≡ string_bytes out.old ++ verdict_line verdict)) }
+        × (out.new ≡ out.old ++ verdict_line verdict)) }
 {
     match resolve(alloc, r, w)? {
-        Verdict::Compatible => out.push_str("compatible\n"),
-        Verdict::Clash(trail) => writeln!(out, "clash at {trail}: {}", trail.kind),
+        Verdict::Compatible => out.push_fixed("compatible\n"),
+        Verdict::Clash(trail) => push_clash(alloc, &trail, out),
     }
 }
 
+/// Appends the line of a clash.
+fn push_clash(alloc: Global, trail: &Trail, out: &mut Pieces) -> Result<(), AllocError>
+    ensures { OnOk result (out.new ≡ out.old ++ verdict_line (Verdict.Clash trail.now)) }
+{
+    let line = format!(in alloc; "clash at {trail}: {}\n", trail.kind)?;
+    let text = Text::of_string(line)?;
+    out.push_shared(&text)
+}
+
 /// Appends what is said of the writer's sample.
-fn push_sample(alloc: Global, r: &Schema, w: &Schema, out: &mut String) -> Result<(), AllocError>
+fn push_sample(alloc: Global, r: &Schema, w: &Schema, out: &mut Pieces) -> Result<(), AllocError>
     ensures { OnOk result ((found : Option Value) × IsSample w.now.nodes root found
-        × (string_bytes out.new ≡ string_bytes out.old ++ sample_lines r.now.nodes w.now.nodes found)) }
+        × (out.new ≡ out.old ++ sample_lines r.now.nodes w.now.nodes found)) }
 {
     match sample(alloc, w) {
         Ok(Some(value)) => push_value(alloc, r, w, value, out),
-        Ok(None) => out.push_str("no finite value\n"),
-        Err(SampleError::TooLarge) => out.push_str("value too large\n"),
+        Ok(None) => out.push_fixed("no finite value\n"),
+        Err(SampleError::TooLarge) => out.push_fixed("value too large\n"),
         Err(SampleError::OutOfMemory) => Err(AllocError),
     }
 }
@@ -68,14 +79,14 @@ fn push_value(
     r: &Schema,
     w: &Schema,
     value: Data,
-    out: &mut String,
+    out: &mut Pieces,
 ) -> Result<(), AllocError>
     requires { fits w.now.nodes root (view value) ≡ true }
-    ensures { OnOk result (string_bytes out.new ≡ string_bytes out.old ++ value_lines r.now.nodes w.now.nodes (view value)) }
+    ensures { OnOk result (out.new ≡ out.old ++ value_lines r.now.nodes w.now.nodes (view value)) }
 {
-    out.push_str("value ")?;
+    out.push_fixed("value ")?;
     value.push_text(out)?;
-    out.push_str("\n")?;
+    out.push_fixed("\n")?;
     push_reading(alloc, r, w, value, out)
 }
 
@@ -85,26 +96,26 @@ fn push_reading(
     r: &Schema,
     w: &Schema,
     value: Data,
-    out: &mut String,
+    out: &mut Pieces,
 ) -> Result<(), AllocError>
     requires { fits w.now.nodes root (view value) ≡ true }
-    ensures { OnOk result (string_bytes out.new ≡ string_bytes out.old ++ reading_line (reads r.now.nodes w.now.nodes roots (view value))) }
+    ensures { OnOk result (out.new ≡ out.old ++ reading_line (reads r.now.nodes w.now.nodes roots (view value))) }
 {
     match read_data(alloc, r, w, &value) {
         Ok(read) => push_read(&read, out),
-        Err(ReadError::Unreadable) => out.push_str("unreadable\n"),
-        Err(ReadError::TooLarge) => out.push_str("too large\n"),
+        Err(ReadError::Unreadable) => out.push_fixed("unreadable\n"),
+        Err(ReadError::TooLarge) => out.push_fixed("too large\n"),
         Err(ReadError::Unfit) => unreachable!(),
         Err(ReadError::OutOfMemory) => Err(AllocError),
     }
 }
 
 /// Appends a reading's line.
-fn push_read(read: &Data, out: &mut String) -> Result<(), AllocError>
+fn push_read(read: &Data, out: &mut Pieces) -> Result<(), AllocError>
     requires { is_too_large (view read.now) ≡ false }
-    ensures { OnOk result (string_bytes out.new ≡ string_bytes out.old ++ reading_line (Some (view read.now))) }
+    ensures { OnOk result (out.new ≡ out.old ++ reading_line (Some (view read.now))) }
 {
-    out.push_str("reads ")?;
+    out.push_fixed("reads ")?;
     read.push_text(out)?;
-    out.push_str("\n")
+    out.push_fixed("\n")
 }

@@ -2,6 +2,10 @@
 #![tactic(auto)]
 
 #[cfg(test)]
+mod joined;
+#[cfg(test)]
+mod long_names;
+#[cfg(test)]
 mod plain;
 #[cfg(test)]
 mod samples;

@@ -1,5 +1,6 @@
 // The samples of schemas.
-use avro_data::{SampleError, sample};
+use crate::joined::joined;
+use avro_data::{Pieces, SampleError, sample};
 use avro_schema::{Schema, SchemaError};
 use std::alloc::{AllocError, Global};
 
@@ -98,13 +99,13 @@ static UNIONS: [Row; 7] = [
 
 /// The text of a schema's sample, `none`, or the refusal.
 fn answer(alloc: Global, schema: &Schema) -> Result<String, AllocError> {
-    let mut text = String::new(alloc);
+    let mut text = Pieces::new(alloc);
     match &sample(alloc, schema) {
         Ok(Some(value)) => value.push_text(&mut text)?,
-        Ok(None) => text.push_str("none")?,
-        Err(error) => text.push_str(name_of(*error))?,
+        Ok(None) => text.push_fixed("none")?,
+        Err(error) => text.push_fixed(name_of(*error))?,
     }
-    Ok(text)
+    joined(alloc, &text)
 }
 
 fn name_of(error: SampleError) -> &'static str {

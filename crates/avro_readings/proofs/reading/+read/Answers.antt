@@ -110,7 +110,7 @@ read_values-loop-key-preserved t c =
     let all = c.args.members.now.entries in
     let found = c.in_ok-found.found in
     let more = c.insert.new.self.entries in
-    let named : c.in_ok-name.name ≡ e.0 = c.in_ok-name.ensures in
+    let named : c.in_ok-name.name ≡ e.0 = c.in_ok-name.ensures.cases in
     let put : more ≡ l.done.entries ++ (e.0, found) ∷ [] =
     c.in_ok-insert.ensures.entries
     ∙ ap (λ k. insert_entry (slice_cmp nat_cmp) l.done.entries k found) named
@@ -144,7 +144,7 @@ read_fields-loop-field-preserved t c =
     let here : drop l.field-index all ≡ f ∷ drop (l.field-index + 1) all =
     drop_more all l.field-index f (omega arith) ∙ ap (λ y. y ∷ drop (l.field-index + 1) all) (sym c.field-item.is) in
     let pushed : c.push.new.self.items ≡ l.done.items ++ (f.name, found) ∷ [] =
-    c.in_ok-push.ensures.items ∙ ap (λ k. l.done.items ++ (k, found) ∷ []) c.in_ok-name.ensures in
+    c.in_ok-push.ensures.items ∙ ap (λ k. l.done.items ++ (k, found) ∷ []) c.in_ok-name.ensures.cases in
     record {
       read =
           fields_step (λ name q. spec.named_read c.args.r.now.nodes c.args.w.now.nodes name q (members_view c.args.members.now.items))

@@ -1,4 +1,4 @@
-use Rattle.std.proofs.Common.{rules, ◌≡◌, ◌++◌, Option, Some, cond, OnOk, Ok, Err, Result, codes, string_bytes, sym, ap, ◌∙◌}
+use Rattle.std.proofs.Common.{◌≡◌, ◌++◌, Option, Some, cond, OnOk, Ok, Err, Result, codes, sym, ap, ◌∙◌}
 use Rattle.avro_data.specs.Sample.{root, IsSample}
 use Rattle.avro_data.specs.Value.{Value}
 use Rattle.avro_sketch.specs.Sketch.{sample_lines, value_lines}
@@ -12,10 +12,10 @@ pub returns-in-Err-TooLarge : goal.returns-in-Err-TooLarge
 returns-in-Err-TooLarge c =
     let r = c.args.r.now.nodes in
     let w = c.args.w.now.nodes in
-    let old = string_bytes c.args.out.now in
-    let new = string_bytes c.push_str-in-Err-TooLarge.new.self in
+    let old = c.args.out.now in
+    let new = c.push_fixed-in-Err-TooLarge.new.self in
     let (v, is, large) = c.in-Err-TooLarge.ensures.too_large c.in-Err-TooLarge.field-0-is in
-    let bytes : OnOk c.push_str-in-Err-TooLarge.result (new ≡ old ++ codes "value too large\n") = search rules in
     where_ok {P = new ≡ old ++ codes "value too large\n"}
-    {Q = (x : Option Value) × IsSample w root x × (new ≡ old ++ sample_lines r w x)} c.push_str-in-Err-TooLarge.result
-    (λ e. (Some v, is, e ∙ ap (λ b. old ++ cond b (codes "value too large\n") (value_lines r w v)) (sym large))) bytes
+    {Q = (x : Option Value) × IsSample w root x × (new ≡ old ++ sample_lines r w x)} c.push_fixed-in-Err-TooLarge.result
+    (λ e. (Some v, is, e ∙ ap (λ b. old ++ cond b (codes "value too large\n") (value_lines r w v)) (sym large)))
+    c.push_fixed-in-Err-TooLarge.ensures

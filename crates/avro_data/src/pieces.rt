@@ -1,0 +1,82 @@
+// Texts in pieces.
+ghost use Rattle.std.specs.Prelude.{◌≡◌, ◌++◌, [], OnOk, decimal};
+ghost use Rattle.avro_data.specs.Pieces.{piece_text, pieces_text};
+
+use base_text::Text;
+use std::alloc::{AllocError, Global};
+use std::marker::Model;
+
+/// A piece of a text.
+#[derive(Drop)]
+pub enum Piece {
+    /// A text of the program's own.
+    Fixed(&'static str),
+    /// A text that others have too.
+    Shared(Text),
+    /// A number, in decimal digits.
+    Number(usize),
+}
+
+/// A text in pieces, which contracts see as the list of its bytes.
+///
+/// Each name in it is shared and not copied, so it may be longer than what memory holds.
+#[derive(Drop)]
+pub struct Pieces {
+    items: Vec<Piece>,
+}
+
+impl Model for Pieces {
+    ghost use Rattle.std.specs.Prelude.{List, ℕ};
+    ghost use Rattle.avro_data.specs.Pieces.{pieces_text};
+
+    ghost Value = { List ℕ };
+
+    ghost view = { λ p. pieces_text p.items.items };
+}
+
+impl Pieces {
+    /// The empty text, which takes no memory.
+    pub fn new(alloc: Global) -> Pieces
+        ensures { result ≡ [] }
+    {
+        Pieces {
+            items: Vec::new(alloc),
+        }
+    }
+
+    /// The pieces, in their order.
+    pub fn as_slice(&self) -> &[Piece]
+        ensures { pieces_text result.now ≡ self.now }
+    {
+        &self.items
+    }
+
+    /// Appends a text of the program's own. The only error is out of memory.
+    pub fn push_fixed(&mut self, text: &'static str) -> Result<(), AllocError>
+        ensures { OnOk result (self.new ≡ self.old ++ text.now) }
+    {
+        push(&mut self.items, Piece::Fixed(text))
+    }
+
+    /// Appends a text, and shares it. The only error is out of memory.
+    pub fn push_shared(&mut self, text: &Text) -> Result<(), AllocError>
+        ensures { OnOk result (self.new ≡ self.old ++ text.now) }
+    {
+        let shared = text.clone()?;
+        push(&mut self.items, Piece::Shared(shared))
+    }
+
+    /// Appends a number, in decimal digits. The only error is out of memory.
+    pub fn push_number(&mut self, number: usize) -> Result<(), AllocError>
+        ensures { OnOk result (self.new ≡ self.old ++ decimal number) }
+    {
+        push(&mut self.items, Piece::Number(number))
+    }
+}
+
+fn push(items: &mut Vec<Piece>, piece: Piece) -> Result<(), AllocError>
+    ensures { OnOk result (pieces_text items.new.items ≡ pieces_text items.old.items ++ piece_text piece) }
+{
+    items.push(piece)?;
+    Ok(())
+}

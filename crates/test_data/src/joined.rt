@@ -1,0 +1,16 @@
+// A text in pieces, put together.
+use avro_data::{Piece, Pieces};
+use std::alloc::{AllocError, Global};
+
+/// The text that pieces make.
+pub fn joined(alloc: Global, pieces: &Pieces) -> Result<String, AllocError> {
+    let mut text = String::new(alloc);
+    for piece in pieces.as_slice() {
+        match piece {
+            Piece::Fixed(part) => text.push_str(part)?,
+            Piece::Shared(part) => text.push_str(part.as_str())?,
+            Piece::Number(number) => write!(text, "{number}")?,
+        }
+    }
+    Ok(text)
+}
