@@ -1,5 +1,6 @@
 pub mod Keeping
 pub mod Last
+pub mod LookedAt
 pub mod Refused
 pub mod Runs
 pub mod TextsOut

@@ -1,7 +1,8 @@
 // A judge, and what it answers.
-ghost use Rattle.std.specs.Prelude.{◌≡◌, ◌∷◌, IfOk, IfErr, OnOk, OnErr, map};
+ghost use Rattle.std.specs.Prelude.{◌≡◌, ◌∷◌, None, IfOk, IfErr, OnOk, OnErr, map};
 ghost use Rattle.reg_levels.specs.RequiredPairs.{HasRisingVersions};
-ghost use Rattle.reg_levels.specs.Judgement.{IsTrueVerdict, IsMadeOf};
+ghost use Rattle.reg_levels.specs.RequiredPairs as required;
+ghost use Rattle.reg_levels.specs.Judgement.{IsTrueVerdict, IsMadeOf, first_unread};
 ghost use Rattle.reg_levels.specs.JudgedError.{IsJudgedRefusal};
 ghost use Rattle.reg_levels.specs.declared.verdict.LevelVerdict.{LevelVerdict as Verdict};
 ghost use Rattle.reg_judge.specs.LastJudged.{HasLastJudged};
@@ -120,6 +121,30 @@ impl Judge {
         keep(&mut self.schemas, new);
         self.kept_all = keep_all(&mut self.verdicts, used);
         Ok(verdict)
+    }
+
+    /// The same, where each old text is known to be a schema's: only those are read, or taken from what is kept, that
+    /// the level looks at.
+    pub fn check_read(
+        &mut self,
+        level: Level,
+        new_text: &str,
+        olds: &[(u32, &str)],
+    ) -> Result<LevelVerdict, JudgedError>
+        requires rising { HasRisingVersions olds.now }
+        requires read { first_unread (map (λ old. (old.0, old.1.now)) olds.now) ≡ None }
+        ensures verdict { IfOk result (IsTrueVerdict level new_text.now (map (λ old. (old.0, old.1.now)) olds.now)) }
+        ensures refused { IfErr result (IsJudgedRefusal new_text.now (map (λ old. (old.0, old.1.now)) olds.now)) }
+        ensures capacities { self.new.capacities ≡ self.old.capacities }
+        ensures used { OnOk result (HasUsed self.old.capacities.verdicts
+            (text_pairs level new_text.now (map (λ old. (old.0, old.1.now)) olds.now)) self.old.pairs self.new.pairs self.new.kept_all) }
+        ensures schemas { OnOk result (KeepsSchemas self.old.capacities.schemas new_text.now
+            (map (λ old. old.1.now) (required.looked_at level olds.now)) self.old.texts self.new.texts) }
+        ensures unchanged { OnErr result (self.new ≡ record self.old { texts = self.new.texts }) }
+        ensures taken_out { OnErr result (LosesTexts (new_text.now ∷ map (λ old. old.1.now) (required.looked_at level olds.now))
+            self.old.texts self.new.texts) }
+    {
+        self.check(level, new_text, looked_at(level, olds))
     }
 
     /// The judgement of a new schema's text against old ones, which stand by ascending version: what

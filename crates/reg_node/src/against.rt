@@ -1,16 +1,18 @@
 // What a new schema of a subject is judged against.
-ghost use Rattle.std.specs.Prelude.{◌≡◌, ◌↔◌, true, IsTrue, IfErr, IfOk, map};
-ghost use Rattle.reg_levels.specs.Judgement.{IsMadeOf};
+ghost use Rattle.std.specs.Prelude.{◌≡◌, ◌↔◌, None, true, IsTrue, IfErr, IfOk, map};
+ghost use Rattle.reg_levels.specs.Judgement.{IsMadeOf, IsTrueVerdict, first_unread};
 ghost use Rattle.reg_levels.specs.JudgedError.{IsJudgedRefusal};
 ghost use Rattle.reg_levels.specs.RequiredPairs.{HasRisingVersions};
 ghost use Rattle.reg_entries.specs.Sought.{texts_of};
 ghost use Rattle.reg_node.specs.Judging.{against};
 
+use avro_schema::Schema;
 use base_text::{Listed, Text};
 use reg_fold::{Entry, Registry};
 use reg_judge::Judge;
 use reg_level_names::Level;
-use reg_levels::{Judged, JudgedError, lend_texts};
+use reg_levels::{Judged, JudgedError, LevelVerdict, check_read_texts, lend_texts, looked_at};
+use reg_rules::live_versions_are_read;
 use std::alloc::{AllocError, Global};
 use std::marker::Model;
 
@@ -26,6 +28,8 @@ pub(crate) struct Against {
 }
 
 impl Model for Against {
+    ghost use Rattle.std.specs.Prelude.{◌≡◌, None};
+    ghost use Rattle.reg_levels.specs.Judgement.{first_unread};
     ghost use Rattle.reg_levels.specs.RequiredPairs.{HasRisingVersions};
     ghost use Rattle.reg_node.specs.Judging.{Standing};
 
@@ -33,7 +37,8 @@ impl Model for Against {
 
     ghost view = { λ a. record { level = a.level; olds = a.olds } };
 
-    ghost invariant = { λ a. HasRisingVersions a.olds };
+    // Each of those texts is a schema's.
+    ghost invariant = { λ a. HasRisingVersions a.olds × (first_unread a.olds ≡ None) };
 }
 
 impl Against {
@@ -46,6 +51,7 @@ impl Against {
     ) -> Result<Against, AllocError>
         ensures { IfOk result (λ made. made ≡ against registry.now subject.now) }
     {
+        live_versions_are_read();
         let level = registry.level(Some(subject.as_str()));
         let live = registry.live(subject.as_str())?;
         let olds = copy_texts(alloc, &live)?;
@@ -64,12 +70,12 @@ impl Against {
         Ok(are_texts_of(self.olds.as_slice(), &live))
     }
 
-    /// The judgement of a new schema's text, by the judge where no text is longer than 4,096 bytes,
-    /// else without it.
+    /// The judgement of a new schema's text. Of the versions only those are read, or taken from what the judge keeps,
+    /// that the level looks at.
     pub(crate) fn judged(
         &self,
         alloc: Global,
-        new_text: &str,
+        new_text: &Text,
         judge: &mut Judge,
     ) -> Result<Judged, JudgedError>
         ensures made { IfOk result (λ j. IsMadeOf j self.now.level new_text.now self.now.olds) }
@@ -77,28 +83,35 @@ impl Against {
         ensures capacities { judge.new.capacities ≡ judge.old.capacities }
     {
         let olds = lend_texts(alloc, self.olds.as_slice())?;
-        judge_lent(alloc, self.level, new_text, &olds, judge)
+        let verdict = verdict_on(alloc, self.level, new_text.as_str(), &olds, judge)?;
+        let kept_text = new_text.clone()?;
+        let kept_olds = self.olds.clone()?;
+        Ok(Judged::of_parts(self.level, kept_text, kept_olds, verdict))
     }
 }
 
-/// The judgement of a new schema's text against old ones.
-fn judge_lent(
+/// The verdict on a new schema's text, by the judge where no text that counts is longer than 4,096 bytes, else
+/// without it.
+fn verdict_on(
     alloc: Global,
     level: Level,
     new_text: &str,
     olds: &[(u32, &str)],
     judge: &mut Judge,
-) -> Result<Judged, JudgedError>
-    requires { HasRisingVersions olds.now }
-    ensures made { IfOk result (λ j. IsMadeOf j level new_text.now (map (λ old. (old.0, old.1.now)) olds.now)) }
+) -> Result<LevelVerdict, JudgedError>
+    requires rising { HasRisingVersions olds.now }
+    requires read { first_unread (map (λ old. (old.0, old.1.now)) olds.now) ≡ None }
+    ensures verdict { IfOk result (IsTrueVerdict level new_text.now (map (λ old. (old.0, old.1.now)) olds.now)) }
     ensures refused { IfErr result (IsJudgedRefusal new_text.now (map (λ old. (old.0, old.1.now)) olds.now)) }
     ensures capacities { judge.new.capacities ≡ judge.old.capacities }
 {
-    if is_kept(new_text) && olds.iter().all(|old| is_kept(old.1)) {
-        judge.make(level, new_text, olds)
-    } else {
-        Judged::make(alloc, level, new_text, olds)
+    if is_kept(new_text) && looked_at(level, olds).iter().all(|old| is_kept(old.1)) {
+        return judge.check_read(level, new_text, olds);
     }
+    let Some(new) = Schema::read_if_any(alloc, new_text)? else {
+        return Err(JudgedError::NewText);
+    };
+    Ok(check_read_texts(alloc, level, &new, olds)?)
 }
 
 /// Whether a judge is asked about the text.

@@ -43,15 +43,14 @@ impl Case {
         }
     }
 
-    /// The judgement, by the judge where no text is longer than 4,096 bytes, else without it. Refused where a
-    /// text is no schema's, the new one's fault first, or where memory is.
+    /// The judgement, by the judge where no text that counts is longer than 4,096 bytes, else without it. Refused
+    /// where a text is no schema's, the new one's fault first, or where memory is.
     pub fn judged(&self, judge: &mut Judge) -> Result<Judged, JudgedError>
         ensures made { IfOk result (λ j. IsMadeOf j self.now.standing.level self.now.new_text self.now.standing.olds) }
         ensures refused { IfErr result (IsJudgedRefusal self.now.new_text self.now.standing.olds) }
         ensures capacities { judge.new.capacities ≡ judge.old.capacities }
     {
-        self.against
-            .judged(self.alloc, self.new_text.as_str(), judge)
+        self.against.judged(self.alloc, &self.new_text, judge)
     }
 
     /// Whether it is the case of the same registration over a registry. The only error is out of memory.

@@ -44,6 +44,8 @@ pub struct Follower<
     upto: u64,
     // The floor, with the pending draws.
     floor: u64,
+    // Whether the copy that isn't shown lacks what was published last.
+    lags: bool,
 }
 
 impl<
@@ -93,6 +95,7 @@ impl<
             rest: VecDeque::new(alloc),
             upto: 0,
             floor: 0,
+            lags: false,
         }
     }
 
@@ -158,8 +161,20 @@ impl<
         append_all(&mut self.out, &mut self.rest)?;
         if self.out.has_pending() {
             self.out.publish()?;
+            self.lags = true;
         }
         Ok(self.out.tell())
+    }
+
+    /// Brings the copy that isn't shown up to what was published last, so that the next publish takes in only what is
+    /// new: else it takes in that of the one before too, after a start all that is kept. Nothing is published, and
+    /// where memory is refused, it is left to the next publish. It may wait for readers.
+    pub fn catch_up_unshown(&mut self)
+        ensures { self.new ≡ self.old }
+    {
+        if self.lags && !self.out.has_pending() {
+            self.lags = self.out.publish().is_err();
+        }
     }
 
     /// A view of the node. It may be refused at any call.

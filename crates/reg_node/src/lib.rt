@@ -12,5 +12,6 @@ mod view;
 pub use case::Case;
 pub use follower::Follower;
 pub use laws::draws_fold_to_last_records;
+pub use reg_judge::{Judge, JudgeError};
 pub use take::{Draw, Rebase, Take, Taken};
 pub use view::View;

@@ -16,7 +16,7 @@ use Rattle.reg_levels.specs.RequiredPairs.{Required, required_pairs}
 use Rattle.reg_levels.specs.Texts.{IsVerdictOfTexts, VersionText, nodes_in, versions_in}
 use Rattle.reg_levels.specs.declared.verdict.LevelVerdict.{LevelVerdict}
 use Rattle.reg_set.specs.Records.{Records}
-use Rattle.reg_rules.specs.Report.{IsReport}
+use Rattle.reg_rules.specs.Report.{IsReport, LiveVersionsAreRead}
 
 -- where a verdict tells no pair, each is compatible
 none_told : (ps : List Required) (v : LevelVerdict) → IsVerdictOn ps v → message_of v ≡ None → All IsCompatible ps
@@ -62,7 +62,7 @@ none_unread (e ∷ es) all =
     ∙ none_unread es (All-tail HasSchema e es all)
 
 -- the text of each live entry is a schema's
-pub live_are_read : EntriesAreRead → (rs : Records) (subject : List ℕ) → first_unread (texts_of (live rs subject)) ≡ None
+pub live_are_read : EntriesAreRead → LiveVersionsAreRead
 live_are_read read rs subject =
     let each = λ (e : Entry) (there : Contains (entries rs) e).
     some_mapped (λ (m : Meaning). m.normal_text) (schema_of e.text) e.normal (read rs e there) in

@@ -9,7 +9,7 @@ use Rattle.reg_fold.specs.IdMark.{id_mark}
 use Rattle.reg_fold.specs.InForce.{Scope}
 use Rattle.reg_fold.specs.Opaque.{opaque}
 use Rattle.reg_fold.specs.Standing.{greatest_version, named}
-use Rattle.reg_modes.specs.Permitted.{Permit, granted, must_allow_import}
+use Rattle.reg_modes.specs.Permitted.{Permit, granted, may_set_import}
 use Rattle.reg_modes.specs.declared.mode.Mode.{Mode}
 use Rattle.reg_modes.specs.declared.mode.Mode.TheVariants as modes
 use Rattle.reg_records.specs.declared.limits.TheConstants.{NUMBER_LIMIT, OFFSET_LIMIT}
@@ -58,7 +58,7 @@ must_be_number number = refuse_unless (nat_le 1 number && nat_le number NUMBER_L
 
 -- the mode may be set: IMPORT not over a live version of the scope, unless it is forced
 abbrev pub must_allow_mode : Records → Scope → Mode → Bool → Permit
-must_allow_mode rs scope modes.Import force = must_allow_import rs scope force
+must_allow_mode rs scope modes.Import force = may_set_import rs scope force
 must_allow_mode rs scope modes.Readonly force = granted
 must_allow_mode rs scope modes.Readwrite force = granted
 

@@ -6,7 +6,7 @@ ghost use Rattle.reg_levels.specs.Judgement.{IsMadeOf, first_unread};
 ghost use Rattle.reg_levels.specs.RequiredPairs.{HasRisingVersions};
 ghost use Rattle.reg_levels.specs.Texts.{IsVerdictOfTexts};
 ghost use Rattle.reg_entries.specs.Sought.{texts_of};
-ghost use Rattle.reg_rules.specs.Report.{IsReport};
+ghost use Rattle.reg_rules.specs.Report.{IsReport, LiveVersionsAreRead};
 
 use avro_schema::Schema;
 use base_text::Text;
@@ -27,7 +27,7 @@ pub fn clash_of(
 ) -> Result<Option<Text>, AllocError>
     ensures { IfOk result (IsReport (level registry.now (Some subject.now)) schema.now.normal_text (texts_of (live registry.now subject.now))) }
 {
-    entries_are_read();
+    live_versions_are_read();
     let level = registry.level(Some(subject.as_str()));
     let live = registry.live(subject.as_str())?;
     let texts = texts_of(alloc, &live)?;
@@ -36,6 +36,14 @@ pub fn clash_of(
     }
     let verdict = checked(alloc, level, schema, &texts)?;
     verdict.message(alloc)
+}
+
+/// The text of each live version of a subject is a schema's. What is proved here costs nothing at run time: a function that
+/// needs the law calls it.
+pub fn live_versions_are_read()
+    ensures { LiveVersionsAreRead }
+{
+    entries_are_read();
 }
 
 /// The judgement, if it was made of these.

@@ -7,7 +7,7 @@ mod schemas;
 mod testing;
 mod writing;
 
-pub use judging::clash_of;
+pub use judging::{clash_of, live_versions_are_read};
 pub use schemas::{is_of, live_import, live_schema, must_have_valid_defaults, read_schema};
 pub use testing::{
     must_allow_mode, must_be_above_mark, must_be_number, must_be_open, must_have_offset,

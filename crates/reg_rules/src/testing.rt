@@ -6,7 +6,7 @@ ghost use Rattle.reg_rules.specs.Tests as test;
 use crate::schemas::has_schema;
 use base_text::Text;
 use reg_fold::{Reason, Refusal, Registry, StoreFault};
-use reg_modes::{Mode, must_allow_import};
+use reg_modes::{Mode, may_set_import};
 use reg_records::{NUMBER_LIMIT, OFFSET_LIMIT};
 
 /// Refuses where the registry is closed: `OpaqueRecord`, else `TwoSchemas`.
@@ -52,7 +52,7 @@ pub fn must_allow_mode(
     ensures { result ≡ test.must_allow_mode registry.now scope.now mode force }
 {
     match mode {
-        Mode::Import => must_allow_import(registry, subject_of(scope), force),
+        Mode::Import => may_set_import(registry, subject_of(scope), force),
         Mode::Readwrite | Mode::Readonly => Ok(()),
     }
 }

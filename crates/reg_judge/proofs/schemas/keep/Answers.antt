@@ -1,5 +1,5 @@
-use Rattle.std.proofs.Common.{◌≡◌, ◌⊎◌, inl, inr, List, Some, refl, ap, sym, subst, ◌∙◌}
-use Rattle.std.specs.Prelude.{string_bytes, string_eq}
+use Rattle.std.proofs.Common.{◌≡◌, ◌⊎◌, inl, inr, List, Some, refl, ap, sym, ◌∙◌}
+use Rattle.std.specs.Prelude.{string_eq}
 use Rattle.reg_judge.specs.Judge.{with_text}
 use Rattle.reg_judge.specs.Kept.{AreSchemas, IsSchemaOf, texts_in}
 use Rattle.reg_judge.proofs.Keeping.{either, with_put}

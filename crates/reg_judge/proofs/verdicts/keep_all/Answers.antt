@@ -1,7 +1,7 @@
-use Rattle.std.proofs.Common.{◌≡◌, Bool, true, false, List, [], ◌∷◌, refl, inl, inr, sym, subst, ap, ◌∙◌, ◌&&◌}
+use Rattle.std.proofs.Common.{◌≡◌, Bool, true, false, [], ◌∷◌, refl, inl, inr, sym, subst, ap, ◌∙◌, ◌&&◌}
 use Rattle.std.proofs.Math.Bool.{and-true}
 use Rattle.std.proofs.lemmas.List.{nil_from_length}
-use Rattle.reg_judge.specs.Judge.{TextPair, UsesInTurn, used}
+use Rattle.reg_judge.specs.Judge.{UsesInTurn, used}
 use Rattle.reg_judge.specs.Kept.{AreVerdicts, IsVerdictOf, pairs_of, texts_of}
 use Rattle.reg_judge.proofs.Keeping.{first, others}
 use Rattle.reg_judge.proofs.verdicts.keep_all.Goals as goal

@@ -9,7 +9,7 @@ use Rattle.reg_levels.specs.Message.{message_of}
 use Rattle.reg_levels.specs.RequiredPairs.{HasRisingVersions}
 use Rattle.reg_levels.specs.Texts.{IsVerdictOfTexts, VersionText}
 use Rattle.reg_entries.specs.Sought.{texts_of}
-use Rattle.reg_rules.proofs.Verdicts.{judgement_reports, live_are_read, verdict_reports}
+use Rattle.reg_rules.proofs.Verdicts.{judgement_reports, verdict_reports}
 use Rattle.reg_rules.proofs.judging.clash_of.Goals as goal
 
 pub checked-requires-clause-rising : goal.checked-requires-clause-rising
@@ -28,7 +28,7 @@ checked-requires-clause-read c =
     ∙ c.in_ok-texts.ensures.texts
     ∙ ap (λ es. texts_of (map (λ e. e.now) es)) c.deref.ensures.value
     ∙ ap texts_of (c.in_ok-live.ensures.all ∙ ap (live rs) c.as_str-2.ensures) in
-    ap first_unread same ∙ live_are_read c.entries_are_read.ensures rs c.args.subject.now
+    ap first_unread same ∙ c.live_versions_are_read.ensures rs c.args.subject.now
 
 pub returns-in-Some : goal.returns-in-Some
 returns-in-Some c =

@@ -1,4 +1,4 @@
-use Rattle.std.proofs.Common.{IfErr, IfOk, List, ℕ, subst}
+use Rattle.std.proofs.Common.{IfErr, IfOk, subst}
 use Rattle.reg_levels.specs.JudgedError.{IsJudgedRefusal}
 use Rattle.reg_levels.specs.Judgement.{IsMadeOf}
 use Rattle.reg_node.specs.Judging.{Matter}
@@ -7,12 +7,9 @@ use Rattle.reg_node.proofs.case.Case.judged.Goals as goal
 pub returns-clause-made : goal.returns-clause-made
 returns-clause-made c =
     let r = c.judged.result in
-    subst (λ (m : Matter). IfOk r (λ j. IsMadeOf j m.standing.level m.new_text m.standing.olds)) c.self.view_is
-    (subst (λ (t : List ℕ). IfOk r (λ j. IsMadeOf j c.self.inside.against.level t c.self.inside.against.olds)) c.as_str.ensures
-    c.judged.ensures.made)
+    subst (λ (m : Matter). IfOk r (λ j. IsMadeOf j m.standing.level m.new_text m.standing.olds)) c.self.view_is c.judged.ensures.made
 
 pub returns-clause-refused : goal.returns-clause-refused
 returns-clause-refused c =
     let r = c.judged.result in
-    subst (λ (m : Matter). IfErr r (IsJudgedRefusal m.new_text m.standing.olds)) c.self.view_is
-    (subst (λ (t : List ℕ). IfErr r (IsJudgedRefusal t c.self.inside.against.olds)) c.as_str.ensures c.judged.ensures.refused)
+    subst (λ (m : Matter). IfErr r (IsJudgedRefusal m.new_text m.standing.olds)) c.self.view_is c.judged.ensures.refused
