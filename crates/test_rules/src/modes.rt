@@ -1,7 +1,7 @@
 // What modes permit.
 use crate::logs::registry_of;
 use reg_fold::{Reason, Refusal, Registry};
-use reg_modes::{Mode, must_allow_import, must_allow_registration, must_allow_writes};
+use reg_modes::{Mode, may_register, may_set_import, may_write};
 use std::alloc::Global;
 use std::test::Fail;
 
@@ -51,9 +51,9 @@ fn refused(permit: Result<(), Refusal>) -> Option<Reason> {
 fn modes_permit_or_say_why_not(rt: HostRuntime) {
     for (mode, register, import, write) in &PERMITS {
         let found = (
-            refused(must_allow_registration(*mode, false)),
-            refused(must_allow_registration(*mode, true)),
-            refused(must_allow_writes(*mode)),
+            refused(may_register(*mode, false)),
+            refused(may_register(*mode, true)),
+            refused(may_write(*mode)),
         );
         assert!(rt; found == (*register, *import, *write));
     }
@@ -62,7 +62,7 @@ fn modes_permit_or_say_why_not(rt: HostRuntime) {
 /// The first place of a scope that is refused otherwise.
 fn first_other(registry: &Registry) -> Option<usize> {
     for (place, (scope, force, reason)) in IMPORTS.iter().enumerate() {
-        if refused(must_allow_import(registry, *scope, *force)) != *reason {
+        if refused(may_set_import(registry, *scope, *force)) != *reason {
             return Some(place);
         }
     }

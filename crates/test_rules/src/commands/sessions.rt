@@ -1,12 +1,15 @@
 // Sessions with a registry. The first lines are the log, after which the next offset is the one that is
 // named. Each other line that begins with `>` is a command, with what is replied, and below it stand the
 // lines that are written, which the commands after it find. Lines are as they stand in a log, but for a
-// `|` in the place of each TAB.
+// `|` in the place of each TAB. A log that begins with `log read` is read as a file's: a floor may stand in
+// front, and lines of other kinds among the others, and the next offset is the one that these lines give.
 use crate::commands::replies::is_reported;
 use crate::commands::words::command_of;
-use crate::logs::fill;
+use crate::logs::{fill, written};
 use reg_fold::Registry;
 use reg_leader::{Decision, decide};
+use reg_records::{Device, Record, read_log};
+use reg_replay::candidate;
 use std::alloc::Global;
 use std::test::Fail;
 
@@ -305,7 +308,40 @@ static NOT_REQUESTED: [&str; 7] = [
 > import unknown 0 - "bytes" => 42205 Operation not permitted: id is not above the mark"#,
 ];
 
-// The offset after a decision, where the lines are what is replied and written. The registry takes what
+// The offset of what is written behind a line of another kind, behind a floor, and behind both.
+static OFFSETS: [&str; 3] = [
+    r#"log read
+7|{"keytype":"CLEAR_SUBJECT","subject":"s","magic":0}|{"subject":"s"}
+> register s "int" => {"id":1}
+8|{"keytype":"SCHEMA","subject":"s","version":1,"magic":1}|{"subject":"s","version":1,"id":1,"schema":"\"int\"","deleted":false}"#,
+    r#"log read
+floor|3
+> register s "int" => {"id":1}
+3|{"keytype":"SCHEMA","subject":"s","version":1,"magic":1}|{"subject":"s","version":1,"id":1,"schema":"\"int\"","deleted":false}"#,
+    r#"log read
+floor|3
+5|{"keytype":"CONFIG","subject":null,"magic":0}|{"compatibilityLevel":"NONE"}
+4|{"keytype":"CLEAR_SUBJECT","subject":"s","magic":0}|null
+9|{"keytype":"CLEAR_SUBJECT","subject":"s","magic":0}|null
+> set_level s FULL => level FULL
+10|{"keytype":"CONFIG","subject":"s","magic":0}|{"compatibilityLevel":"FULL"}"#,
+];
+
+// Whether the batch tells a command that writes the same; one without records tells none.
+fn is_replayed(
+    alloc: Global,
+    registry: &Registry,
+    next: u64,
+    batch: &[Record],
+) -> Result<bool, Fail> {
+    let Some(command) = candidate(alloc, registry, batch)? else {
+        return Ok(batch.is_empty());
+    };
+    let again = decide(alloc, registry, next, &command, None);
+    Ok(again.batch.as_slice() == batch)
+}
+
+// The offset after a decision, where the lines are what is replied and written, and the batch tells a command that writes it again. The registry takes what
 // is written.
 fn take(
     alloc: Global,
@@ -318,6 +354,9 @@ fn take(
         return Ok(None);
     }
     let batch = decision.batch.as_slice();
+    if !is_replayed(alloc, registry, next, batch)? {
+        return Ok(None);
+    }
     registry.apply_all(batch)?;
     Ok(Some(next.saturating_add(batch.len() as u64)))
 }
@@ -337,9 +376,20 @@ fn after_command(
 // The next offset after a log, which the registry takes.
 fn begin(alloc: Global, registry: &mut Registry, told: &str) -> Result<u64, Fail> {
     let (words, log) = told.split_once("\n").unwrap_or((told, ""));
+    if words == "log read" {
+        return begin_as_read(alloc, registry, log);
+    }
     fill(alloc, registry, log)?;
     let offset = words.strip_prefix("log before ").ok_or("a log")?;
     Ok(offset.parse::<u64>()?)
+}
+
+fn begin_as_read(alloc: Global, registry: &mut Registry, lines: &str) -> Result<u64, Fail> {
+    let mut text = written(alloc, lines)?;
+    text.push('\n')?;
+    let log = read_log(alloc, &mut Device::new(text.as_bytes()))?;
+    registry.apply_all(&log.records)?;
+    Ok(log.next)
 }
 
 fn first_other_on(
@@ -371,6 +421,7 @@ fn sessions_go_as_written(rt: HostRuntime) -> Result<(), Fail> {
         COMMANDS.as_slice(),
         IMPORTS.as_slice(),
         NOT_REQUESTED.as_slice(),
+        OFFSETS.as_slice(),
     ] {
         for session in sessions {
             assert_eq!(rt; first_other(rt.alloc(), session)?, None);

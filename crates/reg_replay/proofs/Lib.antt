@@ -1,0 +1,4 @@
+pub mod Complete
+pub mod Courses
+pub mod Sought
+pub mod Written
