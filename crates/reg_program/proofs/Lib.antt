@@ -4,4 +4,5 @@ mod Folds
 mod Openings
 mod Sketches
 mod Unions
+mod Waited
 mod WordLists

@@ -8,3 +8,5 @@ pub mod Telling
 pub mod Words
 pub mod Sketch
 pub mod Spelling
+pub mod Starting
+pub mod Waiting

@@ -78,7 +78,7 @@ fn sketch_end<R: BufRead, W: Write>(
 }
 
 /// Tells how the program ends, and returns its exit status.
-fn end<E: Write>(errors: &mut Device<E>, ended: &Ended) -> u8
+pub(crate) fn end<E: Write>(errors: &mut Device<E>, ended: &Ended) -> u8
     ensures { EndsAs E.contents errors.old errors.new result ended.now }
 {
     let _told = tell(errors, ended);

@@ -1,14 +1,15 @@
 // The sketch of the schemas in an input's first two lines.
-ghost use Rattle.std.specs.Prelude.{◌≡◌, ◌≤◌, List, ℕ, IfOk, IfErr, IfSome, OnOk, string_bytes};
+ghost use Rattle.std.specs.Prelude.{◌≡◌, ◌≤◌, List, ℕ, IfOk, IfErr, IfSome, OnOk};
 ghost use Rattle.std.specs.Io.KnownBytes.{Appends};
 ghost use Rattle.reg_records.specs.Device.{bytes_in, faults_of, interruptions_of, reads_of};
 ghost use Rattle.reg_program.specs.Sketch.{HasNoSketch, HasOneSketch, IsSketchRefusal, LeavesRest, Sketches};
 ghost use Rattle.reg_program.specs.Spelling.{as_readers, as_writers};
 
 use crate::spelling::{SpellingError, SpellingFault, read_schema};
+use crate::text_writing::write_text;
+use avro_data::Pieces;
 use avro_sketch::{schemas_have_one_sketch, sketch_text};
 use reg_records::{Device, LINE_READS};
-use reg_responses::write_whole;
 use std::alloc::{AllocError, Global};
 use std::io::{BufRead, Write};
 
@@ -40,8 +41,8 @@ impl From<AllocError> for SketchError {
 /// Reads a reader's schema from the first line of `reader` and a writer's from the second, and writes
 /// their sketch: whether the reader reads all that the writer writes, and what it reads of one value.
 ///
-/// What stands after the second line is left unread. The sketch is made whole before its first byte is
-/// written.
+/// What stands after the second line is left unread. The memory that the sketch takes is taken before
+/// its first byte is written. Its text is nowhere whole: names are shared, and it is written in pieces.
 pub fn sketch<R: BufRead, W: Write>(
     alloc: Global,
     reader: &mut Device<R>,
@@ -59,15 +60,15 @@ pub fn sketch<R: BufRead, W: Write>(
 {
     schemas_have_one_sketch();
     let text = sketch_of(alloc, reader)?;
-    match write_whole(writer, text.as_bytes()) {
+    match write_text(alloc, writer, &text) {
         Ok(()) => Ok(()),
         Err(_) => Err(SketchError::WriteFault),
     }
 }
 
 /// The text of the sketch.
-fn sketch_of<R: BufRead>(alloc: Global, reader: &mut Device<R>) -> Result<String, SketchError>
-    ensures text { IfOk result (λ text. IfSome (bytes_in R.remaining reader.old) (λ input. Sketches input (string_bytes text))) }
+fn sketch_of<R: BufRead>(alloc: Global, reader: &mut Device<R>) -> Result<Pieces, SketchError>
+    ensures text { IfOk result (λ text. IfSome (bytes_in R.remaining reader.old) (λ input. Sketches input text)) }
     ensures rest { OnOk result (LeavesRest (bytes_in R.remaining reader.old) (bytes_in R.remaining reader.new)) }
     ensures faults { OnOk result (faults_of reader.new ≡ faults_of reader.old) }
     ensures reads { reads_of reader.new ≤ LINE_READS }

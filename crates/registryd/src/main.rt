@@ -7,20 +7,12 @@
 #![tactic(auto)]
 
 mod serving;
-mod words;
 
 use crate::serving::serve_ports;
-use crate::words::run_words;
-use std::process::ExitCode;
+use reg_program::{Finished, SystemInvocation, start};
 
-fn main(rt: HostRuntime) -> ExitCode {
+fn main(rt: HostRuntime) -> Finished {
     let alloc = rt.alloc();
     let mut serve = |port, nodes, workers| serve_ports(&rt, alloc, port, nodes, workers);
-    match run_words(&rt, alloc, rt.stderr(), &mut serve) {
-        Ok(status) => ExitCode::from(status),
-        Err(_refused) => {
-            let _told = eprintln!(rt; "OutOfMemory");
-            ExitCode::FAILURE
-        }
-    }
+    start(alloc, &SystemInvocation::new(&rt, rt.stderr()), &mut serve)
 }

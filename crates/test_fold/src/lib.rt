@@ -9,6 +9,8 @@ mod counts;
 #[cfg(test)]
 mod cuts;
 #[cfg(test)]
+mod long_names;
+#[cfg(test)]
 mod pieces;
 #[cfg(test)]
 mod readers;
