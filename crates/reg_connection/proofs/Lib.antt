@@ -1,3 +1,4 @@
+mod Chosen
 mod FirstLines
 mod NoTexts
 mod Sent

@@ -1,5 +1,5 @@
 -- Since when a connection waits, and what its client takes of the answers that are left.
-use Rattle.std.specs.Prelude.{◌≡◌, ◌≢◌, ℕ, List, Bool, ◌&&◌, ◌==◌, drop, length, nat_lt, take, if◌then◌else◌}
+use Rattle.std.specs.Prelude.{◌≡◌, ◌≢◌, ◌+◌, ◌-◌, ◌^◌, ℕ, List, Bool, ◌&&◌, ◌==◌, drop, length, min, nat_lt, take, if◌then◌else◌}
 use Rattle.reg_connection.specs.Sending.{TakesBytes}
 use Rattle.reg_connection.specs.declared.connection.Connection.{Connection}
 use Rattle.reg_connection.specs.declared.waiting.Waits.TheVariants as waits
@@ -16,6 +16,10 @@ module _ {S T : Type 0} where
   -- the bytes of the answers that the client hasn't taken yet
   abbrev pub left_of : Connection S T → List ℕ
   left_of c = drop c.sent c.unsent.items
+
+  -- how many bytes it holds of unfinished requests and unread answers, up to the greatest count
+  abbrev pub weight_of : Connection S T → ℕ
+  weight_of c = min (length c.conversation + length c.unsent.items) (2 ^ 64 - 1)
 
   -- the client took a front of them, of which nothing is sent again, or all
   abbrev pub Gives : (S → List ℕ → S → Type 0) → Connection S T → Connection S T → Type 0

@@ -1,5 +1,6 @@
 pub mod Answering
 pub mod Connection
+pub mod Places
 pub mod Sending
 pub mod TurnKinds
 pub mod Waiting

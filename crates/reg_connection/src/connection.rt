@@ -1,6 +1,6 @@
 // A connection: what came on it, what is to be sent, and what it waits for.
 ghost use Rattle.std.specs.Prelude.{◌≡◌, ◌≢◌, ◌⊎◌, [], length, nat_lt};
-ghost use Rattle.reg_connection.specs.Connection.{Gives, KeepsTimes, since_after};
+ghost use Rattle.reg_connection.specs.Connection.{Gives, KeepsTimes, since_after, weight_of};
 ghost use Rattle.reg_connection.specs.Waiting.{is_late};
 
 use crate::limits::Limits;
@@ -94,7 +94,9 @@ impl<S: Stream, T: Drop> Connection<S, T> {
     }
 
     /// How many bytes of unfinished requests and unread answers it holds.
-    pub fn weight(&self) -> usize {
+    pub fn weight(&self) -> usize
+        ensures { result ≡ weight_of self.now }
+    {
         self.conversation
             .held_len()
             .saturating_add(self.unsent.len())

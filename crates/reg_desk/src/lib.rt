@@ -13,5 +13,7 @@ mod wake;
 pub use desk::NodeDesk;
 pub use gate::Gate;
 pub use laws::connections_read_their_writes;
+pub use reg_node::{Follower, View};
+pub use reg_pen::{Pass, Pen, Submitted};
 pub use standing::Standing;
 pub use wake::Wake;

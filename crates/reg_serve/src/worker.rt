@@ -1,10 +1,17 @@
 // A worker: it answers the requests that are whole, of one connection after the other.
+ghost use Rattle.std.specs.Prelude.{◌≡◌, ◌≤◌, [], Some, length, take, IfNone, IfOk, OnErr, OnOk, vec_capacity};
+ghost use Rattle.reg_messages.specs.Head.{front_of};
+ghost use Rattle.reg_messages.specs.Reading.{IsShort};
+ghost use Rattle.reg_extent.specs.Extent.{IsWhole};
+ghost use Rattle.reg_conversation.specs.Conversation.{RepliesAll};
+ghost use Rattle.reg_connection.specs.Answering.{AnswersKnowing, HasLearnt};
+
 use crate::hall::{Hall, Returned};
 use reg_connection::{
     Connection, Stream, Turn, TurnKind, answer_last, answer_one, send_some, turn_kind,
 };
 use reg_conversation::SharedDesk;
-use reg_http::Paths;
+use reg_http::{Paths, ServeError};
 use reg_records::Device;
 use std::alloc::{AllocError, Global};
 use std::mem;
@@ -54,11 +61,11 @@ enum Answered {
     All,
     /// The last answer closes the connection.
     Closes,
-    /// As much was answered as one turn may.
+    /// As much was answered as one turn may, or the next request takes a turn of commands.
     Full,
     /// The next request takes a turn of that kind, and none is free.
     Waits(TurnKind),
-    /// An answer found no room.
+    /// An answer found no room, or there is none for the next one.
     Failed,
 }
 
@@ -189,24 +196,14 @@ fn answer_next<R: Wait, D: SharedDesk>(
         return Some(answer_end(alloc, bench, desk, connection));
     };
     let kind = kind_of_turn(bench, connection);
+    let held = connection.turn.take();
     if let Some(kind) = kind {
-        if connection.turn.is_none() && !hall.turns.begin(rt, kind) {
-            return Some(Answered::Waits(kind));
+        if let Some(last) = begin_turn(rt, hall, bench, held, kind) {
+            return Some(last);
         }
     }
-    let mut out = Device::new(mem::replace(&mut bench.out, Vec::new(alloc)));
-    let goes_on = answer_one(
-        alloc,
-        &mut bench.paths,
-        &mut connection.conversation,
-        len,
-        &mut connection.standing,
-        &mut out,
-        desk,
-    );
-    bench.out = out.into_inner();
+    let goes_on = answer_front(alloc, bench, desk, connection, len);
     if let Some(kind) = kind {
-        connection.turn = None;
         end_turn(rt, hall, kind);
     }
     match goes_on {
@@ -222,6 +219,39 @@ fn answer_next<R: Wait, D: SharedDesk>(
     }
 }
 
+/// Answers the request at the front, behind the answers that are gathered. Where that fails these stay as they are.
+fn answer_front<D: SharedDesk>(
+    alloc: Global,
+    bench: &mut Bench,
+    desk: &mut D,
+    connection: &mut Connection<TcpStream, D::Standing>,
+    len: usize,
+) -> Result<bool, ServeError>
+    requires fits { len ≤ length connection.old.conversation }
+    requires whole { IsWhole (take len connection.old.conversation) }
+    ensures answered { IfOk result (AnswersKnowing D.asks D.commands D.stands D.learns desk.old connection.old.standing
+        connection.old.conversation (Some bench.old.out.items) (Some bench.new.out.items)
+        connection.new.standing connection.new.conversation desk.new) }
+    ensures failed { OnErr result (bench.new.out.items ≡ bench.old.out.items) }
+{
+    let whole = bench.out.len();
+    let mut out = Device::new(mem::replace(&mut bench.out, Vec::new(alloc)));
+    let goes_on = answer_one(
+        alloc,
+        &mut bench.paths,
+        &mut connection.conversation,
+        len,
+        &mut connection.standing,
+        &mut out,
+        desk,
+    );
+    bench.out = out.into_inner();
+    if goes_on.is_err() {
+        bench.out.truncate(whole);
+    }
+    goes_on
+}
+
 /// No request is whole: where the client has ended its side, what is held is answered, and the connection
 /// closes.
 fn answer_end<D: SharedDesk>(
@@ -233,24 +263,44 @@ fn answer_end<D: SharedDesk>(
     if !connection.ended {
         return Answered::All;
     }
-    let mut out = Device::new(mem::replace(&mut bench.out, Vec::new(alloc)));
     let answered = if connection.conversation.front_len().is_none() {
-        answer_last(
-            alloc,
-            &mut bench.paths,
-            &mut connection.conversation,
-            &mut connection.standing,
-            &mut out,
-            desk,
-        )
+        answer_rest(alloc, bench, desk, connection)
     } else {
         Ok(())
     };
-    bench.out = out.into_inner();
     match answered {
         Ok(()) => Answered::Closes,
         Err(_) => Answered::Failed,
     }
+}
+
+/// Answers what is held, which is short of a request, behind the answers that are gathered. Where that fails these stay as they are.
+fn answer_rest<D: SharedDesk>(
+    alloc: Global,
+    bench: &mut Bench,
+    desk: &mut D,
+    connection: &mut Connection<TcpStream, D::Standing>,
+) -> Result<(), ServeError>
+    requires short { IsShort (front_of connection.old.conversation) }
+    ensures answered { OnOk result ((told : D) × HasLearnt D.learns desk.old connection.old.standing told
+        × RepliesAll D.asks D.commands told connection.old.conversation (Some bench.old.out.items) (Some bench.new.out.items) desk.new) }
+    ensures failed { OnErr result (bench.new.out.items ≡ bench.old.out.items) }
+{
+    let whole = bench.out.len();
+    let mut out = Device::new(mem::replace(&mut bench.out, Vec::new(alloc)));
+    let answered = answer_last(
+        alloc,
+        &mut bench.paths,
+        &mut connection.conversation,
+        &mut connection.standing,
+        &mut out,
+        desk,
+    );
+    bench.out = out.into_inner();
+    if answered.is_err() {
+        bench.out.truncate(whole);
+    }
+    answered
 }
 
 /// The turn that the request at the front takes: the one that its connection has, or by its method and its target. A worker
@@ -261,6 +311,38 @@ fn kind_of_turn<T: Drop>(bench: &Bench, connection: &Connection<TcpStream, T>) -
         (None, Some(paths)) => turn_kind(paths, connection.conversation.bytes()),
         (None, None) => Some(TurnKind::Command),
     }
+}
+
+/// Begins the turn that the next request takes, where its connection doesn't hold it. None where the request may be done; else how
+/// the answers of this turn end. What is answered is sent before a command, which may wait, and a command is done only once there is
+/// room for its answer.
+fn begin_turn<R: Wait, T: Drop>(
+    rt: &R,
+    hall: &Hall<T>,
+    bench: &mut Bench,
+    held: Option<TurnKind>,
+    kind: TurnKind,
+) -> Option<Answered>
+    ensures all_sent { IfNone result (kind ≡ TurnKind.Command → bench.new.out.items ≡ []) }
+    ensures room { IfNone result (kind ≡ TurnKind.Command → GATHERED ≤ vec_capacity bench.new.out) }
+{
+    if kind == TurnKind::Command {
+        let sends = !bench.out.is_empty();
+        if sends || bench.out.reserve(GATHERED).is_err() {
+            if held.is_some() {
+                end_turn(rt, hall, kind);
+            }
+            return Some(if sends {
+                Answered::Full
+            } else {
+                Answered::Failed
+            });
+        }
+    }
+    if held.is_none() && !hall.turns.begin(rt, kind) {
+        return Some(Answered::Waits(kind));
+    }
+    None
 }
 
 /// Ends a turn, and hands a connection that waits for one to the workers.
@@ -279,17 +361,15 @@ fn end_turn<R: Wait, T: Drop>(rt: &R, hall: &Hall<T>, kind: TurnKind) {
     }
 }
 
-/// Sends what was answered, and says what becomes of the connection.
+/// Sends what was answered, and says what becomes of the connection. Where an answer failed, those before it are sent, and the
+/// connection closes.
 fn send_out<T: Drop>(
     alloc: Global,
     bench: &mut Bench,
     connection: &mut Connection<TcpStream, T>,
     answered: Answered,
 ) -> After {
-    if answered == Answered::Failed {
-        return After::Over;
-    }
-    let closes = answered == Answered::Closes;
+    let closes = answered == Answered::Closes || answered == Answered::Failed;
     let mut sent = 0;
     match send_some(&mut connection.stream, &bench.out, &mut sent) {
         Ok(true) => {}
@@ -304,8 +384,7 @@ fn send_out<T: Drop>(
         Answered::All => After::Rests,
         Answered::Full => After::GoesOn,
         Answered::Waits(kind) => After::Queues(kind),
-        Answered::Closes => closed(connection),
-        Answered::Failed => After::Over,
+        Answered::Closes | Answered::Failed => closed(connection),
     }
 }
 

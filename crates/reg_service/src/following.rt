@@ -36,6 +36,7 @@ impl<
         if follower.pull().is_ok() {
             let _told = follower.publish();
         }
+        follower.catch_up_unshown();
     }
 
     // The topic goes on as long as the process.

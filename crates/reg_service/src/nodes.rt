@@ -15,8 +15,8 @@ use reg_connection::Limits;
 use reg_desk::Gate;
 use reg_feed::{Copies, FeedName, FeedReader, Stored, Unnamed};
 use reg_node::{Draw, Taken};
-use reg_pen::{Keep, MemoryAlone, Opened, Pen, open};
-use reg_records::{Device, Log, read_log};
+use reg_pen::{Keep, KeptLog, MemoryAlone, Opened, Pen, open};
+use reg_records::{Device, read_log};
 use reg_serve::Latch;
 use reg_shared::Shared;
 use reg_topic::Item;
@@ -41,10 +41,17 @@ pub fn serve_nodes<
 >(rt: R, alloc: Global, size: Size, gate: &G, entrance: &mut E) -> Result<(), StartFault> {
     let mut nothing = Device::new(b"".as_slice());
     let base = read_log(alloc, &mut nothing)?;
-    serve_log(rt, alloc, size, gate, entrance, base, MemoryAlone)
+    serve_log(
+        rt,
+        alloc,
+        size,
+        gate,
+        entrance,
+        KeptLog::new(base, MemoryAlone),
+    )
 }
 
-/// Serves a topic that begins with a log, whose batches are lent to the keep, by so many nodes, each with
+/// Serves a topic that begins with a log, whose batches are lent to the keep at its end, by so many nodes, each with
 /// a doorkeeper, which holds the connections, and workers. A worker calls the gate before it answers a
 /// query or does a command. Each node has read the log before it listens.
 ///
@@ -61,8 +68,7 @@ pub fn serve_log<
     size: Size,
     gate: &G,
     entrance: &mut E,
-    base: Log,
-    keep: K,
+    kept: KeptLog<K>,
 ) -> Result<(), StartFault> {
     let nodes = size.nodes.clamp(1, NODES_LIMIT);
     let workers = size.workers.max(1);
@@ -85,7 +91,7 @@ pub fn serve_log<
         limit: size.limit.map(|connections| connections.saturating_mul(u64::from(workers))),
         limits: Limits::of_nodes(nodes),
     };
-    serve_topic::<Brand, K, R, G, E>(&common, Unnamed::new(), base, keep, entrance)
+    serve_topic::<Brand, K, R, G, E>(&common, Unnamed::new(), kept, entrance)
 }
 
 /// Makes the topic, and goes on with the nodes.
@@ -98,17 +104,21 @@ fn serve_topic<
 >(
     common: &Common<'_, R, G>,
     list: Unnamed<Item>,
-    base: Log,
-    keep: K,
+    kept: KeptLog<K>,
     entrance: &mut E,
 ) -> Result<(), StartFault>
-    requires name { (list.reached.book ≡ N.book) × (N.first ≡ held_of (topic_from base.records.items base.next base.floor)) }
+    requires name { (list.reached.book ≡ N.book) × (N.first ≡ held_of (topic_from kept.log.records.items kept.log.next kept.log.floor)) }
 {
     let readers = common.nodes.clamp(1, NODES_LIMIT);
     let passes = common.workers.saturating_mul(readers as u32);
-    let opened = open::<N, K, R>(*common.rt, common.alloc, list, &base, keep, passes, readers);
-    drop(base);
-    let Opened { pen, passes } = opened?;
+    let Opened { pen, passes } = open::<N, K, R>(
+        *common.rt,
+        common.alloc,
+        list,
+        kept,
+        passes,
+        readers,
+    )?;
     let mut pen = Mutex::new(pen);
     let mut seats = Seats {
         passes,

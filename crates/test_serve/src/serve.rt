@@ -5,4 +5,5 @@ mod kinds;
 mod looks;
 mod nodes;
 mod pieces;
+mod places;
 mod turns;

@@ -13,6 +13,10 @@ use std::time::{Clock, Duration};
 /// A query that closes the connection.
 const LAST: &[u8] = b"GET /schemas/ids/7 HTTP/1.1\r\nHost: a\r\nConnection: close\r\n\r\n";
 
+/// A query, and behind it a command that closes the connection.
+const PIPELINED: &[u8] =
+    b"GET /schemas/ids/7 HTTP/1.1\r\nHost: a\r\n\r\nDELETE /subjects/s HTTP/1.1\r\nHost: a\r\nConnection: close\r\n\r\n";
+
 /// A command that closes the connection.
 const COMMAND: &[u8] = b"DELETE /subjects/s HTTP/1.1\r\nHost: a\r\nConnection: close\r\n\r\n";
 
@@ -103,6 +107,8 @@ enum Client {
     HeldChecks,
     /// Six send commands, and six checks, and all are held up.
     HeldBoth,
+    /// It sends a query, and at once behind it a command that is held up.
+    Pipelined,
     /// It is silent past the limit of idle connections.
     Silent,
     /// It begins a request, and nothing more comes within the limit of requests.
@@ -188,6 +194,26 @@ fn ask_among_held<R: Net<Stream = TcpStream> + Clock>(
     let replied = are_answered(alloc, commands, b"", b"\r\n\r\n{}")?;
     let answered = are_answered(alloc, checks, b"", b"]")?;
     Ok([found?, other?, replied && answered])
+}
+
+/// Whether the query is answered while the command behind it is held up, and the command once it isn't any more.
+fn ask_before_command<R: Net<Stream = TcpStream>>(
+    rt: &R,
+    alloc: Global,
+    address: SocketAddr,
+    ledger: &Ledger,
+) -> io::Result<[bool; 3]> {
+    let mut stream = send(rt, address, PIPELINED)?;
+    let mut first = [0u8; 15];
+    let heard = stream.read_exact(&mut first);
+    ledger.held.store(0, Ordering::SeqCst);
+    heard?;
+    let replied = ends_with(alloc, &mut stream, b"\r\n\r\n{}")?;
+    Ok([
+        first.as_slice() == b"HTTP/1.1 200 OK".as_slice(),
+        replied,
+        true,
+    ])
 }
 
 /// Whether the client is closed in time.
@@ -306,6 +332,7 @@ fn meet<R: Net<Stream = TcpStream> + Clock>(
         Client::Held | Client::HeldChecks | Client::HeldBoth => {
             ask_among_held(rt, alloc, address, streams, others, ledger, client)
         }
+        Client::Pipelined => ask_before_command(rt, alloc, address, ledger),
         Client::Crowd => crowd_out(rt, alloc, address, streams, others),
         Client::Heavy => {
             let bytes = long_request(alloc)?;
@@ -339,7 +366,7 @@ fn visit<R: Net<Stream = TcpStream> + Clock>(
 
 /// What the clients meet, what they do, the workers of the node, how many closed connections end it, and how
 /// many commands are held up at first, which is none or 1.
-static ROWS: [(&str, Client, u64, u64, u64); 16] = [
+static ROWS: [(&str, Client, u64, u64, u64); 17] = [
     ("silent clients hold no worker", Client::AllSilent, 1, 41, 0),
     ("one command at two workers", Client::Held, 2, 8, 1),
     ("one check at two workers", Client::HeldChecks, 2, 8, 0),
@@ -347,6 +374,13 @@ static ROWS: [(&str, Client, u64, u64, u64); 16] = [
     ("two checks at four workers", Client::HeldChecks, 4, 8, 0),
     ("both at three workers", Client::HeldBoth, 3, 14, 1),
     ("both at four workers", Client::HeldBoth, 4, 14, 1),
+    (
+        "answers are sent before a command",
+        Client::Pipelined,
+        1,
+        1,
+        1,
+    ),
     ("a silent client is closed", Client::Silent, 1, 1, 0),
     ("a request that is begun is closed", Client::Begins, 1, 1, 0),
     (

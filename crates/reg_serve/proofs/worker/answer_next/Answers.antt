@@ -3,6 +3,6 @@ use Rattle.std.specs.Prelude.{take}
 use Rattle.reg_extent.specs.Extent.{IsWhole}
 use Rattle.reg_serve.proofs.worker.answer_next.Goals as goal
 
-pub answer_one-goes_on-requires-clause-whole : goal.answer_one-goes_on-requires-clause-whole
-answer_one-goes_on-requires-clause-whole g c =
+pub answer_front-goes_on-requires-clause-whole : goal.answer_front-goes_on-requires-clause-whole
+answer_front-goes_on-requires-clause-whole g c =
     subst (λ (w : List ℕ). IsWhole (take c.in-Some.len w)) (sym c.front_len.ensures.same) c.in-Some.ensures.whole
