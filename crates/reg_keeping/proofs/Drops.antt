@@ -14,7 +14,7 @@ use Rattle.std.specs.declared.cmp.Ordering.TheVariants.{Less, Equal, Greater}
 use Rattle.reg_kept.specs.Floors.{compacted_to}
 use Rattle.reg_records.specs.declared.record.Record.{Record}
 use Rattle.reg_set.specs.Compaction.{deletes_below}
-use Rattle.reg_set.specs.Join.{LastIsGreatest, LastRecordsAreCompaction, NoLastIsNoRecord}
+use Rattle.reg_set.specs.Join.{LastIsGreatest, LastRecordsKeepLasts, NoLastIsNoRecord}
 use Rattle.reg_set.specs.LastRecords.{last, last_records}
 use Rattle.reg_set.specs.RecordOrder.{age_cmp, key_cmp, record_cmp}
 use Rattle.reg_set.specs.Records.{Records}
@@ -125,7 +125,7 @@ module _ (total : IsTotalOrder record_cmp) (apart : IsAntisymmetric record_cmp)
   all_seen true false seen is = refl
   all_seen false deletes seen is = refl
 
-  module _ (least : LastRecordsAreCompaction) where
+  module _ (least : LastRecordsKeepLasts) where
     pub compacted_part : (floor : ℕ) (s : Records) (q : Record) → contains (compacted_to floor s) q ≡ true → contains s q ≡ true
     compacted_part floor s q is = (least s).is_part q (was_last floor s q is)
 

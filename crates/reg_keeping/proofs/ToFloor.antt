@@ -12,7 +12,7 @@ use Rattle.reg_records.specs.Line.{is_line_feed}
 use Rattle.reg_records.specs.Log.{LogText, log_of, next_of, records_in}
 use Rattle.reg_records.specs.declared.limits.TheConstants.{LOG_LINES, OFFSET_LIMIT}
 use Rattle.reg_records.specs.declared.record.Record.{Record}
-use Rattle.reg_set.specs.Join.{LastIsGreatest, LastRecordsAreCompaction, NoLastIsNoRecord}
+use Rattle.reg_set.specs.Join.{LastIsGreatest, LastRecordsKeepLasts, NoLastIsNoRecord}
 use Rattle.reg_set.specs.RecordOrder.{key_cmp, record_cmp}
 use Rattle.reg_set.specs.Records.{Records}
 use Rattle.reg_records.specs.declared.record.Read.{Read}
@@ -58,7 +58,7 @@ pub record Comes (floor : ℕ) (input output : List ℕ) : Type 0 where
 
 module _ (total : IsTotalOrder record_cmp) (apart : IsAntisymmetric record_cmp)
     (keys : IsTotalOrder key_cmp) (keys_apart : IsAntisymmetric key_cmp)
-    (least : LastRecordsAreCompaction) (greatest : LastIsGreatest) (none : NoLastIsNoRecord) (are_read : LinesAreRead)
+    (least : LastRecordsKeepLasts) (greatest : LastIsGreatest) (none : NoLastIsNoRecord) (are_read : LinesAreRead)
     (floor : ℕ) (low : floor ≤ OFFSET_LIMIT) (input : List ℕ) (log : LogText) (is : log_of input ≡ Ok log)
     (rises : log.floor ≤ floor) (ahead : floor ≤ next_of log.floor log.reads)
     (lines : List (List ℕ)) (s : SayLog lines log.floor log.reads)
@@ -122,7 +122,7 @@ module _ (total : IsTotalOrder record_cmp) (apart : IsAntisymmetric record_cmp)
 -- so of the text that is read, whose lines stand behind its own floor's
 module _ (total : IsTotalOrder record_cmp) (apart : IsAntisymmetric record_cmp)
     (keys : IsTotalOrder key_cmp) (keys_apart : IsAntisymmetric key_cmp)
-    (least : LastRecordsAreCompaction) (greatest : LastIsGreatest)
+    (least : LastRecordsKeepLasts) (greatest : LastIsGreatest)
     (none : NoLastIsNoRecord) (are_read : LinesAreRead) (are_lines : LogsAreLines)
     (floor : ℕ) (low : floor ≤ OFFSET_LIMIT) (input : List ℕ) (begun : Begun) (b : BeginsTo floor input begun) where
   pub ends_as : (back : List ℕ) (old new : Walk) (output : List ℕ) → back ≡ drop (floor_len input) input

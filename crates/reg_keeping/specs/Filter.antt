@@ -1,6 +1,7 @@
 -- Why a filter ends before its end.
-use Rattle.std.specs.Prelude.{◌≡◌, ⊤, ℕ, List, ◌++◌, codes, decimal, Option, IfSome, Err}
+use Rattle.std.specs.Prelude.{◌≡◌, ⊤, ℕ, List, ◌++◌, codes, decimal, Option, IfSome, Result, Ok, Err}
 use Rattle.std.specs.Io.KnownBytes.{Keeps}
+use Rattle.std.specs.declared.io.Error.{Error}
 use Rattle.reg_records.specs.Errors.{at_line, log_fault_name}
 use Rattle.reg_records.specs.Log.{log_of}
 use Rattle.reg_records.specs.declared.log.LogError.{LogError}
@@ -14,6 +15,10 @@ use Rattle.reg_keeping.specs.declared.filter.FilterError.TheVariants.{FloorAhead
 use Rattle.reg_keeping.specs.declared.filter.FilterError.TheVariants.{NoRoom, OutOfMemory}
 use Rattle.reg_keeping.specs.declared.to_floor.ToFloorError.{ToFloorError}
 use Rattle.reg_keeping.specs.declared.to_floor.ToFloorError.TheVariants as floors
+
+-- the writer's last call was a flush, which was Ok
+abbrev pub IsFlushed : {W : Type 0} → (W → Option (List ℕ)) → (W → Result ⊤ Error → W → Type 0) → W → Type 0
+IsFlushed {W} contents flushes new = (before : W) × flushes before (Ok tt) new × Keeps (contents before) (contents new)
 
 -- a fault is the first of the log's, and nothing was written then, nor where the reader failed or memory was refused
 abbrev pub IsFilterRefusal : Option (List ℕ) → Option (List ℕ) → Option (List ℕ) → FilterError → Type 0

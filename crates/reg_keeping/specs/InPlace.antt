@@ -8,7 +8,7 @@ use Rattle.reg_journal.specs.declared.renewal.RenewError.{RenewError}
 use Rattle.reg_journal.specs.declared.renewal.RenewError.TheVariants as renewals
 use Rattle.reg_keeping.specs.CompactedTo.{IsCompactedBy}
 use Rattle.reg_keeping.specs.declared.in_place.CompactError.{CompactError}
-use Rattle.reg_keeping.specs.declared.in_place.CompactError.TheVariants.{OutOfMemory, Failed, Changed, Lost, Broken}
+use Rattle.reg_keeping.specs.declared.in_place.CompactError.TheVariants.{OutOfMemory, Failed, Unread, Changed, Lost, Broken}
 
 -- the file says what was said before, or is a compaction of the file before
 abbrev pub IsBeforeOrCompacted : Option ℕ → List ℕ → List ℕ → Type 0
@@ -18,6 +18,7 @@ IsBeforeOrCompacted floor before file = (said file ≡ said before) ⊎ IsCompac
 abbrev pub breaks : CompactError → Bool
 breaks OutOfMemory = false
 breaks Failed = false
+breaks Unread = false
 breaks Changed = true
 breaks Lost = true
 breaks Broken = true

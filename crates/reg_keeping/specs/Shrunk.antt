@@ -6,7 +6,7 @@ use Rattle.reg_records.specs.declared.log.LogFault.{LogFault}
 use Rattle.reg_keeping.specs.Compacted.{IsLines}
 use Rattle.reg_keeping.specs.CompactedTo.{IsCompactedBy}
 use Rattle.reg_keeping.specs.declared.in_place.CompactError.{CompactError}
-use Rattle.reg_keeping.specs.declared.in_place.CompactError.TheVariants.{OutOfMemory, Failed, Changed, Lost, Broken}
+use Rattle.reg_keeping.specs.declared.in_place.CompactError.TheVariants.{OutOfMemory, Failed, Unread, Changed, Lost, Broken}
 use Rattle.reg_keeping.specs.declared.shrinking.Shrunk.{Shrunk}
 
 -- a compaction of what stands before `end`, and an empty line
@@ -22,5 +22,6 @@ abbrev pub IsNoShrinking : List ℕ → ℕ → CompactError → Type 0
 IsNoShrinking file end Changed = length file ≡ end + 1 → (number : ℕ) × (fault : LogFault) × (log_of (take end file) ≡ Err (number, fault))
 IsNoShrinking file end OutOfMemory = ⊤
 IsNoShrinking file end Failed = ⊤
+IsNoShrinking file end Unread = ⊤
 IsNoShrinking file end Lost = ⊥
 IsNoShrinking file end Broken = ⊥

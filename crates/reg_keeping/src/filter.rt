@@ -3,17 +3,17 @@ ghost use Rattle.std.specs.Prelude.{◌≡◌, ◌≤◌, List, ℕ, IfErr, IfOk
 ghost use Rattle.std.specs.Io.KnownBytes.{Appends};
 ghost use Rattle.reg_journal.specs.Found.{HasFault};
 ghost use Rattle.reg_records.specs.declared.limits.TheConstants.{OFFSET_LIMIT};
-ghost use Rattle.reg_keeping.specs.Filter.{IsFilterRefusal, IsFilterRefusalTo, IsNoReading, filter_error_of, filter_error_to};
+ghost use Rattle.reg_keeping.specs.Filter.{IsFilterRefusal, IsFilterRefusalTo, IsFlushed, IsNoReading, filter_error_of, filter_error_to};
 ghost use Rattle.reg_keeping.specs.Sorted.{IsSortedCompaction, IsSortedCompactionTo};
 ghost use Rattle.reg_keeping.specs.declared.filter.FilterError.TheVariants.{WriteFault};
 
 use crate::sorting::{compacted_in_order, compacted_to_in_order};
 use crate::to_floor::ToFloorError;
-use reg_records::{LogError, LogFault};
+use reg_records::{LogError, LogFault, Output};
 use std::alloc::Global;
 use std::error::Error;
 use std::fmt;
-use std::io::{ErrorKind, Read, Write};
+use std::io::{ErrorKind, Read};
 
 /// Why a filter ended before its end.
 #[derive(Clone, Copy, Debug, PartialEq, Eq)]
@@ -75,13 +75,14 @@ impl Error for FilterError {}
 
 /// Reads a log to the end of the input, and writes what compacting leaves of it, by the offsets. What stands behind the
 /// log's empty line is left out. The log is read to its end before the first byte is written.
-pub fn compact<R: Read, W: Write>(
+pub fn compact<R: Read, W: Output>(
     alloc: Global,
     reader: &mut R,
     writer: &mut W,
 ) -> Result<(), FilterError>
     ensures written { OnOk result (IfSome (R.remaining reader.old) (λ input. (out : List ℕ) × IsSortedCompaction input out
         × Appends (W.contents writer.old) (W.contents writer.new) out)) }
+    ensures flushed { OnOk result (IsFlushed W.contents W.flushes writer.new) }
     ensures refused { IfErr result (IsFilterRefusal (R.remaining reader.old) (W.contents writer.old) (W.contents writer.new)) }
 {
     let input = read_input(alloc, reader)?;
@@ -92,7 +93,7 @@ pub fn compact<R: Read, W: Write>(
 }
 
 /// Reads a log to the end of the input, and writes what compacting it to a floor leaves, as `compact` does.
-pub fn compact_to<R: Read, W: Write>(
+pub fn compact_to<R: Read, W: Output>(
     alloc: Global,
     floor: u64,
     reader: &mut R,
@@ -101,6 +102,7 @@ pub fn compact_to<R: Read, W: Write>(
     requires { floor ≤ OFFSET_LIMIT }
     ensures written { OnOk result (IfSome (R.remaining reader.old) (λ input. (out : List ℕ) × IsSortedCompactionTo floor input out
         × Appends (W.contents writer.old) (W.contents writer.new) out)) }
+    ensures flushed { OnOk result (IsFlushed W.contents W.flushes writer.new) }
     ensures refused { IfErr result (IsFilterRefusalTo floor (R.remaining reader.old) (W.contents writer.old) (W.contents writer.new)) }
 {
     let input = read_input(alloc, reader)?;
@@ -125,15 +127,16 @@ pub fn read_input<R: Read>(alloc: Global, reader: &mut R) -> Result<Vec<u8>, Fil
     }
 }
 
-/// Writes the bytes whole: the output of a filter. Where the writer fails, a part may have been written.
-pub fn write_output<W: Write>(writer: &mut W, bytes: &[u8]) -> Result<(), FilterError>
+/// Writes the bytes whole, and flushes them: the output of a filter. Where the writer fails, a part may have been written.
+pub fn write_output<W: Output>(writer: &mut W, bytes: &[u8]) -> Result<(), FilterError>
     ensures written { OnOk result (Appends (W.contents writer.old) (W.contents writer.new) bytes.now) }
+    ensures flushed { OnOk result (IsFlushed W.contents W.flushes writer.new) }
     ensures refused { IfErr result (λ e. e ≡ WriteFault) }
 {
     if writer.write_all(bytes).is_err() {
         return Err(FilterError::WriteFault);
     }
-    match writer.flush() {
+    match writer.flush_out() {
         Ok(()) => Ok(()),
         Err(_) => Err(FilterError::WriteFault),
     }

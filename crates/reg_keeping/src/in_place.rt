@@ -1,5 +1,5 @@
 // Compacting the file of a journal, in its place.
-ghost use Rattle.std.specs.Prelude.{◌≡◌, ◌≢◌, ◌≤◌, ◌<◌, ◌-◌, true, false, None, Err, IfErr, IfOk, IfSome, OnOk};
+ghost use Rattle.std.specs.Prelude.{◌≡◌, ◌≢◌, ◌⊎◌, ◌≤◌, ◌<◌, ◌-◌, true, false, None, Err, IfErr, IfOk, IfSome, OnOk};
 ghost use Rattle.reg_journal.specs.Disk.{GaveFault, LeavesOnly};
 ghost use Rattle.reg_records.specs.declared.limits.TheConstants.{OFFSET_LIMIT};
 ghost use Rattle.reg_keeping.specs.Compacted.{IsCompacted};
@@ -15,8 +15,11 @@ use std::alloc::{AllocFailed, Global};
 pub enum CompactError {
     /// The journal is as it was, and goes on.
     OutOfMemory,
-    /// The file couldn't be read, or no new one be finished. The journal is as it was, and goes on.
+    /// The disk failed: the file couldn't be read, or no new one be finished. The journal is as it was, and goes on.
     Failed,
+    /// What was read answered with a fault when its lines were gone over, which bytes in memory don't do. The journal is
+    /// as it was, and goes on.
+    Unread,
     /// The file isn't what was left there, which never comes of a disk that is modelled. Nothing is written any more.
     Changed,
     /// The new file may stand in the file's place or not. Nothing is written any more.
@@ -70,7 +73,7 @@ impl CompactError {
         ensures { result ≡ breaks self }
     {
         match self {
-            CompactError::OutOfMemory | CompactError::Failed => false,
+            CompactError::OutOfMemory | CompactError::Failed | CompactError::Unread => false,
             CompactError::Changed | CompactError::Lost | CompactError::Broken => true,
         }
     }
@@ -93,8 +96,9 @@ pub fn compact_journal<D: Renewable>(
     ensures sound { OnOk result (journal.new.is_broken ≡ false) }
     ensures was_broken { D.is_modelled → IfErr result (λ e. e ≡ CompactError.Broken → journal.old.is_broken ≡ true) }
 
-    // It is lost only where a renewal gave a fault.
+    // It is lost only where a renewal gave a fault, and failed only where the disk or a renewal gave one.
     ensures lost { D.is_modelled → IfErr result (λ e. e ≡ CompactError.Lost → GaveFault D.renewals journal.new.disk) }
+    ensures failed { IfErr result (λ e. e ≡ CompactError.Failed → GaveFault D.faults journal.new.disk ⊎ GaveFault D.renewals journal.new.disk) }
     ensures broken { journal.old.is_broken ≡ true → (result ≡ Err CompactError.Broken) × (journal.new ≡ journal.old) }
 {
     compact_superseded(alloc, journal, 0, None)
@@ -125,8 +129,9 @@ pub fn compact_superseded<D: Renewable>(
     ensures sound { OnOk result (journal.new.is_broken ≡ false) }
     ensures was_broken { D.is_modelled → IfErr result (λ e. e ≡ CompactError.Broken → journal.old.is_broken ≡ true) }
 
-    // It is lost only where a renewal gave a fault.
+    // It is lost only where a renewal gave a fault, and failed only where the disk or a renewal gave one.
     ensures lost { D.is_modelled → IfErr result (λ e. e ≡ CompactError.Lost → GaveFault D.renewals journal.new.disk) }
+    ensures failed { IfErr result (λ e. e ≡ CompactError.Failed → GaveFault D.faults journal.new.disk ⊎ GaveFault D.renewals journal.new.disk) }
     ensures broken { journal.old.is_broken ≡ true → (result ≡ Err CompactError.Broken) × (journal.new ≡ journal.old) }
 {
     if journal.is_broken() {

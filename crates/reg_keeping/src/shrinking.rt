@@ -1,6 +1,6 @@
 // What compacting makes of the file of a journal.
-ghost use Rattle.std.specs.Prelude.{◌≡◌, ◌≤◌, ◌<◌, ◌++◌, ◌∷◌, [], false, length, count_by, IfErr, IfOk, IfSome, OnOk};
-ghost use Rattle.reg_journal.specs.Disk.{LeavesOnly};
+ghost use Rattle.std.specs.Prelude.{◌≡◌, ◌≢◌, ◌≤◌, ◌<◌, ◌++◌, ◌∷◌, [], false, length, count_by, IfErr, IfOk, IfSome, OnOk};
+ghost use Rattle.reg_journal.specs.Disk.{GaveFault, LeavesOnly};
 ghost use Rattle.reg_records.specs.Line.{is_line_feed};
 ghost use Rattle.reg_records.specs.declared.limits.TheConstants.{OFFSET_LIMIT};
 ghost use Rattle.reg_keeping.specs.InPlace.{breaks};
@@ -38,6 +38,9 @@ pub(crate) fn read_shrunk<D: Disk>(
     ensures lines { journal.new.lines ≡ journal.old.lines }
     ensures seen { D.is_modelled → D.seen journal.new.disk ≡ D.seen journal.old.disk }
     ensures any_moment { D.is_modelled → LeavesOnly D.moment D.left_since D.may_leave journal.old.disk journal.new.disk (λ c. c ≡ D.seen journal.old.disk) }
+
+    // It failed only where the disk gave a fault.
+    ensures fault { IfErr result (λ e. e ≡ CompactError.Failed → GaveFault D.faults journal.new.disk) }
 {
     let file = journal.read(alloc)?;
     match shrink(alloc, &file, journal.end(), floor) {
@@ -69,6 +72,7 @@ fn shrink(
     ensures shrinks { IfOk result (ShrinksTo floor file.now end) }
     ensures some { IfOk result (λ shrunk. 0 < length shrunk.bytes.items) }
     ensures refused { IfErr result (IsNoShrinking file.now end) }
+    ensures itself { IfErr result (λ e. e ≢ CompactError.Failed) }
 {
     if end >= file.len() || file.len() - end != 1 {
         return Err(CompactError::Changed);
@@ -76,7 +80,7 @@ fn shrink(
     match compacted_by(alloc, &file[..end], floor) {
         Ok(text) => ended(text),
         Err(LogError::OutOfMemory) => Err(CompactError::OutOfMemory),
-        Err(LogError::ReadFault { line: _ }) => Err(CompactError::Failed),
+        Err(LogError::ReadFault { line: _ }) => Err(CompactError::Unread),
         Err(LogError::Fault { line: _, fault: _ }) => Err(CompactError::Changed),
     }
 }

@@ -1,6 +1,9 @@
+mod Apart
 mod Fronts
 mod Gathers
 mod Given
 mod Lines
 mod Looks
+mod Steps
 mod Texts
+mod Writes

@@ -4,4 +4,6 @@ pub mod Gathered
 pub mod Line
 pub mod Looks
 pub mod Source
+pub mod Steps
 pub mod Tail
+pub mod Writing

@@ -2,7 +2,7 @@
 #![tactic(auto)]
 
 mod error;
-mod follow;
+mod following;
 mod front;
 mod gathered;
 mod laws;
@@ -11,9 +11,10 @@ mod reading;
 mod source;
 mod stored;
 mod tail;
+mod writing;
 
 pub use error::TailError;
-pub use follow::{follow_file, write_begun, write_more};
+pub use following::{follow, follow_file, write_begun, write_look, write_more};
 pub use laws::looks_give_the_file;
 pub use source::Source;
 pub use stored::StoredTail;

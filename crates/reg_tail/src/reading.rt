@@ -1,10 +1,10 @@
 // Reading a file from its beginning, and what was appended to it since.
-ghost use Rattle.std.specs.Prelude.{◌≡◌, ◌<◌, ◌++◌, ℕ, List, drop, length, IfErr, IfOk, OnOk};
+ghost use Rattle.std.specs.Prelude.{◌≡◌, ◌≢◌, ◌<◌, ◌++◌, ℕ, List, drop, length, IfErr, IfOk, OnOk};
 ghost use Rattle.reg_tail.specs.Front.{HasNoFloorAbove};
 ghost use Rattle.reg_tail.specs.Gathered.{BeginsFrom};
 ghost use Rattle.reg_tail.specs.Source.{Stand};
 ghost use Rattle.reg_tail.specs.Tail.{GoesOn, HasGiven, IsBeginRefusal, IsMoreRefusal, IsNoReading};
-ghost use Rattle.reg_tail.specs.declared.error.TailError.TheVariants.{SyncFault};
+ghost use Rattle.reg_tail.specs.declared.error.TailError.TheVariants.{SyncFault, WriteFault};
 
 use crate::error::TailError;
 use crate::front::front_of;
@@ -29,6 +29,7 @@ impl Tail {
             → (c : List ℕ) → S.may_leave source.new c → Stand (S.seen source.new) c) }
         ensures known { S.known source.old → OnOk result (S.known source.new) }
         ensures refused { S.known source.old → IfErr result (IsBeginRefusal from (S.seen source.new)) }
+        ensures apart { IfErr result (λ e. e ≢ WriteFault) }
     {
         let file = read(alloc, source, 0)?;
         let begun = begin_at(alloc, &file, from)?;
@@ -47,7 +48,37 @@ impl Tail {
         ensures synced { S.known source.old → IfOk result (λ text. 0 < length text.items
             → (c : List ℕ) → S.may_leave source.new c → Stand (S.seen source.new) c) }
         ensures known { S.known source.old → OnOk result (S.known source.new) }
+        ensures left { S.known source.old → OnOk result (S.left source.new ≡ S.left source.old) }
+        ensures last { S.known source.old → S.is_left source.old → OnOk result (S.seen source.new ≡ S.left source.old) }
         ensures refused { S.known source.old → IfErr result (IsMoreRefusal (S.seen source.new) self.old) }
+        ensures apart { IfErr result (λ e. e ≢ WriteFault) }
+        ensures unchanged { IfErr result (λ _. self.new ≡ self.old) }
+    {
+        let before = *self;
+        let text = self.take_more(alloc, source)?;
+        match sync(source, &text) {
+            Ok(()) => Ok(text),
+            Err(error) => {
+                *self = before;
+                Err(error)
+            }
+        }
+    }
+
+    /// Reads what was appended since, of which nothing is synced yet.
+    pub(crate) fn take_more<S: Source>(
+        &mut self,
+        alloc: Global,
+        source: &mut S,
+    ) -> Result<Vec<u8>, TailError>
+        ensures given { S.known source.old → IfOk result (λ text. GoesOn (S.seen source.new) self.old self.new text.items) }
+        ensures whole { S.known source.old → (before : List ℕ) → HasGiven self.old (S.seen source.old) before
+            → IfOk result (λ text. HasGiven self.new (S.seen source.new) (before ++ text.items)) }
+        ensures known { S.known source.old → OnOk result (S.known source.new) }
+        ensures left { S.known source.old → OnOk result (S.left source.new ≡ S.left source.old) }
+        ensures last { S.known source.old → S.is_left source.old → OnOk result (S.seen source.new ≡ S.left source.old) }
+        ensures refused { S.known source.old → IfErr result (IsMoreRefusal (S.seen source.new) self.old) }
+        ensures apart { IfErr result (λ e. e ≢ WriteFault) }
         ensures unchanged { IfErr result (λ _. self.new ≡ self.old) }
     {
         let piece = read(alloc, source, self.place)?;
@@ -56,7 +87,6 @@ impl Tail {
             text: Vec::new(alloc),
         };
         let Gathered { tail, text } = begun.take_lines(alloc, &piece)?;
-        sync(source, &text)?;
         *self = tail;
         Ok(text)
     }
@@ -89,6 +119,8 @@ fn begin_at(alloc: Global, file: &[u8], from: u64) -> Result<Gathered, TailError
 fn read<S: Source>(alloc: Global, source: &mut S, place: usize) -> Result<Vec<u8>, TailError>
     ensures bytes { S.known source.old → IfOk result (λ bytes. bytes.items ≡ drop place (S.seen source.new)) }
     ensures stand { S.known source.old → S.known source.new × Stand (S.seen source.old) (S.seen source.new) }
+    ensures left { S.known source.old → S.left source.new ≡ S.left source.old }
+    ensures last { S.known source.old → S.is_left source.old → OnOk result (S.seen source.new ≡ S.left source.old) }
     ensures refused { IfErr result IsNoReading }
 {
     match source.read_from(alloc, place) {
@@ -99,10 +131,11 @@ fn read<S: Source>(alloc: Global, source: &mut S, place: usize) -> Result<Vec<u8
 }
 
 /// Syncs a file of which a text is given. For none it isn't touched.
-fn sync<S: Source>(source: &mut S, text: &[u8]) -> Result<(), TailError>
+pub(crate) fn sync<S: Source>(source: &mut S, text: &[u8]) -> Result<(), TailError>
     ensures synced { S.known source.old → OnOk result (0 < length text.now
         → (c : List ℕ) → S.may_leave source.new c → Stand (S.seen source.old) c) }
     ensures seen { S.known source.old → OnOk result (S.known source.new × (S.seen source.new ≡ S.seen source.old)) }
+    ensures left { S.known source.old → OnOk result (S.left source.new ≡ S.left source.old) }
     ensures refused { IfErr result (λ e. e ≡ SyncFault) }
 {
     if text.is_empty() {

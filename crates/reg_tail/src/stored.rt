@@ -8,33 +8,31 @@ use std::fs::{File, Files, OpenOptions};
 use std::io::{self, ErrorKind, Read, Seek, SeekFrom};
 use std::os::unix::fs::MetadataExt;
 
-/// A file that another process writes, open for reading.
+/// A file under a path that another process writes, open for reading.
 #[derive(Drop)]
-pub struct StoredTail {
+pub struct StoredTail<'a, R: Files<File = File>> {
+    files: &'a R,
+    path: &'a str,
     file: File,
     /// The device and the number by which the system tells it from others.
     device: u64,
     number: u64,
 }
 
-impl StoredTail {
+impl<'a, R: Files<File = File>> StoredTail<'a, R> {
     /// The file that stands under a path now.
-    pub fn open<R: Files<File = File>>(files: &R, path: &str) -> io::Result<StoredTail> {
+    pub fn open(files: &'a R, path: &'a str) -> Result<StoredTail<'a, R>, DiskError> {
         let mut how = OpenOptions::new();
         how.read(true);
-        let file = files.open_file(&how, path)?;
-        let found = file.metadata()?;
+        let file = answer(files.open_file(&how, path))?;
+        let found = answer(file.metadata())?;
         Ok(StoredTail {
+            files,
+            path,
             file,
             device: found.dev(),
             number: found.ino(),
         })
-    }
-
-    /// Whether another file stands under that path by now. This one is held open, so no other has its number.
-    pub fn is_replaced<R: Files<File = File>>(&self, files: &R, path: &str) -> io::Result<bool> {
-        let found = files.metadata(path)?;
-        Ok(found.dev() != self.device || found.ino() != self.number)
     }
 }
 
@@ -48,12 +46,18 @@ fn answer<T: Drop>(given: io::Result<T>) -> Result<T, DiskError> {
     }
 }
 
-impl Source for StoredTail {
+impl<'a, R: Files<File = File>> Source for StoredTail<'a, R> {
     ghost known = { λ f. ⊥ };
 
     ghost seen = { λ f. [] };
 
     ghost may_leave = { λ f c. ⊤ };
+
+    ghost left = { λ f. [] };
+
+    ghost is_left = { λ f. ⊥ };
+
+    ghost seen_counts = { λ f is. absurd is };
 
     fn read_from(&mut self, alloc: Global, place: usize) -> Result<Vec<u8>, DiskError> {
         let mut bytes = Vec::new(alloc);
@@ -64,5 +68,16 @@ impl Source for StoredTail {
 
     fn sync(&mut self) -> Result<(), DiskError> {
         answer(self.file.sync_all())
+    }
+
+    /// This file is held open, so no other has its number.
+    fn is_replaced(&mut self) -> Result<bool, DiskError> {
+        let found = answer(self.files.metadata(self.path))?;
+        Ok(found.dev() != self.device || found.ino() != self.number)
+    }
+
+    fn reopen(&mut self) -> Result<(), DiskError> {
+        *self = StoredTail::open(self.files, self.path)?;
+        Ok(())
     }
 }

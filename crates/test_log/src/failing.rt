@@ -1,4 +1,4 @@
-// A reader and a writer that fail.
+// A reader and writers that fail.
 use std::io::{self, ErrorKind, Read, Write};
 
 #[derive(Drop)]
@@ -17,5 +17,19 @@ impl Write for Failing {
 
     fn flush(&mut self) -> io::Result<()> {
         Ok(())
+    }
+}
+
+/// A writer that takes all bytes, and then fails to hand them on.
+#[derive(Drop)]
+pub(crate) struct Holding;
+
+impl Write for Holding {
+    fn write(&mut self, buf: &[u8]) -> io::Result<usize> {
+        Ok(buf.len())
+    }
+
+    fn flush(&mut self) -> io::Result<()> {
+        Err(io::Error::from(ErrorKind::Other))
     }
 }

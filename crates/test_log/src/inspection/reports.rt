@@ -1,4 +1,5 @@
 // What is said of logs, and what keeps them from being served.
+use crate::failing::Holding;
 use crate::texts::text;
 use reg_inspection::{inspect, obstacles};
 use reg_keeping::FilterError;
@@ -45,6 +46,12 @@ fn a_log_is_reported(rt: HostRuntime) {
     for row in &ROWS {
         assert!(rt; is_reported(rt.alloc(), row) == Ok(true));
     }
+}
+
+#[test]
+fn a_report_that_is_not_handed_on_is_a_fault(rt: HostRuntime) {
+    let lost = inspect(rt.alloc(), &mut b"0\tx\ty\n".as_slice(), &mut Holding);
+    assert!(rt; lost == Err(FilterError::WriteFault));
 }
 
 /// What keeps a log from being taken over, a line each.

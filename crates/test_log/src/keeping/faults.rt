@@ -1,5 +1,5 @@
 // Filters that end before their end.
-use crate::failing::Failing;
+use crate::failing::{Failing, Holding};
 use reg_keeping::{FilterError, compact};
 use std::alloc::{AllocError, Global};
 
@@ -16,6 +16,8 @@ fn a_lost_reader_or_writer_ends_a_filter(rt: HostRuntime) {
     let lost = compact(alloc, &mut Failing, &mut written);
     assert!(rt; lost == Err(FilterError::ReadFault) && written.is_empty());
     let lost = compact(alloc, &mut b"0\tx\ty\n".as_slice(), &mut Failing);
+    assert!(rt; lost == Err(FilterError::WriteFault));
+    let lost = compact(alloc, &mut b"0\tx\ty\n".as_slice(), &mut Holding);
     assert!(rt; lost == Err(FilterError::WriteFault));
 }
 

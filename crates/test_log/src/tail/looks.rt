@@ -3,8 +3,8 @@ ghost use Rattle.std.specs.Prelude.{IfOk};
 ghost use Rattle.reg_tail.specs.Tail.{HasGiven};
 
 use super::page::Page;
-use crate::failing::Failing;
-use reg_tail::{Source, Tail, TailError, write_begun, write_more};
+use crate::failing::{Failing, Holding};
+use reg_tail::{Source, Tail, TailError, follow, write_begun, write_look, write_more};
 use std::alloc::Global;
 use std::test::Fail;
 
@@ -150,5 +150,51 @@ fn texts_are_written_once_they_are_synced(rt: HostRuntime) -> Result<(), Fail> {
     page.becomes("0\tx\ty\n1\tx\tz\n2\tx\tz\n\n")?;
     let answer = write_more(alloc, &mut tail, &mut page, &mut Failing);
     assert!(rt; matches!(answer, Err(TailError::WriteFault)));
+    Ok(())
+}
+
+#[test]
+fn a_flush_that_fails_is_a_fault_of_the_writer(rt: HostRuntime) -> Result<(), Fail> {
+    let alloc: Global = rt.alloc();
+    let mut page = Page::new(alloc, "0\tx\ty\n\n")?;
+    let begun = write_begun(alloc, &mut page, 0, &mut Holding);
+    assert!(rt; begun == Err(TailError::WriteFault));
+    // Without a line nothing is flushed.
+    let mut tail = write_begun(alloc, &mut page, 1, &mut Holding).map_err(|_| "refused")?;
+    page.becomes("0\tx\ty\n1\tx\tz\n\n")?;
+    let looked = write_look(alloc, &mut tail, &mut page, &mut Holding);
+    assert!(rt; looked == Err(TailError::WriteFault));
+    Ok(())
+}
+
+#[test]
+fn what_a_replaced_file_was_left_with_is_written_first(rt: HostRuntime) -> Result<(), Fail> {
+    let alloc: Global = rt.alloc();
+    let mut out = Vec::new(alloc);
+    let mut page = Page::new(alloc, "0\tx\ty\n\n")?;
+    let mut tail = write_begun(alloc, &mut page, 0, &mut out).map_err(|_| "refused")?;
+    assert!(rt; write_look(alloc, &mut tail, &mut page, &mut out) == Ok(false));
+    page.becomes("0\tx\ty\n1\tx\tz\n\n")?;
+    page.is_replaced_by("1\tx\tz\n2\tx\ta\n\n")?;
+    assert!(rt; write_look(alloc, &mut tail, &mut page, &mut out) == Ok(true));
+    assert_eq!(rt; out.as_slice(), b"0\tx\ty\n1\tx\tz\n2\tx\ta\n".as_slice());
+    page.becomes("1\tx\tz\n2\tx\ta\n3\tx\tb\n\n")?;
+    assert!(rt; write_look(alloc, &mut tail, &mut page, &mut out) == Ok(false));
+    assert_eq!(rt;
+        out.as_slice(),
+        b"0\tx\ty\n1\tx\tz\n2\tx\ta\n3\tx\tb\n".as_slice()
+    );
+    Ok(())
+}
+
+#[test]
+fn a_file_is_followed_until_a_floor_is_above_it(rt: HostRuntime) -> Result<(), Fail> {
+    let alloc: Global = rt.alloc();
+    let mut out = Vec::new(alloc);
+    let mut page = Page::new(alloc, "0\tx\ty\n1\tx\tz\n\n")?;
+    page.is_replaced_by("floor\t3\n3\tx\ta\n\n")?;
+    let ended = follow(&rt, alloc, &mut page, 1, &mut out);
+    assert!(rt; ended == TailError::Floor(3));
+    assert_eq!(rt; out.as_slice(), b"1\tx\tz\n".as_slice());
     Ok(())
 }

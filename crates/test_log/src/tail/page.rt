@@ -1,5 +1,6 @@
-// A file in memory to which a test writes. What was there at the last sync is what a crash leaves.
-ghost use Rattle.std.specs.Prelude.{◌≡◌, ⊤, refl};
+// A file in memory to which a test writes. A crash leaves what was there at the last sync, or what is there.
+ghost use Rattle.std.specs.Prelude.{◌≡◌, ◌⊎◌, ⊤, IsSome, refl};
+ghost use Rattle.std.proofs.Common.{inr};
 
 use reg_journal::DiskError;
 use reg_tail::Source;
@@ -9,8 +10,10 @@ use std::alloc::{AllocError, Global};
 pub(crate) struct Page {
     alloc: Global,
     pub(crate) bytes: Vec<u8>,
-    /// What a crash leaves.
+    /// What was there at the last sync.
     pub(crate) synced: Vec<u8>,
+    /// The file that has its name by now, where another one has.
+    other: Option<Vec<u8>>,
     /// How many syncs there were.
     pub(crate) syncs: u64,
     pub(crate) read_fails: bool,
@@ -24,6 +27,7 @@ impl Page {
             alloc,
             bytes: bytes.as_bytes().to_vec(alloc)?,
             synced: Vec::new(alloc),
+            other: None,
             syncs: 0,
             read_fails: false,
             sync_fails: false,
@@ -35,6 +39,12 @@ impl Page {
         self.bytes = bytes.as_bytes().to_vec(self.alloc)?;
         Ok(())
     }
+
+    /// Another process has put another file in its place, of these bytes.
+    pub(crate) fn is_replaced_by(&mut self, bytes: &str) -> Result<(), AllocError> {
+        self.other = Some(bytes.as_bytes().to_vec(self.alloc)?);
+        Ok(())
+    }
 }
 
 impl Source for Page {
@@ -42,7 +52,13 @@ impl Source for Page {
 
     ghost seen = { λ p. p.bytes.items };
 
-    ghost may_leave = { λ p c. c ≡ p.synced.items };
+    ghost may_leave = { λ p c. (c ≡ p.synced.items) ⊎ (c ≡ p.bytes.items) };
+
+    ghost left = { λ p. p.bytes.items };
+
+    ghost is_left = { λ p. IsSome p.other };
+
+    ghost seen_counts = { λ p is. (p.bytes.items, inr refl, λ lines rest are parts. refl) };
 
     fn read_from(&mut self, alloc: Global, place: usize) -> Result<Vec<u8>, DiskError> {
         if self.read_fails {
@@ -60,6 +76,18 @@ impl Source for Page {
         }
         self.synced = self.bytes.to_vec(self.alloc)?;
         self.syncs = self.syncs.saturating_add(1);
+        Ok(())
+    }
+
+    fn is_replaced(&mut self) -> Result<bool, DiskError> {
+        Ok(self.other.is_some())
+    }
+
+    fn reopen(&mut self) -> Result<(), DiskError> {
+        if let Some(bytes) = self.other.take() {
+            self.bytes = bytes;
+            self.synced = Vec::new(self.alloc);
+        }
         Ok(())
     }
 }

@@ -185,3 +185,9 @@ returns-in-Err-renew-clause-was_broken g c modelled is = absurd (no_renewal_brok
 
 pub returns-in-Err-renew-clause-lost : goal.returns-in-Err-renew-clause-lost
 returns-in-Err-renew-clause-lost g c modelled lost = (c.read_shrunk.new.journal.disk, c.in-Err-renew.error, c.in-Err-renew.ensures.fault)
+
+pub returns-in-Err-renew-clause-failed : goal.returns-in-Err-renew-clause-failed
+returns-in-Err-renew-clause-failed g c failed = inr (c.read_shrunk.new.journal.disk, c.in-Err-renew.error, c.in-Err-renew.ensures.fault)
+
+pub returns-in-Err-clause-failed : goal.returns-in-Err-clause-failed
+returns-in-Err-clause-failed g c failed = inl (c.in-Err.ensures.fault failed)

@@ -1,18 +1,9 @@
-use Rattle.std.proofs.Common.{◌≡◌, ◌++◌, List, ℕ, drop, sym, subst, ◌∙◌}
-use Rattle.reg_tail.specs.Tail.{GoesOn, HasGiven}
-use Rattle.reg_tail.proofs.Given.{given_on, goes_on}
+use Rattle.std.proofs.Common.{◌++◌, List, ℕ, sym, subst}
+use Rattle.reg_tail.specs.Tail.{HasGiven}
 use Rattle.reg_tail.proofs.tail.Tail.more.Goals as goal
 
-pub returns-clause-whole : goal.returns-clause-whole
-returns-clause-whole g c known before has =
-    let file = g.S.Source.seen c.read.new.source in
-    let stand = c.read.ensures.stand known in
-    let stays = (c.in_ok-sync.ensures.seen stand.0).1 in
-    let old = c.args.self.now in
-    let new = c.in_ok-tail.field-0 in
-    let piece : c.deref.result.now ≡ drop old.place file = c.deref.ensures.value ∙ c.in_ok-piece.ensures.bytes known in
-    let taken = c.in_ok-tail.ensures.taken in
-    let on : GoesOn file old new.tail new.text.items =
-    goes_on file (record { tail = old; text = c.new.result }) new c.deref.result.now taken.0 taken.1 piece c.new.ensures.items in
-    subst (λ (f : List ℕ). HasGiven new.tail f (before ++ new.text.items)) (sym stays)
-    (given_on file before new.text.items old new.tail (g.S.Source.seen c.args.source.now) has stand.1 on)
+pub returns-in-Ok-clause-whole : goal.returns-in-Ok-clause-whole
+returns-in-Ok-clause-whole g c known before has =
+    let stays = (c.in-Ok.ensures.seen (c.in_ok-text.ensures.known known)).1 in
+    subst (λ (f : List ℕ). HasGiven c.take_more.new.self f (before ++ c.in_ok-text.text.items)) (sym stays)
+    (c.in_ok-text.ensures.whole known before has)
