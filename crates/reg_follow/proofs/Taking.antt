@@ -57,7 +57,7 @@ lists old new shown left = ap (λ (l : List Draw). l ++ new.pending) shown ∙ a
 pub came_to : (text : List ℕ) (read : List Read) (came : Came) (old new : Following)
     → new.published ≡ old.published → new.pending ≡ old.pending
     → HasTaken text read old → Comes text read old.unread came new.unread → ComesTo text read came new
-came_to text read (cames.Line r) old new shown left has comes = (comes, lists old new shown left ∙ has.list)
+came_to text read (cames.Line r) old new shown left has comes = (comes.0, lists old new shown left ∙ has.list)
 came_to text read cames.Floor old new shown left has comes = record { has = comes.0; list = lists old new shown left ∙ has.list }
 came_to text read cames.End old new shown left has comes = (
   record { has = subst (λ (u : Unread). HasRead text read u) (sym comes.0) has.has; list = lists old new shown left ∙ has.list },

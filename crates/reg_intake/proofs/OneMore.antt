@@ -1,11 +1,11 @@
 -- How a line is read behind others.
-use Rattle.std.proofs.Common.{◌≡◌, ◌<◌, ◌≤◌, ◌+◌, ◌-◌, ◌^◌, ◌&&◌, ℕ, suc, Bool, true, false, cond, min, List, [], ◌∷◌, ◌++◌, length}
+use Rattle.std.proofs.Common.{◌≡◌, ◌<◌, ◌+◌, ◌-◌, ◌^◌, ◌&&◌, ℕ, true, false, cond, min, List, [], ◌∷◌, ◌++◌, length}
 use Rattle.std.proofs.Common.{take, drop, Result, Ok, Err, refl, sym, ap, subst, ◌∙◌, arith, length-append, append_assoc}
 use Rattle.std.specs.Prelude.{nat_eq}
 use Rattle.std.specs.Result.{result_map_both}
 use Rattle.std.proofs.lemmas.Bool.{and_parts, eqb-true}
 use Rattle.std.proofs.lemmas.List.{drop-drop, drop_at, nil_from_length, take_at}
-use Rattle.reg_journal.specs.Lines.{Say, SayLog, SaysFloor, text_of}
+use Rattle.reg_journal.specs.Lines.{Say, SayLog, text_of}
 use Rattle.reg_records.proofs.Floors.{of_reading}
 use Rattle.reg_records.specs.Device.{counted}
 use Rattle.reg_records.specs.Floor.{floor_reading, is_floor_line}
@@ -15,7 +15,7 @@ use Rattle.reg_records.specs.declared.line.LineError.{LineError}
 use Rattle.reg_records.specs.declared.log.LogFault.{LogFault}
 use Rattle.reg_records.specs.declared.log.LogFault.TheVariants as faults
 use Rattle.reg_records.specs.declared.record.Read.{Read}
-use Rattle.reg_intake.specs.Intake.{Comes, HasRead, Unread, said_at}
+use Rattle.reg_intake.specs.Intake.{Comes, HasRead, TakesFront, Unread, said_at}
 use Rattle.reg_intake.specs.declared.incoming.Came.{Came}
 use Rattle.reg_intake.specs.declared.incoming.Came.TheVariants.{End, Floor, Line, Nothing}
 
@@ -105,6 +105,9 @@ module _ (text : List ℕ) (read : List Read) (s : Unread) (line rest : List ℕ
   abbrev new : Unread
   new = record { bytes = rest; count = counted s.count }
 
+  takes : TakesFront s new
+  takes = record { line = line; parts = is; count = refl }
+
   more : length (has.lines ++ line ∷ []) ≡ length has.lines + 1
   more = length-append has.lines (line ∷ [])
 
@@ -118,7 +121,7 @@ module _ (text : List ℕ) (read : List Read) (s : Unread) (line rest : List ℕ
   }
 
   has_floor : (floor : ℕ) → s.count ≡ 0 → is_floor_line line ≡ true
-      → floor_reading line ≡ Ok floor → HasRead text read new × (s.count ≡ 0) × (new.count ≡ 1)
+      → floor_reading line ≡ Ok floor → HasRead text read new × TakesFront s new × (s.count ≡ 0)
   has_floor floor zero begins says =
       let none : length has.lines ≡ 0 = omega (arith, has.count, zero) in
       let empty : has.lines ≡ [] = nil_from_length has.lines none in
@@ -136,12 +139,12 @@ module _ (text : List ℕ) (read : List Read) (s : Unread) (line rest : List ℕ
           };
           count = omega (arith, zero);
         },
+        takes,
         zero,
-        omega (arith, zero),
       )
 
   by_kind : (came : Came) → Says s.count line came → Comes text read s came new
-  by_kind (Line r) says = has_line r says
+  by_kind (Line r) says = (has_line r says, takes)
   by_kind Floor says = has_floor says.2 says.0 says.1 says.3
   by_kind End says = absurd says
   by_kind Nothing says = absurd says

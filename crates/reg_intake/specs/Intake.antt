@@ -1,6 +1,6 @@
 -- Lines of a log as they come.
 use Rattle.std.specs.Prelude.{◌≡◌, ◌⊎◌, ◌<◌, ◌≤◌, ⊤, ℕ, ◌^◌, ◌-◌, ◌++◌, ◌∷◌, ◌&&◌, List, []}
-use Rattle.std.specs.Prelude.{length, take, min, nat_eq, codes, Result, Ok, Err, if◌then◌else◌}
+use Rattle.std.specs.Prelude.{length, take, min, nat_eq, codes, Result, Err, if◌then◌else◌}
 use Rattle.std.specs.Result.{result_map_both}
 use Rattle.reg_journal.specs.Lines.{SayLog, text_of}
 use Rattle.reg_records.specs.Device.{counted}
@@ -42,10 +42,16 @@ said_at before line =
     if nat_eq before 0 && is_floor_line line then result_map_both (λ floor. Floor) (λ fault. fault) (floor_reading line)
     else result_map_both Line faults.Line (reading line)
 
+-- the line at the front was taken, and counted
+pub record TakesFront (old new : Unread) : Type 0 where
+  pub line : List ℕ
+  pub parts : old.bytes ≡ line ++ 10 ∷ new.bytes
+  pub count : new.count ≡ counted old.count
+
 -- the next line of the text was read, which says this; or the first one, which says a floor; or the next one is empty; or it isn't whole
 abbrev pub Comes : List ℕ → List Read → Unread → Came → Unread → Type 0
-Comes text read old (Line r) new = HasRead text (read ++ r ∷ []) new
-Comes text read old Floor new = HasRead text read new × (old.count ≡ 0) × (new.count ≡ 1)
+Comes text read old (Line r) new = HasRead text (read ++ r ∷ []) new × TakesFront old new
+Comes text read old Floor new = HasRead text read new × TakesFront old new × (old.count ≡ 0)
 Comes text read old End new = (new ≡ old) × ((rest : List ℕ) × (old.bytes ≡ 10 ∷ rest))
 Comes text read old Nothing new = (new ≡ old) × HasNoLineFeed old.bytes × (length old.bytes ≤ LINE_LIMIT)
 

@@ -24,7 +24,7 @@ use Rattle.reg_records.specs.Log.{LogText, log_of}
 use Rattle.reg_records.specs.declared.log.LogFault.{LogFault}
 use Rattle.reg_records.specs.declared.record.Record.{Record}
 use Rattle.reg_journal_keep.specs.KeepState.{KeepState}
-use Rattle.reg_journal_keep.specs.Keeping.{Ends, HasFloorUpTo, HasReason, SaysCompactionOrMore, Tries, kept_of, next_after, says_compaction}
+use Rattle.reg_journal_keep.specs.Keeping.{Ends, HasFloorUpTo, HasReason, SaysCompactionOrMore, kept_of, next_after, says_compaction}
 
 abbrev of_log : Result LogText (ℕ × LogFault) → Result Said (ℕ × LogFault)
 of_log found = result_map_both (λ (log : LogText). record { floor = log.floor; reads = log.reads }) (λ fault. fault) found
@@ -244,33 +244,10 @@ pub lost_by : {G : Type 0} (b was : Bool) (e : CompactError) → (breaks e ≡ f
     → (e ≡ errors_of.Lost → G) → (e ≡ errors_of.Broken → was ≡ true) → b ≡ true → G
 lost_by b was errors_of.OutOfMemory as_was sound changed lost broken is = let e = as_was refl in absurd (true≢false (sym is ∙ e ∙ sound))
 lost_by b was errors_of.Failed as_was sound changed lost broken is = let e = as_was refl in absurd (true≢false (sym is ∙ e ∙ sound))
+lost_by b was errors_of.Unread as_was sound changed lost broken is = let e = as_was refl in absurd (true≢false (sym is ∙ e ∙ sound))
 lost_by b was errors_of.Changed as_was sound changed lost broken is = absurd (changed refl)
 lost_by b was errors_of.Lost as_was sound changed lost broken is = lost refl
 lost_by b was errors_of.Broken as_was sound changed lost broken is = absurd (true≢false (sym (broken refl) ∙ sound))
-
--- what is left as it is
-pub tries_same : {D : Type 0} (old mid new : KeepState D) → new.patience ≡ mid.patience → new.floor ≡ mid.floor → new.fault ≡ mid.fault
-    → Tries old mid → Tries old new
-tries_same old mid new patience floor fault tries =
-    ⊎_elim
-    (λ passes. inl (record { patience = patience ∙ passes.patience; floor = floor ∙ passes.floor; fault = fault ∙ passes.fault }))
-    (λ tried. inr (
-      tried.0,
-      ⊎_elim
-          (λ counts. inl (record {
-            patience = patience ∙ counts.patience;
-            floor = ⊎_elim (λ is. inl (floor ∙ is)) (λ is. inr (floor ∙ is)) counts.floor;
-            fault = fault ∙ counts.fault;
-          }))
-          (λ fails. inr (record {
-            error = fails.error;
-            patience = patience ∙ fails.patience;
-            floor = floor ∙ fails.floor;
-            fault = fault ∙ fails.fault;
-          }))
-          tried.1,
-    ))
-    tries
 
 pub stays_refused : {D : Type 0} (seen : D → List ℕ) (floor : ℕ) (mid new : JournalState D) (b : Bool) → (b ≡ true → new ≡ mid)
     → (b ≡ false → new.is_broken ≡ true) → HasFloorUpTo seen floor mid → HasFloorUpTo seen floor new

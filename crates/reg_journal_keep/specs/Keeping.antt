@@ -1,5 +1,5 @@
 -- What a keep over a file does with a batch.
-use Rattle.std.specs.Prelude.{◌≡◌, ⊤, ◌⊎◌, ◌<◌, ◌≤◌, ◌-◌, max, ℕ, List, length, Result, true, false, None, Some, All, IfOk}
+use Rattle.std.specs.Prelude.{◌≡◌, ⊤, ◌⊎◌, ◌<◌, ◌≤◌, ◌-◌, max, min, ℕ, List, length, Result, true, false, None, Some, All, IfOk}
 use Rattle.reg_journal.specs.Disk.{GaveFault, LeavesOnly, Only}
 use Rattle.reg_journal.specs.JournalState.{JournalState}
 use Rattle.reg_journal.specs.Lines.{IsBeforeOrAfter, Said, said, with_batch}
@@ -9,12 +9,14 @@ use Rattle.reg_journal.specs.declared.journal.AppendError.{AppendError}
 use Rattle.reg_journal.specs.declared.journal.AppendError.TheVariants as errors
 use Rattle.reg_journal.specs.declared.renewal.RenewError.{RenewError}
 use Rattle.reg_keeping.specs.Said.{IsFromFloor, SaysCompaction}
+use Rattle.reg_keeping.specs.CompactedTo.{IsCompactedBy}
 use Rattle.reg_keeping.specs.declared.in_place.CompactError.{CompactError}
+use Rattle.reg_keeping.specs.declared.in_place.CompactError.TheVariants.{Failed}
 use Rattle.reg_pen.specs.declared.keep.Kept.{Kept}
 use Rattle.reg_pen.specs.declared.keep.Kept.TheVariants.{Taken, Declined, Lost}
 use Rattle.reg_pen.specs.declared.keep.Lack.TheVariants as lacks
 use Rattle.reg_records.specs.Written.{HasLine}
-use Rattle.reg_records.specs.declared.limits.TheConstants.{LOG_LINES}
+use Rattle.reg_records.specs.declared.limits.TheConstants.{LOG_LINES, OFFSET_LIMIT}
 use Rattle.reg_records.specs.declared.log.LogFault.{LogFault}
 use Rattle.reg_records.specs.declared.record.Record.{Record}
 use Rattle.reg_journal_keep.specs.KeepState.{KeepState}
@@ -47,32 +49,44 @@ pub record Passes {D : Type 0} (old new : KeepState D) : Type 0 where
   pub floor : new.floor ≡ old.floor
   pub fault : new.fault ≡ old.fault
 
--- the lines were counted, or the file was compacted, after which the next compaction goes to the offset that is the next one now
-pub record Counts {D : Type 0} (old new : KeepState D) : Type 0 where
+-- the file was compacted, to the floor that was due
+abbrev pub WasCompacted : {D : Type 0} → Type 0 → (D → List ℕ) → KeepState D → KeepState D → Type 0
+WasCompacted is_modelled seen old new =
+    is_modelled → IsCompactedBy (Some (min old.floor OFFSET_LIMIT)) (seen old.journal.disk) (seen new.journal.disk)
+
+-- the lines were counted; or the file was compacted, and the next compaction goes to the offset that is the next one now
+pub record Counts {D : Type 0} (compacted : Type 0) (old new : KeepState D) : Type 0 where
   pub patience : new.patience ≡ 0
-  pub floor : (new.floor ≡ old.floor) ⊎ (new.floor ≡ max old.floor old.next)
+  pub floor : (new.floor ≡ old.floor) ⊎ ((new.floor ≡ max old.floor old.next) × compacted)
   pub fault : new.fault ≡ None
 
--- it failed, and is tried again after 1,000 batches
-pub record Fails {D : Type 0} (old new : KeepState D) : Type 0 where
+-- it failed, which is a disk's fault only where a disk gave one, and is tried again after 1,000 batches
+pub record Fails {D : Type 0} (gave : Type 0) (old new : KeepState D) : Type 0 where
   pub error : CompactError
+  pub cause : error ≡ Failed → gave
   pub patience : new.patience ≡ 1000
   pub floor : new.floor ≡ old.floor
   pub fault : new.fault ≡ Some error
 
 -- a compaction is tried only where no batch is to pass before
-abbrev pub Tries : {D : Type 0} → KeepState D → KeepState D → Type 0
-Tries old new = Passes old new ⊎ ((old.patience ≡ 0) × (Counts old new ⊎ Fails old new))
+abbrev pub Tries : {D : Type 0} → (compacted gave : Type 0) → KeepState D → KeepState D → Type 0
+Tries compacted gave old new = Passes old new ⊎ ((old.patience ≡ 0) × (Counts compacted old new ⊎ Fails gave old new))
+
+-- what a keep knows of its file is the same, but for the next offset
+pub record KnowsTheSame {D : Type 0} (old new : KeepState D) : Type 0 where
+  pub patience : new.patience ≡ old.patience
+  pub floor : new.floor ≡ old.floor
+  pub fault : new.fault ≡ old.fault
 
 -- what making room does: unless the journal is broken then, its file says a compaction of what it said, to no higher floor than
 -- the next one, so that each delete from there on stays; only a renewal that gave a fault breaks it
-pub record MakesRoom {D : Type 0} (is_modelled : Type 0) (seen : D → List ℕ) (renewals : D → RenewError → D → Type 0)
-    (old new : KeepState D) : Type 0 where
+pub record MakesRoom {D : Type 0} (is_modelled : Type 0) (seen : D → List ℕ) (faults : D → DiskError → D → Type 0)
+    (renewals : D → RenewError → D → Type 0) (old new : KeepState D) : Type 0 where
   pub says : is_modelled → new.journal.is_broken ≡ false → SaysCompaction (said (seen old.journal.disk)) (said (seen new.journal.disk))
   pub low : is_modelled → HasFloorUpTo seen old.floor new.journal
   pub still : 0 < old.patience → new.journal ≡ old.journal
   pub next : new.next ≡ old.next
-  pub tries : Tries old new
+  pub tries : Tries (WasCompacted is_modelled seen old new) (GaveFault faults new.journal.disk ⊎ GaveFault renewals new.journal.disk) old new
   pub lost : is_modelled → old.journal.is_broken ≡ false → new.journal.is_broken ≡ true → GaveFault renewals new.journal.disk
 
 -- what the journal's file says after what became of a batch: a compaction of what it said, and all
@@ -119,8 +133,8 @@ pub record KeepsFile {D : Type 0} (is_modelled : Type 0) (moment : D → ℕ) (l
       (SaysCompactionOrMore (said (seen old.journal.disk)) batch)
   pub broken : old.journal.is_broken ≡ true → (kept ≡ Lost) × (new ≡ old)
   pub reason : HasReason is_modelled faults renewals old batch kept new
-  -- what was appended counts for the floor of the next compaction, a delete from the floor on stays, and a compaction
-  -- that failed isn't tried again at once
+  -- what was appended counts for the floor of the next compaction, a delete from the floor on stays, and what is known of the
+  -- file is what making room made of it: the floor rises with a compaction alone, and one that failed isn't tried again at once
   pub counts : new.next ≡ next_after old.next batch kept
   pub stays : is_modelled → HasFloorUpTo seen old.floor new.journal
-  pub tries : (new ≡ old) ⊎ Tries old new
+  pub tries : (new ≡ old) ⊎ ((room : KeepState D) × MakesRoom is_modelled seen faults renewals old room × KnowsTheSame room new)

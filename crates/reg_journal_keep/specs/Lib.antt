@@ -3,4 +3,5 @@ pub mod Keeping
 pub mod Next
 pub mod Published
 pub mod Room
+pub mod Starting
 pub mod Upkeep

@@ -4,6 +4,7 @@ ghost use Rattle.reg_records.specs.Written.{HasLine};
 ghost use Rattle.reg_journal.specs.Disk.{LeavesOnly};
 ghost use Rattle.reg_journal.specs.Lines.{said};
 ghost use Rattle.reg_journal_keep.specs.Keeping.{HasFloorUpTo, KeepsFile, MakesRoom, kept_of, says_compaction};
+ghost use Rattle.reg_journal_keep.specs.Starting.{StandsAt};
 
 use crate::upkeep::{Upkeep, make_room};
 use reg_journal::{AppendError, Journal, Renewable, lines_are_logs};
@@ -38,8 +39,8 @@ impl<D: Renewable + Drop> Model for FileKeep<D> {
 }
 
 impl<D: Renewable + Drop> FileKeep<D> {
-    /// A keep over a journal whose file has that floor and that next offset.
-    pub fn new(alloc: Global, journal: Journal<D>, floor: u64, next: u64) -> FileKeep<D>
+    /// A keep over a journal whose file has that floor and that next offset. Only `start` makes one.
+    pub(crate) fn new(alloc: Global, journal: Journal<D>, floor: u64, next: u64) -> FileKeep<D>
         requires { D.is_modelled → HasFloorUpTo D.seen floor journal }
         ensures { result ≡ record { journal = journal; floor = floor; next = next; patience = 0; fault = None } }
     {
@@ -57,6 +58,18 @@ impl<D: Renewable + Drop> FileKeep<D> {
         &self.journal
     }
 
+    /// The disk, for whoever goes on with it.
+    pub(crate) fn into_disk(self) -> D
+        ensures { result ≡ self.journal.disk }
+    {
+        let FileKeep {
+            alloc: _,
+            journal,
+            upkeep: _,
+        } = self;
+        journal.into_disk()
+    }
+
     /// Why the file couldn't be compacted when that was tried last, if it couldn't.
     pub fn compaction_fault(&self) -> Option<CompactError>
         ensures { result ≡ self.now.fault }
@@ -66,8 +79,8 @@ impl<D: Renewable + Drop> FileKeep<D> {
 
     /// Compacts the file where that is due before a batch of so many lines is appended. A crash at any moment leaves a
     /// file that says what it said, or a compaction of that.
-    pub fn make_room(&mut self, lines: u64)
-        ensures room { self.old.journal.is_broken ≡ false → MakesRoom D.is_modelled D.seen D.renewals self.old self.new }
+    pub(crate) fn make_room(&mut self, lines: u64)
+        ensures room { self.old.journal.is_broken ≡ false → MakesRoom D.is_modelled D.seen D.faults D.renewals self.old self.new }
         ensures any_moment { D.is_modelled → self.old.journal.is_broken ≡ false → LeavesOnly D.moment D.left_since D.may_leave self.old.journal.disk self.new.journal.disk (says_compaction (said (D.seen self.old.journal.disk))) }
         ensures broken { self.old.journal.is_broken ≡ true → self.new ≡ self.old }
     {
@@ -77,6 +90,8 @@ impl<D: Renewable + Drop> FileKeep<D> {
 
 impl<D: Renewable + Drop> Keep for FileKeep<D> {
     ghost keeps = { KeepsFile D.is_modelled D.moment D.left_since D.may_leave D.seen D.faults D.renewals };
+
+    ghost stands = { StandsAt D.is_modelled D.may_leave D.seen };
 
     fn keep(&mut self, batch: &[Record]) -> Kept {
         compactions_stand_for_logs();

@@ -17,11 +17,12 @@ ghost use Rattle.reg_topic.specs.declared.topic.Topic.{Topic};
 ghost use Rattle.reg_journal_keep.specs.KeepState.{KeepState};
 ghost use Rattle.reg_journal_keep.specs.Keeping.{KeepsFile};
 ghost use Rattle.reg_journal_keep.specs.Published.{SaysPublished};
+ghost use Rattle.reg_journal_keep.specs.Starting.{StandsAt};
 
 use reg_journal::{Renewable, batches_add_records};
 use reg_keeping::compactions_stand_for_logs;
 
-/// Where a pen is opened over a log and the keep at its end, as `start` gives them, the file says a compaction of that log
+/// Where a pen is opened over a log and the keep that stands at its end, as `start` gives them, the file says a compaction of that log
 /// with what the topic begins with beside it: the mark of ids that the log owes, or nothing. So does what each crash leaves.
 /// The records that are said so are those of the topic that the pen begins with.
 pub fn opens_keep_the_file<D: Renewable>()
@@ -31,6 +32,11 @@ pub fn opens_keep_the_file<D: Renewable>()
         → Only (D.seen old.journal.disk) (D.may_leave old.journal.disk)
         → KeepsDue (KeepsFile D.is_modelled D.moment D.left_since D.may_leave D.seen D.faults D.renewals) old (owed_by base.records.items base.next) new
         → SaysPublished D.seen D.may_leave (with_batch (owed_by base.records.items base.next) (Ok whole))
+        (record { published = []; pending = []; lost = false; keep = new }) }
+    ensures start { D.is_modelled → (base : Log) (old new : KeepState D) → StandsAt D.is_modelled D.may_leave D.seen old base
+        → KeepsDue (KeepsFile D.is_modelled D.moment D.left_since D.may_leave D.seen D.faults D.renewals) old (owed_by base.records.items base.next) new
+        → (whole : Said) × IsLogOf whole.floor whole.reads base
+        × SaysPublished D.seen D.may_leave (with_batch (owed_by base.records.items base.next) (Ok whole))
         (record { published = []; pending = []; lost = false; keep = new }) }
     ensures base { (whole : Said) (base : Log) → IsLogOf whole.floor whole.reads base
         → records_in (whole.reads ++ batch_reads (owed_by base.records.items base.next))

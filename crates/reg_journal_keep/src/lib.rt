@@ -9,4 +9,4 @@ mod upkeep;
 
 pub use keeping::FileKeep;
 pub use laws::{opens_keep_the_file, submits_keep_the_file};
-pub use starting::{KeptLog, start};
+pub use starting::{NotStarted, Started, start};

@@ -1,62 +1,35 @@
 // Starting over the log of a file.
-ghost use Rattle.std.specs.Prelude.{◌≡◌, ◌⊎◌, Ok, IfOk, false};
+ghost use Rattle.std.specs.Prelude.{◌≡◌, ◌⊎◌, Ok, IfErr, IfOk, false};
 ghost use Rattle.reg_records.specs.Log.{IsLogOf};
 ghost use Rattle.reg_journal.specs.Disk.{LeavesOnly, Only};
 ghost use Rattle.reg_journal.specs.Lines.{Said, said};
 ghost use Rattle.reg_keeping.specs.Aside.{HasAll};
 ghost use Rattle.reg_keeping.specs.Said.{SaysCompaction};
+ghost use Rattle.reg_journal_keep.specs.Starting.{LosesNothing};
 
 use crate::keeping::FileKeep;
 use reg_journal::{Disk, Found, Journal, OpenError, Renewable};
 use reg_keeping::{Aside, Opens, compactions_stand_for_logs, open_aside};
-use reg_records::Log;
+use reg_pen::KeptLog;
 use std::alloc::Global;
 
-/// The log of a file, and the keep that stands at its end. Only `start` makes one, so that they belong together.
+/// What a start over a file gives.
 #[derive(Drop)]
-pub struct KeptLog<D: Renewable + Drop> {
-    log: Log,
-    keep: FileKeep<D>,
-    end: usize,
-    cut: usize,
+pub struct Started<D: Renewable + Drop> {
+    /// The log of the file, and the keep that stands at its end. Only `start` makes such a keep, so that they belong
+    /// together.
+    pub kept: KeptLog<FileKeep<D>>,
+    /// Where the file's empty line stood when it was read.
+    pub end: usize,
+    /// How many bytes stood behind the log, which are on the other disk.
+    pub cut: usize,
 }
 
-impl<D: Renewable + Drop> KeptLog<D> {
-    pub fn log(&self) -> &Log
-        ensures { result.now ≡ self.now.log }
-    {
-        &self.log
-    }
-
-    pub fn keep(&self) -> &FileKeep<D>
-        ensures { result.now ≡ self.now.keep }
-    {
-        &self.keep
-    }
-
-    /// Where the file's empty line stood when it was read.
-    pub fn end(&self) -> usize {
-        self.end
-    }
-
-    /// How many bytes stood behind the log, which are on the other disk.
-    pub fn cut(&self) -> usize {
-        self.cut
-    }
-
-    /// Both, for what serves the log.
-    pub fn parts(self) -> (Log, FileKeep<D>)
-        ensures log { result.0 ≡ self.log }
-        ensures keep { result.1 ≡ self.keep }
-    {
-        let KeptLog {
-            log,
-            keep,
-            end: _,
-            cut: _,
-        } = self;
-        (log, keep)
-    }
+/// Why nothing was started, and the disk.
+#[derive(Drop)]
+pub struct NotStarted<D: Drop> {
+    pub disk: D,
+    pub error: OpenError,
 }
 
 /// Reads the log of a file, ends it with an empty line, puts aside and cuts off what stands behind that, and compacts the
@@ -65,26 +38,33 @@ pub fn start<D: Renewable + Drop, A: Disk + Drop, O: Opens<A>>(
     alloc: Global,
     disk: D,
     aside: &mut Aside<A, O>,
-) -> Result<KeptLog<D>, OpenError>
+) -> Result<Started<D>, NotStarted<D>>
     requires { D.is_modelled → D.known disk }
 
     // The log is what the file said.
-    ensures log { D.is_modelled → IfOk result (λ it. (says : Said) × (said (D.seen disk) ≡ Ok says) × IsLogOf says.floor says.reads it.log) }
+    ensures log { D.is_modelled → IfOk result (λ it. (says : Said) × (said (D.seen disk) ≡ Ok says) × IsLogOf says.floor says.reads it.kept.log) }
 
     // The keep stands at its end and isn't broken: its file says a compaction of it, all of it on the disk.
-    ensures kept { D.is_modelled → IfOk result (λ it. SaysCompaction (said (D.seen disk)) (said (D.seen it.keep.journal.disk))) }
-    ensures durable { D.is_modelled → IfOk result (λ it. Only (D.seen it.keep.journal.disk) (D.may_leave it.keep.journal.disk)) }
-    ensures sound { IfOk result (λ it. it.keep.journal.is_broken ≡ false) }
-    ensures next { IfOk result (λ it. it.keep.next ≡ it.log.next) }
+    ensures kept { D.is_modelled → IfOk result (λ it. SaysCompaction (said (D.seen disk)) (said (D.seen it.kept.keep.journal.disk))) }
+    ensures durable { D.is_modelled → IfOk result (λ it. Only (D.seen it.kept.keep.journal.disk) (D.may_leave it.kept.keep.journal.disk)) }
+    ensures sound { IfOk result (λ it. it.kept.keep.journal.is_broken ≡ false) }
+    ensures next { IfOk result (λ it. it.kept.keep.next ≡ it.kept.log.next) }
 
     // A crash at any moment leaves what it might have left before, a file with all bytes that were there, or one that says a
     // compaction of what it said.
-    ensures any_moment { D.is_modelled → IfOk result (λ it. LeavesOnly D.moment D.left_since D.may_leave disk it.keep.journal.disk
+    ensures any_moment { D.is_modelled → IfOk result (λ it. LeavesOnly D.moment D.left_since D.may_leave disk it.kept.keep.journal.disk
         (λ c. HasAll (D.may_leave disk) (D.seen disk) c ⊎ SaysCompaction (said (D.seen disk)) (said c))) }
+
+    // Where nothing is started, nothing was lost either.
+    ensures left { D.is_modelled → IfErr result (λ it. LeavesOnly D.moment D.left_since D.may_leave disk it.disk
+        (LosesNothing (D.may_leave disk) (D.seen disk))) }
 {
     compactions_stand_for_logs();
     let mut disk = disk;
-    let found = open_aside(alloc, &mut disk, aside)?;
+    let found = match open_aside(alloc, &mut disk, aside) {
+        Ok(found) => found,
+        Err(error) => return Err(NotStarted { disk, error }),
+    };
     let Found {
         log,
         end,
@@ -95,12 +75,15 @@ pub fn start<D: Renewable + Drop, A: Disk + Drop, O: Opens<A>>(
     let mut keep = FileKeep::new(alloc, journal, log.floor, log.next);
     keep.make_room(0);
     if keep.journal().is_broken() {
-        return Err(OpenError::Failed);
+        return Err(NotStarted {
+            disk: keep.into_disk(),
+            error: OpenError::Failed,
+        });
     }
     keep.journal().is_steady();
-    Ok(KeptLog {
-        log,
-        keep,
+    let kept = KeptLog::new(log, keep);
+    Ok(Started {
+        kept,
         end,
         cut: behind.len(),
     })

@@ -1,9 +1,9 @@
 // What a keep knows of its file, and making room in it.
-ghost use Rattle.std.specs.Prelude.{◌≡◌, ◌⊎◌, ◌<◌, ◌≤◌, max, None, Some, true, false};
+ghost use Rattle.std.specs.Prelude.{◌≡◌, ◌⊎◌, ◌<◌, ◌≤◌, ◌-◌, max, None, Some, true, false};
 ghost use Rattle.reg_journal.specs.Disk.{GaveFault, LeavesOnly};
 ghost use Rattle.reg_journal.specs.Lines.{said};
 ghost use Rattle.reg_keeping.specs.Said.{SaysCompaction};
-ghost use Rattle.reg_journal_keep.specs.Keeping.{HasFloorUpTo, Tries, says_compaction};
+ghost use Rattle.reg_journal_keep.specs.Keeping.{HasFloorUpTo, Tries, WasCompacted, says_compaction};
 ghost use Rattle.reg_journal_keep.specs.Next.{next_behind};
 ghost use Rattle.reg_journal_keep.specs.Upkeep.{after_count, at_first, state_of};
 
@@ -52,7 +52,7 @@ impl Upkeep {
     fn count(&mut self, kept: u64, lines: u64, least: u64)
         ensures count { self.new ≡ after_count self.old kept lines least }
         ensures patience { self.new.room.patience ≡ 0 }
-        ensures floor { (self.new.floor ≡ self.old.floor) ⊎ (self.new.floor ≡ max self.old.floor self.old.next) }
+        ensures floor { (self.new.floor ≡ self.old.floor) ⊎ ((self.new.floor ≡ max self.old.floor self.old.next) × (least ≤ lines - kept)) }
         ensures rises { self.old.floor ≤ self.new.floor }
         ensures next { self.new.next ≡ self.old.next }
         ensures fault { self.new.fault ≡ None }
@@ -87,7 +87,8 @@ pub(crate) fn make_room<D: Renewable>(
     ensures low { D.is_modelled → HasFloorUpTo D.seen upkeep.old.floor journal.new }
     ensures still { 0 < upkeep.old.room.patience → journal.new ≡ journal.old }
     ensures next { upkeep.new.next ≡ upkeep.old.next }
-    ensures tries { journal.old.is_broken ≡ false → Tries (state_of journal.old upkeep.old) (state_of journal.new upkeep.new) }
+    ensures tries { journal.old.is_broken ≡ false → Tries (WasCompacted D.is_modelled D.seen (state_of journal.old upkeep.old) (state_of journal.new upkeep.new))
+        (GaveFault D.faults journal.new.disk ⊎ GaveFault D.renewals journal.new.disk) (state_of journal.old upkeep.old) (state_of journal.new upkeep.new) }
     ensures lost { D.is_modelled → journal.old.is_broken ≡ false → journal.new.is_broken ≡ true → GaveFault D.renewals journal.new.disk }
     ensures any_moment { D.is_modelled → journal.old.is_broken ≡ false → LeavesOnly D.moment D.left_since D.may_leave journal.old.disk journal.new.disk (says_compaction (said (D.seen journal.old.disk))) }
     ensures rises { upkeep.old.floor ≤ upkeep.new.floor }

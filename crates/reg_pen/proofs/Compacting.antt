@@ -8,9 +8,10 @@ use Rattle.reg_leader.specs.declared.reply.Reply.{Reply}
 use Rattle.reg_topic.specs.declared.published.Item.{Item}
 use Rattle.reg_topic.specs.declared.topic.Topic.{Topic}
 use Rattle.reg_pen.specs.Deletes.{floor_due}
-use Rattle.reg_pen.specs.Pen.{Compacts, CompactsOrNot, IsCompactRefusal, PenState, Submits, batches}
+use Rattle.reg_pen.specs.Pen.{Compacts, CompactsOrNot, IsCompactRefusal, IsUnsettled, PenState, Submits, batches, with_pending}
 use Rattle.reg_pen.specs.Writing.{SubmitsAndCompacts, passes_multiple}
 use Rattle.reg_pen.specs.declared.compact_error.CompactError.{CompactError}
+use Rattle.reg_pen.specs.declared.compact_error.CompactError.TheVariants as refused
 use Rattle.reg_pen.specs.declared.keep.Kept.{Kept}
 use Rattle.reg_pen.specs.declared.writing.TheConstants.{BATCHES}
 
@@ -19,6 +20,29 @@ done_or_not : {K X : Type 0} (base : Topic) (floor : ℕ) (l m : PenState K) (r 
     → OnOk r (Compacts base floor l m) → IfErr r (λ error. IsCompactRefusal base floor l error m) → CompactsOrNot base floor l m
 done_or_not base floor l m (Ok x) ok err = inl ok
 done_or_not base floor l m (Err e) ok err = inr (e, err)
+
+-- the kept floor may be set
+kept_floor : {K : Type 0} (base : Topic) (floor : ℕ) (l m : PenState K) (error : CompactError)
+    → floor ≡ (with_pending base l).kept.floor → (with_pending base l).kept.floor ≤ (with_pending base l).next
+    → IsCompactRefusal base floor l error m → IsUnsettled base floor l error m
+kept_floor base floor l m (refused.FloorBelow kept) is below h =
+    let same : kept ≡ (with_pending base l).kept.floor = h.0 in
+    let less : floor < kept = h.1 in
+    absurd (omega (arith, is, same, less))
+kept_floor base floor l m (refused.FloorAhead next) is below h =
+    let same : next ≡ (with_pending base l).next = h.0 in
+    let less : next < floor = h.2 in
+    absurd (omega (arith, is, same, less, below))
+kept_floor base floor l m refused.OutOfMemory is below h = h.1
+kept_floor base floor l m refused.Lost is below h = h.1
+
+pub unsettled_or_not : {K X : Type 0} (base : Topic) (floor : ℕ) (l m : PenState K) (r : Result X CompactError)
+    → floor ≡ (with_pending base l).kept.floor → (with_pending base l).kept.floor ≤ (with_pending base l).next
+    → IfErr r (λ error. IsCompactRefusal base floor l error m)
+    → IfErr r (λ error. IsUnsettled base (with_pending base l).kept.floor l error m)
+unsettled_or_not base floor l m (Ok x) is below err = tt
+unsettled_or_not base floor l m (Err e) is below err =
+    subst (λ (n : ℕ). IsUnsettled base n l e m) is (kept_floor base floor l m e is below err)
 
 passes : (m n : ℕ) → m / BATCHES < n / BATCHES → passes_multiple m n ≡ true
 passes m n h = (Decides-ltb (m / BATCHES) (n / BATCHES)).1 h

@@ -3,5 +3,6 @@ pub mod Ahead
 pub mod Batches
 pub mod Begun
 pub mod Compacting
+pub mod Counting
 pub mod Prefixes
 pub mod Settling

@@ -1,6 +1,7 @@
 -- How many deletes a compaction may forget, and to which floor a pen compacts by itself.
 use Rattle.std.specs.Prelude.{ℕ, ◌+◌, ◌-◌, ◌/◌, ◌^◌, ◌++◌, Bool, ◌&&◌, List, length, min, fold, count_by, nat_lt, is_none, if◌then◌else◌}
 use Rattle.reg_records.specs.declared.record.Record.{Record}
+use Rattle.reg_set.specs.Records.{records_of}
 use Rattle.reg_topic.specs.Topic.{after_items}
 use Rattle.reg_topic.specs.declared.published.Item.{Item}
 use Rattle.reg_topic.specs.declared.published.Item.TheVariants as items
@@ -20,11 +21,16 @@ deletes_in records = count_by is_delete records
 abbrev pub plus : ℕ → ℕ → ℕ
 plus m n = min (m + n) (2 ^ 64 - 1)
 
--- nothing was published over a topic with that floor
-abbrev pub no_deletes : ℕ → Deletes
-no_deletes floor = record { floor = floor; due = 0; new = 0; kept = 0 }
+-- of what a topic begins with, of which nothing is due before the first compaction
+abbrev pub deletes_at_first : Topic → Deletes
+deletes_at_first base = record {
+  floor = base.kept.floor;
+  due = 0;
+  new = deletes_in (records_of base.kept.records);
+  kept = length (records_of base.kept.records);
+}
 
--- a batch brings deletes; a compaction makes those due that were published before it, without those that were due before the floor rose
+-- a batch brings deletes; a compaction makes those due that were there before it, without those that were due before the floor rose
 abbrev pub deletes_after : Deletes → Item → Deletes
 deletes_after d (items.Commit commit) = record d { new = plus d.new (deletes_in commit.batch); kept = plus d.kept (length commit.batch) }
 deletes_after d (items.Compaction c) = record {
@@ -34,9 +40,9 @@ deletes_after d (items.Compaction c) = record {
   kept = d.kept - length c.dropped;
 }
 
--- of a published list
+-- of a topic with a published list
 abbrev pub deletes_of : Topic → List Item → Deletes
-deletes_of base is = fold deletes_after (no_deletes base.kept.floor) is
+deletes_of base is = fold deletes_after (deletes_at_first base) is
 
 -- so many are due that it pays to forget them: each node is rebased then, which costs what is kept
 abbrev pub are_many : Deletes → Bool

@@ -1,5 +1,6 @@
 pub mod Deletes
 pub mod Keep
+pub mod KeptState
 pub mod Opening
 pub mod Pen
 pub mod Pending

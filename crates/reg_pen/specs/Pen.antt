@@ -160,12 +160,20 @@ LeavesCompaction base floor l m =
 abbrev pub MaySetFloor : Topic → ℕ → Type 0
 MaySetFloor t floor = (t.kept.floor ≤ floor) × (floor ≤ t.next)
 
+-- why a compaction to a floor that may be set isn't published: memory was refused, or the keep lost a batch
+abbrev pub IsUnsettled : {K : Type 0} → Topic → ℕ → PenState K → CompactError → PenState K → Type 0
+IsUnsettled base floor l (refused.FloorBelow kept) m = ⊥
+IsUnsettled base floor l (refused.FloorAhead next) m = ⊥
+IsUnsettled base floor l refused.OutOfMemory m = (l.lost ≡ false) × LeavesCompaction base floor l m
+IsUnsettled base floor l refused.Lost m = (l.lost ≡ true) × (m ≡ l)
+
 -- why a compaction to a floor isn't published
 abbrev pub IsCompactRefusal : {K : Type 0} → Topic → ℕ → PenState K → CompactError → PenState K → Type 0
 IsCompactRefusal base floor l (refused.FloorBelow kept) m = (kept ≡ (with_pending base l).kept.floor) × (floor < kept) × (m ≡ l)
 IsCompactRefusal base floor l (refused.FloorAhead next) m =
     (next ≡ (with_pending base l).next) × ((with_pending base l).kept.floor ≤ floor) × (next < floor) × (m ≡ l)
-IsCompactRefusal base floor l refused.Unsettled m = MaySetFloor (with_pending base l) floor × LeavesCompaction base floor l m
+IsCompactRefusal base floor l refused.OutOfMemory m = MaySetFloor (with_pending base l) floor × IsUnsettled base floor l refused.OutOfMemory m
+IsCompactRefusal base floor l refused.Lost m = MaySetFloor (with_pending base l) floor × IsUnsettled base floor l refused.Lost m
 
 -- a compaction to a floor is done or refused
 abbrev pub CompactsOrNot : {K : Type 0} → Topic → ℕ → PenState K → PenState K → Type 0

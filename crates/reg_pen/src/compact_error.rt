@@ -1,4 +1,5 @@
 // Why a compaction isn't published.
+use std::alloc::AllocError;
 use std::error::Error;
 use std::fmt;
 
@@ -9,8 +10,10 @@ pub enum CompactError {
     FloorBelow(u64),
     /// The floor is ahead of the next offset, which is this one. Nothing was done.
     FloorAhead(u64),
-    /// Memory was refused, or the keep lost a batch: what is pending, or the compaction, isn't settled.
-    Unsettled,
+    /// Memory was refused: what is pending, or the compaction, isn't settled.
+    OutOfMemory,
+    /// The keep lost a batch, which stays pending for good. Nothing was done.
+    Lost,
 }
 
 impl fmt::Display for CompactError {
@@ -18,9 +21,21 @@ impl fmt::Display for CompactError {
         match self {
             CompactError::FloorBelow(floor) => write!(f, "below the floor {floor}"),
             CompactError::FloorAhead(next) => write!(f, "ahead of the next offset {next}"),
-            CompactError::Unsettled => write!(f, "not settled"),
+            CompactError::OutOfMemory => write!(f, "out of memory"),
+            CompactError::Lost => write!(f, "a batch is lost"),
         }
     }
 }
 
 impl Error for CompactError {}
+
+impl From<AllocError> for CompactError {
+    ghost use Rattle.std.specs.Prelude.{◌≡◌};
+    ghost use Rattle.reg_pen.specs.declared.compact_error.CompactError.TheVariants.{OutOfMemory};
+
+    ghost from_gives = { λ _ error. error ≡ OutOfMemory };
+
+    fn from(_refused: AllocError) -> CompactError {
+        CompactError::OutOfMemory
+    }
+}

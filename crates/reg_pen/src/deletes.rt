@@ -1,9 +1,14 @@
 // What a pen counts of its list, to tell whether it pays to forget deletes.
-ghost use Rattle.std.specs.Prelude.{◌≡◌};
-ghost use Rattle.reg_pen.specs.Deletes.{are_many, deletes_after, deletes_in, is_delete, no_deletes};
+ghost use Rattle.std.specs.Prelude.{◌≡◌, IfOk};
+ghost use Rattle.reg_set.specs.Records.{records_of};
+ghost use Rattle.reg_shared.specs.Held.{base_of};
+ghost use Rattle.reg_pen.specs.Deletes.{are_many, deletes_after, deletes_at_first, deletes_in, is_delete};
 
 use reg_records::Record;
+use reg_set::{RecordSet, records_are_ordered};
+use reg_shared::Shared;
 use reg_topic::Item;
+use std::alloc::{AllocError, Global};
 
 /// How many deletes have to be due, at least, before they are many.
 const MANY: u64 = 1_024;
@@ -16,26 +21,27 @@ const PART: u64 = 4;
 pub struct Deletes {
     /// The floor of the kept set.
     pub floor: u64,
-    /// How many records without a value were published since the floor rose, and before the last compaction.
+    /// How many records without a value are there since the floor rose, from before the last compaction. Those that
+    /// the topic began with count from its first compaction on.
     pub due: u64,
-    /// How many since.
+    /// How many since that compaction.
     pub new: u64,
-    /// How many records were published, without those that compactions dropped. Those that the topic began with
-    /// aren't counted.
+    /// How many records the topic began with and were published, without those that compactions dropped.
     pub kept: u64,
 }
 
 impl Deletes {
-    /// What is counted where nothing was published.
-    pub(crate) fn none(floor: u64) -> Deletes
-        ensures { result ≡ no_deletes floor }
+    /// What is counted of what a topic begins with. The only error is out of memory.
+    pub(crate) fn at_first(alloc: Global, shared: &Shared) -> Result<Deletes, AllocError>
+        ensures { IfOk result (λ deletes. deletes ≡ deletes_at_first (base_of shared.now)) }
     {
-        Deletes {
-            floor,
+        let kept = listed(alloc, shared)?;
+        Ok(Deletes {
+            floor: shared.floor(),
             due: 0,
-            new: 0,
-            kept: 0,
-        }
+            new: count_deletes(&kept),
+            kept: kept.len() as u64,
+        })
     }
 
     /// With one item more.
@@ -74,6 +80,17 @@ impl Deletes {
     {
         self.due > MANY && self.due > self.kept / PART
     }
+}
+
+/// Copies of the kept records, each once. The only error is out of memory.
+fn listed(alloc: Global, shared: &Shared) -> Result<Vec<Record>, AllocError>
+    ensures { IfOk result (λ kept. kept.items ≡ records_of shared.now.kept.records) }
+{
+    records_are_ordered();
+    let found = shared.since(0)?;
+    let set = RecordSet::of(alloc, &found)?;
+    let listed = set.records()?;
+    Ok(listed)
 }
 
 /// How many of the records have no value.

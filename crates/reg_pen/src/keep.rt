@@ -1,5 +1,6 @@
 // What keeps batches beside the process.
 ghost use Rattle.std.specs.Prelude.{◌≡◌, List};
+ghost use Rattle.reg_records.specs.declared.log.Log.{Log};
 ghost use Rattle.reg_records.specs.declared.record.Record.{Record};
 ghost use Rattle.reg_pen.specs.Keep.{TakesAll, fault_of};
 ghost use Rattle.reg_pen.specs.declared.keep.Kept.{Kept};
@@ -43,6 +44,10 @@ pub enum Kept {
 pub trait Keep {
     // Its state before, the batch, what became of it, its state after.
     ghost keeps: { Self → List Record → Kept → Self → Type 0 };
+
+    // That it stands at the end of that log: what it keeps is the log, and batches join it there. Of a keep that keeps
+    // nothing this says nothing.
+    ghost stands: { Self → Log → Type 0 } = { λ _ _. Unit {0} };
 
     /// Keeps the batch, all of it or nothing.
     fn keep(&mut self, batch: &[Record]) -> Kept

@@ -4,13 +4,17 @@
 mod compact_error;
 mod deletes;
 mod keep;
+mod kept_log;
 mod open_error;
 mod pass;
 mod pen;
+mod telling;
 mod writing;
 
 pub use compact_error::CompactError;
 pub use keep::{Keep, Kept, Lack, MemoryAlone};
+pub use kept_log::KeptLog;
 pub use open_error::OpenError;
 pub use pass::Pass;
 pub use pen::{Opened, Pen, Submitted, open};
+pub use telling::{Tell, Told};

@@ -11,13 +11,14 @@ ghost use Rattle.reg_topic.specs.Topic.{IsAdopted, MayCommit, MayFollow, after_i
 ghost use Rattle.reg_shared.specs.Held.{base_of, held_of, topic_at};
 ghost use Rattle.reg_pen.specs.Deletes.{floor_due};
 ghost use Rattle.reg_pen.specs.Opening.{IsKeepRefusal, IsOpenRefusal, KeepsDue};
-ghost use Rattle.reg_pen.specs.Pen.{Acts, Compacts, CompactsTo, Follows, IsAhead, IsBehind, IsCompactRefusal, IsNoMemory, IsPen, IsStepAfter, LeavesCompaction, MaySetFloor, Submits, StillPends, batches, counted, settled, with_pending};
+ghost use Rattle.reg_pen.specs.Pen.{Acts, Compacts, CompactsTo, Follows, IsAhead, IsBehind, IsCompactRefusal, IsNoMemory, IsPen, IsStepAfter, IsUnsettled, LeavesCompaction, MaySetFloor, Submits, StillPends, batches, counted, settled, with_pending};
 ghost use Rattle.reg_pen.specs.Pending.{EndsByLimit, IsClear, IsFirst, IsPending, after, batches_in, is_lost, reply_of};
 ghost use Rattle.reg_pen.specs.declared.keep.Kept.{Kept};
 
 use crate::compact_error::CompactError;
 use crate::deletes::Deletes;
 use crate::keep::{Keep, Kept};
+use crate::kept_log::KeptLog;
 use crate::open_error::OpenError;
 use crate::pass::Pass;
 use base_text::Listed;
@@ -26,10 +27,11 @@ use reg_feed::{Copies, FeedName, FeedReader, FeedWriter, NoPlace, Seen, Stored, 
 use reg_fold::{Refusal, Registry, StoreFault};
 use reg_leader::{Command, Decision, Reply, decide};
 use reg_levels::Judged;
-use reg_records::{Log, Record};
+use reg_records::Record;
 use reg_shared::{Shared, kept_gives_registry, published_lists_fold};
 use reg_topic::{
-    Commit, Compaction, Item, adopted_logs_begin, commits_follow, lawful_items_follow,
+    Commit, Compaction, Item, adopted_logs_begin, commits_follow, floors_stay_below,
+    lawful_items_follow,
 };
 use std::alloc::{AllocError, Global};
 use std::marker::Model;
@@ -108,8 +110,8 @@ pub struct Opened<
     pub passes: Vec<Pass<N>>,
 }
 
-/// Opens a pen over a log, which has to be adopted, with that keep, so many passes and places for so
-/// many readers.
+/// Opens a pen over a log, which has to be adopted, with the keep at its end, so many passes and places for
+/// so many readers.
 ///
 /// The topic begins with the log, which isn't lent to the keep, and with the mark of ids that the log
 /// owes, which is: where the keep doesn't take it, no pen is opened. Both are there before anything is
@@ -118,26 +120,27 @@ pub fn open<N: FeedName<Item, Shared>, K: Keep + Drop, R: Wait + Drop>(
     rt: R,
     alloc: Global,
     list: Unnamed<Item>,
-    base: &Log,
-    keep: K,
+    kept: KeptLog<K>,
     passes: u32,
     readers: usize,
 ) -> Result<Opened<N, Stored<Item, Shared, N>, K, R>, OpenError>
-    requires name { (list.reached.book ≡ N.book) × (N.first ≡ held_of (topic_from base.now.records.items base.now.next base.now.floor)) }
+    requires name { (list.reached.book ≡ N.book) × (N.first ≡ held_of (topic_from kept.log.records.items kept.log.next kept.log.floor)) }
     requires readers { (0 < readers) × (readers < 2 ^ 32) }
     ensures begun { IfOk result (λ opened. opened.pen ≡ record { published = []; pending = []; lost = false; keep = opened.pen.keep }) }
-    ensures kept { IfOk result (λ opened. KeepsDue K.keeps keep (owed_by base.now.records.items base.now.next) opened.pen.keep) }
-    ensures place { OnOk result (HasPlace (last_records (from_list base.now.records.items)) base.now.next) }
+    ensures kept { IfOk result (λ opened. KeepsDue K.keeps kept.keep (owed_by kept.log.records.items kept.log.next) opened.pen.keep) }
+    ensures place { OnOk result (HasPlace (last_records (from_list kept.log.records.items)) kept.log.next) }
     ensures adopted { OnOk result (IsAdopted (base_of N.first)) }
     ensures passes { IfOk result (λ opened. map (λ p. p.submits) opened.passes.items ≡ replicate passes 0) }
-    ensures refused { IfErr result (IsOpenRefusal K.keeps base.now.records.items base.now.next keep) }
+    ensures refused { IfErr result (IsOpenRefusal K.keeps kept.log.records.items kept.log.next kept.keep) }
 {
     adopted_logs_begin();
-    let begun = Shared::adopt(alloc, base)?;
+    let KeptLog { log, mut keep } = kept;
+    let begun = Shared::adopt(alloc, &log)?;
+    drop(log);
+    let deletes = Deletes::at_first(alloc, &begun.shared)?;
     let writer = feed::<Item, Shared, N, R>(rt, alloc, list, begun.shared, readers)?;
     let writer = Box::new(alloc, writer)?;
     let passes = new_passes(alloc, passes)?;
-    let mut keep = keep;
     lend_due(&mut keep, &begun.due)?;
     let shared = writer.value();
     let (floor, next) = (shared.floor(), shared.next());
@@ -150,7 +153,7 @@ pub fn open<N: FeedName<Item, Shared>, K: Keep + Drop, R: Wait + Drop>(
         committed: 0,
         floor,
         next,
-        deletes: Deletes::none(floor),
+        deletes,
     };
     Ok(Opened { pen, passes })
 }
@@ -267,9 +270,8 @@ impl<N: FeedName<Item, Shared>, S: Copies<Item, Shared, N>, K: Keep + Drop, R: W
     /// floor.
     ///
     /// A floor that is below that of the kept set, or ahead of the next offset, is refused with nothing
-    /// changed, where what is pending counts already. It is refused too where the keep lost a batch, with
-    /// nothing changed, and where memory is; at most what was pending is then published, and the
-    /// compaction may be pending.
+    /// changed, where what is pending counts already. It is `Lost` where the keep lost a batch, with nothing
+    /// changed. Where memory is refused at most what was pending is published, and the compaction may be pending.
     #[tactic(auto, using(crate::proofs::Prefixes::grown, crate::proofs::Prefixes::prefix_self, crate::proofs::Prefixes::prefix_trans))]
     pub fn compact_to(&mut self, floor: u64) -> Result<(), CompactError>
         ensures compacted { OnOk result (Compacts (base_of N.first) floor self.old self.new) }
@@ -277,19 +279,31 @@ impl<N: FeedName<Item, Shared>, S: Copies<Item, Shared, N>, K: Keep + Drop, R: W
         ensures grows { IsPrefix self.old.published self.new.published }
     {
         self.may_set(floor)?;
+        if is_lost(self.pending) {
+            return Err(CompactError::Lost);
+        }
         if !self.settle() {
-            return Err(CompactError::Unsettled);
+            return Err(CompactError::OutOfMemory);
         }
-        match self.drop_to(floor) {
-            Ok(()) => Ok(()),
-            Err(AllocError) => Err(CompactError::Unsettled),
-        }
+        Ok(self.drop_to(floor)?)
+    }
+
+    /// Compacts as `compact_to` does, to the floor that the kept set has with what is pending, which is never
+    /// refused.
+    pub fn compact(&mut self) -> Result<(), CompactError>
+        ensures compacted { OnOk result (Compacts (base_of N.first) (with_pending (base_of N.first) self.old).kept.floor self.old self.new) }
+        ensures refused { IfErr result (λ error. IsUnsettled (base_of N.first) (with_pending (base_of N.first) self.old).kept.floor self.old error self.new) }
+        ensures grows { IsPrefix self.old.published self.new.published }
+    {
+        floors_stay_below();
+        let floor = self.floor;
+        self.compact_to(floor)
     }
 
     /// Whether the floor may be set once what is pending is published.
     fn may_set(&self, floor: u64) -> Result<(), CompactError>
         ensures may { OnOk result (MaySetFloor (with_pending (base_of N.first) self.now) floor) }
-        ensures refused { IfErr result (λ error. (error ≢ CompactError.Unsettled) × IsCompactRefusal (base_of N.first) floor self.now error self.now) }
+        ensures refused { IfErr result (λ error. IsCompactRefusal (base_of N.first) floor self.now error self.now) }
     {
         if floor < self.floor {
             return Err(CompactError::FloorBelow(self.floor));

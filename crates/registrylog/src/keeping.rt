@@ -6,7 +6,8 @@ use crate::progress::Progress;
 use crate::telling::Telling;
 use reg_inspection::obstacles;
 use reg_journal::{StoredFile, look};
-use reg_records::Log;
+use reg_journal_keep::{FileKeep, Started};
+use reg_pen::{KeptLog, Told};
 use reg_serve::listen;
 use reg_service::{Entrance, Size, StartFault};
 use std::alloc::Global;
@@ -58,8 +59,7 @@ impl<R: Net<Listener = TcpListener, Stream = TcpStream> + Threads + Eprint + Clo
 pub(crate) struct Opened<R: Files<File = File> + Eprint + Drop> {
     pub(crate) path: String,
     pub(crate) lock: File,
-    pub(crate) log: Log,
-    pub(crate) keep: Telling<StoredFile<R>, R>,
+    pub(crate) kept: KeptLog<Told<FileKeep<StoredFile<R>>, Telling<R>>>,
     pub(crate) size: Size,
     pub(crate) door: Door<R>,
 }
@@ -80,18 +80,17 @@ pub(crate) fn open_log<R: Files<File = File> + Eprint + Copy + Drop>(
     progress.has_size(opened.metadata()?.len());
     let disk = StoredFile::new(alloc, rt, path.as_str(), opened)?;
     disk.remove_unfinished()?;
-    let kept = start_log(rt, alloc, disk, path.as_str())?;
-    let bytes = (kept.end() as u64).saturating_add(1);
+    let Started { kept, end, cut: _ } = start_log(rt, alloc, disk, path.as_str())?;
+    let bytes = (end as u64).saturating_add(1);
     progress.has_read(kept.keep().journal().lines(), bytes);
-    let (log, keep) = kept.parts();
-    let mut keep = Telling::new(rt, keep);
-    keep.tell_fault();
+    let mut telling = Telling::new(rt);
+    telling.tell_fault(kept.keep().compaction_fault());
     let door = Door {
         rt,
         alloc,
         place,
-        records: log.records.len() as u64,
-        next: log.next,
+        records: kept.log().records.len() as u64,
+        next: kept.log().next,
         bytes,
         progress: Some(progress),
     };
@@ -103,8 +102,7 @@ pub(crate) fn open_log<R: Files<File = File> + Eprint + Copy + Drop>(
     Ok(Opened {
         path,
         lock,
-        log,
-        keep,
+        kept: kept.telling(telling),
         size,
         door,
     })

@@ -1,4 +1,4 @@
-//! The program `registrylog`: what is done with a registry's log outside of the process that writes it.
+//! The program `registrylog`: a registry whose log is kept in a file, and what is done with such a log.
 //!
 //! `registrylog keep` serves the log of a file, `registrylog tail` writes its lines as they are acknowledged, and
 //! `registrylog follow` serves lines as they come. `registrylog check` writes what a log holds, and `registrylog compact`
@@ -52,19 +52,18 @@ fn main(rt: HostRuntime) -> io::Result<ExitCode> {
                 workers,
             };
             let progress = Progress::begin(rt, alloc, Some(file), quiet)?;
-            match open_log(&rt, alloc, file, place, progress) {
+            match open_log(rt, alloc, file, place, progress) {
                 Ok(opened) => {
                     let Opened {
                         path,
                         lock,
-                        log,
-                        keep,
+                        kept: log,
                         size,
                         mut door,
                     } = opened;
-                    let served = serve_log(&rt, alloc, size, &NoGate, &mut door, log, keep);
+                    let served = serve_log(rt, alloc, size, &NoGate, &mut door, log);
                     drop(lock);
-                    kept(&rt, ended(&rt, alloc, path.as_str(), served))
+                    kept(&rt, ended(rt, alloc, path.as_str(), served))
                 }
                 Err(fault) => kept(&rt, Err(fault)),
             }

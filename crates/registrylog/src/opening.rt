@@ -1,7 +1,7 @@
 // Opening a log's file, under its lock.
 use crate::fault::KeepFault;
 use reg_journal::{DiskError, StoredFile};
-use reg_journal_keep::{KeptLog, start};
+use reg_journal_keep::{NotStarted, Started, start};
 use reg_keeping::{Aside, Opens};
 use std::alloc::Global;
 use std::fs::{File, Files, TryLockError};
@@ -102,7 +102,7 @@ pub(crate) fn start_log<R: Files<File = File> + Eprint + Copy + Drop>(
     alloc: Global,
     disk: StoredFile<R>,
     path: &str,
-) -> Result<KeptLog<StoredFile<R>>, KeepFault> {
+) -> Result<Started<StoredFile<R>>, KeepFault> {
     let cut = CutFile {
         rt,
         alloc,
@@ -122,15 +122,15 @@ pub(crate) fn start_log<R: Files<File = File> + Eprint + Copy + Drop>(
         fault,
     } = opener;
     match started {
-        Ok(kept) => {
-            let count = kept.cut();
+        Ok(started) => {
+            let count = started.cut;
             if count > 0 {
                 let _told = rt.eprintln(format_args!(
                     "{count} bytes behind the log were put into {cut}"
                 ));
             }
-            Ok(kept)
+            Ok(started)
         }
-        Err(error) => Err(fault.unwrap_or(KeepFault::from(error))),
+        Err(NotStarted { disk: _, error }) => Err(fault.unwrap_or(KeepFault::from(error))),
     }
 }

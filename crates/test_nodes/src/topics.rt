@@ -5,7 +5,7 @@ ghost use Rattle.reg_topic.specs.Topic.{topic_from};
 ghost use Rattle.reg_shared.specs.Held.{held_of};
 
 use reg_feed::{Copies, FeedName, FeedReader, Unnamed};
-use reg_pen::{MemoryAlone, Opened, Pass, Pen, open};
+use reg_pen::{KeptLog, MemoryAlone, Opened, Pass, Pen, open};
 use reg_records::{Device, Log, Record, read_log};
 use reg_shared::Shared;
 use reg_topic::Item;
@@ -37,27 +37,20 @@ pub(crate) fn go_through<R: Wait + Drop + Copy, C: Course>(
     course: &mut C,
 ) -> Result<(), Fail> {
     let base = read_log(alloc, &mut Device::new(b"".as_slice()))?;
-    in_topic::<Brand, R, C>(alloc, rt, Unnamed::new(), &base, course)
+    let kept = KeptLog::new(base, MemoryAlone);
+    in_topic::<Brand, R, C>(alloc, rt, Unnamed::new(), kept, course)
 }
 
 fn in_topic<N: FeedName<Item, Shared>, R: Wait + Drop + Copy, C: Course>(
     alloc: Global,
     rt: R,
     list: Unnamed<Item>,
-    base: &Log,
+    kept: KeptLog<MemoryAlone>,
     course: &mut C,
 ) -> Result<(), Fail>
-    requires { (list.reached.book ≡ N.book) × (N.first ≡ held_of (topic_from base.now.records.items base.now.next base.now.floor)) }
+    requires { (list.reached.book ≡ N.book) × (N.first ≡ held_of (topic_from kept.log.records.items kept.log.next kept.log.floor)) }
 {
-    let Opened { pen, mut passes } = open::<N, MemoryAlone, R>(
-        rt,
-        alloc,
-        list,
-        base,
-        MemoryAlone,
-        1,
-        READERS,
-    )?;
+    let Opened { pen, mut passes } = open::<N, MemoryAlone, R>(rt, alloc, list, kept, 1, READERS)?;
     let pen = Mutex::new(pen);
     match passes.pop() {
         Some(pass) => Ok(course.go(alloc, rt, &pen, pass)?),

@@ -7,8 +7,8 @@ ghost use Rattle.reg_shared.specs.Held.{held_of};
 use crate::changes::{Change, command_of};
 use reg_feed::{Copies, FeedName, FeedReader, Seen, Unnamed};
 use reg_leader::{Command, Reply};
-use reg_pen::{Keep, OpenError, Opened, Pass, Pen, Submitted, open};
-use reg_records::{Device, Log, Record, read_log};
+use reg_pen::{Keep, KeptLog, OpenError, Opened, Pass, Pen, Submitted, open};
+use reg_records::{Device, Record, read_log};
 use reg_shared::Shared;
 use reg_topic::Item;
 use std::alloc::{AllocError, Global};
@@ -49,20 +49,20 @@ pub(crate) fn go_through<K: Keep + Drop, R: Wait + Drop + Copy, C: Course<K>>(
     course: &mut C,
 ) -> Result<Option<OpenError>, Fail> {
     let base = read_log(alloc, &mut Device::new(log.as_bytes()))?;
-    Ok(in_topic::<Brand, K, R, C>(alloc, rt, Unnamed::new(), &base, keep, course)?)
+    let kept = KeptLog::new(base, keep);
+    Ok(in_topic::<Brand, K, R, C>(alloc, rt, Unnamed::new(), kept, course)?)
 }
 
 fn in_topic<N: FeedName<Item, Shared>, K: Keep + Drop, R: Wait + Drop + Copy, C: Course<K>>(
     alloc: Global,
     rt: R,
     list: Unnamed<Item>,
-    base: &Log,
-    keep: K,
+    kept: KeptLog<K>,
     course: &mut C,
 ) -> Result<Option<OpenError>, AllocError>
-    requires { (list.reached.book ≡ N.book) × (N.first ≡ held_of (topic_from base.now.records.items base.now.next base.now.floor)) }
+    requires { (list.reached.book ≡ N.book) × (N.first ≡ held_of (topic_from kept.log.records.items kept.log.next kept.log.floor)) }
 {
-    match open::<N, K, R>(rt, alloc, list, base, keep, 1, 1) {
+    match open::<N, K, R>(rt, alloc, list, kept, 1, 1) {
         Ok(opened) => {
             let Opened { pen, mut passes } = opened;
             let Some(pass) = passes.pop() else {

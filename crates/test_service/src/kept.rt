@@ -1,6 +1,6 @@
 // Nodes over a topic that begins with a log, and whose batches are lent to a keep.
 use crate::asking::{ask, body, listen, send, use_up};
-use reg_pen::{Keep, Kept, Lack};
+use reg_pen::{Keep, Kept, KeptLog, Lack};
 use reg_records::{Device, Log, Record, read_log};
 use reg_service::{Listening, NoGate, Size, serve_log};
 use std::alloc::Global;
@@ -171,7 +171,14 @@ fn serve<
                     limit: Some(u64::from(LIMIT)),
                 };
                 let mut entrance = Listening::new(alloc, listeners);
-                serve_log(rt, alloc, size, &NoGate, &mut entrance, base, keep)
+                serve_log(
+                    rt,
+                    alloc,
+                    size,
+                    &NoGate,
+                    &mut entrance,
+                    KeptLog::new(base, keep),
+                )
             });
             let told = visit(alloc, rt, addresses, &lent, &is_let_go);
             is_let_go.store(1, Ordering::SeqCst);

@@ -1,4 +1,4 @@
-use Rattle.std.proofs.Common.{◌≡◌, ◌++◌, ◌∷◌, ◌&&◌, ℕ, List, [], Ok, Err, false, sym, ap, take, arith, ◌∙◌}
+use Rattle.std.proofs.Common.{◌&&◌, ℕ, List, Ok, Err, sym, ap, take, arith, ◌∙◌}
 use Rattle.std.specs.Prelude.{nat_eq}
 use Rattle.reg_records.specs.Floor.{is_floor_line}
 use Rattle.reg_records.specs.Line.{reading_at_front}

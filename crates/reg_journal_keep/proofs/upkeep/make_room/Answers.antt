@@ -1,4 +1,6 @@
-use Rattle.std.proofs.Common.{◌≡◌, Some, arith, false}
+use Rattle.std.proofs.Common.{◌≡◌, ◌≤◌, ◌-◌, ℕ, inl, inr, ⊎_elim, Some, ap, subst, arith, false}
+use Rattle.reg_keeping.specs.CompactedTo.{IsCompactedBy}
+use Rattle.reg_journal_keep.specs.declared.upkeep.Upkeep.{Upkeep}
 use Rattle.reg_journal_keep.proofs.Rooms.{floor_left, lost_by, moments_left, moments_same, room_left, says_same}
 use Rattle.reg_journal_keep.proofs.upkeep.make_room.Goals as goal
 
@@ -103,3 +105,39 @@ returns-in-Err-clause-lost g c modelled sound broken =
     lost_by c.compact_superseded.new.journal.is_broken j.is_broken c.in-Err.error
     (λ goes. (c.in-Err.ensures.refused goes).is_broken) sound (c.in-Err.ensures.changed modelled)
     (c.in-Err.ensures.lost modelled) (c.in-Err.ensures.was_broken modelled) broken
+
+pub returns-in-Ok-clause-tries : goal.returns-in-Ok-clause-tries
+returns-in-Ok-clause-tries g c sound =
+    let d = g.D.Disk in
+    let j = c.args.journal.now in
+    let counts = c.count.ensures in
+    inr (
+      c.waits.ensures.none c.if-waits.false,
+      inl (record {
+        patience = counts.patience;
+        floor = ⊎_elim
+            (λ same. inl same)
+            (λ rises. inr (
+              rises.0,
+              λ modelled.
+                  let many : c.in-Some.least ≤ j.lines - c.in-Ok.kept = omega (arith, rises.1, c.lines-before.ensures) in
+                  subst (λ (n : ℕ). IsCompactedBy (Some n) (d.seen j.disk) (d.seen c.compact_superseded.new.journal.disk)) c.min.ensures
+                  ((c.in-Ok.ensures.many many).compacted modelled),
+            ))
+            counts.floor;
+        fault = counts.fault;
+      }),
+    )
+
+pub returns-in-Err-clause-tries : goal.returns-in-Err-clause-tries
+returns-in-Err-clause-tries g c sound =
+    inr (
+      c.waits.ensures.none c.if-waits.false,
+      inr (record {
+        error = c.in-Err.error;
+        cause = λ failed. c.in-Err.ensures.failed failed;
+        patience = ap (λ (u : Upkeep). u.room.patience) c.fail.ensures;
+        floor = ap (λ (u : Upkeep). u.floor) c.fail.ensures;
+        fault = ap (λ (u : Upkeep). u.fault) c.fail.ensures;
+      }),
+    )

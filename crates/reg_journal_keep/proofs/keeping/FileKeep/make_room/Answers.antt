@@ -17,7 +17,7 @@ returns-clause-room g c =
     let d = g.D.Disk in
     let room = c.make_room.ensures in
     subst (λ (k : KeepState g.row.D.Denot). k.journal.is_broken ≡ false
-    → MakesRoom d.is_modelled d.seen g.D.Renewable.renewals k (state_of c.make_room.new.journal c.make_room.new.upkeep)) c.self.view_is
+    → MakesRoom d.is_modelled d.seen d.faults g.D.Renewable.renewals k (state_of c.make_room.new.journal c.make_room.new.upkeep)) c.self.view_is
     (λ sound. record {
       says = room.says;
       low = room.low;

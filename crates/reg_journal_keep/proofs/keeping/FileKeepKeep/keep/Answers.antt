@@ -12,7 +12,7 @@ use Rattle.reg_journal_keep.specs.Upkeep.{state_of}
 use Rattle.reg_journal_keep.specs.declared.upkeep.Upkeep.{Upkeep}
 use Rattle.reg_journal_keep.proofs.Rooms.{at_any_moment, counts_same, ends_refused, error_of, floor_behind}
 use Rattle.reg_journal_keep.proofs.Rooms.{floor_up, from_floor, leaves_same, reason_of}
-use Rattle.reg_journal_keep.proofs.Rooms.{says_same, sound_of, stays_refused, tries_same}
+use Rattle.reg_journal_keep.proofs.Rooms.{says_same, sound_of, stays_refused}
 use Rattle.reg_journal_keep.proofs.keeping.FileKeepKeep.keep.Goals as goal
 
 pub returns-then-not-can_stand : goal.returns-then-not-can_stand
@@ -95,10 +95,22 @@ returns-in-Ok g c =
           λ modelled goes.
           floor_behind was.floor batch (said (d.seen mid.disk)) (said (d.seen new.disk))
           (c.in-Ok.ensures.acknowledged modelled) (room.low modelled mid_sound);
-      tries = inr (tries_same (state_of old was) (state_of mid has) (state_of new then)
-          (ap (λ (u : Upkeep). u.room.patience) c.append-in-Ok.ensures)
-          (ap (λ (u : Upkeep). u.floor) c.append-in-Ok.ensures)
-          (ap (λ (u : Upkeep). u.fault) c.append-in-Ok.ensures) (room.tries sound));
+      tries = inr (
+        state_of mid has,
+        record {
+          says = room.says;
+          low = room.low;
+          still = room.still;
+          next = room.next;
+          tries = room.tries sound;
+          lost = room.lost;
+        },
+        record {
+          patience = ap (λ (u : Upkeep). u.room.patience) c.append-in-Ok.ensures;
+          floor = ap (λ (u : Upkeep). u.floor) c.append-in-Ok.ensures;
+          fault = ap (λ (u : Upkeep). u.fault) c.append-in-Ok.ensures;
+        },
+      );
     })
 
 pub returns-in-Err : goal.returns-in-Err
@@ -134,7 +146,18 @@ returns-in-Err g c =
           λ modelled.
           stays_refused d.seen was.floor mid new (is_refusal error) c.in-Err.ensures.refused c.in-Err.ensures.then_broken
           (room.low modelled);
-      tries = inr (tries_same (state_of old was) (state_of mid has) (state_of new has) refl refl refl (room.tries sound));
+      tries = inr (
+        state_of mid has,
+        record {
+          says = room.says;
+          low = room.low;
+          still = room.still;
+          next = room.next;
+          tries = room.tries sound;
+          lost = room.lost;
+        },
+        record { patience = refl; floor = refl; fault = refl },
+      );
     } in
     subst (λ (k : KeepState g.row.D.Denot). KeepsFile d.is_modelled d.moment d.left_since d.may_leave d.seen d.faults g.D.Renewable.renewals k batch c.kept_of.result (state_of new has)) c.self.view_is
     (subst (λ (k : Kept). KeepsFile d.is_modelled d.moment d.left_since d.may_leave d.seen d.faults g.D.Renewable.renewals (state_of old was) batch k (state_of new has)) (sym c.kept_of.ensures) kept)

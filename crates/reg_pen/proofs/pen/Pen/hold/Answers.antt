@@ -4,7 +4,7 @@ use Rattle.std.proofs.lemmas.List.Sums.{fold-append}
 use Rattle.reg_topic.specs.declared.published.Item.{Item}
 use Rattle.reg_topic.specs.Topic.{MayFollow, after_items}
 use Rattle.reg_shared.specs.Held.{base_of}
-use Rattle.reg_pen.specs.Deletes.{deletes_after, deletes_of, no_deletes}
+use Rattle.reg_pen.specs.Deletes.{deletes_after, deletes_at_first, deletes_of}
 use Rattle.reg_pen.specs.Pending.{AreOf, after, is_lost}
 use Rattle.reg_pen.specs.declared.deletes.Deletes.{Deletes}
 use Rattle.reg_pen.proofs.Ahead.{are_after_one, ends}
@@ -39,7 +39,7 @@ invariant_of-self g c =
     let counted : c.after-self-inside.result ≡ deletes_of base (xs ++ (s.writer.value.1 ++ c.args.item ∷ [])) =
     c.after-self-inside.ensures
     ∙ (ap (λ (d : Deletes). deletes_after d c.args.item) counts
-    ∙ (sym (fold-append deletes_after (no_deletes base.kept.floor) xs (c.args.item ∷ []))
+    ∙ (sym (fold-append deletes_after (deletes_at_first base) xs (c.args.item ∷ []))
     ∙ ap (λ (ys : List Item). deletes_of base (xs ++ ys)) (sym alone))) in (
       held.0,
       held.1,

@@ -3,11 +3,24 @@ use Rattle.reg_topic.specs.declared.published.Item.{Item}
 use Rattle.reg_shared.specs.Held.{base_of}
 use Rattle.reg_pen.specs.Deletes.{deletes_of}
 use Rattle.reg_pen.specs.Pen.{IsPen, batches}
-use Rattle.reg_topic.specs.Topic.{after_items}
+use Rattle.reg_topic.specs.Topic.{IsLawful, after_items}
 use Rattle.reg_pen.specs.Pending.{AreOf, batches_in}
 use Rattle.reg_pen.proofs.Batches.{batches_length, with_pending}
 use Rattle.reg_pen.proofs.Settling.{all_published as all, handed_over, none_pending, settled_pen}
 use Rattle.reg_pen.proofs.pen.Pen.settle.Goals as goal
+
+pub publish-requires : goal.publish-requires
+publish-requires g c =
+    let xs : List Item = c.self.inside.writer.value.0 in
+    let ys : List Item = c.self.inside.writer.value.1 ++ option_to_list c.self.inside.held in
+    let none : c.hand_over.new.held ≡ None = search rules in
+    let pending : c.hand_over.new.writer.1 ++ option_to_list c.hand_over.new.held ≡ ys = search rules in
+    let handed = handed_over c.hand_over.new.writer.1 ys c.hand_over.new.held pending none in
+    let before : c.deref_mut-2.result.now.0 ≡ xs = search rules in
+    let given : c.deref_mut-2.result.now.1 ≡ c.hand_over.new.writer.1 = search rules in
+    let whole : c.deref_mut-2.result.now.0 ++ c.deref_mut-2.result.now.1 ≡ xs ++ ys = cc (before, given, handed) in
+    let pen = settled_pen c.lawful_items_follow.ensures.go_on (base_of g.N.FeedName.first) xs ys c.self.invariant.0 in
+    record { may = subst (λ (w : List Item). IsLawful (base_of g.N.FeedName.first) w) (sym whole) pen.lawful }
 
 pub with_batch-self-inside-requires : goal.with_batch-self-inside-requires
 with_batch-self-inside-requires g c =
