@@ -1,0 +1,286 @@
+// Avro schemas as trees: how a text is read, what changed between two, and where a clash's trail leads in both.
+// Nothing here touches the page. A schema is taken as the registry accepted it, so its rules aren't checked again.
+
+const PRIMITIVES = new Set(["null", "boolean", "int", "long", "float", "double", "bytes", "string"]);
+const NAMED = new Set(["record", "enum", "fixed"]);
+// What a type or a field says by itself; all else it says is shown and compared as it stands.
+const STRUCTURE = new Set(["type", "name", "namespace", "fields", "items", "values", "symbols", "size", "aliases"]);
+
+// ---- reading
+
+/**
+ * Reads a schema's text. A type has a `kind` (a primitive's name, record, enum, fixed, array, map, union, or use) and the parts of
+ * its kind: `name`, `aliases`, `fields`, `symbols`, `size`, `items`, `values`, `branches`. A use has the `target` that it
+ * names. `said` has what else the text says of it: a list of names and values.
+ */
+export function readSchema(text) {
+  return readType(JSON.parse(text, exactNumber), "", new Map());
+}
+
+/** The same text, laid out on lines. */
+export function layOut(text) {
+  return JSON.stringify(JSON.parse(text, exactNumber), null, 2);
+}
+
+/** Keeps the digits of a number that JavaScript would round, where the browser tells them. */
+function exactNumber(_, value, context) {
+  const rounded = typeof value === "number" && !Number.isSafeInteger(value);
+  return rounded && context?.source && JSON.rawJSON ? JSON.rawJSON(context.source) : value;
+}
+
+function readType(json, namespace, names) {
+  if (typeof json === "string") {
+    if (PRIMITIVES.has(json)) return { kind: json, said: [] };
+    const target = names.get(fullName(json, namespace)) ?? names.get(json);
+    return { kind: "use", name: target?.name ?? json, target, said: [] };
+  }
+  if (Array.isArray(json)) return { kind: "union", branches: json.map((branch) => readType(branch, namespace, names)), said: [] };
+  if (NAMED.has(json.type)) return readNamed(json, namespace, names);
+  const part = (member) => readType(json[member], namespace, names);
+  if (json.type === "array") return { kind: "array", items: part("items"), said: sayings(json) };
+  if (json.type === "map") return { kind: "map", values: part("values"), said: sayings(json) };
+  return { ...part("type"), ...(PRIMITIVES.has(json.type) && { said: sayings(json) }) };
+}
+
+function readNamed(json, outer, names) {
+  const name = fullName(json.name, typeof json.namespace === "string" ? json.namespace : outer);
+  const namespace = name.slice(0, Math.max(name.lastIndexOf("."), 0));
+  const aliases = (json.aliases ?? []).map((alias) => fullName(alias, namespace));
+  const type = { kind: json.type, name, aliases, symbols: json.symbols, size: json.size, said: sayings(json) };
+  names.set(name, type); // before its fields, which may use it
+  type.fields = json.fields?.map((field) => ({
+    name: field.name,
+    aliases: field.aliases ?? [],
+    type: readType(field.type, namespace, names),
+    said: sayings(field),
+  }));
+  return type;
+}
+
+function fullName(name, namespace) {
+  return name.includes(".") || namespace === "" ? name : `${namespace}.${name}`;
+}
+
+function sayings(json) {
+  return Object.entries(json).filter(([member]) => !STRUCTURE.has(member));
+}
+
+// ---- showing
+
+/** A type in a few words. */
+export function label(type) {
+  const part = (inner) => (inner.kind === "union" ? `(${label(inner)})` : label(inner));
+  switch (type.kind) {
+    case "use": return type.name;
+    case "record":
+    case "enum": return `${type.kind} ${type.name}`;
+    case "fixed": return `fixed ${type.name} of ${type.size} bytes`;
+    case "array": return `array of ${part(type.items)}`;
+    case "map": return `map of ${part(type.values)}`;
+    case "union": return type.branches.map(label).join(" | ") || "union of nothing";
+    default: return withLogical(type);
+  }
+}
+
+function withLogical(type) {
+  const logical = type.said.find(([member]) => member === "logicalType")?.[1];
+  return typeof logical === "string" ? `${type.kind} (${logical})` : type.kind;
+}
+
+/** What stands under a type: parts with a `name`, and a `type` unless they are an enum's symbols. */
+export function parts(type) {
+  switch (type.kind) {
+    case "use": return type.target ? parts(type.target) : [];
+    case "record": return type.fields;
+    case "enum": return type.symbols.map((name) => ({ name }));
+    case "array": return [{ name: "items", type: type.items }];
+    case "map": return [{ name: "values", type: type.values }];
+    case "union": return type.branches.map((branch, number) => ({ name: `branch ${number}`, type: branch }));
+    default: return [];
+  }
+}
+
+function meant(type) {
+  return type.kind === "use" ? type.target ?? type : type;
+}
+
+// ---- what changed
+
+/** What changed from one schema to a later one: rows with `sign` (+, -, ~), `where` and `what`, and for ~ `from` and `to`. */
+export function differences(before, after) {
+  const rows = [];
+  const seen = new Map(); // which types were compared with which, so that a type inside itself ends
+  compareTypes("", before, after);
+  return rows;
+
+  function change(where, what, from, to) {
+    if (from !== to) rows.push({ sign: "~", where, what, from, to });
+  }
+
+  function compareTypes(where, before, after) {
+    const [old, young] = [branches(before), branches(after)];
+    if (String(old.map(identity)) !== String(young.map(identity))) change(where, "type", label(before), label(after));
+    for (const [one, other] of pairsOf(old, young)) compareInside(where, one, other);
+  }
+
+  function compareInside(where, before, after) {
+    if (seen.get(after)?.has(before)) return;
+    seen.set(after, (seen.get(after) ?? new Set()).add(before));
+    compareSaid(where, before, after);
+    if (after.kind === "record") compareFields(where, before.fields, after.fields);
+    if (after.kind === "enum") compareSymbols(where, before.symbols, after.symbols);
+    if (after.kind === "fixed") change(where, "size", before.size, after.size);
+    if (after.kind === "array") compareTypes(`${where}[]`, before.items, after.items);
+    if (after.kind === "map") compareTypes(`${where}{}`, before.values, after.values);
+  }
+
+  function compareFields(where, before, after) {
+    const place = (field) => (where ? `${where}.${field.name}` : field.name);
+    const old = new Map(before.map((field) => [field.name, field]));
+    const taken = new Map(after.map((field) => [field, old.get(field.name)]));
+    for (const { name } of after) old.delete(name);
+    for (const field of after) {
+      const alias = taken.get(field) ? undefined : field.aliases.find((name) => old.has(name));
+      if (alias !== undefined) taken.set(field, old.get(alias)) && old.delete(alias);
+    }
+    for (const [field, was] of taken) {
+      if (was) compareField(place(field), was, field);
+      else rows.push({ sign: "+", where: place(field), what: "field", to: inWords(field) });
+    }
+    for (const field of old.values()) rows.push({ sign: "-", where: place(field), what: "field", from: inWords(field) });
+    compareOrder(where, before.filter((field) => !old.has(field.name)), [...taken.values()].filter(Boolean));
+  }
+
+  function compareField(where, before, after) {
+    change(where, "name", before.name, after.name);
+    compareSaid(where, before, after);
+    compareTypes(where, before.type, after.type);
+  }
+
+  function compareOrder(where, before, after) {
+    if (before.some((field, place) => field !== after[place])) change(where, "order of fields", namesOf(before), namesOf(after));
+  }
+
+  function compareSymbols(where, before, after) {
+    const [old, young] = [new Set(before), new Set(after)];
+    for (const to of after) if (!old.has(to)) rows.push({ sign: "+", where, what: "symbol", to });
+    for (const from of before) if (!young.has(from)) rows.push({ sign: "-", where, what: "symbol", from });
+  }
+
+  function compareSaid(where, before, after) {
+    const [old, young] = [new Map(before.said), new Map(after.said)];
+    for (const member of new Set([...old.keys(), ...young.keys()])) {
+      change(where, member, written(old, member), written(young, member));
+    }
+    change(where, "aliases", namesOrNone(before.aliases), namesOrNone(after.aliases));
+  }
+}
+
+function branches(type) {
+  return (type.kind === "union" ? type.branches : [type]).map(meant);
+}
+
+/** What tells a union's branches apart. */
+function identity(type) {
+  return NAMED.has(type.kind) ? `${type.kind} ${type.name}` : type.kind;
+}
+
+/** Pairs types of one identity, and then those that are left of one kind: a record with another name, say. */
+function pairsOf(before, after) {
+  const pairs = [];
+  for (const key of [identity, (type) => type.kind]) {
+    const left = new Map(before.map((type) => [key(type), type]));
+    for (const type of after) {
+      const partner = left.get(key(type));
+      if (partner && left.delete(key(type))) pairs.push([partner, type]);
+    }
+    before = before.filter((type) => !pairs.some(([one]) => one === type));
+    after = after.filter((type) => !pairs.some(([, other]) => other === type));
+  }
+  return pairs;
+}
+
+function inWords(field) {
+  const preset = new Map(field.said);
+  return label(field.type) + (preset.has("default") ? `, default ${written(preset, "default")}` : "");
+}
+
+function written(said, member) {
+  return said.has(member) ? JSON.stringify(said.get(member)) : "none";
+}
+
+function namesOf(fields) {
+  return fields.map((field) => field.name).join(", ");
+}
+
+function namesOrNone(names) {
+  return names?.join(", ") || "none";
+}
+
+// ---- a clash
+
+/** Reads a check's message `version V, DIRECTION, at TRAIL: CLASH`; undefined where it is none. */
+export function readClash(message) {
+  const found = /^version (\d+), (BACKWARD|FORWARD), at (\/\S*): ([A-Z_]+)(?: (\S+))?$/.exec(message);
+  if (!found) return undefined;
+  const [, version, direction, trail, kind, name] = found;
+  return { version: Number(version), newReads: direction === "BACKWARD", hops: trail.split("/").filter(Boolean), kind, name };
+}
+
+/**
+ * Follows a clash's trail through both schemas. `reader` and `writer` are the places among `parts` that lead to the clash,
+ * from the roots down; `why` says in words what clashes there.
+ */
+export function findClash(clash, reader, writer) {
+  const ways = { reader: [], writer: [] };
+  const step = {
+    field: fieldStep,
+    items: () => [0, 0],
+    values: () => [0, 0],
+    reader: (branch) => [Number(branch), null],
+    writer: (branch) => [null, Number(branch)],
+  };
+  for (const [word, rest] of clash.hops.map((hop) => hop.split(":"))) {
+    const [inReader, inWriter] = step[word](rest);
+    reader = into("reader", reader, inReader);
+    writer = into("writer", writer, inWriter);
+  }
+  const named = (type) => parts(type).findIndex((part) => part.name === clash.name);
+  if (clash.kind === "READER_FIELD_MISSING_DEFAULT_VALUE") ways.reader.push(named(reader));
+  if (clash.kind === "MISSING_ENUM_SYMBOLS") ways.writer.push(named(writer));
+  return { ...ways, why: reason(clash, reader, writer) };
+
+  function into(side, type, place) {
+    if (place === null) return type;
+    ways[side].push(place);
+    return parts(type)[place].type;
+  }
+
+  // The writer's field of that name, else of the first alias that it has.
+  function fieldStep(name) {
+    const place = parts(reader).findIndex((part) => part.name === name);
+    const names = [name, ...parts(reader)[place].aliases];
+    const read = names.map((one) => parts(writer).findIndex((part) => part.name === one)).find((one) => one >= 0);
+    return [place, read];
+  }
+}
+
+function reason(clash, reader, writer) {
+  const [reads, writes] = [label(reader), label(writer)];
+  switch (clash.kind) {
+    case "MISSING_UNION_BRANCH":
+      return `The writer may write ${writes}, and no branch of the reader's union takes it.`;
+    case "NAME_MISMATCH":
+      return `The writer's name, ${writer.name}, is neither the reader's, ${reader.name}, nor one of its aliases.`;
+    case "READER_FIELD_MISSING_DEFAULT_VALUE":
+      return `The writer doesn't write the field ${clash.name}, and the reader has no default for it.`;
+    case "MISSING_ENUM_SYMBOLS":
+      return `The writer may write the symbol ${clash.name}, which the reader's enum lacks, and it has no default.`;
+    case "FIXED_SIZE_MISMATCH":
+      return `The writer writes ${meant(writer).size} bytes, and the reader reads ${meant(reader).size}.`;
+    case "TYPE_MISMATCH":
+      return `The writer writes ${writes}, and the reader can't read that as ${reads}.`;
+    default:
+      return clash.kind;
+  }
+}

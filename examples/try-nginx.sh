@@ -1,0 +1,355 @@
+#!/bin/bash
+# Brings up a registry, two followers and nginx with examples/nginx.conf, in a folder of its own and at other ports, and has
+# clients use them over TLS with a password: docs/DEPLOY.md.
+#
+#   try-nginx.sh REGISTRYLOG               curl, Confluent's client for Python, and a client for Go
+#   try-nginx.sh REGISTRYLOG COMMAND ..    that command, which finds in its environment where all is
+#
+# REGISTRYLOG is the program. Where FIRST_LINES is set, the registry begins with the lines of that file; PYTHON may be another
+# Python, with another version of the client. The status is 1 where an answer isn't as it should be. It wants Debian's packages
+# nginx, openssl, apache2-utils, curl, python3-confluent-kafka, python3-requests, golang-go and
+# golang-github-lensesio-schema-registry-dev.
+set -euo pipefail
+
+here=$(dirname "$(readlink -f "${BASH_SOURCE[0]}")")
+program=$(readlink -f "$1")
+shift
+folder=$(mktemp -d)
+front=19443 writer=19481 followers=(19482 19483)
+unset CURL_CA_BUNDLE REQUESTS_CA_BUNDLE
+export FRONT=https://localhost:$front LOGIN=someone:secret CERTIFICATE=$folder/registry.crt
+declare -A processes=()
+wrong=0
+
+# ---- bringing it up
+
+end() {
+    local name
+    for name in "$@"; do
+        kill -9 "${processes[$name]}" 2>/dev/null || true
+        wait "${processes[$name]}" 2>/dev/null || true
+        unset "processes[$name]"
+    done
+}
+
+finish() {
+    [ ! -f "$folder/nginx.pid" ] || kill "$(<"$folder/nginx.pid")" 2>/dev/null || true
+    end "${!processes[@]}"
+    rm -rf "$folder"
+}
+trap finish EXIT
+
+await() {
+    local tries
+    for tries in $(seq 600); do
+        ! curl -s -o "$folder/mode" "http://127.0.0.1:$1/mode" || return 0
+        sleep 0.1
+    done
+    echo "nothing listens at port $1" >&2
+    cat "$folder"/*.err >&2
+    exit 1
+}
+
+start_writer() {
+    "$program" keep --quiet --listen "127.0.0.1:$writer" "$folder/log" 2>>"$folder/writer.err" &
+    processes[writer]=$!
+    await "$writer"
+}
+
+start_follower() {
+    rm -f "$folder/$1.lines"
+    mkfifo "$folder/$1.lines"
+    "$program" tail "$folder/log" >"$folder/$1.lines" 2>>"$folder/tail.err" &
+    processes[tail-$1]=$!
+    "$program" follow --listen "127.0.0.1:$1" <"$folder/$1.lines" 2>>"$folder/follow.err" &
+    processes[follow-$1]=$!
+    await "$1"
+}
+
+start_nginx() {
+    local spool=''
+    for name in client_body proxy fastcgi uwsgi scgi; do spool+="${name}_temp_path $folder/$name; "; done
+    mkdir -p "$folder/share/registry"
+    cp -r "$here/browser" "$folder/share/registry/browser"
+    openssl req -x509 -newkey rsa:2048 -nodes -days 2 -subj /CN=localhost -addext subjectAltName=DNS:localhost \
+        -keyout "$folder/registry.key" -out "$CERTIFICATE" 2>"$folder/openssl.err"
+    htpasswd -nbB "${LOGIN%:*}" "${LOGIN#*:}" >"$folder/registry.users"
+    local log="log_format tried '\$request_method \$request_uri \$status \$upstream_addr'; access_log $folder/asked tried;"
+    sed -e "s#^user .*#user $(id -un);#" -e "s#/run/nginx.pid#$folder/nginx.pid#" -e "s#^http {#http { $log $spool#" \
+        -e "/upstream registry_writer/,/}/ s#127.0.0.1:8081#127.0.0.1:$writer#" \
+        -e "/upstream registry_followers/,/}/ s#127.0.0.1:8081;#127.0.0.1:${followers[0]}; server 127.0.0.1:${followers[1]};#" \
+        -e "s#listen 443 #listen 127.0.0.1:$front #" -e "s#registry.example#localhost#" \
+        -e "s#/etc/nginx/registry#$folder/registry#" -e "s#/usr/local/share#$folder/share#" \
+        "$here/nginx.conf" >"$folder/nginx.conf"
+    nginx -e "$folder/nginx.err" -c "$folder/nginx.conf"
+}
+
+# ---- what is asked
+
+bare=(curl -sS --max-time 60 --cacert "$CERTIFICATE" -o "$folder/body")
+mine=("${bare[@]}" --user "$LOGIN")
+
+# Prints the status and the body.
+ask() {
+    local status
+    status=$("${mine[@]}" -w '%{http_code}' "$@") || true
+    echo "$status $(tr -d '\0' <"$folder/body")"
+}
+
+get() { ask "$FRONT$1"; }
+post() { ask --json "$2" "$FRONT$1"; }
+put() { ask -X PUT --json "$2" "$FRONT$1"; }
+delete() { ask -X DELETE "$FRONT$1"; }
+
+# same WHAT WANTED GOT
+same() {
+    [[ $3 == "$2" ]] || { echo "WRONG $1: wanted $2, got ${3:0:300}"; wrong=$((wrong + 1)); }
+}
+
+# begins WHAT WANTED GOT
+begins() {
+    [[ $3 == "$2"* ]] || { echo "WRONG $1: wanted $2.., got ${3:0:300}"; wrong=$((wrong + 1)); }
+}
+
+# Waits until both followers have what was written: until then a list, a level or a check may be an older one.
+marks=0
+catch_up() {
+    local port tries
+    marks=$((marks + 1))
+    post "/subjects/mark$marks/versions" '{"schema":"\"int\""}' >/dev/null
+    for port in "${followers[@]}"; do
+        for tries in $(seq 600); do
+            [ "$(curl -s "http://127.0.0.1:$port/subjects/mark$marks/versions")" != '[1]' ] || break
+            sleep 0.1
+        done
+    done
+}
+
+# Prints the status of a HEAD, and then its fields.
+head_of() {
+    "${mine[@]}" -I -w '%{http_code}\n' "$FRONT$1"
+    tr -d '\r' <"$folder/body"
+}
+
+# field_of NAME HEAD
+field_of() { sed -n "s/^$1: //p" <<<"$2"; }
+
+try_passwords() {
+    local method client
+    for method in GET HEAD POST PUT DELETE; do
+        client=("${bare[@]}" -w '%{http_code}' -X $method)
+        [ $method != HEAD ] || client+=(-I)
+        same "$method without a password" 401 "$("${client[@]}" "$FRONT/subjects/s/versions")"
+        same "$method with another password" 401 "$("${client[@]}" --user "${LOGIN%:*}:wrong" "$FRONT/subjects/s/versions")"
+    done
+    same "the page without a password" 401 "$("${bare[@]}" -w '%{http_code}' "$FRONT/browser/")"
+    same "no TLS" 400 "$("${bare[@]}" -w '%{http_code}' "http://localhost:$front/mode")"
+}
+
+try_requests() {
+    local int='{"schema":"\"int\""}' long='{"schema":"\"long\""}' text='{"schema":"\"string\""}'
+    local clash='version 2, BACKWARD, at /: TYPE_MISMATCH'
+    same "registering" '200 {"id":1}' "$(post /subjects/s/versions "$int")"
+    same "what was written a moment ago" '200 {"schema":"\"int\""}' "$(get /schemas/ids/1)"
+    same "HTTP/2" 2 "$("${mine[@]}" -w '%{http_version}' "$FRONT/mode")"
+    same "a body in chunks" '200 {"id":2}' \
+        "$(ask --http1.1 -H 'Transfer-Encoding: chunked' --json "$long" "$FRONT/subjects/s/versions")"
+    same "a body without a length by HTTP/2" '200 {"id":2}' \
+        "$(ask -X POST -H 'Content-Type: application/json' -T - "$FRONT/subjects/s/versions" <<<"$long")"
+    same "what may not follow" "409 {\"error_code\":409,\"message\":\"Incompatible with $clash\"}" "$(post /subjects/s/versions "$text")"
+    catch_up
+    same "a check" "200 {\"is_compatible\":false,\"messages\":[\"$clash\"]}" \
+        "$(post '/compatibility/subjects/s/versions?verbose=true' "$text")"
+    same "a refusal of 404" '404 {"error_code":40401,"message":"Subject not found"}' "$(get /subjects/none/versions)"
+    same "looking a schema up" '200 {"subject":"s","version":1,"id":1,"schema":"\"int\""}' "$(post /subjects/s "$int")"
+    same "setting a level" '200 {"compatibility":"FULL"}' "$(put /config/s '{"compatibility":"FULL"}')"
+    same "a subject with a slash" '200 {"id":1}' "$(post /subjects/a%2Fb%20c/versions "$int")"
+    same "its versions" '200 [1]' "$(get /subjects/a%2Fb%20c/versions)"
+    same "deleting" '200 1' "$(delete /subjects/a%2Fb%20c/versions/1)"
+    same "deleting it again" '404 {"error_code":40406,"message":"Version is soft-deleted"}' "$(delete /subjects/a%2Fb%20c/versions/1)"
+    same "the types" '200 ["AVRO"]' "$(get /schemas/types)"
+}
+
+try_sizes() {
+    local doc
+    doc=$(head -c 900000 /dev/zero | tr '\0' x)
+    echo "{\"schema\":\"{\\\"type\\\":\\\"string\\\",\\\"doc\\\":\\\"$doc\\\"}\"}" >"$folder/large"
+    begins "a body of 900,000 bytes" '200 {"id":' "$(post /subjects/large/versions "@$folder/large")"
+    echo "{\"schema\":\"$doc$doc\"}" >"$folder/large"
+    same "a body of 1,800,000 bytes" '413 {"error_code":413,"message":"Payload Too Large"}' \
+        "$(post /subjects/large/versions "@$folder/large")"
+    echo "{\"schema\":\"$doc$doc$doc\"}" >"$folder/large"
+    begins "a body that nginx refuses" 413 "$(post /subjects/large/versions "@$folder/large")"
+}
+
+try_heads() {
+    local path given length
+    catch_up
+    for path in /subjects /schemas/ids/1 /subjects/s/versions/latest /schemas/types /browser/; do
+        get "$path" >/dev/null
+        length=$(stat -c %s "$folder/body")
+        given=$(head_of "$path")
+        same "the status of HEAD $path" 200 "$(head -n 1 <<<"$given")"
+        same "the length of HEAD $path" "$length" "$(field_of content-length "$given")"
+    done
+    same "two HEADs on one connection" '404 200' \
+        "$("${mine[@]}" -I --http1.1 -o "$folder/body" -w '%{http_code}\n' "$FRONT/subjects/none/versions" "$FRONT/mode" | paste -sd ' ')"
+}
+
+try_browsers() {
+    local given text='{"schema":"\"string\""}'
+    given=$(head_of /browser/page.js)
+    begins "the policy" "default-src 'self'; " "$(field_of content-security-policy "$given")"
+    same "the script's type" application/javascript "$(field_of content-type "$given")"
+    same "the way to the page" /browser/ "$(field_of location "$(head_of /)")"
+    begins "a command from another site's page" 403 \
+        "$(ask -H 'Sec-Fetch-Site: cross-site' --json "$text" "$FRONT/subjects/foreign/versions")"
+    begins "a check from another site's page" 403 \
+        "$(ask -H 'Sec-Fetch-Site: same-site' -X POST "$FRONT/compatibility/subjects/s/versions")"
+    begins "a command from this site's page" '200 {"id":' \
+        "$(ask -H 'Sec-Fetch-Site: same-origin' --json "$text" "$FRONT/subjects/own/versions")"
+    begins "a link on another site's page" 200 "$(ask -H 'Sec-Fetch-Site: cross-site' "$FRONT/mode")"
+}
+
+# Twenty times a schema is read, and each time it is there.
+read_often() {
+    local round
+    for round in $(seq 20); do
+        same "reading $1" '200 {"schema":"\"int\""}' "$(get /schemas/ids/1)"
+    done
+}
+
+try_failures() {
+    local port text='{"schema":"\"bytes\""}'
+    end "follow-${followers[0]}" "tail-${followers[0]}"
+    read_often "without a follower"
+    end "follow-${followers[1]}" "tail-${followers[1]}"
+    read_often "without any follower"
+    for port in "${followers[@]}"; do start_follower "$port"; done
+    sleep 12 # nginx leaves a server alone for ten seconds
+    read_often "with new followers"
+    end writer
+    read_often "without the writer"
+    begins "a command without the writer" 502 "$(post /subjects/late/versions "$text")"
+    start_writer
+    begins "a command to the new writer" '200 {"id":' "$(post /subjects/late/versions "$text")"
+}
+
+# Each command went to the writer, once; and followers were asked.
+try_ways() {
+    local commands='^(PUT|DELETE|POST /subjects/[^/ ]+/versions) '
+    sleep 0.5
+    same "commands that went elsewhere" '' \
+        "$(grep -E "$commands" "$folder/asked" | grep -vE ' (401|403|413) -$' | grep -v " 127.0.0.1:$writer\$" || true)"
+    for port in "${followers[@]}"; do
+        grep -q "^GET .* 200 127.0.0.1:$port\$" "$folder/asked" || same "reads at the follower $port" some none
+    done
+}
+
+# ---- other clients
+
+try_python() {
+    "${PYTHON:-/usr/bin/python3}" - <<'END' || wrong=$((wrong + 1))
+import os, time
+from confluent_kafka.schema_registry import Schema, SchemaRegistryClient
+from confluent_kafka.schema_registry.error import SchemaRegistryError
+
+def until(holds):
+    """An answer may come from a follower that hasn't read the last lines yet."""
+    for _ in range(300):
+        if holds():
+            return
+        time.sleep(0.1)
+    raise AssertionError("it doesn't hold")
+
+place = {"url": os.environ["FRONT"], "basic.auth.user.info": os.environ["LOGIN"], "ssl.ca.location": os.environ["CERTIFICATE"]}
+client, fresh = SchemaRegistryClient(place), SchemaRegistryClient(place)
+one, two = [Schema('{"type":"record","name":"P","fields":[{"name":"a","type":"%s"}]}' % name, "AVRO") for name in ("int", "long")]
+first = client.register_schema("python", one)
+second = client.register_schema("python", two)
+assert first != second and client.register_schema("python", one) == first
+until(lambda: "python" in client.get_subjects())
+until(lambda: client.get_versions("python") == [1, 2])
+assert '"long"' in fresh.get_schema(second).schema_str
+assert fresh.lookup_schema("python", one).version == 1
+until(lambda: fresh.get_latest_version("python").version == 2)
+assert fresh.get_version("python", 1).schema_id == first
+fresh.set_compatibility("python", "FULL")
+until(lambda: fresh.get_compatibility("python") == "FULL")
+until(lambda: not fresh.test_compatibility("python", one))
+try:
+    fresh.register_schema("python", Schema('"string"', "AVRO"))
+    raise AssertionError("registered")
+except SchemaRegistryError as error:
+    assert (error.http_status_code, error.error_code) == (409, 409), error
+assert fresh.delete_version("python", 1) == 1
+assert fresh.delete_subject("python") == [2]
+print("Confluent's client for Python: ok")
+END
+}
+
+try_go() {
+    cat >"$folder/client.go" <<'END'
+package main
+
+import (
+	"log"
+	"os"
+	"strings"
+	"time"
+
+	registry "github.com/lensesio/schema-registry"
+)
+
+func must(what string, err error, holds bool) {
+	if err != nil || !holds {
+		log.Fatal("WRONG ", what, ": ", err)
+	}
+}
+
+func main() {
+	client, err := registry.NewClient(strings.Replace(os.Getenv("FRONT"), "://", "://"+os.Getenv("LOGIN")+"@", 1))
+	must("client", err, true)
+	id, err := client.RegisterNewSchema("go", `{"type":"enum","name":"G","symbols":["A"]}`)
+	must("registering, with a body of no length", err, id > 0)
+	text, err := client.GetSchemaById(id)
+	must("reading", err, strings.Contains(text, `"A"`))
+	found, schema, err := client.IsRegistered("go", text)
+	must("looking up", err, found && schema.Id == id && schema.Version == 1)
+	found, _, err = client.IsRegistered("go", `"int"`)
+	must("looking up another", err, !found)
+	subjects, err := client.Subjects()
+	// A list may come from a follower that hasn't read the last lines yet.
+	for tries := 0; err == nil && tries < 300 && !strings.Contains(strings.Join(subjects, " "), "go"); tries++ {
+		time.Sleep(100 * time.Millisecond)
+		subjects, err = client.Subjects()
+	}
+	must("subjects", err, strings.Contains(strings.Join(subjects, " "), "go"))
+	versions, err := client.Versions("go")
+	must("versions", err, len(versions) == 1 && versions[0] == 1)
+	latest, err := client.GetLatestSchema("go")
+	must("latest", err, latest.Version == 1 && latest.Id == id)
+	log.Print("the client for Go: ok")
+}
+END
+    (cd "$folder" && SSL_CERT_FILE=$CERTIFICATE GO111MODULE=off GOPATH=/usr/share/gocode GOCACHE=$folder/go go run client.go) ||
+        wrong=$((wrong + 1))
+}
+
+[ -z "${FIRST_LINES:-}" ] || { cat "$FIRST_LINES" && echo; } >"$folder/log"
+start_writer
+for port in "${followers[@]}"; do start_follower "$port"; done
+start_nginx
+if [ $# -gt 0 ]; then
+    "$@"
+    exit
+fi
+for part in passwords requests sizes heads browsers; do
+    "try_$part"
+    echo "$part: done"
+done
+try_python
+try_go
+try_failures
+try_ways
+[ "$wrong" = 0 ] && echo "all as it should be" || { echo "$wrong wrong"; exit 1; }
