@@ -71,10 +71,10 @@ class Follower:
 
 def nginx():
     text = open(f"{HERE}/../../examples/nginx.conf").read()
-    text = text.replace("server 127.0.0.1:8081;", f"server 127.0.0.1:{WRITER};")
-    text = re.sub(r"        server 10\.0\.0\.2:8082;\n        server 10\.0\.0\.3:8082;\n", "".join(f"        server 127.0.0.1:{p};\n" for p in FOLLOWERS), text)
-    text = text.replace("listen 443 ssl;", f"listen 127.0.0.1:{FRONT};")
-    text = re.sub(r"        (ssl_certificate|ssl_certificate_key|auth_basic|auth_basic_user_file) .*\n", "", text)
+    text = text.replace("server 127.0.0.1:8081;", f"server 127.0.0.1:{WRITER};", 1)
+    text = text.replace("server 127.0.0.1:8081;", "".join(f"server 127.0.0.1:{p}; " for p in FOLLOWERS), 1)
+    text = text.replace("listen 443 ssl http2;", f"listen 127.0.0.1:{FRONT};")
+    text = re.sub(r" *(ssl_certificate|ssl_certificate_key|ssl_protocols|auth_basic|auth_basic_user_file|user|pid) .*\n", "", text)
     text = text.replace("http {", f"http {{\n    access_log off;\n    client_body_temp_path {FOLDER}/body;\n    proxy_temp_path {FOLDER}/proxy;\n    fastcgi_temp_path {FOLDER}/f;\n    uwsgi_temp_path {FOLDER}/u;\n    scgi_temp_path {FOLDER}/s;", 1)
     with open(f"{FOLDER}/nginx.conf", "w") as it:
         it.write(f"daemon off;\npid {FOLDER}/nginx.pid;\nerror_log {FOLDER}/nginx.err;\nuser root;\n" + text)

@@ -5,12 +5,14 @@ refuses allocations and shortens the calls of sockets, and starts `PROGRAM serve
            take 1 to 7 bytes at a time and are interrupted
 `memory`   four clients register and look up while one allocation in so many is refused; then none is, and all that was
            acknowledged has to be there
-`fold`     each allocation of `PROGRAM fold` over a stored run is refused in turn
+`fold`     each allocation of `PROGRAM fold` over three runs, of registrations and of imports among them, is refused in turn
+`pipelined` each allocation of a node is refused in turn while one client sends commands and long lookups at once: each response that
+           comes is whole, and each command whose response doesn't come, or says that memory was refused, did nothing
 
 Each ends with status 1 where an answer isn't right."""
 import http.client, json, mmap, os, random, select, socket, struct, subprocess, sys, tempfile, threading, time
 
-PROGRAM, NAMES = sys.argv[1], sys.argv[2:] or ["pieces", "memory", "fold"]
+PROGRAM, NAMES = sys.argv[1], sys.argv[2:] or ["pieces", "memory", "fold", "pipelined"]
 HERE, PORT = os.path.dirname(os.path.abspath(__file__)), 19600
 FOLDER = tempfile.mkdtemp()
 SHIM, STEER = FOLDER + "/faults.so", FOLDER + "/steer"
@@ -250,58 +252,203 @@ def memory():
         node.stop()
 
 
-LINES = (b'1\t{"keytype":"SCHEMA","subject":"s","version":1,"magic":1}\t{"subject":"s","version":1,"id":1,"schema":"\\"int\\"","deleted":false}\n'
-         b'2\t{"keytype":"CONFIG","subject":null,"magic":0}\t{"compatibilityLevel":"NONE"}\n\n')
-RUN = [("GET", "/subjects", None), ("POST", "/subjects/s/versions", {"schema": '"long"'}), ("GET", "/subjects/s/versions", None),
-       ("POST", "/subjects/t/versions", {"schema": text(3)}), ("DELETE", "/subjects/s", None), ("GET", "/schemas/ids/1", None),
-       ("PUT", "/mode", {"mode": "READONLY"}), ("POST", "/subjects/u/versions", {"schema": '"int"'})]
+def line(offset, key, value):
+    compact = lambda data: json.dumps(data, separators=(",", ":")).encode()
+    return b"%d\t%s\t%s\n" % (offset, compact(key), compact(value))
+
+
+def version(offset, subject, number, id, schema):
+    return line(offset, {"keytype": "SCHEMA", "subject": subject, "version": number, "magic": 1},
+                {"subject": subject, "version": number, "id": id, "schema": schema, "deleted": False})
+
+
+def level(offset, name):
+    return line(offset, {"keytype": "CONFIG", "subject": None, "magic": 0}, {"compatibilityLevel": name})
+
+
+def record(*fields):
+    return json.dumps({"type": "record", "name": "R", "fields": fields}, separators=(",", ":"))
+
+
+A, B = {"name": "a", "type": "int"}, {"name": "b", "type": "int"}
+
+# Of each run its name, the lines of its log, and its requests: method, path and body.
+RUNS = [
+    ("a little of each", version(1, "s", 1, 1, '"int"') + level(2, "NONE"),
+     [("GET", "/subjects", None), ("POST", "/subjects/s/versions", {"schema": '"long"'}), ("GET", "/subjects/s/versions", None),
+      ("POST", "/subjects/t/versions", {"schema": text(3)}), ("DELETE", "/subjects/s", None), ("GET", "/schemas/ids/1", None),
+      ("PUT", "/mode", {"mode": "READONLY"}), ("POST", "/subjects/u/versions", {"schema": '"int"'})]),
+    ("registrations", version(1, "s", 1, 1, record(A)) + level(2, "FULL"),
+     [("POST", "/subjects/s/versions", {"schema": record(A, B)}),
+      ("POST", "/subjects/s/versions", {"schema": record(A, dict(B, default=0))}), ("GET", "/subjects/s/versions/2", None)]),
+    ("imports", b"",
+     [("PUT", "/mode", {"mode": "IMPORT"}), ("POST", "/subjects/s/versions", {"schema": '"int"', "id": 7}),
+      ("POST", "/subjects/s/versions", {"schema": '"long"', "id": 7}), ("POST", "/subjects/s/versions", {"schema": '"long"'}),
+      ("POST", "/subjects/s/versions", {"schema": '"long"', "id": 2147483647}), ("PUT", "/mode", {"mode": "READWRITE"}),
+      ("POST", "/subjects/t/versions", {"schema": '"bytes"'}), ("GET", "/subjects/s/versions", None)]),
+]
+
+NO_MEMORY = (b"HTTP/1.1 500 Internal Server Error\r\nContent-Type: application/vnd.schemaregistry.v1+json\r\nContent-Length: 52\r\n\r\n"
+             b'{"error_code":50001,"message":"Store error: memory"}')
+
+
+def bytes_of(request):
+    method, path, body = request
+    body = b"" if body is None else json.dumps(body).encode()
+    kind = b"Content-Type: application/json\r\n" if body else b""
+    return b"%s %s HTTP/1.1\r\nHost: a\r\n%sContent-Length: %d\r\n\r\n" % (method.encode(), path.encode(), kind, len(body)) + body
+
+
+def folded(log, requests, at=0):
+    """A fold in which the allocation of that number alone is refused."""
+    shared[8:16] = struct.pack("Q", 0)
+    steer(only=at)
+    done = subprocess.run([PROGRAM, "fold"], input=log + b"\n" + b"".join(map(bytes_of, requests)), capture_output=True, timeout=60,
+                          env=dict(os.environ, LD_PRELOAD=SHIM, FAULTS=STEER))
+    steer()
+    return done
+
+
+def responses(out):
+    """The responses in a text; None where it isn't made of whole ones."""
+    found = []
+    while out:
+        head, sep, rest = out.partition(b"\r\n\r\n")
+        length = [int(l.split(b":")[1]) for l in head.lower().split(b"\r\n") if l.startswith(b"content-length")]
+        if not sep or not length or len(rest) < length[0]:
+            return None
+        found.append(head + sep + rest[:length[0]])
+        out = rest[length[0]:]
+    return found
 
 
 def fold():
-    data = LINES
-    for method, path, body in RUN:
+    """Nothing is written and the fold ends with OutOfMemory, or one request is answered 50001 `memory` and the others as if it
+    hadn't been sent, or all are answered as ever."""
+    for name, log, requests in RUNS:
+        whole = responses(folded(log, requests).stdout)
+        total = allocations()
+        if whole is None or len(whole) != len(requests) or NO_MEMORY in whole:
+            bad((name, whole))
+            continue
+        without = [responses(folded(log, requests[:k] + requests[k + 1:]).stdout) for k in range(len(requests))]
+        ended = told = 0
+        for at in range(1, total + 1):
+            done = folded(log, requests, at)
+            got = responses(done.stdout)
+            if done.returncode:
+                ended += 1
+                if done.returncode != 1 or done.stdout or b"OutOfMemory" not in done.stderr:
+                    bad((name, at, done.returncode, done.stderr[:80], done.stdout[:80]))
+            elif got is not None and NO_MEMORY in got:
+                told += 1
+                k = got.index(NO_MEMORY)
+                if got[:k] + got[k + 1:] != without[k]:
+                    bad((name, at, k, got))
+            elif got != whole:
+                bad((name, at, done.stdout[-100:]))
+        print("fold of %s: %d allocations, each refused in turn: %d ended with OutOfMemory, %d were answered 50001 memory, with the command undone"
+              % (name, total, ended, told))
+
+
+# A schema of some 30,000 bytes, so that a few answers with it are more than what a worker gathers.
+LONG = json.dumps({"type": "enum", "name": "Long", "symbols": ["S%05d" % n for n in range(3000)]}, separators=(",", ":"))
+
+
+def run_of(turn):
+    """The requests of one run: method, path, body and, of a command, the subject that it is about and whether that is there after it."""
+    a, b = "p%da" % turn, "p%db" % turn
+    long = ("GET", "/subjects/long/versions/1", None, None, None)
+    return [long, ("POST", "/subjects/%s/versions" % a, {"schema": text(1)}, a, True), long, long, long,
+            ("GET", "/subjects/%s/versions" % a, None, None, None), ("POST", "/subjects/%s/versions" % b, {"schema": text(2)}, b, True), long, long,
+            ("DELETE", "/subjects/%s" % a, None, a, False), ("POST", "/subjects/long", {"schema": LONG}, None, None),
+            ("PUT", "/config/%s" % b, {"compatibility": "FULL"}, None, None), long]
+
+
+def exchange(port, run, small):
+    """The whole responses that come to requests which are sent at once, and what stands behind them."""
+    data = b""
+    for at, (method, path, body, _, _) in enumerate(run):
         body = b"" if body is None else json.dumps(body).encode()
-        data += b"%s %s HTTP/1.1\r\nHost: a\r\nContent-Length: %d\r\n\r\n" % (method.encode(), path.encode(), len(body)) + body
-    memory_answer = (b'HTTP/1.1 500 Internal Server Error\r\nContent-Type: application/vnd.schemaregistry.v1+json\r\nContent-Length: 52\r\n\r\n'
-                     b'{"error_code":50001,"message":"Store error: memory"}')
+        last = b"Connection: close\r\n" if at + 1 == len(run) else b""
+        data += b"%s %s HTTP/1.1\r\nHost: a\r\n%sContent-Length: %d\r\n\r\n" % (method.encode(), path.encode(), last, len(body)) + body
+    s = socket.socket()
+    if small:
+        s.setsockopt(socket.SOL_SOCKET, socket.SO_RCVBUF, 4096)
+    s.settimeout(30)
+    come = b""
+    try:
+        s.connect(("127.0.0.1", port))
+        s.sendall(data)
+        if small:
+            time.sleep(0.02)
+        while True:
+            piece = s.recv(65536)
+            if not piece:
+                break
+            come += piece
+    except ConnectionError:
+        pass
+    s.close()
+    found = []
+    while come:
+        head, sep, rest = come.partition(b"\r\n\r\n")
+        length = [int(l.split(b":")[1]) for l in head.lower().split(b"\r\n") if l.startswith(b"content-length")]
+        if not sep or not length or len(rest) < length[0]:
+            break
+        found.append((int(head.split()[1]), json.loads(rest[:length[0]])))
+        come = rest[length[0]:]
+    return found, come
 
-    def run(at):
-        """Refuses the allocation of that number alone."""
+
+def is_there(c, subject):
+    return ask(c, "GET", "/subjects/%s/versions" % subject)[0] == 200
+
+
+def pipelined():
+    for small in (False, True):
+        node = Node(workers=2)
+        c = http.client.HTTPConnection("127.0.0.1", node.port, timeout=30)
+        if ask(c, "POST", "/subjects/long/versions", {"schema": LONG})[0] != 200:
+            bad("registering the long schema")
+        first = run_of(0)
         shared[8:16] = struct.pack("Q", 0)
-        steer(only=at)
-        p = subprocess.run([PROGRAM, "fold"], input=data, capture_output=True, timeout=60,
-                           env=dict(os.environ, LD_PRELOAD=SHIM, FAULTS=STEER))
-        steer()
-        return p
-
-    def parts(out):
-        found = []
-        while out:
-            head, sep, rest = out.partition(b"\r\n\r\n")
-            length = [int(l.split(b":")[1]) for l in head.lower().split(b"\r\n") if l.startswith(b"content-length")]
-            if not sep or not length:
-                return None
-            found.append(head + sep + rest[:length[0]])
-            out = rest[length[0]:]
-        return found
-
-    whole = run(0)
-    total = allocations()
-    if whole.returncode or len(parts(whole.stdout)) != len(RUN):
-        bad(("fold", whole))
-    ended = memory_told = 0
-    for at in range(1, total + 1):
-        p = run(at)
-        got = parts(p.stdout)
-        if p.returncode:
-            ended += 1
-            if p.stdout or b"OutOfMemory" not in p.stderr:
-                bad((at, p.returncode, p.stderr[:80], p.stdout[:80]))
-        elif got is None or len(got) != len(RUN):
-            bad((at, p.stdout[-100:]))
-        else:
-            memory_told += memory_answer in got
-    print("fold of a stored run: %d allocations, each refused in turn: %d ended with OutOfMemory, %d answered 50001 memory" % (total, ended, memory_told))
+        found, rest = exchange(node.port, first, small)
+        if len(found) != len(first) or rest or any(status != 200 for status, _ in found):
+            bad(("without a refusal", [status for status, _ in found], rest[:80]))
+        # Other threads of the node take memory meanwhile, so a run more or less may be short of the last one.
+        total, closed, told = allocations() * 5 // 4, 0, 0
+        for turn in range(1, total + 1):
+            run = run_of(turn)
+            shared[8:16] = struct.pack("Q", 0)
+            steer(only=turn)
+            found, rest = exchange(node.port, run, small)
+            steer()
+            if rest:
+                bad((turn, "a response is cut", rest[:80]))
+            closed += len(found) < len(run)
+            # A command of the client's own, so that its later answers are fresh.
+            for _ in range(3):
+                if ask(c, "PUT", "/config/fresh", {"compatibility": "FULL"})[0] == 200:
+                    break
+            known = {}
+            for at, (_, _, _, subject, there) in enumerate(run):
+                if subject is None:
+                    continue
+                answer = found[at] if at < len(found) else None
+                if answer is not None and answer[0] == 200:
+                    known[subject] = there
+                elif answer is not None and "memory" not in answer[1].get("message", "") and answer[0] == 500:
+                    known[subject] = None
+                else:
+                    told += answer is not None
+                    known.setdefault(subject, False)
+            for subject, there in known.items():
+                if there is not None and is_there(c, subject) != there:
+                    bad((turn, subject, there, len(found), [status for status, _ in found]))
+        print("a pipelined run%s: %d allocations, each refused in turn: %d connections closed early, %d commands told of it"
+              % (" that is read late" if small else "", total, closed, told))
+        node.stop()
 
 
 for name in NAMES:
