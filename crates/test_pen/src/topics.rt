@@ -8,7 +8,7 @@ use crate::changes::{Change, command_of};
 use reg_feed::{Copies, FeedName, FeedReader, Seen, Unnamed};
 use reg_leader::{Command, Reply};
 use reg_pen::{Keep, KeptLog, OpenError, Opened, Pass, Pen, Submitted, open};
-use reg_records::{Device, Record, read_log};
+use reg_records::{Device, Log, Record, read_log};
 use reg_shared::Shared;
 use reg_topic::Item;
 use std::alloc::{AllocError, Global};
@@ -40,16 +40,18 @@ pub(crate) trait Course<K: Keep + Drop> {
         requires { N.first.kept.floor ≤ N.first.next };
 }
 
-/// Does it over the log, with that keep; or gives why no pen is opened.
+/// The log of these lines.
+pub(crate) fn log_of(alloc: Global, lines: &str) -> Result<Log, Fail> {
+    Ok(read_log(alloc, &mut Device::new(lines.as_bytes()))?)
+}
+
+/// Does it over the log and its keep; or gives why no pen is opened.
 pub(crate) fn go_through<K: Keep + Drop, R: Wait + Drop + Copy, C: Course<K>>(
     alloc: Global,
     rt: R,
-    log: &str,
-    keep: K,
+    kept: KeptLog<K>,
     course: &mut C,
 ) -> Result<Option<OpenError>, Fail> {
-    let base = read_log(alloc, &mut Device::new(log.as_bytes()))?;
-    let kept = KeptLog::new(base, keep);
     Ok(in_topic::<Brand, K, R, C>(alloc, rt, Unnamed::new(), kept, course)?)
 }
 

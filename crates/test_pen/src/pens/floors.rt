@@ -1,8 +1,8 @@
 // Compactions of a topic to a floor.
 use crate::changes::Change;
-use crate::topics::{Course, Writing, go_through, keeps_offsets, submit_all};
+use crate::topics::{Course, Writing, go_through, keeps_offsets, log_of, submit_all};
 use reg_feed::{Copies, FeedName};
-use reg_pen::{CompactError, MemoryAlone, Pen};
+use reg_pen::{CompactError, KeptLog, MemoryAlone, Pen};
 use reg_shared::Shared;
 use reg_topic::Item;
 use std::alloc::{AllocError, Global};
@@ -84,7 +84,8 @@ fn row_holds<N: FeedName<Item, Shared>, S: Copies<Item, Shared, N>, R: Wait + Dr
 fn compactions_forget_deletes_below_the_floor(rt: HostRuntime) -> Result<(), Fail> {
     for (log, rows) in [("", ROWS.as_slice()), ("floor\t7\n", LATER.as_slice())] {
         let mut course = Compactions { rows, wrong: None };
-        let refused = go_through(rt.alloc(), &rt, log, MemoryAlone, &mut course)?;
+        let kept = KeptLog::new(log_of(rt.alloc(), log)?, MemoryAlone);
+        let refused = go_through(rt.alloc(), &rt, kept, &mut course)?;
         assert_eq!(rt; (refused, course.wrong), (None, None));
     }
     Ok(())

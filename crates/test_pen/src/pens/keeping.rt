@@ -1,10 +1,10 @@
 // A pen whose keep doesn't take each batch.
-use crate::topics::{Course, Writing, go_through, keeps_offsets, submit};
+use crate::topics::{Course, Writing, go_through, keeps_offsets, log_of, submit};
 use reg_feed::{Copies, FeedName};
 use reg_http::reply_answer;
 use reg_leader::{Command, Reply};
 use reg_level_names::Level;
-use reg_pen::{Keep, Kept, Lack, OpenError};
+use reg_pen::{Keep, Kept, KeptLog, Lack, OpenError};
 use reg_records::Record;
 use reg_shared::Shared;
 use reg_topic::Item;
@@ -161,7 +161,8 @@ fn outcome_of<R: Wait + Drop + Copy>(
     lent: u64,
 ) -> Result<Result<bool, OpenError>, Fail> {
     let mut changes = Changes { row, holds: false };
-    let refused = go_through(alloc, rt, row.log, Turning { lent }, &mut changes)?;
+    let kept = KeptLog::new(log_of(alloc, row.log)?, Turning { lent });
+    let refused = go_through(alloc, rt, kept, &mut changes)?;
     match refused {
         Some(error) => Ok(Err(error)),
         None => Ok(Ok(changes.holds)),

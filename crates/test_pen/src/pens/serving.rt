@@ -1,11 +1,11 @@
 // A pen behind the HTTP front.
-use crate::topics::{Course, Writing, go_through, keeps_offsets, submit};
+use crate::topics::{Course, Writing, go_through, keeps_offsets, log_of, submit};
 use base_text::Text;
 use reg_feed::{Copies, FeedName};
 use reg_http::{Desk, serve};
 use reg_leader::{Command, Reply};
 use reg_lookup::{Answer, Query};
-use reg_pen::{Keep, Kept, MemoryAlone};
+use reg_pen::{Keep, Kept, KeptLog, MemoryAlone};
 use reg_records::{Device, Record};
 use reg_shared::Shared;
 use reg_topic::Item;
@@ -109,7 +109,7 @@ fn is_twice(written: &[u8], once: &[u8]) -> bool {
 fn row_holds<K: Keep + Drop, R: Wait + Drop + Copy>(
     alloc: Global,
     rt: R,
-    keep: K,
+    kept: KeptLog<K>,
     once: &str,
     offsets: &[u64],
 ) -> Result<bool, Fail> {
@@ -119,13 +119,15 @@ fn row_holds<K: Keep + Drop, R: Wait + Drop + Copy>(
         is_written: false,
         keeps: false,
     };
-    let refused = go_through(alloc, rt, "", keep, &mut course)?;
+    let refused = go_through(alloc, rt, kept, &mut course)?;
     Ok(refused.is_none() && course.is_written && course.keeps)
 }
 
 #[test]
 fn a_batch_that_is_held_up_is_reported_by_each_response(rt: HostRuntime) -> Result<(), Fail> {
-    assert!(rt; row_holds(rt.alloc(), &rt, MemoryAlone, DONE, &[0])?);
-    assert!(rt; row_holds(rt.alloc(), &rt, Losing, HELD_UP, &[])?);
+    let taking = KeptLog::new(log_of(rt.alloc(), "")?, MemoryAlone);
+    assert!(rt; row_holds(rt.alloc(), &rt, taking, DONE, &[0])?);
+    let losing = KeptLog::new(log_of(rt.alloc(), "")?, Losing);
+    assert!(rt; row_holds(rt.alloc(), &rt, losing, HELD_UP, &[])?);
     Ok(())
 }

@@ -3,13 +3,13 @@ ghost use Rattle.std.specs.Prelude.{◌≡◌, ◌≤◌, [], IfOk};
 ghost use Rattle.std.specs.FinSet.{empty};
 
 use crate::changes::{Change, command_of};
-use crate::topics::{Course, Writing, go_through, submit_all};
+use crate::topics::{Course, Writing, go_through, log_of, submit_all};
 use reg_feed::{Copies, FeedName, FeedWriter, Stored, Unnamed, feed};
 use reg_judge::Judge;
 use reg_leader::Command;
 use reg_levels::Judged;
 use reg_node::{Case, Draw, Follower, Taken};
-use reg_pen::{MemoryAlone, Pen};
+use reg_pen::{KeptLog, MemoryAlone, Pen};
 use reg_shared::Shared;
 use reg_topic::Item;
 use std::alloc::{AllocError, Global};
@@ -76,7 +76,8 @@ fn show<R: Wait + Drop + Copy>(
         judge,
         shown,
     };
-    match go_through(alloc, rt, "", MemoryAlone, &mut showing)? {
+    let kept = KeptLog::new(log_of(alloc, "")?, MemoryAlone);
+    match go_through(alloc, rt, kept, &mut showing)? {
         None => Ok(()),
         Some(error) => Err(Fail::from(error)),
     }

@@ -4,4 +4,4 @@ use Rattle.test_nodes.proofs.topics.go_through.Given as goal
 
 abbrev pub ghosts-in_topic : goal.ghosts-in_topic
 ghosts-in_topic g a =
-    record { book = a.list.reached.book; first = held_of (topic_from a.base.now.records.items a.base.now.next a.base.now.floor) }
+    record { book = a.list.reached.book; first = held_of (topic_from a.kept.log.records.items a.kept.log.next a.kept.log.floor) }
