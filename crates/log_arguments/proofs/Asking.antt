@@ -12,7 +12,7 @@ use Rattle.log_arguments.specs.Line.{HasLine, program_line}
 use Rattle.log_arguments.specs.Values.{IsOffsetOf, IsPlaceIn}
 use Rattle.log_arguments.specs.Asked.{AskFor, Asks, HasOffsetInLimits, IsAskedBy, IsMisuse, IsRefusalOf}
 use Rattle.log_arguments.specs.declared.command.LogCommand.{LogCommand}
-use Rattle.log_arguments.specs.declared.command.LogCommand.TheVariants.{Check, Compact, Follow, Keep, Tail}
+use Rattle.log_arguments.specs.declared.command.LogCommand.TheVariants.{Base, Check, Compact, Follow, Keep, Tail}
 
 differ : (a b : Text) → bytes_eq a b ≡ false → ¬ (a ≡ b)
 differ a b apart same = true≢false (sym ((bytes_eq-Decides a b).1 same) ∙ apart)
@@ -25,6 +25,7 @@ keep_alone rows none (Follow listen nodes workers) asked = differ _ _ refl asked
 keep_alone rows none (Tail file from) asked = differ _ _ refl asked.0
 keep_alone rows none (Check file quiet) asked = differ _ _ refl asked.0
 keep_alone rows none (Compact file to output quiet) asked = differ _ _ refl asked.0
+keep_alone rows none (Base file below quiet) asked = differ _ _ refl asked.0
 
 pub follow_alone : (rows : List Row)
     → ((listen : SocketAddr) (nodes workers : ℕ) → ¬ IsPlaceIn rows listen nodes workers)
@@ -34,6 +35,7 @@ follow_alone rows none (Follow listen nodes workers) asked = none listen nodes w
 follow_alone rows none (Tail file from) asked = differ _ _ refl asked.0
 follow_alone rows none (Check file quiet) asked = differ _ _ refl asked.0
 follow_alone rows none (Compact file to output quiet) asked = differ _ _ refl asked.0
+follow_alone rows none (Base file below quiet) asked = differ _ _ refl asked.0
 
 -- a parse of the program's command line finds what its definition says
 pub rows_are : (line : Command) (words : List Text) (m : ArgMatches) → HasLine program_line line → HasMatchesOf (app_of line) words m
@@ -72,3 +74,4 @@ within_limits (Some found) (Follow listen nodes workers) asks = tt
 within_limits (Some found) (Tail file from) asks = offset_within _ from asks.2
 within_limits (Some found) (Check file quiet) asks = tt
 within_limits (Some found) (Compact file to output quiet) asks = offset_within _ to asks.2
+within_limits (Some found) (Base file below quiet) asks = offset_within _ (Some below) asks.2

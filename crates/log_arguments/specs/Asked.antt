@@ -6,7 +6,7 @@ use Rattle.clap.specs.declared.error.kind.ErrorKind.TheVariants.{OutOfMemory, Va
 use Rattle.log_arguments.specs.Line.{program_line}
 use Rattle.log_arguments.specs.Values.{IsOffsetOf, IsPlaceIn, has_quiet, path_in}
 use Rattle.log_arguments.specs.declared.command.LogCommand.{LogCommand}
-use Rattle.log_arguments.specs.declared.command.LogCommand.TheVariants.{Check, Compact, Follow, Keep, Tail}
+use Rattle.log_arguments.specs.declared.command.LogCommand.TheVariants.{Base, Check, Compact, Follow, Keep, Tail}
 
 -- what a command asks for by its name and its matches
 abbrev pub IsAskedBy : Text × List Row → LogCommand → Type 0
@@ -20,6 +20,9 @@ IsAskedBy found (Check file quiet) = (found.0 ≡ codes "check") × (option_map 
 IsAskedBy found (Compact file to output quiet) = (found.0 ≡ codes "compact")
     × (option_map (λ path. path.now) file ≡ path_in (codes "file") found.1) × IsOffsetOf (first_of (codes "to") found.1) to
     × (option_map (λ path. path.now) output ≡ path_in (codes "output") found.1) × (quiet ≡ has_quiet found.1)
+IsAskedBy found (Base file below quiet) = (found.0 ≡ codes "base")
+    × (option_map (λ path. path.now) file ≡ path_in (codes "file") found.1) × IsOffsetOf (first_of (codes "below") found.1) (Some below)
+    × (quiet ≡ has_quiet found.1)
 
 -- there is a command, and it asks for this
 abbrev pub Asks : Option (Text × List Row) → LogCommand → Type 0
@@ -36,6 +39,7 @@ HasOffsetInLimits (Follow listen nodes workers) = ⊤
 HasOffsetInLimits (Tail file from) = IfSome from (λ offset. offset ≤ 9223372036854775807)
 HasOffsetInLimits (Check file quiet) = ⊤
 HasOffsetInLimits (Compact file to output quiet) = IfSome to (λ floor. floor ≤ 9223372036854775807)
+HasOffsetInLimits (Base file below quiet) = below ≤ 9223372036854775807
 
 -- memory was refused, or nothing is asked for, since a value is out of its range
 abbrev pub IsMisuse : Option (Text × List Row) → Error → Type 0

@@ -43,6 +43,13 @@ abbrev pub compact_line : App
 compact_line = command_line (codes "compact")
     (option_line (codes "to") ∷ option_line (codes "output") ∷ quiet_line ∷ file_line false ∷ [])
 
+-- `--below OFFSET`, which is wanted
+abbrev pub below_line : Rule
+below_line = record (option_line (codes "below")) { required = true }
+
+abbrev pub base_line : App
+base_line = command_line (codes "base") (below_line ∷ quiet_line ∷ file_line false ∷ [])
+
 -- the program alone: it has a version, wants a command, and answers to no words at all with its help
 abbrev pub bare_program : App
 bare_program = record (new_app (codes "registrylog")) {
@@ -54,7 +61,7 @@ with_command program command = with_subcommand program command.top
 
 -- the program with its commands
 abbrev pub program_line : App
-program_line = fold with_command bare_program (keep_line ∷ follow_line ∷ tail_line ∷ check_line ∷ compact_line ∷ [])
+program_line = fold with_command bare_program (keep_line ∷ follow_line ∷ tail_line ∷ check_line ∷ compact_line ∷ base_line ∷ [])
 
 -- a parser reads the argument by that rule, and no other command has it
 abbrev pub HasRule : Rule → Arg → Type 0

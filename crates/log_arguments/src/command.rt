@@ -42,4 +42,10 @@ pub enum LogCommand<'a> {
         output: Option<&'a str>,
         quiet: bool,
     },
+    /// It is to be written what a log, that of a file or of the input, begins with that begins anew at an offset.
+    Base {
+        file: Option<&'a str>,
+        below: u64,
+        quiet: bool,
+    },
 }

@@ -3,7 +3,7 @@ ghost use Rattle.std.specs.Prelude.{◌≡◌, IfOk};
 ghost use Rattle.clap.specs.Words.{kind_of};
 ghost use Rattle.clap.specs.declared.error.kind.ErrorKind.TheVariants.{ValueValidation};
 
-use crate::line::{compact, follow, keep, tail};
+use crate::line::{base, compact, follow, keep, tail};
 use clap::error::ErrorKind;
 use clap::{Command, Error};
 use std::alloc::{AllocError, Global};
@@ -35,6 +35,9 @@ pub(crate) enum Fault<'a> {
     /// There is no such command line: `clap` takes none without a file that is wanted.
     #[error("a FILE is wanted")]
     File,
+    /// There is no such command line: `clap` takes none without an option that is wanted.
+    #[error("--below OFFSET is wanted")]
+    Below,
     /// There is no such command line: `clap` takes none without a command.
     #[error("a COMMAND is wanted")]
     Command,
@@ -57,6 +60,8 @@ fn command_named<'a>(alloc: Global, name: &str) -> Result<Command<'a>, AllocErro
         follow(alloc)?.bin_name("registrylog follow")
     } else if name == "tail" {
         tail(alloc)?.bin_name("registrylog tail")
+    } else if name == "base" {
+        base(alloc)?.bin_name("registrylog base")
     } else {
         compact(alloc)?.bin_name("registrylog compact")
     }

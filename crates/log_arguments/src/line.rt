@@ -1,6 +1,6 @@
 // The command line, as a parser of command lines takes it.
 ghost use Rattle.std.specs.Prelude.{IfOk, codes, false};
-ghost use Rattle.log_arguments.specs.Line.{HasLine, HasRule, check_line, compact_line, file_line, follow_line, keep_line, option_line, program_line, quiet_line, tail_line};
+ghost use Rattle.log_arguments.specs.Line.{HasLine, HasRule, base_line, below_line, check_line, compact_line, file_line, follow_line, keep_line, option_line, program_line, quiet_line, tail_line};
 
 use crate::command::VERSION;
 use clap::{Arg, ArgAction, Command};
@@ -15,6 +15,7 @@ pub(crate) fn program<'a>(alloc: Global) -> Result<Command<'a>, AllocError>
     let tailing = tail(alloc)?;
     let checking = check(alloc)?;
     let compacting = compact(alloc)?;
+    let basing = base(alloc)?;
     Command::new(alloc, "registrylog")
         .bin_name("registrylog")?
         .version(VERSION)
@@ -26,7 +27,8 @@ pub(crate) fn program<'a>(alloc: Global) -> Result<Command<'a>, AllocError>
         .subcommand(following)?
         .subcommand(tailing)?
         .subcommand(checking)?
-        .subcommand(compacting)
+        .subcommand(compacting)?
+        .subcommand(basing)
 }
 
 /// `keep`.
@@ -106,6 +108,23 @@ pub(crate) fn compact<'a>(alloc: Global) -> Result<Command<'a>, AllocError>
         )
         .arg(floor)?
         .arg(output)?
+        .arg(quiet(alloc))?
+        .arg(file(alloc).help(INPUT))
+}
+
+/// `base`.
+pub(crate) fn base<'a>(alloc: Global) -> Result<Command<'a>, AllocError>
+    ensures { IfOk result (HasLine base_line) }
+{
+    let below = option(alloc, "below", "OFFSET")
+        .required(true)
+        .help("Where the log goes on, 0 to 9223372036854775807");
+    Command::new(alloc, "base")
+        .about(
+            "Writes what a log begins with that goes on at an offset: a compaction of what is below",
+        )
+        .after_help("Example: registrylog base --below 1000 registry.log > base.log")
+        .arg(below)?
         .arg(quiet(alloc))?
         .arg(file(alloc).help(INPUT))
 }

@@ -68,6 +68,8 @@ fn command_in<'a>(name: &str, found: &ArgMatches<'a>) -> Result<LogCommand<'a>, 
         Ok(check_in(found))
     } else if name == "compact" {
         compact_in(found)
+    } else if name == "base" {
+        base_in(found)
     } else {
         Err(Fault::Command)
     }
@@ -152,6 +154,18 @@ fn compact_in<'a>(found: &ArgMatches<'a>) -> Result<LogCommand<'a>, Fault<'a>>
             output,
             quiet,
         }),
+        Err(fault) => Err(fault),
+    }
+}
+
+fn base_in<'a>(found: &ArgMatches<'a>) -> Result<LogCommand<'a>, Fault<'a>>
+    ensures { Finds (IsAskedBy (codes "base", rows_of (found_of found.now))) result }
+{
+    let file = path_in(found, "file");
+    let quiet = has_quiet(found);
+    match offset_in(found, "below") {
+        Ok(Some(below)) => Ok(LogCommand::Base { file, below, quiet }),
+        Ok(None) => Err(Fault::Below),
         Err(fault) => Err(fault),
     }
 }

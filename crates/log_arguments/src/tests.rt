@@ -5,7 +5,7 @@ use std::test::Fail;
 
 /// Command lines behind the program's name, each with what it asks for or the first line of why it is refused. A word ends at a
 /// space.
-static LINES: [(&str, &str); 46] = [
+static LINES: [(&str, &str); 51] = [
     // The defaults, and each option.
     (
         "keep a",
@@ -59,6 +59,18 @@ static LINES: [(&str, &str); 46] = [
         "compact --output - --to=0 -",
         "Compact { file: None, to: Some(0), output: None, quiet: false }",
     ),
+    (
+        "base --below 10",
+        "Base { file: None, below: 10, quiet: false }",
+    ),
+    (
+        "base a --quiet --below=0",
+        "Base { file: Some(\"a\"), below: 0, quiet: true }",
+    ),
+    (
+        "base --below 9223372036854775807 -",
+        "Base { file: None, below: 9223372036854775807, quiet: false }",
+    ),
     // Help and the version.
     (
         "--help",
@@ -92,6 +104,10 @@ static LINES: [(&str, &str); 46] = [
     ),
     (
         "tail --from 1",
+        "error: the following required arguments were not provided:",
+    ),
+    (
+        "base a",
         "error: the following required arguments were not provided:",
     ),
     ("keep a b", "error: unexpected argument 'b' found"),
@@ -157,6 +173,10 @@ static LINES: [(&str, &str); 46] = [
     (
         "compact --to 1e3",
         "error: --to 1e3: an offset from 0 to 9223372036854775807",
+    ),
+    (
+        "base --below 9223372036854775808",
+        "error: --below 9223372036854775808: an offset from 0 to 9223372036854775807",
     ),
 ];
 

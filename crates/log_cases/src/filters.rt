@@ -1,8 +1,9 @@
 // The filters of `registrylog`, over bytes.
 use crate::cases::Outcome;
 use log_arguments::{LogCommand, read_arguments};
+use reg_base::{BaseError, base};
 use reg_inspection::inspect;
-use reg_keeping::{FilterError, compact, compact_to};
+use reg_keeping::{compact, compact_to};
 use std::alloc::{AllocError, Global};
 
 fn words_of(alloc: Global, command: &str) -> Result<Vec<String>, AllocError> {
@@ -20,10 +21,11 @@ fn filter(
     words: &[String],
     log: &[u8],
     output: &mut Vec<u8>,
-) -> Result<bool, FilterError> {
+) -> Result<bool, BaseError> {
     let mut reader = log;
     match read_arguments(alloc, words) {
-        Ok(LogCommand::Check { .. }) => return inspect(alloc, &mut reader, output),
+        Ok(LogCommand::Check { .. }) => return Ok(inspect(alloc, &mut reader, output)?),
+        Ok(LogCommand::Base { below, .. }) => base(alloc, below, &mut reader, output)?,
         Ok(LogCommand::Compact { to: None, .. }) => compact(alloc, &mut reader, output)?,
         Ok(
             LogCommand::Compact {
@@ -36,7 +38,7 @@ fn filter(
     Ok(true)
 }
 
-fn end_of(alloc: Global, ended: Result<bool, FilterError>) -> Result<String, AllocError> {
+fn end_of(alloc: Global, ended: Result<bool, BaseError>) -> Result<String, AllocError> {
     match ended {
         Ok(true) => String::from_str(alloc, "0"),
         Ok(false) => String::from_str(alloc, "2"),

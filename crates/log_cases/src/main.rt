@@ -1,5 +1,5 @@
-//! Runs the logs that lie in `data/` through the filters `registrylog check` and `registrylog compact`, and prints for each file
-//! how many cases there are.
+//! Runs the logs that lie in `data/` through the filters `registrylog check`, `registrylog compact` and `registrylog base`, and
+//! prints for each file how many cases there are.
 //!
 //! A case that goes otherwise is printed with what was wanted and what came, so that the output is no longer the stored one. A file
 //! has paragraphs, with an empty line between two of them. First come the lines of a log, each with a `|` in the place of a TAB. Then
@@ -10,7 +10,7 @@
 //! - A line that begins with `# ` is a remark.
 //! - `(empty)` is an empty line, and a line has no LF where it ends with `(no LF)`; `(CR)` and `(space)` stand for a CR and a space.
 //!
-//! Compacting again leaves what was left. So each log that is left is compacted too, and is a case of its own.
+//! Compacting again leaves what was left. So each log that is left goes through the same command too, and is a case of its own.
 #![tactic(auto)]
 
 mod cases;

@@ -52,7 +52,7 @@ fn wanted_of(alloc: Global, lines: &str) -> Result<Outcome, AllocError> {
     })
 }
 
-/// Tries a command, with the lines below it, on a log. Where that is compacted, what is left is compacted too.
+/// Tries a command, with the lines below it, on a log. What it leaves of a log goes through the command too.
 fn try_command(
     alloc: Global,
     tally: &mut Tally,

@@ -1,5 +1,5 @@
 -- What a log holds, in numbers.
-use Rattle.std.specs.Prelude.{ℕ, List, true, not, count_by, length}
+use Rattle.std.specs.Prelude.{ℕ, List, true, not, count_by, length, Option, None, if◌then◌else◌}
 use Rattle.std.specs.FinSet.{from_list}
 use Rattle.reg_records.specs.Log.{is_foreign, next_of, records_in}
 use Rattle.reg_records.specs.declared.log.Log.{Log}
@@ -9,12 +9,18 @@ use Rattle.reg_set.specs.Records.{Records}
 use Rattle.reg_entries.specs.Sought.{subjects}
 use Rattle.reg_entries.specs.declared.entry.Entry.{Entry}
 use Rattle.reg_fold.specs.Entries.{entries}
+use Rattle.reg_fold.specs.IdMark.{needs_mark}
+use Rattle.reg_fold.specs.Standing.{greatest_id}
 use Rattle.reg_inspection.specs.Shared.{ids_of}
 use Rattle.reg_inspection.specs.declared.counts.Counts.{Counts}
 
 -- the last records of what lines say
 abbrev pub lasts_in : List Read → Records
 lasts_in read = last_records (from_list (records_in read))
+
+-- the greatest id of an entry, where no mark of ids covers it
+abbrev pub mark_due : Records → Option ℕ
+mark_due rs = if needs_mark rs then greatest_id rs else None
 
 -- the records, the foreign lines, the floor and the next offset of what lines say, and of the
 -- entries es the subjects, the live and the soft-deleted ones, and the ids

@@ -1,5 +1,5 @@
 -- The text of an inspection, a line a fact.
-use Rattle.std.specs.Prelude.{ℕ, List, ◌++◌, codes, decimal, Option, Some, None}
+use Rattle.std.specs.Prelude.{ℕ, List, [], ◌++◌, codes, decimal, Option, Some, None}
 use Rattle.std.specs.List.{flat_map}
 use Rattle.json.specs.Print.{quoted}
 use Rattle.reg_inspection.specs.Cause.{cause_text}
@@ -24,6 +24,11 @@ versions_text subjects live deleted ids =
 abbrev pub counts_text : Counts → List ℕ
 counts_text c = lines_text c.records c.foreign c.floor c.next ++ versions_text c.subjects c.live c.deleted c.ids
 
+-- the mark of ids that is due, if one is
+abbrev pub due_line : Option ℕ → List ℕ
+due_line None = []
+due_line (Some id) = codes "mark of ids due: " ++ decimal id ++ codes "\n"
+
 -- what stands behind an obstacle's text: its cause, where it has one
 abbrev pub cause_part : Obstacle → List ℕ
 cause_part (kinds.Opaque offset subject version cause) = codes ": " ++ cause_text cause ++ codes "\n"
@@ -41,6 +46,6 @@ keytype_line (Some keytype) n = codes "foreign lines of keytype " ++ quoted keyt
 abbrev pub foreign_line : Option (List ℕ) × ℕ → List ℕ
 foreign_line e = keytype_line e.0 e.1
 
--- the counts, then the foreign lines by their keytypes, then the obstacles
-abbrev pub report_text : Counts → List (Option (List ℕ) × ℕ) → List Obstacle → List ℕ
-report_text counts foreign found = counts_text counts ++ flat_map foreign_line foreign ++ flat_map obstacle_line found
+-- the counts, then the mark that is due, then the foreign lines by their keytypes, then the obstacles
+abbrev pub report_text : Counts → Option ℕ → List (Option (List ℕ) × ℕ) → List Obstacle → List ℕ
+report_text counts due foreign found = counts_text counts ++ due_line due ++ flat_map foreign_line foreign ++ flat_map obstacle_line found

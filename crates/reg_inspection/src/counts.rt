@@ -2,7 +2,7 @@
 ghost use Rattle.std.specs.Prelude.{◌≡◌, true, IfOk, count_by, length, map};
 ghost use Rattle.reg_entries.specs.Sought.{subjects};
 ghost use Rattle.reg_fold.specs.Entries.{entries};
-ghost use Rattle.reg_inspection.specs.Counts.{counts_in};
+ghost use Rattle.reg_inspection.specs.Counts.{counts_in, mark_due};
 ghost use Rattle.reg_inspection.specs.Shared.{ids_of};
 
 use reg_fold::{Entry, Registry};
@@ -53,6 +53,17 @@ pub(crate) fn counts_of(
         deleted,
         ids: ids.len() as u64,
     })
+}
+
+/// The greatest id of a version, soft-deleted ones too, where no mark of ids covers it: that of the mark that is due.
+pub(crate) fn mark_due(registry: &Registry) -> Option<u32>
+    ensures { result ≡ mark_due registry.now }
+{
+    let greatest = registry.greatest_id()?;
+    if registry.mark() < greatest {
+        return Some(greatest);
+    }
+    None
 }
 
 /// How many subjects have an entry.

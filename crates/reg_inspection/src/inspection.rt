@@ -6,9 +6,9 @@ ghost use Rattle.reg_records.specs.declared.record.Read.{Read};
 ghost use Rattle.reg_journal.specs.Found.{HasFault};
 ghost use Rattle.reg_inspection.specs.Inspection.{IsInspectionOf};
 ghost use Rattle.reg_inspection.specs.Foreign.{foreign_tally};
-ghost use Rattle.reg_inspection.specs.Report.{counts_text, foreign_line, keytype_line, lines_text, obstacle_line, report_text, versions_text};
+ghost use Rattle.reg_inspection.specs.Report.{counts_text, due_line, foreign_line, keytype_line, lines_text, obstacle_line, report_text, versions_text};
 
-use crate::counts::{Counts, counts_of};
+use crate::counts::{Counts, counts_of, mark_due};
 use crate::foreign::foreign_in;
 use crate::ids::ids_of;
 use crate::obstacle::{Obstacle, lasts_of, obstacles_in};
@@ -21,18 +21,22 @@ use std::collections::BTreeMap;
 #[derive(Debug, Drop)]
 pub struct Inspection {
     pub counts: Counts,
+    /// The id of the mark of ids that is due; `None` where none is.
+    pub due: Option<u32>,
     /// How many foreign lines have each keytype; `None` stands for keys that have none.
     pub foreign: BTreeMap<Option<Text>, u64>,
     pub obstacles: Vec<Obstacle>,
 }
 
 impl Inspection {
-    /// Its text, a line a fact: the counts, each as `NAME: NUMBER`, then the foreign lines by their keytypes, likewise,
-    /// then the obstacles, those of versions with their causes. The only error is out of memory.
+    /// Its text, a line a fact: the counts, each as `NAME: NUMBER`, then the mark of ids that is due, then the foreign
+    /// lines by their keytypes, likewise, then the obstacles, those of versions with their causes. The only error is out
+    /// of memory.
     pub fn report(&self, alloc: Global) -> Result<String, AllocError>
-        ensures { IfOk result (λ text. string_bytes text ≡ report_text self.now.counts self.now.foreign.entries self.now.obstacles.items) }
+        ensures { IfOk result (λ text. string_bytes text ≡ report_text self.now.counts self.now.due self.now.foreign.entries self.now.obstacles.items) }
     {
         let mut text = counts_text(alloc, &self.counts)?;
+        text.push_str(due_line(alloc, self.due)?.as_str())?;
         push_foreign(alloc, &mut text, &self.foreign)?;
         push_lines(alloc, &mut text, &self.obstacles)?;
         Ok(text)
@@ -71,6 +75,7 @@ fn inspection_of(
     let ids = ids_of(alloc, &entries)?;
     Ok(Inspection {
         counts: counts_of(log, &registry, &entries, &ids)?,
+        due: mark_due(&registry),
         foreign,
         obstacles: obstacles_in(alloc, &last, &registry, &ids, log.next)?,
     })
@@ -123,6 +128,15 @@ fn versions_text(
     format!(in alloc;
         "subjects: {subjects}\nlive versions: {live}\nsoft-deleted versions: {deleted}\nids: {ids}\n"
     )
+}
+
+fn due_line(alloc: Global, due: Option<u32>) -> Result<String, AllocError>
+    ensures { IfOk result (λ text. string_bytes text ≡ due_line due) }
+{
+    match due {
+        Some(id) => format!(in alloc; "mark of ids due: {id}\n"),
+        None => Ok(String::new(alloc)),
+    }
 }
 
 fn push_foreign(

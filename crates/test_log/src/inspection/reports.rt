@@ -17,7 +17,7 @@ const ROWS: [(&str, &str, Result<bool, FilterError>); 3] = [
     (
         "9223372036854775807;{'keytype':'SCHEMA','subject':'s','version':1};{'subject':'s','version':1,'id':3,'schema':'\\'int\\''}|",
         "records: 1|foreign lines: 0|floor: 0|next offset: 9223372036854775808|subjects: 1|live versions: 1|soft-deleted versions: 0|ids: 1|\
-         no offset is left for the mark of ids|",
+         mark of ids due: 3|no offset is left for the mark of ids|",
         Ok(false),
     ),
     (

@@ -10,4 +10,5 @@ returns c =
     let two = HasLine-command _ _ _ _ _ one c.in_ok-following.ensures c.in_ok-subcommand-2.ensures in
     let three = HasLine-command _ _ _ _ _ two c.in_ok-tailing.ensures c.in_ok-subcommand-3.ensures in
     let four = HasLine-command _ _ _ _ _ three c.in_ok-checking.ensures c.in_ok-subcommand-4.ensures in
-    HasLine-last_command _ _ c.subcommand-5.result _ _ four c.in_ok-compacting.ensures c.subcommand-5.ensures
+    let five = HasLine-command _ _ _ _ _ four c.in_ok-compacting.ensures c.in_ok-subcommand-5.ensures in
+    HasLine-last_command _ _ c.subcommand-6.result _ _ five c.in_ok-basing.ensures c.subcommand-6.ensures

@@ -6,7 +6,7 @@ use Rattle.reg_records.specs.declared.record.Record.{Record}
 use Rattle.reg_set.specs.LastRecords.{last_records}
 use Rattle.reg_set.specs.Records.{Records}
 use Rattle.reg_fold.specs.Entries.{entries}
-use Rattle.reg_inspection.specs.Counts.{counts_by, counts_in, lasts_in}
+use Rattle.reg_inspection.specs.Counts.{counts_by, counts_in, lasts_in, mark_due}
 use Rattle.reg_inspection.specs.Obstacles.{obstacles}
 use Rattle.reg_inspection.proofs.inspection.inspection_of.Goals as goal
 
@@ -23,6 +23,7 @@ returns c text floor read is foreign =
           ∙ ap (λ (n : ℕ). counts_by (length (records_in read)) n log.floor log.next es) is.foreign
           ∙ ap (λ (f : ℕ). counts_by (length (records_in read)) (count_by is_foreign read) f log.next es) is.floor
           ∙ ap (λ (n : ℕ). counts_by (length (records_in read)) (count_by is_foreign read) floor n es) is.next;
+      due = c.mark_due.ensures ∙ ap mark_due over;
       foreign = foreign;
       obstacles = c.in_ok-obstacles_in.ensures ∙ ap (λ (rs : Records). obstacles rs log.next) set ∙ ap (obstacles (lasts_in read)) is.next;
     }

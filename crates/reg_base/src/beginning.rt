@@ -1,0 +1,55 @@
+// What a log begins with that begins anew.
+ghost use Rattle.std.specs.Prelude.{◌≡◌, List, ℕ, IfErr, IfOk, IfSome, OnOk};
+ghost use Rattle.std.specs.Io.KnownBytes.{Appends};
+ghost use Rattle.reg_keeping.specs.Filter.{IsFlushed};
+ghost use Rattle.reg_base.specs.Base.{IsBase};
+ghost use Rattle.reg_base.specs.Refusals.{IsBaseRefusal, IsNoBase};
+
+use crate::below::part_below;
+use crate::error::BaseError;
+use crate::marks::{is_crossed, owes_mark};
+use reg_keeping::{compacted_in_order, read_input, write_output};
+use reg_records::{Device, Output, read_log};
+use std::alloc::Global;
+use std::io::Read;
+
+/// Reads a log to the end of the input, and writes what a log begins with that begins anew at an offset: a compaction of
+/// what stands below it, in the order of the offsets, at the log's floor and with that next offset. What stands behind
+/// the log's empty line is left out. The log is read to its end before the first byte is written.
+pub fn base<R: Read, W: Output>(
+    alloc: Global,
+    below: u64,
+    reader: &mut R,
+    writer: &mut W,
+) -> Result<(), BaseError>
+    ensures written { OnOk result (IfSome (R.remaining reader.old) (λ input. (out : List ℕ) × IsBase below input out
+        × Appends (W.contents writer.old) (W.contents writer.new) out)) }
+    ensures flushed { OnOk result (IsFlushed W.contents W.flushes writer.new) }
+    ensures refused { IfErr result (IsBaseRefusal below (R.remaining reader.old) (W.contents writer.old) (W.contents writer.new)) }
+{
+    let input = read_input(alloc, reader)?;
+    match base_of(alloc, &input, below) {
+        Ok(output) => Ok(write_output(writer, &output)?),
+        Err(error) => Err(error),
+    }
+}
+
+/// What a log begins with that begins anew at an offset.
+pub fn base_of(alloc: Global, log: &[u8], below: u64) -> Result<Vec<u8>, BaseError>
+    ensures base { IfOk result (λ text. IsBase below log.now text.items) }
+    ensures refused { IfErr result (IsNoBase below log.now) }
+{
+    let read = read_log(alloc, &mut Device::new(log))?;
+    let part = part_below(alloc, log, &read, below)?;
+    let begun = read_log(alloc, &mut Device::new(part.as_slice()))?;
+    if begun.next != below {
+        return Err(BaseError::NoEnd);
+    }
+    if is_crossed(&read.records, below) {
+        return Err(BaseError::Crossed);
+    }
+    if owes_mark(alloc, &begun.records)? {
+        return Err(BaseError::MarkDue);
+    }
+    Ok(compacted_in_order(alloc, &part)?)
+}
