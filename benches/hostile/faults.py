@@ -8,26 +8,28 @@ refuses allocations and shortens the calls of sockets, and starts `PROGRAM serve
 `fold`     each allocation of `PROGRAM fold` over three runs, of registrations and of imports among them, is refused in turn
 `pipelined` each allocation of a node is refused in turn while one client sends commands and long lookups at once: each response that
            comes is whole, and each command whose response doesn't come, or says that memory was refused, did nothing
+`late`     a client reads late what it asked for, while each large allocation of the node for a request behind it is refused in turn:
+           each response is whole
 
 Each ends with status 1 where an answer isn't right."""
 import http.client, json, mmap, os, random, select, socket, struct, subprocess, sys, tempfile, threading, time
 
-PROGRAM, NAMES = sys.argv[1], sys.argv[2:] or ["pieces", "memory", "fold", "pipelined"]
+PROGRAM, NAMES = sys.argv[1], sys.argv[2:] or ["pieces", "memory", "fold", "pipelined", "late"]
 HERE, PORT = os.path.dirname(os.path.abspath(__file__)), 19600
 FOLDER = tempfile.mkdtemp()
 SHIM, STEER = FOLDER + "/faults.so", FOLDER + "/steer"
 subprocess.run(["cc", "-shared", "-fPIC", "-O2", "-o", SHIM, HERE + "/faults.c", "-ldl"], check=True)
 with open(STEER, "wb") as f:
-    f.write(bytes(32))
+    f.write(bytes(40))
 steering = open(STEER, "r+b")
-shared = mmap.mmap(steering.fileno(), 32)
+shared = mmap.mmap(steering.fileno(), 40)
 wrong = 0
 
 
-def steer(period=0, short=0, only=0):
+def steer(period=0, short=0, only=0, least=0):
     shared[0:8] = struct.pack("Q", period)
     shared[16:24] = struct.pack("Q", short)
-    shared[24:32] = struct.pack("Q", only)
+    shared[24:40] = struct.pack("QQ", only, least)
 
 
 def allocations():
@@ -374,7 +376,8 @@ def exchange(port, run, small):
         data += b"%s %s HTTP/1.1\r\nHost: a\r\n%sContent-Length: %d\r\n\r\n" % (method.encode(), path.encode(), last, len(body)) + body
     s = socket.socket()
     if small:
-        s.setsockopt(socket.SOL_SOCKET, socket.SO_RCVBUF, 4096)
+        # Not so small that the responses take longer than the 10 seconds that a client may take for them.
+        s.setsockopt(socket.SOL_SOCKET, socket.SO_RCVBUF, 32768)
     s.settimeout(30)
     come = b""
     try:
@@ -449,6 +452,50 @@ def pipelined():
         print("a pipelined run%s: %d allocations, each refused in turn: %d connections closed early, %d commands told of it"
               % (" that is read late" if small else "", total, closed, told))
         node.stop()
+
+
+def read_late(port, at):
+    """What a client gets that asks three times for a long schema, sends a long body and then reads, while one large allocation for that
+    body is refused; and how many there were."""
+    s = socket.socket()
+    s.setsockopt(socket.SOL_SOCKET, socket.SO_RCVBUF, 4096)
+    s.settimeout(30)
+    s.connect(("127.0.0.1", port))
+    s.sendall(b"GET /subjects/long/versions/1 HTTP/1.1\r\nHost: a\r\n\r\n" * 3)
+    time.sleep(0.3)
+    shared[8:16] = struct.pack("Q", 0)
+    steer(only=at, least=65536)
+    come = b""
+    try:
+        s.sendall(b"POST /subjects/late/versions HTTP/1.1\r\nHost: a\r\nConnection: close\r\nContent-Length: 900000\r\n\r\n" + b"x" * 900000)
+        time.sleep(0.3)
+        while True:
+            piece = s.recv(65536)
+            if not piece:
+                break
+            come += piece
+    except ConnectionError:
+        pass
+    steer()
+    s.close()
+    return come, allocations()
+
+
+def late():
+    node = Node(workers=2)
+    c = http.client.HTTPConnection("127.0.0.1", node.port, timeout=30)
+    if ask(c, "POST", "/subjects/long/versions", {"schema": LONG})[0] != 200:
+        bad("registering the long schema")
+    _, total = read_late(node.port, 0)
+    lacking = 0
+    for at in range(1, total + 1):
+        come, _ = read_late(node.port, at)
+        found = responses(come)
+        lacking += found is not None and len(found) < 4
+        if found is None or len(found) < 3:
+            bad((at, "a response is cut", len(come), come[:80]))
+    print("read late: %d large allocations, each refused in turn: %d requests behind not answered" % (total, lacking))
+    node.stop()
 
 
 for name in NAMES:

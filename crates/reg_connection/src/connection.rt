@@ -1,6 +1,7 @@
 // A connection: what came on it, what is to be sent, and what it waits for.
 ghost use Rattle.std.specs.Prelude.{◌≡◌, ◌≢◌, ◌⊎◌, [], length, nat_lt};
-ghost use Rattle.reg_connection.specs.Connection.{Gives, KeepsTimes, since_after, weight_of};
+ghost use Rattle.std.specs.declared.io.ErrorKind.TheVariants as kinds;
+ghost use Rattle.reg_connection.specs.Connection.{Gives, IsDone, IsGone, KeepsTimes, WaitsOn, weight_of};
 ghost use Rattle.reg_connection.specs.Waiting.{is_late};
 
 use crate::limits::Limits;
@@ -123,14 +124,15 @@ impl<S: Stream, T: Drop> Connection<S, T> {
     }
 
     /// Does what can be done on it without waiting and without an answer. What it waits for began at that moment where the first
-    /// byte of a request came now, and where the client took the last byte of the answers.
+    /// byte of a request came now, and where the client took the last byte of the answers. It is over only where its client has ended
+    /// its side, its stream broke, or it dropped as much as it may: what was sent before is the client's to read.
     pub fn look(&mut self, alloc: Global, limits: &Limits, buffer: &mut [u8], now: u64) -> Turn
-        ensures request { self.old.waits ≡ Waits.Request → (self.new.waits ≡ Waits.Request)
-            × (self.new.since ≡ since_after now (length self.old.conversation) (length self.new.conversation) self.old.since) }
+        ensures request { self.old.waits ≡ Waits.Request → WaitsOn now self.old self.new }
         ensures answering { self.old.waits ≡ Waits.Client → self.new.waits ≡ Waits.Client → self.new.since ≡ self.old.since }
         ensures answered { self.old.waits ≡ Waits.Client → self.new.waits ≢ Waits.Client → self.new.since ≡ now }
         ensures given { self.old.waits ≡ Waits.Client → Gives S.took self.old self.new }
         ensures ending { self.old.waits ≡ Waits.End → (self.new.waits ≡ Waits.End) × (self.new.since ≡ self.old.since) }
+        ensures over { result ≡ Turn.Over → IsDone S.broke limits.now.dropped self.new }
     {
         match self.waits {
             Waits::Request => self.take(buffer, now),
@@ -141,12 +143,16 @@ impl<S: Stream, T: Drop> Connection<S, T> {
 
     /// Reads what there is of a request.
     fn take(&mut self, buffer: &mut [u8], now: u64) -> Turn
-        ensures since { self.new.since ≡ since_after now (length self.old.conversation) (length self.new.conversation) self.old.since }
-        ensures waits { self.new.waits ≡ self.old.waits }
+        requires { self.old.waits ≡ Waits.Request }
+        ensures times { WaitsOn now self.old self.new }
         ensures stream { self.new.stream ≡ self.old.stream }
+        ensures over { result ≡ Turn.Over → IsGone S.broke self.new }
     {
         let begun = self.conversation.held_len() > 0;
         let turn = self.take_some(buffer);
+        if self.waits == Waits::End {
+            self.since = now;
+        }
         if !begun && self.conversation.held_len() > 0 {
             self.since = now;
         }
@@ -157,22 +163,25 @@ impl<S: Stream, T: Drop> Connection<S, T> {
     }
 
     fn take_some(&mut self, buffer: &mut [u8]) -> Turn
+        requires { self.old.waits ≡ Waits.Request }
         ensures times { KeepsTimes self.old self.new }
         ensures stream { self.new.stream ≡ self.old.stream }
+        ensures over { result ≡ Turn.Over → IsGone S.broke self.new }
     {
         'reads: for _ in 0..READS_AT_ONCE {
-            match self.receive(buffer) {
-                Turn::Again => {}
-                other => return other,
+            let turn = self.receive(buffer);
+            if turn != Turn::Again || self.waits == Waits::End {
+                return turn;
             }
         }
         Turn::Again
     }
 
-    /// Reads once of a request: `Again` where what came doesn't end it.
+    /// Reads once of a request: `Again` where what came doesn't end it. Where memory for what came is refused it is closing.
     pub fn receive(&mut self, buffer: &mut [u8]) -> Turn
         ensures times { KeepsTimes self.old self.new }
         ensures stream { self.new.stream ≡ self.old.stream }
+        ensures over { result ≡ Turn.Over → IsGone S.broke self.new }
     {
         self.stirred = true;
         match self.stream.receive(buffer) {
@@ -190,15 +199,16 @@ impl<S: Stream, T: Drop> Connection<S, T> {
         }
     }
 
-    /// What becomes of it once bytes came.
+    /// What becomes of it once bytes came. Where memory for them is refused it is closed as after a last answer, so that its client
+    /// still reads the answers that it was sent.
     fn came(&mut self, bytes: &[u8]) -> Turn
         ensures times { KeepsTimes self.old self.new }
         ensures stream { self.new.stream ≡ self.old.stream }
+        ensures over { result ≡ Turn.Over → IsGone S.broke self.new }
     {
         if self.conversation.feed(bytes).is_err() {
-            return Turn::Over;
-        }
-        if self.conversation.front_len().is_some() {
+            self.close()
+        } else if self.conversation.front_len().is_some() {
             Turn::Ready
         } else {
             Turn::Again
@@ -208,7 +218,9 @@ impl<S: Stream, T: Drop> Connection<S, T> {
     /// What becomes of it where a read or a write gave nothing.
     fn missed(&mut self, kind: ErrorKind) -> Turn
         ensures times { KeepsTimes self.old self.new }
+        ensures waits { self.new.waits ≡ self.old.waits }
         ensures stream { self.new.stream ≡ self.old.stream }
+        ensures over { result ≡ Turn.Over → (kind ≢ kinds.Interrupted) × (kind ≢ kinds.WouldBlock) }
     {
         match kind {
             ErrorKind::WouldBlock => {
@@ -239,6 +251,7 @@ impl<S: Stream, T: Drop> Connection<S, T> {
         ensures answering { self.new.waits ≡ Waits.Client → self.new.since ≡ self.old.since }
         ensures answered { self.new.waits ≢ Waits.Client → self.new.since ≡ now }
         ensures given { Gives S.took self.old self.new }
+        ensures over { result ≡ Turn.Over → IsGone S.broke self.new }
     {
         match send_some(&mut self.stream, &self.unsent, &mut self.sent) {
             Ok(true) => {
@@ -260,6 +273,7 @@ impl<S: Stream, T: Drop> Connection<S, T> {
         ensures since { self.new.since ≡ now }
         ensures waits { self.new.waits ≢ Waits.Client }
         ensures stream { self.new.stream ≡ self.old.stream }
+        ensures over { result ≡ Turn.Over → IsGone S.broke self.new }
     {
         if self.closes {
             return self.close();
@@ -273,9 +287,9 @@ impl<S: Stream, T: Drop> Connection<S, T> {
     /// The last answer is written: ends its own side, and then drops what the client still sends, so that
     /// the client reads that answer and meets no reset.
     pub fn close(&mut self) -> Turn
-        ensures since { self.new.since ≡ self.old.since }
-        ensures waits { (self.new.waits ≡ self.old.waits) ⊎ (self.new.waits ≡ Waits.End) }
+        ensures times { KeepsTimes self.old self.new }
         ensures stream { self.new.stream ≡ self.old.stream }
+        ensures over { result ≡ Turn.Over → IsGone S.broke self.new }
     {
         if self.ended || self.stream.end_writing().is_err() {
             return Turn::Over;
@@ -287,12 +301,17 @@ impl<S: Stream, T: Drop> Connection<S, T> {
 
     /// Reads and drops what there is.
     fn linger(&mut self, limits: &Limits, buffer: &mut [u8]) -> Turn
+        requires { self.old.waits ≡ Waits.End }
         ensures since { self.new.since ≡ self.old.since }
-        ensures waits { self.new.waits ≡ self.old.waits }
+        ensures waits { self.new.waits ≡ Waits.End }
+        ensures over { result ≡ Turn.Over → IsDone S.broke limits.now.dropped self.new }
     {
         'reads: for _ in 0..READS_AT_ONCE {
             match self.stream.receive(buffer) {
-                Ok(0) => return Turn::Over,
+                Ok(0) => {
+                    self.ended = true;
+                    return Turn::Over;
+                }
                 Ok(n) => {
                     self.dropped = self.dropped.saturating_add(n as u64);
                     if self.dropped >= limits.dropped {

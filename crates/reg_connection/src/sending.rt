@@ -1,5 +1,5 @@
 // Sending what a client takes.
-ghost use Rattle.std.specs.Prelude.{◌≡◌, ◌-◌, ◌<◌, ◌≤◌, ◌↔◌, true, IfOk, drop, length, take};
+ghost use Rattle.std.specs.Prelude.{◌≡◌, ◌-◌, ◌<◌, ◌≤◌, ◌↔◌, true, IfOk, OnErr, drop, length, take};
 ghost use Rattle.reg_connection.specs.Sending.{TakesBytes};
 
 use crate::stream::Stream;
@@ -21,6 +21,7 @@ pub fn send_some<S: Stream>(stream: &mut S, bytes: &[u8], sent: &mut usize) -> i
     ensures fits { sent.old ≤ length bytes.now → sent.new ≤ length bytes.now }
     ensures taken { TakesBytes S.took stream.old (take (sent.new - sent.old) (drop sent.old bytes.now)) stream.new }
     ensures all { IfOk result (λ all. (all ≡ true) ↔ (length bytes.now ≤ sent.new)) }
+    ensures broke { OnErr result (S.broke stream.new) }
 {
     'pieces: for _ in 0..bytes.len() + 1 {
         if *sent >= bytes.len() {
@@ -42,6 +43,7 @@ fn send_once<S: Stream>(stream: &mut S, bytes: &[u8], sent: &mut usize) -> io::R
     ensures fits { sent.new ≤ length bytes.now }
     ensures taken { S.took stream.old (take (sent.new - sent.old) (drop sent.old bytes.now)) stream.new }
     ensures waits { IfOk result (λ step. step ≡ Step.Waits → sent.new ≡ sent.old) }
+    ensures broke { OnErr result (S.broke stream.new) }
 {
     match stream.send(&bytes[*sent..]) {
         Ok(0) => Err(io::Error::from(ErrorKind::WriteZero)),

@@ -7,23 +7,30 @@ use std::net::{Shutdown, TcpStream};
 /// A connection as the system gives it.
 pub trait Stream {
     ghost use Rattle.std.specs.Io.{ReadsAtMost, WritesAtMost};
-    ghost use Rattle.std.specs.Prelude.{[], List, MatchResult, take, ℕ};
+    ghost use Rattle.std.specs.Prelude.{[], IfErr, List, MatchResult, OnErr, length, take, ℕ};
+    ghost use Rattle.reg_connection.specs.Stream.{BreaksOff, IsNoWrite};
 
     /// The stream before, the bytes that its client took next, and the stream after.
     ghost took: { Self → List ℕ → Self → Type 0 };
 
+    /// A stream of which a call failed, otherwise than by an interruption or because nothing could be read or written then.
+    ghost broke: { Self → Type 0 };
+
     /// Reads into `buf`, and says how many bytes; 0 where the client has ended its side. `WouldBlock`
     /// where nothing is there.
     fn receive(&self, buf: &mut [u8]) -> io::Result<usize>
-        ensures { ReadsAtMost result buf.new };
+        ensures few { ReadsAtMost result buf.new }
+        ensures broke { IfErr result (λ e. BreaksOff e → broke self.now) };
 
     /// Writes a front of `buf`, and says how many bytes; none after an error. `WouldBlock` where the client takes none now.
     fn send(&mut self, buf: &[u8]) -> io::Result<usize>
         ensures few { WritesAtMost result buf.now }
-        ensures taken { MatchResult result (λ n. took self.old (take n buf.now) self.new) (λ _. took self.old [] self.new) };
+        ensures taken { MatchResult result (λ n. took self.old (take n buf.now) self.new) (λ _. took self.old [] self.new) }
+        ensures broke { IsNoWrite (length buf.now) result → broke self.new };
 
     /// Tells the client that nothing more will be written.
-    fn end_writing(&self) -> io::Result<()>;
+    fn end_writing(&self) -> io::Result<()>
+        ensures { OnErr result (broke self.now) };
 
     /// Whether a read or write that can't go on waits for a while, before it answers `WouldBlock`.
     fn set_patient(&self, patient: bool) -> io::Result<()>;
@@ -31,6 +38,8 @@ pub trait Stream {
 
 impl Stream for TcpStream {
     ghost took = { λ _ _ _. ⊤ };
+
+    ghost broke = { λ _. ⊤ };
 
     fn receive(&self, buf: &mut [u8]) -> io::Result<usize> {
         let mut stream = self;

@@ -29,8 +29,9 @@ pub(crate) struct Doorkeeper<'a, T: Drop> {
     hall: &'a Hall<T>,
     limits: Limits,
     places: Places<TcpStream, T>,
-    /// Places of connections that are to be looked at again.
-    again: Vec<usize>,
+    /// Whether the connection of each place is to be looked at again, and whether one is.
+    again: Vec<bool>,
+    looks_again: bool,
     buffer: Vec<u8>,
     /// Milliseconds of one clock.
     now: u64,
@@ -53,13 +54,16 @@ impl<'a, T: Drop> Doorkeeper<'a, T> {
     ) -> Result<Doorkeeper<'a, T>, AllocError> {
         let mut buffer = Vec::new(alloc);
         buffer.resize(READ_SIZE, 0u8)?;
+        let mut again = Vec::new(alloc);
+        again.resize(limits.connections, false)?;
         Ok(Doorkeeper {
             alloc,
             listener,
             hall,
             limits,
             places: Places::new(alloc, limits.connections)?,
-            again: Vec::with_capacity(alloc, limits.connections)?,
+            again,
+            looks_again: false,
             buffer,
             now: 0,
             accepts: true,
@@ -119,7 +123,7 @@ impl<'a, T: Drop> Doorkeeper<'a, T> {
 
     /// How long to wait for events, where it may sleep.
     fn timeout(&self, may_sleep: bool) -> Option<Duration> {
-        if !may_sleep || !self.again.is_empty() {
+        if !may_sleep || self.looks_again {
             return Some(Duration::from_millis(0));
         }
         if self.accepts || self.guest.is_some() {
@@ -157,11 +161,31 @@ impl<'a, T: Drop> Doorkeeper<'a, T> {
         }
     }
 
+    /// The connection of a place is to be looked at again.
+    fn mark_again(&mut self, at: usize) {
+        if let Some(again) = self.again.get_mut(at) {
+            *again = true;
+            self.looks_again = true;
+        }
+    }
+
     /// Looks at those of which more may be there.
     fn look_again<R: Wait>(&mut self, rt: &R) {
-        let again = mem::replace(&mut self.again, Vec::new(self.alloc));
-        for at in again {
-            self.stir(rt, at);
+        if !mem::replace(&mut self.looks_again, false) {
+            return;
+        }
+        for at in 0..self.again.len() {
+            if self.take_mark(at) {
+                self.stir(rt, at);
+            }
+        }
+    }
+
+    /// Whether the connection of a place was to be looked at again, which it isn't any more.
+    fn take_mark(&mut self, at: usize) -> bool {
+        match self.again.get_mut(at) {
+            Some(again) => mem::replace(again, false),
+            None => false,
         }
     }
 
@@ -172,9 +196,7 @@ impl<'a, T: Drop> Doorkeeper<'a, T> {
             Turn::Waits => self.places.hold(at, connection),
             Turn::Again => {
                 self.places.hold(at, connection);
-                if self.again.push(at).is_err() {
-                    self.places.leave(at);
-                }
+                self.mark_again(at);
             }
             Turn::Ready => {
                 self.places

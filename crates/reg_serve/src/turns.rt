@@ -1,9 +1,36 @@
 // The turns of a node's workers, and the connections that wait for one.
+ghost use Rattle.std.specs.Prelude.{◌≡◌, IfSome};
+
 use crate::queues::Queues;
 use reg_connection::{Connection, TurnKind};
 use std::alloc::{AllocError, Global};
 use std::net::TcpStream;
 use std::sync::{Mutex, Wait};
+
+/// A turn that a worker has. There is none but what `Turns` gives.
+#[derive(Debug, Drop)]
+pub(crate) struct Leave {
+    kind: TurnKind,
+}
+
+/// The turn that a connection was given while it waited for one, if any; a worker has it from now on.
+pub(crate) fn take_up<T: Drop>(connection: &mut Connection<TcpStream, T>) -> Option<Leave>
+    ensures { connection.new.conversation ≡ connection.old.conversation }
+{
+    match connection.turn.take() {
+        Some(kind) => Some(Leave { kind }),
+        None => None,
+    }
+}
+
+impl Leave {
+    /// Of which kind it is.
+    pub(crate) fn kind(&self) -> TurnKind
+        ensures { result ≡ self.now.kind }
+    {
+        self.kind
+    }
+}
 
 /// The turns of a node, and the connections that wait for theirs without a worker.
 #[derive(Drop)]
@@ -24,15 +51,21 @@ impl<T: Drop> Turns<T> {
     }
 
     /// Takes a turn, if one is free.
-    pub(crate) fn begin<R: Wait>(&self, rt: &R, kind: TurnKind) -> bool {
+    pub(crate) fn begin<R: Wait>(&self, rt: &R, kind: TurnKind) -> Option<Leave>
+        ensures { IfSome result (λ leave. leave.kind ≡ kind) }
+    {
         let mut queues = self.queues.lock(rt);
-        queues.begin(kind)
+        if queues.begin(kind) {
+            Some(Leave { kind })
+        } else {
+            None
+        }
     }
 
     /// A turn is taken no longer. Gives the connection that goes on with a turn now; it is to be handed to a worker.
-    pub(crate) fn end<R: Wait>(&self, rt: &R, kind: TurnKind) -> Option<Connection<TcpStream, T>> {
+    pub(crate) fn end<R: Wait>(&self, rt: &R, leave: Leave) -> Option<Connection<TcpStream, T>> {
         let mut queues = self.queues.lock(rt);
-        let (given, next) = queues.end(kind)?;
+        let (given, next) = queues.end(leave.kind)?;
         let mut next = next;
         next.turn = Some(given);
         Some(next)

@@ -1,12 +1,15 @@
 // A worker: it answers the requests that are whole, of one connection after the other.
-ghost use Rattle.std.specs.Prelude.{◌≡◌, ◌≤◌, [], Some, length, take, IfNone, IfOk, OnErr, OnOk, vec_capacity};
+ghost use Rattle.std.specs.Prelude.{◌≡◌, ◌≤◌, [], Some, length, take, IfOk, OnErr, OnOk, vec_capacity};
 ghost use Rattle.reg_messages.specs.Head.{front_of};
 ghost use Rattle.reg_messages.specs.Reading.{IsShort};
 ghost use Rattle.reg_extent.specs.Extent.{IsWhole};
 ghost use Rattle.reg_conversation.specs.Conversation.{RepliesAll};
 ghost use Rattle.reg_connection.specs.Answering.{AnswersKnowing, HasLearnt};
+ghost use Rattle.reg_connection.specs.TurnKinds.{kind_in};
+ghost use Rattle.reg_serve.specs.Ready.{IsReady};
 
 use crate::hall::{Hall, Returned};
+use crate::turns::{Leave, take_up};
 use reg_connection::{
     Connection, Stream, Turn, TurnKind, answer_last, answer_one, send_some, turn_kind,
 };
@@ -195,17 +198,12 @@ fn answer_next<R: Wait, D: SharedDesk>(
     let Some(len) = connection.conversation.front_len() else {
         return Some(answer_end(alloc, bench, desk, connection));
     };
-    let kind = kind_of_turn(bench, connection);
-    let held = connection.turn.take();
-    if let Some(kind) = kind {
-        if let Some(last) = begin_turn(rt, hall, bench, held, kind) {
-            return Some(last);
-        }
-    }
-    let goes_on = answer_front(alloc, bench, desk, connection, len);
-    if let Some(kind) = kind {
-        end_turn(rt, hall, kind);
-    }
+    let leave = match be_ready(rt, hall, bench, connection) {
+        Ok(leave) => leave,
+        Err(last) => return Some(last),
+    };
+    let goes_on = answer_front(alloc, bench, desk, connection, len, &leave);
+    end_turn(rt, hall, leave);
     match goes_on {
         Ok(true) => {
             if bench.out.len() >= GATHERED {
@@ -219,16 +217,19 @@ fn answer_next<R: Wait, D: SharedDesk>(
     }
 }
 
-/// Answers the request at the front, behind the answers that are gathered. Where that fails these stay as they are.
+/// Answers the request at the front, behind the answers that are gathered. Where that fails these stay as they are. A command is done with
+/// a turn of commands alone, once all answers before it are sent, and where there is room for its own.
 fn answer_front<D: SharedDesk>(
     alloc: Global,
     bench: &mut Bench,
     desk: &mut D,
     connection: &mut Connection<TcpStream, D::Standing>,
     len: usize,
+    leave: &Option<Leave>,
 ) -> Result<bool, ServeError>
     requires fits { len ≤ length connection.old.conversation }
     requires whole { IsWhole (take len connection.old.conversation) }
+    requires ready { IsReady GATHERED connection.old.conversation bench.old.out.items (vec_capacity bench.old.out) leave.now }
     ensures answered { IfOk result (AnswersKnowing D.asks D.commands D.stands D.learns desk.old connection.old.standing
         connection.old.conversation (Some bench.old.out.items) (Some bench.new.out.items)
         connection.new.standing connection.new.conversation desk.new) }
@@ -303,51 +304,86 @@ fn answer_rest<D: SharedDesk>(
     answered
 }
 
-/// The turn that the request at the front takes: the one that its connection has, or by its method and its target. A worker
-/// has the paths from its start on; without them each request would take a turn.
-fn kind_of_turn<T: Drop>(bench: &Bench, connection: &Connection<TcpStream, T>) -> Option<TurnKind> {
-    match (connection.turn, &bench.paths) {
-        (Some(kind), _) => Some(kind),
-        (None, Some(paths)) => turn_kind(paths, connection.conversation.bytes()),
-        (None, None) => Some(TurnKind::Command),
+/// The turn that the request at the front takes, by its method and its target. A worker has the paths from its start on; without them
+/// each request would take a turn of commands.
+fn kind_of_turn<T: Drop>(bench: &Bench, connection: &Connection<TcpStream, T>) -> Option<TurnKind>
+    ensures { kind_in connection.now.conversation ≡ Some TurnKind.Command → result ≡ Some TurnKind.Command }
+{
+    match &bench.paths {
+        Some(paths) => turn_kind(paths, connection.conversation.bytes()),
+        None => Some(TurnKind::Command),
     }
 }
 
-/// Begins the turn that the next request takes, where its connection doesn't hold it. None where the request may be done; else how
-/// the answers of this turn end. What is answered is sent before a command, which may wait, and a command is done only once there is
-/// room for its answer.
+/// The turn that the request at the front takes, once that is begun and the request may be done: where its connection was given one
+/// while it waited, it is that. Else how the answers of this turn end.
+fn be_ready<R: Wait, T: Drop>(
+    rt: &R,
+    hall: &Hall<T>,
+    bench: &mut Bench,
+    connection: &mut Connection<TcpStream, T>,
+) -> Result<Option<Leave>, Answered>
+    ensures held { connection.new.conversation ≡ connection.old.conversation }
+    ensures ready { IfOk result (λ leave. IsReady GATHERED connection.old.conversation bench.new.out.items (vec_capacity bench.new.out) leave) }
+{
+    let kind = kind_of_turn(bench, connection);
+    let held = take_up(connection);
+    match kind {
+        Some(kind) => match begin_turn(rt, hall, bench, held, kind) {
+            Ok(leave) => Ok(Some(leave)),
+            Err(last) => Err(last),
+        },
+        None => {
+            end_turn(rt, hall, held);
+            Ok(None)
+        }
+    }
+}
+
+/// Begins a turn of that kind, where the worker hasn't one. `Err` says how the answers of this turn end. What is answered is sent before
+/// a command, which may wait, and a command is done only once there is room for its answer.
 fn begin_turn<R: Wait, T: Drop>(
     rt: &R,
     hall: &Hall<T>,
     bench: &mut Bench,
-    held: Option<TurnKind>,
+    held: Option<Leave>,
     kind: TurnKind,
-) -> Option<Answered>
-    ensures all_sent { IfNone result (kind ≡ TurnKind.Command → bench.new.out.items ≡ []) }
-    ensures room { IfNone result (kind ≡ TurnKind.Command → GATHERED ≤ vec_capacity bench.new.out) }
+) -> Result<Leave, Answered>
+    ensures turn { IfOk result (λ leave. leave.kind ≡ kind) }
+    ensures all_sent { OnOk result (kind ≡ TurnKind.Command → bench.new.out.items ≡ []) }
+    ensures room { OnOk result (kind ≡ TurnKind.Command → GATHERED ≤ vec_capacity bench.new.out) }
 {
     if kind == TurnKind::Command {
-        let sends = !bench.out.is_empty();
-        if sends || bench.out.reserve(GATHERED).is_err() {
-            if held.is_some() {
-                end_turn(rt, hall, kind);
-            }
-            return Some(if sends {
-                Answered::Full
-            } else {
-                Answered::Failed
-            });
+        if !bench.out.is_empty() {
+            end_turn(rt, hall, held);
+            return Err(Answered::Full);
+        }
+        if bench.out.reserve(GATHERED).is_err() {
+            end_turn(rt, hall, held);
+            return Err(Answered::Failed);
         }
     }
-    if held.is_none() && !hall.turns.begin(rt, kind) {
-        return Some(Answered::Waits(kind));
+    match held {
+        Some(leave) => {
+            if leave.kind() == kind {
+                return Ok(leave);
+            }
+            end_turn(rt, hall, Some(leave));
+        }
+        None => {}
     }
-    None
+    match hall.turns.begin(rt, kind) {
+        Some(leave) => Ok(leave),
+        None => Err(Answered::Waits(kind)),
+    }
 }
 
 /// Ends a turn, and hands a connection that waits for one to the workers.
-fn end_turn<R: Wait, T: Drop>(rt: &R, hall: &Hall<T>, kind: TurnKind) {
-    if let Some(next) = hall.turns.end(rt, kind) {
+fn end_turn<R: Wait, T: Drop>(rt: &R, hall: &Hall<T>, leave: Option<Leave>) {
+    let Some(leave) = leave else {
+        return;
+    };
+    if let Some(next) = hall.turns.end(rt, leave) {
         let place = next.place;
         if !hall.hand(rt, next) {
             hall.give_back(

@@ -70,6 +70,8 @@ impl<'a> FakeStream<'a> {
 impl Stream for FakeStream<'_> {
     ghost took = { λ _ _ _. ⊤ };
 
+    ghost broke = { λ _. ⊤ };
+
     fn receive(&self, buf: &mut [u8]) -> io::Result<usize> {
         let at = self.at.get();
         let next = at.saturating_add(1);

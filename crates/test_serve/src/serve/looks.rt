@@ -150,3 +150,19 @@ fn what_is_dropped_has_a_limit(rt: HostRuntime) -> Result<(), AllocError> {
     assert_eq!(rt; dropped(rt.alloc())?, (3, Turn::Over));
     Ok(())
 }
+
+/// What becomes of a connection on which a request begins, and whether its client is told that nothing more will be written: it
+/// is where memory for the request is refused (`rt try --test --fail-alloc N`), and still reads what it was sent.
+fn begin(alloc: Global) -> (Turn, bool) {
+    let taker = Taker::new(0);
+    let steps = [Step::Gives(b"GET /"), Step::Nothing];
+    let mut connection = connection_of(alloc, &steps, &taker);
+    let turn = connection.look(alloc, &Limits::of_nodes(1), &mut [0u8; 64], 0);
+    (turn, taker.ended.get())
+}
+
+#[test]
+fn no_connection_is_reset_for_want_of_memory(rt: HostRuntime) {
+    let begun = begin(rt.alloc());
+    assert!(rt; begun == (Turn::Waits, false) || begun == (Turn::Again, true));
+}
