@@ -1,5 +1,5 @@
 // What the items of a list come to.
-ghost use Rattle.std.specs.Prelude.{◌≡◌, List, OnErr, OnOk};
+ghost use Rattle.std.specs.Prelude.{◌≡◌, List, IfOk, OnErr, OnOk};
 
 use std::alloc::AllocError;
 
@@ -15,4 +15,8 @@ pub trait Fold<T> {
     fn take_item(&mut self, item: &T) -> Result<(), AllocError>
         ensures taken { OnOk result (self.new ≡ applied self.old item.now) }
         ensures refused { OnErr result (self.new ≡ self.old) };
+
+    /// A copy. The only error is out of memory.
+    fn again(&self) -> Result<Self, AllocError>
+        ensures { IfOk result (λ copy. copy ≡ self.now) };
 }

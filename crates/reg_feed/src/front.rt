@@ -1,10 +1,11 @@
 // Fronts of a feed's one list, which its pending items are in too. Readers never get one.
-ghost use Rattle.std.specs.Prelude.{◌≡◌, ◌+◌, ◌<◌, ◌≤◌, ◌++◌, ◌∷◌, ◌⊎◌, [], length, MatchBool};
+ghost use Rattle.std.specs.Prelude.{◌≡◌, ◌+◌, ◌<◌, ◌≤◌, ◌++◌, ◌∷◌, ◌⊎◌, [], length, IfSome, MatchBool};
 ghost use mathlib.Core.List.{IsPrefix};
 ghost use Rattle.reg_feed.specs.Fronts.{head_of};
 
 use crate::fold::Fold;
 use logbook::{Gain, Offer, Plain, Play, Rule, Seen as Reached, Start, Word};
+use std::collections::VecDeque;
 use std::marker::{Model, PhantomData};
 
 /// What holds of the word that counts the items: it is their number.
@@ -193,5 +194,25 @@ impl<T, V: Fold<T>, N: FeedName<T, V>> Front<T, V, N> {
         self.count = count + 1;
         self.reached = reached;
         true
+    }
+
+    /// This front with the items behind it, where it is the whole list. With one writer it always is.
+    pub(crate) fn with_all(
+        &self,
+        history: &History<T, V, N>,
+        items: VecDeque<T>,
+    ) -> Option<Front<T, V, N>>
+    where
+        T: Drop,
+        ensures { IfSome result (λ front. front ≡ self.now ++ items.items) }
+    {
+        let mut front = self.again();
+        let mut items = items;
+        while let Some(item) = items.pop_front() {
+            if !front.add(history, &item) {
+                return None;
+            }
+        }
+        Some(front)
     }
 }

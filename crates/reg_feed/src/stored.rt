@@ -10,21 +10,29 @@ use left_right::Absorb;
 use std::alloc::AllocError;
 use std::marker::Model;
 
-/// An item, with the front of the list that ends in it. Contracts see that front.
+/// What comes with a front: its last item, or what all of it folds to.
+#[derive(Drop)]
+pub enum Brought<T, V> {
+    Item(T),
+    Value(V),
+}
+
+/// A front, with what it brings to a copy. Contracts see the front.
 #[derive(Drop)]
 pub struct Op<T, V: Fold<T>, N: FeedName<T, V>> {
-    item: T,
+    brought: Brought<T, V>,
     front: Front<T, V, N>,
 }
 
 impl<T, V: Fold<T>, N: FeedName<T, V>> Model for Op<T, V, N> {
-    ghost use Rattle.std.specs.Prelude.{◌≡◌, ◌++◌, ◌∷◌, [], List};
+    ghost use Rattle.std.specs.Prelude.{List};
+    ghost use Rattle.reg_feed.specs.Growing.{Brings};
 
     ghost Value = { List T };
 
     ghost view = { λ o. o.front };
 
-    ghost invariant = { λ o. (l : List T) × (o.front ≡ l ++ o.item ∷ []) };
+    ghost invariant = { λ o. Brings V.applied N.first o.brought o.front };
 }
 
 /// The value that a list folds to, and the front that the list is. Contracts see the list.
@@ -59,7 +67,35 @@ impl<T: Drop, V: Fold<T> + Drop, N: FeedName<T, V>> Absorb<Op<T, V, N>> for Stor
         op: &Op<T, V, N>,
         _other: &Stored<T, V, N>,
     ) -> Result<(), AllocError> {
-        self.take(op)
+        match &op.brought {
+            Brought::Item(item) => self.take(item, &op.front),
+            Brought::Value(value) => {
+                let value = value.again()?;
+                self.put(value, op.front.again());
+                Ok(())
+            }
+        }
+    }
+
+    // A value that was brought is this copy's: no other one is made.
+    fn absorb_second(
+        &mut self,
+        op: Op<T, V, N>,
+        _other: &Stored<T, V, N>,
+    ) -> Result<(), Op<T, V, N>> {
+        let Op { brought, front } = op;
+        match brought {
+            Brought::Item(item) => {
+                if self.take(&item, &front).is_err() {
+                    return Err(Op::of_item(item, front));
+                }
+                Ok(())
+            }
+            Brought::Value(value) => {
+                self.put(value, front);
+                Ok(())
+            }
+        }
     }
 }
 
@@ -73,11 +109,26 @@ impl<T, V: Fold<T>, N: FeedName<T, V>> Protocol<Stored<T, V, N>, ()> for Stored<
 }
 
 impl<T, V: Fold<T>, N: FeedName<T, V>> Op<T, V, N> {
-    pub(crate) fn new(item: T, front: Front<T, V, N>) -> Op<T, V, N>
+    /// A front with its last item.
+    pub(crate) fn of_item(item: T, front: Front<T, V, N>) -> Op<T, V, N>
         requires ends { (l : List T) × (front ≡ l ++ item ∷ []) }
         ensures { result ≡ front }
     {
-        Op { item, front }
+        Op {
+            brought: Brought::Item(item),
+            front,
+        }
+    }
+
+    /// A front with what it folds to.
+    pub(crate) fn of_value(value: V, front: Front<T, V, N>) -> Op<T, V, N>
+        requires folds { value ≡ fold V.applied N.first front }
+        ensures { result ≡ front }
+    {
+        Op {
+            brought: Brought::Value(value),
+            front,
+        }
     }
 }
 
@@ -106,18 +157,33 @@ impl<T, V: Fold<T>, N: FeedName<T, V>> Stored<T, V, N> {
 }
 
 impl<T: Drop, V: Fold<T> + Drop, N: FeedName<T, V>> Stored<T, V, N> {
-    /// Takes in the last item of a front that is longer by one, and so begins with this list. Any
-    /// other front changes nothing; the one writer hands in none.
-    fn take(&mut self, op: &Op<T, V, N>) -> Result<(), AllocError>
-        ensures taken { OnOk result (self.new ≡ grown self.old op.now) }
+    /// Takes in the last item of a front that is longer by one, and so begins with this list. A front that is
+    /// no longer changes nothing, and one that lacks more is refused; the one writer hands in neither.
+    fn take(&mut self, item: &T, front: &Front<T, V, N>) -> Result<(), AllocError>
+        requires { (l : List T) × (front.now ≡ l ++ item.now ∷ []) }
+        ensures taken { OnOk result (self.new ≡ grown self.old front.now) }
         ensures refused { OnErr result (self.new ≡ self.old) }
     {
-        if op.front.len() - 1 != self.front.len() {
+        if front.len() <= self.front.len() {
             return Ok(());
         }
-        let front = self.front.longer(&op.front);
-        self.value.take_item(&op.item)?;
-        self.front = front;
+        if front.len() - 1 != self.front.len() {
+            return Err(AllocError);
+        }
+        let longer = self.front.longer(front);
+        self.value.take_item(item)?;
+        self.front = longer;
         Ok(())
+    }
+
+    /// Becomes a longer list, with what that folds to. A front that is no longer changes nothing.
+    fn put(&mut self, value: V, front: Front<T, V, N>)
+        requires folds { value ≡ fold V.applied N.first front }
+        ensures { self.new ≡ grown self.old front }
+    {
+        if self.front.len() < front.len() {
+            self.value = value;
+            self.front = front;
+        }
     }
 }

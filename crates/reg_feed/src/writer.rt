@@ -11,6 +11,7 @@ use crate::seen::Seen;
 use crate::shelf::Shelf;
 use crate::stored::{Op, Stored};
 use std::alloc::{AllocError, Global};
+use std::collections::VecDeque;
 use std::error::Error;
 use std::fmt;
 use std::marker::Model;
@@ -67,7 +68,7 @@ impl<T: Drop, V: Fold<T> + Drop, N: FeedName<T, V>, S: Copies<T, V, N>, R: Wait 
 }
 
 /// A feed whose list has no item, with places for so many readers. The only error is out of memory.
-pub fn feed<T: Drop, V: Fold<T> + Clone + Drop, N: FeedName<T, V>, R: Wait + Drop>(
+pub fn feed<T: Drop, V: Fold<T> + Drop, N: FeedName<T, V>, R: Wait + Drop>(
     rt: R,
     alloc: Global,
     list: Unnamed<T>,
@@ -75,11 +76,10 @@ pub fn feed<T: Drop, V: Fold<T> + Clone + Drop, N: FeedName<T, V>, R: Wait + Dro
     readers: usize,
 ) -> Result<FeedWriter<T, V, N, Stored<T, V, N>, R>, AllocError>
     requires name { (list.reached.book ≡ N.book) × (first ≡ N.first) }
-    requires clones { (y : V) → V.is_clone first y → y ≡ first }
     requires readers { (0 < readers) × (readers < 2 ^ 32) }
     ensures { IfOk result (λ w. w ≡ ([], [])) }
 {
-    let second = first.clone()?;
+    let second = first.again()?;
     let (history, origin) = list.named::<V, N>();
     let one = Stored::new(first, &origin);
     let other = Stored::new(second, &origin);
@@ -145,7 +145,24 @@ impl<T: Drop, V: Fold<T> + Drop, N: FeedName<T, V>, S: Copies<T, V, N>, R: Wait 
         if !self.whole.add(&self.history, &item) {
             return Err(item);
         }
-        self.next = Some(Op::new(item, self.whole.again()));
+        self.next = Some(Op::of_item(item, self.whole.again()));
+        Ok(())
+    }
+
+    /// Adds items to the pending ones, with what the whole list then folds to: both copies get that value, and
+    /// take in no item. The only error is out of memory; all is then as it was.
+    pub fn append_all(&mut self, items: VecDeque<T>, value: V) -> Result<(), AllocError>
+        requires folds { value ≡ fold V.applied N.first (self.old.0 ++ (self.old.1 ++ items.items)) }
+        ensures published { self.new.0 ≡ self.old.0 }
+        ensures pending { OnOk result (self.new.1 ≡ self.old.1 ++ items.items) }
+        ensures refused { OnErr result (self.new.1 ≡ self.old.1) }
+    {
+        hand_over(&mut self.shelf, &mut self.next)?;
+        let Some(whole) = self.whole.with_all(&self.history, items) else {
+            return Err(AllocError);
+        };
+        self.next = Some(Op::of_value(value, whole.again()));
+        self.whole = whole;
         Ok(())
     }
 

@@ -39,7 +39,7 @@ use Rattle.reg_node.proofs.Drawn.{drawn_longer, drawn_more, drawn_takes, last_fr
 use Rattle.reg_node.proofs.Members.{both, both_true, each_of, equal, in_all, none_in, or_left, or_right}
 use Rattle.reg_node.proofs.Prefixes.{prefix_self}
 
-either : (a b : Bool) → (a || b) ≡ true → (a ≡ true) ⊎ (b ≡ true)
+pub either : (a b : Bool) → (a || b) ≡ true → (a ≡ true) ⊎ (b ≡ true)
 either true b h = inl refl
 either false b h = inr h
 
@@ -56,11 +56,11 @@ one_of : {A B C : Type 0} → (A → C) → (B → C) → A ⊎ B → C
 one_of f g (inl a) = f a
 one_of f g (inr b) = g b
 
-each_some : {A : Type 0} {P : A → Type 0} (o : Option A) → ((a : A) → o ≡ Some a → P a) → IfSome o P
+pub each_some : {A : Type 0} {P : A → Type 0} (o : Option A) → ((a : A) → o ≡ Some a → P a) → IfSome o P
 each_some (Some a) f = f a refl
 each_some None f = tt
 
-some_is : {A : Type 0} (P : A → Type 0) (o : Option A) (a : A) → o ≡ Some a → IfSome o P → P a
+pub some_is : {A : Type 0} (P : A → Type 0) (o : Option A) (a : A) → o ≡ Some a → IfSome o P → P a
 some_is P o a e h = subst (λ x. IfSome x P) e h
 
 -- an older record of a key stands no later in the topic
@@ -69,7 +69,7 @@ first_le Less b h = refl
 first_le Equal b h = refl
 first_le Greater b h = absurd (false≢true h)
 
-offset_le : (q r : Record) → is_le (age_cmp q r) ≡ true → q.offset ≤ r.offset
+pub offset_le : (q r : Record) → is_le (age_cmp q r) ≡ true → q.offset ≤ r.offset
 unfolding age_cmp
 offset_le q r h = le_from_is_le q.offset r.offset (first_le _ (value_cmp q.value r.value) h)
 
@@ -151,7 +151,7 @@ module _ (order : IsTotalOrder record_cmp) (apart : IsAntisymmetric record_cmp) 
       ∙ (λ i. in_from other.floor s r i || in_below other.floor other.records r i)
 
   -- the records brought are those kept below the floor
-  same_base : (s : Records) (kept : Floored) (records : List Record) (read : ℕ) → IsBelow kept.records kept.floor records
+  pub same_base : (s : Records) (kept : Floored) (records : List Record) (read : ℕ) → IsBelow kept.records kept.floor records
       → rebased s (base_in (record { read = read; floor = kept.floor; below = records })) ≡ rebased s kept
   same_base s kept records read is = same_set order apart _ (rebased s kept) (λ q.
       in_rebased s (base_in (record { read = read; floor = kept.floor; below = records })) q
@@ -166,12 +166,12 @@ module _ (order : IsTotalOrder record_cmp) (apart : IsAntisymmetric record_cmp) 
 
   -- What the records are after a rebase, if there is one, and takes of what is kept and new: what was there, as far as the floor leaves it,
   -- what is new, and below a floor that is another one what is kept.
-  record Adds (kept : Floored) (floor upto : ℕ) (before after : Records) : Type 0 where
-    new : (r : Record) → contains kept.records r ≡ true → max upto kept.floor ≤ r.offset → contains after r ≡ true
-    stays : (r : Record) → contains before r ≡ true → kept.floor ≤ r.offset → contains after r ≡ true
-    stays_low : floor ≡ kept.floor → (r : Record) → contains before r ≡ true → contains after r ≡ true
-    low : floor ≢ kept.floor → (r : Record) → contains kept.records r ≡ true → r.offset < kept.floor → contains after r ≡ true
-    from : (r : Record) → contains after r ≡ true → ((contains before r ≡ true) × ((floor ≡ kept.floor) ⊎ (kept.floor ≤ r.offset)))
+  pub record Adds (kept : Floored) (floor upto : ℕ) (before after : Records) : Type 0 where
+    pub new : (r : Record) → contains kept.records r ≡ true → max upto kept.floor ≤ r.offset → contains after r ≡ true
+    pub stays : (r : Record) → contains before r ≡ true → kept.floor ≤ r.offset → contains after r ≡ true
+    pub stays_low : floor ≡ kept.floor → (r : Record) → contains before r ≡ true → contains after r ≡ true
+    pub low : floor ≢ kept.floor → (r : Record) → contains kept.records r ≡ true → r.offset < kept.floor → contains after r ≡ true
+    pub from : (r : Record) → contains after r ≡ true → ((contains before r ≡ true) × ((floor ≡ kept.floor) ⊎ (kept.floor ≤ r.offset)))
         ⊎ ((contains kept.records r ≡ true) × ((max upto kept.floor ≤ r.offset) ⊎ ((floor ≢ kept.floor) × (r.offset < kept.floor))))
 
   -- what is new is kept, from both offsets on
@@ -203,7 +203,7 @@ module _ (order : IsTotalOrder record_cmp) (apart : IsAntisymmetric record_cmp) 
         ];
   }
 
-  adds_base : (kept : Floored) (floor upto read : ℕ) (before : Records) (records : List Record)
+  pub adds_base : (kept : Floored) (floor upto read : ℕ) (before : Records) (records : List Record)
       → floor ≢ kept.floor → IsSince kept.records (max upto kept.floor) records
       → Adds kept floor upto before (fold with_draw (rebased before kept) (takes_of read records))
   adds_base kept floor upto read before records other since =

@@ -1,5 +1,6 @@
 -- Draws from fronts of the topic's list.
 use Rattle.std.proofs.Common.{◌≡◌, ℕ, true, List, [], ◌∷◌, ◌++◌, Option, Some, None, length, fold, refl, sym, ap, ◌∙◌, append_assoc}
+use Rattle.std.proofs.lemmas.List.{append-nil}
 use Rattle.std.proofs.lemmas.List.Sums.{fold-append}
 use Rattle.std.specs.FinSet.{contains, empty}
 use Rattle.std.specs.List.{list_all}
@@ -16,11 +17,22 @@ use Rattle.reg_node.proofs.Members.{both_true}
 use Rattle.reg_node.proofs.Prefixes.{prefix_self, prefix_trans}
 
 -- more draws behind the pending ones
-pub more_behind : (published pending rest more after : List Draw) → after ≡ rest ++ more
-    → (published ++ (pending ++ rest)) ++ more ≡ published ++ (pending ++ after)
-more_behind published pending rest more after is =
-    append_assoc published (pending ++ rest) more
-    ∙ ap (λ (w : List Draw). published ++ w) (append_assoc pending rest more ∙ ap (λ (w : List Draw). pending ++ w) (sym is))
+pub more_behind : (published pending more after all : List Draw) → after ≡ published → all ≡ pending ++ more
+    → (published ++ pending) ++ more ≡ after ++ all
+more_behind published pending more after all same is =
+    append_assoc published pending more
+    ∙ ap (λ (w : List Draw). w ++ (pending ++ more)) (sym same)
+    ∙ ap (λ (w : List Draw). after ++ w) (sym is)
+
+-- what was appended, where none is left
+pub out_is : (out left pending : List Draw) → out ++ left ≡ pending → left ≡ [] → out ≡ pending
+out_is out left pending is none = sym (append-nil out) ∙ ap (λ (w : List Draw). out ++ w) (sym none) ∙ is
+
+-- draws behind the pending ones, of which none is left
+pub behind_all : (published pending draws after out left : List Draw) → after ≡ published → out ++ left ≡ pending → left ≡ []
+    → (published ++ pending) ++ draws ≡ after ++ (out ++ draws)
+behind_all published pending draws after out left same is none =
+    more_behind published pending draws after (out ++ draws) same (ap (λ (w : List Draw). w ++ draws) (out_is out left pending is none))
 
 -- the floor after a pull is the kept one
 floor_of_takes : (floor read : ℕ) (records : List Record) → fold floor_with floor (takes_of read records) ≡ floor

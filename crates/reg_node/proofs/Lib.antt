@@ -1,3 +1,4 @@
+pub mod Begun
 pub mod Caught
 pub mod Drawn
 pub mod Lasts

@@ -1,13 +1,15 @@
 -- Private: what a follower remembers of its last pull, and why that is enough.
-use Rattle.std.specs.Prelude.{◌≡◌, ◌⊎◌, ◌<◌, ◌≤◌, ℕ, max, true, false, List, ◌++◌, Some, length, Option}
+use Rattle.std.specs.Prelude.{◌≡◌, ◌≢◌, ◌⊎◌, ◌<◌, ◌≤◌, ℕ, max, true, false, List, ◌++◌, Some, None, length, Option}
 use Rattle.std.specs.FinSet.{contains}
 use Rattle.std.specs.List.{AllByRecursion, list_any}
 use mathlib.Core.List.{IsPrefix}
 use Rattle.reg_records.specs.declared.key.Key.{Key}
 use Rattle.reg_records.specs.declared.record.Record.{Record}
 use Rattle.reg_set.specs.Compaction.{IsGone}
-use Rattle.reg_set.specs.LastRecords.{last}
+use Rattle.reg_set.specs.LastRecords.{last, last_records}
+use Rattle.reg_set.specs.Records.{Records}
 use Rattle.reg_kept.specs.Compaction.{IsCompactionOf}
+use Rattle.reg_kept.specs.Floored.{Floored}
 use Rattle.reg_topic.specs.Topic.{whole_log}
 use Rattle.reg_topic.specs.declared.published.Item.{Item}
 use Rattle.reg_shared.specs.Held.{Held, IsSince, held_of, topic_at}
@@ -32,6 +34,11 @@ pub record IsNews (held : Held) (floor upto : ℕ) (below : Option (List Record)
   pub since : IsSince held.kept.records (max upto held.kept.floor) records
   pub ends : AllByRecursion (λ r. r.offset < held.next) records
 
+-- the registry over all that is kept: with it a node may go on that took nothing, or that is rebased
+abbrev pub IsWhole : Floored → ℕ → ℕ → Option Records → Type 0
+IsWhole kept floor upto None = Unit {0}
+IsWhole kept floor upto (Some registry) = ((upto ≡ 0) ⊎ (floor ≢ kept.floor)) × (registry ≡ last_records kept.records)
+
 -- what holds after a pull: so it is up to the next offset, and all that was taken is a compaction of the log
 pub record IsCaughtUp (first : Held) (front : List Item) (ds : List Draw) : Type 0 where
   pub caught : IsCaught first front ds (topic_at first front).next
@@ -51,3 +58,12 @@ NewsCatchUp = (first : Held) (front : List Item) (ds : List Draw) (upto : ℕ) (
     → IsCaught first front ds upto → IsNews (held_of (topic_at first front)) (floor_of ds) upto below records
     → IsCaughtUp first front (ds ++ draws_of (length front) (topic_at first front).kept.floor below records)
     × (list_any (contains (taken ds)) records ≡ false)
+
+-- where nothing was taken, and at a rebase, the last records that a node then has are those of all that is kept
+abbrev pub NewsAreWhole : Type 0
+NewsAreWhole = (first : Held) (front : List Item) (ds : List Draw) (upto : ℕ) (below : Option (List Record)) (records : List Record)
+    → first.kept.floor ≤ first.next
+    → IsCaught first front ds upto → IsNews (held_of (topic_at first front)) (floor_of ds) upto below records
+    → (upto ≡ 0) ⊎ (floor_of ds ≢ (topic_at first front).kept.floor)
+    → last_records (taken (ds ++ draws_of (length front) (topic_at first front).kept.floor below records))
+    ≡ last_records (topic_at first front).kept.records

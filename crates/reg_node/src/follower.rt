@@ -1,14 +1,15 @@
 // What takes from the topic, and publishes to a node's views.
-ghost use Rattle.std.specs.Prelude.{◌≡◌, ◌⊎◌, ◌≤◌, ◌++◌, [], IfOk, MatchBool, OnErr, OnOk};
+ghost use Rattle.std.specs.Prelude.{◌≡◌, ◌⊎◌, ◌≤◌, ◌++◌, [], IfOk, IfSome, MatchBool, OnErr, OnOk};
 ghost use Rattle.std.specs.FinSet.{empty};
 ghost use mathlib.Core.List.{IsPrefix};
 ghost use Rattle.reg_kept.specs.Compaction.{IsCompactionOf};
 ghost use Rattle.reg_shared.specs.Held.{held_of, topic_at};
 ghost use Rattle.reg_topic.specs.Topic.{whole_log};
 ghost use Rattle.reg_node.specs.Caught.{IsNews};
-ghost use Rattle.reg_node.specs.Takes.{AreDrawnFrom, Pulls, draws_of, taken_set};
+ghost use Rattle.reg_node.specs.Takes.{AreDrawnFrom, Pulls, draws_of, taken, taken_set};
+ghost use Rattle.reg_set.specs.LastRecords.{last_records};
 
-use crate::laws::followers_catch_up;
+use crate::laws::{draws_fold_to_last_records, followers_catch_up};
 use crate::news::{News, add_draws, read_news};
 use crate::take::{Draw, Taken};
 use crate::view::View;
@@ -137,14 +138,10 @@ impl<
             self.upto = found.next;
             return Ok(false);
         }
-        let News {
-            below,
-            records,
-            next,
-            floor,
-        } = found;
+        let next = found.next;
+        let floor = found.floor;
         let read = self.topic.seen().len();
-        add_draws(&mut self.rest, read, floor, below, records)?;
+        add_news(&mut self.out, &mut self.rest, read, found)?;
         self.upto = next;
         self.floor = floor;
         Ok(true)
@@ -186,6 +183,56 @@ impl<
         let reader = self.out.reader()?;
         Ok(View::new(alloc, reader))
     }
+}
+
+/// Adds what is new behind all draws of a node's list. The only error is out of memory; none is added then.
+fn add_news<M: FeedName<Draw, Taken>, U: Copies<Draw, Taken, M>, R: Wait + Drop>(
+    out: &mut Box<FeedWriter<Draw, Taken, M, U, R>>,
+    rest: &mut VecDeque<Draw>,
+    read: u64,
+    found: News,
+) -> Result<(), AllocError>
+    requires nothing { M.first ≡ empty }
+    requires whole { IfSome found.whole (λ registry. registry
+        ≡ last_records (taken ((out.old.value.0 ++ (out.old.value.1 ++ rest.old.items)) ++ draws_of read found.floor found.below found.records.items))) }
+    ensures published { out.new.value.0 ≡ out.old.value.0 }
+    ensures added { OnOk result (out.new.value.1 ++ rest.new.items
+        ≡ (out.old.value.1 ++ rest.old.items) ++ draws_of read found.floor found.below found.records.items) }
+    ensures refused { OnErr result (out.new.value.1 ++ rest.new.items ≡ out.old.value.1 ++ rest.old.items) }
+{
+    let News {
+        below,
+        records,
+        floor,
+        whole,
+        ..
+    } = found;
+    let Some(registry) = whole else {
+        return add_draws(rest, read, floor, below, records);
+    };
+    let alloc = *Box::allocator(out);
+    let mut draws = VecDeque::new(alloc);
+    add_draws(&mut draws, read, floor, below, records)?;
+    append_whole(out, rest, draws, Taken::of(alloc, registry))
+}
+
+/// Appends all draws to a node's list, with what the whole list then folds to. The only error is out of memory;
+/// those that weren't appended before then stay where they are.
+fn append_whole<M: FeedName<Draw, Taken>, U: Copies<Draw, Taken, M>, R: Wait + Drop>(
+    out: &mut FeedWriter<Draw, Taken, M, U, R>,
+    rest: &mut VecDeque<Draw>,
+    draws: VecDeque<Draw>,
+    whole: Taken,
+) -> Result<(), AllocError>
+    requires nothing { M.first ≡ empty }
+    requires whole { whole ≡ last_records (taken (out.old.0 ++ (out.old.1 ++ rest.old.items) ++ draws.items)) }
+    ensures published { out.new.0 ≡ out.old.0 }
+    ensures added { OnOk result (out.new.1 ++ rest.new.items ≡ (out.old.1 ++ rest.old.items) ++ draws.items) }
+    ensures refused { OnErr result (out.new.1 ++ rest.new.items ≡ out.old.1 ++ rest.old.items) }
+{
+    draws_fold_to_last_records();
+    append_all(out, rest)?;
+    out.append_all(draws, whole)
 }
 
 /// Appends the draws to a node's list. The only error is out of memory; those that weren't appended

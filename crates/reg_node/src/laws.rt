@@ -1,10 +1,12 @@
 // The laws of what nodes take. What is proved here costs nothing at run time: a function that needs a
 // law calls it.
-ghost use Rattle.reg_node.specs.Caught.{CaughtStays, NewsCatchUp};
+ghost use Rattle.reg_node.specs.Caught.{CaughtStays, NewsAreWhole, NewsCatchUp};
 ghost use Rattle.reg_node.specs.Takes.{DrawsFoldToLastRecords};
 
 use reg_kept::{compactions_compose, rebasing_keeps_lasts};
-use reg_set::{last_is_greatest, last_records_of_unions, records_are_ordered};
+use reg_set::{
+    last_is_greatest, last_records_are_enough, last_records_of_unions, records_are_ordered,
+};
 use reg_shared::later_records_are_news;
 use reg_topic::{floors_stay_below, kept_sets_are_compactions};
 
@@ -18,12 +20,14 @@ pub fn draws_fold_to_last_records()
 }
 
 /// What a follower took stays right as the topic's list goes on, and what is kept from its offset on
-/// is all that it lacks.
+/// is all that it lacks. At its beginning and at a rebase it has the last records of all that is kept.
 pub(crate) fn followers_catch_up()
     ensures stays { CaughtStays }
     ensures news { NewsCatchUp }
+    ensures whole { NewsAreWhole }
 {
     records_are_ordered();
+    last_records_are_enough();
     last_is_greatest();
     compactions_compose();
     floors_stay_below();

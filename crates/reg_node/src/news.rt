@@ -3,12 +3,13 @@ ghost use Rattle.std.specs.Prelude.{◌≡◌, ◌≢◌, ◌+◌, ◌≤◌, �
 ghost use Rattle.std.specs.VecDeque.{deque_capacity, deque_len};
 ghost use mathlib.Core.List.{IsPrefix};
 ghost use Rattle.reg_shared.specs.Held.{IsBelow, held_of, topic_at};
-ghost use Rattle.reg_node.specs.Caught.{IsNews};
+ghost use Rattle.reg_node.specs.Caught.{IsNews, IsWhole};
 ghost use Rattle.reg_node.specs.Takes.{IsBasis, draws_of, takes_of};
 
 use crate::take::{Draw, Rebase, Take};
 use base_text::Listed;
 use reg_feed::{Copies, FeedName, FeedReader};
+use reg_fold::Registry;
 use reg_records::Record;
 use reg_shared::{Shared, published_lists_fold};
 use reg_topic::Item;
@@ -16,13 +17,15 @@ use std::alloc::AllocError;
 use std::collections::VecDeque;
 
 /// What is to be drawn: the kept records below the kept floor, for a rebase, where the floors differ, and
-/// those that are new, with the next offset and that floor beside them.
+/// those that are new, with the next offset and that floor beside them. For a node that took nothing, and for
+/// a rebase, there is the registry over all that is kept too.
 #[derive(Drop)]
 pub(crate) struct News {
     pub(crate) below: Option<Listed<Record>>,
     pub(crate) records: Vec<Record>,
     pub(crate) next: u64,
     pub(crate) floor: u64,
+    pub(crate) whole: Option<Registry>,
 }
 
 impl News {
@@ -49,13 +52,15 @@ pub(crate) fn read_news<N: FeedName<Item, Shared>, S: Copies<Item, Shared, N>>(
     ensures news { IfOk result (λ news. IsNews (held_of (topic_at N.first topic.new)) floor from news.below news.records.items) }
     ensures next { IfOk result (λ news. news.next ≡ (topic_at N.first topic.new).next) }
     ensures floor { IfOk result (λ news. news.floor ≡ (topic_at N.first topic.new).kept.floor) }
+    ensures whole { IfOk result (λ news. IsWhole (topic_at N.first topic.new).kept floor from news.whole) }
     ensures longer { IsPrefix topic.old topic.new }
 {
     published_lists_fold();
     let found = topic.read(
         |shared| -> Result<News, AllocError>
             ensures { IfOk result (λ news. IsNews shared.now floor from news.below news.records.items
-                × (news.next ≡ shared.now.next) × (news.floor ≡ shared.now.kept.floor)) }
+                × (news.next ≡ shared.now.next) × (news.floor ≡ shared.now.kept.floor)
+                × IsWhole shared.now.kept floor from news.whole) }
         { copy_news(shared, from, floor) },
     );
     match found {
@@ -67,7 +72,8 @@ pub(crate) fn read_news<N: FeedName<Item, Shared>, S: Copies<Item, Shared, N>>(
 /// What is new from an offset on. The only error is out of memory.
 fn copy_news(shared: &Shared, from: u64, floor: u64) -> Result<News, AllocError>
     ensures { IfOk result (λ news. IsNews shared.now floor from news.below news.records.items
-        × (news.next ≡ shared.now.next) × (news.floor ≡ shared.now.kept.floor)) }
+        × (news.next ≡ shared.now.next) × (news.floor ≡ shared.now.kept.floor)
+        × IsWhole shared.now.kept floor from news.whole) }
 {
     let below = copy_below(shared, floor)?;
     Ok(News {
@@ -75,7 +81,19 @@ fn copy_news(shared: &Shared, from: u64, floor: u64) -> Result<News, AllocError>
         records: shared.since(from.max(shared.floor()))?,
         next: shared.next(),
         floor: shared.floor(),
+        whole: copy_whole(shared, from, floor)?,
     })
+}
+
+/// The registry over all that is kept, where nothing was taken, or the floors differ. The only error is out of
+/// memory.
+fn copy_whole(shared: &Shared, from: u64, floor: u64) -> Result<Option<Registry>, AllocError>
+    ensures { IfOk result (λ whole. IsWhole shared.now.kept floor from whole) }
+{
+    if from > 0 && shared.floor() == floor {
+        return Ok(None);
+    }
+    Ok(Some(shared.registry().clone()?))
 }
 
 /// The kept records below the kept floor, if that isn't the given one. The only error is out of memory.

@@ -70,6 +70,13 @@ impl Taken {
         }
     }
 
+    /// All that the registry holds.
+    pub(crate) fn of(alloc: Global, registry: Registry) -> Taken
+        ensures { result ≡ registry }
+    {
+        Taken { alloc, registry }
+    }
+
     /// The registry over the records.
     pub(crate) fn registry(&self) -> &Registry
         ensures { result.now ≡ self.now }
@@ -117,6 +124,10 @@ impl Fold<Draw> for Taken {
             Draw::Take(take) => self.registry.apply(&take.kept),
             Draw::Rebase(rebase) => self.rebase(rebase),
         }
+    }
+
+    fn again(&self) -> Result<Taken, AllocError> {
+        self.clone()
     }
 }
 

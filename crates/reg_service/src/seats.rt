@@ -127,6 +127,8 @@ fn begin_to_follow<
     // What the topic begins with is there before the first request is.
     follower.pull()?;
     follower.publish()?;
+    // Both copies have it, so that the first command costs what later ones do.
+    follower.catch_up_unshown();
     let mut views = Vec::new(alloc);
     for _worker in 0..workers {
         views.push(follower.view()?)?;

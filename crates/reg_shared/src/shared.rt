@@ -279,6 +279,10 @@ impl Fold<Item> for Shared {
             }
         }
     }
+
+    fn again(&self) -> Result<Shared, AllocError> {
+        self.clone()
+    }
 }
 
 /// The topic's feed. A program that makes one picks both at its call.

@@ -1,6 +1,7 @@
 // Feeds of numbers, whose names are picked where they are made.
 mod named;
 mod published;
+mod together;
 
 ghost use Rattle.std.specs.Prelude.{◌≡◌};
 
@@ -35,6 +36,10 @@ impl Fold<u64> for Sum {
         }
         self.total = self.total.saturating_add(*item);
         Ok(())
+    }
+
+    fn again(&self) -> Result<Sum, AllocError> {
+        self.clone()
     }
 }
 

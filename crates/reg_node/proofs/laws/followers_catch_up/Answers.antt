@@ -1,3 +1,4 @@
+use Rattle.reg_node.proofs.Begun.{news_are_whole}
 use Rattle.reg_node.proofs.Caught.{caught_stays, news_catch_up}
 use Rattle.reg_node.proofs.laws.followers_catch_up.Goals as goal
 
@@ -13,3 +14,12 @@ returns-clause-news c =
     let k = c.kept_sets_are_compactions.ensures in
     let g = c.last_is_greatest.ensures in
     news_catch_up o.all o.apart k.grows k.kept c.floors_stay_below.ensures.below c.compactions_compose.ensures.itself g.greatest g.none
+
+pub returns-clause-whole : goal.returns-clause-whole
+returns-clause-whole c =
+    let o = c.records_are_ordered.ensures in
+    let k = c.kept_sets_are_compactions.ensures in
+    let g = c.last_is_greatest.ensures in
+    let itself = c.compactions_compose.ensures.itself in
+    news_are_whole o.all o.apart g.greatest g.none c.last_records_are_enough.ensures.last_records k.kept itself
+    (news_catch_up o.all o.apart k.grows k.kept c.floors_stay_below.ensures.below itself g.greatest g.none)
