@@ -13,7 +13,7 @@ use Rattle.reg_shared.specs.Held.{Held, base_of}
 use Rattle.reg_pen.specs.Pen.{Acts, Follows, IsBehind, IsPen, IsStepAfter, PenState, Submits, StillPends, item_of, counted, settled}
 use Rattle.reg_pen.specs.Writing.{SubmitsAndCompacts}
 use Rattle.reg_pen.specs.declared.keep.Kept.{Kept}
-use Rattle.reg_pen.specs.declared.keep.Kept.TheVariants.{Taken, Declined, Lost}
+use Rattle.reg_pen.specs.declared.keep.Kept.TheVariants.{Taken, Declined, Lost, Unknown}
 use Rattle.reg_node.specs.declared.take.Draw.{Draw}
 use Rattle.reg_desk.specs.Desk.{DeskCommands, IsFresh, IsNext, IsSubmitted, IsWritten, Known, Replies, front_of}
 use Rattle.reg_desk.specs.Told.{IsTold, front_at}
@@ -95,6 +95,9 @@ module _ {K : Type 0} (keeps : K → List Record → Kept → K → Type 0) wher
         })))))
     followed before l m reply replied first rest Lost keep p step lent lost =
         stays before l.published m.published reply p (ap (λ (s : PenState K). s.published) lost.1) (inr (inr (inl (first.offset, lost.0))))
+    followed before l m reply replied first rest Unknown keep p step lent unknown =
+        stays before l.published m.published reply p (ap (λ (s : PenState K). s.published) unknown.1)
+        (inr (inr (inl (first.offset, unknown.0))))
 
     acts : (before : List Item) (l m : PenState K) (reply : Reply) → IsPrefix before l.published
         → Acts keeps base l c reply m → IsTold keeps base before c reply m.published

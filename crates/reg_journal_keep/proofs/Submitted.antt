@@ -12,7 +12,7 @@ use Rattle.reg_leader.specs.declared.reply.Reply.{Reply}
 use Rattle.reg_leader.specs.declared.reply.Reply.TheVariants as replies
 use Rattle.reg_pen.specs.Pen.{Acts, Follows, PenState, Submits, item_of}
 use Rattle.reg_pen.specs.declared.keep.Kept.{Kept}
-use Rattle.reg_pen.specs.declared.keep.Kept.TheVariants.{Taken, Declined, Lost}
+use Rattle.reg_pen.specs.declared.keep.Kept.TheVariants.{Taken, Declined, Lost, Unknown}
 use Rattle.reg_records.specs.declared.log.LogFault.{LogFault}
 use Rattle.reg_records.specs.declared.record.Read.{Read}
 use Rattle.reg_records.specs.declared.record.Read.TheVariants as reads
@@ -121,6 +121,7 @@ module _ {D : Type 0} (across : SaidCompactionsCompose) (follow : BatchesFollowC
               subst (λ (b : List Record). IsBeforeOrAfter a.0 b c) (sym same) a.2,
             );
       })
+  lent Unknown keep published old is batch replied unsettled reply m same here keeps follows = absurd keeps.ends
 
   acted : (base : Topic) (published : List Item) (old : KeepState D) (lost : Bool) (c : Command) (reply : Reply)
       (m : PenState (KeepState D))

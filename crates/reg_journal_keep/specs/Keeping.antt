@@ -13,7 +13,7 @@ use Rattle.reg_keeping.specs.CompactedTo.{IsCompactedBy}
 use Rattle.reg_keeping.specs.declared.in_place.CompactError.{CompactError}
 use Rattle.reg_keeping.specs.declared.in_place.CompactError.TheVariants.{Failed}
 use Rattle.reg_pen.specs.declared.keep.Kept.{Kept}
-use Rattle.reg_pen.specs.declared.keep.Kept.TheVariants.{Taken, Declined, Lost}
+use Rattle.reg_pen.specs.declared.keep.Kept.TheVariants.{Taken, Declined, Lost, Unknown}
 use Rattle.reg_pen.specs.declared.keep.Lack.TheVariants as lacks
 use Rattle.reg_records.specs.Written.{HasLine}
 use Rattle.reg_records.specs.declared.limits.TheConstants.{LOG_LINES, OFFSET_LIMIT}
@@ -90,7 +90,7 @@ pub record MakesRoom {D : Type 0} (is_modelled : Type 0) (seen : D → List ℕ)
   pub lost : is_modelled → old.journal.is_broken ≡ false → new.journal.is_broken ≡ true → GaveFault renewals new.journal.disk
 
 -- what the journal's file says after what became of a batch: a compaction of what it said, and all
--- of a batch that was taken behind it, none of it below the floor that is said
+-- of a batch that was taken behind it, none of it below the floor that is said; whether a batch stands is known, or never will be
 abbrev pub Ends : {D : Type 0} → Type 0 → (D → List ℕ) → JournalState D → List Record → Kept → JournalState D → Type 0
 Ends is_modelled seen old batch Taken new =
     (new.is_broken ≡ false)
@@ -99,26 +99,32 @@ Ends is_modelled seen old batch Taken new =
 Ends is_modelled seen old batch (Declined lack) new = (new.is_broken ≡ false)
     × (is_modelled → SaysCompaction (said (seen old.disk)) (said (seen new.disk)))
 Ends is_modelled seen old batch Lost new = new.is_broken ≡ true
+Ends is_modelled seen old batch Unknown new = ⊥
 
 -- a batch can't be kept: not each record has a line and is from the floor on, a line is too long, or there are too many lines
 abbrev pub CannotStand : {D : Type 0} → KeepState D → List Record → KeepState D → Type 0
 CannotStand old batch new = (All HasLine batch × All (λ r. old.floor ≤ r.offset) batch → ⊥)
     ⊎ HasLongLine batch ⊎ (LOG_LINES - new.journal.lines < length batch)
 
--- why a batch isn't taken; one is lost only where one was before, or where the disk gave a fault
+-- why a batch isn't taken; one is lost only where one was before, or where the disk gave a fault; nobody else writes, and the file is all
+-- that there is
 abbrev pub HasReason : {D : Type 0} → Type 0 → (D → DiskError → D → Type 0) → (D → RenewError → D → Type 0)
     → KeepState D → List Record → Kept → KeepState D → Type 0
 HasReason is_modelled faults renewals old batch Taken new = ⊤
 HasReason is_modelled faults renewals old batch (Declined lacks.Memory) new = ⊤
 HasReason is_modelled faults renewals old batch (Declined lacks.Numbers) new = CannotStand old batch new
+HasReason is_modelled faults renewals old batch (Declined lacks.Overtaken) new = ⊥
+HasReason is_modelled faults renewals old batch (Declined lacks.Store) new = ⊥
 HasReason is_modelled faults renewals old batch Lost new = is_modelled → (old.journal.is_broken ≡ true)
     ⊎ GaveFault faults new.journal.disk ⊎ GaveFault renewals new.journal.disk ⊎ ((end : ℕ) × IsTooLarge end batch)
+HasReason is_modelled faults renewals old batch Unknown new = ⊥
 
 -- the next offset behind a batch that is taken
 abbrev pub next_after : ℕ → List Record → Kept → ℕ
 next_after next batch Taken = next_behind next batch
 next_after next batch (Declined lack) = next
 next_after next batch Lost = next
+next_after next batch Unknown = next
 
 -- a batch that is taken stands in the file, whole, behind what was said or a compaction of it; of one that is declined
 -- nothing does; one that is lost breaks the journal for good; from the answer on each crash leaves the file as it is; a

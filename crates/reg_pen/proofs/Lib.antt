@@ -4,5 +4,6 @@ pub mod Batches
 pub mod Begun
 pub mod Compacting
 pub mod Counting
+pub mod Outcomes
 pub mod Prefixes
 pub mod Settling

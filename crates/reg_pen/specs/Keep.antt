@@ -1,8 +1,9 @@
 -- What keeps batches.
 use Rattle.std.specs.Prelude.{◌≡◌, List}
 use Rattle.reg_records.specs.declared.record.Record.{Record}
-use Rattle.reg_refusals.specs.declared.reason.StoreFault.{StoreFault}
 use Rattle.reg_refusals.specs.declared.reason.StoreFault.TheVariants as faults
+use Rattle.reg_refusals.specs.declared.refusal.Refusal.{Refusal}
+use Rattle.reg_refusals.specs.declared.refusal.Refusal.TheVariants.{Store}
 use Rattle.reg_pen.specs.declared.keep.Kept.{Kept}
 use Rattle.reg_pen.specs.declared.keep.Kept.TheVariants.{Taken}
 use Rattle.reg_pen.specs.declared.keep.Lack.{Lack}
@@ -12,7 +13,9 @@ use Rattle.reg_pen.specs.declared.keep.Lack.TheVariants as lacks
 abbrev pub TakesAll : {K : Type 0} → K → List Record → Kept → K → Type 0
 TakesAll keep batch kept keep' = (kept ≡ Taken) × (keep' ≡ keep)
 
--- the fault that is told of a batch that was declined
-abbrev pub fault_of : Lack → StoreFault
-fault_of lacks.Memory = faults.Memory
-fault_of lacks.Numbers = faults.NumbersUsedUp
+-- the refusal that is told of a batch that was declined
+abbrev pub refusal_of : Lack → Refusal
+refusal_of lacks.Memory = Store faults.Memory
+refusal_of lacks.Numbers = Store faults.NumbersUsedUp
+refusal_of lacks.Overtaken = Store faults.Unsettled
+refusal_of lacks.Store = Store faults.Unsettled

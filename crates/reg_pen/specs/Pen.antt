@@ -5,7 +5,6 @@ use Rattle.std.specs.Borrow.{Bor}
 use mathlib.Core.List.{IsPrefix}
 use Rattle.reg_records.specs.declared.record.Record.{Record}
 use Rattle.reg_refusals.specs.Refusal.{no_memory}
-use Rattle.reg_refusals.specs.declared.refusal.Refusal.TheVariants as refusals
 use Rattle.reg_leader.specs.Step.{IsStep}
 use Rattle.reg_leader.specs.declared.command.Command.{Command}
 use Rattle.reg_leader.specs.declared.reply.Reply.{Reply}
@@ -16,11 +15,11 @@ use Rattle.reg_topic.specs.declared.published.Compaction.{Compaction}
 use Rattle.reg_topic.specs.declared.published.Item.{Item}
 use Rattle.reg_topic.specs.declared.published.Item.TheVariants as items
 use Rattle.reg_topic.specs.declared.topic.Topic.{Topic}
-use Rattle.reg_pen.specs.Keep.{fault_of}
+use Rattle.reg_pen.specs.Keep.{refusal_of}
 use Rattle.reg_pen.specs.declared.compact_error.CompactError.{CompactError}
 use Rattle.reg_pen.specs.declared.compact_error.CompactError.TheVariants as refused
 use Rattle.reg_pen.specs.declared.keep.Kept.{Kept}
-use Rattle.reg_pen.specs.declared.keep.Kept.TheVariants.{Taken, Declined, Lost}
+use Rattle.reg_pen.specs.declared.keep.Kept.TheVariants.{Taken, Declined, Lost, Unknown}
 use Rattle.reg_pen.specs.declared.keep.Lack.{Lack}
 
 -- the published items and the pending ones, whether a pending batch is lost, and the keep
@@ -69,14 +68,16 @@ abbrev pub IsNoMemory : Reply → Type 0
 IsNoMemory reply = reply ≡ replies.Refused no_memory
 
 -- what follows on what became of a batch: the item, the step's reply, and the reply while the
--- batch is unsettled; a batch that is taken is published or left pending
+-- batch is unsettled; a batch that is taken is published or left pending, one that is lost stays pending, and of one of which it can't be
+-- known whether it stands nothing is pending
 abbrev pub Follows : {K : Type 0} → Kept → List Item → Reply → Reply → PenState K → Reply → PenState K → Type 0
 Follows Taken is replied unsettled l reply m =
     ((reply ≡ replied) × (m ≡ record { published = l.published ++ is; pending = []; lost = false; keep = l.keep }))
     ⊎ ((reply ≡ unsettled) × (m ≡ record { published = l.published; pending = is; lost = false; keep = l.keep }))
-Follows (Declined lack) is replied unsettled l reply m = (reply ≡ replies.Refused (refusals.Store (fault_of lack))) × (m ≡ l)
+Follows (Declined lack) is replied unsettled l reply m = (reply ≡ replies.Refused (refusal_of lack)) × (m ≡ l)
 Follows Lost is replied unsettled l reply m = (reply ≡ unsettled)
     × (m ≡ record { published = l.published; pending = is; lost = true; keep = l.keep })
+Follows Unknown is replied unsettled l reply m = (reply ≡ unsettled) × (m ≡ l)
 
 -- the reply where the pending item is refused again, or is lost: the offset of a batch
 abbrev pub StillPends : List Item → Reply → Type 0
@@ -131,7 +132,7 @@ module _ {K : Type 0} (keeps : K → List Record → Kept → K → Type 0) wher
     pub keep : K
     pub keep' : K
     pub lent : keeps keep (first ∷ rest) (Declined lack) keep'
-    pub told : reply ≡ replies.Refused (refusals.Store (fault_of lack))
+    pub told : reply ≡ replies.Refused (refusal_of lack)
 
 -- the topic with what is pending
 abbrev pub with_pending : {K : Type 0} → Topic → PenState K → Topic

@@ -2,29 +2,34 @@
 ghost use Rattle.std.specs.Prelude.{◌≡◌, List};
 ghost use Rattle.reg_records.specs.declared.log.Log.{Log};
 ghost use Rattle.reg_records.specs.declared.record.Record.{Record};
-ghost use Rattle.reg_pen.specs.Keep.{TakesAll, fault_of};
+ghost use Rattle.reg_pen.specs.Keep.{TakesAll, refusal_of};
 ghost use Rattle.reg_pen.specs.declared.keep.Kept.{Kept};
 
-use reg_fold::StoreFault;
+use reg_fold::{Refusal, StoreFault};
 use reg_records::Record;
 
-/// Why a batch isn't kept.
+/// Why a batch isn't kept. Nothing of it is.
 #[derive(Clone, Copy, Debug, PartialEq, Eq)]
 pub enum Lack {
     /// Memory was refused.
     Memory,
     /// No number is left for what it writes.
     Numbers,
+    /// Somebody else's batch came first, so what wrote this one has to be decided anew.
+    Overtaken,
+    /// The store that has the log declined it, or can't be reached.
+    Store,
 }
 
 impl Lack {
-    /// The fault that is told of it.
-    pub fn fault(self) -> StoreFault
-        ensures { result ≡ fault_of self }
+    /// The refusal that is told of it.
+    pub fn refusal(self) -> Refusal
+        ensures { result ≡ refusal_of self }
     {
         match self {
-            Lack::Memory => StoreFault::Memory,
-            Lack::Numbers => StoreFault::NumbersUsedUp,
+            Lack::Memory => Refusal::Store(StoreFault::Memory),
+            Lack::Numbers => Refusal::Store(StoreFault::NumbersUsedUp),
+            Lack::Overtaken | Lack::Store => Refusal::Store(StoreFault::Unsettled),
         }
     }
 }
@@ -36,8 +41,10 @@ pub enum Kept {
     Taken,
     /// Nothing of it is kept, for that reason.
     Declined(Lack),
-    /// Whether it is kept isn't known.
+    /// Whether it is kept isn't known, so it stays pending for good.
     Lost,
+    /// Whether it stands in the log can't be known now. If it does, it is told like a batch that somebody else wrote.
+    Unknown,
 }
 
 /// What keeps a topic's batches beside the process. Each batch is lent to it before it is published.

@@ -19,6 +19,7 @@ use crate::compact_error::CompactError;
 use crate::deletes::Deletes;
 use crate::keep::{Keep, Kept};
 use crate::kept_log::KeptLog;
+use crate::lending::WithKeep;
 use crate::open_error::OpenError;
 use crate::pass::Pass;
 use base_text::Listed;
@@ -169,7 +170,7 @@ fn lend_due<K: Keep>(keep: &mut K, due: &[Record]) -> Result<(), OpenError>
     match keep.keep(due) {
         Kept::Taken => Ok(()),
         Kept::Declined(lack) => Err(OpenError::Declined(lack)),
-        Kept::Lost => Err(OpenError::Lost),
+        Kept::Lost | Kept::Unknown => Err(OpenError::Lost),
     }
 }
 
@@ -227,8 +228,8 @@ impl<N: FeedName<Item, Shared>, S: Copies<Item, Shared, N>, K: Keep + Drop, R: W
         self.committed
     }
 
-    /// A registry that gives the same as the one over the published log, by which a command is decided
-    /// where nothing is pending. Takes no memory.
+    /// A registry that gives the same as the one over the published log. A command is decided by it where
+    /// nothing is pending. Takes no memory.
     pub fn registry(&self) -> &Registry
         ensures { GiveAlike result.now (registry_of (topic_at N.first self.now.published)) }
     {
@@ -323,6 +324,20 @@ impl<N: FeedName<Item, Shared>, S: Copies<Item, Shared, N>, K: Keep + Drop, R: W
         self.writer.reader()
     }
 
+    pub fn keep(&self) -> &K
+        ensures { result.now ≡ self.now.keep }
+    {
+        &self.keep
+    }
+
+    /// Lends the keep, while nothing is submitted. Nothing else of the pen changes.
+    pub fn lend_keep<D: WithKeep<K>>(&mut self, doing: &mut D)
+        ensures done { D.does doing.old self.old.keep doing.new self.new.keep }
+        ensures same { self.new ≡ record self.old { keep = self.new.keep } }
+    {
+        doing.with_keep(&mut self.keep);
+    }
+
     /// Publishes a compaction to a floor that may be set, where nothing is pending.
     #[tactic(auto, using(crate::proofs::Prefixes::grown, crate::proofs::Prefixes::prefix_self))]
     fn drop_to(&mut self, floor: u64) -> Result<(), AllocError>
@@ -373,9 +388,9 @@ impl<N: FeedName<Item, Shared>, S: Copies<Item, Shared, N>, K: Keep + Drop, R: W
         self.act(command, judged)
     }
 
-    /// Publishes what is pending. `false` where memory is refused, or where the keep lost it; the pen
-    /// is then as it was.
-    fn settle(&mut self) -> bool
+    /// Publishes what is pending, if something is. `false` where memory is refused, or where the keep lost it; the
+    /// pen is then as it was.
+    pub fn settle(&mut self) -> bool
         ensures { MatchBool result ((self.old.lost ≡ false) × (self.new ≡ settled self.old)) ((self.new ≡ self.old) × (self.old.pending ≢ [])) }
     {
         lawful_items_follow();
@@ -456,7 +471,8 @@ impl<N: FeedName<Item, Shared>, S: Copies<Item, Shared, N>, K: Keep + Drop, R: W
         ensures grows { IsPrefix self.old.published self.new.published }
     {
         match self.keep.keep(commit.batch.as_slice()) {
-            Kept::Declined(lack) => Reply::Refused(Refusal::Store(lack.fault())),
+            Kept::Declined(lack) => Reply::Refused(lack.refusal()),
+            Kept::Unknown => Reply::Unsettled(first),
             Kept::Lost => {
                 self.hold(Item::Commit(commit), Pending::Lost(first));
                 Reply::Unsettled(first)

@@ -1,5 +1,6 @@
 // What a submit does with the compaction that may follow on it.
 ghost use Rattle.std.specs.Prelude.{◌≡◌};
+ghost use mathlib.Core.List.{IsPrefix};
 ghost use Rattle.reg_shared.specs.Held.{base_of};
 ghost use Rattle.reg_pen.specs.Deletes.{floor_due};
 ghost use Rattle.reg_pen.specs.Pen.{IsPen, counted};
@@ -39,6 +40,7 @@ impl<N: FeedName<Item, Shared>, S: Copies<Item, Shared, N>, K: Keep + Drop, R: W
     ) -> Submitted<N>
         ensures was { IsPen (base_of N.first) self.old.published self.old.pending }
         ensures done { SubmitsAndCompacts K.keeps (base_of N.first) since.entry self.old command.now result.reply result.seen self.new }
+        ensures grows { IsPrefix self.old.published self.new.published }
         ensures counted { pass.new.submits ≡ counted pass.old.submits }
     {
         let before = self.batches();

@@ -20,7 +20,7 @@ use Rattle.reg_pen.specs.Pen.{item_of, settled}
 use Rattle.reg_pen.specs.declared.compact_error.CompactError.{CompactError}
 use Rattle.reg_pen.specs.declared.compact_error.CompactError.TheVariants as refused
 use Rattle.reg_pen.specs.declared.keep.Kept.{Kept}
-use Rattle.reg_pen.specs.declared.keep.Kept.TheVariants.{Taken, Declined, Lost}
+use Rattle.reg_pen.specs.declared.keep.Kept.TheVariants.{Taken, Declined, Lost, Unknown}
 use Rattle.reg_running.specs.Calls.{ActsAddUp, ActsAreLawful, Added, CompactionsAreActs}
 use Rattle.reg_running.specs.Calls.{IsNoOutcome, IsToldOf}
 use Rattle.reg_running.specs.Calls.{LawfulListsAreOfActs, SubmitsAreActs}
@@ -130,6 +130,11 @@ module _ {K : Type 0} (keeps : K → List Record → Kept → K → Type 0) (cou
         }))),
       )
   follows_so Lost keep l m command replied reply first rest step lent h = (
+    [],
+    added_none count base l.published m.published (ap (λ (s : PenState K). s.published) h.1),
+    inr (inr (inl (first.offset, h.0))),
+  )
+  follows_so Unknown keep l m command replied reply first rest step lent h = (
     [],
     added_none count base l.published m.published (ap (λ (s : PenState K). s.published) h.1),
     inr (inr (inl (first.offset, h.0))),

@@ -13,7 +13,7 @@ use Rattle.reg_pen.specs.Pen.{Acts, CompactsOrNot, Follows, IsCompactRefusal, Is
 use Rattle.reg_pen.specs.declared.compact_error.CompactError.{CompactError}
 use Rattle.reg_pen.specs.declared.compact_error.CompactError.TheVariants as refused
 use Rattle.reg_pen.specs.declared.keep.Kept.{Kept}
-use Rattle.reg_pen.specs.declared.keep.Kept.TheVariants.{Taken, Declined, Lost}
+use Rattle.reg_pen.specs.declared.keep.Kept.TheVariants.{Taken, Declined, Lost, Unknown}
 use Rattle.reg_running.specs.Calls.{Added, CallsKeepPens}
 use Rattle.reg_running.specs.Running.{Act, published}
 use Rattle.reg_running.proofs.Acts.{acts_are_lawful, compactions_are_acts, submits_are_acts}
@@ -44,6 +44,7 @@ module _ {K : Type 0} (base : Topic) where
   follows_pends (Declined lack) l m command replied unsettled reply first rest step pends h = subst (PendsRight base) (sym h.1) pends
   follows_pends Lost l m command replied unsettled reply first rest step pends h =
       subst (PendsRight base) (sym h.1) (record { reply = replied; step = step; writes = λ e. cc })
+  follows_pends Unknown l m command replied unsettled reply first rest step pends h = subst (PendsRight base) (sym h.1) pends
 
   acts_pend : (keeps : K → List Record → Kept → K → Type 0) (l m : PenState K) (command : Command) (reply : Reply)
       → PendsRight base l → Acts keeps base l command reply m → PendsRight base m

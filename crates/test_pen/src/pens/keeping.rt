@@ -12,10 +12,11 @@ use std::alloc::{AllocError, Global};
 use std::sync::Wait;
 use std::test::Fail;
 
-/// Declines a batch, takes one, declines one, and loses all others.
+/// Batches come to these fates, one after the other, and each one behind them is lost.
 #[derive(Drop)]
 struct Turning {
-    lent: u64,
+    lent: usize,
+    fates: &'static [Kept],
 }
 
 impl Keep for Turning {
@@ -24,13 +25,9 @@ impl Keep for Turning {
     ghost keeps = { λ _ _ _ _. ⊤ };
 
     fn keep(&mut self, _batch: &[Record]) -> Kept {
+        let fate = self.fates.get(self.lent).copied();
         self.lent = self.lent.saturating_add(1);
-        match self.lent {
-            1 => Kept::Declined(Lack::Numbers),
-            2 => Kept::Taken,
-            3 => Kept::Declined(Lack::Memory),
-            _ => Kept::Lost,
-        }
+        fate.unwrap_or(Kept::Lost)
     }
 }
 
@@ -62,8 +59,9 @@ type Turn = (Told, u64);
 /// Changes of the level over a log, time after time, and then a compaction, which isn't done.
 struct Row {
     log: &'static str,
-    /// How many batches were lent to the keep before.
-    lent: u64,
+    /// What the keep makes of batches, and how many were lent to it before.
+    fates: &'static [Kept],
+    lent: usize,
     turns: &'static [Turn],
     /// The offsets of what is kept.
     kept: &'static [u64],
@@ -74,10 +72,16 @@ const VERSION: &str =
     "0\t{\"keytype\":\"SCHEMA\",\"subject\":\"s\",\"version\":1,\"magic\":1}\t{\"subject\":\"s\",\"version\":1,\"id\":1,\"schema\":\"\\\"int\\\"\",\"deleted\":false}\n";
 
 /// A batch is published only where it is kept. The mark of ids that a log with a version owes is lent
-/// first, and stands at offset 1; no batch counts it.
-static ROWS: [Row; 2] = [
+/// first, and stands at offset 1; no batch counts it. Where it isn't known whether a batch stands, or somebody
+/// else's came first, the pen goes on.
+static ROWS: [Row; 3] = [
     Row {
         log: "",
+        fates: &[
+            Kept::Declined(Lack::Numbers),
+            Kept::Taken,
+            Kept::Declined(Lack::Memory),
+        ],
         lent: 0,
         turns: &[
             (
@@ -96,6 +100,11 @@ static ROWS: [Row; 2] = [
     },
     Row {
         log: VERSION,
+        fates: &[
+            Kept::Declined(Lack::Numbers),
+            Kept::Taken,
+            Kept::Declined(Lack::Memory),
+        ],
         lent: 1,
         turns: &[
             (
@@ -105,6 +114,30 @@ static ROWS: [Row; 2] = [
             (Told::Unsettled(2), 0),
         ],
         kept: &[0, 1],
+    },
+    Row {
+        log: "",
+        fates: &[
+            Kept::Unknown,
+            Kept::Declined(Lack::Overtaken),
+            Kept::Declined(Lack::Store),
+            Kept::Taken,
+        ],
+        lent: 0,
+        turns: &[
+            (Told::Unsettled(0), 0),
+            (
+                Told::Body("{\"error_code\":50001,\"message\":\"Store error: unsettled\"}"),
+                0,
+            ),
+            (
+                Told::Body("{\"error_code\":50001,\"message\":\"Store error: unsettled\"}"),
+                0,
+            ),
+            (Told::Body("{\"compatibility\":\"FULL\"}"), 1),
+            (Told::Unsettled(1), 1),
+        ],
+        kept: &[0],
     },
 ];
 
@@ -158,10 +191,14 @@ fn outcome_of<R: Wait + Drop + Copy>(
     alloc: Global,
     rt: R,
     row: &Row,
-    lent: u64,
+    lent: usize,
 ) -> Result<Result<bool, OpenError>, Fail> {
     let mut changes = Changes { row, holds: false };
-    let kept = KeptLog::new(log_of(alloc, row.log)?, Turning { lent });
+    let turning = Turning {
+        lent,
+        fates: row.fates,
+    };
+    let kept = KeptLog::new(log_of(alloc, row.log)?, turning);
     let refused = go_through(alloc, rt, kept, &mut changes)?;
     match refused {
         Some(error) => Ok(Err(error)),
@@ -179,7 +216,7 @@ fn a_batch_is_published_only_where_it_is_kept(rt: HostRuntime) -> Result<(), Fai
 
 /// Over a log with a version no pen is opened where the mark of ids isn't kept: how many batches were lent
 /// to the keep before, and the cause.
-static CAUSES: [(u64, OpenError); 3] = [
+static CAUSES: [(usize, OpenError); 3] = [
     (0, OpenError::Declined(Lack::Numbers)),
     (2, OpenError::Declined(Lack::Memory)),
     (3, OpenError::Lost),

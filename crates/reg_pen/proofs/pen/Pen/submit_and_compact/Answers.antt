@@ -1,5 +1,6 @@
 use Rattle.reg_shared.specs.Held.{base_of}
 use Rattle.reg_pen.proofs.Compacting.{compacts_not, compacts_then}
+use Rattle.reg_pen.proofs.Prefixes.{prefix_trans}
 use Rattle.reg_pen.proofs.pen.Pen.submit_and_compact.Goals as goal
 
 pub returns-then-batches-before-clause-done : goal.returns-then-batches-before-clause-done
@@ -17,3 +18,8 @@ returns-else-batches-before-clause-done g c =
     compacts_not g.K.Keep.keeps (base_of g.N.FeedName.first) c.args.since c.args.self.now c.submit-submitted.new.self
     c.args.command.now c.submit-submitted.result.reply c.submit-submitted.result.seen c.batches-before.result c.batches.result
     done.submits done.seen c.batches-before.ensures.count c.batches.ensures.count c.if-batches-before.false
+
+pub returns-then-batches-before-clause-grows : goal.returns-then-batches-before-clause-grows
+returns-then-batches-before-clause-grows g c =
+    prefix_trans c.args.self.now.published c.submit-submitted.new.self.published c.compact_to.new.self.published
+    c.submit-submitted.ensures.grows c.compact_to.ensures.grows
