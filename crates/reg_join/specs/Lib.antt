@@ -1,0 +1,5 @@
+pub mod Chain
+pub mod Joined
+pub mod Joining
+pub mod MemoryChain
+pub mod MemoryState

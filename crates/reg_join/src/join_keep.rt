@@ -1,0 +1,125 @@
+// A pen's keep over a chain.
+ghost use Rattle.std.specs.Prelude.{◌≡◌, ◌++◌, ◌∷◌, [], ◌↔◌, IfOk, IsTrue, OnErr, None, Some};
+ghost use Rattle.reg_join.specs.Joining.{Checks, JoinKeeps, KeepsTaken, kept_of};
+ghost use Rattle.reg_join.specs.declared.join_keep.Stand.TheVariants.{Level, Stopped};
+
+use crate::chain::{Answer, Chain};
+use base_text::Listed;
+use reg_pen::{Keep, Kept, Lack};
+use reg_records::Record;
+use std::alloc::AllocError;
+use std::mem;
+
+/// How a keep stands to what its chain told.
+#[derive(Drop)]
+pub enum Stand {
+    /// All that was told is taken: a batch that is lent goes to the chain.
+    Level,
+    /// This batch was told next: it is taken where exactly its records are lent, and any other batch stops the keep.
+    Due(Listed<Record>),
+    /// What was told next is no command's. Nothing is taken any more.
+    Stopped,
+}
+
+/// A pen's keep over a chain: each batch goes to the chain, and what others wrote is taken as it was told, one batch after the other.
+#[derive(Drop)]
+pub struct JoinKeep<C: Chain + Drop> {
+    pub(crate) chain: C,
+    pub(crate) stand: Stand,
+}
+
+impl<C: Chain + Drop> JoinKeep<C> {
+    /// A keep over a chain.
+    pub fn new(chain: C) -> JoinKeep<C>
+        ensures { result ≡ record { chain = chain; stand = Level } }
+    {
+        JoinKeep {
+            chain,
+            stand: Stand::Level,
+        }
+    }
+
+    /// How it stands to what was told.
+    pub fn stand(&self) -> &Stand
+        ensures { result.now ≡ self.now.stand }
+    {
+        &self.stand
+    }
+
+    /// Learns of the next batch that others wrote, unless one is due already. The only error is out of memory.
+    pub(crate) fn learn(&mut self) -> Result<(), AllocError>
+        ensures taken { KeepsTaken C.told self.old self.new }
+        ensures refused { OnErr result (self.new.stand ≡ self.old.stand) }
+    {
+        if !matches!(self.stand, Stand::Level) {
+            return Ok(());
+        }
+        if let Some(batch) = self.chain.next()? {
+            self.stand = Stand::Due(batch);
+        }
+        Ok(())
+    }
+
+    /// Asks the chain whether something stands behind all that was told. It isn't asked where a batch is due, or where nothing is taken any
+    /// more.
+    pub fn check(&mut self) -> Answer
+        ensures checks { Checks C.told C.answers self.old result self.new }
+        ensures taken { KeepsTaken C.told self.old self.new }
+    {
+        match self.stand {
+            Stand::Level => self.chain.append(&[]),
+            Stand::Due(_) => Answer::Behind,
+            Stand::Stopped => Answer::Declined,
+        }
+    }
+
+    /// Takes nothing any more, for good.
+    pub(crate) fn stop(&mut self)
+        ensures taken { KeepsTaken C.told self.old self.new }
+        ensures stopped { self.new.stand ≡ Stopped }
+    {
+        self.stand = Stand::Stopped;
+    }
+}
+
+impl<C: Chain + Drop> Keep for JoinKeep<C> {
+    ghost keeps = { JoinKeeps C.told C.answers };
+
+    ghost stands = { λ keep log. (C.told keep.chain ≡ []) × (keep.stand ≡ Level) };
+
+    fn keep(&mut self, batch: &[Record]) -> Kept {
+        match mem::replace(&mut self.stand, Stand::Stopped) {
+            Stand::Level => {
+                self.stand = Stand::Level;
+                kept_of(self.chain.append(batch))
+            }
+            Stand::Due(due) => {
+                if !is_same(batch, due.as_slice()) {
+                    return Kept::Declined(Lack::Store);
+                }
+                self.stand = Stand::Level;
+                Kept::Taken
+            }
+            Stand::Stopped => Kept::Declined(Lack::Store),
+        }
+    }
+}
+
+/// Whether these are the same records in the same order.
+fn is_same(batch: &[Record], told: &[Record]) -> bool
+    ensures { IsTrue result ↔ (batch.now ≡ told.now) }
+{
+    batch == told
+}
+
+/// What became of a batch, by the chain's answer.
+fn kept_of(answer: Answer) -> Kept
+    ensures { result ≡ kept_of answer }
+{
+    match answer {
+        Answer::Kept => Kept::Taken,
+        Answer::Behind => Kept::Declined(Lack::Overtaken),
+        Answer::Declined => Kept::Declined(Lack::Store),
+        Answer::Unknown => Kept::Unknown,
+    }
+}
