@@ -14,8 +14,9 @@ use std::alloc::{AllocError, Global};
 use std::io::{BufRead, Eprint, Write};
 use std::process::{ExitCode, Termination};
 
-/// How the program ended. Only `start` makes one, so that a `main` which returns it can't end otherwise.
-#[derive(Debug, Drop)]
+/// How the program ended. Only `start` makes one, so that a `main` which returns it can't end otherwise. None can be
+/// dropped: what `start` gave is returned, or else turned into an exit status.
+#[derive(Debug)]
 pub struct Finished {
     status: u8,
 }
@@ -25,7 +26,8 @@ impl Termination for Finished {
     fn report<R: Eprint>(self, _rt: &R) -> ExitCode
         ensures { exit_status result ≡ self.status }
     {
-        ExitCode::from(self.status)
+        let Finished { status } = self;
+        ExitCode::from(status)
     }
 }
 

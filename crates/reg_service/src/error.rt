@@ -12,12 +12,17 @@ use thiserror::Error;
 /// Why nodes can't be started. It is shown as its name.
 #[derive(Clone, Copy, Debug, PartialEq, Eq, Error)]
 pub enum StartFault {
-    /// Memory, a thread, a descriptor or random bytes were refused.
     #[error("OutOfMemory")]
     OutOfMemory,
     /// A list has no place for another reader.
     #[error("NoPlace")]
     NoPlace,
+    /// A thread, or the memory that it begins with, was refused, or it wasn't time to begin.
+    #[error("nodes not started")]
+    NotStarted,
+    /// The system refused a node's poll, its listener's options or the keys of hashes.
+    #[error("nodes not started: {0:?}")]
+    Refused(ErrorKind),
     /// A log can't be taken over.
     #[error("{0}")]
     Closed(AdoptError),
@@ -49,7 +54,7 @@ impl From<NoPlace> for StartFault {
 
 impl From<StartError> for StartFault {
     fn from(_refused: StartError) -> StartFault {
-        StartFault::OutOfMemory
+        StartFault::NotStarted
     }
 }
 
@@ -64,8 +69,11 @@ impl From<ListenError> for StartFault {
 
 /// A node's poll, its listener's options or the keys of hashes were refused.
 impl From<io::Error> for StartFault {
-    fn from(_refused: io::Error) -> StartFault {
-        StartFault::OutOfMemory
+    fn from(refused: io::Error) -> StartFault {
+        match refused.kind() {
+            ErrorKind::OutOfMemory => StartFault::OutOfMemory,
+            kind => StartFault::Refused(kind),
+        }
     }
 }
 
@@ -92,7 +100,7 @@ impl From<OpenError> for StartFault {
         match refused {
             OpenError::Adopt(refused) => StartFault::from(refused),
             OpenError::Declined(Lack::Memory) => StartFault::OutOfMemory,
-            OpenError::Declined(Lack::Numbers) | OpenError::Lost => StartFault::NotKept,
+            OpenError::Declined(_) | OpenError::Lost => StartFault::NotKept,
         }
     }
 }

@@ -2,58 +2,94 @@
 use crate::fault::KeepFault;
 use clap::Error;
 use clap::error::ErrorKind;
+use reg_base::BaseError;
 use reg_follow::FollowError;
 use reg_service::StartFault;
 use reg_tail::TailError;
 use std::io::{self, Eprint, Print};
-use std::process::ExitCode;
+use std::process::{ExitCode, Termination};
+
+/// How the program ended. Only this file makes one, and none can be dropped, so that `main` has to return what came of its
+/// command.
+#[derive(Debug)]
+pub(crate) struct Finished {
+    status: u8,
+}
+
+impl Termination for Finished {
+    /// The exit status.
+    fn report<R: Eprint>(self, _rt: &R) -> ExitCode {
+        let Finished { status } = self;
+        ExitCode::from(status)
+    }
+}
 
 /// Says why words aren't a command line, or writes the help or the version that they ask for.
-pub(crate) fn refused<R: Print + Eprint>(rt: &R, error: Error) -> io::Result<ExitCode> {
+pub(crate) fn refused<R: Print + Eprint>(rt: &R, error: Error) -> io::Result<Finished> {
     error.print(rt)?;
     match error.kind() {
-        ErrorKind::DisplayHelp | ErrorKind::DisplayVersion => Ok(ExitCode::SUCCESS),
-        ErrorKind::OutOfMemory => Ok(ExitCode::from(1)),
-        _ => Ok(ExitCode::from(2)),
+        ErrorKind::DisplayHelp | ErrorKind::DisplayVersion => Ok(Finished { status: 0 }),
+        ErrorKind::OutOfMemory => Ok(Finished { status: 1 }),
+        _ => Ok(Finished { status: 2 }),
     }
 }
 
 /// Says that the arguments are no text.
-pub(crate) fn misread<R: Eprint>(rt: &R, error: io::Error) -> io::Result<ExitCode> {
+pub(crate) fn misread<R: Eprint>(rt: &R, error: io::Error) -> io::Result<Finished> {
     if error.kind() != io::ErrorKind::InvalidData {
         return Err(error);
     }
     rt.eprintln("error: the arguments are not UTF-8")?;
-    Ok(ExitCode::from(2))
+    Ok(Finished { status: 2 })
 }
 
 /// Says why a log isn't served, or a file isn't read or written. What keeps a log from being taken over was told line by
 /// line.
-pub(crate) fn kept<R: Eprint>(rt: &R, served: Result<(), KeepFault>) -> io::Result<ExitCode> {
+pub(crate) fn kept<R: Eprint>(rt: &R, served: Result<(), KeepFault>) -> io::Result<Finished> {
     match served {
-        Ok(()) => Ok(ExitCode::SUCCESS),
+        Ok(()) => Ok(Finished { status: 0 }),
         Err(fault) => {
             if !matches!(fault, KeepFault::Start(StartFault::Closed(_))) {
                 rt.eprintln(fault)?;
             }
-            Ok(ExitCode::from(fault.status()))
+            Ok(Finished {
+                status: fault.status(),
+            })
         }
     }
 }
 
 /// Says why lines aren't followed any more.
-pub(crate) fn followed<R: Eprint>(rt: &R, served: Result<(), FollowError>) -> io::Result<ExitCode> {
+pub(crate) fn followed<R: Eprint>(rt: &R, served: Result<(), FollowError>) -> io::Result<Finished> {
     match served {
-        Ok(()) => Ok(ExitCode::SUCCESS),
+        Ok(()) => Ok(Finished { status: 0 }),
         Err(error) => {
             rt.eprintln(error)?;
-            Ok(ExitCode::from(error.status()))
+            Ok(Finished {
+                status: error.status(),
+            })
         }
     }
 }
 
 /// Says why the lines of a file aren't written any more.
-pub(crate) fn tailed<R: Eprint>(rt: &R, error: TailError) -> io::Result<ExitCode> {
+pub(crate) fn tailed<R: Eprint>(rt: &R, error: TailError) -> io::Result<Finished> {
     rt.eprintln(error)?;
-    Ok(ExitCode::from(error.status()))
+    Ok(Finished {
+        status: error.status(),
+    })
+}
+
+/// The end of a filter, which found nothing wrong, or something, or failed.
+pub(crate) fn filtered<R: Eprint>(rt: &R, ended: Result<bool, BaseError>) -> io::Result<Finished> {
+    match ended {
+        Ok(true) => Ok(Finished { status: 0 }),
+        Ok(false) => Ok(Finished { status: 2 }),
+        Err(error) => {
+            rt.eprintln(error)?;
+            Ok(Finished {
+                status: error.status(),
+            })
+        }
+    }
 }

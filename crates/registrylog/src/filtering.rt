@@ -1,17 +1,18 @@
-// `registrylog check` and `registrylog compact`: what a log holds, and what compacting leaves of it.
+// `registrylog check`, `registrylog compact` and `registrylog base`: what a log holds, what compacting leaves of it, and what a log
+// begins with that goes on at an offset.
 ghost use Rattle.std.specs.Prelude.{◌≤◌, IfSome};
 ghost use Rattle.reg_records.specs.declared.limits.TheConstants.{OFFSET_LIMIT};
 
-use crate::ends::kept;
+use crate::ends::{Finished, filtered, kept};
 use crate::fault::KeepFault;
 use crate::progress::Progress;
 use crate::replacing::NewFile;
+use reg_base::{BaseError, base};
 use reg_inspection::inspect;
-use reg_keeping::{FilterError, compact, compact_to};
+use reg_keeping::{compact, compact_to};
 use std::alloc::Global;
 use std::fs::{File, Files};
 use std::io::{self, BufWriter, Eprint, Input, Print, Read, Write};
-use std::process::ExitCode;
 
 /// Writes what the log of a file holds, or that of the input.
 pub(crate) fn check<R: Input + Print + Eprint + Files<File = File>>(
@@ -19,7 +20,7 @@ pub(crate) fn check<R: Input + Print + Eprint + Files<File = File>>(
     alloc: Global,
     file: Option<&str>,
     progress: &Progress,
-) -> io::Result<ExitCode> {
+) -> io::Result<Finished> {
     let Some(path) = file else {
         let mut reader = progress.counted(rt.reader())?;
         return check_from(rt, alloc, &mut reader);
@@ -37,9 +38,41 @@ fn check_from<R: Print + Eprint, S: Read>(
     rt: &R,
     alloc: Global,
     reader: &mut S,
-) -> io::Result<ExitCode> {
+) -> io::Result<Finished> {
     let mut writer = BufWriter::new(alloc, io::writer(rt))?;
-    filtered(rt, inspect(alloc, reader, &mut writer))
+    let inspected = inspect(alloc, reader, &mut writer);
+    filtered(rt, inspected.map_err(BaseError::from))
+}
+
+/// Writes what a log begins with that goes on at an offset.
+pub(crate) fn base_log<R: Input + Print + Eprint + Files<File = File>>(
+    rt: &R,
+    alloc: Global,
+    file: Option<&str>,
+    below: u64,
+    progress: &Progress,
+) -> io::Result<Finished> {
+    let Some(path) = file else {
+        let mut reader = progress.counted(rt.reader())?;
+        return base_from(rt, alloc, &mut reader, below);
+    };
+    match open_log_file(rt, path, progress) {
+        Ok(file) => {
+            let mut reader = progress.counted(file)?;
+            base_from(rt, alloc, &mut reader, below)
+        }
+        Err(error) => kept(rt, Err(KeepFault::from(error))),
+    }
+}
+
+fn base_from<R: Print + Eprint, S: Read>(
+    rt: &R,
+    alloc: Global,
+    reader: &mut S,
+    below: u64,
+) -> io::Result<Finished> {
+    let mut writer = BufWriter::new(alloc, io::writer(rt))?;
+    filtered(rt, base(alloc, below, reader, &mut writer).map(|()| true))
 }
 
 /// The file of a log, open for reading.
@@ -70,7 +103,7 @@ pub(crate) fn compact_log<R: Input + Print + Eprint + Files<File = File>>(
     alloc: Global,
     wish: Wish<'_>,
     progress: &Progress,
-) -> io::Result<ExitCode>
+) -> io::Result<Finished>
     requires { IfSome wish.floor (λ offset. offset ≤ OFFSET_LIMIT) }
 {
     let Some(path) = wish.file else {
@@ -91,7 +124,7 @@ fn compact_from<R: Print + Eprint + Files<File = File>, S: Read>(
     alloc: Global,
     reader: &mut S,
     wish: Wish<'_>,
-) -> io::Result<ExitCode>
+) -> io::Result<Finished>
     requires { IfSome wish.floor (λ offset. offset ≤ OFFSET_LIMIT) }
 {
     let Some(path) = wish.output else {
@@ -112,8 +145,8 @@ fn compact_from<R: Print + Eprint + Files<File = File>, S: Read>(
 fn put<R: Eprint + Files<File = File>>(
     rt: &R,
     new: &NewFile,
-    written: Result<(), FilterError>,
-) -> io::Result<ExitCode> {
+    written: Result<(), BaseError>,
+) -> io::Result<Finished> {
     if written.is_err() {
         new.remove(rt);
         return filtered(rt, written.map(|()| true));
@@ -130,23 +163,11 @@ fn compacted<S: Read, W: Write>(
     reader: &mut S,
     floor: Option<u64>,
     writer: &mut W,
-) -> Result<(), FilterError>
+) -> Result<(), BaseError>
     requires { IfSome floor (λ offset. offset ≤ OFFSET_LIMIT) }
 {
     match floor {
-        Some(floor) => compact_to(alloc, floor, reader, writer),
-        None => compact(alloc, reader, writer),
-    }
-}
-
-/// The end of a filter, which found nothing wrong, or something, or failed.
-fn filtered<R: Eprint>(rt: &R, ended: Result<bool, FilterError>) -> io::Result<ExitCode> {
-    match ended {
-        Ok(true) => Ok(ExitCode::SUCCESS),
-        Ok(false) => Ok(ExitCode::from(2)),
-        Err(error) => {
-            rt.eprintln(error)?;
-            Ok(ExitCode::from(error.status()))
-        }
+        Some(floor) => Ok(compact_to(alloc, floor, reader, writer)?),
+        None => Ok(compact(alloc, reader, writer)?),
     }
 }

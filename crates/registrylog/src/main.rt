@@ -1,8 +1,9 @@
 //! The program `registrylog`: a registry whose log is kept in a file, and what is done with such a log.
 //!
 //! `registrylog keep` serves the log of a file, `registrylog tail` writes its lines as they are acknowledged, and
-//! `registrylog follow` serves lines as they come. `registrylog check` writes what a log holds, and `registrylog compact`
-//! the lines of its last records. `registrylog help COMMAND` has the options of each.
+//! `registrylog follow` serves lines as they come. `registrylog check` writes what a log holds, `registrylog compact` the
+//! lines of its last records, and `registrylog base` what a log begins with that goes on at an offset. `registrylog help COMMAND`
+//! has the options of each.
 #![tactic(auto)]
 
 mod ends;
@@ -16,8 +17,8 @@ mod progress;
 mod replacing;
 mod telling;
 
-use crate::ends::{followed, kept, misread, refused, tailed};
-use crate::filtering::{Wish, check, compact_log};
+use crate::ends::{Finished, followed, kept, misread, refused, tailed};
+use crate::filtering::{Wish, base_log, check, compact_log};
 use crate::following::{Doors, PIECE, size_of};
 use crate::keeping::{Opened, ended, open_log};
 use crate::place::Place;
@@ -28,9 +29,8 @@ use reg_service::{NoGate, serve_log};
 use reg_tail::follow_file;
 use std::env;
 use std::io::{self, BufReader, Input};
-use std::process::ExitCode;
 
-fn main(rt: HostRuntime) -> io::Result<ExitCode> {
+fn main(rt: HostRuntime) -> io::Result<Finished> {
     let alloc = rt.alloc();
     let words: Vec<String> = match env::args(&rt) {
         Ok(words) => words.collect(alloc)?,
@@ -94,6 +94,12 @@ fn main(rt: HostRuntime) -> io::Result<ExitCode> {
         Ok(LogCommand::Check { file, quiet }) => {
             let progress = Progress::begin(rt, alloc, file, quiet)?;
             let ended = check(&rt, alloc, file, &progress);
+            progress.end(&rt);
+            ended
+        }
+        Ok(LogCommand::Base { file, below, quiet }) => {
+            let progress = Progress::begin(rt, alloc, file, quiet)?;
+            let ended = base_log(&rt, alloc, file, below, &progress);
             progress.end(&rt);
             ended
         }
