@@ -1,4 +1,4 @@
--- Private: labels of named types, by which the types that match a name are found.
+-- Private: labels of named types: the types that match a name are found by them.
 use Rattle.std.specs.Prelude.{ℕ, List, Bool, true, false, ◌&&◌, ◌||◌, ◌==◌, Option, Some, None, is_none, bytes_eq}
 use Rattle.std.specs.List.{list_any}
 use Rattle.std.specs.Option.{option_copied, option_eq, option_map_or}

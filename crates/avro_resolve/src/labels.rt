@@ -1,4 +1,4 @@
-// Labels of named types, by which the types that match a name are found.
+// Labels of named types: the types that match a name are found by them.
 ghost use Rattle.std.specs.Prelude.{◌≡◌, None, Some, option_copied, option_map};
 ghost use Rattle.avro_resolve.specs.Labels as spec;
 

@@ -1,5 +1,5 @@
-// Indexes of the reader's unions, by which the first branch that matches is found without a look at
-// the others.
+// Indexes of the reader's unions: the first branch that matches is found by them, without a look at the
+// others.
 ghost use Rattle.std.specs.Prelude.{◌≡◌, ◌≢◌, ◌<◌, ◌++◌, [], ◌∷◌, List, None, Some, All, cond, length, find, slice_get, IfOk, IfSome, OnOk};
 ghost use Rattle.std.specs.BTreeMap.{get, is_at};
 ghost use Rattle.std.specs.List.{enumerate_from};

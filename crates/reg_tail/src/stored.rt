@@ -14,7 +14,7 @@ pub struct StoredTail<'a, R: Files<File = File>> {
     files: &'a R,
     path: &'a str,
     file: File,
-    /// The device and the number by which the system tells it from others.
+    /// The device and the number: the system tells it from others by these.
     device: u64,
     number: u64,
 }
