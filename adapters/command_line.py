@@ -1,0 +1,143 @@
+"""The commands of every adapter: init, serve, dump, rebase, trim."""
+import argparse
+import signal
+import subprocess
+import sys
+import time
+
+from joining import Adapter, Anew, Broken, Declined, NotDone, Unreachable, follow, rules_of, say
+from logs import offset_of, read_log
+from place import make_place
+
+COMMANDS = """\
+what to do:
+  init     puts a log in as the base, once: ADAPTER init -- registrylog join < LOG
+           The process behind -- is only asked for the number of its rules (--rules), which is kept with the log.
+  serve    starts a process and serves it: ADAPTER serve -- registrylog join --listen 0.0.0.0:8081
+           It waits for a store that can't be reached, and ends when the process does.
+  dump     writes the log to standard output, as registryd fold and registrylog check read it: ADAPTER dump > LOG
+  rebase   puts a shorter log in place of all lines below its next offset, while processes go on. Either
+             ADAPTER rebase --registry http://127.0.0.1:8081 -- registrylog base --below {}
+           has the registry make a place where that may be done (a registration and its deletion, under a subject of its own), gives the
+           lines below that offset to the command, of which {} stands for the offset, and puts in what it writes; or
+             ADAPTER rebase < LOG
+           puts in a log that was made by hand.
+  trim     drops what the base stands for: a day after a rebase, say. Processes that are behind it then have to begin anew.
+
+exit status:
+  0    done
+  1    the store can't be reached, or the process ended: start it again
+  2    a person has to look: there is no log, or it isn't the one that was given; no rights; other rules; the command line is none
+"""
+
+
+def add_commands(parser):
+    """Adds what all adapters' command lines have."""
+    parser.formatter_class = argparse.RawDescriptionHelpFormatter
+    parser.usage = "%(prog)s OPTIONS {init,serve,dump,rebase,trim} [-- COMMAND ...]"
+    parser.epilog = COMMANDS.replace("ADAPTER", parser.prog + " ..")
+    parser.add_argument("--patience", type=float, default=10, metavar="SECONDS",
+                        help="how long a store that doesn't answer is tried (10). A process waits 30 seconds for an answer")
+    parser.add_argument("--poll", type=float, default=1, metavar="SECONDS", help="how often is looked without a hint of the store (1)")
+    parser.add_argument("--registry", metavar="URL", help="rebase: a process that serves this log")
+    parser.add_argument("do", choices=["init", "serve", "dump", "rebase", "trim"], help="what to do, as below")
+
+
+def run(parser, make_store):
+    """Does what the command line says, and ends with the status of that."""
+    signal.signal(signal.SIGINT, signal.SIG_DFL)
+    words = sys.argv[1:]
+    behind = words.index("--") if "--" in words else len(words)
+    options, command = parser.parse_args(words[:behind]), words[behind + 1:]
+    if options.do in ("init", "serve") and not command:
+        parser.error("%s needs the process's command behind --" % options.do)
+    if options.do == "rebase" and bool(options.registry) != bool(command):
+        parser.error("rebase --registry URL needs a command behind --, and nothing else does")
+    try:
+        status = DEEDS[options.do](make_store(options), options, command)
+    except BrokenPipeError:
+        status = 1
+    except (Broken, Declined) as fault:
+        say("error: %s" % fault)
+        status = 2
+    except Anew as fault:
+        say("error: %s. Begin anew" % fault)
+        status = 1
+    except Unreachable as fault:
+        say("error: store unreachable: %s" % fault)
+        status = 1
+    sys.exit(status)
+
+
+def patiently(do, options, faults=Unreachable):
+    """Does what may be done twice, for as long as patience lasts."""
+    until = time.monotonic() + options.patience
+    while True:
+        try:
+            return do()
+        except faults:
+            if time.monotonic() > until:
+                raise
+            time.sleep(0.5)
+
+
+def init(store, options, command):
+    log, rules = read_log(sys.stdin.buffer.read()), rules_of(command)
+    patiently(lambda: store.init(log, rules), options, NotDone)
+    say("base of %d bytes, next offset %d, rules %d" % (len(log.text), log.next, rules))
+    return 0
+
+
+def serve(store, options, command):
+    return Adapter(store, command, options.patience, options.poll).serve()
+
+
+def dump(store, options, command):
+    base = patiently(store.begin, options)
+    for piece in base.pieces:
+        sys.stdout.buffer.write(piece)
+    for batch in follow(store, base):
+        sys.stdout.buffer.write(batch.lines)
+    sys.stdout.buffer.flush()
+    return 0
+
+
+def rebase(store, options, command):
+    text = compacted(store, options, command) if options.registry else sys.stdin.buffer.read()
+    log = read_log(text)
+    patiently(lambda: store.rebase(log), options)
+    say("base of %d bytes, next offset %d" % (len(log.text), log.next))
+    return 0
+
+
+def compacted(store, options, command):
+    """What the command writes of the lines below the place that the registry made."""
+    base = patiently(store.begin, options)
+    subject = make_place(options.registry)
+    lines, end = list(base.pieces), None
+    for batch in follow(store, base):
+        lines.append(batch.lines)
+        if deletes_for_good(batch, subject):
+            end = batch.next
+            break
+    if end is None:
+        raise Broken("what %s was asked for doesn't stand in this log: is it a process of it?" % options.registry)
+    command = [word.replace("{}", str(end)) for word in command]
+    done = subprocess.run(command, input=b"".join(lines), stdout=subprocess.PIPE)
+    if done.returncode != 0:
+        raise Broken("%s: status %d" % (" ".join(command), done.returncode))
+    return done.stdout
+
+
+def deletes_for_good(batch, subject):
+    """Whether the batch deletes that subject, or its only version, for good."""
+    last = batch.lines.splitlines()[-1].split(b"\t")
+    return offset_of(last[0]) is not None and subject.encode() in last[1] and last[2] == b"null"
+
+
+def trim(store, options, command):
+    say("%d pieces dropped" % patiently(store.trim, options))
+    return 0
+
+
+DEEDS = {"init": init, "serve": serve, "dump": dump, "rebase": rebase, "trim": trim}

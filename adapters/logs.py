@@ -1,0 +1,81 @@
+"""A log as a base has it: docs/FORMATS.md says the lines."""
+import collections
+import json
+
+from joining import Broken
+
+# next: the offset behind it; text: its lines, each with its LF, without the empty line at its end.
+Log = collections.namedtuple("Log", "next text")
+
+LONGEST = 2097152
+MOST_LINES = 1000000
+GREATEST_OFFSET = 2**63 - 1
+GREATEST_NUMBER = 2**31 - 1
+
+
+def offset_of(field):
+    """The offset that a line's field spells, or none."""
+    if not field.isdigit() or len(field) > 19 or (field[:1] == b"0" and len(field) > 1) or int(field) > GREATEST_OFFSET:
+        return None
+    return int(field)
+
+
+def read_log(text):
+    """The log that these bytes are. What stands behind an empty line is refused, and so is a log that owes a mark of ids, since no process
+    would begin with it."""
+    lines = text.split(b"\n")
+    if lines.pop() != b"":
+        raise Broken("the log's last line is cut")
+    while lines and lines[-1] == b"":
+        lines.pop()
+    if len(lines) > MOST_LINES:
+        raise Broken("the log has more than %d lines" % MOST_LINES)
+    behind = 0
+    for number, line in enumerate(lines):
+        behind = max(behind, end_of(line, number))
+    if owes_mark(lines):
+        raise Broken("the log owes a mark of ids: start and stop `registrylog keep` over it for an init; a rebase has to end where none is "
+                     "due (README.md, A smaller base)")
+    return Log(behind, b"".join(line + b"\n" for line in lines))
+
+
+def end_of(line, number):
+    """The offset behind a line, or a floor."""
+    fields = line.split(b"\t")
+    is_floor = number == 0 and fields[0] == b"floor" and len(fields) == 2
+    offset = offset_of(fields[1] if is_floor else fields[0])
+    if offset is None or len(line) > LONGEST or not (is_floor or len(fields) == 3):
+        raise Broken("line %d isn't a line of a log" % (number + 1))
+    return offset if is_floor else offset + 1
+
+
+def json_of(text):
+    try:
+        return json.loads(text)
+    except ValueError:
+        return None
+
+
+def number_of(value, name):
+    """A member that is a number of an id or of a version, else 0."""
+    number = value.get(name) if isinstance(value, dict) else None
+    return number if type(number) is int and 1 <= number <= GREATEST_NUMBER else 0
+
+
+def owes_mark(lines):
+    """Whether a version has an id above the last mark. Of each key the record of the greatest offset counts."""
+    last = {}
+    for line in lines:
+        if b"SCHEMA" in line or b"ID_MARK" in line:
+            offset, key, value = line.split(b"\t")
+            key = json_of(key)
+            kind = key.get("keytype") if isinstance(key, dict) else None
+            if kind in ("SCHEMA", "ID_MARK"):
+                name = (kind, str(key.get("subject")), key.get("version")) if kind == "SCHEMA" else (kind,)
+                last[name] = max(last.get(name, (-1, b"")), (int(offset), value))
+    mark = number_of(json_of(last.pop(("ID_MARK",), (0, b"null"))[1]), "id")
+    return any(number_of(json_of(value), "id") > mark for _, value in last.values())
+
+
+def pieces_of(text, size):
+    return [text[at:at + size] for at in range(0, len(text), size)]

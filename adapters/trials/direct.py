@@ -1,0 +1,67 @@
+"""Appends by a store's own calls what no adapter would ask for, and says what was appended.
+
+    direct.py PROGRAM CLASS WORDS.."""
+import importlib.machinery
+import importlib.util
+import os
+import sys
+
+
+def says_overtaken(joining):
+    """An adapter says once where it begins to be overtaken often, and once where that ends."""
+    said, say = [], joining.say
+    joining.say = said.append
+    adapter = joining.Adapter(None, [], 1, 1)
+    for answer in [joining.BEHIND] * 120 + [joining.KEPT] * 120:
+        adapter.count(answer)
+    joining.say = say
+    if [text.split(":")[0] for text in said] != ["overtaken often", "no longer overtaken often"]:
+        sys.exit("said: %s" % said)
+
+
+def trims_between(store, another):
+    """A trim that comes between a base's pieces and the base: that isn't put in."""
+    name, are_there = store.put_pieces(b"0\ta\tb\n")
+    another.trim()
+    if store.succeeds([*are_there], [store.put("base", "1 token " + name)]):
+        sys.exit("a base was put in whose pieces a trim had dropped")
+
+
+def main():
+    path, name = sys.argv[1:3]
+    sys.path.insert(0, os.path.dirname(path))
+    sys.dont_write_bytecode = True
+    loader = importlib.machinery.SourceFileLoader("program", path)
+    program = importlib.util.module_from_spec(importlib.util.spec_from_loader("program", loader))
+    loader.exec_module(program)
+    options = program.make_parser().parse_args(sys.argv[3:] + ["dump"])
+    store = getattr(program, name)(options)
+    base = store.begin()
+
+    def append(at, count, token, before):
+        lines = b"".join(b"%d\tdirect\t%s\n" % (at + place, token.encode()) for place in range(count))
+        return store.append(program.Batch(at, at + count, token, before, lines))
+    at = base.next
+    steps = [
+        ("first", append(at, 3, "one", base.token), True),
+        ("behind a token that never was", append(at + 3, 1, "two", "nobody"), False),
+        ("behind a token that is no longer the last", append(at + 3, 1, "three", base.token), False),
+        ("within a batch", append(at + 1, 1, "four", "one"), False),
+        ("over a gap", append(at + 5, 1, "five", "one"), False),
+        ("where a batch stands", append(at, 1, "six", base.token), False),
+        ("second", append(at + 3, 1, "seven", "one"), True),
+        ("the same again", append(at + 3, 1, "seven", "one"), None),
+    ]
+    for what, was_appended, is_right in steps:
+        if is_right is not None and was_appended != is_right:
+            sys.exit("%s: %s" % (what, "appended" if was_appended else "not appended"))
+    another = getattr(program, name)(options)
+    tokens = [batch.token for batch in another.read(another.begin().next, base.token)]
+    if tokens != ["one", "seven"]:
+        sys.exit("the log has %s" % tokens)
+    says_overtaken(sys.modules["joining"])
+    if name == "Etcd":
+        trims_between(store, another)
+
+
+main()
