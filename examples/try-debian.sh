@@ -1,59 +1,119 @@
 #!/bin/bash
-# Makes a fresh Debian in a folder, boots it, and has set-up.sh set up a registry there, which is asked; then it is booted anew,
-# and asked again: docs/DEPLOY.md.
+# Makes a fresh Debian in a folder, boots it with systemd, and there installs the package, has set-up.sh set up a registry, asks it,
+# kills it, boots anew and asks again, has a follower, upgrades, removes and purges: docs/DEPLOY.md.
 #
-#   try-debian.sh REGISTRYLOG [OPTION ..]
+#   try-debian.sh PACKAGE [OPTION ..]
 #
-# REGISTRYLOG is the program. The options are further ones of systemd-nspawn. It runs as root, wants Debian's packages mmdebstrap
-# and systemd-container and a network, and takes the ports 443 and 8081 of this machine. The status is 1 where an answer isn't as
-# it should be.
+# The options are further ones of systemd-nspawn. It runs as root, wants Debian's packages mmdebstrap and systemd-container and a
+# network, and takes the ports 443, 8081 and 8082 of this machine. Where FRESH_ROOT is set, a copy of that folder is the fresh
+# Debian. The status is 1 where an answer isn't as it should be.
 set -euo pipefail
-here=$(dirname "$(readlink -f "${BASH_SOURCE[0]}")")
-program=$(readlink -f "$1")
+package=$(readlink -f "$1")
 shift
 folder=$(mktemp -d -p /var/tmp)
 root=$folder/root
 trap 'rm -rf --one-file-system "$folder"' EXIT
 
-mmdebstrap --quiet --variant=minbase --include=systemd-sysv,dbus,curl,ca-certificates bookworm "$root"
-mkdir "$root/trial"
-cp -r "$here" "$root/trial/examples"
-cp "$program" "$root/trial/registrylog"
+. "$(dirname "$(readlink -f "${BASH_SOURCE[0]}")")/fresh-debian.sh"
+make_root "$package" systemd-sysv,dbus,curl,ca-certificates,procps
 
-# What runs there, once the machine is up. The first time it sets up.
+# What runs there, once the machine is up. In the first boot it sets up, in the second it upgrades and removes.
 cat >"$root/trial/run.sh" <<'END'
 #!/bin/bash
 set -euo pipefail
 cd /trial
+export DEBIAN_FRONTEND=noninteractive
 status=1
-trap 'echo $status >/trial/status; [ $status = 0 ] || journalctl -b --no-pager -u registrylog -u nginx; systemctl poweroff --no-block' EXIT
+trap 'echo $status >/trial/status; [ $status = 0 ] || journalctl -b --no-pager -u registrylog -u registrylog-follow -u nginx; systemctl poweroff --no-block' EXIT
 ask() { curl -fs --retry 20 --retry-all-errors --retry-delay 1 --cacert /etc/nginx/registry.crt --resolve registry.here:443:127.0.0.1 "$@"; }
 mine() { ask --user someone:secret "$@"; }
 same() { [[ $3 == "$2" ]] && echo "ok $1" || { echo "WRONG $1: wanted $2, got $3"; exit; }; }
 begins() { [[ $3 == "$2"* ]] && echo "ok $1" || { echo "WRONG $1: wanted $2.., got ${3:0:200}"; exit; }; }
+show() { systemctl show -P "$1" registrylog; }
+starts() { journalctl -b -o cat --no-pager _PID=1 _SYSTEMD_UNIT=init.scope UNIT=registrylog.service | grep -c ^Started || true; }
 site=https://registry.here
+log=/var/lib/registry/log
+int='{"schema":"\"int\""}'
 
-if [ ! -e been ]; then
-    echo secret | DEBIAN_FRONTEND=noninteractive examples/set-up.sh /trial/registrylog registry.here someone
-    same "registering" '{"id":1}' "$(mine --json '{"schema":"\"int\""}' $site/subjects/s/versions)"
-    touch been
+set_up() {
+    apt-get update
+    apt-get install -y ./registry.deb
+    same "what runs once it is installed" "inactive inactive" "$(systemctl is-active registrylog registrylog-follow | paste -sd ' ')"
+    echo secret | /usr/share/registry/set-up.sh registry.here someone
+    same "registering" '{"id":1}' "$(mine --json "$int" $site/subjects/s/versions)"
+    systemctl enable --now registrylog-follow
+}
+
+ask_all() {
+    same "what is enabled" "enabled enabled enabled" "$(systemctl is-enabled registrylog registrylog-follow nginx | paste -sd ' ')"
+    same "the schema" "$int" "$(mine $site/schemas/ids/1)"
+    same "the schema at the follower" "$int" "$(ask http://127.0.0.1:8082/schemas/ids/1)"
+    same "without a password" 401 "$(curl -s -o /dev/null -w '%{http_code}' --cacert /etc/nginx/registry.crt --resolve registry.here:443:127.0.0.1 $site/subjects)"
+    begins "the page" "<!doctype html>" "$(mine -L $site/)"
+    begins "its script" "// The page" "$(mine $site/browser/page.js)"
+    same "who has the log" "registry registry 640" "$(stat -c '%U %G %a' $log)"
+}
+
+kill_once() {
+    local before after
+    before=$(show MainPID)
+    systemctl kill -s KILL registrylog
+    for _ in $(seq 300); do
+        after=$(show MainPID)
+        [ "$after" = 0 ] || [ "$after" = "$before" ] || break
+        sleep 0.1
+    done
+    same "the schema after a kill" "$int" "$(mine $site/schemas/ids/1)"
+    same "how often it was started again" 1 "$(show NRestarts)"
+    begins "a registration after it" '{"id":' "$(mine --json '{"schema":"\"long\""}' $site/subjects/s/versions)"
+}
+
+# A log of which most lines are superseded is compacted at the start, into a file of the same owner.
+compact_once() {
+    systemctl stop registrylog registrylog-follow
+    {
+        sed '/^$/d' $log
+        for offset in $(seq 10 100100); do printf '%d\t{"keytype":"NOOP","magic":0}\tnull\n' "$offset"; done
+        echo
+    } >lines
+    cat lines >$log
+    systemctl start registrylog
+    curl -s -o mode --retry 240 --retry-connrefused --retry-delay 1 http://127.0.0.1:8081/mode
+    same "the schema of a long log" "$int" "$(mine $site/schemas/ids/1)"
+    same "the lines of a compacted log" few "$([ "$(wc -l <$log)" -lt 10 ] && echo few || wc -l <$log)"
+    same "who has a compacted log" "registry registry 640" "$(stat -c '%U %G %a' $log)"
+}
+
+upgrade() {
+    local before count
+    before=$(show InvocationID) count=$(starts)
+    apt-get install -y ./higher.deb
+    same "the higher version" higher "$(dpkg-query -W -f '${Version}' registry | sed 's/.*+//')"
+    [ "$before" != "$(show InvocationID)" ] || same "what runs after an upgrade" another "$before"
+    same "how often an upgrade started the writer" 1 "$(($(starts) - count))"
+    same "a unit that didn't run" inactive "$(systemctl is-active registrylog-follow || true)"
+    same "the schema after an upgrade" "$int" "$(mine $site/schemas/ids/1)"
+}
+
+take_away() {
+    local kept
+    kept=$(sha256sum <$log)
+    apt-get remove -y registry
+    same "what runs once it is removed" '' "$(pgrep -l registry || true)"
+    same "what is enabled then" '' "$(find /etc/systemd -name 'registry*')"
+    apt-get purge -y registry
+    same "the log after purging" "$kept" "$(sha256sum <$log)"
+}
+
+[ -e been ] || set_up
+ask_all
+kill_once
+if [ -e been ]; then
+    compact_once
+    upgrade
+    take_away
 fi
-same "both units are enabled" "enabled enabled" "$(systemctl is-enabled registrylog nginx | paste -sd ' ')"
-same "the schema" '{"schema":"\"int\""}' "$(mine $site/schemas/ids/1)"
-same "without a password" 401 "$(curl -s -o /dev/null -w '%{http_code}' --cacert /etc/nginx/registry.crt --resolve registry.here:443:127.0.0.1 $site/subjects)"
-begins "the page" "<!doctype html>" "$(mine -L $site/)"
-begins "its script" "// The page" "$(mine $site/browser/page.js)"
-same "who has the log" "registry registry" "$(stat -c '%U %G' /var/lib/registry/log)"
-before=$(systemctl show -P MainPID registrylog)
-systemctl kill -s KILL registrylog
-for _ in $(seq 300); do
-    after=$(systemctl show -P MainPID registrylog)
-    [ "$after" = 0 ] || [ "$after" = "$before" ] || break
-    sleep 0.1
-done
-same "the schema after a kill" '{"schema":"\"int\""}' "$(mine $site/schemas/ids/1)"
-same "how often it was started again" 1 "$(systemctl show -P NRestarts registrylog)"
-same "a registration after it" '{"id":2}' "$(mine --json '{"schema":"\"long\""}' $site/subjects/s/versions)"
+touch been
 status=0
 END
 chmod +x "$root/trial/run.sh"

@@ -79,7 +79,7 @@ start_nginx() {
         -e "/upstream registry_writer/,/}/ s#127.0.0.1:8081#127.0.0.1:$writer#" \
         -e "/upstream registry_followers/,/}/ s#127.0.0.1:8081;#127.0.0.1:${followers[0]}; server 127.0.0.1:${followers[1]};#" \
         -e "s#listen 443 #listen 127.0.0.1:$front #" -e "s#registry.example#localhost#" \
-        -e "s#/etc/nginx/registry#$folder/registry#" -e "s#/usr/local/share#$folder/share#" \
+        -e "s#/etc/nginx/registry#$folder/registry#" -e "s#/usr/share#$folder/share#" \
         "$here/nginx.conf" >"$folder/nginx.conf"
     nginx -e "$folder/nginx.err" -c "$folder/nginx.conf"
 }

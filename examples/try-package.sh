@@ -1,0 +1,179 @@
+#!/bin/bash
+# Makes the package, installs it in a fresh Debian, and looks at the outcome of each step: docs/DEPLOY.md.
+#
+#   try-package.sh            makes it twice, in this clone and in another, and says whether both are the same; then tries it
+#   try-package.sh PACKAGE    tries that one
+#
+# It runs as root, and wants Debian's packages mmdebstrap, systemd-container and lintian, and a network. Where FRESH_ROOT is set, a
+# copy of that folder is the fresh Debian. The status is 1 where something isn't as it should be.
+set -euo pipefail
+here=$(dirname "$(readlink -f "${BASH_SOURCE[0]}")")
+top=$(dirname "$here")
+folder=$(mktemp -d -p /var/tmp)
+root=$folder/root
+trap 'rm -rf --one-file-system "$folder"' EXIT
+. "$here/fresh-debian.sh"
+wrong() { echo "WRONG $*"; exit 1; }
+
+# The package is the same from another clone with other settings, and isn't made of a changed tree.
+make_twice() {
+    local clone=$folder/clone
+    "$top/package"
+    git clone -q "$top" "$clone"
+    mkdir "$clone/out"
+    cp -p "$top"/out/registry{log,d}{,.built} "$clone/out/"
+    (umask 077 && TZ=Asia/Tokyo LANG=C "$clone/package")
+    cmp "$top"/out/registry_*.deb "$clone"/out/registry_*.deb || wrong "two packages of one commit differ"
+    echo "ok the package is the same again"
+    echo >>"$clone/README.md"
+    ! "$clone/package" 2>"$folder/said" || wrong "a changed tree was packed"
+    grep -q 'the tree was changed' "$folder/said" || wrong "a changed tree: $(cat "$folder/said")"
+    echo "ok a changed tree is refused"
+}
+
+look_over() {
+    lintian --allow-root --fail-on error "$package" || wrong "lintian finds errors"
+    echo "ok lintian finds no error"
+}
+
+inside() { systemd-nspawn --quiet --register=no --keep-unit --pipe --directory "$root" "$@" 2>"$folder/said" || { cat "$folder/said"; wrong "$1"; }; }
+
+# What runs there, without a network but for its own loopback. No systemd runs there: a unit is started by its own line.
+write_trial() {
+    cat >"$root/trial/run.sh" <<'END_OF_TRIAL'
+#!/bin/bash
+set -euo pipefail
+same() { [[ $3 == "$2" ]] && echo "ok $1" || { echo "WRONG $1: wanted $2, got ${3:0:300}"; exit 1; }; }
+has() { [[ $3 == *"$2"* ]] && echo "ok $1" || { echo "WRONG $1: wanted $2, got ${3:0:300}"; exit 1; }; }
+unit() { echo "/lib/systemd/system/$1.service"; }
+ask() { curl -s --retry 100 --retry-connrefused --retry-delay 1 --retry-max-time 120 "$@"; }
+register() { ask --json "{\"schema\":\"\\\"$1\\\"\"}" "http://127.0.0.1:$port/subjects/$1/versions"; }
+schema() { ask "http://127.0.0.1:$1/schemas/ids/$2"; }
+version() { dpkg-query -W -f '${Version} ${Status}' registry; }
+sum() { sha256sum <"$log"; }
+log=/var/lib/registry/log
+port=8081
+
+# Runs a unit's line as its user, with the words of its file of options.
+start() {
+    local line user options
+    line=$(sed -n 's/^ExecStart=//p' "$(unit "$1")")
+    user=$(sed -n 's/^User=//p' "$(unit "$1")")
+    options=$(sed -n 's/^EnvironmentFile=-//p' "$(unit "$1")")
+    setsid runuser -u "$user" -- bash -c "set -a; . $options; umask 027; exec $line" >"/trial/$1.said" 2>&1 &
+}
+
+end() {
+    pkill -KILL -x registrylog || true
+    while pgrep -x registrylog >/dev/null; do sleep 0.1; done
+}
+
+words_of() { registrylog $1 --help | grep -oE -e "$2" | sort | paste -sd ' '; }
+
+# What completion gives for a command line whose last word is begun.
+completed() {
+    COMP_WORDS=("$@") COMP_CWORD=$(($# - 1))
+    _registrylog registrylog "${COMP_WORDS[COMP_CWORD]}" "${COMP_WORDS[COMP_CWORD - 1]}"
+    printf '%s\n' "${COMPREPLY[@]}" | sort | paste -sd ' '
+}
+
+try_installed() {
+    same "nothing runs" '' "$(pgrep -l registry || true)"
+    same "units" $'disabled\ndisabled' "$(systemctl is-enabled registrylog registrylog-follow 2>&1 || true)"
+    same "the user" "registry /usr/sbin/nologin" "$(getent passwd registry | cut -d : -f 1,7 | tr : ' ')"
+    same "the folder" "registry registry 750" "$(stat -c '%U %G %a' /var/lib/registry)"
+    same "the checksums of PROVED" $'registryd: OK\nregistrylog: OK' "$(cd /usr/bin && grep '  registry' /usr/share/doc/registry/PROVED | sha256sum -c)"
+    same "the units' faults" '' "$(systemd-analyze verify --man=no registrylog.service registrylog-follow.service 2>&1)"
+    systemd-analyze security --offline=true --threshold=20 --no-pager "$(unit registrylog)" "$(unit registrylog-follow)" | grep Overall
+}
+
+try_completion() {
+    local command
+    . /usr/share/bash-completion/completions/registrylog
+    same "completion of commands" "$(words_of '' '^  [a-z]+' | tr -s ' ' | sed 's/^ //') " "$(completed registrylog '' | sed 's/--[a-z]* *//g') "
+    for command in $(words_of '' '^  [a-z]+'); do
+        [ "$command" != help ] || continue
+        same "completion of $command" "$(words_of "$command" '^ +(-., )?--[a-z]+' | grep -oE -e '--[a-z]+' | sort | paste -sd ' ')" "$(completed registrylog "$command" --)"
+    done
+    same "completion of a value" '' "$(completed registrylog keep --nodes '')"
+    cd /trial
+    same "completion of a file" higher.deb "$(completed registrylog check high)"
+    same "completion of a begun command" compact "$(completed registrylog comp)"
+}
+
+try_serving() {
+    start registrylog
+    same "registering" '{"id":1}' "$(register int)"
+    same "reading" '{"schema":"\"int\""}' "$(schema 8081 1)"
+    same "who has the log" "registry registry 640" "$(stat -c '%U %G %a' "$log")"
+    start registrylog-follow
+    same "reading at the follower" '{"schema":"\"int\""}' "$(schema 8082 1)"
+    end
+    pkill -f follow-loop.sh
+    start registrylog
+    same "reading after a kill" '{"schema":"\"int\""}' "$(schema 8081 1)"
+    same "registering after a kill" '{"id":2}' "$(register long)"
+    end
+    sed -i '/^KEEP_OPTIONS/s/8081/9081/' /etc/default/registrylog
+    port=9081
+    start registrylog
+    same "registering at another port" '{"id":3}' "$(register string)"
+}
+
+try_upgrade() {
+    local before
+    before=$(sum)
+    dpkg -i higher.deb >upgrade.said 2>&1
+    has "the higher version" "+higher install ok installed" "$(version)"
+    same "the log after an upgrade" "$before" "$(sum)"
+    same "the old program goes on" '{"schema":"\"int\""}' "$(schema 9081 1)"
+    end
+    start registrylog
+    same "the options stay" '{"schema":"\"long\""}' "$(schema 9081 2)"
+    same "registering after an upgrade" '{"id":4}' "$(register bytes)"
+    end
+    dpkg -i registry.deb >back.said 2>&1
+    start registrylog
+    same "reading after going back" '{"schema":"\"bytes\""}' "$(schema 9081 4)"
+    end
+}
+
+try_removal() {
+    local before
+    before=$(sum)
+    has "what removing says" "registry: what was kept in /var/lib/registry stays there" "$(dpkg -r registry 2>&1)"
+    same "the programs" '' "$(ls /usr/bin/registry* 2>/dev/null || true)"
+    same "the log after removing" "$before" "$(sum)"
+    has "the options after removing" KEEP_OPTIONS "$(cat /etc/default/registrylog)"
+    has "what purging says" "registry: what was kept in /var/lib/registry stays there" "$(dpkg -P registry 2>&1 </dev/null)"
+    same "the log after purging" "$before" "$(sum)"
+    same "the options after purging" '' "$(ls /etc/default/registrylog 2>/dev/null || true)"
+    same "whose it is after purging" "registry registry" "$(stat -c '%U %G' "$log")"
+    same "links that lead nowhere" '' "$(find /etc/systemd -name 'registry*')"
+    dpkg -i registry.deb >again.said 2>&1
+    start registrylog
+    port=8081
+    same "reading once it is installed again" '{"schema":"\"bytes\""}' "$(schema 8081 4)"
+    same "registering then" '{"id":5}' "$(register float)"
+}
+
+cd /trial
+for part in installed completion serving upgrade removal; do "try_$part"; done
+END_OF_TRIAL
+    chmod +x "$root/trial/run.sh"
+}
+
+if [ $# = 0 ]; then
+    make_twice
+    package=$top/out/registry_$(<"$top/VERSION")_amd64.deb
+else
+    package=$(readlink -f "$1")
+fi
+look_over
+make_root "$package" curl,procps
+write_trial
+inside bash -c 'apt-get -q update && DEBIAN_FRONTEND=noninteractive apt-get install -qy /trial/registry.deb' >"$folder/installing" ||
+    { tail -n 30 "$folder/installing"; exit 1; }
+echo "ok apt installs it"
+inside --private-network /trial/run.sh
+echo "all as it should be"
