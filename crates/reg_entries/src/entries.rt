@@ -21,6 +21,7 @@ use crate::soft_delete::{SoftDeletes, delete_of};
 use crate::tops::{leave_room, refresh_top};
 use crate::twin::Twin;
 use base_text::Text;
+use packed_trees::{copy_map, copy_set};
 use std::alloc::{AllocError, Global};
 use std::collections::{BTreeMap, BTreeSet};
 use std::marker::Model;
@@ -72,11 +73,11 @@ impl Clone for Entries {
     fn clone(&self) -> Result<Entries, AllocError> {
         Ok(Entries {
             alloc: self.alloc,
-            entries: self.entries.clone()?,
-            names: self.names.clone()?,
-            tops: self.tops.clone()?,
-            schemas: self.schemas.clone()?,
-            meanings: self.meanings.clone()?,
+            entries: copy_map(self.alloc, &self.entries)?,
+            names: copy_set(self.alloc, &self.names)?,
+            tops: copy_map(self.alloc, &self.tops)?,
+            schemas: copy_set(self.alloc, &self.schemas)?,
+            meanings: copy_set(self.alloc, &self.meanings)?,
             doubled: self.doubled.clone()?,
         })
     }

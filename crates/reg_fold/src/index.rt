@@ -327,7 +327,7 @@ pub(crate) fn put_last(
     last_records_are_enough();
     lasts.is_compact();
     entries_are_of_lasts(lasts);
-    let before = lasts.put(given)?;
+    let before = lasts.put_news(given)?;
     lasts.is_compact();
     entries_are_of_lasts(lasts);
     Ok(before)

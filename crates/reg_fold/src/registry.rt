@@ -27,7 +27,7 @@ use reg_entries::Entry;
 use reg_level_names::Level;
 use reg_records::{Key, Record};
 use reg_set::{
-    LastRecords, RecordSet, last_is_greatest, last_records_are_enough, last_records_of_unions,
+    RecordSet, last_is_greatest, last_records_are_enough, last_records_of_unions,
     records_are_ordered,
 };
 use std::alloc::{AllocError, Global};
@@ -84,8 +84,7 @@ impl Registry {
             (part : Records) → KeepsLasts part set.now → registry ≡ last_records part) }
     {
         last_records_are_enough();
-        let last = LastRecords::of(set)?;
-        Registry::over(alloc, &last.records(alloc)?)
+        Registry::over(alloc, &set.last_of_each()?)
     }
 
     /// The registry over those records.

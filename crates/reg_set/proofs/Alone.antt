@@ -1,6 +1,6 @@
 -- The last of records of one key, in order, alone.
-use Rattle.std.proofs.Common.{◌≡◌, ℕ, suc, zero, ◌+◌, Bool, true, false, ◌||◌, ◌⊎◌, inl, inr, List}
-use Rattle.std.proofs.Common.{[], ◌∷◌, Some, length, get_or, take, refl, sym, ap, ◌∙◌, arith}
+use Rattle.std.proofs.Common.{◌≡◌, ℕ, suc, zero, ◌+◌, ◌-◌, Bool, true, false, ◌||◌, ◌⊎◌, inl, inr, ⊎_elim, List}
+use Rattle.std.proofs.Common.{[], ◌∷◌, Some, None, length, get_or, take, refl, sym, ap, ◌∙◌, arith}
 use Rattle.std.proofs.lemmas.Bool.{false≢true}
 use Rattle.std.proofs.lemmas.Cmp.{tied_itself}
 use Rattle.std.specs.List.{list_any, list_all, slice_get, swap}
@@ -104,3 +104,12 @@ pub swapped-alone : (rs : List Record) (n : ℕ) → n + 1 ≡ length rs → tak
 swapped-alone [] n h = absurd (omega arith)
 swapped-alone (r ∷ rs) zero h = sym (alone-at (r ∷ rs) zero r h)
 swapped-alone (r ∷ rs) (suc n) h = sym (alone-at (r ∷ rs) (suc n) r h)
+
+-- where there is no last one there is none
+pub none_of : (rs : List Record) → slice_get rs (length rs - 1) ≡ None → rs ≡ []
+none_of [] h = refl
+none_of (r ∷ rs) h =
+    ⊎_elim (λ (e : r ∷ rs ≡ []). e)
+    (λ (found : (q : Record) × (last_alone (r ∷ rs) ≡ q ∷ [])).
+    let both : None ≡ Some found.0 = sym h ∙ alone-get (r ∷ rs) (length (r ∷ rs) - 1) found.0 (omega arith) found.1 in
+    absurd (cc)) (alone-cases (r ∷ rs))

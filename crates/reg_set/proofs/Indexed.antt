@@ -73,14 +73,7 @@ module _ (S : Records) (r : Record) where
       ∙ ap (later (last S key)) none
       ∙ later-none (last S key)
 
--- copies of entries that are equal to them
-pub zipped : (C : Key → Key → Type 0) (D : Record → Record → Type 0) → ((a b : Key) → C a b → b ≡ a)
-    → ((a b : Record) → D a b → b ≡ a) → (xs ys : List (Key × Record)) → AllZip (λ p q. C p.0 q.0 × D p.1 q.1) xs ys → ys ≡ xs
-zipped C D c d [] [] h = refl
-zipped C D c d [] (y ∷ ys) h = absurd h
-zipped C D c d (x ∷ xs) [] h = absurd h
-zipped C D c d (x ∷ xs) (y ∷ ys) h = λ i. (c x.0 y.0 h.0.0 i, d x.1 y.1 h.0.1 i) ∷ zipped C D c d xs ys h.1 i
-
+-- copies of records that are equal to them
 pub listed : (D : Record → Record → Type 0) → ((a b : Record) → D a b → b ≡ a) → (xs ys : List Record) → AllZip D xs ys → ys ≡ xs
 listed D d [] [] h = refl
 listed D d [] (y ∷ ys) h = absurd h

@@ -56,7 +56,7 @@ module _ (key : Key) (rs : List Record) (of_key : AreOf key rs) (r : Record) (is
         ∙ at_any (λ x. is_le (record_cmp x r)) q rs (up_to_alone r rs of_key.in_order is_last) (in_rs q inside);
   }
 
-  last_keeps_lasts : KeepsLasts (insert empty r) (from_list rs)
+  pub last_keeps_lasts : KeepsLasts (insert empty r) (from_list rs)
   last_keeps_lasts =
       keeps_lasts_from (insert empty r) (from_list rs)
       (λ q h. ⊎_elim

@@ -1,17 +1,17 @@
 // The records of each key, in a map by key.
-ghost use Rattle.std.specs.Prelude.{◌≡◌, ◌++◌, ◌↔◌, [], true, OnOk, OnErr, IfOk, IsTrue};
+ghost use Rattle.std.specs.Prelude.{◌≡◌, ◌++◌, ◌↔◌, [], true, OnOk, OnErr, IfOk, IsTrue, map};
 ghost use Rattle.std.specs.BTreeMap.{IsOrdered, keys, values};
 ghost use Rattle.std.specs.FinSet as set;
 ghost use Rattle.std.specs.List.{list_any, list_all};
 ghost use Rattle.std.specs.Option.{option_map_or};
 ghost use Rattle.std.specs.Ordering.{eq_by_cmp, is_lt};
 ghost use Rattle.reg_set.specs.ByKey.{AreByKey, AreSame, IsTakenIn, IsLastsOf, all_records, records_at};
-ghost use Rattle.reg_set.specs.Compaction.{is_kept_or_gone};
+ghost use Rattle.reg_set.specs.Compaction.{KeepsLasts, is_kept_or_gone};
 ghost use Rattle.reg_set.specs.LastRecords.{last, last_records};
 ghost use Rattle.reg_set.specs.RecordOrder.{key_cmp, record_cmp};
 
 use crate::last_records::LastRecords;
-use crate::of_one_key::{leave_last, put_last, take_among};
+use crate::of_one_key::{leave_last, push_last, put_last, take_among};
 use crate::record_set::{RecordSet, Taken, has_last_of, has_last_or_none};
 use reg_records::{Key, Record};
 use std::alloc::{AllocError, Global};
@@ -109,6 +109,21 @@ pub(crate) fn lasts_of(
         put_last(&mut lasts, key, records)?;
     }
     Ok(lasts)
+}
+
+/// The last record of each key, lent. The only error is out of memory.
+pub(crate) fn list_lasts(
+    alloc: Global,
+    by_key: &BTreeMap<Key, Vec<Record>>,
+) -> Result<Vec<&Record>, AllocError>
+    requires { AreByKey by_key.now }
+    ensures { IfOk result (λ found. KeepsLasts (set.from_list (map (λ r. r.now) found.items)) (set.from_list (all_records by_key.now))) }
+{
+    let mut found = Vec::new(alloc);
+    for (key, records) in by_key {
+        push_last(&mut found, key, records)?;
+    }
+    Ok(found)
 }
 
 /// Adds the records to the set. An error is out of memory; some were added then, maybe.

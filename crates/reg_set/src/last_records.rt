@@ -9,6 +9,7 @@ ghost use Rattle.reg_set.specs.LastRecords.{LosesAtMost, last, last_records, wit
 ghost use Rattle.reg_set.specs.RecordOrder.{age_cmp, key_cmp};
 
 use crate::record_set::RecordSet;
+use packed_trees::copy_map;
 use reg_records::{Key, Record};
 use std::alloc::{AllocError, Global};
 use std::collections::BTreeMap;
@@ -20,6 +21,7 @@ use std::mem;
 /// Contracts see it as the set of these records.
 #[derive(Debug, Drop)]
 pub struct LastRecords {
+    alloc: Global,
     by_key: BTreeMap<Key, Record>,
 }
 
@@ -44,7 +46,8 @@ impl Clone for LastRecords {
 
     fn clone(&self) -> Result<LastRecords, AllocError> {
         Ok(LastRecords {
-            by_key: self.by_key.clone()?,
+            alloc: self.alloc,
+            by_key: copy_map(self.alloc, &self.by_key)?,
         })
     }
 }
@@ -55,6 +58,7 @@ impl LastRecords {
         ensures { result ≡ set.empty }
     {
         LastRecords {
+            alloc,
             by_key: BTreeMap::new(alloc),
         }
     }
@@ -110,6 +114,21 @@ impl LastRecords {
         if !self.is_news(given) {
             return Ok(None);
         }
+        let before = self.put_news(given)?;
+        Ok(before)
+    }
+
+    /// Makes a copy of a record that is later than the last of its key the last of its key, and gives
+    /// the one before. The only error is out of memory; all is then as it was.
+    pub fn put_news(&mut self, given: &Record) -> Result<Option<Record>, AllocError>
+        requires { last_records (set.insert self.old given.now) ≢ self.old }
+        ensures added { OnOk result (self.new ≡ last_records (set.insert self.old given.now)) }
+        ensures there { OnOk result (IsSome (last self.new given.now.key)) }
+        ensures of_key { IfOk result (λ before. IfSome before (λ r. r.key ≡ given.now.key)) }
+        ensures before { IfOk result (λ before. before ≡ last self.old given.now.key) }
+        ensures taken_back { IfOk result (λ before. with_last self.new given.now.key before ≡ self.old) }
+        ensures refused { OnErr result (self.new ≡ self.old) }
+    {
         let before = insert_copy(&mut self.by_key, given)?;
         Ok(before)
     }

@@ -1,12 +1,13 @@
 // The records of one key, which stand in order.
-ghost use Rattle.std.specs.Prelude.{◌≡◌, ◌↔◌, OnOk, OnErr, IfOk, IsTrue};
+ghost use Rattle.std.specs.Prelude.{◌≡◌, ◌↔◌, OnOk, OnErr, IfOk, IsTrue, map};
 ghost use Rattle.std.specs.FinSet as set;
 ghost use Rattle.std.specs.List.{list_any, list_all};
 ghost use Rattle.std.specs.Ordering.{eq_by_cmp, is_lt};
 ghost use Rattle.reg_set.specs.ByKey.{AreOf, last_alone};
+ghost use Rattle.reg_set.specs.Compaction.{KeepsLasts};
 ghost use Rattle.reg_set.specs.LastRecords.{last_records};
 ghost use Rattle.reg_set.specs.RecordOrder.{record_cmp};
-ghost use Rattle.reg_set.specs.Records.{placed};
+ghost use Rattle.reg_set.specs.Records.{Records, placed};
 
 use crate::last_records::LastRecords;
 use crate::order::{count_before, stands_at};
@@ -60,6 +61,22 @@ pub(crate) fn put_last(
 {
     if let Some(last) = records.last() {
         lasts.put(last)?;
+    }
+    Ok(())
+}
+
+/// Puts the last of a key's records behind others. The only error is out of memory.
+pub(crate) fn push_last<'a>(
+    found: &mut Vec<&'a Record>,
+    _key: &Key,
+    records: &'a [Record],
+) -> Result<(), AllocError>
+    requires { AreOf _key.now records.now }
+    ensures { OnOk result ((whole : Records) → KeepsLasts (set.from_list (map (λ r. r.now) found.old.items)) whole
+        → KeepsLasts (set.from_list (map (λ r. r.now) found.new.items)) (set.union whole (set.from_list records.now))) }
+{
+    if let Some(latest) = records.last() {
+        found.push(latest)?;
     }
     Ok(())
 }

@@ -11,7 +11,7 @@ ghost use Rattle.reg_set.specs.Records.{records_of, is_in_order};
 
 use crate::by_key::{
     add_all, are_all_in, are_kept_or_gone, copy_all, has_lasts_of_keys, lasts_of, leave_lasts,
-    take_in,
+    list_lasts, take_in,
 };
 use crate::last_records::LastRecords;
 use crate::order::is_among;
@@ -118,6 +118,14 @@ impl RecordSet {
         ensures { IfOk result (λ lasts. lasts ≡ last_records self.now) }
     {
         let found = lasts_of(self.alloc, &self.by_key)?;
+        Ok(found)
+    }
+
+    /// The last record of each key, by the derived order of keys. The only error is out of memory.
+    pub fn last_of_each(&self) -> Result<Vec<&Record>, AllocError>
+        ensures { IfOk result (λ found. KeepsLasts (set.from_list (map (λ r. r.now) found.items)) self.now) }
+    {
+        let found = list_lasts(self.alloc, &self.by_key)?;
         Ok(found)
     }
 

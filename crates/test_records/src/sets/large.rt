@@ -1,8 +1,8 @@
-// Sets that take thousands of records, and hold them all.
+// Sets that take thousands of records, and hold them all, and copies of last records.
 use super::side_by_side::{keys, wide};
 use crate::lines::records_of;
 use reg_records::{LogError, Record};
-use reg_set::{RecordSet, Taken};
+use reg_set::{LastRecords, RecordSet, Taken};
 use std::alloc::{AllocError, Global};
 
 /// Takes records in turn, and tells whether that is said of each.
@@ -53,4 +53,44 @@ fn are_held(alloc: Global, count: u32) -> Result<bool, LogError> {
 #[test]
 fn a_set_takes_thousands_of_records(rt: HostRuntime) {
     assert!(rt; matches!(are_held(rt.alloc(), 2_000), Ok(true)));
+}
+
+/// Whether each record is the last of its key, and there are no others.
+fn are_lasts(alloc: Global, lasts: &LastRecords, records: &[Record]) -> Result<bool, AllocError> {
+    for record in records {
+        if !lasts.contains(record) {
+            return Ok(false);
+        }
+    }
+    Ok(lasts.records(alloc)?.len() == records.len())
+}
+
+/// Whether a copy of so many last records has these, and still does where the original loses them.
+fn is_copied(alloc: Global, count: u32) -> Result<bool, LogError> {
+    let keys = keys(alloc, count)?;
+    let records = records_of(alloc, &wide(alloc, &keys, 1)?)?;
+    let mut lasts = LastRecords::new(alloc);
+    for record in &records {
+        lasts.put(record)?;
+    }
+    let copy = lasts.clone()?;
+    for record in &records {
+        lasts.remove(record);
+    }
+    Ok(are_lasts(alloc, &copy, &records)? && are_lasts(alloc, &lasts, &[])?)
+}
+
+/// Whether that is so of numbers of records around those that fill a node, and nodes of nodes.
+fn are_copied(alloc: Global) -> Result<bool, LogError> {
+    for count in [0, 1, 15, 16, 17, 255, 256, 271, 2_000] {
+        if !is_copied(alloc, count)? {
+            return Ok(false);
+        }
+    }
+    Ok(true)
+}
+
+#[test]
+fn copies_of_last_records_have_them_all(rt: HostRuntime) {
+    assert!(rt; matches!(are_copied(rt.alloc()), Ok(true)));
 }

@@ -1,10 +1,9 @@
-use Rattle.std.proofs.Common.{◌≡◌, ◌+◌, ◌-◌, ◌<◌, ⊎_elim, [], ◌∷◌, List, Some, None, length, refl, sym, ap, ◌∙◌, arith, rules}
+use Rattle.std.proofs.Common.{◌≡◌, ◌+◌, ◌-◌, ◌<◌, [], ◌∷◌, None, length, sym, ap, ◌∙◌, arith, rules}
 use Rattle.std.specs.FinSet.{from_list, union}
 use Rattle.std.specs.List.{slice_get}
-use Rattle.reg_records.specs.declared.record.Record.{Record}
 use Rattle.reg_set.specs.ByKey.{last_alone}
 use Rattle.reg_set.specs.LastRecords.{last_records}
-use Rattle.reg_set.proofs.Alone.{alone-at, alone-cases, alone-get}
+use Rattle.reg_set.proofs.Alone.{alone-at, none_of}
 use Rattle.reg_set.proofs.Joined.{last-joined, union-nothing}
 use Rattle.reg_set.proofs.of_one_key.put_last.Goals as goal
 
@@ -17,14 +16,6 @@ returns-in_ok-put c =
     let whole : length rs - 1 + 1 ≡ length rs = omega arith in
     let alone : last_alone rs ≡ r ∷ [] = alone-at rs (length rs - 1) r whole ∙ ap (λ x. x ∷ []) (sym item.1) in
     c.in_ok-put.ensures.added ∙ last-joined c.args._key.now rs c.requires.of_key r alone c.args.lasts.now
-
-none_of : (rs : List Record) → slice_get rs (length rs - 1) ≡ None → rs ≡ []
-none_of [] h = refl
-none_of (r ∷ rs) h =
-    ⊎_elim (λ (e : r ∷ rs ≡ []). e)
-    (λ (found : (q : Record) × (last_alone (r ∷ rs) ≡ q ∷ [])).
-    let both : None ≡ Some found.0 = sym h ∙ alone-get (r ∷ rs) (length (r ∷ rs) - 1) found.0 (omega arith) found.1 in
-    absurd (cc)) (alone-cases (r ∷ rs))
 
 pub returns-in_default : goal.returns-in_default
 returns-in_default c =
