@@ -24,8 +24,8 @@ fn learn<D: SharedDesk>(desk: &mut D, standing: &Option<D::Standing>)
 }
 
 /// Answers the request at the front, which is whole and takes so many bytes. The desk learns first of
-/// what the last answer on the connection stood on. Says whether the connection goes on. After an error nothing was done and
-/// written, or the request was done and its response is written in part.
+/// what the last answer on the connection stood on. Says whether the connection goes on. The only error is a `WriteFault`: the request
+/// was done, and its response is written in part.
 pub fn answer_one<W: Write, D: SharedDesk>(
     alloc: Global,
     paths: &mut Option<Paths>,

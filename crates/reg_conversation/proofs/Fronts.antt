@@ -1,7 +1,7 @@
 -- What is answered of a whole request is answered of every text that goes on after it.
 use Rattle.std.proofs.Common.{◌≡◌, ◌⊎◌, ◌++◌, [], List, ℕ, Bool, true, false, Some, None, refl, sym, ap}
 use Rattle.std.proofs.Common.{subst, ◌∙◌, inl, inr, arith, append-nil, length, length-append, take, drop}
-use Rattle.std.specs.Prelude.{IfOk, IfErr, IfSome, Option, Result, Ok, Err, nat_le}
+use Rattle.std.specs.Prelude.{IfOk, IfErr, Option, Result, nat_le}
 use Rattle.std.specs.declared.alloc.AllocError.{AllocError}
 use Rattle.std.proofs.lemmas.List.{append_assoc, take-append-drop, take-append-le}
 use Rattle.std.proofs.Math.Seq.{drop-append_seam}
@@ -15,10 +15,9 @@ use Rattle.reg_messages.specs.Fields.{body_length}
 use Rattle.reg_messages.specs.Head.{Front, front_of, over, head, no_head, IsHead}
 use Rattle.reg_messages.specs.Messages.{body_in, fields_of, wants_close}
 use Rattle.reg_requests.specs.Asked.{asked_of}
-use Rattle.reg_responses.specs.Writing.{AppendsFront}
 use Rattle.reg_http.specs.Requests.{request_of}
 use Rattle.reg_http.specs.Serve.{AnswersFirst, AnswersFront, AnswersHead, Does, LacksMemory, left_if}
-use Rattle.reg_http.specs.ServeSteps.{IsStepRefusal, Steps}
+use Rattle.reg_http.specs.ServeSteps.{Steps}
 use Rattle.reg_http.specs.declared.serving.Next.{Next}
 use Rattle.reg_http.specs.declared.serving.ServeError.{ServeError}
 use Rattle.reg_http.specs.declared.serving.Next.TheVariants as nexts
@@ -201,33 +200,3 @@ module _ {D : Type 0} (asks : D → Query → Result Answer AllocError → D →
       → IfErr r (FailsFirst asks commands writer writer' old text before after new)
   fails-over writer writer' old new part text before after r is fails =
       subst (λ t. IfErr r (FailsFirst asks commands writer writer' old t before after new)) is fails
-
-  -- what a step did, whose text is known
-  pub step-known : (old new : D) (input : Option (List ℕ)) (bytes : List ℕ)
-      (before after left : Option (List ℕ)) (r : Result Next ServeError)
-      → input ≡ Some bytes
-      → IfOk r (λ next. IfSome input (λ text. Steps asks commands old text before after left new next))
-      → IfOk r (λ next. (rest : Option (List ℕ)) × Steps asks commands old bytes before after rest new next)
-  step-known old new input bytes before after left (Err e) is step = tt
-  step-known old new input bytes before after left (Ok next) is step =
-      (left, subst (λ i. IfSome i (λ text. Steps asks commands old text before after left new next)) is step)
-
-  fails-of : {R W : Type 0} (reader reader' : Device R) (writer writer' : Device W) (old new : D)
-      (input : Option (List ℕ)) (bytes : List ℕ) (before after left : Option (List ℕ))
-      (e : ServeError) → input ≡ Some bytes → IsStepRefusal asks commands reader reader' writer writer' input left before after old new e
-      → FailsFirst asks commands writer writer' old bytes before after new e
-  fails-of reader reader' writer writer' old new input bytes before after left errors.ReadFault is (lost, other, short, same, kept, begun) =
-      (other, same, kept)
-  fails-of reader reader' writer writer' old new input bytes before after left errors.WriteFault is (lost, since, other, step) =
-      let (out, rest, first, front) = subst (λ i. IfSome i (λ text. (out : List ℕ) × (rest : Option (List ℕ))
-      × AnswersFirst asks commands old (Some text) out new rest × AppendsFront before after out)) is step in
-      (lost, out, rest, first, front)
-
-  pub fails-known : {R W : Type 0} (reader reader' : Device R) (writer writer' : Device W)
-      (old new : D) (input : Option (List ℕ)) (bytes : List ℕ) (before after left : Option (List ℕ))
-      (r : Result Next ServeError) → input ≡ Some bytes
-      → IfErr r (λ e. IsStepRefusal asks commands reader reader' writer writer' input left before after old new e)
-      → IfErr r (FailsFirst asks commands writer writer' old bytes before after new)
-  fails-known reader reader' writer writer' old new input bytes before after left (Ok next) is fails = tt
-  fails-known reader reader' writer writer' old new input bytes before after left (Err e) is fails =
-      fails-of reader reader' writer writer' old new input bytes before after left e is fails

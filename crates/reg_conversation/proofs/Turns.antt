@@ -3,7 +3,7 @@ use Rattle.std.proofs.Common.{◌≡◌, ◌++◌, ◌∷◌, [], List, ℕ, Boo
 use Rattle.std.specs.Prelude.{IfErr, OnOk, Option, Result, Ok, Err}
 use Rattle.std.specs.Io.KnownBytes.{Appends}
 use Rattle.std.specs.declared.alloc.AllocError.{AllocError}
-use Rattle.std.proofs.KnownBytes.{Appends-kept, Appends-nil, Appends-trans}
+use Rattle.std.proofs.KnownBytes.{Appends-nil, Appends-trans}
 use Rattle.std.proofs.lemmas.Grind.{flat_map-append}
 use Rattle.std.proofs.lemmas.List.{append_assoc}
 use Rattle.reg_leader.specs.declared.command.Command.{Command}
@@ -155,8 +155,7 @@ module _ {D : Type 0} (asks : D → Query → Result Answer AllocError → D →
   -- a response that failed, after none
   stops-first : {W : Type 0} (writer writer' : Device W) (old new : D) (text : List ℕ) (before after : Option (List ℕ)) (e : ServeError)
       → FailsFirst asks commands writer writer' old text before after new e → Stops asks commands writer writer' old text before after new e
-  stops-first writer writer' old new text before after errors.ReadFault (faults, same, kept) =
-      (faults, ([], text, (same, refl), Appends-kept before before after [] (Appends-nil before) kept))
+  stops-first writer writer' old new text before after errors.ReadFault fails = fails
   stops-first writer writer' old new text before after errors.WriteFault (lost, out, rest, first, (front, more, parts, written)) =
       (lost, [], (Some text, old, (refl, refl), out, rest, first, front, more, parts, written))
 
@@ -166,16 +165,7 @@ module _ {D : Type 0} (asks : D → Query → Result Answer AllocError → D →
       → faults_of writer ≡ faults_of start → Answers asks commands old (Some text) outs mid (Some left)
       → Appends before middle (all_of outs)
       → Stops asks commands writer writer' mid left middle after new e → Stops asks commands start writer' old text before after new e
-  stops-more start writer writer' old mid new text left outs before middle after errors.ReadFault same answers written
-      (faults, (more, rest, others, appends)) = (
-        faults ∙ same,
-        (
-          outs ++ more,
-          rest,
-          answers-join old mid new (Some text) (Some left) (Some rest) outs more answers others,
-          appends-join outs more before middle after written appends,
-        ),
-      )
+  stops-more start writer writer' old mid new text left outs before middle after errors.ReadFault same answers written stops = stops
   stops-more start writer writer' old mid new text left outs before middle after errors.WriteFault same answers written
       (lost, more, (rest, last, others, out, after_it, first, front, missing, parts, appends)) = (
         loses-since start writer writer' same lost,

@@ -1,18 +1,18 @@
 -- What is answered on a connection, of whose text only a front has come.
 use Rattle.std.specs.Prelude.{◌≡◌, ◌<◌, ◌≤◌, ℕ, List, ◌++◌, Bool, true, false, length, Option, Some, None, Result}
-use Rattle.std.specs.Io.KnownBytes.{Appends, Keeps}
+use Rattle.std.specs.Io.KnownBytes.{Appends}
 use Rattle.std.specs.declared.alloc.AllocError.{AllocError}
 use Rattle.reg_leader.specs.declared.command.Command.{Command}
 use Rattle.reg_leader.specs.declared.reply.Reply.{Reply}
 use Rattle.reg_lookup.specs.declared.answered.Answer.{Answer}
 use Rattle.reg_lookup.specs.declared.query.Query.{Query}
-use Rattle.reg_records.specs.Device.{faults_of}
 use Rattle.reg_records.specs.declared.device.Device.{Device}
 use Rattle.reg_messages.specs.Head.{front_of}
 use Rattle.reg_messages.specs.Reading.{IsShort}
-use Rattle.reg_responses.specs.Writing.{AppendsFront, LosesWriter}
+use Rattle.reg_responses.specs.Writing.{LosesWriter}
 use Rattle.reg_extent.specs.Extent.{TakesInAll}
 use Rattle.reg_http.specs.Serve.{all_of, Answers, AnswersFirst, IsOutput, IsOver, StopsInNext}
+use Rattle.reg_http.specs.ServeSteps.{LosesStep}
 use Rattle.reg_http.specs.declared.limits.TheConstants.{REQUESTS_LIMIT}
 use Rattle.reg_http.specs.declared.serving.ServeError.{ServeError}
 use Rattle.reg_http.specs.declared.serving.ServeError.TheVariants as errors
@@ -56,22 +56,14 @@ module _ {D : Type 0} (asks : D → Query → Result Answer AllocError → D →
       × (length outs ≤ REQUESTS_LIMIT → IsOutput asks commands old text (length outs) (all_of outs) new)
       × Appends before after (all_of outs)
 
-  -- the responses to some first requests of a text were written, and nothing of the next one
-  abbrev pub StopsAfter : D → List ℕ → Option (List ℕ) → Option (List ℕ) → D → Type 0
-  StopsAfter old text before after new =
-      (outs : List (List ℕ)) × (rest : List ℕ) × Answers asks commands old (Some text) outs new (Some rest)
-      × Appends before after (all_of outs)
-
-  -- why the first request of a text wasn't answered: nothing was done or written, or its response was written in part
+  -- why the first request of a text wasn't answered: it was done, and the writer was lost, which has a front of the response. There is no
+  -- other reason: a request that is held is read from no reader
   abbrev pub FailsFirst : {W : Type 0} → Device W → Device W → D → List ℕ → Option (List ℕ) → Option (List ℕ) → D → ServeError → Type 0
-  FailsFirst writer writer' old text before after new errors.ReadFault =
-      (faults_of writer' ≡ faults_of writer) × (new ≡ old) × Keeps before after
-  FailsFirst writer writer' old text before after new errors.WriteFault = LosesWriter writer writer'
-      × (out : List ℕ) × (rest : Option (List ℕ)) × AnswersFirst asks commands old (Some text) out new rest × AppendsFront before after out
+  FailsFirst writer writer' old text before after new errors.ReadFault = ⊥
+  FailsFirst writer writer' old text before after new errors.WriteFault = LosesStep asks commands writer writer' old text before after new
 
   -- why no more of a text was answered, and what was written by then
   abbrev pub Stops : {W : Type 0} → Device W → Device W → D → List ℕ → Option (List ℕ) → Option (List ℕ) → D → ServeError → Type 0
-  Stops writer writer' old text before after new errors.ReadFault =
-      (faults_of writer' ≡ faults_of writer) × StopsAfter old text before after new
+  Stops writer writer' old text before after new errors.ReadFault = ⊥
   Stops writer writer' old text before after new errors.WriteFault =
       LosesWriter writer writer' × (outs : List (List ℕ)) × StopsInNext asks commands old text outs before after new

@@ -5,7 +5,8 @@ ghost use Rattle.reg_responses.specs.declared.limits.TheConstants.{INTERRUPTION_
 ghost use Rattle.reg_http.specs.ServeSteps.{Steps};
 ghost use Rattle.reg_conversation.specs.Conversation.{FailsFirst};
 
-use reg_http::{Desk, Next, Paths, ServeError, answer_next};
+use reg_extent::message_in;
+use reg_http::{Desk, Next, Paths, ServeError, answer_got};
 use reg_records::Device;
 use std::alloc::Global;
 use std::io::Write;
@@ -26,6 +27,8 @@ pub(crate) fn answer_bytes<W: Write, D: Desk>(
     ensures faults { OnOk result (faults_of writer.new ≡ faults_of writer.old) }
     ensures interruptions { interruptions_of writer.new ≤ INTERRUPTION_LIMIT }
 {
-    let mut reader = Device::new(bytes);
-    answer_next(alloc, paths, &mut reader, writer, desk)
+    match answer_got(alloc, paths, message_in(alloc, bytes), writer, desk) {
+        Ok(next) => Ok(next),
+        Err(_) => Err(ServeError::WriteFault),
+    }
 }

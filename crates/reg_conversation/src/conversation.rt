@@ -115,7 +115,7 @@ impl Conversation {
     }
 
     /// Answers the request at the front, which is whole and takes so many bytes, as it is answered in
-    /// any text that goes on from here. Says whether the connection goes on.
+    /// any text that goes on from here. Says whether the connection goes on. The only error is a `WriteFault`.
     pub fn answer_front<W: Write, D: Desk>(
         &mut self,
         alloc: Global,
@@ -144,7 +144,7 @@ impl Conversation {
     }
 
     /// Answers what is held, which is short of a request, where nothing comes any more: it gets one
-    /// response, or none where no request is begun.
+    /// response, or none where no request is begun. The only error is a `WriteFault`.
     pub fn answer_last<W: Write, D: Desk>(
         &mut self,
         alloc: Global,

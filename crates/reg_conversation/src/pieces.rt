@@ -16,8 +16,7 @@ use std::io::Write;
 pub enum PieceError {
     /// Memory for the piece was refused. Each request that was whole before it is answered.
     NoMemory,
-    /// The writer failed, or was interrupted too often in a row; or a request was read as often as may
-    /// be, which takes more reads than its bytes.
+    /// The writer failed, or was interrupted too often in a row: never a `ReadFault`.
     Failed(ServeError),
 }
 

@@ -4,7 +4,7 @@ use Rattle.std.proofs.Common.{refl, sym, ap, subst, ◌∙◌, inl, inr, arith, 
 use Rattle.std.specs.Prelude.{Result, Ok, Err, Option, IfSome, not, nat_lt, codes}
 use Rattle.std.specs.Str.Parse.{digits_value}
 use Rattle.std.proofs.lemmas.List.{append_assoc, take-append-drop, length-take-le}
-use Rattle.std.proofs.Math.Seq.{take-suc, take-append-add}
+use Rattle.std.proofs.Math.Seq.{drop-append-add, take-suc, take-append-add}
 use Rattle.std.specs.List.{list_all}
 use Rattle.httparse.specs.Grammar.{RequestHead}
 use Rattle.reg_refusals.specs.declared.refusal.Refusal.{Refusal}
@@ -51,6 +51,20 @@ module _ (text blank rest tail : List ℕ) (n : ℕ) (is : text ≡ blank ++ (re
       → front_of (blank ++ (take n rest ++ more))
       ≡ (if has_few_lines (take n rest) then head (take n rest) more else no_head refusals.HeadTooLarge)
   found more = front-found blank rest more n (n - 1) (omega (arith, ends.0)) all kept ends.1 ends.2 few fits
+
+  -- what stands at the front of the text
+  pub front-here : front_of text
+      ≡ (if has_few_lines (take n rest) then head (take n rest) (drop n rest ++ tail) else no_head refusals.HeadTooLarge)
+  front-here = ap front_of onwards ∙ found (drop n rest ++ tail)
+
+  -- what stands after the head
+  pub after-head : drop (length blank + n) text ≡ drop n rest ++ tail
+  after-head =
+      let size : length (take n rest) ≡ n = length-take-le n rest few in
+      ap (λ t. drop (length blank + n) t) onwards
+      ∙ ap (λ m. drop m (blank ++ (take n rest ++ (drop n rest ++ tail)))) (omega (arith, size))
+      ∙ drop-append-add blank (take n rest ++ (drop n rest ++ tail)) (length (take n rest) + 0)
+      ∙ drop-append-add (take n rest) (drop n rest ++ tail) 0
 
   -- the head and so many bytes after it
   front-is : (k : ℕ) → take (length blank + n + k) text ≡ blank ++ (take n rest ++ take k (drop n rest ++ tail))
@@ -229,12 +243,16 @@ body_length-of fields (Err refusal) is = rw is (omega arith)
 pub body_length-limit : (fields : List Field) → body_length fields ≤ BODY_LIMIT
 body_length-limit fields = body_length-of fields (told_length fields) refl
 
--- the text in the parts that were made of it, whatever comes after it
+-- the text in the parts that were made of it
+pub in-window : (text window blank rest : List ℕ) (l b : ℕ) → window ≡ take l text → blank ≡ take b window → rest ≡ drop b window
+    → text ≡ blank ++ (rest ++ drop l text)
+in-window text window blank rest l b is front back = rw (front, back, is) (parts text l b)
+
+-- the same, whatever comes after it
 pub in-parts : (text window blank rest : List ℕ) (l b : ℕ) → window ≡ take l text → blank ≡ take b window → rest ≡ drop b window
     → (more : List ℕ) → text ++ more ≡ blank ++ (rest ++ (drop l text ++ more))
 in-parts text window blank rest l b is front back more =
-    let now : text ≡ blank ++ (rest ++ drop l text) = rw (front, back, is) (parts text l b) in
-    ap (λ t. t ++ more) now ∙ append_assoc blank (rest ++ drop l text) more ∙ ap (λ t. blank ++ t) (append_assoc rest (drop l text) more)
+    ap (λ t. t ++ more) (in-window text window blank rest l b is front back) ∙ append_assoc blank (rest ++ drop l text) more ∙ ap (λ t. blank ++ t) (append_assoc rest (drop l text) more)
 
 -- how many bytes a message takes, if they are known
 pub takes-all : (known : Option ℕ) (part : List ℕ)

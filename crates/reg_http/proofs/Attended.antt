@@ -1,6 +1,7 @@
 -- What was read and done is the response to the first request of a text.
-use Rattle.std.proofs.Common.{◌≡◌, ◌⊎◌, List, [], ℕ, Bool, true, false, Some, None, IfSome, refl, sym, ap, subst, inl, inr}
+use Rattle.std.proofs.Common.{◌≡◌, ◌⊎◌, List, [], ℕ, Bool, true, false, Some, None, IfSome, refl, sym, ap, subst, inl, inr, ◌∙◌}
 use Rattle.std.specs.Prelude.{◌||◌, IsOk, Ok, Err, Option, Result}
+use Rattle.std.specs.Io.KnownBytes.{Appends}
 use Rattle.std.specs.declared.alloc.AllocError.{AllocError}
 use Rattle.httparse.specs.Grammar.{RequestHead}
 use Rattle.reg_leader.specs.declared.command.Command.{Command}
@@ -22,7 +23,8 @@ use Rattle.reg_requests.specs.declared.request.Request.{Request}
 use Rattle.reg_responses.specs.Response.{refusal_text}
 use Rattle.reg_http.specs.Requests.{request_of}
 use Rattle.reg_http.specs.Serve.{AnswersFirst, AnswersFront, AnswersHead, Does, LacksMemory, left_if}
-use Rattle.reg_http.specs.ServeSteps.{Attends, Did, done_closes, done_text}
+use Rattle.reg_http.specs.ServeSteps.{Attends, Did, Steps, done_closes, done_text, next_if}
+use Rattle.reg_http.specs.declared.attending.Attended.{Attended}
 use Rattle.reg_http.specs.declared.attending.Attended.TheVariants as attended
 use Rattle.reg_http.specs.declared.doing.Done.{Done}
 use Rattle.reg_http.specs.declared.doing.Done.TheVariants as dones
@@ -77,7 +79,7 @@ module _ {D : Type 0} (asks : D → Query → Result Answer AllocError → D →
   head-answers old new text bytes h after wants out left front is answers =
       subst (λ f. AnswersFront asks commands old f out new left) (sym front) (inl (h, is, answers))
 
-  attends-request : (old new : D) (text : List ℕ) (left : Option (List ℕ))
+  pub attends-request : (old new : D) (text : List ℕ) (left : Option (List ℕ))
       (m t : List ℕ) (f : List Field) (b : Option (List ℕ)) (wants : Bool) (done : Done)
       → GetsFrom text left (gots.Message m t f b wants)
       → Did asks commands old (asked_of (record { method = m; target = t; fields = f; body = b })) new done
@@ -95,7 +97,7 @@ module _ {D : Type 0} (asks : D → Query → Result Answer AllocError → D →
             (done_closes (wants_close h) done, refl, answers)),
       )
 
-  attends-no_memory : (old : D) (text : List ℕ) (left : Option (List ℕ)) (wants : Bool)
+  pub attends-no_memory : (old : D) (text : List ℕ) (left : Option (List ℕ)) (wants : Bool)
       → GetsFrom text left (gots.NoMemory wants) → Attends asks commands old text left old (attended.Done dones.NoMemory wants)
   attends-no_memory old text left wants (bytes, h, after, (front, is, ok, rest), wanted) = (
     after_body h after,
@@ -104,7 +106,7 @@ module _ {D : Type 0} (asks : D → Query → Result Answer AllocError → D →
         (wants, refl, inr (ok, wanted, refl, refl)),
   )
 
-  attends-refused : (old : D) (text : List ℕ) (left : Option (List ℕ)) (refusal : Refusal)
+  pub attends-refused : (old : D) (text : List ℕ) (left : Option (List ℕ)) (refusal : Refusal)
       → IsRefusedAt text refusal → Attends asks commands old text left old (attended.Done (dones.Refused refusal true) true)
   attends-refused old text left refusal refused = elim refused [
     | inl front ↦ (
@@ -132,26 +134,24 @@ module _ {D : Type 0} (asks : D → Query → Result Answer AllocError → D →
     )
   ]
 
+  -- a response was written, after which the connection is closed or goes on
+  written : (old new : D) (text out rest : List ℕ) (left before after : Option (List ℕ)) (closes : Bool)
+      → (closes ≡ false → left ≡ Some rest) → AnswersFirst asks commands old (Some text) out new (left_if closes rest)
+      → Appends before after out → Steps asks commands old text before after left new (next_if closes)
+  written old new text out rest left before after true goes first appends = (out, first, appends)
+  written old new text out rest left before after false goes first appends = (out, rest, goes refl, first, appends)
+
+  -- what was done of the first request, once its response is written
+  pub steps-written : (old new : D) (text : List ℕ) (left before after : Option (List ℕ)) (done : Done) (wants closes : Bool)
+      → closes ≡ done_closes wants done → Attends asks commands old text left new (attended.Done done wants)
+      → Appends before after (done_text wants done) → Steps asks commands old text before after left new (next_if closes)
+  steps-written old new text left before after done wants closes is (rest, goes, first) appends =
+      written old new text (done_text wants done) rest left before after closes (λ e. goes (sym is ∙ e))
+      (subst (λ c. AnswersFirst asks commands old (Some text) (done_text wants done) new (left_if c rest)) (sym is) first) appends
+
   -- the same, where the text is known
-  pub attended-request : (old new : D) (input left : Option (List ℕ)) (got : Got)
-      (m t : List ℕ) (f : List Field) (b : Option (List ℕ)) (wants : Bool) (done : Done)
-      → got ≡ gots.Message m t f b wants → IfSome input (λ text. GetsFrom text left got)
-      → Did asks commands old (asked_of (record { method = m; target = t; fields = f; body = b })) new done
-      → IfSome input (λ text. Attends asks commands old text left new (attended.Done done wants))
-  attended-request old new None left got m t f b wants done is gets did = tt
-  attended-request old new (Some text) left got m t f b wants done is gets did =
-      attends-request old new text left m t f b wants done (subst (λ g. GetsFrom text left g) is gets) did
-
-  pub attended-refused : (old : D) (input left : Option (List ℕ)) (got : Got) (refusal : Refusal) → got ≡ gots.Refused refusal
-      → IfSome input (λ text. GetsFrom text left got)
-      → IfSome input (λ text. Attends asks commands old text left old (attended.Done (dones.Refused refusal true) true))
-  attended-refused old None left got refusal is gets = tt
-  attended-refused old (Some text) left got refusal is gets =
-      attends-refused old text left refusal (subst (λ g. GetsFrom text left g) is gets)
-
-  pub attended-no_memory : (old : D) (input left : Option (List ℕ)) (got : Got) (wants : Bool) → got ≡ gots.NoMemory wants
-      → IfSome input (λ text. GetsFrom text left got)
-      → IfSome input (λ text. Attends asks commands old text left old (attended.Done dones.NoMemory wants))
-  attended-no_memory old None left got wants is gets = tt
-  attended-no_memory old (Some text) left got wants is gets =
-      attends-no_memory old text left wants (subst (λ g. GetsFrom text left g) is gets)
+  pub attended-some : (old new : D) (input left : Option (List ℕ)) (got : Got) (a : Attended)
+      → ((text : List ℕ) (rest : Option (List ℕ)) → GetsFrom text rest got → Attends asks commands old text rest new a)
+      → IfSome input (λ text. GetsFrom text left got) → IfSome input (λ text. Attends asks commands old text left new a)
+  attended-some old new None left got a attends gets = tt
+  attended-some old new (Some text) left got a attends gets = attends text left gets

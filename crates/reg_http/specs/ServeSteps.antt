@@ -74,6 +74,11 @@ module _ {D : Type 0} (asks : D → Query → Result Answer AllocError → D →
       (out : List ℕ) × (rest : List ℕ) × (left ≡ Some rest)
       × AnswersFirst asks commands old (Some text) out new (Some rest) × Appends before after out
 
+  -- the first request of a text was done, and the writer was lost, which has a front of the response
+  abbrev pub LosesStep : {W : Type 0} → Device W → Device W → D → List ℕ → Option (List ℕ) → Option (List ℕ) → D → Type 0
+  LosesStep writer writer' old text before after new = LosesWriter writer writer'
+      × (out : List ℕ) × (rest : Option (List ℕ)) × AnswersFirst asks commands old (Some text) out new rest × AppendsFront before after out
+
   -- why one request wasn't answered; its reads were counted from its front on
   abbrev pub IsStepRefusal : {R W : Type 0} → Device R → Device R → Device W → Device W
       → Option (List ℕ) → Option (List ℕ) → Option (List ℕ) → Option (List ℕ) → D → D → ServeError → Type 0

@@ -1,7 +1,7 @@
 // Reading the next request, and doing what it asks.
-ghost use Rattle.std.specs.Prelude.{◌≡◌, ◌≤◌, IfOk, IfSome, OnErr, OnOk};
+ghost use Rattle.std.specs.Prelude.{◌≡◌, ◌≤◌, ℕ, List, Option, IfOk, IfSome, OnErr, OnOk};
 ghost use Rattle.reg_records.specs.Device.{KeepsEnd, bytes_in, faults_of, reads_of};
-ghost use Rattle.reg_messages.specs.Reading.{TakesShort};
+ghost use Rattle.reg_messages.specs.Reading.{GetsFrom, TakesShort};
 ghost use Rattle.reg_messages.specs.Taking.{CountsReads, LosesReader};
 ghost use Rattle.reg_messages.specs.declared.limits.TheConstants.{REQUEST_READS};
 ghost use Rattle.reg_http.specs.ServeSteps.{Attends};
@@ -41,38 +41,51 @@ pub(crate) fn attend<R: Read, D: Desk>(
     ensures idle { OnErr result (desk.new ≡ desk.old) }
 {
     match read_message(alloc, reader) {
-        Ok(Got::Over) => Ok(Attended::Over),
-        Ok(Got::Refused(refusal)) => Ok(Attended::Done {
+        Ok(got) => Ok(attend_to(alloc, paths, got, desk)),
+        Err(fault) => Err(fault),
+    }
+}
+
+/// Does what a message asks that was read.
+pub(crate) fn attend_to<D: Desk>(
+    alloc: Global,
+    paths: &mut Option<Paths>,
+    got: Got,
+    desk: &mut D,
+) -> Attended
+    ensures { (text : List ℕ) (left : Option (List ℕ)) → GetsFrom text left got
+        → Attends D.asks D.commands desk.old text left desk.new result }
+{
+    match got {
+        Got::Over => Attended::Over,
+        Got::Refused(refusal) => Attended::Done {
             done: Done::Refused {
                 refusal,
                 closes: true,
             },
             wants_close: true,
-        }),
-        Ok(
-            Got::Message {
-                method,
-                target,
-                fields,
-                body,
-                wants_close,
-            },
-        ) => {
+        },
+        Got::Message {
+            method,
+            target,
+            fields,
+            body,
+            wants_close,
+        } => {
             let request = Request {
                 method,
                 target,
                 fields,
                 body,
             };
-            Ok(Attended::Done {
+            Attended::Done {
                 done: do_request(alloc, paths, desk, &request),
                 wants_close,
-            })
+            }
         }
-        Ok(Got::NoMemory { wants_close }) => Ok(Attended::Done {
+        Got::NoMemory { wants_close } => Attended::Done {
             done: Done::NoMemory,
             wants_close,
-        }),
-        Err(fault) => Err(fault),
+        },
     }
 }

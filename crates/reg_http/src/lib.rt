@@ -12,4 +12,6 @@ pub use limits::{REQUESTS_LIMIT, limits_are_as_written};
 pub use reg_messages::{HEAD_FIELDS, HEAD_LIMIT, HEAD_LINES, REQUEST_READS};
 pub use reg_requests::{Asked, Field, Paths, Request};
 pub use reg_responses::reply_answer;
-pub use serving::{Next, ServeError, Served, ServedPart, answer_next, serve, serve_part};
+pub use serving::{
+    Next, ServeError, Served, ServedPart, answer_got, answer_next, serve, serve_part,
+};

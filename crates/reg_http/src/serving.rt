@@ -1,19 +1,22 @@
 // The responses to the requests that a reader gives.
-ghost use Rattle.std.specs.Prelude.{◌≡◌, ◌≤◌, ◌+◌, ◌*◌, ℕ, List, Bool, IfOk, IfErr, IfSome, OnOk};
+ghost use Rattle.std.specs.Prelude.{◌≡◌, ◌≤◌, ◌+◌, ◌*◌, ℕ, List, Bool, Option, IfOk, IfErr, IfSome, OnErr, OnOk};
 ghost use Rattle.std.specs.Io.KnownBytes.{Appends};
 ghost use Rattle.reg_records.specs.Device.{KeepsEnd, KeepsInterruptions, KeepsReads, all_reads_of, begun_of, bytes_in, faults_of, interruptions_of, place_of, reads_of};
+ghost use Rattle.reg_messages.specs.Reading.{GetsFrom};
 ghost use Rattle.reg_messages.specs.declared.limits.TheConstants.{REQUEST_READS};
 ghost use Rattle.reg_responses.specs.declared.limits.TheConstants.{INTERRUPTION_LIMIT};
 ghost use Rattle.reg_http.specs.Ends.{EndsAfter, EndsRefused, EndsStep, EndsStepRefused};
 ghost use Rattle.reg_http.specs.Serve.{IsOutput, IsPart, IsServeRefusal, ReadsForRequests};
-ghost use Rattle.reg_http.specs.ServeSteps.{IsStepRefusal, Steps, next_if};
+ghost use Rattle.reg_http.specs.ServeSteps.{IsStepRefusal, LosesStep, Steps, next_if};
 
-use crate::attending::{Attended, attend};
+use crate::attending::{Attended, attend, attend_to};
 use crate::desk::Desk;
 use crate::doing::{closes_after, write_done};
 use crate::limits::REQUESTS_LIMIT;
+use reg_messages::Got;
 use reg_records::{Device, Output};
 use reg_requests::Paths;
+use reg_responses::WriteFault;
 use std::alloc::Global;
 use std::io::BufRead;
 
@@ -202,6 +205,31 @@ fn answer_counted<R: BufRead, W: Output, D: Desk>(
             Err(_) => Err(ServeError::WriteFault),
         },
         Err(_) => Err(ServeError::ReadFault),
+    }
+}
+
+/// Answers a message that was read, if there is one. The only error is that the writer failed, or was interrupted too often in a row.
+pub fn answer_got<W: Output, D: Desk>(
+    alloc: Global,
+    paths: &mut Option<Paths>,
+    got: Got,
+    writer: &mut Device<W>,
+    desk: &mut D,
+) -> Result<Next, WriteFault>
+    requires few { interruptions_of writer.old ≤ INTERRUPTION_LIMIT }
+    ensures step { (text : List ℕ) (left : Option (List ℕ)) → GetsFrom text left got → IfOk result (Steps D.asks D.commands desk.old text
+        (bytes_in W.contents writer.old) (bytes_in W.contents writer.new) left desk.new) }
+    ensures refused { (text : List ℕ) (left : Option (List ℕ)) → GetsFrom text left got → OnErr result (LosesStep D.asks D.commands
+        writer.old writer.new desk.old text (bytes_in W.contents writer.old) (bytes_in W.contents writer.new) desk.new) }
+    ensures faults { OnOk result (faults_of writer.new ≡ faults_of writer.old) }
+    ensures interruptions { interruptions_of writer.new ≤ INTERRUPTION_LIMIT }
+{
+    match attend_to(alloc, paths, got, desk) {
+        Attended::Over => Ok(Next::Over),
+        Attended::Done { done, wants_close } => match write_done(writer, &done, wants_close) {
+            Ok(()) => Ok(next_if(closes_after(&done, wants_close))),
+            Err(fault) => Err(fault),
+        },
     }
 }
 

@@ -9,7 +9,7 @@ use Rattle.std.proofs.Math.Seq.{drop-append_seam, take-append_seam}
 use Rattle.httparse.specs.Grammar.{RequestHead}
 use Rattle.reg_messages.specs.Fields.{body_length, told_length}
 use Rattle.reg_messages.specs.BodyReading.{LosesBody, TakesAll, TakesBody}
-use Rattle.reg_messages.specs.Head.{front_of, IsHead}
+use Rattle.reg_messages.specs.Head.{front_of, head, IsHead}
 use Rattle.reg_messages.specs.HeadReading.{IsTakenAs}
 use Rattle.reg_messages.specs.Reading.{GetsFrom, IsShort, TakesShort}
 use Rattle.reg_messages.specs.ReadingSteps.{GetsAfter, GetsWith}
@@ -31,6 +31,15 @@ gets-after (Some x) (Some y) new taken bytes h (gots.Message method target field
     (bytes, h, y, (ap front_of took ∙ known y, is, ok, left), parts, wanted)
 gets-after (Some x) (Some y) new taken bytes h (gots.NoMemory wants) took known is (ok, wanted, left) =
     (bytes, h, y, (ap front_of took ∙ known y, is, ok, left), wanted)
+
+-- a message whose head stands at the front of a text
+pub gets-held : (text bytes after : List ℕ) (left : Option (List ℕ)) (h : RequestHead) (got : Got) → front_of text ≡ head bytes after
+    → IsHead bytes h → GetsAfter h (Some after) left got → GetsFrom text left got
+gets-held text bytes after left h gots.Over front is gets = absurd gets
+gets-held text bytes after left h (gots.Refused refusal) front is told = inr (bytes, after, front, inr (h, is, told))
+gets-held text bytes after left h (gots.Message method target fields body wants) front is (ok, wanted, (rest, parts)) =
+    (bytes, h, after, (front, is, ok, rest), parts, wanted)
+gets-held text bytes after left h (gots.NoMemory wants) front is (ok, wanted, rest) = (bytes, h, after, (front, is, ok, rest), wanted)
 
 -- a body that is cut is short of a message
 pub short-body : (start mid new : Option (List ℕ)) (taken bytes : List ℕ) (h : RequestHead) → Consumes start mid taken

@@ -7,6 +7,7 @@ mod digits;
 mod field;
 mod fields;
 mod head;
+mod held;
 mod limits;
 mod parsing;
 mod placed;
@@ -16,6 +17,7 @@ mod taking;
 pub use digits::digits_value;
 pub use field::{Field, Fields};
 pub use fields::{asks_to_close, find_value, told_length, trim_ows};
+pub use held::message_with;
 pub use limits::{
     BODY_LIMIT, HEAD_FIELDS, HEAD_LIMIT, HEAD_LINES, REQUEST_READS, limits_are_as_written,
 };

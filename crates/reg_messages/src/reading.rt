@@ -152,7 +152,7 @@ fn told_in(bytes: &[u8], head: &Head) -> usize
 }
 
 /// The fields of a head, where they stand.
-fn fields_in<'h>(bytes: &'h [u8], head: &'h Head) -> PlacedFields<'h>
+pub(crate) fn fields_in<'h>(bytes: &'h [u8], head: &'h Head) -> PlacedFields<'h>
     requires within { IsHeadWithin bytes.now head.now }
     ensures { (h : RequestHead) → IsHeadAt bytes.now head.now h → fields_at result.bytes.now result.spans.now ≡ fields_of h }
 {
@@ -160,7 +160,7 @@ fn fields_in<'h>(bytes: &'h [u8], head: &'h Head) -> PlacedFields<'h>
 }
 
 /// Whether the client wants the connection closed: it speaks HTTP/1.0, or a field says so.
-fn wants_close(bytes: &[u8], head: &Head) -> bool
+pub(crate) fn wants_close(bytes: &[u8], head: &Head) -> bool
     requires within { IsHeadWithin bytes.now head.now }
     ensures { (h : RequestHead) → IsHeadAt bytes.now head.now h → result ≡ wants_close h }
 {
@@ -168,7 +168,7 @@ fn wants_close(bytes: &[u8], head: &Head) -> bool
 }
 
 /// The message of a head and what stood where its body was stated.
-fn got_of(alloc: Global, bytes: &[u8], head: &Head, body: Body, wants: bool) -> Got
+pub(crate) fn got_of(alloc: Global, bytes: &[u8], head: &Head, body: Body, wants: bool) -> Got
     requires within { IsHeadWithin bytes.now head.now }
     requires texts { HasTexts bytes.now head.now }
     ensures { (h : RequestHead) (old new : Option (List ℕ)) → IsHeadAt bytes.now head.now h

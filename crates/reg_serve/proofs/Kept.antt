@@ -21,8 +21,7 @@ module _ {D S W : Type 0} (asks : D → Query → Result Answer AllocError → D
     (learns : D → S → D → Type 0) where
   pub fails-kept : (old new : D) (before : Option S) (writer writer' : Device W) (text xs ys : List ℕ) (e : ServeError)
       → FailsKnowing asks commands learns old before writer writer' text (Some xs) (Some ys) new e → take (length xs) ys ≡ xs
-  fails-kept old new before writer writer' text xs ys errors.ReadFault (told, learnt, (faults, same, kept)) =
-      ap (take (length xs)) kept ∙ take_all (length xs) xs (omega arith)
+  fails-kept old new before writer writer' text xs ys errors.ReadFault (told, learnt, fails) = absurd fails
   fails-kept old new before writer writer' text xs ys errors.WriteFault (told, learnt, (lost, out, rest, first, (front, more, parts, written))) =
       front-of xs ys front written
 

@@ -1,0 +1,30 @@
+use Rattle.std.proofs.Common.{subst, sym}
+use Rattle.std.proofs.KnownBytes.{Keeps-refl}
+use Rattle.reg_http.specs.Serve.{left_if}
+use Rattle.reg_http.specs.ServeSteps.{Steps, done_closes, done_text}
+use Rattle.reg_http.proofs.Attended.{steps-written}
+use Rattle.reg_http.proofs.serving.answer_got.Goals as goal
+
+pub returns-in-Over-clause-step : goal.returns-in-Over-clause-step
+returns-in-Over-clause-step g c = λ text left gets.
+    let (none, same) = c.in-Over.ensures text left gets in (none, same, Keeps-refl (g.W.Write.contents c.args.writer.now.inner))
+
+pub returns-in-Ok-clause-step : goal.returns-in-Ok-clause-step
+returns-in-Ok-clause-step g c = λ text left gets.
+    let before = g.W.Write.contents c.args.writer.now.inner in
+    let after = g.W.Write.contents c.write_done.new.writer.inner in
+    subst (λ n. Steps g.D.Desk.asks g.D.Desk.commands c.args.desk.now text before after left c.attend_to.new.desk n) (sym c.next_if.ensures)
+    (steps-written g.D.Desk.asks g.D.Desk.commands c.args.desk.now c.attend_to.new.desk text left before after
+    c.in-Done.done c.in-Done.wants_close c.closes_after.result c.closes_after.ensures
+    (c.in-Done.ensures text left gets) c.in-Ok.ensures.written.0)
+
+pub returns-clause-refused : goal.returns-clause-refused
+returns-clause-refused g c = λ text left gets.
+    let (rest, goes, first) = c.in-Done.ensures text left gets in
+    let (lost, front, since) = c.in-Err.ensures.written in (
+      lost,
+      done_text c.in-Done.wants_close c.in-Done.done,
+      left_if (done_closes c.in-Done.wants_close c.in-Done.done) rest,
+      first,
+      front,
+    )
