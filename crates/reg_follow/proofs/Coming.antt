@@ -1,14 +1,23 @@
 -- How a reader's lines are taken piece by piece.
-use Rattle.std.proofs.Common.{◌≡◌, Bool, true, false, ℕ, List, [], ◌++◌, Option, Some, None}
-use Rattle.std.proofs.Common.{OnSome, refl, sym, subst, ◌∙◌, append_assoc, append-nil}
+use Rattle.std.proofs.Common.{◌≡◌, ◌≢◌, Bool, true, false, ℕ, List, [], ◌++◌, Option, Some, None}
+use Rattle.std.proofs.Common.{OnSome, refl, sym, ap, subst, ◌∙◌, append_assoc, append-nil}
 use Rattle.std.specs.Bool.{MatchBool}
 use Rattle.std.proofs.KnownBytes.{Consumes-kept, Consumes-trans}
 use Rattle.std.specs.Io.KnownBytes.{Consumes, IsAtEnd, Keeps}
+use Rattle.std.specs.declared.io.ErrorKind.{ErrorKind}
+use Rattle.std.specs.declared.io.ErrorKind.TheVariants.{Interrupted}
 use Rattle.reg_records.specs.declared.record.Read.{Read}
-use Rattle.reg_follow.specs.Following.{EndsAs, Following, Follows, HasLeft, HasTaken}
+use Rattle.reg_intake.specs.Intake.{IsRefusal}
+use Rattle.reg_intake.specs.Pieces.{IsGiveFault}
+use Rattle.reg_intake.specs.declared.fault.IntakeError.{IntakeError}
+use Rattle.reg_intake.specs.declared.fault.IntakeError.TheVariants as intakes
+use Rattle.reg_intake.specs.declared.pieces.GiveError.{GiveError}
+use Rattle.reg_intake.specs.declared.pieces.GiveError.TheVariants as gives
+use Rattle.reg_follow.specs.Following.{EndsAs, EndsShown, Following, Follows, HasFollowCause, HasLeft, HasTaken}
+use Rattle.reg_follow.specs.Following.{IsFollowRefusal, IsShown, IsStopped, follow_error_of, follow_error_of_read, list_of}
 use Rattle.reg_follow.specs.declared.ended.LinesEnd.{LinesEnd}
 use Rattle.reg_follow.specs.declared.ended.LinesEnd.TheVariants as ends
-use Rattle.reg_follow.proofs.Taking.{more_taken}
+use Rattle.reg_follow.proofs.Taking.{is_stopped, more_taken}
 
 consumes_nothing : (o : Option (List ℕ)) → Consumes o o []
 consumes_nothing None = tt
@@ -71,7 +80,60 @@ ended old mid new text read before after ends.Input f over keeps left = (at_end 
 ended old mid new text read before after ends.Unfinished f over keeps left = (at_end old mid new f.bytes f.consumed over keeps, left)
 ended old mid new text read before after ends.EmptyLine f over keeps left = absurd left
 
+-- and what waited before waits then
+pub ended_shown : (before after : Following) (end : LinesEnd)
+    → after ≡ before → HasLeft after.unread.bytes end → IsShown before → EndsShown after end
+ended_shown before after ends.Input same left shown = subst (λ (s : Following). IsShown s) (sym same) shown
+ended_shown before after ends.Unfinished same left shown = subst (λ (s : Following). IsShown s) (sym same) shown
+ended_shown before after ends.EmptyLine same left shown = absurd left
+
+-- a line that isn't whole is next
+pub goes_on_before : (goes_on : Bool) (A B : Type 0) → goes_on ≡ true → MatchBool goes_on A B → A
+goes_on_before true A B is it = it
+goes_on_before false A B is it = absurd (cc is)
+
 -- an empty line is next
 pub stops_before : (goes_on : Bool) (A B : Type 0) → goes_on ≡ false → MatchBool goes_on A B → B
 stops_before true A B is it = absurd (cc is)
 stops_before false A B is it = it
+
+read_cause : {B : Type 0} (fails : B → ErrorKind → B → Type 0) (before reader : B) (s : Following) (e : GiveError)
+    → IsGiveFault fails before reader e → e ≢ gives.Read Interrupted → HasFollowCause fails reader s (follow_error_of_read e)
+read_cause fails before reader s (gives.Read kind) fault other = (before, kind, λ is. other (ap gives.Read is), fault)
+read_cause fails before reader s gives.OutOfMemory fault other = tt
+
+-- a read gave nothing
+pub read_refused : {B : Type 0} (fails : B → ErrorKind → B → Type 0) (before reader : B) (old mid new : Option (List ℕ))
+    (text : List ℕ) (read : List Read) (s after : Following) (e : GiveError)
+    → Follows old mid text read s → Keeps mid new → after ≡ s
+    → IsGiveFault fails before reader e → e ≢ gives.Read Interrupted
+    → IsFollowRefusal fails old new reader text read after (follow_error_of_read e)
+read_refused fails before reader old mid new text read s after e f keeps same fault other =
+    let g = kept old mid new text read s after f keeps same in record {
+      bytes = g.bytes;
+      more = g.more;
+      consumed = g.consumed;
+      has = g.taken.has;
+      begins = ([], append-nil (list_of after) ∙ g.taken.list);
+      cause = read_cause fails before reader after e fault other;
+    }
+
+line_cause : {B : Type 0} (fails : B → ErrorKind → B → Type 0) (reader : B) (s : Following) (e : IntakeError)
+    → IsRefusal s.unread e → HasFollowCause fails reader s (follow_error_of e)
+line_cause fails reader s (intakes.Fault line fault) refusal = refusal
+line_cause fails reader s intakes.OutOfMemory refusal = tt
+
+-- publishing stopped
+pub lines_refused : {B : Type 0} (fails : B → ErrorKind → B → Type 0) (reader : B) (old new : Option (List ℕ))
+    (text : List ℕ) (read : List Read) (before after : Following) (f : Follows old new text read before) (e : IntakeError)
+    → IsStopped (text ++ f.bytes) (read ++ f.more) e after
+    → IsFollowRefusal fails old new reader text read after (follow_error_of e)
+lines_refused fails reader old new text read before after f e stopped =
+    let it = is_stopped (text ++ f.bytes) read f.more e after stopped in record {
+      bytes = f.bytes;
+      more = it.more;
+      consumed = f.consumed;
+      has = it.has;
+      begins = it.begins;
+      cause = line_cause fails reader after e it.refusal;
+    }

@@ -1,7 +1,9 @@
 -- How lines are taken one after the other.
-use Rattle.std.proofs.Common.{◌≡◌, ℕ, List, [], ◌∷◌, ◌++◌, Result, Ok, Err, IfErr, OnErr, refl}
+use Rattle.std.proofs.Common.{◌≡◌, ℕ, List, [], ◌∷◌, ◌++◌, Some, Result, Ok, Err, IfErr, OnErr, refl}
 use Rattle.std.proofs.Common.{sym, ap, subst, ◌∙◌, append_assoc, append-nil, option_to_list}
 use mathlib.Core.List.{IsPrefix}
+use Rattle.reg_journal.specs.Lines.{text_of}
+use Rattle.reg_records.specs.Device.{counted}
 use Rattle.reg_records.specs.Log.{record_in, records_in}
 use Rattle.reg_records.specs.Pieces.{HasNoLineFeed}
 use Rattle.reg_records.specs.declared.record.Read.{Read}
@@ -9,13 +11,14 @@ use Rattle.reg_records.specs.declared.record.Read.TheVariants as reads
 use Rattle.reg_records.specs.declared.record.Record.{Record}
 use Rattle.reg_node.specs.Takes.{takes_of}
 use Rattle.reg_node.specs.declared.take.Draw.{Draw}
-use Rattle.reg_intake.specs.Intake.{Comes, HasRead, IsRefusal, Unread}
+use Rattle.reg_intake.specs.Intake.{Comes, HasRead, IsRefusal, Unread, with_bytes}
 use Rattle.reg_intake.specs.declared.fault.IntakeError.{IntakeError}
 use Rattle.reg_intake.specs.declared.fault.IntakeError.TheVariants as intakes
 use Rattle.reg_intake.specs.declared.incoming.Came.{Came}
 use Rattle.reg_intake.specs.declared.incoming.Came.TheVariants as cames
-use Rattle.reg_follow.specs.Following.{Adds, ComesTo, Following, GoesOn, HasTaken, IsStopped, draws_of, list_of, published}
+use Rattle.reg_follow.specs.Following.{Adds, ComesTo, Following, GoesOn, HasTaken, IsStopped, TakesLine, draws_of, list_of, published}
 use Rattle.reg_follow.specs.declared.intake.Stop.{Stop}
+use Rattle.reg_follow.specs.declared.intake.Stop.TheVariants.{Ended, Full, Waits}
 
 records_in-append : (read more : List Read) → records_in (read ++ more) ≡ records_in read ++ records_in more
 records_in-append [] more = refl
@@ -54,16 +57,20 @@ lists : (old new : Following) → new.published ≡ old.published → new.pendin
 lists old new shown left = ap (λ (l : List Draw). l ++ new.pending) shown ∙ ap (λ (l : List Draw). old.published ++ l) left
 
 -- what came next, where the list stays
-pub came_to : (text : List ℕ) (read : List Read) (came : Came) (old new : Following)
-    → new.published ≡ old.published → new.pending ≡ old.pending
-    → HasTaken text read old → Comes text read old.unread came new.unread → ComesTo text read came new
-came_to text read (cames.Line r) old new shown left has comes = (comes.0, lists old new shown left ∙ has.list)
-came_to text read cames.Floor old new shown left has comes = record { has = comes.0; list = lists old new shown left ∙ has.list }
-came_to text read cames.End old new shown left has comes = (
+pub came_to : (text : List ℕ) (read : List Read) (came : Came) (old new before : Following)
+    → old ≡ before → new.published ≡ old.published → new.pending ≡ old.pending
+    → HasTaken text read old → Comes text read old.unread came new.unread → ComesTo text read before came new
+came_to text read (cames.Line r) old new before is shown left has comes =
+    (comes.0, lists old new shown left ∙ has.list, comes.1.count ∙ ap (λ (s : Following). counted s.unread.count) is)
+came_to text read cames.Floor old new before is shown left has comes = (
+  record { has = comes.0; list = lists old new shown left ∙ has.list },
+  comes.1.count ∙ ap (λ (s : Following). counted s.unread.count) is,
+)
+came_to text read cames.End old new before is shown left has comes = (
   record { has = subst (λ (u : Unread). HasRead text read u) (sym comes.0) has.has; list = lists old new shown left ∙ has.list },
   (comes.1.0, ap (λ (u : Unread). u.bytes) comes.0 ∙ comes.1.1),
 )
-came_to text read cames.Nothing old new shown left has comes = (
+came_to text read cames.Nothing old new before is shown left has comes = (
   record { has = subst (λ (u : Unread). HasRead text read u) (sym comes.0) has.has; list = lists old new shown left ∙ has.list },
   subst (λ (u : Unread). HasNoLineFeed u.bytes) (sym comes.0) comes.1,
 )
@@ -97,9 +104,12 @@ pub more_taken : (text : List ℕ) (read more next : List Read) (s : Following)
     → HasTaken text ((read ++ more) ++ next) s → HasTaken text (read ++ (more ++ next)) s
 more_taken text read more next s has = subst (λ (r : List Read). HasTaken text r s) (append_assoc read more next) has
 
-pub goes_on : (text : List ℕ) (read more : List Read) (stop : Stop) (s : Following)
-    → GoesOn text (read ++ more) stop s → GoesOn text read stop s
-goes_on text read more stop s go = record { more = more ++ go.more; taken = more_taken text read more go.more s go.taken; stops = go.stops }
+-- it stops before a line that isn't taken
+pub stops_there : (text : List ℕ) (read more : List Read) (old mid new : Following) (stop : Stop)
+    → TakesLine text (read ++ more) mid (Some stop) new → GoesOn text read stop old new
+stops_there text read more old mid new Full it = absurd it.1
+stops_there text read more old mid new Waits it = record { more = more; taken = it.0; stops = it.1 }
+stops_there text read more old mid new Ended it = record { more = more; taken = it.0; stops = it.1 }
 
 pub is_stopped : (text : List ℕ) (read more : List Read) (e : IntakeError) (s : Following)
     → IsStopped text (read ++ more) e s → IsStopped text read e s
@@ -130,9 +140,9 @@ pub more_of_none : (text : List ℕ) (read : List Read) (s : Following)
 more_of_none text read s has = ([], subst (λ (r : List Read). HasTaken text r s) (sym (append-nil read)) has)
 
 -- memory was refused behind lines that were taken
-pub refused_memory : (text : List ℕ) (read : List Read) (stop : Stop) (s : Following)
-    → GoesOn text read stop s → IsStopped text read intakes.OutOfMemory s
-refused_memory text read stop s go = record {
+pub refused_memory : (text : List ℕ) (read : List Read) (stop : Stop) (old s : Following)
+    → GoesOn text read stop old s → IsStopped text read intakes.OutOfMemory s
+refused_memory text read stop old s go = record {
   more = go.more;
   has = go.taken.has;
   begins = ([], append-nil (list_of s) ∙ go.taken.list);
@@ -140,6 +150,34 @@ refused_memory text read stop s go = record {
 }
 
 -- what is pending is published
-pub goes_on_shown : (text : List ℕ) (read : List Read) (stop : Stop) (s : Following)
-    → GoesOn text read stop s → GoesOn text read stop (published s)
-goes_on_shown text read stop s go = record { more = go.more; taken = shown text (read ++ go.more) s go.taken; stops = go.stops }
+pub goes_on_shown : (text : List ℕ) (read : List Read) (stop : Stop) (old s : Following)
+    → GoesOn text read stop old s → GoesOn text read stop old (published s)
+goes_on_shown text read Full old s go = record { more = go.more; taken = shown text (read ++ go.more) s go.taken; stops = go.stops }
+goes_on_shown text read Waits old s go = record { more = go.more; taken = shown text (read ++ go.more) s go.taken; stops = go.stops }
+goes_on_shown text read Ended old s go = record { more = go.more; taken = shown text (read ++ go.more) s go.taken; stops = go.stops }
+
+pub same_following : (old new : Following)
+    → new.unread ≡ old.unread → new.published ≡ old.published → new.pending ≡ old.pending → new ≡ old
+same_following old new unread shown left =
+    ap (λ (u : Unread). record new { unread = u }) unread
+    ∙ ap (λ (l : List Draw). record old { published = l; pending = new.pending }) shown
+    ∙ ap (λ (l : List Draw). record old { pending = l }) left
+
+more_bytes : (text : List ℕ) (read : List Read) (u : Unread) (bytes : List ℕ)
+    → HasRead text read u → HasRead (text ++ bytes) read (with_bytes u bytes)
+more_bytes text read u bytes has = record {
+  lines = has.lines;
+  floor = has.floor;
+  parts = ap (λ (t : List ℕ). t ++ bytes) has.parts ∙ append_assoc (text_of has.lines) u.bytes bytes;
+  say = has.say;
+  count = has.count;
+}
+
+-- bytes came behind those before
+pub bytes_taken : (text : List ℕ) (read : List Read) (old new : Following) (bytes : List ℕ)
+    → new.unread ≡ with_bytes old.unread bytes → new.published ≡ old.published → new.pending ≡ old.pending
+    → HasTaken text read old → HasTaken (text ++ bytes) read new
+bytes_taken text read old new bytes came shown left has = record {
+  has = subst (λ (u : Unread). HasRead (text ++ bytes) read u) (sym came) (more_bytes text read old.unread bytes has.has);
+  list = lists old new shown left ∙ has.list;
+}

@@ -1,5 +1,6 @@
 // Where lines end, and why they aren't followed any more.
-use reg_intake::IntakeError;
+use reg_feed::NoPlace;
+use reg_intake::{GiveError, IntakeError};
 use reg_records::LogFault;
 use reg_serve::{ListenError, StartError};
 use std::alloc::{AllocError, AllocFailed};
@@ -25,8 +26,13 @@ pub enum FollowError {
     Fault { line: u64, fault: LogFault },
     /// The reader failed.
     ReadFault,
-    /// Memory, a thread, a descriptor or a place for a reader was refused.
     OutOfMemory,
+    /// A list has no place for another reader.
+    NoPlace,
+    /// A thread, or the memory that it begins with, was refused, or it wasn't time to begin.
+    NotStarted,
+    /// The system refused a node's poll or its listener's options.
+    Refused { kind: ErrorKind },
     /// A node can't listen at its port.
     Port { port: u64, kind: ErrorKind },
 }
@@ -38,6 +44,9 @@ impl FollowError {
             FollowError::Fault { line: _, fault: _ } => 2,
             FollowError::ReadFault
             | FollowError::OutOfMemory
+            | FollowError::NoPlace
+            | FollowError::NotStarted
+            | FollowError::Refused { kind: _ }
             | FollowError::Port { port: _, kind: _ } => 1,
         }
     }
@@ -49,6 +58,9 @@ impl fmt::Display for FollowError {
             FollowError::Fault { line, fault } => write!(f, "line {line}: {fault}"),
             FollowError::ReadFault => write!(f, "ReadFault"),
             FollowError::OutOfMemory => write!(f, "OutOfMemory"),
+            FollowError::NoPlace => write!(f, "NoPlace"),
+            FollowError::NotStarted => write!(f, "nodes not started"),
+            FollowError::Refused { kind } => write!(f, "nodes not started: {kind:?}"),
             FollowError::Port { port, kind } => write!(f, "port {port}: {kind:?}"),
         }
     }
@@ -66,6 +78,20 @@ impl From<IntakeError> for FollowError {
         match error {
             IntakeError::Fault { line, fault } => FollowError::Fault { line, fault },
             IntakeError::OutOfMemory => FollowError::OutOfMemory,
+        }
+    }
+}
+
+impl From<GiveError> for FollowError {
+    ghost use Rattle.std.specs.Prelude.{◌≡◌};
+    ghost use Rattle.reg_follow.specs.Following.{follow_error_of_read};
+
+    ghost from_gives = { λ error e. e ≡ follow_error_of_read error };
+
+    fn from(error: GiveError) -> FollowError {
+        match error {
+            GiveError::Read(_) => FollowError::ReadFault,
+            GiveError::OutOfMemory => FollowError::OutOfMemory,
         }
     }
 }
@@ -98,13 +124,22 @@ impl From<ListenError> for FollowError {
 
 impl From<StartError> for FollowError {
     fn from(_refused: StartError) -> FollowError {
-        FollowError::OutOfMemory
+        FollowError::NotStarted
     }
 }
 
-/// A node's poll or its listener's options were refused, or no thread could be made.
+impl From<NoPlace> for FollowError {
+    fn from(_none: NoPlace) -> FollowError {
+        FollowError::NoPlace
+    }
+}
+
+/// A node's poll or its listener's options were refused.
 impl From<io::Error> for FollowError {
-    fn from(_refused: io::Error) -> FollowError {
-        FollowError::OutOfMemory
+    fn from(refused: io::Error) -> FollowError {
+        match refused.kind() {
+            ErrorKind::OutOfMemory => FollowError::OutOfMemory,
+            kind => FollowError::Refused { kind },
+        }
     }
 }

@@ -1,11 +1,13 @@
 // What takes the lines of a log as they come, and publishes their records to a node's views.
 ghost use Rattle.std.specs.Prelude.{◌≡◌, ◌<◌, ◌++◌, List, ℕ, [], length, IfErr, IfOk, MatchBool, OnErr, OnOk};
 ghost use Rattle.std.specs.FinSet.{empty};
+ghost use Rattle.std.specs.Io.KnownBytes.{Keeps};
+ghost use Rattle.reg_intake.specs.Pieces.{Gives, IsGiveFault};
 ghost use Rattle.reg_records.specs.declared.record.Read.{Read};
 ghost use Rattle.reg_follow.specs.Following.{Adds, ComesTo, GoesOn, HasTaken, IsStopped, TakesLine, published};
 
 use reg_feed::{Copies, FeedName, FeedWriter, NoPlace};
-use reg_intake::{Came, Incoming, IntakeError};
+use reg_intake::{Came, GiveError, Incoming, IntakeError, Pieces};
 use reg_node::{Draw, Take, Taken, View};
 use reg_records::Read;
 use std::alloc::{AllocError, Global};
@@ -96,12 +98,24 @@ impl<M: FeedName<Draw, Taken>, U: Copies<Draw, Taken, M>, R: Wait + Drop> Intake
         self.incoming.take(bytes)
     }
 
+    /// Takes what one read of a reader gives, behind those bytes that came before, and says how many bytes; none at its
+    /// end. At `Err` all is as it was.
+    pub fn take_from<B: Pieces>(&mut self, reader: &mut B) -> Result<usize, GiveError>
+        ensures given { IfOk result (Gives (B.remaining reader.old) (B.remaining reader.new) self.old.unread self.new.unread) }
+        ensures list { (self.new.published ≡ self.old.published) × (self.new.pending ≡ self.old.pending) }
+        ensures kept { OnErr result (Keeps (B.remaining reader.old) (B.remaining reader.new)) }
+        ensures same { OnErr result (self.new ≡ self.old) }
+        ensures fault { IfErr result (IsGiveFault B.fails reader.old reader.new) }
+    {
+        reader.give_to(&mut self.incoming)
+    }
+
     /// Reads lines that are whole, 1,000 at most, and publishes their records, all at once. It may wait for
     /// views that read an older list.
     ///
     /// After an error a line may have been read whose record isn't published; no record behind it is.
     pub fn publish_lines(&mut self) -> Result<Stop, IntakeError>
-        ensures taken { (text : List ℕ) (read : List Read) → HasTaken text read self.old → IfOk result (λ stop. GoesOn text read stop self.new × (self.new.pending ≡ [])) }
+        ensures taken { (text : List ℕ) (read : List Read) → HasTaken text read self.old → IfOk result (λ stop. GoesOn text read stop self.old self.new × (self.new.pending ≡ [])) }
         ensures refused { (text : List ℕ) (read : List Read) → HasTaken text read self.old → IfErr result (λ e. IsStopped text read e self.new) }
     {
         let stop = self.append_lines()?;
@@ -124,7 +138,7 @@ impl<M: FeedName<Draw, Taken>, U: Copies<Draw, Taken, M>, R: Wait + Drop> Intake
 
     /// Reads lines that are whole, 1,000 at most, and appends their records.
     fn append_lines(&mut self) -> Result<Stop, IntakeError>
-        ensures taken { (text : List ℕ) (read : List Read) → HasTaken text read self.old → IfOk result (λ stop. GoesOn text read stop self.new) }
+        ensures taken { (text : List ℕ) (read : List Read) → HasTaken text read self.old → IfOk result (λ stop. GoesOn text read stop self.old self.new) }
         ensures refused { (text : List ℕ) (read : List Read) → HasTaken text read self.old → IfErr result (λ e. IsStopped text read e self.new) }
     {
         for _line in 0..LINES_AT_ONCE {
@@ -139,7 +153,7 @@ impl<M: FeedName<Draw, Taken>, U: Copies<Draw, Taken, M>, R: Wait + Drop> Intake
 
     /// Reads the next line and appends its record; where it isn't whole, or is empty, says so.
     fn append_line(&mut self) -> Result<Option<Stop>, IntakeError>
-        ensures taken { (text : List ℕ) (read : List Read) → HasTaken text read self.old → IfOk result (λ stop. TakesLine text read stop self.new) }
+        ensures taken { (text : List ℕ) (read : List Read) → HasTaken text read self.old → IfOk result (λ stop. TakesLine text read self.old stop self.new) }
         ensures refused { (text : List ℕ) (read : List Read) → HasTaken text read self.old → IfErr result (λ e. IsStopped text read e self.new) }
     {
         match self.next_line()? {
@@ -155,7 +169,7 @@ impl<M: FeedName<Draw, Taken>, U: Copies<Draw, Taken, M>, R: Wait + Drop> Intake
 
     /// Reads the next line, if it is whole.
     fn next_line(&mut self) -> Result<Came, IntakeError>
-        ensures came { (text : List ℕ) (read : List Read) → HasTaken text read self.old → IfOk result (λ came. ComesTo text read came self.new) }
+        ensures came { (text : List ℕ) (read : List Read) → HasTaken text read self.old → IfOk result (λ came. ComesTo text read self.old came self.new) }
         ensures refused { (text : List ℕ) (read : List Read) → HasTaken text read self.old → IfErr result (λ e. IsStopped text read e self.new) }
     {
         self.incoming.next()

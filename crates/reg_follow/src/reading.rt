@@ -1,46 +1,54 @@
 // Lines as a reader gives them.
-ghost use Rattle.std.specs.Prelude.{List, ℕ, IfOk};
+ghost use Rattle.std.specs.Prelude.{◌≡◌, ◌≢◌, List, ℕ, IfErr, IfOk, OnErr};
+ghost use Rattle.std.specs.Io.KnownBytes.{Keeps};
+ghost use Rattle.std.specs.declared.io.ErrorKind.TheVariants.{Interrupted};
 ghost use Rattle.reg_records.specs.declared.record.Read.{Read};
-ghost use Rattle.reg_follow.specs.Following.{EndsAs, Follows, HasLeft, HasTaken, Publishes, TakesPiece};
+ghost use Rattle.reg_intake.specs.Pieces.{IsGiveFault};
+ghost use Rattle.reg_intake.specs.declared.pieces.GiveError.TheVariants as gives;
+ghost use Rattle.reg_follow.specs.Following.{EndsAs, EndsShown, Follows, HasLeft, HasTaken, IsFollowRefusal, IsShown, IsStopped, Publishes, TakesPiece};
 
 use crate::course::Course;
 use crate::ended::{FollowError, LinesEnd};
 use crate::intake::{Intake, Stop};
 use reg_feed::{Copies, FeedName};
+use reg_intake::{GiveError, IntakeError, Pieces};
 use reg_node::{Draw, Taken};
-use std::io::{BufRead, ErrorKind};
+use std::io::ErrorKind;
 use std::sync::Wait;
 
 /// Takes the lines that a reader gives, as they come, until its end or an empty line, and publishes their
 /// records: all that are there, 1,000 at a time at most. The course tells how many were taken.
 ///
-/// A reader that fails, but for interruptions, or that is read 2^64 - 1 times, is a fault.
-pub fn follow_lines<
-    B: BufRead,
-    M: FeedName<Draw, Taken>,
-    U: Copies<Draw, Taken, M>,
-    R: Wait + Drop,
->(reader: &mut B, intake: &mut Intake<M, U, R>, course: &Course) -> Result<LinesEnd, FollowError>
-    ensures { (text : List ℕ) (read : List Read) → HasTaken text read intake.old → IfOk result (λ end. Follows (B.remaining reader.old) (B.remaining reader.new) text read intake.new
+/// A reader that fails, but for interruptions, is a fault.
+pub fn follow_lines<B: Pieces, M: FeedName<Draw, Taken>, U: Copies<Draw, Taken, M>, R: Wait + Drop>(
+    rt: &R,
+    reader: &mut B,
+    intake: &mut Intake<M, U, R>,
+    course: &Course,
+) -> Result<LinesEnd, FollowError>
+    ensures followed { (text : List ℕ) (read : List Read) → HasTaken text read intake.old → IfOk result (λ end. Follows (B.remaining reader.old) (B.remaining reader.new) text read intake.new
         × EndsAs (B.remaining reader.old) (B.remaining reader.new) intake.new end) }
+    ensures shown { (text : List ℕ) (read : List Read) → HasTaken text read intake.old → IsShown intake.old → IfOk result (EndsShown intake.new) }
+    ensures refused { (text : List ℕ) (read : List Read) → HasTaken text read intake.old
+        → IfErr result (IsFollowRefusal B.fails (B.remaining reader.old) (B.remaining reader.new) reader.new text read intake.new) }
 {
-    for _read in 0..u64::MAX {
+    for _read in rt.forever() {
         match take_piece(reader, intake)? {
             Piece::Nothing => continue,
             Piece::End => return Ok(end_of(intake)),
-            Piece::Some => {}
+            Piece::Bytes => {}
         }
-        if !publish_all(intake, course)? {
+        if !publish_all(rt, intake, course)? {
             return Ok(LinesEnd::EmptyLine);
         }
     }
-    Err(FollowError::ReadFault)
+    unreachable!()
 }
 
 /// What one read gave.
 #[derive(Clone, Copy)]
 pub(crate) enum Piece {
-    Some,
+    Bytes,
     /// It was interrupted.
     Nothing,
     /// The input has ended.
@@ -48,38 +56,37 @@ pub(crate) enum Piece {
 }
 
 /// Takes what one read gives.
-fn take_piece<B: BufRead, M: FeedName<Draw, Taken>, U: Copies<Draw, Taken, M>, R: Wait + Drop>(
+fn take_piece<B: Pieces, M: FeedName<Draw, Taken>, U: Copies<Draw, Taken, M>, R: Wait + Drop>(
     reader: &mut B,
     intake: &mut Intake<M, U, R>,
-) -> Result<Piece, FollowError>
-    ensures { (text : List ℕ) (read : List Read) → HasTaken text read intake.old → IfOk result (TakesPiece (B.remaining reader.old) (B.remaining reader.new) text read intake.old intake.new) }
+) -> Result<Piece, GiveError>
+    ensures taken { (text : List ℕ) (read : List Read) → HasTaken text read intake.old → IfOk result (TakesPiece (B.remaining reader.old) (B.remaining reader.new) text read intake.old intake.new) }
+    ensures kept { OnErr result (Keeps (B.remaining reader.old) (B.remaining reader.new)) }
+    ensures same { OnErr result (intake.new ≡ intake.old) }
+    ensures fault { IfErr result (λ e. IsGiveFault B.fails reader.old reader.new e × (e ≢ gives.Read Interrupted)) }
 {
-    let available = match reader.fill_buf() {
-        Ok(available) => available,
-        Err(e) => {
-            return match e.kind() {
-                ErrorKind::Interrupted => Ok(Piece::Nothing),
-                _ => Err(FollowError::ReadFault),
-            };
+    match intake.take_from(reader) {
+        Ok(0) => Ok(Piece::End),
+        Ok(_len) => Ok(Piece::Bytes),
+        Err(error) => {
+            if error == GiveError::Read(ErrorKind::Interrupted) {
+                return Ok(Piece::Nothing);
+            }
+            Err(error)
         }
-    };
-    let len = available.len();
-    if len == 0 {
-        return Ok(Piece::End);
     }
-    intake.take(available)?;
-    reader.consume(len);
-    Ok(Piece::Some)
 }
 
 /// Publishes the records of all lines that are whole. `false` where an empty line ends the log.
 fn publish_all<M: FeedName<Draw, Taken>, U: Copies<Draw, Taken, M>, R: Wait + Drop>(
+    rt: &R,
     intake: &mut Intake<M, U, R>,
     course: &Course,
-) -> Result<bool, FollowError>
-    ensures { (text : List ℕ) (read : List Read) → HasTaken text read intake.old → IfOk result (λ goes_on. Publishes text read goes_on intake.new) }
+) -> Result<bool, IntakeError>
+    ensures published { (text : List ℕ) (read : List Read) → HasTaken text read intake.old → IfOk result (λ goes_on. Publishes text read goes_on intake.new) }
+    ensures refused { (text : List ℕ) (read : List Read) → HasTaken text read intake.old → IfErr result (λ e. IsStopped text read e intake.new) }
 {
-    for _time in 0..u64::MAX {
+    for _time in rt.forever() {
         let stop = intake.publish_lines()?;
         course.note(intake.count());
         match stop {
@@ -88,7 +95,7 @@ fn publish_all<M: FeedName<Draw, Taken>, U: Copies<Draw, Taken, M>, R: Wait + Dr
             Stop::Ended => return Ok(false),
         }
     }
-    Err(FollowError::ReadFault)
+    unreachable!()
 }
 
 /// Where lines end at the end of the input.

@@ -109,10 +109,7 @@ fn serve_feed<
     let mut intake = Intake::new(alloc, Box::new(alloc, out)?);
     let mut views = Vec::new(alloc);
     for _view in 0..count {
-        let Ok(view) = intake.view() else {
-            return Err(FollowError::OutOfMemory);
-        };
-        views.push(view)?;
+        views.push(intake.view()?)?;
     }
     let course = Arc::new(alloc, Course::new())?;
     let taking = Taking { rt, reader, intake };
@@ -152,7 +149,7 @@ impl<
     R: Wait + Clock + Eprint + Drop,
 > Errand for Taking<B, M, U, R> {
     fn run(&mut self, course: &Course) {
-        match follow_lines(&mut self.reader, &mut self.intake, course) {
+        match follow_lines(&self.rt, &mut self.reader, &mut self.intake, course) {
             Ok(end) => {
                 course.end();
                 tell_end(&self.rt, end, self.intake.count());
@@ -177,7 +174,7 @@ fn start<R: Threads, T: Errand + Send + Drop + 'static>(
     let mut errand = errand;
     match thread::spawn(rt, move || errand.run(&course)) {
         Ok(_thread) => Ok(()),
-        Err(_refused) => Err(FollowError::OutOfMemory),
+        Err(_refused) => Err(FollowError::NotStarted),
     }
 }
 

@@ -1,15 +1,16 @@
-use Rattle.std.proofs.Common.{length, subst, arith, take_all}
-use Rattle.std.specs.Io.BufRead.{FillKeeps}
-use Rattle.std.specs.Io.KnownBytes.{Consumes}
-use Rattle.std.proofs.BufReadLemmas.{Consumes_shown}
+use Rattle.std.proofs.Common.{◌<◌, arith}
+use Rattle.reg_follow.proofs.Taking.{bytes_taken, same_following}
 use Rattle.reg_follow.proofs.reading.take_piece.Goals as goal
 
-pub returns : goal.returns
-returns g c text read has =
-    let shown = c.in-Ok.available.now in
-    let rested = c.fill_buf.follows.lender-at-none in
-    let filled =
-    subst (FillKeeps _ (g.B.Read.remaining rested) (g.B.BufRead.consumable_len rested)) c.in-Ok.is c.fill_buf.follows.holds-at-none in
-    let moved = Consumes_shown _ _ _ _ shown (length shown)
-    (omega arith) c.in-Ok.ensures.front c.in-Ok.ensures.end filled.0 filled.1 c.consume.ensures.bytes in
-    (shown, subst (Consumes _ _) (take_all (length shown) shown (omega arith)) moved.0, c.in_ok-take.ensures.taken text read has)
+pub returns-in-Ok-eq0-clause-taken : goal.returns-in-Ok-eq0-clause-taken
+returns-in-Ok-eq0-clause-taken g c text read has =
+    let it = c.in-Ok-eq0.ensures.given.none (omega arith) in
+    let list = c.in-Ok-eq0.ensures.list in
+    (it.0, it.1, same_following c.args.intake.now c.take_from.new.self it.2 list.0 list.1)
+
+pub returns-in-Ok-clause-taken : goal.returns-in-Ok-clause-taken
+returns-in-Ok-clause-taken g c text read has =
+    let some : 0 < c.in-Ok._len = omega arith in
+    let it = c.in-Ok.ensures.given.some some in
+    let list = c.in-Ok.ensures.list in
+    (it.0, it.2, bytes_taken text read c.args.intake.now c.take_from.new.self it.0 it.3 list.0 list.1 has)
