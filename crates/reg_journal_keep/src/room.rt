@@ -3,11 +3,11 @@
 // the file is compacted rises, so until then there are never fewer such lines. A compaction raises it, and then nothing is
 // known of the deletes that were kept.
 ghost use Rattle.std.specs.Prelude.{◌≡◌, ◌<◌, true, false};
-ghost use Rattle.reg_journal_keep.specs.Room.{due, next_count, waited};
+ghost use Rattle.reg_journal_keep.specs.Room.{due, least, next_count, waited};
 
 use reg_records::LOG_LINES;
 
-/// A file of no more lines isn't compacted for their number alone.
+/// A file that has no more lines, those that come among them, isn't compacted for their number alone.
 const FEW_LINES: u64 = 100_000;
 
 /// How many batches pass before a compaction that failed is tried again.
@@ -77,21 +77,31 @@ impl Room {
         false
     }
 
-    /// How many of a file's lines would have to go for it to be compacted before a batch of so many more; none where
-    /// they aren't to be counted now.
+    /// How many of a file's lines would have to go for it to be compacted before so many more come; none where they aren't to
+    /// be counted now.
     pub(crate) fn due(&self, lines: u64, more: u64) -> Option<u64>
         ensures { result ≡ due self.now lines more }
     {
         if more > LOG_LINES.saturating_sub(lines) {
-            let least = lines.div_ceil(10);
+            let least = self.least(lines);
             if lines.saturating_sub(self.kept) < least {
                 return None;
             }
             return Some(least);
         }
-        if lines <= FEW_LINES || lines <= self.again {
+        if more <= FEW_LINES.saturating_sub(lines) || lines <= self.again {
             return None;
         }
         Some(lines / 2 + 1)
+    }
+
+    /// How many lines of a full log would have to go: one at the start, before they were ever counted, and then a tenth.
+    fn least(&self, lines: u64) -> u64
+        ensures { result ≡ least self.now lines }
+    {
+        if self.again == 0 {
+            return 1;
+        }
+        lines.div_ceil(10)
     }
 }

@@ -13,6 +13,9 @@ use reg_keeping::{Aside, Opens, compactions_stand_for_logs, open_aside};
 use reg_pen::KeptLog;
 use std::alloc::Global;
 
+/// For how many lines room is made at the start, so that no first command waits for it.
+const FIRST_LINES: u64 = 1_000;
+
 /// What a start over a file gives.
 #[derive(Drop)]
 pub struct Started<D: Renewable + Drop> {
@@ -73,7 +76,7 @@ pub fn start<D: Renewable + Drop, A: Disk + Drop, O: Opens<A>>(
     } = found;
     let journal = Journal::over(disk, end, lines);
     let mut keep = FileKeep::new(alloc, journal, log.floor, log.next);
-    keep.make_room(0);
+    keep.make_room(FIRST_LINES);
     if keep.journal().is_broken() {
         return Err(NotStarted {
             disk: keep.into_disk(),

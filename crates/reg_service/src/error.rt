@@ -29,6 +29,9 @@ pub enum StartFault {
     /// The mark of ids that a log owes isn't kept, or may not be.
     #[error("mark of ids not kept")]
     NotKept,
+    /// The log owes a mark of ids and has no line for it: it has as many as a log may have, and none of them goes.
+    #[error("log is full: no line is left for the mark of ids")]
+    Full,
     /// A node can't listen at its port.
     #[error("port {port}: {kind:?}")]
     Port { port: u64, kind: ErrorKind },
@@ -100,6 +103,7 @@ impl From<OpenError> for StartFault {
         match refused {
             OpenError::Adopt(refused) => StartFault::from(refused),
             OpenError::Declined(Lack::Memory) => StartFault::OutOfMemory,
+            OpenError::Declined(Lack::Numbers) => StartFault::Full,
             OpenError::Declined(_) | OpenError::Lost => StartFault::NotKept,
         }
     }
