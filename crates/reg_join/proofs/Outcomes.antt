@@ -12,7 +12,7 @@ use Rattle.reg_pen.specs.Pen.{Acts, Follows, IsStepAfter, PenState, StillPends, 
 use Rattle.reg_pen.specs.declared.keep.Kept.{Kept}
 use Rattle.reg_pen.specs.declared.keep.Kept.TheVariants.{Taken, Declined, Lost, Unknown}
 use Rattle.reg_join.specs.Chain.{told_after}
-use Rattle.reg_join.specs.Joined.{DueBatchesAreTaken, IsJoined, IsNoOutcome, OutcomesStandInChain, StandsInChain, WroteNothing, batches_in, batches_of}
+use Rattle.reg_join.specs.Joined.{DueBatchesAreTaken, IsJoined, IsNoOutcome, OutcomesStandInChain, StandsInChain, TakesDue, WroteNothing, batches_in, batches_of}
 use Rattle.reg_join.specs.Joining.{AreTakenAt, Asks, JoinKeeps, KeepsAt, kept_of}
 use Rattle.reg_join.specs.declared.chain.Answer.{Answer}
 use Rattle.reg_join.specs.declared.chain.Answer.TheVariants as answered
@@ -21,13 +21,6 @@ use Rattle.reg_join.specs.declared.join_keep.Stand.{Stand}
 use Rattle.reg_join.specs.declared.join_keep.Stand.TheVariants.{Level, Due, Stopped}
 use Rattle.reg_join.proofs.Following.{batches_both}
 use Rattle.reg_join.proofs.Standing.{none_pending}
-
--- a batch that is due is taken, or nothing is, or nothing is any more
-abbrev pub TakesDue : {C : Type 0} → PenState (JoinKeep C) → List Record → PenState (JoinKeep C) → Type 0
-TakesDue l due m =
-    ((m.keep.stand ≡ Level) × (batches_of m ≡ batches_of l ++ due ∷ []))
-    ⊎ ((m.keep ≡ l.keep) × (batches_of m ≡ batches_of l))
-    ⊎ ((m.keep.stand ≡ Stopped) × (batches_of m ≡ batches_of l))
 
 module _ {C : Type 0} (told : C → List (List Record)) (answers : C → List Record → Answer → C → Type 0) (base : Topic) where
   -- a batch is taken only where the chain kept it
@@ -119,22 +112,22 @@ module _ {C : Type 0} (told : C → List (List Record)) (answers : C → List Re
       batches_both is (item_of c (first ∷ rest)) ∙ ap (λ (b : List Record). batches_in is ++ b ∷ []) same
 
   taken : (l : PenState (JoinKeep C)) (c : Command) (replied unsettled reply : Reply) (first : Record) (rest due : List Record)
-      (keep : JoinKeep C) (m : PenState (JoinKeep C)) → first ∷ rest ≡ due → keep.stand ≡ Level
+      (keep : JoinKeep C) (m : PenState (JoinKeep C)) → first ∷ rest ≡ due → keep ≡ record l.keep { stand = Level }
       → Follows Taken (item_of c (first ∷ rest)) replied unsettled (record (settled l) { keep = keep }) reply m → TakesDue l due m
   taken l c replied unsettled reply first rest due keep m same level (inl done) = inl (
-    ap (λ (s : PenState (JoinKeep C)). s.keep.stand) done.1 ∙ level,
+    ap (λ (s : PenState (JoinKeep C)). s.keep) done.1 ∙ level,
     ap (λ (s : PenState (JoinKeep C)). batches_of s) done.1
         ∙ (none_pending ((l.published ++ l.pending) ++ item_of c (first ∷ rest)) ∙ one_more (l.published ++ l.pending) c first rest due same),
   )
   taken l c replied unsettled reply first rest due keep m same level (inr left) = inl (
-    ap (λ (s : PenState (JoinKeep C)). s.keep.stand) left.1 ∙ level,
+    ap (λ (s : PenState (JoinKeep C)). s.keep) left.1 ∙ level,
     ap (λ (s : PenState (JoinKeep C)). batches_of s) left.1 ∙ one_more (l.published ++ l.pending) c first rest due same,
   )
 
-  stopped : (l : PenState (JoinKeep C)) (due : List Record) (keep : JoinKeep C) (m : PenState (JoinKeep C)) → keep.stand ≡ Stopped
-      → m ≡ record (settled l) { keep = keep } → TakesDue l due m
+  stopped : (l : PenState (JoinKeep C)) (due : List Record) (keep : JoinKeep C) (m : PenState (JoinKeep C))
+      → keep ≡ record l.keep { stand = Stopped } → m ≡ record (settled l) { keep = keep } → TakesDue l due m
   stopped l due keep m is same = inr (inr (
-    ap (λ (s : PenState (JoinKeep C)). s.keep.stand) same ∙ is,
+    ap (λ (s : PenState (JoinKeep C)). s.keep) same ∙ is,
     ap (λ (s : PenState (JoinKeep C)). batches_of s) same ∙ none_pending (l.published ++ l.pending),
   ))
 
@@ -142,10 +135,10 @@ module _ {C : Type 0} (told : C → List (List Record)) (answers : C → List Re
       (keep : JoinKeep C) (m : PenState (JoinKeep C)) → KeepsAt told answers (Due due) l.keep (first ∷ rest) kept keep
       → Follows kept (item_of c (first ∷ rest)) replied unsettled (record (settled l) { keep = keep }) reply m → TakesDue l due m
   lent_due l c replied unsettled reply first rest due kept keep m (inl is) follows =
-      taken l c replied unsettled reply first rest due keep m is.0 (ap (λ (k : JoinKeep C). k.stand) is.2)
+      taken l c replied unsettled reply first rest due keep m is.0 is.2
       (subst (λ (w : Kept). Follows w (item_of c (first ∷ rest)) replied unsettled (record (settled l) { keep = keep }) reply m) is.1 follows)
   lent_due l c replied unsettled reply first rest due kept keep m (inr other) follows =
-      stopped l due keep m (ap (λ (k : JoinKeep C). k.stand) other.2)
+      stopped l due keep m other.2
       (subst (λ (w : Kept). Follows w (item_of c (first ∷ rest)) replied unsettled (record (settled l) { keep = keep }) reply m) other.1 follows).1
 
   acted_due : (l : PenState (JoinKeep C)) (c : Command) (reply : Reply) (m : PenState (JoinKeep C)) (due : List Record)

@@ -25,6 +25,13 @@ batches_in (items.Compaction c ∷ is) = batches_in is
 abbrev pub batches_of : {K : Type 0} → PenState K → List (List Record)
 batches_of l = batches_in (l.published ++ l.pending)
 
+-- a batch that is due is taken, or nothing is, or nothing is any more; the chain isn't asked
+abbrev pub TakesDue : {C : Type 0} → PenState (JoinKeep C) → List Record → PenState (JoinKeep C) → Type 0
+TakesDue l due m =
+    ((m.keep ≡ record l.keep { stand = Level }) × (batches_of m ≡ batches_of l ++ due ∷ []))
+    ⊎ ((m.keep ≡ l.keep) × (batches_of m ≡ batches_of l))
+    ⊎ ((m.keep ≡ record l.keep { stand = Stopped }) × (batches_of m ≡ batches_of l))
+
 module _ {C : Type 0} (told : C → List (List Record)) where
   -- the pen's batches are those that its keep took, and none is lost
   pub record IsJoined (l : PenState (JoinKeep C)) : Type 0 where
@@ -67,10 +74,7 @@ module _ {C : Type 0} (told : C → List (List Record)) where
     abbrev pub DueBatchesAreTaken : Type 0
     DueBatchesAreTaken = (base : Topic) (since : Option (Bor (List Item))) (l : PenState (JoinKeep C)) (c : Command) (reply : Reply)
         (m : PenState (JoinKeep C)) (due : List Record) → Submits (JoinKeeps told answers) base since l c reply m
-        → l.keep.stand ≡ Due due
-        → ((m.keep.stand ≡ Level) × (batches_of m ≡ batches_of l ++ due ∷ []))
-        ⊎ ((m.keep ≡ l.keep) × (batches_of m ≡ batches_of l))
-        ⊎ ((m.keep.stand ≡ Stopped) × (batches_of m ≡ batches_of l))
+        → l.keep.stand ≡ Due due → TakesDue l due m
 
   -- and so does a compaction
   abbrev pub CompactionsStayJoined : Type 0

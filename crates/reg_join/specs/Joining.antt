@@ -1,7 +1,8 @@
 -- What a keep over a chain does with a batch.
-use Rattle.std.specs.Prelude.{◌≡◌, ◌≢◌, ◌⊎◌, List, [], ◌∷◌, ◌++◌}
+use Rattle.std.specs.Prelude.{◌≡◌, ◌≢◌, ◌⊎◌, ℕ, List, [], ◌∷◌, ◌++◌, Some}
 use mathlib.Core.List.{IsPrefix}
 use Rattle.reg_records.specs.declared.record.Record.{Record}
+use Rattle.reg_pen.specs.Pen.{counted}
 use Rattle.reg_pen.specs.declared.keep.Kept.{Kept}
 use Rattle.reg_pen.specs.declared.keep.Kept.TheVariants.{Taken, Declined, Unknown}
 use Rattle.reg_pen.specs.declared.keep.Lack.TheVariants as lacks
@@ -18,6 +19,18 @@ kept_of answered.Kept = Taken
 kept_of answered.Behind = Declined lacks.Overtaken
 kept_of answered.Declined = Declined lacks.Store
 kept_of answered.Unknown = Unknown
+
+-- how many own batches the chain kept, after its answer to one more
+abbrev pub kept_after : ℕ → Answer → ℕ
+kept_after n answered.Kept = counted n
+kept_after n answered.Behind = n
+kept_after n answered.Declined = n
+kept_after n answered.Unknown = n
+
+-- the chain wasn't asked for a batch: its last answer to one, and how many it kept, are the same
+pub record IsNotAsked {C : Type 0} (old new : JoinKeep C) : Type 0 where
+  pub last : new.last ≡ old.last
+  pub kept : new.kept ≡ old.kept
 
 module _ {C : Type 0} (told : C → List (List Record)) where
   -- the batches that were taken: all that were told, but for the one that is due; where the keep is stopped, what was told goes on behind them
@@ -41,6 +54,8 @@ module _ {C : Type 0} (told : C → List (List Record)) where
       pub tells : told new.chain ≡ told_after (told old.chain) batch answer
       pub becomes : kept ≡ kept_of answer
       pub level : new.stand ≡ Level
+      pub last : new.last ≡ Some answer
+      pub counts : new.kept ≡ kept_after old.kept answer
 
     -- by how the keep stands: where all that was told is taken, the chain is asked; where a batch is due, exactly its records are taken, and
     -- any others stop the keep; a stopped one takes nothing
@@ -58,7 +73,7 @@ module _ {C : Type 0} (told : C → List (List Record)) where
     pub record AsksNothing (old : JoinKeep C) (answer : Answer) (new : JoinKeep C) : Type 0 where
       pub means : answers old.chain [] answer new.chain
       pub tells : told new.chain ≡ told old.chain
-      pub level : new.stand ≡ Level
+      pub same : new ≡ record old { chain = new.chain }
 
     -- by how the keep stands: what is due stands behind what was taken, and a stopped keep asks nothing
     abbrev pub ChecksAt : Stand → JoinKeep C → Answer → JoinKeep C → Type 0

@@ -1,6 +1,6 @@
 // A pen's keep over a chain.
 ghost use Rattle.std.specs.Prelude.{◌≡◌, ◌++◌, ◌∷◌, [], ◌↔◌, IfOk, IsTrue, OnErr, None, Some};
-ghost use Rattle.reg_join.specs.Joining.{Checks, JoinKeeps, KeepsTaken, kept_of};
+ghost use Rattle.reg_join.specs.Joining.{Checks, IsNotAsked, JoinKeeps, KeepsTaken, kept_after, kept_of};
 ghost use Rattle.reg_join.specs.declared.join_keep.Stand.TheVariants.{Level, Stopped};
 
 use crate::chain::{Answer, Chain};
@@ -26,16 +26,22 @@ pub enum Stand {
 pub struct JoinKeep<C: Chain + Drop> {
     pub(crate) chain: C,
     pub(crate) stand: Stand,
+    // What the chain answered to the batch that it was asked for last, unless that was forgotten.
+    pub(crate) last: Option<Answer>,
+    // How many of the batches that it was asked for it kept, up to 2^64-1.
+    pub(crate) kept: u64,
 }
 
 impl<C: Chain + Drop> JoinKeep<C> {
     /// A keep over a chain.
     pub fn new(chain: C) -> JoinKeep<C>
-        ensures { result ≡ record { chain = chain; stand = Level } }
+        ensures { result ≡ record { chain = chain; stand = Level; last = None; kept = 0 } }
     {
         JoinKeep {
             chain,
             stand: Stand::Level,
+            last: None,
+            kept: 0,
         }
     }
 
@@ -46,9 +52,31 @@ impl<C: Chain + Drop> JoinKeep<C> {
         &self.stand
     }
 
+    /// What the chain answered to the batch that it was asked for last; `None` where it wasn't asked for one since that was forgotten.
+    pub fn last(&self) -> Option<Answer>
+        ensures { result ≡ self.now.last }
+    {
+        self.last
+    }
+
+    /// How many of the batches that the chain was asked for it kept, up to 2^64-1.
+    pub fn kept(&self) -> u64
+        ensures { result ≡ self.now.kept }
+    {
+        self.kept
+    }
+
+    /// Forgets what the chain answered last.
+    pub(crate) fn forget(&mut self)
+        ensures { self.new ≡ record self.old { last = None } }
+    {
+        self.last = None;
+    }
+
     /// Learns of the next batch that others wrote, unless one is due already. The only error is out of memory.
     pub(crate) fn learn(&mut self) -> Result<(), AllocError>
         ensures taken { KeepsTaken C.told self.old self.new }
+        ensures own { IsNotAsked self.old self.new }
         ensures refused { OnErr result (self.new.stand ≡ self.old.stand) }
     {
         if !matches!(self.stand, Stand::Level) {
@@ -65,6 +93,7 @@ impl<C: Chain + Drop> JoinKeep<C> {
     pub fn check(&mut self) -> Answer
         ensures checks { Checks C.told C.answers self.old result self.new }
         ensures taken { KeepsTaken C.told self.old self.new }
+        ensures own { IsNotAsked self.old self.new }
     {
         match self.stand {
             Stand::Level => self.chain.append(&[]),
@@ -76,6 +105,7 @@ impl<C: Chain + Drop> JoinKeep<C> {
     /// Takes nothing any more, for good.
     pub(crate) fn stop(&mut self)
         ensures taken { KeepsTaken C.told self.old self.new }
+        ensures own { IsNotAsked self.old self.new }
         ensures stopped { self.new.stand ≡ Stopped }
     {
         self.stand = Stand::Stopped;
@@ -91,7 +121,10 @@ impl<C: Chain + Drop> Keep for JoinKeep<C> {
         match mem::replace(&mut self.stand, Stand::Stopped) {
             Stand::Level => {
                 self.stand = Stand::Level;
-                kept_of(self.chain.append(batch))
+                let answer = self.chain.append(batch);
+                self.last = Some(answer);
+                self.kept = kept_after(self.kept, answer);
+                kept_of(answer)
             }
             Stand::Due(due) => {
                 if !is_same(batch, due.as_slice()) {
@@ -121,5 +154,15 @@ fn kept_of(answer: Answer) -> Kept
         Answer::Behind => Kept::Declined(Lack::Overtaken),
         Answer::Declined => Kept::Declined(Lack::Store),
         Answer::Unknown => Kept::Unknown,
+    }
+}
+
+/// How many own batches the chain kept, after its answer to one more.
+fn kept_after(kept: u64, answer: Answer) -> u64
+    ensures { result ≡ kept_after kept answer }
+{
+    match answer {
+        Answer::Kept => kept.saturating_add(1),
+        Answer::Behind | Answer::Declined | Answer::Unknown => kept,
     }
 }

@@ -1,4 +1,6 @@
 // What a pen over a chain does. What is proved here costs nothing at run time: a function that needs a law calls it.
+ghost use Rattle.reg_topic.specs.declared.topic.Topic.{Topic};
+ghost use Rattle.reg_join.specs.Ending.{RepliesAreAtTheirPlaces};
 ghost use Rattle.reg_join.specs.Joined.{CompactionsStayJoined, DueBatchesAreTaken, OutcomesStandInChain, SubmitsStayJoined};
 
 use crate::chain::Chain;
@@ -19,4 +21,10 @@ pub fn outcomes_stand_in_the_chain<C: Chain>()
 /// Where a batch is due, a submit adds exactly that one or none. A command that comes to other records stops the keep.
 pub fn due_batches_are_taken<C: Chain>()
     ensures { DueBatchesAreTaken C.told C.answers }
+{}
+
+/// What `submit_joined` replies, a refusal too, is a step from exactly what stood in the chain, and what that step wrote is all that stands
+/// behind it by then. One case is no reply in this sense: the id of a schema that is live here, where the chain can't be reached.
+pub fn replies_are_at_their_places<C: Chain>()
+    ensures { (base : Topic) → RepliesAreAtTheirPlaces C.told C.answers base }
 {}

@@ -1,0 +1,261 @@
+// A command over a chain.
+ghost use Rattle.std.specs.Prelude.{◌≡◌, [], IfOk, MatchOption, None};
+ghost use mathlib.Core.List.{IsPrefix};
+ghost use Rattle.reg_shared.specs.Held.{base_of};
+ghost use Rattle.reg_join.specs.Ending.{ComesTo, Concludes, Ends, batch_outcome, check_outcome, forgotten, live_outcome, settled_outcome, unchecked_outcome};
+ghost use Rattle.reg_join.specs.Joined.{IsJoined};
+ghost use Rattle.reg_join.specs.Taking.{GoesOn, IsAtEnd};
+ghost use Rattle.reg_join.specs.declared.join_keep.Stand.TheVariants.{Level};
+
+use crate::chain::{Answer, Chain};
+use crate::checking::check;
+use crate::join_keep::JoinKeep;
+use crate::memory::is_no_memory;
+use crate::taking::{TakenIn, take_in};
+use reg_feed::{Copies, FeedName, Seen};
+use reg_leader::{Command, Reply};
+use reg_levels::Judged;
+use reg_pen::{Pass, Pen, Submitted, WithKeep};
+use reg_shared::Shared;
+use reg_topic::Item;
+use std::alloc::{AllocError, Global};
+use std::sync::Wait;
+
+/// How often a command is decided at most.
+const TRIES: u32 = 64;
+
+/// How many batches of others are taken in at most before a command is decided. Where more are told, it counts as overtaken once.
+const TAKEN_AT_ONCE: u32 = 1_024;
+
+/// What a command comes to.
+#[derive(Debug, Drop)]
+pub enum Outcome {
+    /// The reply of its step from all that stood in the chain. What it wrote stands right behind that, and where it wrote nothing, the chain
+    /// said so when it was asked after it.
+    Replied(Reply),
+    /// It wrote a batch that begins at this offset, which isn't published yet: it stands and memory was refused, or whether it stands can't
+    /// be known now. If it does, it is told like anybody's.
+    Unsettled(u64),
+    /// A registration of a schema that is live here with this id. The chain can't be reached, so this may be ahead of what wasn't told; the
+    /// id names that schema for good.
+    Live(u32),
+    /// Memory was refused, and nothing of it was kept.
+    NoMemory,
+    /// What others wrote came first each time.
+    Overtaken,
+    /// The store declined its batch, or can't be reached.
+    Declined,
+    /// What was told is no command's, so nothing is taken any more.
+    Stopped,
+}
+
+/// What a command came to, with the front of the list that shows it.
+#[derive(Drop)]
+pub struct Ended<N: FeedName<Item, Shared>> {
+    pub outcome: Outcome,
+    /// The published list, where the command was submitted: with what it wrote, if that is published.
+    pub seen: Option<Seen<Item, Shared, N>>,
+}
+
+/// Does a command over a chain: all that was told is taken in, then the command is submitted, and where it wrote nothing, a check is made.
+/// Where others came first it is decided anew, 64 times at most, and before each time at most 1,024 of their batches are taken in, so that
+/// it ends however much is told. `since` is the caller's last front.
+pub fn submit_joined<
+    N: FeedName<Item, Shared>,
+    S: Copies<Item, Shared, N>,
+    C: Chain + Drop,
+    R: Wait + Drop,
+>(
+    alloc: Global,
+    pen: &mut Pen<N, S, JoinKeep<C>, R>,
+    pass: &mut Pass<N>,
+    since: Option<&Seen<Item, Shared, N>>,
+    command: &Command,
+    judged: Option<&Judged>,
+) -> Ended<N>
+    ensures joined { IsJoined C.told pen.old → IsJoined C.told pen.new }
+    ensures grows { IsPrefix pen.old.published pen.new.published }
+    ensures ends { IsJoined C.told pen.old → Ends C.told C.answers (base_of N.first) pen.old command.now result.outcome result.seen pen.new }
+{
+    for _again in 0..TRIES {
+        match try_once(alloc, pen, pass, since, command, judged) {
+            Some(ended) => return ended,
+            None => {}
+        }
+    }
+    without_front(Outcome::Overtaken)
+}
+
+/// Takes in what was told, and decides the command once; `None` where others came first.
+fn try_once<N: FeedName<Item, Shared>, S: Copies<Item, Shared, N>, C: Chain + Drop, R: Wait + Drop>(
+    alloc: Global,
+    pen: &mut Pen<N, S, JoinKeep<C>, R>,
+    pass: &mut Pass<N>,
+    since: Option<&Seen<Item, Shared, N>>,
+    command: &Command,
+    judged: Option<&Judged>,
+) -> Option<Ended<N>>
+    ensures joined { IsJoined C.told pen.old → IsJoined C.told pen.new }
+    ensures grows { IsPrefix pen.old.published pen.new.published }
+    ensures ends { IsJoined C.told pen.old → MatchOption result (pen.new.keep.kept ≡ pen.old.keep.kept) (λ ended. Ends C.told C.answers (base_of N.first) pen.old command.now ended.outcome ended.seen pen.new) }
+{
+    match take_all(alloc, pen, pass) {
+        Ok(TakenIn::All) => submit_once(pen, pass, since, command, judged),
+        Ok(TakenIn::Batch) => None,
+        Ok(TakenIn::Stopped) => Some(without_front(Outcome::Stopped)),
+        Err(AllocError) => Some(without_front(Outcome::NoMemory)),
+    }
+}
+
+fn without_front<N: FeedName<Item, Shared>>(outcome: Outcome) -> Ended<N>
+    ensures outcome { result.outcome ≡ outcome }
+    ensures seen { result.seen ≡ None }
+{
+    Ended {
+        outcome,
+        seen: None,
+    }
+}
+
+/// Takes in what was told, but no more than so many batches. `Batch` where more may be there.
+#[tactic(auto, using(crate::proofs::TakingIn::goes_on_itself, crate::proofs::TakingIn::goes_on_then, crate::proofs::Trying::at_end))]
+fn take_all<N: FeedName<Item, Shared>, S: Copies<Item, Shared, N>, C: Chain + Drop, R: Wait + Drop>(
+    alloc: Global,
+    pen: &mut Pen<N, S, JoinKeep<C>, R>,
+    pass: &mut Pass<N>,
+) -> Result<TakenIn, AllocError>
+    ensures goes_on { GoesOn C.told pen.old pen.new }
+    ensures ends { IfOk result (λ taken. IsAtEnd taken pen.new) }
+{
+    for _batch in 0..TAKEN_AT_ONCE {
+        let taken = take_in(alloc, pen, pass)?;
+        if taken != TakenIn::Batch {
+            return Ok(taken);
+        }
+    }
+    Ok(TakenIn::Batch)
+}
+
+/// Submits the command, where all is taken that was told; where it wrote nothing, a check is made. `None` where others came first.
+fn submit_once<
+    N: FeedName<Item, Shared>,
+    S: Copies<Item, Shared, N>,
+    C: Chain + Drop,
+    R: Wait + Drop,
+>(
+    pen: &mut Pen<N, S, JoinKeep<C>, R>,
+    pass: &mut Pass<N>,
+    since: Option<&Seen<Item, Shared, N>>,
+    command: &Command,
+    judged: Option<&Judged>,
+) -> Option<Ended<N>>
+    requires level { pen.old.keep.stand ≡ Level }
+    requires clear { pen.old.pending ≡ [] }
+    ensures joined { IsJoined C.told pen.old → IsJoined C.told pen.new }
+    ensures grows { IsPrefix pen.old.published pen.new.published }
+    ensures ends { IsJoined C.told pen.old → MatchOption result (pen.new.keep.kept ≡ pen.old.keep.kept) (λ ended. ComesTo C.told C.answers (base_of N.first) ended.outcome (forgotten pen.old) command.now ended.seen pen.new.keep) }
+{
+    pen.lend_keep(&mut Forgetting);
+    let Submitted { reply, seen } = pen.submit_and_compact(pass, since, command, judged);
+    match conclude(pen, command, reply) {
+        Some(outcome) => Some(Ended {
+            outcome,
+            seen: Some(seen),
+        }),
+        None => None,
+    }
+}
+
+/// What is told of a submit, by what the chain answered to its batch; where it wrote none, and memory wasn't refused, a check is made.
+fn conclude<N: FeedName<Item, Shared>, S: Copies<Item, Shared, N>, C: Chain + Drop, R: Wait + Drop>(
+    pen: &mut Pen<N, S, JoinKeep<C>, R>,
+    command: &Command,
+    reply: Reply,
+) -> Option<Outcome>
+    ensures concludes { Concludes C.told C.answers (base_of N.first) pen.old.keep.last pen.old.keep command.now reply result pen.new.keep }
+    ensures joined { IsJoined C.told pen.old → IsJoined C.told pen.new }
+    ensures grows { IsPrefix pen.old.published pen.new.published }
+{
+    match pen.keep().last() {
+        Some(answer) => batch_outcome(answer, reply),
+        None => conclude_alone(pen, command, reply),
+    }
+}
+
+/// What is told of a submit that wrote nothing.
+fn conclude_alone<
+    N: FeedName<Item, Shared>,
+    S: Copies<Item, Shared, N>,
+    C: Chain + Drop,
+    R: Wait + Drop,
+>(pen: &mut Pen<N, S, JoinKeep<C>, R>, command: &Command, reply: Reply) -> Option<Outcome>
+    ensures concludes { Concludes C.told C.answers (base_of N.first) None pen.old.keep command.now reply result pen.new.keep }
+    ensures joined { IsJoined C.told pen.old → IsJoined C.told pen.new }
+    ensures grows { IsPrefix pen.old.published pen.new.published }
+{
+    if is_no_memory(&reply) {
+        return Some(Outcome::NoMemory);
+    }
+    let answer = check(pen);
+    check_outcome(answer, command, reply)
+}
+
+fn batch_outcome(answer: Answer, reply: Reply) -> Option<Outcome>
+    ensures { result ≡ batch_outcome answer reply }
+{
+    match answer {
+        Answer::Kept | Answer::Unknown => Some(settled_outcome(reply)),
+        Answer::Behind => None,
+        Answer::Declined => Some(Outcome::Declined),
+    }
+}
+
+fn settled_outcome(reply: Reply) -> Outcome
+    ensures { result ≡ settled_outcome reply }
+{
+    match reply {
+        Reply::Unsettled(offset) => Outcome::Unsettled(offset),
+        reply => Outcome::Replied(reply),
+    }
+}
+
+fn check_outcome(answer: Answer, command: &Command, reply: Reply) -> Option<Outcome>
+    ensures { result ≡ check_outcome answer command.now reply }
+{
+    match answer {
+        Answer::Kept => Some(Outcome::Replied(reply)),
+        Answer::Behind => None,
+        Answer::Declined | Answer::Unknown => Some(unchecked_outcome(command, &reply)),
+    }
+}
+
+/// Where a check is declined, a registration of a schema that is live here is told its id.
+fn unchecked_outcome(command: &Command, reply: &Reply) -> Outcome
+    ensures { result ≡ unchecked_outcome command.now reply.now }
+{
+    match command {
+        Command::Register { .. } => live_outcome(reply),
+        _ => Outcome::Declined,
+    }
+}
+
+fn live_outcome(reply: &Reply) -> Outcome
+    ensures { result ≡ live_outcome reply.now }
+{
+    match reply {
+        Reply::Id(id) => Outcome::Live(*id),
+        _ => Outcome::Declined,
+    }
+}
+
+/// A keep forgets what its chain answered last.
+#[derive(Drop)]
+struct Forgetting;
+
+impl<C: Chain + Drop> WithKeep<JoinKeep<C>> for Forgetting {
+    ghost does = { λ _ old _ new. new ≡ record old { last = None } };
+
+    fn with_keep(&mut self, keep: &mut JoinKeep<C>) {
+        keep.forget();
+    }
+}

@@ -1,0 +1,176 @@
+// What others wrote is taken in.
+ghost use Rattle.std.specs.Prelude.{◌≡◌, [], List, IfOk, OnOk};
+ghost use Rattle.reg_records.specs.declared.record.Record.{Record};
+ghost use Rattle.reg_join.specs.Joined.{IsJoined, batches_of};
+ghost use Rattle.reg_join.specs.Joining.{IsNotAsked, KeepsTaken};
+ghost use Rattle.reg_join.specs.Memory.{is_no_memory};
+ghost use Rattle.reg_join.specs.Taking.{GoesOn, Takes, Tells, TellsTaken};
+ghost use Rattle.reg_join.specs.declared.join_keep.Stand.TheVariants.{Due, Stopped};
+
+use crate::chain::Chain;
+use crate::join_keep::{JoinKeep, Stand};
+use crate::memory::is_no_memory;
+use reg_feed::{Copies, FeedName, Seen};
+use reg_leader::Command;
+use reg_pen::{Pass, Pen, WithKeep};
+use reg_replay::candidate;
+use reg_shared::Shared;
+use reg_topic::Item;
+use std::alloc::{AllocError, Global};
+use std::sync::Wait;
+
+/// What came of taking in what was told next.
+#[derive(Clone, Copy, Debug, PartialEq, Eq)]
+pub enum TakenIn {
+    /// One batch was taken.
+    Batch,
+    /// All that was told is taken.
+    All,
+    /// What was told next is no command's: nothing is taken any more.
+    Stopped,
+}
+
+/// What was told next.
+#[derive(Drop)]
+enum Next {
+    /// Nothing.
+    Nothing,
+    /// A batch that this command may have written.
+    Command(Command),
+    /// A batch that no command can have written.
+    NoCommand,
+}
+
+/// Takes in the next batch that others wrote, if one is told: the command that may have written it is submitted, and the keep takes exactly
+/// that batch. Where the command writes another one, or none, nothing is taken any more.
+///
+/// The only error is out of memory; the batch is tried again at the next call, and nothing behind it is taken before.
+#[tactic(auto, using(crate::proofs::TakingIn::goes_on_then, crate::proofs::TakingIn::takes_after, crate::proofs::TakingIn::tells_taken))]
+pub fn take_in<
+    N: FeedName<Item, Shared>,
+    S: Copies<Item, Shared, N>,
+    C: Chain + Drop,
+    R: Wait + Drop,
+>(
+    alloc: Global,
+    pen: &mut Pen<N, S, JoinKeep<C>, R>,
+    pass: &mut Pass<N>,
+) -> Result<TakenIn, AllocError>
+    ensures goes_on { GoesOn C.told pen.old pen.new }
+    ensures taken { IfOk result (λ taken. Takes taken pen.old pen.new) }
+    ensures told { IfOk result (λ taken. IsJoined C.told pen.old → TellsTaken C.told taken pen.old pen.new) }
+{
+    learn_next(pen)?;
+    match next_command(alloc, pen)? {
+        Next::Nothing => Ok(TakenIn::All),
+        Next::NoCommand => {
+            stop(pen);
+            Ok(TakenIn::Stopped)
+        }
+        Next::Command(command) => take(pen, pass, &command),
+    }
+}
+
+/// Publishes what is pending, and learns of what was told next.
+fn learn_next<
+    N: FeedName<Item, Shared>,
+    S: Copies<Item, Shared, N>,
+    C: Chain + Drop,
+    R: Wait + Drop,
+>(pen: &mut Pen<N, S, JoinKeep<C>, R>) -> Result<(), AllocError>
+    ensures goes_on { GoesOn C.told pen.old pen.new }
+    ensures same { batches_of pen.new ≡ batches_of pen.old }
+    ensures clear { OnOk result (pen.new.pending ≡ []) }
+{
+    if !pen.settle() {
+        return Err(AllocError);
+    }
+    let mut learning = Learning { is_refused: false };
+    pen.lend_keep(&mut learning);
+    if learning.is_refused {
+        return Err(AllocError);
+    }
+    Ok(())
+}
+
+/// What was told next. The only error is out of memory.
+fn next_command<
+    N: FeedName<Item, Shared>,
+    S: Copies<Item, Shared, N>,
+    C: Chain + Drop,
+    R: Wait + Drop,
+>(alloc: Global, pen: &Pen<N, S, JoinKeep<C>, R>) -> Result<Next, AllocError>
+    ensures { IfOk result (λ next. Tells next pen.now.keep.stand) }
+{
+    match pen.keep().stand() {
+        Stand::Level => Ok(Next::Nothing),
+        Stand::Stopped => Ok(Next::NoCommand),
+        Stand::Due(batch) => match candidate(alloc, pen.registry(), batch.as_slice())? {
+            Some(command) => Ok(Next::Command(command)),
+            None => Ok(Next::NoCommand),
+        },
+    }
+}
+
+/// Submits the command that may have written the batch that is due.
+fn take<N: FeedName<Item, Shared>, S: Copies<Item, Shared, N>, C: Chain + Drop, R: Wait + Drop>(
+    pen: &mut Pen<N, S, JoinKeep<C>, R>,
+    pass: &mut Pass<N>,
+    command: &Command,
+) -> Result<TakenIn, AllocError>
+    requires { (due : List Record) × (pen.old.keep.stand ≡ Due due) }
+    ensures goes_on { GoesOn C.told pen.old pen.new }
+    ensures taken { IfOk result (λ taken. Takes taken pen.old pen.new) }
+{
+    let unseen: Option<Seen<Item, Shared, N>> = None;
+    let submitted = pen.submit_and_compact(pass, unseen.as_ref(), command, None);
+    match pen.keep().stand() {
+        Stand::Level => Ok(TakenIn::Batch),
+        Stand::Stopped => Ok(TakenIn::Stopped),
+        Stand::Due(_) => {
+            if is_no_memory(&submitted.reply) {
+                return Err(AllocError);
+            }
+            // The command wrote nothing here.
+            stop(pen);
+            Ok(TakenIn::Stopped)
+        }
+    }
+}
+
+/// Takes nothing any more.
+fn stop<N: FeedName<Item, Shared>, S: Copies<Item, Shared, N>, C: Chain + Drop, R: Wait + Drop>(
+    pen: &mut Pen<N, S, JoinKeep<C>, R>,
+)
+    ensures goes_on { GoesOn C.told pen.old pen.new }
+    ensures same { batches_of pen.new ≡ batches_of pen.old }
+    ensures stopped { pen.new.keep.stand ≡ Stopped }
+{
+    pen.lend_keep(&mut Stopping);
+}
+
+/// A keep learns of what was told next.
+#[derive(Drop)]
+struct Learning {
+    is_refused: bool,
+}
+
+impl<C: Chain + Drop> WithKeep<JoinKeep<C>> for Learning {
+    ghost does = { λ _ old _ new. KeepsTaken C.told old new × IsNotAsked old new };
+
+    fn with_keep(&mut self, keep: &mut JoinKeep<C>) {
+        self.is_refused = keep.learn().is_err();
+    }
+}
+
+/// A keep is stopped.
+#[derive(Drop)]
+struct Stopping;
+
+impl<C: Chain + Drop> WithKeep<JoinKeep<C>> for Stopping {
+    ghost does = { λ _ old _ new. KeepsTaken C.told old new × IsNotAsked old new × (new.stand ≡ Stopped) };
+
+    fn with_keep(&mut self, keep: &mut JoinKeep<C>) {
+        keep.stop();
+    }
+}
