@@ -1,0 +1,10 @@
+mod Cuts
+mod Examples
+mod Hearing
+mod Parts
+mod Requests
+mod Stepping
+mod Texts
+mod Transcripts
+mod Words
+mod Written

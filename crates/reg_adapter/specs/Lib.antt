@@ -1,0 +1,9 @@
+pub mod Errors
+pub mod Heard
+pub mod Laws
+pub mod Lines
+pub mod Messages
+pub mod Requests
+pub mod Said
+pub mod Steps
+pub mod Transcript

@@ -1,0 +1,11 @@
+//! Tests of what a process and its adapter say to each other, over public calls.
+#![tactic(auto)]
+
+#[cfg(test)]
+mod faults;
+#[cfg(test)]
+mod messages;
+#[cfg(test)]
+mod requests;
+#[cfg(test)]
+mod words;
