@@ -1,0 +1,10 @@
+pub mod Appending
+pub mod Buckets
+pub mod Labels
+pub mod LinesRead
+pub mod Numbers
+pub mod NumbersRead
+pub mod PagesLawful
+pub mod PagesRead
+pub mod Splits
+pub mod Unescaped

@@ -1,0 +1,11 @@
+pub mod Bounds
+pub mod Escapes
+pub mod Exposition
+pub mod Lawful
+pub mod Lines
+pub mod Measured
+pub mod Names
+pub mod Numbers
+pub mod Page
+pub mod Reading
+pub mod Rising
