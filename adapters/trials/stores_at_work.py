@@ -39,9 +39,10 @@ def no_space(trial, kind):
     store = Etcd(trial, members=1, words=["--quota-backend-bytes", "16000000"])
     log = trial.new_log(kind, store=store)
     seat = log.seat().ready()
-    for _ in range(30):
+    for _ in range(40):
+        # On a slow machine one of so many bytes may be lost: it is kept then, or isn't.
         answer = seat.append("z" * 1000000)
-        if answer != "kept":
+        if answer == "declined":
             break
     expect(answer == "declined" and "space exceeded" in seat.said(), answer, seat.said())
     expect(seat.append() == "declined" and seat.check() == "kept", seat.said())

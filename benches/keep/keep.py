@@ -3,14 +3,17 @@ something isn't as it should be.
 
 `kill`      kills the program a hundred times (KILLS in the environment: another number) while four clients register, delete and
             set levels, with compactions among it; after each restart every acknowledged write has to be there
+`beside`    kills it as often while one client registers and the file is copied, filtered and compacted beside it, by programs that
+            are killed too; and kills starts that cut bytes off behind the log. No copy misses a write that was acknowledged before it
+            began, a file that is put in another one's place is whole, and no byte is lost that was cut
 `full`      a file system of 256 KB that fills up (wants the right to mount)
 `second`    a second process on the file, and a tool that writes to it behind the lock
 `cut`       bytes behind the log's empty line, a fault, a log that can't be taken over, a link
 `startup`   how long a log of 1,000,000 records takes to be served, beside `registryd fold`
 `stall`     the longest wait of a command while a log of 1,000,000 lines is compacted, and what a command costs with its syncs"""
-import http.client, json, os, random, resource, signal, socket, subprocess, sys, tempfile, threading, time
+import http.client, json, os, random, resource, shutil, signal, socket, subprocess, sys, tempfile, threading, time
 
-PROGRAM, FOLD, NAMES = sys.argv[1], sys.argv[2], sys.argv[3:] or ["kill", "full", "second", "cut", "startup", "stall"]
+PROGRAM, FOLD, NAMES = sys.argv[1], sys.argv[2], sys.argv[3:] or ["kill", "beside", "full", "second", "cut", "startup", "stall"]
 FOLDER = os.path.abspath(tempfile.mkdtemp(dir=os.environ.get("KEEP_FOLDER", ".")))
 JSON = {"Content-Type": "application/json"}
 wrong, port = 0, 19700
@@ -67,6 +70,7 @@ def plain(schema):
 
 
 FILLER = '0\t{"keytype":"CONFIG","subject":"filler","magic":0}\t{"compatibilityLevel":"NONE"}\n'
+FILLER_LINE = FILLER.rstrip("\n").encode()
 
 
 def state(c, subject):
@@ -199,6 +203,161 @@ def kill():
         bad("fold says", body)
     print("killed %d times, %d commands acknowledged, %d times one wasn't told, %d compactions, %d lines in the end" % (
         kills, told, unsure, compactions, open(path).read().count("\n")))
+
+
+def log_of(data):
+    """The lines before the first empty one, and what stands behind it; None where there is no empty line."""
+    if data.startswith(b"\n"):
+        return b"", data[1:]
+    front, end, behind = data.partition(b"\n\n")
+    return (front + b"\n", behind) if end else (data, None)
+
+
+def last_version(data):
+    """The greatest version of the subject `n`, where each line of the log is whole; else -1."""
+    last, lines = 0, log_of(data)[0].split(b"\n")
+    if lines.pop():
+        return -1
+    for line in lines:
+        if line == FILLER_LINE:
+            continue
+        parts = line.split(b"\t")
+        try:
+            key = json.loads(parts[1])
+            json.loads(parts[2])
+        except (IndexError, ValueError):
+            return -1
+        if key.get("subject") == "n" and key["keytype"] == "SCHEMA":
+            last = max(last, key["version"])
+    return last
+
+
+class Counting(threading.Thread):
+    """Registers one version after the other: how many were asked for, and how many acknowledged."""
+    def __init__(self, kept, told):
+        super().__init__(daemon=True)
+        self.kept, self.asked, self.told = kept, told, told
+
+    def run(self):
+        try:
+            c = self.kept.connect()
+            while True:
+                self.asked += 1
+                status, got = ask(c, "POST", "/subjects/n/versions", {"schema": text("N%d_%d" % (self.asked, time.time_ns()))})
+                if status != 200:
+                    bad("registering", status, got)
+                    return
+                self.told += 1
+        except (OSError, http.client.HTTPException):
+            pass
+
+
+class Readers(threading.Thread):
+    """Copies the file, filters it, and compacts it into another file, one after the other, until it is told to end. A program that
+    compacts into another file is killed at times."""
+    def __init__(self, path, client, counts):
+        super().__init__(daemon=True)
+        self.path, self.client, self.counts, self.over = path, client, counts, False
+
+    def holds(self, what, data, told, asked):
+        got = last_version(data)
+        if not told <= got <= asked:
+            bad(what, "has", got, "of", told, "to", asked)
+        self.counts[what] = self.counts.get(what, 0) + 1
+
+    def run(self):
+        other = self.path + ".small"
+        before = open(other, "rb").read() if os.path.exists(other) else b""
+        while not self.over:
+            told = self.client.told
+            shutil.copyfile(self.path, self.path + ".copy")
+            self.holds("copies", open(self.path + ".copy", "rb").read(), told, self.client.asked)
+            told = self.client.told
+            ran = subprocess.run([PROGRAM, "compact", "--quiet", self.path], capture_output=True)
+            if ran.returncode:
+                bad("compact", ran.returncode, ran.stderr)
+            self.holds("filtered", ran.stdout, told, self.client.asked)
+            ran = subprocess.run([PROGRAM, "compact", "--quiet", "--output", self.path, self.path], capture_output=True)
+            if not self.over and ran.stderr != b"log is in use\n":
+                bad("compacted in use", ran.returncode, ran.stderr)
+            told = self.client.told
+            compacting = subprocess.Popen([PROGRAM, "compact", "--quiet", "--output", other, self.path], stderr=subprocess.PIPE)
+            if random.random() < 0.7:
+                time.sleep(random.random() * 0.02)
+                compacting.send_signal(signal.SIGKILL)
+            said = compacting.communicate()[1]
+            now = open(other, "rb").read() if os.path.exists(other) else b""
+            if compacting.returncode == 0 or now != before:
+                self.holds("compacted", now, told, self.client.asked)
+            elif compacting.returncode != -signal.SIGKILL:
+                bad("compacted beside", compacting.returncode, said)
+            else:
+                self.counts["compacting killed"] = self.counts.get("compacting killed", 0) + 1
+            before = now
+            if os.path.exists(other + ".new"):
+                os.remove(other + ".new")
+
+
+def cut_beside(path, counts):
+    """Starts over bytes behind the log, each of which is killed, until they were cut off; they stand there, or else in the other file.
+    A start that has cut them may leave a part of its own behind the log, the mark of ids, which the next one puts into that file."""
+    log, behind = log_of(open(path, "rb").read())
+    if behind is None:
+        return
+    behind = behind or b"".join(b"%d\t{\"torn\"" % n for n in range(random.randrange(1, 100_000)))
+    open(path, "wb").write(log + b"\n" + behind)
+    for _ in range(3):
+        process = subprocess.Popen([PROGRAM, "keep", "--listen", "127.0.0.1:19600", "--quiet", path], stderr=subprocess.PIPE)
+        time.sleep(random.random() * 0.25)
+        process.send_signal(signal.SIGKILL)
+        process.communicate()
+        counts["starts killed"] = counts.get("starts killed", 0) + 1
+        now, still = log_of(open(path, "rb").read())
+        if last_version(now) != last_version(log):
+            bad("a start that was killed", len(now), len(log))
+        if still == behind:
+            continue
+        counts["of which had cut"] = counts.get("of which had cut", 0) + 1
+        if open(path + ".cut", "rb").read() != behind:
+            bad("cut", len(behind), len(still or b""), os.stat(path + ".cut").st_size)
+        behind = still
+        if not behind:
+            return
+
+
+def beside():
+    path, kills, told, counts = FOLDER + "/beside", int(os.environ.get("KILLS", "100")), 0, {}
+    open(path, "w").write('1\t{"keytype":"CONFIG","subject":null,"magic":0}\t{"compatibilityLevel":"NONE"}\n\n')
+    for turn in range(kills + 1):
+        if turn % 2 == 0:
+            # Lines that are all superseded, so that it is compacted while it is read.
+            data = open(path).read()
+            open(path, "w").write(FILLER * (99990 - data.count("\n")) + data)
+        cut_beside(path, counts)
+        before = os.stat(path).st_ino
+        kept = Kept(path)
+        if kept.process.poll() is not None:
+            bad("it doesn't start", kept.text())
+            return
+        versions = ask(kept.connect(), "GET", "/subjects/n/versions")[1]
+        there = len(versions) if isinstance(versions, list) else 0
+        if turn and not client.told <= there <= client.asked:
+            bad("turn", turn, "has", there, "of", client.told, "to", client.asked)
+        if turn == kills:
+            kept.end()
+            break
+        client = Counting(kept, there)
+        readers = Readers(path, client, counts)
+        client.start()
+        readers.start()
+        time.sleep(random.random() * 0.8)
+        readers.over = True
+        kept.end(signal.SIGKILL)
+        client.join()
+        readers.join()
+        told += client.told - there
+        counts["compactions"] = counts.get("compactions", 0) + (os.stat(path).st_ino != before)
+    print("killed %d times, %d commands acknowledged; %s" % (kills, told, ", ".join("%s %d" % it for it in sorted(counts.items()))))
 
 
 def full():
