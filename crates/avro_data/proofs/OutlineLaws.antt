@@ -6,7 +6,7 @@ use Rattle.avro_schema.specs.declared.node.NodeId.{NodeId}
 use Rattle.avro_schema.specs.declared.node.Field.{Field}
 use Rattle.avro_schema.specs.declared.node.Node.{Node}
 use Rattle.avro_schema.specs.declared.node.Node.TheVariants as kind
-use Rattle.avro_data.specs.declared.limits.TheConstants.{MOST_PARTS, MOST_LEVELS}
+use Rattle.avro_data.specs.declared.limits.TheConstants.{PARTS_LIMIT, LEVELS_LIMIT}
 use Rattle.avro_data.specs.declared.outline.Outline.{Outline}
 use Rattle.avro_data.specs.Value.{Value, branch, fields_of, Members, no_members, member}
 use Rattle.avro_data.specs.Size.{parts_of_members, depth_of_members}
@@ -21,8 +21,8 @@ same_outline a b p l k = λ d. record { parts = p d; levels = l d; branch = k d 
 -- an outline with members beside what was counted before them
 abbrev with_members : Outline → Members → Outline
 with_members a ms = record {
-  parts = min (a.parts + parts_of_members ms) (MOST_PARTS + 1);
-  levels = max a.levels (min (depth_of_members ms) (MOST_LEVELS + 1));
+  parts = min (a.parts + parts_of_members ms) (PARTS_LIMIT + 1);
+  levels = max a.levels (min (depth_of_members ms) (LEVELS_LIMIT + 1));
   branch = 0;
 }
 
@@ -46,10 +46,10 @@ map-same f g e None = refl
 map-same f g e (Some x) = ap Some (e x)
 
 module _ (g : NodeId → Option Value) (h : NodeId → Option Outline) (same : (i : NodeId) → option_map outline_of (g i) ≡ h i) where
-  no_more : (a : Outline) → a.parts ≤ MOST_PARTS + 1 → a.branch ≡ 0 → with_members a no_members ≡ a
+  no_more : (a : Outline) → a.parts ≤ PARTS_LIMIT + 1 → a.branch ≡ 0 → with_members a no_members ≡ a
   no_more a within none = same_outline (with_members a no_members) a (omega arith) (omega arith) (sym none)
 
-  fields_outlined : (a : Outline) → a.parts ≤ MOST_PARTS + 1 → a.branch ≡ 0 → (fs : List Field)
+  fields_outlined : (a : Outline) → a.parts ≤ PARTS_LIMIT + 1 → a.branch ≡ 0 → (fs : List Field)
       → option_map (with_members a) (of_fields g fs) ≡ outlined_fields h a fs
   fields_outlined a within none [] = ap Some (no_more a within none)
   fields_outlined a within none (f ∷ fs) = go (g f.node) refl (λ v. fields_outlined (beside a (outline_of v)) (omega arith) refl fs)

@@ -5,7 +5,7 @@ use Rattle.std.specs.Option.{option_map_or}
 use Rattle.std.proofs.lemmas.Bool.Decides.{nat_tests}
 use Rattle.avro_schema.specs.declared.node.NodeId.{NodeId}
 use Rattle.avro_schema.specs.declared.node.Node.{Node}
-use Rattle.avro_data.specs.declared.limits.TheConstants.{MOST_PARTS, MOST_LEVELS}
+use Rattle.avro_data.specs.declared.limits.TheConstants.{PARTS_LIMIT, LEVELS_LIMIT}
 use Rattle.avro_data.specs.declared.data.Data.{Data}
 use Rattle.avro_data.specs.declared.outline.Given.{Given}
 use Rattle.avro_data.specs.Value.{Value}
@@ -29,8 +29,8 @@ over c n = go (nat_lt c (min n (c + 1))) (nat_lt c n) refl refl
 
 over_is : (v : Value) → is_over (outline_of v) ≡ is_too_large v
 over_is v =
-    ap (λ b. b || nat_lt MOST_LEVELS (min (depth v) (MOST_LEVELS + 1))) (over MOST_PARTS (parts v))
-    ∙ ap (λ b. nat_lt MOST_PARTS (parts v) || b) (over MOST_LEVELS (depth v))
+    ap (λ b. b || nat_lt LEVELS_LIMIT (min (depth v) (LEVELS_LIMIT + 1))) (over PARTS_LIMIT (parts v))
+    ∙ ap (λ b. nat_lt PARTS_LIMIT (parts v) || b) (over LEVELS_LIMIT (depth v))
 
 module _ (nodes : List Node) where
   pub sample_fits : (i : NodeId) (found : Option Data) → IsSample nodes i (option_map view found)

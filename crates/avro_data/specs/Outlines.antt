@@ -6,7 +6,7 @@ use Rattle.avro_schema.specs.declared.node.NodeId.{NodeId}
 use Rattle.avro_schema.specs.declared.node.Field.{Field}
 use Rattle.avro_schema.specs.declared.node.Node.{Node}
 use Rattle.avro_schema.specs.declared.node.Node.TheVariants as kind
-use Rattle.avro_data.specs.declared.limits.TheConstants.{MOST_PARTS, MOST_LEVELS}
+use Rattle.avro_data.specs.declared.limits.TheConstants.{PARTS_LIMIT, LEVELS_LIMIT}
 use Rattle.avro_data.specs.declared.outline.Outline.{Outline}
 use Rattle.avro_data.specs.Value.{Value, branch}
 use Rattle.avro_data.specs.Size.{parts, depth}
@@ -16,7 +16,7 @@ branch_of (branch k v) = k
 branch_of _ = 0
 
 abbrev pub outline_of : Value → Outline
-outline_of v = record { parts = min (parts v) (MOST_PARTS + 1); levels = min (depth v) (MOST_LEVELS + 1); branch = branch_of v }
+outline_of v = record { parts = min (parts v) (PARTS_LIMIT + 1); levels = min (depth v) (LEVELS_LIMIT + 1); branch = branch_of v }
 
 abbrev pub single : Outline
 single = record { parts = 1; levels = 1; branch = 0 }
@@ -26,14 +26,14 @@ nothing = record { parts = 0; levels = 0; branch = 0 }
 
 -- of values beside one another
 abbrev pub beside : Outline → Outline → Outline
-beside a b = record { parts = min (a.parts + b.parts) (MOST_PARTS + 1); levels = max a.levels b.levels; branch = 0 }
+beside a b = record { parts = min (a.parts + b.parts) (PARTS_LIMIT + 1); levels = max a.levels b.levels; branch = 0 }
 
 -- of the value around what is in it
 abbrev pub around : ℕ → Outline → Outline
-around k a = record { parts = min (a.parts + 1) (MOST_PARTS + 1); levels = min (a.levels + 1) (MOST_LEVELS + 1); branch = k }
+around k a = record { parts = min (a.parts + 1) (PARTS_LIMIT + 1); levels = min (a.levels + 1) (LEVELS_LIMIT + 1); branch = k }
 
 abbrev pub is_over : Outline → Bool
-is_over a = nat_lt MOST_PARTS a.parts || nat_lt MOST_LEVELS a.levels
+is_over a = nat_lt PARTS_LIMIT a.parts || nat_lt LEVELS_LIMIT a.levels
 
 abbrev pub outlined_fields : (NodeId → Option Outline) → Outline → List Field → Option Outline
 outlined_fields given before [] = Some before

@@ -1,6 +1,6 @@
 -- How large a value is.
 use Rattle.std.specs.Prelude.{ℕ, ◌+◌, max, nat_lt, Bool, ◌||◌}
-use Rattle.avro_data.specs.declared.limits.TheConstants.{MOST_PARTS, MOST_LEVELS}
+use Rattle.avro_data.specs.declared.limits.TheConstants.{PARTS_LIMIT, LEVELS_LIMIT}
 use Rattle.avro_data.specs.Value.{Value, leaf, symbol, list_of, map_of, branch, fields_of}
 use Rattle.avro_data.specs.Value.{by_default, Values, no_values, value, Members}
 use Rattle.avro_data.specs.Value.{no_members, member}
@@ -44,4 +44,4 @@ abbrev mutual
   depth_of_members (member k v ms) = max (depth v) (depth_of_members ms)
 
 abbrev pub is_too_large : Value → Bool
-is_too_large v = nat_lt MOST_PARTS (parts v) || nat_lt MOST_LEVELS (depth v)
+is_too_large v = nat_lt PARTS_LIMIT (parts v) || nat_lt LEVELS_LIMIT (depth v)

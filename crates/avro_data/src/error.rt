@@ -6,7 +6,7 @@ use std::fmt;
 /// Why no sample is given.
 #[derive(Clone, Copy, Debug, PartialEq, Eq)]
 pub enum SampleError {
-    /// It has more than `MOST_PARTS` parts or more than `MOST_LEVELS` levels.
+    /// It has more than `PARTS_LIMIT` parts or more than `LEVELS_LIMIT` levels.
     TooLarge,
     OutOfMemory,
 }

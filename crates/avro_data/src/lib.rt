@@ -16,6 +16,6 @@ mod users;
 pub use data::Data;
 pub use error::SampleError;
 pub use laws::{samples_are_single, samples_are_values, values_have_samples};
-pub use limits::{MOST_LEVELS, MOST_PARTS, limits_are_as_written};
-pub use pieces::{Piece, Pieces};
+pub use limits::{LEVELS_LIMIT, PARTS_LIMIT, data_limits_are_as_written};
+pub use pieces::{Piece, PiecedText};
 pub use sampling::sample;

@@ -2,13 +2,13 @@
 ghost use Rattle.std.specs.Prelude.{◌≡◌};
 
 /// The most parts of a value that is made here.
-pub const MOST_PARTS: usize = 1_048_576;
+pub const PARTS_LIMIT: usize = 1_048_576;
 
 /// The most levels of a value that is made here.
-pub const MOST_LEVELS: usize = 1_000;
+pub const LEVELS_LIMIT: usize = 1_000;
 
 /// The limits, in digits.
-pub fn limits_are_as_written()
-    ensures parts { MOST_PARTS ≡ 1048576 }
-    ensures levels { MOST_LEVELS ≡ 1000 }
+pub fn data_limits_are_as_written()
+    ensures parts { PARTS_LIMIT ≡ 1048576 }
+    ensures levels { LEVELS_LIMIT ≡ 1000 }
 {}

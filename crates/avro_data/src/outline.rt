@@ -2,14 +2,14 @@
 ghost use Rattle.std.specs.Prelude.{◌≡◌, option_copied};
 ghost use Rattle.avro_data.specs.Outlines as spec;
 
-use crate::limits::{MOST_LEVELS, MOST_PARTS};
+use crate::limits::{LEVELS_LIMIT, PARTS_LIMIT};
 
 /// How large a value is, and which branch it is. Counting stops at one above a limit.
 #[derive(Clone, Copy)]
 pub(crate) struct Outline {
-    /// The number of its parts, itself counted, at most `MOST_PARTS + 1`.
+    /// The number of its parts, itself counted, at most `PARTS_LIMIT + 1`.
     pub parts: usize,
-    /// The number of its levels, at most `MOST_LEVELS + 1`.
+    /// The number of its levels, at most `LEVELS_LIMIT + 1`.
     pub levels: usize,
     /// The number of its branch where it is one of a union, else 0.
     pub branch: usize,
@@ -43,7 +43,7 @@ impl Outline {
         ensures { result ≡ spec.beside self field }
     {
         Outline {
-            parts: self.parts.saturating_add(field.parts).min(MOST_PARTS + 1),
+            parts: self.parts.saturating_add(field.parts).min(PARTS_LIMIT + 1),
             levels: self.levels.max(field.levels),
             branch: 0,
         }
@@ -54,8 +54,8 @@ impl Outline {
         ensures { result ≡ spec.around branch self }
     {
         Outline {
-            parts: self.parts.saturating_add(1).min(MOST_PARTS + 1),
-            levels: self.levels.saturating_add(1).min(MOST_LEVELS + 1),
+            parts: self.parts.saturating_add(1).min(PARTS_LIMIT + 1),
+            levels: self.levels.saturating_add(1).min(LEVELS_LIMIT + 1),
             branch,
         }
     }
@@ -64,7 +64,7 @@ impl Outline {
     pub fn is_too_large(&self) -> bool
         ensures { result ≡ spec.is_over self.now }
     {
-        self.parts > MOST_PARTS || self.levels > MOST_LEVELS
+        self.parts > PARTS_LIMIT || self.levels > LEVELS_LIMIT
     }
 }
 

@@ -21,11 +21,11 @@ pub enum Piece {
 ///
 /// Each name in it is shared and not copied, so it may be longer than what memory holds.
 #[derive(Drop)]
-pub struct Pieces {
+pub struct PiecedText {
     items: Vec<Piece>,
 }
 
-impl Model for Pieces {
+impl Model for PiecedText {
     ghost use Rattle.std.specs.Prelude.{List, ℕ};
     ghost use Rattle.avro_data.specs.Pieces.{pieces_text};
 
@@ -34,12 +34,12 @@ impl Model for Pieces {
     ghost view = { λ p. pieces_text p.items.items };
 }
 
-impl Pieces {
+impl PiecedText {
     /// The empty text, which takes no memory.
-    pub fn new(alloc: Global) -> Pieces
+    pub fn new(alloc: Global) -> PiecedText
         ensures { result ≡ [] }
     {
-        Pieces {
+        PiecedText {
             items: Vec::new(alloc),
         }
     }

@@ -3,7 +3,7 @@ ghost use Rattle.std.specs.Prelude.{◌≡◌, ◌++◌, OnOk, true, codes};
 ghost use Rattle.avro_data.specs.Text.{value_text, values_text, members_text, comma_before};
 ghost use Rattle.avro_data.specs.View.{view, values_view, members_view};
 
-use crate::{Data, Pieces};
+use crate::{Data, PiecedText};
 use base_text::Text;
 use std::alloc::AllocError;
 use std::collections::BTreeMap;
@@ -12,7 +12,7 @@ impl Data {
     /// Appends the value's text: `leaf`, a symbol, `[a,b]`, `{KEY=a}` in byte order of the keys,
     /// `#k a` for branch `k`, `(NAME=a,NAME=b)`, `default`. Keys and symbols stand as they are, so
     /// it is a text for people. The only error is out of memory.
-    pub fn push_text(&self, out: &mut Pieces) -> Result<(), AllocError>
+    pub fn push_text(&self, out: &mut PiecedText) -> Result<(), AllocError>
         ensures { OnOk result (out.new ≡ out.old ++ value_text (view self.now)) }
     {
         push_value(out, self)
@@ -20,7 +20,7 @@ impl Data {
 }
 
 #[cycle(text)]
-fn push_value(out: &mut Pieces, given: &Data) -> Result<(), AllocError>
+fn push_value(out: &mut PiecedText, given: &Data) -> Result<(), AllocError>
     ensures { OnOk result (out.new ≡ out.old ++ value_text (view given.now)) }
 {
     match given {
@@ -53,7 +53,7 @@ fn push_value(out: &mut Pieces, given: &Data) -> Result<(), AllocError>
 
 /// The items, with commas between them.
 #[cycle(text)]
-fn push_items(out: &mut Pieces, items: &Vec<Data>) -> Result<(), AllocError>
+fn push_items(out: &mut PiecedText, items: &Vec<Data>) -> Result<(), AllocError>
     ensures { OnOk result (out.new ≡ out.old ++ values_text true (values_view items.now.items)) }
 {
     let mut is_first = true;
@@ -67,7 +67,7 @@ fn push_items(out: &mut Pieces, items: &Vec<Data>) -> Result<(), AllocError>
 
 /// The keys and their values, with commas between them.
 #[cycle(text)]
-fn push_values(out: &mut Pieces, members: &BTreeMap<Text, Data>) -> Result<(), AllocError>
+fn push_values(out: &mut PiecedText, members: &BTreeMap<Text, Data>) -> Result<(), AllocError>
     ensures { OnOk result (out.new ≡ out.old ++ members_text true (members_view members.now.entries)) }
 {
     let mut is_first = true;
@@ -81,7 +81,7 @@ fn push_values(out: &mut Pieces, members: &BTreeMap<Text, Data>) -> Result<(), A
 
 /// The names and their values, with commas between them.
 #[cycle(text)]
-fn push_fields(out: &mut Pieces, members: &Vec<(Text, Data)>) -> Result<(), AllocError>
+fn push_fields(out: &mut PiecedText, members: &Vec<(Text, Data)>) -> Result<(), AllocError>
     ensures { OnOk result (out.new ≡ out.old ++ members_text true (members_view members.now.items)) }
 {
     let mut is_first = true;
@@ -94,7 +94,7 @@ fn push_fields(out: &mut Pieces, members: &Vec<(Text, Data)>) -> Result<(), Allo
 }
 
 /// A comma, but before the first.
-fn push_comma(out: &mut Pieces, is_first: bool) -> Result<(), AllocError>
+fn push_comma(out: &mut PiecedText, is_first: bool) -> Result<(), AllocError>
     ensures { OnOk result (out.new ≡ out.old ++ comma_before is_first) }
 {
     if is_first {
@@ -103,7 +103,7 @@ fn push_comma(out: &mut Pieces, is_first: bool) -> Result<(), AllocError>
     out.push_fixed(",")
 }
 
-fn push_name(out: &mut Pieces, is_first: bool, name: &Text) -> Result<(), AllocError>
+fn push_name(out: &mut PiecedText, is_first: bool, name: &Text) -> Result<(), AllocError>
     ensures { OnOk result (out.new ≡ out.old ++ (comma_before is_first ++ name.now ++ codes "=")) }
 {
     push_comma(out, is_first)?;

@@ -11,7 +11,7 @@ use Rattle.avro_data.specs.Value.{Value, leaf, symbol, list_of, map_of, branch, 
 use Rattle.avro_data.specs.Size.{parts, depth, parts_of_values, depth_of_values, parts_of_members, depth_of_members, is_too_large}
 use Rattle.avro_data.specs.View.{view, values_of, members_of, values_view, members_view}
 use Rattle.avro_data.specs.declared.data.Data.{Data}
-use Rattle.avro_data.specs.declared.limits.TheConstants.{MOST_PARTS, MOST_LEVELS}
+use Rattle.avro_data.specs.declared.limits.TheConstants.{PARTS_LIMIT, LEVELS_LIMIT}
 use Rattle.avro_readings.specs.declared.room.Room.{Room}
 use Rattle.avro_readings.specs.declared.room.Halt.{Halt}
 use Rattle.avro_readings.specs.declared.room.Halt.TheVariants.{Unreadable, TooLarge, OutOfMemory}
@@ -251,28 +251,28 @@ fields_halt read gs all left next done f had now so_far is =
 
 -- ---- the whole room
 
-pub small : (had left : Room) (v : Value) → had ≡ record { parts = MOST_PARTS; levels = MOST_LEVELS }
+pub small : (had left : Room) (v : Value) → had ≡ record { parts = PARTS_LIMIT; levels = LEVELS_LIMIT }
     → IsTaken had left (value_room v) → is_too_large v ≡ false
 small had left v whole t =
-    let few : parts v ≤ MOST_PARTS = subst (λ (h : Room). parts v ≤ h.parts) whole (omega (arith, t.parts)) in
-    let flat : depth v ≤ MOST_LEVELS = subst (λ (h : Room). depth v ≤ h.levels) whole t.deep in
-    ap (λ b. b || nat_lt MOST_LEVELS (depth v)) (le-ltb MOST_PARTS (parts v) few) ∙ le-ltb MOST_LEVELS (depth v) flat
+    let few : parts v ≤ PARTS_LIMIT = subst (λ (h : Room). parts v ≤ h.parts) whole (omega (arith, t.parts)) in
+    let flat : depth v ≤ LEVELS_LIMIT = subst (λ (h : Room). depth v ≤ h.levels) whole t.deep in
+    ap (λ b. b || nat_lt LEVELS_LIMIT (depth v)) (le-ltb PARTS_LIMIT (parts v) few) ∙ le-ltb LEVELS_LIMIT (depth v) flat
 
-pub large : (had : Room) (v : Value) → had ≡ record { parts = MOST_PARTS; levels = MOST_LEVELS }
+pub large : (had : Room) (v : Value) → had ≡ record { parts = PARTS_LIMIT; levels = LEVELS_LIMIT }
     → (FitsIn had (value_room v) → ⊥) → is_too_large v ≡ true
-large had v whole none = go (nat_lt MOST_PARTS (parts v)) (nat_lt MOST_LEVELS (depth v)) refl refl
+large had v whole none = go (nat_lt PARTS_LIMIT (parts v)) (nat_lt LEVELS_LIMIT (depth v)) refl refl
   where
-    go : (a b : Bool) → nat_lt MOST_PARTS (parts v) ≡ a → nat_lt MOST_LEVELS (depth v) ≡ b → (a || b) ≡ true
+    go : (a b : Bool) → nat_lt PARTS_LIMIT (parts v) ≡ a → nat_lt LEVELS_LIMIT (depth v) ≡ b → (a || b) ≡ true
     go true b one two = refl
     go false true one two = refl
     go false false one two =
         absurd (
         none (
         subst (λ (h : Room). FitsIn h (value_room v)) (sym whole)
-        (record { parts = ltb-false MOST_PARTS (parts v) one; levels = ltb-false MOST_LEVELS (depth v) two })))
+        (record { parts = ltb-false PARTS_LIMIT (parts v) one; levels = ltb-false LEVELS_LIMIT (depth v) two })))
 
 -- a reading that there is no room for, where there is one
-pub too_large : (had : Room) (o : Option Value) (e : Halt) → had ≡ record { parts = MOST_PARTS; levels = MOST_LEVELS }
+pub too_large : (had : Room) (o : Option Value) (e : Halt) → had ≡ record { parts = PARTS_LIMIT; levels = LEVELS_LIMIT }
     → e ≡ TooLarge → IsHalt had (option_map value_room o) e → is_some o ≡ true → (x : Value) × (o ≡ Some x) × (is_too_large x ≡ true)
 too_large had None e whole is halt some = absurd (cc)
 too_large had (Some x) e whole is halt some =

@@ -10,8 +10,8 @@ pub enum ReadError {
     Unfit,
     /// It is one, and the reader can't read it.
     Unreadable,
-    /// It has a reading, of more than [`avro_data::MOST_PARTS`] parts or more than
-    /// [`avro_data::MOST_LEVELS`] levels.
+    /// It has a reading, of more than [`avro_data::PARTS_LIMIT`] parts or more than
+    /// [`avro_data::LEVELS_LIMIT`] levels.
     TooLarge,
     OutOfMemory,
 }

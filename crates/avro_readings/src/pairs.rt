@@ -177,7 +177,7 @@ pub fn values_at(reader: Option<&Node>, writer: Option<&Node>) -> Option<Pair>
 }
 
 /// The field at a place, if there is one.
-pub fn field_at(fields: &[Field], k: usize) -> Option<&Field>
+pub fn record_field_at(fields: &[Field], k: usize) -> Option<&Field>
     ensures { option_copied result ≡ slice_get fields.now k }
 {
     fields.get(k)

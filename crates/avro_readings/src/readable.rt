@@ -13,7 +13,7 @@ ghost use Rattle.avro_readings.specs.Readable as spec;
 
 use crate::asked::{asked_of, each_once};
 use crate::pairs::{
-    both_leaves, branch_at, field_at, inner_at, is_barred, node_at, row_type, symbol_at,
+    both_leaves, branch_at, inner_at, is_barred, node_at, record_field_at, row_type, symbol_at,
 };
 use avro_data::Data;
 use avro_resolve::Pair;
@@ -222,7 +222,7 @@ fn can_read_fields(
     };
     for (k, member) in members.iter().enumerate() {
         let types = each_once(alloc, list_at(&asked, k))?;
-        match field_at(others.as_slice(), k) {
+        match record_field_at(others.as_slice(), k) {
             Some(other) => {
                 member_fits(w, others, members, k, other, member);
                 if !can_all_read(alloc, r, w, types.as_slice(), other.node, &member.1)? {

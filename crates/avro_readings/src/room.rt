@@ -1,8 +1,8 @@
 // How much of a reading may still be made.
 ghost use Rattle.std.specs.Prelude.{◌≡◌, ◌⊎◌, ◌+◌, ◌<◌, OnOk, IfErr};
-ghost use Rattle.avro_data.specs.declared.limits.TheConstants.{MOST_PARTS, MOST_LEVELS};
+ghost use Rattle.avro_data.specs.declared.limits.TheConstants.{PARTS_LIMIT, LEVELS_LIMIT};
 
-use avro_data::{MOST_LEVELS, MOST_PARTS};
+use avro_data::{LEVELS_LIMIT, PARTS_LIMIT};
 use std::alloc::{AllocError, AllocFailed};
 
 /// How many parts may still be made, and in how many levels from here.
@@ -25,11 +25,11 @@ pub enum Halt {
 impl Room {
     /// That of a whole reading.
     pub fn whole() -> Room
-        ensures { result ≡ record { parts = MOST_PARTS; levels = MOST_LEVELS } }
+        ensures { result ≡ record { parts = PARTS_LIMIT; levels = LEVELS_LIMIT } }
     {
         Room {
-            parts: MOST_PARTS,
-            levels: MOST_LEVELS,
+            parts: PARTS_LIMIT,
+            levels: LEVELS_LIMIT,
         }
     }
 

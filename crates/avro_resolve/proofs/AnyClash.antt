@@ -14,11 +14,11 @@ use Rattle.std.proofs.lemmas.Option.{slice_get-map}
 use Rattle.std.proofs.Math.Nat.{mul_comm}
 use Rattle.avro_schema.specs.declared.node.Node.{Node}
 use Rattle.avro_schema.specs.Sound.{IsSound}
-use Rattle.avro_resolve.specs.declared.agenda.Agenda.{Agenda}
+use Rattle.avro_resolve.specs.declared.worklist.Worklist.{Worklist}
 use Rattle.avro_resolve.specs.declared.obligations.Pair.{Pair}
 use Rattle.avro_resolve.specs.declared.obligations.Obligation.{Obligation}
 use Rattle.avro_resolve.specs.declared.trail.Trail.{Trail}
-use Rattle.avro_resolve.specs.Agenda.{has_number, is_met, waits}
+use Rattle.avro_resolve.specs.Worklist.{has_number, is_met, waits}
 use Rattle.avro_resolve.specs.AnyClash.{HasGrown, HaveMet}
 use Rattle.avro_resolve.specs.Numbered.{number_of, IsPairOf}
 use Rattle.avro_resolve.specs.Owed.{pairs_of}
@@ -68,12 +68,12 @@ owed_within r w s t p inside k o at =
 -- ---- what was looked up
 
 -- no clash, and each pair that it owes was met
-pub record IsClosed (r w : List Node) (a : Agenda) (p : Pair) : Type 0 where
+pub record IsClosed (r w : List Node) (a : Worklist) (p : Pair) : Type 0 where
   pub peaceful : clash_of r w p ≡ None
   pub owes : (k : ℕ) (o : Obligation) → slice_get (obligations r w p) k ≡ Some o → is_met a (number_of w o.pair) ≡ true
 
 -- the roots were met, and n of all that were met were looked up; the others wait
-pub record AreLookedUp (r w : List Node) (a : Agenda) (n : ℕ) : Type 0 where
+pub record AreLookedUp (r w : List Node) (a : Worklist) (n : ℕ) : Type 0 where
   pub done : List ℕ
   pub counted : length done ≡ n
   pub distinct : IsDistinct eqb done
@@ -88,7 +88,7 @@ some_pairs r w s t =
     omega (arith, below, mul_comm (length r) (length w))
 
 -- only the roots were met
-pub looked_first : (r w : List Node) → IsSound r → IsSound w → (a : Agenda)
+pub looked_first : (r w : List Node) → IsSound r → IsSound w → (a : Worklist)
     → ((k : ℕ) → is_met a k ≡ eqb 0 k) → ((k : ℕ) → waits a k ≡ eqb 0 k) → AreLookedUp r w a 0
 looked_first r w s t a met waiting = record {
   done = [];
@@ -103,7 +103,7 @@ looked_first r w s t a met waiting = record {
 
 -- ---- one pair more is looked up
 
-module _ (r w : List Node) (a : Agenda) (n : ℕ) (now : AreLookedUp r w a n) where
+module _ (r w : List Node) (a : Worklist) (n : ℕ) (now : AreLookedUp r w a n) where
   -- not more than there are
   pub looked_few : n ≤ length r * length w
   looked_few =
@@ -141,7 +141,7 @@ module _ (r w : List Node) (a : Agenda) (n : ℕ) (now : AreLookedUp r w a n) wh
         length-le_from_distinct_below (now.done ++ k ∷ []) (length r * length w) distinct_now (λ q e. now.below q (met_of q e)) in
         omega (arith, all, length-append now.done (k ∷ []), now.counted)
 
-    module _ (b c : Agenda) (left : (l : ℕ) → waits b l ≡ (not (eqb k l) && waits a l)) (same : b.met.words.items ≡ a.met.words.items)
+    module _ (b c : Worklist) (left : (l : ℕ) → waits b l ≡ (not (eqb k l) && waits a l)) (same : b.met.words.items ≡ a.met.words.items)
         (p : Pair) (inside : IsPairOf r w p) (is : number_of w p ≡ k) (peaceful : clash_of r w p ≡ None)
         (ps : List Pair) (owes : ps ≡ pairs_of (obligations r w p)) (met : HaveMet r w b ps c) where
       met_b : (l : ℕ) → is_met a l ≡ true → is_met b l ≡ true
@@ -217,7 +217,7 @@ module _ (r w : List Node) (a : Agenda) (n : ℕ) (now : AreLookedUp r w a n) wh
 
 -- ---- nothing waits
 
-module _ (r w : List Node) (s : IsSound r) (t : IsSound w) (a : Agenda) (n : ℕ)
+module _ (r w : List Node) (s : IsSound r) (t : IsSound w) (a : Worklist) (n : ℕ)
     (now : AreLookedUp r w a n) (none : (k : ℕ) → waits a k ≡ false) where
   leads_nowhere : (ks : List ℕ) (p : Pair) → IsPairOf r w p → is_met a (number_of w p) ≡ true → trail_from r w p ks ≡ None
   leads_nowhere [] p inside met = ap (option_map end_at) (now.closed p inside met (none (number_of w p))).peaceful
@@ -250,7 +250,7 @@ pairs_within r w s t p inside ps is = subst (All (IsPairOf r w)) (sym is) (go (o
     go [] h = All-nil (IsPairOf r w)
     go (o ∷ os) h = All-cons (IsPairOf r w) o.pair (pairs_of os) (h 0 o refl) (go os (λ k q at. h (suc k) q at))
 
-pub met_none : (many : ℕ) (a : Agenda) → HasGrown many a a
+pub met_none : (many : ℕ) (a : Worklist) → HasGrown many a a
 met_none many a = record {
   stays = λ l e. e;
   kept = λ l e. refl;
@@ -258,7 +258,7 @@ met_none many a = record {
   below = λ l before now. absurd (no_both (is_met a l) now before);
 }
 
-module _ (many : ℕ) (a b c : Agenda) (old : HasGrown many a b) (k : ℕ) (small : k < many)
+module _ (many : ℕ) (a b c : Worklist) (old : HasGrown many a b) (k : ℕ) (small : k < many)
     (met : (l : ℕ) → is_met c l ≡ (eqb k l || is_met b l))
     (waiting : (l : ℕ) → waits c l ≡ ((eqb k l && not (is_met b k)) || waits b l)) where
   or_left : (x y : Bool) → y ≡ true → (x || y) ≡ true

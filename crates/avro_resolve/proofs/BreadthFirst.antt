@@ -18,8 +18,8 @@ use Rattle.avro_resolve.specs.declared.trail.ClashKind.{ClashKind}
 use Rattle.avro_resolve.specs.declared.trail.Trail.{Trail}
 use Rattle.avro_resolve.specs.declared.obligations.Pair.{Pair}
 use Rattle.avro_resolve.specs.declared.obligations.Obligation.{Obligation}
-use Rattle.avro_resolve.specs.declared.search.Step.{Step}
-use Rattle.avro_resolve.specs.declared.search.Entry.{Entry}
+use Rattle.avro_resolve.specs.declared.search.Origin.{Origin}
+use Rattle.avro_resolve.specs.declared.search.ReachedPair.{ReachedPair}
 use Rattle.avro_schema.specs.Sound.{IsSound}
 use Rattle.avro_resolve.specs.Table.{outcome, clash_of, obligations}
 use Rattle.std.specs.Result.{result_err}
@@ -38,10 +38,10 @@ use Rattle.avro_resolve.proofs.Searching.{same_pair-≡}
 
 -- a pair that was reached, and the obligations' numbers that led to it
 pub record Reached : Type 0 where
-  pub entry : Entry
+  pub entry : ReachedPair
   pub path : List ℕ
 
-abbrev pub entries_of : List Reached → List Entry
+abbrev pub entries_of : List Reached → List ReachedPair
 entries_of gs = map (λ g. g.entry) gs
 
 -- ---- lists
@@ -143,7 +143,7 @@ pub record IsRoot (x : ℕ) (g : Reached) : Type 0 where
 -- g at place x was reached from an entry before it, which is one of the first n
 pub record IsChild (r w : List Node) (gs : List Reached) (n x : ℕ) (g : Reached) : Type 0 where
   pub parent : Reached
-  pub step : Step
+  pub step : Origin
   pub number : ℕ
   pub obligation : Obligation
   pub stands : slice_get gs step.place ≡ Some parent
@@ -577,14 +577,14 @@ prepended_is (h ∷ back) t =
 
 from_of : (gs : List Reached) (x : ℕ) (g : Reached) → slice_get gs x ≡ Some g → from_at (entries_of gs) x ≡ g.entry.from
 from_of gs x g at =
-    ap (option_and_then (λ (e : Entry). e.from))
+    ap (option_and_then (λ (e : ReachedPair). e.from))
     (slice_get-map (λ (a : Reached). a.entry) gs x ∙ ap (option_map (λ (a : Reached). a.entry)) at)
 
 -- the hop of the step by which an entry was reached
 hop_of_child : (r w : List Node) (gs : List Reached) (n x : ℕ) (g : Reached) (c : IsChild r w gs n x g)
     → hop_at r w (entries_of gs) c.step ≡ Some c.obligation.hop
 hop_of_child r w gs n x g c =
-    ap (option_and_then (λ (e : Entry). hop_numbered r w e.pair c.step.number))
+    ap (option_and_then (λ (e : ReachedPair). hop_numbered r w e.pair c.step.number))
     (slice_get-map (λ (a : Reached). a.entry) gs c.step.place ∙ ap (option_map (λ (a : Reached). a.entry)) c.stands)
     ∙ ap (hop_numbered r w c.parent.entry.pair) c.counted
     ∙ ap (option_map (λ (o : Obligation). o.hop)) c.owes
@@ -620,7 +620,7 @@ module _ (r w : List Node) (gs : List Reached) (n : ℕ) (s : IsReach r w gs n) 
           ∙ ap (option_map (after_hop child.obligation.hop)) leads
           ∙ ap (λ k. Some (after_hop k t)) hops in
           let behind : IsWayBack r w (entries_of gs) child.step.place back =
-          subst (λ (z : Step). IsWayBack r w (entries_of gs) z.place back) one rest in
+          subst (λ (z : Origin). IsWayBack r w (entries_of gs) z.place back) one rest in
           ap (λ p. trail_from r w roots (p ++ ms)) child.path
           ∙ ap (trail_from r w roots) (append_assoc child.parent.path (child.number ∷ []) ms)
           ∙ ih child.step.place child.parent child.stands behind (child.number ∷ ms) (after_hop h t) on
@@ -693,24 +693,24 @@ at_most_all r w gs n s =
 -- ---- the loop of `resolve_counted`
 
 -- what it keeps: the entries, of which the first n were looked at, with the numbers that led to each
-pub record IsSearched (r w : List Node) (es : List Entry) (n : ℕ) : Type 0 where
+pub record IsSearched (r w : List Node) (es : List ReachedPair) (n : ℕ) : Type 0 where
   pub reached : List Reached
   pub entries : es ≡ entries_of reached
   pub search : IsSearch r w reached n
 
 -- the roots were reached by no step
-no_step : (from : Option Step) (s : Step) → from ≡ None → from ≡ Some s → ⊥
+no_step : (from : Option Origin) (s : Origin) → from ≡ None → from ≡ Some s → ⊥
 no_step from s e is = let no : None ≡ Some s = sym e ∙ is in cc
 
 -- the others by one
-one_step : (from : Option Step) (a s : Step) → from ≡ Some a → from ≡ Some s → a ≡ s
+one_step : (from : Option Origin) (a s : Origin) → from ≡ Some a → from ≡ Some s → a ≡ s
 one_step from a s e is = let two : Some a ≡ Some s = sym e ∙ is in cc
 
 -- each entry leads back
-pub leads_back : (r w : List Node) (es : List Entry) (n : ℕ) → IsSearched r w es n → LeadsBack r w es
+pub leads_back : (r w : List Node) (es : List ReachedPair) (n : ℕ) → IsSearched r w es n → LeadsBack r w es
 leads_back r w es n k = subst (LeadsBack r w) (sym k.entries) back
   where
-    stands : (gs : List Reached) (x : ℕ) (s : Step) → from_at (entries_of gs) x ≡ Some s
+    stands : (gs : List Reached) (x : ℕ) (s : Origin) → from_at (entries_of gs) x ≡ Some s
         → (g : Reached) × (slice_get gs x ≡ Some g) × (g.entry.from ≡ Some s)
     stands [] x s e = cc
     stands (g ∷ gs) zero s e = (g, refl, e)
@@ -735,34 +735,34 @@ leads_back r w es n k = subst (LeadsBack r w) (sym k.entries) back
         ]
 
 -- the entry at a place, and what was reached there
-entry_at : (gs : List Reached) (x : ℕ) (e : Entry) → slice_get (entries_of gs) x ≡ Some e
+entry_at : (gs : List Reached) (x : ℕ) (e : ReachedPair) → slice_get (entries_of gs) x ≡ Some e
     → (g : Reached) × (slice_get gs x ≡ Some g) × (g.entry ≡ e)
 entry_at [] x e h = cc
 entry_at (g ∷ gs) zero e h = (g, refl, cc)
 entry_at (g ∷ gs) (suc x) e h = entry_at gs x e h
 
-module _ (r w : List Node) (es : List Entry) (n : ℕ) (k : IsSearched r w es n) where
-  there : (e : Entry) → slice_get es n ≡ Some e → (g : Reached) × (slice_get k.reached n ≡ Some g) × (g.entry ≡ e)
+module _ (r w : List Node) (es : List ReachedPair) (n : ℕ) (k : IsSearched r w es n) where
+  there : (e : ReachedPair) → slice_get es n ≡ Some e → (g : Reached) × (slice_get k.reached n ≡ Some g) × (g.entry ≡ e)
   there e at = entry_at k.reached n e (ap (λ l. slice_get l n) (sym k.entries) ∙ at)
 
   -- the pair that is looked at is one of the schemas'
-  pub searched_within : (e : Entry) → slice_get es n ≡ Some e → IsWithin r w e.pair
-  searched_within e at = let (g, at_g, is) = there e at in subst (λ (x : Entry). IsWithin r w x.pair) is (k.search.reach.within n g at_g)
+  pub searched_within : (e : ReachedPair) → slice_get es n ≡ Some e → IsWithin r w e.pair
+  searched_within e at = let (g, at_g, is) = there e at in subst (λ (x : ReachedPair). IsWithin r w x.pair) is (k.search.reach.within n g at_g)
 
   -- it clashes
-  pub searched_clash : (e : Entry) (c : ClashKind) (hops : List Hop) → slice_get es n ≡ Some e
+  pub searched_clash : (e : ReachedPair) (c : ClashKind) (hops : List Hop) → slice_get es n ≡ Some e
       → outcome r w e.pair ≡ Err c → IsWayBack r w es n (reverse hops) → IsShown r w (record { hops = hops; kind = c })
   searched_clash e c hops at is way =
       let (g, at_g, same) = there e at in
-      shows r w k.reached n g c hops k.search at_g (ap (λ (x : Entry). clash_of r w x.pair) same ∙ ap result_err is)
+      shows r w k.reached n g c hops k.search at_g (ap (λ (x : ReachedPair). clash_of r w x.pair) same ∙ ap result_err is)
       (subst (λ l. IsWayBack r w l n (reverse hops)) k.entries way)
 
   -- it doesn't
-  pub searched_next : IsSound r → IsSound w → (e : Entry) (os : List Obligation) → slice_get es n ≡ Some e
+  pub searched_next : IsSound r → IsSound w → (e : ReachedPair) (os : List Obligation) → slice_get es n ≡ Some e
       → outcome r w e.pair ≡ Ok os → IsSearched r w (expanded n 0 (pairs_of os) es) (n + 1)
   searched_next s t e os at is =
       let (g, at_g, same) = there e at in
-      let of_g : outcome r w g.entry.pair ≡ Ok os = ap (λ (x : Entry). outcome r w x.pair) same ∙ is in
+      let of_g : outcome r w g.entry.pair ≡ Ok os = ap (λ (x : ReachedPair). outcome r w x.pair) same ∙ is in
       let inside = k.search.reach.within n g at_g in
       let (hs, entries, search) =
       expands r w n g (obligations_within r w s t g.entry.pair inside) k.reached k.search at_g (ap result_err of_g) in
@@ -788,7 +788,7 @@ module _ (r w : List Node) (es : List Entry) (n : ℕ) (k : IsSearched r w es n)
       subst (IsSearch r w k.reached) (e ∙ ap length k.entries ∙ length-map (λ (g : Reached). g.entry) k.reached) k.search)
 
 -- only the roots were reached
-pub searched_first : (r w : List Node) → IsSound r → IsSound w → (es : List Entry)
+pub searched_first : (r w : List Node) → IsSound r → IsSound w → (es : List ReachedPair)
     → es ≡ record { pair = roots; from = None } ∷ [] → IsSearched r w es 0
 searched_first r w s t es is =
     let root : Reached = record { entry = record { pair = roots; from = None }; path = [] } in
@@ -800,7 +800,7 @@ searched_first r w s t es is =
     }
 
 -- entries are never taken away
-pub length-expanded : (n k : ℕ) (os : List Obligation) (es : List Entry) → length es ≤ length (expanded n k (pairs_of os) es)
+pub length-expanded : (n k : ℕ) (os : List Obligation) (es : List ReachedPair) → length es ≤ length (expanded n k (pairs_of os) es)
 length-expanded n k [] es = omega arith
 length-expanded n k (o ∷ os) es =
     omega (arith, more (is_reached es o.pair), length-expanded n (k + 1) os (with_entry es (entry_from n k o.pair)))

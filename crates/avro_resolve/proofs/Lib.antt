@@ -6,10 +6,10 @@ pub mod Named
 pub mod Labelled
 pub mod Indexed
 pub mod Searching
-pub mod Sieving
+pub mod FieldIndexes
 pub mod Owing
 pub mod SeenLaws
-pub mod Agendas
+pub mod Worklists
 pub mod Order
 pub mod BreadthFirst
 pub mod AnyClash

@@ -8,15 +8,15 @@ use Rattle.std.proofs.lemmas.Option.{slice_get_read}
 use Rattle.avro_schema.specs.declared.node.Field.{Field}
 use Rattle.avro_schema.specs.declared.node.NodeId.{NodeId}
 use Rattle.avro_resolve.specs.declared.obligations.Pair.{Pair}
-use Rattle.avro_resolve.specs.declared.sieve.Found.{Found}
+use Rattle.avro_resolve.specs.declared.field_index.FoundField.{FoundField}
 use Rattle.avro_resolve.specs.declared.trail.ClashKind.TheVariants as clash
 use Rattle.avro_resolve.specs.Owed.{pairs_of, pair_with}
 use Rattle.avro_resolve.specs.Pairing.{partner, lacks_value}
-use Rattle.avro_resolve.specs.Sieve.{Before, IsPassed, NoneOf, AreFound}
+use Rattle.avro_resolve.specs.FieldIndex.{Before, IsPassed, NoneOf, AreFound}
 use Rattle.avro_resolve.specs.Table.{to_fields}
 use Rattle.avro_resolve.proofs.Rows.{owed_in, to_writer_branch, to_field, to_partner}
 use Rattle.avro_resolve.proofs.Hops.{drop_at, unless_lacking}
-use Rattle.avro_resolve.proofs.Sieving.{any_default, before_up, found_inside, passed, some_not_none}
+use Rattle.avro_resolve.proofs.FieldIndexes.{any_default, before_up, found_inside, passed, some_not_none}
 
 -- ---- the loop over a reader's fields
 
@@ -108,8 +108,8 @@ module _ (gs fs : List Field) (owed : List Pair) where
       subst (λ n. AreOwed gs fs n owed) e
       (owed_past (k - i) i (omega arith) (λ m f at from below. passed m f at from (omega arith)) now)
 
-module _ (fs gs : List Field) (xs : List Found) (all : AreFound fs gs xs)
-    (i next : ℕ) (x : Found) (inside : i < length xs) (is : x ≡ get_or xs i x)
+module _ (fs gs : List Field) (xs : List FoundField) (all : AreFound fs gs xs)
+    (i next : ℕ) (x : FoundField) (inside : i < length xs) (is : x ≡ get_or xs i x)
     (earlier : AllWithin (λ y. y.holder.field < next) xs 0 i) where
   -- none before is of its field, or of one between
   absent_between : (m : ℕ) → next ≤ m → m < x.holder.field → NoneOf m xs
@@ -121,7 +121,7 @@ module _ (fs gs : List Field) (xs : List Found) (all : AreFound fs gs xs)
       (get_or xs p d).holder.field (suc (get_or xs p d).holder.rank) =
       all.rise i p d high within in
       let h : (get_or xs i d).holder.field ≤ (get_or xs p d).holder.field = before_up _ _ _ _ up in
-      let e : (get_or xs i d).holder.field ≡ x.holder.field = ap (λ (y : Found). y.holder.field) (any_default xs i d x inside ∙ sym is) in
+      let e : (get_or xs i d).holder.field ≡ x.holder.field = ap (λ (y : FoundField). y.holder.field) (any_default xs i d x inside ∙ sym is) in
       absurd (omega (arith, h, same, e)))
       (cases_lt p i)
 
@@ -132,7 +132,7 @@ module _ (fs gs : List Field) (xs : List Found) (all : AreFound fs gs xs)
       owed_upto gs fs owed next x.holder.field up (omega (arith, below))
       (λ m f at from to. passed fs gs xs all.upto m f at (absent_between m from to)) now
 
-module _ (fs gs : List Field) (xs : List Found) (all : AreFound fs gs xs) (i next : ℕ) (past : length xs ≤ i) (end : i ≤ length xs)
+module _ (fs gs : List Field) (xs : List FoundField) (all : AreFound fs gs xs) (i next : ℕ) (past : length xs ≤ i) (end : i ≤ length xs)
     (earlier : AllWithin (λ y. y.holder.field < next) xs 0 i) (up : next ≤ length fs) where
   absent_above : (m : ℕ) → next ≤ m → NoneOf m xs
   absent_above m above =

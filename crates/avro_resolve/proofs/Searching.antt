@@ -14,13 +14,13 @@ use Rattle.avro_resolve.specs.declared.trail.ClashKind.{ClashKind}
 use Rattle.avro_resolve.specs.Table.{obligations}
 use Rattle.std.specs.Result.{result_err}
 use Rattle.avro_resolve.proofs.Rows.{owed_in}
-use Rattle.avro_resolve.specs.declared.search.Step.{Step}
-use Rattle.avro_resolve.specs.declared.search.Entry.{Entry}
+use Rattle.avro_resolve.specs.declared.search.Origin.{Origin}
+use Rattle.avro_resolve.specs.declared.search.ReachedPair.{ReachedPair}
 use Rattle.avro_resolve.specs.Seen.{same_pair, is_seen, IsFair}
 use Rattle.avro_resolve.specs.Search.{is_reached, AgreesWith, with_entry}
 use Rattle.avro_resolve.specs.Search.{entry_from, expanded, from_at, hop_numbered, hop_at}
 use Rattle.avro_resolve.specs.Search.{IsStep, IsWayBack}
-use Rattle.avro_resolve.specs.declared.seen.Seen.{Seen}
+use Rattle.avro_resolve.specs.declared.seen.SeenPairs.{SeenPairs}
 use Rattle.avro_schema.specs.declared.node.Node.{Node}
 
 -- ---- pairs
@@ -40,14 +40,14 @@ or_last true false = refl
 or_last false true = refl
 or_last false false = refl
 
-pub agrees_added : (seen new : Seen) (es : List Entry) (e : Entry) → AgreesWith seen es
+pub agrees_added : (seen new : SeenPairs) (es : List ReachedPair) (e : ReachedPair) → AgreesWith seen es
     → ((p : Pair) → is_seen new p ≡ (same_pair e.pair p || is_seen seen p)) → IsFair new
     → AgreesWith new (es ++ e ∷ [])
 agrees_added seen new es e agrees added fair = record {
   same = λ p. added p
       ∙ ap (λ b. same_pair e.pair p || b) (agrees.same p)
       ∙ or_last (same_pair e.pair p) (is_reached es p)
-      ∙ sym (list_any-append (λ (x : Entry). same_pair x.pair p) es (e ∷ []));
+      ∙ sym (list_any-append (λ (x : ReachedPair). same_pair x.pair p) es (e ∷ []));
   fair = fair;
 }
 
@@ -63,7 +63,7 @@ none_if (Some x) false e = refl
 drop_here : {A : Type 0} (xs : List A) (k : ℕ) (d : A) → k < length xs → drop k xs ≡ get_or xs k d ∷ drop (k + 1) xs
 drop_here xs k d inside = drop-cons xs k d inside ∙ ap (λ n. get_or xs k d ∷ drop n xs) (sym (add-one k))
 
-pub reached_next : (ps : List Pair) (place k : ℕ) (d : Pair) (es new all : List Entry) → k < length ps
+pub reached_next : (ps : List Pair) (place k : ℕ) (d : Pair) (es new all : List ReachedPair) → k < length ps
     → new ≡ with_entry es (entry_from place k (get_or ps k d))
     → expanded place k (drop k ps) es ≡ all
     → expanded place (k + 1) (drop (k + 1) ps) new ≡ all
@@ -72,34 +72,34 @@ reached_next ps place k d es new all inside is now =
     ∙ ap (λ l. expanded place k l es) (sym (drop_here ps k d inside))
     ∙ now
 
-pub reached_all : (ps : List Pair) (place k : ℕ) (es all : List Entry) → drop k ps ≡ [] → expanded place k (drop k ps) es ≡ all → es ≡ all
+pub reached_all : (ps : List Pair) (place k : ℕ) (es all : List ReachedPair) → drop k ps ≡ [] → expanded place k (drop k ps) es ≡ all → es ≡ all
 reached_all ps place k es all none now = ap (λ l. expanded place k l es) (sym none) ∙ now
 
 -- ---- the way back
 
-module _ (r w : List Node) (es : List Entry) (s : Step) (e : Entry) (at : slice_get es s.place ≡ Some e) where
-  same_entry : (f : Entry) → slice_get es s.place ≡ Some f → f ≡ e
+module _ (r w : List Node) (es : List ReachedPair) (s : Origin) (e : ReachedPair) (at : slice_get es s.place ≡ Some e) where
+  same_entry : (f : ReachedPair) → slice_get es s.place ≡ Some f → f ≡ e
   same_entry f at_f = let two : Some f ≡ Some e = sym at_f ∙ at in cc
 
   -- a step's entry and number
   pub step_reader : (x : ℕ) → IsStep r w es x s → e.pair.reader.index < length r
-  step_reader x step = subst (λ (f : Entry). f.pair.reader.index < length r) (same_entry step.entry step.stands) step.reader
+  step_reader x step = subst (λ (f : ReachedPair). f.pair.reader.index < length r) (same_entry step.entry step.stands) step.reader
 
   pub step_writer : (x : ℕ) → IsStep r w es x s → e.pair.writer.index < length w
-  step_writer x step = subst (λ (f : Entry). f.pair.writer.index < length w) (same_entry step.entry step.stands) step.writer
+  step_writer x step = subst (λ (f : ReachedPair). f.pair.writer.index < length w) (same_entry step.entry step.stands) step.writer
 
   pub step_numbered : (x : ℕ) → IsStep r w es x s → s.number < length (obligations r w e.pair)
-  step_numbered x step = subst (λ (f : Entry). s.number < length (obligations r w f.pair)) (same_entry step.entry step.stands) step.numbered
+  step_numbered x step = subst (λ (f : ReachedPair). s.number < length (obligations r w f.pair)) (same_entry step.entry step.stands) step.numbered
 
   pub step_hop : (h : Hop) → hop_numbered r w e.pair s.number ≡ Some h → hop_at r w es s ≡ Some h
-  step_hop h is = ap (option_and_then (λ (f : Entry). hop_numbered r w f.pair s.number)) at ∙ is
+  step_hop h is = ap (option_and_then (λ (f : ReachedPair). hop_numbered r w f.pair s.number)) at ∙ is
 
-pub from_read : (es : List Entry) (n x : ℕ) (e : Entry) → n ≡ length es → x < n → e ≡ get_or es x e → from_at es x ≡ e.from
-from_read es n x e len below is = ap (option_and_then (λ (y : Entry). y.from)) (slice_get_read es n x e len below is)
+pub from_read : (es : List ReachedPair) (n x : ℕ) (e : ReachedPair) → n ≡ length es → x < n → e ≡ get_or es x e → from_at es x ≡ e.from
+from_read es n x e len below is = ap (option_and_then (λ (y : ReachedPair). y.from)) (slice_get_read es n x e len below is)
 
 module _ (r w : List Node) where
   -- one step further back
-  pub way_further : (es : List Entry) (place at : ℕ) (hops : List Hop) (s : Step) (h : Hop) (all : List Hop)
+  pub way_further : (es : List ReachedPair) (place at : ℕ) (hops : List Hop) (s : Origin) (h : Hop) (all : List Hop)
       → ((rest : List Hop) → IsWayBack r w es at rest → IsWayBack r w es place (hops ++ rest))
       → from_at es at ≡ Some s → hop_at r w es s ≡ Some h → all ≡ hops ++ h ∷ []
       → (rest : List Hop) → IsWayBack r w es s.place rest → IsWayBack r w es place (all ++ rest)
@@ -108,7 +108,7 @@ module _ (r w : List Node) where
       subst (λ l. IsWayBack r w es place (l ++ rest)) (sym is)
       (subst (IsWayBack r w es place) (sym (append_assoc hops (h ∷ []) rest)) longer)
 
-  pub way_whole : (es : List Entry) (place at : ℕ) (hops : List Hop)
+  pub way_whole : (es : List ReachedPair) (place at : ℕ) (hops : List Hop)
       → ((rest : List Hop) → IsWayBack r w es at rest → IsWayBack r w es place (hops ++ rest))
       → from_at es at ≡ None → IsWayBack r w es place hops
   way_whole es place at hops now none = subst (IsWayBack r w es place) (append-nil hops) (now [] none)

@@ -9,10 +9,10 @@ pub mod Inward
 pub mod Row
 pub mod Labels
 pub mod Unions
-pub mod Sieve
+pub mod FieldIndex
 pub mod Seen
 pub mod Search
 pub mod Owed
-pub mod Agenda
+pub mod Worklist
 pub mod Numbered
 pub mod AnyClash

@@ -9,7 +9,7 @@ use Rattle.avro_resolve.specs.declared.firsts.Known.{Known}
 use Rattle.avro_resolve.specs.declared.firsts.Known.TheVariants.{New, Same, Other}
 use Rattle.avro_resolve.specs.declared.grid.Grid.{Grid}
 use Rattle.avro_resolve.specs.declared.seen.Further.{Further}
-use Rattle.avro_resolve.specs.declared.seen.Seen.{Seen}
+use Rattle.avro_resolve.specs.declared.seen.SeenPairs.{SeenPairs}
 
 abbrev pub same_numbers : ℕ → ℕ → ℕ → ℕ → Bool
 same_numbers i j k l = (i == k) && (j == l)
@@ -68,9 +68,9 @@ AreFair (Some f) = IsFairFurther f
 
 -- ---- all
 
-abbrev pub is_seen : Seen → Pair → Bool
+abbrev pub is_seen : SeenPairs → Pair → Bool
 is_seen seen p = are_joined seen.first.of.items (are_further seen.further) p.reader.index p.writer.index
 
-pub record IsFair (seen : Seen) : Type 0 where
+pub record IsFair (seen : SeenPairs) : Type 0 where
   pub first : IsFairOver seen.first.of.items (are_further seen.further)
   pub further : AreFair seen.further

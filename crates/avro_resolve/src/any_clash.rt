@@ -1,18 +1,18 @@
 // Whether any clash can be reached, by a search that keeps but two bits of a pair: no trail, and no order.
 ghost use Rattle.std.specs.Prelude.{◌≡◌, ◌<◌, ◌≤◌, ℕ, ◌==◌, ◌*◌, ◌^◌, true, Some, All, length, IfOk, IfSome, OnOk};
-ghost use Rattle.avro_resolve.specs.Agenda.{is_met, waits, IsOrderly};
+ghost use Rattle.avro_resolve.specs.Worklist.{is_met, waits, IsOrderly};
 ghost use Rattle.avro_resolve.specs.AnyClash.{HaveMet};
 ghost use Rattle.avro_resolve.specs.Numbered.{number_of as the_number, IsPairOf};
-ghost use Rattle.avro_resolve.specs.Sieve.{AreSieves};
+ghost use Rattle.avro_resolve.specs.FieldIndex.{AreFieldIndexes};
 ghost use Rattle.avro_resolve.specs.Trails.{AreCompatible};
 ghost use Rattle.avro_resolve.specs.Unions.{AreIndexes};
 ghost use Rattle.avro_schema.specs.Sound.{IsSound};
 
-use crate::agenda::Agenda;
+use crate::field_index::FieldIndexes;
 use crate::obligations::Pair;
 use crate::owed::look_up;
-use crate::sieve::Sieves;
 use crate::unions::Unions;
+use crate::worklist::Worklist;
 use avro_schema::{NodeId, Schema};
 use std::alloc::{AllocError, Global};
 
@@ -25,22 +25,22 @@ pub fn pairs_without_clash<'a>(
     r: &'a Schema,
     w: &'a Schema,
     unions: &mut Unions<'a>,
-    sieves: &mut Sieves<'a>,
+    field_indexes: &mut FieldIndexes<'a>,
 ) -> Result<Option<usize>, AllocError>
     requires reader { IsSound r.now.nodes }
     requires writer { IsSound w.now.nodes }
     requires unions { AreIndexes r.now.nodes unions.old.of }
-    requires sieves { AreSieves r.now.nodes sieves.old.of }
+    requires field_indexes { AreFieldIndexes r.now.nodes field_indexes.old.of }
     ensures compatible { IfOk result (λ found. IfSome found (λ pairs. AreCompatible r.now.nodes w.now.nodes)) }
     ensures pairs { IfOk result (λ found. IfSome found (λ pairs. pairs ≤ length r.now.nodes * length w.now.nodes)) }
     ensures unions { OnOk result (AreIndexes r.now.nodes unions.new.of) }
-    ensures sieves { OnOk result (AreSieves r.now.nodes sieves.new.of) }
+    ensures field_indexes { OnOk result (AreFieldIndexes r.now.nodes field_indexes.new.of) }
 {
     match r.node_count().checked_mul(w.node_count()) {
         Some(many) => {
-            let mut agenda = Agenda::none(alloc, many)?;
-            agenda.meet(0)?;
-            look_up_all(alloc, r, w, &mut agenda, unions, sieves)
+            let mut worklist = Worklist::none(alloc, many)?;
+            worklist.meet(0)?;
+            look_up_all(alloc, r, w, &mut worklist, unions, field_indexes)
         }
         None => Ok(None),
     }
@@ -52,50 +52,55 @@ fn look_up_all<'a>(
     alloc: Global,
     r: &'a Schema,
     w: &'a Schema,
-    agenda: &mut Agenda,
+    worklist: &mut Worklist,
     unions: &mut Unions<'a>,
-    sieves: &mut Sieves<'a>,
+    field_indexes: &mut FieldIndexes<'a>,
 ) -> Result<Option<usize>, AllocError>
     requires reader { IsSound r.now.nodes }
     requires writer { IsSound w.now.nodes }
     requires small { length r.now.nodes * length w.now.nodes < 2 ^ 64 }
-    requires room { length r.now.nodes * length w.now.nodes < 64 * length agenda.old.met.words.items }
-    requires orderly { IsOrderly agenda.old }
-    requires roots { (k : ℕ) → is_met agenda.old k ≡ (0 == k) }
-    requires roots_wait { (k : ℕ) → waits agenda.old k ≡ (0 == k) }
+    requires room { length r.now.nodes * length w.now.nodes < 64 * length worklist.old.met.words.items }
+    requires orderly { IsOrderly worklist.old }
+    requires roots { (k : ℕ) → is_met worklist.old k ≡ (0 == k) }
+    requires roots_wait { (k : ℕ) → waits worklist.old k ≡ (0 == k) }
     requires unions { AreIndexes r.now.nodes unions.old.of }
-    requires sieves { AreSieves r.now.nodes sieves.old.of }
+    requires field_indexes { AreFieldIndexes r.now.nodes field_indexes.old.of }
     ensures compatible { IfOk result (λ found. IfSome found (λ pairs. AreCompatible r.now.nodes w.now.nodes)) }
     ensures pairs { IfOk result (λ found. IfSome found (λ pairs. pairs ≤ length r.now.nodes * length w.now.nodes)) }
     ensures unions { OnOk result (AreIndexes r.now.nodes unions.new.of) }
-    ensures sieves { OnOk result (AreSieves r.now.nodes sieves.new.of) }
+    ensures field_indexes { OnOk result (AreFieldIndexes r.now.nodes field_indexes.new.of) }
 {
     let mut owed = Vec::new(alloc);
     let mut pairs = 0;
-    'pairs: while let Some(number) = agenda.next() {
+    'pairs: while let Some(number) = worklist.next() {
         let pair = pair_of(r, w, number);
-        let cause = look_up(r, w, pair, unions, sieves, &mut owed)?;
+        let cause = look_up(r, w, pair, unions, field_indexes, &mut owed)?;
         if cause.is_some() {
             return Ok(None);
         }
-        meet_all(agenda, r, w, owed.as_slice())?;
+        meet_all(worklist, r, w, owed.as_slice())?;
         pairs += 1;
     }
     Ok(Some(pairs))
 }
 
 /// Meets pairs, by their numbers.
-fn meet_all(agenda: &mut Agenda, r: &Schema, w: &Schema, owed: &[Pair]) -> Result<(), AllocError>
+fn meet_all(
+    worklist: &mut Worklist,
+    r: &Schema,
+    w: &Schema,
+    owed: &[Pair],
+) -> Result<(), AllocError>
     requires within { All (IsPairOf r.now.nodes w.now.nodes) owed.now }
     requires small { length r.now.nodes * length w.now.nodes < 2 ^ 64 }
-    requires room { length r.now.nodes * length w.now.nodes < 64 * length agenda.old.met.words.items }
-    requires orderly { IsOrderly agenda.old }
-    ensures met { OnOk result (HaveMet r.now.nodes w.now.nodes agenda.old owed.now agenda.new) }
-    ensures room { OnOk result (length agenda.new.met.words.items ≡ length agenda.old.met.words.items) }
-    ensures orderly { OnOk result (IsOrderly agenda.new) }
+    requires room { length r.now.nodes * length w.now.nodes < 64 * length worklist.old.met.words.items }
+    requires orderly { IsOrderly worklist.old }
+    ensures met { OnOk result (HaveMet r.now.nodes w.now.nodes worklist.old owed.now worklist.new) }
+    ensures room { OnOk result (length worklist.new.met.words.items ≡ length worklist.old.met.words.items) }
+    ensures orderly { OnOk result (IsOrderly worklist.new) }
 {
     for pair in owed {
-        agenda.meet(number_of(r, w, *pair))?;
+        worklist.meet(number_of(r, w, *pair))?;
     }
     Ok(())
 }

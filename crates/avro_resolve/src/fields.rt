@@ -3,9 +3,9 @@ ghost use Rattle.std.specs.Prelude.{◌≡◌, true, find, filter, filter_map, m
 ghost use Rattle.avro_schema.specs.Sound.{HaveDistinctNames};
 ghost use Rattle.avro_schema.specs.Defaults.{field_named as spec_field_named};
 ghost use Rattle.avro_resolve.specs.Pairing as spec;
-ghost use Rattle.avro_resolve.specs.Sieve.{AreFound};
+ghost use Rattle.avro_resolve.specs.FieldIndex.{AreFound};
 
-use crate::sieve::Found;
+use crate::field_index::FoundField;
 use avro_schema::Field;
 use base_text::Text;
 use named_list::NamedList;
@@ -132,7 +132,7 @@ pub fn paired_at<'a>(
 pub fn paired_among<'a>(
     reader: &'a [Field],
     writer: &[Field],
-    found: &[Found],
+    found: &[FoundField],
     number: usize,
 ) -> Option<&'a Field>
     requires distinct { HaveDistinctNames writer.now }

@@ -2,8 +2,8 @@
 //! the two are compatible, and where they aren't, a shortest trail to a clash.
 #![tactic(auto)]
 
-mod agenda;
 mod any_clash;
+mod field_index;
 mod fields;
 mod firsts;
 mod follow;
@@ -18,10 +18,10 @@ mod owed;
 mod resolving;
 mod search;
 mod seen;
-mod sieve;
 mod table;
 mod trail;
 mod unions;
+mod worklist;
 
 pub use fields::{first_lacking, partner};
 pub use laws::{obligations_are_compatible, schemas_have_one_verdict};

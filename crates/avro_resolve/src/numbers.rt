@@ -1,6 +1,6 @@
 // Sets of numbers, a bit for each number.
 ghost use Rattle.std.specs.Prelude.{◌≡◌, ◌≢◌, ◌<◌, ◌+◌, ◌*◌, ◌/◌, ℕ, ◌||◌, ◌==◌, false, length, get_or, slice_set, IfOk};
-ghost use Rattle.avro_resolve.specs.Agenda.{has_number};
+ghost use Rattle.avro_resolve.specs.Worklist.{has_number};
 
 use crate::grid::{has_bit, with_bit};
 use std::alloc::{AllocError, Global};

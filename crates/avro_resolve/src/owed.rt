@@ -3,14 +3,14 @@ ghost use Rattle.std.specs.Prelude.{◌≡◌, ◌<◌, [], None, length, slice_
 ghost use Rattle.std.specs.Result.{result_err, result_unwrap_or};
 ghost use Rattle.avro_resolve.specs.Owed.{pairs_of, pair_with};
 ghost use Rattle.avro_resolve.specs.Row.{clash_of_cause, outcome_of, HasDistinct};
-ghost use Rattle.avro_resolve.specs.Sieve.{AreFound, AreSieves, fields_in};
+ghost use Rattle.avro_resolve.specs.FieldIndex.{AreFound, AreFieldIndexes, fields_in};
 ghost use Rattle.avro_resolve.specs.Table as spec;
 ghost use Rattle.avro_resolve.specs.Unions.{AreIndexes};
 ghost use Rattle.avro_schema.specs.Sound.{HaveDistinctNames};
 
+use crate::field_index::{FieldIndexes, FoundField, found_fields};
 use crate::fields::{field_at, partner_near};
 use crate::obligations::Pair;
-use crate::sieve::{Found, Sieves, found_fields};
 use crate::table::{Cause, Row, are_matching_primitives, long_records, row_by_index};
 use crate::unions::Unions;
 use avro_schema::{Field, NodeId, Schema};
@@ -25,24 +25,24 @@ pub fn look_up<'a>(
     w: &'a Schema,
     pair: Pair,
     unions: &mut Unions<'a>,
-    sieves: &mut Sieves<'a>,
+    field_indexes: &mut FieldIndexes<'a>,
     owed: &mut Vec<Pair>,
 ) -> Result<Option<Cause<'a>>, AllocError>
     requires reader { pair.reader.index < length r.now.nodes }
     requires writer { pair.writer.index < length w.now.nodes }
     requires unions { AreIndexes r.now.nodes unions.old.of }
-    requires sieves { AreSieves r.now.nodes sieves.old.of }
+    requires field_indexes { AreFieldIndexes r.now.nodes field_indexes.old.of }
     ensures clash { IfOk result (λ cause. option_map clash_of_cause cause ≡ spec.clash_of r.now.nodes w.now.nodes pair) }
     ensures owed { IfOk result (λ cause. cause ≡ None → owed.new.items ≡ pairs_of (spec.obligations r.now.nodes w.now.nodes pair)) }
     ensures unions { OnOk result (AreIndexes r.now.nodes unions.new.of) }
-    ensures sieves { OnOk result (AreSieves r.now.nodes sieves.new.of) }
+    ensures field_indexes { OnOk result (AreFieldIndexes r.now.nodes field_indexes.new.of) }
 {
     owed.clear();
     if are_matching_primitives(r, w, pair) {
         return Ok(None);
     }
     if let Some((reader, writer)) = long_records(r, w, pair) {
-        return owe_long(r, pair.reader, reader, writer, sieves, owed);
+        return owe_long(r, pair.reader, reader, writer, field_indexes, owed);
     }
     unions.look_at(r, pair.reader)?;
     let row = row_by_index(r, w, pair, unions.of_union(r, pair.reader));
@@ -115,28 +115,33 @@ fn owe_fields<'a>(
     Ok(None)
 }
 
-/// The same for the reader's record of that id, by its sieve.
+/// The same for the reader's record of that id, by its field index.
 fn owe_long<'a>(
     r: &Schema,
     id: NodeId,
     reader: &'a NamedList<Field>,
     writer: &'a NamedList<Field>,
-    sieves: &mut Sieves<'a>,
+    field_indexes: &mut FieldIndexes<'a>,
     owed: &mut Vec<Pair>,
 ) -> Result<Option<Cause<'a>>, AllocError>
     requires fields { reader.now ≡ fields_in (slice_get r.now.nodes id.index) }
     requires writers { HaveDistinctNames writer.now }
     requires none { owed.old.items ≡ [] }
-    requires sieves { AreSieves r.now.nodes sieves.old.of }
+    requires field_indexes { AreFieldIndexes r.now.nodes field_indexes.old.of }
     ensures clash { IfOk result (λ cause. option_map clash_of_cause cause ≡ result_err (spec.to_fields reader.now writer.now)) }
     ensures owed { IfOk result (λ cause. cause ≡ None → owed.new.items ≡ pairs_of (result_unwrap_or (spec.to_fields reader.now writer.now) [])) }
-    ensures sieves { OnOk result (AreSieves r.now.nodes sieves.new.of) }
+    ensures field_indexes { OnOk result (AreFieldIndexes r.now.nodes field_indexes.new.of) }
 {
-    sieves.look_at(r, id, reader.as_slice())?;
-    match sieves.of_record(r, id) {
-        Some(sieve) if sieve.is_worth_while(writer.as_slice().len()) => {
+    field_indexes.look_at(r, id, reader.as_slice())?;
+    match field_indexes.of_record(r, id) {
+        Some(field_index) if field_index.is_worth_while(writer.as_slice().len()) => {
             let writer = writer.as_slice();
-            let found = found_fields(sieves.memory(), reader.as_slice(), sieve, writer)?;
+            let found = found_fields(
+                field_indexes.memory(),
+                reader.as_slice(),
+                field_index,
+                writer,
+            )?;
             owe_found(reader.as_slice(), writer, found.as_slice(), owed)
         }
         _ => owe_fields(reader.as_slice(), writer, owed),
@@ -147,7 +152,7 @@ fn owe_long<'a>(
 fn owe_found<'a>(
     reader: &'a [Field],
     writer: &[Field],
-    found: &[Found],
+    found: &[FoundField],
     owed: &mut Vec<Pair>,
 ) -> Result<Option<Cause<'a>>, AllocError>
     requires distinct { HaveDistinctNames writer.now }

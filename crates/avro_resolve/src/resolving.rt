@@ -2,13 +2,13 @@
 ghost use Rattle.std.specs.Prelude.{◌≡◌, ◌≤◌, ◌*◌, [], length, IfOk};
 ghost use Rattle.avro_schema.specs.Sound.{IsSound};
 ghost use Rattle.avro_resolve.specs.Search.{AgreesWith};
-ghost use Rattle.avro_resolve.specs.Sieve.{AreSieves};
+ghost use Rattle.avro_resolve.specs.FieldIndex.{AreFieldIndexes};
 ghost use Rattle.avro_resolve.specs.Unions.{AreIndexes};
 
 use crate::any_clash::pairs_without_clash;
+use crate::field_index::FieldIndexes;
 use crate::owed::look_up;
 use crate::search::Search;
-use crate::sieve::Sieves;
 use crate::trail::Trail;
 use crate::unions::Unions;
 use avro_schema::Schema;
@@ -75,8 +75,8 @@ pub fn resolve_counted(alloc: Global, r: &Schema, w: &Schema) -> Result<Counted,
 {
     let mut search = Search::none(alloc, r.node_count(), w.node_count())?;
     let mut unions = Unions::none(alloc);
-    let mut sieves = Sieves::none(alloc);
-    resolve_by(alloc, r, w, &mut search, &mut unions, &mut sieves)
+    let mut field_indexes = FieldIndexes::none(alloc);
+    resolve_by(alloc, r, w, &mut search, &mut unions, &mut field_indexes)
 }
 
 /// Resolves by a search that has reached no pair.
@@ -86,14 +86,14 @@ fn resolve_by<'a>(
     w: &'a Schema,
     search: &mut Search,
     unions: &mut Unions<'a>,
-    sieves: &mut Sieves<'a>,
+    field_indexes: &mut FieldIndexes<'a>,
 ) -> Result<Counted, AllocError>
     requires reader { IsSound r.now.nodes }
     requires writer { IsSound w.now.nodes }
     requires none { search.old.entries.items ≡ [] }
     requires agrees { AgreesWith search.old.seen [] }
     requires unions { AreIndexes r.now.nodes unions.old.of }
-    requires sieves { AreSieves r.now.nodes sieves.old.of }
+    requires field_indexes { AreFieldIndexes r.now.nodes field_indexes.old.of }
     ensures verdict { IfOk result (λ c. IsVerdict r.now.nodes w.now.nodes c.verdict) }
     ensures pairs { IfOk result (λ c. c.pairs ≤ length r.now.nodes * length w.now.nodes) }
 {
@@ -104,7 +104,7 @@ fn resolve_by<'a>(
     'heads: while head < search.entries.len() {
         if search.entries.len() > patience {
             patience = usize::MAX;
-            if let Some(pairs) = pairs_without_clash(alloc, r, w, unions, sieves)? {
+            if let Some(pairs) = pairs_without_clash(alloc, r, w, unions, field_indexes)? {
                 return Ok(Counted {
                     verdict: Verdict::Compatible,
                     pairs,
@@ -112,8 +112,8 @@ fn resolve_by<'a>(
             }
         }
         let pair = search.entries[head].pair;
-        if let Some(cause) = look_up(r, w, pair, unions, sieves, &mut owed)? {
-            let trail = search.trail_to(alloc, r, w, head, cause, unions, sieves)?;
+        if let Some(cause) = look_up(r, w, pair, unions, field_indexes, &mut owed)? {
+            let trail = search.trail_to(alloc, r, w, head, cause, unions, field_indexes)?;
             return Ok(Counted {
                 verdict: Verdict::Clash(trail),
                 pairs: head + 1,

@@ -2,17 +2,17 @@
 ghost use Rattle.std.specs.Prelude.{◌≡◌, ◌<◌, [], ◌∷◌, None, length, reverse, vec_len, slice_get, option_map, Some, IfOk, OnOk};
 ghost use Rattle.std.specs.Result.{result_unwrap_or};
 ghost use Rattle.avro_resolve.specs.declared.trail.Hop.TheVariants as hop;
-ghost use Rattle.avro_resolve.specs.Sieve.{AreFound, AreSieves, fields_in};
+ghost use Rattle.avro_resolve.specs.FieldIndex.{AreFound, AreFieldIndexes, fields_in};
 ghost use Rattle.avro_resolve.specs.Table as spec;
 ghost use Rattle.avro_resolve.specs.Row.{clash_of_cause};
 ghost use Rattle.avro_schema.specs.Sound.{HaveDistinctNames};
 ghost use Rattle.avro_resolve.specs.Trails.{roots};
 ghost use Rattle.avro_resolve.specs.Unions.{AreIndexes};
 
+use crate::field_index::{FieldIndexes, FoundField, found_fields};
 use crate::fields::{paired_among, paired_at};
 use crate::obligations::Pair;
-use crate::seen::Seen;
-use crate::sieve::{Found, Sieves, found_fields};
+use crate::seen::SeenPairs;
 use crate::table::{Cause, Row, long_records, row_by_index};
 use crate::trail::{Hop, Trail};
 use crate::unions::Unions;
@@ -26,23 +26,23 @@ const SOON_REACHED: usize = 64;
 
 /// Where a pair was reached from: the place of an earlier pair, and the number of its obligation.
 #[derive(Clone, Copy)]
-pub struct Step {
+pub struct Origin {
     pub place: usize,
     pub number: usize,
 }
 
 /// A pair that was reached, and from where; the roots from nowhere.
 #[derive(Clone, Copy)]
-pub struct Entry {
+pub struct ReachedPair {
     pub pair: Pair,
-    pub from: Option<Step>,
+    pub from: Option<Origin>,
 }
 
 /// The pairs that were reached, in the order in which they were, and the same as a set.
 #[derive(Drop)]
 pub struct Search {
-    pub entries: Vec<Entry>,
-    pub seen: Seen,
+    pub entries: Vec<ReachedPair>,
+    pub seen: SeenPairs,
 }
 
 impl Search {
@@ -54,7 +54,7 @@ impl Search {
         ensures agrees { IfOk result (λ s. AgreesWith s.seen []) }
     {
         let entries = Vec::with_capacity(alloc, readers.min(SOON_REACHED))?;
-        let seen = Seen::none(alloc, readers, writers)?;
+        let seen = SeenPairs::none(alloc, readers, writers)?;
         Ok(Search { entries, seen })
     }
 
@@ -69,12 +69,12 @@ impl Search {
             reader: r.root(),
             writer: w.root(),
         };
-        self.reach(Entry { pair, from: None })
+        self.reach(ReachedPair { pair, from: None })
     }
 
     /// Adds an entry, unless its pair was reached before.
     #[inline(always)]
-    fn reach(&mut self, entry: Entry) -> Result<(), AllocError>
+    fn reach(&mut self, entry: ReachedPair) -> Result<(), AllocError>
         requires { AgreesWith self.old.seen self.old.entries.items }
         ensures entries { OnOk result (self.new.entries.items ≡ with_entry self.old.entries.items entry) }
         ensures agrees { OnOk result (AgreesWith self.new.seen self.new.entries.items) }
@@ -106,17 +106,17 @@ impl Search {
         place: usize,
         cause: Cause<'a>,
         unions: &Unions<'a>,
-        sieves: &Sieves<'a>,
+        field_indexes: &FieldIndexes<'a>,
     ) -> Result<Trail, AllocError>
         requires within { place < vec_len self.now.entries }
         requires back { LeadsBack r.now.nodes w.now.nodes self.now.entries.items }
         requires unions { AreIndexes r.now.nodes unions.now.of }
-        requires sieves { AreSieves r.now.nodes sieves.now.of }
+        requires field_indexes { AreFieldIndexes r.now.nodes field_indexes.now.of }
         ensures hops { IfOk result (λ trail. IsWayBack r.now.nodes w.now.nodes self.now.entries.items place (reverse trail.hops)) }
         ensures kind { IfOk result (λ trail. trail.kind ≡ clash_of_cause cause.entry) }
     {
         let kind = cause.kind()?;
-        let hops = self.hops_to(alloc, r, w, place, unions, sieves)?;
+        let hops = self.hops_to(alloc, r, w, place, unions, field_indexes)?;
         Ok(Trail { hops, kind })
     }
 
@@ -128,19 +128,19 @@ impl Search {
         w: &'a Schema,
         place: usize,
         unions: &Unions<'a>,
-        sieves: &Sieves<'a>,
+        field_indexes: &FieldIndexes<'a>,
     ) -> Result<Listed<Hop>, AllocError>
         requires within { place < vec_len self.now.entries }
         requires back { LeadsBack r.now.nodes w.now.nodes self.now.entries.items }
         requires unions { AreIndexes r.now.nodes unions.now.of }
-        requires sieves { AreSieves r.now.nodes sieves.now.of }
+        requires field_indexes { AreFieldIndexes r.now.nodes field_indexes.now.of }
         ensures { IfOk result (λ hops. IsWayBack r.now.nodes w.now.nodes self.now.entries.items place (reverse hops)) }
     {
         let mut hops = Vec::new(alloc);
         let mut at = place;
         'back: while let Some(step) = self.entries[at].from {
             let parent = self.entries[step.place].pair;
-            hops.push(hop_of(r, w, parent, step.number, unions, sieves)?)?;
+            hops.push(hop_of(r, w, parent, step.number, unions, field_indexes)?)?;
             at = step.place;
         }
         hops.reverse();
@@ -149,12 +149,12 @@ impl Search {
 }
 
 /// The entry of a pair that the pair at a place owes.
-fn reached(pair: Pair, place: usize, number: usize) -> Entry
+fn reached(pair: Pair, place: usize, number: usize) -> ReachedPair
     ensures { result ≡ record { pair = pair; from = Some (record { place = place; number = number }) } }
 {
-    Entry {
+    ReachedPair {
         pair,
-        from: Some(Step { place, number }),
+        from: Some(Origin { place, number }),
     }
 }
 
@@ -165,40 +165,45 @@ fn hop_of<'a>(
     pair: Pair,
     number: usize,
     unions: &Unions<'a>,
-    sieves: &Sieves<'a>,
+    field_indexes: &FieldIndexes<'a>,
 ) -> Result<Hop, AllocError>
     requires reader { pair.reader.index < length r.now.nodes }
     requires writer { pair.writer.index < length w.now.nodes }
     requires numbered { number < length (spec.obligations r.now.nodes w.now.nodes pair) }
     requires unions { AreIndexes r.now.nodes unions.now.of }
-    requires sieves { AreSieves r.now.nodes sieves.now.of }
+    requires field_indexes { AreFieldIndexes r.now.nodes field_indexes.now.of }
     ensures { IfOk result (λ h. option_map (λ o. o.hop) (slice_get (spec.obligations r.now.nodes w.now.nodes pair) number) ≡ Some h) }
 {
     match long_records(r, w, pair) {
-        Some((reader, writer)) => long_hop(r, pair.reader, reader, writer, number, sieves),
+        Some((reader, writer)) => long_hop(r, pair.reader, reader, writer, number, field_indexes),
         None => short_hop(r, w, pair, number, unions),
     }
 }
 
-/// The hop into the field of that number, of the reader's record of that id, by its sieve.
+/// The hop into the field of that number, of the reader's record of that id, by its field index.
 fn long_hop<'a>(
     r: &Schema,
     id: NodeId,
     reader: &NamedList<Field>,
     writer: &'a NamedList<Field>,
     number: usize,
-    sieves: &Sieves<'a>,
+    field_indexes: &FieldIndexes<'a>,
 ) -> Result<Hop, AllocError>
     requires fields { reader.now ≡ fields_in (slice_get r.now.nodes id.index) }
     requires writers { HaveDistinctNames writer.now }
     requires numbered { number < length (result_unwrap_or (spec.to_fields reader.now writer.now) []) }
-    requires sieves { AreSieves r.now.nodes sieves.now.of }
+    requires field_indexes { AreFieldIndexes r.now.nodes field_indexes.now.of }
     ensures { IfOk result (λ h. option_map (λ o. o.hop) (slice_get (result_unwrap_or (spec.to_fields reader.now writer.now) []) number) ≡ Some h) }
 {
-    match sieves.of_record(r, id) {
-        Some(sieve) if sieve.is_worth_while(writer.as_slice().len()) => {
+    match field_indexes.of_record(r, id) {
+        Some(field_index) if field_index.is_worth_while(writer.as_slice().len()) => {
             let others = writer.as_slice();
-            let found = found_fields(sieves.memory(), reader.as_slice(), sieve, others)?;
+            let found = found_fields(
+                field_indexes.memory(),
+                reader.as_slice(),
+                field_index,
+                others,
+            )?;
             found_hop(reader.as_slice(), others, found.as_slice(), number)
         }
         _ => field_hop(reader.as_slice(), writer, number),
@@ -209,7 +214,7 @@ fn long_hop<'a>(
 fn found_hop(
     reader: &[Field],
     writer: &[Field],
-    found: &[Found],
+    found: &[FoundField],
     number: usize,
 ) -> Result<Hop, AllocError>
     requires numbered { number < length (result_unwrap_or (spec.to_fields reader.now writer.now) []) }

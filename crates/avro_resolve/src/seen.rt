@@ -10,7 +10,7 @@ use std::alloc::{AllocError, Global};
 /// The pairs that were seen: for each of the reader's types the first of the writer's that came
 /// with it, mostly the only one, and the further pairs.
 #[derive(Drop)]
-pub struct Seen {
+pub struct SeenPairs {
     pub first: Firsts,
     pub further: Option<Further>,
     memory: Global,
@@ -25,13 +25,13 @@ pub struct Further {
     pub others: Grid,
 }
 
-impl Seen {
+impl SeenPairs {
     /// No pair of schemas of so many types.
-    pub fn none(alloc: Global, readers: usize, writers: usize) -> Result<Seen, AllocError>
+    pub fn none(alloc: Global, readers: usize, writers: usize) -> Result<SeenPairs, AllocError>
         ensures none { IfOk result (λ s. (p : _) → is_seen s p ≡ false) }
         ensures fair { IfOk result IsFair }
     {
-        Ok(Seen {
+        Ok(SeenPairs {
             first: Firsts::none(alloc, readers)?,
             further: None,
             memory: alloc,

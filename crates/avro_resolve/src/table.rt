@@ -5,16 +5,16 @@ ghost use Rattle.avro_schema.specs.declared.node.Node.TheVariants as kind;
 ghost use Rattle.avro_schema.specs.declared.node.NodeId.{NodeId as SpecId};
 ghost use Rattle.avro_schema.specs.Names.{has_text};
 ghost use Rattle.avro_resolve.specs.Match as matching;
-ghost use Rattle.avro_resolve.specs.Sieve.{fields_in};
+ghost use Rattle.avro_resolve.specs.FieldIndex.{fields_in};
 ghost use Rattle.avro_resolve.specs.Table as spec;
 ghost use Rattle.avro_resolve.specs.Unions.{IsIndex, branches_in};
 ghost use Rattle.avro_schema.specs.Sound.{HaveDistinctNames, fields_of_node};
 ghost use Rattle.avro_resolve.specs.Row.{clash_of_cause, hop_into, outcome_of, HasDistinct};
 
+use crate::field_index::is_long;
 use crate::matching::matches;
 use crate::names::{names_match, primitives_match};
 use crate::obligations::Pair;
-use crate::sieve::is_long;
 use crate::trail::{ClashKind, Hop};
 use crate::unions::{Branches, first_by_index};
 use avro_schema::{Field, FullName, Node, NodeId, Primitive, Schema};

@@ -21,7 +21,7 @@ use Rattle.avro_schema.specs.declared.builder.Builder.{Builder}
 use Rattle.avro_schema.specs.declared.defined_names.Namespace.{Namespace}
 use Rattle.avro_schema.specs.declared.named_types.OpenType.{OpenType}
 use Rattle.avro_schema.specs.declared.symbols.Symbols.{Symbols}
-use Rattle.avro_schema.specs.declared.limits.TheConstants.{MOST_NODES}
+use Rattle.avro_schema.specs.declared.limits.TheConstants.{SCHEMA_NODES_LIMIT}
 use Rattle.serde_json.specs.Data.{Num, Data}
 use Rattle.std.proofs.Math.Seq.{set-append_seam}
 use Rattle.avro_schema.specs.Names.{joined, all_distinct, is_name}
@@ -186,7 +186,7 @@ leaf_met b d ds i y writes keeps met =
       names = subst (λ m. AreDefined m ds) (sym keeps) met.names;
       apart = met.apart;
       before = subst (λ n. Before n ds) (sym same) met.before;
-      small = subst (λ n. n ≤ MOST_NODES) (sym same) met.small;
+      small = subst (λ n. n ≤ SCHEMA_NODES_LIMIT) (sym same) met.small;
     }
 
 set-end : (xs : List Node) (x y : Node) → set (xs ++ x ∷ []) (length xs) y ≡ xs ++ y ∷ []

@@ -13,7 +13,7 @@ use Rattle.avro_schema.specs.DefinedNames.{node_named, number_of, node_in, node_
 use Rattle.avro_schema.specs.Building.{Before, nodes_of, opened, HasMet}
 use Rattle.avro_schema.proofs.NameLemmas.{IsDefinedToo, defined_more, none_named, named_too}
 use Rattle.avro_schema.proofs.Types.{found-at, opened-more}
-use Rattle.avro_schema.specs.declared.limits.TheConstants.{MOST_NODES}
+use Rattle.avro_schema.specs.declared.limits.TheConstants.{SCHEMA_NODES_LIMIT}
 
 pub same_result : {T E : Type 0} (r : Result T E) (m n : T) → m ≡ n → IfOk r (λ x. x ≡ m) → IfOk r (λ x. x ≡ n)
 same_result r m n e h = subst (λ y. IfOk r (λ x. x ≡ y)) e h
@@ -28,7 +28,7 @@ Before-push n (x ∷ ds) d b lt = (b.0, Before-push n ds d b.1 lt)
 
 -- one more node is open
 pub met_more : (a b : Builder) (ds : List Definition) (x : Node) → nodes_of b ≡ nodes_of a ++ x ∷ []
-    → b.names ≡ a.names → opened a < MOST_NODES → HasMet a ds → HasMet b ds
+    → b.names ≡ a.names → opened a < SCHEMA_NODES_LIMIT → HasMet a ds → HasMet b ds
 met_more a b ds x opens keeps lt met =
     let more : opened b ≡ opened a + 1 = opened-more x a b opens in
     record {
@@ -97,7 +97,7 @@ met_numbered a b ds stays names met =
       names = names met.names;
       apart = met.apart;
       before = subst (λ n. Before n ds) (sym same) met.before;
-      small = subst (λ n. n ≤ MOST_NODES) (sym same) met.small;
+      small = subst (λ n. n ≤ SCHEMA_NODES_LIMIT) (sym same) met.small;
     }
 
 some_node : (o : Option Definition) → is_some (option_map (λ d. d.node) o) ≡ is_some o

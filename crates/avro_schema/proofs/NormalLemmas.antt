@@ -10,7 +10,7 @@ use Rattle.avro_schema.specs.Form.{form}
 use Rattle.avro_schema.specs.Nodes.{nodes}
 use Rattle.avro_schema.specs.Faults.{unless}
 use Rattle.avro_schema.specs.Schema.{Meaning, data_faults, schema_of}
-use Rattle.avro_schema.specs.declared.limits.TheConstants.{LONGEST_TEXT}
+use Rattle.avro_schema.specs.declared.limits.TheConstants.{TEXT_LIMIT}
 
 -- what is meant where the text is short enough, or is not, and the JSON value that it writes
 abbrev meant_by : Bool → Option Data → Option Meaning
@@ -20,9 +20,9 @@ meant_by short o =
       | x ∷ xs ↦ None
     ]
 
-schema_of-read : (text : List ℕ) (d : Data) → read text ≡ Some d → length text ≤ LONGEST_TEXT → schema_of text ≡ meant_by true (Some d)
-schema_of-read text d e h = ap (λ b. meant_by b (read text)) (le-leb (length text) LONGEST_TEXT h) ∙ ap (meant_by true) e
+schema_of-read : (text : List ℕ) (d : Data) → read text ≡ Some d → length text ≤ TEXT_LIMIT → schema_of text ≡ meant_by true (Some d)
+schema_of-read text d e h = ap (λ b. meant_by b (read text)) (le-leb (length text) TEXT_LIMIT h) ∙ ap (meant_by true) e
 
 pub same_meaning : (normal text : List ℕ) (d : Data) → read normal ≡ Some d → read text ≡ Some d
-    → length normal ≤ LONGEST_TEXT → length text ≤ LONGEST_TEXT → schema_of normal ≡ schema_of text
+    → length normal ≤ TEXT_LIMIT → length text ≤ TEXT_LIMIT → schema_of normal ≡ schema_of text
 same_meaning normal text d e f p q = schema_of-read normal d e p ∙ sym (schema_of-read text d f q)

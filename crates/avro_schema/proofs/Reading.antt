@@ -19,7 +19,7 @@ use Rattle.avro_schema.specs.Schema.{IsRefusalBy}
 use Rattle.avro_schema.specs.DefinedNames.{AreDefined}
 use Rattle.avro_schema.specs.Building.{Before, nodes_of, opened, HasMet, Reads, too_many, faults_in}
 use Rattle.avro_schema.proofs.Later.{SameAlong, count-type}
-use Rattle.avro_schema.specs.declared.limits.TheConstants.{MOST_NODES}
+use Rattle.avro_schema.specs.declared.limits.TheConstants.{SCHEMA_NODES_LIMIT}
 
 -- ---- refusals
 
@@ -55,7 +55,7 @@ nat_le-down : (m k n : ℕ) → m ≤ k → nat_le k n ≡ true → nat_le m n �
 nat_le-down m k n h t = grind arith
 
 pub more_nodes : (m k : ℕ) (e : SchemaError) → m ≤ k → Contains (too_many m) e → Contains (too_many k) e
-more_nodes m k e h = unless-mono (nat_le m MOST_NODES) (nat_le k MOST_NODES) fault.TooManyNodes e (nat_le-down m k MOST_NODES h)
+more_nodes m k e h = unless-mono (nat_le m SCHEMA_NODES_LIMIT) (nat_le k SCHEMA_NODES_LIMIT) fault.TooManyNodes e (nat_le-down m k SCHEMA_NODES_LIMIT h)
 
 pub unless-nil : (b : Bool) (x : SchemaError) → b ≡ true → unless b x ≡ []
 unless-nil true x h = refl
@@ -136,7 +136,7 @@ closes es p ps x y a a1 b c opens r writes keeps is good =
         names = subst (λ m. AreDefined m es) (sym keeps) r.met.names;
         apart = r.met.apart;
         before = subst (λ n. Before n es) (sym same) r.met.before;
-        small = subst (λ n. n ≤ MOST_NODES) (sym same) r.met.small;
+        small = subst (λ n. n ≤ SCHEMA_NODES_LIMIT) (sym same) r.met.small;
       };
       none_stands = nil-append _ _ good r.none_stands;
     }

@@ -21,7 +21,7 @@ use Rattle.avro_schema.proofs.Later.{count-type}
 use Rattle.avro_schema.proofs.Numbered.{Numbered-type, IsNamedAt, named_at, Stands, numbered_stand}
 use Rattle.avro_schema.proofs.Leading.{IsDefinedAt, IsWell, AreWell, well_type, well_at}
 use Rattle.avro_schema.proofs.Reading.{nil-left, nil-right}
-use Rattle.avro_schema.specs.declared.limits.TheConstants.{LONGEST_TEXT, MOST_NODES}
+use Rattle.avro_schema.specs.declared.limits.TheConstants.{TEXT_LIMIT, SCHEMA_NODES_LIMIT}
 
 -- ---- one root
 
@@ -105,10 +105,10 @@ sound_data es (Some d) m e =
     let stood : (es ++ data_faults d ≡ []) × (Some means ≡ Some m) = none_stood (es ++ data_faults d) (Some means) m e in
     let same : means ≡ m = let is = stood.1 in cc in
     let none : form_faults (form d) ≡ [] =
-    nil-right (unless (not (has_float d)) fault.FloatNumber ++ unless (nat_le (count (form d)) MOST_NODES) fault.TooManyNodes) _
+    nil-right (unless (not (has_float d)) fault.FloatNumber ++ unless (nat_le (count (form d)) SCHEMA_NODES_LIMIT) fault.TooManyNodes) _
     (nil-right es (data_faults d) stood.0) in
     subst (λ (k : Meaning). IsSound k.nodes) same (sound_form (form d) none)
 
 -- the nodes of each schema that is read from a text
 pub sound_text : (text : List ℕ) (m : Meaning) → schema_of text ≡ Some m → IsSound m.nodes
-sound_text text m e = sound_data (unless (nat_le (length text) LONGEST_TEXT) fault.TooLong) (read text) m e
+sound_text text m e = sound_data (unless (nat_le (length text) TEXT_LIMIT) fault.TooLong) (read text) m e

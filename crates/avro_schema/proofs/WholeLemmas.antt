@@ -17,7 +17,7 @@ use Rattle.avro_schema.specs.Faults.{unless, form_faults}
 use Rattle.avro_schema.specs.Schema.{IsRefusalBy, data_faults, faults, schema_of}
 use Rattle.avro_schema.specs.Building.{nodes_of, opened, HasMet, Reads, ReadsType, RefusesType, type_faults}
 use Rattle.avro_schema.proofs.Reading.{left, right, alone, unless-nil, nil-append, opened-type}
-use Rattle.avro_schema.specs.declared.limits.TheConstants.{LONGEST_TEXT, MOST_NODES}
+use Rattle.avro_schema.specs.declared.limits.TheConstants.{TEXT_LIMIT, SCHEMA_NODES_LIMIT}
 
 pub not_json : (text : List ℕ) → read text ≡ None → IsRefusalBy (faults text) fault.NotJson
 not_json text e =
@@ -38,12 +38,12 @@ refused_whole text d a e is none met refused =
     let r : IsRefusalBy (type_faults [] [] (form d) 0) e =
     subst (λ n. IsRefusalBy (type_faults [] [] (form d) n) e) zero_nodes (refused [] met) in
     in_data text d e is (λ n.
-    elim (Contains-append_cases (unless (nat_le (0 + count (form d)) MOST_NODES) fault.TooManyNodes) (form_faults (form d)) e (r n)) [
+    elim (Contains-append_cases (unless (nat_le (0 + count (form d)) SCHEMA_NODES_LIMIT) fault.TooManyNodes) (form_faults (form d)) e (r n)) [
       | inl k ↦ Contains-append_left
-          (unless (not (has_float d)) fault.FloatNumber ++ unless (nat_le (count (form d)) MOST_NODES) fault.TooManyNodes)
+          (unless (not (has_float d)) fault.FloatNumber ++ unless (nat_le (count (form d)) SCHEMA_NODES_LIMIT) fault.TooManyNodes)
           (form_faults (form d)) e
           (Contains-append_right (unless (not (has_float d)) fault.FloatNumber) _ e
-          (subst (λ m. Contains (unless (nat_le m MOST_NODES) fault.TooManyNodes) e) (zero-add (count (form d))) k))
+          (subst (λ m. Contains (unless (nat_le m SCHEMA_NODES_LIMIT) fault.TooManyNodes) e) (zero-add (count (form d))) k))
       | inr k ↦ Contains-append_right _ (form_faults (form d)) e k
     ])
 
@@ -58,14 +58,14 @@ given [] o e = refl
 given (y ∷ es) o e = cc
 
 -- the whole type was read
-pub read_whole : (text : List ℕ) (d : Data) (a b : Builder) (i : NodeId) (normal : List ℕ) → nat_le (length text) LONGEST_TEXT ≡ true
+pub read_whole : (text : List ℕ) (d : Data) (a b : Builder) (i : NodeId) (normal : List ℕ) → nat_le (length text) TEXT_LIMIT ≡ true
     → read text ≡ Some d → has_float d ≡ false → nodes_of a ≡ [] → HasMet a [] → ReadsType a b [] (form d) i → normal ≡ compact_text d
     → schema_of text ≡ Some (record { nodes = nodes_of b; normal_text = normal })
 read_whole text d a b i normal short is whole none met reads written =
     let r : Reads [] (places [] 0 (form d)) a b = at_zero (form d) a b none (reads.1 [] met).0 in
     let made : nodes_of b ≡ nodes (form d) = r.nodes ∙ ap (λ l. l ++ nodes (form d)) none in
     let number : opened b ≡ opened a + count (form d) = opened-type [] [] 0 (form d) a b r in
-    let few : count (form d) ≤ MOST_NODES = omega (arith, r.met.small) in
+    let few : count (form d) ≤ SCHEMA_NODES_LIMIT = omega (arith, r.met.small) in
     let none_in_data : data_faults d ≡ [] = nil-append _ _ (
     nil-append _ _ (unless-nil _ fault.FloatNumber (ap not whole)) (unless-nil _ fault.TooManyNodes (le-true _ _ few))) r.none_stands in
     let none_stands : faults text ≡ [] =

@@ -29,7 +29,7 @@ use Rattle.avro_schema.specs.Faults.{field_list_faults, faults_at, field_heading
 use Rattle.avro_schema.specs.Faults.{if_written, are_written}
 use Rattle.avro_schema.specs.Schema.{IsRefusalBy}
 use Rattle.avro_schema.specs.DefinedNames.{node_named, AreDefined, IsNumbered, KeepsNumbers}
-use Rattle.avro_schema.specs.declared.limits.TheConstants.{MOST_NODES}
+use Rattle.avro_schema.specs.declared.limits.TheConstants.{SCHEMA_NODES_LIMIT}
 
 -- ---- names
 
@@ -68,7 +68,7 @@ pub record HasMet (r : Builder) (ds : List Definition) : Type 0 where
   -- no two names are of one node
   pub apart : (s t : List ℕ) (i : ℕ) → node_named ds s ≡ Some i → node_named ds t ≡ Some i → s ≡ t
   pub before : Before (opened r) ds
-  pub small : opened r ≤ MOST_NODES
+  pub small : opened r ≤ SCHEMA_NODES_LIMIT
 
 -- from old to new the types at these places were read, and none of them is at fault
 pub record Reads (ds : List Definition) (ps : List Place) (old new : Builder) : Type 0 where
@@ -77,7 +77,7 @@ pub record Reads (ds : List Definition) (ps : List Place) (old new : Builder) : 
   pub none_stands : flat_map (faults_at (ds ++ definitions ps)) ps ≡ []
 
 abbrev pub too_many : ℕ → List SchemaError
-too_many n = unless (nat_le n MOST_NODES) fault.TooManyNodes
+too_many n = unless (nat_le n SCHEMA_NODES_LIMIT) fault.TooManyNodes
 
 -- the faults of the types at these places, with n nodes after them
 abbrev pub faults_in : List Definition → List Place → ℕ → List SchemaError

@@ -16,7 +16,7 @@ use Rattle.avro_schema.specs.Names.{is_name, is_full_name, is_type_name, full_te
 use Rattle.avro_schema.specs.Form.{Heading, FieldHeading, Form, plain, by_name, record_of, enum_of, array_of, map_of, union_of}
 use Rattle.avro_schema.specs.Form.{fixed_of, ill_formed, Forms, no_forms, and_form, Fields, no_fields, ill_fields, and_field}
 use Rattle.avro_schema.specs.Places.{count, own_namespace, Place, places, Definition, definitions, defined, defined_by, definition_used}
-use Rattle.avro_schema.specs.declared.limits.TheConstants.{GREATEST_SIZE}
+use Rattle.avro_schema.specs.declared.limits.TheConstants.{SIZE_LIMIT}
 
 abbrev pub unless : Bool → SchemaError → List SchemaError
 unless holds e = if holds then [] else e ∷ []
@@ -62,7 +62,7 @@ symbols_faults ss d = unless (is_some ss) fault.BadForm ++ unless (if_written (f
 -- a size is a whole number up to the limit
 abbrev pub size_faults : Option Num → List SchemaError
 size_faults n = unless (is_some n) fault.BadForm
-    ++ unless (if_written (λ m. option_map_or (λ k. nat_le k GREATEST_SIZE) (as_u64 m) false) n) fault.BadFixed
+    ++ unless (if_written (λ m. option_map_or (λ k. nat_le k SIZE_LIMIT) (as_u64 m) false) n) fault.BadFixed
 
 -- ---- records (Avro 1.11, "Records")
 

@@ -20,7 +20,7 @@ use Rattle.avro_schema.specs.Form.{form}
 use Rattle.avro_schema.specs.Places.{count}
 use Rattle.avro_schema.specs.Nodes.{nodes}
 use Rattle.avro_schema.specs.Faults.{unless, form_faults}
-use Rattle.avro_schema.specs.declared.limits.TheConstants.{LONGEST_TEXT, MOST_NODES}
+use Rattle.avro_schema.specs.declared.limits.TheConstants.{TEXT_LIMIT, SCHEMA_NODES_LIMIT}
 
 abbrev pub is_memory : SchemaError → Bool
 is_memory fault.OutOfMemory = true
@@ -52,11 +52,11 @@ pub record Meaning : Type 0 where
 
 abbrev pub data_faults : Data → List SchemaError
 data_faults d = unless (not (has_float d)) fault.FloatNumber
-    ++ unless (nat_le (count (form d)) MOST_NODES) fault.TooManyNodes ++ form_faults (form d)
+    ++ unless (nat_le (count (form d)) SCHEMA_NODES_LIMIT) fault.TooManyNodes ++ form_faults (form d)
 
 -- the faults of a text
 abbrev pub faults : List ℕ → List SchemaError
-faults text = unless (nat_le (length text) LONGEST_TEXT) fault.TooLong ++ option_map_or data_faults (read text) (fault.NotJson ∷ [])
+faults text = unless (nat_le (length text) TEXT_LIMIT) fault.TooLong ++ option_map_or data_faults (read text) (fault.NotJson ∷ [])
 
 -- what a text means, where no fault stands in it
 abbrev pub schema_of : List ℕ → Option Meaning

@@ -2,7 +2,7 @@
 ghost use Rattle.std.specs.Prelude.{◌≡◌, ◌<◌, ◌+◌, set, List, [], ◌∷◌, ◌++◌, IfOk, IfErr, ℕ, false, Some, None, option_map, is_none};
 
 use crate::defined_names::{DefinedNames, Namespace};
-use crate::limits::MOST_NODES;
+use crate::limits::SCHEMA_NODES_LIMIT;
 use crate::{Node, Primitive, SchemaError};
 use base_text::Text;
 use std::alloc::{AllocError, Global};
@@ -44,7 +44,7 @@ impl Builder {
         ensures err { IfErr result (IsRefusalBy (too_many (opened self.old + 1))) }
     {
         let index = self.nodes.len();
-        if index >= MOST_NODES {
+        if index >= SCHEMA_NODES_LIMIT {
             drop(node);
             return Err(SchemaError::TooManyNodes);
         }

@@ -22,13 +22,13 @@ pub enum SchemaError {
     BadUnion,
     /// An enum's symbols are not distinct names, or its default is not one of them.
     BadEnum,
-    /// A fixed type's size is no whole number from 0 to `GREATEST_SIZE`.
+    /// A fixed type's size is no whole number from 0 to `SIZE_LIMIT`.
     BadFixed,
     /// A member is missing or of the wrong form, or a record's fields are no distinct names.
     BadForm,
-    /// More than `MOST_NODES` types are written out.
+    /// More than `SCHEMA_NODES_LIMIT` types are written out.
     TooManyNodes,
-    /// The text is longer than `LONGEST_TEXT`.
+    /// The text is longer than `TEXT_LIMIT`.
     TooLong,
     OutOfMemory,
 }

@@ -26,6 +26,6 @@ mod word;
 pub use default_value::DefaultValue;
 pub use error::{BadDefault, SchemaError};
 pub use laws::{normal_texts_read_back, schemas_are_sound};
-pub use limits::{GREATEST_SIZE, LONGEST_TEXT, MOST_NODES, limits_are_as_written};
+pub use limits::{SCHEMA_NODES_LIMIT, SIZE_LIMIT, TEXT_LIMIT, schema_limits_are_as_written};
 pub use node::{Field, FullName, Node, NodeId, Primitive};
 pub use schema::Schema;

@@ -5,7 +5,7 @@ ghost use Rattle.json_tree.specs.View.{view};
 
 use crate::builder::Builder;
 use crate::laws::schemas_are_sound;
-use crate::limits::LONGEST_TEXT;
+use crate::limits::TEXT_LIMIT;
 use crate::members::has_float;
 use crate::normal::normal_of;
 use crate::required::required_fields;
@@ -48,7 +48,7 @@ impl Schema {
     ghost use Rattle.avro_schema.specs.Sound.{IsSound, parts_of_node};
     ghost use Rattle.avro_schema.specs.Required.{required_of};
 
-    /// Reads a schema's text: JSON of at most `LONGEST_TEXT` bytes.
+    /// Reads a schema's text: JSON of at most `TEXT_LIMIT` bytes.
     ///
     /// A name is looked up among the types that open before it: one with a dot as it is written,
     /// another in the namespace that applies, else in the null namespace. Defaults aren't checked.
@@ -57,7 +57,7 @@ impl Schema {
         ensures ok { IfOk result (λ s. schema_of text.now ≡ Some s) }
         ensures err { IfErr result (IsRefusalBy (faults text.now)) }
     {
-        if text.len() > LONGEST_TEXT {
+        if text.len() > TEXT_LIMIT {
             return Err(SchemaError::TooLong);
         }
         let mut scratch = Scratch::new(alloc);
@@ -68,7 +68,7 @@ impl Schema {
     /// The schema that a JSON value writes, which is that of `text`.
     fn of_json(alloc: Global, text: &str, value: &Json<'_>) -> Result<Schema, SchemaError>
         requires of_text { json_of text.now ≡ Some (view value.now) }
-        requires within { length text.now ≤ LONGEST_TEXT }
+        requires within { length text.now ≤ TEXT_LIMIT }
         ensures ok { IfOk result (λ s. schema_of text.now ≡ Some s) }
         ensures err { IfErr result (IsRefusalBy (faults text.now)) }
     {

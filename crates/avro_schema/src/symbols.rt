@@ -12,7 +12,7 @@ ghost use Rattle.avro_schema.specs.Building.{HasSymbols, HasSize, number_at};
 
 use crate::SchemaError;
 use crate::fields::are_names;
-use crate::limits::GREATEST_SIZE;
+use crate::limits::SIZE_LIMIT;
 use crate::members::strings_at;
 use base_text::Text;
 use json_tree::Json;
@@ -111,7 +111,7 @@ pub(crate) fn read_size(value: &Json<'_>) -> Result<u32, SchemaError>
         return Err(SchemaError::BadForm);
     };
     match number.as_u64() {
-        Some(size) if size <= u64::from(GREATEST_SIZE) => Ok(size as u32),
+        Some(size) if size <= u64::from(SIZE_LIMIT) => Ok(size as u32),
         _ => Err(SchemaError::BadFixed),
     }
 }

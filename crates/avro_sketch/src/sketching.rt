@@ -12,7 +12,7 @@ ghost use Rattle.avro_readings.specs.Reads.{reads};
 ghost use Rattle.avro_sketch.specs.Sketch.{HaveOneSketch, IsSketch, reading_line, sample_lines, value_lines, verdict_line};
 
 use crate::laws::schemas_have_one_sketch;
-use avro_data::{Data, Pieces, SampleError, sample};
+use avro_data::{Data, PiecedText, SampleError, sample};
 use avro_readings::{ReadError, read_data};
 use avro_resolve::{Trail, Verdict, resolve};
 use avro_schema::Schema;
@@ -29,19 +29,24 @@ use std::alloc::{AllocError, Global};
 /// A clash says that a value of the writer's may be unreadable; the sample may have a reading all the
 /// same. Whether defaults are valid doesn't count. The names in the text are shared with the schemas,
 /// so it may be longer than what memory holds. The only error is out of memory.
-pub fn sketch_text(alloc: Global, r: &Schema, w: &Schema) -> Result<Pieces, AllocError>
+pub fn sketch_text(alloc: Global, r: &Schema, w: &Schema) -> Result<PiecedText, AllocError>
     ensures sketch { IfOk result (λ text. IsSketch r.now.nodes w.now.nodes text) }
     ensures one_sketch { HaveOneSketch r.now.nodes w.now.nodes }
 {
     schemas_have_one_sketch();
-    let mut out = Pieces::new(alloc);
+    let mut out = PiecedText::new(alloc);
     push_verdict(alloc, r, w, &mut out)?;
     push_sample(alloc, r, w, &mut out)?;
     Ok(out)
 }
 
 /// Appends the line of the verdict.
-fn push_verdict(alloc: Global, r: &Schema, w: &Schema, out: &mut Pieces) -> Result<(), AllocError>
+fn push_verdict(
+    alloc: Global,
+    r: &Schema,
+    w: &Schema,
+    out: &mut PiecedText,
+) -> Result<(), AllocError>
     ensures { OnOk result ((verdict : Verdict) × IsVerdict r.now.nodes w.now.nodes verdict
         × (out.new ≡ out.old ++ verdict_line verdict)) }
 {
@@ -52,7 +57,7 @@ fn push_verdict(alloc: Global, r: &Schema, w: &Schema, out: &mut Pieces) -> Resu
 }
 
 /// Appends the line of a clash.
-fn push_clash(alloc: Global, trail: &Trail, out: &mut Pieces) -> Result<(), AllocError>
+fn push_clash(alloc: Global, trail: &Trail, out: &mut PiecedText) -> Result<(), AllocError>
     ensures { OnOk result (out.new ≡ out.old ++ verdict_line (Verdict.Clash trail.now)) }
 {
     let line = format!(in alloc; "clash at {trail}: {}\n", trail.kind)?;
@@ -61,7 +66,12 @@ fn push_clash(alloc: Global, trail: &Trail, out: &mut Pieces) -> Result<(), Allo
 }
 
 /// Appends what is said of the writer's sample.
-fn push_sample(alloc: Global, r: &Schema, w: &Schema, out: &mut Pieces) -> Result<(), AllocError>
+fn push_sample(
+    alloc: Global,
+    r: &Schema,
+    w: &Schema,
+    out: &mut PiecedText,
+) -> Result<(), AllocError>
     ensures { OnOk result ((found : Option Value) × IsSample w.now.nodes root found
         × (out.new ≡ out.old ++ sample_lines r.now.nodes w.now.nodes found)) }
 {
@@ -79,7 +89,7 @@ fn push_value(
     r: &Schema,
     w: &Schema,
     value: Data,
-    out: &mut Pieces,
+    out: &mut PiecedText,
 ) -> Result<(), AllocError>
     requires { fits w.now.nodes root (view value) ≡ true }
     ensures { OnOk result (out.new ≡ out.old ++ value_lines r.now.nodes w.now.nodes (view value)) }
@@ -96,7 +106,7 @@ fn push_reading(
     r: &Schema,
     w: &Schema,
     value: Data,
-    out: &mut Pieces,
+    out: &mut PiecedText,
 ) -> Result<(), AllocError>
     requires { fits w.now.nodes root (view value) ≡ true }
     ensures { OnOk result (out.new ≡ out.old ++ reading_line (reads r.now.nodes w.now.nodes roots (view value))) }
@@ -111,7 +121,7 @@ fn push_reading(
 }
 
 /// Appends a reading's line.
-fn push_read(read: &Data, out: &mut Pieces) -> Result<(), AllocError>
+fn push_read(read: &Data, out: &mut PiecedText) -> Result<(), AllocError>
     requires { is_too_large (view read.now) ≡ false }
     ensures { OnOk result (out.new ≡ out.old ++ reading_line (Some (view read.now))) }
 {

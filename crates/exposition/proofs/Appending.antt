@@ -3,7 +3,7 @@ use Rattle.std.proofs.Common.{◌≡◌, ◌<◌, ◌+◌, ◌^◌, ◌++◌, �
 use Rattle.std.specs.Prelude.{All, IsTrue, codes, flat_map, sum}
 use Rattle.std.proofs.lemmas.Grind.{flat_map-append}
 use Rattle.std.proofs.lemmas.List.{append_assoc, append-nil, map_more, take_more}
-use Rattle.exposition.specs.declared.label.Label.{Label}
+use Rattle.exposition.specs.declared.label.LabelPair.{LabelPair}
 use Rattle.exposition.specs.Lawful.{IsSeries, IsShort, have_names}
 use Rattle.exposition.specs.Lines.{Line, line_text, lines_text}
 use Rattle.exposition.specs.Measured.{Measured, rises}
@@ -37,7 +37,7 @@ joined_more f xs i x old now after here is before more =
     ∙ ap (λ t. old ++ t) (sym (ap lines_text whole
     ∙ flat_map-append (λ line. line_text line ++ codes "\n") (flat_map f (take i xs)) (f x)))
 
-pub series_is : (s : Measured) (labels : List Label) (bounds counts : List ℕ) (all total : ℕ) → labels ≡ s.labels → bounds ≡ s.bounds
+pub series_is : (s : Measured) (labels : List LabelPair) (bounds counts : List ℕ) (all total : ℕ) → labels ≡ s.labels → bounds ≡ s.bounds
     → counts ≡ s.counts → all ≡ s.sum → IsTrue (rises s.bounds) → length s.counts ≡ length s.bounds + 1 → All IsShort bounds
     → total ≡ sum counts → total < 2 ^ 128 → IsTrue (have_names labels) × IsShort all → IsSeries s
 series_is s labels bounds counts all total of_labels of_bounds of_counts of_sum rising counted short is_total below names =

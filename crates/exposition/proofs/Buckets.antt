@@ -1,13 +1,13 @@
 -- The buckets of a histogram rise.
 use Rattle.std.proofs.Common.{◌≡◌, ◌+◌, ◌∷◌, [], ℕ, List, subst, arith, zero-add}
 use Rattle.std.specs.Prelude.{sum}
-use Rattle.exposition.specs.declared.label.Label.{Label}
+use Rattle.exposition.specs.declared.label.LabelPair.{LabelPair}
 use Rattle.exposition.specs.Numbers.{whole}
 use Rattle.exposition.specs.Page.{bucket_lines}
 use Rattle.exposition.specs.Rising.{BucketsRise, RisesBetween}
 use Rattle.exposition.proofs.PagesRead.{sum-cons}
 
-rises_between : (name : List ℕ) (ls : List Label) (below : ℕ) (bs cs : List ℕ)
+rises_between : (name : List ℕ) (ls : List LabelPair) (below : ℕ) (bs cs : List ℕ)
     → RisesBetween (whole below) (whole (below + sum cs)) (bucket_lines name ls below bs cs)
 rises_between name ls below [] cs = omega arith
 rises_between name ls below (b ∷ bs) [] = omega arith

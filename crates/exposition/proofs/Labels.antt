@@ -2,7 +2,7 @@
 use Rattle.std.proofs.Common.{◌≡◌, ◌++◌, ◌∷◌, [], ℕ, List, true, refl, sym, ap, ◌∙◌}
 use Rattle.std.specs.Prelude.{codes, flat_map}
 use Rattle.std.proofs.lemmas.List.{append_assoc, append-nil}
-use Rattle.exposition.specs.declared.label.Label.{Label}
+use Rattle.exposition.specs.declared.label.LabelPair.{LabelPair}
 use Rattle.exposition.specs.Escapes.{escaped}
 use Rattle.exposition.specs.Lines.{label_text, labels_text}
 use Rattle.exposition.specs.Page.{bound_label}
@@ -17,7 +17,7 @@ more_last f (m ∷ ms) l rest =
     ∙ sym (append_assoc (f m ++ (44 ∷ [])) (flat_map (λ x. f x ++ (44 ∷ [])) ms) (f l ++ rest)
     ∙ append_assoc (f m) (44 ∷ []) (flat_map (λ x. f x ++ (44 ∷ [])) ms ++ (f l ++ rest))))
 
-labels_last : (ms : List Label) (l : Label)
+labels_last : (ms : List LabelPair) (l : LabelPair)
     → labels_text (ms ++ (l ∷ [])) ≡ codes "{" ++ (flat_map (λ x. label_text x ++ (44 ∷ [])) ms ++ (label_text l ++ codes "}"))
 labels_last [] l = refl
 labels_last (m ∷ ms) l =
@@ -25,7 +25,7 @@ labels_last (m ∷ ms) l =
     ∙ sym (append_assoc (label_text m ++ (44 ∷ [])) (flat_map (λ x. label_text x ++ (44 ∷ [])) ms) (label_text l ++ codes "}")
     ∙ append_assoc (label_text m) (44 ∷ []) (flat_map (λ x. label_text x ++ (44 ∷ [])) ms ++ (label_text l ++ codes "}"))))
 
-pub bucket_labels_text : (ms : List Label) (bound : List ℕ)
+pub bucket_labels_text : (ms : List LabelPair) (bound : List ℕ)
     → labels_text (ms ++ (bound_label bound ∷ []))
     ≡ codes "{" ++ (flat_map (λ x. label_text x ++ (44 ∷ [])) ms ++ (codes "le=\"" ++ (escaped true bound ++ codes "\"}")))
 bucket_labels_text ms bound =

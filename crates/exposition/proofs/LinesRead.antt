@@ -4,7 +4,7 @@ use Rattle.std.specs.Prelude.{◌==◌, All, IsTrue, codes}
 use Rattle.std.specs.List.{list_all}
 use Rattle.std.proofs.lemmas.List.{append_assoc, append_cancel_left}
 use Rattle.std.proofs.lemmas.List.Elements.{All-head, All-tail}
-use Rattle.exposition.specs.declared.label.Label.{Label}
+use Rattle.exposition.specs.declared.label.LabelPair.{LabelPair}
 use Rattle.exposition.specs.Escapes.{escaped}
 use Rattle.exposition.specs.Lawful.{IsLine, have_words}
 use Rattle.exposition.specs.Lines.{Kind, counter, gauge, histogram, kind_text, Line, help_of, type_of, sample_of, label_text, labels_text, line_text, lines_text}
@@ -48,13 +48,13 @@ name_read : (m n x y : List ℕ) → IsTrue (is_name m) → IsTrue (is_name n) �
     → (m ≡ n) × (x ≡ y)
 name_read m n x y p q sx sy e = split_same in_name m n x y (name_passes m p) (name_passes n q) sx sy e
 
-label_parts : (l : Label) (x : List ℕ)
+label_parts : (l : LabelPair) (x : List ℕ)
     → label_text l ++ x ≡ l.name ++ (61 ∷ 34 ∷ (escaped true l.value ++ (34 ∷ x)))
 label_parts l x =
     append_assoc l.name (codes "=\"" ++ (escaped true l.value ++ codes "\"")) x
     ∙ ap (λ t. l.name ++ (61 ∷ 34 ∷ t)) (append_assoc (escaped true l.value) (codes "\"") x)
 
-label_read : (l m : Label) (x y : List ℕ) → IsTrue (is_word l.name) → IsTrue (is_word m.name) → label_text l ++ x ≡ label_text m ++ y
+label_read : (l m : LabelPair) (x y : List ℕ) → IsTrue (is_word l.name) → IsTrue (is_word m.name) → label_text l ++ x ≡ label_text m ++ y
     → (l ≡ m) × (x ≡ y)
 label_read l m x y p q e =
     let (names, rest) = split_same in_word l.name m.name _ _ (word_passes l.name p) (word_passes m.name q) refl refl
@@ -62,10 +62,10 @@ label_read l m x y p q e =
     let (values, more) = escaped_same true l.value m.value x y (cons_same (cons_same rest).1).1 in
     (same_label l m names values, more)
   where
-    same_label : (l m : Label) → l.name ≡ m.name → l.value ≡ m.value → l ≡ m
+    same_label : (l m : LabelPair) → l.name ≡ m.name → l.value ≡ m.value → l ≡ m
     same_label l m names values = λ i. record { name = names i; value = values i }
 
-labels_read : (ls ms : List Label) (x y : List ℕ) → IsTrue (have_words ls) → IsTrue (have_words ms)
+labels_read : (ls ms : List LabelPair) (x y : List ℕ) → IsTrue (have_words ls) → IsTrue (have_words ms)
     → labels_text ls ++ (32 ∷ x) ≡ labels_text ms ++ (32 ∷ y) → (ls ≡ ms) × (x ≡ y)
 labels_read [] [] x y p q e = (refl, (cons_same e).1)
 labels_read [] (m ∷ ms) x y p q e = absurd (differ 32 123 refl (cons_same e).0)
@@ -74,7 +74,7 @@ labels_read (l ∷ ls) (m ∷ ms) x y p q e =
     braces_read label_text (λ k. is_word k.name) label_read l m ls ms x y p q (cons_same e).1
 
 -- what stands behind a sample's name doesn't go on with it
-labels_stop : (ls : List Label) (x : List ℕ) → Stops in_name (labels_text ls ++ (32 ∷ x))
+labels_stop : (ls : List LabelPair) (x : List ℕ) → Stops in_name (labels_text ls ++ (32 ∷ x))
 labels_stop [] x = refl
 labels_stop (l ∷ ls) x = refl
 
@@ -105,7 +105,7 @@ type_parts : (name : List ℕ) (kind : Kind) (x : List ℕ)
     → line_text (type_of name kind) ++ (10 ∷ x) ≡ codes "# TYPE " ++ (name ++ (32 ∷ (kind_text kind ++ (10 ∷ x))))
 type_parts name kind x = ap (λ t. codes "# TYPE " ++ t) (append_assoc name (codes " " ++ kind_text kind) (10 ∷ x))
 
-sample_parts : (name : List ℕ) (labels : List Label) (number : ℕ) (x : List ℕ)
+sample_parts : (name : List ℕ) (labels : List LabelPair) (number : ℕ) (x : List ℕ)
     → line_text (sample_of name labels number) ++ (10 ∷ x) ≡ name ++ (labels_text labels ++ (32 ∷ (number_text number ++ (10 ∷ x))))
 sample_parts name labels number x =
     append_assoc name (labels_text labels ++ (codes " " ++ number_text number)) (10 ∷ x)

@@ -4,7 +4,7 @@ use Rattle.std.specs.Prelude.{◌==◌, All, bytes_eq, codes, flat_map, sum}
 use Rattle.std.specs.List.{list_all, AllByRecursion}
 use Rattle.std.proofs.lemmas.List.Elements.{All-from_recursion, recursion_from_All}
 use Rattle.std.proofs.lemmas.List.Folds.{list_all-append}
-use Rattle.exposition.specs.declared.label.Label.{Label}
+use Rattle.exposition.specs.declared.label.LabelPair.{LabelPair}
 use Rattle.exposition.specs.declared.page.Family.{Family}
 use Rattle.exposition.specs.declared.page.Sample.{Sample}
 use Rattle.exposition.specs.declared.page.Samples.{Samples}
@@ -44,12 +44,12 @@ free_word (a ∷ b ∷ bs) e = unless ((a == 95) && (b == 95)) (is_word (a ∷ b
 label_word : (n : List ℕ) → is_label_name n ≡ true → is_word n ≡ true
 label_word n e = free_word n (unless (bytes_eq n (codes "le")) (is_free_word n) e)
 
-words_of : (ls : List Label) → have_names ls ≡ true → have_words ls ≡ true
+words_of : (ls : List LabelPair) → have_names ls ≡ true → have_words ls ≡ true
 words_of [] h = refl
 words_of (l ∷ ls) h =
     rw (label_word l.name (both_left (is_label_name l.name) (have_names ls) h)) (words_of ls (both_right (is_label_name l.name) (have_names ls) h))
 
-bucket_words : (ls : List Label) (bound : List ℕ) → have_words ls ≡ true → have_words (ls ++ (bound_label bound ∷ [])) ≡ true
+bucket_words : (ls : List LabelPair) (bound : List ℕ) → have_words ls ≡ true → have_words (ls ++ (bound_label bound ∷ [])) ≡ true
 bucket_words ls bound h = list_all-append (λ l. is_word l.name) ls (bound_label bound ∷ []) ∙ rw h refl
 
 abbrev AreLines : List Line → Type 0
@@ -64,7 +64,7 @@ samples_are_lines : (name : List ℕ) (ss : List Sample) → is_name name ≡ tr
 samples_are_lines name [] n p = tt
 samples_are_lines name (s ∷ ss) n p = ((n, words_of s.labels p.0.0, p.0.1), samples_are_lines name ss n p.1)
 
-buckets_are_lines : (name : List ℕ) (ls : List Label) (below : ℕ) (bs cs : List ℕ) (rest : List Line) → is_name name ≡ true
+buckets_are_lines : (name : List ℕ) (ls : List LabelPair) (below : ℕ) (bs cs : List ℕ) (rest : List Line) → is_name name ≡ true
     → have_words ls ≡ true → whole (below + sum cs) < 10 ^ 64 → AreLines rest → AreLines (bucket_lines name ls below bs cs ++ rest)
 buckets_are_lines name ls below [] cs rest n h short more = more
 buckets_are_lines name ls below (b ∷ bs) [] rest n h short more = more
@@ -121,7 +121,7 @@ gauges_are_of : (name : List ℕ) (ss : List Sample) → AreOf name gauge (map (
 gauges_are_of name [] = tt
 gauges_are_of name (s ∷ ss) = (refl, gauges_are_of name ss)
 
-buckets_are_of : (name : List ℕ) (ls : List Label) (below : ℕ) (bs cs : List ℕ) (rest : List Line) → AreOf name histogram rest
+buckets_are_of : (name : List ℕ) (ls : List LabelPair) (below : ℕ) (bs cs : List ℕ) (rest : List Line) → AreOf name histogram rest
     → AreOf name histogram (bucket_lines name ls below bs cs ++ rest)
 buckets_are_of name ls below [] cs rest p = p
 buckets_are_of name ls below (b ∷ bs) [] rest p = p

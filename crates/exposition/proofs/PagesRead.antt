@@ -7,7 +7,7 @@ use Rattle.std.proofs.lemmas.List.Elements.{recursion_from_All}
 use Rattle.std.proofs.lemmas.List.Folds.{list_all-append}
 use Rattle.std.proofs.lemmas.List.Sums.{sum_by-cons}
 use Rattle.std.proofs.lemmas.Slice.Eq.{bytes_eq-Decides}
-use Rattle.exposition.specs.declared.label.Label.{Label}
+use Rattle.exposition.specs.declared.label.LabelPair.{LabelPair}
 use Rattle.exposition.specs.declared.page.Family.{Family}
 use Rattle.exposition.specs.declared.page.Sample.{Sample}
 use Rattle.exposition.specs.declared.page.Samples.{Samples}
@@ -20,7 +20,7 @@ use Rattle.exposition.specs.Page.{bound_label, bucket_line, bucket_lines, kind_o
 use Rattle.exposition.proofs.NumbersRead.{number_same}
 use Rattle.exposition.proofs.Splits.{Stops, cons_same, differ, split_same}
 
-sample_same : {n n' : List ℕ} {ls ls' : List Label} {v v' : ℕ} → sample_of n ls v ≡ sample_of n' ls' v' → (n ≡ n') × (ls ≡ ls') × (v ≡ v')
+sample_same : {n n' : List ℕ} {ls ls' : List LabelPair} {v v' : ℕ} → sample_of n ls v ≡ sample_of n' ls' v' → (n ≡ n') × (ls ≡ ls') × (v ≡ v')
 sample_same e = (cc, cc, cc)
 
 help_same : {n n' t t' : List ℕ} → help_of n t ≡ help_of n' t' → (n ≡ n') × (t ≡ t')
@@ -52,7 +52,7 @@ is_bucket name (sample_of other labels number) = bytes_eq other (name ++ codes "
 named : (name : List ℕ) → bytes_eq (name ++ codes "_bucket") (name ++ codes "_bucket") ≡ true
 named name = (bytes_eq-Decides (name ++ codes "_bucket") (name ++ codes "_bucket")).1 refl
 
-buckets_pass : (name : List ℕ) (labels : List Label) (below : ℕ) (bounds counts : List ℕ) (last : Line) → is_bucket name last ≡ true
+buckets_pass : (name : List ℕ) (labels : List LabelPair) (below : ℕ) (bounds counts : List ℕ) (last : Line) → is_bucket name last ≡ true
     → list_all (is_bucket name) (bucket_lines name labels below bounds counts ++ (last ∷ [])) ≡ true
 buckets_pass name labels below [] counts last h = rw h refl
 buckets_pass name labels below (bound ∷ bounds) [] last h = rw h refl
@@ -82,7 +82,7 @@ counts_same below cs cs' one one' sums =
     let all : sum cs ≡ sum cs' = omega arith in
     one_count cs one ∙ ap (λ n. n ∷ []) all ∙ sym (one_count cs' one')
 
-buckets_same : (name : List ℕ) (ls ls' : List Label) (below : ℕ) (bs bs' cs cs' : List ℕ)
+buckets_same : (name : List ℕ) (ls ls' : List LabelPair) (below : ℕ) (bs bs' cs cs' : List ℕ)
     → AllByRecursion IsShort bs → AllByRecursion IsShort bs' → length cs ≡ length bs + 1 → length cs' ≡ length bs' + 1
     → bucket_lines name ls below bs cs ≡ bucket_lines name ls' below bs' cs' → below + sum cs ≡ below + sum cs' → (bs ≡ bs') × (cs ≡ cs')
 buckets_same name ls ls' below [] [] cs cs' p q n n' e sums = (refl, counts_same below cs cs' n n' sums)
@@ -178,7 +178,7 @@ numbers_are_samples : (name : List ℕ) (ss : List Sample) → list_all is_sampl
 numbers_are_samples name [] = refl
 numbers_are_samples name (s ∷ ss) = numbers_are_samples name ss
 
-buckets_are_samples : (name : List ℕ) (labels : List Label) (below : ℕ) (bounds counts : List ℕ) (x : List Line)
+buckets_are_samples : (name : List ℕ) (labels : List LabelPair) (below : ℕ) (bounds counts : List ℕ) (x : List Line)
     → list_all is_sample x ≡ true → list_all is_sample (bucket_lines name labels below bounds counts ++ x) ≡ true
 buckets_are_samples name labels below [] counts x h = h
 buckets_are_samples name labels below (bound ∷ bounds) [] x h = h

@@ -1,7 +1,7 @@
 -- Which lines and which pages are of the text format.
 use Rattle.std.specs.Prelude.{◌≡◌, ◌<◌, ◌+◌, ◌^◌, ℕ, List, Bool, IsTrue, All, length, sum}
 use Rattle.std.specs.List.{list_all}
-use Rattle.exposition.specs.declared.label.Label.{Label}
+use Rattle.exposition.specs.declared.label.LabelPair.{LabelPair}
 use Rattle.exposition.specs.declared.page.Family.{Family}
 use Rattle.exposition.specs.declared.page.Sample.{Sample}
 use Rattle.exposition.specs.declared.page.Samples.{Samples}
@@ -12,7 +12,7 @@ use Rattle.exposition.specs.Names.{is_label_name, is_name, is_word}
 use Rattle.exposition.specs.Numbers.{whole}
 
 -- the labels' names are words
-abbrev pub have_words : List Label → Bool
+abbrev pub have_words : List LabelPair → Bool
 have_words labels = list_all (λ label. is_word label.name) labels
 
 -- a number in millionths that has at most 64 digits
@@ -26,7 +26,7 @@ IsLine (type_of name kind) = IsTrue (is_name name)
 IsLine (sample_of name labels number) = IsTrue (is_name name) × IsTrue (have_words labels) × IsShort number
 
 -- the labels' names are those of labels: no other label is called `le`
-abbrev pub have_names : List Label → Bool
+abbrev pub have_names : List LabelPair → Bool
 have_names labels = list_all (λ label. is_label_name label.name) labels
 
 abbrev pub IsSample : Sample → Type 0

@@ -1,6 +1,6 @@
 -- The lines of the text format.
 use Rattle.std.specs.Prelude.{ℕ, List, [], ◌∷◌, ◌++◌, true, false, codes, flat_map}
-use Rattle.exposition.specs.declared.label.Label.{Label}
+use Rattle.exposition.specs.declared.label.LabelPair.{LabelPair}
 use Rattle.exposition.specs.Escapes.{escaped}
 use Rattle.exposition.specs.Numbers.{number_text}
 
@@ -19,14 +19,14 @@ kind_text histogram = codes "histogram"
 pub data Line : Type 0 where
   help_of : List ℕ → List ℕ → Line
   type_of : List ℕ → Kind → Line
-  sample_of : List ℕ → List Label → ℕ → Line
+  sample_of : List ℕ → List LabelPair → ℕ → Line
 
 -- name="value"
-abbrev pub label_text : Label → List ℕ
+abbrev pub label_text : LabelPair → List ℕ
 label_text label = label.name ++ (codes "=\"" ++ (escaped true label.value ++ codes "\""))
 
 -- labels in braces, parted by commas; nothing where there is none
-abbrev pub labels_text : List Label → List ℕ
+abbrev pub labels_text : List LabelPair → List ℕ
 labels_text [] = []
 labels_text (label ∷ labels) = codes "{" ++ (label_text label ++ (flat_map (λ l. 44 ∷ label_text l) labels ++ codes "}"))
 

@@ -1,6 +1,6 @@
 -- The lines of a page, and its text.
 use Rattle.std.specs.Prelude.{ℕ, ◌+◌, List, [], ◌∷◌, ◌++◌, codes, flat_map, map, sum}
-use Rattle.exposition.specs.declared.label.Label.{Label}
+use Rattle.exposition.specs.declared.label.LabelPair.{LabelPair}
 use Rattle.exposition.specs.declared.page.Family.{Family}
 use Rattle.exposition.specs.declared.page.Sample.{Sample}
 use Rattle.exposition.specs.declared.page.Samples.{Samples}
@@ -10,15 +10,15 @@ use Rattle.exposition.specs.Measured.{Measured}
 use Rattle.exposition.specs.Numbers.{number_text, whole}
 
 -- the label that tells a bucket's bound
-abbrev pub bound_label : List ℕ → Label
+abbrev pub bound_label : List ℕ → LabelPair
 bound_label bound = record { name = codes "le"; value = bound }
 
 -- a bucket: its bound, and how many came within it
-abbrev pub bucket_line : List ℕ → List Label → List ℕ → ℕ → Line
+abbrev pub bucket_line : List ℕ → List LabelPair → List ℕ → ℕ → Line
 bucket_line name labels bound count = sample_of (name ++ codes "_bucket") (labels ++ (bound_label bound ∷ [])) (whole count)
 
 -- a bucket for each bound: it counts what came within its bound, and so all that came within those before, which is below
-abbrev pub bucket_lines : List ℕ → List Label → ℕ → List ℕ → List ℕ → List Line
+abbrev pub bucket_lines : List ℕ → List LabelPair → ℕ → List ℕ → List ℕ → List Line
 bucket_lines name labels below [] counts = []
 bucket_lines name labels below (bound ∷ bounds) [] = []
 bucket_lines name labels below (bound ∷ bounds) (count ∷ counts) =

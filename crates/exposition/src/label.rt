@@ -42,7 +42,7 @@ impl LabelName {
 
 /// A label with its value.
 #[derive(Drop)]
-pub struct Label {
+pub struct LabelPair {
     pub name: LabelName,
     pub value: Fixed,
 }

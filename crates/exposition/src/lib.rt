@@ -9,11 +9,9 @@ mod name;
 mod number;
 mod page;
 mod series;
-#[cfg(test)]
-mod tests;
 mod writing;
 
-pub use label::{Label, LabelName};
+pub use label::{LabelName, LabelPair};
 pub use laws::{buckets_rise, lines_are_read_back, pages_are_expositions, pages_are_read_back};
 pub use name::{Fixed, Name};
 pub use number::Number;

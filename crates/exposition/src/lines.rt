@@ -9,7 +9,7 @@ ghost use Rattle.exposition.specs.Bounds.{bound_text};
 ghost use Rattle.exposition.specs.Escapes.{escaped};
 
 use crate::escaping::{push, push_escaped};
-use crate::label::Label;
+use crate::label::LabelPair;
 use crate::number::{Number, push_number};
 use std::alloc::AllocError;
 
@@ -29,7 +29,7 @@ pub(crate) fn push_sample(
     out: &mut Vec<u8>,
     name: &str,
     suffix: &str,
-    labels: &[Label],
+    labels: &[LabelPair],
     number: &Number,
 ) -> Result<(), AllocError>
     ensures text { OnOk result (out.new.items
@@ -47,7 +47,7 @@ pub(crate) fn push_sample(
 pub(crate) fn push_count(
     out: &mut Vec<u8>,
     name: &str,
-    labels: &[Label],
+    labels: &[LabelPair],
     count: u128,
 ) -> Result<(), AllocError>
     ensures { OnOk result (out.new.items
@@ -63,7 +63,7 @@ pub(crate) fn push_count(
 pub(crate) fn push_bucket(
     out: &mut Vec<u8>,
     name: &str,
-    labels: &[Label],
+    labels: &[LabelPair],
     bound: Option<u64>,
     count: u128,
 ) -> Result<(), AllocError>
@@ -87,7 +87,7 @@ fn push_end(out: &mut Vec<u8>, units: u128, millionths: u32) -> Result<(), Alloc
     push(out, "\n")
 }
 
-fn push_labels(out: &mut Vec<u8>, labels: &[Label]) -> Result<(), AllocError>
+fn push_labels(out: &mut Vec<u8>, labels: &[LabelPair]) -> Result<(), AllocError>
     ensures text { OnOk result (out.new.items ≡ out.old.items ++ labels_text labels.now) }
     ensures names { OnOk result (IsTrue (have_names labels.now)) }
 {
@@ -102,7 +102,7 @@ fn push_labels(out: &mut Vec<u8>, labels: &[Label]) -> Result<(), AllocError>
     }
 }
 
-fn push_more(out: &mut Vec<u8>, labels: &[Label]) -> Result<(), AllocError>
+fn push_more(out: &mut Vec<u8>, labels: &[LabelPair]) -> Result<(), AllocError>
     ensures text { OnOk result (out.new.items ≡ out.old.items ++ flat_map (λ l. 44 ∷ label_text l) labels.now) }
     ensures names { OnOk result (IsTrue (have_names labels.now)) }
 {
@@ -112,7 +112,7 @@ fn push_more(out: &mut Vec<u8>, labels: &[Label]) -> Result<(), AllocError>
     Ok(())
 }
 
-fn push_after_comma(out: &mut Vec<u8>, label: &Label) -> Result<(), AllocError>
+fn push_after_comma(out: &mut Vec<u8>, label: &LabelPair) -> Result<(), AllocError>
     ensures text { OnOk result (out.new.items ≡ out.old.items ++ (44 ∷ label_text label.now)) }
     ensures name { OnOk result (IsTrue (is_label_name label.now.name)) }
 {
@@ -120,7 +120,7 @@ fn push_after_comma(out: &mut Vec<u8>, label: &Label) -> Result<(), AllocError>
     push_label(out, label)
 }
 
-fn push_label(out: &mut Vec<u8>, label: &Label) -> Result<(), AllocError>
+fn push_label(out: &mut Vec<u8>, label: &LabelPair) -> Result<(), AllocError>
     ensures text { OnOk result (out.new.items ≡ out.old.items ++ label_text label.now) }
     ensures name { OnOk result (IsTrue (is_label_name label.now.name)) }
 {
@@ -133,7 +133,7 @@ fn push_label(out: &mut Vec<u8>, label: &Label) -> Result<(), AllocError>
 /// Appends the labels of a bucket, the bound last.
 fn push_bucket_labels(
     out: &mut Vec<u8>,
-    labels: &[Label],
+    labels: &[LabelPair],
     bound: Option<u64>,
 ) -> Result<(), AllocError>
     ensures { OnOk result (out.new.items ≡ out.old.items ++ labels_text (labels.now ++ (bound_label (bound_text bound) ∷ []))) }
@@ -145,7 +145,7 @@ fn push_bucket_labels(
     push(out, "\"}")
 }
 
-fn push_before_commas(out: &mut Vec<u8>, labels: &[Label]) -> Result<(), AllocError>
+fn push_before_commas(out: &mut Vec<u8>, labels: &[LabelPair]) -> Result<(), AllocError>
     ensures { OnOk result (out.new.items ≡ out.old.items ++ flat_map (λ l. label_text l ++ (44 ∷ [])) labels.now) }
 {
     for label in labels {
@@ -154,7 +154,7 @@ fn push_before_commas(out: &mut Vec<u8>, labels: &[Label]) -> Result<(), AllocEr
     Ok(())
 }
 
-fn push_before_comma(out: &mut Vec<u8>, label: &Label) -> Result<(), AllocError>
+fn push_before_comma(out: &mut Vec<u8>, label: &LabelPair) -> Result<(), AllocError>
     ensures { OnOk result (out.new.items ≡ out.old.items ++ (label_text label.now ++ (44 ∷ []))) }
 {
     push_label(out, label)?;

@@ -1,5 +1,5 @@
 // A page of metrics: families of samples.
-use crate::label::Label;
+use crate::label::LabelPair;
 use crate::name::{Fixed, Name};
 use crate::number::Number;
 use crate::series::Series;
@@ -8,7 +8,7 @@ use base_text::Listed;
 /// A number, and the labels under which it stands.
 #[derive(Drop)]
 pub struct Sample {
-    pub labels: Listed<Label>,
+    pub labels: Listed<LabelPair>,
     pub number: Number,
 }
 

@@ -2,7 +2,7 @@
 ghost use Rattle.std.specs.Prelude.{◌≡◌, ◌+◌, IsTrue, length};
 ghost use Rattle.exposition.specs.Measured.{rises};
 
-use crate::label::Label;
+use crate::label::LabelPair;
 use crate::number::Number;
 use base_text::Listed;
 use std::marker::Model;
@@ -13,7 +13,7 @@ use std::marker::Model;
 /// within the one before, and last how many came within none.
 #[derive(Drop)]
 pub struct Series {
-    its_labels: Listed<Label>,
+    its_labels: Listed<LabelPair>,
     its_bounds: &'static [u64],
     its_counts: Listed<u64>,
     its_sum: Number,
@@ -33,7 +33,7 @@ impl Model for Series {
 impl Series {
     /// A series with these counts, one more than there are bounds. Bounds and sum are in microseconds, and shown in seconds.
     pub fn of(
-        labels: Listed<Label>,
+        labels: Listed<LabelPair>,
         bounds: &'static [u64],
         counts: Listed<u64>,
         sum: Number,
@@ -50,7 +50,7 @@ impl Series {
         }
     }
 
-    pub(crate) fn labels(&self) -> &[Label]
+    pub(crate) fn labels(&self) -> &[LabelPair]
         ensures { result.now ≡ self.now.labels }
     {
         self.its_labels.as_slice()

@@ -6,7 +6,7 @@ ghost use Rattle.exposition.specs.Lines.{kind_text, line_text, lines_text, help_
 ghost use Rattle.exposition.specs.Page.{bucket_lines, family_lines, kind_of, page_text, sample_line, samples_lines, series_lines};
 
 use crate::escaping::push;
-use crate::label::Label;
+use crate::label::LabelPair;
 use crate::laws::pages_are_expositions;
 use crate::lines::{push_bucket, push_count, push_help, push_sample};
 use crate::page::{Family, Sample, Samples};
@@ -121,7 +121,7 @@ fn push_series(out: &mut Vec<u8>, name: &str, series: &Series) -> Result<(), All
 fn push_buckets(
     out: &mut Vec<u8>,
     name: &str,
-    labels: &[Label],
+    labels: &[LabelPair],
     bounds: &[u64],
     counts: &[u64],
 ) -> Result<(), AllocError>

@@ -9,10 +9,10 @@ use Rattle.clap.specs.declared.builder.command.Command.{Command}
 use Rattle.clap.specs.declared.error.Error.{Error}
 use Rattle.clap.specs.declared.parser.matches.ArgMatches.{ArgMatches}
 use Rattle.log_arguments.specs.Line.{HasLine, program_line}
-use Rattle.log_arguments.specs.Values.{IsOffsetOf, IsPlaceIn}
+use Rattle.log_arguments.specs.Values.{IsOffsetOf, IsPlaceIn, has_flag}
 use Rattle.log_arguments.specs.Asked.{AskFor, Asks, HasOffsetInLimits, IsAskedBy, IsMisuse, IsRefusalOf}
 use Rattle.log_arguments.specs.declared.command.LogCommand.{LogCommand}
-use Rattle.log_arguments.specs.declared.command.LogCommand.TheVariants.{Base, Check, Compact, Follow, Keep, Tail}
+use Rattle.log_arguments.specs.declared.command.LogCommand.TheVariants.{Base, Check, Compact, Follow, Join, Keep, Rules, Tail}
 
 differ : (a b : Text) → bytes_eq a b ≡ false → ¬ (a ≡ b)
 differ a b apart same = true≢false (sym ((bytes_eq-Decides a b).1 same) ∙ apart)
@@ -22,20 +22,36 @@ pub keep_alone : (rows : List Row)
     → (command : LogCommand) → ¬ IsAskedBy (codes "keep", rows) command
 keep_alone rows none (Keep file listen nodes workers quiet) asked = none file listen nodes workers quiet asked
 keep_alone rows none (Follow listen nodes workers) asked = differ _ _ refl asked.0
+keep_alone rows none (Join listen nodes workers) asked = differ _ _ refl asked.0
+keep_alone rows none Rules asked = differ _ _ refl asked.0
 keep_alone rows none (Tail file from) asked = differ _ _ refl asked.0
 keep_alone rows none (Check file quiet) asked = differ _ _ refl asked.0
 keep_alone rows none (Compact file to output quiet) asked = differ _ _ refl asked.0
 keep_alone rows none (Base file below quiet) asked = differ _ _ refl asked.0
 
 pub follow_alone : (rows : List Row)
-    → ((listen : SocketAddr) (nodes workers : ℕ) → ¬ IsPlaceIn rows listen nodes workers)
+    → ((listen : SocketAddr) (nodes workers : ℕ) → ¬ IsPlaceIn 1 rows listen nodes workers)
     → (command : LogCommand) → ¬ IsAskedBy (codes "follow", rows) command
 follow_alone rows none (Keep file listen nodes workers quiet) asked = differ _ _ refl asked.0
 follow_alone rows none (Follow listen nodes workers) asked = none listen nodes workers asked.1
+follow_alone rows none (Join listen nodes workers) asked = differ _ _ refl asked.0
+follow_alone rows none Rules asked = differ _ _ refl asked.0
 follow_alone rows none (Tail file from) asked = differ _ _ refl asked.0
 follow_alone rows none (Check file quiet) asked = differ _ _ refl asked.0
 follow_alone rows none (Compact file to output quiet) asked = differ _ _ refl asked.0
 follow_alone rows none (Base file below quiet) asked = differ _ _ refl asked.0
+
+pub join_alone : (rows : List Row) → has_flag (codes "rules") rows ≡ false
+    → ((listen : SocketAddr) (nodes workers : ℕ) → ¬ IsPlaceIn 2 rows listen nodes workers)
+    → (command : LogCommand) → ¬ IsAskedBy (codes "join", rows) command
+join_alone rows serves none (Keep file listen nodes workers quiet) asked = differ _ _ refl asked.0
+join_alone rows serves none (Follow listen nodes workers) asked = differ _ _ refl asked.0
+join_alone rows serves none (Join listen nodes workers) asked = none listen nodes workers asked.2
+join_alone rows serves none Rules asked = true≢false (sym asked.1 ∙ serves)
+join_alone rows serves none (Tail file from) asked = differ _ _ refl asked.0
+join_alone rows serves none (Check file quiet) asked = differ _ _ refl asked.0
+join_alone rows serves none (Compact file to output quiet) asked = differ _ _ refl asked.0
+join_alone rows serves none (Base file below quiet) asked = differ _ _ refl asked.0
 
 -- a parse of the program's command line finds what its definition says
 pub rows_are : (line : Command) (words : List Text) (m : ArgMatches) → HasLine program_line line → HasMatchesOf (app_of line) words m
@@ -71,6 +87,8 @@ pub within_limits : (o : Option (Text × List Row)) (command : LogCommand) → A
 within_limits None command asks = absurd asks
 within_limits (Some found) (Keep file listen nodes workers quiet) asks = tt
 within_limits (Some found) (Follow listen nodes workers) asks = tt
+within_limits (Some found) (Join listen nodes workers) asks = tt
+within_limits (Some found) Rules asks = tt
 within_limits (Some found) (Tail file from) asks = offset_within _ from asks.2
 within_limits (Some found) (Check file quiet) asks = tt
 within_limits (Some found) (Compact file to output quiet) asks = offset_within _ to asks.2

@@ -1,28 +1,31 @@
 -- What the words of a command line ask for.
-use Rattle.std.specs.Prelude.{◌≡◌, ◌≤◌, ◌⊎◌, ⊤, List, [], Option, Some, codes, option_map, IfSome, IsSomeAnd}
+use Rattle.std.specs.Prelude.{◌≡◌, ◌≤◌, ◌⊎◌, ⊤, List, [], Option, Some, codes, option_map, IfSome, IsSomeAnd, false, true}
 use Rattle.clap.specs.Words.{HasKind, Row, Text, fault_of, first_of, kind_of, subcommand_of}
 use Rattle.clap.specs.declared.error.Error.{Error}
 use Rattle.clap.specs.declared.error.kind.ErrorKind.TheVariants.{OutOfMemory, ValueValidation}
 use Rattle.log_arguments.specs.Line.{program_line}
-use Rattle.log_arguments.specs.Values.{IsOffsetOf, IsPlaceIn, has_quiet, path_in}
+use Rattle.log_arguments.specs.Values.{IsOffsetOf, IsPlaceIn, has_flag, path_in}
 use Rattle.log_arguments.specs.declared.command.LogCommand.{LogCommand}
-use Rattle.log_arguments.specs.declared.command.LogCommand.TheVariants.{Base, Check, Compact, Follow, Keep, Tail}
+use Rattle.log_arguments.specs.declared.command.LogCommand.TheVariants.{Base, Check, Compact, Follow, Join, Keep, Rules, Tail}
 
 -- what a command asks for by its name and its matches
 abbrev pub IsAskedBy : Text × List Row → LogCommand → Type 0
 IsAskedBy found (Keep file listen nodes workers quiet) = (found.0 ≡ codes "keep") × (first_of (codes "file") found.1 ≡ Some file.now)
-    × IsPlaceIn found.1 listen nodes workers × (quiet ≡ has_quiet found.1)
-IsAskedBy found (Follow listen nodes workers) = (found.0 ≡ codes "follow") × IsPlaceIn found.1 listen nodes workers
+    × IsPlaceIn 1 found.1 listen nodes workers × (quiet ≡ has_flag (codes "quiet") found.1)
+IsAskedBy found (Follow listen nodes workers) = (found.0 ≡ codes "follow") × IsPlaceIn 1 found.1 listen nodes workers
+IsAskedBy found (Join listen nodes workers) = (found.0 ≡ codes "join") × (has_flag (codes "rules") found.1 ≡ false)
+    × IsPlaceIn 2 found.1 listen nodes workers
+IsAskedBy found Rules = (found.0 ≡ codes "join") × (has_flag (codes "rules") found.1 ≡ true)
 IsAskedBy found (Tail file from) = (found.0 ≡ codes "tail") × (first_of (codes "file") found.1 ≡ Some file.now)
     × IsOffsetOf (first_of (codes "from") found.1) from
 IsAskedBy found (Check file quiet) = (found.0 ≡ codes "check") × (option_map (λ path. path.now) file ≡ path_in (codes "file") found.1)
-    × (quiet ≡ has_quiet found.1)
+    × (quiet ≡ has_flag (codes "quiet") found.1)
 IsAskedBy found (Compact file to output quiet) = (found.0 ≡ codes "compact")
     × (option_map (λ path. path.now) file ≡ path_in (codes "file") found.1) × IsOffsetOf (first_of (codes "to") found.1) to
-    × (option_map (λ path. path.now) output ≡ path_in (codes "output") found.1) × (quiet ≡ has_quiet found.1)
+    × (option_map (λ path. path.now) output ≡ path_in (codes "output") found.1) × (quiet ≡ has_flag (codes "quiet") found.1)
 IsAskedBy found (Base file below quiet) = (found.0 ≡ codes "base")
     × (option_map (λ path. path.now) file ≡ path_in (codes "file") found.1) × IsOffsetOf (first_of (codes "below") found.1) (Some below)
-    × (quiet ≡ has_quiet found.1)
+    × (quiet ≡ has_flag (codes "quiet") found.1)
 
 -- there is a command, and it asks for this
 abbrev pub Asks : Option (Text × List Row) → LogCommand → Type 0
@@ -36,6 +39,8 @@ AskFor words command = Asks (subcommand_of program_line words) command
 abbrev pub HasOffsetInLimits : LogCommand → Type 0
 HasOffsetInLimits (Keep file listen nodes workers quiet) = ⊤
 HasOffsetInLimits (Follow listen nodes workers) = ⊤
+HasOffsetInLimits (Join listen nodes workers) = ⊤
+HasOffsetInLimits Rules = ⊤
 HasOffsetInLimits (Tail file from) = IfSome from (λ offset. offset ≤ 9223372036854775807)
 HasOffsetInLimits (Check file quiet) = ⊤
 HasOffsetInLimits (Compact file to output quiet) = IfSome to (λ floor. floor ≤ 9223372036854775807)

@@ -12,9 +12,9 @@ use Rattle.clap.specs.declared.builder.action.ArgAction.TheVariants.{SetTrue}
 abbrev pub option_line : Text → Rule
 option_line name = record (new_rule name) { long = Some name; value_names = 1 }
 
--- `--quiet`
-abbrev pub quiet_line : Rule
-quiet_line = record (new_rule (codes "quiet")) { long = Some (codes "quiet"); action = Some SetTrue }
+-- `--NAME`
+abbrev pub flag_line : Text → Rule
+flag_line name = record (new_rule name) { long = Some name; action = Some SetTrue }
 
 -- `FILE`, or `[FILE]` where it isn't required
 abbrev pub file_line : Bool → Rule
@@ -27,28 +27,32 @@ command_line name rules = fold with_rule (new_app name) rules
 -- what says where nodes listen, and how many there are
 abbrev pub keep_line : App
 keep_line = command_line (codes "keep")
-    (option_line (codes "listen") ∷ option_line (codes "nodes") ∷ option_line (codes "workers") ∷ quiet_line ∷ file_line true ∷ [])
+    (option_line (codes "listen") ∷ option_line (codes "nodes") ∷ option_line (codes "workers") ∷ flag_line (codes "quiet") ∷ file_line true ∷ [])
 
 abbrev pub follow_line : App
 follow_line = command_line (codes "follow")
     (option_line (codes "listen") ∷ option_line (codes "nodes") ∷ option_line (codes "workers") ∷ [])
 
+abbrev pub join_line : App
+join_line = command_line (codes "join")
+    (option_line (codes "listen") ∷ option_line (codes "nodes") ∷ option_line (codes "workers") ∷ flag_line (codes "rules") ∷ [])
+
 abbrev pub tail_line : App
 tail_line = command_line (codes "tail") (option_line (codes "from") ∷ file_line true ∷ [])
 
 abbrev pub check_line : App
-check_line = command_line (codes "check") (quiet_line ∷ file_line false ∷ [])
+check_line = command_line (codes "check") (flag_line (codes "quiet") ∷ file_line false ∷ [])
 
 abbrev pub compact_line : App
 compact_line = command_line (codes "compact")
-    (option_line (codes "to") ∷ option_line (codes "output") ∷ quiet_line ∷ file_line false ∷ [])
+    (option_line (codes "to") ∷ option_line (codes "output") ∷ flag_line (codes "quiet") ∷ file_line false ∷ [])
 
 -- `--below OFFSET`, which is wanted
 abbrev pub below_line : Rule
 below_line = record (option_line (codes "below")) { required = true }
 
 abbrev pub base_line : App
-base_line = command_line (codes "base") (below_line ∷ quiet_line ∷ file_line false ∷ [])
+base_line = command_line (codes "base") (below_line ∷ flag_line (codes "quiet") ∷ file_line false ∷ [])
 
 -- the program alone: it has a version, wants a command, and answers to no words at all with its help
 abbrev pub bare_program : App
@@ -61,7 +65,7 @@ with_command program command = with_subcommand program command.top
 
 -- the program with its commands
 abbrev pub program_line : App
-program_line = fold with_command bare_program (keep_line ∷ follow_line ∷ tail_line ∷ check_line ∷ compact_line ∷ base_line ∷ [])
+program_line = fold with_command bare_program (keep_line ∷ follow_line ∷ join_line ∷ tail_line ∷ check_line ∷ compact_line ∷ base_line ∷ [])
 
 -- a parser reads the argument by that rule, and no other command has it
 abbrev pub HasRule : Rule → Arg → Type 0

@@ -33,11 +33,11 @@ IsOffsetOf None None = ⊤
 IsOffsetOf (Some text) (Some offset) = SpellsWithin 0 9223372036854775807 text offset
 IsOffsetOf _ _ = ⊥
 
--- where the first node listens, how many nodes there are, and how many workers each has
-pub record IsPlaceIn (rows : List Row) (listen : SocketAddr) (nodes workers : ℕ) : Type 0 where
+-- where the first node listens, how many nodes there are, and how many workers each has, which are so many at least
+pub record IsPlaceIn (least : ℕ) (rows : List Row) (listen : SocketAddr) (nodes workers : ℕ) : Type 0 where
   pub address : IsSocketText (unwrap_or (first_of (codes "listen") rows) (codes "127.0.0.1:8081")) listen
   pub nodes_given : IsNumberOr 1 1 3 (first_of (codes "nodes") rows) nodes
-  pub workers_given : IsNumberOr 4 1 16 (first_of (codes "workers") rows) workers
+  pub workers_given : IsNumberOr 4 least 16 (first_of (codes "workers") rows) workers
   -- there is a port for the first node, and for the last one
   pub first_port : 1 ≤ socket_port listen
   pub last_port : socket_port listen + nodes ≤ 65536
@@ -48,5 +48,5 @@ path_in argument rows =
     option_and_then (λ path. if bytes_eq path (codes "-") then None else Some path) (first_of argument rows)
 
 -- a flag that is given has the value `true`
-abbrev pub has_quiet : List Row → Bool
-has_quiet rows = option_map_or (λ text. bytes_eq text (codes "true")) (first_of (codes "quiet") rows) false
+abbrev pub has_flag : Text → List Row → Bool
+has_flag option rows = option_map_or (λ text. bytes_eq text (codes "true")) (first_of option rows) false

@@ -25,6 +25,15 @@ pub enum LogCommand<'a> {
         nodes: usize,
         workers: u32,
     },
+    /// A log that other processes write too is to be served: the adapter at the standard input and output has it. The values are
+    /// as those of `Keep`, but for the workers, 2 to 16.
+    Join {
+        listen: SocketAddr,
+        nodes: usize,
+        workers: u32,
+    },
+    /// The number of the registry's rules is to be written.
+    Rules,
     /// The lines of a kept log are to be written as they are acknowledged, from that offset on or all of them.
     Tail {
         file: &'a str,

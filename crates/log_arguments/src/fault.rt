@@ -3,7 +3,7 @@ ghost use Rattle.std.specs.Prelude.{◌≡◌, IfOk};
 ghost use Rattle.clap.specs.Words.{kind_of};
 ghost use Rattle.clap.specs.declared.error.kind.ErrorKind.TheVariants.{ValueValidation};
 
-use crate::line::{base, compact, follow, keep, tail};
+use crate::line::{base, compact, follow, join, keep, tail};
 use clap::error::ErrorKind;
 use clap::{Command, Error};
 use std::alloc::{AllocError, Global};
@@ -21,10 +21,11 @@ pub(crate) enum Fault<'a> {
         nodes: u64,
         most: u64,
     },
-    #[error("--{option} {text}: a number from 1 to {most}")]
+    #[error("--{option} {text}: a number from {least} to {most}")]
     Number {
         option: &'static str,
         text: &'a str,
+        least: u64,
         most: u64,
     },
     #[error("--{option} {text}: an offset from 0 to 9223372036854775807")]
@@ -58,6 +59,8 @@ fn command_named<'a>(alloc: Global, name: &str) -> Result<Command<'a>, AllocErro
         keep(alloc)?.bin_name("registrylog keep")
     } else if name == "follow" {
         follow(alloc)?.bin_name("registrylog follow")
+    } else if name == "join" {
+        join(alloc)?.bin_name("registrylog join")
     } else if name == "tail" {
         tail(alloc)?.bin_name("registrylog tail")
     } else if name == "base" {

@@ -5,8 +5,6 @@ mod command;
 mod fault;
 mod line;
 mod reading;
-#[cfg(test)]
-mod tests;
 mod values;
 
 pub use command::{LogCommand, VERSION};

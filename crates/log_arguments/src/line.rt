@@ -1,6 +1,6 @@
 // The command line, as a parser of command lines takes it.
 ghost use Rattle.std.specs.Prelude.{IfOk, codes, false};
-ghost use Rattle.log_arguments.specs.Line.{HasLine, HasRule, base_line, below_line, check_line, compact_line, file_line, follow_line, keep_line, option_line, program_line, quiet_line, tail_line};
+ghost use Rattle.log_arguments.specs.Line.{HasLine, HasRule, bare_program, base_line, below_line, check_line, compact_line, file_line, flag_line, follow_line, join_line, keep_line, option_line, program_line, tail_line};
 
 use crate::command::VERSION;
 use clap::{Arg, ArgAction, Command};
@@ -10,25 +10,37 @@ use std::alloc::{AllocError, Global};
 pub(crate) fn program<'a>(alloc: Global) -> Result<Command<'a>, AllocError>
     ensures { IfOk result (HasLine program_line) }
 {
+    let begun = bare_program(alloc)?;
     let keeping = keep(alloc)?;
     let following = follow(alloc)?;
+    let joining = join(alloc)?;
     let tailing = tail(alloc)?;
     let checking = check(alloc)?;
     let compacting = compact(alloc)?;
     let basing = base(alloc)?;
-    Command::new(alloc, "registrylog")
-        .bin_name("registrylog")?
-        .version(VERSION)
-        .about("Keeps the log of a registry of Avro schemas in a file, and looks after it")
-        .after_help("Begin with: registrylog keep ~/registry.log")
-        .subcommand_required(true)
-        .arg_required_else_help(true)
+    begun
         .subcommand(keeping)?
         .subcommand(following)?
+        .subcommand(joining)?
         .subcommand(tailing)?
         .subcommand(checking)?
         .subcommand(compacting)?
         .subcommand(basing)
+}
+
+/// The program without its commands.
+fn bare_program<'a>(alloc: Global) -> Result<Command<'a>, AllocError>
+    ensures { IfOk result (HasLine bare_program) }
+{
+    let named = Command::new(alloc, "registrylog").bin_name("registrylog")?;
+    Ok(
+        named
+            .version(VERSION)
+            .about("Keeps the log of a registry of Avro schemas in a file, and looks after it")
+            .after_help("Begin with: registrylog keep ~/registry.log")
+            .subcommand_required(true)
+            .arg_required_else_help(true),
+    )
 }
 
 /// `keep`.
@@ -60,6 +72,28 @@ pub(crate) fn follow<'a>(alloc: Global) -> Result<Command<'a>, AllocError>
         .arg(listen(alloc))?
         .arg(nodes(alloc))?
         .arg(workers(alloc))
+}
+
+/// `join`.
+pub(crate) fn join<'a>(alloc: Global) -> Result<Command<'a>, AllocError>
+    ensures { IfOk result (HasLine join_line) }
+{
+    let workers = option(alloc, "workers", "N").help(
+        "How many workers each node has, 2 to 16 [default: 4]",
+    );
+    let rules = flag(alloc, "rules").help("Print the number of the registry's rules, and end");
+    Command::new(alloc, "join")
+        .about(
+            "Serves a log that other processes write too, as the adapter that started it tells it",
+        )
+        .after_help(
+            "An adapter starts it, and keeps the log: its messages come on standard input, and requests go to standard output.\n\n\
+            Example of an adapter's command: registrylog join --listen 0.0.0.0:9000",
+        )
+        .arg(listen(alloc))?
+        .arg(nodes(alloc))?
+        .arg(workers)?
+        .arg(rules)
 }
 
 /// `tail`.
@@ -159,12 +193,16 @@ fn workers<'a>(alloc: Global) -> Arg<'a>
 }
 
 fn quiet<'a>(alloc: Global) -> Arg<'a>
-    ensures { HasRule quiet_line result }
+    ensures { HasRule (flag_line (codes "quiet")) result }
 {
-    Arg::new(alloc, "quiet")
-        .long("quiet")
-        .action(ArgAction::SetTrue)
-        .help("Don't say on standard error how far the reading is")
+    flag(alloc, "quiet").help("Don't say on standard error how far the reading is")
+}
+
+/// An option `--NAME` without a value.
+fn flag<'a>(alloc: Global, name: &'a str) -> Arg<'a>
+    ensures { HasRule (flag_line name.now) result }
+{
+    Arg::new(alloc, name).long(name).action(ArgAction::SetTrue)
 }
 
 /// The file behind the options.

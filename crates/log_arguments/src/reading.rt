@@ -8,7 +8,7 @@ ghost use Rattle.log_arguments.specs.Values.{Finds};
 use crate::command::LogCommand;
 use crate::fault::{Fault, refusal};
 use crate::line::program;
-use crate::values::{Place, has_quiet, offset_in, path_in, place_in, text_in};
+use crate::values::{Place, has_flag, offset_in, path_in, place_in, text_in};
 use clap::{ArgMatches, Error};
 use std::alloc::Global;
 
@@ -62,6 +62,8 @@ fn command_in<'a>(name: &str, found: &ArgMatches<'a>) -> Result<LogCommand<'a>, 
         keep_in(found)
     } else if name == "follow" {
         follow_in(found)
+    } else if name == "join" {
+        join_in(found)
     } else if name == "tail" {
         tail_in(found)
     } else if name == "check" {
@@ -81,8 +83,8 @@ fn keep_in<'a>(found: &ArgMatches<'a>) -> Result<LogCommand<'a>, Fault<'a>>
     let Some(file) = text_in(found, "file") else {
         return Err(Fault::File);
     };
-    let quiet = has_quiet(found);
-    match place_in(found) {
+    let quiet = has_flag(found, "quiet");
+    match place_in(found, 1) {
         Ok(place) => {
             let Place {
                 listen,
@@ -104,7 +106,7 @@ fn keep_in<'a>(found: &ArgMatches<'a>) -> Result<LogCommand<'a>, Fault<'a>>
 fn follow_in<'a>(found: &ArgMatches<'a>) -> Result<LogCommand<'a>, Fault<'a>>
     ensures { Finds (IsAskedBy (codes "follow", rows_of (found_of found.now))) result }
 {
-    match place_in(found) {
+    match place_in(found, 1) {
         Ok(place) => {
             let Place {
                 listen,
@@ -112,6 +114,29 @@ fn follow_in<'a>(found: &ArgMatches<'a>) -> Result<LogCommand<'a>, Fault<'a>>
                 workers,
             } = place;
             Ok(LogCommand::Follow {
+                listen,
+                nodes,
+                workers,
+            })
+        }
+        Err(fault) => Err(fault),
+    }
+}
+
+fn join_in<'a>(found: &ArgMatches<'a>) -> Result<LogCommand<'a>, Fault<'a>>
+    ensures { Finds (IsAskedBy (codes "join", rows_of (found_of found.now))) result }
+{
+    if has_flag(found, "rules") {
+        return Ok(LogCommand::Rules);
+    }
+    match place_in(found, 2) {
+        Ok(place) => {
+            let Place {
+                listen,
+                nodes,
+                workers,
+            } = place;
+            Ok(LogCommand::Join {
                 listen,
                 nodes,
                 workers,
@@ -137,7 +162,7 @@ fn check_in<'a>(found: &ArgMatches<'a>) -> LogCommand<'a>
     ensures { IsAskedBy (codes "check", rows_of (found_of found.now)) result }
 {
     let file = path_in(found, "file");
-    let quiet = has_quiet(found);
+    let quiet = has_flag(found, "quiet");
     LogCommand::Check { file, quiet }
 }
 
@@ -146,7 +171,7 @@ fn compact_in<'a>(found: &ArgMatches<'a>) -> Result<LogCommand<'a>, Fault<'a>>
 {
     let file = path_in(found, "file");
     let output = path_in(found, "output");
-    let quiet = has_quiet(found);
+    let quiet = has_flag(found, "quiet");
     match offset_in(found, "to") {
         Ok(to) => Ok(LogCommand::Compact {
             file,
@@ -162,7 +187,7 @@ fn base_in<'a>(found: &ArgMatches<'a>) -> Result<LogCommand<'a>, Fault<'a>>
     ensures { Finds (IsAskedBy (codes "base", rows_of (found_of found.now))) result }
 {
     let file = path_in(found, "file");
-    let quiet = has_quiet(found);
+    let quiet = has_flag(found, "quiet");
     match offset_in(found, "below") {
         Ok(Some(below)) => Ok(LogCommand::Base { file, below, quiet }),
         Ok(None) => Err(Fault::Below),

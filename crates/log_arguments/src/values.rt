@@ -4,7 +4,7 @@ ghost use Rattle.std.specs.List.{list_all};
 ghost use Rattle.std.specs.Char.{is_ascii_digit};
 ghost use Rattle.std.specs.Net.Grammar.{IsSocketText};
 ghost use Rattle.clap.specs.Words.{first_of, found_of, rows_of};
-ghost use Rattle.log_arguments.specs.Values.{Finds, IsNumberOr, IsOffsetOf, IsPlaceIn, SpellsWithin, has_quiet, is_decimal, path_in};
+ghost use Rattle.log_arguments.specs.Values.{Finds, IsNumberOr, IsOffsetOf, IsPlaceIn, SpellsWithin, has_flag, is_decimal, path_in};
 
 use crate::fault::Fault;
 use clap::ArgMatches;
@@ -21,13 +21,14 @@ pub(crate) struct Place {
     pub(crate) workers: u32,
 }
 
-/// The place that the options say: at 127.0.0.1:8081, one node of four workers, where they say nothing else.
-pub(crate) fn place_in<'a>(found: &ArgMatches<'a>) -> Result<Place, Fault<'a>>
-    ensures { Finds (λ place. IsPlaceIn (rows_of (found_of found.now)) place.listen place.nodes place.workers) result }
+/// The place that the options say: at 127.0.0.1:8081, one node of four workers, where they say nothing else. A node has so many
+/// workers at least.
+pub(crate) fn place_in<'a>(found: &ArgMatches<'a>, least: u64) -> Result<Place, Fault<'a>>
+    ensures { Finds (λ place. IsPlaceIn least (rows_of (found_of found.now)) place.listen place.nodes place.workers) result }
 {
     let listen = listen_in(found)?;
-    let nodes = number_in(found, "nodes", 1, 3)?;
-    let workers = number_in(found, "workers", 4, 16)?;
+    let nodes = number_in(found, "nodes", 1, 1, 3)?;
+    let workers = number_in(found, "workers", 4, least, 16)?;
     let port = u64::from(listen.port());
     let most = 65_536 - nodes;
     if port < 1 || most < port {
@@ -63,23 +64,29 @@ fn listen_text<'a>(found: &ArgMatches<'a>) -> &'a str
     }
 }
 
-/// The number behind an option, from 1 on, or another where the option isn't given.
+/// The number behind an option, or another where the option isn't given.
 fn number_in<'a>(
     found: &ArgMatches<'a>,
     option: &'static str,
     otherwise: u64,
+    least: u64,
     most: u64,
 ) -> Result<u64, Fault<'a>>
     requires { otherwise ≤ most }
-    ensures number { Finds (IsNumberOr otherwise 1 most (first_of option.now (rows_of (found_of found.now)))) result }
+    ensures number { Finds (IsNumberOr otherwise least most (first_of option.now (rows_of (found_of found.now)))) result }
     ensures within { IfOk result (λ number. number ≤ most) }
 {
     let Some(text) = text_in(found, option) else {
         return Ok(otherwise);
     };
-    match number_within(text, 1, most) {
+    match number_within(text, least, most) {
         Some(number) => Ok(number),
-        None => Err(Fault::Number { option, text, most }),
+        None => Err(Fault::Number {
+            option,
+            text,
+            least,
+            most,
+        }),
     }
 }
 
@@ -110,11 +117,11 @@ pub(crate) fn path_in<'a>(found: &ArgMatches<'a>, argument: &str) -> Option<&'a 
     Some(path)
 }
 
-/// Whether `--quiet` is given.
-pub(crate) fn has_quiet(found: &ArgMatches<'_>) -> bool
-    ensures { result ≡ has_quiet (rows_of (found_of found.now)) }
+/// Whether an option without a value is given.
+pub(crate) fn has_flag(found: &ArgMatches<'_>, option: &str) -> bool
+    ensures { result ≡ has_flag option.now (rows_of (found_of found.now)) }
 {
-    match text_in(found, "quiet") {
+    match text_in(found, option) {
         Some(text) => text == "true",
         None => false,
     }

@@ -2,8 +2,8 @@
 use crate::cases::Outcome;
 use log_arguments::{LogCommand, read_arguments};
 use reg_base::{BaseError, base};
+use reg_compaction::{compact, compact_to};
 use reg_inspection::inspect;
-use reg_keeping::{compact, compact_to};
 use std::alloc::{AllocError, Global};
 
 fn words_of(alloc: Global, command: &str) -> Result<Vec<String>, AllocError> {

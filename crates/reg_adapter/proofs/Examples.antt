@@ -4,8 +4,8 @@ use Rattle.reg_records.specs.declared.record.Read.TheVariants as reads
 use Rattle.reg_adapter.specs.Heard.{heard_of}
 use Rattle.reg_adapter.specs.Said.{follows, word_of}
 use Rattle.reg_adapter.specs.declared.fault.MessageFault.TheVariants as faults
-use Rattle.reg_adapter.specs.declared.told.Answer.TheVariants as answers
-use Rattle.reg_adapter.specs.declared.told.Told.TheVariants.{Answer, Ready}
+use Rattle.reg_adapter.specs.declared.told.AdapterAnswer.TheVariants as answers
+use Rattle.reg_adapter.specs.declared.told.AdapterMessage.TheVariants.{Answer, Ready}
 
 -- `ready`, then two answers
 words : heard_of (codes "ready" ∷ codes "kept" ∷ codes "lost" ∷ [])

@@ -13,7 +13,7 @@ use Rattle.reg_adapter.specs.Said.{part_in, word_in}
 use Rattle.reg_adapter.specs.declared.fault.MessageFault.{MessageFault}
 use Rattle.reg_adapter.specs.declared.line.Part.{Part}
 use Rattle.reg_adapter.specs.declared.line.Word.{Word}
-use Rattle.reg_adapter.specs.declared.told.Told.{Told}
+use Rattle.reg_adapter.specs.declared.told.AdapterMessage.{AdapterMessage}
 
 last_line : (r n : Result Heard MessageFault) → r ≡ n → then_heard (λ next. heard_from next []) r ≡ n
 last_line (Ok x) n is = is
@@ -47,7 +47,7 @@ behind text lines bytes line rest parts is =
     ∙ ap (λ (l : List ℕ). l ++ rest) (sym (text_of-append lines (line ∷ [])))
 
 -- a line that was taken of what was left
-pub taken : (text : List ℕ) (told : List Told) (begun : Option (List Read)) (bytes : List ℕ) (count : ℕ) (line rest : List ℕ) (h : Heard)
+pub taken : (text : List ℕ) (told : List AdapterMessage) (begun : Option (List Read)) (bytes : List ℕ) (count : ℕ) (line rest : List ℕ) (h : Heard)
     → HasTold text told begun bytes count → bytes ≡ line ++ 10 ∷ rest → HasNoLineFeed line → heard_with told begun line ≡ Ok h
     → HasTold text h.told h.begun rest (counted count)
 taken text told begun bytes count line rest h has is free hears = record {
@@ -59,7 +59,7 @@ taken text told begun bytes count line rest h has is free hears = record {
 }
 
 -- bytes that came behind those that were left
-pub more_came : (text : List ℕ) (told : List Told) (begun : Option (List Read)) (bytes : List ℕ) (count : ℕ) (more : List ℕ)
+pub more_came : (text : List ℕ) (told : List AdapterMessage) (begun : Option (List Read)) (bytes : List ℕ) (count : ℕ) (more : List ℕ)
     → HasTold text told begun bytes count → HasTold (text ++ more) told begun (bytes ++ more) count
 more_came text told begun bytes count more has = record {
   lines = has.lines;
@@ -69,11 +69,11 @@ more_came text told begun bytes count more has = record {
   counts = has.counts;
 }
 
-pub word_heard : (told : List Told) (line : List ℕ) (word : Word) → word_in line ≡ Ok word
+pub word_heard : (told : List AdapterMessage) (line : List ℕ) (word : Word) → word_in line ≡ Ok word
     → heard_with told None line ≡ Ok (with_word told word)
 word_heard told line word is = ap (result_map_both (with_word told) (λ (fault : MessageFault). fault)) is
 
-pub part_heard : (told : List Told) (begun : List Read) (line : List ℕ) (part : Part) → part_in begun line ≡ Ok part
+pub part_heard : (told : List AdapterMessage) (begun : List Read) (line : List ℕ) (part : Part) → part_in begun line ≡ Ok part
     → heard_with told (Some begun) line ≡ Ok (with_part told begun part)
 part_heard told begun line part is = ap (result_map_both (with_part told begun) (λ (fault : MessageFault). fault)) is
 

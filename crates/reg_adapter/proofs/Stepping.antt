@@ -15,10 +15,10 @@ use Rattle.reg_adapter.specs.declared.line.Word.{Word}
 use Rattle.reg_adapter.specs.declared.messages.Messages.{Messages}
 use Rattle.reg_adapter.specs.declared.messages.Step.{Step}
 use Rattle.reg_adapter.specs.declared.messages.Step.TheVariants as steps
-use Rattle.reg_adapter.specs.declared.told.Told.{Told}
+use Rattle.reg_adapter.specs.declared.told.AdapterMessage.{AdapterMessage}
 
 -- the line at the front was taken, which is heard so
-pub stepped : (text : List ℕ) (told : List Told) (begun : Option (List Read)) (bytes : List ℕ) (count : ℕ) (line : List ℕ) (h : Heard)
+pub stepped : (text : List ℕ) (told : List AdapterMessage) (begun : Option (List Read)) (bytes : List ℕ) (count : ℕ) (line : List ℕ) (h : Heard)
     (rest : List ℕ) (next : ℕ) → HasTold text told begun bytes count → (front : IsFrontLine bytes line) → heard_with told begun front.text ≡ Ok h
     → rest ≡ drop (length line) bytes → next ≡ counted count → HasTold text h.told h.begun rest next
 stepped text told begun bytes count line h rest next has front hears is counts =
@@ -35,7 +35,7 @@ fewer bytes line rest front is =
     omega (arith, ap length left, ap length front.parts, length-append front.text (10 ∷ front.rest))
 
 -- what is told and begun once a line was heard and taken
-pub moved : (text : List ℕ) (told : List Told) (old mid : Messages) (line : List ℕ) (step : Step) (left : Unread) → HasRead text told old
+pub moved : (text : List ℕ) (told : List AdapterMessage) (old mid : Messages) (line : List ℕ) (step : Step) (left : Unread) → HasRead text told old
     → (front : IsFrontLine old.lines.bytes line)
     → heard_with told (begun_in old) front.text ≡ Ok (record { told = told_after told step; begun = begun_in mid }) → mid.lines ≡ old.lines
     → left ≡ record { bytes = drop (length line) mid.lines.bytes; count = counted mid.lines.count }
@@ -46,7 +46,7 @@ moved text told old mid line step left has front hears same is =
     (ap (λ (u : Unread). u.bytes) is ∙ ap (λ (u : Unread). drop (length line) u.bytes) same)
     (ap (λ (u : Unread). u.count) is ∙ ap (λ (u : Unread). counted u.count) same)
 
-pub heard_by_part : (told : List Told) (old mid : Messages) (text : List ℕ) (part : Part) (step : Step) → old.is_begun ≡ true
+pub heard_by_part : (told : List AdapterMessage) (old mid : Messages) (text : List ℕ) (part : Part) (step : Step) → old.is_begun ≡ true
     → part_in old.begun.items text ≡ Ok part → TakesPart old part step mid
     → heard_with told (begun_in old) text ≡ Ok (record { told = told_after told step; begun = begun_in mid })
 heard_by_part told old mid text part step begun says takes =
@@ -54,7 +54,7 @@ heard_by_part told old mid text part step begun says takes =
     ∙ part_heard told old.begun.items text part says
     ∙ ap Ok (takes.makes told)
 
-pub heard_by_word : (told : List Told) (old mid : Messages) (text : List ℕ) (word : Word) (step : Step) → old.is_begun ≡ false
+pub heard_by_word : (told : List AdapterMessage) (old mid : Messages) (text : List ℕ) (word : Word) (step : Step) → old.is_begun ≡ false
     → word_in text ≡ Ok word → TakesWord old word step mid
     → heard_with told (begun_in old) text ≡ Ok (record { told = told_after told step; begun = begun_in mid })
 heard_by_word told old mid text word step begun says takes =
@@ -63,7 +63,7 @@ heard_by_word told old mid text word step begun says takes =
     ∙ ap Ok (takes.makes told)
 
 -- what is the same reads the same
-pub same_read : (text : List ℕ) (told : List Told) (old new : Messages) → IsSame old new → HasRead text told old → HasRead text told new
+pub same_read : (text : List ℕ) (told : List AdapterMessage) (old new : Messages) → IsSame old new → HasRead text told old → HasRead text told new
 same_read text told old new same has =
     subst₂ (λ (u : Unread) (b : Option (List Read)). HasTold text told b u.bytes u.count) (sym same.lines) (sym same.begun) has
 
@@ -72,7 +72,7 @@ same_refusal old new error same refused =
     subst₂ (λ (u : Unread) (b : Option (List Read)). IsRefusalAt b u.bytes u.count error) (sym same.lines) (sym same.begun) refused
 
 -- what a line of a batch comes to, and a word
-pub by_part : (told : List Told) (old after mid : Messages) (text : List ℕ) (begun : List Read) (part : Part) (step same_step : Step)
+pub by_part : (told : List AdapterMessage) (old after mid : Messages) (text : List ℕ) (begun : List Read) (part : Part) (step same_step : Step)
     → old.is_begun ≡ true → begun ≡ old.begun.items → part_in begun text ≡ Ok part → TakesPart old part step after
     → mid ≡ after → same_step ≡ step
     → (heard_with told (begun_in old) text ≡ Ok (record { told = told_after told same_step; begun = begun_in mid }))
@@ -83,7 +83,7 @@ by_part told old after mid text begun part step same_step is_begun is says takes
     (sym same) (sym other)
     (heard_by_part told old after text part step is_begun (ap (λ (b : List Read). part_in b text) (sym is) ∙ says) takes, takes.lines, takes.taken)
 
-pub by_word : (told : List Told) (old after mid : Messages) (text : List ℕ) (word : Word) (step same_step : Step)
+pub by_word : (told : List AdapterMessage) (old after mid : Messages) (text : List ℕ) (word : Word) (step same_step : Step)
     → old.is_begun ≡ false → word_in text ≡ Ok word → TakesWord old word step after
     → mid ≡ after → same_step ≡ step
     → (heard_with told (begun_in old) text ≡ Ok (record { told = told_after told same_step; begun = begun_in mid }))

@@ -25,8 +25,8 @@ use Rattle.reg_adapter.specs.declared.line.Part.{Part}
 use Rattle.reg_adapter.specs.declared.line.Part.TheVariants as parts
 use Rattle.reg_adapter.specs.declared.line.Word.{Word}
 use Rattle.reg_adapter.specs.declared.line.Word.TheVariants as words
-use Rattle.reg_adapter.specs.declared.told.Told.{Told}
-use Rattle.reg_adapter.specs.declared.told.Told.TheVariants as messages
+use Rattle.reg_adapter.specs.declared.told.AdapterMessage.{AdapterMessage}
+use Rattle.reg_adapter.specs.declared.told.AdapterMessage.TheVariants as messages
 
 abbrev IsFree : ℕ → Type 0
 IsFree b = is_line_feed b ≡ false
@@ -94,7 +94,7 @@ none_more (line ∷ more) bytes rest free is =
     absurd (no_feed line (text_of more ++ rest) (subst HasNoLineFeed (is ∙ append_assoc line (10 ∷ text_of more) rest) free))
 
 -- with the same lines all is the same
-same_told : (told other : List Told) (begun begun' : Option (List Read)) (lines lines' : List (List ℕ))
+same_told : (told other : List AdapterMessage) (begun begun' : Option (List Read)) (lines lines' : List (List ℕ))
     → heard_of lines ≡ Ok (record { told = told; begun = begun }) → heard_of lines' ≡ Ok (record { told = other; begun = begun' })
     → lines' ≡ lines → (other ≡ told) × (begun' ≡ begun)
 same_told told other begun begun' lines lines' is is' same =
@@ -127,7 +127,7 @@ texts_tell_once text told other begun begun' bytes bytes' count count' has free 
     (heard.0, heard.1, both.1, omega (arith, has.counts, has'.counts, ap length both.0))
 
 -- a line's fault is the same whatever was told before
-fault_anywhere : (told told' : List Told) (begun : Option (List Read)) (line : List ℕ) (fault : MessageFault)
+fault_anywhere : (told told' : List AdapterMessage) (begun : Option (List Read)) (line : List ℕ) (fault : MessageFault)
     → heard_with told begun line ≡ Err fault → heard_with told' begun line ≡ Err fault
 fault_anywhere told told' None line fault is =
     elim (word_in line) as (λ r. result_map_both (with_word told) (λ (f : MessageFault). f) r ≡ Err fault
@@ -153,7 +153,7 @@ long_line line long =
     let past : nat_lt LINE_LIMIT (length line) ≡ true = grind (arith, nat_tests) in
     rw past
 
-too_long : (told : List Told) (begun : Option (List Read)) (line : List ℕ) → LINE_LIMIT < length line
+too_long : (told : List AdapterMessage) (begun : Option (List Read)) (line : List ℕ) → LINE_LIMIT < length line
     → heard_with told begun line ≡ Err (faults.Line TooLong)
 too_long told None line long = ap (result_map_both (with_word told) (λ (f : MessageFault). f)) (long_word line long)
 too_long told (Some begun) [] long = absurd (omega (arith, long))
@@ -161,7 +161,7 @@ too_long told (Some begun) (b ∷ line) long =
     ap (λ r. result_map_both (with_part told begun) (λ (f : MessageFault). f) (line_in begun r)) (long_line (b ∷ line) long)
 
 -- what a fault at the front makes of a line that is whole later
-faulty : (told : List Told) (begun : Option (List Read)) (bytes more line rest : List ℕ) (fault : MessageFault) → HasFaultAtFront begun bytes fault
+faulty : (told : List AdapterMessage) (begun : Option (List Read)) (bytes more line rest : List ℕ) (fault : MessageFault) → HasFaultAtFront begun bytes fault
     → HasNoLineFeed line → bytes ++ more ≡ line ++ 10 ∷ rest → heard_with told begun line ≡ Err fault
 faulty told begun bytes more line rest fault (inl (first, behind, parts, free, is)) free' whole =
     let both = same_front first line (behind ++ more) rest free free'
@@ -191,16 +191,16 @@ same_fault begun bytes more fault fault' (inl (line, rest, parts, free, is)) (in
 same_fault begun bytes more fault fault' (inr (free, long, is)) (inr (free', long', is')) = is' ∙ sym is
 
 -- messages are added behind those before
-with_word_grows : (told : List Told) (word : Word) → IsPrefix told (with_word told word).told
+with_word_grows : (told : List AdapterMessage) (word : Word) → IsPrefix told (with_word told word).told
 with_word_grows told words.Batch = ([], append-nil told)
 with_word_grows told (words.Answer answer) = (messages.Answer answer ∷ [], refl)
 with_word_grows told words.Ready = (messages.Ready ∷ [], refl)
 
-with_part_grows : (told : List Told) (begun : List Read) (part : Part) → IsPrefix told (with_part told begun part).told
+with_part_grows : (told : List AdapterMessage) (begun : List Read) (part : Part) → IsPrefix told (with_part told begun part).told
 with_part_grows told begun (parts.Line read) = ([], append-nil told)
 with_part_grows told begun parts.End = (messages.Batch begun ∷ [], refl)
 
-grows : (told : List Told) (begun : Option (List Read)) (line : List ℕ) (m : Heard) → heard_with told begun line ≡ Ok m → IsPrefix told m.told
+grows : (told : List AdapterMessage) (begun : Option (List Read)) (line : List ℕ) (m : Heard) → heard_with told begun line ≡ Ok m → IsPrefix told m.told
 grows told None line m is =
     elim (word_in line) as (λ r. result_map_both (with_word told) (λ (f : MessageFault). f) r ≡ Ok m → IsPrefix told m.told) [
       | Ok word ↦ λ was. let same : with_word told word ≡ m = cc in subst (λ (h : Heard). IsPrefix told h.told) same (with_word_grows told word)
@@ -212,8 +212,8 @@ grows told (Some begun) line m is =
       | Err f ↦ λ was. absurd (cc was)
     ] is
 
-prefix_of_prefix : (a b c : List Told) → IsPrefix a b → IsPrefix b c → IsPrefix a c
-prefix_of_prefix a b c (s, is) (t, then) = (s ++ t, sym (append_assoc a s t) ∙ ap (λ (l : List Told). l ++ t) is ∙ then)
+prefix_of_prefix : (a b c : List AdapterMessage) → IsPrefix a b → IsPrefix b c → IsPrefix a c
+prefix_of_prefix a b c (s, is) (t, then) = (s ++ t, sym (append_assoc a s t) ∙ ap (λ (l : List AdapterMessage). l ++ t) is ∙ then)
 
 pub told_grows : (h : Heard) (lines : List (List ℕ)) (m : Heard) → heard_from h lines ≡ Ok m → IsPrefix h.told m.told
 told_grows h [] m is = let same : h ≡ m = cc in subst (λ (x : Heard). IsPrefix h.told x.told) same ([], append-nil h.told)
@@ -224,11 +224,11 @@ told_grows h (line ∷ lines) m is =
       | Err f ↦ λ first was. absurd (cc was)
     ] refl is
 
-abbrev heard : List Told → Option (List Read) → Heard
+abbrev heard : List AdapterMessage → Option (List Read) → Heard
 heard told begun = record { told = told; begun = begun }
 
 -- where the lines are the same
-at_fault : (told other : List Told) (begun begun' : Option (List Read)) (bytes more bytes' : List ℕ) (count count' : ℕ)
+at_fault : (told other : List AdapterMessage) (begun begun' : Option (List Read)) (bytes more bytes' : List ℕ) (count count' : ℕ)
     (lines lines' : List (List ℕ)) (fault : MessageFault)
     → heard_of lines ≡ Ok (heard told begun) → heard_of lines' ≡ Ok (heard other begun')
     → count ≡ min (length lines) (2 ^ 64 - 1) → count' ≡ min (length lines') (2 ^ 64 - 1)
@@ -237,7 +237,7 @@ at_fault : (told other : List Told) (begun begun' : Option (List Read)) (bytes m
     × ((fault' : MessageFault) → HasFaultAtFront begun' bytes' fault' → (other ≡ told) × (count' ≡ count) × (fault' ≡ fault))
 at_fault told other begun begun' bytes more bytes' count count' lines lines' fault is is' counts counts' same rest has =
     let both = same_told told other begun begun' lines lines' is is' same in (
-      subst (λ (l : List Told). IsPrefix l told) (sym both.0) ([], append-nil told),
+      subst (λ (l : List AdapterMessage). IsPrefix l told) (sym both.0) ([], append-nil told),
       λ fault' has'. (
         both.0,
         omega (arith, counts, counts', ap length same),
@@ -262,7 +262,7 @@ heard_behind : (lines lines' more : List (List ℕ)) (h h' : Heard) → heard_of
 heard_behind lines lines' more h h' is is' parts =
     sym (heard-append nothing_heard lines more h is) ∙ ap heard_of (sym parts) ∙ is'
 
-module _ (told other : List Told) (begun begun' : Option (List Read)) (bytes more bytes' : List ℕ) (count count' : ℕ)
+module _ (told other : List AdapterMessage) (begun begun' : Option (List Read)) (bytes more bytes' : List ℕ) (count count' : ℕ)
     (lines lines' : List (List ℕ)) (fault : MessageFault)
     (is : heard_of lines ≡ Ok (heard told begun)) (is' : heard_of lines' ≡ Ok (heard other begun'))
     (free : All HasNoLineFeed lines) (free' : All HasNoLineFeed lines')

@@ -17,9 +17,9 @@ use Rattle.reg_adapter.specs.Laws.{MessagesAreRead, MessagesHaveTexts, TextsAreM
 use Rattle.reg_adapter.specs.Transcript.{AreMessages, IsMessage, IsMessageText, answer_word}
 use Rattle.reg_adapter.specs.declared.line.Word.{Word}
 use Rattle.reg_adapter.specs.declared.line.Word.TheVariants as words
-use Rattle.reg_adapter.specs.declared.told.Answer.TheVariants.{Kept, Behind, Declined, Lost}
-use Rattle.reg_adapter.specs.declared.told.Told.{Told}
-use Rattle.reg_adapter.specs.declared.told.Told.TheVariants as messages
+use Rattle.reg_adapter.specs.declared.told.AdapterAnswer.TheVariants.{Kept, Behind, Declined, Lost}
+use Rattle.reg_adapter.specs.declared.told.AdapterMessage.{AdapterMessage}
+use Rattle.reg_adapter.specs.declared.told.AdapterMessage.TheVariants as messages
 
 abbrev IsFree : ℕ → Type 0
 IsFree b = is_line_feed b ≡ false
@@ -50,7 +50,7 @@ Say-free [] reads say = All-nil HasNoLineFeed
 Say-free (line ∷ lines) [] say = absurd say
 Say-free (line ∷ lines) (read ∷ reads) say = All-cons HasNoLineFeed line lines say.1 (Say-free lines reads say.3)
 
-message_free : (lines : List (List ℕ)) (next : Told) → IsMessage lines next → All HasNoLineFeed lines
+message_free : (lines : List (List ℕ)) (next : AdapterMessage) → IsMessage lines next → All HasNoLineFeed lines
 message_free lines (messages.Batch reads) (others, is, say, batch) =
     subst (All HasNoLineFeed) (sym is)
     (All-cons HasNoLineFeed (codes "batch") (others ++ [] ∷ []) (word_free words.Batch)
@@ -59,7 +59,7 @@ message_free lines (messages.Answer answer) is =
     subst (All HasNoLineFeed) (sym is) (one_free (answer_word answer) (word_free (words.Answer answer)))
 message_free lines messages.Ready is = subst (All HasNoLineFeed) (sym is) (one_free (codes "ready") (word_free words.Ready))
 
-are_free : (lines : List (List ℕ)) (told : List Told) → AreMessages lines told → All HasNoLineFeed lines
+are_free : (lines : List (List ℕ)) (told : List AdapterMessage) → AreMessages lines told → All HasNoLineFeed lines
 are_free lines [] is = subst (All HasNoLineFeed) (sym is) (All-nil HasNoLineFeed)
 are_free lines (next ∷ more) (front, others, is, message, are) =
     subst (All HasNoLineFeed) (sym is)
@@ -82,7 +82,7 @@ texts_are_messages text told count has =
     (has.lines, has.parts ∙ append-nil (text_of has.lines), heard_were_written has.lines told has.free has.heard)
 
 -- one message more in front
-more_text : (lines : List (List ℕ)) (next : Told) (more : List Told) → IsMessage lines next → ((text : List ℕ) × IsMessageText text more)
+more_text : (lines : List (List ℕ)) (next : AdapterMessage) (more : List AdapterMessage) → IsMessage lines next → ((text : List ℕ) × IsMessageText text more)
     → (text : List ℕ) × IsMessageText text (next ∷ more)
 more_text lines next more message (text, (others, is, are)) =
     (text_of (lines ++ others), (lines ++ others, refl, (lines, others, refl, message, are)))
@@ -98,7 +98,7 @@ messages_have_texts (messages.Ready ∷ more) have =
     more_text (codes "ready" ∷ []) messages.Ready more refl (messages_have_texts more have)
 
 -- a text is that of one list of messages
-same_messages : (text text' : List ℕ) (told other : List Told) → text' ≡ text → IsMessageText text told → IsMessageText text' other → other ≡ told
+same_messages : (text text' : List ℕ) (told other : List AdapterMessage) → text' ≡ text → IsMessageText text told → IsMessageText text' other → other ≡ told
 same_messages text text' told other same is is' =
     let has = messages_are_read text told is in
     let has' = messages_are_read text other (subst (λ (t : List ℕ). IsMessageText t other) same is') in

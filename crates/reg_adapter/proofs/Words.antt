@@ -11,7 +11,7 @@ use Rattle.reg_adapter.specs.declared.fault.MessageFault.{MessageFault}
 use Rattle.reg_adapter.specs.declared.fault.MessageFault.TheVariants as faults
 use Rattle.reg_adapter.specs.declared.line.Word.{Word}
 use Rattle.reg_adapter.specs.declared.line.Word.TheVariants.{Batch, Answer, Ready}
-use Rattle.reg_adapter.specs.declared.told.Answer.TheVariants.{Kept, Behind, Declined, Lost}
+use Rattle.reg_adapter.specs.declared.told.AdapterAnswer.TheVariants.{Kept, Behind, Declined, Lost}
 
 -- the text of a word
 abbrev pub word_text : Word → List ℕ

@@ -20,10 +20,10 @@ use Rattle.reg_adapter.specs.declared.fault.MessageFault.TheVariants as faults
 use Rattle.reg_adapter.specs.declared.line.Part.TheVariants as parts
 use Rattle.reg_adapter.specs.declared.line.Word.{Word}
 use Rattle.reg_adapter.specs.declared.line.Word.TheVariants as words
-use Rattle.reg_adapter.specs.declared.told.Told.{Told}
-use Rattle.reg_adapter.specs.declared.told.Told.TheVariants as messages
+use Rattle.reg_adapter.specs.declared.told.AdapterMessage.{AdapterMessage}
+use Rattle.reg_adapter.specs.declared.told.AdapterMessage.TheVariants as messages
 
-abbrev at : List Told → Option (List Read) → Heard
+abbrev at : List AdapterMessage → Option (List Read) → Heard
 at told begun = record { told = told; begun = begun }
 
 pub heard-append : (h : Heard) (front others : List (List ℕ)) (m : Heard) → heard_from h front ≡ Ok m
@@ -37,7 +37,7 @@ heard-append h (line ∷ front) others m is =
     ] is
 
 -- one line that is heard, before others
-heard_first : (told : List Told) (begun : Option (List Read)) (line : List ℕ) (lines : List (List ℕ)) (m : Heard)
+heard_first : (told : List AdapterMessage) (begun : Option (List Read)) (line : List ℕ) (lines : List (List ℕ)) (m : Heard)
     → heard_with told begun line ≡ Ok m → heard_from (at told begun) (line ∷ lines) ≡ heard_from m lines
 heard_first told begun line lines m is = ap (then_heard (λ (x : Heard). heard_from x lines)) is
 
@@ -70,7 +70,7 @@ go_back (first ∷ begun) read more is go =
     (eqb-true (offset_in read) (offset_in first + length (first ∷ begun)) is, subst (λ (n : ℕ). FollowFrom n more) next go)
 
 -- a line of a batch, before others
-line_heard : (told : List Told) (begun : List Read) (b : ℕ) (line : List ℕ) (read : Read) (lines : List (List ℕ))
+line_heard : (told : List AdapterMessage) (begun : List Read) (b : ℕ) (line : List ℕ) (read : Read) (lines : List (List ℕ))
     → reading (b ∷ line) ≡ Ok read → follows begun read ≡ true
     → heard_from (at told (Some begun)) ((b ∷ line) ∷ lines) ≡ heard_from (at told (Some (begun ++ read ∷ []))) lines
 line_heard told begun b line read lines reads is =
@@ -79,7 +79,7 @@ line_heard told begun b line read lines reads is =
     heard_first told (Some begun) (b ∷ line) lines (at told (Some (begun ++ read ∷ []))) (part_heard told begun (b ∷ line) (parts.Line read) part)
 
 -- the lines of a batch, and the empty one behind them
-lines_heard : (told : List Told) (begun : List Read) (lines : List (List ℕ)) (reads : List Read) → Say lines reads → Go begun reads
+lines_heard : (told : List AdapterMessage) (begun : List Read) (lines : List (List ℕ)) (reads : List Read) → Say lines reads → Go begun reads
     → heard_from (at told (Some begun)) (lines ++ [] ∷ []) ≡ Ok (at (told ++ messages.Batch (begun ++ reads) ∷ []) None)
 lines_heard told [] [] [] say go = absurd go
 lines_heard told (first ∷ begun) [] [] say go =
@@ -93,47 +93,47 @@ lines_heard told begun ((b ∷ line) ∷ lines) (read ∷ reads) say go =
     ∙ ap (λ (l : List Read). Ok (at (told ++ messages.Batch l ∷ []) None)) (append_assoc begun (read ∷ []) reads)
 
 -- a word, before others
-text_heard : (told : List Told) (word : Word) (lines : List (List ℕ))
+text_heard : (told : List AdapterMessage) (word : Word) (lines : List (List ℕ))
     → heard_from (at told None) (word_text word ∷ lines) ≡ heard_from (with_word told word) lines
 text_heard told word lines =
     heard_first told None (word_text word) lines (with_word told word) (word_heard told (word_text word) word (word_text_in word))
 
-message_heard : (told : List Told) (lines : List (List ℕ)) (next : Told) → IsMessage lines next
+message_heard : (told : List AdapterMessage) (lines : List (List ℕ)) (next : AdapterMessage) → IsMessage lines next
     → heard_from (at told None) lines ≡ Ok (at (told ++ next ∷ []) None)
 message_heard told lines (messages.Batch reads) (others, is, say, batch) =
     ap (heard_from (at told None)) is ∙ text_heard told words.Batch (others ++ [] ∷ []) ∙ lines_heard told [] others reads say batch
 message_heard told lines (messages.Answer answer) is = ap (heard_from (at told None)) is ∙ text_heard told (words.Answer answer) []
 message_heard told lines messages.Ready is = ap (heard_from (at told None)) is ∙ text_heard told words.Ready []
 
-written_behind : (before : List Told) (lines : List (List ℕ)) (told : List Told) → AreMessages lines told
+written_behind : (before : List AdapterMessage) (lines : List (List ℕ)) (told : List AdapterMessage) → AreMessages lines told
     → heard_from (at before None) lines ≡ Ok (at (before ++ told) None)
 written_behind before lines [] is =
-    ap (heard_from (at before None)) is ∙ ap (λ (l : List Told). Ok (at l None)) (sym (append-nil before))
+    ap (heard_from (at before None)) is ∙ ap (λ (l : List AdapterMessage). Ok (at l None)) (sym (append-nil before))
 written_behind before lines (next ∷ more) (front, others, is, message, are) =
     ap (heard_from (at before None)) is
     ∙ heard-append (at before None) front others (at (before ++ next ∷ []) None) (message_heard before front next message)
     ∙ written_behind (before ++ next ∷ []) others more are
-    ∙ ap (λ (l : List Told). Ok (at l None)) (append_assoc before (next ∷ []) more)
+    ∙ ap (λ (l : List AdapterMessage). Ok (at l None)) (append_assoc before (next ∷ []) more)
 
 -- written messages are heard
-pub written_are_heard : (lines : List (List ℕ)) (told : List Told) → AreMessages lines told → heard_of lines ≡ Ok (at told None)
+pub written_are_heard : (lines : List (List ℕ)) (told : List AdapterMessage) → AreMessages lines told → heard_of lines ≡ Ok (at told None)
 written_are_heard lines told are = written_behind [] lines told are
 
 -- what was written, by what was begun before
-abbrev Wrote : List (List ℕ) → List Told → Option (List Read) → List Told → Type 0
-Wrote lines before None final = (told : List Told) × (final ≡ before ++ told) × AreMessages lines told
+abbrev Wrote : List (List ℕ) → List AdapterMessage → Option (List Read) → List AdapterMessage → Type 0
+Wrote lines before None final = (told : List AdapterMessage) × (final ≡ before ++ told) × AreMessages lines told
 Wrote lines before (Some begun) final =
-    (front : List (List ℕ)) × (others : List (List ℕ)) × (reads : List Read) × (told : List Told)
+    (front : List (List ℕ)) × (others : List (List ℕ)) × (reads : List Read) × (told : List AdapterMessage)
     × (lines ≡ front ++ [] ∷ others) × Say front reads × Go begun reads
     × (final ≡ before ++ messages.Batch (begun ++ reads) ∷ told) × AreMessages others told
 
 -- a message by itself
-wrote_word : (line : List ℕ) (lines : List (List ℕ)) (before final : List Told) (next : Told) → IsMessage (line ∷ []) next
+wrote_word : (line : List ℕ) (lines : List (List ℕ)) (before final : List AdapterMessage) (next : AdapterMessage) → IsMessage (line ∷ []) next
     → Wrote lines (before ++ next ∷ []) None final → Wrote (line ∷ lines) before None final
 wrote_word line lines before final next is (told, ends, are) =
     (next ∷ told, ends ∙ append_assoc before (next ∷ []) told, (line ∷ [], lines, refl, is, are))
 
-wrote_by_word : (line : List ℕ) (lines : List (List ℕ)) (before final : List Told) (word : Word) → line ≡ word_text word
+wrote_by_word : (line : List ℕ) (lines : List (List ℕ)) (before final : List AdapterMessage) (word : Word) → line ≡ word_text word
     → ((h : Heard) → h ≡ with_word before word → Wrote lines h.told h.begun final) → Wrote (line ∷ lines) before None final
 wrote_by_word line lines before final words.Batch is rec =
     let (front, others, reads, told, parts, say, go, ends, are) = rec (at before (Some [])) refl in (
@@ -154,7 +154,7 @@ wrote_by_word line lines before final words.Ready is rec =
     wrote_word line lines before final messages.Ready (ap (λ (l : List ℕ). l ∷ []) is) (rec (at (before ++ messages.Ready ∷ []) None) refl)
 
 -- a line of a batch
-wrote_line : (b : ℕ) (line : List ℕ) (lines : List (List ℕ)) (before : List Told) (begun : List Read) (final : List Told) (read : Read)
+wrote_line : (b : ℕ) (line : List ℕ) (lines : List (List ℕ)) (before : List AdapterMessage) (begun : List Read) (final : List AdapterMessage) (read : Read)
     → HasNoLineFeed (b ∷ line) → reading (b ∷ line) ≡ Ok read → follows begun read ≡ true
     → Wrote lines before (Some (begun ++ read ∷ [])) final → Wrote ((b ∷ line) ∷ lines) before (Some begun) final
 wrote_line b line lines before begun final read free says follow (front, others, reads, told, parts, say, go, ends, are) = (
@@ -170,7 +170,7 @@ wrote_line b line lines before begun final read free says follow (front, others,
 )
 
 -- the end of a batch
-wrote_end : (lines : List (List ℕ)) (before : List Told) (first : Read) (begun : List Read) (final : List Told)
+wrote_end : (lines : List (List ℕ)) (before : List AdapterMessage) (first : Read) (begun : List Read) (final : List AdapterMessage)
     → Wrote lines (before ++ messages.Batch (first ∷ begun) ∷ []) None final → Wrote ([] ∷ lines) before (Some (first ∷ begun)) final
 wrote_end lines before first begun final (told, ends, are) = (
   [],
@@ -186,7 +186,7 @@ wrote_end lines before first begun final (told, ends, are) = (
   are,
 )
 
-wrote : (lines : List (List ℕ)) (before : List Told) (begun : Option (List Read)) (final : List Told) → All HasNoLineFeed lines
+wrote : (lines : List (List ℕ)) (before : List AdapterMessage) (begun : Option (List Read)) (final : List AdapterMessage) → All HasNoLineFeed lines
     → heard_from (at before begun) lines ≡ Ok (at final None) → Wrote lines before begun final
 wrote [] before None final free is =
     let same : at before None ≡ at final None = cc in
@@ -226,8 +226,8 @@ wrote ((b ∷ line) ∷ lines) before (Some begun) final free is =
     ] refl is
 
 -- what is heard was written
-pub heard_were_written : (lines : List (List ℕ)) (told : List Told) → All HasNoLineFeed lines
+pub heard_were_written : (lines : List (List ℕ)) (told : List AdapterMessage) → All HasNoLineFeed lines
     → heard_of lines ≡ Ok (at told None) → AreMessages lines told
 heard_were_written lines told free is =
     let (found, ends, are) = wrote lines [] None told free is in
-    subst (λ (l : List Told). AreMessages lines l) (sym ends) are
+    subst (λ (l : List AdapterMessage). AreMessages lines l) (sym ends) are

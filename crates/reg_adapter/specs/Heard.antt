@@ -8,30 +8,30 @@ use Rattle.reg_adapter.specs.declared.line.Part.{Part}
 use Rattle.reg_adapter.specs.declared.line.Part.TheVariants as parts
 use Rattle.reg_adapter.specs.declared.line.Word.{Word}
 use Rattle.reg_adapter.specs.declared.line.Word.TheVariants as words
-use Rattle.reg_adapter.specs.declared.told.Told.{Told}
-use Rattle.reg_adapter.specs.declared.told.Told.TheVariants.{Batch, Answer, Ready}
+use Rattle.reg_adapter.specs.declared.told.AdapterMessage.{AdapterMessage}
+use Rattle.reg_adapter.specs.declared.told.AdapterMessage.TheVariants.{Batch, Answer, Ready}
 
 -- the messages, and what the lines say of the batch that is begun, where one is
 pub record Heard : Type 0 where
-  pub told : List Told
+  pub told : List AdapterMessage
   pub begun : Option (List Read)
 
 abbrev pub nothing_heard : Heard
 nothing_heard = record { told = []; begun = None }
 
 -- a word behind these messages
-abbrev pub with_word : List Told → Word → Heard
+abbrev pub with_word : List AdapterMessage → Word → Heard
 with_word told words.Batch = record { told = told; begun = Some [] }
 with_word told (words.Answer answer) = record { told = told ++ Answer answer ∷ []; begun = None }
 with_word told words.Ready = record { told = told ++ Ready ∷ []; begun = None }
 
 -- a line behind these of a batch
-abbrev pub with_part : List Told → List Read → Part → Heard
+abbrev pub with_part : List AdapterMessage → List Read → Part → Heard
 with_part told begun (parts.Line read) = record { told = told; begun = Some (begun ++ read ∷ []) }
 with_part told begun parts.End = record { told = told ++ Batch begun ∷ []; begun = None }
 
 -- what was told, with one line more, or that line's fault
-abbrev pub heard_with : List Told → Option (List Read) → List ℕ → Result Heard MessageFault
+abbrev pub heard_with : List AdapterMessage → Option (List Read) → List ℕ → Result Heard MessageFault
 heard_with told None line = result_map_both (with_word told) (λ fault. fault) (word_in line)
 heard_with told (Some begun) line = result_map_both (with_part told begun) (λ fault. fault) (part_in begun line)
 

@@ -8,19 +8,19 @@ use Rattle.reg_records.specs.declared.record.Read.{Read}
 use Rattle.reg_adapter.specs.Messages.{HasFaultAtFront, HasTold}
 use Rattle.reg_adapter.specs.Transcript.{IsBatch, IsMessageText, IsTranscript}
 use Rattle.reg_adapter.specs.declared.fault.MessageFault.{MessageFault}
-use Rattle.reg_adapter.specs.declared.told.Told.{Told}
-use Rattle.reg_adapter.specs.declared.told.Told.TheVariants.{Batch, Answer, Ready}
+use Rattle.reg_adapter.specs.declared.told.AdapterMessage.{AdapterMessage}
+use Rattle.reg_adapter.specs.declared.told.AdapterMessage.TheVariants.{Batch, Answer, Ready}
 
 -- whoever has read all whole lines of a text was given the same messages, and has begun the same batch, or none
 abbrev pub TextsTellOnce : Type 0
-TextsTellOnce = (text : List ℕ) (told other : List Told) (begun begun' : Option (List Read)) (bytes bytes' : List ℕ) (count count' : ℕ)
+TextsTellOnce = (text : List ℕ) (told other : List AdapterMessage) (begun begun' : Option (List Read)) (bytes bytes' : List ℕ) (count count' : ℕ)
     → HasTold text told begun bytes count → HasNoLineFeed bytes
     → HasTold text other begun' bytes' count' → HasNoLineFeed bytes'
     → (other ≡ told) × (begun' ≡ begun) × (bytes' ≡ bytes) × (count' ≡ count)
 
 -- where a line has a fault, whoever reads that text and whatever comes behind is given no other messages, and finds no other fault
 abbrev pub FaultsAreFirst : Type 0
-FaultsAreFirst = (text more : List ℕ) (told other : List Told) (begun begun' : Option (List Read)) (bytes bytes' : List ℕ) (count count' : ℕ)
+FaultsAreFirst = (text more : List ℕ) (told other : List AdapterMessage) (begun begun' : Option (List Read)) (bytes bytes' : List ℕ) (count count' : ℕ)
     (fault : MessageFault)
     → HasTold text told begun bytes count → HasFaultAtFront begun bytes fault
     → HasTold (text ++ more) other begun' bytes' count'
@@ -28,7 +28,7 @@ FaultsAreFirst = (text more : List ℕ) (told other : List Told) (begun begun' :
     × ((fault' : MessageFault) → HasFaultAtFront begun' bytes' fault' → (other ≡ told) × (count' ≡ count) × (fault' ≡ fault))
 
 -- a batch has lines that say it, as any that a log has; an answer and ready have their word
-abbrev pub HaveLines : List Told → Type 0
+abbrev pub HaveLines : List AdapterMessage → Type 0
 HaveLines [] = ⊤
 HaveLines (Batch reads ∷ more) = ((lines : List (List ℕ)) × Say lines reads × IsBatch reads) × HaveLines more
 HaveLines (Answer answer ∷ more) = HaveLines more
@@ -36,17 +36,17 @@ HaveLines (Ready ∷ more) = HaveLines more
 
 -- such messages have a text
 abbrev pub MessagesHaveTexts : Type 0
-MessagesHaveTexts = (told : List Told) → HaveLines told → (text : List ℕ) × IsMessageText text told
+MessagesHaveTexts = (told : List AdapterMessage) → HaveLines told → (text : List ℕ) × IsMessageText text told
 
 -- the text of some messages tells these
 abbrev pub MessagesAreRead : Type 0
-MessagesAreRead = (text : List ℕ) (told : List Told) → IsMessageText text told → (count : ℕ) × HasTold text told None [] count
+MessagesAreRead = (text : List ℕ) (told : List AdapterMessage) → IsMessageText text told → (count : ℕ) × HasTold text told None [] count
 
 -- and a text that tells some messages, and has nothing more, is theirs
 abbrev pub TextsAreMessages : Type 0
-TextsAreMessages = (text : List ℕ) (told : List Told) (count : ℕ) → HasTold text told None [] count → IsMessageText text told
+TextsAreMessages = (text : List ℕ) (told : List AdapterMessage) (count : ℕ) → HasTold text told None [] count → IsMessageText text told
 
 -- an adapter says one base, and one list of messages behind it
 abbrev pub TranscriptsAreUnique : Type 0
-TranscriptsAreUnique = (text : List ℕ) (base base' : LogText) (told other : List Told) → IsTranscript text base told
+TranscriptsAreUnique = (text : List ℕ) (base base' : LogText) (told other : List AdapterMessage) → IsTranscript text base told
     → IsTranscript text base' other → (base' ≡ base) × (other ≡ told)

@@ -13,10 +13,10 @@ use Rattle.reg_adapter.specs.declared.fault.MessageError.TheVariants.{Fault, Out
 use Rattle.reg_adapter.specs.declared.fault.MessageFault.{MessageFault}
 use Rattle.reg_adapter.specs.declared.fault.MessageFault.TheVariants.{Line, Unended}
 use Rattle.reg_adapter.specs.declared.messages.Messages.{Messages}
-use Rattle.reg_adapter.specs.declared.told.Told.{Told}
+use Rattle.reg_adapter.specs.declared.told.AdapterMessage.{AdapterMessage}
 
 -- the text is whole lines, which tell these messages and begin that batch or none, and bytes of which no line was read
-pub record HasTold (text : List ℕ) (told : List Told) (begun : Option (List Read)) (bytes : List ℕ) (count : ℕ) : Type 0 where
+pub record HasTold (text : List ℕ) (told : List AdapterMessage) (begun : Option (List Read)) (bytes : List ℕ) (count : ℕ) : Type 0 where
   pub lines : List (List ℕ)
   pub parts : text ≡ text_of lines ++ bytes
   pub free : All HasNoLineFeed lines
@@ -28,11 +28,11 @@ abbrev pub begun_in : Messages → Option (List Read)
 begun_in m = if m.is_begun then Some m.begun.items else None
 
 -- of the text these messages were given, and no other whole one was read
-abbrev pub HasRead : List ℕ → List Told → Messages → Type 0
+abbrev pub HasRead : List ℕ → List AdapterMessage → Messages → Type 0
 HasRead text told m = HasTold text told (begun_in m) m.lines.bytes m.lines.count
 
 -- the next message of the text was given; or none is whole
-abbrev pub Comes : List ℕ → List Told → Option Told → Messages → Type 0
+abbrev pub Comes : List ℕ → List AdapterMessage → Option AdapterMessage → Messages → Type 0
 Comes text told (Some next) new = HasRead text (told ++ next ∷ []) new
 Comes text told None new = HasRead text told new × HasNoLineFeed new.lines.bytes × (length new.lines.bytes ≤ LINE_LIMIT)
 
@@ -49,7 +49,7 @@ IsRefusalAt begun bytes count (Fault number fault) = (number ≡ counted count) 
 IsRefusalAt begun bytes count OutOfMemory = ⊤
 
 -- no message is lost, and what is left begins with that fault; or memory was refused
-pub record IsRefusal (text : List ℕ) (told : List Told) (new : Messages) (error : MessageError) : Type 0 where
+pub record IsRefusal (text : List ℕ) (told : List AdapterMessage) (new : Messages) (error : MessageError) : Type 0 where
   pub read : HasRead text told new
   pub fault : IsRefusalAt (begun_in new) new.lines.bytes new.lines.count error
 

@@ -17,7 +17,7 @@ use Rattle.reg_adapter.specs.declared.line.Part.{Part}
 use Rattle.reg_adapter.specs.declared.line.Part.TheVariants as parts
 use Rattle.reg_adapter.specs.declared.line.Word.{Word}
 use Rattle.reg_adapter.specs.declared.line.Word.TheVariants.{Batch, Answer, Ready}
-use Rattle.reg_adapter.specs.declared.told.Answer.TheVariants.{Kept, Behind, Declined, Lost}
+use Rattle.reg_adapter.specs.declared.told.AdapterAnswer.TheVariants.{Kept, Behind, Declined, Lost}
 
 -- the words
 unfoldable pub word_of : List ℕ → Option Word

@@ -10,10 +10,10 @@ use Rattle.reg_adapter.specs.declared.line.Word.{Word}
 use Rattle.reg_adapter.specs.declared.messages.Messages.{Messages}
 use Rattle.reg_adapter.specs.declared.messages.Step.{Step}
 use Rattle.reg_adapter.specs.declared.messages.Step.TheVariants as steps
-use Rattle.reg_adapter.specs.declared.told.Told.{Told}
+use Rattle.reg_adapter.specs.declared.told.AdapterMessage.{AdapterMessage}
 
 -- the messages behind those before, by what became of a line
-abbrev pub told_after : List Told → Step → List Told
+abbrev pub told_after : List AdapterMessage → Step → List AdapterMessage
 told_after told (steps.Told next) = told ++ next ∷ []
 told_after told steps.Within = told
 told_after told steps.Nothing = told
@@ -25,8 +25,8 @@ IsTaken steps.Within = ⊤
 IsTaken steps.Nothing = ⊥
 
 -- what the line makes of what was told is what is given and held then
-pub record Takes (old : Messages) (heard : List Told → Heard) (step : Step) (new : Messages) : Type 0 where
-  pub makes : (told : List Told) → heard told ≡ record { told = told_after told step; begun = begun_in new }
+pub record Takes (old : Messages) (heard : List AdapterMessage → Heard) (step : Step) (new : Messages) : Type 0 where
+  pub makes : (told : List AdapterMessage) → heard told ≡ record { told = told_after told step; begun = begun_in new }
   pub lines : new.lines ≡ old.lines
   pub taken : IsTaken step
 

@@ -13,4 +13,4 @@ pub use asking::request;
 pub use fault::{MessageError, MessageFault};
 pub use laws::{messages_are_texts, pieces_tell_the_same};
 pub use messages::Messages;
-pub use told::{Answer, Told};
+pub use told::{AdapterAnswer, AdapterMessage};

@@ -6,7 +6,7 @@ ghost use Rattle.reg_records.specs.Pieces.{HasNoLineFeed};
 ghost use Rattle.reg_adapter.specs.Said.{IsFault, follows, part_in, word_in, word_of};
 
 use crate::fault::{MessageError, MessageFault};
-use crate::told::Answer;
+use crate::told::AdapterAnswer;
 use reg_records::{LINE_LIMIT, LineError, Read, ReadLineError, read_line};
 use std::alloc::Global;
 
@@ -15,7 +15,7 @@ use std::alloc::Global;
 pub(crate) enum Word {
     /// A batch begins.
     Batch,
-    Answer(Answer),
+    Answer(AdapterAnswer),
     Ready,
 }
 
@@ -79,13 +79,13 @@ fn word_of(text: &[u8]) -> Option<Word>
     if is_word(text, "batch") {
         Some(Word::Batch)
     } else if is_word(text, "kept") {
-        Some(Word::Answer(Answer::Kept))
+        Some(Word::Answer(AdapterAnswer::Kept))
     } else if is_word(text, "behind") {
-        Some(Word::Answer(Answer::Behind))
+        Some(Word::Answer(AdapterAnswer::Behind))
     } else if is_word(text, "declined") {
-        Some(Word::Answer(Answer::Declined))
+        Some(Word::Answer(AdapterAnswer::Declined))
     } else if is_word(text, "lost") {
-        Some(Word::Answer(Answer::Lost))
+        Some(Word::Answer(AdapterAnswer::Lost))
     } else if is_word(text, "ready") {
         Some(Word::Ready)
     } else {

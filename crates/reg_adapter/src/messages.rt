@@ -2,12 +2,12 @@
 ghost use Rattle.std.specs.Prelude.{◌≡◌, ◌++◌, ℕ, List, [], true, false, IfErr, IfOk, OnErr, OnOk};
 ghost use Rattle.reg_adapter.specs.Messages.{Comes, EndsWithin, HasRead, IsBetween, IsRefusal};
 ghost use Rattle.reg_adapter.specs.Steps.{IsLess, IsSame, IsStepRefusal, TakesPart, TakesWord, told_after};
-ghost use Rattle.reg_adapter.specs.declared.told.Told.{Told};
+ghost use Rattle.reg_adapter.specs.declared.told.AdapterMessage.{AdapterMessage};
 
 use crate::fault::{MessageError, MessageFault};
 use crate::line::{Part, Word, fault_behind, part_in, word_in};
 use crate::lines::Lines;
-use crate::told::Told;
+use crate::told::AdapterMessage;
 use base_text::Listed;
 use reg_records::{LINE_LIMIT, LineError, Read};
 use std::alloc::{AllocError, Global};
@@ -29,7 +29,7 @@ pub struct Messages {
 #[derive(Drop)]
 enum Step {
     /// It ends this message.
-    Told(Told),
+    Told(AdapterMessage),
     /// It is one of a batch that goes on.
     Within,
     /// No whole line is there.
@@ -51,7 +51,7 @@ impl Messages {
 
     /// Takes bytes that came behind those before. The only error is out of memory; all is then as it was.
     pub fn take(&mut self, bytes: &[u8]) -> Result<(), AllocError>
-        ensures read { (text : List ℕ) (told : List Told) → HasRead text told self.old → OnOk result (HasRead (text ++ bytes.now) told self.new) }
+        ensures read { (text : List ℕ) (told : List AdapterMessage) → HasRead text told self.old → OnOk result (HasRead (text ++ bytes.now) told self.new) }
         ensures refused { OnErr result (self.new ≡ self.old) }
     {
         self.lines.add(bytes)
@@ -59,9 +59,9 @@ impl Messages {
 
     /// Gives the next message, if it is whole. A line past its limit is refused before its LF has come. After an error no message is lost, and
     /// the next call gives the same error, unless memory was refused.
-    pub fn next(&mut self) -> Result<Option<Told>, MessageError>
-        ensures came { (text : List ℕ) (told : List Told) → HasRead text told self.old → IfOk result (λ came. Comes text told came self.new) }
-        ensures refused { (text : List ℕ) (told : List Told) → HasRead text told self.old → IfErr result (IsRefusal text told self.new) }
+    pub fn next(&mut self) -> Result<Option<AdapterMessage>, MessageError>
+        ensures came { (text : List ℕ) (told : List AdapterMessage) → HasRead text told self.old → IfOk result (λ came. Comes text told came self.new) }
+        ensures refused { (text : List ℕ) (told : List AdapterMessage) → HasRead text told self.old → IfErr result (IsRefusal text told self.new) }
     {
         'lines: loop {
             match self.step()? {
@@ -88,7 +88,7 @@ impl Messages {
 
     /// Reads the line at the front, if it is whole.
     fn step(&mut self) -> Result<Step, MessageError>
-        ensures steps { (text : List ℕ) (told : List Told) → HasRead text told self.old → IfOk result (λ step. HasRead text (told_after told step) self.new) }
+        ensures steps { (text : List ℕ) (told : List AdapterMessage) → HasRead text told self.old → IfOk result (λ step. HasRead text (told_after told step) self.new) }
         ensures less { IfOk result (λ step. IsLess self.old step self.new) }
         ensures refused { IfErr result (IsStepRefusal self.old) }
         ensures same { OnErr result (IsSame self.old self.new) }
@@ -125,8 +125,8 @@ impl Messages {
                 self.begun = Vec::new(self.alloc);
                 Step::Within
             }
-            Word::Answer(answer) => Step::Told(Told::Answer(answer)),
-            Word::Ready => Step::Told(Told::Ready),
+            Word::Answer(answer) => Step::Told(AdapterMessage::Answer(answer)),
+            Word::Ready => Step::Told(AdapterMessage::Ready),
         }
     }
 
@@ -144,7 +144,7 @@ impl Messages {
             Part::End => {
                 let reads = mem::replace(&mut self.begun, Vec::new(self.alloc));
                 self.is_begun = false;
-                Ok(Step::Told(Told::Batch(Listed::from(reads))))
+                Ok(Step::Told(AdapterMessage::Batch(Listed::from(reads))))
             }
         }
     }

@@ -4,7 +4,7 @@ use reg_records::Read;
 
 /// What an adapter answers to a request.
 #[derive(Clone, Copy, Debug, PartialEq, Eq)]
-pub enum Answer {
+pub enum AdapterAnswer {
     /// The lines stand in the log, right behind what was told. Of a check: at some moment since it was asked nothing stood there.
     Kept,
     /// They don't stand there and never will: what came first has been told.
@@ -17,12 +17,12 @@ pub enum Answer {
 
 /// A message of an adapter.
 #[derive(Debug, Drop)]
-pub enum Told {
+pub enum AdapterMessage {
     /// A batch that others wrote stands in the log next: what its lines say, one or more, of which each has the offset behind that of the line
     /// before it.
     Batch(Listed<Read>),
     /// The answer to the request that was made first of those that have none.
-    Answer(Answer),
+    Answer(AdapterAnswer),
     /// All was told that was acknowledged before the adapter began.
     Ready,
 }

@@ -13,7 +13,7 @@ use Rattle.reg_records.specs.declared.value.Value.TheVariants as values
 use Rattle.reg_values.specs.Value.{value_of, value_of_text}
 use Rattle.reg_set.specs.LastRecords.{last, last_records}
 use Rattle.reg_set.specs.Records.{Records, records_of}
-use Rattle.reg_kept.specs.Compaction.{standing}
+use Rattle.reg_floored.specs.Compaction.{standing}
 use Rattle.reg_entries.specs.EntryOrder.{place_cmp, place_of}
 use Rattle.reg_fold.specs.Entries.{entries, entry_in, entry_map, entry_of, normal_of}
 use Rattle.reg_fold.specs.IdMark.{id_mark, id_marked_in, id_marked_of}

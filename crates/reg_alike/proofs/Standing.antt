@@ -11,7 +11,7 @@ use Rattle.reg_set.specs.Join.{LastIsGreatest, LastOfLastRecords}
 use Rattle.reg_set.specs.LastRecords.{is_last, last, last_records}
 use Rattle.reg_set.specs.RecordOrder.{record_cmp}
 use Rattle.reg_set.specs.Records.{Records}
-use Rattle.reg_kept.specs.Compaction.{standing}
+use Rattle.reg_floored.specs.Compaction.{standing}
 use Rattle.reg_alike.proofs.Retained.{both, equal, first_true, in_retain, second_true}
 
 -- what is known of the order of records, and of last ones

@@ -1,8 +1,8 @@
 -- Sets of last records that give the same answer alike.
 use Rattle.std.specs.Prelude.{◌↔◌}
 use Rattle.reg_set.specs.Records.{Records}
-use Rattle.reg_kept.specs.Compaction.{IsCompactionOf}
-use Rattle.reg_kept.specs.Floored.{Floored}
+use Rattle.reg_floored.specs.Compaction.{IsCompactionOf}
+use Rattle.reg_floored.specs.Floored.{Floored}
 use Rattle.reg_lookup.specs.Answers.{IsAnswer, IsAnswerOver}
 use Rattle.reg_lookup.specs.declared.answered.Answer.{Answer}
 use Rattle.reg_lookup.specs.declared.query.Query.{Query}

@@ -2,8 +2,8 @@
 use Rattle.std.specs.Prelude.{◌≡◌}
 use Rattle.reg_set.specs.LastRecords.{last_records}
 use Rattle.reg_set.specs.Records.{Records}
-use Rattle.reg_kept.specs.Compaction.{IsCompactionOf, standing}
-use Rattle.reg_kept.specs.Floored.{Floored}
+use Rattle.reg_floored.specs.Compaction.{IsCompactionOf, standing}
+use Rattle.reg_floored.specs.Floored.{Floored}
 use Rattle.reg_fold.specs.GiveAlike.{GiveAlike}
 
 -- last records without a value give nothing

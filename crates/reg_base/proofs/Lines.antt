@@ -6,7 +6,7 @@ use Rattle.std.proofs.lemmas.List.Sums.{sum_by-cons}
 use Rattle.std.specs.List.{count_by, filter}
 use Rattle.std.specs.Option.{option_map_or}
 use Rattle.reg_journal.specs.Lines.{Say, SayLog, SaysFloor, text_of}
-use Rattle.reg_keeping.specs.Fronts.{Front, HasLines}
+use Rattle.reg_compaction.specs.Fronts.{Front, HasLines}
 use Rattle.reg_records.specs.Line.{reading}
 use Rattle.reg_records.specs.Log.{is_foreign, records_in}
 use Rattle.reg_records.specs.declared.record.Read.{Read}

@@ -10,7 +10,7 @@ use Rattle.reg_records.specs.declared.record.Record.{Record}
 use Rattle.reg_set.specs.LastRecords.{last_records}
 use Rattle.reg_set.specs.Records.{Records}
 use Rattle.reg_fold.specs.IdMark.{needs_mark}
-use Rattle.reg_keeping.specs.Sorted.{IsSortedCompaction}
+use Rattle.reg_compaction.specs.Sorted.{IsSortedCompaction}
 
 -- whether what a line says stands below the offset
 abbrev pub is_below : ℕ → Read → Bool

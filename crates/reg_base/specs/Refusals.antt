@@ -5,7 +5,7 @@ use Rattle.reg_records.specs.Log.{LogText, log_of}
 use Rattle.reg_records.specs.declared.log.LogError.{LogError}
 use Rattle.reg_fold.specs.IdMark.{needs_mark}
 use Rattle.reg_journal.specs.Found.{HasFault}
-use Rattle.reg_keeping.specs.Filter.{IsFilterRefusal, exit_status as filter_status, filter_error_of, filter_error_text}
+use Rattle.reg_compaction.specs.Filter.{IsFilterRefusal, exit_status as filter_status, filter_error_of, filter_error_text}
 use Rattle.reg_base.specs.Base.{EndsAt, is_crossed, lasts_below}
 use Rattle.reg_base.specs.declared.error.BaseError.{BaseError}
 use Rattle.reg_base.specs.declared.error.BaseError.TheVariants.{Filter, NoEnd, Crossed, MarkDue}

@@ -1,14 +1,14 @@
 // What a log begins with that begins anew.
 ghost use Rattle.std.specs.Prelude.{◌≡◌, List, ℕ, IfErr, IfOk, IfSome, OnOk};
 ghost use Rattle.std.specs.Io.KnownBytes.{Appends};
-ghost use Rattle.reg_keeping.specs.Filter.{IsFlushed};
+ghost use Rattle.reg_compaction.specs.Filter.{IsFlushed};
 ghost use Rattle.reg_base.specs.Base.{IsBase};
 ghost use Rattle.reg_base.specs.Refusals.{IsBaseRefusal, IsNoBase};
 
 use crate::below::part_below;
 use crate::error::BaseError;
 use crate::marks::{is_crossed, owes_mark};
-use reg_keeping::{compacted_in_order, read_input, write_output};
+use reg_compaction::{compacted_in_order, read_input, write_output};
 use reg_records::{Device, Output, read_log};
 use std::alloc::Global;
 use std::io::Read;

@@ -3,11 +3,11 @@ ghost use Rattle.std.specs.Prelude.{◌≡◌, ◌≤◌, ◌+◌, ◌++◌, ◌
 ghost use Rattle.reg_journal.specs.Lines.{text_of};
 ghost use Rattle.reg_records.specs.Log.{IsLogOf, LogText, log_of};
 ghost use Rattle.reg_records.specs.declared.record.Read.{Read};
-ghost use Rattle.reg_keeping.specs.Fronts.{Front, HasLines};
+ghost use Rattle.reg_compaction.specs.Fronts.{Front, HasLines};
 ghost use Rattle.reg_base.specs.Base.{is_below, lines_below, log_below};
 
+use reg_compaction::{floor_len, line_at};
 use reg_journal::lines_are_logs;
-use reg_keeping::{floor_len, line_at};
 use reg_records::{Log, Read};
 use std::alloc::{AllocError, Global};
 

@@ -1,5 +1,5 @@
 // Why a log doesn't begin anew at an offset.
-use reg_keeping::{FilterError, filter_error};
+use reg_compaction::{FilterError, filter_error};
 use reg_records::LogError;
 use std::alloc::AllocError;
 use std::error::Error;
@@ -58,7 +58,7 @@ impl Error for BaseError {}
 
 impl From<LogError> for BaseError {
     ghost use Rattle.std.specs.Prelude.{◌≡◌};
-    ghost use Rattle.reg_keeping.specs.Filter.{filter_error_of};
+    ghost use Rattle.reg_compaction.specs.Filter.{filter_error_of};
     ghost use Rattle.reg_base.specs.declared.error.BaseError.TheVariants.{Filter};
 
     ghost from_gives = { λ error e. e ≡ Filter (filter_error_of error) };
@@ -81,7 +81,7 @@ impl From<FilterError> for BaseError {
 
 impl From<AllocError> for BaseError {
     ghost use Rattle.std.specs.Prelude.{◌≡◌};
-    ghost use Rattle.reg_keeping.specs.declared.filter.FilterError.TheVariants.{OutOfMemory};
+    ghost use Rattle.reg_compaction.specs.declared.filter.FilterError.TheVariants.{OutOfMemory};
     ghost use Rattle.reg_base.specs.declared.error.BaseError.TheVariants.{Filter};
 
     ghost from_gives = { λ _ e. e ≡ Filter OutOfMemory };

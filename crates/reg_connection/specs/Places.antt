@@ -7,14 +7,14 @@ use Rattle.reg_connection.specs.declared.places.Place.{Place}
 use Rattle.reg_connection.specs.declared.places.Place.TheVariants as places
 
 -- where the connection of each place is, how many bytes each held when it was last seen, and how many were closed
-pub record Seats (S T : Type 0) : Type 0 where
+pub record PlaceTable (S T : Type 0) : Type 0 where
   pub places : List (Place S T)
   pub weights : List ℕ
   pub closed : ℕ
 
 module _ {S T : Type 0} where
   -- so many places, all free
-  abbrev pub all_free : ℕ → Seats S T
+  abbrev pub all_free : ℕ → PlaceTable S T
   all_free n = record { places = replicate n places.Free; weights = replicate n 0; closed = 0 }
 
   abbrev pub is_free : Place S T → Bool
@@ -31,7 +31,7 @@ module _ {S T : Type 0} where
   is_stirred (Some (places.Held connection)) = false
   is_stirred None = false
 
-  -- the connection of a place, where the doorkeeper has it
+  -- the connection of a place, where the poller has it
   abbrev pub held_in : Option (Place S T) → Option (Connection S T)
   held_in (Some (places.Held connection)) = Some connection
   held_in (Some places.Free) = None
@@ -40,45 +40,45 @@ module _ {S T : Type 0} where
   held_in None = None
 
   -- the same, but for one place
-  abbrev pub with_place : ℕ → Place S T → Seats S T → Seats S T
-  with_place at place seats = record { places = slice_set seats.places at place; weights = seats.weights; closed = seats.closed }
+  abbrev pub with_place : ℕ → Place S T → PlaceTable S T → PlaceTable S T
+  with_place at place table = record { places = slice_set table.places at place; weights = table.weights; closed = table.closed }
 
   -- the same, but for what the connection of one place holds
-  abbrev pub weighed : ℕ → ℕ → Seats S T → Seats S T
-  weighed at weight seats = record { places = seats.places; weights = slice_set seats.weights at weight; closed = seats.closed }
+  abbrev pub weighed : ℕ → ℕ → PlaceTable S T → PlaceTable S T
+  weighed at weight table = record { places = table.places; weights = slice_set table.weights at weight; closed = table.closed }
 
   -- the same, but for both
-  abbrev pub with_weight : ℕ → Place S T → ℕ → Seats S T → Seats S T
-  with_weight at place weight seats =
-      record { places = slice_set seats.places at place; weights = slice_set seats.weights at weight; closed = seats.closed }
+  abbrev pub with_weight : ℕ → Place S T → ℕ → PlaceTable S T → PlaceTable S T
+  with_weight at place weight table =
+      record { places = slice_set table.places at place; weights = slice_set table.weights at weight; closed = table.closed }
 
   -- the connection of a place was closed, which is free then
-  abbrev pub left_at : ℕ → Seats S T → Seats S T
-  left_at at seats = record {
-    places = slice_set seats.places at places.Free;
-    weights = slice_set seats.weights at 0;
-    closed = min (seats.closed + 1) (2 ^ 64 - 1);
+  abbrev pub left_at : ℕ → PlaceTable S T → PlaceTable S T
+  left_at at table = record {
+    places = slice_set table.places at places.Free;
+    weights = slice_set table.weights at 0;
+    closed = min (table.closed + 1) (2 ^ 64 - 1);
   }
 
   -- the first free place was taken, or none is free
-  abbrev pub TakesFree : Seats S T → Seats S T → Option ℕ → Type 0
+  abbrev pub TakesFree : PlaceTable S T → PlaceTable S T → Option ℕ → Type 0
   TakesFree old new None = (position is_free old.places ≡ None) × (new ≡ old)
   TakesFree old new (Some at) = (position is_free old.places ≡ Some at) × (new ≡ with_place at places.Out old)
 
   -- what became of a place that the poll reported: a connection that is held is taken out, and of one that is lent the report is kept
-  abbrev pub StirsPlace : ℕ → Option (Place S T) → Seats S T → Seats S T → Option (Connection S T) → Type 0
+  abbrev pub StirsPlace : ℕ → Option (Place S T) → PlaceTable S T → PlaceTable S T → Option (Connection S T) → Type 0
   StirsPlace at (Some (places.Held connection)) old new result = (result ≡ Some connection) × (new ≡ with_place at places.Out old)
   StirsPlace at (Some (places.Lent stirred)) old new result = (result ≡ None) × (new ≡ with_place at (places.Lent true) old)
   StirsPlace at (Some places.Free) old new result = (result ≡ None) × (new ≡ old)
   StirsPlace at (Some places.Out) old new result = (result ≡ None) × (new ≡ old)
   StirsPlace at None old new result = (result ≡ None) × (new ≡ old)
 
-  abbrev pub Stirs : ℕ → Seats S T → Seats S T → Option (Connection S T) → Type 0
+  abbrev pub Stirs : ℕ → PlaceTable S T → PlaceTable S T → Option (Connection S T) → Type 0
   Stirs at old new result = StirsPlace at (slice_get old.places at) old new result
 
   -- how many bytes all connections held when they were last seen, up to the greatest count
-  abbrev pub all_weight : Seats S T → ℕ
-  all_weight seats = min (sum seats.weights) (2 ^ 64 - 1)
+  abbrev pub all_weight : PlaceTable S T → ℕ
+  all_weight table = min (sum table.weights) (2 ^ 64 - 1)
 
   -- no held connection asked last by that time; or one did, and none before it
   abbrev pub IsOldest : ℕ → List (Place S T) → Option ℕ → Type 0

@@ -29,11 +29,11 @@ pub enum Turn {
     Over,
 }
 
-/// A connection, which the doorkeeper holds or a worker has. Times are milliseconds of one clock.
+/// A connection, which the poller holds or a worker has. Times are milliseconds of one clock.
 #[derive(Drop)]
 pub struct Connection<S: Stream, T: Drop> {
     pub stream: S,
-    /// Its place at the doorkeeper.
+    /// Its place at the poller.
     pub place: usize,
     pub conversation: Conversation,
     /// What its last answer stood on.
@@ -52,7 +52,7 @@ pub struct Connection<S: Stream, T: Drop> {
     dropped: u64,
     /// Whether the client has ended its side.
     pub ended: bool,
-    /// Whether the doorkeeper's poll knows it.
+    /// Whether the poll knows it.
     pub watched: bool,
     /// Whether bytes may be there that weren't read when it was last looked at.
     pub stirred: bool,

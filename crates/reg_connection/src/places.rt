@@ -15,9 +15,9 @@ use std::mem;
 pub enum Place<S: Stream + Drop, T: Drop> {
     /// There is none.
     Free,
-    /// The doorkeeper is at it: it was taken for a connection that isn't there yet, or its connection was taken out.
+    /// The poller is at it: it was taken for a connection that isn't there yet, or its connection was taken out.
     Out,
-    /// The doorkeeper has it.
+    /// The poller has it.
     Held(Connection<S, T>),
     /// A worker has it, or it waits for one. Whether the poll reported it meanwhile.
     Lent { stirred: bool },
@@ -45,9 +45,9 @@ pub struct Places<S: Stream + Drop, T: Drop> {
 }
 
 impl<S: Stream + Drop, T: Drop> Model for Places<S, T> {
-    ghost use Rattle.reg_connection.specs.Places.{Seats};
+    ghost use Rattle.reg_connection.specs.Places.{PlaceTable};
 
-    ghost Value = { Seats S T };
+    ghost Value = { PlaceTable S T };
 
     ghost view = { λ p. record { places = p.places.items; weights = p.weights.items; closed = p.closed } };
 }
@@ -111,7 +111,7 @@ impl<S: Stream + Drop, T: Drop> Places<S, T> {
         sum_of(&self.weights)
     }
 
-    /// Says that the poll reported a place. Takes its connection out, where the doorkeeper has it.
+    /// Says that the poll reported a place. Takes its connection out, where the poller has it.
     pub fn stir(&mut self, at: usize) -> Option<Connection<S, T>>
         ensures { Stirs at self.old self.new result }
     {

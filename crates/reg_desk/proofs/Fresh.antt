@@ -2,7 +2,7 @@
 use Rattle.std.proofs.Common.{◌≡◌, List, [], ◌++◌, sym, ap, subst, ◌∙◌, append_assoc}
 use Rattle.std.proofs.lemmas.List.{append-nil}
 use mathlib.Core.List.{IsPrefix}
-use Rattle.reg_kept.specs.Compaction.{IsCompactionOf}
+use Rattle.reg_floored.specs.Compaction.{IsCompactionOf}
 use Rattle.reg_topic.specs.declared.published.Item.{Item}
 use Rattle.reg_shared.specs.Held.{Held, topic_at}
 use Rattle.reg_node.specs.Takes.{taken_set}

@@ -5,7 +5,7 @@ use Rattle.std.specs.List.{AllByRecursion}
 use Rattle.std.specs.declared.alloc.AllocError.{AllocError}
 use mathlib.Core.List.{IsPrefix}
 use Rattle.reg_records.specs.declared.record.Record.{Record}
-use Rattle.reg_kept.specs.Compaction.{IsCompactionOf}
+use Rattle.reg_floored.specs.Compaction.{IsCompactionOf}
 use Rattle.reg_set.specs.LastRecords.{last_records}
 use Rattle.reg_lookup.specs.Answers.{IsAnswer}
 use Rattle.reg_lookup.specs.declared.answered.Answer.{Answer}

@@ -10,9 +10,9 @@ use reg_node::{Case, Draw, Taken, View};
 
 /// A registration, and its judgement.
 #[derive(Drop)]
-pub(crate) struct Ruling {
-    pub(crate) case: Case,
-    pub(crate) judged: Judged,
+pub struct Ruling {
+    pub case: Case,
+    pub judged: Judged,
 }
 
 impl Ruling {
@@ -22,7 +22,7 @@ impl Ruling {
     /// Each registration is judged, also where its text is short: how long its check takes depends on what is
     /// live. Under a level that looks at one version this costs half as much again as a decision alone, but
     /// none of it while the pen is held.
-    pub(crate) fn of<M: FeedName<Draw, Taken>, U: Copies<Draw, Taken, M>>(
+    pub fn of<M: FeedName<Draw, Taken>, U: Copies<Draw, Taken, M>>(
         view: &mut View<M, U>,
         judge: &mut Judge,
         command: &Command,
@@ -36,7 +36,7 @@ impl Ruling {
     }
 
     /// The judgement of that case.
-    pub(crate) fn on(case: Case, judge: &mut Judge) -> Option<Ruling> {
+    pub fn on(case: Case, judge: &mut Judge) -> Option<Ruling> {
         match case.judged(judge) {
             Ok(judged) => Some(Ruling { case, judged }),
             Err(_) => None,
@@ -46,7 +46,7 @@ impl Ruling {
 
 /// The case over the registry, where it isn't the same any more. Where memory is refused it passes for
 /// the same one.
-pub(crate) fn overtaken(case: Case, registry: &Registry) -> Option<Case> {
+pub fn overtaken(case: Case, registry: &Registry) -> Option<Case> {
     match case.stands(registry) {
         Ok(false) => case.anew(registry).ok(),
         Ok(true) | Err(_) => None,

@@ -30,7 +30,7 @@ impl<N: FeedName<Item, Shared>, M: FeedName<Draw, Taken>> Model for Standing<N, 
 
 impl<N: FeedName<Item, Shared>, M: FeedName<Draw, Taken>> Standing<N, M> {
     /// What stands on these fronts.
-    pub(crate) fn of(
+    pub fn of(
         topic: Option<Seen<Item, Shared, N>>,
         node: Seen<Draw, Taken, M>,
         fresh: bool,
@@ -42,7 +42,7 @@ impl<N: FeedName<Item, Shared>, M: FeedName<Draw, Taken>> Standing<N, M> {
     }
 
     /// The front of the topic's list, where there was a command.
-    pub(crate) fn topic(&self) -> Option<&Seen<Item, Shared, N>>
+    pub fn topic(&self) -> Option<&Seen<Item, Shared, N>>
         ensures front { option_map (λ s. s.now) result ≡ self.now.topic }
         ensures shown { self.now.fresh ≡ true → IsFresh N.first (front_of self.now.topic) self.now.node }
     {
@@ -50,14 +50,14 @@ impl<N: FeedName<Item, Shared>, M: FeedName<Draw, Taken>> Standing<N, M> {
     }
 
     /// The front of the node's list.
-    pub(crate) fn node(&self) -> &Seen<Draw, Taken, M>
+    pub fn node(&self) -> &Seen<Draw, Taken, M>
         ensures { result.now ≡ self.now.node }
     {
         &self.node
     }
 
     /// Whether the node's front shows the topic's.
-    pub(crate) fn fresh(&self) -> bool
+    pub fn fresh(&self) -> bool
         ensures { result ≡ self.now.fresh }
     {
         self.fresh

@@ -105,7 +105,8 @@ fn submit_judged<
 }
 
 /// Takes the pen for one registration, if its judgement still fits; else gives what is to be judged by
-/// now.
+/// now. A compaction may follow.
+#[tactic(auto, using(crate::proofs::Told::is_submitted))]
 fn lend_pen_if_fits<
     N: FeedName<Item, Shared>,
     S: Copies<Item, Shared, N>,
@@ -128,10 +129,11 @@ fn lend_pen_if_fits<
     if let Some(case) = overtaken(case, pen.registry()) {
         return Err(case);
     }
-    Ok(submit_after(&mut pen, pass, before, command, Some(&judged)))
+    Ok(pen.submit_and_compact(pass, before.as_ref(), command, Some(&judged)))
 }
 
-/// Takes the pen for one command.
+/// Takes the pen for one command. A compaction may follow.
+#[tactic(auto, using(crate::proofs::Told::is_submitted))]
 fn lend_pen<N: FeedName<Item, Shared>, S: Copies<Item, Shared, N>, K: Keep + Drop, R: Wait + Drop>(
     rt: &R,
     pen: &Mutex<Pen<N, S, K, R>>,
@@ -144,26 +146,6 @@ fn lend_pen<N: FeedName<Item, Shared>, S: Copies<Item, Shared, N>, K: Keep + Dro
     ensures counted { pass.new.submits ≡ counted pass.old.submits }
 {
     let mut pen = pen.lock(rt);
-    submit_after(&mut pen, pass, before, command, judged)
-}
-
-/// Submits the command, once, for a caller with that front; a compaction may follow.
-#[tactic(auto, using(crate::proofs::Told::is_submitted))]
-fn submit_after<
-    N: FeedName<Item, Shared>,
-    S: Copies<Item, Shared, N>,
-    K: Keep + Drop,
-    R: Wait + Drop,
->(
-    pen: &mut Pen<N, S, K, R>,
-    pass: &mut Pass<N>,
-    before: &Option<Seen<Item, Shared, N>>,
-    command: &Command,
-    judged: Option<&Judged>,
-) -> Submitted<N>
-    ensures submitted { IsSubmitted K.keeps (base_of N.first) before.now command.now result.reply result.seen }
-    ensures counted { pass.new.submits ≡ counted pass.old.submits }
-{
     pen.submit_and_compact(pass, before.as_ref(), command, judged)
 }
 

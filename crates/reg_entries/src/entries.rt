@@ -18,8 +18,8 @@ use crate::meanings::{Meaning, mean, refresh_both, refresh_meaning};
 use crate::names::{At, Name, name_above, place_of};
 use crate::schemas::{Schema, first_schema, schema_at, schema_of, unlist, write_all};
 use crate::soft_delete::{SoftDeletes, delete_of};
+use crate::stored_entry::StoredEntry;
 use crate::tops::{leave_room, refresh_top};
-use crate::twin::Twin;
 use base_text::Text;
 use packed_trees::{copy_map, copy_set};
 use std::alloc::{AllocError, Global};
@@ -36,7 +36,7 @@ use std::marker::Model;
 #[derive(Debug, Drop)]
 pub struct Entries {
     alloc: Global,
-    entries: BTreeMap<At, Twin>,
+    entries: BTreeMap<At, StoredEntry>,
     names: BTreeSet<Name>,
     // Of each subject with an entry the place of its greatest version.
     tops: BTreeMap<String, At>,
@@ -112,11 +112,11 @@ impl Entries {
         ensures put { OnOk result (self.new ≡ finmap.insert self.old (place_of entry) entry) }
         ensures refused { OnErr result (self.new ≡ self.old) }
     {
-        self.put_twin(Twin::of(entry)?)
+        self.put_stored_entry(StoredEntry::of(entry)?)
     }
 
     /// The same.
-    fn put_twin(&mut self, entry: Twin) -> Result<(), AllocError>
+    fn put_stored_entry(&mut self, entry: StoredEntry) -> Result<(), AllocError>
         ensures put { OnOk result (self.new ≡ finmap.insert self.old (place_of entry) entry) }
         ensures refused { OnErr result (self.new ≡ self.old) }
     {
@@ -185,8 +185,8 @@ impl Entries {
         ensures all { IfOk result (λ found. map (λ e. e.now) found.items ≡ finmap.values self.now) }
         ensures in_order { IfOk result (λ found. IsInOrder (map (λ e. e.now) found.items)) }
     {
-        let twins = list_all(self.alloc, &self.entries)?;
-        let found = own_of(self.alloc, &twins)?;
+        let stored_entries = list_all(self.alloc, &self.entries)?;
+        let found = own_of(self.alloc, &stored_entries)?;
         Ok(found)
     }
 
@@ -195,8 +195,8 @@ impl Entries {
         ensures all { IfOk result (λ found. map (λ e. e.now) found.items ≡ shown_all deletes.now (finmap.values self.now)) }
         ensures in_order { IfOk result (λ found. IsInOrder (map (λ e. e.now) found.items)) }
     {
-        let twins = list_all(self.alloc, &self.entries)?;
-        let found = shown_of(self.alloc, &twins, deletes)?;
+        let stored_entries = list_all(self.alloc, &self.entries)?;
+        let found = shown_of(self.alloc, &stored_entries, deletes)?;
         Ok(found)
     }
 
@@ -205,13 +205,13 @@ impl Entries {
         ensures all { IfOk result (λ found. map (λ e. e.now) found.items ≡ of_subject (finmap.values self.now) subject.now) }
         ensures in_order { IfOk result (λ found. AreInVersionOrder (map (λ e. e.now) found.items)) }
     {
-        let twins = self.twins_of(subject)?;
-        let found = own_of(self.alloc, &twins)?;
+        let stored_entries = self.stored_entries_of(subject)?;
+        let found = own_of(self.alloc, &stored_entries)?;
         Ok(found)
     }
 
     /// The same.
-    fn twins_of(&self, subject: &str) -> Result<Vec<&Twin>, AllocError>
+    fn stored_entries_of(&self, subject: &str) -> Result<Vec<&StoredEntry>, AllocError>
         ensures all { IfOk result (λ found. map (λ e. e.now) found.items ≡ of_subject (finmap.values self.now) subject.now) }
         ensures in_order { IfOk result (λ found. AreInVersionOrder (map (λ e. e.now) found.items)) }
     {
@@ -233,8 +233,8 @@ impl Entries {
         ensures in_order { IfOk result (λ found. AreInVersionOrder (map (λ e. e.now) found.items)) }
     {
         let _ = &self.entries;
-        let twins = self.twins_of(subject)?;
-        let mut found = under_of(self.alloc, &twins, delete_of(deletes, subject))?;
+        let stored_entries = self.stored_entries_of(subject)?;
+        let mut found = under_of(self.alloc, &stored_entries, delete_of(deletes, subject))?;
         keep_counting(&mut found, deleted);
         Ok(found)
     }
@@ -271,10 +271,10 @@ impl Entries {
         ensures { IfOk result (λ found. option_copied found ≡ of_version (shown_all deletes.now (finmap.values self.now)) subject.now version deleted) }
     {
         let place = (Text::copy_of(self.alloc, subject)?, version);
-        let Some(twin) = self.entries.get(&place) else {
+        let Some(stored_entry) = self.entries.get(&place) else {
             return Ok(None);
         };
-        let entry = twin.shown(deletes);
+        let entry = stored_entry.shown(deletes);
         if counts(entry, deleted) {
             Ok(Some(entry))
         } else {
@@ -320,8 +320,8 @@ impl Entries {
     pub fn with_id(&self, deletes: &SoftDeletes, id: u32) -> Result<Vec<&Entry>, AllocError>
         ensures { IfOk result (λ found. map (λ e. e.now) found.items ≡ with_id (shown_all deletes.now (finmap.values self.now)) id) }
     {
-        let twins = list_with_id(self.alloc, &self.entries, &self.names, id)?;
-        let found = shown_of(self.alloc, &twins, deletes)?;
+        let stored_entries = list_with_id(self.alloc, &self.entries, &self.names, id)?;
+        let found = shown_of(self.alloc, &stored_entries, deletes)?;
         Ok(found)
     }
 
@@ -331,11 +331,11 @@ impl Entries {
     pub fn named(&self, deletes: &SoftDeletes, id: u32) -> Option<&Entry>
         ensures { option_copied result ≡ named (shown_all deletes.now (finmap.values self.now)) id }
     {
-        Some(self.twin_named(id)?.shown(deletes))
+        Some(self.stored_entry_named(id)?.shown(deletes))
     }
 
     /// The same.
-    fn twin_named(&self, id: u32) -> Option<&Twin>
+    fn stored_entry_named(&self, id: u32) -> Option<&StoredEntry>
         ensures { option_copied result ≡ named (finmap.values self.now) id }
     {
         let above = name_above(id);

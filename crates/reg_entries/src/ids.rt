@@ -8,7 +8,7 @@ ghost use Rattle.reg_entries.specs.Index.{ArePlaced, AreNamed};
 ghost use Rattle.reg_entries.specs.Sought.{with_id};
 
 use crate::names::{At, Name, names_of};
-use crate::twin::Twin;
+use crate::stored_entry::StoredEntry;
 use std::alloc::{AllocError, Global};
 use std::cmp::Ordering;
 use std::collections::{BTreeMap, BTreeSet};
@@ -22,10 +22,10 @@ const OFTEN: usize = 16;
 /// that costs less than to find each of them and to sort them.
 pub(crate) fn list_with_id<'a>(
     alloc: Global,
-    entries: &'a BTreeMap<At, Twin>,
+    entries: &'a BTreeMap<At, StoredEntry>,
     names: &BTreeSet<Name>,
     id: u32,
-) -> Result<Vec<&'a Twin>, AllocError>
+) -> Result<Vec<&'a StoredEntry>, AllocError>
     requires ordered { IsOrdered place_cmp entries.now }
     requires placed { ArePlaced entries.now }
     requires named { AreNamed entries.now names.now }
@@ -46,9 +46,9 @@ fn is_often(all: usize, names: &BTreeSet<Name>, id: u32) -> bool {
 /// The entries with an id, by place. This goes through all entries once.
 fn list_among_all<'a>(
     alloc: Global,
-    entries: &'a BTreeMap<At, Twin>,
+    entries: &'a BTreeMap<At, StoredEntry>,
     id: u32,
-) -> Result<Vec<&'a Twin>, AllocError>
+) -> Result<Vec<&'a StoredEntry>, AllocError>
     ensures { IfOk result (λ found. map (λ e. e.now) found.items ≡ with_id (values entries.now) id) }
 {
     entries
@@ -60,10 +60,10 @@ fn list_among_all<'a>(
 /// The same. This goes through the names of the id, and sorts what they name.
 fn list_by_name<'a>(
     alloc: Global,
-    entries: &'a BTreeMap<At, Twin>,
+    entries: &'a BTreeMap<At, StoredEntry>,
     names: &BTreeSet<Name>,
     id: u32,
-) -> Result<Vec<&'a Twin>, AllocError>
+) -> Result<Vec<&'a StoredEntry>, AllocError>
     requires ordered { IsOrdered place_cmp entries.now }
     requires placed { ArePlaced entries.now }
     requires named { AreNamed entries.now names.now }
@@ -81,7 +81,7 @@ fn list_by_name<'a>(
 }
 
 /// How two entries stand by place.
-fn by_place(one: &Twin, other: &Twin) -> Ordering
+fn by_place(one: &StoredEntry, other: &StoredEntry) -> Ordering
     ensures { result ≡ on place_of place_cmp one.now other.now }
 {
     let (one, other) = (one.own(), other.own());

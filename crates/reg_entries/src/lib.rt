@@ -10,8 +10,8 @@ mod meanings;
 mod names;
 mod schemas;
 mod soft_delete;
+mod stored_entry;
 mod tops;
-mod twin;
 mod version_texts;
 
 pub use entries::Entries;

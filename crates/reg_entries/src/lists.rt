@@ -15,7 +15,7 @@ ghost use Rattle.reg_entries.specs.Sought.{counts, subjects, has_live};
 use crate::entry::{Entry, Flag};
 use crate::names::At;
 use crate::soft_delete::{SoftDelete, SoftDeletes, delete_of};
-use crate::twin::Twin;
+use crate::stored_entry::StoredEntry;
 use base_text::Text;
 use std::alloc::{AllocError, Global};
 use std::collections::BTreeMap;
@@ -24,50 +24,53 @@ use std::ops::Bound;
 /// All entries, by place.
 pub(crate) fn list_all(
     alloc: Global,
-    entries: &BTreeMap<At, Twin>,
-) -> Result<Vec<&Twin>, AllocError>
+    entries: &BTreeMap<At, StoredEntry>,
+) -> Result<Vec<&StoredEntry>, AllocError>
     ensures { IfOk result (λ found. map (λ e. e.now) found.items ≡ values entries.now) }
 {
     entries.values().collect(alloc)
 }
 
-/// The entries of some twins, as they are.
-pub(crate) fn own_of<'a>(alloc: Global, twins: &[&'a Twin]) -> Result<Vec<&'a Entry>, AllocError>
-    ensures { IfOk result (λ found. map (λ e. e.now) found.items ≡ map (λ e. e.now) twins.now) }
+/// The entries of some stored entries, as they are.
+pub(crate) fn own_of<'a>(
+    alloc: Global,
+    stored_entries: &[&'a StoredEntry],
+) -> Result<Vec<&'a Entry>, AllocError>
+    ensures { IfOk result (λ found. map (λ e. e.now) found.items ≡ map (λ e. e.now) stored_entries.now) }
 {
     let mut found = Vec::new(alloc);
-    for twin in twins {
-        found.push(twin.own())?;
+    for stored_entry in stored_entries {
+        found.push(stored_entry.own())?;
     }
     Ok(found)
 }
 
-/// The entries of some twins of one subject, under a soft delete of it, if there is one.
+/// The entries of some stored entries of one subject, under a soft delete of it, if there is one.
 pub(crate) fn under_of<'a>(
     alloc: Global,
-    twins: &[&'a Twin],
+    stored_entries: &[&'a StoredEntry],
     delete: Option<SoftDelete>,
 ) -> Result<Vec<&'a Entry>, AllocError>
-    ensures { IfOk result (λ found. map (λ e. e.now) found.items ≡ map (under delete) (map (λ e. e.now) twins.now)) }
+    ensures { IfOk result (λ found. map (λ e. e.now) found.items ≡ map (under delete) (map (λ e. e.now) stored_entries.now)) }
 {
     let mut found = Vec::new(alloc);
-    for twin in twins {
-        found.push(twin.under(delete))?;
+    for stored_entry in stored_entries {
+        found.push(stored_entry.under(delete))?;
     }
     Ok(found)
 }
 
-/// The entries of some twins, under the last soft deletes of their subjects.
+/// The entries of some stored entries, under the last soft deletes of their subjects.
 pub(crate) fn shown_of<'a>(
     alloc: Global,
-    twins: &[&'a Twin],
+    stored_entries: &[&'a StoredEntry],
     deletes: &SoftDeletes,
 ) -> Result<Vec<&'a Entry>, AllocError>
-    ensures { IfOk result (λ found. map (λ e. e.now) found.items ≡ shown_all deletes.now (map (λ e. e.now) twins.now)) }
+    ensures { IfOk result (λ found. map (λ e. e.now) found.items ≡ shown_all deletes.now (map (λ e. e.now) stored_entries.now)) }
 {
     let mut found = Vec::new(alloc);
-    for twin in twins {
-        found.push(twin.shown(deletes))?;
+    for stored_entry in stored_entries {
+        found.push(stored_entry.shown(deletes))?;
     }
     Ok(found)
 }
@@ -76,7 +79,7 @@ pub(crate) fn shown_of<'a>(
 /// through all entries once.
 pub(crate) fn list_subjects<'a>(
     alloc: Global,
-    entries: &'a BTreeMap<At, Twin>,
+    entries: &'a BTreeMap<At, StoredEntry>,
     deletes: &SoftDeletes,
     deleted: bool,
 ) -> Result<Vec<&'a str>, AllocError>
@@ -84,8 +87,8 @@ pub(crate) fn list_subjects<'a>(
 {
     let mut found: Vec<&str> = entries
         .values()
-        .filter(|twin| counts_shown(twin, deletes, deleted))
-        .map(|twin| twin.own().subject.as_str())
+        .filter(|stored_entry| counts_shown(stored_entry, deletes, deleted))
+        .map(|stored_entry| stored_entry.own().subject.as_str())
         .collect(alloc)?;
     found.dedup();
     Ok(found)
@@ -94,10 +97,10 @@ pub(crate) fn list_subjects<'a>(
 /// The entries from one place to another, by place.
 pub(crate) fn list_between<'a>(
     alloc: Global,
-    entries: &'a BTreeMap<At, Twin>,
+    entries: &'a BTreeMap<At, StoredEntry>,
     first: &At,
     last: &At,
-) -> Result<Vec<&'a Twin>, AllocError>
+) -> Result<Vec<&'a StoredEntry>, AllocError>
     requires { is_gt (place_cmp first.now last.now) ≡ false }
     ensures { IfOk result (λ found. map (λ e. e.now) found.items ≡ values_of (entries_between place_cmp (Bound.Included first.now) (Bound.Included last.now) entries.now.entries)) }
 {
@@ -111,7 +114,7 @@ pub(crate) fn list_between<'a>(
 /// The last entry that counts under a soft delete of those from one place to another. This goes
 /// back from the last one until one counts.
 pub(crate) fn last_counting<'a>(
-    entries: &'a BTreeMap<At, Twin>,
+    entries: &'a BTreeMap<At, StoredEntry>,
     first: &At,
     last: &At,
     delete: Option<SoftDelete>,
@@ -123,7 +126,7 @@ pub(crate) fn last_counting<'a>(
     entries
         .range((Bound::Included(first), Bound::Included(last)))
         .rev()
-        .map(|(_, twin)| twin.under(delete))
+        .map(|(_, stored_entry)| stored_entry.under(delete))
         .find(|entry| counts(entry, deleted))
 }
 
@@ -142,22 +145,28 @@ pub(crate) fn counts(entry: &Entry, deleted: bool) -> bool
 }
 
 /// Whether an entry counts under the last soft delete of its subject.
-fn counts_shown(twin: &Twin, deletes: &SoftDeletes, deleted: bool) -> bool
-    ensures { result ≡ counts deleted (shown deletes.now twin.now) }
+fn counts_shown(stored_entry: &StoredEntry, deletes: &SoftDeletes, deleted: bool) -> bool
+    ensures { result ≡ counts deleted (shown deletes.now stored_entry.now) }
 {
-    deleted || !twin.shown(deletes).soft
+    deleted || !stored_entry.shown(deletes).soft
 }
 
 /// Whether one of them is live under the last soft deletes. This goes through all entries.
-pub(crate) fn any_live(entries: &BTreeMap<At, Twin>, deletes: &SoftDeletes) -> bool
+pub(crate) fn any_live(entries: &BTreeMap<At, StoredEntry>, deletes: &SoftDeletes) -> bool
     ensures { result ≡ has_live (shown_all deletes.now (values entries.now)) None }
 {
-    entries.values().any(|twin| !twin.shown(deletes).soft)
+    entries
+        .values()
+        .any(|stored_entry| !stored_entry.shown(deletes).soft)
 }
 
 /// Whether the subject of its greatest version's place has an entry that is live under its last
 /// soft delete. This goes back from that version on until an entry is live, or of another subject.
-pub(crate) fn any_live_up_to(entries: &BTreeMap<At, Twin>, top: &At, deletes: &SoftDeletes) -> bool
+pub(crate) fn any_live_up_to(
+    entries: &BTreeMap<At, StoredEntry>,
+    top: &At,
+    deletes: &SoftDeletes,
+) -> bool
     requires ordered { IsOrdered place_cmp entries.now }
     requires placed { ArePlaced entries.now }
     requires top { IsTop entries.now top.now.0 (Some top.now) }
@@ -167,7 +176,7 @@ pub(crate) fn any_live_up_to(entries: &BTreeMap<At, Twin>, top: &At, deletes: &S
     let found = entries
         .range(..=top)
         .rev()
-        .map(|(_, twin)| twin.under(delete))
+        .map(|(_, stored_entry)| stored_entry.under(delete))
         .find(|entry| entry.subject != top.0 || !entry.soft);
     match found {
         Some(entry) => entry.subject == top.0,
@@ -176,7 +185,7 @@ pub(crate) fn any_live_up_to(entries: &BTreeMap<At, Twin>, top: &At, deletes: &S
 }
 
 /// Flags the entry at a place, if there is one.
-pub(crate) fn set_soft(entries: &mut BTreeMap<At, Twin>, place: &At, soft: bool)
+pub(crate) fn set_soft(entries: &mut BTreeMap<At, StoredEntry>, place: &At, soft: bool)
     ensures at { (q : Place) → entry_at entries.new q ≡ (if eq_by_cmp place_cmp place.now q then option_map (with_soft soft) (entry_at entries.old q) else entry_at entries.old q) }
     ensures ordered { IsOrdered place_cmp entries.new }
 {
@@ -186,7 +195,7 @@ pub(crate) fn set_soft(entries: &mut BTreeMap<At, Twin>, place: &At, soft: bool)
 }
 
 /// Gives versions of a subject their flags.
-pub(crate) fn set_flags(entries: &mut BTreeMap<At, Twin>, subject: Text, flags: &[Flag])
+pub(crate) fn set_flags(entries: &mut BTreeMap<At, StoredEntry>, subject: Text, flags: &[Flag])
     requires ordered { IsOrdered place_cmp entries.old }
     requires placed { ArePlaced entries.old }
     ensures flagged { (p : Place) → entry_at entries.new p ≡ option_map (flagged subject flags.now) (entry_at entries.old p) }

@@ -8,7 +8,7 @@ ghost use Rattle.reg_entries.specs.Schemas.{Schema};
 ghost use Rattle.reg_entries.specs.declared.entry.Entry.{Entry};
 
 use crate::schemas::Schema;
-use crate::twin::Twin;
+use crate::stored_entry::StoredEntry;
 use base_text::Text;
 use std::alloc::AllocError;
 use std::collections::BTreeSet;
@@ -23,7 +23,7 @@ pub(crate) type Meaning = (u64, Text);
 pub(crate) fn mean(
     meanings: &mut BTreeSet<Meaning>,
     doubled: &mut BTreeSet<u32>,
-    entry: &Twin,
+    entry: &StoredEntry,
 ) -> Result<(), AllocError>
     requires { AreDoubled meanings.old doubled.old }
     ensures meant { OnOk result ((k : Meaning) → contains meaning_cmp meanings.new k ≡ cond (eq_by_cmp meaning_cmp (entry.now.id, entry.now.normal) k) true (contains meaning_cmp meanings.old k)) }

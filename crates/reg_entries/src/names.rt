@@ -8,7 +8,7 @@ ghost use Rattle.reg_entries.specs.EntryOrder.{place_cmp, place_of};
 ghost use Rattle.reg_entries.specs.Index.{Name, name_of, name_cmp, HasAt, ArePlaced, AreNamed};
 
 use crate::entry::Entry;
-use crate::twin::Twin;
+use crate::stored_entry::StoredEntry;
 use base_text::Text;
 use std::alloc::AllocError;
 use std::collections::btree_set::Range;
@@ -23,7 +23,7 @@ pub(crate) type At = (Text, u32);
 pub(crate) type Name = (u64, u64, At);
 
 /// The place of an entry.
-pub(crate) fn place_of(entry: &Twin) -> Result<At, AllocError>
+pub(crate) fn place_of(entry: &StoredEntry) -> Result<At, AllocError>
     ensures place { IfOk result (λ place. place ≡ (entry.now.subject, entry.now.version)) }
     ensures fits { IfOk result (λ place. place.1 < 2 ^ 32) }
 {
@@ -33,7 +33,7 @@ pub(crate) fn place_of(entry: &Twin) -> Result<At, AllocError>
 }
 
 /// The name of an entry.
-pub(crate) fn name_of(entry: &Twin) -> Result<Name, AllocError>
+pub(crate) fn name_of(entry: &StoredEntry) -> Result<Name, AllocError>
     ensures { IfOk result (λ name. name ≡ name_of entry.now) }
 {
     let own = entry.own();
@@ -66,7 +66,7 @@ pub(crate) fn names_of<'a>(names: &'a BTreeSet<Name>, id: u32) -> Range<'a, Name
 }
 
 /// Takes the name of an entry away.
-pub(crate) fn forget(names: &mut BTreeSet<Name>, entry: Twin)
+pub(crate) fn forget(names: &mut BTreeSet<Name>, entry: StoredEntry)
     ensures { (n : Name) → contains name_cmp names.new n ≡ cond (eq_by_cmp name_cmp (name_of entry) n) false (contains name_cmp names.old n) }
 {
     let Entry {
@@ -80,7 +80,7 @@ pub(crate) fn forget(names: &mut BTreeSet<Name>, entry: Twin)
 }
 
 /// Takes the name of an entry away, unless the entry that is now at its place has the same.
-pub(crate) fn forget_other(names: &mut BTreeSet<Name>, entry: Twin, id: u32, offset: u64)
+pub(crate) fn forget_other(names: &mut BTreeSet<Name>, entry: StoredEntry, id: u32, offset: u64)
     ensures { (n : Name) → contains name_cmp names.new n ≡ (contains name_cmp names.old n && (not (eq_by_cmp name_cmp (name_of entry) n) || (entry.id == id && entry.offset == offset))) }
 {
     let own = entry.own();
@@ -91,9 +91,9 @@ pub(crate) fn forget_other(names: &mut BTreeSet<Name>, entry: Twin, id: u32, off
 
 /// Writes an entry and its name. An entry that was at its place goes, with its name.
 pub(crate) fn write(
-    entries: &mut BTreeMap<At, Twin>,
+    entries: &mut BTreeMap<At, StoredEntry>,
     names: &mut BTreeSet<Name>,
-    entry: Twin,
+    entry: StoredEntry,
 ) -> Result<(), AllocError>
     requires ordered { IsOrdered place_cmp entries.old }
     requires placed { ArePlaced entries.old }

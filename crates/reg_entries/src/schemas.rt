@@ -9,7 +9,7 @@ ghost use Rattle.reg_entries.specs.Schemas.{Schema, schema_of, schema_cmp, is_he
 
 use crate::entry::Entry;
 use crate::names::{At, Name, place_of, write};
-use crate::twin::Twin;
+use crate::stored_entry::StoredEntry;
 use base_text::Text;
 use std::alloc::{AllocError, Global};
 use std::collections::{BTreeMap, BTreeSet};
@@ -18,7 +18,7 @@ use std::collections::{BTreeMap, BTreeSet};
 pub(crate) type Schema = (Text, u32, At);
 
 /// The schema of an entry.
-pub(crate) fn schema_of(entry: &Twin) -> Result<Schema, AllocError>
+pub(crate) fn schema_of(entry: &StoredEntry) -> Result<Schema, AllocError>
     ensures { IfOk result (λ schema. schema ≡ schema_of entry.now) }
 {
     let own = entry.own();
@@ -35,7 +35,7 @@ pub(crate) fn first_schema(alloc: Global, normal: &str) -> Result<Schema, AllocE
 
 /// The schema of the entry at a place, if there is one.
 pub(crate) fn schema_at(
-    entries: &BTreeMap<At, Twin>,
+    entries: &BTreeMap<At, StoredEntry>,
     place: &At,
 ) -> Result<Option<Schema>, AllocError>
     ensures { IfOk result (λ schema. schema ≡ option_map schema_of (entry_at entries.now place.now)) }
@@ -47,7 +47,7 @@ pub(crate) fn schema_at(
 }
 
 /// Whether the entry at a schema's place has that schema.
-fn has_schema(entries: &BTreeMap<At, Twin>, schema: &Schema) -> bool
+fn has_schema(entries: &BTreeMap<At, StoredEntry>, schema: &Schema) -> bool
     ensures { result ≡ is_held entries.now schema.now }
 {
     match entries.get(&schema.2) {
@@ -63,7 +63,7 @@ fn has_schema(entries: &BTreeMap<At, Twin>, schema: &Schema) -> bool
 pub(crate) fn unlist(
     names: &mut BTreeSet<Name>,
     schemas: &mut BTreeSet<Schema>,
-    entry: Twin,
+    entry: StoredEntry,
 ) -> Schema
     ensures schema { result ≡ schema_of entry }
     ensures unnamed { (n : Name) → contains name_cmp names.new n ≡ cond (eq_by_cmp name_cmp (name_of entry) n) false (contains name_cmp names.old n) }
@@ -88,10 +88,10 @@ pub(crate) fn unlist(
 /// Writes an entry, its name and its schema, which is the new one. An entry that was at its place
 /// goes, with its own, which is the old one.
 pub(crate) fn write_all(
-    entries: &mut BTreeMap<At, Twin>,
+    entries: &mut BTreeMap<At, StoredEntry>,
     names: &mut BTreeSet<Name>,
     schemas: &mut BTreeSet<Schema>,
-    entry: Twin,
+    entry: StoredEntry,
     new: &Schema,
     old: &Option<Schema>,
 ) -> Result<(), AllocError>
@@ -116,7 +116,7 @@ pub(crate) fn write_all(
 }
 
 /// Takes a schema away unless the entry at its place has it.
-fn refresh(schemas: &mut BTreeSet<Schema>, entries: &BTreeMap<At, Twin>, schema: &Schema)
+fn refresh(schemas: &mut BTreeSet<Schema>, entries: &BTreeMap<At, StoredEntry>, schema: &Schema)
     ensures { (s : Schema) → contains schema_cmp schemas.new s ≡ (contains schema_cmp schemas.old s && (not (eq_by_cmp schema_cmp schema.now s) || is_held entries.now s)) }
 {
     if !has_schema(entries, schema) {
@@ -127,7 +127,7 @@ fn refresh(schemas: &mut BTreeSet<Schema>, entries: &BTreeMap<At, Twin>, schema:
 /// Takes a schema away, if there is one, unless the entry at its place has it.
 fn refresh_any(
     schemas: &mut BTreeSet<Schema>,
-    entries: &BTreeMap<At, Twin>,
+    entries: &BTreeMap<At, StoredEntry>,
     schema: &Option<Schema>,
 )
     ensures { (s : Schema) → contains schema_cmp schemas.new s ≡ (contains schema_cmp schemas.old s && (not (is_that schema.now s) || is_held entries.now s)) }

@@ -4,7 +4,7 @@ ghost use Rattle.std.specs.BTreeMap.{get_by_text};
 ghost use Rattle.reg_entries.specs.Index.{ArePlaced, IsGreatestUpTo, IsTop};
 
 use crate::names::At;
-use crate::twin::Twin;
+use crate::stored_entry::StoredEntry;
 use std::alloc::{AllocError, Global};
 use std::collections::BTreeMap;
 
@@ -29,7 +29,11 @@ pub(crate) fn leave_room(
 
 /// Keeps the greatest version of a place's subject, which has room for it. A subject without an
 /// entry goes, and its room too.
-pub(crate) fn refresh_top(tops: &mut BTreeMap<String, At>, entries: &BTreeMap<At, Twin>, place: At)
+pub(crate) fn refresh_top(
+    tops: &mut BTreeMap<String, At>,
+    entries: &BTreeMap<At, StoredEntry>,
+    place: At,
+)
     requires { ArePlaced entries.now }
     ensures top { IsSome (get_by_text tops.old place.0) → IsTop entries.now place.0 (get_by_text tops.new place.0) }
     ensures others { (s : List ℕ) → bytes_eq place.0 s ≡ false → get_by_text tops.new s ≡ get_by_text tops.old s }
@@ -43,7 +47,7 @@ pub(crate) fn refresh_top(tops: &mut BTreeMap<String, At>, entries: &BTreeMap<At
 }
 
 /// The greatest version of a place's subject up to that of the place.
-fn last_version(entries: &BTreeMap<At, Twin>, last: &At) -> Option<u32>
+fn last_version(entries: &BTreeMap<At, StoredEntry>, last: &At) -> Option<u32>
     ensures { IsGreatestUpTo entries.now last.now result }
 {
     let (found, _) = entries.range(..=last).next_back()?;

@@ -9,7 +9,7 @@ use Rattle.std.specs.Ordering.{eq_by_cmp, is_eq}
 use Rattle.reg_records.specs.declared.record.Record.{Record}
 use Rattle.reg_set.specs.RecordOrder.{record_cmp}
 use Rattle.reg_set.specs.Records.{Records}
-use Rattle.reg_kept.specs.Floored.{Floored}
+use Rattle.reg_floored.specs.Floored.{Floored}
 use Rattle.reg_topic.specs.Topic.{whole_log}
 use Rattle.reg_world.specs.Happens.{Happens, floors_agree, is_allowed}
 use Rattle.reg_world.specs.Headline.{TakersOfAllCatchUp, Took}
@@ -19,7 +19,7 @@ use Rattle.reg_world.specs.declared.event.Event.{Event}
 use Rattle.reg_world.specs.declared.event.Event.TheVariants as events
 use Rattle.reg_world.specs.declared.event.Outcome.{Outcome}
 use Rattle.reg_world.specs.declared.event.Outcome.TheVariants as outcomes
-use Rattle.reg_world.specs.declared.node.Node.{Node}
+use Rattle.reg_world.specs.declared.node.WorldNode.{WorldNode}
 use Rattle.reg_existence.specs.CatchingUp.{CatchesUpBy, NodesMayCatchUp, RebasedNodesMayCatchUp, take_all}
 use Rattle.reg_existence.proofs.Events.{allowed}
 
@@ -32,17 +32,17 @@ runs_push s (d ∷ es) [] w v e o there happens = absurd there
 runs_push s (d ∷ es) (p ∷ os) w v e o (mid, first, rest) happens = (mid, first, runs_push mid es os w v e o rest happens)
 
 -- a node is changed where it stands
-changed_at : (f : Node → Node) (i : ℕ) (ns : List Node) (n : Node) → slice_get ns i ≡ Some n → slice_get (changed i f ns) i ≡ Some (f n)
+changed_at : (f : WorldNode → WorldNode) (i : ℕ) (ns : List WorldNode) (n : WorldNode) → slice_get ns i ≡ Some n → slice_get (changed i f ns) i ≡ Some (f n)
 changed_at f i [] n e = cc
 changed_at f zero (m ∷ ns) n e = let same : m ≡ n = cc in ap (λ x. Some (f x)) same
 changed_at f (suc i) (m ∷ ns) n e = changed_at f i ns n e
 
-some_node : (o : Option Node) → is_some o ≡ true → (n : Node) × (o ≡ Some n)
+some_node : (o : Option WorldNode) → is_some o ≡ true → (n : WorldNode) × (o ≡ Some n)
 some_node None e = cc
 some_node (Some n) e = (n, refl)
 
-set_there : (s : State) (i : ℕ) (n : Node) → slice_get s.nodes i ≡ Some n → set_at s i ≡ n.set
-set_there s i n there = ap (λ o. option_map_or (λ (m : Node). m.set) o no_records.set) there
+set_there : (s : State) (i : ℕ) (n : WorldNode) → slice_get s.nodes i ≡ Some n → set_at s i ≡ n.set
+set_there s i n there = ap (λ o. option_map_or (λ (m : WorldNode). m.set) o no_records.set) there
 
 two_more : (xs : List Event) (a b : Event) → (xs ++ a ∷ []) ++ b ∷ [] ≡ xs ++ a ∷ b ∷ []
 two_more [] a b = refl
@@ -89,7 +89,7 @@ module _ (order : IsTotalOrder record_cmp) (apart : IsAntisymmetric record_cmp) 
 
   module _ (all_catch_up : TakersOfAllCatchUp) where
     takes_all : (es : List Event) (w : State) (after : After es w) (i : ℕ) → has_node w i ≡ true
-        → (set_at w i).floor ≡ (topic_of w).kept.floor → (n : Node) → slice_get w.nodes i ≡ Some n
+        → (set_at w i).floor ≡ (topic_of w).kept.floor → (n : WorldNode) → slice_get w.nodes i ≡ Some n
         → CatchesUpBy es w i (take_all w i ∷ [])
     takes_all es w after i has at_floor n is =
         let kept : Records = (topic_of w).kept.records in

@@ -10,7 +10,7 @@ use Rattle.httparse.specs.Grammar.{RequestHead}
 use Rattle.reg_refusals.specs.declared.refusal.Refusal.{Refusal}
 use Rattle.reg_refusals.specs.declared.refusal.Refusal.TheVariants as refusals
 use Rattle.reg_messages.specs.Fields.{body_length, is_length, length_of, told_length, values_of}
-use Rattle.reg_messages.specs.declared.field.Field.{Field}
+use Rattle.reg_messages.specs.declared.field.HeaderField.{HeaderField}
 use Rattle.reg_messages.specs.Head.{Front, ends_in_empty_line, cut_head, front_of, has_few_lines, head, no_head, over, is_skipped, IsHead}
 use Rattle.reg_messages.specs.HeadReading.{HasNoEnd}
 use Rattle.reg_messages.specs.Messages.{fields_of}
@@ -234,13 +234,13 @@ told-limit : (t : Bool) (values : List (List ℕ)) (n : ℕ)
 told-limit true values n is = absurd (cc)
 told-limit false values n is = length_of-limit values n is
 
-body_length-of : (fields : List Field) (r : Result (Option ℕ) Refusal) → told_length fields ≡ r → body_length fields ≤ BODY_LIMIT
+body_length-of : (fields : List HeaderField) (r : Result (Option ℕ) Refusal) → told_length fields ≡ r → body_length fields ≤ BODY_LIMIT
 body_length-of fields (Ok (Some n)) is =
     rw is (told-limit (nat_lt 0 (length (values_of (codes "transfer-encoding") fields))) (values_of (codes "content-length") fields) n is)
 body_length-of fields (Ok None) is = rw is (omega arith)
 body_length-of fields (Err refusal) is = rw is (omega arith)
 
-pub body_length-limit : (fields : List Field) → body_length fields ≤ BODY_LIMIT
+pub body_length-limit : (fields : List HeaderField) → body_length fields ≤ BODY_LIMIT
 body_length-limit fields = body_length-of fields (told_length fields) refl
 
 -- the text in the parts that were made of it

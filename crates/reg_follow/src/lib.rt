@@ -16,4 +16,4 @@ pub use ended::{FollowError, LinesEnd};
 pub use intake::{Intake, Stop};
 pub use laws::answers_are_of_first_lines;
 pub use reading::follow_lines;
-pub use serving::{FOLLOWERS_LIMIT, Gate, Size, serve_lines};
+pub use serving::{FOLLOW_NODES_LIMIT, FollowEndpoints, FollowSize, serve_lines};

@@ -10,7 +10,7 @@ use crate::reading::follow_lines;
 use reg_connection::Limits;
 use reg_feed::{Copies, FeedName, Seen, Unnamed, feed};
 use reg_node::{Draw, Taken, View};
-use reg_serve::{Follow, Latch, Node, StartError, begin, open_node};
+use reg_serve::{Follow, Latch, NodeServer, StartError, begin, open_node};
 use std::alloc::Global;
 use std::io::{BufRead, Eprint};
 use std::marker::Brand;
@@ -20,7 +20,7 @@ use std::thread::{self, Parker, Scope, Threads};
 use std::time::{Clock, Duration};
 
 /// The most nodes of a process.
-pub const FOLLOWERS_LIMIT: usize = 3;
+pub const FOLLOW_NODES_LIMIT: usize = 3;
 
 /// The most workers of a node.
 const WORKERS_LIMIT: u32 = 1_024;
@@ -36,7 +36,7 @@ const PATIENCE: u64 = 10_000;
 
 /// How many nodes there are, and what each serves.
 #[derive(Clone, Copy, Debug, PartialEq, Eq)]
-pub struct Size {
+pub struct FollowSize {
     /// From 1 to 3; another number counts as the nearest of these.
     pub nodes: usize,
     /// The workers of a node, of which each answers one connection at a time. None count as one.
@@ -45,8 +45,8 @@ pub struct Size {
     pub limit: Option<u64>,
 }
 
-/// What stands before the nodes.
-pub trait Gate {
+/// Where the nodes are reached.
+pub trait FollowEndpoints {
     /// Where nodes listen, the first node at the first one. Called once, after the first lines were taken.
     fn listen(&mut self) -> Result<Vec<TcpListener>, FollowError>;
 
@@ -83,9 +83,9 @@ impl Follow for Watching<'_> {
 pub fn serve_lines<
     B: BufRead + Send + Drop + 'static,
     R: Threads + Wait + Clock + Net + Eprint + Sync + Send + Copy + Drop + 'static,
-    G: Gate,
->(rt: R, alloc: Global, size: Size, reader: B, gate: &mut G) -> Result<(), FollowError> {
-    serve_feed::<Brand, B, R, G>(rt, alloc, size, Unnamed::new(), reader, gate)
+    G: FollowEndpoints,
+>(rt: R, alloc: Global, size: FollowSize, reader: B, endpoints: &mut G) -> Result<(), FollowError> {
+    serve_feed::<Brand, B, R, G>(rt, alloc, size, Unnamed::new(), reader, endpoints)
 }
 
 /// Makes the one feed of all nodes, starts the thread that takes lines, and serves from the views.
@@ -93,14 +93,14 @@ fn serve_feed<
     M: FeedName<Draw, Taken> + Send + Sync + 'static,
     B: BufRead + Send + Drop + 'static,
     R: Threads + Wait + Clock + Net + Eprint + Sync + Send + Copy + Drop + 'static,
-    G: Gate,
+    G: FollowEndpoints,
 >(
     rt: R,
     alloc: Global,
-    size: Size,
+    size: FollowSize,
     list: Unnamed<Draw>,
     reader: B,
-    gate: &mut G,
+    endpoints: &mut G,
 ) -> Result<(), FollowError>
     requires { (list.reached.book ≡ M.book) × (M.first ≡ empty) }
 {
@@ -115,22 +115,22 @@ fn serve_feed<
     let taking = Taking { rt, reader, intake };
     start(&rt, taking, Arc::try_clone(&course)?)?;
     wait_for_lines(&rt, &course);
-    let served = serve_views(&rt, alloc, size, &course, views, gate);
+    let served = serve_views(&rt, alloc, size, &course, views, endpoints);
     course.leave();
     served
 }
 
 /// How many views there are: one a worker.
-fn views_of(size: Size) -> usize
+fn views_of(size: FollowSize) -> usize
     ensures { (0 < result) × (result < 2 ^ 32) }
 {
-    let nodes = size.nodes.clamp(1, FOLLOWERS_LIMIT);
+    let nodes = size.nodes.clamp(1, FOLLOW_NODES_LIMIT);
     let workers = size.workers.clamp(1, WORKERS_LIMIT) as usize;
     nodes * workers
 }
 
 /// What a thread does beside the nodes.
-trait Errand {
+trait Task {
     fn run(&mut self, course: &Course);
 }
 
@@ -147,7 +147,7 @@ impl<
     M: FeedName<Draw, Taken>,
     U: Copies<Draw, Taken, M>,
     R: Wait + Clock + Eprint + Drop,
-> Errand for Taking<B, M, U, R> {
+> Task for Taking<B, M, U, R> {
     fn run(&mut self, course: &Course) {
         match follow_lines(&self.rt, &mut self.reader, &mut self.intake, course) {
             Ok(end) => {
@@ -166,13 +166,13 @@ impl<
 }
 
 /// Starts a thread, which nobody waits for: it may read for ever.
-fn start<R: Threads, T: Errand + Send + Drop + 'static>(
+fn start<R: Threads, T: Task + Send + Drop + 'static>(
     rt: &R,
-    errand: T,
+    task: T,
     course: Arc<Course, Global>,
 ) -> Result<(), FollowError> {
-    let mut errand = errand;
-    match thread::spawn(rt, move || errand.run(&course)) {
+    let mut task = task;
+    match thread::spawn(rt, move || task.run(&course)) {
         Ok(_thread) => Ok(()),
         Err(_refused) => Err(FollowError::NotStarted),
     }
@@ -212,19 +212,19 @@ fn serve_views<
     M: FeedName<Draw, Taken> + Send + Sync,
     U: Copies<Draw, Taken, M> + Send + Sync,
     R: Threads + Wait + Clock + Net + Sync + Send + Copy + Drop,
-    G: Gate,
+    G: FollowEndpoints,
 >(
     rt: &R,
     alloc: Global,
-    size: Size,
+    size: FollowSize,
     course: &Course,
     views: Vec<View<M, U>>,
-    gate: &mut G,
+    endpoints: &mut G,
 ) -> Result<(), FollowError> {
     if let Some(error) = course.error(rt) {
         return Err(error);
     }
-    let listeners = gate.listen()?;
+    let listeners = endpoints.listen()?;
     let limits = Limits::of_nodes(listeners.len());
     let workers = size.workers.clamp(1, WORKERS_LIMIT) as usize;
     let mut nodes = Vec::new(alloc);
@@ -233,9 +233,9 @@ fn serve_views<
             course,
             grown: Parker::new(),
         };
-        nodes.push(Node::new(rt, alloc, listener, watching, workers, limits)?)?;
+        nodes.push(NodeServer::new(rt, alloc, listener, watching, workers, limits)?)?;
     }
-    serve_nodes(rt, alloc, size, course, &nodes, views, gate)?;
+    serve_nodes(rt, alloc, size, course, &nodes, views, endpoints)?;
     match course.error(rt) {
         Some(error) => Err(error),
         None => Ok(()),
@@ -248,15 +248,15 @@ fn serve_nodes<
     M: FeedName<Draw, Taken> + Send + Sync,
     U: Copies<Draw, Taken, M> + Send + Sync,
     R: Threads + Wait + Clock + Sync,
-    G: Gate,
+    G: FollowEndpoints,
 >(
     rt: &'s R,
     alloc: Global,
-    size: Size,
+    size: FollowSize,
     course: &'s Course,
-    nodes: &'s [Node<'s, Watching<'s>, Seen<Draw, Taken, M>>],
+    nodes: &'s [NodeServer<'s, Watching<'s>, Seen<Draw, Taken, M>>],
     views: Vec<View<M, U>>,
-    gate: &mut G,
+    endpoints: &mut G,
 ) -> Result<(), FollowError> {
     let latch = Latch::new();
     let entry = &latch;
@@ -265,7 +265,7 @@ fn serve_nodes<
         rt,
         |scope| -> Result<(), FollowError> {
             let started = open_nodes(scope, rt, alloc, entry, size, nodes, views);
-            begin(entry, started, || gate.ready(course.lines()))?;
+            begin(entry, started, || endpoints.ready(course.lines()))?;
             Ok(())
         },
     )
@@ -283,8 +283,8 @@ fn open_nodes<
     rt: &'s R,
     alloc: Global,
     latch: &'s Latch,
-    size: Size,
-    nodes: &'s [Node<'s, Watching<'s>, Seen<Draw, Taken, M>>],
+    size: FollowSize,
+    nodes: &'s [NodeServer<'s, Watching<'s>, Seen<Draw, Taken, M>>],
     views: Vec<View<M, U>>,
 ) -> Result<(), StartError> {
     let mut views = views;

@@ -13,7 +13,7 @@ use Rattle.reg_messages.specs.Fields.{told_length}
 use Rattle.reg_messages.specs.Head.{front_of, head, IsHead}
 use Rattle.reg_messages.specs.Messages.{after_body, body_after, fields_of, wants_close}
 use Rattle.reg_messages.specs.Reading.{GetsFrom, IsRefusedAt}
-use Rattle.reg_messages.specs.declared.field.Field.{Field}
+use Rattle.reg_messages.specs.declared.field.HeaderField.{HeaderField}
 use Rattle.reg_messages.specs.declared.reading.Got.{Got}
 use Rattle.reg_messages.specs.declared.reading.Got.TheVariants as gots
 use Rattle.reg_requests.specs.Asked.{asked_of}
@@ -39,7 +39,7 @@ unfolding asked_of
 asked-refused r refusal told = rw told refl
 
 -- a request with the same parts
-same-request : (h : RequestHead) (after m t : List ℕ) (f : List Field) (b : Option (List ℕ))
+same-request : (h : RequestHead) (after m t : List ℕ) (f : List HeaderField) (b : Option (List ℕ))
     → m ≡ h.method → t ≡ h.target → f ≡ fields_of h → b ≡ body_after h after
     → ◌≡◌ {A = Request} record { method = m; target = t; fields = f; body = b } (request_of h after)
 same-request h after m t f b p q r s = rw (p, q, r, s) refl
@@ -80,7 +80,7 @@ module _ {D : Type 0} (asks : D → Query → Result Answer AllocError → D →
       subst (λ f. AnswersFront asks commands old f out new left) (sym front) (inl (h, is, answers))
 
   pub attends-request : (old new : D) (text : List ℕ) (left : Option (List ℕ))
-      (m t : List ℕ) (f : List Field) (b : Option (List ℕ)) (wants : Bool) (done : Done)
+      (m t : List ℕ) (f : List HeaderField) (b : Option (List ℕ)) (wants : Bool) (done : Done)
       → GetsFrom text left (gots.Message m t f b wants)
       → Did asks commands old (asked_of (record { method = m; target = t; fields = f; body = b })) new done
       → Attends asks commands old text left new (attended.Done done wants)

@@ -9,7 +9,7 @@ use reg_leader::Reply;
 use reg_lookup::Answer;
 use reg_records::{Device, Output};
 use reg_refusals::Refusal;
-use reg_requests::{Asked, Paths, Request};
+use reg_requests::{Asked, Paths, Request, route_request};
 use reg_responses::{WriteFault, write_answer, write_no_memory, write_refusal, write_reply};
 use std::alloc::{AllocError, Global};
 
@@ -56,7 +56,7 @@ fn asked_by(
         Some(kept) => kept,
         None => Paths::new(alloc)?,
     };
-    let asked = request.route_by(alloc, &kept);
+    let asked = route_request(alloc, &kept, request);
     *paths = Some(kept);
     asked
 }

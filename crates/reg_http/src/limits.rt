@@ -5,6 +5,6 @@ ghost use Rattle.std.specs.Prelude.{◌≡◌};
 pub const REQUESTS_LIMIT: u64 = 65_536;
 
 /// The limit, in digits.
-pub fn limits_are_as_written()
+pub fn serving_limits_are_as_written()
     ensures { REQUESTS_LIMIT ≡ 65536 }
 {}

@@ -15,27 +15,27 @@ use Rattle.reg_records.specs.declared.value.Value.TheVariants as values
 use Rattle.reg_values.specs.Value.{is_absent_or, is_avro_name, is_empty_list, is_plain_avro, deleted_in, value_in, value_of_text}
 use Rattle.reg_fold.specs.Opaque.{is_opaque, is_version}
 use Rattle.reg_inspection.specs.Cause.{CausesAreOfOpaque, beyond_avro, cause_in, type_cause, version_in}
-use Rattle.reg_inspection.specs.declared.cause.Cause.{Cause}
-use Rattle.reg_inspection.specs.declared.cause.Cause.TheVariants as causes
+use Rattle.reg_inspection.specs.declared.cause.OpaqueCause.{OpaqueCause}
+use Rattle.reg_inspection.specs.declared.cause.OpaqueCause.TheVariants as causes
 
-abbrev avro_part : Cause → Bool → Bool → Bool → Bool → Option Cause
+abbrev avro_part : OpaqueCause → Bool → Bool → Bool → Bool → Option OpaqueCause
 avro_part other a b c d =
     if not a then Some other else (
     if not b then Some causes.References else (if not c then Some causes.Metadata else (if not d then Some causes.Rules else None)))
 
-is_plain : (other : Cause) (a b c d : Bool) → is_none (avro_part other a b c d) ≡ (a && b && c && d)
+is_plain : (other : OpaqueCause) (a b c d : Bool) → is_none (avro_part other a b c d) ≡ (a && b && c && d)
 is_plain other false b c d = refl
 is_plain other true false c d = refl
 is_plain other true true false d = refl
 is_plain other true true true false = refl
 is_plain other true true true true = refl
 
-abbrev numbers_part : Bool → Bool → Option ℕ → Option Bool → Option Cause
+abbrev numbers_part : Bool → Bool → Option ℕ → Option Bool → Option OpaqueCause
 numbers_part s v i d =
     if not s then Some causes.Subject else (
     if not v then Some causes.Version else (if is_none i then Some causes.Id else (if is_none d then Some causes.Deleted else None)))
 
-abbrev schema_part : Option (List ℕ) → Option Cause
+abbrev schema_part : Option (List ℕ) → Option OpaqueCause
 schema_part t = if is_none t then Some causes.Schema else None
 
 abbrev value_part : List ℕ → ℕ → Bool → Option ℕ → Option Bool → Option (List ℕ) → Option Value
@@ -58,7 +58,7 @@ module _ (subject : List ℕ) (version : ℕ) where
   plain_parts true true (Some id) (Some deleted) None = refl
   plain_parts true true (Some id) (Some deleted) (Some text) = refl
 
-  parts : (beyond : Option Cause) (plain : Bool) → is_none beyond ≡ plain
+  parts : (beyond : Option OpaqueCause) (plain : Bool) → is_none beyond ≡ plain
       → (s v : Bool) (i : Option ℕ) (d : Option Bool) (t : Option (List ℕ))
       → is_some (option_or beyond (option_or (numbers_part s v i d) (schema_part t)))
       ≡ is_none (value_part subject version (s && v && plain) i d t)

@@ -11,7 +11,7 @@ use Rattle.std.specs.Option.{option_map_or}
 use Rattle.std.specs.Result.{result_ok}
 use Rattle.std.specs.declared.result.Result.{Result}
 use Rattle.reg_journal.specs.Lines.{Say, SaysFloor, text_of}
-use Rattle.reg_keeping.specs.Fronts.{Front, HasLines}
+use Rattle.reg_compaction.specs.Fronts.{Front, HasLines}
 use Rattle.reg_records.proofs.Floors.{is_floor_line-mark, not_floor_line, one_line as one_line_of}
 use Rattle.reg_records.specs.Floor.{floor_mark, is_floor_line}
 use Rattle.reg_records.specs.Line.{is_line_feed, reading}

@@ -15,7 +15,7 @@ use Rattle.reg_fold.specs.Opaque.{is_opaque, opaque}
 use Rattle.reg_inspection.specs.Cause.{CausesAreOfOpaque, version_in}
 use Rattle.reg_inspection.specs.Obstacles.{NoObstacleIsOpen, can_begin, has_no_place, obstacles, opaque_in, place_missing}
 use Rattle.reg_inspection.specs.Shared.{shared_ids}
-use Rattle.reg_inspection.specs.declared.cause.Cause.{Cause}
+use Rattle.reg_inspection.specs.declared.cause.OpaqueCause.{OpaqueCause}
 use Rattle.reg_inspection.specs.declared.obstacle.Obstacle.{Obstacle}
 use Rattle.reg_inspection.specs.declared.obstacle.Obstacle.TheVariants as kinds
 use Rattle.reg_inspection.proofs.Apart.{apart as texts_apart, one_text, shared_of_two, two_of_shared}
@@ -29,7 +29,7 @@ one_nothing x xs e = absurd (cc)
 
 -- ---- the opaque versions
 
-in_version : {V : Type 0} (kind : V → Cause → Obstacle) (cause : V → Option Cause) (o : Option V)
+in_version : {V : Type 0} (kind : V → OpaqueCause → Obstacle) (cause : V → Option OpaqueCause) (o : Option V)
     → is_some (option_and_then (λ v. option_map (kind v) (option_and_then cause o)) o) ≡ is_some (option_and_then cause o)
 in_version kind cause None = refl
 in_version kind cause (Some v) = mapped (kind v) (cause v)

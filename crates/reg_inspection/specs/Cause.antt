@@ -12,16 +12,16 @@ use Rattle.reg_records.specs.declared.key.Key.TheVariants as keys
 use Rattle.reg_records.specs.declared.record.Record.{Record}
 use Rattle.reg_values.specs.Value.{is_absent_or, is_avro_name, is_empty_list, deleted_in}
 use Rattle.reg_fold.specs.Opaque.{is_opaque}
-use Rattle.reg_inspection.specs.declared.cause.Cause.{Cause}
-use Rattle.reg_inspection.specs.declared.cause.Cause.TheVariants as causes
+use Rattle.reg_inspection.specs.declared.cause.OpaqueCause.{OpaqueCause}
+use Rattle.reg_inspection.specs.declared.cause.OpaqueCause.TheVariants as causes
 
 -- the cause that a type of schemas is, which isn't Avro
-abbrev pub type_cause : List ℕ → Cause
+abbrev pub type_cause : List ℕ → OpaqueCause
 type_cause name = if bytes_eq name (codes "PROTOBUF") then causes.Protobuf
     else (if bytes_eq name (codes "JSON") then causes.JsonSchema else causes.OtherType)
 
 -- what a version's value has that an Avro schema that stands alone has not
-abbrev pub beyond_avro : Data → Option Cause
+abbrev pub beyond_avro : Data → Option OpaqueCause
 beyond_avro d =
     if not (is_absent_or is_avro_name (get (codes "schemaType") d))
     then Some (option_map_or type_cause (text_at (codes "schemaType") d) causes.OtherType)
@@ -30,7 +30,7 @@ beyond_avro d =
     else (if not (option_map_or is_null (get (codes "ruleSet") d) true) then Some causes.Rules else None)))
 
 -- which member beside its schema isn't taken: it names the subject and the version of its key, an id, and whether it is deleted
-abbrev pub beyond_numbers : List ℕ → ℕ → Data → Option Cause
+abbrev pub beyond_numbers : List ℕ → ℕ → Data → Option OpaqueCause
 beyond_numbers subject version d =
     if not (has_text_at (codes "subject") subject d) then Some causes.Subject
     else (if not (has_number_at (codes "version") version d) then Some causes.Version
@@ -38,11 +38,11 @@ beyond_numbers subject version d =
     else (if is_none (deleted_in d) then Some causes.Deleted else None)))
 
 -- its schema isn't there, or can't be read
-abbrev pub schema_cause : Data → Option Cause
+abbrev pub schema_cause : Data → Option OpaqueCause
 schema_cause d = if is_none (text_where is_schema (codes "schema") d) then Some causes.Schema else None
 
 -- the first cause that keeps a JSON value from being that version of the subject
-abbrev pub cause_in : List ℕ → ℕ → Data → Option Cause
+abbrev pub cause_in : List ℕ → ℕ → Data → Option OpaqueCause
 cause_in subject version d =
     if is_none (as_object d) then Some causes.NotJson
     else option_or (beyond_avro d) (option_or (beyond_numbers subject version d) (schema_cause d))
@@ -57,7 +57,7 @@ version_in keys.Noop = None
 version_in keys.IdMark = None
 
 -- the first cause that keeps a version's text from being read, if it has a text
-abbrev pub cause_of : Record → Option Cause
+abbrev pub cause_of : Record → Option OpaqueCause
 cause_of r = option_and_then
     (λ v. option_and_then (λ text. option_map_or (cause_in v.0 v.1) (read text) (Some causes.NotJson)) r.value)
     (version_in r.key)
@@ -67,7 +67,7 @@ abbrev pub CausesAreOfOpaque : Type 0
 CausesAreOfOpaque = (r : Record) → is_some (cause_of r) ≡ is_opaque r
 
 -- its text
-abbrev pub cause_text : Cause → List ℕ
+abbrev pub cause_text : OpaqueCause → List ℕ
 cause_text causes.NotJson = codes "not a JSON object"
 cause_text causes.Protobuf = codes "schema type PROTOBUF"
 cause_text causes.JsonSchema = codes "schema type JSON"

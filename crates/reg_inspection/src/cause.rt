@@ -14,7 +14,7 @@ use std::fmt;
 
 /// Why a version's record can't be read; the first in this order is reported.
 #[derive(Clone, Copy, Debug, PartialEq, Eq)]
-pub enum Cause {
+pub enum OpaqueCause {
     /// Its text is no JSON object.
     NotJson,
     /// Its schema is one of Protocol Buffers.
@@ -41,7 +41,7 @@ pub enum Cause {
     Schema,
 }
 
-impl fmt::Display for Cause {
+impl fmt::Display for OpaqueCause {
     ghost use Rattle.std.specs.Prelude.{Some};
     ghost use Rattle.reg_inspection.specs.Cause.{cause_text};
 
@@ -52,9 +52,9 @@ impl fmt::Display for Cause {
     }
 }
 
-impl Error for Cause {}
+impl Error for OpaqueCause {}
 
-impl Cause {
+impl OpaqueCause {
     ghost use Rattle.std.specs.Prelude.{◌≡◌};
     ghost use Rattle.reg_inspection.specs.Cause.{cause_text};
 
@@ -63,25 +63,25 @@ impl Cause {
         ensures { result.now ≡ cause_text self }
     {
         match self {
-            Cause::NotJson => "not a JSON object",
-            Cause::Protobuf => "schema type PROTOBUF",
-            Cause::JsonSchema => "schema type JSON",
-            Cause::OtherType => "another schema type",
-            Cause::References => "references",
-            Cause::Metadata => "metadata",
-            Cause::Rules => "rules",
-            Cause::Subject => "not the subject of its key",
-            Cause::Version => "not the version of its key",
-            Cause::Id => "no id from 1 to 2147483647",
-            Cause::Deleted => "a deleted mark that is no boolean",
-            Cause::Schema => "a schema that can't be read",
+            OpaqueCause::NotJson => "not a JSON object",
+            OpaqueCause::Protobuf => "schema type PROTOBUF",
+            OpaqueCause::JsonSchema => "schema type JSON",
+            OpaqueCause::OtherType => "another schema type",
+            OpaqueCause::References => "references",
+            OpaqueCause::Metadata => "metadata",
+            OpaqueCause::Rules => "rules",
+            OpaqueCause::Subject => "not the subject of its key",
+            OpaqueCause::Version => "not the version of its key",
+            OpaqueCause::Id => "no id from 1 to 2147483647",
+            OpaqueCause::Deleted => "a deleted mark that is no boolean",
+            OpaqueCause::Schema => "a schema that can't be read",
         }
     }
 }
 
 /// Why a version's record can't be read; none where it can be, and for a record without a text or of another
 /// key. The only error is out of memory.
-pub fn cause_of(alloc: Global, given: &Record) -> Result<Option<Cause>, AllocError>
+pub fn cause_of(alloc: Global, given: &Record) -> Result<Option<OpaqueCause>, AllocError>
     ensures { IfOk result (λ cause. cause ≡ cause_of given.now) }
 {
     let Key::Schema { subject, version } = &given.key else {
@@ -92,7 +92,7 @@ pub fn cause_of(alloc: Global, given: &Record) -> Result<Option<Cause>, AllocErr
     };
     match parse(alloc, text.as_str())? {
         Some(json) => cause_in(alloc, subject.as_str(), *version, &json),
-        None => Ok(Some(Cause::NotJson)),
+        None => Ok(Some(OpaqueCause::NotJson)),
     }
 }
 
@@ -102,11 +102,11 @@ fn cause_in(
     subject: &str,
     version: u32,
     json: &Json,
-) -> Result<Option<Cause>, AllocError>
+) -> Result<Option<OpaqueCause>, AllocError>
     ensures { IfOk result (λ cause. cause ≡ cause_in subject.now version (view json.now)) }
 {
     if json.as_object().is_none() {
-        return Ok(Some(Cause::NotJson));
+        return Ok(Some(OpaqueCause::NotJson));
     }
     if let Some(cause) = beyond_avro(json) {
         return Ok(Some(cause));
@@ -118,63 +118,63 @@ fn cause_in(
 }
 
 /// What a version's value has that an Avro schema that stands alone has not.
-fn beyond_avro(json: &Json) -> Option<Cause>
+fn beyond_avro(json: &Json) -> Option<OpaqueCause>
     ensures { result ≡ beyond_avro (view json.now) }
 {
     if !is_avro(json.get("schemaType")) {
         return Some(type_cause(text_at(json, "schemaType")));
     }
     if !has_no_items(json.get("references")) {
-        return Some(Cause::References);
+        return Some(OpaqueCause::References);
     }
     if !is_absent(json.get("metadata")) {
-        return Some(Cause::Metadata);
+        return Some(OpaqueCause::Metadata);
     }
     if !is_absent(json.get("ruleSet")) {
-        return Some(Cause::Rules);
+        return Some(OpaqueCause::Rules);
     }
     None
 }
 
 /// The cause that a type of schemas is, which isn't Avro.
-fn type_cause(name: Option<&str>) -> Cause
-    ensures { result ≡ option_map_or type_cause (option_map (λ s. s.now) name.entry) Cause.OtherType }
+fn type_cause(name: Option<&str>) -> OpaqueCause
+    ensures { result ≡ option_map_or type_cause (option_map (λ s. s.now) name.entry) OpaqueCause.OtherType }
 {
     match name {
-        Some("PROTOBUF") => Cause::Protobuf,
-        Some("JSON") => Cause::JsonSchema,
-        _ => Cause::OtherType,
+        Some("PROTOBUF") => OpaqueCause::Protobuf,
+        Some("JSON") => OpaqueCause::JsonSchema,
+        _ => OpaqueCause::OtherType,
     }
 }
 
 /// Which member beside a version's schema isn't taken.
-fn beyond_numbers(json: &Json, subject: &str, version: u32) -> Option<Cause>
+fn beyond_numbers(json: &Json, subject: &str, version: u32) -> Option<OpaqueCause>
     ensures { result ≡ beyond_numbers subject.now version (view json.now) }
 {
     if !has_text_at(json, "subject", subject) {
-        return Some(Cause::Subject);
+        return Some(OpaqueCause::Subject);
     }
     if !has_number_at(json, "version", version) {
-        return Some(Cause::Version);
+        return Some(OpaqueCause::Version);
     }
     if number_at(json, "id").is_none() {
-        return Some(Cause::Id);
+        return Some(OpaqueCause::Id);
     }
     if deleted_in(json).is_none() {
-        return Some(Cause::Deleted);
+        return Some(OpaqueCause::Deleted);
     }
     None
 }
 
 /// Whether the schema isn't there, or can't be read.
-fn schema_cause(alloc: Global, json: &Json) -> Result<Option<Cause>, AllocError>
+fn schema_cause(alloc: Global, json: &Json) -> Result<Option<OpaqueCause>, AllocError>
     ensures { IfOk result (λ cause. cause ≡ schema_cause (view json.now)) }
 {
     let Some(text) = text_at(json, "schema") else {
-        return Ok(Some(Cause::Schema));
+        return Ok(Some(OpaqueCause::Schema));
     };
     match Schema::read_if_any(alloc, text)? {
         Some(_) => Ok(None),
-        None => Ok(Some(Cause::Schema)),
+        None => Ok(Some(OpaqueCause::Schema)),
     }
 }

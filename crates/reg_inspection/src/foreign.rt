@@ -6,12 +6,12 @@ ghost use Rattle.reg_records.specs.Json.{text_at};
 ghost use Rattle.reg_records.specs.Line.{is_tab, reading};
 ghost use Rattle.reg_records.specs.Log.{IsLogOf, LogText, log_of};
 ghost use Rattle.reg_records.specs.declared.record.Read.{Read};
-ghost use Rattle.reg_keeping.specs.Fronts.{Front, HasLines};
+ghost use Rattle.reg_compaction.specs.Fronts.{Front, HasLines};
 ghost use Rattle.reg_inspection.specs.Foreign.{foreign_keytypes, foreign_tally, keytype_in, tally_of};
 
 use base_text::Text;
+use reg_compaction::{floor_len, line_at};
 use reg_journal::lines_are_logs;
-use reg_keeping::{floor_len, line_at};
 use reg_records::{Log, Read, lines_are_of_the_grammar, parse, text_at};
 use serde_json::Value as Json;
 use std::alloc::{AllocError, Global};

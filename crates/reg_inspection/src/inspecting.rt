@@ -1,12 +1,12 @@
 // The inspection of a log as a filter from a reader to a writer.
 ghost use Rattle.std.specs.Prelude.{IfErr, IfOk, IfSome, OnOk};
 ghost use Rattle.reg_journal.specs.Found.{HasFault};
-ghost use Rattle.reg_keeping.specs.Filter.{IsFilterRefusal, IsFlushed};
+ghost use Rattle.reg_compaction.specs.Filter.{IsFilterRefusal, IsFlushed};
 ghost use Rattle.reg_inspection.specs.Inspection.{Describes, Reports};
 
 use crate::inspection::inspected;
 use crate::laws::no_obstacle_is_open;
-use reg_keeping::{FilterError, filter_error, read_input, write_output};
+use reg_compaction::{FilterError, filter_error, read_input, write_output};
 use reg_records::{LogError, Output};
 use std::alloc::Global;
 use std::io::Read;

@@ -10,7 +10,7 @@ mod inspection;
 mod laws;
 mod obstacle;
 
-pub use cause::{Cause, cause_of};
+pub use cause::{OpaqueCause, cause_of};
 pub use counts::Counts;
 pub use inspecting::inspect;
 pub use inspection::{Inspection, inspected};

@@ -7,7 +7,7 @@ ghost use Rattle.reg_fold.specs.Entries.{entries};
 ghost use Rattle.reg_inspection.specs.Obstacles.{can_begin, has_no_place, is_plain, obstacles, opaque_in, opaque_text, shown};
 ghost use Rattle.reg_inspection.specs.Shared.{ids_of, shared_ids};
 
-use crate::cause::{Cause, cause_of};
+use crate::cause::{OpaqueCause, cause_of};
 use crate::ids::{ids_of, shared_ids};
 use crate::laws::no_obstacle_is_open;
 use base_text::Text;
@@ -25,7 +25,7 @@ pub enum Obstacle {
         offset: u64,
         subject: Text,
         version: u32,
-        cause: Cause,
+        cause: OpaqueCause,
     },
     /// The id names two schemas, soft versions counted.
     TwoSchemas(u32),

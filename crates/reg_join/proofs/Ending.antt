@@ -12,27 +12,26 @@ use Rattle.reg_topic.specs.declared.topic.Topic.{Topic}
 use Rattle.reg_pen.specs.Pen.{Acts, Follows, IsNoMemory, IsStepAfter, PenState, StillPends, Submits, item_of, settled}
 use Rattle.reg_pen.specs.Writing.{SubmitsAndCompacts}
 use Rattle.reg_pen.specs.declared.keep.Kept.{Kept}
-use Rattle.reg_join.specs.Chain.{told_after}
 use Rattle.reg_join.specs.Ending.{Asked, ChecksAfter, ComesTo, Concludes, Ends, IsAtItsPlace, IsUnwritten, MayEnd, RepliedAs, RepliesAreAtTheirPlaces, Tried, batch_outcome, check_outcome, settled_outcome, unchecked_outcome, live_outcome, whole_list}
 use Rattle.reg_join.specs.Joined.{IsJoined, batches_of}
 use Rattle.reg_join.specs.Joining.{AreTakenAt, Asks, AsksNothing, Checks, ChecksAt, JoinKeeps, KeepsAt, kept_of}
 use Rattle.reg_join.specs.Memory.{is_no_memory}
-use Rattle.reg_join.specs.declared.chain.Answer.{Answer}
-use Rattle.reg_join.specs.declared.chain.Answer.TheVariants as answered
-use Rattle.reg_join.specs.declared.commanding.Outcome.{Outcome}
-use Rattle.reg_join.specs.declared.commanding.Outcome.TheVariants as outcomes
+use Rattle.reg_chain.specs.declared.chain.ChainAnswer.{ChainAnswer}
+use Rattle.reg_chain.specs.declared.chain.ChainAnswer.TheVariants as answered
+use Rattle.reg_join.specs.declared.commanding.JoinOutcome.{JoinOutcome}
+use Rattle.reg_join.specs.declared.commanding.JoinOutcome.TheVariants as outcomes
 use Rattle.reg_join.specs.declared.join_keep.JoinKeep.{JoinKeep}
 use Rattle.reg_join.specs.declared.join_keep.Stand.{Stand}
 use Rattle.reg_join.specs.declared.join_keep.Stand.TheVariants.{Level}
 use Rattle.reg_join.proofs.TakingIn.{compacted_after, prefix_trans}
 
-module _ {C : Type 0} (told : C → List (List Record)) (answers : C → List Record → Answer → C → Type 0) (base : Topic) where
+module _ {C : Type 0} (told : C → List (List Record)) (answers : C → List Record → ChainAnswer → C → Type 0) (base : Topic) where
   -- by the answer: the keep, and the reply
-  abbrev Follow : Answer → Reply → Record → Reply → PenState (JoinKeep C) → Command → List Record → JoinKeep C → PenState (JoinKeep C) → Type 0
+  abbrev Follow : ChainAnswer → Reply → Record → Reply → PenState (JoinKeep C) → Command → List Record → JoinKeep C → PenState (JoinKeep C) → Type 0
   Follow answer replied first reply l c rest keep m =
       (m.keep ≡ keep) × RepliedAs told answers base answer replied first reply (whole_list l ++ item_of c (first ∷ rest)) m.published
 
-  follow : (answer : Answer) (replied : Reply) (first : Record) (reply : Reply) (l : PenState (JoinKeep C)) (c : Command) (rest : List Record)
+  follow : (answer : ChainAnswer) (replied : Reply) (first : Record) (reply : Reply) (l : PenState (JoinKeep C)) (c : Command) (rest : List Record)
       (keep : JoinKeep C) (m : PenState (JoinKeep C))
       → Follows (kept_of answer) (item_of c (first ∷ rest)) replied (replies.Unsettled first.offset) (record (settled l) { keep = keep }) reply m
       → Follow answer replied first reply l c rest keep m
@@ -47,7 +46,7 @@ module _ {C : Type 0} (told : C → List (List Record)) (answers : C → List Re
     -- what was tried, with the keep's last answer
     abbrev WasTried : PenState (JoinKeep C) → Type 0
     WasTried m = ((IsUnwritten told answers base l c reply m.published ⊎ IsNoMemory reply) × (m.keep ≡ l.keep))
-        ⊎ ((answer : Answer) × (m.keep.last ≡ Some answer) × Asked told answers base l c reply m.published answer m.keep)
+        ⊎ ((answer : ChainAnswer) × (m.keep.last ≡ Some answer) × Asked told answers base l c reply m.published answer m.keep)
 
     asked : (replied : Reply) (first : Record) (rest : List Record) (kept : Kept) (keep : JoinKeep C) (m : PenState (JoinKeep C))
         (asks : Asks told answers l.keep (first ∷ rest) kept keep)
@@ -99,14 +98,14 @@ module _ {C : Type 0} (told : C → List (List Record)) (answers : C → List Re
     by_last : (seen : List Item) (k : JoinKeep C) (mid : PenState (JoinKeep C)) → l.keep.last ≡ None → seen ≡ mid.published → k ≡ mid.keep
         → WasTried mid → Tried told answers base k.last l c reply seen k
     by_last seen k mid none shown same (inl (inl unwritten, keeps)) =
-        subst (λ (o : Option Answer). Tried told answers base o l c reply seen k)
+        subst (λ (o : Option ChainAnswer). Tried told answers base o l c reply seen k)
         (sym (ap (λ (j : JoinKeep C). j.last) (same ∙ keeps) ∙ none))
         (inl (subst (λ (is : List Item). IsUnwritten told answers base l c reply is) (sym shown) unwritten), same ∙ keeps)
     by_last seen k mid none shown same (inl (inr memory, keeps)) =
-        subst (λ (o : Option Answer). Tried told answers base o l c reply seen k)
+        subst (λ (o : Option ChainAnswer). Tried told answers base o l c reply seen k)
         (sym (ap (λ (j : JoinKeep C). j.last) (same ∙ keeps) ∙ none)) (inr memory, same ∙ keeps)
     by_last seen k mid none shown same (inr told_so) =
-        subst (λ (o : Option Answer). Tried told answers base o l c reply seen k)
+        subst (λ (o : Option ChainAnswer). Tried told answers base o l c reply seen k)
         (sym (ap (λ (j : JoinKeep C). j.last) same ∙ told_so.1))
         (subst (λ (j : JoinKeep C). Asked told answers base l c reply seen told_so.0 j) (sym same)
         (subst (λ (is : List Item). Asked told answers base l c reply is told_so.0 mid.keep) (sym shown) told_so.2))
@@ -184,7 +183,7 @@ module _ {C : Type 0} (told : C → List (List Record)) (answers : C → List Re
     }
     when_unknown reply a = absurd (cc a.replies_as)
 
-    by_answer : (answer : Answer) (reply : Reply) → Asked told answers base l c reply seen answer k
+    by_answer : (answer : ChainAnswer) (reply : Reply) → Asked told answers base l c reply seen answer k
         → MayEnd told answers base (batch_outcome answer reply) l c (Some seen) k
     by_answer answered.Kept reply a = when_kept reply a
     by_answer answered.Behind reply a = a.count
@@ -240,7 +239,7 @@ module _ {C : Type 0} (told : C → List (List Record)) (answers : C → List Re
     unchecked (commands.Register subject text) reply is un said tells count = lives subject text reply is un said tells count
     unchecked d reply is un said tells count = not_asked reply un said count
 
-    checked : (answer : Answer) (reply : Reply) → IsUnwritten told answers base l c reply seen
+    checked : (answer : ChainAnswer) (reply : Reply) → IsUnwritten told answers base l c reply seen
         → answers l.keep.chain [] answer k.chain → told k.chain ≡ told l.keep.chain → k.kept ≡ l.keep.kept
         → MayEnd told answers base (check_outcome answer c reply) l c (Some seen) k
     checked answered.Kept reply un means tells count = inl (record {
@@ -260,7 +259,7 @@ module _ {C : Type 0} (told : C → List (List Record)) (answers : C → List Re
   not_memory reply other memory = true≢false (sym (ap is_no_memory memory) ∙ other)
 
   module _ (l : PenState (JoinKeep C)) (c : Command) (reply : Reply) (seen : List Item) (level : l.keep.stand ≡ Level) where
-    after_check : (k k' : JoinKeep C) (outcome : Option Outcome) → is_no_memory reply ≡ false
+    after_check : (k k' : JoinKeep C) (outcome : Option JoinOutcome) → is_no_memory reply ≡ false
         → IsUnwritten told answers base l c reply seen ⊎ IsNoMemory reply → k ≡ l.keep → ChecksAfter told answers base k c reply outcome k'
         → MayEnd told answers base outcome l c (Some seen) k'
     after_check k k' outcome other (inr memory) same after = absurd (not_memory reply other memory)
@@ -268,29 +267,29 @@ module _ {C : Type 0} (told : C → List (List Record)) (answers : C → List Re
         let asks : AsksNothing told answers l.keep after.answer k' =
         subst (λ (s : Stand). ChecksAt told answers s l.keep after.answer k') level
         (subst (λ (j : JoinKeep C). Checks told answers j after.answer k') same after.checks) in
-        subst (λ (o : Option Outcome). MayEnd told answers base o l c (Some seen) k') (sym after.told_by)
+        subst (λ (o : Option JoinOutcome). MayEnd told answers base o l c (Some seen) k') (sym after.told_by)
         (checked l c seen k' after.answer reply un asks.means asks.tells
         (after.own.kept ∙ ap (λ (j : JoinKeep C). j.kept) same))
 
-    alone : (b : Bool) (k k' : JoinKeep C) (outcome : Option Outcome) → is_no_memory reply ≡ b
+    alone : (b : Bool) (k k' : JoinKeep C) (outcome : Option JoinOutcome) → is_no_memory reply ≡ b
         → (IsUnwritten told answers base l c reply seen ⊎ IsNoMemory reply) × (k ≡ l.keep)
         → MatchBool b ((outcome ≡ Some outcomes.NoMemory) × (k' ≡ k)) (ChecksAfter told answers base k c reply outcome k')
         → MayEnd told answers base outcome l c (Some seen) k'
     alone true k k' outcome is tried memory =
-        subst (λ (o : Option Outcome). MayEnd told answers base o l c (Some seen) k') (sym memory.0)
+        subst (λ (o : Option JoinOutcome). MayEnd told answers base o l c (Some seen) k') (sym memory.0)
         (ap (λ (j : JoinKeep C). j.kept) (memory.1 ∙ tried.1))
     alone false k k' outcome is tried after = after_check k k' outcome is tried.0 tried.1 after
 
-    pub may_end : (last : Option Answer) (k k' : JoinKeep C) (outcome : Option Outcome) → Tried told answers base last l c reply seen k
+    pub may_end : (last : Option ChainAnswer) (k k' : JoinKeep C) (outcome : Option JoinOutcome) → Tried told answers base last l c reply seen k
         → Concludes told answers base last k c reply outcome k' → MayEnd told answers base outcome l c (Some seen) k'
     may_end None k k' outcome tried concludes = alone (is_no_memory reply) k k' outcome refl tried concludes
     may_end (Some answer) k k' outcome tried concludes =
-        subst (λ (o : Option Outcome). MayEnd told answers base o l c (Some seen) k') (sym concludes.0)
+        subst (λ (o : Option JoinOutcome). MayEnd told answers base o l c (Some seen) k') (sym concludes.0)
         (subst (λ (j : JoinKeep C). MayEnd told answers base (batch_outcome answer reply) l c (Some seen) j) (sym concludes.1)
         (by_answer l c seen k answer reply tried))
 
   -- a try behind others that came to nothing
-  pub ends_later : (old mid new : PenState (JoinKeep C)) (c : Command) (outcome : Outcome) (seen : Option (List Item))
+  pub ends_later : (old mid new : PenState (JoinKeep C)) (c : Command) (outcome : JoinOutcome) (seen : Option (List Item))
       → IsPrefix old.published mid.published → mid.keep.kept ≡ old.keep.kept → Ends told answers base mid c outcome seen new
       → Ends told answers base old c outcome seen new
   ends_later old mid new c outcome seen grows same ends = record {

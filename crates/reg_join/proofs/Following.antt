@@ -1,6 +1,5 @@
 -- A pen's batches stay those that its keep took.
-use Rattle.std.proofs.Common.{◌≡◌, ◌⊎◌, inl, inr, Bool, true, false, List, [], ◌∷◌, ◌++◌, Option, refl, sym, ap, subst, ◌∙◌, append-nil, true≢false}
-use Rattle.std.specs.Borrow.{Bor}
+use Rattle.std.proofs.Common.{◌≡◌, inl, inr, Bool, true, false, List, [], ◌∷◌, ◌++◌, refl, sym, ap, subst, append-nil, true≢false}
 use Rattle.reg_records.specs.declared.record.Record.{Record}
 use Rattle.reg_leader.specs.declared.command.Command.{Command}
 use Rattle.reg_leader.specs.declared.reply.Reply.{Reply}
@@ -13,7 +12,7 @@ use Rattle.reg_pen.specs.declared.keep.Kept.{Kept}
 use Rattle.reg_pen.specs.declared.keep.Kept.TheVariants.{Taken, Declined, Lost, Unknown}
 use Rattle.reg_join.specs.Joined.{IsJoined, SubmitsStayJoined, batches_in}
 use Rattle.reg_join.specs.Joining.{AreTaken, JoinKeeps}
-use Rattle.reg_join.specs.declared.chain.Answer.{Answer}
+use Rattle.reg_chain.specs.declared.chain.ChainAnswer.{ChainAnswer}
 use Rattle.reg_join.specs.declared.join_keep.JoinKeep.{JoinKeep}
 use Rattle.reg_join.proofs.Taken.{AreTakenAfter, taken_after}
 
@@ -32,7 +31,7 @@ module _ {C : Type 0} (told : C → List (List Record)) where
   joined_clear published keep taken =
       record { kept = refl; taken = subst (λ (is : List Item). AreTaken told keep (batches_in is)) (sym (append-nil published)) taken }
 
-  module _ (answers : C → List Record → Answer → C → Type 0) where
+  module _ (answers : C → List Record → ChainAnswer → C → Type 0) where
     followed : (kept : Kept) (keep : JoinKeep C) (published : List Item) (c : Command) (r : Record) (rs : List Record)
         (replied unsettled reply : Reply) (m : PenState (JoinKeep C))
         → AreTakenAfter told answers kept keep (batches_in published) (r ∷ rs)

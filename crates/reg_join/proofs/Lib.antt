@@ -1,5 +1,8 @@
+pub mod Candidates
 pub mod Ending
 pub mod Following
+pub mod Levels
+pub mod Nobodys
 pub mod Outcomes
 pub mod Same
 pub mod Standing

@@ -1,6 +1,5 @@
 -- What comes of a command, by the chain's answer, and of a batch that is due.
-use Rattle.std.proofs.Common.{◌≡◌, ◌⊎◌, inl, inr, List, [], ◌∷◌, ◌++◌, Option, refl, sym, ap, subst, ◌∙◌}
-use Rattle.std.specs.Borrow.{Bor}
+use Rattle.std.proofs.Common.{◌≡◌, ◌⊎◌, inl, inr, List, [], ◌∷◌, ◌++◌, refl, sym, ap, subst, ◌∙◌}
 use Rattle.reg_records.specs.declared.record.Record.{Record}
 use Rattle.reg_leader.specs.declared.command.Command.{Command}
 use Rattle.reg_leader.specs.declared.reply.Reply.{Reply}
@@ -11,20 +10,20 @@ use Rattle.reg_topic.specs.declared.topic.Topic.{Topic}
 use Rattle.reg_pen.specs.Pen.{Acts, Follows, IsStepAfter, PenState, StillPends, item_of, settled}
 use Rattle.reg_pen.specs.declared.keep.Kept.{Kept}
 use Rattle.reg_pen.specs.declared.keep.Kept.TheVariants.{Taken, Declined, Lost, Unknown}
-use Rattle.reg_join.specs.Chain.{told_after}
+use Rattle.reg_chain.specs.Chain.{told_after}
 use Rattle.reg_join.specs.Joined.{DueBatchesAreTaken, IsJoined, IsNoOutcome, OutcomesStandInChain, StandsInChain, TakesDue, WroteNothing, batches_in, batches_of}
 use Rattle.reg_join.specs.Joining.{AreTakenAt, Asks, JoinKeeps, KeepsAt, kept_of}
-use Rattle.reg_join.specs.declared.chain.Answer.{Answer}
-use Rattle.reg_join.specs.declared.chain.Answer.TheVariants as answered
+use Rattle.reg_chain.specs.declared.chain.ChainAnswer.{ChainAnswer}
+use Rattle.reg_chain.specs.declared.chain.ChainAnswer.TheVariants as answered
 use Rattle.reg_join.specs.declared.join_keep.JoinKeep.{JoinKeep}
 use Rattle.reg_join.specs.declared.join_keep.Stand.{Stand}
 use Rattle.reg_join.specs.declared.join_keep.Stand.TheVariants.{Level, Due, Stopped}
 use Rattle.reg_join.proofs.Following.{batches_both}
 use Rattle.reg_join.proofs.Standing.{none_pending}
 
-module _ {C : Type 0} (told : C → List (List Record)) (answers : C → List Record → Answer → C → Type 0) (base : Topic) where
+module _ {C : Type 0} (told : C → List (List Record)) (answers : C → List Record → ChainAnswer → C → Type 0) (base : Topic) where
   -- a batch is taken only where the chain kept it
-  was_kept : (answer : Answer) → Taken ≡ kept_of answer → answer ≡ answered.Kept
+  was_kept : (answer : ChainAnswer) → Taken ≡ kept_of answer → answer ≡ answered.Kept
   was_kept answered.Kept e = refl
   was_kept answered.Behind e = absurd (cc e)
   was_kept answered.Declined e = absurd (cc e)
@@ -52,9 +51,9 @@ module _ {C : Type 0} (told : C → List (List Record)) (answers : C → List Re
     before = before;
     step = subst (λ (r : Reply). IsStepAfter base (l.published ++ l.pending) c r (first ∷ rest)) (sym same) step;
     kept = subst (λ (k : JoinKeep C). answers l.keep.chain (first ∷ rest) answered.Kept k.chain) (sym kept)
-        (subst (λ (a : Answer). answers l.keep.chain (first ∷ rest) a keep.chain) (was_kept asks.answer asks.becomes) asks.means);
+        (subst (λ (a : ChainAnswer). answers l.keep.chain (first ∷ rest) a keep.chain) (was_kept asks.answer asks.becomes) asks.means);
     stands = ap (λ (k : JoinKeep C). told k.chain) kept
-        ∙ (asks.tells ∙ (ap (λ (a : Answer). told_after (told l.keep.chain) (first ∷ rest) a) (was_kept asks.answer asks.becomes)
+        ∙ (asks.tells ∙ (ap (λ (a : ChainAnswer). told_after (told l.keep.chain) (first ∷ rest) a) (was_kept asks.answer asks.becomes)
         ∙ ap (λ (bs : List (List Record)). bs ++ (first ∷ rest) ∷ []) before));
   }
 
@@ -149,7 +148,7 @@ module _ {C : Type 0} (told : C → List (List Record)) (answers : C → List Re
       (subst (λ (s : Stand). KeepsAt told answers s l.keep (lends.first ∷ lends.rest) lends.kept lends.keep) here lends.lent) lends.follows
   acted_due l c reply m due here (inr (inr none)) = as_settled l m due none.1
 
-module _ {C : Type 0} (told : C → List (List Record)) (answers : C → List Record → Answer → C → Type 0) where
+module _ {C : Type 0} (told : C → List (List Record)) (answers : C → List Record → ChainAnswer → C → Type 0) where
   pub outcomes : OutcomesStandInChain told answers
   outcomes base since l c reply m (inl ahead) joined level = inr (inr (inl ahead.1))
   outcomes base since l c reply m (inr (behind, inl still)) joined level = inr (inr (still_none told answers base m c l.pending reply still.0))

@@ -1,5 +1,5 @@
 -- What changes nothing of a pen's batches.
-use Rattle.std.proofs.Common.{◌≡◌, ◌⊎◌, inl, inr, ℕ, List, [], ◌∷◌, ◌++◌, refl, sym, ap, subst, ◌∙◌, append-nil}
+use Rattle.std.proofs.Common.{◌≡◌, inl, inr, ℕ, List, [], ◌∷◌, ◌++◌, sym, ap, subst, ◌∙◌, append-nil}
 use Rattle.reg_records.specs.declared.record.Record.{Record}
 use Rattle.reg_topic.specs.declared.published.Compaction.{Compaction}
 use Rattle.reg_topic.specs.declared.published.Item.{Item}

@@ -1,18 +1,17 @@
 -- What a keep over a chain took, after a batch.
-use Rattle.std.proofs.Common.{◌≡◌, ◌⊎◌, inl, inr, List, [], ◌∷◌, ◌++◌, refl, sym, ap, subst, ◌∙◌}
+use Rattle.std.proofs.Common.{◌≡◌, inl, inr, List, [], ◌∷◌, ◌++◌, sym, ap, subst, ◌∙◌}
 use Rattle.reg_records.specs.declared.record.Record.{Record}
 use Rattle.reg_pen.specs.declared.keep.Kept.{Kept}
 use Rattle.reg_pen.specs.declared.keep.Kept.TheVariants.{Taken, Declined, Lost, Unknown}
-use Rattle.reg_pen.specs.declared.keep.Lack.TheVariants as lacks
-use Rattle.reg_join.specs.Chain.{told_after}
-use Rattle.reg_join.specs.Joining.{AreTaken, AreTakenAt, Asks, KeepsAt, kept_of}
-use Rattle.reg_join.specs.declared.chain.Answer.{Answer}
-use Rattle.reg_join.specs.declared.chain.Answer.TheVariants as answered
+use Rattle.reg_chain.specs.Chain.{told_after}
+use Rattle.reg_join.specs.Joining.{AreTaken, AreTakenAt, KeepsAt, kept_of}
+use Rattle.reg_chain.specs.declared.chain.ChainAnswer.{ChainAnswer}
+use Rattle.reg_chain.specs.declared.chain.ChainAnswer.TheVariants as answered
 use Rattle.reg_join.specs.declared.join_keep.JoinKeep.{JoinKeep}
 use Rattle.reg_join.specs.declared.join_keep.Stand.{Stand}
 use Rattle.reg_join.specs.declared.join_keep.Stand.TheVariants.{Level, Due, Stopped}
 
-module _ {C : Type 0} (told : C → List (List Record)) (answers : C → List Record → Answer → C → Type 0) where
+module _ {C : Type 0} (told : C → List (List Record)) (answers : C → List Record → ChainAnswer → C → Type 0) where
   -- what was taken after what became of a batch; none is ever lost
   abbrev pub AreTakenAfter : Kept → JoinKeep C → List (List Record) → List Record → Type 0
   AreTakenAfter Taken keep before batch = AreTaken told keep (before ++ batch ∷ [])
@@ -25,7 +24,7 @@ module _ {C : Type 0} (told : C → List (List Record)) (answers : C → List Re
     all_told : (taken : List (List Record)) → k'.stand ≡ Level → told k'.chain ≡ taken → AreTaken told k' taken
     all_told taken level e = subst (λ (s : Stand). AreTakenAt told s (told k'.chain) taken) (sym level) e
 
-    asked : (answer : Answer) → told k.chain ≡ before → told k'.chain ≡ told_after (told k.chain) (r ∷ rs) answer
+    asked : (answer : ChainAnswer) → told k.chain ≡ before → told k'.chain ≡ told_after (told k.chain) (r ∷ rs) answer
         → k'.stand ≡ Level → AreTakenAfter (kept_of answer) k' before (r ∷ rs)
     asked answered.Kept same tells level =
         all_told (before ++ (r ∷ rs) ∷ []) level (tells ∙ ap (λ (bs : List (List Record)). bs ++ (r ∷ rs) ∷ []) same)

@@ -1,5 +1,5 @@
 -- What comes of a batch that is due.
-use Rattle.std.proofs.Common.{◌≡◌, ◌⊎◌, inl, inr, ℕ, Bool, true, false, List, ◌∷◌, [], ◌++◌, Option, MatchBool, sym, ap, subst, ◌∙◌, append-nil, append_assoc}
+use Rattle.std.proofs.Common.{◌≡◌, inl, inr, ℕ, Bool, true, false, List, ◌∷◌, [], ◌++◌, Option, MatchBool, sym, ap, subst, ◌∙◌, append-nil, append_assoc}
 use Rattle.std.specs.Borrow.{Bor}
 use mathlib.Core.List.{IsPrefix}
 use Rattle.reg_records.specs.declared.record.Record.{Record}
@@ -13,7 +13,7 @@ use Rattle.reg_pen.specs.Writing.{SubmitsAndCompacts, passes_multiple}
 use Rattle.reg_join.specs.Joined.{IsJoined, TakesDue, batches_of}
 use Rattle.reg_join.specs.Joining.{AreTakenAt, IsNotAsked, JoinKeeps, KeepsTaken}
 use Rattle.reg_join.specs.Taking.{GoesOn, Takes, TellsTaken}
-use Rattle.reg_join.specs.declared.chain.Answer.{Answer}
+use Rattle.reg_chain.specs.declared.chain.ChainAnswer.{ChainAnswer}
 use Rattle.reg_join.specs.declared.join_keep.JoinKeep.{JoinKeep}
 use Rattle.reg_join.specs.declared.join_keep.Stand.{Stand}
 use Rattle.reg_join.specs.declared.join_keep.Stand.TheVariants.{Level, Due, Stopped}
@@ -77,7 +77,7 @@ module _ {C : Type 0} (told : C → List (List Record)) where
   pub lent_batches : (l m : PenState (JoinKeep C)) → m ≡ record l { keep = m.keep } → batches_of m ≡ batches_of l
   lent_batches l m same = ap (λ (s : PenState (JoinKeep C)). batches_of s) same
 
-  module _ (answers : C → List Record → Answer → C → Type 0) (base : Topic) (since : Option (Bor (List Item)))
+  module _ (answers : C → List Record → ChainAnswer → C → Type 0) (base : Topic) (since : Option (Bor (List Item)))
       (l m : PenState (JoinKeep C)) (c : Command) (reply : Reply) (seen : List Item) where
     followed : (b : Bool) (floor : ℕ) (mid : PenState (JoinKeep C)) → MatchBool b (CompactsOrNot base floor mid m) (m ≡ mid) → IsSame mid m
     followed true floor mid compacts = compacted base floor mid m compacts

@@ -1,5 +1,5 @@
 -- What follows from the parts of a command over a chain.
-use Rattle.std.proofs.Common.{◌≡◌, ◌⊎◌, inl, inr, ℕ, List, ◌∷◌, [], ◌++◌, Option, Some, None, MatchOption, refl, sym, ap, subst, ◌∙◌}
+use Rattle.std.proofs.Common.{◌≡◌, List, [], Option, Some, None, MatchOption, refl, sym, ap, subst, ◌∙◌}
 use Rattle.std.specs.Borrow.{Bor}
 use mathlib.Core.List.{IsPrefix}
 use Rattle.reg_records.specs.declared.record.Record.{Record}
@@ -13,10 +13,10 @@ use Rattle.reg_join.specs.Ending.{ComesTo, Concludes, Ends, MayEnd, forgotten}
 use Rattle.reg_join.specs.Joined.{IsJoined, batches_of}
 use Rattle.reg_join.specs.Joining.{AreTakenAt, Checks, ChecksAt, JoinKeeps}
 use Rattle.reg_join.specs.Taking.{GoesOn, IsAtEnd, Takes}
-use Rattle.reg_join.specs.declared.chain.Answer.{Answer}
-use Rattle.reg_join.specs.declared.chain.Answer.TheVariants as answered
-use Rattle.reg_join.specs.declared.commanding.Outcome.{Outcome}
-use Rattle.reg_join.specs.declared.commanding.Outcome.TheVariants as outcomes
+use Rattle.reg_chain.specs.declared.chain.ChainAnswer.{ChainAnswer}
+use Rattle.reg_chain.specs.declared.chain.ChainAnswer.TheVariants as answered
+use Rattle.reg_join.specs.declared.commanding.JoinOutcome.{JoinOutcome}
+use Rattle.reg_join.specs.declared.commanding.JoinOutcome.TheVariants as outcomes
 use Rattle.reg_join.specs.declared.join_keep.JoinKeep.{JoinKeep}
 use Rattle.reg_join.specs.declared.join_keep.Stand.{Stand}
 use Rattle.reg_join.specs.declared.join_keep.Stand.TheVariants.{Level, Due, Stopped}
@@ -42,8 +42,8 @@ module _ {C : Type 0} (told : C → List (List Record)) where
   pub forgets : (l m : PenState (JoinKeep C)) → m ≡ record l { keep = m.keep } → m.keep ≡ record l.keep { last = None } → m ≡ forgotten l
   forgets l m same keep = same ∙ ap (λ (k : JoinKeep C). record l { keep = k }) keep
 
-  module _ (answers : C → List Record → Answer → C → Type 0) where
-    kept_at : (stand : Stand) (l : PenState (JoinKeep C)) (answer : Answer) (k : JoinKeep C)
+  module _ (answers : C → List Record → ChainAnswer → C → Type 0) where
+    kept_at : (stand : Stand) (l : PenState (JoinKeep C)) (answer : ChainAnswer) (k : JoinKeep C)
         → ChecksAt told answers stand l.keep answer k → AreTakenAt told stand (told l.keep.chain) (batches_of l) → answer ≡ answered.Kept
         → told k.chain ≡ batches_of l
     kept_at Level l answer k checks taken is = checks.tells ∙ taken
@@ -51,7 +51,7 @@ module _ {C : Type 0} (told : C → List (List Record)) where
     kept_at Stopped l answer k checks taken is = absurd (cc (sym checks.0 ∙ is))
 
     -- a check that is kept: all that was told is taken
-    pub check_kept : (l m : PenState (JoinKeep C)) (answer : Answer) → Checks told answers l.keep answer m.keep → m ≡ record l { keep = m.keep }
+    pub check_kept : (l m : PenState (JoinKeep C)) (answer : ChainAnswer) → Checks told answers l.keep answer m.keep → m ≡ record l { keep = m.keep }
         → IsJoined told l → answer ≡ answered.Kept → told m.keep.chain ≡ batches_of m
     check_kept l m answer checks same joined is =
         kept_at l.keep.stand l answer m.keep checks joined.taken is ∙ sym (ap (λ (s : PenState (JoinKeep C)). batches_of s) same)
@@ -59,7 +59,7 @@ module _ {C : Type 0} (told : C → List (List Record)) where
     module _ (base : Topic) where
       -- a submit, and what is told of it
       pub once : (since : Option (Bor (List Item))) (l k m n : PenState (JoinKeep C)) (c : Command) (reply : Reply) (seen : List Item)
-          (outcome : Option Outcome) → k ≡ forgotten l → SubmitsAndCompacts (JoinKeeps told answers) base since k c reply seen m
+          (outcome : Option JoinOutcome) → k ≡ forgotten l → SubmitsAndCompacts (JoinKeeps told answers) base since k c reply seen m
           → l.keep.stand ≡ Level → l.pending ≡ []
           → Concludes told answers base m.keep.last m.keep c reply outcome n.keep → IsJoined told l
           → MayEnd told answers base outcome (forgotten l) c (Some seen) n.keep
@@ -82,7 +82,7 @@ module _ {C : Type 0} (told : C → List (List Record)) where
           (prefix_trans k.published m.published n.published first second)
 
       -- behind what was taken in
-      pub ends_behind : (old mid new : PenState (JoinKeep C)) (c : Command) (outcome : Outcome) (seen : Option (List Item))
+      pub ends_behind : (old mid new : PenState (JoinKeep C)) (c : Command) (outcome : JoinOutcome) (seen : Option (List Item))
           → GoesOn told old mid → ComesTo told answers base outcome (forgotten mid) c seen new.keep
           → Ends told answers base old c outcome seen new
       ends_behind old mid new c outcome seen goes comes = record {
@@ -92,31 +92,31 @@ module _ {C : Type 0} (told : C → List (List Record)) where
         comes = comes;
       }
 
-      pub ends_stopped : (old mid : PenState (JoinKeep C)) (c : Command) (outcome : Outcome) (seen : Option (List Item))
+      pub ends_stopped : (old mid : PenState (JoinKeep C)) (c : Command) (outcome : JoinOutcome) (seen : Option (List Item))
           → GoesOn told old mid → mid.keep.stand ≡ Stopped → outcome ≡ outcomes.Stopped → Ends told answers base old c outcome seen mid
       ends_stopped old mid c outcome seen goes stopped is =
-          subst (λ (o : Outcome). Ends told answers base old c o seen mid) (sym is) (record {
+          subst (λ (o : JoinOutcome). Ends told answers base old c o seen mid) (sym is) (record {
             tried = mid;
             grows = goes.grows;
             none_kept = goes.own.kept;
             comes = (stopped, refl);
           })
 
-      pub ends_no_memory : (old mid : PenState (JoinKeep C)) (c : Command) (outcome : Outcome) (seen : Option (List Item))
+      pub ends_no_memory : (old mid : PenState (JoinKeep C)) (c : Command) (outcome : JoinOutcome) (seen : Option (List Item))
           → GoesOn told old mid → outcome ≡ outcomes.NoMemory → Ends told answers base old c outcome seen mid
       ends_no_memory old mid c outcome seen goes is =
-          subst (λ (o : Outcome). Ends told answers base old c o seen mid) (sym is) (record {
+          subst (λ (o : JoinOutcome). Ends told answers base old c o seen mid) (sym is) (record {
             tried = mid;
             grows = goes.grows;
             none_kept = goes.own.kept;
             comes = refl;
           })
 
-      pub ends_overtaken : (old new : PenState (JoinKeep C)) (c : Command) (outcome : Outcome) (seen : Option (List Item))
+      pub ends_overtaken : (old new : PenState (JoinKeep C)) (c : Command) (outcome : JoinOutcome) (seen : Option (List Item))
           → IsPrefix old.published new.published → new.keep.kept ≡ old.keep.kept → outcome ≡ outcomes.Overtaken
           → Ends told answers base old c outcome seen new
       ends_overtaken old new c outcome seen grows same is =
-          subst (λ (o : Outcome). Ends told answers base old c o seen new) (sym is) (record {
+          subst (λ (o : JoinOutcome). Ends told answers base old c o seen new) (sym is) (record {
             tried = new;
             grows = grows;
             none_kept = same;

@@ -9,14 +9,14 @@ use Rattle.reg_leader.specs.declared.reply.Reply.TheVariants as replies
 use Rattle.reg_topic.specs.declared.published.Item.{Item}
 use Rattle.reg_topic.specs.declared.topic.Topic.{Topic}
 use Rattle.reg_pen.specs.Pen.{IsNoMemory, IsStepAfter, PenState, counted, item_of}
-use Rattle.reg_join.specs.Chain.{told_after}
+use Rattle.reg_chain.specs.Chain.{told_after}
 use Rattle.reg_join.specs.Joined.{batches_in, batches_of}
 use Rattle.reg_join.specs.Joining.{Checks, IsNotAsked, kept_after}
 use Rattle.reg_join.specs.Memory.{is_no_memory}
-use Rattle.reg_join.specs.declared.chain.Answer.{Answer}
-use Rattle.reg_join.specs.declared.chain.Answer.TheVariants as answered
-use Rattle.reg_join.specs.declared.commanding.Outcome.{Outcome}
-use Rattle.reg_join.specs.declared.commanding.Outcome.TheVariants as outcomes
+use Rattle.reg_chain.specs.declared.chain.ChainAnswer.{ChainAnswer}
+use Rattle.reg_chain.specs.declared.chain.ChainAnswer.TheVariants as answered
+use Rattle.reg_join.specs.declared.commanding.JoinOutcome.{JoinOutcome}
+use Rattle.reg_join.specs.declared.commanding.JoinOutcome.TheVariants as outcomes
 use Rattle.reg_join.specs.declared.join_keep.JoinKeep.{JoinKeep}
 use Rattle.reg_join.specs.declared.join_keep.Stand.TheVariants.{Stopped}
 
@@ -25,28 +25,28 @@ abbrev pub whole_list : {K : Type 0} → PenState K → List Item
 whole_list l = l.published ++ l.pending
 
 -- private: what is told of a batch that the chain kept, or of which it can't know
-abbrev pub settled_outcome : Reply → Outcome
+abbrev pub settled_outcome : Reply → JoinOutcome
 settled_outcome (replies.Unsettled offset) = outcomes.Unsettled offset
 settled_outcome reply = outcomes.Replied reply
 
 -- private: by the answer to a batch; none where the command is decided anew
-abbrev pub batch_outcome : Answer → Reply → Option Outcome
+abbrev pub batch_outcome : ChainAnswer → Reply → Option JoinOutcome
 batch_outcome answered.Kept reply = Some (settled_outcome reply)
 batch_outcome answered.Behind reply = None
 batch_outcome answered.Declined reply = Some outcomes.Declined
 batch_outcome answered.Unknown reply = Some (settled_outcome reply)
 
 -- private: where the check is declined, a registration of a schema that is live here is told its id
-abbrev pub live_outcome : Reply → Outcome
+abbrev pub live_outcome : Reply → JoinOutcome
 live_outcome (replies.Id id) = outcomes.Live id
 live_outcome reply = outcomes.Declined
 
-abbrev pub unchecked_outcome : Command → Reply → Outcome
+abbrev pub unchecked_outcome : Command → Reply → JoinOutcome
 unchecked_outcome (commands.Register subject text) reply = live_outcome reply
 unchecked_outcome c reply = outcomes.Declined
 
 -- private: by the answer to a check; none where the command is decided anew
-abbrev pub check_outcome : Answer → Command → Reply → Option Outcome
+abbrev pub check_outcome : ChainAnswer → Command → Reply → Option JoinOutcome
 check_outcome answered.Kept c reply = Some (outcomes.Replied reply)
 check_outcome answered.Behind c reply = None
 check_outcome answered.Declined c reply = Some (unchecked_outcome c reply)
@@ -56,7 +56,7 @@ check_outcome answered.Unknown c reply = Some (unchecked_outcome c reply)
 abbrev pub forgotten : {C : Type 0} → PenState (JoinKeep C) → PenState (JoinKeep C)
 forgotten l = record l { keep = record l.keep { last = None } }
 
-module _ {C : Type 0} (told : C → List (List Record)) (answers : C → List Record → Answer → C → Type 0) (base : Topic) where
+module _ {C : Type 0} (told : C → List (List Record)) (answers : C → List Record → ChainAnswer → C → Type 0) (base : Topic) where
   -- the reply is that of a step from exactly what was told, which wrote nothing, and nothing stood behind that when the chain was asked
   -- after it
   pub record RepliesAlone (l : PenState (JoinKeep C)) (c : Command) (reply : Reply) (seen : Option (List Item)) (k : JoinKeep C) : Type 0 where
@@ -111,7 +111,7 @@ module _ {C : Type 0} (told : C → List (List Record)) (answers : C → List Re
     pub count : k.kept ≡ l.keep.kept
 
   -- what a command comes to, from the pen as it was when it was decided last, with all taken that was told
-  abbrev pub ComesTo : Outcome → PenState (JoinKeep C) → Command → Option (List Item) → JoinKeep C → Type 0
+  abbrev pub ComesTo : JoinOutcome → PenState (JoinKeep C) → Command → Option (List Item) → JoinKeep C → Type 0
   ComesTo (outcomes.Replied reply) l c seen k = RepliesAlone l c reply seen k ⊎ RepliesBehind l c reply seen k
   ComesTo (outcomes.Unsettled offset) l c seen k = IsUnsettled l c offset k
   ComesTo (outcomes.Live id) l c seen k = IsLive l c id k
@@ -121,7 +121,7 @@ module _ {C : Type 0} (told : C → List (List Record)) (answers : C → List Re
   ComesTo outcomes.Stopped l c seen k = (k.stand ≡ Stopped) × (k.kept ≡ l.keep.kept)
 
   -- what a command comes to in all: none of its batches was kept before it was decided last
-  pub record Ends (old : PenState (JoinKeep C)) (c : Command) (outcome : Outcome) (seen : Option (List Item)) (new : PenState (JoinKeep C)) : Type 0 where
+  pub record Ends (old : PenState (JoinKeep C)) (c : Command) (outcome : JoinOutcome) (seen : Option (List Item)) (new : PenState (JoinKeep C)) : Type 0 where
     pub tried : PenState (JoinKeep C)
     pub grows : IsPrefix old.published tried.published
     pub none_kept : tried.keep.kept ≡ old.keep.kept
@@ -149,14 +149,14 @@ module _ {C : Type 0} (told : C → List (List Record)) (answers : C → List Re
     pub shown : seen ≡ whole_list l
 
   -- private: the reply of a submit, by the answer to its batch, the step's reply and the batch's first record
-  abbrev pub RepliedAs : Answer → Reply → Record → Reply → List Item → List Item → Type 0
+  abbrev pub RepliedAs : ChainAnswer → Reply → Record → Reply → List Item → List Item → Type 0
   RepliedAs answered.Kept replied first reply after seen = ((reply ≡ replied) × (seen ≡ after)) ⊎ (reply ≡ replies.Unsettled first.offset)
   RepliedAs answered.Behind replied first reply after seen = ⊤
   RepliedAs answered.Declined replied first reply after seen = ⊤
   RepliedAs answered.Unknown replied first reply after seen = reply ≡ replies.Unsettled first.offset
 
   -- private: the step wrote a batch, and this was answered to it
-  pub record Asked (l : PenState (JoinKeep C)) (c : Command) (reply : Reply) (seen : List Item) (answer : Answer) (k : JoinKeep C) : Type 0 where
+  pub record Asked (l : PenState (JoinKeep C)) (c : Command) (reply : Reply) (seen : List Item) (answer : ChainAnswer) (k : JoinKeep C) : Type 0 where
     pub replied : Reply
     pub first : Record
     pub rest : List Record
@@ -168,24 +168,24 @@ module _ {C : Type 0} (told : C → List (List Record)) (answers : C → List Re
     pub replies_as : RepliedAs answer replied first reply (whole_list l ++ item_of c (first ∷ rest)) seen
 
   -- private: what comes of a submit where all is taken that was told and nothing is pending, by the answer to its batch, if there was one
-  abbrev pub Tried : Option Answer → PenState (JoinKeep C) → Command → Reply → List Item → JoinKeep C → Type 0
+  abbrev pub Tried : Option ChainAnswer → PenState (JoinKeep C) → Command → Reply → List Item → JoinKeep C → Type 0
   Tried None l c reply seen k = (IsUnwritten l c reply seen ⊎ IsNoMemory reply) × (k ≡ l.keep)
   Tried (Some answer) l c reply seen k = Asked l c reply seen answer k
 
   -- private: where nothing was written and memory wasn't refused, a check was made
-  pub record ChecksAfter (k : JoinKeep C) (c : Command) (reply : Reply) (outcome : Option Outcome) (k' : JoinKeep C) : Type 0 where
-    pub answer : Answer
+  pub record ChecksAfter (k : JoinKeep C) (c : Command) (reply : Reply) (outcome : Option JoinOutcome) (k' : JoinKeep C) : Type 0 where
+    pub answer : ChainAnswer
     pub checks : Checks told answers k answer k'
     pub own : IsNotAsked k k'
     pub told_by : outcome ≡ check_outcome answer c reply
 
   -- private: what is told of a submit, by the answer to its batch
-  abbrev pub Concludes : Option Answer → JoinKeep C → Command → Reply → Option Outcome → JoinKeep C → Type 0
+  abbrev pub Concludes : Option ChainAnswer → JoinKeep C → Command → Reply → Option JoinOutcome → JoinKeep C → Type 0
   Concludes (Some answer) k c reply outcome k' = (outcome ≡ batch_outcome answer reply) × (k' ≡ k)
   Concludes None k c reply outcome k' =
       MatchBool (is_no_memory reply) ((outcome ≡ Some outcomes.NoMemory) × (k' ≡ k)) (ChecksAfter k c reply outcome k')
 
   -- private: by the outcome, if the command isn't decided anew
-  abbrev pub MayEnd : Option Outcome → PenState (JoinKeep C) → Command → Option (List Item) → JoinKeep C → Type 0
+  abbrev pub MayEnd : Option JoinOutcome → PenState (JoinKeep C) → Command → Option (List Item) → JoinKeep C → Type 0
   MayEnd None l c seen k = k.kept ≡ l.keep.kept
   MayEnd (Some outcome) l c seen k = ComesTo outcome l c seen k

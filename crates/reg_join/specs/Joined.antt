@@ -10,8 +10,8 @@ use Rattle.reg_topic.specs.declared.published.Item.TheVariants as items
 use Rattle.reg_topic.specs.declared.topic.Topic.{Topic}
 use Rattle.reg_pen.specs.Pen.{CompactsOrNot, IsDeclined, IsNoMemory, IsStepAfter, PenState, Submits}
 use Rattle.reg_join.specs.Joining.{AreTaken, JoinKeeps}
-use Rattle.reg_join.specs.declared.chain.Answer.{Answer}
-use Rattle.reg_join.specs.declared.chain.Answer.TheVariants as answered
+use Rattle.reg_chain.specs.declared.chain.ChainAnswer.{ChainAnswer}
+use Rattle.reg_chain.specs.declared.chain.ChainAnswer.TheVariants as answered
 use Rattle.reg_join.specs.declared.join_keep.JoinKeep.{JoinKeep}
 use Rattle.reg_join.specs.declared.join_keep.Stand.TheVariants.{Level, Due, Stopped}
 
@@ -38,7 +38,7 @@ module _ {C : Type 0} (told : C → List (List Record)) where
     pub kept : l.lost ≡ false
     pub taken : AreTaken told l.keep (batches_of l)
 
-  module _ (answers : C → List Record → Answer → C → Type 0) where
+  module _ (answers : C → List Record → ChainAnswer → C → Type 0) where
     -- a submit leaves a pen whose batches are those that its keep took
     abbrev pub SubmitsStayJoined : Type 0
     SubmitsStayJoined = (base : Topic) (since : Option (Bor (List Item))) (l : PenState (JoinKeep C)) (c : Command) (reply : Reply)

@@ -6,22 +6,22 @@ use Rattle.reg_pen.specs.Pen.{counted}
 use Rattle.reg_pen.specs.declared.keep.Kept.{Kept}
 use Rattle.reg_pen.specs.declared.keep.Kept.TheVariants.{Taken, Declined, Unknown}
 use Rattle.reg_pen.specs.declared.keep.Lack.TheVariants as lacks
-use Rattle.reg_join.specs.Chain.{told_after}
-use Rattle.reg_join.specs.declared.chain.Answer.{Answer}
-use Rattle.reg_join.specs.declared.chain.Answer.TheVariants as answered
+use Rattle.reg_chain.specs.Chain.{told_after}
+use Rattle.reg_chain.specs.declared.chain.ChainAnswer.{ChainAnswer}
+use Rattle.reg_chain.specs.declared.chain.ChainAnswer.TheVariants as answered
 use Rattle.reg_join.specs.declared.join_keep.JoinKeep.{JoinKeep}
 use Rattle.reg_join.specs.declared.join_keep.Stand.{Stand}
 use Rattle.reg_join.specs.declared.join_keep.Stand.TheVariants.{Level, Due, Stopped}
 
 -- what became of a batch, by the chain's answer
-abbrev pub kept_of : Answer → Kept
+abbrev pub kept_of : ChainAnswer → Kept
 kept_of answered.Kept = Taken
 kept_of answered.Behind = Declined lacks.Overtaken
 kept_of answered.Declined = Declined lacks.Store
 kept_of answered.Unknown = Unknown
 
 -- how many own batches the chain kept, after its answer to one more
-abbrev pub kept_after : ℕ → Answer → ℕ
+abbrev pub kept_after : ℕ → ChainAnswer → ℕ
 kept_after n answered.Kept = counted n
 kept_after n answered.Behind = n
 kept_after n answered.Declined = n
@@ -46,10 +46,10 @@ module _ {C : Type 0} (told : C → List (List Record)) where
   abbrev pub KeepsTaken : JoinKeep C → JoinKeep C → Type 0
   KeepsTaken old new = (taken : List (List Record)) → AreTaken old taken → AreTaken new taken
 
-  module _ (answers : C → List Record → Answer → C → Type 0) where
+  module _ (answers : C → List Record → ChainAnswer → C → Type 0) where
     -- the chain is asked for a batch
     pub record Asks (old : JoinKeep C) (batch : List Record) (kept : Kept) (new : JoinKeep C) : Type 0 where
-      pub answer : Answer
+      pub answer : ChainAnswer
       pub means : answers old.chain batch answer new.chain
       pub tells : told new.chain ≡ told_after (told old.chain) batch answer
       pub becomes : kept ≡ kept_of answer
@@ -70,16 +70,16 @@ module _ {C : Type 0} (told : C → List (List Record)) where
     JoinKeeps old batch kept new = KeepsAt old.stand old batch kept new
 
     -- the chain is asked whether something stands behind all that was told
-    pub record AsksNothing (old : JoinKeep C) (answer : Answer) (new : JoinKeep C) : Type 0 where
+    pub record AsksNothing (old : JoinKeep C) (answer : ChainAnswer) (new : JoinKeep C) : Type 0 where
       pub means : answers old.chain [] answer new.chain
       pub tells : told new.chain ≡ told old.chain
       pub same : new ≡ record old { chain = new.chain }
 
     -- by how the keep stands: what is due stands behind what was taken, and a stopped keep asks nothing
-    abbrev pub ChecksAt : Stand → JoinKeep C → Answer → JoinKeep C → Type 0
+    abbrev pub ChecksAt : Stand → JoinKeep C → ChainAnswer → JoinKeep C → Type 0
     ChecksAt Level old answer new = AsksNothing old answer new
     ChecksAt (Due due) old answer new = (answer ≡ answered.Behind) × (new ≡ old)
     ChecksAt Stopped old answer new = (answer ≡ answered.Declined) × (new ≡ old)
 
-    abbrev pub Checks : JoinKeep C → Answer → JoinKeep C → Type 0
+    abbrev pub Checks : JoinKeep C → ChainAnswer → JoinKeep C → Type 0
     Checks old answer new = ChecksAt old.stand old answer new

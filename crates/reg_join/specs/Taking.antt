@@ -1,12 +1,15 @@
 -- What comes of taking in what was told next.
-use Rattle.std.specs.Prelude.{◌≡◌, ⊤, List, [], ◌∷◌, ◌++◌}
+use Rattle.std.specs.Prelude.{◌≡◌, ◌≢◌, ⊤, ◌⊎◌, List, [], ◌∷◌, ◌++◌}
 use mathlib.Core.List.{IsPrefix}
 use Rattle.reg_records.specs.declared.record.Record.{Record}
+use Rattle.reg_leader.specs.declared.command.Command.{Command}
+use Rattle.reg_topic.specs.Topic.{IsLawful, MayCommit, after_items}
+use Rattle.reg_topic.specs.declared.published.Item.{Item}
+use Rattle.reg_topic.specs.declared.topic.Topic.{Topic}
 use Rattle.reg_pen.specs.Pen.{PenState}
-use Rattle.reg_join.specs.Joined.{IsJoined, batches_of}
+use Rattle.reg_join.specs.Joined.{IsJoined, batches_in, batches_of}
 use Rattle.reg_join.specs.Joining.{IsNotAsked}
 use Rattle.reg_join.specs.declared.join_keep.JoinKeep.{JoinKeep}
-use Rattle.reg_join.specs.declared.join_keep.Stand.{Stand}
 use Rattle.reg_join.specs.declared.join_keep.Stand.TheVariants.{Level, Due, Stopped}
 use Rattle.reg_join.specs.declared.taking.Next.{Next}
 use Rattle.reg_join.specs.declared.taking.Next.TheVariants as nexts
@@ -34,11 +37,33 @@ TellsTaken told takens.Batch l m =
 TellsTaken told takens.All l m = told m.keep.chain ≡ batches_of l
 TellsTaken told takens.Stopped l m = IsPrefix (batches_of l) (told m.keep.chain)
 
--- private: what was told next, by how the keep stands
-abbrev pub Tells : Next → Stand → Type 0
-Tells nexts.Nothing stand = stand ≡ Level
-Tells (nexts.Command command) stand = (due : List Record) × (stand ≡ Due due)
-Tells nexts.NoCommand stand = ⊤
+-- no command writes the batch behind these items
+abbrev pub IsNobodys : Topic → List Item → List Record → Type 0
+IsNobodys base is batch = (c : Command) → MayCommit (after_items base is) (record { command = c; batch = batch }) → ⊥
+
+-- where the keep is stopped, the chain told a batch right behind the pen's that no command writes there
+abbrev pub StopsAtNobodys : {C : Type 0} → (C → List (List Record)) → Topic → PenState (JoinKeep C) → Type 0
+StopsAtNobodys told base l = l.keep.stand ≡ Stopped
+    → (due : List Record) × (told l.keep.chain ≡ batches_of l ++ due ∷ []) × IsNobodys base (l.published ++ l.pending) due
+
+-- a lawful log stops nobody: where the chain told a beginning of its batches, the keep isn't stopped
+abbrev pub LawfulLogsStopNobody : {C : Type 0} → (C → List (List Record)) → Type 0
+LawfulLogsStopNobody {C = C} told = (base : Topic) (log : List Item) (l : PenState (JoinKeep C)) → IsLawful base log
+    → IsPrefix (told l.keep.chain) (batches_in log) → StopsAtNobodys told base l → l.keep.stand ≢ Stopped
+
+-- private: where any command writes the batch behind these items, this one does
+abbrev pub IsCandidate : Topic → List Item → Command → List Record → Type 0
+IsCandidate base is command batch = (c : Command) → MayCommit (after_items base is) (record { command = c; batch = batch })
+    → MayCommit (after_items base is) (record { command = command; batch = batch })
+
+-- private: what was told next: nothing; or a batch that this command writes if any does; or one that none writes, unless nothing is taken
+-- any more
+abbrev pub Tells : {C : Type 0} → Topic → Next → PenState (JoinKeep C) → Type 0
+Tells base nexts.Nothing l = l.keep.stand ≡ Level
+Tells base (nexts.Command command) l =
+    (due : List Record) × (l.keep.stand ≡ Due due) × IsCandidate base (l.published ++ l.pending) command due
+Tells base nexts.NoCommand l =
+    (l.keep.stand ≡ Stopped) ⊎ ((due : List Record) × (l.keep.stand ≡ Due due) × IsNobodys base (l.published ++ l.pending) due)
 
 -- private: all that was told is taken and nothing is pending, or nothing is taken any more, or more may be there
 abbrev pub IsAtEnd : {C : Type 0} → TakenIn → PenState (JoinKeep C) → Type 0

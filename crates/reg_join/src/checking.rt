@@ -3,10 +3,10 @@ ghost use Rattle.std.specs.Prelude.{◌≡◌};
 ghost use Rattle.reg_join.specs.Joined.{IsJoined, batches_of};
 ghost use Rattle.reg_join.specs.Joining.{Checks, IsNotAsked, KeepsTaken};
 ghost use Rattle.reg_join.specs.Taking.{GoesOn};
-ghost use Rattle.reg_join.specs.declared.chain.Answer.TheVariants.{Kept};
+ghost use Rattle.reg_chain.specs.declared.chain.ChainAnswer.TheVariants.{Kept};
 
-use crate::chain::{Answer, Chain};
 use crate::join_keep::JoinKeep;
+use reg_chain::{Chain, ChainAnswer};
 use reg_feed::{Copies, FeedName};
 use reg_pen::{Pen, WithKeep};
 use reg_shared::Shared;
@@ -14,19 +14,19 @@ use reg_topic::Item;
 use std::sync::Wait;
 
 /// Asks the chain whether something stands behind all that was told, while nobody else has the pen. Nothing of the list changes.
-pub fn check<
+pub fn check_chain<
     N: FeedName<Item, Shared>,
     S: Copies<Item, Shared, N>,
     C: Chain + Drop,
     R: Wait + Drop,
->(pen: &mut Pen<N, S, JoinKeep<C>, R>) -> Answer
+>(pen: &mut Pen<N, S, JoinKeep<C>, R>) -> ChainAnswer
     ensures checks { Checks C.told C.answers pen.old.keep result pen.new.keep }
     ensures same { pen.new ≡ record pen.old { keep = pen.new.keep } }
     ensures goes_on { GoesOn C.told pen.old pen.new }
     ensures kept { IsJoined C.told pen.old → result ≡ Kept → C.told pen.new.keep.chain ≡ batches_of pen.new }
 {
     let mut checking = Checking {
-        answer: Answer::Declined,
+        answer: ChainAnswer::Declined,
     };
     pen.lend_keep(&mut checking);
     checking.answer
@@ -35,7 +35,7 @@ pub fn check<
 /// What a keep's chain answers to a check.
 #[derive(Drop)]
 struct Checking {
-    answer: Answer,
+    answer: ChainAnswer,
 }
 
 impl<C: Chain + Drop> WithKeep<JoinKeep<C>> for Checking {

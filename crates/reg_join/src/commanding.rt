@@ -4,14 +4,14 @@ ghost use mathlib.Core.List.{IsPrefix};
 ghost use Rattle.reg_shared.specs.Held.{base_of};
 ghost use Rattle.reg_join.specs.Ending.{ComesTo, Concludes, Ends, batch_outcome, check_outcome, forgotten, live_outcome, settled_outcome, unchecked_outcome};
 ghost use Rattle.reg_join.specs.Joined.{IsJoined};
-ghost use Rattle.reg_join.specs.Taking.{GoesOn, IsAtEnd};
+ghost use Rattle.reg_join.specs.Taking.{GoesOn, IsAtEnd, StopsAtNobodys};
 ghost use Rattle.reg_join.specs.declared.join_keep.Stand.TheVariants.{Level};
 
-use crate::chain::{Answer, Chain};
-use crate::checking::check;
+use crate::checking::check_chain;
 use crate::join_keep::JoinKeep;
 use crate::memory::is_no_memory;
 use crate::taking::{TakenIn, take_in};
+use reg_chain::{Chain, ChainAnswer};
 use reg_feed::{Copies, FeedName, Seen};
 use reg_leader::{Command, Reply};
 use reg_levels::Judged;
@@ -29,7 +29,7 @@ const TAKEN_AT_ONCE: u32 = 1_024;
 
 /// What a command comes to.
 #[derive(Debug, Drop)]
-pub enum Outcome {
+pub enum JoinOutcome {
     /// The reply of its step from all that stood in the chain. What it wrote stands right behind that, and where it wrote nothing, the chain
     /// said so when it was asked after it.
     Replied(Reply),
@@ -45,26 +45,33 @@ pub enum Outcome {
     Overtaken,
     /// The store declined its batch, or can't be reached.
     Declined,
-    /// What was told is no command's, so nothing is taken any more.
+    /// What was told is no command's, so nothing is taken any more, for good.
     Stopped,
 }
 
 /// What a command came to, with the front of the list that shows it.
 #[derive(Drop)]
-pub struct Ended<N: FeedName<Item, Shared>> {
-    pub outcome: Outcome,
+pub struct JoinSubmitted<N: FeedName<Item, Shared>> {
+    pub outcome: JoinOutcome,
     /// The published list, where the command was submitted: with what it wrote, if that is published.
     pub seen: Option<Seen<Item, Shared, N>>,
 }
 
+/// How long a command is tried.
+pub trait Patience {
+    /// Whether a command that others came before isn't decided once more.
+    fn is_over(&self) -> bool;
+}
+
 /// Does a command over a chain: all that was told is taken in, then the command is submitted, and where it wrote nothing, a check is made.
-/// Where others came first it is decided anew, 64 times at most, and before each time at most 1,024 of their batches are taken in, so that
-/// it ends however much is told. `since` is the caller's last front.
+/// Where others came first it is decided anew, 64 times at most and for as long as there is patience, and before each time at most 1,024
+/// of their batches are taken in, so that it ends however much is told. `since` is the caller's last front.
 pub fn submit_joined<
     N: FeedName<Item, Shared>,
     S: Copies<Item, Shared, N>,
     C: Chain + Drop,
     R: Wait + Drop,
+    P: Patience,
 >(
     alloc: Global,
     pen: &mut Pen<N, S, JoinKeep<C>, R>,
@@ -72,18 +79,23 @@ pub fn submit_joined<
     since: Option<&Seen<Item, Shared, N>>,
     command: &Command,
     judged: Option<&Judged>,
-) -> Ended<N>
+    patience: &P,
+) -> JoinSubmitted<N>
     ensures joined { IsJoined C.told pen.old → IsJoined C.told pen.new }
     ensures grows { IsPrefix pen.old.published pen.new.published }
     ensures ends { IsJoined C.told pen.old → Ends C.told C.answers (base_of N.first) pen.old command.now result.outcome result.seen pen.new }
+    ensures stops { IsJoined C.told pen.old → StopsAtNobodys C.told (base_of N.first) pen.old → StopsAtNobodys C.told (base_of N.first) pen.new }
 {
     for _again in 0..TRIES {
         match try_once(alloc, pen, pass, since, command, judged) {
             Some(ended) => return ended,
             None => {}
         }
+        if patience.is_over() {
+            return without_front(JoinOutcome::Overtaken);
+        }
     }
-    without_front(Outcome::Overtaken)
+    without_front(JoinOutcome::Overtaken)
 }
 
 /// Takes in what was told, and decides the command once; `None` where others came first.
@@ -94,24 +106,25 @@ fn try_once<N: FeedName<Item, Shared>, S: Copies<Item, Shared, N>, C: Chain + Dr
     since: Option<&Seen<Item, Shared, N>>,
     command: &Command,
     judged: Option<&Judged>,
-) -> Option<Ended<N>>
+) -> Option<JoinSubmitted<N>>
     ensures joined { IsJoined C.told pen.old → IsJoined C.told pen.new }
     ensures grows { IsPrefix pen.old.published pen.new.published }
     ensures ends { IsJoined C.told pen.old → MatchOption result (pen.new.keep.kept ≡ pen.old.keep.kept) (λ ended. Ends C.told C.answers (base_of N.first) pen.old command.now ended.outcome ended.seen pen.new) }
+    ensures stops { IsJoined C.told pen.old → StopsAtNobodys C.told (base_of N.first) pen.old → StopsAtNobodys C.told (base_of N.first) pen.new }
 {
     match take_all(alloc, pen, pass) {
         Ok(TakenIn::All) => submit_once(pen, pass, since, command, judged),
         Ok(TakenIn::Batch) => None,
-        Ok(TakenIn::Stopped) => Some(without_front(Outcome::Stopped)),
-        Err(AllocError) => Some(without_front(Outcome::NoMemory)),
+        Ok(TakenIn::Stopped) => Some(without_front(JoinOutcome::Stopped)),
+        Err(AllocError) => Some(without_front(JoinOutcome::NoMemory)),
     }
 }
 
-fn without_front<N: FeedName<Item, Shared>>(outcome: Outcome) -> Ended<N>
+fn without_front<N: FeedName<Item, Shared>>(outcome: JoinOutcome) -> JoinSubmitted<N>
     ensures outcome { result.outcome ≡ outcome }
     ensures seen { result.seen ≡ None }
 {
-    Ended {
+    JoinSubmitted {
         outcome,
         seen: None,
     }
@@ -126,6 +139,7 @@ fn take_all<N: FeedName<Item, Shared>, S: Copies<Item, Shared, N>, C: Chain + Dr
 ) -> Result<TakenIn, AllocError>
     ensures goes_on { GoesOn C.told pen.old pen.new }
     ensures ends { IfOk result (λ taken. IsAtEnd taken pen.new) }
+    ensures stops { IsJoined C.told pen.old → StopsAtNobodys C.told (base_of N.first) pen.old → StopsAtNobodys C.told (base_of N.first) pen.new }
 {
     for _batch in 0..TAKEN_AT_ONCE {
         let taken = take_in(alloc, pen, pass)?;
@@ -148,17 +162,18 @@ fn submit_once<
     since: Option<&Seen<Item, Shared, N>>,
     command: &Command,
     judged: Option<&Judged>,
-) -> Option<Ended<N>>
+) -> Option<JoinSubmitted<N>>
     requires level { pen.old.keep.stand ≡ Level }
     requires clear { pen.old.pending ≡ [] }
     ensures joined { IsJoined C.told pen.old → IsJoined C.told pen.new }
     ensures grows { IsPrefix pen.old.published pen.new.published }
     ensures ends { IsJoined C.told pen.old → MatchOption result (pen.new.keep.kept ≡ pen.old.keep.kept) (λ ended. ComesTo C.told C.answers (base_of N.first) ended.outcome (forgotten pen.old) command.now ended.seen pen.new.keep) }
+    ensures level { pen.new.keep.stand ≡ Level }
 {
     pen.lend_keep(&mut Forgetting);
     let Submitted { reply, seen } = pen.submit_and_compact(pass, since, command, judged);
     match conclude(pen, command, reply) {
-        Some(outcome) => Some(Ended {
+        Some(outcome) => Some(JoinSubmitted {
             outcome,
             seen: Some(seen),
         }),
@@ -171,7 +186,7 @@ fn conclude<N: FeedName<Item, Shared>, S: Copies<Item, Shared, N>, C: Chain + Dr
     pen: &mut Pen<N, S, JoinKeep<C>, R>,
     command: &Command,
     reply: Reply,
-) -> Option<Outcome>
+) -> Option<JoinOutcome>
     ensures concludes { Concludes C.told C.answers (base_of N.first) pen.old.keep.last pen.old.keep command.now reply result pen.new.keep }
     ensures joined { IsJoined C.told pen.old → IsJoined C.told pen.new }
     ensures grows { IsPrefix pen.old.published pen.new.published }
@@ -188,63 +203,63 @@ fn conclude_alone<
     S: Copies<Item, Shared, N>,
     C: Chain + Drop,
     R: Wait + Drop,
->(pen: &mut Pen<N, S, JoinKeep<C>, R>, command: &Command, reply: Reply) -> Option<Outcome>
+>(pen: &mut Pen<N, S, JoinKeep<C>, R>, command: &Command, reply: Reply) -> Option<JoinOutcome>
     ensures concludes { Concludes C.told C.answers (base_of N.first) None pen.old.keep command.now reply result pen.new.keep }
     ensures joined { IsJoined C.told pen.old → IsJoined C.told pen.new }
     ensures grows { IsPrefix pen.old.published pen.new.published }
 {
     if is_no_memory(&reply) {
-        return Some(Outcome::NoMemory);
+        return Some(JoinOutcome::NoMemory);
     }
-    let answer = check(pen);
+    let answer = check_chain(pen);
     check_outcome(answer, command, reply)
 }
 
-fn batch_outcome(answer: Answer, reply: Reply) -> Option<Outcome>
+fn batch_outcome(answer: ChainAnswer, reply: Reply) -> Option<JoinOutcome>
     ensures { result ≡ batch_outcome answer reply }
 {
     match answer {
-        Answer::Kept | Answer::Unknown => Some(settled_outcome(reply)),
-        Answer::Behind => None,
-        Answer::Declined => Some(Outcome::Declined),
+        ChainAnswer::Kept | ChainAnswer::Unknown => Some(settled_outcome(reply)),
+        ChainAnswer::Behind => None,
+        ChainAnswer::Declined => Some(JoinOutcome::Declined),
     }
 }
 
-fn settled_outcome(reply: Reply) -> Outcome
+fn settled_outcome(reply: Reply) -> JoinOutcome
     ensures { result ≡ settled_outcome reply }
 {
     match reply {
-        Reply::Unsettled(offset) => Outcome::Unsettled(offset),
-        reply => Outcome::Replied(reply),
+        Reply::Unsettled(offset) => JoinOutcome::Unsettled(offset),
+        reply => JoinOutcome::Replied(reply),
     }
 }
 
-fn check_outcome(answer: Answer, command: &Command, reply: Reply) -> Option<Outcome>
+fn check_outcome(answer: ChainAnswer, command: &Command, reply: Reply) -> Option<JoinOutcome>
     ensures { result ≡ check_outcome answer command.now reply }
 {
     match answer {
-        Answer::Kept => Some(Outcome::Replied(reply)),
-        Answer::Behind => None,
-        Answer::Declined | Answer::Unknown => Some(unchecked_outcome(command, &reply)),
+        ChainAnswer::Kept => Some(JoinOutcome::Replied(reply)),
+        ChainAnswer::Behind => None,
+        ChainAnswer::Declined | ChainAnswer::Unknown => Some(unchecked_outcome(command, &reply)),
     }
 }
 
 /// Where a check is declined, a registration of a schema that is live here is told its id.
-fn unchecked_outcome(command: &Command, reply: &Reply) -> Outcome
+fn unchecked_outcome(command: &Command, reply: &Reply) -> JoinOutcome
     ensures { result ≡ unchecked_outcome command.now reply.now }
 {
     match command {
         Command::Register { .. } => live_outcome(reply),
-        _ => Outcome::Declined,
+        _ => JoinOutcome::Declined,
     }
 }
 
-fn live_outcome(reply: &Reply) -> Outcome
+fn live_outcome(reply: &Reply) -> JoinOutcome
     ensures { result ≡ live_outcome reply.now }
 {
     match reply {
-        Reply::Id(id) => Outcome::Live(*id),
-        _ => Outcome::Declined,
+        Reply::Id(id) => JoinOutcome::Live(*id),
+        _ => JoinOutcome::Declined,
     }
 }
 

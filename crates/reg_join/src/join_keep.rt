@@ -3,8 +3,8 @@ ghost use Rattle.std.specs.Prelude.{◌≡◌, ◌++◌, ◌∷◌, [], ◌↔�
 ghost use Rattle.reg_join.specs.Joining.{Checks, IsNotAsked, JoinKeeps, KeepsTaken, kept_after, kept_of};
 ghost use Rattle.reg_join.specs.declared.join_keep.Stand.TheVariants.{Level, Stopped};
 
-use crate::chain::{Answer, Chain};
 use base_text::Listed;
+use reg_chain::{Chain, ChainAnswer};
 use reg_pen::{Keep, Kept, Lack};
 use reg_records::Record;
 use std::alloc::AllocError;
@@ -27,7 +27,7 @@ pub struct JoinKeep<C: Chain + Drop> {
     pub(crate) chain: C,
     pub(crate) stand: Stand,
     // What the chain answered to the batch that it was asked for last, unless that was forgotten.
-    pub(crate) last: Option<Answer>,
+    pub(crate) last: Option<ChainAnswer>,
     // How many of the batches that it was asked for it kept, up to 2^64-1.
     pub(crate) kept: u64,
 }
@@ -53,7 +53,7 @@ impl<C: Chain + Drop> JoinKeep<C> {
     }
 
     /// What the chain answered to the batch that it was asked for last; `None` where it wasn't asked for one since that was forgotten.
-    pub fn last(&self) -> Option<Answer>
+    pub fn last(&self) -> Option<ChainAnswer>
         ensures { result ≡ self.now.last }
     {
         self.last
@@ -73,11 +73,13 @@ impl<C: Chain + Drop> JoinKeep<C> {
         self.last = None;
     }
 
-    /// Learns of the next batch that others wrote, unless one is due already. The only error is out of memory.
+    /// Learns of the next batch that others wrote, unless one is due already. It never stops the keep, and a stopped one stays as it is. The
+    /// only error is out of memory.
     pub(crate) fn learn(&mut self) -> Result<(), AllocError>
         ensures taken { KeepsTaken C.told self.old self.new }
         ensures own { IsNotAsked self.old self.new }
         ensures refused { OnErr result (self.new.stand ≡ self.old.stand) }
+        ensures stopped { self.new.stand ≡ Stopped → self.new ≡ self.old }
     {
         if !matches!(self.stand, Stand::Level) {
             return Ok(());
@@ -90,15 +92,15 @@ impl<C: Chain + Drop> JoinKeep<C> {
 
     /// Asks the chain whether something stands behind all that was told. It isn't asked where a batch is due, or where nothing is taken any
     /// more.
-    pub fn check(&mut self) -> Answer
+    pub fn check(&mut self) -> ChainAnswer
         ensures checks { Checks C.told C.answers self.old result self.new }
         ensures taken { KeepsTaken C.told self.old self.new }
         ensures own { IsNotAsked self.old self.new }
     {
         match self.stand {
             Stand::Level => self.chain.append(&[]),
-            Stand::Due(_) => Answer::Behind,
-            Stand::Stopped => Answer::Declined,
+            Stand::Due(_) => ChainAnswer::Behind,
+            Stand::Stopped => ChainAnswer::Declined,
         }
     }
 
@@ -106,7 +108,7 @@ impl<C: Chain + Drop> JoinKeep<C> {
     pub(crate) fn stop(&mut self)
         ensures taken { KeepsTaken C.told self.old self.new }
         ensures own { IsNotAsked self.old self.new }
-        ensures stopped { self.new.stand ≡ Stopped }
+        ensures stopped { self.new ≡ record self.old { stand = Stopped } }
     {
         self.stand = Stand::Stopped;
     }
@@ -146,23 +148,23 @@ fn is_same(batch: &[Record], told: &[Record]) -> bool
 }
 
 /// What became of a batch, by the chain's answer.
-fn kept_of(answer: Answer) -> Kept
+fn kept_of(answer: ChainAnswer) -> Kept
     ensures { result ≡ kept_of answer }
 {
     match answer {
-        Answer::Kept => Kept::Taken,
-        Answer::Behind => Kept::Declined(Lack::Overtaken),
-        Answer::Declined => Kept::Declined(Lack::Store),
-        Answer::Unknown => Kept::Unknown,
+        ChainAnswer::Kept => Kept::Taken,
+        ChainAnswer::Behind => Kept::Declined(Lack::Overtaken),
+        ChainAnswer::Declined => Kept::Declined(Lack::Store),
+        ChainAnswer::Unknown => Kept::Unknown,
     }
 }
 
 /// How many own batches the chain kept, after its answer to one more.
-fn kept_after(kept: u64, answer: Answer) -> u64
+fn kept_after(kept: u64, answer: ChainAnswer) -> u64
     ensures { result ≡ kept_after kept answer }
 {
     match answer {
-        Answer::Kept => kept.saturating_add(1),
-        Answer::Behind | Answer::Declined | Answer::Unknown => kept,
+        ChainAnswer::Kept => kept.saturating_add(1),
+        ChainAnswer::Behind | ChainAnswer::Declined | ChainAnswer::Unknown => kept,
     }
 }

@@ -2,8 +2,9 @@
 ghost use Rattle.reg_topic.specs.declared.topic.Topic.{Topic};
 ghost use Rattle.reg_join.specs.Ending.{RepliesAreAtTheirPlaces};
 ghost use Rattle.reg_join.specs.Joined.{CompactionsStayJoined, DueBatchesAreTaken, OutcomesStandInChain, SubmitsStayJoined};
+ghost use Rattle.reg_join.specs.Taking.{LawfulLogsStopNobody};
 
-use crate::chain::Chain;
+use reg_chain::Chain;
 
 /// A pen's batches stay those that its keep took of what the chain told, in their order, whatever is submitted or compacted.
 pub fn pens_follow_their_chain<C: Chain>()
@@ -27,4 +28,10 @@ pub fn due_batches_are_taken<C: Chain>()
 /// behind it by then. One case is no reply in this sense: the id of a schema that is live here, where the chain can't be reached.
 pub fn replies_are_at_their_places<C: Chain>()
     ensures { (base : Topic) → RepliesAreAtTheirPlaces C.told C.answers base }
+{}
+
+/// A lawful log stops nobody: a pen that stops at nobody's batches alone isn't stopped while its chain tells what a lawful list over the same
+/// base wrote, whatever that list or the pen compacted.
+pub fn lawful_logs_stop_nobody<C: Chain>()
+    ensures { LawfulLogsStopNobody C.told }
 {}

@@ -2,22 +2,19 @@
 //! decided here, writes the same records.
 #![tactic(auto)]
 
-mod chain;
 mod checking;
 mod commanding;
 mod join_keep;
 mod laws;
 mod memory;
-mod memory_chain;
 mod taking;
 
-pub use chain::{Answer, Chain};
-pub use checking::check;
-pub use commanding::{Ended, Outcome, submit_joined};
+pub use checking::check_chain;
+pub use commanding::{JoinOutcome, JoinSubmitted, Patience, submit_joined};
 pub use join_keep::{JoinKeep, Stand};
 pub use laws::{
-    due_batches_are_taken, outcomes_stand_in_the_chain, pens_follow_their_chain,
-    replies_are_at_their_places,
+    due_batches_are_taken, lawful_logs_stop_nobody, outcomes_stand_in_the_chain,
+    pens_follow_their_chain, replies_are_at_their_places,
 };
-pub use memory_chain::MemoryChain;
+pub use reg_chain::{Chain, ChainAnswer, MemoryChain};
 pub use taking::{TakenIn, take_in};

@@ -1,19 +1,20 @@
 // What others wrote is taken in.
-ghost use Rattle.std.specs.Prelude.{◌≡◌, [], List, IfOk, OnOk};
+ghost use Rattle.std.specs.Prelude.{◌≡◌, ◌++◌, [], List, IfOk, OnOk};
 ghost use Rattle.reg_records.specs.declared.record.Record.{Record};
+ghost use Rattle.reg_shared.specs.Held.{base_of};
 ghost use Rattle.reg_join.specs.Joined.{IsJoined, batches_of};
 ghost use Rattle.reg_join.specs.Joining.{IsNotAsked, KeepsTaken};
 ghost use Rattle.reg_join.specs.Memory.{is_no_memory};
-ghost use Rattle.reg_join.specs.Taking.{GoesOn, Takes, Tells, TellsTaken};
+ghost use Rattle.reg_join.specs.Taking.{GoesOn, IsCandidate, StopsAtNobodys, Takes, Tells, TellsTaken};
 ghost use Rattle.reg_join.specs.declared.join_keep.Stand.TheVariants.{Due, Stopped};
 
-use crate::chain::Chain;
 use crate::join_keep::{JoinKeep, Stand};
 use crate::memory::is_no_memory;
+use reg_chain::Chain;
 use reg_feed::{Copies, FeedName, Seen};
-use reg_leader::Command;
+use reg_leader::{Command, steps_are_single};
 use reg_pen::{Pass, Pen, WithKeep};
-use reg_replay::candidate;
+use reg_replay::{batches_are_of_candidates, candidate};
 use reg_shared::Shared;
 use reg_topic::Item;
 use std::alloc::{AllocError, Global};
@@ -35,14 +36,14 @@ pub enum TakenIn {
 enum Next {
     /// Nothing.
     Nothing,
-    /// A batch that this command may have written.
+    /// A batch that this command wrote, if any did.
     Command(Command),
-    /// A batch that no command can have written.
+    /// A batch that no command wrote, or nothing is taken any more.
     NoCommand,
 }
 
 /// Takes in the next batch that others wrote, if one is told: the command that may have written it is submitted, and the keep takes exactly
-/// that batch. Where the command writes another one, or none, nothing is taken any more.
+/// that batch. Where the command writes another one, or none, no command wrote the batch that was told, and nothing is taken any more.
 ///
 /// The only error is out of memory; the batch is tried again at the next call, and nothing behind it is taken before.
 #[tactic(auto, using(crate::proofs::TakingIn::goes_on_then, crate::proofs::TakingIn::takes_after, crate::proofs::TakingIn::tells_taken))]
@@ -59,6 +60,7 @@ pub fn take_in<
     ensures goes_on { GoesOn C.told pen.old pen.new }
     ensures taken { IfOk result (λ taken. Takes taken pen.old pen.new) }
     ensures told { IfOk result (λ taken. IsJoined C.told pen.old → TellsTaken C.told taken pen.old pen.new) }
+    ensures stops { IsJoined C.told pen.old → StopsAtNobodys C.told (base_of N.first) pen.old → StopsAtNobodys C.told (base_of N.first) pen.new }
 {
     learn_next(pen)?;
     match next_command(alloc, pen)? {
@@ -81,6 +83,7 @@ fn learn_next<
     ensures goes_on { GoesOn C.told pen.old pen.new }
     ensures same { batches_of pen.new ≡ batches_of pen.old }
     ensures clear { OnOk result (pen.new.pending ≡ []) }
+    ensures stops { StopsAtNobodys C.told (base_of N.first) pen.old → StopsAtNobodys C.told (base_of N.first) pen.new }
 {
     if !pen.settle() {
         return Err(AllocError);
@@ -100,8 +103,10 @@ fn next_command<
     C: Chain + Drop,
     R: Wait + Drop,
 >(alloc: Global, pen: &Pen<N, S, JoinKeep<C>, R>) -> Result<Next, AllocError>
-    ensures { IfOk result (λ next. Tells next pen.now.keep.stand) }
+    requires { pen.now.pending ≡ [] }
+    ensures { IfOk result (λ next. Tells (base_of N.first) next pen.now) }
 {
+    batches_are_of_candidates();
     match pen.keep().stand() {
         Stand::Level => Ok(Next::Nothing),
         Stand::Stopped => Ok(Next::NoCommand),
@@ -118,10 +123,13 @@ fn take<N: FeedName<Item, Shared>, S: Copies<Item, Shared, N>, C: Chain + Drop, 
     pass: &mut Pass<N>,
     command: &Command,
 ) -> Result<TakenIn, AllocError>
-    requires { (due : List Record) × (pen.old.keep.stand ≡ Due due) }
+    requires due { (due : List Record) × (pen.old.keep.stand ≡ Due due) × IsCandidate (base_of N.first) (pen.old.published ++ pen.old.pending) command.now due }
+    requires clear { pen.old.pending ≡ [] }
     ensures goes_on { GoesOn C.told pen.old pen.new }
     ensures taken { IfOk result (λ taken. Takes taken pen.old pen.new) }
+    ensures stops { IsJoined C.told pen.old → StopsAtNobodys C.told (base_of N.first) pen.new }
 {
+    steps_are_single();
     let unseen: Option<Seen<Item, Shared, N>> = None;
     let submitted = pen.submit_and_compact(pass, unseen.as_ref(), command, None);
     match pen.keep().stand() {
@@ -144,7 +152,7 @@ fn stop<N: FeedName<Item, Shared>, S: Copies<Item, Shared, N>, C: Chain + Drop, 
 )
     ensures goes_on { GoesOn C.told pen.old pen.new }
     ensures same { batches_of pen.new ≡ batches_of pen.old }
-    ensures stopped { pen.new.keep.stand ≡ Stopped }
+    ensures stopped { pen.new.keep ≡ record pen.old.keep { stand = Stopped } }
 {
     pen.lend_keep(&mut Stopping);
 }
@@ -156,7 +164,7 @@ struct Learning {
 }
 
 impl<C: Chain + Drop> WithKeep<JoinKeep<C>> for Learning {
-    ghost does = { λ _ old _ new. KeepsTaken C.told old new × IsNotAsked old new };
+    ghost does = { λ _ old _ new. KeepsTaken C.told old new × IsNotAsked old new × (new.stand ≡ Stopped → new ≡ old) };
 
     fn with_keep(&mut self, keep: &mut JoinKeep<C>) {
         self.is_refused = keep.learn().is_err();
@@ -168,7 +176,7 @@ impl<C: Chain + Drop> WithKeep<JoinKeep<C>> for Learning {
 struct Stopping;
 
 impl<C: Chain + Drop> WithKeep<JoinKeep<C>> for Stopping {
-    ghost does = { λ _ old _ new. KeepsTaken C.told old new × IsNotAsked old new × (new.stand ≡ Stopped) };
+    ghost does = { λ _ old _ new. KeepsTaken C.told old new × IsNotAsked old new × (new ≡ record old { stand = Stopped }) };
 
     fn with_keep(&mut self, keep: &mut JoinKeep<C>) {
         keep.stop();

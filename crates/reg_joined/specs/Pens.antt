@@ -2,7 +2,7 @@
 use Rattle.std.specs.Prelude.{◌≡◌, ◌≤◌, length, List, [], ◌++◌, Bool, false}
 use mathlib.Core.List.{IsPrefix}
 use Rattle.reg_records.specs.declared.record.Record.{Record}
-use Rattle.reg_kept.specs.Compaction.{IsCompactionOf}
+use Rattle.reg_floored.specs.Compaction.{IsCompactionOf}
 use Rattle.reg_topic.specs.Topic.{IsAdopted}
 use Rattle.reg_topic.specs.declared.published.Item.{Item}
 use Rattle.reg_topic.specs.declared.topic.Topic.{Topic}

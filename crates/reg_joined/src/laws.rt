@@ -1,7 +1,7 @@
 // What pens over one chain say. What is proved here costs nothing at run time: a function that needs a law calls it.
 ghost use Rattle.reg_joined.specs.Pens.{LevelPensTookAll, NewPensJoin, NoIdNamesTwoWithPens, PensGiveSameBytes, PensTakePart, ReadersTakePart};
 
-use reg_join::Chain;
+use reg_chain::Chain;
 use reg_processes::{fronts_take_part, no_id_names_two_schemas, same_logs_give_same_bytes};
 use reg_topic::lawful_items_follow;
 

@@ -16,7 +16,7 @@ use Rattle.reg_journal.specs.Journal.{IsSteady}
 use Rattle.reg_journal.specs.Found.{HasNoEmptyLine, IsFound}
 use Rattle.reg_journal.specs.Lines.{Said, said, text_of, SayLog}
 use Rattle.reg_journal.specs.declared.opening.Found.{Found}
-use Rattle.reg_journal.specs.declared.opening.OpenError.{OpenError}
+use Rattle.reg_journal.specs.declared.opening.JournalOpenError.{JournalOpenError}
 use Rattle.reg_journal.proofs.Gates.{kept_front}
 use Rattle.reg_journal.proofs.Logs.{lines_told, said_by_lines, said_in, whole}
 
@@ -140,7 +140,7 @@ pub nothing_left : (file : List ℕ) (log : LogText) → log_of (file ++ 10 ∷ 
 nothing_left file log is = (record { floor = log.floor; reads = log.reads }, ap said_in is)
 
 -- a file in which something was found says it
-pub says_found : (file : List ℕ) (r : Result Found OpenError) → IfOk r (IsFound file)
+pub says_found : (file : List ℕ) (r : Result Found JournalOpenError) → IfOk r (IsFound file)
     → IfOk r (λ found. (says : Said) × (said file ≡ Ok says) × IsLogOf says.floor says.reads found.log)
 says_found file (Ok found) is = (record { floor = is.floor; reads = is.read }, said_found file found is, is.is_log)
 says_found file (Err e) is = tt

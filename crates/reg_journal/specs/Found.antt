@@ -7,8 +7,8 @@ use Rattle.reg_records.specs.declared.log.LogError.TheVariants as logs
 use Rattle.reg_records.specs.declared.record.Read.{Read}
 use Rattle.reg_journal.specs.Lines.{Said, said, text_of, SayLog}
 use Rattle.reg_journal.specs.declared.opening.Found.{Found}
-use Rattle.reg_journal.specs.declared.opening.OpenError.{OpenError}
-use Rattle.reg_journal.specs.declared.opening.OpenError.TheVariants.{Log, NoEmptyLine, Failed, OutOfMemory}
+use Rattle.reg_journal.specs.declared.opening.JournalOpenError.{JournalOpenError}
+use Rattle.reg_journal.specs.declared.opening.JournalOpenError.TheVariants.{Log, NoEmptyLine, Failed, OutOfMemory}
 
 -- the file is lines of this log, which end at `end`, an empty line, and what was found behind it
 pub record IsFound (file : List ℕ) (found : Found) : Type 0 where
@@ -33,7 +33,7 @@ abbrev pub HasNoEmptyLine : List ℕ → Type 0
 HasNoEmptyLine file = (says : Said) × (said (file ++ 10 ∷ []) ≡ Ok says)
 
 -- why nothing was found; an LF at the end of the file is taken as given
-abbrev pub IsLookRefusal : List ℕ → OpenError → Type 0
+abbrev pub IsLookRefusal : List ℕ → JournalOpenError → Type 0
 IsLookRefusal file (Log e) = HasFault (file ++ 10 ∷ []) e
 IsLookRefusal file NoEmptyLine = HasNoEmptyLine file
 IsLookRefusal file Failed = ⊤
@@ -44,7 +44,7 @@ abbrev pub IsUnchanged : {D : Type 0} → (D → Type 0) → (D → List ℕ) �
 IsUnchanged known seen old new = known new × (seen new ≡ seen old)
 
 -- what was read is no log that ends: the disk is as it was
-abbrev pub LeavesFile : {D : Type 0} → (D → Type 0) → (D → List ℕ) → D → D → OpenError → Type 0
+abbrev pub LeavesFile : {D : Type 0} → (D → Type 0) → (D → List ℕ) → D → D → JournalOpenError → Type 0
 LeavesFile known seen old new (Log e) = IsUnchanged known seen old new
 LeavesFile known seen old new NoEmptyLine = IsUnchanged known seen old new
 LeavesFile known seen old new Failed = ⊤

@@ -3,12 +3,12 @@ ghost use Rattle.std.specs.Prelude.{◌≡◌, ◌^◌, ◌<◌, IfErr, IfOk, if
 ghost use Rattle.reg_records.specs.Floor.{is_floor_line};
 ghost use Rattle.reg_journal.specs.Found.{IsFound, IsLookRefusal};
 
-use crate::opening::{Found, OpenError};
+use crate::opening::{Found, JournalOpenError};
 use reg_records::{Device, Log, LogError, is_floor_line, read_log};
 use std::alloc::{AllocFailed, Global};
 
 /// Reads the log of a file, and finds the empty line behind it.
-pub(crate) fn read_ended(alloc: Global, bytes: Vec<u8>) -> Result<Found, OpenError>
+pub(crate) fn read_ended(alloc: Global, bytes: Vec<u8>) -> Result<Found, JournalOpenError>
     ensures found { IfOk result (IsFound bytes.items) }
     ensures within { IfOk result (λ found. found.end < 2 ^ 63) }
     ensures refused { IfErr result (IsLookRefusal bytes.items) }
@@ -20,7 +20,7 @@ pub(crate) fn read_ended(alloc: Global, bytes: Vec<u8>) -> Result<Found, OpenErr
     let log = read_log(alloc, &mut reader)?;
     let left = reader.into_inner();
     if left.is_empty() {
-        return Err(OpenError::NoEmptyLine);
+        return Err(JournalOpenError::NoEmptyLine);
     }
     let behind = left[..left.len() - 1].to_vec(alloc)?;
     let end = bytes.len() - left.len() - 1;

@@ -16,6 +16,6 @@ pub use disk::{Disk, DiskError};
 pub use journal::{AppendError, Journal};
 pub use laws::{batches_add_records, lines_are_logs};
 pub use memory::Memory;
-pub use opening::{Found, OpenError, cut_behind, look, open, recover, write_end};
+pub use opening::{Found, JournalOpenError, cut_behind, look, open_journal, recover, write_end};
 pub use renewal::{RenewError, Renewable};
 pub use stored::StoredFile;

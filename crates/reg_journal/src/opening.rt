@@ -14,7 +14,7 @@ use std::alloc::{AllocError, AllocFailed, Global};
 
 /// Why no file was opened.
 #[derive(Clone, Copy, Debug, PartialEq, Eq)]
-pub enum OpenError {
+pub enum JournalOpenError {
     /// A line has a fault. Nothing was changed.
     Log(LogError),
     /// No empty line ends the log: `write_end` writes one. Nothing was changed.
@@ -23,50 +23,50 @@ pub enum OpenError {
     OutOfMemory,
 }
 
-impl From<DiskError> for OpenError {
+impl From<DiskError> for JournalOpenError {
     ghost use Rattle.std.specs.Prelude.{◌≡◌};
     ghost use Rattle.reg_journal.specs.Opening.{disk_refusal};
 
     ghost from_gives = { λ error e. e ≡ disk_refusal error };
 
-    fn from(error: DiskError) -> OpenError {
+    fn from(error: DiskError) -> JournalOpenError {
         match error {
-            DiskError::OutOfMemory => OpenError::OutOfMemory,
-            DiskError::Failed => OpenError::Failed,
+            DiskError::OutOfMemory => JournalOpenError::OutOfMemory,
+            DiskError::Failed => JournalOpenError::Failed,
         }
     }
 }
 
-impl From<LogError> for OpenError {
+impl From<LogError> for JournalOpenError {
     ghost use Rattle.std.specs.Prelude.{◌≡◌};
-    ghost use Rattle.reg_journal.specs.declared.opening.OpenError.TheVariants.{Log};
+    ghost use Rattle.reg_journal.specs.declared.opening.JournalOpenError.TheVariants.{Log};
 
     ghost from_gives = { λ error e. e ≡ Log error };
 
-    fn from(error: LogError) -> OpenError {
-        OpenError::Log(error)
+    fn from(error: LogError) -> JournalOpenError {
+        JournalOpenError::Log(error)
     }
 }
 
-impl From<AllocError> for OpenError {
+impl From<AllocError> for JournalOpenError {
     ghost use Rattle.std.specs.Prelude.{◌≡◌};
-    ghost use Rattle.reg_journal.specs.declared.opening.OpenError.TheVariants.{OutOfMemory};
+    ghost use Rattle.reg_journal.specs.declared.opening.JournalOpenError.TheVariants.{OutOfMemory};
 
     ghost from_gives = { λ _ e. e ≡ OutOfMemory };
 
-    fn from(_refused: AllocError) -> OpenError {
-        OpenError::OutOfMemory
+    fn from(_refused: AllocError) -> JournalOpenError {
+        JournalOpenError::OutOfMemory
     }
 }
 
-impl<T: Drop> From<AllocFailed<T>> for OpenError {
+impl<T: Drop> From<AllocFailed<T>> for JournalOpenError {
     ghost use Rattle.std.specs.Prelude.{◌≡◌};
-    ghost use Rattle.reg_journal.specs.declared.opening.OpenError.TheVariants.{OutOfMemory};
+    ghost use Rattle.reg_journal.specs.declared.opening.JournalOpenError.TheVariants.{OutOfMemory};
 
     ghost from_gives = { λ _ e. e ≡ OutOfMemory };
 
-    fn from(_refused: AllocFailed<T>) -> OpenError {
-        OpenError::OutOfMemory
+    fn from(_refused: AllocFailed<T>) -> JournalOpenError {
+        JournalOpenError::OutOfMemory
     }
 }
 
@@ -83,7 +83,7 @@ pub struct Found {
 }
 
 /// Reads the log of a file, and what stands behind its empty line. What it has read is on the disk.
-pub fn look<D: Disk>(alloc: Global, disk: &mut D) -> Result<Found, OpenError>
+pub fn look<D: Disk>(alloc: Global, disk: &mut D) -> Result<Found, JournalOpenError>
     requires { D.is_modelled → D.known disk.old }
     ensures found { D.is_modelled → IfOk result (IsFound (D.seen disk.old)) }
     ensures log { D.is_modelled → IfOk result (λ found. (says : Said) × (said (D.seen disk.old) ≡ Ok says) × IsLogOf says.floor says.reads found.log) }
@@ -103,7 +103,7 @@ pub fn look<D: Disk>(alloc: Global, disk: &mut D) -> Result<Found, OpenError>
 }
 
 /// Cuts off what stands behind the empty line of a log that was found. A crash leaves a file that says the same.
-pub fn cut_behind<D: Disk>(disk: &mut D, found: &Found) -> Result<(), OpenError>
+pub fn cut_behind<D: Disk>(disk: &mut D, found: &Found) -> Result<(), JournalOpenError>
     requires within { found.now.end < 2 ^ 63 }
     requires known { D.is_modelled → D.known disk.old }
     requires found { D.is_modelled → IsFound (D.seen disk.old) found.now }
@@ -117,7 +117,7 @@ pub fn cut_behind<D: Disk>(disk: &mut D, found: &Found) -> Result<(), OpenError>
 }
 
 /// Reads the log of a file, and cuts off what a crash has left behind its empty line. It may crash too.
-pub fn recover<D: Disk>(alloc: Global, disk: &mut D) -> Result<Found, OpenError>
+pub fn recover<D: Disk>(alloc: Global, disk: &mut D) -> Result<Found, JournalOpenError>
     requires { D.is_modelled → D.known disk.old }
     ensures log { D.is_modelled → IfOk result (λ found. (says : Said) × (said (D.seen disk.old) ≡ Ok says) × IsLogOf says.floor says.reads found.log) }
     ensures same { D.is_modelled → OnOk result (D.known disk.new × (said (D.seen disk.new) ≡ said (D.seen disk.old))) }
@@ -133,7 +133,10 @@ pub fn recover<D: Disk>(alloc: Global, disk: &mut D) -> Result<Found, OpenError>
 }
 
 /// The log of a file, and the journal that adds to it.
-pub fn open<D: Disk + Drop>(alloc: Global, disk: D) -> Result<(Log, Journal<D>), OpenError>
+pub fn open_journal<D: Disk + Drop>(
+    alloc: Global,
+    disk: D,
+) -> Result<(Log, Journal<D>), JournalOpenError>
     requires { D.is_modelled → D.known disk }
     ensures log { D.is_modelled → IfOk result (λ found. (says : Said) × (said (D.seen disk) ≡ Ok says) × IsLogOf says.floor says.reads found.0) }
     ensures same { D.is_modelled → IfOk result (λ found. D.known found.1.disk × (said (D.seen found.1.disk) ≡ said (D.seen disk))) }
@@ -148,7 +151,7 @@ pub fn open<D: Disk + Drop>(alloc: Global, disk: D) -> Result<(Log, Journal<D>),
 }
 
 /// Writes an empty line behind lines that have none, as a new file has. A crash leaves the bytes that were there.
-pub fn write_end<D: Disk>(alloc: Global, disk: &mut D) -> Result<(), OpenError>
+pub fn write_end<D: Disk>(alloc: Global, disk: &mut D) -> Result<(), JournalOpenError>
     requires { D.is_modelled → D.known disk.old }
     ensures same { D.is_modelled → OnOk result (D.known disk.new × (said (D.seen disk.new) ≡ said (D.seen disk.old))) }
     ensures written { D.is_modelled → OnOk result (D.seen disk.new ≡ D.seen disk.old ++ 10 ∷ []) }

@@ -9,7 +9,7 @@ use Rattle.reg_levels.specs.RequiredPairs.{directions, looked_at}
 use Rattle.reg_levels.specs.Texts.{VersionText, nodes_in}
 use Rattle.reg_levels.specs.declared.direction.Direction.{Direction}
 use Rattle.reg_levels.specs.declared.direction.Direction.TheVariants.{Backward, Forward}
-use Rattle.reg_judge.specs.declared.limits.TheConstants.{MOST_KEPT}
+use Rattle.reg_judge.specs.declared.limits.TheConstants.{KEPT_LIMIT}
 use Rattle.reg_judge.specs.declared.judge_error.JudgeError.{JudgeError}
 use Rattle.reg_judge.specs.declared.judge_error.JudgeError.TheVariants.{BadCapacity, OutOfMemory}
 
@@ -116,7 +116,7 @@ HasUsed capacity required before after all = (judged : List TextPair) × AreJudg
 
 -- so many may be kept
 abbrev pub IsCapacity : ℕ → Type 0
-IsCapacity n = (1 ≤ n) × (n ≤ MOST_KEPT)
+IsCapacity n = (1 ≤ n) × (n ≤ KEPT_LIMIT)
 
 -- the cause of a refusal; memory may be refused at any time
 abbrev pub IsJudgeRefusal : ℕ → ℕ → JudgeError → Type 0

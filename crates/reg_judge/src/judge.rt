@@ -10,7 +10,7 @@ ghost use Rattle.reg_judge.specs.Judge.{HasUsed, IsCapacity, IsJudgeRefusal, Kee
 
 use crate::judge_error::JudgeError;
 use crate::judging::{Run, judge_each};
-use crate::limits::MOST_KEPT;
+use crate::limits::KEPT_LIMIT;
 use crate::schemas::{Schemas, keep, keep_olds, take, take_olds};
 use crate::verdicts::{Verdicts, keep_all};
 use avro_resolve::schemas_have_one_verdict;
@@ -50,7 +50,7 @@ impl Model for Judge {
 }
 
 impl Judge {
-    /// A judge that keeps at most so many schemas and so many verdicts, each from 1 to `MOST_KEPT`.
+    /// A judge that keeps at most so many schemas and so many verdicts, each from 1 to `KEPT_LIMIT`.
     ///
     /// Its texts are found by hashes under these keys.
     pub fn new(
@@ -63,7 +63,7 @@ impl Judge {
         ensures capacities { OnOk result (IsCapacity schemas × IsCapacity verdicts) }
         ensures refused { IfErr result (IsJudgeRefusal schemas verdicts) }
     {
-        if schemas > MOST_KEPT || verdicts > MOST_KEPT {
+        if schemas > KEPT_LIMIT || verdicts > KEPT_LIMIT {
             return Err(JudgeError::BadCapacity);
         }
         let (Some(schemas), Some(verdicts)) = (

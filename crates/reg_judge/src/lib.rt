@@ -13,4 +13,4 @@ mod verdicts;
 
 pub use judge::{Judge, pairs_judged_last_are_kept};
 pub use judge_error::JudgeError;
-pub use limits::{MOST_KEPT, limits_are_as_written};
+pub use limits::{KEPT_LIMIT, judge_limits_are_as_written};

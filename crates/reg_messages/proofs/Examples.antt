@@ -4,9 +4,9 @@ use Rattle.std.specs.Prelude.{Ok, Err}
 use Rattle.httparse.specs.Grammar.{trim_ows}
 use Rattle.reg_refusals.specs.declared.refusal.Refusal.TheVariants as refusals
 use Rattle.reg_messages.specs.Fields.{told_length, asks_to_close}
-use Rattle.reg_messages.specs.declared.field.Field.{Field}
+use Rattle.reg_messages.specs.declared.field.HeaderField.{HeaderField}
 
-field : List ℕ → List ℕ → Field
+field : List ℕ → List ℕ → HeaderField
 field name value = record { name = name; value = value }
 
 two_lengths : told_length (field (codes "Content-Length") (codes "2") ∷ field (codes "content-length") (codes "2") ∷ [])

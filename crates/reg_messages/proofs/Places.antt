@@ -6,12 +6,12 @@ use Rattle.httparse.specs.Grammar as grammar
 use Rattle.httparse.specs.Spans.{header_bytes, name_and_value}
 use Rattle.httparse.specs.declared.spans.HeaderSpan.{HeaderSpan}
 use Rattle.reg_messages.specs.Fields.{asks_to_close, body_length, told_length}
-use Rattle.reg_messages.specs.declared.field.Field.{Field}
+use Rattle.reg_messages.specs.declared.field.HeaderField.{HeaderField}
 use Rattle.reg_messages.specs.Messages.{field_of, fields_of, wants_close}
 use Rattle.reg_messages.specs.Places.{HasTexts, IsHeadAt, field_at}
 use Rattle.reg_messages.specs.declared.parsing.Head.{Head}
 
-field_from : List ℕ × List ℕ → Field
+field_from : List ℕ × List ℕ → HeaderField
 field_from p = record { name = p.0; value = p.1 }
 
 -- the fields at the places of a head's fields
@@ -42,9 +42,9 @@ has-texts bytes found h at =
     (subst token.IsToken (sym at.method) (is-token h.method at.reads.0.method), subst IsUtf8 (sym at.path) at.reads.0.target_text)
 
 -- a length that isn't refused is the body's
-pub told-body : (fields : List Field) (told : Option ℕ) → told_length fields ≡ Ok told → unwrap_or told 0 ≡ body_length fields
+pub told-body : (fields : List HeaderField) (told : Option ℕ) → told_length fields ≡ Ok told → unwrap_or told 0 ≡ body_length fields
 told-body fields None is = rw is refl
 told-body fields (Some n) is = rw is refl
 
-pub told-ok : (fields : List Field) (told : Option ℕ) → told_length fields ≡ Ok told → IsOk (told_length fields)
+pub told-ok : (fields : List HeaderField) (told : Option ℕ) → told_length fields ≡ Ok told → IsOk (told_length fields)
 told-ok fields told is = rw is refl

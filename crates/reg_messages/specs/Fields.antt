@@ -10,19 +10,19 @@ use Rattle.httparse.specs.Grammar.{trim_ows}
 use Rattle.reg_refusals.specs.declared.refusal.Refusal.{Refusal}
 use Rattle.reg_refusals.specs.declared.refusal.Refusal.TheVariants as refusals
 use Rattle.reg_messages.specs.declared.limits.TheConstants.{BODY_LIMIT}
-use Rattle.reg_messages.specs.declared.field.Field.{Field}
+use Rattle.reg_messages.specs.declared.field.HeaderField.{HeaderField}
 
 -- the fields of a list: the first one's name and value, and those after it
-abbrev pub split_fields : {A : Type 0} → (A → List Field) → Option (Bor (List ℕ) × Bor (List ℕ) × A) → List Field
+abbrev pub split_fields : {A : Type 0} → (A → List HeaderField) → Option (Bor (List ℕ) × Bor (List ℕ) × A) → List HeaderField
 split_fields fields None = []
 split_fields fields (Some (name, value, rest)) = record { name = name.now; value = value.now } ∷ fields rest
 
 -- the values of the fields of that name, whatever the case of its letters
-abbrev pub values_of : List ℕ → List Field → List (List ℕ)
+abbrev pub values_of : List ℕ → List HeaderField → List (List ℕ)
 values_of name fields = map (λ f. f.value) (filter (λ f. str_eq_ignore_ascii_case f.name name) fields)
 
 -- the same values: the first one, and those of the fields after it
-abbrev pub values_found : {A : Type 0} → (A → List Field) → List ℕ → Option (Bor (List ℕ) × A) → List (List ℕ)
+abbrev pub values_found : {A : Type 0} → (A → List HeaderField) → List ℕ → Option (Bor (List ℕ) × A) → List (List ℕ)
 values_found fields name None = []
 values_found fields name (Some (value, rest)) = value.now ∷ values_of name (fields rest)
 
@@ -39,13 +39,13 @@ length_of (value ∷ []) =
 length_of (value ∷ other ∷ more) = Err refusals.BadRequest
 
 -- the length of the body that the fields state, where they state one
-abbrev pub told_length : List Field → Result (Option ℕ) Refusal
+abbrev pub told_length : List HeaderField → Result (Option ℕ) Refusal
 told_length fields =
     if nat_lt 0 (length (values_of (codes "transfer-encoding") fields)) then Err refusals.LengthRequired
     else length_of (values_of (codes "content-length") fields)
 
 -- how many bytes the body has; none where the fields are refused
-abbrev pub body_length : List Field → ℕ
+abbrev pub body_length : List HeaderField → ℕ
 body_length fields = bytes_in (told_length fields)
   where
     bytes_in : Result (Option ℕ) Refusal → ℕ
@@ -64,5 +64,5 @@ abbrev pub holds_close : List ℕ → Bool
 holds_close value = list_any is_close (slice_split is_comma value)
 
 -- some Connection field holds `close`
-abbrev pub asks_to_close : List Field → Bool
+abbrev pub asks_to_close : List HeaderField → Bool
 asks_to_close fields = list_any holds_close (values_of (codes "connection") fields)

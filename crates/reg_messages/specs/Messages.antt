@@ -2,13 +2,13 @@
 use Rattle.std.specs.Prelude.{ℕ, List, Bool, ◌||◌, ◌==◌, nat_le, length, map, take, drop, Option, Some, None, if◌then◌else◌}
 use Rattle.httparse.specs.Grammar as grammar
 use Rattle.reg_messages.specs.Fields.{asks_to_close, body_length}
-use Rattle.reg_messages.specs.declared.field.Field.{Field}
+use Rattle.reg_messages.specs.declared.field.HeaderField.{HeaderField}
 
 -- a field as its name, and its value without the white space round it
-abbrev pub field_of : grammar.Field → Field
+abbrev pub field_of : grammar.Field → HeaderField
 field_of f = record { name = f.name; value = grammar.field_value f }
 
-abbrev pub fields_of : grammar.RequestHead → List Field
+abbrev pub fields_of : grammar.RequestHead → List HeaderField
 fields_of head = map field_of head.fields
 
 -- so many bytes, if there are as many

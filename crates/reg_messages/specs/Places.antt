@@ -4,14 +4,14 @@ use Rattle.http_header.specs.Token.{IsToken}
 use Rattle.httparse.specs.Grammar.{RequestHead}
 use Rattle.httparse.specs.Spans.{IsRequestAt, IsRequestWithin, span_bytes}
 use Rattle.httparse.specs.declared.spans.HeaderSpan.{HeaderSpan}
-use Rattle.reg_messages.specs.declared.field.Field.{Field}
+use Rattle.reg_messages.specs.declared.field.HeaderField.{HeaderField}
 use Rattle.reg_messages.specs.declared.parsing.Head.{Head}
 
 -- the field whose name and value stand at these places
-abbrev pub field_at : List ℕ → HeaderSpan → Field
+abbrev pub field_at : List ℕ → HeaderSpan → HeaderField
 field_at bytes span = record { name = span_bytes bytes span.name; value = span_bytes bytes span.value }
 
-abbrev pub fields_at : List ℕ → List HeaderSpan → List Field
+abbrev pub fields_at : List ℕ → List HeaderSpan → List HeaderField
 fields_at bytes spans = map (field_at bytes) spans
 
 -- the places of the parts of a head, in its bytes

@@ -7,7 +7,7 @@ use Rattle.reg_refusals.specs.declared.refusal.Refusal.TheVariants as refusals
 use Rattle.reg_messages.specs.Fields.{body_length, told_length}
 use Rattle.reg_messages.specs.Head.{Front, front_of, head, no_head, over, IsHead, IsNoHead}
 use Rattle.reg_messages.specs.Messages.{after_body, body_after, fields_of, wants_close}
-use Rattle.reg_messages.specs.declared.field.Field.{Field}
+use Rattle.reg_messages.specs.declared.field.HeaderField.{HeaderField}
 use Rattle.reg_messages.specs.declared.reading.Got.{Got}
 use Rattle.reg_messages.specs.declared.reading.Got.TheVariants as gots
 
@@ -34,7 +34,7 @@ HasHead text left bytes h after = (front_of text ≡ head bytes after) × IsHead
     × (left ≡ Some (after_body h after))
 
 -- the parts of a message with that head and that body
-abbrev pub HasParts : RequestHead → Option (List ℕ) → List ℕ → List ℕ → List Field → Option (List ℕ) → Type 0
+abbrev pub HasParts : RequestHead → Option (List ℕ) → List ℕ → List ℕ → List HeaderField → Option (List ℕ) → Type 0
 HasParts h found method target fields body = (method ≡ h.method) × (target ≡ h.target) × (fields ≡ fields_of h) × (body ≡ found)
 
 -- what was read at the front of a text

@@ -15,11 +15,11 @@ mod reading;
 mod taking;
 
 pub use digits::digits_value;
-pub use field::{Field, Fields};
+pub use field::{Fields, HeaderField};
 pub use fields::{asks_to_close, find_value, told_length, trim_ows};
 pub use held::message_with;
 pub use limits::{
-    BODY_LIMIT, HEAD_FIELDS, HEAD_LIMIT, HEAD_LINES, REQUEST_READS, limits_are_as_written,
+    BODY_LIMIT, HEAD_FIELDS, HEAD_LIMIT, HEAD_LINES, REQUEST_READS, message_limits_are_as_written,
 };
 pub use reading::{Got, body_len, read_message};
 pub use taking::ReadFault;

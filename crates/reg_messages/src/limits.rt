@@ -17,7 +17,7 @@ pub const BODY_LIMIT: u64 = 1_048_576;
 pub const REQUEST_READS: u64 = 2_097_152;
 
 /// The limits, in digits.
-pub fn limits_are_as_written()
+pub fn message_limits_are_as_written()
     ensures head { HEAD_LIMIT ≡ 8192 }
     ensures lines { HEAD_LINES ≡ 65 }
     ensures fields { HEAD_FIELDS ≡ 64 }

@@ -3,7 +3,7 @@ ghost use Rattle.std.specs.Prelude.{◌≡◌, All, IfOk, length};
 ghost use Rattle.httparse.specs.Spans.{IsHeaderWithin};
 ghost use Rattle.reg_messages.specs.Places.{fields_at};
 
-use crate::field::{Field, Fields};
+use crate::field::{Fields, HeaderField};
 use base_text::Listed;
 use httparse::spans::HeaderSpan;
 use std::alloc::{AllocError, Global};
@@ -49,13 +49,13 @@ impl<'h> Fields<'h> for PlacedFields<'h> {
 pub(crate) fn copied<'f, F: Fields<'f>>(
     alloc: Global,
     fields: F,
-) -> Result<Listed<Field>, AllocError>
+) -> Result<Listed<HeaderField>, AllocError>
     ensures { IfOk result (λ copies. copies ≡ F.fields fields) }
 {
     let mut copies = Vec::new(alloc);
     let mut left = fields;
     while let Some((name, value, rest)) = left.split_first() {
-        copies.push(Field {
+        copies.push(HeaderField {
             name: Listed::from(Vec::from_slice(alloc, name)?),
             value: Listed::from(Vec::from_slice(alloc, value)?),
         })?;

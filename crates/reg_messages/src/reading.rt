@@ -14,7 +14,7 @@ ghost use Rattle.reg_messages.specs.ReadingSteps.{GetsAfter, GetsWith};
 ghost use Rattle.reg_messages.specs.Taking.{CountsReads, LosesReader};
 
 use crate::body_reading::{Body, take_body};
-use crate::field::Field;
+use crate::field::HeaderField;
 use crate::fields::{asks_to_close, told_length};
 use crate::head::{Taken, take_front};
 use crate::limits::{HEAD_LIMIT, REQUEST_READS};
@@ -40,7 +40,7 @@ pub enum Got {
         method: Method,
         /// As it was sent, with its escapes.
         target: Text,
-        fields: Listed<Field>,
+        fields: Listed<HeaderField>,
         /// `None` where the input ended in it.
         body: Option<Listed<u8>>,
         /// Whether the client wants the connection closed after it.

@@ -12,10 +12,10 @@ use Rattle.reg_set.specs.Join.{LastIsGreatest, LastRecordsOfPart, NoLastIsNoReco
 use Rattle.reg_set.specs.LastRecords.{IsGreatestOf, last, last_records}
 use Rattle.reg_set.specs.RecordOrder.{record_cmp}
 use Rattle.reg_set.specs.Records.{Records}
-use Rattle.reg_kept.specs.Compaction.{IsCompactionOf}
-use Rattle.reg_kept.specs.Floored.{Floored}
-use Rattle.reg_kept.specs.Floors.{rebased}
-use Rattle.reg_kept.specs.Laws.{EachIsItsOwnCompaction}
+use Rattle.reg_floored.specs.Compaction.{IsCompactionOf}
+use Rattle.reg_floored.specs.Floored.{Floored}
+use Rattle.reg_floored.specs.Floors.{rebased}
+use Rattle.reg_floored.specs.Laws.{EachIsItsOwnCompaction}
 use Rattle.reg_topic.specs.Laws.{KeptStaysCompaction}
 use Rattle.reg_topic.specs.Topic.{whole_log}
 use Rattle.reg_topic.specs.declared.published.Item.{Item}

@@ -21,10 +21,10 @@ use Rattle.reg_set.specs.Join.{LastIsGreatest, NoLastIsNoRecord}
 use Rattle.reg_set.specs.LastRecords.{IsGreatestOf, last}
 use Rattle.reg_set.specs.RecordOrder.{age_cmp, record_cmp, value_cmp}
 use Rattle.reg_set.specs.Records.{Records}
-use Rattle.reg_kept.specs.Compaction.{IsCompactionOf}
-use Rattle.reg_kept.specs.Floored.{Floored}
-use Rattle.reg_kept.specs.Floors.{below, from_floor, rebased}
-use Rattle.reg_kept.specs.Laws.{EachIsItsOwnCompaction}
+use Rattle.reg_floored.specs.Compaction.{IsCompactionOf}
+use Rattle.reg_floored.specs.Floored.{Floored}
+use Rattle.reg_floored.specs.Floors.{below, from_floor, rebased}
+use Rattle.reg_floored.specs.Laws.{EachIsItsOwnCompaction}
 use Rattle.reg_topic.specs.Laws.{FloorsRise, FloorsStayBelow, KeptStaysCompaction, LogsGrow}
 use Rattle.reg_topic.specs.Topic.{after_item, after_items, whole_log}
 use Rattle.reg_topic.specs.declared.published.Item.{Item}

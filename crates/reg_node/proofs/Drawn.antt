@@ -9,7 +9,7 @@ use Rattle.reg_records.specs.declared.record.Record.{Record}
 use Rattle.reg_set.specs.Records.{Records}
 use Rattle.reg_topic.specs.declared.published.Item.{Item}
 use Rattle.reg_shared.specs.Held.{Held, topic_at}
-use Rattle.reg_kept.specs.Floored.{Floored}
+use Rattle.reg_floored.specs.Floored.{Floored}
 use Rattle.reg_node.specs.Takes.{AreDrawn, AreDrawnFrom, IsBasis, draws_of, floor_of, floor_with, taken, takes_of, with_draw}
 use Rattle.reg_node.specs.declared.take.Draw.{Draw}
 use Rattle.reg_node.specs.declared.take.Draw.TheVariants as draws

@@ -6,7 +6,7 @@ use Rattle.reg_set.specs.Join.{LastRecordsOfInsert}
 use Rattle.reg_set.specs.LastRecords.{is_last, last_records}
 use Rattle.reg_set.specs.RecordOrder.{record_cmp}
 use Rattle.reg_set.specs.Records.{Records}
-use Rattle.reg_kept.specs.Laws.{LastRecordsOfRebased}
+use Rattle.reg_floored.specs.Laws.{LastRecordsOfRebased}
 use Rattle.reg_node.specs.Takes.{DrawsFoldToLastRecords, base_in, lasts_with_draw, with_draw}
 use Rattle.reg_node.specs.declared.take.Draw.{Draw}
 use Rattle.reg_node.specs.declared.take.Draw.TheVariants as draws

@@ -9,7 +9,8 @@ use Rattle.reg_entries.specs.declared.entry.Entry.{Entry}
 use Rattle.reg_fold.specs.InForce.{level}
 use Rattle.reg_fold.specs.Standing.{live}
 use Rattle.reg_level_names.specs.declared.level.Level.{Level}
-use Rattle.reg_levels.specs.RequiredPairs.{HasRisingVersions}
+use Rattle.reg_judge.proofs.LookedAt.{looked_at-map}
+use Rattle.reg_levels.specs.RequiredPairs.{HasRisingVersions, looked_at}
 use Rattle.reg_levels.specs.Texts.{VersionText}
 use Rattle.reg_entries.specs.Sought.{texts_of}
 use Rattle.reg_set.specs.Records.{Records}
@@ -25,6 +26,13 @@ use Rattle.reg_node.specs.Judging.{HasNoJudgement, HasNoMatter, IsMatterOf, Matt
 -- texts of entries whose versions rise
 pub texts_rise : (es : List Entry) → sought.AreInVersionOrder es → HasRisingVersions (texts_of es)
 texts_rise es rise = subst IsStrictlyIncreasing (sym (map-map (λ old. old.0) (λ (e : Entry). (e.version, e.text)) es)) rise
+
+-- of entries that are lent those that a level looks at, with their texts
+pub texts_looked_at : (l : Level) (found : List (Bor Entry))
+    → texts_of (map (λ e. e.now) (looked_at l found)) ≡ looked_at l (texts_of (map (λ e. e.now) found))
+texts_looked_at l found =
+    ap texts_of (looked_at-map (λ (e : Bor Entry). e.now) l found)
+    ∙ looked_at-map (λ (e : Entry). (e.version, e.text)) l (map (λ e. e.now) found)
 
 pub stands : (l k : Level) (olds texts : List VersionText) → l ≡ k → olds ≡ texts
     → ◌≡◌ {A = Standing} (record { level = l; olds = olds }) (record { level = k; olds = texts })
@@ -57,15 +65,22 @@ alike_more ys xs f i y x within same_length at same before =
     let n = length-map xs f in
     take_more_same ys (map f xs) i y within (omega arith) before (sym at ∙ same ∙ sym (get_or-map f xs i x y (omega arith)))
 
--- what stands is that of a registry where level and texts are
+-- what stands is that of a registry where the level is, and the texts that it looks at
 pub stands_over : (rs : Records) (subject : List ℕ) (held : Standing) (l : Level)
-    (olds : List VersionText) (found : List (Bor Entry)) (agree : Bool)
+    (olds : List VersionText) (found looked : List (Bor Entry)) (agree : Bool)
     → record { level = l; olds = olds } ≡ held → l ≡ level rs (Some subject) → map (λ e. e.now) found ≡ live rs subject
-    → (IsTrue agree ↔ (olds ≡ map (λ e. (e.now.version, e.now.text)) found)) → (agree ≡ true) ↔ (against rs subject ≡ held)
-stands_over rs subject held l olds found agree is at all told =
-    let texts : texts_of (live rs subject) ≡ map {B = VersionText} (λ e. (e.now.version, e.now.text)) found =
-    ap texts_of (sym all) ∙ map-map (λ (e : Entry). (e.version, e.text)) (λ (e : Bor Entry). e.now) found in (
-      λ same. stands (level rs (Some subject)) l (texts_of (live rs subject)) olds (sym at) (texts ∙ sym (told.0 same)) ∙ is,
+    → looked ≡ looked_at l found → (IsTrue agree ↔ (olds ≡ map (λ e. (e.now.version, e.now.text)) looked))
+    → (agree ≡ true) ↔ (against rs subject ≡ held)
+stands_over rs subject held l olds found looked agree is at all same_looked told =
+    let k : Level = level rs (Some subject) in
+    let standing : List VersionText = texts_of (live rs subject) in
+    let texts : looked_at k standing ≡ map {B = VersionText} (λ e. (e.now.version, e.now.text)) looked =
+    ap (λ (m : Level). looked_at m standing) (sym at)
+    ∙ ap (λ (es : List Entry). looked_at l (texts_of es)) (sym all)
+    ∙ sym (texts_looked_at l found)
+    ∙ ap (λ (es : List (Bor Entry)). texts_of (map (λ e. e.now) es)) (sym same_looked)
+    ∙ map-map (λ (e : Entry). (e.version, e.text)) (λ (e : Bor Entry). e.now) looked in (
+      λ same. stands k l (looked_at k standing) olds (sym at) (texts ∙ sym (told.0 same)) ∙ is,
       λ same. told.1 (sym (ap (λ (s : Standing). s.olds) (same ∙ sym is)) ∙ texts),
     )
 

@@ -8,8 +8,8 @@ use Rattle.reg_records.specs.declared.record.Record.{Record}
 use Rattle.reg_set.specs.Compaction.{IsGone}
 use Rattle.reg_set.specs.LastRecords.{last, last_records}
 use Rattle.reg_set.specs.Records.{Records}
-use Rattle.reg_kept.specs.Compaction.{IsCompactionOf}
-use Rattle.reg_kept.specs.Floored.{Floored}
+use Rattle.reg_floored.specs.Compaction.{IsCompactionOf}
+use Rattle.reg_floored.specs.Floored.{Floored}
 use Rattle.reg_topic.specs.Topic.{whole_log}
 use Rattle.reg_topic.specs.declared.published.Item.{Item}
 use Rattle.reg_shared.specs.Held.{Held, IsSince, held_of, topic_at}

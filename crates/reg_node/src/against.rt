@@ -19,8 +19,8 @@ use std::marker::Model;
 /// The longest text, in bytes, that a judge is asked about.
 const LONGEST_KEPT: usize = 4_096;
 
-/// What a new schema of a subject is judged against: the level in force, and the live versions with
-/// copies of their texts.
+/// What a new schema of a subject is judged against: the level in force, and the live versions that it
+/// looks at, with copies of their texts.
 #[derive(Debug, Drop)]
 pub(crate) struct Against {
     level: Level,
@@ -54,12 +54,12 @@ impl Against {
         live_versions_are_read();
         let level = registry.level(Some(subject.as_str()));
         let live = registry.live(subject.as_str())?;
-        let olds = copy_texts(alloc, &live)?;
+        let olds = copy_texts(alloc, looked_at(level, &live))?;
         Ok(Against { level, olds })
     }
 
-    /// Whether a new schema of the subject is judged against the same over a registry. The only error
-    /// is out of memory.
+    /// Whether a new schema of the subject is judged against the same over a registry: whatever becomes of
+    /// versions that the level doesn't look at. The only error is out of memory.
     pub(crate) fn stands(&self, registry: &Registry, subject: &Text) -> Result<bool, AllocError>
         ensures { IfOk result (λ yes. (yes ≡ true) ↔ (against registry.now subject.now ≡ self.now)) }
     {
@@ -67,11 +67,10 @@ impl Against {
             return Ok(false);
         }
         let live = registry.live(subject.as_str())?;
-        Ok(are_texts_of(self.olds.as_slice(), &live))
+        Ok(are_texts_of(self.olds.as_slice(), looked_at(self.level, &live)))
     }
 
-    /// The judgement of a new schema's text. Of the versions only those are read, or taken from what the judge keeps,
-    /// that the level looks at.
+    /// The judgement of a new schema's text. The versions are read, or taken from what the judge keeps.
     pub(crate) fn judged(
         &self,
         alloc: Global,

@@ -2,7 +2,7 @@
 ghost use Rattle.std.specs.Prelude.{◌≡◌, ◌⊎◌, ◌≤◌, ◌++◌, [], IfOk, IfSome, MatchBool, OnErr, OnOk};
 ghost use Rattle.std.specs.FinSet.{empty};
 ghost use mathlib.Core.List.{IsPrefix};
-ghost use Rattle.reg_kept.specs.Compaction.{IsCompactionOf};
+ghost use Rattle.reg_floored.specs.Compaction.{IsCompactionOf};
 ghost use Rattle.reg_shared.specs.Held.{held_of, topic_at};
 ghost use Rattle.reg_topic.specs.Topic.{whole_log};
 ghost use Rattle.reg_node.specs.Caught.{IsNews};

@@ -3,7 +3,7 @@
 ghost use Rattle.reg_node.specs.Caught.{CaughtStays, NewsAreWhole, NewsCatchUp};
 ghost use Rattle.reg_node.specs.Takes.{DrawsFoldToLastRecords};
 
-use reg_kept::{compactions_compose, rebasing_keeps_lasts};
+use reg_floored::{compactions_compose, rebasing_keeps_lasts};
 use reg_set::{
     last_is_greatest, last_records_are_enough, last_records_of_unions, records_are_ordered,
 };

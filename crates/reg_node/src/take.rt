@@ -1,14 +1,14 @@
 // What nodes take from the topic.
 ghost use Rattle.std.specs.Prelude.{◌≡◌, IfOk, OnErr, OnOk};
 ghost use Rattle.std.specs.FinSet.{empty};
-ghost use Rattle.reg_kept.specs.Floors.{rebased};
+ghost use Rattle.reg_floored.specs.Floors.{rebased};
 ghost use Rattle.reg_node.specs.Takes.{base_in};
 ghost use Rattle.reg_set.specs.LastRecords.{last_records};
 
 use base_text::Listed;
 use reg_feed::{FeedName, Fold};
+use reg_floored::KeptSet;
 use reg_fold::Registry;
-use reg_kept::KeptSet;
 use reg_records::Record;
 use reg_set::{RecordSet, records_are_ordered};
 use std::alloc::{AllocError, Global};

@@ -106,9 +106,9 @@ impl<M: FeedName<Draw, Taken>, U: Copies<Draw, Taken, M>> View<M, U> {
         }
     }
 
-    /// The judgement of a registration over such a list. `None` for each other command, where the text is no
-    /// schema's, and where that of a live version isn't. The only error is out of memory, or that the
-    /// follower is gone.
+    /// The judgement of a registration over such a list. `None` for each other command, and where the text, or
+    /// that of a live version that the level looks at, is no schema's. The only error is out of memory, or
+    /// that the follower is gone.
     ///
     /// What it is judged against is copied, and then judged, so that a long judgement holds nobody up.
     #[tactic(auto, using(crate::proofs::Matters::no_judgement, crate::proofs::Matters::nothing_judged))]

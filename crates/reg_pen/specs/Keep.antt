@@ -17,5 +17,5 @@ TakesAll keep batch kept keep' = (kept ≡ Taken) × (keep' ≡ keep)
 abbrev pub refusal_of : Lack → Refusal
 refusal_of lacks.Memory = Store faults.Memory
 refusal_of lacks.Numbers = Store faults.NumbersUsedUp
-refusal_of lacks.Overtaken = Store faults.Unsettled
-refusal_of lacks.Store = Store faults.Unsettled
+refusal_of lacks.Overtaken = Store faults.Overtaken
+refusal_of lacks.Store = Store faults.Declined

@@ -9,7 +9,7 @@ use Rattle.reg_leader.specs.Step.{IsStep}
 use Rattle.reg_leader.specs.declared.command.Command.{Command}
 use Rattle.reg_leader.specs.declared.reply.Reply.{Reply}
 use Rattle.reg_leader.specs.declared.reply.Reply.TheVariants as replies
-use Rattle.reg_kept.specs.Floors.{compacted_to, without}
+use Rattle.reg_floored.specs.Floors.{compacted_to, without}
 use Rattle.reg_topic.specs.Topic.{IsAdopted, IsLawful, MayFollow, after_items, may_compact, registry_of}
 use Rattle.reg_topic.specs.declared.published.Compaction.{Compaction}
 use Rattle.reg_topic.specs.declared.published.Item.{Item}

@@ -29,7 +29,8 @@ impl Lack {
         match self {
             Lack::Memory => Refusal::Store(StoreFault::Memory),
             Lack::Numbers => Refusal::Store(StoreFault::NumbersUsedUp),
-            Lack::Overtaken | Lack::Store => Refusal::Store(StoreFault::Unsettled),
+            Lack::Overtaken => Refusal::Store(StoreFault::Overtaken),
+            Lack::Store => Refusal::Store(StoreFault::Declined),
         }
     }
 }

@@ -6,7 +6,7 @@ ghost use Rattle.reg_set.specs.LastRecords.{last_records};
 ghost use Rattle.reg_leader.specs.Adoption.{HasPlace};
 ghost use Rattle.reg_leader.specs.Outcome.{IsOutOfMemory};
 ghost use Rattle.reg_fold.specs.GiveAlike.{GiveAlike};
-ghost use Rattle.reg_kept.specs.Floors.{compacted_to, without};
+ghost use Rattle.reg_floored.specs.Floors.{compacted_to, without};
 ghost use Rattle.reg_topic.specs.Topic.{IsAdopted, MayCommit, MayFollow, after_items, may_compact, owed_by, registry_of, topic_from};
 ghost use Rattle.reg_shared.specs.Held.{base_of, held_of, topic_at};
 ghost use Rattle.reg_pen.specs.Deletes.{floor_due};

@@ -14,8 +14,8 @@ use Rattle.reg_records.specs.declared.record.Record.{Record}
 use Rattle.reg_set.specs.LastRecords.{last_records}
 use Rattle.reg_set.specs.RecordOrder.{record_cmp}
 use Rattle.reg_set.specs.Records.{Records}
-use Rattle.reg_kept.specs.Compaction.{IsCompactionOf}
-use Rattle.reg_kept.specs.Laws.{LaterRecordsMayJoin}
+use Rattle.reg_floored.specs.Compaction.{IsCompactionOf}
+use Rattle.reg_floored.specs.Laws.{LaterRecordsMayJoin}
 use Rattle.reg_leader.specs.OneStep.{BatchesGoOn}
 use Rattle.reg_lookup.specs.Answers.{HaveOneAnswer}
 use Rattle.reg_topic.specs.Laws.{CommitsFollow, LogIsWhatWasPublished}

@@ -13,8 +13,8 @@ use Rattle.reg_set.specs.Compaction.{IsCompactionBelow}
 use Rattle.reg_set.specs.LastRecords.{last_records}
 use Rattle.reg_set.specs.RecordOrder.{record_cmp}
 use Rattle.reg_set.specs.Records.{Records}
-use Rattle.reg_kept.specs.Compaction.{IsCompactionOf}
-use Rattle.reg_kept.specs.Laws.{CompactionsCompose, EachIsItsOwnCompaction}
+use Rattle.reg_floored.specs.Compaction.{IsCompactionOf}
+use Rattle.reg_floored.specs.Laws.{CompactionsCompose, EachIsItsOwnCompaction}
 use Rattle.reg_leader.specs.OneStep.{BatchesGoOn}
 use Rattle.reg_leader.specs.StayOpen.{StepsStayOpen}
 use Rattle.reg_topic.specs.Laws.{CommitsFollow, FloorsRise, FloorsStayBelow, KeptStaysCompaction}

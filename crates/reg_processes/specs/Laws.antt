@@ -8,7 +8,7 @@ use Rattle.reg_fold.specs.Entries.{entries}
 use Rattle.reg_fold.specs.GiveAlike.{GiveAlike}
 use Rattle.reg_records.specs.declared.record.Record.{Record}
 use Rattle.reg_set.specs.LastRecords.{last_records}
-use Rattle.reg_kept.specs.Compaction.{IsCompactionOf}
+use Rattle.reg_floored.specs.Compaction.{IsCompactionOf}
 use Rattle.reg_leader.specs.Step.{IsStep}
 use Rattle.reg_leader.specs.declared.command.Command.{Command}
 use Rattle.reg_leader.specs.declared.reply.Reply.{Reply}

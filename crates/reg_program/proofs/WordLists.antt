@@ -2,7 +2,7 @@
 use Rattle.std.proofs.Common.{◌≡◌, ◌≤◌, ◌<◌, ℕ, true, List, [], ◌∷◌, length, map, get_or, refl, sym, ap, ◌∙◌, arith}
 use Rattle.std.specs.Prelude.{codes, bytes_eq, if◌then◌else◌}
 use Rattle.reg_program.specs.Words.{command_of, number_in, serving}
-use Rattle.reg_program.specs.declared.words.Command.TheVariants as commands
+use Rattle.reg_program.specs.declared.words.ProgramCommand.TheVariants as commands
 
 module _ {W : Type 0} (f : W → List ℕ) where
   pub few_words : (ws : List W) → length ws < 2 → commands.Usage ≡ command_of (map f ws)

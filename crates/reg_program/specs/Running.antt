@@ -13,8 +13,8 @@ use Rattle.reg_program.specs.Sketch.{IsSketchRefusal, LeavesRest, Sketches}
 use Rattle.reg_program.specs.Telling.{Tells}
 use Rattle.reg_program.specs.declared.ended.Ended.{Ended}
 use Rattle.reg_program.specs.declared.ended.Ended.TheVariants as ends
-use Rattle.reg_program.specs.declared.words.Command.{Command}
-use Rattle.reg_program.specs.declared.words.Command.TheVariants as commands
+use Rattle.reg_program.specs.declared.words.ProgramCommand.{ProgramCommand}
+use Rattle.reg_program.specs.declared.words.ProgramCommand.TheVariants as commands
 
 -- standard error says how the program ends, and the status is that end's
 abbrev pub EndsAs : {E : Type 0} → (E → Option (List ℕ)) → Device E → Device E → ℕ → Ended → Type 0
@@ -52,7 +52,7 @@ SketchGives remaining contents reader reader' writer writer' ended = ⊥
 abbrev pub Runs : {R W E S : Type 0} → (R → Option (List ℕ)) → (W → Option (List ℕ))
     → (W → List ℕ → Result ℕ Error → W → Type 0) → (W → Result ⊤ Error → W → Type 0)
     → (E → Option (List ℕ)) → (S → ℕ → ℕ → ℕ → ℕ → S → Type 0)
-    → Device R → Device R → Device W → Device W → Device E → Device E → S → S → ℕ → Command → Type 0
+    → Device R → Device R → Device W → Device W → Device E → Device E → S → S → ℕ → ProgramCommand → Type 0
 Runs remaining contents writes flushes told step reader reader' writer writer' errors errors' serve serve' status commands.Usage =
     (reader' ≡ reader) × (writer' ≡ writer) × (serve' ≡ serve) × EndsAs told errors errors' status ends.Usage
 Runs remaining contents writes flushes told step reader reader' writer writer' errors errors' serve serve' status commands.Fold =

@@ -4,8 +4,8 @@ use Rattle.std.specs.Prelude.{length, codes, bytes_eq, nat_eq, nat_le, if◌then
 use Rattle.std.specs.Char.{is_ascii_digit}
 use Rattle.std.specs.List.{list_all}
 use Rattle.std.specs.Str.Parse.{digits_value}
-use Rattle.reg_program.specs.declared.words.Command.{Command}
-use Rattle.reg_program.specs.declared.words.Command.TheVariants as commands
+use Rattle.reg_program.specs.declared.words.ProgramCommand.{ProgramCommand}
+use Rattle.reg_program.specs.declared.words.ProgramCommand.TheVariants as commands
 
 -- one to five decimal digits, of which the first isn't 0
 abbrev pub is_plain : List ℕ → Bool
@@ -19,17 +19,17 @@ number_in limits word =
     if is_plain word && (nat_le limits.0 n && nat_le n limits.1) then Some n else None
 
 -- nodes serve where all three numbers are given and the last node's port is one
-abbrev pub serving : Option ℕ → Option ℕ → Option ℕ → Command
+abbrev pub serving : Option ℕ → Option ℕ → Option ℕ → ProgramCommand
 serving (Some port) (Some nodes) (Some workers) = if nat_le (port + nodes) 65536 then commands.Serve port nodes workers else commands.Usage
 serving _ _ _ = commands.Usage
 
 -- `fold` and `sketch` are commands without more words
-abbrev pub command_named : List ℕ → Command
+abbrev pub command_named : List ℕ → ProgramCommand
 command_named word = if bytes_eq word (codes "fold") then commands.Fold
     else (if bytes_eq word (codes "sketch") then commands.Sketch else commands.Usage)
 
 -- after the program's name stands `fold` or `sketch` alone, or `serve`, a port, 1 to 3 nodes and 1 to 16 workers
-abbrev pub command_of : List (List ℕ) → Command
+abbrev pub command_of : List (List ℕ) → ProgramCommand
 command_of (name ∷ word ∷ []) = command_named word
 command_of (name ∷ word ∷ port ∷ nodes ∷ workers ∷ []) =
     if bytes_eq word (codes "serve") then serving (number_in (1, 65535) port) (number_in (1, 3) nodes) (number_in (1, 16) workers)

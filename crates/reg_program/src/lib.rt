@@ -23,4 +23,4 @@ pub use sketching::{SketchError, sketch};
 pub use spelling::SpellingFault;
 pub use starting::{Finished, start};
 pub use system::SystemInvocation;
-pub use words::{Command, command_of};
+pub use words::{ProgramCommand, command_of};

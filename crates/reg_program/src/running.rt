@@ -7,7 +7,7 @@ use crate::ended::Ended;
 use crate::folding::fold;
 use crate::sketching::sketch;
 use crate::telling::tell;
-use crate::words::{Command, command_of};
+use crate::words::{ProgramCommand, command_of};
 use reg_records::{Device, Output};
 use std::alloc::Global;
 use std::io::{BufRead, Write};
@@ -32,16 +32,16 @@ pub fn run<R: BufRead, W: Output, E: Write, S: FnMut(u64, u64, u64) -> u8>(
         errors.old errors.new serve.old serve.new result (command_of (map string_bytes words.now)) }
 {
     match command_of(words) {
-        Command::Usage => end(errors, &Ended::Usage),
-        Command::Fold => {
+        ProgramCommand::Usage => end(errors, &Ended::Usage),
+        ProgramCommand::Fold => {
             let ended = fold_end(alloc, reader, writer);
             end(errors, &ended)
         }
-        Command::Sketch => {
+        ProgramCommand::Sketch => {
             let ended = sketch_end(alloc, reader, writer);
             end(errors, &ended)
         }
-        Command::Serve {
+        ProgramCommand::Serve {
             port,
             nodes,
             workers,

@@ -7,7 +7,7 @@ ghost use Rattle.reg_program.specs.Spelling.{as_readers, as_writers};
 
 use crate::spelling::{SpellingError, SpellingFault, read_schema};
 use crate::text_writing::write_text;
-use avro_data::Pieces;
+use avro_data::PiecedText;
 use avro_sketch::{schemas_have_one_sketch, sketch_text};
 use reg_records::{Device, LINE_READS};
 use std::alloc::{AllocError, Global};
@@ -67,7 +67,7 @@ pub fn sketch<R: BufRead, W: Write>(
 }
 
 /// The text of the sketch.
-fn sketch_of<R: BufRead>(alloc: Global, reader: &mut Device<R>) -> Result<Pieces, SketchError>
+fn sketch_of<R: BufRead>(alloc: Global, reader: &mut Device<R>) -> Result<PiecedText, SketchError>
     ensures text { IfOk result (λ text. IfSome (bytes_in R.remaining reader.old) (λ input. Sketches input text)) }
     ensures rest { OnOk result (LeavesRest (bytes_in R.remaining reader.old) (bytes_in R.remaining reader.new)) }
     ensures faults { OnOk result (faults_of reader.new ≡ faults_of reader.old) }

@@ -5,7 +5,7 @@ ghost use Rattle.reg_program.specs.Waiting.{Puts};
 ghost use Rattle.reg_records.specs.Device.{interruptions_of};
 ghost use Rattle.reg_responses.specs.Writing.{Writes};
 
-use avro_data::{Piece, Pieces};
+use avro_data::{Piece, PiecedText};
 use itoa::Buffer;
 use reg_records::Device;
 use reg_responses::{WriteFault, write_whole};
@@ -20,7 +20,7 @@ const MOST_WAITING: usize = 65_536;
 pub(crate) fn write_text<W: Write>(
     alloc: Global,
     writer: &mut Device<W>,
-    text: &Pieces,
+    text: &PiecedText,
 ) -> Result<(), WriteFault>
     ensures { Writes W.contents writer.old writer.new text.now result }
 {

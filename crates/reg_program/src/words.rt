@@ -14,7 +14,7 @@ const WORKERS: (u64, u64) = (1, 16);
 
 /// What the arguments ask for.
 #[derive(Clone, Copy, Debug, PartialEq, Eq)]
-pub enum Command {
+pub enum ProgramCommand {
     Fold,
     Sketch,
     /// So many nodes are to serve, each by so many workers: node k, from 0, at that port plus k.
@@ -24,7 +24,7 @@ pub enum Command {
 }
 
 /// What the words ask for, of which the first is the program's name.
-pub fn command_of(words: &[String]) -> Command
+pub fn command_of(words: &[String]) -> ProgramCommand
     ensures { result ≡ command_of (map string_bytes words.now) }
 {
     match words {
@@ -37,43 +37,43 @@ pub fn command_of(words: &[String]) -> Command
                     number_in(WORKERS, workers.as_bytes()),
                 )
             } else {
-                Command::Usage
+                ProgramCommand::Usage
             }
         }
-        _ => Command::Usage,
+        _ => ProgramCommand::Usage,
     }
 }
 
 /// The command that a word alone asks for.
-fn command_named(word: &str) -> Command
+fn command_named(word: &str) -> ProgramCommand
     ensures { result ≡ command_named word.now }
 {
     if word == "fold" {
-        Command::Fold
+        ProgramCommand::Fold
     } else if word == "sketch" {
-        Command::Sketch
+        ProgramCommand::Sketch
     } else {
-        Command::Usage
+        ProgramCommand::Usage
     }
 }
 
 /// Serves, where all three are numbers within their limits, and each node has a port.
-fn serving(port: Option<u64>, nodes: Option<u64>, workers: Option<u64>) -> Command
+fn serving(port: Option<u64>, nodes: Option<u64>, workers: Option<u64>) -> ProgramCommand
     ensures { result ≡ serving port nodes workers }
 {
     match (port, nodes, workers) {
         (Some(port), Some(nodes), Some(workers)) => {
             if port.saturating_add(nodes) <= PORTS.1 + 1 {
-                Command::Serve {
+                ProgramCommand::Serve {
                     port,
                     nodes,
                     workers,
                 }
             } else {
-                Command::Usage
+                ProgramCommand::Usage
             }
         }
-        _ => Command::Usage,
+        _ => ProgramCommand::Usage,
     }
 }
 

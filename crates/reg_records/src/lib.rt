@@ -22,7 +22,7 @@ pub use device::Device;
 pub use floor::{floors_are_of_the_grammar, is_floor_line, read_floor, write_floor};
 pub use key::{Key, written_keys_are_apart};
 pub use limits::{
-    LINE_LIMIT, LINE_READS, LOG_LINES, NUMBER_LIMIT, OFFSET_LIMIT, limits_are_as_written,
+    LINE_LIMIT, LINE_READS, LOG_LINES, NUMBER_LIMIT, OFFSET_LIMIT, record_limits_are_as_written,
 };
 pub use line::{
     LineError, ReadLineError, has_only_digits, lines_are_of_the_grammar, offset_of, read_line,

@@ -17,7 +17,7 @@ pub const LOG_LINES: u64 = 1_000_000;
 pub const LINE_READS: u64 = 2 * LINE_LIMIT as u64;
 
 /// The limits, in digits.
-pub fn limits_are_as_written()
+pub fn record_limits_are_as_written()
     ensures offset { OFFSET_LIMIT ≡ 9223372036854775807 }
     ensures number { NUMBER_LIMIT ≡ 2147483647 }
     ensures line { LINE_LIMIT ≡ 2097152 }

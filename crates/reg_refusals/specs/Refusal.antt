@@ -1,6 +1,6 @@
 -- Each refusal's code, the reason where a code has several, and the message that goes with them.
 use Rattle.std.specs.Prelude.{ℕ, List, ◌++◌, Option, Some, None, nat_lt, ◌/◌, codes, if◌then◌else◌}
-use Rattle.reg_refusals.specs.Reason.{reason_text, lack_text}
+use Rattle.reg_refusals.specs.Reason.{reason_text, lack_text, store_code}
 use Rattle.reg_refusals.specs.declared.reason.StoreFault.TheVariants.{Memory}
 use Rattle.reg_refusals.specs.declared.refusal.Refusal.{Refusal}
 use Rattle.reg_refusals.specs.declared.refusal.Refusal.TheVariants.{BadRequest, NotFound, MethodNotAllowed, LengthRequired}
@@ -35,7 +35,7 @@ code_of InvalidLevel = 42203
 code_of InvalidMode = 42204
 code_of (NotPermitted reason) = 42205
 code_of FollowsLog = 50003
-code_of (Store fault) = 50001
+code_of (Store fault) = store_code fault
 
 -- the first three digits of the code
 abbrev pub status_of : Refusal → ℕ

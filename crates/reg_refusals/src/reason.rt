@@ -1,6 +1,6 @@
 // The reasons of the codes that have several.
 ghost use Rattle.std.specs.Prelude.{◌≡◌};
-ghost use Rattle.reg_refusals.specs.Reason.{lack_text, reason_text};
+ghost use Rattle.reg_refusals.specs.Reason.{lack_text, reason_text, store_code};
 
 /// Why an operation isn't permitted.
 #[derive(Clone, Copy, Debug, PartialEq, Eq)]
@@ -56,11 +56,30 @@ pub enum StoreFault {
     TwoSchemas,
     /// The next offset, id or version would be past its limit.
     NumbersUsedUp,
-    /// The records that were decided aren't published yet.
+    /// The records that were decided aren't published yet, or it isn't known whether they stand in the log.
     Unsettled,
+    /// Others wrote to the log first, each time that the command was decided.
+    Overtaken,
+    /// The store that has the log declined what was decided, or can't be reached.
+    Declined,
 }
 
 impl StoreFault {
+    /// The code that the answer's body names: 503 and two more digits where trying again later may help.
+    pub fn code(self) -> u32
+        ensures { result ≡ store_code self }
+    {
+        match self {
+            StoreFault::Memory
+            | StoreFault::OpaqueRecord
+            | StoreFault::TwoSchemas
+            | StoreFault::NumbersUsedUp
+            | StoreFault::Unsettled => 50001,
+            StoreFault::Overtaken => 50301,
+            StoreFault::Declined => 50302,
+        }
+    }
+
     /// The fault, as it ends the message.
     pub fn as_str(self) -> &'static str
         ensures { result.now ≡ lack_text self }
@@ -71,6 +90,8 @@ impl StoreFault {
             StoreFault::TwoSchemas => "two schemas for one id",
             StoreFault::NumbersUsedUp => "numbers used up",
             StoreFault::Unsettled => "unsettled",
+            StoreFault::Overtaken => "overtaken",
+            StoreFault::Declined => "declined",
         }
     }
 }

@@ -93,7 +93,7 @@ impl Refusal {
             Refusal::InvalidMode => 42204,
             Refusal::NotPermitted(_) => 42205,
             Refusal::FollowsLog => 50003,
-            Refusal::Store(_) => 50001,
+            Refusal::Store(fault) => fault.code(),
         }
     }
 
@@ -124,7 +124,8 @@ impl Refusal {
             | Refusal::InvalidLevel
             | Refusal::InvalidMode
             | Refusal::NotPermitted(_) => 422,
-            Refusal::FollowsLog | Refusal::Store(_) => 500,
+            Refusal::FollowsLog => 500,
+            Refusal::Store(fault) => store_status(*fault),
         }
     }
 
@@ -188,6 +189,19 @@ fn not_permitted(reason: Reason) -> &'static str
     }
 }
 
+fn store_status(fault: StoreFault) -> u16
+    ensures { result ≡ status_of (Refusal.Store fault) }
+{
+    match fault {
+        StoreFault::Memory
+        | StoreFault::OpaqueRecord
+        | StoreFault::TwoSchemas
+        | StoreFault::NumbersUsedUp
+        | StoreFault::Unsettled => 500,
+        StoreFault::Overtaken | StoreFault::Declined => 503,
+    }
+}
+
 fn store_error(fault: StoreFault) -> &'static str
     ensures { result.now ≡ message_of (Refusal.Store fault) }
 {
@@ -197,6 +211,8 @@ fn store_error(fault: StoreFault) -> &'static str
         StoreFault::TwoSchemas => "Store error: two schemas for one id",
         StoreFault::NumbersUsedUp => "Store error: numbers used up",
         StoreFault::Unsettled => "Store error: unsettled",
+        StoreFault::Overtaken => "Store error: overtaken",
+        StoreFault::Declined => "Store error: declined",
     }
 }
 

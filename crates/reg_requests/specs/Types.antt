@@ -4,7 +4,7 @@ use Rattle.std.specs.List.{before_first, list_all, list_any}
 use Rattle.std.specs.Str.{str_eq_ignore_ascii_case}
 use Rattle.httparse.specs.Grammar.{trim_ows}
 use Rattle.reg_messages.specs.Fields.{values_of}
-use Rattle.reg_messages.specs.declared.field.Field.{Field}
+use Rattle.reg_messages.specs.declared.field.HeaderField.{HeaderField}
 
 abbrev pub is_semicolon : ℕ → Bool
 is_semicolon b = b == 59
@@ -19,5 +19,5 @@ abbrev pub is_accepted : List ℕ → Bool
 is_accepted value = list_any (str_eq_ignore_ascii_case (trim_ows (before_first is_semicolon value))) accepted_types
 
 -- each Content-Type field has such a type
-abbrev pub has_accepted_types : List Field → Bool
+abbrev pub has_accepted_types : List HeaderField → Bool
 has_accepted_types fields = list_all is_accepted (values_of (codes "content-type") fields)

@@ -17,9 +17,9 @@ use reg_routes::{Action, Paths, Route, is_path, path_of, query_of, text_part};
 use serde_json::Value;
 use std::alloc::{AllocError, Global};
 
-/// What a request asks, or the refusal of the first test that it fails.
+/// What a request asks, or the refusal of the first test that it fails, by a router that was made before. The only error is out of memory.
 #[tactic(auto, unfolding(crate::specs::Asked::asked_of))]
-pub(crate) fn asked_of(alloc: Global, paths: &Paths, request: &Request) -> Result<Asked, AllocError>
+pub fn route_request(alloc: Global, paths: &Paths, request: &Request) -> Result<Asked, AllocError>
     ensures { IfOk result (λ asked. asked ≡ asked_of request.now) }
 {
     match told_length(request.fields.as_slice()) {
@@ -190,7 +190,16 @@ fn names_version(route: Route) -> bool
 {
     match route {
         Route::Version | Route::VersionSchema | Route::CheckOne => true,
-        _ => false,
+        Route::SchemaById
+        | Route::IdVersions
+        | Route::Subjects
+        | Route::Subject
+        | Route::Versions
+        | Route::CheckAll
+        | Route::Level
+        | Route::SubjectLevel
+        | Route::Mode
+        | Route::SubjectMode => false,
     }
 }
 

@@ -9,6 +9,7 @@ mod request;
 mod types;
 
 pub use asked::Asked;
-pub use reg_messages::Field;
+pub use asking::route_request;
+pub use reg_messages::HeaderField;
 pub use reg_routes::Paths;
 pub use request::Request;

@@ -3,10 +3,10 @@ ghost use Rattle.std.specs.Prelude.{◌≡◌, IfOk};
 ghost use Rattle.reg_requests.specs.Asked.{asked_of};
 
 use crate::asked::Asked;
-use crate::asking::asked_of;
+use crate::asking::route_request;
 use base_text::{Listed, Text};
 use http::Method;
-use reg_messages::Field;
+use reg_messages::HeaderField;
 use reg_routes::Paths;
 use std::alloc::{AllocError, Global};
 
@@ -16,7 +16,7 @@ pub struct Request {
     pub method: Method,
     /// As it was sent, with its escapes.
     pub target: Text,
-    pub fields: Listed<Field>,
+    pub fields: Listed<HeaderField>,
     /// `None` where the input ended in it.
     pub body: Option<Listed<u8>>,
 }
@@ -28,13 +28,6 @@ impl Request {
         ensures { IfOk result (λ asked. asked ≡ asked_of self.now) }
     {
         let paths = Paths::new(alloc)?;
-        self.route_by(alloc, &paths)
-    }
-
-    /// The same, by a router that was made before.
-    pub fn route_by(&self, alloc: Global, paths: &Paths) -> Result<Asked, AllocError>
-        ensures { IfOk result (λ asked. asked ≡ asked_of self.now) }
-    {
-        asked_of(alloc, paths, self)
+        route_request(alloc, &paths, self)
     }
 }

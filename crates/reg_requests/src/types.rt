@@ -3,10 +3,10 @@ ghost use Rattle.std.specs.Prelude.{◌≡◌};
 ghost use Rattle.std.specs.List.{before_first};
 ghost use Rattle.reg_requests.specs.Types.{has_accepted_types, is_accepted, is_semicolon};
 
-use reg_messages::{Field, find_value, trim_ows};
+use reg_messages::{HeaderField, find_value, trim_ows};
 
 /// Whether each Content-Type field has an accepted type.
-pub(crate) fn has_accepted_types(fields: &[Field]) -> bool
+pub(crate) fn has_accepted_types(fields: &[HeaderField]) -> bool
     ensures { result ≡ has_accepted_types fields.now }
 {
     let mut left = fields;

@@ -15,13 +15,21 @@ use Rattle.reg_lookup.specs.declared.answered.Answer.{Answer}
 use Rattle.reg_lookup.specs.declared.query.Query.TheVariants as queries
 use Rattle.reg_fold.specs.Entries.{entries}
 use Rattle.reg_fold.specs.InForce.{level}
+use Rattle.reg_refusals.specs.Refusal.{status_of}
+use Rattle.reg_refusals.specs.declared.reason.StoreFault.{StoreFault}
+use Rattle.reg_refusals.specs.declared.reason.StoreFault.TheVariants as faults
 use Rattle.reg_refusals.specs.declared.refusal.Refusal.{Refusal}
 use Rattle.reg_refusals.specs.declared.refusal.Refusal.TheVariants as refusals
 use Rattle.reg_responses.specs.Phrases.{AnswersHavePhrases, HasPhrase, RefusalsHavePhrases, RepliesHavePhrases}
 use Rattle.reg_responses.specs.Reply.{reply_answer}
 
+of_fault : (fault : StoreFault) → HasPhrase (status_of (refusals.Store fault))
+of_fault faults.Memory = refl
+of_fault other = refl
+
 pub of_refusal : RefusalsHavePhrases
 of_refusal refusals.BadRequest = refl
+of_refusal (refusals.Store fault) = of_fault fault
 of_refusal other = refl
 
 of_answer_with : (told : Result (List ℕ) Refusal) → HasPhrase (answer_with told).status

@@ -11,7 +11,7 @@ mod respond;
 mod writing;
 
 pub use laws::statuses_have_phrases;
-pub use limits::{INTERRUPTION_LIMIT, limits_are_as_written};
+pub use limits::{INTERRUPTION_LIMIT, response_limits_are_as_written};
 pub use reply::reply_answer;
 pub use respond::{write_answer, write_no_memory, write_refusal, write_reply};
 pub use writing::{WriteFault, write_whole};

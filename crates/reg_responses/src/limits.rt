@@ -5,6 +5,6 @@ ghost use Rattle.std.specs.Prelude.{◌≡◌};
 pub const INTERRUPTION_LIMIT: u64 = 1_048_576;
 
 /// The limit, in digits.
-pub fn limits_are_as_written()
+pub fn response_limits_are_as_written()
     ensures { INTERRUPTION_LIMIT ≡ 1048576 }
 {}

@@ -1,3 +1,4 @@
+pub mod LookedAt
 pub mod Newest
 pub mod Numbering
 pub mod Verdicts

@@ -13,11 +13,13 @@ use base_text::Text;
 use reg_entries::texts_of;
 use reg_fold::{Registry, entries_are_read};
 use reg_level_names::Level;
-use reg_levels::{Judged, LevelVerdict, check_read_texts};
+use reg_levels::{Judged, LevelVerdict, check_read_texts, looked_at};
 use std::alloc::{AllocError, Global};
 
-/// The message of the first pair that clashes, by the judgement if it fits, else by a new one;
-/// `None` where the level is met. The only error is out of memory.
+/// The message of the first pair that clashes, by the judgement if it was made of the live versions that
+/// the level looks at, else by a new one; `None` where the level is met. The only error is out of memory.
+///
+/// The texts of other versions aren't touched.
 pub fn clash_of(
     alloc: Global,
     registry: &Registry,
@@ -30,7 +32,7 @@ pub fn clash_of(
     live_versions_are_read();
     let level = registry.level(Some(subject.as_str()));
     let live = registry.live(subject.as_str())?;
-    let texts = texts_of(alloc, &live)?;
+    let texts = texts_of(alloc, looked_at(level, &live))?;
     if let Some(judged) = fitting(judged, level, schema.normal().as_str(), &texts) {
         return judged.verdict().message(alloc);
     }

@@ -16,7 +16,7 @@ use Rattle.reg_lookup.specs.declared.answered.Answer.{Answer}
 use Rattle.reg_lookup.specs.declared.query.Query.{Query}
 use Rattle.reg_topic.specs.declared.published.Item.{Item}
 use Rattle.reg_shared.specs.Held.{Held, base_of, topic_at}
-use Rattle.reg_kept.specs.Floors.{rebased}
+use Rattle.reg_floored.specs.Floors.{rebased}
 use Rattle.reg_node.specs.Takes.{IsDraw, floor_with, with_draw}
 use Rattle.reg_node.specs.declared.take.Draw.TheVariants as drawn
 use Rattle.reg_node.specs.declared.take.Draw.{Draw}
@@ -27,7 +27,7 @@ use Rattle.reg_world.specs.declared.event.Event.TheVariants as events
 use Rattle.reg_world.specs.declared.event.Fate.TheVariants.{Published}
 use Rattle.reg_world.specs.declared.event.Outcome.{Outcome}
 use Rattle.reg_world.specs.declared.event.Outcome.TheVariants as outcomes
-use Rattle.reg_world.specs.declared.node.Node.{Node}
+use Rattle.reg_world.specs.declared.node.WorldNode.{WorldNode}
 use Rattle.reg_running.specs.Running.{Act, Carried, Dropped, Deed, Drew, IsAct, items_of, draws}
 use Rattle.reg_running.specs.Woven.{ByNode, ByPen, event_of, outcome_of}
 
@@ -41,18 +41,18 @@ happens_allowed s t e o fine level d =
     (sym fine)
     (subst (λ b. MatchBool b (Does s e o t) ((o ≡ outcomes.FloorsDiffer) × (t ≡ s))) (sym level) d)
 
-abbrev pub node_with : Records → ℕ → Records → Node
+abbrev pub node_with : Records → ℕ → Records → WorldNode
 node_with set floor took = record { set = record { records = set; floor = floor }; took = took }
 
 -- the node after it did that
-abbrev pub with_deeds : Node → List Deed → Node
+abbrev pub with_deeds : WorldNode → List Deed → WorldNode
 with_deeds n deeds =
     node_with (fold with_draw n.set.records (draws deeds)) (fold floor_with n.set.floor (draws deeds)) (fold with_draw n.took (draws deeds))
 
-abbrev pub state_of : Held → List Item → List Node → State
+abbrev pub state_of : Held → List Item → List WorldNode → State
 state_of first items nodes = record { base = base_of first; items = items; unsettled = None; nodes = nodes }
 
-pub is_there : (nodes : List Node) (i : ℕ) → i < length nodes → is_some (slice_get nodes i) ≡ true
+pub is_there : (nodes : List WorldNode) (i : ℕ) → i < length nodes → is_some (slice_get nodes i) ≡ true
 is_there [] i h = absurd (omega arith)
 is_there (n ∷ nodes) zero h = refl
 is_there (n ∷ nodes) (suc i) h = is_there nodes i (omega arith)
@@ -66,7 +66,7 @@ or_turned true false = refl
 or_turned false true = refl
 or_turned false false = refl
 
-module _ (first : Held) (from : List Item) (nodes : List Node) where
+module _ (first : Held) (from : List Item) (nodes : List WorldNode) where
   -- an act of the pen's
   pub act_happens : (a : Act) → IsAct (length nodes) (topic_at first from) a
       → Happens (state_of first from nodes) (event_of (ByPen a)) (outcome_of (ByPen a)) (state_of first (from ++ items_of a) nodes)
@@ -92,51 +92,51 @@ module _ (first : Held) (from : List Item) (nodes : List Node) where
       happens_allowed (state_of first from nodes) _ (events.CompactTo c.floor c.dropped) outcomes.Done may refl (refl, refl)
 
   -- an answer
-  pub answer_happens : (i : ℕ) (n : Node) (query : Query) (answer : Answer)
+  pub answer_happens : (i : ℕ) (n : WorldNode) (query : Query) (answer : Answer)
       → slice_get nodes i ≡ Some n → IsAnswer (last_records n.set.records) query answer
       → Happens (state_of first from nodes) (events.Lookup i query) (outcomes.Answered answer) (state_of first from nodes)
   answer_happens i n query answer there is =
       happens_allowed (state_of first from nodes) (state_of first from nodes)
       (events.Lookup i query) (outcomes.Answered answer) (ap is_some there) refl (
         answer,
-        subst (λ o. IsAnswer (last_records (option_map_or (λ (node : Node). node.set) o no_records.set).records) query answer)
+        subst (λ o. IsAnswer (last_records (option_map_or (λ (node : WorldNode). node.set) o no_records.set).records) query answer)
             (sym there) is,
         refl,
         refl,
       )
 
   -- what a draw does to its node
-  abbrev pub drawing : Draw → Node → Node
+  abbrev pub drawing : Draw → WorldNode → WorldNode
   drawing (drawn.Take t) = taking (from_list (t.kept ∷ []))
   drawing (drawn.Rebase r) = rebasing (topic_at first from).kept
 
   -- a draw
-  pub draw_happens : (i : ℕ) (n : Node) (d : Draw) → slice_get nodes i ≡ Some n → IsDraw first from n.set.records n.set.floor d
+  pub draw_happens : (i : ℕ) (n : WorldNode) (d : Draw) → slice_get nodes i ≡ Some n → IsDraw first from n.set.records n.set.floor d
       → Happens (state_of first from nodes) (event_of (ByNode i (Drew d))) outcomes.Done (state_of first from (changed i (drawing d) nodes))
   draw_happens i n (drawn.Take t) there is =
       happens_allowed (state_of first from nodes) _ (events.Take i (t.kept ∷ [])) outcomes.Done
       (and-true (ap is_some there) (and-true is.2 refl))
-      (ap (λ o. (option_map_or (λ (node : Node). node.set) o no_records.set).floor == (topic_at first from).kept.floor) there
+      (ap (λ o. (option_map_or (λ (node : WorldNode). node.set) o no_records.set).floor == (topic_at first from).kept.floor) there
       ∙ eq-eqb n.set.floor (topic_at first from).kept.floor is.1)
       (refl, refl)
   draw_happens i n (drawn.Rebase r) there is =
       happens_allowed (state_of first from nodes) _ (events.Rebase i) outcomes.Done (ap is_some there) refl (refl, refl)
 
 -- The nodes once one has changed.
-pub changed_one : (f : Node → Node) (nodes : List Node) (i : ℕ) (n : Node)
+pub changed_one : (f : WorldNode → WorldNode) (nodes : List WorldNode) (i : ℕ) (n : WorldNode)
     → slice_get nodes i ≡ Some n → slice_get (changed i f nodes) i ≡ Some (f n)
 changed_one f [] i n e = let no : None ≡ Some n = e in cc
 changed_one f (m ∷ nodes) zero n e = let same : m ≡ n = cc in ap (λ x. Some (f x)) same
 changed_one f (m ∷ nodes) (suc i) n e = changed_one f nodes i n e
 
-pub changed_other : (f : Node → Node) (nodes : List Node) (i j : ℕ) → (i ≡ j → ⊥) → slice_get (changed i f nodes) j ≡ slice_get nodes j
+pub changed_other : (f : WorldNode → WorldNode) (nodes : List WorldNode) (i j : ℕ) → (i ≡ j → ⊥) → slice_get (changed i f nodes) j ≡ slice_get nodes j
 changed_other f [] i j apart = refl
 changed_other f (m ∷ nodes) zero zero apart = absurd (apart refl)
 changed_other f (m ∷ nodes) zero (suc j) apart = refl
 changed_other f (m ∷ nodes) (suc i) zero apart = refl
 changed_other f (m ∷ nodes) (suc i) (suc j) apart = changed_other f nodes i j (λ e. apart (ap suc e))
 
-pub changed_count : (f : Node → Node) (nodes : List Node) (i : ℕ) → length (changed i f nodes) ≡ length nodes
+pub changed_count : (f : WorldNode → WorldNode) (nodes : List WorldNode) (i : ℕ) → length (changed i f nodes) ≡ length nodes
 changed_count f [] i = refl
 changed_count f (m ∷ nodes) zero = refl
 changed_count f (m ∷ nodes) (suc i) = ap suc (changed_count f nodes i)
@@ -149,7 +149,7 @@ module _ (order : IsTotalOrder record_cmp) (apart : IsAntisymmetric record_cmp) 
       ∙ (or_turned (contains s q) (eq_by_cmp record_cmp q r) ∙ sym (contains-insert order s r q))))
 
   -- the node with one draw more
-  pub with_one : (first : Held) (from : List Item) (nodes : List Node) (n : Node) (d : Draw) → n.took ≡ n.set.records
+  pub with_one : (first : Held) (from : List Item) (nodes : List WorldNode) (n : WorldNode) (d : Draw) → n.took ≡ n.set.records
       → IsDraw first from n.set.records n.set.floor d → drawing first from nodes d n ≡ with_deeds n (Drew d ∷ [])
   with_one first from nodes n (drawn.Take t) same is =
       λ i. node_with (one_more n.set.records t.kept i) n.set.floor (one_more n.took t.kept i)

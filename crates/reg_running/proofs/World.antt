@@ -15,7 +15,7 @@ use Rattle.reg_shared.specs.Held.{Held, base_of, topic_at}
 use Rattle.reg_node.specs.Takes.{AreDrawn, IsDraw, floor_with, with_draw}
 use Rattle.reg_node.specs.declared.take.Draw.{Draw}
 use Rattle.reg_world.specs.State.{changed, no_records}
-use Rattle.reg_world.specs.declared.node.Node.{Node}
+use Rattle.reg_world.specs.declared.node.WorldNode.{WorldNode}
 use Rattle.reg_running.specs.Running.{Act, AreActs, AreAnswers, Deed, Drew, Told, IsRunningNode, Running, items_of, published, draws}
 use Rattle.reg_running.specs.Woven.{ByNode, ByPen, Done, AreInPlace, HappensInTurn}
 use Rattle.reg_running.specs.Woven.{IsWoven, RunningNodesAreAWorld, acts_in}
@@ -27,33 +27,33 @@ use Rattle.reg_running.proofs.Steps.{changed_other, draw_happens, drawing, state
 use Rattle.reg_running.proofs.Steps.{with_deeds, with_one}
 
 -- what a node has yet to do is drawn from fronts of that list, and its answers are right
-pub record Fits (first : Held) (g : List Item) (n : Node) (deeds : List Deed) : Type 0 where
+pub record Fits (first : Held) (g : List Item) (n : WorldNode) (deeds : List Deed) : Type 0 where
   pub from : List Item
   pub drawn : AreDrawn first n.set.records n.set.floor from (draws deeds) g
   pub answers : AreAnswers n.set.records deeds
   pub same : n.took ≡ n.set.records
 
 -- so does each node
-abbrev pub AllFit : Held → List Item → List Node → List Done → Type 0
-AllFit first g nodes done = (i : ℕ) (n : Node) → slice_get nodes i ≡ Some n → Fits first g n (deeds_of i done)
+abbrev pub AllFit : Held → List Item → List WorldNode → List Done → Type 0
+AllFit first g nodes done = (i : ℕ) (n : WorldNode) → slice_get nodes i ≡ Some n → Fits first g n (deeds_of i done)
 
 -- where some of it leads: the items and the nodes there
-pub record Leads (first : Held) (from : List Item) (nodes : List Node) (done : List Done) : Type 0 where
-  pub ends : List Node
+pub record Leads (first : Held) (from : List Item) (nodes : List WorldNode) (done : List Done) : Type 0 where
+  pub ends : List WorldNode
   pub happens : HappensInTurn (state_of first from nodes) done (state_of first (from ++ published (acts_in done)) ends)
-  pub each : (i : ℕ) (n : Node) → slice_get nodes i ≡ Some n → slice_get ends i ≡ Some (with_deeds n (deeds_of i done))
+  pub each : (i : ℕ) (n : WorldNode) → slice_get nodes i ≡ Some n → slice_get ends i ≡ Some (with_deeds n (deeds_of i done))
 
-some_same : (a b : Node) → Some a ≡ Some b → a ≡ b
+some_same : (a b : WorldNode) → Some a ≡ Some b → a ≡ b
 some_same a b e = cc
 
-an_element : (nodes : List Node) (i : ℕ) → i < length nodes → (n : Node) × (slice_get nodes i ≡ Some n)
+an_element : (nodes : List WorldNode) (i : ℕ) → i < length nodes → (n : WorldNode) × (slice_get nodes i ≡ Some n)
 an_element [] i h = absurd (omega arith)
 an_element (n ∷ nodes) zero h = (n, refl)
 an_element (n ∷ nodes) (suc i) h = an_element nodes i (omega arith)
 
 module _ (order : IsTotalOrder record_cmp) (apart : IsAntisymmetric record_cmp) (first : Held) (g : List Item) where
   -- a draw in its place is from the front there
-  drawn_there : (from : List Item) (n : Node) (t : Draw) (deeds : List Deed) → IsPrefix from g
+  drawn_there : (from : List Item) (n : WorldNode) (t : Draw) (deeds : List Deed) → IsPrefix from g
       → read_of t ≡ length from → Fits first g n (Drew t ∷ deeds) → IsDraw first from n.set.records n.set.floor t
   drawn_there from n t deeds p place fits =
       let d = fits.drawn in
@@ -63,7 +63,7 @@ module _ (order : IsTotalOrder record_cmp) (apart : IsAntisymmetric record_cmp) 
       subst (λ f. IsDraw first f n.set.records n.set.floor t) (sym same) d.2
 
   -- the nodes after one of them drew
-  still_fit : (nodes : List Node) (i : ℕ) (n : Node) (t : Draw) (done : List Done) (f : Node → Node)
+  still_fit : (nodes : List WorldNode) (i : ℕ) (n : WorldNode) (t : Draw) (done : List Done) (f : WorldNode → WorldNode)
       → f n ≡ with_deeds n (Drew t ∷ []) → slice_get nodes i ≡ Some n
       → AllFit first g nodes (ByNode i (Drew t) ∷ done) → AllFit first g (changed i f nodes) done
   still_fit nodes i n t done f one there fits j m at = elim (eqb_tells i j) [
@@ -81,7 +81,7 @@ module _ (order : IsTotalOrder record_cmp) (apart : IsAntisymmetric record_cmp) 
   ]
 
   -- the nodes after one of them told an answer
-  fit_after_answer : (nodes : List Node) (i : ℕ) (query : _) (answer : _) (done : List Done)
+  fit_after_answer : (nodes : List WorldNode) (i : ℕ) (query : _) (answer : _) (done : List Done)
       → AllFit first g nodes (ByNode i (Told query answer) ∷ done) → AllFit first g nodes done
   fit_after_answer nodes i query answer done fits j m at = elim (eqb_tells i j) [
     | inl same ↦
@@ -91,10 +91,10 @@ module _ (order : IsTotalOrder record_cmp) (apart : IsAntisymmetric record_cmp) 
     | inr other ↦ subst (λ ds. Fits first g m ds) (other_deeds i j (Told query answer) done other.1) (fits j m at)
   ]
 
-  each_after_draw : (nodes ends : List Node) (i : ℕ) (n : Node) (t : Draw) (done : List Done) (f : Node → Node)
+  each_after_draw : (nodes ends : List WorldNode) (i : ℕ) (n : WorldNode) (t : Draw) (done : List Done) (f : WorldNode → WorldNode)
       → f n ≡ with_deeds n (Drew t ∷ []) → slice_get nodes i ≡ Some n
-      → ((j : ℕ) (m : Node) → slice_get (changed i f nodes) j ≡ Some m → slice_get ends j ≡ Some (with_deeds m (deeds_of j done)))
-      → (j : ℕ) (m : Node) → slice_get nodes j ≡ Some m → slice_get ends j ≡ Some (with_deeds m (deeds_of j (ByNode i (Drew t) ∷ done)))
+      → ((j : ℕ) (m : WorldNode) → slice_get (changed i f nodes) j ≡ Some m → slice_get ends j ≡ Some (with_deeds m (deeds_of j done)))
+      → (j : ℕ) (m : WorldNode) → slice_get nodes j ≡ Some m → slice_get ends j ≡ Some (with_deeds m (deeds_of j (ByNode i (Drew t) ∷ done)))
   each_after_draw nodes ends i n t done f one there each j m at = elim (eqb_tells i j) [
     | inl same ↦
         let is : n ≡ m = some_same n m (sym (subst (λ k. slice_get nodes k ≡ Some n) same.1 there) ∙ at) in
@@ -106,9 +106,9 @@ module _ (order : IsTotalOrder record_cmp) (apart : IsAntisymmetric record_cmp) 
         ∙ ap (λ ds. Some (with_deeds m ds)) (sym (other_deeds i j (Drew t) done other.1))
   ]
 
-  each_after_answer : (nodes ends : List Node) (i : ℕ) (query : _) (answer : _) (done : List Done)
-      → ((j : ℕ) (m : Node) → slice_get nodes j ≡ Some m → slice_get ends j ≡ Some (with_deeds m (deeds_of j done)))
-      → (j : ℕ) (m : Node) → slice_get nodes j ≡ Some m
+  each_after_answer : (nodes ends : List WorldNode) (i : ℕ) (query : _) (answer : _) (done : List Done)
+      → ((j : ℕ) (m : WorldNode) → slice_get nodes j ≡ Some m → slice_get ends j ≡ Some (with_deeds m (deeds_of j done)))
+      → (j : ℕ) (m : WorldNode) → slice_get nodes j ≡ Some m
       → slice_get ends j ≡ Some (with_deeds m (deeds_of j (ByNode i (Told query answer) ∷ done)))
   each_after_answer nodes ends i query answer done each j m at = elim (eqb_tells i j) [
     | inl same ↦ each j m at ∙ ap (λ ds. Some (with_deeds m ds)) (sym (own_deeds i j (Told query answer) done same.1))
@@ -116,7 +116,7 @@ module _ (order : IsTotalOrder record_cmp) (apart : IsAntisymmetric record_cmp) 
   ]
 
   -- what is done from there on
-  leads : (done rest : List Done) (from : List Item) (nodes : List Node) (read : ℕ)
+  leads : (done rest : List Done) (from : List Item) (nodes : List WorldNode) (read : ℕ)
       → read ≡ length from → g ≡ from ++ published (acts_in (done ++ rest))
       → AreActs (length nodes) (topic_at first from) (acts_in (done ++ rest)) → AreInPlace read (done ++ rest)
       → ((i : ℕ) (deed : Deed) (before after : List Done) → done ++ rest ≡ before ++ ByNode i deed ∷ after → i < length nodes)
@@ -165,9 +165,9 @@ module _ (order : IsTotalOrder record_cmp) (apart : IsAntisymmetric record_cmp) 
       subst (λ ds. Fits first g n.0 ds) (own_deeds i i (Drew t) (done ++ rest) refl) (fits i n.0 n.1) in
       let front : IsPrefix from g = (published (acts_in (done ++ rest)), sym all) in
       let is_draw = drawn_there from n.0 t (deeds_of i (done ++ rest)) front (places.0 ∙ is) fit in
-      let f : Node → Node = drawing first from nodes t in
+      let f : WorldNode → WorldNode = drawing first from nodes t in
       let one : f n.0 ≡ with_deeds n.0 (Drew t ∷ []) = with_one order apart first from nodes n.0 t fit.same is_draw in
-      let after : List Node = changed i f nodes in
+      let after : List WorldNode = changed i f nodes in
       let count : length after ≡ length nodes = changed_count f nodes i in
       let there = leads done rest from after read is all (
       subst (λ c. AreActs c (topic_at first from) (acts_in (done ++ rest))) (sym count) are) places.1
@@ -190,7 +190,7 @@ begins_so zero i h = absurd (omega arith)
 begins_so (suc n) zero h = refl
 begins_so (suc n) (suc i) h = begins_so n i (omega arith)
 
-begins_with : (count i : ℕ) (n : Node) → slice_get (replicate count no_records) i ≡ Some n → (i < count) × (no_records ≡ n)
+begins_with : (count i : ℕ) (n : WorldNode) → slice_get (replicate count no_records) i ≡ Some n → (i < count) × (no_records ≡ n)
 begins_with zero i n e = let no : None ≡ Some n = e in absurd cc
 begins_with (suc c) zero n e = (omega arith, some_same no_records n e)
 begins_with (suc c) (suc i) n e = let h = begins_with c i n e in (omega (arith, h.0), h.1)
@@ -227,7 +227,7 @@ by_a_node r done woven i deed before after e = elim (less_or_not i (length r.nod
 pub are_a_world : IsTotalOrder record_cmp → IsAntisymmetric record_cmp → RunningNodesAreAWorld
 are_a_world order apart r h done rest woven =
     let count = length r.nodes in
-    let nodes : List Node = replicate count no_records in
+    let nodes : List WorldNode = replicate count no_records in
     let g : List Item = published r.acts in
     let goes : g ≡ published (acts_in (done ++ rest)) = ap published (sym woven.acts) in
     let acts : AreActs (length nodes) (base_of r.first) (acts_in (done ++ rest)) =

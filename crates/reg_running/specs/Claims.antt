@@ -1,7 +1,7 @@
 -- The headline's claims, of nodes that run.
 use Rattle.std.specs.Prelude.{◌≡◌, ℕ, List, [], ◌∷◌, ◌++◌, get_or, map}
-use Rattle.reg_kept.specs.Compaction.{IsCompactionOf}
-use Rattle.reg_kept.specs.Floored.{Floored}
+use Rattle.reg_floored.specs.Compaction.{IsCompactionOf}
+use Rattle.reg_floored.specs.Floored.{Floored}
 use Rattle.reg_topic.specs.Promises.{IdsAreForGood, MetLevels}
 use Rattle.reg_lookup.specs.declared.answered.Answer.{Answer}
 use Rattle.reg_lookup.specs.declared.query.Query.{Query}

@@ -11,7 +11,7 @@ use Rattle.reg_world.specs.declared.event.Event.TheVariants as events
 use Rattle.reg_world.specs.declared.event.Fate.TheVariants.{Published}
 use Rattle.reg_world.specs.declared.event.Outcome.{Outcome}
 use Rattle.reg_world.specs.declared.event.Outcome.TheVariants as outcomes
-use Rattle.reg_world.specs.declared.node.Node.{Node}
+use Rattle.reg_world.specs.declared.node.WorldNode.{WorldNode}
 use Rattle.reg_running.specs.Running.{Act, Carried, Dropped, Deed, Drew, Told, IsRunning, Running, items_of, published, draws}
 
 -- what was done: an act of the pen's, or a deed of a node's
@@ -70,7 +70,7 @@ abbrev pub beginning : Running → State
 beginning r = start (base_of r.first) (length r.nodes)
 
 -- a node that took exactly what that one took
-abbrev pub node_of : List Deed → Node
+abbrev pub node_of : List Deed → WorldNode
 node_of deeds = record { set = taken_set (draws deeds); took = taken (draws deeds) }
 
 -- the world that some of what was done leads to: its items are what was published, and its nodes took what the running ones took

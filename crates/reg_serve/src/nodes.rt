@@ -1,10 +1,10 @@
-// Nodes: where each listens, its doorkeeper, its workers, and the thread that follows the topic.
+// Nodes: where each listens, its poller, its workers, and the thread that follows the topic.
 ghost use Rattle.std.specs.Prelude.{true, IsOk, OnOk};
 
-use crate::doorkeeper::{Doorkeeper, EVENTS};
-use crate::hall::Hall;
 use crate::latch::Latch;
-use crate::worker::{Bench, work};
+use crate::poller::{EVENTS, Poller};
+use crate::shared_state::SharedState;
+use crate::worker::{WorkerState, work};
 use mio::{Events, Poll};
 use reg_connection::Limits;
 use reg_conversation::SharedDesk;
@@ -32,20 +32,20 @@ pub trait Follow {
     fn grown(&self) -> &Parker;
 }
 
-/// A node: where it listens, who follows the topic for it, and what its doorkeeper and its workers share.
+/// A node: where it listens, who follows the topic for it, and what its poller and its workers share.
 #[derive(Drop)]
-pub struct Node<'a, F: Drop, T: Drop> {
+pub struct NodeServer<'a, F: Drop, T: Drop> {
     listener: &'a TcpListener,
     follower: F,
     workers: usize,
     limits: Limits,
-    hall: Hall<T>,
+    shared: SharedState<T>,
     poll: Mutex<Poll>,
     /// How many of its threads but the follower's haven't ended.
     at_work: AtomicU64,
 }
 
-impl<'a, F: Drop, T: Drop> Node<'a, F, T> {
+impl<'a, F: Drop, T: Drop> NodeServer<'a, F, T> {
     /// A node that isn't opened yet, with room for so many workers. Fails where memory, a descriptor or
     /// the listener's options are refused.
     pub fn new(
@@ -55,14 +55,14 @@ impl<'a, F: Drop, T: Drop> Node<'a, F, T> {
         follower: F,
         workers: usize,
         limits: Limits,
-    ) -> io::Result<Node<'a, F, T>> {
-        let (hall, poll) = Hall::open(net, alloc, listener, limits.connections, workers)?;
-        Ok(Node {
+    ) -> io::Result<NodeServer<'a, F, T>> {
+        let (shared, poll) = SharedState::open(net, alloc, listener, limits.connections, workers)?;
+        Ok(NodeServer {
             listener,
             follower,
             workers,
             limits,
-            hall,
+            shared,
             poll: Mutex::new(poll),
             at_work: AtomicU64::new(0),
         })
@@ -79,7 +79,7 @@ impl From<AllocError> for StartError {
     }
 }
 
-/// Starts a node's threads, which wait at the latch: the doorkeeper, a worker for each desk, and the
+/// Starts a node's threads, which wait at the latch: the poller, a worker for each desk, and the
 /// follower. The node ends once its follower says that it is over, and with a limit once so many of its
 /// connections were closed. Fails where a thread can't be made, or the memory that it begins with; those
 /// that were made still wait at the latch.
@@ -95,25 +95,25 @@ pub fn open_node<
     rt: &'s R,
     alloc: Global,
     latch: &'s Latch,
-    node: &'s Node<'s, F, T>,
+    node: &'s NodeServer<'s, F, T>,
     desks: Vec<D>,
     limit: Option<u64>,
 ) -> Result<(), StartError> {
     for desk in desks {
-        let bench = Bench::new(alloc)?;
+        let state = WorkerState::new(alloc)?;
         node.at_work.fetch_add(1, Ordering::SeqCst);
         if scope
-            .spawn(move || serve_at(rt, alloc, latch, node, bench, desk))
+            .spawn(move || serve_at(rt, alloc, latch, node, state, desk))
             .is_err()
         {
             return Err(StartError);
         }
     }
-    let doorkeeper = Doorkeeper::new(alloc, node.listener, &node.hall, node.limits)?;
+    let poller = Poller::new(alloc, node.listener, &node.shared, node.limits)?;
     let events = Events::with_capacity(alloc, EVENTS)?;
     node.at_work.fetch_add(1, Ordering::SeqCst);
     if scope
-        .spawn(move || keep_door(rt, latch, node, doorkeeper, events, limit))
+        .spawn(move || poll_at(rt, latch, node, poller, events, limit))
         .is_err()
     {
         return Err(StartError);
@@ -129,45 +129,49 @@ fn serve_at<R: Wait, D: SharedDesk + Drop, F: Follow + Drop>(
     rt: &R,
     alloc: Global,
     latch: &Latch,
-    node: &Node<'_, F, D::Standing>,
-    bench: Bench,
+    node: &NodeServer<'_, F, D::Standing>,
+    state: WorkerState,
     desk: D,
 ) {
-    let mut bench = bench;
+    let mut state = state;
     let mut desk = desk;
     if latch.pass(rt) {
-        work(rt, alloc, &node.hall, &mut bench, &mut desk);
+        work(rt, alloc, &node.shared, &mut state, &mut desk);
     }
     leave_work(node);
 }
 
-/// What the doorkeeper's thread does.
-fn keep_door<R: Wait + Clock, T: Drop, F: Follow + Drop>(
+/// What the poller's thread does.
+fn poll_at<R: Wait + Clock, T: Drop, F: Follow + Drop>(
     rt: &R,
     latch: &Latch,
-    node: &Node<'_, F, T>,
-    doorkeeper: Doorkeeper<'_, T>,
+    node: &NodeServer<'_, F, T>,
+    poller: Poller<'_, T>,
     events: Events,
     limit: Option<u64>,
 ) {
-    let mut doorkeeper = doorkeeper;
+    let mut poller = poller;
     let mut events = events;
     if latch.pass(rt) {
         let mut poll = node.poll.lock(rt);
-        doorkeeper.keep(rt, &mut poll, &mut events, limit);
-        node.hall.end(rt, node.workers);
+        poller.run(rt, &mut poll, &mut events, limit);
+        node.shared.end(rt, node.workers);
     }
     leave_work(node);
 }
 
 /// A thread has ended.
-fn leave_work<T: Drop, F: Follow + Drop>(node: &Node<'_, F, T>) {
+fn leave_work<T: Drop, F: Follow + Drop>(node: &NodeServer<'_, F, T>) {
     node.at_work.fetch_sub(1, Ordering::SeqCst);
     node.follower.grown().unpark();
 }
 
 /// What a follower's thread does, until all others have ended.
-fn follow_at<R: Wait, T: Drop, F: Follow + Drop>(rt: &R, latch: &Latch, node: &Node<'_, F, T>) {
+fn follow_at<R: Wait, T: Drop, F: Follow + Drop>(
+    rt: &R,
+    latch: &Latch,
+    node: &NodeServer<'_, F, T>,
+) {
     if !latch.pass(rt) {
         return;
     }
@@ -179,7 +183,7 @@ fn follow_at<R: Wait, T: Drop, F: Follow + Drop>(rt: &R, latch: &Latch, node: &N
         node.follower.grown().park_timeout(rt, within);
         node.follower.follow();
         if node.follower.is_over() {
-            node.hall.close();
+            node.shared.close();
         }
     }
 }

@@ -5,7 +5,7 @@ ghost use Rattle.reg_connection.specs.declared.turn_kinds.TurnKind.TheVariants a
 ghost use Rattle.reg_serve.specs.Turns.{is_free};
 ghost use Rattle.reg_serve.specs.Waiting.{TakesUp};
 
-use crate::taken::Taken;
+use crate::taken::TurnCounts;
 use reg_connection::TurnKind;
 use std::alloc::{AllocError, AllocFailed, Global};
 use std::collections::VecDeque;
@@ -14,7 +14,7 @@ use std::collections::VecDeque;
 /// that is free.
 #[derive(Drop)]
 pub struct Queues<C: Drop> {
-    taken: Taken,
+    taken: TurnCounts,
     commands: VecDeque<C>,
     checks: VecDeque<C>,
     ghost commands_wait: { 0 < deque_len commands → is_free kinds.Command taken ≡ false },
@@ -32,7 +32,7 @@ impl<C: Drop> Queues<C> {
         ensures { IfOk result (λ made. made.taken ≡ none_taken workers) }
     {
         Ok(Queues {
-            taken: Taken::none(workers),
+            taken: TurnCounts::none(workers),
             commands: VecDeque::with_capacity(alloc, room)?,
             checks: VecDeque::with_capacity(alloc, room)?,
         })
@@ -92,7 +92,7 @@ impl<C: Drop> Queues<C> {
 
 /// Gives a turn, if it is free, to who has waited longest for it.
 fn take_up<C: Drop>(
-    taken: &mut Taken,
+    taken: &mut TurnCounts,
     kind: TurnKind,
     waiting: &mut VecDeque<C>,
 ) -> Option<(TurnKind, C)>

@@ -8,13 +8,13 @@ use std::marker::Model;
 
 /// How many workers a node has, and how many of them have a turn of each kind.
 #[derive(Debug, Drop)]
-pub struct Taken {
+pub struct TurnCounts {
     workers: usize,
     commands: usize,
     checks: usize,
 }
 
-impl Model for Taken {
+impl Model for TurnCounts {
     ghost use Rattle.reg_serve.specs.Turns.{Counts, IsWithin};
 
     ghost Value = { Counts };
@@ -24,12 +24,12 @@ impl Model for Taken {
     ghost invariant = { λ t. IsWithin (record { workers = t.workers; commands = t.commands; checks = t.checks }) };
 }
 
-impl Taken {
+impl TurnCounts {
     /// None is taken.
-    pub fn none(workers: usize) -> Taken
+    pub fn none(workers: usize) -> TurnCounts
         ensures { result ≡ none_taken workers }
     {
-        Taken {
+        TurnCounts {
             workers,
             commands: 0,
             checks: 0,

@@ -8,7 +8,7 @@ ghost use Rattle.reg_connection.specs.Answering.{AnswersKnowing, HasLearnt};
 ghost use Rattle.reg_connection.specs.TurnKinds.{kind_in};
 ghost use Rattle.reg_serve.specs.Ready.{IsReady};
 
-use crate::hall::{Hall, Returned};
+use crate::shared_state::{Returned, SharedState};
 use crate::turns::{Leave, take_up};
 use reg_connection::{
     Connection, Stream, Turn, TurnKind, answer_last, answer_one, send_some, turn_kind,
@@ -34,7 +34,7 @@ const CALM: u64 = 3;
 
 /// What a worker keeps from one connection to the next.
 #[derive(Drop)]
-pub(crate) struct Bench {
+pub(crate) struct WorkerState {
     paths: Option<Paths>,
     /// Answers that aren't sent yet.
     out: Vec<u8>,
@@ -43,12 +43,12 @@ pub(crate) struct Bench {
     calm: u64,
 }
 
-impl Bench {
+impl WorkerState {
     /// A worker's, with all the memory that it needs before the first connection.
-    pub(crate) fn new(alloc: Global) -> Result<Bench, AllocError> {
+    pub(crate) fn new(alloc: Global) -> Result<WorkerState, AllocError> {
         let mut buffer = Vec::new(alloc);
         buffer.resize(READ_SIZE, 0u8)?;
-        Ok(Bench {
+        Ok(WorkerState {
             paths: Some(Paths::new(alloc)?),
             out: Vec::new(alloc),
             buffer,
@@ -81,7 +81,7 @@ enum After {
     GoesOn,
     /// It waits for a turn.
     Queues(TurnKind),
-    /// The doorkeeper waits for its client.
+    /// The poller waits for its client.
     Returns,
     /// It is closed.
     Over,
@@ -91,25 +91,25 @@ enum After {
 pub(crate) fn work<R: Wait, D: SharedDesk>(
     rt: &R,
     alloc: Global,
-    hall: &Hall<D::Standing>,
-    bench: &mut Bench,
+    shared: &SharedState<D::Standing>,
+    state: &mut WorkerState,
     desk: &mut D,
 ) {
     for _ in rt.forever() {
-        let Some(connection) = hall.take(rt) else {
+        let Some(connection) = shared.take(rt) else {
             return;
         };
-        attend(rt, alloc, hall, bench, desk, connection);
+        serve_connection(rt, alloc, shared, state, desk, connection);
     }
 }
 
 /// Answers what is whole on a connection, and stays with it while each other one that is ready has a
 /// worker, once that was so some times in a row. Before it leaves one it looks whether more has come.
-fn attend<R: Wait, D: SharedDesk>(
+fn serve_connection<R: Wait, D: SharedDesk>(
     rt: &R,
     alloc: Global,
-    hall: &Hall<D::Standing>,
-    bench: &mut Bench,
+    shared: &SharedState<D::Standing>,
+    state: &mut WorkerState,
     desk: &mut D,
     connection: Connection<TcpStream, D::Standing>,
 ) {
@@ -117,25 +117,25 @@ fn attend<R: Wait, D: SharedDesk>(
     let mut stays = false;
     let mut after = After::GoesOn;
     for _ in 0..u64::MAX {
-        after = take_turn(rt, alloc, hall, bench, desk, &mut connection);
-        if after == After::GoesOn && hall.is_calm() {
+        after = take_turn(rt, alloc, shared, state, desk, &mut connection);
+        if after == After::GoesOn && shared.is_calm() {
             continue;
         }
         if after != After::Rests {
             break;
         }
-        if !is_lull(hall, bench) {
+        if !is_lull(shared, state) {
             if !stays {
-                after = look(bench, &mut connection);
+                after = look(state, &mut connection);
             }
             break;
         }
-        if !stays && !stay(hall, &mut connection) {
+        if !stays && !stay(shared, &mut connection) {
             after = After::Over;
             break;
         }
         stays = true;
-        match connection.receive(&mut bench.buffer) {
+        match connection.receive(&mut state.buffer) {
             Turn::Ready => {}
             Turn::Over => {
                 after = After::Over;
@@ -147,12 +147,12 @@ fn attend<R: Wait, D: SharedDesk>(
     if stays && connection.stream.set_patient(false).is_err() {
         after = After::Over;
     }
-    leave(rt, hall, connection, after);
+    leave(rt, shared, connection, after);
 }
 
-/// Reads once what is there of the next request, so that the doorkeeper needn't look before anything comes.
-fn look<T: Drop>(bench: &mut Bench, connection: &mut Connection<TcpStream, T>) -> After {
-    match connection.receive(&mut bench.buffer) {
+/// Reads once what is there of the next request, so that the poller needn't look before anything comes.
+fn look<T: Drop>(state: &mut WorkerState, connection: &mut Connection<TcpStream, T>) -> After {
+    match connection.receive(&mut state.buffer) {
         Turn::Ready => After::GoesOn,
         Turn::Over => After::Over,
         Turn::Waits | Turn::Again => After::Rests,
@@ -163,14 +163,14 @@ fn look<T: Drop>(bench: &mut Bench, connection: &mut Connection<TcpStream, T>) -
 fn take_turn<R: Wait, D: SharedDesk>(
     rt: &R,
     alloc: Global,
-    hall: &Hall<D::Standing>,
-    bench: &mut Bench,
+    shared: &SharedState<D::Standing>,
+    state: &mut WorkerState,
     desk: &mut D,
     connection: &mut Connection<TcpStream, D::Standing>,
 ) -> After {
     let mut answered = Answered::All;
     for _ in 0..u64::MAX {
-        match answer_next(rt, alloc, hall, bench, desk, connection) {
+        match answer_in_turn(rt, alloc, shared, state, desk, connection) {
             None => {}
             Some(last) => {
                 answered = last;
@@ -178,35 +178,35 @@ fn take_turn<R: Wait, D: SharedDesk>(
             }
         }
     }
-    let after = send_out(alloc, bench, connection, answered);
-    if bench.out.capacity() > 2 * GATHERED {
-        bench.out = Vec::new(alloc);
+    let after = send_out(alloc, state, connection, answered);
+    if state.out.capacity() > 2 * GATHERED {
+        state.out = Vec::new(alloc);
     }
-    bench.out.clear();
+    state.out.clear();
     after
 }
 
 /// Answers the next request. None where this isn't the end of the turn.
-fn answer_next<R: Wait, D: SharedDesk>(
+fn answer_in_turn<R: Wait, D: SharedDesk>(
     rt: &R,
     alloc: Global,
-    hall: &Hall<D::Standing>,
-    bench: &mut Bench,
+    shared: &SharedState<D::Standing>,
+    state: &mut WorkerState,
     desk: &mut D,
     connection: &mut Connection<TcpStream, D::Standing>,
 ) -> Option<Answered> {
     let Some(len) = connection.conversation.front_len() else {
-        return Some(answer_end(alloc, bench, desk, connection));
+        return Some(answer_end(alloc, state, desk, connection));
     };
-    let leave = match be_ready(rt, hall, bench, connection) {
+    let leave = match be_ready(rt, shared, state, connection) {
         Ok(leave) => leave,
         Err(last) => return Some(last),
     };
-    let goes_on = answer_front(alloc, bench, desk, connection, len, &leave);
-    end_turn(rt, hall, leave);
+    let goes_on = answer_front(alloc, state, desk, connection, len, &leave);
+    end_turn(rt, shared, leave);
     match goes_on {
         Ok(true) => {
-            if bench.out.len() >= GATHERED {
+            if state.out.len() >= GATHERED {
                 Some(Answered::Full)
             } else {
                 None
@@ -221,7 +221,7 @@ fn answer_next<R: Wait, D: SharedDesk>(
 /// a turn of commands alone, once all answers before it are sent, and where there is room for its own.
 fn answer_front<D: SharedDesk>(
     alloc: Global,
-    bench: &mut Bench,
+    state: &mut WorkerState,
     desk: &mut D,
     connection: &mut Connection<TcpStream, D::Standing>,
     len: usize,
@@ -229,26 +229,26 @@ fn answer_front<D: SharedDesk>(
 ) -> Result<bool, ServeError>
     requires fits { len ≤ length connection.old.conversation }
     requires whole { IsWhole (take len connection.old.conversation) }
-    requires ready { IsReady GATHERED connection.old.conversation bench.old.out.items (vec_capacity bench.old.out) leave.now }
+    requires ready { IsReady GATHERED connection.old.conversation state.old.out.items (vec_capacity state.old.out) leave.now }
     ensures answered { IfOk result (AnswersKnowing D.asks D.commands D.stands D.learns desk.old connection.old.standing
-        connection.old.conversation (Some bench.old.out.items) (Some bench.new.out.items)
+        connection.old.conversation (Some state.old.out.items) (Some state.new.out.items)
         connection.new.standing connection.new.conversation desk.new) }
-    ensures failed { OnErr result (bench.new.out.items ≡ bench.old.out.items) }
+    ensures failed { OnErr result (state.new.out.items ≡ state.old.out.items) }
 {
-    let whole = bench.out.len();
-    let mut out = Device::new(mem::replace(&mut bench.out, Vec::new(alloc)));
+    let whole = state.out.len();
+    let mut out = Device::new(mem::replace(&mut state.out, Vec::new(alloc)));
     let goes_on = answer_one(
         alloc,
-        &mut bench.paths,
+        &mut state.paths,
         &mut connection.conversation,
         len,
         &mut connection.standing,
         &mut out,
         desk,
     );
-    bench.out = out.into_inner();
+    state.out = out.into_inner();
     if goes_on.is_err() {
-        bench.out.truncate(whole);
+        state.out.truncate(whole);
     }
     goes_on
 }
@@ -257,7 +257,7 @@ fn answer_front<D: SharedDesk>(
 /// closes.
 fn answer_end<D: SharedDesk>(
     alloc: Global,
-    bench: &mut Bench,
+    state: &mut WorkerState,
     desk: &mut D,
     connection: &mut Connection<TcpStream, D::Standing>,
 ) -> Answered {
@@ -265,7 +265,7 @@ fn answer_end<D: SharedDesk>(
         return Answered::All;
     }
     let answered = if connection.conversation.front_len().is_none() {
-        answer_rest(alloc, bench, desk, connection)
+        answer_rest(alloc, state, desk, connection)
     } else {
         Ok(())
     };
@@ -278,38 +278,41 @@ fn answer_end<D: SharedDesk>(
 /// Answers what is held, which is short of a request, behind the answers that are gathered. Where that fails these stay as they are.
 fn answer_rest<D: SharedDesk>(
     alloc: Global,
-    bench: &mut Bench,
+    state: &mut WorkerState,
     desk: &mut D,
     connection: &mut Connection<TcpStream, D::Standing>,
 ) -> Result<(), ServeError>
     requires short { IsShort (front_of connection.old.conversation) }
     ensures answered { OnOk result ((told : D) × HasLearnt D.learns desk.old connection.old.standing told
-        × RepliesAll D.asks D.commands told connection.old.conversation (Some bench.old.out.items) (Some bench.new.out.items) desk.new) }
-    ensures failed { OnErr result (bench.new.out.items ≡ bench.old.out.items) }
+        × RepliesAll D.asks D.commands told connection.old.conversation (Some state.old.out.items) (Some state.new.out.items) desk.new) }
+    ensures failed { OnErr result (state.new.out.items ≡ state.old.out.items) }
 {
-    let whole = bench.out.len();
-    let mut out = Device::new(mem::replace(&mut bench.out, Vec::new(alloc)));
+    let whole = state.out.len();
+    let mut out = Device::new(mem::replace(&mut state.out, Vec::new(alloc)));
     let answered = answer_last(
         alloc,
-        &mut bench.paths,
+        &mut state.paths,
         &mut connection.conversation,
         &mut connection.standing,
         &mut out,
         desk,
     );
-    bench.out = out.into_inner();
+    state.out = out.into_inner();
     if answered.is_err() {
-        bench.out.truncate(whole);
+        state.out.truncate(whole);
     }
     answered
 }
 
 /// The turn that the request at the front takes, by its method and its target. A worker has the paths from its start on; without them
 /// each request would take a turn of commands.
-fn kind_of_turn<T: Drop>(bench: &Bench, connection: &Connection<TcpStream, T>) -> Option<TurnKind>
+fn kind_of_turn<T: Drop>(
+    state: &WorkerState,
+    connection: &Connection<TcpStream, T>,
+) -> Option<TurnKind>
     ensures { kind_in connection.now.conversation ≡ Some TurnKind.Command → result ≡ Some TurnKind.Command }
 {
-    match &bench.paths {
+    match &state.paths {
         Some(paths) => turn_kind(paths, connection.conversation.bytes()),
         None => Some(TurnKind::Command),
     }
@@ -319,22 +322,22 @@ fn kind_of_turn<T: Drop>(bench: &Bench, connection: &Connection<TcpStream, T>) -
 /// while it waited, it is that. Else how the answers of this turn end.
 fn be_ready<R: Wait, T: Drop>(
     rt: &R,
-    hall: &Hall<T>,
-    bench: &mut Bench,
+    shared: &SharedState<T>,
+    state: &mut WorkerState,
     connection: &mut Connection<TcpStream, T>,
 ) -> Result<Option<Leave>, Answered>
     ensures held { connection.new.conversation ≡ connection.old.conversation }
-    ensures ready { IfOk result (λ leave. IsReady GATHERED connection.old.conversation bench.new.out.items (vec_capacity bench.new.out) leave) }
+    ensures ready { IfOk result (λ leave. IsReady GATHERED connection.old.conversation state.new.out.items (vec_capacity state.new.out) leave) }
 {
-    let kind = kind_of_turn(bench, connection);
+    let kind = kind_of_turn(state, connection);
     let held = take_up(connection);
     match kind {
-        Some(kind) => match begin_turn(rt, hall, bench, held, kind) {
+        Some(kind) => match begin_turn(rt, shared, state, held, kind) {
             Ok(leave) => Ok(Some(leave)),
             Err(last) => Err(last),
         },
         None => {
-            end_turn(rt, hall, held);
+            end_turn(rt, shared, held);
             Ok(None)
         }
     }
@@ -344,22 +347,22 @@ fn be_ready<R: Wait, T: Drop>(
 /// a command, which may wait, and a command is done only once there is room for its answer.
 fn begin_turn<R: Wait, T: Drop>(
     rt: &R,
-    hall: &Hall<T>,
-    bench: &mut Bench,
+    shared: &SharedState<T>,
+    state: &mut WorkerState,
     held: Option<Leave>,
     kind: TurnKind,
 ) -> Result<Leave, Answered>
     ensures turn { IfOk result (λ leave. leave.kind ≡ kind) }
-    ensures all_sent { OnOk result (kind ≡ TurnKind.Command → bench.new.out.items ≡ []) }
-    ensures room { OnOk result (kind ≡ TurnKind.Command → GATHERED ≤ vec_capacity bench.new.out) }
+    ensures all_sent { OnOk result (kind ≡ TurnKind.Command → state.new.out.items ≡ []) }
+    ensures room { OnOk result (kind ≡ TurnKind.Command → GATHERED ≤ vec_capacity state.new.out) }
 {
     if kind == TurnKind::Command {
-        if !bench.out.is_empty() {
-            end_turn(rt, hall, held);
+        if !state.out.is_empty() {
+            end_turn(rt, shared, held);
             return Err(Answered::Full);
         }
-        if bench.out.reserve(GATHERED).is_err() {
-            end_turn(rt, hall, held);
+        if state.out.reserve(GATHERED).is_err() {
+            end_turn(rt, shared, held);
             return Err(Answered::Failed);
         }
     }
@@ -368,25 +371,25 @@ fn begin_turn<R: Wait, T: Drop>(
             if leave.kind() == kind {
                 return Ok(leave);
             }
-            end_turn(rt, hall, Some(leave));
+            end_turn(rt, shared, Some(leave));
         }
         None => {}
     }
-    match hall.turns.begin(rt, kind) {
+    match shared.turns.begin(rt, kind) {
         Some(leave) => Ok(leave),
         None => Err(Answered::Waits(kind)),
     }
 }
 
 /// Ends a turn, and hands a connection that waits for one to the workers.
-fn end_turn<R: Wait, T: Drop>(rt: &R, hall: &Hall<T>, leave: Option<Leave>) {
+fn end_turn<R: Wait, T: Drop>(rt: &R, shared: &SharedState<T>, leave: Option<Leave>) {
     let Some(leave) = leave else {
         return;
     };
-    if let Some(next) = hall.turns.end(rt, leave) {
+    if let Some(next) = shared.turns.end(rt, leave) {
         let place = next.place;
-        if !hall.hand(rt, next) {
-            hall.give_back(
+        if !shared.hand(rt, next) {
+            shared.give_back(
                 rt,
                 Returned {
                     place,
@@ -401,16 +404,16 @@ fn end_turn<R: Wait, T: Drop>(rt: &R, hall: &Hall<T>, leave: Option<Leave>) {
 /// connection closes.
 fn send_out<T: Drop>(
     alloc: Global,
-    bench: &mut Bench,
+    state: &mut WorkerState,
     connection: &mut Connection<TcpStream, T>,
     answered: Answered,
 ) -> After {
     let closes = answered == Answered::Closes || answered == Answered::Failed;
     let mut sent = 0;
-    match send_some(&mut connection.stream, &bench.out, &mut sent) {
+    match send_some(&mut connection.stream, &state.out, &mut sent) {
         Ok(true) => {}
         Ok(false) => {
-            let answers = mem::replace(&mut bench.out, Vec::new(alloc));
+            let answers = mem::replace(&mut state.out, Vec::new(alloc));
             connection.keep(answers, sent, closes);
             return After::Returns;
         }
@@ -433,27 +436,27 @@ fn closed<T: Drop>(connection: &mut Connection<TcpStream, T>) -> After {
 }
 
 /// Whether each connection that was ready has had a worker for some times in a row.
-fn is_lull<T: Drop>(hall: &Hall<T>, bench: &mut Bench) -> bool {
-    if !hall.is_calm() {
-        bench.calm = 0;
+fn is_lull<T: Drop>(shared: &SharedState<T>, state: &mut WorkerState) -> bool {
+    if !shared.is_calm() {
+        state.calm = 0;
         return false;
     }
-    if bench.calm < CALM {
-        bench.calm += 1;
+    if state.calm < CALM {
+        state.calm += 1;
         return false;
     }
     true
 }
 
-/// Takes the connection out of the doorkeeper's poll, so that its reads may wait.
-fn stay<T: Drop>(hall: &Hall<T>, connection: &mut Connection<TcpStream, T>) -> bool {
-    hall.unwatch(connection) && connection.stream.set_patient(true).is_ok()
+/// Takes the connection out of the poll, so that its reads may wait.
+fn stay<T: Drop>(shared: &SharedState<T>, connection: &mut Connection<TcpStream, T>) -> bool {
+    shared.unwatch(connection) && connection.stream.set_patient(true).is_ok()
 }
 
-/// Leaves a connection to the doorkeeper, to another worker, or to its turn.
+/// Leaves a connection to the poller, to another worker, or to its turn.
 fn leave<R: Wait, T: Drop>(
     rt: &R,
-    hall: &Hall<T>,
+    shared: &SharedState<T>,
     connection: Connection<TcpStream, T>,
     after: After,
 ) {
@@ -462,15 +465,15 @@ fn leave<R: Wait, T: Drop>(
         After::Rests | After::Returns => Some(connection),
         After::Over => None,
         After::GoesOn => {
-            if hall.hand(rt, connection) {
+            if shared.hand(rt, connection) {
                 return;
             }
             None
         }
-        After::Queues(kind) => match hall.turns.wait(rt, kind, connection) {
+        After::Queues(kind) => match shared.turns.wait(rt, kind, connection) {
             Ok(None) => return,
             Ok(Some(connection)) => {
-                if hall.hand(rt, connection) {
+                if shared.hand(rt, connection) {
                     return;
                 }
                 None
@@ -478,7 +481,7 @@ fn leave<R: Wait, T: Drop>(
             Err(AllocError) => None,
         },
     };
-    hall.give_back(
+    shared.give_back(
         rt,
         Returned {
             place,

@@ -11,7 +11,7 @@ use thiserror::Error;
 
 /// Why nodes can't be started. It is shown as its name.
 #[derive(Clone, Copy, Debug, PartialEq, Eq, Error)]
-pub enum StartFault {
+pub enum ServiceError {
     #[error("OutOfMemory")]
     OutOfMemory,
     /// A list has no place for another reader.
@@ -37,81 +37,81 @@ pub enum StartFault {
     Port { port: u64, kind: ErrorKind },
 }
 
-impl From<AllocError> for StartFault {
-    fn from(_refused: AllocError) -> StartFault {
-        StartFault::OutOfMemory
+impl From<AllocError> for ServiceError {
+    fn from(_refused: AllocError) -> ServiceError {
+        ServiceError::OutOfMemory
     }
 }
 
-impl<T: Drop> From<AllocFailed<T>> for StartFault {
-    fn from(_refused: AllocFailed<T>) -> StartFault {
-        StartFault::OutOfMemory
+impl<T: Drop> From<AllocFailed<T>> for ServiceError {
+    fn from(_refused: AllocFailed<T>) -> ServiceError {
+        ServiceError::OutOfMemory
     }
 }
 
-impl From<NoPlace> for StartFault {
-    fn from(_none: NoPlace) -> StartFault {
-        StartFault::NoPlace
+impl From<NoPlace> for ServiceError {
+    fn from(_none: NoPlace) -> ServiceError {
+        ServiceError::NoPlace
     }
 }
 
-impl From<StartError> for StartFault {
-    fn from(_refused: StartError) -> StartFault {
-        StartFault::NotStarted
+impl From<StartError> for ServiceError {
+    fn from(_refused: StartError) -> ServiceError {
+        ServiceError::NotStarted
     }
 }
 
-impl From<ListenError> for StartFault {
-    fn from(refused: ListenError) -> StartFault {
+impl From<ListenError> for ServiceError {
+    fn from(refused: ListenError) -> ServiceError {
         match refused {
-            ListenError::OutOfMemory => StartFault::OutOfMemory,
-            ListenError::Port { port, kind } => StartFault::Port { port, kind },
+            ListenError::OutOfMemory => ServiceError::OutOfMemory,
+            ListenError::Port { port, kind } => ServiceError::Port { port, kind },
         }
     }
 }
 
 /// A node's poll, its listener's options or the keys of hashes were refused.
-impl From<io::Error> for StartFault {
-    fn from(refused: io::Error) -> StartFault {
+impl From<io::Error> for ServiceError {
+    fn from(refused: io::Error) -> ServiceError {
         match refused.kind() {
-            ErrorKind::OutOfMemory => StartFault::OutOfMemory,
-            kind => StartFault::Refused(kind),
+            ErrorKind::OutOfMemory => ServiceError::OutOfMemory,
+            kind => ServiceError::Refused(kind),
         }
     }
 }
 
 /// A judge of so many schemas and verdicts as a desk has is refused only where memory is.
-impl From<JudgeError> for StartFault {
-    fn from(_refused: JudgeError) -> StartFault {
-        StartFault::OutOfMemory
+impl From<JudgeError> for ServiceError {
+    fn from(_refused: JudgeError) -> ServiceError {
+        ServiceError::OutOfMemory
     }
 }
 
-impl From<AdoptError> for StartFault {
-    fn from(refused: AdoptError) -> StartFault {
+impl From<AdoptError> for ServiceError {
+    fn from(refused: AdoptError) -> ServiceError {
         match refused {
-            AdoptError::OutOfMemory => StartFault::OutOfMemory,
+            AdoptError::OutOfMemory => ServiceError::OutOfMemory,
             AdoptError::Opaque(_) | AdoptError::TwoSchemas(_) | AdoptError::NumbersUsedUp => {
-                StartFault::Closed(refused)
+                ServiceError::Closed(refused)
             }
         }
     }
 }
 
-impl From<OpenError> for StartFault {
-    fn from(refused: OpenError) -> StartFault {
+impl From<OpenError> for ServiceError {
+    fn from(refused: OpenError) -> ServiceError {
         match refused {
-            OpenError::Adopt(refused) => StartFault::from(refused),
-            OpenError::Declined(Lack::Memory) => StartFault::OutOfMemory,
-            OpenError::Declined(Lack::Numbers) => StartFault::Full,
-            OpenError::Declined(_) | OpenError::Lost => StartFault::NotKept,
+            OpenError::Adopt(refused) => ServiceError::from(refused),
+            OpenError::Declined(Lack::Memory) => ServiceError::OutOfMemory,
+            OpenError::Declined(Lack::Numbers) => ServiceError::Full,
+            OpenError::Declined(_) | OpenError::Lost => ServiceError::NotKept,
         }
     }
 }
 
 /// An empty log is refused only where memory is.
-impl From<LogError> for StartFault {
-    fn from(_refused: LogError) -> StartFault {
-        StartFault::OutOfMemory
+impl From<LogError> for ServiceError {
+    fn from(_refused: LogError) -> ServiceError {
+        ServiceError::OutOfMemory
     }
 }

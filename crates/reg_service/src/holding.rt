@@ -1,15 +1,15 @@
 // Nodes that are made, one after the other: what each is made of stands here while their threads run.
 use crate::common::{Others, take_all};
-use crate::entrance::Entrance;
-use crate::error::StartFault;
+use crate::endpoints::Endpoints;
+use crate::error::ServiceError;
+use crate::parts::{Parts, Stage, make_desks, make_node};
 use crate::running::{serve_one, serve_three, serve_two};
-use crate::seats::{Parts, Stage, make_desks, make_node};
 use reg_conversation::SharedDesk;
 use reg_desk::Gate;
 use reg_feed::{Copies, FeedName};
 use reg_node::{Draw, Taken};
 use reg_pen::{Keep, Pass};
-use reg_serve::{Follow, Node};
+use reg_serve::{Follow, NodeServer};
 use reg_shared::Shared;
 use reg_topic::Item;
 use std::net::Net;
@@ -27,13 +27,13 @@ pub(crate) fn hold_one<
     T: Copies<Draw, Taken, L> + Send + Sync,
     R: Threads + Wait + Clock + Net + Sync + Send + Copy + Drop,
     G: Gate + Sync,
-    E: Entrance,
+    E: Endpoints,
 >(
     stage: &'y Stage<'y, N, S, K, R, G>,
     passes: &mut Vec<Pass<N>>,
     first: &'y Parts<N, S, L, T, R>,
-    entrance: &mut E,
-) -> Result<(), StartFault> {
+    endpoints: &mut E,
+) -> Result<(), ServiceError> {
     let common = stage.common;
     let others = Others {
         grown: common.grown,
@@ -43,7 +43,7 @@ pub(crate) fn hold_one<
     let follower = &first.follower;
     let mut desks = make_desks(common, stage.pen, passes, follower, others, views)?;
     let node = make_node(common, stage.listeners, 0, follower)?;
-    serve_one(common, &node, &mut desks, entrance)
+    serve_one(common, &node, &mut desks, endpoints)
 }
 
 /// Makes the first of two nodes, and goes on with the second.
@@ -58,14 +58,14 @@ pub(crate) fn hold_two<
     U: Copies<Draw, Taken, M> + Send + Sync,
     R: Threads + Wait + Clock + Net + Sync + Send + Copy + Drop,
     G: Gate + Sync,
-    E: Entrance,
+    E: Endpoints,
 >(
     stage: &'y Stage<'y, N, S, K, R, G>,
     passes: &mut Vec<Pass<N>>,
     first: &'y Parts<N, S, L, T, R>,
     second: &'y Parts<N, S, M, U, R>,
-    entrance: &mut E,
-) -> Result<(), StartFault> {
+    endpoints: &mut E,
+) -> Result<(), ServiceError> {
     let common = stage.common;
     let others = Others {
         grown: common.grown,
@@ -75,7 +75,7 @@ pub(crate) fn hold_two<
     let follower = &first.follower;
     let mut desks = make_desks(common, stage.pen, passes, follower, others, views)?;
     let node = make_node(common, stage.listeners, 0, follower)?;
-    hold_other(stage, passes, &node, &mut desks, second, entrance)
+    hold_other(stage, passes, &node, &mut desks, second, endpoints)
 }
 
 /// Makes the second of two nodes, and serves by both.
@@ -91,15 +91,15 @@ fn hold_other<
     U: Copies<Draw, Taken, M> + Send + Sync,
     R: Threads + Wait + Clock + Net + Sync + Send + Copy + Drop,
     G: Gate + Sync,
-    E: Entrance,
+    E: Endpoints,
 >(
     stage: &'y Stage<'y, N, S, K, R, G>,
     passes: &mut Vec<Pass<N>>,
-    first: &'y Node<'y, W1, T1>,
+    first: &'y NodeServer<'y, W1, T1>,
     first_desks: &mut Vec<D1>,
     second: &'y Parts<N, S, M, U, R>,
-    entrance: &mut E,
-) -> Result<(), StartFault> {
+    endpoints: &mut E,
+) -> Result<(), ServiceError> {
     let common = stage.common;
     let others = Others {
         grown: common.grown,
@@ -109,7 +109,7 @@ fn hold_other<
     let follower = &second.follower;
     let mut desks = make_desks(common, stage.pen, passes, follower, others, views)?;
     let node = make_node(common, stage.listeners, 1, follower)?;
-    serve_two(common, first, first_desks, &node, &mut desks, entrance)
+    serve_two(common, first, first_desks, &node, &mut desks, endpoints)
 }
 
 /// Makes the first of three nodes, and goes on with the second.
@@ -126,15 +126,15 @@ pub(crate) fn hold_three<
     V: Copies<Draw, Taken, O> + Send + Sync,
     R: Threads + Wait + Clock + Net + Sync + Send + Copy + Drop,
     G: Gate + Sync,
-    E: Entrance,
+    E: Endpoints,
 >(
     stage: &'y Stage<'y, N, S, K, R, G>,
     passes: &mut Vec<Pass<N>>,
     first: &'y Parts<N, S, L, T, R>,
     second: &'y Parts<N, S, M, U, R>,
     third: &'y Parts<N, S, O, V, R>,
-    entrance: &mut E,
-) -> Result<(), StartFault> {
+    endpoints: &mut E,
+) -> Result<(), ServiceError> {
     let common = stage.common;
     let others = Others {
         grown: common.grown,
@@ -144,7 +144,7 @@ pub(crate) fn hold_three<
     let follower = &first.follower;
     let mut desks = make_desks(common, stage.pen, passes, follower, others, views)?;
     let node = make_node(common, stage.listeners, 0, follower)?;
-    hold_second(stage, passes, &node, &mut desks, second, third, entrance)
+    hold_second(stage, passes, &node, &mut desks, second, third, endpoints)
 }
 
 /// Makes the second of three nodes, and goes on with the third.
@@ -162,16 +162,16 @@ fn hold_second<
     V: Copies<Draw, Taken, O> + Send + Sync,
     R: Threads + Wait + Clock + Net + Sync + Send + Copy + Drop,
     G: Gate + Sync,
-    E: Entrance,
+    E: Endpoints,
 >(
     stage: &'y Stage<'y, N, S, K, R, G>,
     passes: &mut Vec<Pass<N>>,
-    first: &'y Node<'y, W1, T1>,
+    first: &'y NodeServer<'y, W1, T1>,
     first_desks: &mut Vec<D1>,
     second: &'y Parts<N, S, M, U, R>,
     third: &'y Parts<N, S, O, V, R>,
-    entrance: &mut E,
-) -> Result<(), StartFault> {
+    endpoints: &mut E,
+) -> Result<(), ServiceError> {
     let common = stage.common;
     let others = Others {
         grown: common.grown,
@@ -189,7 +189,7 @@ fn hold_second<
         &node,
         &mut desks,
         third,
-        entrance,
+        endpoints,
     )
 }
 
@@ -209,17 +209,17 @@ fn hold_third<
     V: Copies<Draw, Taken, O> + Send + Sync,
     R: Threads + Wait + Clock + Net + Sync + Send + Copy + Drop,
     G: Gate + Sync,
-    E: Entrance,
+    E: Endpoints,
 >(
     stage: &'y Stage<'y, N, S, K, R, G>,
     passes: &mut Vec<Pass<N>>,
-    first: &'y Node<'y, W1, T1>,
+    first: &'y NodeServer<'y, W1, T1>,
     first_desks: &mut Vec<D1>,
-    second: &'y Node<'y, W2, T2>,
+    second: &'y NodeServer<'y, W2, T2>,
     second_desks: &mut Vec<D2>,
     third: &'y Parts<N, S, O, V, R>,
-    entrance: &mut E,
-) -> Result<(), StartFault> {
+    endpoints: &mut E,
+) -> Result<(), ServiceError> {
     let common = stage.common;
     let others = Others {
         grown: common.grown,
@@ -237,6 +237,6 @@ fn hold_third<
         second_desks,
         &node,
         &mut desks,
-        entrance,
+        endpoints,
     )
 }

@@ -3,18 +3,18 @@
 #![tactic(auto)]
 
 mod common;
-mod entrance;
+mod endpoints;
 mod error;
 mod following;
 mod gate;
 mod holding;
 mod nodes;
+mod parts;
 mod running;
-mod seats;
 mod size;
 
-pub use entrance::{Entrance, Listening};
-pub use error::StartFault;
+pub use endpoints::{Endpoints, Listening};
+pub use error::ServiceError;
 pub use gate::NoGate;
 pub use nodes::{NODES_LIMIT, serve_log, serve_nodes};
 pub use size::Size;

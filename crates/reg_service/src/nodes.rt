@@ -6,10 +6,10 @@ ghost use Rattle.reg_topic.specs.Topic.{topic_from};
 ghost use Rattle.reg_shared.specs.Held.{held_of};
 
 use crate::common::Common;
-use crate::entrance::Entrance;
-use crate::error::StartFault;
+use crate::endpoints::Endpoints;
+use crate::error::ServiceError;
 use crate::holding::{hold_one, hold_three, hold_two};
-use crate::seats::{Parts, Seats, Stage, make_parts};
+use crate::parts::{Parts, Stage, TopicHandles, make_parts};
 use crate::size::Size;
 use reg_connection::Limits;
 use reg_desk::Gate;
@@ -37,8 +37,8 @@ pub const NODES_LIMIT: usize = 3;
 pub fn serve_nodes<
     R: Threads + Wait + Clock + Net + RandomSource + Sync + Send + Copy + Drop,
     G: Gate + Sync,
-    E: Entrance,
->(rt: R, alloc: Global, size: Size, gate: &G, entrance: &mut E) -> Result<(), StartFault> {
+    E: Endpoints,
+>(rt: R, alloc: Global, size: Size, gate: &G, endpoints: &mut E) -> Result<(), ServiceError> {
     let mut nothing = Device::new(b"".as_slice());
     let base = read_log(alloc, &mut nothing)?;
     serve_log(
@@ -46,13 +46,13 @@ pub fn serve_nodes<
         alloc,
         size,
         gate,
-        entrance,
+        endpoints,
         KeptLog::new(base, MemoryAlone),
     )
 }
 
 /// Serves a topic that begins with a log, whose batches are lent to the keep at its end, by so many nodes, each with
-/// a doorkeeper, which holds the connections, and workers. A worker calls the gate before it answers a
+/// a poller, which holds the connections, and workers. A worker calls the gate before it answers a
 /// query or does a command. Each node has read the log before it listens.
 ///
 /// With a limit the call returns once all nodes have ended. Without one it returns only where the nodes
@@ -61,15 +61,15 @@ pub fn serve_log<
     K: Keep + Send + Drop,
     R: Threads + Wait + Clock + Net + RandomSource + Sync + Send + Copy + Drop,
     G: Gate + Sync,
-    E: Entrance,
+    E: Endpoints,
 >(
     rt: R,
     alloc: Global,
     size: Size,
     gate: &G,
-    entrance: &mut E,
+    endpoints: &mut E,
     kept: KeptLog<K>,
-) -> Result<(), StartFault> {
+) -> Result<(), ServiceError> {
     let nodes = size.nodes.clamp(1, NODES_LIMIT);
     let workers = size.workers.max(1);
     let mut grown = Vec::new(alloc);
@@ -91,7 +91,7 @@ pub fn serve_log<
         limit: size.limit.map(|connections| connections.saturating_mul(u64::from(workers))),
         limits: Limits::of_nodes(nodes),
     };
-    serve_topic::<Brand, K, R, G, E>(&common, Unnamed::new(), kept, entrance)
+    serve_topic::<Brand, K, R, G, E>(&common, Unnamed::new(), kept, endpoints)
 }
 
 /// Makes the topic, and goes on with the nodes.
@@ -100,13 +100,13 @@ fn serve_topic<
     K: Keep + Send + Drop,
     R: Threads + Wait + Clock + Net + Sync + Send + Copy + Drop,
     G: Gate + Sync,
-    E: Entrance,
+    E: Endpoints,
 >(
     common: &Common<'_, R, G>,
     list: Unnamed<Item>,
     kept: KeptLog<K>,
-    entrance: &mut E,
-) -> Result<(), StartFault>
+    endpoints: &mut E,
+) -> Result<(), ServiceError>
     requires name { (list.reached.book ≡ N.book) × (N.first ≡ held_of (topic_from kept.log.records.items kept.log.next kept.log.floor)) }
 {
     let readers = common.nodes.clamp(1, NODES_LIMIT);
@@ -120,11 +120,11 @@ fn serve_topic<
         readers,
     )?;
     let mut pen = Mutex::new(pen);
-    let mut seats = Seats {
+    let mut handles = TopicHandles {
         passes,
         readers: Vec::new(common.alloc),
     };
-    serve_pen(common, &mut pen, &mut seats, readers, entrance)
+    serve_pen(common, &mut pen, &mut handles, readers, endpoints)
 }
 
 /// Makes the readers of the topic, and goes on with the nodes.
@@ -134,15 +134,15 @@ fn serve_pen<
     K: Keep + Send + Drop,
     R: Threads + Wait + Clock + Net + Sync + Send + Copy + Drop,
     G: Gate + Sync,
-    E: Entrance,
+    E: Endpoints,
 >(
     common: &Common<'_, R, G>,
     pen: &mut Mutex<Pen<N, S, K, R>>,
-    seats: &mut Seats<N, S>,
+    handles: &mut TopicHandles<N, S>,
     readers: usize,
-    entrance: &mut E,
-) -> Result<(), StartFault> {
-    add_readers(pen.get_mut(), &mut seats.readers, readers)?;
+    endpoints: &mut E,
+) -> Result<(), ServiceError> {
+    add_readers(pen.get_mut(), &mut handles.readers, readers)?;
     // For as long as the pen.
     let here = Common {
         rt: common.rt,
@@ -157,7 +157,7 @@ fn serve_pen<
         limit: common.limit,
         limits: common.limits,
     };
-    add_first::<N, S, K, Brand, R, G, E>(&here, pen, seats, Unnamed::new(), entrance)
+    add_first::<N, S, K, Brand, R, G, E>(&here, pen, handles, Unnamed::new(), endpoints)
 }
 
 /// Adds so many readers of the topic.
@@ -170,7 +170,7 @@ fn add_readers<
     pen: &mut Pen<N, S, K, R>,
     readers: &mut Vec<FeedReader<Item, Shared, N, S>>,
     count: usize,
-) -> Result<(), StartFault> {
+) -> Result<(), ServiceError> {
     for _reader in 0..count {
         readers.push(pen.reader()?)?;
     }
@@ -186,33 +186,33 @@ fn add_first<
     L: FeedName<Draw, Taken> + Send + Sync,
     R: Threads + Wait + Clock + Net + Sync + Send + Copy + Drop,
     G: Gate + Sync,
-    E: Entrance,
+    E: Endpoints,
 >(
     common: &'x Common<'x, R, G>,
     pen: &'x Mutex<Pen<N, S, K, R>>,
-    seats: &mut Seats<N, S>,
+    handles: &mut TopicHandles<N, S>,
     list: Unnamed<Draw>,
-    entrance: &mut E,
-) -> Result<(), StartFault>
+    endpoints: &mut E,
+) -> Result<(), ServiceError>
     requires { (list.reached.book ≡ L.book) × (L.first ≡ empty) }
 {
-    let first = make_parts::<N, S, L, R, G>(common, seats, list)?;
+    let first = make_parts::<N, S, L, R, G>(common, handles, list)?;
     if common.nodes <= 1 {
-        let listeners = entrance.listen()?;
+        let listeners = endpoints.listen()?;
         let stage = Stage {
             common,
             pen,
             listeners: &listeners,
         };
-        hold_one(&stage, &mut seats.passes, &first, entrance)
+        hold_one(&stage, &mut handles.passes, &first, endpoints)
     } else {
         add_second::<N, S, K, L, Stored<Draw, Taken, L>, Brand, R, G, E>(
             common,
             pen,
-            seats,
+            handles,
             &first,
             Unnamed::new(),
-            entrance,
+            endpoints,
         )
     }
 }
@@ -228,35 +228,35 @@ fn add_second<
     M: FeedName<Draw, Taken> + Send + Sync,
     R: Threads + Wait + Clock + Net + Sync + Send + Copy + Drop,
     G: Gate + Sync,
-    E: Entrance,
+    E: Endpoints,
 >(
     common: &'x Common<'x, R, G>,
     pen: &'x Mutex<Pen<N, S, K, R>>,
-    seats: &mut Seats<N, S>,
+    handles: &mut TopicHandles<N, S>,
     first: &'x Parts<N, S, L, T, R>,
     list: Unnamed<Draw>,
-    entrance: &mut E,
-) -> Result<(), StartFault>
+    endpoints: &mut E,
+) -> Result<(), ServiceError>
     requires { (list.reached.book ≡ M.book) × (M.first ≡ empty) }
 {
-    let second = make_parts::<N, S, M, R, G>(common, seats, list)?;
+    let second = make_parts::<N, S, M, R, G>(common, handles, list)?;
     if common.nodes <= 2 {
-        let listeners = entrance.listen()?;
+        let listeners = endpoints.listen()?;
         let stage = Stage {
             common,
             pen,
             listeners: &listeners,
         };
-        hold_two(&stage, &mut seats.passes, first, &second, entrance)
+        hold_two(&stage, &mut handles.passes, first, &second, endpoints)
     } else {
         add_third::<N, S, K, L, T, M, Stored<Draw, Taken, M>, Brand, R, G, E>(
             common,
             pen,
-            seats,
+            handles,
             first,
             &second,
             Unnamed::new(),
-            entrance,
+            endpoints,
         )
     }
 }
@@ -274,24 +274,31 @@ fn add_third<
     O: FeedName<Draw, Taken> + Send + Sync,
     R: Threads + Wait + Clock + Net + Sync + Send + Copy + Drop,
     G: Gate + Sync,
-    E: Entrance,
+    E: Endpoints,
 >(
     common: &'x Common<'x, R, G>,
     pen: &'x Mutex<Pen<N, S, K, R>>,
-    seats: &mut Seats<N, S>,
+    handles: &mut TopicHandles<N, S>,
     first: &'x Parts<N, S, L, T, R>,
     second: &'x Parts<N, S, M, U, R>,
     list: Unnamed<Draw>,
-    entrance: &mut E,
-) -> Result<(), StartFault>
+    endpoints: &mut E,
+) -> Result<(), ServiceError>
     requires { (list.reached.book ≡ O.book) × (O.first ≡ empty) }
 {
-    let third = make_parts::<N, S, O, R, G>(common, seats, list)?;
-    let listeners = entrance.listen()?;
+    let third = make_parts::<N, S, O, R, G>(common, handles, list)?;
+    let listeners = endpoints.listen()?;
     let stage = Stage {
         common,
         pen,
         listeners: &listeners,
     };
-    hold_three(&stage, &mut seats.passes, first, second, &third, entrance)
+    hold_three(
+        &stage,
+        &mut handles.passes,
+        first,
+        second,
+        &third,
+        endpoints,
+    )
 }

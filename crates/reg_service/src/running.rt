@@ -1,9 +1,9 @@
 // Threads over one, two or three nodes, of which each has types of its own.
 use crate::common::Common;
-use crate::entrance::Entrance;
-use crate::error::StartFault;
+use crate::endpoints::Endpoints;
+use crate::error::ServiceError;
 use reg_conversation::SharedDesk;
-use reg_serve::{Follow, Node, begin, open_node};
+use reg_serve::{Follow, NodeServer, begin, open_node};
 use std::alloc::Global;
 use std::mem;
 use std::sync::Wait;
@@ -18,23 +18,27 @@ pub(crate) fn serve_one<
     W1: Follow + Sync + Drop + 's,
     R: Threads + Wait + Clock + Sync + 's,
     G,
-    E: Entrance,
+    E: Endpoints,
 >(
     common: &'s Common<'s, R, G>,
-    first: &'s Node<'s, W1, T1>,
+    first: &'s NodeServer<'s, W1, T1>,
     first_desks: &mut Vec<D1>,
-    entrance: &mut E,
-) -> Result<(), StartFault> {
+    endpoints: &mut E,
+) -> Result<(), ServiceError> {
     let rt = common.rt;
     let alloc = common.alloc;
     let latch = common.latch;
     let limit = common.limit;
-    thread::scope(thread::scope_env(), rt, |scope| -> Result<(), StartFault> {
-        let desks = take(first_desks, alloc);
-        let started = open_node(scope, rt, alloc, latch, first, desks, limit);
-        begin(latch, started, || entrance.ready())?;
-        Ok(())
-    })
+    thread::scope(
+        thread::scope_env(),
+        rt,
+        |scope| -> Result<(), ServiceError> {
+            let desks = take(first_desks, alloc);
+            let started = open_node(scope, rt, alloc, latch, first, desks, limit);
+            begin(latch, started, || endpoints.ready())?;
+            Ok(())
+        },
+    )
 }
 
 /// Serves by two nodes: starts their threads, lets them begin, and returns once all have ended.
@@ -48,32 +52,36 @@ pub(crate) fn serve_two<
     W2: Follow + Sync + Drop + 's,
     R: Threads + Wait + Clock + Sync + 's,
     G,
-    E: Entrance,
+    E: Endpoints,
 >(
     common: &'s Common<'s, R, G>,
-    first: &'s Node<'s, W1, T1>,
+    first: &'s NodeServer<'s, W1, T1>,
     first_desks: &mut Vec<D1>,
-    second: &'s Node<'s, W2, T2>,
+    second: &'s NodeServer<'s, W2, T2>,
     second_desks: &mut Vec<D2>,
-    entrance: &mut E,
-) -> Result<(), StartFault> {
+    endpoints: &mut E,
+) -> Result<(), ServiceError> {
     let rt = common.rt;
     let alloc = common.alloc;
     let latch = common.latch;
     let limit = common.limit;
-    thread::scope(thread::scope_env(), rt, |scope| -> Result<(), StartFault> {
-        let desks = take(first_desks, alloc);
-        let started = open_node(scope, rt, alloc, latch, first, desks, limit);
-        let started = match started {
-            Ok(()) => {
-                let desks = take(second_desks, alloc);
-                open_node(scope, rt, alloc, latch, second, desks, limit)
-            }
-            Err(e) => Err(e),
-        };
-        begin(latch, started, || entrance.ready())?;
-        Ok(())
-    })
+    thread::scope(
+        thread::scope_env(),
+        rt,
+        |scope| -> Result<(), ServiceError> {
+            let desks = take(first_desks, alloc);
+            let started = open_node(scope, rt, alloc, latch, first, desks, limit);
+            let started = match started {
+                Ok(()) => {
+                    let desks = take(second_desks, alloc);
+                    open_node(scope, rt, alloc, latch, second, desks, limit)
+                }
+                Err(e) => Err(e),
+            };
+            begin(latch, started, || endpoints.ready())?;
+            Ok(())
+        },
+    )
 }
 
 /// Serves by three nodes: starts their threads, lets them begin, and returns once all have ended.
@@ -90,41 +98,45 @@ pub(crate) fn serve_three<
     W3: Follow + Sync + Drop + 's,
     R: Threads + Wait + Clock + Sync + 's,
     G,
-    E: Entrance,
+    E: Endpoints,
 >(
     common: &'s Common<'s, R, G>,
-    first: &'s Node<'s, W1, T1>,
+    first: &'s NodeServer<'s, W1, T1>,
     first_desks: &mut Vec<D1>,
-    second: &'s Node<'s, W2, T2>,
+    second: &'s NodeServer<'s, W2, T2>,
     second_desks: &mut Vec<D2>,
-    third: &'s Node<'s, W3, T3>,
+    third: &'s NodeServer<'s, W3, T3>,
     third_desks: &mut Vec<D3>,
-    entrance: &mut E,
-) -> Result<(), StartFault> {
+    endpoints: &mut E,
+) -> Result<(), ServiceError> {
     let rt = common.rt;
     let alloc = common.alloc;
     let latch = common.latch;
     let limit = common.limit;
-    thread::scope(thread::scope_env(), rt, |scope| -> Result<(), StartFault> {
-        let desks = take(first_desks, alloc);
-        let started = open_node(scope, rt, alloc, latch, first, desks, limit);
-        let started = match started {
-            Ok(()) => {
-                let desks = take(second_desks, alloc);
-                open_node(scope, rt, alloc, latch, second, desks, limit)
-            }
-            Err(e) => Err(e),
-        };
-        let started = match started {
-            Ok(()) => {
-                let desks = take(third_desks, alloc);
-                open_node(scope, rt, alloc, latch, third, desks, limit)
-            }
-            Err(e) => Err(e),
-        };
-        begin(latch, started, || entrance.ready())?;
-        Ok(())
-    })
+    thread::scope(
+        thread::scope_env(),
+        rt,
+        |scope| -> Result<(), ServiceError> {
+            let desks = take(first_desks, alloc);
+            let started = open_node(scope, rt, alloc, latch, first, desks, limit);
+            let started = match started {
+                Ok(()) => {
+                    let desks = take(second_desks, alloc);
+                    open_node(scope, rt, alloc, latch, second, desks, limit)
+                }
+                Err(e) => Err(e),
+            };
+            let started = match started {
+                Ok(()) => {
+                    let desks = take(third_desks, alloc);
+                    open_node(scope, rt, alloc, latch, third, desks, limit)
+                }
+                Err(e) => Err(e),
+            };
+            begin(latch, started, || endpoints.ready())?;
+            Ok(())
+        },
+    )
 }
 
 /// Takes all desks.

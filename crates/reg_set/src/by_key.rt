@@ -12,7 +12,7 @@ ghost use Rattle.reg_set.specs.RecordOrder.{key_cmp, record_cmp};
 
 use crate::last_records::LastRecords;
 use crate::of_one_key::{leave_last, push_last, put_last, take_among};
-use crate::record_set::{RecordSet, Taken, has_last_of, has_last_or_none};
+use crate::record_set::{RecordSet, TakeOutcome, has_last_of, has_last_or_none};
 use reg_records::{Key, Record};
 use std::alloc::{AllocError, Global};
 use std::collections::BTreeMap;
@@ -23,12 +23,12 @@ pub(crate) fn take_in(
     alloc: Global,
     by_key: &mut BTreeMap<Key, Vec<Record>>,
     given: &Record,
-) -> Result<Taken, AllocError>
+) -> Result<TakeOutcome, AllocError>
     requires { AreByKey by_key.old }
     ensures added { OnOk result (IsTakenIn by_key.old by_key.new given.now) }
-    ensures fresh { IfOk result (λ taken. (taken ≡ Taken.Fresh)
+    ensures fresh { IfOk result (λ taken. (taken ≡ TakeOutcome.Fresh)
         ↔ IsTrue (list_all (λ q. is_lt (record_cmp q given.now)) (records_at by_key.old given.now.key))) }
-    ensures repeat { IfOk result (λ taken. (taken ≡ Taken.Repeat)
+    ensures repeat { IfOk result (λ taken. (taken ≡ TakeOutcome.Repeat)
         ↔ IsTrue (list_any (eq_by_cmp record_cmp given.now) (records_at by_key.old given.now.key))) }
     ensures refused { OnErr result (AreSame by_key.old by_key.new) }
     ensures in_order { IsOrdered key_cmp by_key.new }
@@ -40,7 +40,7 @@ pub(crate) fn take_in(
         }
         None => {
             add_key(alloc, by_key, given)?;
-            Ok(Taken::Fresh)
+            Ok(TakeOutcome::Fresh)
         }
     }
 }

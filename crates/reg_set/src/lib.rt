@@ -15,4 +15,4 @@ pub use laws::{
     keeping_lasts_composes, last_is_greatest, last_records_are_enough, last_records_of_unions,
     merging_joins_sets, records_are_ordered,
 };
-pub use record_set::{RecordSet, Taken, is_compaction_below, keeps_lasts};
+pub use record_set::{RecordSet, TakeOutcome, is_compaction_below, keeps_lasts};

@@ -11,32 +11,35 @@ ghost use Rattle.reg_set.specs.Records.{Records, placed};
 
 use crate::last_records::LastRecords;
 use crate::order::{count_before, stands_at};
-use crate::record_set::Taken;
+use crate::record_set::TakeOutcome;
 use reg_records::{Key, Record};
 use std::alloc::AllocError;
 
 /// Takes the record in among those of its key, and says what that did. The only error is out of
 /// memory; they are then as they were.
-pub(crate) fn take_among(records: &mut Vec<Record>, given: &Record) -> Result<Taken, AllocError>
+pub(crate) fn take_among(
+    records: &mut Vec<Record>,
+    given: &Record,
+) -> Result<TakeOutcome, AllocError>
     requires { AreOf given.now.key records.old.items }
     ensures added { OnOk result (records.new.items ≡ placed given.now records.old.items) }
-    ensures fresh { IfOk result (λ taken. (taken ≡ Taken.Fresh)
+    ensures fresh { IfOk result (λ taken. (taken ≡ TakeOutcome.Fresh)
         ↔ IsTrue (list_all (λ q. is_lt (record_cmp q given.now)) records.old.items)) }
-    ensures repeat { IfOk result (λ taken. (taken ≡ Taken.Repeat)
+    ensures repeat { IfOk result (λ taken. (taken ≡ TakeOutcome.Repeat)
         ↔ IsTrue (list_any (eq_by_cmp record_cmp given.now) records.old.items)) }
     ensures refused { OnErr result (records.new.items ≡ records.old.items) }
 {
     let seen: &[Record] = records;
     let place = count_before(seen, given);
     if stands_at(seen, place, given) {
-        return Ok(Taken::Repeat);
+        return Ok(TakeOutcome::Repeat);
     }
     let is_last = place == seen.len();
     records.insert(place, given.clone()?)?;
     if is_last {
-        return Ok(Taken::Fresh);
+        return Ok(TakeOutcome::Fresh);
     }
-    Ok(Taken::Older)
+    Ok(TakeOutcome::Older)
 }
 
 /// Leaves the last of the records alone. It takes no memory.

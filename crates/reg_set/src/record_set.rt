@@ -23,7 +23,7 @@ use std::marker::Model;
 
 /// What taking a record did to a set.
 #[derive(Clone, Copy, Debug, PartialEq, Eq)]
-pub enum Taken {
+pub enum TakeOutcome {
     /// The record is now the last of its key, and wasn't before.
     Fresh,
     /// The record was in the set.
@@ -91,12 +91,12 @@ impl RecordSet {
 
     /// Adds the record, and says what that did. The only error is out of memory; the set is then
     /// as it was.
-    pub fn take(&mut self, given: &Record) -> Result<Taken, AllocError>
+    pub fn take(&mut self, given: &Record) -> Result<TakeOutcome, AllocError>
         ensures added { OnOk result (self.new ≡ set.insert self.old given.now) }
         ensures fresh { IfOk result (λ taken.
-            (taken ≡ Taken.Fresh) ↔ (last self.new given.now.key ≢ last self.old given.now.key)) }
+            (taken ≡ TakeOutcome.Fresh) ↔ (last self.new given.now.key ≢ last self.old given.now.key)) }
         ensures repeat { IfOk result (λ taken.
-            (taken ≡ Taken.Repeat) ↔ IsTrue (set.contains self.old given.now)) }
+            (taken ≡ TakeOutcome.Repeat) ↔ IsTrue (set.contains self.old given.now)) }
         ensures refused { OnErr result (self.new ≡ self.old) }
     {
         let taken = take_in(self.alloc, &mut self.by_key, given)?;

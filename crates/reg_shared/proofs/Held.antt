@@ -11,7 +11,7 @@ use Rattle.reg_leader.specs.Adoption.{adopting}
 use Rattle.reg_leader.specs.OneStep.{goes_on}
 use Rattle.reg_records.specs.declared.limits.TheConstants.{OFFSET_LIMIT}
 use Rattle.reg_records.specs.declared.record.Record.{Record}
-use Rattle.reg_kept.specs.Compaction.{IsCompactionOf}
+use Rattle.reg_floored.specs.Compaction.{IsCompactionOf}
 use Rattle.reg_records.specs.declared.key.Key.{Key}
 use Rattle.reg_set.specs.Compaction.{IsGone}
 use Rattle.reg_set.specs.Join.{LastIsGreatest}
@@ -24,8 +24,8 @@ use Rattle.reg_topic.specs.declared.published.Compaction.{Compaction}
 use Rattle.reg_topic.specs.declared.published.Item.{Item}
 use Rattle.reg_topic.specs.declared.published.Item.TheVariants as items
 use Rattle.reg_topic.specs.declared.topic.Topic.{Topic}
-use Rattle.reg_kept.specs.Floored.{Floored}
-use Rattle.reg_kept.specs.Floors.{may_leave}
+use Rattle.reg_floored.specs.Floored.{Floored}
+use Rattle.reg_floored.specs.Floors.{may_leave}
 use Rattle.reg_shared.specs.Held.{Held, base_of, held_after, held_after_batch, held_after_compaction, held_of}
 use Rattle.reg_shared.specs.Laws.{FoldsAreHeld, LaterRecordsAreNews, OffsetsRise}
 use Rattle.reg_shared.proofs.Equality.{equal}

@@ -16,7 +16,7 @@ use Rattle.reg_set.specs.Join.{LastIsGreatest, NoLastIsNoRecord}
 use Rattle.reg_set.specs.LastRecords.{is_last, last, last_records}
 use Rattle.reg_set.specs.RecordOrder.{record_cmp}
 use Rattle.reg_set.specs.Records.{Records}
-use Rattle.reg_kept.specs.Floors.{compacted_to, may_leave, without}
+use Rattle.reg_floored.specs.Floors.{compacted_to, may_leave, without}
 use Rattle.reg_shared.specs.Kept.{kept_of, may_go}
 use Rattle.reg_shared.proofs.Equality.{alike, equal}
 use Rattle.reg_shared.proofs.Keeping.{is_kept}

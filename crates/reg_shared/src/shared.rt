@@ -5,7 +5,7 @@ ghost use Rattle.std.specs.List.{AllByRecursion};
 ghost use Rattle.reg_fold.specs.Closed.{is_closed};
 ghost use Rattle.reg_set.specs.LastRecords.{last_records};
 ghost use Rattle.reg_leader.specs.Adoption.{HasPlace, IsAdoptRefusal};
-ghost use Rattle.reg_kept.specs.Floors.{compacted_to, may_leave, without};
+ghost use Rattle.reg_floored.specs.Floors.{compacted_to, may_leave, without};
 ghost use Rattle.reg_topic.specs.Topic.{follows, may_compact, owed_by, plain_topic, topic_from};
 ghost use Rattle.reg_shared.specs.Held.{IsBelow, IsSince, base_of, held_after_batch, held_after_compaction, held_of};
 
@@ -14,8 +14,8 @@ use crate::kept::{
     may_leave, push_all, since, until,
 };
 use reg_feed::{FeedName, Fold};
+use reg_floored::compacting_drops_what_may_leave;
 use reg_fold::Registry;
-use reg_kept::compacting_drops_what_may_leave;
 use reg_leader::{AdoptError, Adopted, adopt};
 use reg_records::{Log, Record};
 use reg_set::{

@@ -1,8 +1,8 @@
 -- What may be dropped leaves a compaction.
 use Rattle.std.proofs.Common.{◌&&◌, nat_le}
 use Rattle.std.proofs.lemmas.Bool.{le-leb, leb-true}
-use Rattle.reg_kept.specs.Floors.{may_leave}
-use Rattle.reg_kept.specs.Laws.{DropsLeaveCompactions}
+use Rattle.reg_floored.specs.Floors.{may_leave}
+use Rattle.reg_floored.specs.Laws.{DropsLeaveCompactions}
 use Rattle.reg_topic.specs.Laws.{AllowedDropsLeaveCompactions}
 use Rattle.reg_topic.proofs.Bools.{both, both_true}
 

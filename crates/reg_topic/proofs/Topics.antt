@@ -5,8 +5,8 @@ use Rattle.std.specs.Cmp.{IsTotalOrder}
 use Rattle.std.specs.FinSet.{contains, from_list, IsAntisymmetric, contains-from_list, contains-union}
 use Rattle.reg_records.specs.declared.record.Record.{Record}
 use Rattle.reg_set.specs.RecordOrder.{record_cmp}
-use Rattle.reg_kept.specs.Compaction.{IsCompactionOf}
-use Rattle.reg_kept.specs.Laws.{CompactionsCompose, LaterRecordsMayJoin}
+use Rattle.reg_floored.specs.Compaction.{IsCompactionOf}
+use Rattle.reg_floored.specs.Laws.{CompactionsCompose, LaterRecordsMayJoin}
 use Rattle.reg_leader.specs.OneStep.{goes_on}
 use Rattle.reg_records.specs.declared.limits.TheConstants.{OFFSET_LIMIT}
 use Rattle.reg_topic.specs.Laws.{AllowedDropsLeaveCompactions, FloorsRise, FloorsStayBelow, ItemsAreFoldedInTurn, KeptStaysCompaction}

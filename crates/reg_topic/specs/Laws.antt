@@ -5,7 +5,7 @@ use Rattle.std.specs.List.{AllByRecursion}
 use Rattle.reg_records.specs.declared.record.Record.{Record}
 use Rattle.reg_set.specs.LastRecords.{last_records}
 use Rattle.reg_set.specs.Records.{Records}
-use Rattle.reg_kept.specs.Compaction.{IsCompactionOf, KeepsLasts}
+use Rattle.reg_floored.specs.Compaction.{IsCompactionOf, KeepsLasts}
 use Rattle.reg_fold.specs.Closed.{is_closed}
 use Rattle.reg_topic.specs.Topic.{IsAdopted, IsLawful, MayCommit, MayFollow, after_item, after_items}
 use Rattle.reg_topic.specs.Topic.{follows, left_by, may_compact, published_by, topic_from, whole_log}

@@ -6,8 +6,8 @@ use Rattle.reg_records.specs.declared.limits.TheConstants.{OFFSET_LIMIT}
 use Rattle.reg_records.specs.declared.record.Record.{Record}
 use Rattle.reg_set.specs.LastRecords.{last_records}
 use Rattle.reg_set.specs.Records.{Records}
-use Rattle.reg_kept.specs.Floored.{Floored}
-use Rattle.reg_kept.specs.Floors.{may_leave, without}
+use Rattle.reg_floored.specs.Floored.{Floored}
+use Rattle.reg_floored.specs.Floors.{may_leave, without}
 use Rattle.reg_fold.specs.Closed.{is_closed}
 use Rattle.reg_leader.specs.Adoption.{adopting}
 use Rattle.reg_leader.specs.OneStep.{goes_on}

@@ -3,8 +3,8 @@
 ghost use Rattle.reg_topic.specs.Laws.{AdoptedLogsBegin, AllowedDropsLeaveCompactions, CommitsFollow, FloorsRise, FloorsStayBelow, ItemsAreFoldedInTurn, KeptStaysCompaction, LawfulItemsFollow, LawfulListsGoOn, LawfulListsJoin, ListsAreFoldedInTurn, LogIsWhatWasPublished, LogsGrow, LogsGrowOverLists, MoreKeepsLasts};
 ghost use Rattle.reg_topic.specs.Promises.{LawfulListsKeepIds, LawfulListsMeetLevels, LawfulListsStayOpen};
 
+use reg_floored::{compactions_compose, compactions_unite, drops_leave_compactions};
 use reg_fold::{entries_are_of_places, none_is_no_opaque_last, two_schemas_is_least};
-use reg_kept::{compactions_compose, compactions_unite, drops_leave_compactions};
 use reg_leader::{
     batches_end_by_the_limit, batches_go_on, steps_keep_given_ids, steps_meet_levels,
     steps_stay_open,

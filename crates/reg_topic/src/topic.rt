@@ -5,7 +5,7 @@ ghost use Rattle.reg_leader.specs.OneStep.{goes_on};
 ghost use Rattle.reg_topic.specs.Topic.{after_batch, after_compaction, after_item, follows, may_compact, plain_topic};
 
 use crate::published::{Compaction, Item};
-use reg_kept::KeptSet;
+use reg_floored::KeptSet;
 use reg_records::{Log, OFFSET_LIMIT, Record};
 use reg_set::RecordSet;
 use std::alloc::{AllocError, Global};

@@ -6,8 +6,8 @@ use Rattle.reg_records.specs.declared.record.Record.{Record}
 use Rattle.reg_set.specs.Compaction.{IsGone}
 use Rattle.reg_set.specs.LastRecords.{last, last_records}
 use Rattle.reg_set.specs.Records.{Records}
-use Rattle.reg_kept.specs.Compaction.{IsCompactionOf}
-use Rattle.reg_kept.specs.Floored.{Floored}
+use Rattle.reg_floored.specs.Compaction.{IsCompactionOf}
+use Rattle.reg_floored.specs.Floored.{Floored}
 use Rattle.reg_topic.specs.Promises.{LawfulListsKeepIds, LawfulListsMeetLevels}
 use Rattle.reg_topic.specs.Topic.{whole_log}
 use Rattle.reg_world.specs.Core.{IsNodeOf, KeptIsCompaction, LogIsLawful, NoItemIsSkipped, NodesAreCompactions}
@@ -22,7 +22,7 @@ use Rattle.reg_world.specs.declared.event.Event.TheVariants as events
 use Rattle.reg_world.specs.declared.event.Outcome.TheVariants as outcomes
 use Rattle.reg_lookup.specs.declared.answered.Answer.{Answer}
 use Rattle.reg_lookup.specs.declared.query.Query.{Query}
-use Rattle.reg_world.specs.declared.node.Node.{Node}
+use Rattle.reg_world.specs.declared.node.WorldNode.{WorldNode}
 use Rattle.reg_world.proofs.Lasts.{IsPart, if_some, in_set, key_is, last_absent}
 use Rattle.reg_world.proofs.Lasts.{last_of_part, last_some, lasts_in, no_record}
 use Rattle.reg_world.proofs.Lasts.{of_some, own_last}
@@ -45,7 +45,7 @@ answer_of w v i query answer happens =
     ]
 
 -- and where the node is there, whatever is an answer by them is one that it gives
-gives_of : (w : State) (i : ℕ) (query : Query) (answer : Answer) (node : Node)
+gives_of : (w : State) (i : ℕ) (query : Query) (answer : Answer) (node : WorldNode)
     → slice_get w.nodes i ≡ Some node → IsAnswerOver (set_at w i).records query answer → Gives w i query answer
 gives_of w i query answer node there is =
     allowed w w (events.Lookup i query) (outcomes.Answered answer) (a_node w i node there) refl (answer, is, refl, refl)
@@ -64,7 +64,7 @@ module _ (l : LowerLaws) where
   nodes_are_compactions es w a i = at_index (IsNodeOf (topic_of w)) w.nodes i (sound-after l es w a).nodes
 
   -- a node whose set is a compaction of that one answers as it does
-  answers_of : (w : State) (i : ℕ) (node : Node) (whole : Floored) → slice_get w.nodes i ≡ Some node → IsCompactionOf node.set whole
+  answers_of : (w : State) (i : ℕ) (node : WorldNode) (whole : Floored) → slice_get w.nodes i ≡ Some node → IsCompactionOf node.set whole
       → (query : Query) (answer : Answer) → Gives w i query answer ↔ IsAnswerOver whole.records query answer
   answers_of w i node whole there compaction query answer =
       let its = set_there w i node there in

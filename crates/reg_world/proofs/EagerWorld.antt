@@ -1,7 +1,7 @@
 -- What the eager fold of a world's log comes to.
 use Rattle.std.proofs.Common.{◌≡◌, ◌↔◌, List, Some, Contains, sym, subst, ◌∙◌}
 use Rattle.std.specs.FinMap as finmap
-use Rattle.reg_kept.specs.Laws.{EachIsItsOwnCompaction}
+use Rattle.reg_floored.specs.Laws.{EachIsItsOwnCompaction}
 use Rattle.reg_entries.specs.EntryOrder.{Place, place_cmp, place_of}
 use Rattle.reg_entries.specs.declared.entry.Entry.{Entry}
 use Rattle.reg_fold.specs.Entries.{EntriesAreOfPlaces, entries}

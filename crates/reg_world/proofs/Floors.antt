@@ -2,7 +2,7 @@
 use Rattle.std.proofs.Common.{◌≡◌, ◌≢◌, ℕ, suc, zero, ◌<◌, ◌==◌, Bool, true, false, List, [], ◌∷◌, length, Option}
 use Rattle.std.proofs.Common.{Some, None, option_map, slice_get, refl, sym, ap, subst, ◌∙◌, arith, eq-eqb, ne_eqb}
 use Rattle.reg_records.specs.declared.record.Record.{Record}
-use Rattle.reg_kept.specs.Floored.{Floored}
+use Rattle.reg_floored.specs.Floored.{Floored}
 use Rattle.reg_topic.specs.Laws.{ItemsAreFoldedInTurn}
 use Rattle.reg_topic.specs.Topic.{after_batch, follows}
 use Rattle.reg_topic.specs.declared.published.Commit.{Commit}
@@ -12,29 +12,29 @@ use Rattle.reg_world.specs.Happens.{Happens}
 use Rattle.reg_world.specs.State.{State, set_at, settle, topic_of}
 use Rattle.reg_world.specs.declared.event.Event.TheVariants as events
 use Rattle.reg_world.specs.declared.event.Outcome.{Outcome}
-use Rattle.reg_world.specs.declared.node.Node.{Node}
+use Rattle.reg_world.specs.declared.node.WorldNode.{WorldNode}
 use Rattle.reg_world.proofs.Steps.{set_there}
 
 -- whether the sets have one floor, as the code compares them
-pub one_floor : (s : State) (i : ℕ) (n : Node) (floor : ℕ) → slice_get s.nodes i ≡ Some n
+pub one_floor : (s : State) (i : ℕ) (n : WorldNode) (floor : ℕ) → slice_get s.nodes i ≡ Some n
     → n.set.floor ≡ floor → ((set_at s i).floor == floor) ≡ true
 one_floor s i n floor there same = ap (λ (x : Floored). x.floor == floor) (set_there s i n there) ∙ eq-eqb n.set.floor floor same
 
-pub two_floors : (s : State) (i : ℕ) (n : Node) (floor : ℕ) → slice_get s.nodes i ≡ Some n
+pub two_floors : (s : State) (i : ℕ) (n : WorldNode) (floor : ℕ) → slice_get s.nodes i ≡ Some n
     → n.set.floor ≢ floor → ((set_at s i).floor == floor) ≡ false
 two_floors s i n floor there other = ap (λ (x : Floored). x.floor == floor) (set_there s i n there) ∙ ne_eqb n.set.floor floor other
 
 -- a node that is there
-pub within : (ns : List Node) (i : ℕ) (n : Node) → slice_get ns i ≡ Some n → i < length ns
+pub within : (ns : List WorldNode) (i : ℕ) (n : WorldNode) → slice_get ns i ≡ Some n → i < length ns
 within [] i n e = let none : None ≡ Some n = e in cc
 within (m ∷ ns) zero n e = omega arith
 within (m ∷ ns) (suc i) n e = let h = within ns i n e in omega (arith, h)
 
-pub mapped_none : (f : Node → Node) (o : Option Node) → option_map f o ≡ None → o ≡ None
+pub mapped_none : (f : WorldNode → WorldNode) (o : Option WorldNode) → option_map f o ≡ None → o ≡ None
 mapped_none f None e = refl
 mapped_none f (Some n) e = cc
 
-pub mapped_some : (f : Node → Node) (o : Option Node) (x : Node) → option_map f o ≡ Some x → (n : Node) × (o ≡ Some n) × (x ≡ f n)
+pub mapped_some : (f : WorldNode → WorldNode) (o : Option WorldNode) (x : WorldNode) → option_map f o ≡ Some x → (n : WorldNode) × (o ≡ Some n) × (x ≡ f n)
 mapped_some f None x e = cc
 mapped_some f (Some n) x e = (n, refl, cc)
 

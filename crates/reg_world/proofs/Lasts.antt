@@ -13,8 +13,8 @@ use Rattle.reg_set.specs.Compaction.{IsGone}
 use Rattle.reg_set.specs.LastRecords.{last}
 use Rattle.reg_set.specs.RecordOrder.{age_cmp, value_cmp}
 use Rattle.reg_set.specs.Records.{Records}
-use Rattle.reg_kept.specs.Compaction.{IsCompactionOf, KeepsLasts}
-use Rattle.reg_kept.specs.Floored.{Floored}
+use Rattle.reg_floored.specs.Compaction.{IsCompactionOf, KeepsLasts}
+use Rattle.reg_floored.specs.Floored.{Floored}
 use Rattle.reg_world.specs.LowerLaws.{LowerLaws}
 use Rattle.reg_world.proofs.Bools.{and-true, both_true, either, or_left, or_right}
 

@@ -1,8 +1,8 @@
 -- Merging.
 use Rattle.std.proofs.Common.{◌≡◌, sym, ap, subst}
-use Rattle.reg_kept.specs.Floored.{Floored}
-use Rattle.reg_kept.specs.Floors.{merged}
-use Rattle.reg_kept.specs.Laws.{CompactionsUnite, MergingIsAssociative, MergingIsCommutative, MergingIsIdempotent}
+use Rattle.reg_floored.specs.Floored.{Floored}
+use Rattle.reg_floored.specs.Floors.{merged}
+use Rattle.reg_floored.specs.Laws.{CompactionsUnite, MergingIsAssociative, MergingIsCommutative, MergingIsIdempotent}
 use Rattle.reg_alike.specs.AnswerAlike.{CompactionsAnswerAlike}
 use Rattle.reg_lookup.specs.Answers.{IsAnswerOver}
 use Rattle.reg_world.specs.Headline.{AnswerAlike, Merging}

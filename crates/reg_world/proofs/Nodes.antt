@@ -13,8 +13,8 @@ use Rattle.reg_set.specs.Compaction.{IsGone}
 use Rattle.reg_set.specs.LastRecords.{last, last_records}
 use Rattle.reg_set.specs.RecordOrder.{record_cmp}
 use Rattle.reg_set.specs.Records.{Records}
-use Rattle.reg_kept.specs.Compaction.{IsCompactionOf}
-use Rattle.reg_kept.specs.Floors.{below, from_floor, rebased}
+use Rattle.reg_floored.specs.Compaction.{IsCompactionOf}
+use Rattle.reg_floored.specs.Floors.{below, from_floor, rebased}
 use Rattle.reg_leader.specs.OneStep.{goes_on}
 use Rattle.reg_topic.specs.Topic.{after_batch, after_compaction, after_item, follows, left_by, may_compact, whole_log}
 use Rattle.reg_topic.specs.declared.published.Compaction.{Compaction}
@@ -25,7 +25,7 @@ use Rattle.reg_world.specs.Core.{IsNodeOf}
 use Rattle.reg_world.specs.Headline.{taken_by}
 use Rattle.reg_world.specs.LowerLaws.{LowerLaws}
 use Rattle.reg_world.specs.State.{compacted, no_records, rebasing, taking}
-use Rattle.reg_world.specs.declared.node.Node.{Node}
+use Rattle.reg_world.specs.declared.node.WorldNode.{WorldNode}
 use Rattle.reg_world.proofs.Bools.{both_true, either}
 use Rattle.reg_world.proofs.Lasts.{IsPart, if_some, in_either, in_left, in_part, in_right, in_set, joined_of, keeps_compacted}
 use Rattle.reg_world.proofs.Lasts.{last_absent, last_of_part, last_of_whole, lasts_in, no_record, of_part, of_some, offset_upto}
@@ -61,10 +61,10 @@ module _ (l : LowerLaws) where
       (sym (contains-from_list l.order batch q) ∙ there)
 
   -- a node's set is a compaction of what it took, and both are parts of the log
-  pub node-compaction : (t : Topic) (n : Node) → IsNodeOf t n → IsCompactionOf n.set (taken_by n)
+  pub node-compaction : (t : Topic) (n : WorldNode) → IsNodeOf t n → IsCompactionOf n.set (taken_by n)
   node-compaction t n h = keeps_compacted n.set.records n.took n.set.floor n.set.floor (omega arith) h.lasts
 
-  pub node-part : (t : Topic) (n : Node) → IsNodeOf t n → IsPart n.set.records t.log
+  pub node-part : (t : Topic) (n : WorldNode) → IsNodeOf t n → IsPart n.set.records t.log
   node-part t n h r e = h.part r (h.lasts.is_part r e)
 
   pub node-empty : (t : Topic) → IsNodeOf t no_records
@@ -79,7 +79,7 @@ module _ (l : LowerLaws) where
   }
 
   -- records that join, where what the log deletes doesn't come back by them
-  node-joining : (t : Topic) (more : Records) (n : Node) → IsPart more t.log
+  node-joining : (t : Topic) (more : Records) (n : WorldNode) → IsPart more t.log
       → ((r : Record) → last t.log r.key ≡ Some r → r.value ≡ None → r.offset < n.set.floor → StandsAlone (union n.set.records more) r)
       → IsNodeOf t n → IsNodeOf t (taking more n)
   node-joining t more n part alone h = record {
@@ -92,7 +92,7 @@ module _ (l : LowerLaws) where
         (λ r is low. in_left l n.set.records more r (of_some (last t.kept.records key) _ r (h.has_lower e key) is low));
   }
 
-  pub node-merging : (t : Topic) (n m : Node) → n.set.floor ≡ m.set.floor
+  pub node-merging : (t : Topic) (n m : WorldNode) → n.set.floor ≡ m.set.floor
       → IsNodeOf t m → IsNodeOf t n → IsNodeOf t (taking m.set.records n)
   node-merging t n m one_floor other h =
       node-joining t m.set.records n (node-part t m other)
@@ -101,7 +101,7 @@ module _ (l : LowerLaws) where
       (other.none_is_back r is null (omega (arith, one_floor, low))))
       h
 
-  pub node-compacted : (t : Topic) → IsCompactionOf t.kept (whole_log t) → (n : Node) → IsNodeOf t n → IsNodeOf t (compacted n)
+  pub node-compacted : (t : Topic) → IsCompactionOf t.kept (whole_log t) → (n : WorldNode) → IsNodeOf t n → IsNodeOf t (compacted n)
   node-compacted t kept n h =
       let s = n.set.records in
       let part = node-part t n h in
@@ -122,7 +122,7 @@ module _ (l : LowerLaws) where
       }
 
   pub node-taking : (t : Topic) → IsCompactionOf t.kept (whole_log t) → (more : Records)
-      → IsPart more t.kept.records → (n : Node) → n.set.floor ≡ t.kept.floor
+      → IsPart more t.kept.records → (n : WorldNode) → n.set.floor ≡ t.kept.floor
       → IsNodeOf t n → IsNodeOf t (taking more n)
   node-taking t kept more are_kept n at_floor h =
       let part = kept.is_below_floor.is_part in
@@ -136,7 +136,7 @@ module _ (l : LowerLaws) where
             last_absent l more r.key (λ q inside same. no_record l t.kept.records r.key gone.has_no_other q (are_kept q inside) same)))
       ]) h
 
-  pub node-rebasing : (t : Topic) → IsCompactionOf t.kept (whole_log t) → (n : Node) → IsNodeOf t n → IsNodeOf t (rebasing t.kept n)
+  pub node-rebasing : (t : Topic) → IsCompactionOf t.kept (whole_log t) → (n : WorldNode) → IsNodeOf t n → IsNodeOf t (rebasing t.kept n)
   node-rebasing t kept n h =
       let f = t.kept.floor in
       let part = kept.is_below_floor.is_part in
@@ -168,7 +168,7 @@ module _ (l : LowerLaws) where
 
   -- items
   node-batch : (b : Bool) (t : Topic) (batch : List Record) → follows t.next batch ≡ b
-      → t.kept.floor ≤ t.next → (n : Node) → IsNodeOf t n → IsNodeOf (after_batch b t batch) n
+      → t.kept.floor ≤ t.next → (n : WorldNode) → IsNodeOf t n → IsNodeOf (after_batch b t batch) n
   node-batch false t batch e low n h = h
   node-batch true t batch e low n h =
       let more : Records = from_list batch in
@@ -191,7 +191,7 @@ module _ (l : LowerLaws) where
       }
 
   node-drop : (b : Bool) (t : Topic) (c : Compaction) → may_compact t c ≡ b
-      → (n : Node) → IsNodeOf t n → IsNodeOf (after_compaction b t c) n
+      → (n : WorldNode) → IsNodeOf t n → IsNodeOf (after_compaction b t c) n
   node-drop false t c e n h = h
   node-drop true t c e n h =
       let may = (l.drops t c).0 e in
@@ -207,6 +207,6 @@ module _ (l : LowerLaws) where
             (last_of_whole l (left_by t c) t.kept may.3 key r is) under);
       }
 
-  pub node-item : (t : Topic) (i : Item) → t.kept.floor ≤ t.next → (n : Node) → IsNodeOf t n → IsNodeOf (after_item t i) n
+  pub node-item : (t : Topic) (i : Item) → t.kept.floor ≤ t.next → (n : WorldNode) → IsNodeOf t n → IsNodeOf (after_item t i) n
   node-item t (items.Commit commit) low n h = node-batch (follows t.next commit.batch) t commit.batch refl low n h
   node-item t (items.Compaction c) low n h = node-drop (may_compact t c) t c refl n h

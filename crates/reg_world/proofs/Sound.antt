@@ -3,7 +3,7 @@ use Rattle.std.proofs.Common.{◌≡◌, ◌≤◌, ℕ, suc, zero, List, [], �
 use Rattle.std.proofs.Common.{IfSome, slice_get, replicate, refl, sym, subst, arith}
 use Rattle.std.specs.List.{AllByRecursion}
 use Rattle.reg_set.specs.Records.{Records}
-use Rattle.reg_kept.specs.Compaction.{IsCompactionOf, KeepsLasts}
+use Rattle.reg_floored.specs.Compaction.{IsCompactionOf, KeepsLasts}
 use Rattle.reg_topic.specs.Topic.{IsAdopted, IsLawful, MayCommit, MayFollow, after_items, whole_log}
 use Rattle.reg_topic.specs.declared.published.Commit.{Commit}
 use Rattle.reg_topic.specs.declared.published.Item.{Item}
@@ -12,7 +12,7 @@ use Rattle.reg_topic.specs.declared.topic.Topic.{Topic}
 use Rattle.reg_world.specs.Core.{IsNodeOf}
 use Rattle.reg_world.specs.LowerLaws.{LowerLaws}
 use Rattle.reg_world.specs.State.{State, changed, no_records, publish, settle, settled, start, topic_of, with_node}
-use Rattle.reg_world.specs.declared.node.Node.{Node}
+use Rattle.reg_world.specs.declared.node.WorldNode.{WorldNode}
 use Rattle.reg_world.proofs.Lasts.{keeps_compacted}
 use Rattle.reg_world.proofs.Nodes.{node-empty, node-item}
 
@@ -23,21 +23,21 @@ pub record IsSound (s : State) : Type 0 where
   pub nodes : AllByRecursion (IsNodeOf (topic_of s)) s.nodes
 
 -- Nodes.
-pub all_changed : (P : Node → Type 0) (f : Node → Node) (i : ℕ) (ns : List Node)
-    → ((n : Node) → slice_get ns i ≡ Some n → P n → P (f n)) → AllByRecursion P ns → AllByRecursion P (changed i f ns)
+pub all_changed : (P : WorldNode → Type 0) (f : WorldNode → WorldNode) (i : ℕ) (ns : List WorldNode)
+    → ((n : WorldNode) → slice_get ns i ≡ Some n → P n → P (f n)) → AllByRecursion P ns → AllByRecursion P (changed i f ns)
 all_changed P f i [] h a = tt
 all_changed P f zero (n ∷ ns) h a = (h n refl a.0, a.1)
 all_changed P f (suc i) (n ∷ ns) h a = (a.0, all_changed P f i ns h a.1)
 
-pub all_kept : (P Q : Node → Type 0) → ((n : Node) → P n → Q n) → (ns : List Node) → AllByRecursion P ns → AllByRecursion Q ns
+pub all_kept : (P Q : WorldNode → Type 0) → ((n : WorldNode) → P n → Q n) → (ns : List WorldNode) → AllByRecursion P ns → AllByRecursion Q ns
 all_kept P Q h [] a = tt
 all_kept P Q h (n ∷ ns) a = (h n a.0, all_kept P Q h ns a.1)
 
-pub all_equal : (P : Node → Type 0) (n : Node) → P n → (count : ℕ) → AllByRecursion P (replicate count n)
+pub all_equal : (P : WorldNode → Type 0) (n : WorldNode) → P n → (count : ℕ) → AllByRecursion P (replicate count n)
 all_equal P n h zero = tt
 all_equal P n h (suc count) = (h, all_equal P n h count)
 
-pub at_index : (P : Node → Type 0) (ns : List Node) (i : ℕ) → AllByRecursion P ns → IfSome (slice_get ns i) P
+pub at_index : (P : WorldNode → Type 0) (ns : List WorldNode) (i : ℕ) → AllByRecursion P ns → IfSome (slice_get ns i) P
 at_index P [] i a = tt
 at_index P (n ∷ ns) zero a = a.0
 at_index P (n ∷ ns) (suc i) a = at_index P ns i a.1
@@ -85,8 +85,8 @@ module _ (l : LowerLaws) where
   pub sound-settled : (s : State) → IsSound s → IsSound (settled s)
   sound-settled s h = sound-settle s.unsettled s refl h
 
-  pub sound-node : (s : State) (i : ℕ) (f : Node → Node)
-      → ((n : Node) → slice_get s.nodes i ≡ Some n → IsNodeOf (topic_of s) n → IsNodeOf (topic_of s) (f n))
+  pub sound-node : (s : State) (i : ℕ) (f : WorldNode → WorldNode)
+      → ((n : WorldNode) → slice_get s.nodes i ≡ Some n → IsNodeOf (topic_of s) n → IsNodeOf (topic_of s) (f n))
       → IsSound s → IsSound (with_node s i f)
   sound-node s i f g h = record {
     adopted = h.adopted;

@@ -9,7 +9,7 @@ use Rattle.std.specs.Ordering.{eq_by_cmp}
 use Rattle.reg_records.specs.declared.record.Record.{Record}
 use Rattle.reg_set.specs.RecordOrder.{record_cmp}
 use Rattle.reg_set.specs.Records.{Records}
-use Rattle.reg_kept.specs.Floored.{Floored}
+use Rattle.reg_floored.specs.Floored.{Floored}
 use Rattle.reg_leader.specs.Step.{IsStep}
 use Rattle.reg_topic.specs.Topic.{registry_of}
 use Rattle.reg_leader.specs.declared.command.Command.{Command}
@@ -25,7 +25,7 @@ use Rattle.reg_world.specs.declared.event.Event.TheVariants as events
 use Rattle.reg_world.specs.declared.event.Fate.{Fate}
 use Rattle.reg_world.specs.declared.event.Fate.TheVariants.{Published, Unsettled, Lost}
 use Rattle.reg_world.specs.declared.event.Outcome.{Outcome}
-use Rattle.reg_world.specs.declared.node.Node.{Node}
+use Rattle.reg_world.specs.declared.node.WorldNode.{WorldNode}
 use Rattle.reg_world.proofs.Bools.{both_true}
 use Rattle.reg_world.proofs.Lasts.{of_some}
 use Rattle.reg_world.proofs.Nodes.{node-compacted, node-empty, node-merging, node-rebasing, node-taking}
@@ -69,7 +69,7 @@ module _ (l : LowerLaws) where
         | false ↦ λ _ rest. all_in kept ds r parts.1 rest
       ] refl any
 
-  pub node_at : (s : State) (i : ℕ) (n : Node) → slice_get s.nodes i ≡ Some n → IsSound s → IsNodeOf (topic_of s) n
+  pub node_at : (s : State) (i : ℕ) (n : WorldNode) → slice_get s.nodes i ≡ Some n → IsSound s → IsNodeOf (topic_of s) n
   node_at s i n there h = of_some (slice_get s.nodes i) (IsNodeOf (topic_of s)) n (at_index (IsNodeOf (topic_of s)) s.nodes i h.nodes) there
 
   sound-taking : (s : State) (node : ℕ) (records : List Record) → list_all (contains (topic_of s).kept.records) records ≡ true

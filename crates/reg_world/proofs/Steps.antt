@@ -3,13 +3,13 @@ use Rattle.std.proofs.Common.{◌≡◌, ◌⊎◌, inl, inr, ℕ, suc, zero, tr
 use Rattle.std.proofs.Common.{None, MatchBool, is_some, slice_get, set, refl, sym, ap, subst, ◌∙◌}
 use Rattle.std.proofs.lemmas.Bool.{false≢true}
 use Rattle.std.specs.Option.{option_map_or}
-use Rattle.reg_kept.specs.Floored.{Floored}
+use Rattle.reg_floored.specs.Floored.{Floored}
 use Rattle.reg_world.specs.Happens.{Does, Happens, floors_agree, is_allowed}
 use Rattle.reg_world.specs.State.{State, changed, has_node, no_records, set_at, with_node}
 use Rattle.reg_world.specs.declared.event.Event.{Event}
 use Rattle.reg_world.specs.declared.event.Outcome.{Outcome}
 use Rattle.reg_world.specs.declared.event.Outcome.TheVariants as outcomes
-use Rattle.reg_world.specs.declared.node.Node.{Node}
+use Rattle.reg_world.specs.declared.node.WorldNode.{WorldNode}
 
 -- the three ways that an event can go
 pub record Did (s t : State) (e : Event) (o : Outcome) : Type 0 where
@@ -81,12 +81,12 @@ not_allowed s t e refused same =
     (sym refused) (told, same)
 
 -- Nodes.
-pub node-set : (f : Node → Node) (i : ℕ) (ns : List Node) (n : Node) → slice_get ns i ≡ Some n → set ns i (f n) ≡ changed i f ns
+pub node-set : (f : WorldNode → WorldNode) (i : ℕ) (ns : List WorldNode) (n : WorldNode) → slice_get ns i ≡ Some n → set ns i (f n) ≡ changed i f ns
 node-set f i [] n e = let no : None ≡ Some n = e in cc
 node-set f zero (m ∷ ns) n e = let same : m ≡ n = cc in ap (λ x. f x ∷ ns) (sym same)
 node-set f (suc i) (m ∷ ns) n e = ap (λ l. m ∷ l) (node-set f i ns n e)
 
-pub node-done : (s t : State) (f : Node → Node) (i : ℕ) (n x : Node) → slice_get s.nodes i ≡ Some n → x ≡ f n
+pub node-done : (s t : State) (f : WorldNode → WorldNode) (i : ℕ) (n x : WorldNode) → slice_get s.nodes i ≡ Some n → x ≡ f n
     → t ≡ record { base = s.base; items = s.items; unsettled = s.unsettled; nodes = set s.nodes i x } → t ≡ with_node s i f
 node-done s t f i n x there is written =
     written
@@ -96,15 +96,15 @@ node-done s t f i n x there is written =
 pub no_node : (s : State) (i : ℕ) → slice_get s.nodes i ≡ None → has_node s i ≡ false
 no_node s i none = ap is_some none
 
-pub a_node : (s : State) (i : ℕ) (n : Node) → slice_get s.nodes i ≡ Some n → has_node s i ≡ true
+pub a_node : (s : State) (i : ℕ) (n : WorldNode) → slice_get s.nodes i ≡ Some n → has_node s i ≡ true
 a_node s i n there = ap is_some there
 
-some_node : (o : Option Node) → is_some o ≡ true → (n : Node) × (o ≡ Some n)
+some_node : (o : Option WorldNode) → is_some o ≡ true → (n : WorldNode) × (o ≡ Some n)
 some_node None e = absurd (false≢true e)
 some_node (Some n) e = (n, refl)
 
-pub node-there : (s : State) (i : ℕ) → has_node s i ≡ true → (n : Node) × (slice_get s.nodes i ≡ Some n)
+pub node-there : (s : State) (i : ℕ) → has_node s i ≡ true → (n : WorldNode) × (slice_get s.nodes i ≡ Some n)
 node-there s i has = some_node (slice_get s.nodes i) has
 
-pub set_there : (s : State) (i : ℕ) (n : Node) → slice_get s.nodes i ≡ Some n → set_at s i ≡ n.set
-set_there s i n there = ap (λ o. option_map_or (λ (m : Node). m.set) o no_records.set) there
+pub set_there : (s : State) (i : ℕ) (n : WorldNode) → slice_get s.nodes i ≡ Some n → set_at s i ≡ n.set
+set_there s i n there = ap (λ o. option_map_or (λ (m : WorldNode). m.set) o no_records.set) there

@@ -18,7 +18,7 @@ use Rattle.reg_world.specs.declared.event.Fate.{Fate}
 use Rattle.reg_world.specs.declared.event.Fate.TheVariants.{Published, Unsettled, Lost}
 use Rattle.reg_world.specs.declared.event.Outcome.{Outcome}
 use Rattle.reg_world.specs.declared.event.Outcome.TheVariants as outcomes
-use Rattle.reg_world.specs.declared.node.Node.{Node}
+use Rattle.reg_world.specs.declared.node.WorldNode.{WorldNode}
 use Rattle.reg_world.proofs.Sound.{settle-none}
 use Rattle.reg_world.proofs.Stays.{sound-after}
 use Rattle.reg_world.proofs.Steps.{allowed, went}
@@ -116,7 +116,7 @@ settled_once s = ap (λ u. settle u (settled s)) (settle-none s.unsettled s refl
 
 allowed_alike : (s : State) (e : Event) → settles_first e ≡ true → is_allowed s e ≡ is_allowed (settled s) e
 allowed_alike s (events.Command node command fate) first =
-    ap (λ (ns : List Node). is_some (slice_get ns node)) (sym (same_nodes s.unsettled s))
+    ap (λ (ns : List WorldNode). is_some (slice_get ns node)) (sym (same_nodes s.unsettled s))
 allowed_alike s (events.Compact dropped) first =
     ap (λ (x : State). may_compact (topic_of x) (at_floor (topic_of x).kept.floor dropped)) (sym (settled_once s))
 allowed_alike s (events.CompactTo floor dropped) first =

@@ -5,7 +5,7 @@ use Rattle.std.specs.FinSet.{contains, from_list, union}
 use Rattle.reg_records.specs.declared.key.Key.{Key}
 use Rattle.reg_records.specs.declared.record.Record.{Record}
 use Rattle.reg_set.specs.LastRecords.{last}
-use Rattle.reg_kept.specs.Compaction.{IsCompactionOf, KeepsLasts}
+use Rattle.reg_floored.specs.Compaction.{IsCompactionOf, KeepsLasts}
 use Rattle.reg_topic.specs.Topic.{IsAdopted, IsLawful, MayCommit, after_batch, published_by, whole_log}
 use Rattle.reg_topic.specs.declared.published.Item.{Item}
 use Rattle.reg_topic.specs.declared.published.Item.TheVariants as items
@@ -17,7 +17,7 @@ use Rattle.reg_world.specs.declared.event.Event.{Event}
 use Rattle.reg_world.specs.declared.event.Event.TheVariants as events
 use Rattle.reg_world.specs.declared.event.Outcome.{Outcome}
 use Rattle.reg_world.specs.declared.event.Outcome.TheVariants as outcomes
-use Rattle.reg_world.specs.declared.node.Node.{Node}
+use Rattle.reg_world.specs.declared.node.WorldNode.{WorldNode}
 
 -- the log is an adopted base and lawful items after it, and what isn't settled may follow on it
 abbrev pub HasLawfulLog : State → Type 0
@@ -38,7 +38,7 @@ abbrev pub KeptIsCompaction : Type 0
 KeptIsCompaction = (events : List Event) (w : State) → After events w → IsCompactionOf (topic_of w).kept (whole_log (topic_of w))
 
 -- a node's set keeps each last record of what it took, a part of the log, at a floor that isn't ahead of the kept one
-pub record IsNodeOf (t : Topic) (node : Node) : Type 0 where
+pub record IsNodeOf (t : Topic) (node : WorldNode) : Type 0 where
   pub lasts : KeepsLasts node.set.records node.took
   pub part : (r : Record) → contains node.took r ≡ true → contains t.log r ≡ true
   pub not_ahead : node.set.floor ≤ t.kept.floor

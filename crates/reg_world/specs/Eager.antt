@@ -10,8 +10,8 @@ use Rattle.reg_records.specs.declared.record.Record.{Record}
 use Rattle.reg_records.specs.declared.value.Value.{Value}
 use Rattle.reg_records.specs.declared.value.Value.TheVariants as values
 use Rattle.reg_set.specs.LastRecords.{last_records}
-use Rattle.reg_kept.specs.Compaction.{IsCompactionOf}
-use Rattle.reg_kept.specs.Floored.{Floored}
+use Rattle.reg_floored.specs.Compaction.{IsCompactionOf}
+use Rattle.reg_floored.specs.Floored.{Floored}
 use Rattle.reg_entries.specs.EntryOrder.{Place, place_cmp, place_of}
 use Rattle.reg_entries.specs.Flagged.{with_soft}
 use Rattle.reg_entries.specs.declared.entry.Entry.{Entry}

@@ -4,10 +4,10 @@ use Rattle.std.specs.FinSet.{contains}
 use Rattle.reg_records.specs.declared.key.Key.{Key}
 use Rattle.reg_records.specs.declared.record.Record.{Record}
 use Rattle.reg_set.specs.LastRecords.{last}
-use Rattle.reg_kept.specs.Compaction.{IsCompactionOf}
-use Rattle.reg_kept.specs.Floored.{Floored}
-use Rattle.reg_kept.specs.Floors.{below, merged}
-use Rattle.reg_kept.specs.Laws.{MergingIsAssociative, MergingIsCommutative, MergingIsIdempotent}
+use Rattle.reg_floored.specs.Compaction.{IsCompactionOf}
+use Rattle.reg_floored.specs.Floored.{Floored}
+use Rattle.reg_floored.specs.Floors.{below, merged}
+use Rattle.reg_floored.specs.Laws.{MergingIsAssociative, MergingIsCommutative, MergingIsIdempotent}
 use Rattle.reg_topic.specs.Promises.{IdsAreForGood, MetLevels}
 use Rattle.reg_topic.specs.Topic.{registry_of, whole_log}
 use Rattle.reg_world.specs.Core.{HasAllThatWasPublished, HasLawfulLog, HasNodes}
@@ -21,15 +21,15 @@ use Rattle.reg_world.specs.declared.event.Event.TheVariants as events
 use Rattle.reg_world.specs.declared.event.Outcome.TheVariants as outcomes
 use Rattle.reg_lookup.specs.declared.answered.Answer.{Answer}
 use Rattle.reg_lookup.specs.declared.query.Query.{Query}
-use Rattle.reg_world.specs.declared.node.Node.{Node}
+use Rattle.reg_world.specs.declared.node.WorldNode.{WorldNode}
 
 -- what a node took since its restart, at the floor that it has
-abbrev pub taken_by : Node → Floored
+abbrev pub taken_by : WorldNode → Floored
 taken_by node = record { records = node.took; floor = node.set.floor }
 
 -- the i-th node took a compaction of that set
 pub record Took (w : State) (i : ℕ) (whole : Floored) : Type 0 where
-  pub node : Node
+  pub node : WorldNode
   pub is_there : slice_get w.nodes i ≡ Some node
   pub compaction : IsCompactionOf (taken_by node) whole
 
@@ -60,7 +60,7 @@ SameAnswers = (events others : List Event) (w v : State)
 
 -- the i-th node is at the kept floor, and took, since its restart, each record that is kept now
 pub record TookAll (w : State) (i : ℕ) : Type 0 where
-  pub node : Node
+  pub node : WorldNode
   pub is_there : slice_get w.nodes i ≡ Some node
   pub at_floor : node.set.floor ≡ (topic_of w).kept.floor
   pub all : (r : Record) → contains (topic_of w).kept.records r ≡ true → contains node.took r ≡ true
@@ -83,13 +83,13 @@ CaughtUpNodesAnswerAsTheLog = (events : List Event) (w : State)
     → AnswersAsTheLog w i
 
 -- the node is at the kept floor, and has the last kept record of each key
-pub record HasKeptLasts (w : State) (node : Node) : Type 0 where
+pub record HasKeptLasts (w : State) (node : WorldNode) : Type 0 where
   pub at_floor : node.set.floor ≡ (topic_of w).kept.floor
   pub lasts : (key : Key) → IfSome (last (topic_of w).kept.records key) (λ r. contains node.set.records r ≡ true)
 
 -- its set is a compaction of the log, and it answers as that does
 abbrev pub CatchesUp : State → Type 0
-CatchesUp w = (i : ℕ) (node : Node)
+CatchesUp w = (i : ℕ) (node : WorldNode)
     → slice_get w.nodes i ≡ Some node
     → HasKeptLasts w node
     → IsCompactionOf node.set (whole_log (topic_of w)) × AnswersAsTheLog w i

@@ -4,7 +4,7 @@ use Rattle.std.specs.FinSet.{IsAntisymmetric}
 use Rattle.reg_set.specs.Join.{LastIsGreatest, LastOfLastRecords, NoLastIsNoRecord}
 use Rattle.reg_set.specs.Join as of_sets
 use Rattle.reg_set.specs.RecordOrder.{record_cmp}
-use Rattle.reg_kept.specs.Laws.{CompactionsCompose, KeepingLastsUnites, LastOfCompaction, RebasingKeepsLasts}
+use Rattle.reg_floored.specs.Laws.{CompactionsCompose, KeepingLastsUnites, LastOfCompaction, RebasingKeepsLasts}
 use Rattle.reg_alike.specs.AnswerAlike.{CompactionsAnswerAlike}
 use Rattle.reg_topic.specs.Laws.{AllowedDropsLeaveCompactions, CommitsFollow, FloorsStayBelow}
 use Rattle.reg_topic.specs.Laws.{ItemsAreFoldedInTurn, KeptStaysCompaction}

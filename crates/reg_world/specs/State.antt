@@ -4,21 +4,21 @@ use Rattle.std.specs.FinSet.{empty, union}
 use Rattle.std.specs.Option.{option_map_or}
 use Rattle.reg_set.specs.LastRecords.{last_records}
 use Rattle.reg_set.specs.Records.{Records}
-use Rattle.reg_kept.specs.Floored.{Floored}
-use Rattle.reg_kept.specs.Floors.{rebased}
+use Rattle.reg_floored.specs.Floored.{Floored}
+use Rattle.reg_floored.specs.Floors.{rebased}
 use Rattle.reg_topic.specs.Topic.{after_items}
 use Rattle.reg_topic.specs.declared.published.Commit.{Commit}
 use Rattle.reg_topic.specs.declared.published.Item.{Item}
 use Rattle.reg_topic.specs.declared.published.Item.TheVariants as items
 use Rattle.reg_topic.specs.declared.topic.Topic.{Topic}
-use Rattle.reg_world.specs.declared.node.Node.{Node}
+use Rattle.reg_world.specs.declared.node.WorldNode.{WorldNode}
 
 -- what contracts see of a world
 pub record State : Type 0 where
   pub base : Topic
   pub items : List Item
   pub unsettled : Option Commit
-  pub nodes : List Node
+  pub nodes : List WorldNode
 
 -- what the published items come to
 abbrev pub topic_of : State → Topic
@@ -45,17 +45,17 @@ abbrev pub leave_unsettled : State → Commit → State
 leave_unsettled s commit = record { base = s.base; items = s.items; unsettled = Some commit; nodes = s.nodes }
 
 -- Nodes.
-abbrev pub no_records : Node
+abbrev pub no_records : WorldNode
 no_records = record { set = record { records = empty; floor = 0 }; took = empty }
 
-abbrev pub taking : Records → Node → Node
+abbrev pub taking : Records → WorldNode → WorldNode
 taking more node = record { set = record node.set { records = union node.set.records more }; took = union node.took more }
 
-abbrev pub compacted : Node → Node
+abbrev pub compacted : WorldNode → WorldNode
 compacted node = record { set = record node.set { records = last_records node.set.records }; took = node.took }
 
 -- own records from the kept floor on, and the kept ones below it: of the set, and of what was taken
-abbrev pub rebasing : Floored → Node → Node
+abbrev pub rebasing : Floored → WorldNode → WorldNode
 rebasing kept node = record { set = record { records = rebased node.set.records kept; floor = kept.floor }; took = rebased node.took kept }
 
 abbrev pub has_node : State → ℕ → Bool
@@ -66,12 +66,12 @@ abbrev pub set_at : State → ℕ → Floored
 set_at s i = option_map_or (λ node. node.set) (slice_get s.nodes i) no_records.set
 
 -- the nodes with the i-th one changed
-abbrev pub changed : ℕ → (Node → Node) → List Node → List Node
+abbrev pub changed : ℕ → (WorldNode → WorldNode) → List WorldNode → List WorldNode
 changed i f [] = []
 changed zero f (node ∷ nodes) = f node ∷ nodes
 changed (suc i) f (node ∷ nodes) = node ∷ changed i f nodes
 
-abbrev pub with_node : State → ℕ → (Node → Node) → State
+abbrev pub with_node : State → ℕ → (WorldNode → WorldNode) → State
 with_node s i f = record { base = s.base; items = s.items; unsettled = s.unsettled; nodes = changed i f s.nodes }
 
 -- the beginning: nothing was published, and no node has a record

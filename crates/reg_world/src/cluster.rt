@@ -14,10 +14,10 @@ ghost use Rattle.reg_world.specs.declared.event.Event.TheVariants as events;
 
 use crate::event::{Event, Fate, Outcome};
 use crate::folding::{Decided, Folded};
-use crate::node::Node;
+use crate::node::WorldNode;
 use base_text::Listed;
+use reg_floored::KeptSet;
 use reg_fold::{Refusal, Registry, StoreFault};
-use reg_kept::KeptSet;
 use reg_leader::{Command, Decision, Reply, batches_end_by_the_limit, batches_go_on, decide};
 use reg_lookup::{Query, answer};
 use reg_records::Record;
@@ -32,7 +32,7 @@ pub(crate) struct Cluster {
     base: Topic,
     items: Vec<Item>,
     unsettled: Option<Commit>,
-    nodes: Vec<Node>,
+    nodes: Vec<WorldNode>,
     // Over the items and the commit that isn't settled, which each later command settles first.
     decided: Decided,
     // Over some of the items.
@@ -46,7 +46,7 @@ impl Model for Cluster {
     ghost use Rattle.reg_topic.specs.contracts.published.Item as published;
     ghost use Rattle.reg_topic.specs.contracts.topic.Topic as topics;
     ghost use Rattle.reg_topic.specs.Topic.{after_items, registry_of};
-    ghost use Rattle.reg_world.specs.contracts.node.Node as node_rows;
+    ghost use Rattle.reg_world.specs.contracts.node.WorldNode as node_rows;
     ghost use Rattle.reg_world.specs.State.{State, settling};
 
     ghost Value = { State };
@@ -293,7 +293,7 @@ impl Cluster {
     }
 
     /// The node, where it is there, rebased on the kept set.
-    fn rebased(&mut self, node: usize) -> Result<Option<Node>, AllocError>
+    fn rebased(&mut self, node: usize) -> Result<Option<WorldNode>, AllocError>
         ensures told { IfOk result (λ found. found ≡ option_map (rebasing (topic_of self.old).kept) (slice_get self.old.nodes node)) }
         ensures same { self.new ≡ self.old }
     {
@@ -312,7 +312,7 @@ impl Cluster {
         let Some(_found) = self.node(node) else {
             return Ok(Outcome::NotAllowed);
         };
-        self.nodes[node] = Node::new(*self.items.allocator());
+        self.nodes[node] = WorldNode::new(*self.items.allocator());
         Ok(Outcome::Done)
     }
 
@@ -328,7 +328,7 @@ impl Cluster {
         Ok(Outcome::Answered(answer(alloc, &registry, query)?))
     }
 
-    fn node(&self, node: usize) -> Option<&Node>
+    fn node(&self, node: usize) -> Option<&WorldNode>
         ensures { option_copied result ≡ slice_get self.now.nodes node }
     {
         self.nodes.get(node)
@@ -437,12 +437,12 @@ fn put_settling(items: &mut Vec<Item>, unsettled: &mut Option<Commit>)
     }
 }
 
-fn new_nodes(alloc: Global, count: usize) -> Result<Vec<Node>, AllocError>
+fn new_nodes(alloc: Global, count: usize) -> Result<Vec<WorldNode>, AllocError>
     ensures { IfOk result (λ nodes. nodes.items ≡ replicate count no_records) }
 {
     let mut nodes = Vec::new(alloc);
     for _node in 0..count {
-        nodes.push(Node::new(alloc))?;
+        nodes.push(WorldNode::new(alloc))?;
     }
     Ok(nodes)
 }

@@ -7,11 +7,11 @@ ghost use Rattle.reg_world.specs.LowerLaws.{LowerLaws};
 ghost use Rattle.reg_world.specs.Threads.{ItemsHappen};
 
 use reg_alike::{compactions_answer_alike, compactions_give_alike};
-use reg_fold::entries_are_of_places;
-use reg_kept::{
-    compactions_compose, compactions_keep_what_stands, compactions_unite, merging_joins_sets,
+use reg_floored::{
+    compactions_compose, compactions_keep_what_stands, compactions_unite, merging_joins_kept_sets,
     rebasing_keeps_lasts,
 };
+use reg_fold::entries_are_of_places;
 use reg_leader::{batches_end_by_the_limit, batches_go_on, deletes_name_greatest};
 use reg_lookup::queries_have_one_answer;
 use reg_set::{
@@ -129,7 +129,7 @@ pub fn eager_folding_is_right()
 pub fn merging_answers_alike()
     ensures { Merging }
 {
-    merging_joins_sets();
+    merging_joins_kept_sets();
     compactions_unite();
     compactions_answer_alike();
 }

@@ -16,5 +16,5 @@ pub use laws::{
     nodes_answer_alike, registered_versions_meet_levels, unsettled_comes_first,
     worlds_keep_the_headline,
 };
-pub use node::Node;
+pub use node::WorldNode;
 pub use world::{RunError, World};

@@ -1,60 +1,60 @@
 // A node of a world.
 ghost use Rattle.std.specs.Prelude.{◌≡◌, IfOk};
-ghost use Rattle.reg_kept.specs.Floors.{rebased};
+ghost use Rattle.reg_floored.specs.Floors.{rebased};
 ghost use Rattle.reg_world.specs.State.{compacted, no_records, rebasing, taking};
 
-use reg_kept::KeptSet;
+use reg_floored::KeptSet;
 use reg_set::RecordSet;
 use std::alloc::{AllocError, Global};
 
 /// A node's set, beside all records that joined it since its last restart.
 #[derive(Debug, Drop)]
-pub struct Node {
+pub struct WorldNode {
     pub set: KeptSet,
     /// Where the set was rebased, what was taken was too.
     pub took: RecordSet,
 }
 
-impl Node {
+impl WorldNode {
     /// A node without records, at the floor 0.
-    pub(crate) fn new(alloc: Global) -> Node
+    pub(crate) fn new(alloc: Global) -> WorldNode
         ensures { result ≡ no_records }
     {
-        Node {
+        WorldNode {
             set: KeptSet::new(alloc),
             took: RecordSet::new(alloc),
         }
     }
 
     /// The node with those records too. Its floor stays.
-    pub(crate) fn taking(&self, more: &RecordSet) -> Result<Node, AllocError>
+    pub(crate) fn taking(&self, more: &RecordSet) -> Result<WorldNode, AllocError>
         ensures { IfOk result (λ node. node ≡ taking more.now self.now) }
     {
         let mut set = self.set.clone()?;
         set.add(more)?;
         let mut took = self.took.clone()?;
         took.merge(more)?;
-        Ok(Node { set, took })
+        Ok(WorldNode { set, took })
     }
 
     /// The node with its last records alone. Its floor stays.
-    pub(crate) fn compacted(&self) -> Result<Node, AllocError>
+    pub(crate) fn compacted(&self) -> Result<WorldNode, AllocError>
         ensures { IfOk result (λ node. node ≡ compacted self.now) }
     {
         let mut set = self.set.clone()?;
         set.compact();
         let took = self.took.clone()?;
-        Ok(Node { set, took })
+        Ok(WorldNode { set, took })
     }
 
     /// The node at the floor of the kept set, with the kept records below it in place of its own, and
     /// in place of what it took there.
-    pub(crate) fn rebasing(&self, kept: &KeptSet) -> Result<Node, AllocError>
+    pub(crate) fn rebasing(&self, kept: &KeptSet) -> Result<WorldNode, AllocError>
         ensures { IfOk result (λ node. node ≡ rebasing kept.now self.now) }
     {
         let set = rebased(self.set.set(), kept)?;
         let took = rebased(&self.took, kept)?;
-        Ok(Node {
+        Ok(WorldNode {
             set,
             took: took.set().clone()?,
         })

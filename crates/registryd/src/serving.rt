@@ -1,6 +1,6 @@
 // Nodes that serve until the program is stopped.
 use reg_serve::listen;
-use reg_service::{Entrance, NoGate, Size, StartFault, serve_nodes};
+use reg_service::{Endpoints, NoGate, ServiceError, Size, serve_nodes};
 use std::alloc::Global;
 use std::io::{Eprint, Print};
 use std::net::{IpAddr, Ipv4Addr, Net, TcpListener, TcpStream};
@@ -56,8 +56,8 @@ struct Ports<R: Drop> {
     nodes: u64,
 }
 
-impl<R: Net<Listener = TcpListener, Stream = TcpStream> + Print + Drop> Entrance for Ports<R> {
-    fn listen(&mut self) -> Result<Vec<TcpListener>, StartFault> {
+impl<R: Net<Listener = TcpListener, Stream = TcpStream> + Print + Drop> Endpoints for Ports<R> {
+    fn listen(&mut self) -> Result<Vec<TcpListener>, ServiceError> {
         let address = IpAddr::V4(Ipv4Addr::LOCALHOST);
         Ok(listen(&self.rt, self.alloc, address, self.port, self.nodes)?)
     }

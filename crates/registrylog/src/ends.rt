@@ -1,11 +1,14 @@
 // What is said at the end, and the exit status.
-use crate::fault::KeepFault;
+use crate::fault::KeepError;
 use clap::Error;
 use clap::error::ErrorKind;
 use reg_base::BaseError;
 use reg_follow::FollowError;
-use reg_service::StartFault;
+use reg_inspection::Obstacle;
+use reg_join_service::{JoinBaseError, JoinError};
+use reg_service::ServiceError;
 use reg_tail::TailError;
+use std::alloc::Global;
 use std::io::{self, Eprint, Print};
 use std::process::{ExitCode, Termination};
 
@@ -45,11 +48,11 @@ pub(crate) fn misread<R: Eprint>(rt: &R, error: io::Error) -> io::Result<Finishe
 
 /// Says why a log isn't served, or a file isn't read or written. What keeps a log from being taken over was told line by
 /// line.
-pub(crate) fn kept<R: Eprint>(rt: &R, served: Result<(), KeepFault>) -> io::Result<Finished> {
+pub(crate) fn kept<R: Eprint>(rt: &R, served: Result<(), KeepError>) -> io::Result<Finished> {
     match served {
         Ok(()) => Ok(Finished { status: 0 }),
         Err(fault) => {
-            if !matches!(fault, KeepFault::Start(StartFault::Closed(_))) {
+            if !matches!(fault, KeepError::Start(ServiceError::Closed(_))) {
                 rt.eprintln(fault)?;
             }
             Ok(Finished {
@@ -70,6 +73,37 @@ pub(crate) fn followed<R: Eprint>(rt: &R, served: Result<(), FollowError>) -> io
             })
         }
     }
+}
+
+/// Says why a log that others write too isn't served any more. What keeps its base from being served is told line by line.
+pub(crate) fn joined<R: Eprint>(
+    rt: &R,
+    alloc: Global,
+    served: Result<(), JoinError>,
+) -> io::Result<Finished> {
+    let Err(error) = served else {
+        return Ok(Finished { status: 0 });
+    };
+    let status = error.status();
+    match error {
+        JoinError::Base(JoinBaseError::Closed(found)) => tell_obstacles(rt, alloc, &found)?,
+        error => rt.eprintln(error)?,
+    }
+    Ok(Finished { status })
+}
+
+fn tell_obstacles<R: Eprint>(rt: &R, alloc: Global, found: &[Obstacle]) -> io::Result<()> {
+    for obstacle in found {
+        let text = obstacle.text(alloc)?;
+        rt.eprintln(format_args!("base: {text}"))?;
+    }
+    Ok(())
+}
+
+/// The end of a command that wrote something alone.
+pub(crate) fn told(written: io::Result<()>) -> io::Result<Finished> {
+    written?;
+    Ok(Finished { status: 0 })
 }
 
 /// Says why the lines of a file aren't written any more.

@@ -1,14 +1,14 @@
 // Why a log isn't served.
-use reg_journal::OpenError;
+use reg_journal::JournalOpenError;
 use reg_records::{LogError, LogFault};
-use reg_service::StartFault;
+use reg_service::ServiceError;
 use std::alloc::{AllocError, AllocFailed};
 use std::io::{self, ErrorKind};
 use thiserror::Error;
 
 /// Why a log isn't served. It is shown as one line.
 #[derive(Clone, Copy, Debug, PartialEq, Eq, Error)]
-pub(crate) enum KeepFault {
+pub(crate) enum KeepError {
     /// Another process serves it.
     #[error("log is in use")]
     InUse,
@@ -24,59 +24,62 @@ pub(crate) enum KeepFault {
     #[error("OutOfMemory")]
     OutOfMemory,
     #[error("{0}")]
-    Start(StartFault),
+    Start(ServiceError),
 }
 
-impl KeepFault {
+impl KeepError {
     /// The exit status of a program that ends with it.
     pub(crate) fn status(self) -> u8 {
         match self {
-            KeepFault::InUse | KeepFault::Line { line: _, fault: _ } => 2,
-            KeepFault::Start(StartFault::Closed(_)) => 2,
-            KeepFault::File(_)
-            | KeepFault::Unfinished
-            | KeepFault::OutOfMemory
-            | KeepFault::Start(_) => 1,
+            KeepError::InUse | KeepError::Line { line: _, fault: _ } => 2,
+            KeepError::Start(ServiceError::Closed(_)) => 2,
+            KeepError::File(_)
+            | KeepError::Unfinished
+            | KeepError::OutOfMemory
+            | KeepError::Start(_) => 1,
         }
     }
 }
 
-impl From<io::Error> for KeepFault {
-    fn from(error: io::Error) -> KeepFault {
+impl From<io::Error> for KeepError {
+    fn from(error: io::Error) -> KeepError {
         match error.kind() {
-            ErrorKind::OutOfMemory => KeepFault::OutOfMemory,
-            kind => KeepFault::File(kind),
+            ErrorKind::OutOfMemory => KeepError::OutOfMemory,
+            kind => KeepError::File(kind),
         }
     }
 }
 
-impl From<AllocError> for KeepFault {
-    fn from(_refused: AllocError) -> KeepFault {
-        KeepFault::OutOfMemory
+impl From<AllocError> for KeepError {
+    fn from(_refused: AllocError) -> KeepError {
+        KeepError::OutOfMemory
     }
 }
 
-impl<T: Drop> From<AllocFailed<T>> for KeepFault {
-    fn from(_refused: AllocFailed<T>) -> KeepFault {
-        KeepFault::OutOfMemory
+impl<T: Drop> From<AllocFailed<T>> for KeepError {
+    fn from(_refused: AllocFailed<T>) -> KeepError {
+        KeepError::OutOfMemory
     }
 }
 
-impl From<OpenError> for KeepFault {
-    fn from(error: OpenError) -> KeepFault {
+impl From<JournalOpenError> for KeepError {
+    fn from(error: JournalOpenError) -> KeepError {
         match error {
-            OpenError::Log(LogError::Fault { line, fault }) => KeepFault::Line { line, fault },
-            OpenError::Log(LogError::OutOfMemory) | OpenError::OutOfMemory =>
-                KeepFault::OutOfMemory,
-            OpenError::Log(LogError::ReadFault { line: _ })
-            | OpenError::NoEmptyLine
-            | OpenError::Failed => KeepFault::File(ErrorKind::Other),
+            JournalOpenError::Log(LogError::Fault { line, fault }) => KeepError::Line {
+                line,
+                fault,
+            },
+            JournalOpenError::Log(LogError::OutOfMemory) | JournalOpenError::OutOfMemory =>
+                KeepError::OutOfMemory,
+            JournalOpenError::Log(LogError::ReadFault { line: _ })
+            | JournalOpenError::NoEmptyLine
+            | JournalOpenError::Failed => KeepError::File(ErrorKind::Other),
         }
     }
 }
 
-impl From<StartFault> for KeepFault {
-    fn from(fault: StartFault) -> KeepFault {
-        KeepFault::Start(fault)
+impl From<ServiceError> for KeepError {
+    fn from(fault: ServiceError) -> KeepError {
+        KeepError::Start(fault)
     }
 }

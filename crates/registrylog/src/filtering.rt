@@ -4,18 +4,40 @@ ghost use Rattle.std.specs.Prelude.{◌≤◌, IfSome};
 ghost use Rattle.reg_records.specs.declared.limits.TheConstants.{OFFSET_LIMIT};
 
 use crate::ends::{Finished, filtered, kept};
-use crate::fault::KeepFault;
+use crate::fault::KeepError;
 use crate::progress::Progress;
 use crate::replacing::NewFile;
-use reg_base::{BaseError, base};
+use reg_base::{BaseError, base as write_base};
+use reg_compaction::{compact as write_compact, compact_to};
 use reg_inspection::inspect;
-use reg_keeping::{compact, compact_to};
 use std::alloc::Global;
 use std::fs::{File, Files};
 use std::io::{self, BufWriter, Eprint, Input, Print, Read, Write};
+use std::thread::Threads;
+use std::time::Clock;
+
+/// `registrylog check`.
+pub(crate) fn check<
+    R: Input
+        + Print
+        + Eprint
+        + Files<File = File>
+        + Threads
+        + Clock
+        + Copy
+        + Send
+        + Sync
+        + Drop
+        + 'static,
+>(rt: R, alloc: Global, file: Option<&str>, quiet: bool) -> io::Result<Finished> {
+    let progress = Progress::begin(rt, alloc, file, quiet)?;
+    let ended = check_log(&rt, alloc, file, &progress);
+    progress.end(&rt);
+    ended
+}
 
 /// Writes what the log of a file holds, or that of the input.
-pub(crate) fn check<R: Input + Print + Eprint + Files<File = File>>(
+fn check_log<R: Input + Print + Eprint + Files<File = File>>(
     rt: &R,
     alloc: Global,
     file: Option<&str>,
@@ -30,7 +52,7 @@ pub(crate) fn check<R: Input + Print + Eprint + Files<File = File>>(
             let mut reader = progress.counted(file)?;
             check_from(rt, alloc, &mut reader)
         }
-        Err(error) => kept(rt, Err(KeepFault::from(error))),
+        Err(error) => kept(rt, Err(KeepError::from(error))),
     }
 }
 
@@ -44,8 +66,28 @@ fn check_from<R: Print + Eprint, S: Read>(
     filtered(rt, inspected.map_err(BaseError::from))
 }
 
+/// `registrylog base`.
+pub(crate) fn base<
+    R: Input
+        + Print
+        + Eprint
+        + Files<File = File>
+        + Threads
+        + Clock
+        + Copy
+        + Send
+        + Sync
+        + Drop
+        + 'static,
+>(rt: R, alloc: Global, file: Option<&str>, below: u64, quiet: bool) -> io::Result<Finished> {
+    let progress = Progress::begin(rt, alloc, file, quiet)?;
+    let ended = base_log(&rt, alloc, file, below, &progress);
+    progress.end(&rt);
+    ended
+}
+
 /// Writes what a log begins with that goes on at an offset.
-pub(crate) fn base_log<R: Input + Print + Eprint + Files<File = File>>(
+fn base_log<R: Input + Print + Eprint + Files<File = File>>(
     rt: &R,
     alloc: Global,
     file: Option<&str>,
@@ -61,7 +103,7 @@ pub(crate) fn base_log<R: Input + Print + Eprint + Files<File = File>>(
             let mut reader = progress.counted(file)?;
             base_from(rt, alloc, &mut reader, below)
         }
-        Err(error) => kept(rt, Err(KeepFault::from(error))),
+        Err(error) => kept(rt, Err(KeepError::from(error))),
     }
 }
 
@@ -72,7 +114,10 @@ fn base_from<R: Print + Eprint, S: Read>(
     below: u64,
 ) -> io::Result<Finished> {
     let mut writer = BufWriter::new(alloc, io::writer(rt))?;
-    filtered(rt, base(alloc, below, reader, &mut writer).map(|()| true))
+    filtered(
+        rt,
+        write_base(alloc, below, reader, &mut writer).map(|()| true),
+    )
 }
 
 /// The file of a log, open for reading.
@@ -97,8 +142,30 @@ pub(crate) struct Wish<'a> {
     pub(crate) output: Option<&'a str>,
 }
 
+/// `registrylog compact`.
+pub(crate) fn compact<
+    R: Input
+        + Print
+        + Eprint
+        + Files<File = File>
+        + Threads
+        + Clock
+        + Copy
+        + Send
+        + Sync
+        + Drop
+        + 'static,
+>(rt: R, alloc: Global, wish: Wish<'_>, quiet: bool) -> io::Result<Finished>
+    requires { IfSome wish.floor (λ offset. offset ≤ OFFSET_LIMIT) }
+{
+    let progress = Progress::begin(rt, alloc, wish.file, quiet)?;
+    let ended = compact_log(&rt, alloc, wish, &progress);
+    progress.end(&rt);
+    ended
+}
+
 /// Writes what compacting leaves of the log.
-pub(crate) fn compact_log<R: Input + Print + Eprint + Files<File = File>>(
+fn compact_log<R: Input + Print + Eprint + Files<File = File>>(
     rt: &R,
     alloc: Global,
     wish: Wish<'_>,
@@ -115,7 +182,7 @@ pub(crate) fn compact_log<R: Input + Print + Eprint + Files<File = File>>(
             let mut reader = progress.counted(file)?;
             compact_from(rt, alloc, &mut reader, wish)
         }
-        Err(error) => kept(rt, Err(KeepFault::from(error))),
+        Err(error) => kept(rt, Err(KeepError::from(error))),
     }
 }
 
@@ -168,6 +235,6 @@ fn compacted<S: Read, W: Write>(
 {
     match floor {
         Some(floor) => Ok(compact_to(alloc, floor, reader, writer)?),
-        None => Ok(compact(alloc, reader, writer)?),
+        None => Ok(write_compact(alloc, reader, writer)?),
     }
 }

@@ -1,29 +1,28 @@
 // `registrylog follow`: nodes over the lines of the standard input.
+use crate::ends::{Finished, followed};
 use crate::place::Place;
-use reg_follow::{FollowError, Gate, Size};
+use reg_follow::{FollowEndpoints, FollowError, FollowSize, serve_lines};
 use reg_serve::listen;
 use std::alloc::Global;
-use std::io::Eprint;
+use std::io::{self, BufRead, BufReader, Eprint};
 use std::net::{Net, TcpListener, TcpStream};
+use std::sync::Wait;
+use std::thread::Threads;
+use std::time::Clock;
 
 /// How many bytes of the input are taken at a time at most.
 pub(crate) const PIECE: usize = 65_536;
 
 /// The way to the nodes.
 #[derive(Drop)]
-pub(crate) struct Doors<R: Drop> {
+struct FollowPorts<R: Drop> {
     rt: R,
     alloc: Global,
     place: Place,
 }
 
-impl<R: Drop> Doors<R> {
-    pub(crate) fn new(rt: R, alloc: Global, place: Place) -> Doors<R> {
-        Doors { rt, alloc, place }
-    }
-}
-
-impl<R: Net<Listener = TcpListener, Stream = TcpStream> + Eprint + Drop> Gate for Doors<R> {
+impl<R: Net<Listener = TcpListener, Stream = TcpStream> + Eprint + Drop> FollowEndpoints
+    for FollowPorts<R> {
     fn listen(&mut self) -> Result<Vec<TcpListener>, FollowError> {
         let Place {
             listen: at,
@@ -42,11 +41,26 @@ impl<R: Net<Listener = TcpListener, Stream = TcpStream> + Eprint + Drop> Gate fo
     }
 }
 
-/// How many nodes there are, and workers of each.
-pub(crate) fn size_of(place: Place) -> Size {
-    Size {
+/// Serves the lines of the input.
+pub(crate) fn follow<
+    I: BufRead + Send + Drop + 'static,
+    R: Threads
+        + Wait
+        + Clock
+        + Net<Listener = TcpListener, Stream = TcpStream>
+        + Eprint
+        + Sync
+        + Send
+        + Copy
+        + Drop
+        + 'static,
+>(rt: R, alloc: Global, input: I, place: Place) -> io::Result<Finished> {
+    let size = FollowSize {
         nodes: place.nodes,
         workers: place.workers,
         limit: None,
-    }
+    };
+    let reader = BufReader::with_capacity(alloc, PIECE, input)?;
+    let mut ports = FollowPorts { rt, alloc, place };
+    followed(&rt, serve_lines(rt, alloc, size, reader, &mut ports))
 }

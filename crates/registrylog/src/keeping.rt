@@ -1,15 +1,15 @@
 // `registrylog keep`: nodes over a log in a file.
-use crate::fault::KeepFault;
+use crate::fault::KeepError;
 use crate::opening::{Locked, lock, open_or_make, start_log};
 use crate::place::Place;
 use crate::progress::Progress;
 use crate::telling::Telling;
+use reg_file_keep::{FileKeep, Started};
 use reg_inspection::obstacles;
 use reg_journal::{StoredFile, look};
-use reg_journal_keep::{FileKeep, Started};
 use reg_pen::{KeptLog, Told};
 use reg_serve::listen;
-use reg_service::{Entrance, Size, StartFault};
+use reg_service::{Endpoints, ServiceError, Size};
 use std::alloc::Global;
 use std::fs::{File, Files};
 use std::io::Eprint;
@@ -19,7 +19,7 @@ use std::time::Clock;
 
 /// The way to the nodes.
 #[derive(Drop)]
-pub(crate) struct Door<R: Drop> {
+pub(crate) struct KeepPorts<R: Drop> {
     rt: R,
     alloc: Global,
     place: Place,
@@ -30,9 +30,9 @@ pub(crate) struct Door<R: Drop> {
     progress: Option<Progress>,
 }
 
-impl<R: Net<Listener = TcpListener, Stream = TcpStream> + Threads + Eprint + Clock + Drop> Entrance
-    for Door<R> {
-    fn listen(&mut self) -> Result<Vec<TcpListener>, StartFault> {
+impl<R: Net<Listener = TcpListener, Stream = TcpStream> + Threads + Eprint + Clock + Drop> Endpoints
+    for KeepPorts<R> {
+    fn listen(&mut self) -> Result<Vec<TcpListener>, ServiceError> {
         let Place {
             listen: at,
             nodes,
@@ -61,7 +61,7 @@ pub(crate) struct Opened<R: Files<File = File> + Eprint + Drop> {
     pub(crate) lock: File,
     pub(crate) kept: KeptLog<Told<FileKeep<StoredFile<R>>, Telling<R>>>,
     pub(crate) size: Size,
-    pub(crate) door: Door<R>,
+    pub(crate) ports: KeepPorts<R>,
 }
 
 /// Opens the file of a log, and compacts it where that is due.
@@ -71,7 +71,7 @@ pub(crate) fn open_log<R: Files<File = File> + Eprint + Copy + Drop>(
     file: &str,
     place: Place,
     progress: Progress,
-) -> Result<Opened<R>, KeepFault> {
+) -> Result<Opened<R>, KeepError> {
     let Locked {
         path,
         file: opened,
@@ -85,7 +85,7 @@ pub(crate) fn open_log<R: Files<File = File> + Eprint + Copy + Drop>(
     progress.has_read(kept.keep().journal().lines(), bytes);
     let mut telling = Telling::new(rt);
     telling.tell_fault(kept.keep().compaction_fault());
-    let door = Door {
+    let ports = KeepPorts {
         rt,
         alloc,
         place,
@@ -104,7 +104,7 @@ pub(crate) fn open_log<R: Files<File = File> + Eprint + Copy + Drop>(
         lock,
         kept: kept.telling(telling),
         size,
-        door,
+        ports,
     })
 }
 
@@ -113,9 +113,9 @@ pub(crate) fn ended<R: Files<File = File> + Eprint + Copy + Drop>(
     rt: R,
     alloc: Global,
     path: &str,
-    served: Result<(), StartFault>,
-) -> Result<(), KeepFault> {
-    if let Err(StartFault::Closed(_)) = served {
+    served: Result<(), ServiceError>,
+) -> Result<(), KeepError> {
+    if let Err(ServiceError::Closed(_)) = served {
         tell_obstacles(rt, alloc, path)?;
     }
     Ok(served?)
@@ -126,7 +126,7 @@ fn tell_obstacles<R: Files<File = File> + Eprint + Copy + Drop>(
     rt: R,
     alloc: Global,
     path: &str,
-) -> Result<(), KeepFault> {
+) -> Result<(), KeepError> {
     let file = open_or_make(&rt, path)?;
     let mut disk = StoredFile::new(alloc, rt, path, file)?;
     let found = look(alloc, &mut disk)?;

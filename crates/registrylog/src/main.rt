@@ -1,15 +1,16 @@
 //! The program `registrylog`: a registry whose log is kept in a file, and what is done with such a log.
 //!
 //! `registrylog keep` serves the log of a file, `registrylog tail` writes its lines as they are acknowledged, and
-//! `registrylog follow` serves lines as they come. `registrylog check` writes what a log holds, `registrylog compact` the
-//! lines of its last records, and `registrylog base` what a log begins with that goes on at an offset. `registrylog help COMMAND`
-//! has the options of each.
+//! `registrylog follow` serves lines as they come. `registrylog join` serves a log that other processes write too, as an adapter tells it.
+//! `registrylog check` writes what a log holds, `registrylog compact` the lines of its last records, and `registrylog base` what a log
+//! begins with that goes on at an offset. `registrylog help COMMAND` has the options of each.
 #![tactic(auto)]
 
 mod ends;
 mod fault;
 mod filtering;
 mod following;
+mod joining;
 mod keeping;
 mod opening;
 mod place;
@@ -17,14 +18,15 @@ mod progress;
 mod replacing;
 mod telling;
 
-use crate::ends::{Finished, followed, kept, misread, refused, tailed};
-use crate::filtering::{Wish, base_log, check, compact_log};
-use crate::following::{Doors, PIECE, size_of};
+use crate::ends::{Finished, joined, kept, misread, refused, tailed, told};
+use crate::filtering::{Wish, base, check, compact};
+use crate::following::{PIECE, follow};
+use crate::joining::{JoinPorts, Requests, join_size, tell_rules};
 use crate::keeping::{Opened, ended, open_log};
 use crate::place::Place;
 use crate::progress::Progress;
 use log_arguments::{LogCommand, read_arguments};
-use reg_follow::serve_lines;
+use reg_join_service::serve_joined;
 use reg_service::{NoGate, serve_log};
 use reg_tail::follow_file;
 use std::env;
@@ -46,11 +48,7 @@ fn main(rt: HostRuntime) -> io::Result<Finished> {
                 quiet,
             },
         ) => {
-            let place = Place {
-                listen,
-                nodes,
-                workers,
-            };
+            let place = Place::new(listen, nodes, workers);
             let progress = Progress::begin(rt, alloc, Some(file), quiet)?;
             match open_log(rt, alloc, file, place, progress) {
                 Ok(opened) => {
@@ -59,9 +57,9 @@ fn main(rt: HostRuntime) -> io::Result<Finished> {
                         lock,
                         kept: log,
                         size,
-                        mut door,
+                        mut ports,
                     } = opened;
-                    let served = serve_log(rt, alloc, size, &NoGate, &mut door, log);
+                    let served = serve_log(rt, alloc, size, &NoGate, &mut ports, log);
                     drop(lock);
                     kept(&rt, ended(rt, alloc, path.as_str(), served))
                 }
@@ -74,35 +72,28 @@ fn main(rt: HostRuntime) -> io::Result<Finished> {
                 nodes,
                 workers,
             },
-        ) => {
-            let place = Place {
+        ) => follow(rt, alloc, rt.reader(), Place::new(listen, nodes, workers)),
+        Ok(
+            LogCommand::Join {
                 listen,
                 nodes,
                 workers,
-            };
-            let reader = BufReader::with_capacity(alloc, PIECE, rt.reader())?;
-            let mut doors = Doors::new(rt, alloc, place);
-            followed(
-                &rt,
-                serve_lines(rt, alloc, size_of(place), reader, &mut doors),
-            )
+            },
+        ) => {
+            let place = Place::new(listen, nodes, workers);
+            let input = BufReader::with_capacity(alloc, PIECE, rt.reader())?;
+            let ports = JoinPorts::new(rt, alloc, place);
+            let size = join_size(place);
+            let served = serve_joined(rt, alloc, size, input, Requests::new(rt), &ports);
+            joined(&rt, alloc, served)
         }
+        Ok(LogCommand::Rules) => told(tell_rules(&rt)),
         Ok(LogCommand::Tail { file, from }) => {
             let error = follow_file(&rt, alloc, file, from, &mut io::writer(&rt));
             tailed(&rt, error)
         }
-        Ok(LogCommand::Check { file, quiet }) => {
-            let progress = Progress::begin(rt, alloc, file, quiet)?;
-            let ended = check(&rt, alloc, file, &progress);
-            progress.end(&rt);
-            ended
-        }
-        Ok(LogCommand::Base { file, below, quiet }) => {
-            let progress = Progress::begin(rt, alloc, file, quiet)?;
-            let ended = base_log(&rt, alloc, file, below, &progress);
-            progress.end(&rt);
-            ended
-        }
+        Ok(LogCommand::Check { file, quiet }) => check(rt, alloc, file, quiet),
+        Ok(LogCommand::Base { file, below, quiet }) => base(rt, alloc, file, below, quiet),
         Ok(
             LogCommand::Compact {
                 file,
@@ -111,15 +102,12 @@ fn main(rt: HostRuntime) -> io::Result<Finished> {
                 quiet,
             },
         ) => {
-            let progress = Progress::begin(rt, alloc, file, quiet)?;
             let wish = Wish {
                 file,
                 floor: to,
                 output,
             };
-            let ended = compact_log(&rt, alloc, wish, &progress);
-            progress.end(&rt);
-            ended
+            compact(rt, alloc, wish, quiet)
         }
         Err(error) => refused(&rt, error),
     }

@@ -1,8 +1,8 @@
 // Opening a log's file, under its lock.
-use crate::fault::KeepFault;
+use crate::fault::KeepError;
+use reg_compaction::{Aside, Opens};
+use reg_file_keep::{NotStarted, Started, start_file_keep};
 use reg_journal::{DiskError, StoredFile};
-use reg_journal_keep::{NotStarted, Started, start};
-use reg_keeping::{Aside, Opens};
 use std::alloc::Global;
 use std::fs::{File, Files, TryLockError};
 use std::io::Eprint;
@@ -18,21 +18,21 @@ pub(crate) struct Locked {
 }
 
 /// Opens a file for reading and writing; it is made where it isn't there.
-pub(crate) fn open_or_make<R: Files<File = File>>(rt: &R, path: &str) -> Result<File, KeepFault> {
+pub(crate) fn open_or_make<R: Files<File = File>>(rt: &R, path: &str) -> Result<File, KeepError> {
     let mut how = File::options();
     how.read(true).write(true).create(true);
     Ok(how.open(rt, path)?)
 }
 
 /// The path with more behind its name.
-fn beside(alloc: Global, path: &str, more: &str) -> Result<String, KeepFault> {
+fn beside(alloc: Global, path: &str, more: &str) -> Result<String, KeepError> {
     let mut other = String::from_str(alloc, path)?;
     other.push_str(more)?;
     Ok(other)
 }
 
 /// Puts the names in a file's folder on the disk.
-fn sync_folder<R: Files<File = File>>(rt: &R, path: &str) -> Result<(), KeepFault> {
+fn sync_folder<R: Files<File = File>>(rt: &R, path: &str) -> Result<(), KeepError> {
     let folder = match Path::new(path).parent() {
         Some(folder) if !folder.as_str().is_empty() => folder.as_str(),
         _ => ".",
@@ -47,7 +47,7 @@ pub(crate) fn lock<R: Files<File = File>>(
     rt: &R,
     alloc: Global,
     file: &str,
-) -> Result<Locked, KeepFault> {
+) -> Result<Locked, KeepError> {
     let made = open_or_make(rt, file)?;
     drop(made);
     let found = rt.canonicalize(alloc, file)?;
@@ -55,8 +55,8 @@ pub(crate) fn lock<R: Files<File = File>>(
     let lock = open_or_make(rt, beside(alloc, path.as_str(), ".lock")?.as_str())?;
     match lock.try_lock() {
         Ok(()) => {}
-        Err(TryLockError::WouldBlock) => return Err(KeepFault::InUse),
-        Err(TryLockError::Error(e)) => return Err(KeepFault::from(e)),
+        Err(TryLockError::WouldBlock) => return Err(KeepError::InUse),
+        Err(TryLockError::Error(e)) => return Err(KeepError::from(e)),
     }
     // Opened again, since a compaction by another process may have put a new file there by now.
     let file = open_or_make(rt, path.as_str())?;
@@ -71,11 +71,11 @@ struct CutFile<R: Drop> {
     alloc: Global,
     path: String,
     /// Why it wasn't opened.
-    fault: Option<KeepFault>,
+    fault: Option<KeepError>,
 }
 
 impl<R: Files<File = File> + Copy + Drop> CutFile<R> {
-    fn open_named(&self) -> Result<StoredFile<R>, KeepFault> {
+    fn open_named(&self) -> Result<StoredFile<R>, KeepError> {
         let path = self.path.as_str();
         let file = open_or_make(&self.rt, path)?;
         sync_folder(&self.rt, path)?;
@@ -102,7 +102,7 @@ pub(crate) fn start_log<R: Files<File = File> + Eprint + Copy + Drop>(
     alloc: Global,
     disk: StoredFile<R>,
     path: &str,
-) -> Result<Started<StoredFile<R>>, KeepFault> {
+) -> Result<Started<StoredFile<R>>, KeepError> {
     let cut = CutFile {
         rt,
         alloc,
@@ -113,7 +113,7 @@ pub(crate) fn start_log<R: Files<File = File> + Eprint + Copy + Drop>(
         opener: cut,
         disk: None,
     };
-    let started = start(alloc, disk, &mut aside);
+    let started = start_file_keep(alloc, disk, &mut aside);
     let Aside { opener, disk: _ } = aside;
     let CutFile {
         rt: _,
@@ -131,6 +131,6 @@ pub(crate) fn start_log<R: Files<File = File> + Eprint + Copy + Drop>(
             }
             Ok(started)
         }
-        Err(NotStarted { disk: _, error }) => Err(fault.unwrap_or(KeepFault::from(error))),
+        Err(NotStarted { disk: _, error }) => Err(fault.unwrap_or(KeepError::from(error))),
     }
 }

@@ -10,3 +10,13 @@ pub(crate) struct Place {
     /// How many workers each node has.
     pub(crate) workers: u32,
 }
+
+impl Place {
+    pub(crate) fn new(listen: SocketAddr, nodes: usize, workers: u32) -> Place {
+        Place {
+            listen,
+            nodes,
+            workers,
+        }
+    }
+}

@@ -1,5 +1,5 @@
 // A new file in the place of another, or where none is.
-use crate::fault::KeepFault;
+use crate::fault::KeepError;
 use std::alloc::Global;
 use std::fs::{File, Files, TryLockError};
 use std::io::{self, ErrorKind};
@@ -23,7 +23,7 @@ impl NewFile {
         rt: &R,
         alloc: Global,
         path: &str,
-    ) -> Result<NewFile, KeepFault> {
+    ) -> Result<NewFile, KeepError> {
         let old = found(File::open(rt, path))?;
         let path = match &old {
             Some(_) => with_no_link(rt, alloc, path)?,
@@ -34,9 +34,9 @@ impl NewFile {
         let file = match made(rt, beside.as_str(), old) {
             Ok(file) => file,
             Err(error) if error.kind() == ErrorKind::AlreadyExists => {
-                return Err(KeepFault::Unfinished);
+                return Err(KeepError::Unfinished);
             }
-            Err(error) => return Err(KeepFault::from(error)),
+            Err(error) => return Err(KeepError::from(error)),
         };
         Ok(NewFile {
             file,
@@ -47,7 +47,7 @@ impl NewFile {
     }
 
     /// Puts the file at its path, once all that was written is on the disk.
-    pub(crate) fn put<R: Files<File = File>>(&self, rt: &R) -> Result<(), KeepFault> {
+    pub(crate) fn put<R: Files<File = File>>(&self, rt: &R) -> Result<(), KeepError> {
         self.file.sync_all()?;
         rt.rename(self.beside.as_str(), self.path.as_str())?;
         let folder = match Path::new(self.path.as_str()).parent() {
@@ -94,15 +94,15 @@ fn lock_of<R: Files<File = File>>(
     rt: &R,
     alloc: Global,
     path: &str,
-) -> Result<Option<File>, KeepFault> {
+) -> Result<Option<File>, KeepError> {
     let name = with_ending(alloc, path, ".lock")?;
     let Some(lock) = found(File::open(rt, name.as_str()))? else {
         return Ok(None);
     };
     match lock.try_lock() {
         Ok(()) => Ok(Some(lock)),
-        Err(TryLockError::WouldBlock) => Err(KeepFault::InUse),
-        Err(TryLockError::Error(error)) => Err(KeepFault::from(error)),
+        Err(TryLockError::WouldBlock) => Err(KeepError::InUse),
+        Err(TryLockError::Error(error)) => Err(KeepError::from(error)),
     }
 }
 
@@ -110,12 +110,12 @@ fn with_no_link<R: Files<File = File>>(
     rt: &R,
     alloc: Global,
     path: &str,
-) -> Result<String, KeepFault> {
+) -> Result<String, KeepError> {
     let found = rt.canonicalize(alloc, path)?;
     Ok(String::from_str(alloc, found.as_path().as_str())?)
 }
 
-fn with_ending(alloc: Global, path: &str, ending: &str) -> Result<String, KeepFault> {
+fn with_ending(alloc: Global, path: &str, ending: &str) -> Result<String, KeepError> {
     let mut name = String::from_str(alloc, path)?;
     name.push_str(ending)?;
     Ok(name)

@@ -1,7 +1,7 @@
 // What says what goes wrong with a keep.
+use reg_compaction::JournalCompactError;
+use reg_file_keep::FileKeep;
 use reg_journal::Renewable;
-use reg_journal_keep::FileKeep;
-use reg_keeping::CompactError;
 use reg_pen::{Kept, Tell};
 use reg_records::Record;
 use std::io::Eprint;
@@ -24,7 +24,7 @@ impl<R: Eprint + Drop> Telling<R> {
     }
 
     /// Says that a compaction failed, where one did.
-    pub(crate) fn tell_fault(&mut self, fault: Option<CompactError>) {
+    pub(crate) fn tell_fault(&mut self, fault: Option<JournalCompactError>) {
         if self.has_told_fault {
             return;
         }

@@ -1,15 +1,15 @@
 // What comes of bytes, as words.
-use reg_adapter::{Answer, MessageError, Messages, Told};
+use reg_adapter::{AdapterAnswer, AdapterMessage, MessageError, Messages};
 use reg_records::Read;
 use std::alloc::{AllocError, Global};
 
 /// A word for an answer.
-fn answer_word(answer: Answer) -> &'static str {
+fn answer_word(answer: AdapterAnswer) -> &'static str {
     match answer {
-        Answer::Kept => "kept",
-        Answer::Behind => "behind",
-        Answer::Declined => "declined",
-        Answer::Lost => "lost",
+        AdapterAnswer::Kept => "kept",
+        AdapterAnswer::Behind => "behind",
+        AdapterAnswer::Declined => "declined",
+        AdapterAnswer::Lost => "lost",
     }
 }
 
@@ -26,11 +26,11 @@ fn add_batch(words: &mut String, reads: &[Read]) -> Result<(), AllocError> {
 }
 
 /// Adds what was told.
-fn add_told(words: &mut String, told: &Told) -> Result<(), AllocError> {
+fn add_told(words: &mut String, told: &AdapterMessage) -> Result<(), AllocError> {
     match told {
-        Told::Batch(reads) => add_batch(words, reads.as_slice())?,
-        Told::Answer(answer) => words.push_str(answer_word(*answer))?,
-        Told::Ready => words.push_str("ready")?,
+        AdapterMessage::Batch(reads) => add_batch(words, reads.as_slice())?,
+        AdapterMessage::Answer(answer) => words.push_str(answer_word(*answer))?,
+        AdapterMessage::Ready => words.push_str("ready")?,
     }
     words.push_str("; ")?;
     Ok(())

@@ -1,9 +1,9 @@
 // A text in pieces, put together.
-use avro_data::{Piece, Pieces};
+use avro_data::{Piece, PiecedText};
 use std::alloc::{AllocError, Global};
 
 /// The text that pieces make.
-pub fn joined(alloc: Global, pieces: &Pieces) -> Result<String, AllocError> {
+pub fn joined(alloc: Global, pieces: &PiecedText) -> Result<String, AllocError> {
     let mut text = String::new(alloc);
     for piece in pieces.as_slice() {
         match piece {

@@ -1,6 +1,6 @@
 // A sample whose names alone have more than 33,554,432 bytes.
 use crate::joined::joined;
-use avro_data::{Pieces, sample};
+use avro_data::{PiecedText, sample};
 use avro_schema::{Schema, SchemaError};
 use std::alloc::{AllocError, Global};
 use test_tools::doubling;
@@ -31,7 +31,7 @@ fn measured(alloc: Global, text: &str) -> Result<Option<(usize, u64)>, SchemaErr
     let Ok(Some(value)) = sample(alloc, &schema) else {
         return Ok(None);
     };
-    let mut pieces = Pieces::new(alloc);
+    let mut pieces = PiecedText::new(alloc);
     value.push_text(&mut pieces)?;
     let text = joined(alloc, &pieces)?;
     Ok(Some((text.len(), hash_of(text.as_bytes()))))

@@ -1,6 +1,6 @@
 // The samples of schemas.
 use crate::joined::joined;
-use avro_data::{Pieces, SampleError, sample};
+use avro_data::{PiecedText, SampleError, sample};
 use avro_schema::{Schema, SchemaError};
 use std::alloc::{AllocError, Global};
 
@@ -99,7 +99,7 @@ static UNIONS: [Row; 7] = [
 
 /// The text of a schema's sample, `none`, or the refusal.
 fn answer(alloc: Global, schema: &Schema) -> Result<String, AllocError> {
-    let mut text = Pieces::new(alloc);
+    let mut text = PiecedText::new(alloc);
     match &sample(alloc, schema) {
         Ok(Some(value)) => value.push_text(&mut text)?,
         Ok(None) => text.push_fixed("none")?,

@@ -1,5 +1,5 @@
 // Samples at the limits of 1,048,576 parts and 1,000 levels.
-use avro_data::{MOST_LEVELS, MOST_PARTS, SampleError, sample};
+use avro_data::{LEVELS_LIMIT, PARTS_LIMIT, SampleError, sample};
 use avro_schema::{Schema, SchemaError};
 use std::alloc::{AllocError, Global};
 use test_tools::{chain, doubling};
@@ -40,7 +40,7 @@ fn beside(alloc: Global, inner: &str, count: usize) -> Result<String, AllocError
 
 #[test]
 fn has_these_limits(rt: HostRuntime) {
-    assert_eq!(rt; (MOST_PARTS, MOST_LEVELS), (1_048_576, 1_000));
+    assert_eq!(rt; (PARTS_LIMIT, LEVELS_LIMIT), (1_048_576, 1_000));
 }
 
 #[test]

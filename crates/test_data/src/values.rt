@@ -1,7 +1,7 @@
 // Which values a type has, and the texts of values.
 use crate::joined::joined;
 use crate::plain::{Plain, made};
-use avro_data::Pieces;
+use avro_data::PiecedText;
 use avro_schema::{NodeId, Schema, SchemaError};
 use std::alloc::{AllocError, Global};
 
@@ -44,7 +44,7 @@ static TEXTS: [(Plain, &str); 14] = [
 ];
 
 fn has_text(alloc: Global, plain: &Plain, want: &str) -> Result<bool, AllocError> {
-    let mut text = Pieces::new(alloc);
+    let mut text = PiecedText::new(alloc);
     text.push_fixed("before: ")?;
     made(alloc, plain)?.push_text(&mut text)?;
     Ok(joined(alloc, &text)?.as_str() == format!(in alloc; "before: {want}")?.as_str())

@@ -1,5 +1,5 @@
 // The commands that read an input, each with a short one, and runs of the program.
-use reg_program::{Command, Ended, fold, run, sketch};
+use reg_program::{Ended, ProgramCommand, fold, run, sketch};
 use reg_records::Device;
 use std::alloc::{AllocError, Global};
 use std::io::{BufRead, Write};
@@ -18,19 +18,19 @@ pub(crate) const SKETCHED: &str = "compatible\nvalue leaf\nreads leaf\n";
 
 /// A command with a short input, and what it writes of that.
 pub(crate) struct Sample {
-    pub(crate) command: Command,
+    pub(crate) command: ProgramCommand,
     pub(crate) input: &'static str,
     pub(crate) output: &'static str,
 }
 
 pub(crate) static SAMPLES: [Sample; 2] = [
     Sample {
-        command: Command::Fold,
+        command: ProgramCommand::Fold,
         input: SHORT_LOG,
         output: FOLDED,
     },
     Sample {
-        command: Command::Sketch,
+        command: ProgramCommand::Sketch,
         input: TWO_LINES,
         output: SKETCHED,
     },
@@ -39,16 +39,16 @@ pub(crate) static SAMPLES: [Sample; 2] = [
 /// The status with which a fold or a sketch ends.
 pub(crate) fn status_of<R: BufRead, W: Write>(
     alloc: Global,
-    command: Command,
+    command: ProgramCommand,
     reader: &mut Device<R>,
     writer: &mut Device<W>,
 ) -> u8 {
     let ended = match command {
-        Command::Fold => match fold(alloc, reader, writer) {
+        ProgramCommand::Fold => match fold(alloc, reader, writer) {
             Ok(folded) => Ended::Folded(folded),
             Err(error) => Ended::Failed(error),
         },
-        Command::Sketch => match sketch(alloc, reader, writer) {
+        ProgramCommand::Sketch => match sketch(alloc, reader, writer) {
             Ok(()) => Ended::Sketched,
             Err(error) => Ended::Unsketched(error),
         },

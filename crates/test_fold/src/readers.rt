@@ -1,13 +1,17 @@
 // Readers that fail, or are interrupted.
 use crate::commands::{FOLDED, SAMPLES, SHORT_LOG, Sample, TWO_LINES, status_of};
-use reg_program::Command;
+use reg_program::ProgramCommand;
 use reg_records::Device;
 use std::alloc::Global;
 use std::io::ErrorKind;
 use test_tools::{FailingReader, READER_ROWS, ReaderRow};
 
 /// The status of a command, the faults and the reads of its reader, and how many bytes are written.
-fn outcome_of(alloc: Global, command: Command, failing: FailingReader) -> (u8, u64, u64, usize) {
+fn outcome_of(
+    alloc: Global,
+    command: ProgramCommand,
+    failing: FailingReader,
+) -> (u8, u64, u64, usize) {
     let mut reader = Device::new(failing);
     let mut writer = Device::new(Vec::new(alloc));
     let status = status_of(alloc, command, &mut reader, &mut writer);
@@ -41,7 +45,7 @@ fn a_reader_that_fails_leaves_nothing_written_and_an_interruption_is_no_fault(rt
 /// Whether the request is answered where the row's error comes behind it.
 fn is_answered(alloc: Global, row: &ReaderRow) -> bool {
     let failing = FailingReader::new(SHORT_LOG, SHORT_LOG.len(), row.kind, row.times);
-    let (status, faults, _, len) = outcome_of(alloc, Command::Fold, failing);
+    let (status, faults, _, len) = outcome_of(alloc, ProgramCommand::Fold, failing);
     (status, faults, len) == (row.status, row.faults, FOLDED.len())
 }
 
@@ -54,11 +58,11 @@ fn a_reader_that_fails_behind_a_request_leaves_its_answer(rt: HostRuntime) {
 
 /// A command, its input, how many bytes of it are read before the reader is interrupted without end, and after how many
 /// reads it is given up: in a line, in a request, and in each of two lines.
-static GIVEN_UP: [(Command, &str, usize, u64); 4] = [
-    (Command::Fold, "7", 1, 4_194_304),
-    (Command::Fold, "\n", 1, 2_097_152),
-    (Command::Sketch, TWO_LINES, 1, 4_194_304),
-    (Command::Sketch, TWO_LINES, 8, 4_194_304),
+static GIVEN_UP: [(ProgramCommand, &str, usize, u64); 4] = [
+    (ProgramCommand::Fold, "7", 1, 4_194_304),
+    (ProgramCommand::Fold, "\n", 1, 2_097_152),
+    (ProgramCommand::Sketch, TWO_LINES, 1, 4_194_304),
+    (ProgramCommand::Sketch, TWO_LINES, 8, 4_194_304),
 ];
 
 #[test]

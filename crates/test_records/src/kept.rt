@@ -1,8 +1,8 @@
 // Sets with a floor, on worked rows.
 use base_text::Text;
-use reg_kept::{FloorError, KeptSet, MergeError, is_compaction_of};
+use reg_floored::{FloorError, KeptSet, MergeError, is_compaction_of};
 use reg_records::{Key, Record, ValueText};
-use reg_set::{RecordSet, Taken};
+use reg_set::{RecordSet, TakeOutcome};
 use std::alloc::{AllocError, Global};
 
 /// A version of a subject.
@@ -167,7 +167,7 @@ fn takes_after_a_rebase(alloc: Global) -> Result<bool, AllocError> {
     let mut set = kept_of(alloc, &[4], 0)?;
     let is_rebased = set.rebase(&kept_of(alloc, &[12], 10)?) == Ok(());
     let level = record_at(alloc, 12)?;
-    let is_fresh = set.take(&level)? == Taken::Fresh;
+    let is_fresh = set.take(&level)? == TakeOutcome::Fresh;
     set.compact();
     let is_found = set.contains(&level)
         && set.set().contains(&level)

@@ -7,8 +7,8 @@ mod rows;
 use crate::lines::{Line, log_of, records_of};
 use base_text::Text;
 use reg_records::{
-    Key, LogError, Record, Value, ValueText, has_line, limits_are_as_written,
-    lines_are_of_the_grammar, write_line, written_keys_are_apart,
+    Key, LogError, Record, Value, ValueText, has_line, lines_are_of_the_grammar,
+    record_limits_are_as_written, write_line, written_keys_are_apart,
 };
 use reg_values::{decode_value, written_values_have_lines, written_values_read_back};
 use rows::{AS_WRITTEN, FOREIGN, OTHER_KEYS, OTHER_VALUES};
@@ -196,5 +196,5 @@ fn the_laws_are_called() {
     lines_are_of_the_grammar();
     written_values_read_back();
     written_values_have_lines();
-    limits_are_as_written();
+    record_limits_are_as_written();
 }

@@ -6,7 +6,7 @@ mod side_by_side;
 
 use crate::lines::{Line, records_of};
 use reg_records::{Key, LogError};
-use reg_set::{RecordSet, Taken, keeps_lasts};
+use reg_set::{RecordSet, TakeOutcome, keeps_lasts};
 use rows::{ROWS, Row};
 use std::alloc::Global;
 
@@ -18,7 +18,7 @@ fn has_lines(alloc: Global, set: &RecordSet, lines: &[Line]) -> Result<bool, Log
     Ok(set.records()? == records_of(alloc, lines)?)
 }
 
-fn take(alloc: Global, set: &mut RecordSet, line: Line) -> Result<Option<Taken>, LogError> {
+fn take(alloc: Global, set: &mut RecordSet, line: Line) -> Result<Option<TakeOutcome>, LogError> {
     let records = records_of(alloc, &[line])?;
     match records.first() {
         Some(record) => Ok(Some(set.take(record)?)),

@@ -170,13 +170,13 @@ fn serve<
                     workers: WORKERS,
                     limit: Some(u64::from(LIMIT)),
                 };
-                let mut entrance = Listening::new(alloc, listeners);
+                let mut endpoints = Listening::new(alloc, listeners);
                 serve_log(
                     rt,
                     alloc,
                     size,
                     &NoGate,
-                    &mut entrance,
+                    &mut endpoints,
                     KeptLog::new(base, keep),
                 )
             });

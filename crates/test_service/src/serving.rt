@@ -1,6 +1,6 @@
 // Nodes that serve at listeners.
 use reg_desk::Gate;
-use reg_service::{Listening, Size, StartFault, serve_nodes};
+use reg_service::{Listening, ServiceError, Size, serve_nodes};
 use std::alloc::Global;
 use std::net::{Net, TcpListener, TcpStream};
 use std::random::RandomSource;
@@ -25,12 +25,12 @@ pub(crate) fn serve_at<
     workers: u32,
     limit: u64,
     gate: &G,
-) -> Result<(), StartFault> {
+) -> Result<(), ServiceError> {
     let size = Size {
         nodes: listeners.len(),
         workers,
         limit: Some(limit),
     };
-    let mut entrance = Listening::new(alloc, listeners);
-    serve_nodes(rt, alloc, size, gate, &mut entrance)
+    let mut endpoints = Listening::new(alloc, listeners);
+    serve_nodes(rt, alloc, size, gate, &mut endpoints)
 }

@@ -1,6 +1,6 @@
 // Why records can't be read.
 use crate::texts::text;
-use reg_inspection::{Cause, cause_of};
+use reg_inspection::{OpaqueCause, cause_of};
 use reg_records::{Device, LogError, Record, read_log};
 use std::alloc::{AllocError, Global};
 
@@ -9,7 +9,7 @@ const LOG: &str = "0;{'keytype':'CONFIG'};x|\
      1;{'keytype':'SCHEMA','subject':'s','version':3};null|\
      2;{'keytype':'SCHEMA','subject':'s','version':3};x|";
 
-const CAUSES: [Option<Cause>; 3] = [None, None, Some(Cause::NotJson)];
+const CAUSES: [Option<OpaqueCause>; 3] = [None, None, Some(OpaqueCause::NotJson)];
 
 fn have_causes(alloc: Global, records: &[Record]) -> Result<bool, AllocError> {
     for (record, cause) in records.iter().zip(&CAUSES) {

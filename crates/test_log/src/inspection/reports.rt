@@ -1,8 +1,8 @@
 // What is said of logs, and what keeps them from being served.
 use crate::failing::Holding;
 use crate::texts::text;
+use reg_compaction::FilterError;
 use reg_inspection::{inspect, obstacles};
-use reg_keeping::FilterError;
 use reg_records::{Device, LineError, Log, LogError, LogFault, read_log};
 use std::alloc::{AllocError, Global};
 

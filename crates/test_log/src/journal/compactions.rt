@@ -1,8 +1,8 @@
 // Each crash while a journal's file is compacted in its place.
 use super::torn::{NEVER, Torn, journal_of};
 use crate::batches::batch_of;
+use reg_compaction::{JournalCompactError, compact_journal};
 use reg_journal::{AppendError, Journal, recover};
-use reg_keeping::{CompactError, compact_journal};
 use reg_records::Record;
 use std::alloc::Global;
 use std::process::Abort;
@@ -62,11 +62,11 @@ fn crashes_hold(alloc: Global, disk: &Torn, trial: Trial) -> Result<bool, Fail> 
 }
 
 /// Whether compacting answers so where the step of that number is refused.
-fn is_answer(answer: Result<u64, CompactError>, fails_at: usize) -> bool {
+fn is_answer(answer: Result<u64, JournalCompactError>, fails_at: usize) -> bool {
     match answer {
         Ok(lines) => fails_at >= STEPS && lines == 1,
-        Err(CompactError::Failed) => fails_at == 0,
-        Err(CompactError::Lost) => fails_at == 1 || fails_at == 2,
+        Err(JournalCompactError::Failed) => fails_at == 0,
+        Err(JournalCompactError::Lost) => fails_at == 1 || fails_at == 2,
         Err(_) => false,
     }
 }
@@ -75,11 +75,11 @@ fn is_answer(answer: Result<u64, CompactError>, fails_at: usize) -> bool {
 fn goes_on(
     alloc: Global,
     journal: &mut Journal<Torn>,
-    answer: Result<u64, CompactError>,
+    answer: Result<u64, JournalCompactError>,
 ) -> Result<bool, Fail> {
     let more = journal.append(alloc, &batch_of(alloc, 3, 1)?);
     Ok(match answer {
-        Err(CompactError::Lost) => matches!(more, Err(AppendError::Broken)),
+        Err(JournalCompactError::Lost) => matches!(more, Err(AppendError::Broken)),
         Err(_) => more.is_ok() && journal.lines() == 4,
         Ok(_) => more.is_ok() && journal.lines() == 2,
     })
@@ -97,7 +97,7 @@ fn tried_in(
     assert!(rt; is_answer(answer, fails_at));
     assert_eq!(rt;
         journal.is_broken(),
-        matches!(answer, Err(CompactError::Lost))
+        matches!(answer, Err(JournalCompactError::Lost))
     );
     let trial = Trial {
         all,
@@ -138,14 +138,14 @@ fn a_file_that_another_has_changed_breaks_the_journal(rt: HostRuntime) -> Result
         assert!(rt;
             matches!(
                 compact_journal(alloc, &mut journal),
-                Err(CompactError::Changed)
+                Err(JournalCompactError::Changed)
             )
         );
         assert!(rt; journal.is_broken() && journal.disk().bytes() == file.as_bytes());
         assert!(rt;
             matches!(
                 compact_journal(alloc, &mut journal),
-                Err(CompactError::Broken)
+                Err(JournalCompactError::Broken)
             )
         );
         assert!(rt; journal.disk().steps() == 0);

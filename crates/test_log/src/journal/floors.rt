@@ -4,8 +4,8 @@ ghost use Rattle.reg_records.specs.Written.{HasLine};
 
 use super::in_memory::appended;
 use crate::batches::{batch_of, file_of};
-use reg_journal::{Memory, open};
-use reg_keeping::compact_journal;
+use reg_compaction::compact_journal;
+use reg_journal::{Memory, open_journal};
 use reg_records::{Record, write_floor};
 use std::alloc::Global;
 use std::test::Fail;
@@ -34,7 +34,7 @@ fn with_batch(alloc: Global, old: &[Record], batch: &[Record]) -> Result<Vec<u8>
 
 /// The floor of a file, its next offset, and how many records and lines it has.
 fn found_in(alloc: Global, file: Vec<u8>) -> Result<(u64, u64, usize, u64), Fail> {
-    match open(alloc, Memory::new(alloc, file)) {
+    match open_journal(alloc, Memory::new(alloc, file)) {
         Ok((log, journal)) => Ok((log.floor, log.next, log.records.len(), journal.lines())),
         Err(_) => Err(Fail::from("not opened")),
     }
@@ -66,7 +66,7 @@ fn a_file_goes_on_at_its_floor(rt: HostRuntime) -> Result<(), Fail> {
 
 /// Whether compacting a file leaves two lines, and those bytes.
 fn is_compacted(alloc: Global, file: Vec<u8>, left: &[u8]) -> bool {
-    let Ok((_log, journal)) = open(alloc, Memory::new(alloc, file)) else {
+    let Ok((_log, journal)) = open_journal(alloc, Memory::new(alloc, file)) else {
         return false;
     };
     let mut journal = journal;

@@ -5,7 +5,7 @@ ghost use Rattle.reg_journal.specs.Lines.{said, with_batch};
 ghost use Rattle.reg_journal.specs.Memory.{memory_bytes};
 
 use crate::batches::{batch_of, file_of};
-use reg_journal::{AppendError, Journal, Memory, open};
+use reg_journal::{AppendError, Journal, Memory, open_journal};
 use reg_records::Record;
 use std::alloc::Global;
 use std::test::Fail;
@@ -19,7 +19,7 @@ pub(crate) fn appended(
     requires { All HasLine batch.now }
     ensures { IfOk result (λ journal. said (memory_bytes journal.disk) ≡ with_batch batch.now (said bytes.items)) }
 {
-    let (_log, journal) = match open(alloc, Memory::new(alloc, bytes)) {
+    let (_log, journal) = match open_journal(alloc, Memory::new(alloc, bytes)) {
         Ok(found) => found,
         Err(_) => return Err(AppendError::Failed),
     };

@@ -4,7 +4,7 @@ ghost use Rattle.reg_records.specs.Written.{HasLine};
 
 use super::torn::{NEVER, Torn, journal_of};
 use crate::batches::{batch_of, file_of};
-use reg_journal::{AppendError, Journal, OpenError, recover, write_end};
+use reg_journal::{AppendError, Journal, JournalOpenError, recover, write_end};
 use reg_records::Record;
 use std::alloc::Global;
 use std::process::Abort;
@@ -186,7 +186,12 @@ fn a_batch_is_whole_or_absent_after_each_crash(rt: HostRuntime) -> Result<(), Fa
 fn a_file_without_an_empty_line_gets_one(rt: HostRuntime) -> Result<(), Fail> {
     let alloc = rt.alloc();
     let mut disk = Torn::new(alloc, b"", NEVER)?;
-    assert!(rt; matches!(recover(alloc, &mut disk), Err(OpenError::NoEmptyLine)));
+    assert!(rt;
+        matches!(
+            recover(alloc, &mut disk),
+            Err(JournalOpenError::NoEmptyLine)
+        )
+    );
     assert!(rt; write_end(alloc, &mut disk).is_ok());
     assert!(rt;
         matches!(recover(alloc, &mut disk), Ok(found) if found.end == 0 && found.lines == 0)

@@ -3,7 +3,7 @@ ghost use Rattle.std.specs.Prelude.{◌≤◌};
 ghost use Rattle.reg_records.specs.declared.limits.TheConstants.{OFFSET_LIMIT};
 
 use crate::texts::text;
-use reg_keeping::{
+use reg_compaction::{
     ToFloorError, compacted, compacted_in_order, compacted_to, compacted_to_in_order,
 };
 use reg_records::{LogError, OFFSET_LIMIT};

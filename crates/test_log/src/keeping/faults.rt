@@ -1,6 +1,6 @@
 // Filters that end before their end.
 use crate::failing::{Failing, Holding};
-use reg_keeping::{FilterError, compact};
+use reg_compaction::{FilterError, compact};
 use std::alloc::{AllocError, Global};
 
 /// Whether a filter ends with that status and text.

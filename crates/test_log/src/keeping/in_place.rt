@@ -1,7 +1,7 @@
 // Compacting the file of a journal in its place.
 use crate::texts::text;
-use reg_journal::{Journal, Memory, open};
-use reg_keeping::{compact_journal, compact_superseded};
+use reg_compaction::{compact_journal, compact_superseded};
+use reg_journal::{Journal, Memory, open_journal};
 use reg_records::OFFSET_LIMIT;
 use std::alloc::{AllocError, Global};
 
@@ -38,7 +38,7 @@ const ROWS: [(&str, &str, u64); 7] = [
 
 /// The journal of a file; none where it isn't opened.
 fn journal_of(alloc: Global, file: &str) -> Result<Option<Journal<Memory>>, AllocError> {
-    match open(alloc, Memory::new(alloc, text(alloc, file)?)) {
+    match open_journal(alloc, Memory::new(alloc, text(alloc, file)?)) {
         Ok((_log, journal)) => Ok(Some(journal)),
         Err(_) => Ok(None),
     }

@@ -1,7 +1,7 @@
 // Opening logs in files, where what is cut off is kept elsewhere.
 use crate::texts::text;
-use reg_journal::{DiskError, Memory, OpenError};
-use reg_keeping::{Aside, Opens, open_aside};
+use reg_compaction::{Aside, Opens, open_aside};
+use reg_journal::{DiskError, JournalOpenError, Memory};
 use std::alloc::{AllocError, Global};
 
 /// Opens a file in memory that has something, and counts how often.
@@ -94,7 +94,7 @@ fn is_refused(alloc: Global, file: &[u8]) -> Result<bool, AllocError> {
     let mut other = nothing_aside(alloc);
     let is_refused = matches!(
         open_aside(alloc, &mut disk, &mut other),
-        Err(OpenError::Log(_))
+        Err(JournalOpenError::Log(_))
     );
     Ok(is_refused && disk.bytes() == file && has_aside(&other, b""))
 }

@@ -1,7 +1,7 @@
 // A file of the system, which a journal appends to and compacts while it is followed.
 use crate::batches::batch_of;
-use reg_journal::{Journal, StoredFile, open};
-use reg_keeping::compact_journal;
+use reg_compaction::compact_journal;
+use reg_journal::{Journal, StoredFile, open_journal};
 use reg_tail::{TailError, follow_file};
 use std::alloc::Global;
 use std::fs::{self, File, OpenOptions};
@@ -92,7 +92,7 @@ fn journal_of<R: Files<File = File> + Copy + Drop>(
     let mut begun = how.open(&rt, path)?;
     begun.write_all(file.as_bytes())?;
     let disk = StoredFile::new(alloc, rt, path, begun)?;
-    match open(alloc, disk) {
+    match open_journal(alloc, disk) {
         Ok((_log, journal)) => Ok(journal),
         Err(_) => Err(Fail::from("not opened")),
     }

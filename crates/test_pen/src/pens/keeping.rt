@@ -127,11 +127,11 @@ static ROWS: [Row; 3] = [
         turns: &[
             (Told::Unsettled(0), 0),
             (
-                Told::Body("{\"error_code\":50001,\"message\":\"Store error: unsettled\"}"),
+                Told::Body("{\"error_code\":50301,\"message\":\"Store error: overtaken\"}"),
                 0,
             ),
             (
-                Told::Body("{\"error_code\":50001,\"message\":\"Store error: unsettled\"}"),
+                Told::Body("{\"error_code\":50302,\"message\":\"Store error: declined\"}"),
                 0,
             ),
             (Told::Body("{\"compatibility\":\"FULL\"}"), 1),

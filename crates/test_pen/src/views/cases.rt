@@ -31,55 +31,44 @@ const OF_ANOTHER: &str =
 const FIRST_IS_SOFT: &str =
     "7\t{\"keytype\":\"DELETE_SUBJECT\",\"subject\":\"s\",\"magic\":0}\t{\"subject\":\"s\",\"version\":1}\n";
 
-const LEVEL: &str =
+const FULL: &str =
     "7\t{\"keytype\":\"CONFIG\",\"subject\":null,\"magic\":0}\t{\"compatibilityLevel\":\"FULL\"}\n";
 
-/// The lines of another time, whether the case stands over them, and what `s` has there.
+const FULL_TRANSITIVE: &str =
+    "7\t{\"keytype\":\"CONFIG\",\"subject\":null,\"magic\":0}\t{\"compatibilityLevel\":\"FULL_TRANSITIVE\"}\n";
+
+/// The lines of another time, whether the case stands over them, and what the level looks at there of `s`.
 type Time = (&'static [&'static str], bool, Level, Olds<'static>);
 
-static TIMES: [Time; 9] = [
-    (
-        &[FIRST, SECOND],
-        true,
-        Level::Backward,
-        &[(1, INT), (2, LONG)],
-    ),
-    (
-        &[SECOND, FIRST],
-        true,
-        Level::Backward,
-        &[(1, INT), (2, LONG)],
-    ),
+static TIMES: [Time; 10] = [
+    (&[FIRST, SECOND], true, Level::Backward, &[(2, LONG)]),
+    (&[SECOND, FIRST], true, Level::Backward, &[(2, LONG)]),
     (
         &[FIRST, SECOND, OF_ANOTHER],
         true,
         Level::Backward,
-        &[(1, INT), (2, LONG)],
+        &[(2, LONG)],
     ),
     (&[], false, Level::Backward, &[]),
     (&[FIRST], false, Level::Backward, &[(1, INT)]),
-    (
-        &[FIRST, OTHER_SECOND],
-        false,
-        Level::Backward,
-        &[(1, INT), (2, INT)],
-    ),
+    (&[FIRST, OTHER_SECOND], false, Level::Backward, &[(2, INT)]),
     (
         &[FIRST, SECOND, THIRD],
         false,
         Level::Backward,
-        &[(1, INT), (2, LONG), (3, LONG)],
+        &[(3, LONG)],
     ),
     (
         &[FIRST, SECOND, FIRST_IS_SOFT],
-        false,
+        true,
         Level::Backward,
         &[(2, LONG)],
     ),
+    (&[FIRST, SECOND, FULL], false, Level::Full, &[(2, LONG)]),
     (
-        &[FIRST, SECOND, LEVEL],
+        &[FIRST, SECOND, FULL_TRANSITIVE],
         false,
-        Level::Full,
+        Level::FullTransitive,
         &[(1, INT), (2, LONG)],
     ),
 ];

@@ -2,11 +2,15 @@
 use super::side_by_side::{keys, wide};
 use crate::lines::records_of;
 use reg_records::{LogError, Record};
-use reg_set::{LastRecords, RecordSet, Taken};
+use reg_set::{LastRecords, RecordSet, TakeOutcome};
 use std::alloc::{AllocError, Global};
 
 /// Takes records in turn, and tells whether that is said of each.
-fn are_taken(set: &mut RecordSet, records: &[Record], taken: Taken) -> Result<bool, AllocError> {
+fn are_taken(
+    set: &mut RecordSet,
+    records: &[Record],
+    taken: TakeOutcome,
+) -> Result<bool, AllocError> {
     for record in records {
         if set.take(record)? != taken {
             return Ok(false);
@@ -29,8 +33,8 @@ fn has_each(set: &RecordSet, records: &[Record]) -> bool {
 fn hold(alloc: Global, records: &[Record], in_order: &[Record]) -> Result<bool, AllocError> {
     let mut set = RecordSet::new(alloc);
     Ok(
-        are_taken(&mut set, records, Taken::Fresh)?
-            && are_taken(&mut set, records, Taken::Repeat)?
+        are_taken(&mut set, records, TakeOutcome::Fresh)?
+            && are_taken(&mut set, records, TakeOutcome::Repeat)?
             && set.records()?.as_slice() == in_order
             && has_each(&set, records),
     )

@@ -1,6 +1,6 @@
 // A set of records as the list of their lines in order, each of whose answers looks at all lines.
 use crate::lines::Line;
-use reg_set::Taken;
+use reg_set::TakeOutcome;
 use std::alloc::{AllocError, Global};
 
 /// By offset, then by the text of the key, then by value.
@@ -23,13 +23,17 @@ impl<'a> PlainSet<'a> {
         }
     }
 
-    pub(crate) fn take(&mut self, alloc: Global, given: Line<'a>) -> Result<Taken, AllocError> {
+    pub(crate) fn take(
+        &mut self,
+        alloc: Global,
+        given: Line<'a>,
+    ) -> Result<TakeOutcome, AllocError> {
         if self.contains(given) {
-            return Ok(Taken::Repeat);
+            return Ok(TakeOutcome::Repeat);
         }
         let taken = match self.last(given.key) {
-            Some(last) if given.age() < last.age() => Taken::Older,
-            _ => Taken::Fresh,
+            Some(last) if given.age() < last.age() => TakeOutcome::Older,
+            _ => TakeOutcome::Fresh,
         };
         self.place(alloc, given)?;
         Ok(taken)

@@ -1,6 +1,6 @@
 // Worked rows of the subject `s`.
 use crate::lines::Line;
-use reg_set::Taken;
+use reg_set::TakeOutcome;
 
 const FIRST: &str = r#"{"keytype":"SCHEMA","subject":"s","version":1,"magic":1}"#;
 
@@ -172,7 +172,7 @@ type Lines = &'static [Line<'static>];
 /// merged with, its records then in their order, and the last of each key.
 pub(crate) struct Row {
     pub what: &'static str,
-    pub takes: &'static [(Line<'static>, Taken)],
+    pub takes: &'static [(Line<'static>, TakeOutcome)],
     pub merged: Lines,
     pub records: Lines,
     pub lasts: Lines,
@@ -182,10 +182,10 @@ pub(crate) static ROWS: [Row; 15] = [
     Row {
         what: "Taking is fresh, a repeat or older",
         takes: &[
-            (MIDDLE_INT, Taken::Fresh),
-            (DELETED, Taken::Fresh),
-            (MIDDLE_INT, Taken::Repeat),
-            (OLD_INT, Taken::Older),
+            (MIDDLE_INT, TakeOutcome::Fresh),
+            (DELETED, TakeOutcome::Fresh),
+            (MIDDLE_INT, TakeOutcome::Repeat),
+            (OLD_INT, TakeOutcome::Older),
         ],
         merged: &[],
         records: &[OLD_INT, MIDDLE_INT, DELETED],
@@ -194,9 +194,9 @@ pub(crate) static ROWS: [Row; 15] = [
     Row {
         what: "Records of one key stand by offset, then no value before a text",
         takes: &[
-            (NONE, Taken::Fresh),
-            (INT, Taken::Fresh),
-            (LONG, Taken::Fresh),
+            (NONE, TakeOutcome::Fresh),
+            (INT, TakeOutcome::Fresh),
+            (LONG, TakeOutcome::Fresh),
         ],
         merged: &[],
         records: &[NONE, INT, LONG],
@@ -205,9 +205,9 @@ pub(crate) static ROWS: [Row; 15] = [
     Row {
         what: "The same, the greatest first",
         takes: &[
-            (LONG, Taken::Fresh),
-            (INT, Taken::Older),
-            (NONE, Taken::Older),
+            (LONG, TakeOutcome::Fresh),
+            (INT, TakeOutcome::Older),
+            (NONE, TakeOutcome::Older),
         ],
         merged: &[],
         records: &[NONE, INT, LONG],
@@ -216,9 +216,9 @@ pub(crate) static ROWS: [Row; 15] = [
     Row {
         what: "The same, the least last",
         takes: &[
-            (INT, Taken::Fresh),
-            (LONG, Taken::Fresh),
-            (NONE, Taken::Older),
+            (INT, TakeOutcome::Fresh),
+            (LONG, TakeOutcome::Fresh),
+            (NONE, TakeOutcome::Older),
         ],
         merged: &[],
         records: &[NONE, INT, LONG],
@@ -227,9 +227,9 @@ pub(crate) static ROWS: [Row; 15] = [
     Row {
         what: "The same, the least in the middle",
         takes: &[
-            (LONG, Taken::Fresh),
-            (NONE, Taken::Older),
-            (INT, Taken::Older),
+            (LONG, TakeOutcome::Fresh),
+            (NONE, TakeOutcome::Older),
+            (INT, TakeOutcome::Older),
         ],
         merged: &[],
         records: &[NONE, INT, LONG],
@@ -238,9 +238,9 @@ pub(crate) static ROWS: [Row; 15] = [
     Row {
         what: "Keys of one offset stand by their texts, and so do numbers",
         takes: &[
-            (NINTH_DELETED, Taken::Fresh),
-            (TENTH_DELETED, Taken::Fresh),
-            (ALL_DELETED, Taken::Fresh),
+            (NINTH_DELETED, TakeOutcome::Fresh),
+            (TENTH_DELETED, TakeOutcome::Fresh),
+            (ALL_DELETED, TakeOutcome::Fresh),
         ],
         merged: &[],
         records: &[ALL_DELETED, TENTH_DELETED, NINTH_DELETED],
@@ -249,9 +249,9 @@ pub(crate) static ROWS: [Row; 15] = [
     Row {
         what: "The same, the least first",
         takes: &[
-            (ALL_DELETED, Taken::Fresh),
-            (TENTH_DELETED, Taken::Fresh),
-            (NINTH_DELETED, Taken::Fresh),
+            (ALL_DELETED, TakeOutcome::Fresh),
+            (TENTH_DELETED, TakeOutcome::Fresh),
+            (NINTH_DELETED, TakeOutcome::Fresh),
         ],
         merged: &[],
         records: &[ALL_DELETED, TENTH_DELETED, NINTH_DELETED],
@@ -260,11 +260,11 @@ pub(crate) static ROWS: [Row; 15] = [
     Row {
         what: "Kinds stand by the texts of their names",
         takes: &[
-            (SCHEMA_AT_5, Taken::Fresh),
-            (LEVEL_AT_5, Taken::Fresh),
-            (MODE_AT_5, Taken::Fresh),
-            (ALL_DELETED, Taken::Fresh),
-            (ID_MARK_AT_5, Taken::Fresh),
+            (SCHEMA_AT_5, TakeOutcome::Fresh),
+            (LEVEL_AT_5, TakeOutcome::Fresh),
+            (MODE_AT_5, TakeOutcome::Fresh),
+            (ALL_DELETED, TakeOutcome::Fresh),
+            (ID_MARK_AT_5, TakeOutcome::Fresh),
         ],
         merged: &[],
         records: &[
@@ -285,11 +285,11 @@ pub(crate) static ROWS: [Row; 15] = [
     Row {
         what: "Subjects stand as they are written, with the quote at the end and escapes, before null",
         takes: &[
-            (ALL_AT_5, Taken::Fresh),
-            (LEVEL_AT_5, Taken::Fresh),
-            (QUOTE_AT_5, Taken::Fresh),
-            (MARK_AT_5, Taken::Fresh),
-            (SPACE_AT_5, Taken::Fresh),
+            (ALL_AT_5, TakeOutcome::Fresh),
+            (LEVEL_AT_5, TakeOutcome::Fresh),
+            (QUOTE_AT_5, TakeOutcome::Fresh),
+            (MARK_AT_5, TakeOutcome::Fresh),
+            (SPACE_AT_5, TakeOutcome::Fresh),
         ],
         merged: &[],
         records: &[SPACE_AT_5, MARK_AT_5, LEVEL_AT_5, QUOTE_AT_5, ALL_AT_5],
@@ -298,11 +298,11 @@ pub(crate) static ROWS: [Row; 15] = [
     Row {
         what: "Keys come before values, and offsets before both",
         takes: &[
-            (INT_AT_5, Taken::Fresh),
-            (LATE_INT, Taken::Fresh),
-            (SCHEMA_AT_5, Taken::Older),
-            (ALL_DELETED, Taken::Fresh),
-            (MIDDLE_INT, Taken::Older),
+            (INT_AT_5, TakeOutcome::Fresh),
+            (LATE_INT, TakeOutcome::Fresh),
+            (SCHEMA_AT_5, TakeOutcome::Older),
+            (ALL_DELETED, TakeOutcome::Fresh),
+            (MIDDLE_INT, TakeOutcome::Older),
         ],
         merged: &[],
         records: &[MIDDLE_INT, ALL_DELETED, SCHEMA_AT_5, INT_AT_5, LATE_INT],
@@ -311,9 +311,9 @@ pub(crate) static ROWS: [Row; 15] = [
     Row {
         what: "Offsets come first",
         takes: &[
-            (LATE_INT, Taken::Fresh),
-            (LONG, Taken::Older),
-            (ALL_DELETED, Taken::Fresh),
+            (LATE_INT, TakeOutcome::Fresh),
+            (LONG, TakeOutcome::Older),
+            (ALL_DELETED, TakeOutcome::Fresh),
         ],
         merged: &[],
         records: &[LONG, ALL_DELETED, LATE_INT],
@@ -322,9 +322,9 @@ pub(crate) static ROWS: [Row; 15] = [
     Row {
         what: "A later tombstone is last",
         takes: &[
-            (DELETED, Taken::Fresh),
-            (INT, Taken::Older),
-            (LONG, Taken::Older),
+            (DELETED, TakeOutcome::Fresh),
+            (INT, TakeOutcome::Older),
+            (LONG, TakeOutcome::Older),
         ],
         merged: &[],
         records: &[INT, LONG, DELETED],
@@ -332,21 +332,30 @@ pub(crate) static ROWS: [Row; 15] = [
     },
     Row {
         what: "The younger of two soft deletes is last",
-        takes: &[(OLDER_DELETE, Taken::Fresh), (YOUNGER_DELETE, Taken::Fresh)],
+        takes: &[
+            (OLDER_DELETE, TakeOutcome::Fresh),
+            (YOUNGER_DELETE, TakeOutcome::Fresh),
+        ],
         merged: &[],
         records: &[OLDER_DELETE, YOUNGER_DELETE],
         lasts: &[YOUNGER_DELETE],
     },
     Row {
         what: "Sets merge",
-        takes: &[(MIDDLE_INT, Taken::Fresh), (SECOND_LONG, Taken::Fresh)],
+        takes: &[
+            (MIDDLE_INT, TakeOutcome::Fresh),
+            (SECOND_LONG, TakeOutcome::Fresh),
+        ],
         merged: &[DELETED, MIDDLE_INT],
         records: &[MIDDLE_INT, SECOND_LONG, DELETED],
         lasts: &[SECOND_LONG, DELETED],
     },
     Row {
         what: "Sets merge the other way round",
-        takes: &[(DELETED, Taken::Fresh), (MIDDLE_INT, Taken::Older)],
+        takes: &[
+            (DELETED, TakeOutcome::Fresh),
+            (MIDDLE_INT, TakeOutcome::Older),
+        ],
         merged: &[MIDDLE_INT, SECOND_LONG],
         records: &[MIDDLE_INT, SECOND_LONG, DELETED],
         lasts: &[SECOND_LONG, DELETED],

@@ -3,7 +3,7 @@ use super::has_lines;
 use super::plain::PlainSet;
 use crate::lines::{Line, is_of_line, records_of};
 use reg_records::{LogError, Record};
-use reg_set::{LastRecords, RecordSet, Taken, keeps_lasts};
+use reg_set::{LastRecords, RecordSet, TakeOutcome, keeps_lasts};
 use std::alloc::{AllocError, Global};
 use test_tools::Draws;
 
@@ -98,7 +98,7 @@ impl<'a> Both<'a> {
         Ok(
             are_put_alike
                 && self.set.take(record)? == taken
-                && is_news == (taken == Taken::Fresh)
+                && is_news == (taken == TakeOutcome::Fresh)
                 && self.have_one_last(record, line)
                 && self.remove(record, line)?,
         )

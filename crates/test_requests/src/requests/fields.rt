@@ -1,7 +1,7 @@
 // What the fields of a request tell.
 use super::rows::fields_of;
 use crate::notation::is_number;
-use reg_messages::{asks_to_close, limits_are_as_written, told_length};
+use reg_messages::{asks_to_close, message_limits_are_as_written, told_length};
 use reg_refusals::Refusal;
 use std::alloc::Global;
 use std::test::Fail;
@@ -70,7 +70,7 @@ fn closes_as_told(alloc: Global, row: &str) -> Result<bool, Fail> {
 
 #[test]
 fn fields_tell_a_length_or_are_refused(rt: HostRuntime) -> Result<(), Fail> {
-    limits_are_as_written();
+    message_limits_are_as_written();
     for row in LENGTHS.lines() {
         assert!(rt; tells_its_length(rt.alloc(), row)?, "{row}");
     }

@@ -1,7 +1,7 @@
 // What requests ask.
 use super::asked::asks;
 use super::rows::request_of;
-use reg_requests::{Paths, Request};
+use reg_requests::{Paths, Request, route_request};
 use std::alloc::{AllocError, Global};
 use std::test::Fail;
 
@@ -197,7 +197,7 @@ fn is_routed(
     request: &Request,
     expected: &str,
 ) -> Result<bool, AllocError> {
-    let asked = request.route_by(alloc, paths)?;
+    let asked = route_request(alloc, paths, request)?;
     Ok(asks(&asked, expected))
 }
 

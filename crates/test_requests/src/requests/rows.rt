@@ -1,7 +1,7 @@
 // Requests out of rows.
 use base_text::{Listed, Text};
 use http::Method;
-use reg_requests::{Field, Request};
+use reg_requests::{HeaderField, Request};
 use std::alloc::{AllocError, Global};
 use std::test::Fail;
 
@@ -9,15 +9,15 @@ fn bytes_of(alloc: Global, bytes: &[u8]) -> Result<Listed<u8>, AllocError> {
     Ok(Listed::from(Vec::from_slice(alloc, bytes)?))
 }
 
-fn field_of(alloc: Global, row: &str) -> Result<Field, Fail> {
+fn field_of(alloc: Global, row: &str) -> Result<HeaderField, Fail> {
     let (name, value) = row.split_once(": ").ok_or("a field")?;
-    Ok(Field {
+    Ok(HeaderField {
         name: bytes_of(alloc, name.as_bytes())?,
         value: bytes_of(alloc, value.as_bytes())?,
     })
 }
 
-fn push_fields(alloc: Global, fields: &mut Vec<Field>, row: &str) -> Result<(), Fail> {
+fn push_fields(alloc: Global, fields: &mut Vec<HeaderField>, row: &str) -> Result<(), Fail> {
     for field in row.split(" & ") {
         fields.push(field_of(alloc, field)?)?;
     }
@@ -25,7 +25,7 @@ fn push_fields(alloc: Global, fields: &mut Vec<Field>, row: &str) -> Result<(), 
 }
 
 /// The fields of a row, with ` & ` between two; `-` is for no fields.
-pub(crate) fn fields_of(alloc: Global, row: &str) -> Result<Listed<Field>, Fail> {
+pub(crate) fn fields_of(alloc: Global, row: &str) -> Result<Listed<HeaderField>, Fail> {
     let mut fields = Vec::new(alloc);
     if row != "-" {
         push_fields(alloc, &mut fields, row)?;

@@ -7,7 +7,7 @@ use std::alloc::{AllocError, Global};
 use test_tools::cut;
 
 /// Refusals, in the order of the rows.
-const REFUSALS: [Refusal; 44] = [
+const REFUSALS: [Refusal; 46] = [
     Refusal::BadRequest,
     Refusal::NotFound,
     Refusal::MethodNotAllowed(Allow::Get),
@@ -50,6 +50,8 @@ const REFUSALS: [Refusal; 44] = [
     Refusal::Store(StoreFault::TwoSchemas),
     Refusal::Store(StoreFault::NumbersUsedUp),
     Refusal::Store(StoreFault::Unsettled),
+    Refusal::Store(StoreFault::Overtaken),
+    Refusal::Store(StoreFault::Declined),
     Refusal::Store(StoreFault::Memory),
     Refusal::FollowsLog,
 ];
@@ -99,6 +101,8 @@ static ROWS: &str =
 50001 500 two schemas for one id => 500 Internal Server Error|68||{"error_code":50001,"message":"Store error: two schemas for one id"}
 50001 500 numbers used up => 500 Internal Server Error|61||{"error_code":50001,"message":"Store error: numbers used up"}
 50001 500 unsettled => 500 Internal Server Error|55||{"error_code":50001,"message":"Store error: unsettled"}
+50301 503 overtaken => 503 Service Unavailable|55||{"error_code":50301,"message":"Store error: overtaken"}
+50302 503 declined => 503 Service Unavailable|54||{"error_code":50302,"message":"Store error: declined"}
 50001 500 memory, closes => 500 Internal Server Error|52|Connection: close||{"error_code":50001,"message":"Store error: memory"}
 50003 500 - => 500 Internal Server Error|83||{"error_code":50003,"message":"This node follows a log: commands go to its writer"}"#;
 

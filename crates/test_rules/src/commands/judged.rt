@@ -30,8 +30,8 @@ static LOGS: [(&str, &str); 2] = [
 const NEW: &str =
     r#"{"fields":[{"default":"","name":"a","type":"string"}],"name":"R","type":"record"}"#;
 
-// The level and the old versions of judgements on NEW: the first was made before the second version
-// was there, and the last two fit one of the logs each.
+// The level and the old versions of judgements on NEW. The first was made before the second version
+// was there. The second and the last fit one of the logs each: they were made of what its level looks at.
 static JUDGEMENTS: [(Level, Olds); 5] = [
     (Level::Backward, &[(1, WITH)]),
     (Level::Backward, &[(2, EMPTY)]),

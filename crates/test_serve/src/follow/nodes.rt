@@ -1,7 +1,7 @@
 // Nodes that follow lines, over sockets.
 use crate::asking::ask;
 use crate::follow::scripted::{Piece, Script};
-use reg_follow::{FollowError, Gate, Size, serve_lines};
+use reg_follow::{FollowEndpoints, FollowError, FollowSize, serve_lines};
 use reg_records::{LineError, LogFault};
 use std::alloc::Global;
 use std::io::{self, Eprint};
@@ -36,13 +36,13 @@ const LOOKUP: &str =
 
 /// Listeners that are there, and how many lines were taken when the nodes began, and one.
 #[derive(Drop)]
-struct Doors<'a> {
+struct OpenPorts<'a> {
     alloc: Global,
     listeners: Vec<TcpListener>,
     begun: &'a AtomicU64,
 }
 
-impl Gate for Doors<'_> {
+impl FollowEndpoints for OpenPorts<'_> {
     fn listen(&mut self) -> Result<Vec<TcpListener>, FollowError> {
         Ok(mem::replace(&mut self.listeners, Vec::new(self.alloc)))
     }
@@ -146,7 +146,7 @@ fn serve<
     addresses: &[SocketAddr],
     begun: &AtomicU64,
 ) -> Ended {
-    let size = Size {
+    let size = FollowSize {
         nodes: row.nodes,
         workers: 1,
         limit: row.limit,
@@ -154,12 +154,12 @@ fn serve<
     let script = row.script;
     thread::scope(thread::scope_env(), &rt, |scope| {
         let server = scope.spawn(move || {
-            let mut doors = Doors {
+            let mut ports = OpenPorts {
                 alloc,
                 listeners,
                 begun,
             };
-            serve_lines(rt, alloc, size, Script::new(rt, script), &mut doors)
+            serve_lines(rt, alloc, size, Script::new(rt, script), &mut ports)
         });
         let other = other_body(alloc, &rt, addresses, row.asked);
         let ended = match server {

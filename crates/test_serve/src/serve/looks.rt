@@ -29,7 +29,7 @@ static LOOKS: [(&[Step], Turn, usize); 9] = [
     (&[Step::Gives(b"GET /"), Step::Ended], Turn::Ready, 5),
     (&[Step::Ended], Turn::Over, 0),
     (&[Step::Reset], Turn::Over, 0),
-    // One client doesn't keep the doorkeeper from the others for ever.
+    // One client doesn't keep the poller from the others for ever.
     (&[Step::Gives(b"x")], Turn::Again, 128),
 ];
 

@@ -1,7 +1,7 @@
 // A node over a listening socket, and what its clients meet.
 use crate::serve::fakes::{EchoDesk, Ledger};
 use reg_connection::Limits;
-use reg_serve::{Follow, Latch, Node, StartError, begin, open_node};
+use reg_serve::{Follow, Latch, NodeServer, StartError, begin, open_node};
 use std::alloc::Global;
 use std::io;
 use std::net::{Net, SocketAddr, TcpListener, TcpStream};
@@ -47,7 +47,7 @@ fn open_at<'s, E, R: Threads + Wait + Clock + Sync>(
     rt: &'s R,
     alloc: Global,
     latch: &'s Latch,
-    node: &'s Node<'s, Counting<'s>, u64>,
+    node: &'s NodeServer<'s, Counting<'s>, u64>,
     workers: u64,
     ledger: &'s Ledger,
     limit: u64,
@@ -91,7 +91,7 @@ pub fn with_node<
         ledger,
         grown: Parker::new(),
     };
-    let node = Node::new(rt, alloc, &listener, following, workers as usize, limits)?;
+    let node = NodeServer::new(rt, alloc, &listener, following, workers as usize, limits)?;
     let latch = Latch::new();
     let entry = &latch;
     thread::scope(

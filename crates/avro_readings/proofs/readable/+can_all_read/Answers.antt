@@ -220,9 +220,9 @@ can_read_fields-member_fits-requires t c =
     let k = c.loop-k.k in
     let all = c.deref-member-items.result.now in
     let x = c.member-item.result in
-    let other = c.in-Some-field_at.other.now in
+    let other = c.in-Some-record_field_at.other.now in
     let field : slice_get gs k ≡ Some other =
-    ap (λ fs. slice_get fs k) (sym c.as_slice.ensures.items) ∙ sym c.field_at.ensures ∙ ap option_copied c.in-Some-field_at.is in
+    ap (λ fs. slice_get fs k) (sym c.as_slice.ensures.items) ∙ sym c.record_field_at.ensures ∙ ap option_copied c.in-Some-record_field_at.is in
     let there : slice_get es k ≡ Some x =
     ap (λ ys. slice_get ys k) (sym c.deref-member-items.ensures.value)
     ∙ slice_get-get_or all k x (omega arith)
@@ -239,9 +239,9 @@ can_read_fields-returns-then-not-branch t c =
     let k = c.loop-k.k in
     let all = c.deref-member-items.result.now in
     let x = c.member-item.result in
-    let other = c.in-Some-field_at.other.now in
+    let other = c.in-Some-record_field_at.other.now in
     let field : slice_get gs k ≡ Some other =
-    ap (λ fs. slice_get fs k) (sym c.as_slice.ensures.items) ∙ sym c.field_at.ensures ∙ ap option_copied c.in-Some-field_at.is in
+    ap (λ fs. slice_get fs k) (sym c.as_slice.ensures.items) ∙ sym c.record_field_at.ensures ∙ ap option_copied c.in-Some-record_field_at.is in
     let there : slice_get es k ≡ Some x =
     ap (λ ys. slice_get ys k) (sym c.deref-member-items.ensures.value)
     ∙ slice_get-get_or all k x (omega arith)
@@ -253,10 +253,10 @@ can_read_fields-returns-then-not-branch t c =
     let each : (p : ℕ → Bool) → list_all p types ≡ list_all p (unwrap_or (slice_get lists k) []) = λ p.
     c.in_ok-types.ensures p
     ∙ ap (list_all p) (c.list_at.ensures ∙ ap (λ o. unwrap_or o []) (sym (slice_get-map (λ y. y.items) asked k))) in
-    let answer : c.in_ok-can_all_read-in-Some-field_at.field-0 ≡ false = first_of (search rules, grind (arith, common_steps)) in
+    let answer : c.in_ok-can_all_read-in-Some-record_field_at.field-0 ≡ false = first_of (search rules, grind (arith, common_steps)) in
     let told : all_read r w types other.node (view x.1) ≡ false =
-    ap (λ is. all_read r w is other.node (view x.1)) (sym c.as_slice-in-Some-field_at.ensures.value)
-    ∙ sym c.in_ok-can_all_read-in-Some-field_at.ensures
+    ap (λ is. all_read r w is other.node (view x.1)) (sym c.as_slice-in-Some-record_field_at.ensures.value)
+    ∙ sym c.in_ok-can_all_read-in-Some-record_field_at.ensures
     ∙ answer in
     sym (all_records r w c.args.readers.now c.args.j c.requires.writer.0 c.requires.writer.1 gs ms c.requires.writer.2 c.requires.fit
     ∙ c.in_ok-asked.ensures.asked test
@@ -275,7 +275,7 @@ can_read_fields-returns-in-None t c =
     let k = c.loop-k.k in
     let all = c.deref-member-items.result.now in
     let none : slice_get gs k ≡ None =
-    ap (λ fs. slice_get fs k) (sym c.as_slice.ensures.items) ∙ sym c.field_at.ensures ∙ ap option_copied c.in-None.is in
+    ap (λ fs. slice_get fs k) (sym c.as_slice.ensures.items) ∙ sym c.record_field_at.ensures ∙ ap option_copied c.in-None.is in
     absurd (
     none_past gs k (
     omega (arith, fit_length r w gs es c.requires.fit, ap length c.deref-member-items.ensures.value, c.loop-k-test.true)) none)
@@ -290,9 +290,9 @@ can_read_fields-loop-k-preserved t c =
     let k = c.loop-k.k in
     let all = c.deref-member-items.result.now in
     let x = c.member-item.result in
-    let other = c.in-Some-field_at.other.now in
+    let other = c.in-Some-record_field_at.other.now in
     let field : slice_get gs k ≡ Some other =
-    ap (λ fs. slice_get fs k) (sym c.as_slice.ensures.items) ∙ sym c.field_at.ensures ∙ ap option_copied c.in-Some-field_at.is in
+    ap (λ fs. slice_get fs k) (sym c.as_slice.ensures.items) ∙ sym c.record_field_at.ensures ∙ ap option_copied c.in-Some-record_field_at.is in
     let there : slice_get es k ≡ Some x =
     ap (λ ys. slice_get ys k) (sym c.deref-member-items.ensures.value)
     ∙ slice_get-get_or all k x (omega arith)
@@ -304,10 +304,10 @@ can_read_fields-loop-k-preserved t c =
     let each : (p : ℕ → Bool) → list_all p types ≡ list_all p (unwrap_or (slice_get lists k) []) = λ p.
     c.in_ok-types.ensures p
     ∙ ap (list_all p) (c.list_at.ensures ∙ ap (λ o. unwrap_or o []) (sym (slice_get-map (λ y. y.items) asked k))) in
-    let answer : c.in_ok-can_all_read-in-Some-field_at.field-0 ≡ true = first_of (search rules, grind (arith, common_steps)) in
+    let answer : c.in_ok-can_all_read-in-Some-record_field_at.field-0 ≡ true = first_of (search rules, grind (arith, common_steps)) in
     let told : all_read r w types other.node (view x.1) ≡ true =
-    ap (λ is. all_read r w is other.node (view x.1)) (sym c.as_slice-in-Some-field_at.ensures.value)
-    ∙ sym c.in_ok-can_all_read-in-Some-field_at.ensures
+    ap (λ is. all_read r w is other.node (view x.1)) (sym c.as_slice-in-Some-record_field_at.ensures.value)
+    ∙ sym c.in_ok-can_all_read-in-Some-record_field_at.ensures
     ∙ answer in
     c.loop-k.invariant
     ∙ place_passes r w gs ms k other (view x.1) types lists field (value_of es k x there) each

@@ -6,11 +6,11 @@ use Rattle.avro_resolve.proofs.any_clash.look_up_all.Goals as goal
 pub pairs-init : goal.pairs-init
 pairs-init c = record {
   looked = looked_first c.args.r.now.nodes c.args.w.now.nodes c.requires.reader
-      c.requires.writer c.args.agenda.now c.requires.roots c.requires.roots_wait;
+      c.requires.writer c.args.worklist.now c.requires.roots c.requires.roots_wait;
   orderly = c.requires.orderly;
   room = c.requires.room;
   unions = c.requires.unions;
-  sieves = c.requires.sieves;
+  field_indexes = c.requires.field_indexes;
 }
 
 pub meet_all-requires-clause-within : goal.meet_all-requires-clause-within
@@ -26,7 +26,7 @@ overflow_add-pairs c =
     omega (
       arith,
       c.requires.small,
-      looked_fewer c.args.r.now.nodes c.args.w.now.nodes c.pairs.agenda c.pairs.pairs i.looked c.in-Some.number waiting
+      looked_fewer c.args.r.now.nodes c.args.w.now.nodes c.pairs.worklist c.pairs.pairs i.looked c.in-Some.number waiting
           (i.orderly.known c.in-Some.number waiting),
     )
 
@@ -36,7 +36,7 @@ pairs-smaller c =
     let waiting = c.in-Some.ensures.waits in
     omega (
       arith,
-      looked_fewer c.args.r.now.nodes c.args.w.now.nodes c.pairs.agenda c.pairs.pairs i.looked c.in-Some.number waiting
+      looked_fewer c.args.r.now.nodes c.args.w.now.nodes c.pairs.worklist c.pairs.pairs i.looked c.in-Some.number waiting
           (i.orderly.known c.in-Some.number waiting),
     )
 
@@ -48,22 +48,22 @@ pairs-preserved c =
     let size = ap length c.next.ensures.met in
     record {
       looked =
-          looked_next c.args.r.now.nodes c.args.w.now.nodes c.pairs.agenda c.pairs.pairs i.looked c.in-Some.number waiting
+          looked_next c.args.r.now.nodes c.args.w.now.nodes c.pairs.worklist c.pairs.pairs i.looked c.in-Some.number waiting
           (i.orderly.known c.in-Some.number waiting)
-          c.next.new.self c.meet_all.new.agenda c.in-Some.ensures.left c.next.ensures.met
+          c.next.new.self c.meet_all.new.worklist c.in-Some.ensures.left c.next.ensures.met
           c.pair_of-pair.result c.pair_of-pair.ensures.within c.pair_of-pair.ensures.number (sym c.in_ok-cause.ensures.clash
           ∙ ap (option_map clash_of_cause) none)
           c.as_slice.result.now (c.as_slice.ensures.value ∙ c.in_ok-cause.ensures.owed none) c.in_ok-meet_all.ensures.met;
       orderly = c.in_ok-meet_all.ensures.orderly;
       room = omega (arith, i.room, c.in_ok-meet_all.ensures.room, size);
       unions = c.in_ok-cause.ensures.unions;
-      sieves = c.in_ok-cause.ensures.sieves;
+      field_indexes = c.in_ok-cause.ensures.field_indexes;
     }
 
 pub returns-clause-compatible : goal.returns-clause-compatible
 returns-clause-compatible c =
     looked_all c.args.r.now.nodes c.args.w.now.nodes c.requires.reader c.requires.writer
-    c.pairs.agenda c.pairs.pairs c.pairs.invariant.looked (c.next.ensures.none c.in_default.is)
+    c.pairs.worklist c.pairs.pairs c.pairs.invariant.looked (c.next.ensures.none c.in_default.is)
 
 pub returns-clause-pairs : goal.returns-clause-pairs
-returns-clause-pairs c = looked_few c.args.r.now.nodes c.args.w.now.nodes c.pairs.agenda c.pairs.pairs c.pairs.invariant.looked
+returns-clause-pairs c = looked_few c.args.r.now.nodes c.args.w.now.nodes c.pairs.worklist c.pairs.pairs c.pairs.invariant.looked

@@ -2,9 +2,9 @@ use Rattle.std.proofs.Common.{◌≡◌, ◌+◌, ◌<◌, ◌≤◌, ◌∷◌,
 use Rattle.std.proofs.Common.{filter, get_or, is_some, slice_get, arith, ap, sym}
 use Rattle.avro_schema.specs.declared.node.Field.{Field}
 use Rattle.avro_resolve.specs.Pairing.{partner}
-use Rattle.avro_resolve.proofs.Sieving.{any_default, earlier_more, found_first, found_inside}
-use Rattle.avro_resolve.proofs.Sieving.{has_partner, no_found, paired_to}
-use Rattle.avro_resolve.proofs.Sieving.{paired_rest, slice_get_behind}
+use Rattle.avro_resolve.proofs.FieldIndexes.{any_default, earlier_more, found_first, found_inside}
+use Rattle.avro_resolve.proofs.FieldIndexes.{has_partner, no_found, paired_to}
+use Rattle.avro_resolve.proofs.FieldIndexes.{paired_rest, slice_get_behind}
 use Rattle.avro_resolve.proofs.fields.paired_among.Goals as goal
 use Rattle.avro_resolve.proofs.fields.paired_among.Goals.{then-x-next+then-is_some+else-left-eq0, then-x-next+else-is_some, else-x-next}
 

@@ -4,7 +4,7 @@ use Rattle.std.specs.Result.{result_err}
 use Rattle.avro_resolve.proofs.Hops.{drop_at}
 use Rattle.avro_resolve.proofs.Owing.{owed_first, owed_pair, owed_none, owed_lacking, none_lacking, owed_all, owed_to, owed_rest}
 use Rattle.avro_resolve.proofs.Searching.{none_if}
-use Rattle.avro_resolve.proofs.Sieving.{any_default, earlier_more, found_first, found_inside, no_found}
+use Rattle.avro_resolve.proofs.FieldIndexes.{any_default, earlier_more, found_first, found_inside, no_found}
 use Rattle.avro_resolve.proofs.owed.owe_found.Goals as goal
 use Rattle.avro_resolve.proofs.owed.owe_found.Goals.{then-x-next+in-Some+in_ok-push, then-x-next+in_default+else-is_none, else-x-next}
 

@@ -7,7 +7,7 @@ use Rattle.avro_resolve.proofs.BreadthFirst.{leads_back, searched_first, searche
 use Rattle.avro_resolve.proofs.BreadthFirst.{searched_clash, searched_next, searched_few}
 use Rattle.avro_resolve.proofs.BreadthFirst.{searched_all, length-expanded}
 use Rattle.avro_resolve.proofs.Searching.{clashes_when, owes_when}
-use Rattle.avro_resolve.specs.Sieve.{AreSieves}
+use Rattle.avro_resolve.specs.FieldIndex.{AreFieldIndexes}
 use Rattle.avro_resolve.proofs.resolving.resolve_by.Goals as goal
 use Rattle.avro_resolve.proofs.resolving.resolve_by.Goals.{then-len-patience+in_ok-pairs+in_default, else-len-patience}
 
@@ -18,7 +18,7 @@ heads-init c = (
       c.reach_roots.new.self.entries.items c.in_ok-reach_roots.ensures.first,
   omega arith,
   c.requires.unions,
-  c.requires.sieves,
+  c.requires.field_indexes,
 )
 
 pub look_up-requires-clause-reader : goal.look_up-requires-clause-reader
@@ -82,7 +82,7 @@ heads-preserved c =
         length-expanded c.heads.head 0 owed c.heads.search.entries.items,
       ),
       c.in_ok-cause.ensures.unions,
-      c.in_ok-cause.ensures.sieves,
+      c.in_ok-cause.ensures.field_indexes,
     )
 
 pub returns-clause-verdict : goal.returns-clause-verdict
@@ -95,10 +95,10 @@ pub returns-clause-pairs : goal.returns-clause-pairs
 returns-clause-pairs c =
     omega (arith, c.heads.search.entries.ok.0, c.heads.invariant.2, searched_few _ _ _ _ c.heads.invariant.1)
 
-pub look_up-requires-clause-sieves : goal.look_up-requires-clause-sieves
-look_up-requires-clause-sieves c =
+pub look_up-requires-clause-field_indexes : goal.look_up-requires-clause-field_indexes
+look_up-requires-clause-field_indexes c =
     elim c.if-len-patience.branch [
       | then-len-patience+in_ok-pairs+in_default w ↦ subst
-          (λ s. AreSieves c.args.r.now.nodes s.of) (sym w.sieves-is) w.in_ok-pairs.ensures.sieves
-      | else-len-patience w ↦ subst (λ s. AreSieves c.args.r.now.nodes s.of) (sym w.sieves-is) c.heads.invariant.4
+          (λ s. AreFieldIndexes c.args.r.now.nodes s.of) (sym w.field_indexes-is) w.in_ok-pairs.ensures.field_indexes
+      | else-len-patience w ↦ subst (λ s. AreFieldIndexes c.args.r.now.nodes s.of) (sym w.field_indexes-is) c.heads.invariant.4
     ]

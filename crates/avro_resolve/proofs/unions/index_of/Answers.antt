@@ -3,7 +3,7 @@ use Rattle.std.proofs.lemmas.List.{take_all}
 use Rattle.avro_schema.specs.declared.node.NodeId.{NodeId}
 use Rattle.avro_resolve.specs.Unions.{IsIndex}
 use Rattle.avro_resolve.proofs.Indexed.{index_more}
-use Rattle.avro_resolve.proofs.Sieving.{any_default}
+use Rattle.avro_resolve.proofs.FieldIndexes.{any_default}
 use Rattle.avro_resolve.proofs.unions.index_of.Goals as goal
 
 pub loop-k-preserved : goal.loop-k-preserved

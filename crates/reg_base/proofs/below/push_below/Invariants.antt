@@ -1,7 +1,7 @@
 use Rattle.std.proofs.Common.{◌++◌, ℕ, List}
 use Rattle.reg_journal.specs.Lines.{text_of}
 use Rattle.reg_records.specs.declared.record.Read.{Read}
-use Rattle.reg_keeping.specs.Fronts.{HasLines}
+use Rattle.reg_compaction.specs.Fronts.{HasLines}
 use Rattle.reg_base.specs.Base.{lines_below}
 use Rattle.reg_base.proofs.Lines.{GoesOn}
 use Rattle.reg_base.proofs.below.push_below.Given as goal

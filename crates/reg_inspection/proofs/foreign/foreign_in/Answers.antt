@@ -3,8 +3,8 @@ use Rattle.std.specs.BTreeMap.{BTreeMap}
 use Rattle.reg_journal.specs.Lines.{text_of}
 use Rattle.reg_records.specs.Log.{records_in}
 use Rattle.reg_records.specs.declared.limits.TheConstants.{LOG_LINES}
-use Rattle.reg_keeping.specs.Fronts.{HasLines}
-use Rattle.reg_keeping.proofs.Fronts.{Say-length, split_behind}
+use Rattle.reg_compaction.specs.Fronts.{HasLines}
+use Rattle.reg_compaction.proofs.Fronts.{Say-length, split_behind}
 use Rattle.reg_inspection.specs.Foreign.{foreign_keytypes, log_lines, tally_of}
 use Rattle.reg_inspection.proofs.Lines.{behind_front, behind_lines, counted}
 use Rattle.reg_inspection.proofs.foreign.foreign_in.Goals as goal

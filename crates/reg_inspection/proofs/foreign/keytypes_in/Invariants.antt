@@ -1,6 +1,6 @@
 use Rattle.std.proofs.Common.{ℕ, List}
 use Rattle.reg_records.specs.declared.record.Read.{Read}
-use Rattle.reg_keeping.specs.Fronts.{HasLines}
+use Rattle.reg_compaction.specs.Fronts.{HasLines}
 use Rattle.reg_inspection.proofs.Lines.{GoesOn}
 use Rattle.reg_inspection.proofs.foreign.keytypes_in.Given as goal
 

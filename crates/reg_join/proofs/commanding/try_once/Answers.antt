@@ -2,6 +2,7 @@ use Rattle.std.proofs.Common.{rules, ◌≡◌, ◌∙◌}
 use Rattle.reg_shared.specs.Held.{base_of}
 use Rattle.reg_join.specs.Ending.{ComesTo, Ends, forgotten}
 use Rattle.reg_join.specs.declared.join_keep.Stand.TheVariants.{Stopped}
+use Rattle.reg_join.proofs.Nobodys.{at_level}
 use Rattle.reg_join.proofs.Trying.{ends_behind, ends_no_memory, ends_stopped, match_weaker}
 use Rattle.reg_join.proofs.commanding.try_once.Goals as goal
 
@@ -30,3 +31,7 @@ returns-in-Err-clause-ends g c = λ joined.
     ends_no_memory g.C.Chain.told g.C.Chain.answers (base_of g.N.FeedName.first) c.args.pen.now c.take_all.new.pen c.args.command.now
     c.without_front-in-Err.result.outcome c.without_front-in-Err.result.seen c.take_all.ensures.goes_on
     c.without_front-in-Err.ensures.outcome
+
+pub returns-in-Ok-All-clause-stops : goal.returns-in-Ok-All-clause-stops
+returns-in-Ok-All-clause-stops g c = λ joined stops.
+    at_level g.C.Chain.told (base_of g.N.FeedName.first) c.submit_once.new.pen c.submit_once.ensures.level

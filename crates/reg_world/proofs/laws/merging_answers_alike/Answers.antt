@@ -3,5 +3,5 @@ use Rattle.reg_world.proofs.laws.merging_answers_alike.Goals as goal
 
 pub returns : goal.returns
 returns c =
-    let m = c.merging_joins_sets.ensures in
+    let m = c.merging_joins_kept_sets.ensures in
     merging m.commutative m.associative m.idempotent c.compactions_unite.ensures.union c.compactions_answer_alike.ensures

@@ -9,7 +9,7 @@ use Rattle.avro_schema.proofs.Lookups.{exit_err}
 use Rattle.avro_schema.proofs.WholeLemmas.{is_float, refused_whole, read_whole, le-true}
 use Rattle.avro_schema.proofs.ReadsBack.{read_plain}
 use Rattle.avro_schema.proofs.schema.Schema.of_json.Goals as goal
-use Rattle.avro_schema.specs.declared.limits.TheConstants.{LONGEST_TEXT}
+use Rattle.avro_schema.specs.declared.limits.TheConstants.{TEXT_LIMIT}
 
 pub returns-then-has_float-clause-err : goal.returns-then-has_float-clause-err
 returns-then-has_float-clause-err c = is_float c.args.text.now (view c.args.value.now) c.requires.of_text (sym c.if-has_float.ensures)
@@ -35,7 +35,7 @@ pub returns-clause-ok : goal.returns-clause-ok
 returns-clause-ok c =
     let d = view c.args.value.now in
     let b = c.numbered.new.self in
-    let short : nat_le (length c.args.text.now) LONGEST_TEXT ≡ true = le-true _ _ c.requires.within in
+    let short : nat_le (length c.args.text.now) TEXT_LIMIT ≡ true = le-true _ _ c.requires.within in
     let whole : has_float d ≡ false = sym c.if-has_float.ensures in
     let null : c.in_ok-null.null.text ≡ [] = c.in_ok-null.ensures.ok.0 ∙ c.empty.ensures in
     read_whole c.args.text.now d b c.read_type.new.self c.in_ok-read_type.field-0 c.in_ok-normal.normal short c.requires.of_text whole
@@ -47,7 +47,7 @@ pub invariant_of-result : goal.invariant_of-result
 invariant_of-result c =
     let d = view c.args.value.now in
     let b = c.numbered.new.self in
-    let short : nat_le (length c.args.text.now) LONGEST_TEXT ≡ true = le-true _ _ c.requires.within in
+    let short : nat_le (length c.args.text.now) TEXT_LIMIT ≡ true = le-true _ _ c.requires.within in
     let whole : has_float d ≡ false = sym c.if-has_float.ensures in
     let null : c.in_ok-null.null.text ≡ [] = c.in_ok-null.ensures.ok.0 ∙ c.empty.ensures in (
       c.in_ok-normal.ensures.same

@@ -4,11 +4,11 @@ use Rattle.reg_adapter.specs.Heard.{heard_with}
 use Rattle.reg_adapter.specs.Lines.{Unread}
 use Rattle.reg_adapter.specs.Messages.{begun_in}
 use Rattle.reg_adapter.specs.Steps.{IsTaken, told_after}
-use Rattle.reg_adapter.specs.declared.told.Told.{Told}
+use Rattle.reg_adapter.specs.declared.told.AdapterMessage.{AdapterMessage}
 use Rattle.reg_adapter.proofs.messages.Messages.step.Goals.{then-self+in_ok-part+in_ok-step, else-self+in_ok-word}
 use Rattle.reg_adapter.proofs.messages.Messages.step.Goals as goal
 
-came : (c : goal.After-pass) (told : List Told)
+came : (c : goal.After-pass) (told : List AdapterMessage)
     → (heard_with told (begun_in c.args.self.now) c.in-Some.ensures.text
     ≡ Ok (record { told = told_after told c.if-self.step; begun = begun_in c.if-self.self }))
     × (c.if-self.self.lines ≡ c.args.self.now.lines) × IsTaken c.if-self.step

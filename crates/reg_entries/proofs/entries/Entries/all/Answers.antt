@@ -7,12 +7,12 @@ use Rattle.reg_entries.proofs.entries.Entries.all.Goals as goal
 
 pub returns-clause-all : goal.returns-clause-all
 returns-clause-all c =
-    c.in_ok-found.ensures ∙ ap (map (λ e. e.now)) c.deref.ensures.value ∙ c.in_ok-twins.ensures
+    c.in_ok-found.ensures ∙ ap (map (λ e. e.now)) c.deref.ensures.value ∙ c.in_ok-stored_entries.ensures
     ∙ sym (values-view c.self.inside.entries c.self.invariant.0.ordered) ∙ ap finmap.values c.self.view_is
 
 pub returns-clause-in_order : goal.returns-clause-in_order
 returns-clause-in_order c =
     let m = c.self.inside.entries in
     let i = c.self.invariant.0 in
-    subst IsInOrder (sym (c.in_ok-found.ensures ∙ ap (map (λ e. e.now)) c.deref.ensures.value ∙ c.in_ok-twins.ensures))
+    subst IsInOrder (sym (c.in_ok-found.ensures ∙ ap (map (λ e. e.now)) c.deref.ensures.value ∙ c.in_ok-stored_entries.ensures))
     (values_in_order m.entries (at_places m i.ordered i.placed) i.ordered)

@@ -12,7 +12,7 @@ returns-clause-all c =
     c.in_ok-found.ensures
     ∙ ap (shown_all deletes)
     (ap (map (λ e. e.now)) c.deref.ensures.value
-    ∙ c.in_ok-twins.ensures
+    ∙ c.in_ok-stored_entries.ensures
     ∙ sym (values-view c.self.inside.entries c.self.invariant.0.ordered)
     ∙ ap finmap.values c.self.view_is)
 
@@ -22,5 +22,5 @@ returns-clause-in_order c =
     let i = c.self.invariant.0 in
     let deletes = c.args.deletes.now in
     subst IsInOrder
-    (sym (c.in_ok-found.ensures ∙ ap (shown_all deletes) (ap (map (λ e. e.now)) c.deref.ensures.value ∙ c.in_ok-twins.ensures)))
+    (sym (c.in_ok-found.ensures ∙ ap (shown_all deletes) (ap (map (λ e. e.now)) c.deref.ensures.value ∙ c.in_ok-stored_entries.ensures)))
     (in_order_shown deletes m i.ordered i.placed)

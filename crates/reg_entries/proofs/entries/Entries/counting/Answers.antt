@@ -19,7 +19,7 @@ all_here c =
     ∙ map_filter (λ e. e.now) (counts c.args.deleted) c.in_ok-found.found.items
     ∙ ap (filter (counts c.args.deleted))
     (c.in_ok-found.ensures
-    ∙ ap (map (under c.delete_of.result)) (ap (map (λ e. e.now)) c.deref.ensures.value ∙ c.in_ok-twins.ensures.all)
+    ∙ ap (map (under c.delete_of.result)) (ap (map (λ e. e.now)) c.deref.ensures.value ∙ c.in_ok-stored_entries.ensures.all)
     ∙ (λ i. map (under (c.delete_of.ensures i)) (of_subject es s))
     ∙ under_subject deletes s es)
 

@@ -12,7 +12,7 @@ returns c =
     let deletes = c.args.deletes.now in
     let id = c.args.id in
     c.in_ok-found.ensures
-    ∙ ap (shown_all deletes) (ap (map (λ e. e.now)) c.deref.ensures.value ∙ c.in_ok-twins.ensures)
+    ∙ ap (shown_all deletes) (ap (map (λ e. e.now)) c.deref.ensures.value ∙ c.in_ok-stored_entries.ensures)
     ∙ shown_with_id deletes id (values_of c.self.inside.entries.entries)
     ∙ ap (λ es. with_id (shown_all deletes es) id)
     (sym (values-view c.self.inside.entries c.self.invariant.0.ordered) ∙ ap finmap.values c.self.view_is)

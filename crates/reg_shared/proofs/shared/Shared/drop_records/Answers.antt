@@ -5,8 +5,8 @@ use Rattle.reg_records.specs.declared.record.Record.{Record}
 use Rattle.reg_set.specs.LastRecords.{last_records}
 use Rattle.reg_set.specs.RecordOrder.{record_cmp}
 use Rattle.reg_set.specs.Records.{Records}
-use Rattle.reg_kept.specs.Floored.{Floored}
-use Rattle.reg_kept.specs.Floors.{may_leave, without}
+use Rattle.reg_floored.specs.Floored.{Floored}
+use Rattle.reg_floored.specs.Floors.{may_leave, without}
 use Rattle.reg_topic.specs.Topic.{may_compact}
 use Rattle.reg_shared.specs.Held.{Held, base_of, held_after_compaction}
 use Rattle.reg_shared.specs.Kept.{kept_of, may_go}

@@ -4,7 +4,7 @@ use Rattle.std.specs.List.{filter}
 use Rattle.reg_records.specs.declared.record.Record.{Record}
 use Rattle.reg_set.specs.Compaction.{deletes_below}
 use Rattle.reg_set.specs.Records.{Records}
-use Rattle.reg_kept.specs.Floors.{compacted_to, may_leave, without}
+use Rattle.reg_floored.specs.Floors.{compacted_to, may_leave, without}
 use Rattle.reg_shared.specs.Held.{Held}
 use Rattle.reg_shared.specs.Kept.{kept_of}
 use Rattle.reg_shared.proofs.Leaving.{dropped_are}

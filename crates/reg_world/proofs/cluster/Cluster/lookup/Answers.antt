@@ -1,6 +1,6 @@
 use Rattle.std.proofs.Common.{◌≡◌, Some, None, slice_get, refl, sym, ap, subst, ◌∙◌, rules}
 use Rattle.reg_set.specs.LastRecords.{last_records}
-use Rattle.reg_kept.specs.Floored.{Floored}
+use Rattle.reg_floored.specs.Floored.{Floored}
 use Rattle.reg_lookup.specs.Answers.{IsAnswer, IsAnswerOver}
 use Rattle.reg_world.specs.State.{set_at}
 use Rattle.reg_world.specs.declared.event.Event.TheVariants as events

@@ -1,7 +1,0 @@
-use Rattle.avro_resolve.proofs.Sieving.{sieves_more}
-use Rattle.avro_resolve.proofs.sieve.Sieves.look_at.Goals as goal
-
-pub returns-in_ok-insert-2 : goal.returns-in_ok-insert-2
-returns-in_ok-insert-2 c =
-    sieves_more c.args.«_r».now.nodes c.args.self.now.of c.insert-then-not-contains_key.new.self c.args.id.index c.in_ok-sieve.sieve
-    c.args.fields.now c.requires.made c.in_ok-sieve.ensures c.requires.fields c.in_ok-insert-2.ensures.updates.0

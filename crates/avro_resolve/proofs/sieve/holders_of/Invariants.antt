@@ -1,6 +1,0 @@
-use Rattle.avro_resolve.specs.Sieve.{AreHolders}
-use Rattle.avro_resolve.proofs.sieve.holders_of.Given as goal
-
--- the names of the fields so far were added
-abbrev pub invariant-loop-k : goal.invariant-loop-k
-invariant-loop-k l = AreHolders l.fields l.k 0 l.holders

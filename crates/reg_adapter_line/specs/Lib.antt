@@ -1,0 +1,4 @@
+pub mod Answers
+pub mod Exchanges
+pub mod Messages
+pub mod Reading

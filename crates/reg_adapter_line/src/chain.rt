@@ -1,0 +1,97 @@
+// The chain behind an adapter.
+ghost use Rattle.std.specs.Prelude.{◌≡◌, [], ⊤, IfOk, IfSome};
+ghost use Rattle.reg_adapter.specs.Requests.{request_text};
+
+use crate::line::AdapterLine;
+use crate::told::ToldList;
+use base_text::Listed;
+use reg_adapter::request;
+use reg_chain::{Chain, ChainAnswer};
+use reg_records::{Record, has_line};
+use std::alloc::{AllocError, Global};
+use std::marker::Model;
+use std::sync::{Arc, Wait};
+use std::time::Clock;
+
+/// The chain behind an adapter, as a pen sees it. Contracts see it as the batches that it told: those that `next` gave, and those that were asked for
+/// and kept. No memory is kept of them.
+///
+/// An answer comes through a lock, which says nothing of it: so the relation `answers` says nothing either. What an answer means is said of the
+/// conversation that gives it (`reg_adapter_chain`), and of what the call makes of one that doesn't come.
+#[derive(Drop)]
+pub struct AdapterChain<R: Wait + Clock + Drop> {
+    rt: R,
+    alloc: Global,
+    line: Arc<AdapterLine, Global>,
+    told: ToldList<Listed<Record>>,
+}
+
+impl<R: Wait + Clock + Drop> Model for AdapterChain<R> {
+    ghost use Rattle.std.specs.Prelude.{List};
+    ghost use Rattle.reg_records.specs.declared.record.Record.{Record};
+
+    ghost Value = { List (List Record) };
+
+    ghost view = { λ c. c.told.items };
+}
+
+impl<R: Wait + Clock + Drop> AdapterChain<R> {
+    /// Nothing was told.
+    pub fn new(rt: R, alloc: Global, line: Arc<AdapterLine, Global>) -> AdapterChain<R>
+        ensures { result ≡ [] }
+    {
+        AdapterChain {
+            rt,
+            alloc,
+            line,
+            told: ToldList::new(),
+        }
+    }
+}
+
+impl<R: Wait + Clock + Drop> Chain for AdapterChain<R> {
+    ghost told = { λ c. c };
+
+    ghost answers = { λ _ _ _ _. ⊤ };
+
+    /// It waits for the answer as long as the line's patience says. Where none came, or it is over, it can't be known whether records stand, and a
+    /// check is declined. What is asked for while a request has no answer is declined at once, and so is a record that no line has.
+    fn append(&mut self, batch: &[Record]) -> ChainAnswer {
+        let Ok(asked) = copies_of(self.alloc, batch) else {
+            return self.line.refuse(&self.rt);
+        };
+        let Some(bytes) = bytes_of(self.alloc, batch) else {
+            return self.line.refuse(&self.rt);
+        };
+        let answer = self.line.ask(&self.rt, batch, bytes);
+        if answer == ChainAnswer::Kept && !batch.is_empty() {
+            self.told = self.told.and(&asked);
+        }
+        answer
+    }
+
+    fn next(&mut self) -> Result<Option<Listed<Record>>, AllocError> {
+        let batch = self.line.next(&self.rt);
+        if let Some(told) = &batch {
+            self.told = self.told.and(told);
+        }
+        Ok(batch)
+    }
+}
+
+/// The bytes that ask for a batch; none where a record has no line, or one that is too long, or memory is refused.
+fn bytes_of(alloc: Global, batch: &[Record]) -> Option<Vec<u8>>
+    ensures { IfSome result (λ bytes. bytes.items ≡ request_text batch.now) }
+{
+    if !batch.iter().all(|record| has_line(record)) {
+        return None;
+    }
+    request(alloc, batch).ok()
+}
+
+/// Copies of the records. The only error is out of memory.
+fn copies_of(alloc: Global, records: &[Record]) -> Result<Listed<Record>, AllocError>
+    ensures { IfOk result (λ copies. copies ≡ records.now) }
+{
+    Ok(Listed::from(records.to_vec(alloc)?))
+}

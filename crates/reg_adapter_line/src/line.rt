@@ -1,0 +1,186 @@
+// The line between a process and its adapter.
+ghost use Rattle.reg_adapter_line.specs.Answers.{IsRefusal};
+
+use crate::end::LineEnd;
+use crate::exchange::Exchange;
+use base_text::Listed;
+use reg_adapter::AdapterMessage;
+use reg_adapter_chain::TellError;
+use reg_chain::ChainAnswer;
+use reg_records::Record;
+use std::alloc::Global;
+use std::sync::atomic::{AtomicBool, Ordering};
+use std::sync::{Condvar, CondvarTimeouts, Mutex, Wait};
+use std::thread::{self, Parker};
+use std::time::{Clock, Duration};
+
+/// A message that memory is refused for is told again so much later, in milliseconds.
+pub(crate) const AGAIN: u64 = 20;
+
+/// What a process and its adapter told each other, for all threads of the process. No thread holds its lock while it waits.
+#[derive(Drop)]
+pub struct AdapterLine {
+    /// How long an answer is waited for.
+    patience: Duration,
+    exchange: Mutex<Exchange>,
+    /// A message was taken, or it is over.
+    heard: Condvar,
+    /// A request is to be written, or it is over.
+    asked: Condvar,
+    /// A batch was handed out, or it is over.
+    taken: Condvar,
+    grown: Parker,
+    is_ready: AtomicBool,
+    has_due: AtomicBool,
+    is_over: AtomicBool,
+}
+
+impl AdapterLine {
+    /// Nothing was said yet behind a base whose next offset is `next`. An answer is waited for as long as `patience` says.
+    pub fn new(alloc: Global, next: u64, patience: Duration) -> AdapterLine {
+        AdapterLine {
+            patience,
+            exchange: Mutex::new(Exchange::new(alloc, next)),
+            heard: Condvar::new(),
+            asked: Condvar::new(),
+            taken: Condvar::new(),
+            grown: Parker::new(),
+            is_ready: AtomicBool::new(false),
+            has_due: AtomicBool::new(false),
+            is_over: AtomicBool::new(false),
+        }
+    }
+
+    /// It is unparked after each message and at the end. One thread may park on it.
+    pub fn grown(&self) -> &Parker {
+        &self.grown
+    }
+
+    /// Whether `ready` was read: all was told then that had been acknowledged before the adapter began.
+    pub fn is_ready(&self) -> bool {
+        self.is_ready.load(Ordering::SeqCst)
+    }
+
+    /// Whether something that was told isn't handed out yet.
+    pub fn has_due(&self) -> bool {
+        self.has_due.load(Ordering::SeqCst)
+    }
+
+    /// Whether nothing more is told. What is due is still handed out.
+    pub fn is_over(&self) -> bool {
+        self.is_over.load(Ordering::SeqCst)
+    }
+
+    /// Why nothing more is told, once that is so.
+    pub fn end<R: Wait>(&self, rt: &R) -> Option<LineEnd> {
+        self.exchange.lock(rt).end
+    }
+
+    /// Waits until something is due, `ready` was read, or it is over.
+    pub fn wait_for_news<R: Wait>(&self, rt: &R) {
+        let exchange = self.exchange.lock(rt);
+        let _exchange = self.heard.wait_while(rt, exchange, |held| held.is_silent());
+    }
+
+    /// What a batch is answered that can't be asked for.
+    pub(crate) fn refuse<R: Wait>(&self, rt: &R) -> ChainAnswer
+        ensures { IsRefusal result }
+    {
+        self.exchange.lock(rt).at_once()
+    }
+
+    /// Asks for a batch by these bytes, and waits for the answer.
+    pub(crate) fn ask<R: Wait + Clock>(
+        &self,
+        rt: &R,
+        batch: &[Record],
+        bytes: Vec<u8>,
+    ) -> ChainAnswer {
+        let mut exchange = self.exchange.lock(rt);
+        if let Some(answer) = exchange.ask(batch, bytes) {
+            return answer;
+        }
+        self.asked.notify_one();
+        let (mut exchange, _result) = self
+            .heard
+            .wait_timeout_while(rt, exchange, self.patience, |held| held.is_waiting());
+        exchange.settle(batch)
+    }
+
+    /// The next batch that is due, if one is.
+    pub(crate) fn next<R: Wait>(&self, rt: &R) -> Option<Listed<Record>> {
+        let mut exchange = self.exchange.lock(rt);
+        let batch = exchange.conversation.next();
+        self.note(&exchange);
+        drop(exchange);
+        self.taken.notify_one();
+        batch
+    }
+
+    /// Takes a message, before `ready` once there is room for it. Where memory is refused for it it tries again.
+    pub(crate) fn tell<R: Wait + Clock>(&self, rt: &R, told: AdapterMessage) {
+        let mut told = told;
+        for _ in rt.forever() {
+            let Some(back) = self.hear(rt, told) else {
+                break;
+            };
+            told = back;
+            thread::sleep(rt, Duration::from_millis(AGAIN));
+        }
+    }
+
+    /// Nothing more is told.
+    pub(crate) fn end_with<R: Wait>(&self, rt: &R, end: LineEnd) {
+        let mut exchange = self.exchange.lock(rt);
+        exchange.end_with(end);
+        self.note(&exchange);
+        drop(exchange);
+        self.wake();
+    }
+
+    /// Waits for a request that is to be written, and gives its bytes; none once it is over.
+    pub(crate) fn wait_for_request<R: Wait>(&self, rt: &R) -> Option<Vec<u8>> {
+        let exchange = self.exchange.lock(rt);
+        let mut exchange = self.asked.wait_while(rt, exchange, |held| held.is_idle());
+        if exchange.end.is_some() {
+            return None;
+        }
+        exchange.request.take()
+    }
+
+    /// Takes a message, before `ready` once there is room for it, and gives it back where memory is refused.
+    fn hear<R: Wait>(&self, rt: &R, told: AdapterMessage) -> Option<AdapterMessage> {
+        let exchange = self.exchange.lock(rt);
+        let mut exchange = self.taken.wait_while(rt, exchange, |held| held.is_full());
+        let back = match exchange.hear(told) {
+            Ok(()) => None,
+            Err(TellError::Fault) => {
+                exchange.end_with(LineEnd::NobodyAsked);
+                None
+            }
+            Err(TellError::OutOfMemory(back)) => Some(back),
+        };
+        self.note(&exchange);
+        drop(exchange);
+        self.wake();
+        back
+    }
+
+    /// Says what others read without the lock.
+    fn note(&self, exchange: &Exchange) {
+        self.is_ready.store(exchange.is_ready, Ordering::SeqCst);
+        self.has_due
+            .store(exchange.conversation.due_count() > 0, Ordering::SeqCst);
+        self.is_over.store(exchange.end.is_some(), Ordering::SeqCst);
+    }
+
+    /// Wakes all that wait for a message; where it is over, all that wait.
+    fn wake(&self) {
+        self.heard.notify_all();
+        if self.is_over() {
+            self.asked.notify_all();
+            self.taken.notify_all();
+        }
+        self.grown.unpark();
+    }
+}

@@ -1,0 +1,102 @@
+// Messages as a reader gives them.
+ghost use Rattle.std.specs.Prelude.{List, Option, ℕ};
+ghost use Rattle.std.specs.Io.KnownBytes.{IsAtEnd};
+ghost use Rattle.reg_adapter.specs.Messages.{HasRead};
+ghost use Rattle.reg_adapter.specs.declared.told.AdapterMessage.{AdapterMessage};
+ghost use Rattle.reg_adapter_line.specs.Reading.{EndsAs, TakesPiece};
+
+use crate::end::LineEnd;
+use crate::line::{AGAIN, AdapterLine};
+use reg_adapter::{MessageError, Messages};
+use std::alloc::Global;
+use std::io::{BufRead, ErrorKind};
+use std::sync::Wait;
+use std::thread;
+use std::time::{Clock, Duration};
+
+/// What one read gave.
+#[derive(Clone, Copy, Debug, PartialEq, Eq)]
+enum Piece {
+    /// Bytes, which were taken.
+    Bytes,
+    /// It was interrupted.
+    Nothing,
+    /// Memory was refused, and nothing was taken.
+    OutOfMemory,
+    /// Nothing more comes.
+    End(LineEnd),
+}
+
+/// Reads messages to the end of the input, and tells the line of each. It waits for nothing but the input, except that before `ready` it waits while
+/// 4,096 batches are due. Where memory is refused for a message it is told again, 20 ms later: none is lost. It returns once the line is over, and
+/// then a read at the latest.
+pub fn read_messages<B: BufRead, R: Wait + Clock>(
+    rt: &R,
+    alloc: Global,
+    reader: &mut B,
+    line: &AdapterLine,
+) {
+    let mut messages = Messages::new(alloc);
+    for _ in rt.forever() {
+        if line.is_over() {
+            break;
+        }
+        match take_piece(reader, &mut messages) {
+            Piece::Bytes => tell_all(rt, &mut messages, line),
+            Piece::Nothing => {}
+            Piece::OutOfMemory => thread::sleep(rt, Duration::from_millis(AGAIN)),
+            Piece::End(end) => line.end_with(rt, end),
+        }
+    }
+}
+
+/// Takes all that one read gives.
+fn take_piece<B: BufRead>(reader: &mut B, messages: &mut Messages) -> Piece
+    ensures { (text : List ℕ) (told : List AdapterMessage) → HasRead text told messages.old
+        → TakesPiece (B.remaining reader.old) (B.remaining reader.new) text told messages.old messages.new result }
+{
+    let available = match reader.fill_buf() {
+        Ok(available) => available,
+        Err(error) => {
+            let kind = error.kind();
+            if kind == ErrorKind::Interrupted {
+                return Piece::Nothing;
+            }
+            return Piece::End(LineEnd::ReadFault(kind));
+        }
+    };
+    let len = available.len();
+    if len == 0 {
+        return Piece::End(end_of(messages));
+    }
+    if messages.take(available).is_err() {
+        return Piece::OutOfMemory;
+    }
+    reader.consume(len);
+    Piece::Bytes
+}
+
+/// How the input ended.
+fn end_of(messages: &Messages) -> LineEnd
+    ensures { (left : Option (List ℕ)) → IsAtEnd left → EndsAs left messages.now result }
+{
+    match messages.end() {
+        Ok(()) => LineEnd::Input,
+        Err(error) => LineEnd::Fault(error),
+    }
+}
+
+/// Tells the line of each message that is whole.
+pub(crate) fn tell_all<R: Wait + Clock>(rt: &R, messages: &mut Messages, line: &AdapterLine) {
+    for _ in rt.forever() {
+        if line.is_over() {
+            break;
+        }
+        match messages.next() {
+            Ok(Some(told)) => line.tell(rt, told),
+            Ok(None) => break,
+            Err(MessageError::OutOfMemory) => thread::sleep(rt, Duration::from_millis(AGAIN)),
+            Err(error) => line.end_with(rt, LineEnd::Fault(error)),
+        }
+    }
+}

@@ -1,0 +1,61 @@
+// One line of a text.
+ghost use Rattle.std.specs.Prelude.{◌≡◌, ◌≤◌, ◌<◌, ◌+◌, ◌++◌, ◌∷◌, ℕ, List, Ok, Some, IfOk, IfSome, count_by, length, position};
+ghost use Rattle.reg_records.specs.Line.{is_line_feed, reading};
+ghost use Rattle.reg_records.specs.Pieces.{HasNoLineFeed};
+ghost use Rattle.reg_records.specs.declared.record.Read.{Read};
+ghost use Rattle.reg_compaction.specs.Fronts.{floor_len};
+
+use reg_records::{Read, ReadLineError, is_floor_line, read_line};
+use std::alloc::{AllocError, Global};
+
+/// How many bytes the line at the front of a text takes with its LF, and what it says; none where it has no LF or
+/// a fault. The only error is out of memory.
+pub fn line_at(alloc: Global, text: &[u8]) -> Result<Option<(usize, Read)>, AllocError>
+    ensures some { IfOk result (λ found. IfSome found (λ it. 0 < it.0)) }
+    ensures within { IfOk result (λ found. IfSome found (λ it. it.0 ≤ length text.now)) }
+    ensures line { (line more : List ℕ) (read : Read) → text.now ≡ line ++ 10 ∷ more → HasNoLineFeed line → reading line ≡ Ok read
+        → IfOk result (λ found. found ≡ Some (length line + 1, read)) }
+{
+    let Some(end) = line_len(text) else {
+        return Ok(None);
+    };
+    match read_line(alloc, text) {
+        Ok(read) => Ok(Some((end + 1, read))),
+        Err(ReadLineError::Line(_)) => Ok(None),
+        Err(ReadLineError::OutOfMemory) => Err(AllocError),
+    }
+}
+
+/// How many bytes the line of a log's floor takes with its LF; 0 where its first line says none.
+pub fn floor_len(log: &[u8]) -> usize
+    ensures len { result ≡ floor_len log.now }
+    ensures within { result ≤ length log.now }
+{
+    if !is_floor_line(log) {
+        return 0;
+    }
+    match line_len(log) {
+        Some(end) => end + 1,
+        None => 0,
+    }
+}
+
+/// How many bytes stand before the first LF, where there is one.
+fn line_len(text: &[u8]) -> Option<usize>
+    ensures { result ≡ position is_line_feed text.now }
+{
+    text.iter().position(|b| *b == b'\n')
+}
+
+/// How many LFs a text has.
+pub(crate) fn count_lines(text: &[u8]) -> u64
+    ensures { result ≡ count_by is_line_feed text.now }
+{
+    let mut count: u64 = 0;
+    for b in text {
+        if *b == b'\n' {
+            count += 1;
+        }
+    }
+    count
+}

@@ -1,0 +1,166 @@
+// A filter from a reader to a writer.
+ghost use Rattle.std.specs.Prelude.{◌≡◌, ◌≤◌, List, ℕ, IfErr, IfOk, IfSome, OnErr, OnOk};
+ghost use Rattle.std.specs.Io.KnownBytes.{Appends};
+ghost use Rattle.reg_journal.specs.Found.{HasFault};
+ghost use Rattle.reg_records.specs.declared.limits.TheConstants.{OFFSET_LIMIT};
+ghost use Rattle.reg_compaction.specs.Filter.{IsFilterRefusal, IsFilterRefusalTo, IsFlushed, IsNoReading, filter_error_of, filter_error_to};
+ghost use Rattle.reg_compaction.specs.Sorted.{IsSortedCompaction, IsSortedCompactionTo};
+ghost use Rattle.reg_compaction.specs.declared.filter.FilterError.TheVariants.{WriteFault};
+
+use crate::sorting::{compacted_in_order, compacted_to_in_order};
+use crate::to_floor::ToFloorError;
+use reg_records::{LogError, LogFault, Output};
+use std::alloc::Global;
+use std::error::Error;
+use std::fmt;
+use std::io::{ErrorKind, Read};
+
+/// Why a filter ended before its end.
+#[derive(Clone, Copy, Debug, PartialEq, Eq)]
+pub enum FilterError {
+    /// The first line of the log that has a fault; lines count from 1. Nothing was written.
+    Log { line: u64, fault: LogFault },
+    /// The reader failed. Nothing was written.
+    ReadFault,
+    /// The writer failed. A part of the output may have been written.
+    WriteFault,
+    /// The floor is lower than the log's, which is this one. Nothing was written.
+    FloorBelow(u64),
+    /// The floor is above the log's next offset, which is this one. Nothing was written.
+    FloorAhead(u64),
+    /// With the floor's line the log would have more lines than a log may have. Nothing was written.
+    NoRoom,
+    /// The log didn't find room. Nothing was written.
+    OutOfMemory,
+}
+
+impl FilterError {
+    ghost use Rattle.std.specs.Prelude.{◌≡◌};
+    ghost use Rattle.reg_compaction.specs.Filter.{exit_status};
+
+    /// The exit status of a program that ends with it.
+    pub fn status(self) -> u8
+        ensures { result ≡ exit_status self }
+    {
+        match self {
+            FilterError::Log { line: _, fault: _ }
+            | FilterError::FloorBelow(_)
+            | FilterError::FloorAhead(_)
+            | FilterError::NoRoom => 2,
+            FilterError::ReadFault | FilterError::WriteFault | FilterError::OutOfMemory => 1,
+        }
+    }
+}
+
+impl fmt::Display for FilterError {
+    ghost use Rattle.std.specs.Prelude.{Some};
+    ghost use Rattle.reg_compaction.specs.Filter.{filter_error_text};
+
+    ghost output = { λ error. Some (filter_error_text error) };
+
+    fn fmt<W: fmt::Write>(&self, f: &mut fmt::Formatter<W>) -> fmt::Result {
+        match *self {
+            FilterError::Log { line, fault } => write!(f, "line {line}: {fault}"),
+            FilterError::ReadFault => write!(f, "ReadFault"),
+            FilterError::WriteFault => write!(f, "WriteFault"),
+            FilterError::FloorBelow(own) => write!(f, "below the floor {own}"),
+            FilterError::FloorAhead(next) => write!(f, "ahead of the next offset {next}"),
+            FilterError::NoRoom => write!(f, "no room for the floor"),
+            FilterError::OutOfMemory => write!(f, "OutOfMemory"),
+        }
+    }
+}
+
+impl Error for FilterError {}
+
+/// Reads a log to the end of the input, and writes what compacting leaves of it, by the offsets. What stands behind the
+/// log's empty line is left out. The log is read to its end before the first byte is written.
+pub fn compact<R: Read, W: Output>(
+    alloc: Global,
+    reader: &mut R,
+    writer: &mut W,
+) -> Result<(), FilterError>
+    ensures written { OnOk result (IfSome (R.remaining reader.old) (λ input. (out : List ℕ) × IsSortedCompaction input out
+        × Appends (W.contents writer.old) (W.contents writer.new) out)) }
+    ensures flushed { OnOk result (IsFlushed W.contents W.flushes writer.new) }
+    ensures refused { IfErr result (IsFilterRefusal (R.remaining reader.old) (W.contents writer.old) (W.contents writer.new)) }
+{
+    let input = read_input(alloc, reader)?;
+    match compacted_in_order(alloc, &input) {
+        Ok(output) => write_output(writer, &output),
+        Err(e) => Err(filter_error(e)),
+    }
+}
+
+/// Reads a log to the end of the input, and writes what compacting it to a floor leaves, as `compact` does.
+pub fn compact_to<R: Read, W: Output>(
+    alloc: Global,
+    floor: u64,
+    reader: &mut R,
+    writer: &mut W,
+) -> Result<(), FilterError>
+    requires { floor ≤ OFFSET_LIMIT }
+    ensures written { OnOk result (IfSome (R.remaining reader.old) (λ input. (out : List ℕ) × IsSortedCompactionTo floor input out
+        × Appends (W.contents writer.old) (W.contents writer.new) out)) }
+    ensures flushed { OnOk result (IsFlushed W.contents W.flushes writer.new) }
+    ensures refused { IfErr result (IsFilterRefusalTo floor (R.remaining reader.old) (W.contents writer.old) (W.contents writer.new)) }
+{
+    let input = read_input(alloc, reader)?;
+    match compacted_to_in_order(alloc, &input, floor) {
+        Ok(output) => write_output(writer, &output),
+        Err(e) => Err(to_floor_error(e)),
+    }
+}
+
+/// All that a reader gives: the input of a filter.
+pub fn read_input<R: Read>(alloc: Global, reader: &mut R) -> Result<Vec<u8>, FilterError>
+    ensures read { IfOk result (λ bytes. IfSome (R.remaining reader.old) (λ input. bytes.items ≡ input)) }
+    ensures refused { IfErr result IsNoReading }
+{
+    let mut bytes = Vec::new(alloc);
+    match reader.read_to_end(&mut bytes) {
+        Ok(_) => Ok(bytes),
+        Err(e) => match e.kind() {
+            ErrorKind::OutOfMemory => Err(FilterError::OutOfMemory),
+            _ => Err(FilterError::ReadFault),
+        },
+    }
+}
+
+/// Writes the bytes whole, and flushes them: the output of a filter. Where the writer fails, a part may have been written.
+pub fn write_output<W: Output>(writer: &mut W, bytes: &[u8]) -> Result<(), FilterError>
+    ensures written { OnOk result (Appends (W.contents writer.old) (W.contents writer.new) bytes.now) }
+    ensures flushed { OnOk result (IsFlushed W.contents W.flushes writer.new) }
+    ensures refused { IfErr result (λ e. e ≡ WriteFault) }
+{
+    if writer.write_all(bytes).is_err() {
+        return Err(FilterError::WriteFault);
+    }
+    match writer.flush_out() {
+        Ok(()) => Ok(()),
+        Err(_) => Err(FilterError::WriteFault),
+    }
+}
+
+/// Why a filter ends whose log wasn't read.
+pub fn filter_error(e: LogError) -> FilterError
+    ensures { result ≡ filter_error_of e }
+{
+    match e {
+        LogError::Fault { line, fault } => FilterError::Log { line, fault },
+        LogError::ReadFault { line: _ } => FilterError::ReadFault,
+        LogError::OutOfMemory => FilterError::OutOfMemory,
+    }
+}
+
+/// Why a filter ends whose log wasn't compacted to a floor.
+fn to_floor_error(e: ToFloorError) -> FilterError
+    ensures { result ≡ filter_error_to e }
+{
+    match e {
+        ToFloorError::Log(e) => filter_error(e),
+        ToFloorError::FloorBelow(own) => FilterError::FloorBelow(own),
+        ToFloorError::FloorAhead(next) => FilterError::FloorAhead(next),
+        ToFloorError::NoRoom => FilterError::NoRoom,
+    }
+}

@@ -1,0 +1,59 @@
+// What a pen and its file say together.
+ghost use Rattle.std.specs.Prelude.{◌≡◌, ◌++◌, List, [], ℕ, Ok, Option, Result, false};
+ghost use Rattle.std.specs.Borrow.{Bor};
+ghost use Rattle.reg_journal.specs.Disk.{Only};
+ghost use Rattle.reg_journal.specs.Lines.{Said, batch_reads, said, with_batch};
+ghost use Rattle.reg_compaction.specs.Said.{SaysCompaction};
+ghost use Rattle.reg_leader.specs.declared.command.Command.{Command};
+ghost use Rattle.reg_leader.specs.declared.reply.Reply.{Reply};
+ghost use Rattle.reg_pen.specs.Opening.{KeepsDue};
+ghost use Rattle.reg_pen.specs.Pen.{PenState, Submits};
+ghost use Rattle.reg_records.specs.Log.{IsLogOf, records_in};
+ghost use Rattle.reg_records.specs.declared.log.Log.{Log};
+ghost use Rattle.reg_records.specs.declared.log.LogFault.{LogFault};
+ghost use Rattle.reg_topic.specs.Topic.{owed_by};
+ghost use Rattle.reg_topic.specs.declared.published.Item.{Item};
+ghost use Rattle.reg_topic.specs.declared.topic.Topic.{Topic};
+ghost use Rattle.reg_file_keep.specs.KeepState.{KeepState};
+ghost use Rattle.reg_file_keep.specs.Keeping.{KeepsFile};
+ghost use Rattle.reg_file_keep.specs.Published.{SaysPublished};
+ghost use Rattle.reg_file_keep.specs.Starting.{StandsAt};
+
+use reg_compaction::compactions_stand_for_logs;
+use reg_journal::{Renewable, batches_add_records};
+
+/// Where a pen is opened over a log and the keep that stands at its end, as `start` gives them, the file says a compaction of that log
+/// with what the topic begins with beside it: the mark of ids that the log owes, or nothing. So does what each crash leaves.
+/// The records that are said so are those of the topic that the pen begins with.
+pub fn opens_keep_the_file<D: Renewable>()
+    ensures file { D.is_modelled → (whole : Said) (base : Log) (old new : KeepState D)
+        → old.journal.is_broken ≡ false
+        → SaysCompaction (Ok whole) (said (D.seen old.journal.disk))
+        → Only (D.seen old.journal.disk) (D.may_leave old.journal.disk)
+        → KeepsDue (KeepsFile D.is_modelled D.moment D.left_since D.may_leave D.seen D.faults D.renewals) old (owed_by base.records.items base.next) new
+        → SaysPublished D.seen D.may_leave (with_batch (owed_by base.records.items base.next) (Ok whole))
+        (record { published = []; pending = []; lost = false; keep = new }) }
+    ensures start { D.is_modelled → (base : Log) (old new : KeepState D) → StandsAt D.is_modelled D.may_leave D.seen old base
+        → KeepsDue (KeepsFile D.is_modelled D.moment D.left_since D.may_leave D.seen D.faults D.renewals) old (owed_by base.records.items base.next) new
+        → (whole : Said) × IsLogOf whole.floor whole.reads base
+        × SaysPublished D.seen D.may_leave (with_batch (owed_by base.records.items base.next) (Ok whole))
+        (record { published = []; pending = []; lost = false; keep = new }) }
+    ensures base { (whole : Said) (base : Log) → IsLogOf whole.floor whole.reads base
+        → records_in (whole.reads ++ batch_reads (owed_by base.records.items base.next))
+        ≡ base.records.items ++ owed_by base.records.items base.next }
+{
+    compactions_stand_for_logs();
+    batches_add_records();
+}
+
+/// A file that says what a pen has published, and what is pending, up to a compaction, says so after each submit, and so
+/// does what each crash leaves from then on. Where a batch is lost, each crash leaves a file that says what is published,
+/// without that batch or with all of it.
+pub fn submits_keep_the_file<D: Renewable>()
+    ensures { D.is_modelled → (first : Result Said (ℕ × LogFault)) (base : Topic) (since : Option (Bor (List Item)))
+        (old new : PenState (KeepState D)) (command : Command) (reply : Reply)
+        → Submits (KeepsFile D.is_modelled D.moment D.left_since D.may_leave D.seen D.faults D.renewals) base since old command reply new
+        → SaysPublished D.seen D.may_leave first old → SaysPublished D.seen D.may_leave first new }
+{
+    compactions_stand_for_logs();
+}

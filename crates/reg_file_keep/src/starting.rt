@@ -1,0 +1,93 @@
+// Starting over the log of a file.
+ghost use Rattle.std.specs.Prelude.{◌≡◌, ◌⊎◌, Ok, IfErr, IfOk, false};
+ghost use Rattle.reg_records.specs.Log.{IsLogOf};
+ghost use Rattle.reg_journal.specs.Disk.{LeavesOnly, Only};
+ghost use Rattle.reg_journal.specs.Lines.{Said, said};
+ghost use Rattle.reg_compaction.specs.Aside.{HasAll};
+ghost use Rattle.reg_compaction.specs.Said.{SaysCompaction};
+ghost use Rattle.reg_file_keep.specs.Starting.{LosesNothing};
+
+use crate::keeping::FileKeep;
+use reg_compaction::{Aside, Opens, compactions_stand_for_logs, open_aside};
+use reg_journal::{Disk, Found, Journal, JournalOpenError, Renewable};
+use reg_pen::KeptLog;
+use std::alloc::Global;
+
+/// For how many lines room is made at the start, so that no first command waits for it.
+const FIRST_LINES: u64 = 1_000;
+
+/// What a start over a file gives.
+#[derive(Drop)]
+pub struct Started<D: Renewable + Drop> {
+    /// The log of the file, and the keep that stands at its end. Only `start_file_keep` makes such a keep, so that they belong
+    /// together.
+    pub kept: KeptLog<FileKeep<D>>,
+    /// Where the file's empty line stood when it was read.
+    pub end: usize,
+    /// How many bytes stood behind the log, which are on the other disk.
+    pub cut: usize,
+}
+
+/// Why nothing was started, and the disk.
+#[derive(Drop)]
+pub struct NotStarted<D: Drop> {
+    pub disk: D,
+    pub error: JournalOpenError,
+}
+
+/// Reads the log of a file, ends it with an empty line, puts aside and cuts off what stands behind that, and compacts the
+/// file where that is due.
+pub fn start_file_keep<D: Renewable + Drop, A: Disk + Drop, O: Opens<A>>(
+    alloc: Global,
+    disk: D,
+    aside: &mut Aside<A, O>,
+) -> Result<Started<D>, NotStarted<D>>
+    requires { D.is_modelled → D.known disk }
+
+    // The log is what the file said.
+    ensures log { D.is_modelled → IfOk result (λ it. (says : Said) × (said (D.seen disk) ≡ Ok says) × IsLogOf says.floor says.reads it.kept.log) }
+
+    // The keep stands at its end and isn't broken: its file says a compaction of it, all of it on the disk.
+    ensures kept { D.is_modelled → IfOk result (λ it. SaysCompaction (said (D.seen disk)) (said (D.seen it.kept.keep.journal.disk))) }
+    ensures durable { D.is_modelled → IfOk result (λ it. Only (D.seen it.kept.keep.journal.disk) (D.may_leave it.kept.keep.journal.disk)) }
+    ensures sound { IfOk result (λ it. it.kept.keep.journal.is_broken ≡ false) }
+    ensures next { IfOk result (λ it. it.kept.keep.next ≡ it.kept.log.next) }
+
+    // A crash at any moment leaves what it might have left before, a file with all bytes that were there, or one that says a
+    // compaction of what it said.
+    ensures any_moment { D.is_modelled → IfOk result (λ it. LeavesOnly D.moment D.left_since D.may_leave disk it.kept.keep.journal.disk
+        (λ c. HasAll (D.may_leave disk) (D.seen disk) c ⊎ SaysCompaction (said (D.seen disk)) (said c))) }
+
+    // Where nothing is started, nothing was lost either.
+    ensures left { D.is_modelled → IfErr result (λ it. LeavesOnly D.moment D.left_since D.may_leave disk it.disk
+        (LosesNothing (D.may_leave disk) (D.seen disk))) }
+{
+    compactions_stand_for_logs();
+    let mut disk = disk;
+    let found = match open_aside(alloc, &mut disk, aside) {
+        Ok(found) => found,
+        Err(error) => return Err(NotStarted { disk, error }),
+    };
+    let Found {
+        log,
+        end,
+        lines,
+        behind,
+    } = found;
+    let journal = Journal::over(disk, end, lines);
+    let mut keep = FileKeep::new(alloc, journal, log.floor, log.next);
+    keep.make_room(FIRST_LINES);
+    if keep.journal().is_broken() {
+        return Err(NotStarted {
+            disk: keep.into_disk(),
+            error: JournalOpenError::Failed,
+        });
+    }
+    keep.journal().is_steady();
+    let kept = KeptLog::new(log, keep);
+    Ok(Started {
+        kept,
+        end,
+        cut: behind.len(),
+    })
+}

@@ -1,0 +1,4 @@
+pub mod Fresh
+pub mod Learnt
+pub mod Ordered
+pub mod Turns

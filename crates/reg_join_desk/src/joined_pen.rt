@@ -1,0 +1,126 @@
+// A pen over a chain, whose batches are those that the chain told.
+ghost use Rattle.std.specs.Prelude.{◌≡◌, [], IfOk};
+ghost use mathlib.Core.List.{IsPrefix};
+ghost use Rattle.reg_fold.specs.GiveAlike.{GiveAlike};
+ghost use Rattle.reg_topic.specs.Topic.{registry_of};
+ghost use Rattle.reg_shared.specs.Held.{base_of, topic_at};
+ghost use Rattle.reg_pen.specs.Pen.{IsPen};
+ghost use Rattle.reg_chain.specs.declared.chain.ChainAnswer.TheVariants.{Kept};
+ghost use Rattle.reg_join.specs.Ending.{Ends};
+ghost use Rattle.reg_join.specs.Joined.{IsJoined, batches_of};
+ghost use Rattle.reg_join.specs.Joining.{Checks, IsNotAsked};
+ghost use Rattle.reg_join.specs.Taking.{Takes, TellsTaken};
+
+use reg_chain::{Chain, ChainAnswer};
+use reg_feed::{Copies, FeedName, FeedReader, NoPlace, Seen};
+use reg_fold::Registry;
+use reg_join::{JoinKeep, JoinSubmitted, Patience, TakenIn, check_chain, submit_joined, take_in};
+use reg_leader::Command;
+use reg_levels::Judged;
+use reg_pen::{Pass, Pen};
+use reg_shared::Shared;
+use reg_topic::Item;
+use std::alloc::{AllocError, Global};
+use std::marker::Model;
+use std::sync::Wait;
+
+/// A pen over a chain: its batches are those that its keep took of what the chain told, in their order, and none is lost. Contracts see
+/// the pen. It stands in a `Mutex`.
+#[derive(Drop)]
+pub struct JoinedPen<
+    N: FeedName<Item, Shared>,
+    S: Copies<Item, Shared, N>,
+    C: Chain + Drop,
+    R: Wait + Drop,
+> {
+    // In a `Box`, since a struct that holds a `Pen` over such a keep itself gets no generated drop.
+    pen: Box<Pen<N, S, JoinKeep<C>, R>>,
+}
+
+impl<N: FeedName<Item, Shared>, S: Copies<Item, Shared, N>, C: Chain + Drop, R: Wait + Drop> Model
+    for JoinedPen<N, S, C, R> {
+    ghost use Rattle.reg_pen.specs.Pen.{PenState};
+    ghost use Rattle.reg_join.specs.Joined.{IsJoined};
+    ghost use Rattle.reg_join.specs.declared.join_keep.JoinKeep.{JoinKeep};
+
+    ghost Value = { PenState (JoinKeep C) };
+
+    ghost view = { λ p. p.pen.value };
+
+    ghost invariant = { λ p. IsJoined C.told p.pen.value };
+}
+
+impl<
+    N: FeedName<Item, Shared>,
+    S: Copies<Item, Shared, N>,
+    C: Chain + Drop,
+    R: Wait + Drop,
+> JoinedPen<N, S, C, R> {
+    /// A pen that was opened over a chain which had told nothing is such a pen, where no mark was due.
+    pub fn new(pen: Box<Pen<N, S, JoinKeep<C>, R>>) -> JoinedPen<N, S, C, R>
+        requires { IsJoined C.told pen.value }
+        ensures { result ≡ pen.value }
+    {
+        JoinedPen { pen }
+    }
+
+    /// Takes in the next batch that others wrote, if one is told, as `take_in` of `reg_join` does. The only error is out of memory; the
+    /// batch is tried again at the next call.
+    pub fn take_in(&mut self, alloc: Global, pass: &mut Pass<N>) -> Result<TakenIn, AllocError>
+        ensures joined { IsJoined C.told self.new }
+        ensures grows { IsPrefix self.old.published self.new.published }
+        ensures own { IsNotAsked self.old.keep self.new.keep }
+        ensures taken { IfOk result (λ taken. Takes taken self.old self.new) }
+        ensures told { IfOk result (λ taken. TellsTaken C.told taken self.old self.new) }
+    {
+        take_in(alloc, &mut self.pen, pass)
+    }
+
+    /// Does a command, as `submit_joined` of `reg_join` does: where others come first it is decided anew, 64 times at most and for as long
+    /// as there is patience. `since` is the caller's last front.
+    pub fn submit<P: Patience>(
+        &mut self,
+        alloc: Global,
+        pass: &mut Pass<N>,
+        since: Option<&Seen<Item, Shared, N>>,
+        command: &Command,
+        judged: Option<&Judged>,
+        patience: &P,
+    ) -> JoinSubmitted<N>
+        ensures was { IsPen (base_of N.first) self.old.published self.old.pending }
+        ensures was_joined { IsJoined C.told self.old }
+        ensures joined { IsJoined C.told self.new }
+        ensures grows { IsPrefix self.old.published self.new.published }
+        ensures ends { Ends C.told C.answers (base_of N.first) self.old command.now result.outcome result.seen self.new }
+    {
+        // Its contract says that it is a pen whose list is lawful.
+        let _batches = self.pen.batches();
+        submit_joined(alloc, &mut self.pen, pass, since, command, judged, patience)
+    }
+
+    /// Asks the chain whether something stands behind all that was told. Nothing of the list changes.
+    pub fn check(&mut self) -> ChainAnswer
+        ensures checks { Checks C.told C.answers self.old.keep result self.new.keep }
+        ensures same { self.new ≡ record self.old { keep = self.new.keep } }
+        ensures joined { IsJoined C.told self.new }
+        ensures own { IsNotAsked self.old.keep self.new.keep }
+        ensures kept { result ≡ Kept → C.told self.new.keep.chain ≡ batches_of self.new }
+    {
+        check_chain(&mut self.pen)
+    }
+
+    /// A registry that gives the same as the one over the published log. Takes no memory.
+    pub fn registry(&self) -> &Registry
+        ensures { GiveAlike result.now (registry_of (topic_at N.first self.now.published)) }
+    {
+        self.pen.registry()
+    }
+
+    /// A reader of the list that has seen nothing, from which the nodes' follower takes. It may be refused at any call.
+    pub fn reader(&mut self) -> Result<FeedReader<Item, Shared, N, S>, NoPlace>
+        ensures new { IfOk result (λ reader. reader ≡ []) }
+        ensures same { self.new ≡ self.old }
+    {
+        self.pen.reader()
+    }
+}

@@ -1,0 +1,3 @@
+mod Bases
+mod Begun
+mod Prefixes

@@ -1,0 +1,74 @@
+// What is told before nodes listen.
+use crate::endpoints::JoinEndpoints;
+use crate::error::JoinError;
+use crate::taking::Taker;
+use reg_adapter_line::{AdapterLine, LineEnd};
+use reg_chain::Chain;
+use reg_feed::{Copies, FeedName};
+use reg_join::TakenIn;
+use reg_join_desk::JoinedPen;
+use reg_shared::Shared;
+use reg_topic::Item;
+use std::sync::Wait;
+use std::time::Clock;
+
+/// Takes in all that is told before `ready`, while nobody else has the pen. Where something is no command's, the rest is left. Fails where
+/// memory is refused, and where it is over before `ready`.
+pub(crate) fn take_history<
+    N: FeedName<Item, Shared>,
+    S: Copies<Item, Shared, N>,
+    C: Chain + Drop,
+    R: Wait + Clock + Drop,
+    E: JoinEndpoints,
+>(
+    rt: &R,
+    line: &AdapterLine,
+    taker: &mut Taker<N, S, C>,
+    pen: &mut JoinedPen<N, S, C, R>,
+    endpoints: &E,
+) -> Result<(), JoinError> {
+    for _news in rt.forever() {
+        // All that is told before `ready`, or before the end, is due once that was read.
+        let (is_ready, is_over) = (line.is_ready(), line.is_over());
+        take_told(rt, taker, pen, endpoints)?;
+        if is_ready {
+            return Ok(());
+        }
+        if is_over {
+            return Err(JoinError::NotReady(end_of(rt, line)));
+        }
+        line.wait_for_news(rt);
+    }
+    unreachable!()
+}
+
+/// Takes in all that was told.
+fn take_told<
+    N: FeedName<Item, Shared>,
+    S: Copies<Item, Shared, N>,
+    C: Chain + Drop,
+    R: Wait + Drop,
+    E: JoinEndpoints,
+>(
+    rt: &R,
+    taker: &mut Taker<N, S, C>,
+    pen: &mut JoinedPen<N, S, C, R>,
+    endpoints: &E,
+) -> Result<(), JoinError> {
+    for _piece in rt.forever() {
+        if taker.passes_over() {
+            return Ok(());
+        }
+        match taker.take(pen)? {
+            TakenIn::Batch => {}
+            TakenIn::All => return Ok(()),
+            TakenIn::Stopped => endpoints.stopped(taker.next()),
+        }
+    }
+    unreachable!()
+}
+
+/// Why nothing more is told. Where that isn't known, the input has ended.
+pub(crate) fn end_of<R: Wait>(rt: &R, line: &AdapterLine) -> LineEnd {
+    line.end(rt).unwrap_or(LineEnd::Input)
+}

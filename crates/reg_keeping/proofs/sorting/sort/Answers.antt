@@ -1,8 +1,0 @@
-use Rattle.std.proofs.Common.{rules}
-use Rattle.std.proofs.lemmas.List.Sorted.{IsNonDecreasingBy-from_sort_by_key}
-use Rattle.reg_keeping.specs.declared.sorting.Piece.{Piece}
-use Rattle.reg_keeping.proofs.sorting.sort.Goals as goal
-
-pub returns-clause-sorted : goal.returns-clause-sorted
-returns-clause-sorted c =
-    IsNonDecreasingBy-from_sort_by_key (λ (p : Piece). p.offset) _ c.in_ok-sort_by_key.ensures.sorted (λ a r q k. search rules)
