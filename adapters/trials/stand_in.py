@@ -1,4 +1,4 @@
-"""Stands in for `registrylog join`, which isn't there yet: it reads and asks as PROTOCOL.md says, decides by registry.py, and listens.
+"""Stands in for `registrylog join`: it reads and asks as PROTOCOL.md says, decides by registry.py, and listens.
 
     stand_in.py --port PORT             serves; with --rules behind it, it prints the number of its rules
     stand_in.py --compact N             a filter: the last records of a log, behind a floor of N
