@@ -4,7 +4,7 @@
     python3 docs/check-commands.py out/registryd out/registrylog
 
 A command stands behind `$ ` in a block, up to where a shell has all of it, and what it prints in the lines behind it. The commands of
-a page run in one shell, in a new folder. Ports 8081 to 8083 stand for three free ones, which are picked. What a command in the background
+a page run in one shell, in a new folder. Ports 8081 to 8085 stand for five free ones, which are picked. What a command in the background
 prints is waited for, and a lookup by `curl` is asked again until it is answered so, 20 seconds at most. For `kcat`, which needs a
 cluster, stands a script that prints the one record in KCAT. Ends of lines and line breaks at the end aren't compared. Blocks without `$ `
 prove or build, and aren't run. It ends only what it started.
@@ -57,16 +57,16 @@ def commands_of(text):
 
 
 def free_ports():
-    """The first of three ports in a row that nobody listens at."""
-    for first in range(20000 + os.getpid() % 20000, 60000, 3):
+    """The first of five ports in a row that nobody listens at."""
+    for first in range(20000 + os.getpid() % 20000, 60000, 5):
         try:
-            for port in range(first, first + 3):
+            for port in range(first, first + 5):
                 with socket.socket() as tried:
                     tried.bind(("127.0.0.1", port))
             return first
         except OSError:
             pass
-    raise SystemExit("no three free ports in a row")
+    raise SystemExit("no five free ports in a row")
 
 
 class Shell:
@@ -92,7 +92,7 @@ class Shell:
         while True:
             found = self.printed[begun:].decode(errors="replace")
             ended, found = mark in found, found.replace(mark, "").replace("\r\n", "\n")
-            found = re.sub(r"(?m)^bash: line \d+: +\d+ Killed .*\n", "", found).rstrip("\n")
+            found = re.sub(r"(?m)^(?:bash|main): line \d+: +\d+ Killed .*\n", "", found).rstrip("\n")
             if ended and found == wanted or time.monotonic() > until or ended and not wanted.startswith(found):
                 return found
             time.sleep(0.02)
@@ -110,6 +110,9 @@ def put_programs(folder, programs, port):
             script = Path(folder, place, name)
             script.write_text(f'#!/bin/bash\n[[ ${{1:-}} == keep ]]{first}\nexec "{Path(path).resolve()}" "$@"\n')
             script.chmod(0o755)
+    by_file = Path(folder, "bin", "by_file.py")
+    by_file.write_text(f'#!/bin/bash\nexec python3 "{TOP}/benches/join/by_file.py" "$@"\n')
+    by_file.chmod(0o755)
     Path(folder, "kcat-record").write_text(KCAT.replace("\\t", "\t"))
     kcat = Path(folder, "bin", "kcat")
     kcat.write_text(f'#!/bin/bash\nexec cat "{folder}/kcat-record"\n')
@@ -124,7 +127,7 @@ def check(page, programs):
     put_programs(folder, programs, port)
     shell = Shell(folder)
     try:
-        text = re.sub(r"\b808([123])\b", lambda m: str(port + int(m[1]) - 1), (TOP / page).read_text())
+        text = re.sub(r"\b808([1-5])\b", lambda m: str(port + int(m[1]) - 1), (TOP / page).read_text())
         for line, command, wanted in commands_of(text):
             found, until = shell.run(command, wanted), time.monotonic() + PATIENCE
             while found != wanted and command.startswith("curl -s http") and time.monotonic() < until:

@@ -12,6 +12,7 @@ crates/*/specs and proofs, and the names of wrong bodies; of test crates but tes
 In all pages the path of a file that means one file alone has to be a link to it. A link whose text is a path leads to a file of that path.
 Each statement in a text block of HEADLINE has to stand in some specs/, but for `pub`, comments and line breaks. Each link between
 documents has to lead to a file, and to a heading there. `VERSION` of log_arguments is what the file VERSION at the top has.
+No public type, trait or free function has the name of another crate's, but for those of SHARED.
 """
 import os
 import re
@@ -27,6 +28,8 @@ OTHER = set("""
     IfOk IfErr IfSome OnOk OnErr Brand Absorb matchit http httparse serde_json clap null stdin stdout library result READONLY_OVERRIDE Old
     Key::X Value::X crates/NAME crates/NAME/wrong/ must-fail/ wrong/ specs/ proofs/ data/ out/ out/NAME.log exec client_max_body_size
 """.split())
+# A name that public items of several crates share, and why it stays. None does today.
+SHARED = {}
 FENCE = re.compile(r"(?s)```.*?```")
 NAME = re.compile(r"[A-Za-z_]\w*(?:::\w+)?(?:\(\))?")
 LINKED = re.compile(r"\[(`[^`]+`)\]\(([^)\s]*)\)")
@@ -68,6 +71,16 @@ def read_definitions(file, text):
 
 def crates_in(text):
     return CRATES.intersection(re.findall(r"\w+", text))
+
+
+def shared_names():
+    """Each name of a public type, trait or free function that several crates have, and those crates."""
+    owners = defaultdict(set)
+    for file in FILES:
+        if "/src/" in file and file.endswith(".rt"):
+            for name in re.findall(r"(?m)^pub (?:unsafe )?(?:fn|struct|enum|union|trait|type) (\w+)", (TOP / "crates" / file).read_text()):
+                owners[name].add(file.split("/")[0])
+    return {name: sorted(crates) for name, crates in sorted(owners.items()) if len(crates) > 1}
 
 
 def squeezed(text):
@@ -185,6 +198,9 @@ def main():
         looked_up += [(text.count("\n", 0, at), f"no link: {name}", False) for at, name, _ in unlinked(path.name, text) if is_page]
         count += len(looked_up)
         faults += [f"{path.relative_to(TOP)}:{at + 1}: {name}" for at, name, there in looked_up if not there]
+    shared = shared_names()
+    faults += [f"{name}: public in {', '.join(crates)}" for name, crates in shared.items() if name not in SHARED]
+    faults += [f"{name}: shared by no two crates" for name in SHARED if name not in shared]
     version = (TOP / "VERSION").read_text().strip()
     if f'pub const VERSION: &str = "{version}";' not in (TOP / "crates/log_arguments/src/command.rt").read_text():
         faults.append(f"VERSION: {version}")
