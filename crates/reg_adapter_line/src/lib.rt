@@ -20,12 +20,10 @@ mod exchange;
 mod line;
 mod reading;
 mod sending;
-#[cfg(test)]
-mod tests;
 mod told;
 
 pub use chain::AdapterChain;
 pub use end::LineEnd;
 pub use line::AdapterLine;
-pub use reading::read_messages;
+pub use reading::{read_messages, tell_all};
 pub use sending::send_requests;

@@ -139,7 +139,7 @@ impl AdapterLine {
     }
 
     /// Waits for a request that is to be written, and gives its bytes; none once it is over.
-    pub(crate) fn wait_for_request<R: Wait>(&self, rt: &R) -> Option<Vec<u8>> {
+    pub fn wait_for_request<R: Wait>(&self, rt: &R) -> Option<Vec<u8>> {
         let exchange = self.exchange.lock(rt);
         let mut exchange = self.asked.wait_while(rt, exchange, |held| held.is_idle());
         if exchange.end.is_some() {

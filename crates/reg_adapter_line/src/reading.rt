@@ -87,7 +87,7 @@ fn end_of(messages: &Messages) -> LineEnd
 }
 
 /// Tells the line of each message that is whole.
-pub(crate) fn tell_all<R: Wait + Clock>(rt: &R, messages: &mut Messages, line: &AdapterLine) {
+pub fn tell_all<R: Wait + Clock>(rt: &R, messages: &mut Messages, line: &AdapterLine) {
     for _ in rt.forever() {
         if line.is_over() {
             break;

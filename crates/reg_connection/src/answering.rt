@@ -4,7 +4,7 @@ ghost use Rattle.reg_records.specs.Device.{bytes_in, interruptions_of};
 ghost use Rattle.reg_messages.specs.Head.{front_of};
 ghost use Rattle.reg_messages.specs.Reading.{IsShort};
 ghost use Rattle.reg_responses.specs.declared.limits.TheConstants.{INTERRUPTION_LIMIT};
-ghost use Rattle.reg_extent.specs.Extent.{IsWhole};
+ghost use Rattle.reg_messages.specs.Extent.{IsWhole};
 ghost use Rattle.reg_conversation.specs.Conversation.{RepliesAll};
 ghost use Rattle.reg_connection.specs.Answering.{AnswersKnowing, FailsKnowing, HasLearnt, StandsOn};
 

@@ -22,7 +22,7 @@ use Rattle.reg_http.specs.declared.serving.Next.{Next}
 use Rattle.reg_http.specs.declared.serving.ServeError.{ServeError}
 use Rattle.reg_http.specs.declared.serving.Next.TheVariants as nexts
 use Rattle.reg_http.specs.declared.serving.ServeError.TheVariants as errors
-use Rattle.reg_extent.specs.Extent.{IsWhole}
+use Rattle.reg_messages.specs.Extent.{IsWhole}
 use Rattle.reg_conversation.specs.Conversation.{AnswersHeld, FailsFirst}
 
 -- a body is the same whatever comes after it

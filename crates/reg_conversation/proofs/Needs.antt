@@ -2,7 +2,7 @@
 use Rattle.std.proofs.Common.{◌≡◌, ◌++◌, List, ℕ, Bool, true, false, Some, None, IfSome, if◌then◌else◌, sym, subst}
 use Rattle.std.specs.Prelude.{Option}
 use Rattle.std.proofs.lemmas.List.{append_assoc}
-use Rattle.reg_extent.specs.Extent.{EndsAt}
+use Rattle.reg_messages.specs.Extent.{EndsAt}
 use Rattle.reg_conversation.specs.Conversation.{IsNeeded}
 
 needed-more : (needs : Option ℕ) (held bytes : List ℕ) → IfSome needs (IsNeeded held) → IfSome needs (IsNeeded (held ++ bytes))

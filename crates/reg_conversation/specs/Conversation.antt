@@ -10,7 +10,7 @@ use Rattle.reg_records.specs.declared.device.Device.{Device}
 use Rattle.reg_messages.specs.Head.{front_of}
 use Rattle.reg_messages.specs.Reading.{IsShort}
 use Rattle.reg_responses.specs.Writing.{LosesWriter}
-use Rattle.reg_extent.specs.Extent.{TakesInAll}
+use Rattle.reg_messages.specs.Extent.{TakesInAll}
 use Rattle.reg_http.specs.Serve.{all_of, Answers, AnswersFirst, IsOutput, IsOver, StopsInNext}
 use Rattle.reg_http.specs.ServeSteps.{LosesStep}
 use Rattle.reg_http.specs.declared.limits.TheConstants.{REQUESTS_LIMIT}

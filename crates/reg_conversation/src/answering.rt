@@ -5,8 +5,8 @@ ghost use Rattle.reg_responses.specs.declared.limits.TheConstants.{INTERRUPTION_
 ghost use Rattle.reg_http.specs.ServeSteps.{Steps};
 ghost use Rattle.reg_conversation.specs.Conversation.{FailsFirst};
 
-use reg_extent::message_in;
 use reg_http::{Desk, Next, Paths, ServeError, answer_got};
+use reg_messages::message_in;
 use reg_records::Device;
 use std::alloc::Global;
 use std::io::Write;

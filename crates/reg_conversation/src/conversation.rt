@@ -4,13 +4,13 @@ ghost use Rattle.reg_records.specs.Device.{bytes_in, faults_of, interruptions_of
 ghost use Rattle.reg_messages.specs.Head.{front_of};
 ghost use Rattle.reg_messages.specs.Reading.{IsShort};
 ghost use Rattle.reg_responses.specs.declared.limits.TheConstants.{INTERRUPTION_LIMIT};
-ghost use Rattle.reg_extent.specs.Extent.{IsWhole, LacksHead};
+ghost use Rattle.reg_messages.specs.Extent.{IsWhole, LacksHead};
 ghost use Rattle.reg_http.specs.ServeSteps.{Steps};
 ghost use Rattle.reg_conversation.specs.Conversation.{AnswersHeld, FailsFirst, IsNeeded, RepliesAll};
 
 use crate::answering::answer_bytes;
-use reg_extent::message_len;
 use reg_http::{Desk, Next, Paths, ServeError};
+use reg_messages::message_len;
 use reg_records::Device;
 use std::alloc::{AllocError, Global};
 use std::io::Write;

@@ -96,6 +96,7 @@ fn order_judged<
 }
 
 /// Takes the pen for one registration, if its judgement still fits; else gives what is to be judged by now.
+#[tactic(auto, using(crate::proofs::Ordered::is_ordered))]
 fn lend_pen_if_fits<
     N: FeedName<Item, Shared>,
     S: Copies<Item, Shared, N>,
@@ -120,11 +121,10 @@ fn lend_pen_if_fits<
     if let Some(case) = overtaken(case, pen.registry()) {
         return Err(case);
     }
-    Ok(submit_after(
+    Ok(pen.submit(
         alloc,
-        &mut pen,
         pass,
-        before,
+        before.as_ref(),
         command,
         Some(&judged),
         patience,
@@ -132,6 +132,7 @@ fn lend_pen_if_fits<
 }
 
 /// Takes the pen for one command.
+#[tactic(auto, using(crate::proofs::Ordered::is_ordered))]
 fn lend_pen<
     N: FeedName<Item, Shared>,
     S: Copies<Item, Shared, N>,
@@ -151,28 +152,6 @@ fn lend_pen<
     ensures ordered { IsOrdered C.told C.answers (base_of N.first) command.now result.outcome result.seen }
 {
     let mut pen = pen.lock(rt);
-    submit_after(alloc, &mut pen, pass, before, command, judged, patience)
-}
-
-/// Does the command for a caller with that front.
-#[tactic(auto, using(crate::proofs::Ordered::is_ordered))]
-fn submit_after<
-    N: FeedName<Item, Shared>,
-    S: Copies<Item, Shared, N>,
-    C: Chain + Drop,
-    R: Wait + Drop,
-    P: Patience,
->(
-    alloc: Global,
-    pen: &mut JoinedPen<N, S, C, R>,
-    pass: &mut Pass<N>,
-    before: &Option<Seen<Item, Shared, N>>,
-    command: &Command,
-    judged: Option<&Judged>,
-    patience: &P,
-) -> JoinSubmitted<N>
-    ensures ordered { IsOrdered C.told C.answers (base_of N.first) command.now result.outcome result.seen }
-{
     pen.submit(alloc, pass, before.as_ref(), command, judged, patience)
 }
 

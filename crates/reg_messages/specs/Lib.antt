@@ -1,4 +1,5 @@
 pub mod BodyReading
+pub mod Extent
 pub mod Fields
 pub mod Head
 pub mod HeadReading

@@ -72,7 +72,7 @@ pub(crate) fn take_blank<R: Read>(reader: &mut Device<R>) -> Result<Blank, ReadF
     Ok(Blank { count, next: None })
 }
 
-fn is_skipped(b: u8) -> bool
+pub(crate) fn is_skipped(b: u8) -> bool
     ensures { result ≡ is_skipped b }
 {
     b == b'\r' || b == b'\n'
@@ -111,7 +111,7 @@ pub(crate) fn take_head<R: Read>(
     Ok(HeadEnd::Full)
 }
 
-fn ends_in_empty_line(bytes: &[u8]) -> bool
+pub(crate) fn ends_in_empty_line(bytes: &[u8]) -> bool
     ensures { result ≡ ends_in_empty_line bytes.now }
 {
     bytes.ends_with(b"\n\n") || bytes.ends_with(b"\n\r\n")
@@ -190,7 +190,7 @@ fn taken_head(bytes: &[u8]) -> Taken
     }
 }
 
-fn has_few_lines(bytes: &[u8]) -> bool
+pub(crate) fn has_few_lines(bytes: &[u8]) -> bool
     ensures { result ≡ has_few_lines bytes.now }
 {
     let mut lines = 0;

@@ -2,7 +2,7 @@
 ghost use Rattle.std.specs.Prelude.{◌≡◌, ◌≤◌, [], Some, length, take, IfOk, OnErr, OnOk, vec_capacity};
 ghost use Rattle.reg_messages.specs.Head.{front_of};
 ghost use Rattle.reg_messages.specs.Reading.{IsShort};
-ghost use Rattle.reg_extent.specs.Extent.{IsWhole};
+ghost use Rattle.reg_messages.specs.Extent.{IsWhole};
 ghost use Rattle.reg_conversation.specs.Conversation.{RepliesAll};
 ghost use Rattle.reg_connection.specs.Answering.{AnswersKnowing, HasLearnt};
 ghost use Rattle.reg_connection.specs.TurnKinds.{kind_in};

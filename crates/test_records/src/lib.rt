@@ -1,4 +1,5 @@
-//! Tests of records: their lines and values, devices that fail, and sets of records, with a floor too, over the crates' public calls.
+//! Tests of records: their lines and values, devices that fail, sets of records, with a floor too, and registries, over the crates'
+//! public calls.
 #![tactic(auto)]
 
 #[cfg(test)]
@@ -6,6 +7,10 @@ mod kept;
 #[cfg(test)]
 mod lines;
 #[cfg(test)]
+mod logs;
+#[cfg(test)]
 mod records;
+#[cfg(test)]
+mod registry;
 #[cfg(test)]
 mod sets;

@@ -32,8 +32,17 @@ pub(crate) fn send<R: Net<Stream = TcpStream>>(
     address: SocketAddr,
     request: &str,
 ) -> io::Result<TcpStream> {
+    send_bytes(rt, address, request.as_bytes())
+}
+
+/// Connects, and sends that.
+pub(crate) fn send_bytes<R: Net<Stream = TcpStream>>(
+    rt: &R,
+    address: SocketAddr,
+    bytes: &[u8],
+) -> io::Result<TcpStream> {
     let mut stream = connect(rt, address)?;
-    stream.write_all(request.as_bytes())?;
+    stream.write_all(bytes)?;
     Ok(stream)
 }
 

@@ -1,4 +1,5 @@
-//! Tests of nodes that serve over sockets.
+//! Tests of connections by scripts of their own, of nodes over sockets, of lines that come in pieces, of nodes that follow them, and of
+//! the nodes of the service.
 #![tactic(auto)]
 
 #[cfg(test)]
@@ -8,11 +9,15 @@ mod crowd;
 #[cfg(test)]
 mod crowded;
 #[cfg(test)]
+mod follow;
+#[cfg(test)]
 mod holding;
 #[cfg(test)]
 mod kept;
 #[cfg(test)]
 mod rows;
+#[cfg(test)]
+mod serve;
 #[cfg(test)]
 mod serving;
 #[cfg(test)]

@@ -1,6 +1,6 @@
 use Rattle.std.proofs.Common.{ℕ, List, sym, subst, ◌∙◌}
 use Rattle.std.specs.Prelude.{take}
-use Rattle.reg_extent.specs.Extent.{IsWhole}
+use Rattle.reg_messages.specs.Extent.{IsWhole}
 use Rattle.reg_serve.proofs.worker.answer_in_turn.Goals as goal
 
 pub answer_front-goes_on-requires-clause-whole : goal.answer_front-goes_on-requires-clause-whole

@@ -1,5 +1,5 @@
 use Rattle.std.proofs.Common.{ap, length, arith}
-use Rattle.reg_extent.proofs.Extents.{takes-now}
+use Rattle.reg_messages.proofs.Extents.{takes-now}
 use Rattle.reg_conversation.proofs.conversation.Conversation.front_len.Goals as goal
 
 pub returns-then-len-held_len-clause-whole : goal.returns-then-len-held_len-clause-whole

@@ -1,0 +1,233 @@
+// A command and an adapter that answers it, each in a thread.
+use reg_adapter::Messages;
+use reg_adapter_line::{
+    AdapterChain, AdapterLine, LineEnd, read_messages, send_requests, tell_all,
+};
+use reg_chain::{Chain, ChainAnswer};
+use reg_records::{Key, Record};
+use std::alloc::Global;
+use std::io::{self, ErrorKind, Write};
+use std::sync::{Arc, Wait};
+use std::test::Fail;
+use std::thread::{self, Threads};
+use std::time::{Clock, Duration};
+
+/// How long an answer is waited for, in milliseconds: longer than a test takes, and so long that none comes.
+const LONG: u64 = 20_000;
+
+const SHORT: u64 = 30;
+
+fn noop(offset: u64) -> Record {
+    Record {
+        offset,
+        key: Key::Noop,
+        value: None,
+    }
+}
+
+/// Tells a line what this text says.
+fn tell<R: Wait + Clock>(rt: &R, alloc: Global, line: &AdapterLine, text: &str) -> io::Result<()> {
+    let mut messages = Messages::new(alloc);
+    messages.take(text.as_bytes())?;
+    tell_all(rt, &mut messages, line);
+    Ok(())
+}
+
+/// Asks for a batch, which an adapter answers with this text; and the bytes that asked for it.
+fn exchange<R: Wait + Clock + Threads + Sync + Send + Drop>(
+    rt: &R,
+    alloc: Global,
+    chain: &mut AdapterChain<R>,
+    line: &AdapterLine,
+    batch: &[Record],
+    text: &str,
+) -> (ChainAnswer, Option<Vec<u8>>) {
+    thread::join(
+        rt,
+        || chain.append(batch),
+        || {
+            let bytes = line.wait_for_request(rt);
+            let _told = tell(rt, alloc, line, text);
+            bytes
+        },
+    )
+}
+
+/// The offset of the first record of the next batch that is due.
+fn next_offset<R: Wait + Clock + Drop>(chain: &mut AdapterChain<R>) -> Result<Option<u64>, Fail> {
+    let Some(batch) = chain.next()? else {
+        return Ok(None);
+    };
+    Ok(batch.as_slice().first().map(|record| record.offset))
+}
+
+const FIFTH: &str = "batch\n5\t{\"keytype\":\"NOOP\",\"magic\":0}\tnull\n\n";
+
+/// A line behind a base whose next offset is 5, and a chain over it.
+fn begin<R: Wait + Clock + Drop>(
+    rt: R,
+    alloc: Global,
+    patience: u64,
+) -> Result<(Arc<AdapterLine, Global>, AdapterChain<R>), Fail> {
+    let line = Arc::new(
+        alloc,
+        AdapterLine::new(alloc, 5, Duration::from_millis(patience)),
+    )?;
+    let chain = AdapterChain::new(rt, alloc, Arc::try_clone(&line)?);
+    Ok((line, chain))
+}
+
+#[test]
+fn a_batch_is_kept(rt: HostRuntime) -> Result<(), Fail> {
+    let alloc = rt.alloc();
+    let (line, mut chain) = begin(rt, alloc, LONG)?;
+    let (answer, bytes) = exchange(&rt, alloc, &mut chain, &line, &[noop(5)], "kept\n");
+    assert_eq!(rt; answer, ChainAnswer::Kept);
+    let bytes = bytes.ok_or("a request")?;
+    let text = "5\t{\"keytype\":\"NOOP\",\"magic\":0}\tnull\n\n";
+    assert!(rt; bytes.as_slice() == text.as_bytes());
+    assert!(rt; !line.has_due());
+    assert_eq!(rt; next_offset(&mut chain)?, None);
+    let (answer, _bytes) = exchange(&rt, alloc, &mut chain, &line, &[noop(6)], "kept\n");
+    assert_eq!(rt; answer, ChainAnswer::Kept);
+    Ok(())
+}
+
+#[test]
+fn a_batch_is_behind_others(rt: HostRuntime) -> Result<(), Fail> {
+    let alloc = rt.alloc();
+    let (line, mut chain) = begin(rt, alloc, LONG)?;
+    let text = format!(in alloc; "{FIFTH}behind\n")?;
+    let (answer, _bytes) = exchange(&rt, alloc, &mut chain, &line, &[noop(5)], text.as_str());
+    assert_eq!(rt; answer, ChainAnswer::Behind);
+    assert!(rt; line.has_due());
+    assert_eq!(rt; chain.append(&[noop(5)]), ChainAnswer::Behind);
+    assert_eq!(rt; next_offset(&mut chain)?, Some(5));
+    assert!(rt; !line.has_due());
+    Ok(())
+}
+
+#[test]
+fn a_batch_is_declined(rt: HostRuntime) -> Result<(), Fail> {
+    let alloc = rt.alloc();
+    let (line, mut chain) = begin(rt, alloc, LONG)?;
+    let (answer, _bytes) = exchange(&rt, alloc, &mut chain, &line, &[noop(5)], "declined\n");
+    assert_eq!(rt; answer, ChainAnswer::Declined);
+    assert_eq!(rt;
+        chain.append(&[noop(7)]),
+        ChainAnswer::Declined,
+        "it isn't the next offset"
+    );
+    Ok(())
+}
+
+#[test]
+fn a_lost_batch_comes_late(rt: HostRuntime) -> Result<(), Fail> {
+    let alloc = rt.alloc();
+    let (line, mut chain) = begin(rt, alloc, LONG)?;
+    let (answer, _bytes) = exchange(&rt, alloc, &mut chain, &line, &[noop(5)], "lost\n");
+    assert_eq!(rt; answer, ChainAnswer::Unknown);
+    tell(&rt, alloc, &line, FIFTH)?;
+    assert_eq!(rt; next_offset(&mut chain)?, Some(5));
+    let (answer, _bytes) = exchange(&rt, alloc, &mut chain, &line, &[noop(6)], "kept\n");
+    assert_eq!(rt; answer, ChainAnswer::Kept);
+    Ok(())
+}
+
+#[test]
+fn an_answer_comes_late(rt: HostRuntime) -> Result<(), Fail> {
+    let alloc = rt.alloc();
+    let (line, mut chain) = begin(rt, alloc, SHORT)?;
+    assert_eq!(rt; chain.append(&[noop(5)]), ChainAnswer::Unknown);
+    assert_eq!(rt; chain.append(&[noop(5)]), ChainAnswer::Declined);
+    assert_eq!(rt; chain.append(&[]), ChainAnswer::Declined);
+    tell(&rt, alloc, &line, "kept\n")?;
+    assert!(rt; line.has_due());
+    assert_eq!(rt; next_offset(&mut chain)?, Some(5));
+    assert_eq!(rt; chain.append(&[]), ChainAnswer::Declined, "no answer comes");
+    Ok(())
+}
+
+#[test]
+fn a_check_is_crossed(rt: HostRuntime) -> Result<(), Fail> {
+    let alloc = rt.alloc();
+    let (line, mut chain) = begin(rt, alloc, LONG)?;
+    let text = format!(in alloc; "{FIFTH}kept\n")?;
+    let (answer, bytes) = exchange(&rt, alloc, &mut chain, &line, &[], text.as_str());
+    assert_eq!(rt; answer, ChainAnswer::Behind);
+    assert!(rt; bytes.ok_or("a request")?.as_slice() == b"\n".as_slice());
+    assert_eq!(rt; next_offset(&mut chain)?, Some(5));
+    let (answer, _bytes) = exchange(&rt, alloc, &mut chain, &line, &[], "kept\n");
+    assert_eq!(rt; answer, ChainAnswer::Kept);
+    Ok(())
+}
+
+#[test]
+fn the_input_ends_while_a_command_waits(rt: HostRuntime) -> Result<(), Fail> {
+    let alloc = rt.alloc();
+    let (line, mut chain) = begin(rt, alloc, LONG)?;
+    let shared: &AdapterLine = &line;
+    let batch = [noop(5)];
+    let (answer, ()) = thread::join(
+        &rt,
+        || chain.append(&batch),
+        || {
+            let _bytes = shared.wait_for_request(&rt);
+            let mut input: &[u8] = b"ready\n";
+            read_messages(&rt, alloc, &mut input, shared);
+        },
+    );
+    assert_eq!(rt; answer, ChainAnswer::Unknown);
+    assert!(rt; line.is_ready() && line.is_over());
+    assert!(rt; line.end(&rt) == Some(LineEnd::Input));
+    assert_eq!(rt; chain.append(&[noop(5)]), ChainAnswer::Declined);
+    Ok(())
+}
+
+#[test]
+fn nobody_asked(rt: HostRuntime) -> Result<(), Fail> {
+    let alloc = rt.alloc();
+    let (line, mut chain) = begin(rt, alloc, LONG)?;
+    let text = format!(in alloc; "{FIFTH}kept\n{FIFTH}")?;
+    let mut input: &[u8] = text.as_bytes();
+    read_messages(&rt, alloc, &mut input, &line);
+    assert!(rt; line.end(&rt) == Some(LineEnd::NobodyAsked));
+    assert_eq!(rt;
+        next_offset(&mut chain)?,
+        Some(5),
+        "what was due is handed out"
+    );
+    assert_eq!(rt; next_offset(&mut chain)?, None);
+    Ok(())
+}
+
+/// A writer that takes all bytes, and then fails to hand them on.
+#[derive(Drop)]
+struct Holding {
+    bytes: Vec<u8>,
+}
+
+impl Write for Holding {
+    fn write(&mut self, buf: &[u8]) -> io::Result<usize> {
+        self.bytes.extend_from_slice(buf)?;
+        Ok(buf.len())
+    }
+
+    fn flush(&mut self) -> io::Result<()> {
+        Err(io::Error::from(ErrorKind::Other))
+    }
+}
+
+#[test]
+fn a_request_is_not_handed_on(rt: HostRuntime) -> Result<(), Fail> {
+    let alloc = rt.alloc();
+    let (line, mut chain) = begin(rt, alloc, SHORT)?;
+    assert_eq!(rt; chain.append(&[]), ChainAnswer::Declined);
+    let mut writer = Holding {
+        bytes: Vec::new(alloc),
+    };
+    send_requests(&rt, &mut writer, &line);
+    assert!(rt; writer.bytes.as_slice() == b"\n".as_slice());
+    assert!(rt; line.end(&rt) == Some(LineEnd::Output(ErrorKind::Other)));
+    Ok(())
+}
