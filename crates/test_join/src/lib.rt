@@ -1,10 +1,12 @@
-//! Tests of pens over one chain.
+//! Tests of pens over one chain, and of desks over it.
 #![tactic(auto)]
 
 #[cfg(test)]
 mod chains;
 #[cfg(test)]
 mod commands;
+#[cfg(test)]
+mod desks;
 #[cfg(test)]
 mod opening;
 #[cfg(test)]
@@ -13,3 +15,5 @@ mod plain;
 mod processes;
 #[cfg(test)]
 mod runs;
+#[cfg(test)]
+mod turns;

@@ -134,7 +134,7 @@ fn kept_plain<R: Wait + Drop + Copy>(common: &Common<R>) -> Result<KeptLog<Compa
     Ok(KeptLog::new(log, Comparing::new(common.shelf.clone()?)))
 }
 
-fn empty_log(alloc: Global) -> Result<Log, AllocError> {
+pub(crate) fn empty_log(alloc: Global) -> Result<Log, AllocError> {
     match read_log(alloc, &mut Device::new(b"".as_slice())) {
         Ok(log) => Ok(log),
         Err(_) => Err(AllocError),

@@ -208,7 +208,7 @@ fn is_late(shelf: &RefCell<Shelf>, place: usize) -> bool {
     }
 }
 
-fn len_of(shelf: &RefCell<Shelf>) -> usize {
+pub(crate) fn len_of(shelf: &RefCell<Shelf>) -> usize {
     match shelf.try_borrow() {
         Ok(shelf) => shelf.len(),
         Err(_) => 0,
