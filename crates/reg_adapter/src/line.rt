@@ -1,7 +1,6 @@
 // What one line of an adapter says.
 ghost use Rattle.std.specs.Prelude.{◌≡◌, ◌+◌, ◌==◌, ◌++◌, ◌∷◌, ℕ, List, [], Ok, IfErr, IfOk, bytes_eq};
 ghost use Rattle.reg_records.specs.Device.{counted};
-ghost use Rattle.reg_records.specs.Log.{offset_in};
 ghost use Rattle.reg_records.specs.Pieces.{HasNoLineFeed};
 ghost use Rattle.reg_adapter.specs.Said.{IsFault, follows, part_in, word_in, word_of};
 
@@ -104,7 +103,7 @@ fn follows(begun: &[Read], read: &Read) -> bool
     ensures { result ≡ follows begun.now read.now }
 {
     match begun.first() {
-        Some(first) => is_behind(offset_in(first), begun.len(), offset_in(read)),
+        Some(first) => is_behind(first.offset(), begun.len(), read.offset()),
         None => true,
     }
 }
@@ -114,16 +113,6 @@ fn is_behind(first: u64, count: usize, offset: u64) -> bool
     ensures { result ≡ (offset == first + count) }
 {
     offset >= first && offset - first == count as u64
-}
-
-/// The offset of a line.
-fn offset_in(read: &Read) -> u64
-    ensures { result ≡ offset_in read.now }
-{
-    match read {
-        Read::Record(record) => record.offset,
-        Read::Foreign(offset) => *offset,
-    }
 }
 
 /// The fault of the line that so many stand before.

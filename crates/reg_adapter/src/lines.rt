@@ -1,10 +1,10 @@
 // Bytes as they come, and the lines that are whole.
-ghost use Rattle.std.specs.Prelude.{◌≡◌, ◌≤◌, ◌<◌, ◌+◌, ◌++◌, ◌∷◌, ℕ, List, [], length, drop, MatchOption, OnErr, OnOk, position};
+ghost use Rattle.std.specs.Prelude.{◌≡◌, ◌≤◌, ◌<◌, ◌+◌, ◌++◌, ◌∷◌, [], length, drop, MatchOption, OnErr, OnOk};
 ghost use Rattle.reg_records.specs.Device.{counted};
-ghost use Rattle.reg_records.specs.Line.{is_line_feed};
 ghost use Rattle.reg_records.specs.Pieces.{HasNoLineFeed};
 ghost use Rattle.reg_adapter.specs.Lines.{IsFrontLine};
 
+use reg_records::line_len;
 use std::alloc::{AllocError, Global};
 use std::marker::Model;
 
@@ -89,18 +89,4 @@ impl Lines {
         self.passed += len;
         self.count = self.count.saturating_add(1);
     }
-}
-
-/// How many bytes stand before the first LF, where there is one.
-fn line_len(bytes: &[u8]) -> Option<usize>
-    ensures { MatchOption result (HasNoLineFeed bytes.now) (λ len. (line : List ℕ) × (rest : List ℕ)
-        × (bytes.now ≡ line ++ 10 ∷ rest) × HasNoLineFeed line × (len ≡ length line)) }
-{
-    first_line_feed(bytes)
-}
-
-fn first_line_feed(bytes: &[u8]) -> Option<usize>
-    ensures { result ≡ position is_line_feed bytes.now }
-{
-    bytes.iter().position(|b| *b == b'\n')
 }

@@ -1,11 +1,11 @@
 // One line of a text.
-ghost use Rattle.std.specs.Prelude.{◌≡◌, ◌≤◌, ◌<◌, ◌+◌, ◌++◌, ◌∷◌, ℕ, List, Ok, Some, IfOk, IfSome, count_by, length, position};
+ghost use Rattle.std.specs.Prelude.{◌≡◌, ◌≤◌, ◌<◌, ◌+◌, ◌++◌, ◌∷◌, ℕ, List, Ok, Some, IfOk, IfSome, count_by, length};
 ghost use Rattle.reg_records.specs.Line.{is_line_feed, reading};
 ghost use Rattle.reg_records.specs.Pieces.{HasNoLineFeed};
 ghost use Rattle.reg_records.specs.declared.record.Read.{Read};
 ghost use Rattle.reg_compaction.specs.Fronts.{floor_len};
 
-use reg_records::{Read, ReadLineError, is_floor_line, read_line};
+use reg_records::{Read, ReadLineError, is_floor_line, line_len, read_line};
 use std::alloc::{AllocError, Global};
 
 /// How many bytes the line at the front of a text takes with its LF, and what it says; none where it has no LF or
@@ -38,13 +38,6 @@ pub fn floor_len(log: &[u8]) -> usize
         Some(end) => end + 1,
         None => 0,
     }
-}
-
-/// How many bytes stand before the first LF, where there is one.
-fn line_len(text: &[u8]) -> Option<usize>
-    ensures { result ≡ position is_line_feed text.now }
-{
-    text.iter().position(|b| *b == b'\n')
 }
 
 /// How many LFs a text has.

@@ -4,7 +4,6 @@ ghost use Rattle.std.specs.List.Sorted.{IsNonDecreasingBy, IsPermutation};
 ghost use Rattle.std.specs.Option.{option_map_or};
 ghost use Rattle.reg_journal.specs.Found.{HasFault};
 ghost use Rattle.reg_journal.specs.Lines.{Say, SaysFloor, text_of};
-ghost use Rattle.reg_records.specs.Log.{offset_in};
 ghost use Rattle.reg_records.specs.declared.record.Read.{Read};
 ghost use Rattle.reg_records.specs.declared.limits.TheConstants.{OFFSET_LIMIT};
 ghost use Rattle.reg_compaction.specs.CompactedTo.{IsToFloorRefusal};
@@ -14,7 +13,7 @@ use crate::compacting::compacted;
 use crate::cutting::{floor_len, line_at};
 use crate::to_floor::{ToFloorError, compacted_to};
 use reg_journal::lines_are_logs;
-use reg_records::{LogError, Read};
+use reg_records::LogError;
 use reg_set::records_are_ordered;
 use std::alloc::{AllocError, Global};
 
@@ -86,21 +85,12 @@ fn pieces_of<'a>(alloc: Global, text: &'a [u8], count: usize) -> Result<Vec<Piec
             return Ok(pieces);
         };
         pieces.push(Piece {
-            offset: offset_of(&read),
+            offset: read.offset(),
             line: &rest[..len - 1],
         })?;
         rest = &rest[len..];
     }
     Ok(pieces)
-}
-
-fn offset_of(read: &Read) -> u64
-    ensures { result ≡ offset_in read.now }
-{
-    match read {
-        Read::Record(record) => record.offset,
-        Read::Foreign(offset) => *offset,
-    }
 }
 
 /// Whether the offsets don't fall.

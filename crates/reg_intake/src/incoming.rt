@@ -1,14 +1,14 @@
 // Bytes of a log as they come, and the lines that are whole.
-ghost use Rattle.std.specs.Prelude.{◌≡◌, ◌≤◌, ◌<◌, ◌++◌, ◌∷◌, ◌&&◌, ℕ, List, [], length, nat_eq, position, Ok, IfErr, IfOk, MatchBool, MatchOption, OnErr, OnOk};
+ghost use Rattle.std.specs.Prelude.{◌≡◌, ◌≤◌, ◌<◌, ◌++◌, ◌∷◌, ◌&&◌, ℕ, List, [], length, nat_eq, Ok, IfErr, IfOk, MatchBool, OnErr, OnOk};
 ghost use Rattle.reg_records.specs.Floor.{is_floor_line};
-ghost use Rattle.reg_records.specs.Line.{is_line_feed};
 ghost use Rattle.reg_records.specs.Pieces.{HasNoLineFeed};
 ghost use Rattle.reg_records.specs.declared.record.Read.{Read};
 ghost use Rattle.reg_intake.specs.Intake.{Comes, HasRead, IsLineFault, IsRefusal, said_at, with_bytes};
 
 use crate::fault::IntakeError;
 use reg_records::{
-    LINE_LIMIT, LineError, LogFault, Read, ReadLineError, is_floor_line, read_floor, read_line,
+    LINE_LIMIT, LineError, LogFault, Read, ReadLineError, is_floor_line, line_len, read_floor,
+    read_line,
 };
 use std::alloc::{AllocError, Global};
 use std::marker::Model;
@@ -121,20 +121,6 @@ impl Incoming {
         self.count = self.count.saturating_add(1);
         Ok(came)
     }
-}
-
-/// How many bytes stand before the first LF, where there is one.
-fn line_len(bytes: &[u8]) -> Option<usize>
-    ensures { MatchOption result (HasNoLineFeed bytes.now) (λ len. (line : List ℕ) × (rest : List ℕ)
-        × (bytes.now ≡ line ++ 10 ∷ rest) × HasNoLineFeed line × (len ≡ length line)) }
-{
-    first_line_feed(bytes)
-}
-
-fn first_line_feed(bytes: &[u8]) -> Option<usize>
-    ensures { result ≡ position is_line_feed bytes.now }
-{
-    bytes.iter().position(|b| *b == b'\n')
 }
 
 /// What a line with its LF says, or what is wrong with it; so many lines stand before it.

@@ -4,9 +4,9 @@ use Rattle.std.proofs.Common.{IsTrue, false, cond, nat_lt, sym, ap, subst, ◌�
 use Rattle.std.specs.Io.KnownBytes.{Consumes, Keeps, IsAtEnd}
 use Rattle.std.proofs.KnownBytes.{Consumes-trans, Consumes-kept}
 use Rattle.std.proofs.lemmas.List.Elements.{All-append, All-from_get_or}
-use Rattle.std.specs.Prelude.{Option, position}
+use Rattle.std.specs.Prelude.{Option, MatchOption, drop, position}
 use Rattle.std.specs.List.{position_or_len}
-use Rattle.std.proofs.lemmas.List.{get_or-take, length-take, take_more}
+use Rattle.std.proofs.lemmas.List.{get_or-take, length-take, length-take-le, take-append-drop, take_more}
 use Rattle.std.proofs.lemmas.List.Quantifiers.{position-Some}
 use Rattle.std.proofs.lemmas.List.Sums.{fails_before_first}
 use Rattle.std.proofs.lemmas.Option.{none-some}
@@ -99,3 +99,18 @@ no_line_feed bytes e =
           | inl below ↦ absurd (none-some n (sym none ∙ ap (λ b. cond b (Some n) None) (lt-ltb n m below)))
           | inr past ↦ past
         ]
+
+-- what stands before and after it
+pub parts_at_line_feed : (bytes : List ℕ) (len : Option ℕ) → len ≡ position is_line_feed bytes
+    → MatchOption len (HasNoLineFeed bytes)
+    (λ n. (line : List ℕ) × (rest : List ℕ) × (bytes ≡ line ++ 10 ∷ rest) × HasNoLineFeed line × (n ≡ length line))
+parts_at_line_feed bytes None is = no_line_feed bytes (sym is)
+parts_at_line_feed bytes (Some end) is =
+    let (within, none, ended) = before_line_feed bytes end (sym is) in
+    let rest = drop (end + 1) bytes in (
+      take end bytes,
+      rest,
+      sym (take-append-drop (end + 1) bytes) ∙ ap (λ l. l ++ rest) ended ∙ append_assoc (take end bytes) (10 ∷ []) rest,
+      none,
+      sym (length-take-le end bytes (omega (arith, within))),
+    )

@@ -25,7 +25,8 @@ pub use limits::{
     LINE_LIMIT, LINE_READS, LOG_LINES, NUMBER_LIMIT, OFFSET_LIMIT, record_limits_are_as_written,
 };
 pub use line::{
-    LineError, ReadLineError, has_only_digits, lines_are_of_the_grammar, offset_of, read_line,
+    LineError, ReadLineError, has_only_digits, line_len, lines_are_of_the_grammar, offset_of,
+    read_line,
 };
 pub use log::{Log, LogError, LogFault};
 pub use log_reader::read_log;

@@ -1,9 +1,10 @@
 // Lines of a topic: `offset TAB key TAB value LF`.
-ghost use Rattle.std.specs.Prelude.{◌≡◌, ◌≤◌, ◌==◌, ℕ, List, [], ◌∷◌, true, false, IfOk, IfErr, IfSome, Ok, Err, MatchOption, MatchResult, position};
+ghost use Rattle.std.specs.Prelude.{◌≡◌, ◌≤◌, ◌==◌, ℕ, List, [], ◌∷◌, ◌++◌, length, true, false, IfOk, IfErr, IfSome, Ok, Err, MatchOption, MatchResult, position};
 ghost use Rattle.std.specs.Char.{is_ascii_digit};
 ghost use Rattle.std.specs.List.{list_all, slice_split};
 ghost use Rattle.std.specs.Str.{is_utf8};
 ghost use Rattle.reg_records.specs.Log.{offset_in};
+ghost use Rattle.reg_records.specs.Pieces.{HasNoLineFeed};
 ghost use Rattle.reg_records.specs.Line.{is_line_feed, is_tab, is_free_of, is_decimal, offset_of, read_at, reading_of, reading, reading_at_front, IsFaultOf, Spells};
 ghost use Rattle.reg_records.specs.declared.record.Read.{Read};
 
@@ -120,7 +121,15 @@ pub fn read_line(alloc: Global, bytes: &[u8]) -> Result<Read, ReadLineError>
 }
 
 /// How many bytes stand before the first LF, where there is one.
-pub(crate) fn line_len(bytes: &[u8]) -> Option<usize>
+pub fn line_len(bytes: &[u8]) -> Option<usize>
+    ensures place { result ≡ position is_line_feed bytes.now }
+    ensures parts { MatchOption result (HasNoLineFeed bytes.now) (λ len. (line : List ℕ) × (rest : List ℕ)
+        × (bytes.now ≡ line ++ 10 ∷ rest) × HasNoLineFeed line × (len ≡ length line)) }
+{
+    first_line_feed(bytes)
+}
+
+fn first_line_feed(bytes: &[u8]) -> Option<usize>
     ensures { result ≡ position is_line_feed bytes.now }
 {
     bytes.iter().position(|b| *b == b'\n')

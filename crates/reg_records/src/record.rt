@@ -1,4 +1,7 @@
 // Records, and what a line can say.
+ghost use Rattle.std.specs.Prelude.{◌≡◌};
+ghost use Rattle.reg_records.specs.Log.{offset_in};
+
 use crate::key::Key;
 use crate::value_text::ValueText;
 
@@ -19,4 +22,16 @@ pub enum Read {
     Record(Record),
     /// A line whose key is of no kind known here, with its offset.
     Foreign(u64),
+}
+
+impl Read {
+    /// The offset of the line.
+    pub fn offset(&self) -> u64
+        ensures { result ≡ offset_in self.now }
+    {
+        match self {
+            Read::Record(record) => record.offset,
+            Read::Foreign(offset) => *offset,
+        }
+    }
 }

@@ -2,8 +2,7 @@
 ghost use Rattle.std.specs.Prelude.{IfErr, IfOk};
 ghost use Rattle.reg_tail.specs.Front.{BeginsAs, HasFloorFault};
 
-use crate::line::line_len;
-use reg_records::{LineError, LogFault, is_floor_line, read_floor};
+use reg_records::{LineError, LogFault, is_floor_line, line_len, read_floor};
 
 /// The line of a log's floor.
 #[derive(Clone, Copy, Debug, PartialEq, Eq)]

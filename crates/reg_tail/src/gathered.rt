@@ -1,13 +1,11 @@
 // The lines of a piece of a file, up to its empty line.
 ghost use Rattle.std.specs.Prelude.{◌≡◌, ◌≤◌, ◌<◌, ◌+◌, ◌∷◌, ℕ, List, IfErr, IfOk, IfSome, MatchOption, length};
-ghost use Rattle.reg_records.specs.Log.{offset_in};
 ghost use Rattle.reg_tail.specs.Gathered.{Gathers, Takes};
 ghost use Rattle.reg_tail.specs.Line.{IsPieceRefusal};
 
 use crate::error::TailError;
 use crate::line::line_at;
 use crate::tail::Tail;
-use reg_records::Read;
 use std::alloc::Global;
 
 /// The tail behind some lines, and the text of those that are given.
@@ -41,21 +39,11 @@ impl Gathered {
         let Some((len, read)) = line_at(alloc, self.tail.lines + 1, text)? else {
             return Ok(None);
         };
-        let offset = offset_in(&read);
+        let offset = read.offset();
         if self.tail.from <= offset {
             self.text.extend_from_slice(&text[..len])?;
         }
         self.tail.pass(len, offset)?;
         Ok(Some(len))
-    }
-}
-
-/// The offset of a line.
-fn offset_in(read: &Read) -> u64
-    ensures { result ≡ offset_in read.now }
-{
-    match read {
-        Read::Record(record) => record.offset,
-        Read::Foreign(offset) => *offset,
     }
 }

@@ -1,10 +1,9 @@
 // The line at the front of a text.
-ghost use Rattle.std.specs.Prelude.{◌≡◌, ◌≤◌, ◌+◌, ◌∷◌, ℕ, List, position, IfErr, IfOk, MatchOption};
-ghost use Rattle.reg_records.specs.Line.{is_line_feed};
+ghost use Rattle.std.specs.Prelude.{◌≡◌, ◌≤◌, ◌+◌, ◌∷◌, ℕ, List, IfErr, IfOk, MatchOption};
 ghost use Rattle.reg_tail.specs.Line.{IsFront, IsPieceRefusal};
 
 use crate::error::TailError;
-use reg_records::{LOG_LINES, LineError, LogFault, Read, ReadLineError, read_line};
+use reg_records::{LOG_LINES, LineError, LogFault, Read, ReadLineError, line_len, read_line};
 use std::alloc::Global;
 
 /// The line of that number, at the front of a text: how many bytes it takes with its LF, and what it says; none where
@@ -42,11 +41,4 @@ fn fault_at(line: u64, fault: LogFault) -> TailError
     ensures { result ≡ TailError.Line line fault }
 {
     TailError::Line { line, fault }
-}
-
-/// How many bytes stand before the first LF, where there is one.
-pub(crate) fn line_len(text: &[u8]) -> Option<usize>
-    ensures { result ≡ position is_line_feed text.now }
-{
-    text.iter().position(|b| *b == b'\n')
 }

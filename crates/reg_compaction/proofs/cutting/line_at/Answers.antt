@@ -6,12 +6,12 @@ use Rattle.reg_compaction.proofs.cutting.line_at.Goals as goal
 
 pub returns-in_default-clause-line : goal.returns-in_default-clause-line
 returns-in_default-clause-line c line more read is free reads =
-    let at : None ≡ Some (length line) = c.in_default.ensures ∙ ap (position is_line_feed) is ∙ ends_at line more free in
+    let at : None ≡ Some (length line) = c.in_default.ensures.place ∙ ap (position is_line_feed) is ∙ ends_at line more free in
     cc
 
 pub returns-in-Ok-clause-line : goal.returns-in-Ok-clause-line
 returns-in-Ok-clause-line c line more read is free reads =
-    let at : Some c.in-Some.end ≡ Some (length line) = c.in-Some.ensures ∙ ap (position is_line_feed) is ∙ ends_at line more free in
+    let at : Some c.in-Some.end ≡ Some (length line) = c.in-Some.ensures.place ∙ ap (position is_line_feed) is ∙ ends_at line more free in
     let said : Ok c.in-Ok.read ≡ Ok read = sym c.in-Ok.ensures.«record» ∙ ap reading_at_front is ∙ says line more read free reads in
     cc
 

@@ -31,4 +31,4 @@ loop-line-preserved c lines read few parts say =
     (sym c.in-Some.is ∙ c.in_ok-len.ensures.line f.line f.behind f.read f.parts f.free f.says) in
     step lines c.loop-line.pieces.items c.push.new.self.items rest c.loop-line._line c.args.count c.in-Some.len c.in-Some.read _ (
     c.loop-line.invariant lines read few parts say) some found
-    c.in_ok-push.ensures.items c.offset_of.ensures refl
+    c.in_ok-push.ensures.items c.offset.ensures refl

@@ -11,7 +11,7 @@ pub returns-in-Some : goal.returns-in-Some
 returns-in-Some g c =
     let shown = c.in-Ok.available.now in
     let end = c.in-Some.end in
-    let (place, none, line) = before_line_feed shown end (sym c.line_len-end.ensures ∙ c.in-Some.is) in
+    let (place, none, line) = before_line_feed shown end (sym c.line_len-end.ensures.place ∙ c.in-Some.is) in
     let rested = c.fill_buf.follows.lender-at-none in
     let filled =
     subst (FillKeeps _ (g.R.Read.remaining rested) (g.R.BufRead.consumable_len rested)) c.in-Ok.is c.fill_buf.follows.holds-at-none in
@@ -37,7 +37,7 @@ returns-in-None g c =
     let moved = Consumes_shown _ _ _ _ shown c.unwrap_or-len.result
     (omega (arith, len)) c.in-Ok.ensures.front c.in-Ok.ensures.end filled.0 filled.1 c.consume-in-None.ensures.bytes in (
       shown,
-      no_line_feed shown (sym c.line_len-end.ensures ∙ c.in-None.is),
+      no_line_feed shown (sym c.line_len-end.ensures.place ∙ c.in-None.is),
       subst (Consumes _ _) whole moved.0,
       subst (Grows c.args.line.now c.add.new.self) whole c.in_ok-add.ensures,
       sym len,

@@ -7,13 +7,13 @@ returns-then-not-is_floor_line-clause-front c = begins_plain c.args.file.now (sy
 
 pub returns-in_default-clause-fault : goal.returns-in_default-clause-fault
 returns-in_default-clause-fault c =
-    floor_truncated c.args.file.now (sym c.is_floor_line.ensures ∙ c.if-not-is_floor_line.false) (sym c.line_len.ensures ∙ c.in_default.is)
+    floor_truncated c.args.file.now (sym c.is_floor_line.ensures ∙ c.if-not-is_floor_line.false) (sym c.line_len.ensures.place ∙ c.in_default.is)
 
 pub returns-in_err-floor-clause-fault : goal.returns-in_err-floor-clause-fault
 returns-in_err-floor-clause-fault c =
     let file = c.args.file.now in
     let bad = floor_faulty file c.in-Some.end (sym c.is_floor_line.ensures ∙ c.if-not-is_floor_line.false)
-    (sym c.line_len.ensures ∙ c.in-Some.is) c.in_err-floor.field-0.0 (sym c.in_err-floor.ensures) in
+    (sym c.line_len.ensures.place ∙ c.in-Some.is) c.in_err-floor.field-0.0 (sym c.in_err-floor.ensures) in
     search (rules, bad)
 
 pub returns-clause-front : goal.returns-clause-front
@@ -21,4 +21,4 @@ returns-clause-front c =
     let file = c.args.file.now in
     let end = c.in-Some.end in
     begins_floor file end (sym c.is_floor_line.ensures ∙ c.if-not-is_floor_line.false)
-    (sym c.line_len.ensures ∙ c.in-Some.is) c.in_ok-floor.floor (sym c.in_ok-floor.ensures)
+    (sym c.line_len.ensures.place ∙ c.in-Some.is) c.in_ok-floor.floor (sym c.in_ok-floor.ensures)

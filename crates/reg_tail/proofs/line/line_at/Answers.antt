@@ -25,7 +25,7 @@ returns-in_default-clause-refused c =
     let n = c.args.number in
     let empty : (length text == 0) ≡ false = sym c.is_empty.ensures ∙ c.if-is_empty.false in
     let some : 0 < length text = grind (arith, nat_tests) in
-    let free = no_line_feed text (sym c.line_len.ensures ∙ c.in_default.is) in
+    let free = no_line_feed text (sym c.line_len.ensures.place ∙ c.in_default.is) in
     subst (λ e. IsPieceRefusal n text e) (sym c.fault_at-in_default.ensures)
     (truncated n text some (omega (arith, c.if-number-gt-LOG_LINES.false)) free)
 
@@ -33,7 +33,7 @@ pub returns-in-Ok-clause-line : goal.returns-in-Ok-clause-line
 returns-in-Ok-clause-line c =
     let text = c.args.text.now in
     let end = c.in-Some.end in
-    let at : position is_line_feed text ≡ Some end = sym c.line_len.ensures ∙ c.in-Some.is in
+    let at : position is_line_feed text ≡ Some end = sym c.line_len.ensures.place ∙ c.in-Some.is in
     let cut = cut_at text end at in
     record {
       line = take end text;
@@ -51,7 +51,7 @@ returns-in-Err-Line-clause-refused c =
     let text = c.args.text.now in
     let n = c.args.number in
     let end = c.in-Some.end in
-    let at : position is_line_feed text ≡ Some end = sym c.line_len.ensures ∙ c.in-Some.is in
+    let at : position is_line_feed text ≡ Some end = sym c.line_len.ensures.place ∙ c.in-Some.is in
     let cut = cut_at text end at in
     let fault : LineError = c.in-Err-Line.fault in
     let says : reading_at_front text ≡ Err fault = rw c.in-Err-Line.field-0-is at c.in-Err-Line.ensures.fault in

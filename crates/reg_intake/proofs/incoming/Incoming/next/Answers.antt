@@ -6,7 +6,7 @@ use Rattle.reg_intake.proofs.incoming.Incoming.next.Goals as goal
 
 pub returns-clause-came : goal.returns-clause-came
 returns-clause-came c text read has =
-    let found = c.in-Some.ensures in
+    let found = c.in-Some.ensures.parts in
     let view : c.args.self.now ≡ record { bytes = drop c.self.inside.passed c.self.inside.held.items; count = c.self.inside.count } =
     sym c.self.view_is in
     let parts : c.args.self.now.bytes ≡ found.0 ++ 10 ∷ found.1 = sym c.unread-rest.ensures ∙ found.2 in

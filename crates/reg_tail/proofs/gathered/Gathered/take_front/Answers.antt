@@ -12,7 +12,7 @@ pub pass-requires-clause-within : goal.pass-requires-clause-within
 pass-requires-clause-within c =
     let front : IsFront (c.args.self.now.tail.lines + 1) c.args.text.now c.in-Some.len c.in-Some.read =
     rw c.in-Some.is at c.in_ok-len.ensures.line in
-    omega (arith, c.offset_in-offset.ensures, offset_fits front.line c.in-Some.read front.says)
+    omega (arith, c.offset-offset.ensures, offset_fits front.line c.in-Some.read front.says)
 
 pub returns-clause-taken : goal.returns-clause-taken
 returns-clause-taken c =
@@ -26,14 +26,14 @@ returns-clause-taken c =
     elim c.if-self-offset.branch as (λ _.
     (mid.tail ≡ old.tail) × Adds old.tail.from (offset_in read) old.text.items mid.text.items (take len text)) [
       | then-self-offset+in_ok-extend_from_slice w ↦
-          let within : old.tail.from ≤ offset_in read = omega (arith, w.if-self-offset.true, c.offset_in-offset.ensures) in (
+          let within : old.tail.from ≤ offset_in read = omega (arith, w.if-self-offset.true, c.offset-offset.ensures) in (
             ap (λ (g : Gathered). g.tail) w.self-is,
             inl (grind (arith, nat_tests), ap (λ (g : Gathered). g.text.items) w.self-is ∙ w.in_ok-extend_from_slice.ensures.items),
           )
       | else-self-offset w ↦
-          let below : offset_in read < old.tail.from = omega (arith, w.if-self-offset.false, c.offset_in-offset.ensures) in
+          let below : offset_in read < old.tail.from = omega (arith, w.if-self-offset.false, c.offset-offset.ensures) in
           (ap (λ (g : Gathered). g.tail) w.self-is, inr (grind (arith, nat_tests), ap (λ (g : Gathered). g.text.items) w.self-is))
     ] in
     let passed = c.in_ok-pass.ensures in
     takes text old mid c.pass.new.self len read front both.0 passed.place passed.count passed.from
-    (passed.next ∙ ap (λ o. max mid.tail.next (suc o)) c.offset_in-offset.ensures) both.1
+    (passed.next ∙ ap (λ o. max mid.tail.next (suc o)) c.offset-offset.ensures) both.1
