@@ -11,8 +11,9 @@ pub trait Fold<T> {
     // `FeedReader::read` gives it. To a feed it is any fact at all, so what it shows was published.
     ghost publishes: { Self → List T → Type 0 } = { λ first list. Unit {0} };
 
-    /// The only error is out of memory; the value is then as it was.
-    fn take_item(&mut self, item: &T) -> Result<(), AllocError>
+    /// Takes in an item. The other value changes nothing of that: where it has taken in the item too, what
+    /// that cost may be spared here. The only error is out of memory; the value is then as it was.
+    fn take_item(&mut self, item: &T, other: &Self) -> Result<(), AllocError>
         ensures taken { OnOk result (self.new ≡ applied self.old item.now) }
         ensures refused { OnErr result (self.new ≡ self.old) };
 

@@ -65,10 +65,10 @@ impl<T: Drop, V: Fold<T> + Drop, N: FeedName<T, V>> Absorb<Op<T, V, N>> for Stor
     fn absorb_first(
         &mut self,
         op: &Op<T, V, N>,
-        _other: &Stored<T, V, N>,
+        other: &Stored<T, V, N>,
     ) -> Result<(), AllocError> {
         match &op.brought {
-            Brought::Item(item) => self.take(item, &op.front),
+            Brought::Item(item) => self.take(item, &op.front, &other.value),
             Brought::Value(value) => {
                 let value = value.again()?;
                 self.put(value, op.front.again());
@@ -77,16 +77,16 @@ impl<T: Drop, V: Fold<T> + Drop, N: FeedName<T, V>> Absorb<Op<T, V, N>> for Stor
         }
     }
 
-    // A value that was brought is this copy's: no other one is made.
+    // A value that was brought is this copy's: no other one is made. The other copy took an item before.
     fn absorb_second(
         &mut self,
         op: Op<T, V, N>,
-        _other: &Stored<T, V, N>,
+        other: &Stored<T, V, N>,
     ) -> Result<(), Op<T, V, N>> {
         let Op { brought, front } = op;
         match brought {
             Brought::Item(item) => {
-                if self.take(&item, &front).is_err() {
+                if self.take(&item, &front, &other.value).is_err() {
                     return Err(Op::of_item(item, front));
                 }
                 Ok(())
@@ -158,8 +158,9 @@ impl<T, V: Fold<T>, N: FeedName<T, V>> Stored<T, V, N> {
 
 impl<T: Drop, V: Fold<T> + Drop, N: FeedName<T, V>> Stored<T, V, N> {
     /// Takes in the last item of a front that is longer by one, and so begins with this list. A front that is
-    /// no longer changes nothing, and one that lacks more is refused; the one writer hands in neither.
-    fn take(&mut self, item: &T, front: &Front<T, V, N>) -> Result<(), AllocError>
+    /// no longer changes nothing, and one that lacks more is refused; the one writer hands in neither. The
+    /// other value may have taken in the item too.
+    fn take(&mut self, item: &T, front: &Front<T, V, N>, other: &V) -> Result<(), AllocError>
         requires { (l : List T) × (front.now ≡ l ++ item.now ∷ []) }
         ensures taken { OnOk result (self.new ≡ grown self.old front.now) }
         ensures refused { OnErr result (self.new ≡ self.old) }
@@ -171,7 +172,7 @@ impl<T: Drop, V: Fold<T> + Drop, N: FeedName<T, V>> Stored<T, V, N> {
             return Err(AllocError);
         }
         let longer = self.front.longer(front);
-        self.value.take_item(item)?;
+        self.value.take_item(item, other)?;
         self.front = longer;
         Ok(())
     }

@@ -15,10 +15,6 @@ state_of journal upkeep = record {
   fault = upkeep.fault;
 }
 
--- that floor and that next offset
-abbrev pub at_first : ℕ → ℕ → Upkeep
-at_first floor next = record { room = record { kept = 0; again = 0; patience = 0 }; floor = floor; next = next; fault = None }
-
 -- where the file was compacted, its floor rises to the next offset at the next compaction, and nothing is known of the deletes that stay
 abbrev pub after_count : Upkeep → ℕ → ℕ → ℕ → Upkeep
 after_count upkeep kept lines least = if nat_lt (lines - kept) least

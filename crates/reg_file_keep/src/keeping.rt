@@ -6,6 +6,7 @@ ghost use Rattle.reg_journal.specs.Lines.{said};
 ghost use Rattle.reg_file_keep.specs.Keeping.{HasFloorUpTo, KeepsFile, MakesRoom, kept_of, says_compaction};
 ghost use Rattle.reg_file_keep.specs.Starting.{StandsAt};
 
+use crate::room::Room;
 use crate::upkeep::{Upkeep, make_room};
 use reg_compaction::{JournalCompactError, compactions_stand_for_logs};
 use reg_journal::{AppendError, Journal, Renewable, lines_are_logs};
@@ -39,15 +40,23 @@ impl<D: Renewable + Drop> Model for FileKeep<D> {
 }
 
 impl<D: Renewable + Drop> FileKeep<D> {
-    /// A keep over a journal whose file has that floor and that next offset. Only `start` makes one.
-    pub(crate) fn new(alloc: Global, journal: Journal<D>, floor: u64, next: u64) -> FileKeep<D>
-        requires { D.is_modelled → HasFloorUpTo D.seen floor journal }
+    /// A keep over a journal whose file has that floor and that next offset, and of whose lines that is known. Only `start`
+    /// makes one.
+    pub(crate) fn new(
+        alloc: Global,
+        journal: Journal<D>,
+        floor: u64,
+        next: u64,
+        room: Room,
+    ) -> FileKeep<D>
+        requires floor { D.is_modelled → HasFloorUpTo D.seen floor journal }
+        requires room { room.patience ≡ 0 }
         ensures { result ≡ record { journal = journal; floor = floor; next = next; patience = 0; fault = None } }
     {
         FileKeep {
             alloc,
             journal,
-            upkeep: Upkeep::new(floor, next),
+            upkeep: Upkeep::new(floor, next, room),
         }
     }
 

@@ -5,7 +5,9 @@
 ghost use Rattle.std.specs.Prelude.{◌≡◌, ◌<◌, true, false};
 ghost use Rattle.reg_file_keep.specs.Room.{due, least, next_count, waited};
 
-use reg_records::LOG_LINES;
+use reg_records::{LOG_LINES, Log};
+use std::alloc::{AllocError, Global};
+use std::collections::BTreeSet;
 
 /// A file that has no more lines, those that come among them, isn't compacted for their number alone.
 const FEW_LINES: u64 = 100_000;
@@ -33,6 +35,21 @@ impl Room {
             kept: 0,
             again: 0,
             patience: 0,
+        }
+    }
+
+    /// What the log of a file with so many lines tells of it before so many more come, so that the file isn't read again
+    /// where few lines would go. Nothing is promised of it.
+    pub(crate) fn of_log(alloc: Global, log: &Log, lines: u64, more: u64) -> Room
+        ensures { result.patience ≡ 0 }
+    {
+        let is_full = more > LOG_LINES.saturating_sub(lines);
+        if is_full || more <= FEW_LINES.saturating_sub(lines) {
+            return Room::new();
+        }
+        match count_staying(alloc, log) {
+            Ok(kept) if lines.saturating_sub(kept) <= lines / 2 => Room::counted(kept, lines),
+            _ => Room::new(),
         }
     }
 
@@ -104,4 +121,18 @@ impl Room {
         }
         lines.div_ceil(10)
     }
+}
+
+/// How many of a log's lines stay, at least, in a compaction to its own floor: the last one of each key, unless it deletes
+/// the key below the floor. The only error is out of memory.
+fn count_staying(alloc: Global, log: &Log) -> Result<u64, AllocError> {
+    let mut keys = BTreeSet::new(alloc);
+    let mut deletes: u64 = 0;
+    for record in &log.records {
+        keys.insert(&record.key)?;
+        if record.value.is_none() && record.offset < log.floor {
+            deletes = deletes.saturating_add(1);
+        }
+    }
+    Ok((keys.len() as u64).saturating_sub(deletes))
 }

@@ -8,6 +8,7 @@ ghost use Rattle.reg_compaction.specs.Said.{SaysCompaction};
 ghost use Rattle.reg_file_keep.specs.Starting.{LosesNothing};
 
 use crate::keeping::FileKeep;
+use crate::room::Room;
 use reg_compaction::{Aside, Opens, compactions_stand_for_logs, open_aside};
 use reg_journal::{Disk, Found, Journal, JournalOpenError, Renewable};
 use reg_pen::KeptLog;
@@ -74,8 +75,9 @@ pub fn start_file_keep<D: Renewable + Drop, A: Disk + Drop, O: Opens<A>>(
         lines,
         behind,
     } = found;
+    let room = Room::of_log(alloc, &log, lines, FIRST_LINES);
     let journal = Journal::over(disk, end, lines);
-    let mut keep = FileKeep::new(alloc, journal, log.floor, log.next);
+    let mut keep = FileKeep::new(alloc, journal, log.floor, log.next, room);
     keep.make_room(FIRST_LINES);
     if keep.journal().is_broken() {
         return Err(NotStarted {

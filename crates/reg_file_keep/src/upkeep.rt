@@ -5,7 +5,7 @@ ghost use Rattle.reg_journal.specs.Lines.{said};
 ghost use Rattle.reg_compaction.specs.Said.{SaysCompaction};
 ghost use Rattle.reg_file_keep.specs.Keeping.{HasFloorUpTo, Tries, WasCompacted, says_compaction};
 ghost use Rattle.reg_file_keep.specs.Next.{next_behind};
-ghost use Rattle.reg_file_keep.specs.Upkeep.{after_count, at_first, state_of};
+ghost use Rattle.reg_file_keep.specs.Upkeep.{after_count, state_of};
 
 use crate::room::Room;
 use reg_compaction::{JournalCompactError, compact_superseded, compactions_stand_for_logs};
@@ -28,11 +28,11 @@ pub(crate) struct Upkeep {
 
 impl Upkeep {
     /// Of a file with that floor and that next offset.
-    pub(crate) fn new(floor: u64, next: u64) -> Upkeep
-        ensures { result ≡ at_first floor next }
+    pub(crate) fn new(floor: u64, next: u64, room: Room) -> Upkeep
+        ensures { result ≡ record { room = room; floor = floor; next = next; fault = None } }
     {
         Upkeep {
-            room: Room::new(),
+            room,
             floor,
             next,
             fault: None,

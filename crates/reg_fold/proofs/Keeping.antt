@@ -1,5 +1,5 @@
 -- What a registry keeps, as a whole.
-use Rattle.std.proofs.Common.{◌≡◌, ℕ, Bool, false, ◌||◌, ◌&&◌, List, [], ◌∷◌, Option, Some, None}
+use Rattle.std.proofs.Common.{◌≡◌, ℕ, Bool, true, false, ◌||◌, ◌&&◌, List, [], ◌∷◌, Option, Some, None}
 use Rattle.std.proofs.Common.{option_and_then, option_map, unwrap_or, refl, sym, ap, subst, ◌∙◌}
 use Rattle.std.proofs.lemmas.Bool.{false≢true}
 use Rattle.std.proofs.lemmas.Cmp.{tied_itself}
@@ -14,7 +14,7 @@ use Rattle.reg_records.specs.Key.{is_delete}
 use Rattle.reg_records.specs.declared.key.Key.{Key}
 use Rattle.reg_records.specs.declared.key.Key.TheVariants as keys
 use Rattle.reg_records.specs.declared.record.Record.{Record}
-use Rattle.reg_set.specs.LastRecords.{is_of, last}
+use Rattle.reg_set.specs.LastRecords.{is_of, last, last_records}
 use Rattle.reg_set.specs.RecordOrder.{age_cmp, record_cmp}
 use Rattle.reg_set.specs.Records.{Records, in_order, records_of}
 use Rattle.reg_fold.specs.Entries.{covered_in, entries, entry_map, entry_of}
@@ -35,6 +35,7 @@ use Rattle.reg_entries.specs.declared.soft_delete.SoftDelete.{SoftDelete}
 use Rattle.reg_level_names.specs.declared.level.Level.{Level}
 use Rattle.reg_fold.specs.declared.index.Index.{Index}
 use Rattle.reg_fold.specs.declared.scoped.Scoped.{Scoped}
+use Rattle.reg_fold.proofs.OfLasts.{last_of_itself}
 use Rattle.reg_fold.proofs.Own.{own-other, own_covered}
 use Rattle.reg_fold.proofs.Owned.{is_config, is_id_mark, is_mode, levels-stay, mark-stays, modes-stay}
 use Rattle.reg_fold.proofs.Shown.{values_by}
@@ -42,6 +43,15 @@ use Rattle.reg_fold.proofs.SoftDeletes.{covered_by_own, deletes-stay}
 use Rattle.reg_fold.proofs.Spotted.{spots-other, spots-same}
 
 module _ (index : Index) (kept : IsKept index) where
+  -- the entry at the place of a version's last record is what that record gives by itself
+  pub own_at : IsTotalOrder record_cmp → set.IsAntisymmetric record_cmp → last_records index.last ≡ index.last
+      → (p : Place) (r : Record) → r.key ≡ keys.Schema p.0 p.1 → set.contains index.last r ≡ true
+      → finmap.get index.entries p ≡ own_entry_of r
+  own_at total ties are_last p r of_key has =
+      kept.all_entries p
+      ∙ ap (option_and_then own_entry_of)
+      (ap (last index.last) (sym of_key) ∙ last_of_itself total ties index.last are_last r has)
+
   -- an entry is shown as its subject's last soft delete marks it
   covered_shown : (e : Entry) → covered_in index.last e ≡ shown index.deletes.of_subjects e
   covered_shown e =

@@ -12,6 +12,7 @@ mod Owned
 mod Placed
 mod Places
 mod Readable
+mod Rising
 mod SameOpaque
 mod Shown
 mod SoftDeletes

@@ -29,6 +29,11 @@ abbrev pub version_in : List Entry → List ℕ → VersionRef → Bool → Opti
 version_in es subject Latest deleted = sought.latest es subject deleted
 version_in es subject (Number version) deleted = sought.of_version es subject version deleted
 
+-- the entries of a subject that count stand by version
+abbrev pub EntriesStandByVersion : Type 0
+EntriesStandByVersion = (rs : Records) (subject : List ℕ) (deleted : Bool)
+    → sought.AreInVersionOrder (sought.counting (entries rs) subject deleted)
+
 -- the entry that is found of a subject is one of the entries
 abbrev pub FoundEntriesStand : Type 0
 FoundEntriesStand = (es : List Entry) (subject : List ℕ) (which : VersionRef) (deleted : Bool) (e : Entry)

@@ -6,6 +6,7 @@ ghost use Rattle.reg_records.specs.declared.key.Key.TheVariants as keys;
 ghost use Rattle.reg_set.specs.LastRecords.{last, last_records, with_last};
 ghost use Rattle.reg_fold.specs.Entries.{AreOfLasts, entries};
 ghost use Rattle.reg_fold.specs.GiveAlike.{GiveAlike};
+ghost use Rattle.reg_fold.specs.Kept.{IsKept};
 ghost use Rattle.reg_fold.specs.Opaque.{is_version, opaque};
 ghost use Rattle.reg_fold.specs.Own.{own_entry_of};
 ghost use Rattle.reg_fold.specs.Step.{EntriesAreOfLasts, IsStep};
@@ -85,16 +86,18 @@ impl Index {
         }
     }
 
-    /// Adds a record. The only error is out of memory; the last records are then as they were.
-    pub(crate) fn apply(&mut self, given: &Record) -> Result<(), AllocError>
-        requires { IsKept self.old }
+    /// Adds a record, which may have been read for the other index. The only error is out of memory; the
+    /// last records are then as they were.
+    pub(crate) fn apply(&mut self, given: &Record, other: Option<&Index>) -> Result<(), AllocError>
+        requires kept { IsKept self.old }
+        requires other { IfSome other (λ o. IsKept o.now) }
         ensures { AddsOnOk self.old given.now result self.new }
     {
         if !self.last.is_news(given) {
             return Ok(());
         }
         match &given.key {
-            Key::Schema { subject, version } => self.apply_version(given, subject, *version),
+            Key::Schema { subject, version } => self.apply_version(given, subject, *version, other),
             Key::DeleteSubject(subject) => self.apply_delete(given, subject),
             Key::Config(scope) => self.apply_config(given, scope),
             Key::Mode(scope) => self.apply_mode(given, scope),
@@ -109,16 +112,33 @@ impl Index {
         given: &Record,
         subject: &Text,
         version: u32,
+        other: Option<&Index>,
     ) -> Result<(), AllocError>
         requires news { IsNewsTo given.now self.old }
         requires of_key { given.now.key ≡ keys.Schema subject.now version }
+        requires other { IfSome other (λ o. IsKept o.now) }
         ensures { AddsOnOk self.old given.now result self.new }
     {
         let place = (subject.clone()?, version);
-        match own_entry_of(self.alloc, given)? {
+        match entry_of(self.alloc, given, &place, other)? {
             Some(entry) => self.put_entry(given, place, entry),
             None if given.value.is_some() => self.put_unread(given, place),
             None => self.put_tombstone(given, place),
+        }
+    }
+
+    /// A copy of the entry that the last record of its key gives by itself. The only error is out of memory.
+    fn entry_at(&self, given: &Record, place: &(Text, u32)) -> Result<Option<Entry>, AllocError>
+        requires kept { IsKept self.now }
+        requires last { set.contains self.now.last given.now ≡ true }
+        requires of_key { given.now.key ≡ keys.Schema place.now.0 place.now.1 }
+        ensures { IfOk result (λ entry. entry ≡ own_entry_of given.now) }
+    {
+        records_are_ordered();
+        self.last.is_compact();
+        match self.entries.at(place) {
+            Some(entry) => Ok(Some(entry.clone()?)),
+            None => Ok(None),
         }
     }
 
@@ -281,6 +301,24 @@ impl Index {
         self.last.is_compact();
         let first = self.unread.first()?;
         Some(first.0)
+    }
+}
+
+/// The entry that a version's record gives by itself: the other index's, where the record is the last of
+/// its key there too, and else what is read in it. The only error is out of memory.
+fn entry_of(
+    alloc: Global,
+    given: &Record,
+    place: &(Text, u32),
+    other: Option<&Index>,
+) -> Result<Option<Entry>, AllocError>
+    requires of_key { given.now.key ≡ keys.Schema place.now.0 place.now.1 }
+    requires other { IfSome other (λ o. IsKept o.now) }
+    ensures { IfOk result (λ entry. entry ≡ own_entry_of given.now) }
+{
+    match other {
+        Some(other) if other.last.contains(given) => other.entry_at(given, place),
+        Some(_) | None => own_entry_of(alloc, given),
     }
 }
 

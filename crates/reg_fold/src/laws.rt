@@ -4,7 +4,7 @@ ghost use Rattle.reg_fold.specs.Entries.{EntriesAreInLimits, EntriesAreOfKeys, E
 ghost use Rattle.reg_fold.specs.GiveAlike.{EachGivesAlikeItself, GivingAlikeComposes, GivingAlikeIsSymmetric};
 ghost use Rattle.reg_fold.specs.IdMark.{IdMarkIsInLimits};
 ghost use Rattle.reg_fold.specs.Opaque.{NoneIsNoOpaqueLast};
-ghost use Rattle.reg_fold.specs.Standing.{FoundEntriesStand};
+ghost use Rattle.reg_fold.specs.Standing.{EntriesStandByVersion, FoundEntriesStand};
 
 use reg_set::{last_is_greatest, last_records_are_enough, records_are_ordered};
 use reg_values::values_are_of_keys;
@@ -17,6 +17,11 @@ pub fn entries_are_read()
 /// The entry that is found of a subject is one of the entries.
 pub fn found_entries_stand()
     ensures { FoundEntriesStand }
+{}
+
+/// The entries of a subject stand by version, each version once.
+pub fn entries_stand_by_version()
+    ensures { EntriesStandByVersion }
 {}
 
 /// The version and the id of each entry are within their limits.

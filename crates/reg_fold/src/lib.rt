@@ -11,8 +11,9 @@ mod spots;
 mod version_ref;
 
 pub use laws::{
-    entries_are_in_limits, entries_are_of_places, entries_are_read, found_entries_stand,
-    giving_alike_is_an_equivalence, id_mark_is_in_limits, none_is_no_opaque_last,
+    entries_are_in_limits, entries_are_of_places, entries_are_read, entries_stand_by_version,
+    found_entries_stand, giving_alike_is_an_equivalence, id_mark_is_in_limits,
+    none_is_no_opaque_last,
 };
 pub use reg_entries::{Entry, two_schemas_is_least};
 pub use reg_refusals::{Allow, Reason, Refusal, StoreFault};

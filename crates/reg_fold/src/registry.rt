@@ -141,8 +141,26 @@ impl Registry {
             → self.new ≡ last_records (set.insert whole given.now)) }
         ensures refused { OnErr result (self.new ≡ self.old) }
     {
+        self.apply_beside(given, None)
+    }
+
+    /// Adds a record, as `apply` does, whatever the other registry is. Where the record is the last of its
+    /// key there too, it isn't read again: what it gives is taken from there.
+    pub fn apply_beside(
+        &mut self,
+        given: &Record,
+        other: Option<&Registry>,
+    ) -> Result<(), AllocError>
+        ensures added { OnOk result (self.new ≡ last_records (set.insert self.old given.now)) }
+        ensures whole { OnOk result ((whole : Records) → self.old ≡ last_records whole
+            → self.new ≡ last_records (set.insert whole given.now)) }
+        ensures refused { OnErr result (self.new ≡ self.old) }
+    {
         last_records_of_unions();
-        self.index.apply(given)
+        match other {
+            Some(other) => self.index.apply(given, Some(&other.index)),
+            None => self.index.apply(given, None),
+        }
     }
 
     /// Adds all records or none, in any order of arrival. The only error is out of memory; the
@@ -158,14 +176,30 @@ impl Registry {
             → self.new ≡ last_records (set.union whole (set.from_list records.now))) }
         ensures refused { OnErr result (self.new ≡ self.old) }
     {
+        self.apply_all_beside(records, None)
+    }
+
+    /// Adds all records or none, as `apply_all` does, whatever the other registry is. A record that is the
+    /// last of its key there too isn't read again.
+    pub fn apply_all_beside(
+        &mut self,
+        records: &[Record],
+        other: Option<&Registry>,
+    ) -> Result<(), AllocError>
+        ensures added { OnOk result (self.new
+            ≡ last_records (set.union self.old (set.from_list records.now))) }
+        ensures whole { OnOk result ((whole : Records) → self.old ≡ last_records whole
+            → self.new ≡ last_records (set.union whole (set.from_list records.now))) }
+        ensures refused { OnErr result (self.new ≡ self.old) }
+    {
         last_records_of_unions();
         match records {
             [] => self.apply_none(),
             [first, others @ ..] => {
                 if self.are_tombstones(others) {
-                    self.apply_before(first, others)
+                    self.apply_before(first, others, other)
                 } else {
-                    self.apply_to_copy(records)
+                    self.apply_to_copy(records, other)
                 }
             }
         }
@@ -198,7 +232,12 @@ impl Registry {
 
     /// Adds a record, and then tombstones, or none of them. The only error is out of memory; the
     /// registry is then as it was.
-    fn apply_before(&mut self, first: &Record, tombstones: &[Record]) -> Result<(), AllocError>
+    fn apply_before(
+        &mut self,
+        first: &Record,
+        tombstones: &[Record],
+        other: Option<&Registry>,
+    ) -> Result<(), AllocError>
         requires { list_all (is_tombstone self.old) tombstones.now ≡ true }
         ensures added { OnOk result (self.new
             ≡ last_records (set.union self.old (set.from_list (first.now ∷ tombstones.now)))) }
@@ -209,7 +248,7 @@ impl Registry {
         last_records_are_enough();
         last_records_of_unions();
         let copies = copies_of(self.index.alloc, tombstones)?;
-        self.apply(first)?;
+        self.apply_beside(first, other)?;
         self.bury_all(copies);
         Ok(())
     }
@@ -242,26 +281,30 @@ impl Registry {
     }
 
     /// Adds all records or none. The only error is out of memory; the registry is then as it was.
-    fn apply_to_copy(&mut self, records: &[Record]) -> Result<(), AllocError>
+    fn apply_to_copy(
+        &mut self,
+        records: &[Record],
+        other: Option<&Registry>,
+    ) -> Result<(), AllocError>
         ensures added { OnOk result (self.new
             ≡ last_records (set.union self.old (set.from_list records.now))) }
         ensures refused { OnErr result (self.new ≡ self.old) }
     {
         let mut next = self.clone()?;
-        next.apply_each(records)?;
+        next.apply_each(records, other)?;
         *self = next;
         Ok(())
     }
 
     /// Adds all records. The only error is out of memory; some may then have been added.
-    fn apply_each(&mut self, records: &[Record]) -> Result<(), AllocError>
+    fn apply_each(&mut self, records: &[Record], other: Option<&Registry>) -> Result<(), AllocError>
         ensures { OnOk result (self.new
             ≡ last_records (set.union self.old (set.from_list records.now))) }
     {
         records_are_ordered();
         self.index.last.is_compact();
         for record in records {
-            self.apply(record)?;
+            self.apply_beside(record, other)?;
         }
         Ok(())
     }

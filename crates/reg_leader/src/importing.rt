@@ -83,8 +83,7 @@ fn import_next(
 ) -> Result<Deed, Refusal>
     ensures { Follows (import_as registry.now subject.now schema.now.normal_text id None) result }
 {
-    let live = registry.live(subject.as_str())?;
-    if live_import(&live, id, schema.normal().as_str()).is_some() {
+    if live_import(registry, subject.as_str(), id, schema.normal().as_str())?.is_some() {
         return Ok(Deed {
             reply: Reply::Id(id),
             writings: Vec::new(alloc),

@@ -52,8 +52,7 @@ fn candidate(
     must_be_open(registry)?;
     must_have_offset(next)?;
     may_register(mode_in_force(registry, Some(subject.as_str())), false)?;
-    let live = registry.live(subject.as_str())?;
-    match live_schema(&live, schema.normal().as_str()) {
+    match live_schema(registry, subject.as_str(), schema.normal().as_str())? {
         Some(same) => Ok(Candidate::Live(same.id)),
         None => Ok(Candidate::New(schema)),
     }

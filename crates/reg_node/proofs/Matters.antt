@@ -27,12 +27,9 @@ use Rattle.reg_node.specs.Judging.{HasNoJudgement, HasNoMatter, IsMatterOf, Matt
 pub texts_rise : (es : List Entry) → sought.AreInVersionOrder es → HasRisingVersions (texts_of es)
 texts_rise es rise = subst IsStrictlyIncreasing (sym (map-map (λ old. old.0) (λ (e : Entry). (e.version, e.text)) es)) rise
 
--- of entries that are lent those that a level looks at, with their texts
-pub texts_looked_at : (l : Level) (found : List (Bor Entry))
-    → texts_of (map (λ e. e.now) (looked_at l found)) ≡ looked_at l (texts_of (map (λ e. e.now) found))
-texts_looked_at l found =
-    ap texts_of (looked_at-map (λ (e : Bor Entry). e.now) l found)
-    ∙ looked_at-map (λ (e : Entry). (e.version, e.text)) l (map (λ e. e.now) found)
+-- the texts of those entries that a level looks at
+pub texts_looked_at : (l : Level) (es : List Entry) → texts_of (looked_at l es) ≡ looked_at l (texts_of es)
+texts_looked_at l es = looked_at-map (λ (e : Entry). (e.version, e.text)) l es
 
 pub stands : (l k : Level) (olds texts : List VersionText) → l ≡ k → olds ≡ texts
     → ◌≡◌ {A = Standing} (record { level = l; olds = olds }) (record { level = k; olds = texts })
@@ -67,18 +64,17 @@ alike_more ys xs f i y x within same_length at same before =
 
 -- what stands is that of a registry where the level is, and the texts that it looks at
 pub stands_over : (rs : Records) (subject : List ℕ) (held : Standing) (l : Level)
-    (olds : List VersionText) (found looked : List (Bor Entry)) (agree : Bool)
-    → record { level = l; olds = olds } ≡ held → l ≡ level rs (Some subject) → map (λ e. e.now) found ≡ live rs subject
-    → looked ≡ looked_at l found → (IsTrue agree ↔ (olds ≡ map (λ e. (e.now.version, e.now.text)) looked))
+    (olds : List VersionText) (looked : List (Bor Entry)) (agree : Bool)
+    → record { level = l; olds = olds } ≡ held → l ≡ level rs (Some subject) → map (λ e. e.now) looked ≡ looked_at l (live rs subject)
+    → (IsTrue agree ↔ (olds ≡ map (λ e. (e.now.version, e.now.text)) looked))
     → (agree ≡ true) ↔ (against rs subject ≡ held)
-stands_over rs subject held l olds found looked agree is at all same_looked told =
+stands_over rs subject held l olds looked agree is at all told =
     let k : Level = level rs (Some subject) in
     let standing : List VersionText = texts_of (live rs subject) in
     let texts : looked_at k standing ≡ map {B = VersionText} (λ e. (e.now.version, e.now.text)) looked =
     ap (λ (m : Level). looked_at m standing) (sym at)
-    ∙ ap (λ (es : List Entry). looked_at l (texts_of es)) (sym all)
-    ∙ sym (texts_looked_at l found)
-    ∙ ap (λ (es : List (Bor Entry)). texts_of (map (λ e. e.now) es)) (sym same_looked)
+    ∙ sym (texts_looked_at l (live rs subject))
+    ∙ ap texts_of (sym all)
     ∙ map-map (λ (e : Entry). (e.version, e.text)) (λ (e : Bor Entry). e.now) looked in (
       λ same. stands k l (looked_at k standing) olds (sym at) (texts ∙ sym (told.0 same)) ∙ is,
       λ same. told.1 (sym (ap (λ (s : Standing). s.olds) (same ∙ sym is)) ∙ texts),

@@ -12,7 +12,7 @@ use reg_fold::{Entry, Registry};
 use reg_judge::Judge;
 use reg_level_names::Level;
 use reg_levels::{Judged, JudgedError, LevelVerdict, check_read_texts, lend_texts, looked_at};
-use reg_rules::live_versions_are_read;
+use reg_rules::{live_looked_at, live_versions_are_read};
 use std::alloc::{AllocError, Global};
 use std::marker::Model;
 
@@ -53,21 +53,26 @@ impl Against {
     {
         live_versions_are_read();
         let level = registry.level(Some(subject.as_str()));
-        let live = registry.live(subject.as_str())?;
-        let olds = copy_texts(alloc, looked_at(level, &live))?;
+        let looked_at = live_looked_at(alloc, registry, subject.as_str(), level)?;
+        let olds = copy_texts(alloc, &looked_at)?;
         Ok(Against { level, olds })
     }
 
     /// Whether a new schema of the subject is judged against the same over a registry: whatever becomes of
     /// versions that the level doesn't look at. The only error is out of memory.
-    pub(crate) fn stands(&self, registry: &Registry, subject: &Text) -> Result<bool, AllocError>
+    pub(crate) fn stands(
+        &self,
+        alloc: Global,
+        registry: &Registry,
+        subject: &Text,
+    ) -> Result<bool, AllocError>
         ensures { IfOk result (λ yes. (yes ≡ true) ↔ (against registry.now subject.now ≡ self.now)) }
     {
         if registry.level(Some(subject.as_str())) != self.level {
             return Ok(false);
         }
-        let live = registry.live(subject.as_str())?;
-        Ok(are_texts_of(self.olds.as_slice(), looked_at(self.level, &live)))
+        let looked_at = live_looked_at(alloc, registry, subject.as_str(), self.level)?;
+        Ok(are_texts_of(self.olds.as_slice(), &looked_at))
     }
 
     /// The judgement of a new schema's text. The versions are read, or taken from what the judge keeps.

@@ -57,7 +57,7 @@ impl Case {
     pub fn stands(&self, registry: &Registry) -> Result<bool, AllocError>
         ensures { IfOk result (λ yes. (yes ≡ true) ↔ (against registry.now self.now.subject ≡ self.now.standing)) }
     {
-        self.against.stands(registry, &self.subject)
+        self.against.stands(self.alloc, registry, &self.subject)
     }
 
     /// The case of the same registration over another registry. The only error is out of memory.

@@ -119,9 +119,11 @@ impl Fold<Draw> for Taken {
 
     ghost applied = { lasts_with_draw };
 
-    fn take_item(&mut self, item: &Draw) -> Result<(), AllocError> {
+    fn take_item(&mut self, item: &Draw, other: &Taken) -> Result<(), AllocError> {
         match item {
-            Draw::Take(take) => self.registry.apply(&take.kept),
+            Draw::Take(take) => self
+                .registry
+                .apply_beside(&take.kept, Some(&other.registry)),
             Draw::Rebase(rebase) => self.rebase(rebase),
         }
     }

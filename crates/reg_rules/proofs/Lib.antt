@@ -1,3 +1,4 @@
+pub mod Known
 pub mod LookedAt
 pub mod Newest
 pub mod Numbering

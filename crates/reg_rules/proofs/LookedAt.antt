@@ -1,12 +1,18 @@
 -- The live versions that a level looks at decide.
-use Rattle.std.proofs.Common.{◌≡◌, ℕ, Bor, zero, suc, ◌-◌, ◌+◌, ◌<◌, Bool, true, false, not, cond, List, [], ◌∷◌, length, map}
+use Rattle.std.proofs.Common.{◌≡◌, ℕ, zero, suc, ◌-◌, ◌+◌, ◌<◌, Bool, true, false, not, cond, List, [], ◌∷◌, length, map, fold}
 use Rattle.std.proofs.Common.{reverse, drop, flat_map, All, Option, Some, None, option_map, refl, sym, ap, subst, ◌∙◌, arith}
-use Rattle.std.proofs.lemmas.List.{drop-map, get_or-drop, length-drop, length-map}
+use Rattle.std.proofs.lemmas.Cmp.{nat_cmp_total}
+use Rattle.std.proofs.lemmas.List.{drop-map, drop_all, get_or-drop, length-drop, length-map}
+use Rattle.std.proofs.lemmas.Map.Keys.{sorted_from_strictly_increasing}
 use Rattle.std.specs.List.{find, slice_index}
-use Rattle.std.specs.List.Sorted.{IsStrictlyIncreasing}
+use Rattle.std.specs.List.Sorted.{IsStrictlyIncreasing, IsStrictlySortedBy}
+use Rattle.std.specs.Option.{option_to_list}
+use Rattle.std.specs.Ordering.{is_lt, nat_cmp, on, ord_max, ordering_reverse}
+use Rattle.std.specs.declared.cmp.Ordering.{Ordering}
+use Rattle.std.specs.declared.cmp.Ordering.TheVariants.{Less}
 use Rattle.avro_schema.specs.Schema.{is_schema}
 use Rattle.avro_schema.specs.declared.node.Node.{Node}
-use Rattle.reg_entries.specs.Sought.{AreInVersionOrder, texts_of}
+use Rattle.reg_entries.specs.Sought.{AreInVersionOrder, newest, texts_of}
 use Rattle.reg_entries.specs.declared.entry.Entry.{Entry}
 use Rattle.reg_level_names.specs.declared.level.Level.{Level}
 use Rattle.reg_level_names.specs.declared.level.Level.TheVariants as levels
@@ -75,24 +81,35 @@ rising-drop n xs rise k within =
     subst (λ a. a < slice_index (drop n xs) (k + 1)) (sym here)
     (subst (λ b. slice_index xs (n + k) < b) (ap (slice_index xs) same ∙ sym next) up)
 
--- Of entries that are lent those that a level looks at.
-module _ (level : Level) (found looked : List (Bor Entry)) (at : looked ≡ looked_at level found) where
-  abbrev lent : List (Bor Entry) → List Entry
-  lent es = map (λ e. e.now) es
+pub looked_at-rise : (level : Level) (es : List Entry) → AreInVersionOrder es → AreInVersionOrder (looked_at level es)
+looked_at-rise level es rise =
+    subst IsStrictlyIncreasing (sym (looked_at-map (λ (e : Entry). e.version) level es))
+    (rising-drop (passed_over level (length (map (λ (e : Entry). e.version) es))) (map (λ (e : Entry). e.version) es) rise)
 
-  lent_looked_at : lent looked ≡ looked_at level (lent found)
-  lent_looked_at = ap lent at ∙ looked_at-map (λ (e : Bor Entry). e.now) level found
+-- the texts of those entries that a level looks at
+pub texts_looked_at : (level : Level) (all looked : List Entry) (texts : List VersionText) → looked ≡ looked_at level all
+    → texts ≡ texts_of looked → texts ≡ looked_at level (texts_of all)
+texts_looked_at level all looked texts at same = same ∙ ap texts_of at ∙ looked_at-map (λ (e : Entry). (e.version, e.text)) level all
 
-  pub entries_looked_at-rise : AreInVersionOrder (lent found) → AreInVersionOrder (lent looked)
-  entries_looked_at-rise rise =
-      let versions : List Entry → List ℕ = map (λ e. e.version) in
-      subst IsStrictlyIncreasing (sym (ap versions lent_looked_at ∙ looked_at-map (λ (e : Entry). e.version) level (lent found)))
-      (rising-drop (passed_over level (length (versions (lent found)))) (versions (lent found)) rise)
+-- a level that looks at one version looks at the greatest
+abbrev by_version : Entry → Entry → Ordering
+by_version = on (λ e. e.version) nat_cmp
 
-  pub texts_looked_at : (all : List Entry) (texts : List VersionText) → lent found ≡ all → texts ≡ texts_of (lent looked)
-      → texts ≡ looked_at level (texts_of all)
-  texts_looked_at all texts are same =
-      same
-      ∙ ap texts_of lent_looked_at
-      ∙ looked_at-map (λ (e : Entry). (e.version, e.text)) level (lent found)
-      ∙ ap (λ es. looked_at level (texts_of es)) are
+later : (x y : Entry) → nat_cmp x.version y.version ≡ Less → ord_max by_version x y ≡ y
+later x y below = ap (λ o. cond (is_lt o) x y) (nat_cmp_total.antisymm y.version x.version ∙ ap ordering_reverse below)
+
+last_of_rising : (x : Entry) (ys : List Entry) → IsStrictlySortedBy nat_cmp (map (λ e. e.version) (x ∷ ys))
+    → fold (ord_max by_version) x ys ∷ [] ≡ drop (length ys) (x ∷ ys)
+unfolding IsStrictlySortedBy
+last_of_rising x [] rise = refl
+last_of_rising x (y ∷ ys) rise =
+    ap (λ z. fold (ord_max by_version) z ys ∷ []) (later x y rise.0.0) ∙ last_of_rising y ys rise.1
+
+pub newest_stands_last : (es : List Entry) → AreInVersionOrder es → option_to_list (newest es) ≡ drop (length es - 1) es
+newest_stands_last [] rise = refl
+newest_stands_last (x ∷ ys) rise =
+    let last : length (x ∷ ys) - 1 ≡ length ys = omega arith in
+    last_of_rising x ys (sorted_from_strictly_increasing (map (λ e. e.version) (x ∷ ys)) rise) ∙ ap (λ n. drop n (x ∷ ys)) (sym last)
+
+pub none_looked_at : (es : List Entry) → looked_at levels.None es ≡ []
+none_looked_at es = drop_all (length es) es (omega arith)

@@ -8,18 +8,19 @@ ghost use Rattle.reg_levels.specs.Texts.{IsVerdictOfTexts};
 ghost use Rattle.reg_entries.specs.Sought.{texts_of};
 ghost use Rattle.reg_rules.specs.Report.{IsReport, LiveVersionsAreRead};
 
+use crate::looking::live_looked_at;
 use avro_schema::Schema;
 use base_text::Text;
 use reg_entries::texts_of;
 use reg_fold::{Registry, entries_are_read};
 use reg_level_names::Level;
-use reg_levels::{Judged, LevelVerdict, check_read_texts, looked_at};
+use reg_levels::{Judged, LevelVerdict, check_read_texts};
 use std::alloc::{AllocError, Global};
 
 /// The message of the first pair that clashes, by the judgement if it was made of the live versions that
 /// the level looks at, else by a new one; `None` where the level is met. The only error is out of memory.
 ///
-/// The texts of other versions aren't touched.
+/// Other versions aren't touched.
 pub fn clash_of(
     alloc: Global,
     registry: &Registry,
@@ -31,8 +32,8 @@ pub fn clash_of(
 {
     live_versions_are_read();
     let level = registry.level(Some(subject.as_str()));
-    let live = registry.live(subject.as_str())?;
-    let texts = texts_of(alloc, looked_at(level, &live))?;
+    let looked_at = live_looked_at(alloc, registry, subject.as_str(), level)?;
+    let texts = texts_of(alloc, &looked_at)?;
     if let Some(judged) = fitting(judged, level, schema.normal().as_str(), &texts) {
         return judged.verdict().message(alloc);
     }

@@ -3,11 +3,13 @@
 #![tactic(auto)]
 
 mod judging;
+mod looking;
 mod schemas;
 mod testing;
 mod writing;
 
 pub use judging::{clash_of, live_versions_are_read};
+pub use looking::live_looked_at;
 pub use schemas::{is_of, live_import, live_schema, must_have_valid_defaults, read_schema};
 pub use testing::{
     must_allow_mode, must_be_above_mark, must_be_number, must_be_open, must_have_offset,

@@ -1,6 +1,7 @@
 // What is asked of a schema that is to be registered.
-ghost use Rattle.std.specs.Prelude.{◌≡◌, map, option_copied, bytes_eq};
+ghost use Rattle.std.specs.Prelude.{◌≡◌, IfOk, map, option_copied, bytes_eq};
 ghost use Rattle.std.specs.List.{filter};
+ghost use Rattle.reg_fold.specs.Standing.{live};
 ghost use Rattle.reg_rules.specs.Better.{better};
 ghost use Rattle.reg_rules.specs.Finding.{IsRead};
 ghost use Rattle.reg_rules.specs.Standing.{is_of};
@@ -9,8 +10,8 @@ ghost use Rattle.reg_rules.specs.Tests as test;
 
 use avro_schema::Schema;
 use base_text::Text;
-use reg_fold::{Entry, Refusal};
-use std::alloc::Global;
+use reg_fold::{Entry, Refusal, Registry};
+use std::alloc::{AllocError, Global};
 
 /// The schema of a text, if it has one.
 pub fn read_schema(alloc: Global, text: &Text) -> Result<Schema, Refusal>
@@ -32,8 +33,42 @@ pub fn must_have_valid_defaults(schema: &Schema) -> Result<(), Refusal>
     }
 }
 
+/// Of a subject's live versions with that schema the greatest. They are gone through only where a version of
+/// some subject has it. The only error is out of memory.
+pub fn live_schema<'a>(
+    registry: &'a Registry,
+    subject: &str,
+    normal: &str,
+) -> Result<Option<&'a Entry>, AllocError>
+    ensures { IfOk result (λ found. option_copied found ≡ newest (filter (has_schema normal.now) (live registry.now subject.now))) }
+{
+    let known = registry.id_of(normal)?;
+    if known.is_none() {
+        return Ok(None);
+    }
+    let live = registry.live(subject)?;
+    Ok(newest_schema(&live, normal))
+}
+
+/// The same of those that have that id too.
+pub fn live_import<'a>(
+    registry: &'a Registry,
+    subject: &str,
+    id: u32,
+    normal: &str,
+) -> Result<Option<&'a Entry>, AllocError>
+    ensures { IfOk result (λ found. option_copied found ≡ newest (filter (is_of id normal.now) (live registry.now subject.now))) }
+{
+    let known = registry.id_of(normal)?;
+    if known.is_none() {
+        return Ok(None);
+    }
+    let live = registry.live(subject)?;
+    Ok(newest_import(&live, id, normal))
+}
+
 /// Of those entries with that schema the one of greatest version.
-pub fn live_schema<'a>(entries: &[&'a Entry], normal: &str) -> Option<&'a Entry>
+fn newest_schema<'a>(entries: &[&'a Entry], normal: &str) -> Option<&'a Entry>
     ensures { option_copied result ≡ newest (filter (has_schema normal.now) (map (λ e. e.now) entries.now)) }
 {
     let mut best = None;
@@ -44,7 +79,7 @@ pub fn live_schema<'a>(entries: &[&'a Entry], normal: &str) -> Option<&'a Entry>
 }
 
 /// Of those entries with that id and that schema the one of greatest version.
-pub fn live_import<'a>(entries: &[&'a Entry], id: u32, normal: &str) -> Option<&'a Entry>
+fn newest_import<'a>(entries: &[&'a Entry], id: u32, normal: &str) -> Option<&'a Entry>
     ensures { option_copied result ≡ newest (filter (is_of id normal.now) (map (λ e. e.now) entries.now)) }
 {
     let mut best = None;

@@ -265,14 +265,15 @@ fn copy_lasts(
     Ok(found)
 }
 
-/// Adds the batch to all three, or to none: what was last before it joins the older records. The
-/// only error is out of memory.
+/// Adds the batch to all three, or to none: what was last before it joins the older records. The other
+/// registry, if there is one, may have read the batch. The only error is out of memory.
 pub(crate) fn grow(
     alloc: Global,
     registry: &mut Registry,
     older: &mut Vec<Record>,
     by_offset: &mut Vec<Record>,
     batch: &[Record],
+    other: Option<&Registry>,
 ) -> Result<(), AllocError>
     ensures registry { OnOk result ((whole : Records) → registry.old ≡ last_records whole
         → registry.new ≡ last_records (union whole (from_list batch.now))) }
@@ -291,7 +292,7 @@ pub(crate) fn grow(
         older.truncate(before);
         return Err(refused);
     }
-    if let Err(refused) = registry.apply_all(batch) {
+    if let Err(refused) = registry.apply_all_beside(batch, other) {
         older.truncate(before);
         by_offset.truncate(places);
         return Err(refused);

@@ -82,7 +82,7 @@ impl Shared {
         let log = RecordSet::of(alloc, &base.records)?;
         let Adopted { registry, due } = adopt(alloc, &log, base.next)?;
         let mut shared = Shared::of_log(alloc, base, &log, registry)?;
-        shared.take_batch(&due)?;
+        shared.take_batch(&due, None)?;
         Ok(Begun { shared, due })
     }
 
@@ -184,8 +184,9 @@ impl Shared {
         Ok(found)
     }
 
-    /// Takes in a batch. The only error is out of memory; all is then as it was.
-    fn take_batch(&mut self, batch: &[Record]) -> Result<(), AllocError>
+    /// Takes in a batch, which the other registry, if there is one, may have read. The only error is out of
+    /// memory; all is then as it was.
+    fn take_batch(&mut self, batch: &[Record], other: Option<&Registry>) -> Result<(), AllocError>
         ensures taken { OnOk result (self.new ≡ held_after_batch (follows self.old.next batch.now) self.old batch.now) }
         ensures refused { OnErr result (self.new ≡ self.old) }
     {
@@ -202,6 +203,7 @@ impl Shared {
             &mut self.older,
             &mut self.by_offset,
             batch,
+            other,
         )?;
         self.next += batch.len() as u64;
         Ok(())
@@ -269,9 +271,9 @@ impl Fold<Item> for Shared {
     // Each item that is published may follow on those before it.
     ghost publishes = { λ first list. IsLawful (base_of first) list };
 
-    fn take_item(&mut self, item: &Item) -> Result<(), AllocError> {
+    fn take_item(&mut self, item: &Item, other: &Shared) -> Result<(), AllocError> {
         match item {
-            Item::Commit(commit) => self.take_batch(commit.batch.as_slice()),
+            Item::Commit(commit) => self.take_batch(commit.batch.as_slice(), Some(&other.registry)),
             Item::Compaction(compaction) => {
                 self.take_compaction(compaction)?;
                 self.trim();

@@ -29,7 +29,7 @@ impl Fold<u64> for Sum {
 
     ghost applied = { λ total item. min (total + item) (2 ^ 64 - 1) };
 
-    fn take_item(&mut self, item: &u64) -> Result<(), AllocError> {
+    fn take_item(&mut self, item: &u64, _other: &Sum) -> Result<(), AllocError> {
         if self.refusals > 0 {
             self.refusals -= 1;
             return Err(AllocError);

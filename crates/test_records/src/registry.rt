@@ -22,13 +22,15 @@ struct Row {
 }
 
 /// How a registry takes records: read from a set, added one by one, in one go, in batches of a record
-/// and the tombstones after it, or in two goes of which the later records are the first.
+/// and the tombstones after it, in such batches beside other registries, or in two goes of which the
+/// later records are the first.
 #[derive(Clone, Copy)]
 enum Way {
     Read,
     Grown,
     Filled,
     Batched,
+    Beside,
     Halved,
 }
 
@@ -54,15 +56,51 @@ fn ends_batch(records: &[Record], place: usize) -> bool {
     }
 }
 
-fn fill_in_batches(registry: &mut Registry, records: &[Record]) -> Result<(), AllocError> {
+fn add_batch(
+    registry: &mut Registry,
+    batch: &[Record],
+    other: Option<&Registry>,
+) -> Result<(), AllocError> {
+    match batch {
+        [record] => registry.apply_beside(record, other),
+        _ => registry.apply_all_beside(batch, other),
+    }
+}
+
+/// Adds batches beside one of the others each in turn, and beside none.
+fn fill_in_batches(
+    registry: &mut Registry,
+    records: &[Record],
+    others: &[Registry],
+) -> Result<(), AllocError> {
     let mut first = 0;
     for place in 1..=records.len() {
         if ends_batch(records, place) {
-            registry.apply_all(records.get(first..place).unwrap_or(&[]))?;
+            let batch = records.get(first..place).unwrap_or(&[]);
+            add_batch(registry, batch, others.get(first % 4))?;
             first = place;
         }
     }
     Ok(())
+}
+
+/// Registries over all records, over the first half and over the second half.
+fn others_of(alloc: Global, records: &[Record]) -> Result<Vec<Registry>, AllocError> {
+    let (first, second) = records.split_at(records.len() / 2);
+    let mut others = Vec::new(alloc);
+    for part in [records, first, second] {
+        others.push(read(alloc, part)?)?;
+    }
+    Ok(others)
+}
+
+fn fill_beside(
+    alloc: Global,
+    registry: &mut Registry,
+    records: &[Record],
+) -> Result<(), AllocError> {
+    let others = others_of(alloc, records)?;
+    fill_in_batches(registry, records, &others)
 }
 
 fn fill_in_halves(registry: &mut Registry, records: &[Record]) -> Result<(), AllocError> {
@@ -71,10 +109,16 @@ fn fill_in_halves(registry: &mut Registry, records: &[Record]) -> Result<(), All
     registry.apply_all(records.get(..third).unwrap_or(&[]))
 }
 
-fn add(registry: &mut Registry, records: &[Record], way: Way) -> Result<(), AllocError> {
+fn add(
+    alloc: Global,
+    registry: &mut Registry,
+    records: &[Record],
+    way: Way,
+) -> Result<(), AllocError> {
     match way {
         Way::Halved => fill_in_halves(registry, records),
-        Way::Batched => fill_in_batches(registry, records),
+        Way::Batched => fill_in_batches(registry, records, &[]),
+        Way::Beside => fill_beside(alloc, registry, records),
         Way::Filled => registry.apply_all(records),
         Way::Grown | Way::Read => grow(registry, records),
     }
@@ -82,7 +126,7 @@ fn add(registry: &mut Registry, records: &[Record], way: Way) -> Result<(), Allo
 
 fn added(alloc: Global, records: &[Record], way: Way) -> Result<Registry, AllocError> {
     let mut registry = Registry::empty(alloc);
-    add(&mut registry, records, way)?;
+    add(alloc, &mut registry, records, way)?;
     Ok(registry)
 }
 
@@ -94,7 +138,9 @@ fn read(alloc: Global, records: &[Record]) -> Result<Registry, AllocError> {
 fn registry_of(alloc: Global, records: &[Record], way: Way) -> Result<Registry, AllocError> {
     match way {
         Way::Read => read(alloc, records),
-        Way::Grown | Way::Filled | Way::Batched | Way::Halved => added(alloc, records, way),
+        Way::Grown | Way::Filled | Way::Batched | Way::Beside | Way::Halved => added(
+            alloc, records, way,
+        ),
     }
 }
 
@@ -140,7 +186,7 @@ fn way_meets(
 fn ways_meet(
     alloc: Global,
     records: &[Record],
-    ways: [Way; 3],
+    ways: [Way; 4],
     wanted: Wanted,
 ) -> Result<bool, AllocError> {
     for way in ways {
@@ -155,7 +201,7 @@ fn ways_meet(
 fn order_holds(alloc: Global, row: &Row, order: usize) -> Result<bool, LogError> {
     let lines = in_order(alloc, row.lines, order)?;
     let records = records_of(alloc, &lines)?;
-    let ways = [Way::Read, Way::Grown, Way::Filled];
+    let ways = [Way::Read, Way::Grown, Way::Filled, Way::Beside];
     Ok(ways_meet(alloc, &records, ways, Wanted::Answers(row.answers))?)
 }
 

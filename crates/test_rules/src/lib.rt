@@ -10,6 +10,8 @@ mod levels;
 #[cfg(test)]
 mod logs;
 #[cfg(test)]
+mod looking;
+#[cfg(test)]
 mod modes;
 #[cfg(test)]
 mod queries;

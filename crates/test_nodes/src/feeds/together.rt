@@ -27,8 +27,8 @@ fn run<N: FeedName<u64, Sum>, R: Wait + Drop>(
     requires { (list.reached.book ≡ N.book) × (first ≡ N.first) }
 {
     let mut whole = first.again()?;
-    whole.take_item(&7)?;
-    whole.take_item(&8)?;
+    whole.take_item(&7, &first)?;
+    whole.take_item(&8, &first)?;
     let mut writer = feed::<u64, Sum, N, R>(rt, alloc, list, first, 1)?;
     let mut items = VecDeque::new(alloc);
     items.push_back(7)?;

@@ -140,7 +140,7 @@ fn fronts_alike(alloc: Global, records: &[Record], lines: &[Line]) -> Result<boo
 
 fn are_alike(alloc: Global, records: &[Record], lines: &[Line]) -> Result<bool, AllocError> {
     let plain = PlainRegistry::of(alloc, lines)?;
-    let ways = [Way::Read, Way::Batched, Way::Halved];
+    let ways = [Way::Read, Way::Batched, Way::Beside, Way::Halved];
     Ok(
         fronts_alike(alloc, records, lines)?
             && ways_meet(alloc, records, ways, Wanted::Plain(&plain))?,

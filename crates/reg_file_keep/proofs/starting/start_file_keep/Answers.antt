@@ -13,8 +13,8 @@ use Rattle.reg_file_keep.specs.Starting.{LosesNothing}
 use Rattle.reg_file_keep.proofs.Starts.{kept_from, low_floor, moments_from}
 use Rattle.reg_file_keep.proofs.starting.start_file_keep.Goals as goal
 
-pub new-keep-requires : goal.new-keep-requires
-new-keep-requires g c modelled =
+pub new-keep-requires-clause-floor : goal.new-keep-requires-clause-floor
+new-keep-requires-clause-floor g c modelled =
     let mid = c.open_aside.new.disk in
     let found = c.in-Ok.found in
     let told = c.in-Ok.ensures.log modelled in

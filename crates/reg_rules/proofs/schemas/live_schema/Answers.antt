@@ -1,15 +1,8 @@
-use Rattle.std.proofs.Common.{sym, ap, ◌∙◌}
-use Rattle.std.specs.Option.{option_copied}
-use Rattle.reg_rules.specs.Better.{better}
-use Rattle.reg_entries.specs.Sought.{has_schema}
-use Rattle.reg_rules.proofs.Newest.{newest_more_of}
+use Rattle.std.proofs.Common.{sym, ◌∙◌}
+use Rattle.reg_rules.proofs.Known.{no_live_schema, unknown_id}
 use Rattle.reg_rules.proofs.schemas.live_schema.Goals as goal
 
-pub loop-entry-preserved : goal.loop-entry-preserved
-loop-entry-preserved c =
-    let p = has_schema c.args.normal.now in
-    let x = c.entry-item.result in
-    c.better-best.ensures
-    ∙ ap (λ b. better b x.now (option_copied c.loop-entry.best)) c.has_schema.ensures
-    ∙ ap (better (p x.now) x.now) c.loop-entry.invariant
-    ∙ sym (newest_more_of (λ e. e.now) p c.args.entries.now c.loop-entry.entry-index x c.loop-entry-test.true c.entry-item.is)
+pub returns-then-is_none : goal.returns-then-is_none
+returns-then-is_none c =
+    sym (no_live_schema c.args.registry.now c.args.subject.now c.args.normal.now
+    (sym c.in_ok-known.ensures ∙ unknown_id _ _ c.is_none.ensures c.if-is_none.true))

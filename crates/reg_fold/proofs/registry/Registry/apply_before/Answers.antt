@@ -12,13 +12,13 @@ bury_all-requires c =
     let greatest = c.last_is_greatest.ensures in
     let still = stay_tombstones order.all greatest.greatest greatest.none c.last_records_are_enough.ensures.last_of_last
     c.args.self.now c.args.first.now c.args.tombstones.now c.requires in
-    subst (λ qs. list_all (is_tombstone c.apply.new.self) qs ≡ true) (sym c.in_ok-copies.ensures)
-    (subst (λ rs. list_all (is_tombstone rs) c.args.tombstones.now ≡ true) (sym c.in_ok-apply.ensures.added) still)
+    subst (λ qs. list_all (is_tombstone c.apply_beside.new.self) qs ≡ true) (sym c.in_ok-copies.ensures)
+    (subst (λ rs. list_all (is_tombstone rs) c.args.tombstones.now ≡ true) (sym c.in_ok-apply_beside.ensures.added) still)
 
 pub returns-clause-added : goal.returns-clause-added
 returns-clause-added c =
     let order = c.records_are_ordered.ensures in
     c.bury_all.ensures
-    ∙ ap (λ qs. last_records (set.union c.apply.new.self (set.from_list qs))) c.in_ok-copies.ensures
+    ∙ ap (λ qs. last_records (set.union c.apply_beside.new.self (set.from_list qs))) c.in_ok-copies.ensures
     ∙ added_all order.all order.apart c.last_records_of_unions.ensures.last_records c.args.self.now
-    c.apply.new.self c.args.first.now c.args.tombstones.now c.in_ok-apply.ensures.added
+    c.apply_beside.new.self c.args.first.now c.args.tombstones.now c.in_ok-apply_beside.ensures.added

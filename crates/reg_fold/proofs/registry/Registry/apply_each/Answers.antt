@@ -15,5 +15,5 @@ loop-record-preserved c =
     let xs = c.args.records.now in
     let i = c.loop-record.record-index in
     let within : i < length xs = omega arith in
-    c.in_ok-apply.ensures.whole (set.union c.args.self.now (set.from_list (take i xs))) c.loop-record.invariant
+    c.in_ok-apply_beside.ensures.whole (set.union c.args.self.now (set.from_list (take i xs))) c.loop-record.invariant
     ∙ ap last_records (union-more order.all order.apart c.args.self.now xs i c.record-item.result within c.record-item.is)

@@ -1,4 +1,5 @@
-use Rattle.std.proofs.Common.{◌≡◌, ◌↔◌, IsTrue, List, Some, map, sym, ap, subst, ◌∙◌, rules}
+use Rattle.std.proofs.Common.{◌≡◌, ◌↔◌, IsTrue, List, Bor, Some, map, sym, ap, subst, ◌∙◌, rules}
+use Rattle.reg_entries.specs.declared.entry.Entry.{Entry}
 use Rattle.reg_fold.specs.InForce.{level}
 use Rattle.reg_fold.specs.Standing.{live}
 use Rattle.reg_levels.specs.RequiredPairs.{looked_at}
@@ -9,11 +10,12 @@ use Rattle.reg_node.proofs.against.Against.stands.Goals as goal
 pub returns : goal.returns
 returns c =
     let rs = c.args.registry.now in
-    let same : c.level.result ≡ c.self.inside.level = search rules in
-    stands_over rs c.args.subject.now c.args.self.now c.self.inside.level
-    c.self.inside.olds c.in_ok-live.live.items c.looked_at.result.now c.are_texts_of.result c.self.view_is
+    let l = c.self.inside.level in
+    let same : c.level.result ≡ l = search rules in
+    stands_over rs c.args.subject.now c.args.self.now l
+    c.self.inside.olds c.deref.result.now c.are_texts_of.result c.self.view_is
     (sym same ∙ c.level.ensures ∙ ap (λ subject. level rs (Some subject)) c.as_str.ensures)
-    (c.in_ok-live.ensures.all ∙ ap (live rs) c.as_str-2.ensures)
-    (c.looked_at.ensures ∙ ap (looked_at c.self.inside.level) c.deref.ensures.value)
-    (subst (λ (olds : List VersionText). IsTrue c.are_texts_of.result ↔ (olds ≡ map (λ e. (e.now.version, e.now.text)) c.looked_at.result.now))
+    (ap (map (λ e. e.now)) c.deref.ensures.value
+    ∙ c.in_ok-looked_at.ensures.all ∙ ap (λ subject. looked_at l (live rs subject)) c.as_str-2.ensures)
+    (subst (λ (olds : List VersionText). IsTrue c.are_texts_of.result ↔ (olds ≡ map (λ e. (e.now.version, e.now.text)) c.deref.result.now))
     c.as_slice.ensures c.are_texts_of.ensures)

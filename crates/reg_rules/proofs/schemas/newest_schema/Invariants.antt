@@ -2,7 +2,7 @@ use Rattle.std.proofs.Common.{◌≡◌, map, take}
 use Rattle.std.specs.List.{filter}
 use Rattle.std.specs.Option.{option_copied}
 use Rattle.reg_entries.specs.Sought.{has_schema, newest}
-use Rattle.reg_rules.proofs.schemas.live_schema.Given as goal
+use Rattle.reg_rules.proofs.schemas.newest_schema.Given as goal
 
 abbrev pub invariant-loop-entry : goal.invariant-loop-entry
 invariant-loop-entry l = option_copied l.best ≡ newest (filter (has_schema l.normal) (take l.entry-index (map (λ e. e.now) l.entries)))

@@ -3,7 +3,7 @@ use Rattle.std.proofs.lemmas.List.{nil_from_length}
 use Rattle.std.specs.FinSet as set
 use Rattle.std.specs.Result.{OnOk}
 use Rattle.reg_set.specs.LastRecords.{last_records}
-use Rattle.reg_fold.proofs.registry.Registry.apply_all.Goals as goal
+use Rattle.reg_fold.proofs.registry.Registry.apply_all_beside.Goals as goal
 
 in_any_case : {T E P : Type 0} (r : Result T E) → P → OnOk r P
 in_any_case (Ok _) holds = holds
