@@ -15,7 +15,7 @@ use Rattle.reg_requests.specs.Body.{level_in, map_ok, mode_in, registration_in, 
 use Rattle.reg_requests.specs.Types.{has_accepted_types}
 use Rattle.reg_requests.specs.declared.asked.Asked.{Asked}
 use Rattle.reg_requests.specs.declared.asked.Asked.TheVariants as asked
-use Rattle.reg_requests.specs.declared.request.Request.{Request}
+use Rattle.reg_messages.specs.declared.request.Request.{Request}
 use Rattle.reg_routes.specs.Router.{route_of}
 use Rattle.reg_routes.specs.Routes.{action_of, allow_of, number_place, subject_place}
 use Rattle.reg_routes.specs.Target.{is_path, path_of, text_part}

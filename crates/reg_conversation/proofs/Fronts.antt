@@ -1,7 +1,7 @@
 -- What is answered of a whole request is answered of every text that goes on after it.
 use Rattle.std.proofs.Common.{◌≡◌, ◌⊎◌, ◌++◌, [], List, ℕ, Bool, true, false, Some, None, refl, sym, ap}
 use Rattle.std.proofs.Common.{subst, ◌∙◌, inl, inr, arith, append-nil, length, length-append, take, drop}
-use Rattle.std.specs.Prelude.{IfOk, IfErr, Option, Result, nat_le}
+use Rattle.std.specs.Prelude.{Option, Result, nat_le}
 use Rattle.std.specs.declared.alloc.AllocError.{AllocError}
 use Rattle.std.proofs.lemmas.List.{append_assoc, take-append-drop, take-append-le}
 use Rattle.std.proofs.Math.Seq.{drop-append_seam}
@@ -185,18 +185,3 @@ module _ {D : Type 0} (asks : D → Query → Result Answer AllocError → D →
   held-fails writer writer' old new held n before after e whole fails more =
       subst (λ t. FailsFirst asks commands writer writer' old t before after new e) (sym (held-parts held more n))
       (fails-more writer writer' old new (take n held) before after e whole fails (drop n held ++ more))
-
-  -- the same bytes, by another name
-  pub step-over : (old new : D) (part text : List ℕ) (before after : Option (List ℕ)) (r : Result Next ServeError) → part ≡ text
-      → IfOk r (λ next. (left : Option (List ℕ)) × Steps asks commands old part before after left new next)
-      → IfOk r (λ next. (left : Option (List ℕ)) × Steps asks commands old text before after left new next)
-  step-over old new part text before after r is step =
-      subst (λ t. IfOk r (λ next. (left : Option (List ℕ)) × Steps asks commands old t before after left new next)) is step
-
-  pub fails-over : {W : Type 0} (writer writer' : Device W) (old new : D)
-      (part text : List ℕ) (before after : Option (List ℕ)) (r : Result Next ServeError)
-      → part ≡ text
-      → IfErr r (FailsFirst asks commands writer writer' old part before after new)
-      → IfErr r (FailsFirst asks commands writer writer' old text before after new)
-  fails-over writer writer' old new part text before after r is fails =
-      subst (λ t. IfErr r (FailsFirst asks commands writer writer' old t before after new)) is fails

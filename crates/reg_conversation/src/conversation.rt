@@ -8,9 +8,8 @@ ghost use Rattle.reg_messages.specs.Extent.{IsWhole, LacksHead};
 ghost use Rattle.reg_http.specs.ServeSteps.{Steps};
 ghost use Rattle.reg_conversation.specs.Conversation.{AnswersHeld, FailsFirst, IsNeeded, RepliesAll};
 
-use crate::answering::answer_bytes;
-use reg_http::{Desk, Next, Paths, ServeError};
-use reg_messages::message_len;
+use reg_http::{Desk, Next, Paths, ServeError, answer_got};
+use reg_messages::{message_in, message_len};
 use reg_records::Device;
 use std::alloc::{AllocError, Global};
 use std::io::Write;
@@ -169,7 +168,7 @@ impl Conversation {
         }
     }
 
-    /// Answers the request at the front of so many bytes, as if nothing came after them, and drops them.
+    /// Drops so many bytes, and answers the request at their front, as if nothing came after them.
     fn answer_held<W: Write, D: Desk>(
         &mut self,
         alloc: Global,
@@ -188,9 +187,12 @@ impl Conversation {
         ensures faults { OnOk result (faults_of writer.new ≡ faults_of writer.old) }
         ensures interruptions { interruptions_of writer.new ≤ INTERRUPTION_LIMIT }
     {
-        let answered = answer_bytes(alloc, paths, &self.held[..len], writer, desk);
+        let got = message_in(alloc, &self.held[..len]);
         self.drop_front(len);
-        answered
+        match answer_got(alloc, paths, got, writer, desk) {
+            Ok(next) => Ok(next),
+            Err(_) => Err(ServeError::WriteFault),
+        }
     }
 
     /// Drops so many bytes at the front.

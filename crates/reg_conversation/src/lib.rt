@@ -2,7 +2,6 @@
 //! answered once it is whole, or the input has ended.
 #![tactic(auto)]
 
-mod answering;
 mod conversation;
 mod desk;
 mod pieces;

@@ -11,15 +11,13 @@ use Rattle.reg_lookup.specs.declared.query.Query.{Query}
 use Rattle.reg_refusals.specs.declared.refusal.Refusal.{Refusal}
 use Rattle.reg_messages.specs.Fields.{told_length}
 use Rattle.reg_messages.specs.Head.{front_of, head, IsHead}
-use Rattle.reg_messages.specs.Messages.{after_body, body_after, fields_of, wants_close}
+use Rattle.reg_messages.specs.Messages.{after_body, fields_of, wants_close}
 use Rattle.reg_messages.specs.Reading.{GetsFrom, IsRefusedAt}
-use Rattle.reg_messages.specs.declared.field.HeaderField.{HeaderField}
-use Rattle.reg_messages.specs.declared.reading.Got.{Got}
 use Rattle.reg_messages.specs.declared.reading.Got.TheVariants as gots
-use Rattle.reg_requests.specs.Asked.{asked_of}
+use Rattle.reg_messages.specs.declared.request.Request.{Request}
+use Rattle.reg_requests.specs.Asked.{asked_of, asked_of_target}
 use Rattle.reg_requests.specs.declared.asked.Asked.{Asked}
 use Rattle.reg_requests.specs.declared.asked.Asked.TheVariants as asked
-use Rattle.reg_requests.specs.declared.request.Request.{Request}
 use Rattle.reg_responses.specs.Response.{refusal_text}
 use Rattle.reg_http.specs.Requests.{request_of}
 use Rattle.reg_http.specs.Serve.{AnswersFirst, AnswersFront, AnswersHead, Does, LacksMemory, left_if}
@@ -38,11 +36,10 @@ asked-refused : (r : Request) (refusal : Refusal) → told_length r.fields ≡ E
 unfolding asked_of
 asked-refused r refusal told = rw told refl
 
--- a request with the same parts
-same-request : (h : RequestHead) (after m t : List ℕ) (f : List HeaderField) (b : Option (List ℕ))
-    → m ≡ h.method → t ≡ h.target → f ≡ fields_of h → b ≡ body_after h after
-    → ◌≡◌ {A = Request} record { method = m; target = t; fields = f; body = b } (request_of h after)
-same-request h after m t f b p q r s = rw (p, q, r, s) refl
+-- what a request asks whose length isn't refused
+asked-told : (r : Request) (told : Option ℕ) → told_length r.fields ≡ Ok told → asked_of r ≡ asked_of_target r told
+unfolding asked_of
+asked-told r told is = rw is refl
 
 module _ {D : Type 0} (asks : D → Query → Result Answer AllocError → D → Type 0) (commands : D → Command → Reply → D → Type 0) where
   -- what was done is the response to what was asked
@@ -80,14 +77,14 @@ module _ {D : Type 0} (asks : D → Query → Result Answer AllocError → D →
       subst (λ f. AnswersFront asks commands old f out new left) (sym front) (inl (h, is, answers))
 
   pub attends-request : (old new : D) (text : List ℕ) (left : Option (List ℕ))
-      (m t : List ℕ) (f : List HeaderField) (b : Option (List ℕ)) (wants : Bool) (done : Done)
-      → GetsFrom text left (gots.Message m t f b wants)
-      → Did asks commands old (asked_of (record { method = m; target = t; fields = f; body = b })) new done
+      (request : Request) (told : Option ℕ) (wants : Bool) (done : Done)
+      → GetsFrom text left (gots.Message request told wants)
+      → Did asks commands old (asked_of_target request told) new done
       → Attends asks commands old text left new (attended.Done done wants)
-  attends-request old new text left m t f b wants done (bytes, h, after, (front, is, ok, rest), (p, q, r, s), wanted) did =
-      let same = same-request h after m t f b p q r s in
+  attends-request old new text left request told wants done (bytes, h, after, (front, is, ok, rest), same, length, wanted) did =
+      let asks_same = ap (λ r. asked_of_target r told) same ∙ sym (asked-told (request_of h after) told length) in
       let answers = did-answers old new h (asked_of (request_of h after)) done ok
-      (subst (λ asking. Did asks commands old (asked_of asking) new done) same did) in (
+      (subst (λ a. Did asks commands old a new done) asks_same did) in (
         after_body h after,
         λ _. rest,
         subst (λ w. AnswersFirst asks commands old (Some text) (done_text w done) new (left_if (done_closes w done) (after_body h after)))
@@ -148,10 +145,3 @@ module _ {D : Type 0} (asks : D → Query → Result Answer AllocError → D →
   steps-written old new text left before after done wants closes is (rest, goes, first) appends =
       written old new text (done_text wants done) rest left before after closes (λ e. goes (sym is ∙ e))
       (subst (λ c. AnswersFirst asks commands old (Some text) (done_text wants done) new (left_if c rest)) (sym is) first) appends
-
-  -- the same, where the text is known
-  pub attended-some : (old new : D) (input left : Option (List ℕ)) (got : Got) (a : Attended)
-      → ((text : List ℕ) (rest : Option (List ℕ)) → GetsFrom text rest got → Attends asks commands old text rest new a)
-      → IfSome input (λ text. GetsFrom text left got) → IfSome input (λ text. Attends asks commands old text left new a)
-  attended-some old new None left got a attends gets = tt
-  attended-some old new (Some text) left got a attends gets = attends text left gets

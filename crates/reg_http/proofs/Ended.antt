@@ -19,13 +19,6 @@ module _ {W : Type 0} (writes : W → List ℕ → Result ℕ Error → W → Ty
   EndsStep-flushed before after true flushed = flushed
   EndsStep-flushed before after false flushed = flushed
 
-  -- counts that begin anew call nothing
-  pub EndsStep-begun : (before mid after : Device W) (next : Next) → inner_of mid ≡ inner_of before
-      → EndsStep writes flushes mid after next → EndsStep writes flushes before after next
-  EndsStep-begun before mid after nexts.Over same ends = ends ∙ same
-  EndsStep-begun before mid after nexts.Closed same ends = ends
-  EndsStep-begun before mid after nexts.More same ends = ends
-
   -- after no request
   pub EndsAfter-begun : (before after : Device W) → inner_of after ≡ inner_of before → EndsAfter writes flushes 0 before after
   EndsAfter-begun before after same = (λ _. same, λ some. absurd (omega (arith, some)))

@@ -20,17 +20,26 @@ use Rattle.reg_responses.specs.Writing.{AppendsFront}
 use Rattle.reg_responses.proofs.Written.{IsLostSince-later, LosesWriter-later}
 use Rattle.reg_http.specs.Serve.{LosesRequest, ReadsForRequests, all_of, Answers, AnswersFirst}
 use Rattle.reg_http.specs.Serve.{IsOutput, IsPart, IsServeRefusal, StopsBetween, StopsIn}
-use Rattle.reg_http.specs.ServeSteps.{HasAnswered, IsStepRefusal, Steps}
+use Rattle.reg_http.specs.ServeSteps.{HasAnswered, IsStepRefusal, LosesStep, Steps}
 use Rattle.reg_http.specs.declared.limits.TheConstants.{REQUESTS_LIMIT}
 use Rattle.reg_http.specs.declared.serving.Next.{Next}
 use Rattle.reg_http.specs.declared.serving.Next.TheVariants as nexts
 use Rattle.reg_http.specs.declared.serving.ServeError.{ServeError}
 use Rattle.reg_http.specs.declared.serving.ServeError.TheVariants as errors
 
--- a reader that is lost in a request whose reads were counted from its front on
-pub lost_request : {R : Type 0} (old new : Device R) → reads_of old ≡ 0 → CountsReads old new → LosesReader old new → LosesRequest old new
-lost_request old new none (few, most, least, more, begun) lost =
-    elim lost [ inl one ↦ inl one | inr p ↦ inr (p.0, p.1, omega (arith, none, least, p.1)) ]
+-- a reader that is lost in a request at whose front its count of reads began anew
+pub lost_request : {R : Type 0} (old begun new : Device R) → faults_of begun ≡ faults_of old → all_reads_of begun ≡ all_reads_of old
+    → reads_of begun ≡ 0 → CountsReads begun new → LosesReader begun new → LosesRequest old new
+lost_request old begun new faults reads none (few, most, least, more, at) lost = elim lost [
+  | inl one ↦ inl (one ∙ ap counted faults)
+  | inr p ↦ inr (p.0 ∙ faults, p.1, omega (arith, reads, none, least, p.1))
+]
+
+-- what follows of a text that is known, where the counts began anew at its front
+pub from_front : (P Q : List ℕ → Type 0) (old begun : Option (List ℕ)) → begun ≡ old → ((text : List ℕ) → P text → Q text)
+    → IfSome begun P → IfSome old Q
+from_front P Q None begun same f p = tt
+from_front P Q (Some text) begun same f p = f text (subst (λ o. IfSome o P) same p)
 
 -- a reader that is lost later was lost since, where no fault was counted before
 LosesRequest-later : {R : Type 0} (old mid new : Device R)
@@ -214,41 +223,14 @@ module _ {D : Type 0} (asks : D → Query → Result Answer AllocError → D →
         ),
       )
 
-  -- the same refusal, where the counts began anew before
-  IsStepRefusal-begun : {R W : Type 0} (reader begun reader' : Device R) (writer writer' : Device W)
-      (input input' left before after : Option (List ℕ)) (old new : D) (e : ServeError)
-      → faults_of begun ≡ faults_of reader → all_reads_of begun ≡ all_reads_of reader → place_of begun ≡ place_of reader → input' ≡ input
-      → IsStepRefusal asks commands begun reader' writer writer' input' left before after old new e
-      → IsStepRefusal asks commands reader reader' writer writer' input left before after old new e
-  IsStepRefusal-begun reader begun reader' writer writer' input input' left before after old new errors.ReadFault faults reads place same
-      (lost, other, short, idle, kept, at) = (
-        elim lost [ inl one ↦ inl (one ∙ ap counted faults) | inr p ↦ inr (p.0 ∙ faults, p.1, omega (arith, reads, p.2)) ],
-        other,
-        subst (λ i. IfSome i (λ text. TakesShort text left)) same short,
-        idle,
-        kept,
-        at ∙ place,
-      )
-  IsStepRefusal-begun reader begun reader' writer writer' input input' left before after old new errors.WriteFault faults reads place same
-      (lost, since, other, step) = (
-        lost,
-        since,
-        other ∙ faults,
-        subst (λ i.
-            IfSome i (λ text. (out : List ℕ) × (rest : Option (List ℕ))
-            × AnswersFirst asks commands old (Some text) out new rest × AppendsFront before after out)) same step,
-      )
-
-  pub IsStepRefusal-anew : {R W : Type 0} (reader begun reader' : Device R)
-      (writer writer' : Device W) (input input' left before after : Option (List ℕ)) (old new : D)
-      (r : Result Next ServeError) → faults_of begun ≡ faults_of reader
-      → all_reads_of begun ≡ all_reads_of reader → place_of begun ≡ place_of reader → input' ≡ input
-      → IfErr r (λ e. IsStepRefusal asks commands begun reader' writer writer' input' left before after old new e)
-      → IfErr r (λ e. IsStepRefusal asks commands reader reader' writer writer' input left before after old new e)
-  IsStepRefusal-anew reader begun reader' writer writer' input input' left before after old new (Ok next) faults reads place same refused =
-      tt
-  IsStepRefusal-anew reader begun reader' writer writer' input input' left before after old new (Err e) faults reads place same refused =
-      IsStepRefusal-begun reader begun reader' writer writer' input input' left before after old new e faults reads place same refused
+  -- a response whose writer was lost, where the counts of reads began anew at the front of its request
+  pub lost_response : {W : Type 0} (P : List ℕ → Type 0) (writer writer' : Device W) (old new : D) (input begun before after : Option (List ℕ))
+      → begun ≡ input → ((text : List ℕ) → P text → LosesStep asks commands writer writer' old text before after new) → IfSome begun P
+      → IfSome input (λ text. (out : List ℕ) × (rest : Option (List ℕ))
+      × AnswersFirst asks commands old (Some text) out new rest × AppendsFront before after out)
+  lost_response P writer writer' old new None begun before after same loses known = tt
+  lost_response P writer writer' old new (Some text) begun before after same loses known =
+      let (lost, out, rest, first, front) = loses text (subst (λ o. IfSome o P) same known) in (out, rest, first, front)
 
   -- a step that was refused ends the whole
   pub IsServeRefusal-step : {R W : Type 0} (reader reader' reader'' : Device R) (writer writer' writer'' : Device W)

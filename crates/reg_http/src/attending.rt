@@ -1,18 +1,13 @@
-// Reading the next request, and doing what it asks.
-ghost use Rattle.std.specs.Prelude.{◌≡◌, ◌≤◌, ℕ, List, Option, IfOk, IfSome, OnErr, OnOk};
-ghost use Rattle.reg_records.specs.Device.{KeepsEnd, bytes_in, faults_of, reads_of};
-ghost use Rattle.reg_messages.specs.Reading.{GetsFrom, TakesShort};
-ghost use Rattle.reg_messages.specs.Taking.{CountsReads, LosesReader};
-ghost use Rattle.reg_messages.specs.declared.limits.TheConstants.{REQUEST_READS};
+// Doing what a message asks.
+ghost use Rattle.std.specs.Prelude.{ℕ, List, Option};
+ghost use Rattle.reg_messages.specs.Reading.{GetsFrom};
 ghost use Rattle.reg_http.specs.ServeSteps.{Attends};
 
 use crate::desk::Desk;
 use crate::doing::{Done, do_request};
-use reg_messages::{Got, ReadFault, read_message};
-use reg_records::Device;
-use reg_requests::{Paths, Request};
+use reg_messages::Got;
+use reg_requests::Paths;
 use std::alloc::Global;
-use std::io::Read;
 
 /// What became of the next request.
 #[derive(Debug, Drop)]
@@ -23,31 +18,8 @@ pub(crate) enum Attended {
     Done { done: Done, wants_close: bool },
 }
 
-/// Reads the next request, and does what it asks.
-pub(crate) fn attend<R: Read, D: Desk>(
-    alloc: Global,
-    paths: &mut Option<Paths>,
-    reader: &mut Device<R>,
-    desk: &mut D,
-) -> Result<Attended, ReadFault>
-    requires begun { reads_of reader.old ≤ REQUEST_READS }
-    ensures attended { IfOk result (λ a. IfSome (bytes_in R.remaining reader.old) (λ text.
-        Attends D.asks D.commands desk.old text (bytes_in R.remaining reader.new) desk.new a)) }
-    ensures faults { OnOk result (faults_of reader.new ≡ faults_of reader.old) }
-    ensures reads { CountsReads reader.old reader.new }
-    ensures end { KeepsEnd R.remaining reader.old reader.new }
-    ensures lost { OnErr result (LosesReader reader.old reader.new) }
-    ensures short { OnErr result (IfSome (bytes_in R.remaining reader.old) (λ text. TakesShort text (bytes_in R.remaining reader.new))) }
-    ensures idle { OnErr result (desk.new ≡ desk.old) }
-{
-    match read_message(alloc, reader) {
-        Ok(got) => Ok(attend_to(alloc, paths, got, desk)),
-        Err(fault) => Err(fault),
-    }
-}
-
 /// Does what a message asks that was read.
-pub(crate) fn attend_to<D: Desk>(
+pub(crate) fn attend<D: Desk>(
     alloc: Global,
     paths: &mut Option<Paths>,
     got: Got,
@@ -66,23 +38,13 @@ pub(crate) fn attend_to<D: Desk>(
             wants_close: true,
         },
         Got::Message {
-            method,
-            target,
-            fields,
-            body,
+            request,
+            told,
             wants_close,
-        } => {
-            let request = Request {
-                method,
-                target,
-                fields,
-                body,
-            };
-            Attended::Done {
-                done: do_request(alloc, paths, desk, &request),
-                wants_close,
-            }
-        }
+        } => Attended::Done {
+            done: do_request(alloc, paths, desk, &request, told),
+            wants_close,
+        },
         Got::NoMemory { wants_close } => Attended::Done {
             done: Done::NoMemory,
             wants_close,

@@ -1,6 +1,6 @@
 // Doing what a request asks, and writing the response to it.
 ghost use Rattle.std.specs.Prelude.{◌≡◌, IfOk};
-ghost use Rattle.reg_requests.specs.Asked.{asked_of};
+ghost use Rattle.reg_requests.specs.Asked.{asked_of_target};
 ghost use Rattle.reg_responses.specs.Writing.{Ends, Writes};
 ghost use Rattle.reg_http.specs.ServeSteps.{Did, done_closes, done_text};
 
@@ -9,7 +9,7 @@ use reg_leader::Reply;
 use reg_lookup::Answer;
 use reg_records::{Device, Output};
 use reg_refusals::Refusal;
-use reg_requests::{Asked, Paths, Request, route_request};
+use reg_requests::{Asked, Paths, Request, route_told};
 use reg_responses::{WriteFault, write_answer, write_no_memory, write_refusal, write_reply};
 use std::alloc::{AllocError, Global};
 
@@ -24,16 +24,17 @@ pub(crate) enum Done {
     NoMemory,
 }
 
-/// Does what the request asks.
+/// Does what the request asks whose fields state a body of that length, or none.
 pub(crate) fn do_request<D: Desk>(
     alloc: Global,
     paths: &mut Option<Paths>,
     desk: &mut D,
     request: &Request,
+    told: Option<u64>,
 ) -> Done
-    ensures { Did D.asks D.commands desk.old (asked_of request.now) desk.new result }
+    ensures { Did D.asks D.commands desk.old (asked_of_target request.now told) desk.new result }
 {
-    match asked_by(alloc, paths, request) {
+    match asked_by(alloc, paths, request, told) {
         Ok(Asked::Query(query)) => match desk.ask(alloc, &query) {
             Ok(answer) => Done::Answered(answer),
             Err(_) => Done::NoMemory,
@@ -49,14 +50,15 @@ fn asked_by(
     alloc: Global,
     paths: &mut Option<Paths>,
     request: &Request,
+    told: Option<u64>,
 ) -> Result<Asked, AllocError>
-    ensures { IfOk result (λ asked. asked ≡ asked_of request.now) }
+    ensures { IfOk result (λ asked. asked ≡ asked_of_target request.now told) }
 {
     let kept = match paths.take() {
         Some(kept) => kept,
         None => Paths::new(alloc)?,
     };
-    let asked = route_request(alloc, &kept, request);
+    let asked = route_told(alloc, &kept, request, told);
     *paths = Some(kept);
     asked
 }

@@ -1,19 +1,20 @@
 // The responses to the requests that a reader gives.
 ghost use Rattle.std.specs.Prelude.{◌≡◌, ◌≤◌, ◌+◌, ◌*◌, ℕ, List, Bool, Option, IfOk, IfErr, IfSome, OnErr, OnOk};
 ghost use Rattle.std.specs.Io.KnownBytes.{Appends};
-ghost use Rattle.reg_records.specs.Device.{KeepsEnd, KeepsInterruptions, KeepsReads, all_reads_of, begun_of, bytes_in, faults_of, interruptions_of, place_of, reads_of};
+ghost use Rattle.reg_records.specs.Device.{KeepsEnd, KeepsInterruptions, KeepsReads, all_reads_of, bytes_in, faults_of, interruptions_of, reads_of};
 ghost use Rattle.reg_messages.specs.Reading.{GetsFrom};
 ghost use Rattle.reg_messages.specs.declared.limits.TheConstants.{REQUEST_READS};
 ghost use Rattle.reg_responses.specs.declared.limits.TheConstants.{INTERRUPTION_LIMIT};
+ghost use Rattle.reg_responses.specs.Writing.{IsLostBy, IsLostSince, LosesWriter};
 ghost use Rattle.reg_http.specs.Ends.{EndsAfter, EndsRefused, EndsStep, EndsStepRefused};
 ghost use Rattle.reg_http.specs.Serve.{IsOutput, IsPart, IsServeRefusal, ReadsForRequests};
 ghost use Rattle.reg_http.specs.ServeSteps.{IsStepRefusal, LosesStep, Steps, next_if};
 
-use crate::attending::{Attended, attend, attend_to};
+use crate::attending::{Attended, attend};
 use crate::desk::Desk;
 use crate::doing::{closes_after, write_done};
 use crate::limits::REQUESTS_LIMIT;
-use reg_messages::Got;
+use reg_messages::{Got, read_message};
 use reg_records::{Device, Output};
 use reg_requests::Paths;
 use reg_responses::WriteFault;
@@ -66,70 +67,22 @@ pub fn serve<R: BufRead, W: Output, D: Desk>(
     ensures flushed { IfOk result (λ served. EndsAfter W.writes W.flushes served.requests writer.old writer.new) }
     ensures cause { IfErr result (EndsRefused W.writes W.flushes writer.old writer.new) }
 {
-    match serve_part(alloc, reader, writer, desk) {
-        Ok(part) => Ok(Served {
-            requests: part.requests,
-        }),
-        Err(e) => Err(e),
-    }
-}
-
-/// What a call of `serve_part` did.
-#[derive(Clone, Copy, Debug, PartialEq, Eq)]
-pub struct ServedPart {
-    /// How many responses were written.
-    pub requests: u64,
-    /// Whether another call is to go on with the connection: as many requests were answered as one call
-    /// may answer, and the last response doesn't close it. Else it is over: a response closes it, or its
-    /// input has ended.
-    pub goes_on: bool,
-}
-
-/// Answers requests as `serve` does, and says whether the connection goes on after them. Where it does,
-/// the reader stands at the next request.
-pub fn serve_part<R: BufRead, W: Output, D: Desk>(
-    alloc: Global,
-    reader: &mut Device<R>,
-    writer: &mut Device<W>,
-    desk: &mut D,
-) -> Result<ServedPart, ServeError>
-    ensures written { IfOk result (λ part. IfSome (bytes_in R.remaining reader.old) (λ text.
-        IsPart D.asks D.commands desk.old text part.requests part.goes_on
-        (bytes_in W.contents writer.old) (bytes_in W.contents writer.new) (bytes_in R.remaining reader.new) desk.new)) }
-    ensures faults { OnOk result ((faults_of reader.new ≡ faults_of reader.old) × (faults_of writer.new ≡ faults_of writer.old)) }
-    ensures refused { IfErr result (λ e. IsServeRefusal D.asks D.commands reader.old reader.new writer.old writer.new
-        (bytes_in R.remaining reader.old) (bytes_in R.remaining reader.new)
-        (bytes_in W.contents writer.old) (bytes_in W.contents writer.new) desk.old desk.new e) }
-    ensures reads { (reads_of reader.new ≤ REQUEST_READS)
-        × (all_reads_of reader.new ≤ all_reads_of reader.old + REQUESTS_LIMIT * REQUEST_READS) }
-    ensures few { IfOk result (λ part. ReadsForRequests reader.old reader.new (part.requests + 1)) }
-    ensures interruptions { interruptions_of writer.new ≤ INTERRUPTION_LIMIT }
-    ensures flushed { IfOk result (λ part. EndsAfter W.writes W.flushes part.requests writer.old writer.new) }
-    ensures cause { IfErr result (EndsRefused W.writes W.flushes writer.old writer.new) }
-{
     let mut paths = None;
     writer.begin_count();
     for requests in 0..REQUESTS_LIMIT {
         match answer_next(alloc, &mut paths, reader, writer, desk) {
             Ok(Next::More) => {}
             Ok(Next::Closed) => {
-                return Ok(ServedPart {
+                return Ok(Served {
                     requests: requests + 1,
-                    goes_on: false,
                 });
             }
-            Ok(Next::Over) => {
-                return Ok(ServedPart {
-                    requests,
-                    goes_on: false,
-                });
-            }
+            Ok(Next::Over) => return Ok(Served { requests }),
             Err(e) => return Err(e),
         }
     }
-    Ok(ServedPart {
+    Ok(Served {
         requests: REQUESTS_LIMIT,
-        goes_on: true,
     })
 }
 
@@ -146,6 +99,7 @@ pub enum Next {
 
 /// Answers the next request, if there is one. The count of reads begins anew at its front. The registry's paths are
 /// made at the first request, and are to be handed on to the next call.
+#[tactic(auto, using(reg_records::proofs::Ends::end_begun, reg_records::proofs::Ends::ends_then))]
 pub fn answer_next<R: BufRead, W: Output, D: Desk>(
     alloc: Global,
     paths: &mut Option<Paths>,
@@ -169,39 +123,9 @@ pub fn answer_next<R: BufRead, W: Output, D: Desk>(
     ensures cause { IfErr result (EndsStepRefused W.writes W.flushes writer.old writer.new) }
 {
     reader.begin_count();
-    answer_counted(alloc, paths, reader, writer, desk)
-}
-
-/// The same, where no read for the request is counted yet.
-#[tactic(auto, using(crate::proofs::Runs::lost_request))]
-fn answer_counted<R: BufRead, W: Output, D: Desk>(
-    alloc: Global,
-    paths: &mut Option<Paths>,
-    reader: &mut Device<R>,
-    writer: &mut Device<W>,
-    desk: &mut D,
-) -> Result<Next, ServeError>
-    requires begun { reads_of reader.old ≡ 0 }
-    requires here { begun_of reader.old ≡ place_of reader.old }
-    requires few { interruptions_of writer.old ≤ INTERRUPTION_LIMIT }
-    ensures step { IfOk result (λ next. IfSome (bytes_in R.remaining reader.old) (λ text. Steps D.asks D.commands desk.old text
-        (bytes_in W.contents writer.old) (bytes_in W.contents writer.new) (bytes_in R.remaining reader.new) desk.new next)) }
-    ensures faults { OnOk result ((faults_of reader.new ≡ faults_of reader.old) × (faults_of writer.new ≡ faults_of writer.old)) }
-    ensures refused { IfErr result (λ e. IsStepRefusal D.asks D.commands reader.old reader.new writer.old writer.new
-        (bytes_in R.remaining reader.old) (bytes_in R.remaining reader.new)
-        (bytes_in W.contents writer.old) (bytes_in W.contents writer.new) desk.old desk.new e) }
-    ensures reads { (reads_of reader.new ≤ REQUEST_READS) × (all_reads_of reader.new ≤ all_reads_of reader.old + REQUEST_READS) }
-    ensures counted { KeepsReads reader.old reader.new }
-    ensures end { KeepsEnd R.remaining reader.old reader.new }
-    ensures lasting { OnOk result (KeepsInterruptions writer.old writer.new) }
-    ensures interruptions { interruptions_of writer.new ≤ INTERRUPTION_LIMIT }
-    ensures flushed { IfOk result (EndsStep W.writes W.flushes writer.old writer.new) }
-    ensures cause { IfErr result (EndsStepRefused W.writes W.flushes writer.old writer.new) }
-{
-    match attend(alloc, paths, reader, desk) {
-        Ok(Attended::Over) => Ok(Next::Over),
-        Ok(Attended::Done { done, wants_close }) => match write_done(writer, &done, wants_close) {
-            Ok(()) => Ok(next_if(closes_after(&done, wants_close))),
+    match read_message(alloc, reader) {
+        Ok(got) => match answer_got(alloc, paths, got, writer, desk) {
+            Ok(next) => Ok(next),
             Err(_) => Err(ServeError::WriteFault),
         },
         Err(_) => Err(ServeError::ReadFault),
@@ -221,10 +145,14 @@ pub fn answer_got<W: Output, D: Desk>(
         (bytes_in W.contents writer.old) (bytes_in W.contents writer.new) left desk.new) }
     ensures refused { (text : List ℕ) (left : Option (List ℕ)) → GetsFrom text left got → OnErr result (LosesStep D.asks D.commands
         writer.old writer.new desk.old text (bytes_in W.contents writer.old) (bytes_in W.contents writer.new) desk.new) }
+    ensures lost { OnErr result (LosesWriter writer.old writer.new × IsLostSince writer.old writer.new) }
     ensures faults { OnOk result (faults_of writer.new ≡ faults_of writer.old) }
+    ensures lasting { OnOk result (KeepsInterruptions writer.old writer.new) }
     ensures interruptions { interruptions_of writer.new ≤ INTERRUPTION_LIMIT }
+    ensures flushed { IfOk result (EndsStep W.writes W.flushes writer.old writer.new) }
+    ensures cause { OnErr result (IsLostBy W.writes W.flushes writer.new) }
 {
-    match attend_to(alloc, paths, got, desk) {
+    match attend(alloc, paths, got, desk) {
         Attended::Over => Ok(Next::Over),
         Attended::Done { done, wants_close } => match write_done(writer, &done, wants_close) {
             Ok(()) => Ok(next_if(closes_after(&done, wants_close))),

@@ -1,7 +1,7 @@
 -- What is read of a message whose head was taken.
 use Rattle.std.proofs.Common.{◌≡◌, ◌<◌, ◌++◌, List, [], ℕ, Bool, true, false, Some, None, IfSome, refl}
 use Rattle.std.proofs.Common.{sym, ap, subst, ◌∙◌, arith, length, length-append, take, drop, inr}
-use Rattle.std.specs.Prelude.{Err, IfOk, IsOk, Ok, OnErr, Option, Result, nat_le}
+use Rattle.std.specs.Prelude.{Err, IfOk, Ok, OnErr, Option, Result, nat_le}
 use Rattle.std.specs.Io.KnownBytes.{Consumes}
 use Rattle.std.proofs.KnownBytes.{Consumes-trans}
 use Rattle.std.proofs.lemmas.List.{drop_all}
@@ -13,11 +13,12 @@ use Rattle.reg_messages.specs.Head.{front_of, head, IsHead}
 use Rattle.reg_messages.specs.HeadReading.{IsTakenAs}
 use Rattle.reg_messages.specs.Reading.{GetsFrom, IsShort, TakesShort}
 use Rattle.reg_messages.specs.ReadingSteps.{GetsAfter, GetsWith}
-use Rattle.reg_messages.specs.Messages.{after_body, body_after, body_in, fields_of, wants_close}
+use Rattle.reg_messages.specs.Messages.{after_body, body_after, body_in, fields_of, request_with, wants_close}
 use Rattle.reg_messages.specs.declared.body_reading.Body.TheVariants as bodies
 use Rattle.reg_messages.specs.declared.reading.Got.{Got}
 use Rattle.reg_messages.specs.declared.reading.Got.TheVariants as gots
 use Rattle.reg_messages.proofs.Fronts.{short-known}
+use Rattle.reg_messages.proofs.Places.{told-ok}
 
 -- a message after its head
 pub gets-after : (start mid new : Option (List ℕ)) (taken bytes : List ℕ) (h : RequestHead) (got : Got) → Consumes start mid taken
@@ -27,8 +28,8 @@ gets-after (Some x) None new taken bytes h got took known is gets = absurd took
 gets-after (Some x) (Some y) new taken bytes h gots.Over took known is gets = absurd gets
 gets-after (Some x) (Some y) new taken bytes h (gots.Refused refusal) took known is told =
     inr (bytes, y, ap front_of took ∙ known y, inr (h, is, told))
-gets-after (Some x) (Some y) new taken bytes h (gots.Message method target fields body wants) took known is (ok, wanted, (left, parts)) =
-    (bytes, h, y, (ap front_of took ∙ known y, is, ok, left), parts, wanted)
+gets-after (Some x) (Some y) new taken bytes h (gots.Message request told wants) took known is (length, wanted, (left, same)) =
+    (bytes, h, y, (ap front_of took ∙ known y, is, told-ok (fields_of h) told length, left), same, length, wanted)
 gets-after (Some x) (Some y) new taken bytes h (gots.NoMemory wants) took known is (ok, wanted, left) =
     (bytes, h, y, (ap front_of took ∙ known y, is, ok, left), wanted)
 
@@ -37,8 +38,8 @@ pub gets-held : (text bytes after : List ℕ) (left : Option (List ℕ)) (h : Re
     → IsHead bytes h → GetsAfter h (Some after) left got → GetsFrom text left got
 gets-held text bytes after left h gots.Over front is gets = absurd gets
 gets-held text bytes after left h (gots.Refused refusal) front is told = inr (bytes, after, front, inr (h, is, told))
-gets-held text bytes after left h (gots.Message method target fields body wants) front is (ok, wanted, (rest, parts)) =
-    (bytes, h, after, (front, is, ok, rest), parts, wanted)
+gets-held text bytes after left h (gots.Message request told wants) front is (length, wanted, (rest, same)) =
+    (bytes, h, after, (front, is, told-ok (fields_of h) told length, rest), same, length, wanted)
 gets-held text bytes after left h (gots.NoMemory wants) front is (ok, wanted, rest) = (bytes, h, after, (front, is, ok, rest), wanted)
 
 -- a body that is cut is short of a message
@@ -80,41 +81,46 @@ body-short len bytes x y few is ended =
     rw beyond refl
 
 -- a message with the body that was taken, or none where memory was refused
-gets-with : (h : RequestHead) (old new : Option (List ℕ)) (body : Option (List ℕ)) (wants : Bool) (got : Got)
-    → IsOk (told_length (fields_of h))
+gets-with : (h : RequestHead) (old new : Option (List ℕ)) (told : Option ℕ) (body : Option (List ℕ)) (wants : Bool) (got : Got)
+    → told_length (fields_of h) ≡ Ok told
     → wants ≡ wants_close h → IfSome old (λ after. new ≡ Some (after_body h after)) → IfSome old (λ after. body ≡ body_after h after)
-    → GetsWith h body wants got → GetsAfter h old new got
-gets-with h old new body wants gots.Over ok wanted left is gets = absurd gets
-gets-with h old new body wants (gots.Refused refusal) ok wanted left is gets = absurd gets
-gets-with h None new body wants (gots.Message method target fields body' wants') ok wanted left is (parts, as_wanted) =
-    (ok, as_wanted ∙ wanted, tt)
-gets-with h (Some x) new body wants (gots.Message method target fields body' wants') ok wanted left is ((m, t, f, b), as_wanted) =
-    (ok, as_wanted ∙ wanted, (left, (m, t, f, b ∙ is)))
-gets-with h None new body wants (gots.NoMemory wants') ok wanted left is as_wanted = (ok, as_wanted ∙ wanted, tt)
-gets-with h (Some x) new body wants (gots.NoMemory wants') ok wanted left is as_wanted = (ok, as_wanted ∙ wanted, left)
+    → GetsWith h told body wants got → GetsAfter h old new got
+gets-with h old new told body wants gots.Over length wanted left is gets = absurd gets
+gets-with h old new told body wants (gots.Refused refusal) length wanted left is gets = absurd gets
+gets-with h None new told body wants (gots.Message request told' wants') length wanted left is (same, as_told, as_wanted) =
+    (length ∙ ap Ok (sym as_told), as_wanted ∙ wanted, tt)
+gets-with h (Some x) new told body wants (gots.Message request told' wants') length wanted left is (same, as_told, as_wanted) =
+    (length ∙ ap Ok (sym as_told), as_wanted ∙ wanted, (left, same ∙ ap (request_with h) is))
+gets-with h None new told body wants (gots.NoMemory wants') length wanted left is as_wanted =
+    (told-ok (fields_of h) told length, as_wanted ∙ wanted, tt)
+gets-with h (Some x) new told body wants (gots.NoMemory wants') length wanted left is as_wanted =
+    (told-ok (fields_of h) told length, as_wanted ∙ wanted, left)
 
-pub gets-whole : (h : RequestHead) (old new : Option (List ℕ)) (bytes : List ℕ) (wants : Bool) (got : Got)
-    → IsOk (told_length (fields_of h))
+pub gets-whole : (h : RequestHead) (old new : Option (List ℕ)) (told : Option ℕ) (bytes : List ℕ) (wants : Bool) (got : Got)
+    → told_length (fields_of h) ≡ Ok told
     → wants ≡ wants_close h → TakesBody old new (body_length (fields_of h)) (bodies.Whole bytes)
-    → GetsWith h (Some bytes) wants got → GetsAfter h old new got
-gets-whole h None new bytes wants got ok wanted took gets = gets-with h None new (Some bytes) wants got ok wanted tt tt gets
-gets-whole h (Some x) None bytes wants got ok wanted (many, took) gets = absurd took
-gets-whole h (Some x) (Some y) bytes wants got ok wanted (many, took) gets =
-    gets-with h (Some x) (Some y) (Some bytes) wants got ok wanted (left-whole (body_length (fields_of h)) bytes x y many took)
+    → GetsWith h told (Some bytes) wants got → GetsAfter h old new got
+gets-whole h None new told bytes wants got length wanted took gets =
+    gets-with h None new told (Some bytes) wants got length wanted tt tt gets
+gets-whole h (Some x) None told bytes wants got length wanted (many, took) gets = absurd took
+gets-whole h (Some x) (Some y) told bytes wants got length wanted (many, took) gets =
+    gets-with h (Some x) (Some y) told (Some bytes) wants got length wanted (left-whole (body_length (fields_of h)) bytes x y many took)
     (body-whole (body_length (fields_of h)) bytes x y many took) gets
 
-pub gets-short : (h : RequestHead) (old new : Option (List ℕ)) (wants : Bool) (got : Got) → IsOk (told_length (fields_of h))
+pub gets-short : (h : RequestHead) (old new : Option (List ℕ)) (told : Option ℕ) (wants : Bool) (got : Got)
+    → told_length (fields_of h) ≡ Ok told
     → wants ≡ wants_close h → TakesBody old new (body_length (fields_of h)) bodies.Short
-    → GetsWith h None wants got → GetsAfter h old new got
-gets-short h None new wants got ok wanted took gets = gets-with h None new None wants got ok wanted tt tt gets
-gets-short h (Some x) None wants got ok wanted (bytes, few, took, ended) gets = absurd took
-gets-short h (Some x) (Some y) wants got ok wanted (bytes, few, took, ended) gets =
-    gets-with h (Some x) (Some y) None wants got ok wanted (left-short (body_length (fields_of h)) bytes x y few took ended)
+    → GetsWith h told None wants got → GetsAfter h old new got
+gets-short h None new told wants got length wanted took gets = gets-with h None new told None wants got length wanted tt tt gets
+gets-short h (Some x) None told wants got length wanted (bytes, few, took, ended) gets = absurd took
+gets-short h (Some x) (Some y) told wants got length wanted (bytes, few, took, ended) gets =
+    gets-with h (Some x) (Some y) told None wants got length wanted (left-short (body_length (fields_of h)) bytes x y few took ended)
     (body-short (body_length (fields_of h)) bytes x y few took ended) gets
 
-pub gets-dropped : (h : RequestHead) (old new : Option (List ℕ)) (wants : Bool) → IsOk (told_length (fields_of h))
+pub gets-dropped : (h : RequestHead) (old new : Option (List ℕ)) (told : Option ℕ) (wants : Bool) → told_length (fields_of h) ≡ Ok told
     → wants ≡ wants_close h → TakesBody old new (body_length (fields_of h)) bodies.Dropped → GetsAfter h old new (gots.NoMemory wants)
-gets-dropped h old new wants ok wanted (whole, took) = (ok, wanted, left-of old new (body_length (fields_of h)) whole took)
+gets-dropped h old new told wants length wanted (whole, took) =
+    (told-ok (fields_of h) told length, wanted, left-of old new (body_length (fields_of h)) whole took)
 
 -- what follows from the outcome of a call
 pub IfOk-map : {A E : Type 0} {P Q : A → Type 0} (r : Result A E) → ((x : A) → P x → Q x) → IfOk r P → IfOk r Q

@@ -7,9 +7,10 @@ use Rattle.httparse.specs.Spans.{header_bytes, name_and_value}
 use Rattle.httparse.specs.declared.spans.HeaderSpan.{HeaderSpan}
 use Rattle.reg_messages.specs.Fields.{asks_to_close, body_length, told_length}
 use Rattle.reg_messages.specs.declared.field.HeaderField.{HeaderField}
-use Rattle.reg_messages.specs.Messages.{field_of, fields_of, wants_close}
+use Rattle.reg_messages.specs.Messages.{field_of, fields_of, request_with, wants_close}
 use Rattle.reg_messages.specs.Places.{HasTexts, IsHeadAt, field_at}
 use Rattle.reg_messages.specs.declared.parsing.Head.{Head}
+use Rattle.reg_messages.specs.declared.request.Request.{Request}
 
 field_from : List ℕ × List ℕ → HeaderField
 field_from p = record { name = p.0; value = p.1 }
@@ -48,3 +49,9 @@ told-body fields (Some n) is = rw is refl
 
 pub told-ok : (fields : List HeaderField) (told : Option ℕ) → told_length fields ≡ Ok told → IsOk (told_length fields)
 told-ok fields told is = rw is refl
+
+-- a request of the parts of a head
+pub same-request : (h : grammar.RequestHead) (body : Option (List ℕ)) (method target : List ℕ) (fields : List HeaderField)
+    → method ≡ h.method → target ≡ h.target → fields ≡ fields_of h
+    → ◌≡◌ {A = Request} record { method = method; target = target; fields = fields; body = body } (request_with h body)
+same-request h body method target fields p q r = rw (p, q, r) refl

@@ -3,6 +3,7 @@ use Rattle.std.specs.Prelude.{ℕ, List, Bool, ◌||◌, ◌==◌, nat_le, lengt
 use Rattle.httparse.specs.Grammar as grammar
 use Rattle.reg_messages.specs.Fields.{asks_to_close, body_length}
 use Rattle.reg_messages.specs.declared.field.HeaderField.{HeaderField}
+use Rattle.reg_messages.specs.declared.request.Request.{Request}
 
 -- a field as its name, and its value without the white space round it
 abbrev pub field_of : grammar.Field → HeaderField
@@ -18,6 +19,14 @@ body_in n bytes = if nat_le n (length bytes) then Some (take n bytes) else None
 -- the body that these bytes after a head begin with; none where they end in it
 abbrev pub body_after : grammar.RequestHead → List ℕ → Option (List ℕ)
 body_after head after = body_in (body_length (fields_of head)) after
+
+-- the request of a head and a body
+abbrev pub request_with : grammar.RequestHead → Option (List ℕ) → Request
+request_with head body = record { method = head.method; target = head.target; fields = fields_of head; body = body }
+
+-- the request whose head is followed by these bytes
+abbrev pub request_of : grammar.RequestHead → List ℕ → Request
+request_of head after = request_with head (body_after head after)
 
 -- what stands after the body
 abbrev pub after_body : grammar.RequestHead → List ℕ → List ℕ

@@ -1,13 +1,12 @@
 -- What is read at the front of a text: a message, or why there is none.
-use Rattle.std.specs.Prelude.{◌≡◌, ◌⊎◌, ◌<◌, ⊤, ℕ, List, length, Option, Some, IsOk, Err}
+use Rattle.std.specs.Prelude.{◌≡◌, ◌⊎◌, ◌<◌, ⊤, ℕ, List, length, Option, Some, IsOk, Ok, Err}
 use Rattle.std.specs.Io.KnownBytes.{Consumes}
 use Rattle.httparse.specs.Grammar.{RequestHead}
 use Rattle.reg_refusals.specs.declared.refusal.Refusal.{Refusal}
 use Rattle.reg_refusals.specs.declared.refusal.Refusal.TheVariants as refusals
 use Rattle.reg_messages.specs.Fields.{body_length, told_length}
 use Rattle.reg_messages.specs.Head.{Front, front_of, head, no_head, over, IsHead, IsNoHead}
-use Rattle.reg_messages.specs.Messages.{after_body, body_after, fields_of, wants_close}
-use Rattle.reg_messages.specs.declared.field.HeaderField.{HeaderField}
+use Rattle.reg_messages.specs.Messages.{after_body, fields_of, request_of, wants_close}
 use Rattle.reg_messages.specs.declared.reading.Got.{Got}
 use Rattle.reg_messages.specs.declared.reading.Got.TheVariants as gots
 
@@ -33,16 +32,12 @@ abbrev pub HasHead : List ℕ → Option (List ℕ) → List ℕ → RequestHead
 HasHead text left bytes h after = (front_of text ≡ head bytes after) × IsHead bytes h × IsOk (told_length (fields_of h))
     × (left ≡ Some (after_body h after))
 
--- the parts of a message with that head and that body
-abbrev pub HasParts : RequestHead → Option (List ℕ) → List ℕ → List ℕ → List HeaderField → Option (List ℕ) → Type 0
-HasParts h found method target fields body = (method ≡ h.method) × (target ≡ h.target) × (fields ≡ fields_of h) × (body ≡ found)
-
 -- what was read at the front of a text
 abbrev pub GetsFrom : List ℕ → Option (List ℕ) → Got → Type 0
 GetsFrom text left gots.Over = front_of text ≡ over
 GetsFrom text left (gots.Refused refusal) = IsRefusedAt text refusal
-GetsFrom text left (gots.Message method target fields body wants) =
+GetsFrom text left (gots.Message request told wants) =
     (bytes : List ℕ) × (h : RequestHead) × (after : List ℕ) × HasHead text left bytes h after
-    × HasParts h (body_after h after) method target fields body × (wants ≡ wants_close h)
+    × (request ≡ request_of h after) × (told_length (fields_of h) ≡ Ok told) × (wants ≡ wants_close h)
 GetsFrom text left (gots.NoMemory wants) =
     (bytes : List ℕ) × (h : RequestHead) × (after : List ℕ) × HasHead text left bytes h after × (wants ≡ wants_close h)

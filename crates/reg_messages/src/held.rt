@@ -34,7 +34,7 @@ fn with_body(alloc: Global, bytes: &[u8], head: &Head, after: &[u8]) -> Got
     match told_length(fields_in(bytes, head)) {
         Ok(told) => {
             let body = body_in(alloc, after, told.unwrap_or(0) as usize);
-            got_of(alloc, bytes, head, body, wants_close(bytes, head))
+            got_of(alloc, bytes, head, told, body, wants_close(bytes, head))
         }
         Err(refusal) => Got::Refused(refusal),
     }

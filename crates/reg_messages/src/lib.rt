@@ -15,6 +15,7 @@ mod message;
 mod parsing;
 mod placed;
 mod reading;
+mod request;
 mod taking;
 
 pub use digits::digits_value;
@@ -27,4 +28,5 @@ pub use limits::{
 };
 pub use message::message_in;
 pub use reading::{Got, body_len, read_message};
+pub use request::Request;
 pub use taking::ReadFault;

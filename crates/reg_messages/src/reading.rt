@@ -1,5 +1,5 @@
 // Reading a message: its head, and the body that its fields state.
-ghost use Rattle.std.specs.Prelude.{◌≡◌, ◌<◌, ◌≤◌, ℕ, List, Option, IfOk, IfSome, OnErr, OnOk, IsOk};
+ghost use Rattle.std.specs.Prelude.{◌≡◌, ◌<◌, ◌≤◌, ℕ, List, Option, IfOk, IfSome, OnErr, OnOk, Ok};
 ghost use Rattle.std.specs.Io.KnownBytes.{Consumes};
 ghost use Rattle.httparse.specs.Grammar.{RequestHead};
 ghost use Rattle.reg_records.specs.Device.{KeepsEnd, bytes_in, faults_of, reads_of};
@@ -7,22 +7,21 @@ ghost use Rattle.reg_messages.specs.BodyReading.{LosesBody, TakesBody};
 ghost use Rattle.reg_messages.specs.Fields.{body_length, told_length};
 ghost use Rattle.reg_messages.specs.Head.{IsHead};
 ghost use Rattle.reg_messages.specs.HeadReading.{IsTakenAs};
-ghost use Rattle.reg_messages.specs.Messages.{fields_of, wants_close};
+ghost use Rattle.reg_messages.specs.Messages.{fields_of, request_with, wants_close};
 ghost use Rattle.reg_messages.specs.Places.{HasTexts, IsHeadAt, IsHeadWithin, fields_at};
 ghost use Rattle.reg_messages.specs.Reading.{GetsFrom, TakesShort};
 ghost use Rattle.reg_messages.specs.ReadingSteps.{GetsAfter, GetsWith};
 ghost use Rattle.reg_messages.specs.Taking.{CountsReads, LosesReader};
 
 use crate::body_reading::{Body, take_body};
-use crate::field::HeaderField;
 use crate::fields::{asks_to_close, told_length};
 use crate::head::{Taken, take_front};
 use crate::limits::{HEAD_LIMIT, REQUEST_READS};
 use crate::parsing::{Head, head_in, method_in, target_in};
 use crate::placed::{PlacedFields, copied};
+use crate::request::Request;
 use crate::taking::ReadFault;
-use base_text::{Listed, Text};
-use http::Method;
+use base_text::Listed;
 use reg_records::Device;
 use reg_refusals::Refusal;
 use std::alloc::{AllocError, Global};
@@ -37,12 +36,9 @@ pub enum Got {
     Refused(Refusal),
     /// The message of a request.
     Message {
-        method: Method,
-        /// As it was sent, with its escapes.
-        target: Text,
-        fields: Listed<HeaderField>,
-        /// `None` where the input ended in it.
-        body: Option<Listed<u8>>,
+        request: Request,
+        /// The length of its body, where its fields state one.
+        told: Option<u64>,
         /// Whether the client wants the connection closed after it.
         wants_close: bool,
     },
@@ -120,7 +116,7 @@ fn read_body<R: Read>(
         Ok(told) => {
             let wants_close = wants_close(bytes, head);
             match take_body(alloc, reader, told.unwrap_or(0) as usize) {
-                Ok(body) => Ok(got_of(alloc, bytes, head, body, wants_close)),
+                Ok(body) => Ok(got_of(alloc, bytes, head, told, body, wants_close)),
                 Err(fault) => Err(fault),
             }
         }
@@ -167,50 +163,66 @@ pub(crate) fn wants_close(bytes: &[u8], head: &Head) -> bool
     head.spans.version == 0 || asks_to_close(fields_in(bytes, head))
 }
 
-/// The message of a head and what stood where its body was stated.
-pub(crate) fn got_of(alloc: Global, bytes: &[u8], head: &Head, body: Body, wants: bool) -> Got
+/// The message of a head that states that length, and of what stood where its body was stated.
+pub(crate) fn got_of(
+    alloc: Global,
+    bytes: &[u8],
+    head: &Head,
+    told: Option<u64>,
+    body: Body,
+    wants: bool,
+) -> Got
     requires within { IsHeadWithin bytes.now head.now }
     requires texts { HasTexts bytes.now head.now }
     ensures { (h : RequestHead) (old new : Option (List ℕ)) → IsHeadAt bytes.now head.now h
-        → IsOk (told_length (fields_of h)) → wants ≡ wants_close h
+        → told_length (fields_of h) ≡ Ok told → wants ≡ wants_close h
         → TakesBody old new (body_length (fields_of h)) body → GetsAfter h old new result }
 {
     match body {
-        Body::Whole(whole) => got_with(alloc, bytes, head, Some(whole), wants),
-        Body::Short => got_with(alloc, bytes, head, None, wants),
+        Body::Whole(whole) => got_with(alloc, bytes, head, told, Some(whole), wants),
+        Body::Short => got_with(alloc, bytes, head, told, None, wants),
         Body::Dropped => Got::NoMemory { wants_close: wants },
     }
 }
 
 /// The message of a head and a body.
-fn got_with(alloc: Global, bytes: &[u8], head: &Head, body: Option<Listed<u8>>, wants: bool) -> Got
+fn got_with(
+    alloc: Global,
+    bytes: &[u8],
+    head: &Head,
+    told: Option<u64>,
+    body: Option<Listed<u8>>,
+    wants: bool,
+) -> Got
     requires within { IsHeadWithin bytes.now head.now }
     requires texts { HasTexts bytes.now head.now }
-    ensures { (h : RequestHead) → IsHeadAt bytes.now head.now h → GetsWith h body wants result }
+    ensures { (h : RequestHead) → IsHeadAt bytes.now head.now h → GetsWith h told body wants result }
 {
-    match message_in(alloc, bytes, head, body, wants) {
-        Ok(got) => got,
+    match request_in(alloc, bytes, head, body) {
+        Ok(request) => Got::Message {
+            request,
+            told,
+            wants_close: wants,
+        },
         Err(_) => Got::NoMemory { wants_close: wants },
     }
 }
 
-/// The same; the only error is out of memory.
-fn message_in(
+/// The request of a head and a body; the only error is out of memory.
+fn request_in(
     alloc: Global,
     bytes: &[u8],
     head: &Head,
     body: Option<Listed<u8>>,
-    wants: bool,
-) -> Result<Got, AllocError>
+) -> Result<Request, AllocError>
     requires within { IsHeadWithin bytes.now head.now }
     requires texts { HasTexts bytes.now head.now }
-    ensures { (h : RequestHead) → IsHeadAt bytes.now head.now h → IfOk result (GetsWith h body wants) }
+    ensures { (h : RequestHead) → IsHeadAt bytes.now head.now h → IfOk result (λ request. request ≡ request_with h body) }
 {
-    Ok(Got::Message {
+    Ok(Request {
         method: method_in(alloc, head.spans.method.of(bytes))?,
         target: target_in(alloc, head.spans.path.of(bytes))?,
         fields: copied(alloc, fields_in(bytes, head))?,
         body,
-        wants_close: wants,
     })
 }

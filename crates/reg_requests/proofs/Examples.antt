@@ -17,7 +17,7 @@ use Rattle.reg_requests.specs.Asked.{asked_of}
 use Rattle.reg_requests.specs.Body.{body_of}
 use Rattle.reg_requests.specs.declared.asked.Asked.TheVariants as asked
 use Rattle.reg_requests.specs.Types.{is_accepted}
-use Rattle.reg_requests.specs.declared.request.Request.{Request}
+use Rattle.reg_messages.specs.declared.request.Request.{Request}
 
 -- types
 a_type_with_parameters : is_accepted (codes "Application/JSON ; charset=utf-8") ≡ true

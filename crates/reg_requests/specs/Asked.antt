@@ -12,7 +12,7 @@ use Rattle.reg_requests.specs.Body.{body_of}
 use Rattle.reg_requests.specs.Types.{has_accepted_types}
 use Rattle.reg_requests.specs.declared.asked.Asked.{Asked}
 use Rattle.reg_requests.specs.declared.asked.Asked.TheVariants as asked
-use Rattle.reg_requests.specs.declared.request.Request.{Request}
+use Rattle.reg_messages.specs.declared.request.Request.{Request}
 use Rattle.reg_routes.specs.Router.{route_of}
 use Rattle.reg_routes.specs.Routes.{action_of, allow_of, subject_place, number_place}
 use Rattle.reg_routes.specs.Target.{is_path, path_of, query_of, text_part}

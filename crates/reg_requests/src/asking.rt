@@ -6,12 +6,11 @@ ghost use Rattle.reg_requests.specs.Asked.{asked_of, asked_of_target, asked_of_r
 use crate::action::{Given, action_asks, version_of};
 use crate::asked::Asked;
 use crate::body;
-use crate::request::Request;
 use crate::types::has_accepted_types;
 use base_text::Text;
 use http::Method;
 use reg_fold::VersionRef;
-use reg_messages::told_length;
+use reg_messages::{Request, told_length};
 use reg_refusals::Refusal;
 use reg_routes::{Action, Paths, Route, is_path, path_of, query_of, text_part};
 use serde_json::Value;
@@ -23,8 +22,27 @@ pub fn route_request(alloc: Global, paths: &Paths, request: &Request) -> Result<
     ensures { IfOk result (λ asked. asked ≡ asked_of request.now) }
 {
     match told_length(request.fields.as_slice()) {
-        Ok(told) => asked_of_target(alloc, paths, request, told),
+        Ok(told) => route_told(alloc, paths, request, told),
         Err(refusal) => Ok(closing(refusal)),
+    }
+}
+
+/// The same, where the length that the fields state was read before, and isn't refused.
+pub fn route_told(
+    alloc: Global,
+    paths: &Paths,
+    request: &Request,
+    told: Option<u64>,
+) -> Result<Asked, AllocError>
+    ensures { IfOk result (λ asked. asked ≡ asked_of_target request.now told) }
+{
+    let target = request.target.as_str();
+    if !is_path(target) {
+        return Ok(closing(Refusal::BadRequest));
+    }
+    match paths.route_of(path_of(target)) {
+        Some(route) => asked_of_route(alloc, request, told, route),
+        None => Ok(closing(Refusal::NotFound)),
     }
 }
 
@@ -45,25 +63,6 @@ fn open_refusal(refusal: Refusal) -> Asked
     Asked::Refused {
         refusal,
         closes: false,
-    }
-}
-
-/// The target is a path, and the registry has it.
-fn asked_of_target(
-    alloc: Global,
-    paths: &Paths,
-    request: &Request,
-    told: Option<u64>,
-) -> Result<Asked, AllocError>
-    ensures { IfOk result (λ asked. asked ≡ asked_of_target request.now told) }
-{
-    let target = request.target.as_str();
-    if !is_path(target) {
-        return Ok(closing(Refusal::BadRequest));
-    }
-    match paths.route_of(path_of(target)) {
-        Some(route) => asked_of_route(alloc, request, told, route),
-        None => Ok(closing(Refusal::NotFound)),
     }
 }
 

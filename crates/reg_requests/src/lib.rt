@@ -5,11 +5,11 @@ mod action;
 mod asked;
 mod asking;
 mod body;
-mod request;
+mod routed;
 mod types;
 
 pub use asked::Asked;
-pub use asking::route_request;
-pub use reg_messages::HeaderField;
+pub use asking::{route_request, route_told};
+pub use reg_messages::{HeaderField, Request};
 pub use reg_routes::Paths;
-pub use request::Request;
+pub use routed::Routed;

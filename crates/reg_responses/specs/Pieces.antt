@@ -5,6 +5,7 @@ use Rattle.json.specs.Print.{quoted}
 use Rattle.serde_json.specs.Data.{string, object, member, no_members}
 use Rattle.serde_json.specs.Written.{compact_text}
 use Rattle.reg_lookup.specs.Bodies.{number_data}
+use Rattle.reg_lookup.specs.declared.answered.Answer.{Answer}
 use Rattle.reg_responses.specs.declared.pieces.Piece.{Piece}
 use Rattle.reg_responses.specs.declared.pieces.Piece.TheVariants as pieces
 
@@ -26,6 +27,10 @@ piece_text (pieces.Listed numbers) = listed numbers.now
 -- the pieces, one after the other
 abbrev pub pieces_text : List Piece → List ℕ
 pieces_text pieces = flat_map piece_text pieces
+
+-- the answer of that status, whose body has these pieces
+abbrev pub answer_in : ℕ → List Piece → Answer
+answer_in status pieces = record { status = status; body = pieces_text pieces }
 
 -- the body that tells a code and a message
 abbrev pub error_body : ℕ → List ℕ → List ℕ

@@ -1,30 +1,85 @@
-// The bodies of responses to commands, in pieces: JSON without spaces (RFC 8259).
-ghost use Rattle.std.specs.Prelude.{◌≡◌};
-ghost use Rattle.reg_lookup.specs.Bodies.{list_body, number_data};
-ghost use Rattle.reg_responses.specs.Pieces.{error_body, pieces_text};
-ghost use Rattle.reg_responses.specs.Reply.{id_body, member_body};
+// The bodies of responses, in pieces: JSON without spaces (RFC 8259).
+ghost use Rattle.std.specs.Prelude.{◌≡◌, Ok, Err};
+ghost use Rattle.reg_lookup.specs.Bodies.{answer_with, list_body, number_data};
+ghost use Rattle.reg_responses.specs.Pieces.{answer_in, error_body, piece_text, pieces_text};
+ghost use Rattle.reg_responses.specs.Reply.{id_body, member_body, reply_answer};
 
 use crate::pieces::Piece;
+use reg_leader::Reply;
+use reg_refusals::{Refusal, StoreFault};
+
+/// The status and the body of the answer to a reply. The last pieces are empty where fewer do.
+#[tactic(auto, unfolding(crate::specs::Reply::reply_answer))]
+pub(crate) fn reply_pieces<'r>(reply: &'r Reply) -> (u16, [Piece<'r>; 5])
+    ensures { answer_in result.0 result.1 ≡ reply_answer reply.now }
+{
+    match reply {
+        Reply::Id(id) => told(id_pieces(*id)),
+        Reply::Version(version) => told(alone(Piece::Number(u128::from(*version)))),
+        Reply::Versions(versions) => told(versions_pieces(versions.as_slice())),
+        Reply::Level(level) => told(member_pieces("compatibility", level.as_str())),
+        Reply::LevelRemoved(level) => told(member_pieces("compatibilityLevel", level.as_str())),
+        Reply::Mode(mode) => told(member_pieces("mode", mode.as_str())),
+        Reply::ModeRemoved(mode) => told(member_pieces("mode", mode.as_str())),
+        Reply::Nothing => told(alone(Piece::Text("{}"))),
+        Reply::Refused(refusal) => refusal_pieces(refusal),
+        Reply::Unsettled(_) => {
+            let body = error_pieces(StoreFault::Unsettled.code(), "Store error: unsettled");
+            (500, body)
+        }
+    }
+}
+
+/// The status and the body of a success.
+fn told<'p>(body: [Piece<'p>; 5]) -> (u16, [Piece<'p>; 5])
+    ensures { answer_in result.0 result.1 ≡ answer_with (Ok (pieces_text body.entry)) }
+{
+    (200, body)
+}
+
+/// The status and the body of a refusal.
+pub(crate) fn refusal_pieces<'r>(refusal: &'r Refusal) -> (u16, [Piece<'r>; 5])
+    ensures { answer_in result.0 result.1 ≡ answer_with (Err refusal.now) }
+{
+    let body = error_pieces(refusal.code(), refusal.message());
+    (refusal.status(), body)
+}
+
+/// One piece, and no more.
+fn alone<'p>(piece: Piece<'p>) -> [Piece<'p>; 5]
+    ensures { pieces_text result ≡ piece_text piece.entry }
+{
+    let none = Piece::Text("");
+    [piece, none, none, none, none]
+}
 
 #[tactic(auto, unfolding(json::specs::Print::escape_byte))]
-pub(crate) fn id_pieces(id: u32) -> [Piece<'static>; 3]
+fn id_pieces<'p>(id: u32) -> [Piece<'p>; 5]
     ensures { pieces_text result ≡ id_body id }
 {
     [
         Piece::Text("{\"id\":"),
         Piece::Number(u128::from(id)),
         Piece::Text("}"),
+        Piece::Text(""),
+        Piece::Text(""),
     ]
 }
 
-pub(crate) fn versions_pieces<'v>(versions: &'v [u32]) -> [Piece<'v>; 3]
+fn versions_pieces<'v>(versions: &'v [u32]) -> [Piece<'v>; 5]
     ensures { pieces_text result ≡ list_body number_data versions.now }
 {
-    [Piece::Text("["), Piece::Listed(versions), Piece::Text("]")]
+    [
+        Piece::Text("["),
+        Piece::Listed(versions),
+        Piece::Text("]"),
+        Piece::Text(""),
+        Piece::Text(""),
+    ]
 }
 
 /// An object of one member, which is a text.
-pub(crate) fn member_pieces<'m>(name: &'m str, text: &'m str) -> [Piece<'m>; 5]
+fn member_pieces<'m>(name: &'m str, text: &'m str) -> [Piece<'m>; 5]
     ensures { pieces_text result ≡ member_body name.now text.now }
 {
     [
@@ -38,7 +93,7 @@ pub(crate) fn member_pieces<'m>(name: &'m str, text: &'m str) -> [Piece<'m>; 5]
 
 /// The body that tells a code and a message.
 #[tactic(auto, unfolding(json::specs::Print::escape_byte))]
-pub(crate) fn error_pieces<'m>(code: u32, message: &'m str) -> [Piece<'m>; 5]
+fn error_pieces<'m>(code: u32, message: &'m str) -> [Piece<'m>; 5]
     ensures { pieces_text result ≡ error_body code message.now }
 {
     [

@@ -1,7 +1,7 @@
 // What requests ask.
 use super::asked::asks;
 use super::rows::request_of;
-use reg_requests::{Paths, Request, route_request};
+use reg_requests::{Paths, Request, Routed, route_request};
 use std::alloc::{AllocError, Global};
 use std::test::Fail;
 

@@ -13,8 +13,8 @@ pub returns-in-Ok-clause-step : goal.returns-in-Ok-clause-step
 returns-in-Ok-clause-step g c = λ text left gets.
     let before = g.W.Write.contents c.args.writer.now.inner in
     let after = g.W.Write.contents c.write_done.new.writer.inner in
-    subst (λ n. Steps g.D.Desk.asks g.D.Desk.commands c.args.desk.now text before after left c.attend_to.new.desk n) (sym c.next_if.ensures)
-    (steps-written g.D.Desk.asks g.D.Desk.commands c.args.desk.now c.attend_to.new.desk text left before after
+    subst (λ n. Steps g.D.Desk.asks g.D.Desk.commands c.args.desk.now text before after left c.attend.new.desk n) (sym c.next_if.ensures)
+    (steps-written g.D.Desk.asks g.D.Desk.commands c.args.desk.now c.attend.new.desk text left before after
     c.in-Done.done c.in-Done.wants_close c.closes_after.result c.closes_after.ensures
     (c.in-Done.ensures text left gets) c.in-Ok.ensures.written.0)
 

@@ -3,7 +3,7 @@ use Rattle.std.specs.Prelude.{Ok}
 use Rattle.reg_messages.specs.BodyReading.{TakesBody}
 use Rattle.reg_messages.specs.Fields.{body_length, told_length}
 use Rattle.reg_messages.specs.Messages.{fields_of}
-use Rattle.reg_messages.proofs.Places.{told-body, told-ok}
+use Rattle.reg_messages.proofs.Places.{told-body}
 use Rattle.reg_messages.proofs.held.with_body.Goals as goal
 
 pub returns-in-Ok : goal.returns-in-Ok
@@ -14,6 +14,6 @@ returns-in-Ok c = λ h at.
     let told : told_length (fields_of h) ≡ Ok c.in-Ok.told = ap told_length (sym fields) ∙ sym c.in-Ok.ensures in
     let len : c.unwrap_or.result ≡ body_length (fields_of h) = c.unwrap_or.ensures ∙ told-body (fields_of h) c.in-Ok.told told in (
       left,
-      c.got_of.ensures h after left at (told-ok (fields_of h) c.in-Ok.told told) (c.wants_close.ensures h at)
+      c.got_of.ensures h after left at told (c.wants_close.ensures h at)
           (subst (λ n. TakesBody after left n c.body_in-body.result) len c.body_in-body.ensures),
     )

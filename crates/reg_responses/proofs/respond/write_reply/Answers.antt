@@ -1,20 +1,9 @@
-use Rattle.reg_responses.specs.Reply.{reply_answer}
+use Rattle.std.proofs.Common.{subst}
+use Rattle.reg_responses.specs.Response.{answer_text}
+use Rattle.reg_responses.specs.Writing.{Writes}
 use Rattle.reg_responses.proofs.respond.write_reply.Goals as goal
 
-pub returns-in-Level-clause-written : goal.returns-in-Level-clause-written
-unfolding reply_answer
-returns-in-Level-clause-written g c = rw c.in-Level.is (rw c.as_str.ensures at c.write_member.ensures.written)
-
-pub returns-in-LevelRemoved-clause-written : goal.returns-in-LevelRemoved-clause-written
-unfolding reply_answer
-returns-in-LevelRemoved-clause-written g c =
-    rw c.in-LevelRemoved.is (rw c.as_str-in-LevelRemoved.ensures at c.write_member-in-LevelRemoved.ensures.written)
-
-pub returns-in-Mode-clause-written : goal.returns-in-Mode-clause-written
-unfolding reply_answer
-returns-in-Mode-clause-written g c = rw c.in-Mode.is (rw c.as_str-in-Mode.ensures at c.write_member-in-Mode.ensures.written)
-
-pub returns-in-ModeRemoved-clause-written : goal.returns-in-ModeRemoved-clause-written
-unfolding reply_answer
-returns-in-ModeRemoved-clause-written g c =
-    rw c.in-ModeRemoved.is (rw c.as_str-in-ModeRemoved.ensures at c.write_member-in-ModeRemoved.ensures.written)
+pub returns-clause-written : goal.returns-clause-written
+returns-clause-written g c =
+    subst (λ answer. Writes g.W.Write.contents c.args.writer.now c.write_response.new.writer (answer_text c.args.closes answer) c.write_response.result)
+    c.reply_pieces-status.ensures c.write_response.ensures.written

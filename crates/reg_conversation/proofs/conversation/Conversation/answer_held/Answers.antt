@@ -1,16 +1,15 @@
-use Rattle.std.proofs.Common.{ap, take, ◌∙◌}
-use Rattle.reg_conversation.proofs.Fronts.{fails-over, step-over}
+use Rattle.std.proofs.Common.{ap, subst, take, ◌∙◌}
+use Rattle.reg_messages.specs.Reading.{GetsFrom}
 use Rattle.reg_conversation.proofs.conversation.Conversation.answer_held.Goals as goal
 
-pub returns-clause-step : goal.returns-clause-step
-returns-clause-step g c =
-    step-over g.D.Desk.asks g.D.Desk.commands c.args.desk.now c.answer_bytes-answered.new.desk _ (take c.args.len c.args.self.now) _ _
-    c.answer_bytes-answered.result (ap (take c.args.len) (c.deref.ensures.value ∙ c.self.view_is)) c.answer_bytes-answered.ensures.step
+pub returns-in-Ok-clause-step : goal.returns-in-Ok-clause-step
+returns-in-Ok-clause-step g c =
+    let (left, gets) = c.message_in-got.ensures in
+    let same = ap (take c.args.len) (c.deref.ensures.value ∙ c.self.view_is) in
+    (left, c.in-Ok.ensures.step (take c.args.len c.args.self.now) left (subst (λ text. GetsFrom text left c.message_in-got.result) same gets))
 
-pub returns-clause-refused : goal.returns-clause-refused
-returns-clause-refused g c =
-    fails-over g.D.Desk.asks g.D.Desk.commands c.args.writer.now
-    c.answer_bytes-answered.new.writer c.args.desk.now c.answer_bytes-answered.new.desk
-    (take c.args.len c.deref.result.now) (take c.args.len c.args.self.now)
-    (g.W.Write.contents c.args.writer.now.inner) (g.W.Write.contents c.answer_bytes-answered.new.writer.inner)
-    c.answer_bytes-answered.result (ap (take c.args.len) (c.deref.ensures.value ∙ c.self.view_is)) c.answer_bytes-answered.ensures.refused
+pub returns-in-Err-clause-refused : goal.returns-in-Err-clause-refused
+returns-in-Err-clause-refused g c =
+    let (left, gets) = c.message_in-got.ensures in
+    let same = ap (take c.args.len) (c.deref.ensures.value ∙ c.self.view_is) in
+    c.in-Err.ensures.refused (take c.args.len c.args.self.now) left (subst (λ text. GetsFrom text left c.message_in-got.result) same gets)

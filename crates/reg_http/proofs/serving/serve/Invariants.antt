@@ -6,7 +6,7 @@ use Rattle.reg_messages.specs.declared.limits.TheConstants.{REQUEST_READS}
 use Rattle.reg_responses.specs.declared.limits.TheConstants.{INTERRUPTION_LIMIT}
 use Rattle.reg_http.specs.Ends.{EndsAfter}
 use Rattle.reg_http.specs.ServeSteps.{HasAnswered}
-use Rattle.reg_http.proofs.serving.serve_part.Given as goal
+use Rattle.reg_http.proofs.serving.serve.Given as goal
 
 -- the requests so far are answered, no fault was counted, and no more was read than may be
 abbrev pub invariant-loop-requests : goal.invariant-loop-requests
