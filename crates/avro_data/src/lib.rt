@@ -15,6 +15,7 @@ mod users;
 
 pub use data::Data;
 pub use error::SampleError;
+pub use fits::node_at;
 pub use laws::{samples_are_single, samples_are_values, values_have_samples};
 pub use limits::{LEVELS_LIMIT, PARTS_LIMIT, data_limits_are_as_written};
 pub use pieces::{Piece, PiecedText};

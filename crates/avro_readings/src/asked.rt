@@ -4,7 +4,8 @@ ghost use Rattle.std.specs.List.{list_all};
 ghost use Rattle.std.specs.Option.{option_map_or};
 ghost use Rattle.avro_readings.specs.Readable as spec;
 
-use crate::pairs::{fields_at, node_at, row_type};
+use crate::pairs::{fields_at, row_type};
+use avro_data::node_at;
 use avro_resolve::{Pair, partner};
 use avro_schema::{Field, NodeId, Schema};
 use named_list::NamedList;

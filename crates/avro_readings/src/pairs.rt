@@ -11,21 +11,11 @@ ghost use Rattle.avro_readings.specs.Reads as spec;
 ghost use Rattle.avro_readings.specs.Readable as readable;
 ghost use Rattle.avro_readings.specs.Steps as steps;
 
+use avro_data::node_at;
 use avro_resolve::{Cause, Pair, Row, first_lacking, matches, row_at};
 use avro_schema::{Field, Node, NodeId, Schema};
 use base_text::Text;
 use named_list::NamedList;
-
-/// The node of that id, if there is one.
-pub fn node_at(schema: &Schema, id: NodeId) -> Option<&Node>
-    ensures { option_copied result ≡ slice_get schema.now.nodes id.index }
-{
-    if id.index < schema.node_count() {
-        Some(schema.node(id))
-    } else {
-        None
-    }
-}
 
 /// Whether no value can be read at this pair.
 pub fn is_barred(r: &Schema, w: &Schema, pair: Pair) -> bool

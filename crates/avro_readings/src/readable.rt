@@ -13,9 +13,9 @@ ghost use Rattle.avro_readings.specs.Readable as spec;
 
 use crate::asked::{asked_of, each_once};
 use crate::pairs::{
-    both_leaves, branch_at, inner_at, is_barred, node_at, record_field_at, row_type, symbol_at,
+    both_leaves, branch_at, inner_at, is_barred, record_field_at, row_type, symbol_at,
 };
-use avro_data::Data;
+use avro_data::{Data, node_at};
 use avro_resolve::Pair;
 use avro_schema::{Field, Node, NodeId, Schema};
 use base_text::Text;

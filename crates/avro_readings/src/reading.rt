@@ -15,12 +15,11 @@ use crate::ReadError;
 use crate::laws::compatible_values_are_readable;
 use crate::members::{are_named, place_named};
 use crate::pairs::{
-    both_leaves, branch_at, fields_at, first_matching, is_barred, items_at, node_at, symbol_at,
-    values_at,
+    both_leaves, branch_at, fields_at, first_matching, is_barred, items_at, symbol_at, values_at,
 };
 use crate::readable::can_read;
 use crate::room::{Halt, Room};
-use avro_data::Data;
+use avro_data::{Data, node_at};
 use avro_resolve::{Pair, partner};
 use avro_schema::{Field, Node, NodeId, Schema};
 use base_text::Text;

@@ -5,7 +5,6 @@ ghost use Rattle.reg_journal.specs.Found.{HasFault};
 ghost use Rattle.reg_journal.specs.Lines.{text_of};
 ghost use Rattle.reg_floored.specs.Floors.{compacted_to};
 ghost use Rattle.reg_records.specs.declared.limits.TheConstants.{OFFSET_LIMIT};
-ghost use Rattle.reg_set.specs.Compaction.{deletes_below};
 ghost use Rattle.reg_set.specs.LastRecords.{last_records};
 ghost use Rattle.reg_compaction.specs.Begun.{BeginsTo};
 ghost use Rattle.reg_compaction.specs.Compacted.{IsLines};
@@ -14,6 +13,7 @@ ghost use Rattle.reg_compaction.specs.CompactedTo.{IsCompactedBy, IsCompactedTo,
 use crate::compacting::{Begun, compacted, lasts_of};
 use crate::cutting::{count_lines, floor_len};
 use crate::walk::Walk;
+use reg_floored::deletes_below;
 use reg_journal::lines_are_logs;
 use reg_records::{
     Device, LOG_LINES, LogError, Record, floors_are_of_the_grammar, read_log, write_floor,
@@ -159,13 +159,6 @@ fn lasts_to(alloc: Global, records: &[Record], floor: u64) -> Result<LastRecords
         }
     }
     Ok(lasts)
-}
-
-/// Whether the record has no value, and stands below the floor.
-fn deletes_below(given: &Record, floor: u64) -> bool
-    ensures { result ≡ deletes_below floor given.now }
-{
-    given.value.is_none() && given.offset < floor
 }
 
 /// The line of a floor with its LF, or nothing for 0.

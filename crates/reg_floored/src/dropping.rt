@@ -55,7 +55,7 @@ fn may_go(floor: u64, set: &RecordSet, left: &RecordSet, given: &Record) -> bool
 }
 
 /// Whether the record deletes its key below the floor, and none of its key is left.
-fn is_gone(floor: u64, left: &RecordSet, given: &Record) -> bool
+pub fn is_gone(floor: u64, left: &RecordSet, given: &Record) -> bool
     ensures { result ≡ is_gone floor left.now given.now }
 {
     deletes_below(given, floor) && left.last(&given.key).is_none()

@@ -1,28 +1,16 @@
 // Why a set with a floor wasn't changed.
 use std::alloc::AllocError;
-use std::error::Error;
-use std::fmt;
+use thiserror::Error;
 
 /// Why two sets weren't merged.
-#[derive(Clone, Copy, Debug, PartialEq, Eq)]
+#[derive(Clone, Copy, Debug, PartialEq, Eq, Error)]
 pub enum MergeError {
     /// The sets have these floors.
+    #[error("the floors differ: {mine} and {other}")]
     FloorsDiffer { mine: u64, other: u64 },
+    #[error("out of memory")]
     OutOfMemory,
 }
-
-impl fmt::Display for MergeError {
-    fn fmt<W: fmt::Write>(&self, f: &mut fmt::Formatter<W>) -> fmt::Result {
-        match self {
-            MergeError::FloorsDiffer { mine, other } => {
-                write!(f, "the floors differ: {mine} and {other}")
-            }
-            MergeError::OutOfMemory => write!(f, "out of memory"),
-        }
-    }
-}
-
-impl Error for MergeError {}
 
 impl From<AllocError> for MergeError {
     ghost use Rattle.std.specs.Prelude.{◌≡◌};
@@ -36,23 +24,14 @@ impl From<AllocError> for MergeError {
 }
 
 /// Why a set didn't take on a floor.
-#[derive(Clone, Copy, Debug, PartialEq, Eq)]
+#[derive(Clone, Copy, Debug, PartialEq, Eq, Error)]
 pub enum FloorError {
     /// The floor is lower than the set's own, which is this one.
+    #[error("below the floor {0}")]
     FloorBelow(u64),
+    #[error("out of memory")]
     OutOfMemory,
 }
-
-impl fmt::Display for FloorError {
-    fn fmt<W: fmt::Write>(&self, f: &mut fmt::Formatter<W>) -> fmt::Result {
-        match self {
-            FloorError::FloorBelow(floor) => write!(f, "below the floor {floor}"),
-            FloorError::OutOfMemory => write!(f, "out of memory"),
-        }
-    }
-}
-
-impl Error for FloorError {}
 
 impl From<AllocError> for FloorError {
     ghost use Rattle.std.specs.Prelude.{◌≡◌};

@@ -7,6 +7,7 @@ mod kept_set;
 mod laws;
 mod parts;
 
+pub use dropping::is_gone;
 pub use errors::{FloorError, MergeError};
 pub use kept_set::{KeptSet, is_compaction_of};
 pub use laws::{
@@ -14,3 +15,4 @@ pub use laws::{
     compactions_unite, drops_leave_compactions, last_records_are_compactions,
     merging_joins_kept_sets, rebasing_keeps_lasts,
 };
+pub use parts::deletes_below;

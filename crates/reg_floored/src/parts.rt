@@ -61,7 +61,7 @@ fn keep_from(records: &mut Vec<Record>, floor: u64)
 }
 
 /// Whether the record deletes its key, and stands below the floor.
-pub(crate) fn deletes_below(given: &Record, floor: u64) -> bool
+pub fn deletes_below(given: &Record, floor: u64) -> bool
     ensures { result ≡ deletes_below floor given.now }
 {
     given.value.is_none() && given.offset < floor

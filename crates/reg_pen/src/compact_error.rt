@@ -1,33 +1,23 @@
 // Why a compaction isn't published.
 use std::alloc::AllocError;
-use std::error::Error;
-use std::fmt;
+use thiserror::Error;
 
 /// Why a compaction to a floor isn't published.
-#[derive(Clone, Copy, Debug, PartialEq, Eq)]
+#[derive(Clone, Copy, Debug, PartialEq, Eq, Error)]
 pub enum CompactError {
     /// The floor is lower than that of the kept set, which is this one. Nothing was done.
+    #[error("below the floor {0}")]
     FloorBelow(u64),
     /// The floor is ahead of the next offset, which is this one. Nothing was done.
+    #[error("ahead of the next offset {0}")]
     FloorAhead(u64),
     /// Memory was refused: what is pending, or the compaction, isn't settled.
+    #[error("out of memory")]
     OutOfMemory,
     /// The keep lost a batch, which stays pending for good. Nothing was done.
+    #[error("a batch is lost")]
     Lost,
 }
-
-impl fmt::Display for CompactError {
-    fn fmt<W: fmt::Write>(&self, f: &mut fmt::Formatter<W>) -> fmt::Result {
-        match self {
-            CompactError::FloorBelow(floor) => write!(f, "below the floor {floor}"),
-            CompactError::FloorAhead(next) => write!(f, "ahead of the next offset {next}"),
-            CompactError::OutOfMemory => write!(f, "out of memory"),
-            CompactError::Lost => write!(f, "a batch is lost"),
-        }
-    }
-}
-
-impl Error for CompactError {}
 
 impl From<AllocError> for CompactError {
     ghost use Rattle.std.specs.Prelude.{◌≡◌};

@@ -2,12 +2,13 @@
 ghost use Rattle.std.specs.Prelude.{[], true, ◌≡◌, ◌++◌, ◌&&◌, ◌||◌, IfOk, IfSome, OnErr, OnOk, not, nat_le, nat_lt};
 ghost use Rattle.std.specs.FinSet.{contains, from_list, union};
 ghost use Rattle.std.specs.List.{filter, list_all};
-ghost use Rattle.reg_set.specs.Compaction.{deletes_below, is_gone};
+ghost use Rattle.reg_set.specs.Compaction.{deletes_below};
 ghost use Rattle.reg_set.specs.LastRecords.{last_records};
 ghost use Rattle.reg_set.specs.RecordOrder.{record_cmp};
 ghost use Rattle.reg_set.specs.Records.{Records};
 ghost use Rattle.reg_shared.specs.Kept.{IsRising, lasts_at, may_go};
 
+use reg_floored::{deletes_below, is_gone};
 use reg_fold::Registry;
 use reg_records::Record;
 use reg_set::{RecordSet, records_are_ordered};
@@ -161,13 +162,6 @@ pub(crate) fn copy_deletes(
     Ok(found)
 }
 
-/// Whether the record deletes its key, and stands below the floor.
-fn deletes_below(given: &Record, floor: u64) -> bool
-    ensures { result ≡ deletes_below floor given.now }
-{
-    given.value.is_none() && given.offset < floor
-}
-
 /// Copies of the older records that aren't gone, and aren't the last of their keys. The only error is
 /// out of memory.
 pub(crate) fn copy_left(
@@ -214,16 +208,9 @@ fn may_go(
     ensures { result ≡ may_go registry.now older.now left.now floor given.now }
 {
     if registry.contains(given) {
-        return is_gone(left, floor, given);
+        return is_gone(floor, left, given);
     }
     older.contains(given)
-}
-
-/// Whether the record deletes its key below the floor, and none of its key is left.
-fn is_gone(left: &RecordSet, floor: u64, given: &Record) -> bool
-    ensures { result ≡ is_gone floor left.now given.now }
-{
-    deletes_below(given, floor) && left.last(&given.key).is_none()
 }
 
 /// Leaves the last records alone.
