@@ -1,8 +1,8 @@
 # What try-package.sh and try-debian.sh share.
 #
 # make_root PACKAGE INCLUDED makes a fresh Debian in $folder/root from apt's own sources, with the packages INCLUDED (their names, with
-# commas), or as a copy of the folder FRESH_ROOT where that is set. It has the file PACKAGE as /trial/registry.deb, and the same with a
-# higher version as /trial/higher.deb.
+# commas), or as a copy of the folder FRESH_ROOT where that is set. It has the file PACKAGE as /trial/registry.deb, the same with a higher
+# version as /trial/higher.deb, and with a still higher one and another number of rules as /trial/other.deb.
 make_root() {
     local sources higher=$folder/higher trial=$folder/root/trial
     if [ -n "${FRESH_ROOT:-}" ]; then
@@ -16,4 +16,7 @@ make_root() {
     dpkg-deb --raw-extract "$1" "$higher"
     sed -i 's/^Version: .*/&+higher/' "$higher/DEBIAN/control"
     dpkg-deb --root-owner-group -Znone --build "$higher" "$trial/higher.deb" >/dev/null
+    sed -i 's/^Version: .*/&+other/' "$higher/DEBIAN/control"
+    sed -i 's/"$rules" != "[0-9]*"/"$rules" != "other"/' "$higher/DEBIAN/preinst"
+    dpkg-deb --root-owner-group -Znone --build "$higher" "$trial/other.deb" >/dev/null
 }

@@ -1,11 +1,11 @@
 #!/bin/bash
 # Makes a fresh Debian in a folder, boots it with systemd, and there installs the package, has set-up.sh set up a registry, asks it,
-# kills it, boots anew and asks again, has a follower, upgrades, removes and purges: docs/DEPLOY.md.
+# kills it, boots anew and asks again, has a follower, upgrades, also beside a joined process, removes and purges: docs/DEPLOY.md.
 #
 #   try-debian.sh PACKAGE [OPTION ..]
 #
 # The options are further ones of systemd-nspawn. It runs as root, wants Debian's packages mmdebstrap and systemd-container and a
-# network, and takes the ports 443, 8081 and 8082 of this machine. Where FRESH_ROOT is set, a copy of that folder is the fresh
+# network, and takes the ports 443, 8081, 8082 and 9081 of this machine. Where FRESH_ROOT is set, a copy of that folder is the fresh
 # Debian. The status is 1 where an answer isn't as it should be.
 set -euo pipefail
 package=$(readlink -f "$1")
@@ -42,6 +42,16 @@ set_up() {
     echo secret | /usr/share/registry/set-up.sh registry.here someone
     same "registering" '{"id":1}' "$(mine --json "$int" $site/subjects/s/versions)"
     systemctl enable --now registrylog-follow
+    sed -i '/^KEEP_METRICS/s/""/"--metrics 127.0.0.1:9081"/' /etc/default/registrylog
+    systemctl restart registrylog
+    answers_at_once "a start"
+}
+
+# Where KEEP_METRICS is set, the unit has started only once the registry answers.
+answers_at_once() {
+    same "the schema right after $1" "$int" "$(curl -s http://127.0.0.1:8081/schemas/ids/1)"
+    same "what /ready says right after $1" ready "$(curl -s http://127.0.0.1:9081/ready)"
+    same "whether the page has the process's numbers" 1 "$(curl -s http://127.0.0.1:9081/metrics | grep -c '^process_start_time_seconds ')"
 }
 
 ask_all() {
@@ -78,21 +88,53 @@ compact_once() {
     } >lines
     cat lines >$log
     systemctl start registrylog
-    curl -s -o mode --retry 240 --retry-connrefused --retry-delay 1 http://127.0.0.1:8081/mode
+    answers_at_once "a start over a long log"
     same "the schema of a long log" "$int" "$(mine $site/schemas/ids/1)"
     same "the lines of a compacted log" few "$([ "$(wc -l <$log)" -lt 10 ] && echo few || wc -l <$log)"
     same "who has a compacted log" "registry registry 640" "$(stat -c '%U %G %a' $log)"
+}
+
+# Status 2 of the program is the unit's end, though what waits for the start ends by itself then.
+fault_once() {
+    systemctl stop registrylog
+    cp $log kept
+    echo 'no line' >$log
+    systemctl start registrylog 2>faulty && same "a start over a fault" refused done
+    sleep 5
+    same "how a start over a fault ends" "failed 2 0" "$(show ActiveState) $(show ExecMainStatus) $(show NRestarts)"
+    cat kept >$log
+    systemctl start registrylog
+    answers_at_once "a start over what was mended"
 }
 
 upgrade() {
     local before count
     before=$(show InvocationID) count=$(starts)
     apt-get install -y ./higher.deb
+    answers_at_once "an upgrade"
     same "the higher version" higher "$(dpkg-query -W -f '${Version}' registry | sed 's/.*+//')"
     [ "$before" != "$(show InvocationID)" ] || same "what runs after an upgrade" another "$before"
     same "how often an upgrade started the writer" 1 "$(($(starts) - count))"
     same "a unit that didn't run" inactive "$(systemctl is-active registrylog-follow || true)"
     same "the schema after an upgrade" "$int" "$(mine $site/schemas/ids/1)"
+}
+
+# A joined process, in whose place stands a program that waits, is restarted by an upgrade, and not put aside for other rules.
+upgrade_joined() {
+    local before
+    mkdir -p /run/systemd/system/registrylog-join.service.d
+    printf '[Service]\nExecStart=\nExecStart=/bin/sleep infinity\n' >/run/systemd/system/registrylog-join.service.d/trial.conf
+    systemctl daemon-reload
+    systemctl start registrylog-join
+    before=$(systemctl show -P InvocationID registrylog-join)
+    apt-get install -y ./other.deb >refused 2>&1 && same "an upgrade to other rules" refused done
+    same "what it says" 1 "$(grep -c 'stop it on all machines, and upgrade them before any starts again' refused)"
+    same "the joined process then" "$before" "$(systemctl show -P InvocationID registrylog-join)"
+    same "the package then" "install ok installed" "$(dpkg-query -W -f '${Status}' registry)"
+    apt-get install -y --allow-downgrades ./registry.deb
+    same "the joined process after an upgrade with the same rules" active "$(systemctl is-active registrylog-join)"
+    [ "$before" != "$(systemctl show -P InvocationID registrylog-join)" ] || same "what runs then" another "$before"
+    systemctl stop registrylog-join
 }
 
 take_away() {
@@ -110,7 +152,9 @@ ask_all
 kill_once
 if [ -e been ]; then
     compact_once
+    fault_once
     upgrade
+    upgrade_joined
     take_away
 fi
 touch been

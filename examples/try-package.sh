@@ -1,5 +1,6 @@
 #!/bin/bash
-# Makes the package, installs it in a fresh Debian, and looks at the outcome of each step: docs/DEPLOY.md.
+# Makes the package, installs it in a fresh Debian, and looks at the outcome of each step: what is there, completion, serving by the unit's
+# line as its user, a kill, an upgrade beside a kept log and the way back, removal and purging: docs/DEPLOY.md.
 #
 #   try-package.sh            makes it twice, in this clone and in another, and says whether both are the same; then tries it
 #   try-package.sh PACKAGE    tries that one
@@ -53,6 +54,7 @@ version() { dpkg-query -W -f '${Version} ${Status}' registry; }
 sum() { sha256sum <"$log"; }
 log=/var/lib/registry/log
 port=8081
+units=(registrylog registrylog-follow registrylog-join)
 
 # Runs a unit's line as its user, with the words of its file of options.
 start() {
@@ -79,12 +81,14 @@ completed() {
 
 try_installed() {
     same "nothing runs" '' "$(pgrep -l registry || true)"
-    same "units" $'disabled\ndisabled' "$(systemctl is-enabled registrylog registrylog-follow 2>&1 || true)"
+    same "units" "disabled disabled disabled" "$(systemctl is-enabled "${units[@]}" 2>&1 | paste -sd ' ' || true)"
     same "the user" "registry /usr/sbin/nologin" "$(getent passwd registry | cut -d : -f 1,7 | tr : ' ')"
     same "the folder" "registry registry 750" "$(stat -c '%U %G %a' /var/lib/registry)"
     same "the checksums of PROVED" $'registryd: OK\nregistrylog: OK' "$(cd /usr/bin && grep '  registry' /usr/share/doc/registry/PROVED | sha256sum -c)"
-    same "the units' faults" '' "$(systemd-analyze verify --man=no registrylog.service registrylog-follow.service 2>&1)"
-    systemd-analyze security --offline=true --threshold=20 --no-pager "$(unit registrylog)" "$(unit registrylog-follow)" | grep Overall
+    same "the units' faults" '' "$(systemd-analyze verify --man=no "${units[@]/%/.service}" 2>&1)"
+    for name in "${units[@]}"; do
+        systemd-analyze security --offline=true --threshold=20 --no-pager "$(unit "$name")" | grep Overall
+    done
 }
 
 try_completion() {
@@ -118,6 +122,22 @@ try_serving() {
     port=9081
     start registrylog
     same "registering at another port" '{"id":3}' "$(register string)"
+}
+
+# A port for metrics is there only where one is named.
+try_metrics() {
+    same "what a start without metrics waits for" 0 "$(/usr/share/registry/await-ready.sh && echo 0)"
+    same "metrics at no port" '' "$(curl -s http://127.0.0.1:9082/ready || true)"
+    end
+    sed -i '/^KEEP_METRICS/s/""/"--metrics 127.0.0.1:9082"/' /etc/default/registrylog
+    start registrylog
+    same "waiting for the start" 0 "$(MAINPID=$$ timeout 60 /usr/share/registry/await-ready.sh --metrics 127.0.0.1:9082 && echo 0)"
+    same "what /ready says then" ready "$(curl -s http://127.0.0.1:9082/ready)"
+    has "the page of metrics" "registry_ready 1" "$(curl -s http://127.0.0.1:9082/metrics)"
+    same "reading then" '{"schema":"\"string\""}' "$(curl -s http://127.0.0.1:9081/schemas/ids/3)"
+    end
+    same "waiting for what has ended" 1 "$(MAINPID=$! /usr/share/registry/await-ready.sh --metrics 127.0.0.1:9082 2>/trial/awaited || echo $?)"
+    start registrylog
 }
 
 try_upgrade() {
@@ -158,7 +178,7 @@ try_removal() {
 }
 
 cd /trial
-for part in installed completion serving upgrade removal; do "try_$part"; done
+for part in installed completion serving metrics upgrade removal; do "try_$part"; done
 END_OF_TRIAL
     chmod +x "$root/trial/run.sh"
 }

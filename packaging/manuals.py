@@ -33,13 +33,16 @@ PAGES = [
         ("KEEPING.md", ""),
         ("KEEPING.md", "How far it is"),
         ("KEEPING.md", "Serving a file"),
+        ("SERVING.md", "What to watch"),
         ("FOLLOWING.md", "Tailing a log"),
         ("FOLLOWING.md", "Following lines"),
+        ("JOINING.md", "One log, several processes"),
         ("KEEPING.md", "Checking"),
         ("KEEPING.md", "Compacting"),
+        ("KEEPING.md", "A base"),
     ], ["registryd(1)", "registry-log(5)", "systemd.service(5)"], {
         "/var/lib/registry/log": "the log of the unit `registrylog.service`",
-        "/etc/default/registrylog": "the options of the units `registrylog.service` and `registrylog-follow.service`",
+        "/etc/default/registrylog": "the options of the units `registrylog.service`, `registrylog-follow.service` and `registrylog-join.service`",
     }),
     Page("registry-log", 5, "the lines of a registry's log", [
         ("KEEPING.md", "The file"),

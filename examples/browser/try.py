@@ -2,8 +2,8 @@
 """Clicks through the page in headless Chromium, reads what is shown and takes pictures: try.py REGISTRYLOG [PICTURES].
 
 It writes a log of 10,000 subjects, has ../try-nginx.sh bring up a registry, followers and nginx with it, and goes on beside them.
-PICTURES is a folder that is there. The status is 1 where something isn't as it should be. It wants Debian's packages chromium,
-chromium-driver and python3-selenium, and of those of try-nginx.sh nginx, openssl, apache2-utils and curl."""
+PICTURES is a folder that is there. It was run with Chromium 156. The status is 1 where something isn't as it should be. It wants Debian's
+packages chromium, chromium-driver and python3-selenium, and of those of try-nginx.sh nginx, openssl, apache2-utils and curl."""
 import json, os, ssl, subprocess, sys, tempfile, time, urllib.parse, urllib.request
 from base64 import b64encode
 

@@ -4,12 +4,12 @@ use Rattle.std.specs.Prelude.{bytes_eq}
 use Rattle.std.specs.Borrow.{Bor}
 use Rattle.std.specs.declared.net.socket_addr.SocketAddr.{SocketAddr}
 use Rattle.std.proofs.lemmas.Slice.Eq.{bytes_eq-Decides}
-use Rattle.clap.specs.Words.{HasKind, HasMatchesOf, Row, Text, app_of, fault_of, is_simple, is_simple_and_free, subcommand_of, subcommand_rows_of}
+use Rattle.clap.specs.Words.{HasKind, HasMatchesOf, Row, Text, app_of, fault_of, first_of, is_simple, is_simple_and_free, subcommand_of, subcommand_rows_of}
 use Rattle.clap.specs.declared.builder.command.Command.{Command}
 use Rattle.clap.specs.declared.error.Error.{Error}
 use Rattle.clap.specs.declared.parser.matches.ArgMatches.{ArgMatches}
 use Rattle.log_arguments.specs.Line.{HasLine, program_line}
-use Rattle.log_arguments.specs.Values.{IsOffsetOf, IsPlaceIn, has_flag}
+use Rattle.log_arguments.specs.Values.{IsAddressOf, IsOffsetOf, IsPlaceIn, has_flag}
 use Rattle.log_arguments.specs.Asked.{AskFor, Asks, HasOffsetInLimits, IsAskedBy, IsMisuse, IsRefusalOf}
 use Rattle.log_arguments.specs.declared.command.LogCommand.{LogCommand}
 use Rattle.log_arguments.specs.declared.command.LogCommand.TheVariants.{Base, Check, Compact, Follow, Join, Keep, Rules, Tail}
@@ -18,11 +18,11 @@ differ : (a b : Text) → bytes_eq a b ≡ false → ¬ (a ≡ b)
 differ a b apart same = true≢false (sym ((bytes_eq-Decides a b).1 same) ∙ apart)
 
 pub keep_alone : (rows : List Row)
-    → ((file : Bor (List ℕ)) (listen : SocketAddr) (nodes workers : ℕ) (quiet : Bool) → ¬ IsAskedBy (codes "keep", rows) (Keep file listen nodes workers quiet))
+    → ((file : Bor (List ℕ)) (listen : SocketAddr) (nodes workers : ℕ) (metrics : Option SocketAddr) (quiet : Bool) → ¬ IsAskedBy (codes "keep", rows) (Keep file listen nodes workers metrics quiet))
     → (command : LogCommand) → ¬ IsAskedBy (codes "keep", rows) command
-keep_alone rows none (Keep file listen nodes workers quiet) asked = none file listen nodes workers quiet asked
-keep_alone rows none (Follow listen nodes workers) asked = differ _ _ refl asked.0
-keep_alone rows none (Join listen nodes workers) asked = differ _ _ refl asked.0
+keep_alone rows none (Keep file listen nodes workers metrics quiet) asked = none file listen nodes workers metrics quiet asked
+keep_alone rows none (Follow listen nodes workers metrics) asked = differ _ _ refl asked.0
+keep_alone rows none (Join listen nodes workers metrics) asked = differ _ _ refl asked.0
 keep_alone rows none Rules asked = differ _ _ refl asked.0
 keep_alone rows none (Tail file from) asked = differ _ _ refl asked.0
 keep_alone rows none (Check file quiet) asked = differ _ _ refl asked.0
@@ -30,11 +30,12 @@ keep_alone rows none (Compact file to output quiet) asked = differ _ _ refl aske
 keep_alone rows none (Base file below quiet) asked = differ _ _ refl asked.0
 
 pub follow_alone : (rows : List Row)
-    → ((listen : SocketAddr) (nodes workers : ℕ) → ¬ IsPlaceIn 1 rows listen nodes workers)
+    → ((listen : SocketAddr) (nodes workers : ℕ) (metrics : Option SocketAddr) → IsPlaceIn 1 rows listen nodes workers
+    → ¬ IsAddressOf (first_of (codes "metrics") rows) metrics)
     → (command : LogCommand) → ¬ IsAskedBy (codes "follow", rows) command
-follow_alone rows none (Keep file listen nodes workers quiet) asked = differ _ _ refl asked.0
-follow_alone rows none (Follow listen nodes workers) asked = none listen nodes workers asked.1
-follow_alone rows none (Join listen nodes workers) asked = differ _ _ refl asked.0
+follow_alone rows none (Keep file listen nodes workers metrics quiet) asked = differ _ _ refl asked.0
+follow_alone rows none (Follow listen nodes workers metrics) asked = none listen nodes workers metrics asked.1 asked.2
+follow_alone rows none (Join listen nodes workers metrics) asked = differ _ _ refl asked.0
 follow_alone rows none Rules asked = differ _ _ refl asked.0
 follow_alone rows none (Tail file from) asked = differ _ _ refl asked.0
 follow_alone rows none (Check file quiet) asked = differ _ _ refl asked.0
@@ -42,11 +43,12 @@ follow_alone rows none (Compact file to output quiet) asked = differ _ _ refl as
 follow_alone rows none (Base file below quiet) asked = differ _ _ refl asked.0
 
 pub join_alone : (rows : List Row) → has_flag (codes "rules") rows ≡ false
-    → ((listen : SocketAddr) (nodes workers : ℕ) → ¬ IsPlaceIn 2 rows listen nodes workers)
+    → ((listen : SocketAddr) (nodes workers : ℕ) (metrics : Option SocketAddr) → IsPlaceIn 2 rows listen nodes workers
+    → ¬ IsAddressOf (first_of (codes "metrics") rows) metrics)
     → (command : LogCommand) → ¬ IsAskedBy (codes "join", rows) command
-join_alone rows serves none (Keep file listen nodes workers quiet) asked = differ _ _ refl asked.0
-join_alone rows serves none (Follow listen nodes workers) asked = differ _ _ refl asked.0
-join_alone rows serves none (Join listen nodes workers) asked = none listen nodes workers asked.2
+join_alone rows serves none (Keep file listen nodes workers metrics quiet) asked = differ _ _ refl asked.0
+join_alone rows serves none (Follow listen nodes workers metrics) asked = differ _ _ refl asked.0
+join_alone rows serves none (Join listen nodes workers metrics) asked = none listen nodes workers metrics asked.2 asked.3
 join_alone rows serves none Rules asked = true≢false (sym asked.1 ∙ serves)
 join_alone rows serves none (Tail file from) asked = differ _ _ refl asked.0
 join_alone rows serves none (Check file quiet) asked = differ _ _ refl asked.0
@@ -85,9 +87,9 @@ offset_within (Some text) (Some n) is = is.3
 
 pub within_limits : (o : Option (Text × List Row)) (command : LogCommand) → Asks o command → HasOffsetInLimits command
 within_limits None command asks = absurd asks
-within_limits (Some found) (Keep file listen nodes workers quiet) asks = tt
-within_limits (Some found) (Follow listen nodes workers) asks = tt
-within_limits (Some found) (Join listen nodes workers) asks = tt
+within_limits (Some found) (Keep file listen nodes workers metrics quiet) asks = tt
+within_limits (Some found) (Follow listen nodes workers metrics) asks = tt
+within_limits (Some found) (Join listen nodes workers metrics) asks = tt
 within_limits (Some found) Rules asks = tt
 within_limits (Some found) (Tail file from) asks = offset_within _ from asks.2
 within_limits (Some found) (Check file quiet) asks = tt

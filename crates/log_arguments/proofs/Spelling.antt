@@ -2,10 +2,12 @@
 use Rattle.std.proofs.Common.{◌≡◌, ◌∙◌, ◌<◌, sym, ◌^◌, ℕ, List, length, Option, Some, None, true, arith, rules}
 use Rattle.std.specs.Char.{is_ascii_digit}
 use Rattle.std.specs.List.{list_all}
+use Rattle.std.specs.Net.Grammar.{IsSocketText}
 use Rattle.std.specs.Str.Parse.{digits_value}
+use Rattle.std.specs.declared.net.socket_addr.SocketAddr.{SocketAddr}
 use Rattle.std.proofs.lemmas.Str.Parse.{IsNumeralModel, numerals_by_value}
 use Rattle.std.proofs.lemmas.Bool.Decides.{nat_tests}
-use Rattle.log_arguments.specs.Values.{IsNumberOr, IsOffsetOf, SpellsWithin, is_decimal}
+use Rattle.log_arguments.specs.Values.{IsAddressOf, IsNumberOr, IsOffsetOf, SpellsWithin, is_decimal}
 
 pub own : IsNumeralModel (λ ds. list_all is_ascii_digit ds ≡ true) (digits_value 10)
 own = numerals_by_value _ (search rules)
@@ -29,6 +31,11 @@ pub no_offset : (text : List ℕ) → ((number : ℕ) → ¬ SpellsWithin 0 9223
     → ¬ IsOffsetOf (Some text) offset
 no_offset text none None is = is
 no_offset text none (Some number) is = none number is
+
+pub no_address : (text : List ℕ) → ((address : SocketAddr) → ¬ IsSocketText text address) → (address : Option SocketAddr)
+    → ¬ IsAddressOf (Some text) address
+no_address text none None is = is
+no_address text none (Some address) is = none address is
 
 -- an option has one number
 pub number_unique : (otherwise least most : ℕ) (given : Option (List ℕ)) (a b : ℕ) → IsNumberOr otherwise least most given a

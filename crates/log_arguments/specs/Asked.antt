@@ -4,17 +4,19 @@ use Rattle.clap.specs.Words.{HasKind, Row, Text, fault_of, first_of, kind_of, su
 use Rattle.clap.specs.declared.error.Error.{Error}
 use Rattle.clap.specs.declared.error.kind.ErrorKind.TheVariants.{OutOfMemory, ValueValidation}
 use Rattle.log_arguments.specs.Line.{program_line}
-use Rattle.log_arguments.specs.Values.{IsOffsetOf, IsPlaceIn, has_flag, path_in}
+use Rattle.log_arguments.specs.Values.{IsAddressOf, IsOffsetOf, IsPlaceIn, has_flag, path_in}
 use Rattle.log_arguments.specs.declared.command.LogCommand.{LogCommand}
 use Rattle.log_arguments.specs.declared.command.LogCommand.TheVariants.{Base, Check, Compact, Follow, Join, Keep, Rules, Tail}
 
 -- what a command asks for by its name and its matches
 abbrev pub IsAskedBy : Text × List Row → LogCommand → Type 0
-IsAskedBy found (Keep file listen nodes workers quiet) = (found.0 ≡ codes "keep") × (first_of (codes "file") found.1 ≡ Some file.now)
-    × IsPlaceIn 1 found.1 listen nodes workers × (quiet ≡ has_flag (codes "quiet") found.1)
-IsAskedBy found (Follow listen nodes workers) = (found.0 ≡ codes "follow") × IsPlaceIn 1 found.1 listen nodes workers
-IsAskedBy found (Join listen nodes workers) = (found.0 ≡ codes "join") × (has_flag (codes "rules") found.1 ≡ false)
-    × IsPlaceIn 2 found.1 listen nodes workers
+IsAskedBy found (Keep file listen nodes workers metrics quiet) = (found.0 ≡ codes "keep") × (first_of (codes "file") found.1 ≡ Some file.now)
+    × IsPlaceIn 1 found.1 listen nodes workers × IsAddressOf (first_of (codes "metrics") found.1) metrics
+    × (quiet ≡ has_flag (codes "quiet") found.1)
+IsAskedBy found (Follow listen nodes workers metrics) = (found.0 ≡ codes "follow") × IsPlaceIn 1 found.1 listen nodes workers
+    × IsAddressOf (first_of (codes "metrics") found.1) metrics
+IsAskedBy found (Join listen nodes workers metrics) = (found.0 ≡ codes "join") × (has_flag (codes "rules") found.1 ≡ false)
+    × IsPlaceIn 2 found.1 listen nodes workers × IsAddressOf (first_of (codes "metrics") found.1) metrics
 IsAskedBy found Rules = (found.0 ≡ codes "join") × (has_flag (codes "rules") found.1 ≡ true)
 IsAskedBy found (Tail file from) = (found.0 ≡ codes "tail") × (first_of (codes "file") found.1 ≡ Some file.now)
     × IsOffsetOf (first_of (codes "from") found.1) from
@@ -37,9 +39,9 @@ AskFor words command = Asks (subcommand_of program_line words) command
 
 -- an offset or a floor that is asked for is one that a line may have
 abbrev pub HasOffsetInLimits : LogCommand → Type 0
-HasOffsetInLimits (Keep file listen nodes workers quiet) = ⊤
-HasOffsetInLimits (Follow listen nodes workers) = ⊤
-HasOffsetInLimits (Join listen nodes workers) = ⊤
+HasOffsetInLimits (Keep file listen nodes workers metrics quiet) = ⊤
+HasOffsetInLimits (Follow listen nodes workers metrics) = ⊤
+HasOffsetInLimits (Join listen nodes workers metrics) = ⊤
 HasOffsetInLimits Rules = ⊤
 HasOffsetInLimits (Tail file from) = IfSome from (λ offset. offset ≤ 9223372036854775807)
 HasOffsetInLimits (Check file quiet) = ⊤

@@ -24,18 +24,20 @@ file_line required = record (new_rule (codes "file")) { value_names = 1; require
 abbrev pub command_line : Text → List Rule → App
 command_line name rules = fold with_rule (new_app name) rules
 
--- what says where nodes listen, and how many there are
+-- what says where nodes listen, how many there are, and where metrics are shown
 abbrev pub keep_line : App
 keep_line = command_line (codes "keep")
-    (option_line (codes "listen") ∷ option_line (codes "nodes") ∷ option_line (codes "workers") ∷ flag_line (codes "quiet") ∷ file_line true ∷ [])
+    (option_line (codes "listen") ∷ option_line (codes "nodes") ∷ option_line (codes "workers") ∷ option_line (codes "metrics")
+    ∷ flag_line (codes "quiet") ∷ file_line true ∷ [])
 
 abbrev pub follow_line : App
 follow_line = command_line (codes "follow")
-    (option_line (codes "listen") ∷ option_line (codes "nodes") ∷ option_line (codes "workers") ∷ [])
+    (option_line (codes "listen") ∷ option_line (codes "nodes") ∷ option_line (codes "workers") ∷ option_line (codes "metrics") ∷ [])
 
 abbrev pub join_line : App
 join_line = command_line (codes "join")
-    (option_line (codes "listen") ∷ option_line (codes "nodes") ∷ option_line (codes "workers") ∷ flag_line (codes "rules") ∷ [])
+    (option_line (codes "listen") ∷ option_line (codes "nodes") ∷ option_line (codes "workers") ∷ option_line (codes "metrics")
+    ∷ flag_line (codes "rules") ∷ [])
 
 abbrev pub tail_line : App
 tail_line = command_line (codes "tail") (option_line (codes "from") ∷ file_line true ∷ [])

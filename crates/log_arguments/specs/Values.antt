@@ -33,6 +33,12 @@ IsOffsetOf None None = ⊤
 IsOffsetOf (Some text) (Some offset) = SpellsWithin 0 9223372036854775807 text offset
 IsOffsetOf _ _ = ⊥
 
+-- the address of an option, and none where the option isn't given
+abbrev pub IsAddressOf : Option Text → Option SocketAddr → Type 0
+IsAddressOf None None = ⊤
+IsAddressOf (Some text) (Some address) = IsSocketText text address
+IsAddressOf _ _ = ⊥
+
 -- where the first node listens, how many nodes there are, and how many workers each has, which are so many at least
 pub record IsPlaceIn (least : ℕ) (rows : List Row) (listen : SocketAddr) (nodes workers : ℕ) : Type 0 where
   pub address : IsSocketText (unwrap_or (first_of (codes "listen") rows) (codes "127.0.0.1:8081")) listen

@@ -16,6 +16,8 @@ pub enum LogCommand<'a> {
         nodes: usize,
         /// How many workers each node has, 1 to 16.
         workers: u32,
+        /// Where metrics are shown, if they are.
+        metrics: Option<SocketAddr>,
         /// No line is to say how far the reading of the log is.
         quiet: bool,
     },
@@ -24,6 +26,7 @@ pub enum LogCommand<'a> {
         listen: SocketAddr,
         nodes: usize,
         workers: u32,
+        metrics: Option<SocketAddr>,
     },
     /// A log that other processes write too is to be served: the adapter at the standard input and output has it. The values are
     /// as those of `Keep`, but for the workers, 2 to 16.
@@ -31,6 +34,7 @@ pub enum LogCommand<'a> {
         listen: SocketAddr,
         nodes: usize,
         workers: u32,
+        metrics: Option<SocketAddr>,
     },
     /// The number of the registry's rules is to be written.
     Rules,

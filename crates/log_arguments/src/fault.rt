@@ -33,6 +33,8 @@ pub(crate) enum Fault<'a> {
         option: &'static str,
         text: &'a str,
     },
+    #[error("--metrics {0}: an address with a port, as 127.0.0.1:9081 or [::1]:9081")]
+    Metrics(&'a str),
     /// There is no such command line: `clap` takes none without a file that is wanted.
     #[error("a FILE is wanted")]
     File,

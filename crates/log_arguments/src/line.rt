@@ -56,6 +56,7 @@ pub(crate) fn keep<'a>(alloc: Global) -> Result<Command<'a>, AllocError>
         .arg(listen(alloc))?
         .arg(nodes(alloc))?
         .arg(workers(alloc))?
+        .arg(metrics(alloc))?
         .arg(quiet(alloc))?
         .arg(file)
 }
@@ -71,7 +72,8 @@ pub(crate) fn follow<'a>(alloc: Global) -> Result<Command<'a>, AllocError>
         )
         .arg(listen(alloc))?
         .arg(nodes(alloc))?
-        .arg(workers(alloc))
+        .arg(workers(alloc))?
+        .arg(metrics(alloc))
 }
 
 /// `join`.
@@ -93,6 +95,7 @@ pub(crate) fn join<'a>(alloc: Global) -> Result<Command<'a>, AllocError>
         .arg(listen(alloc))?
         .arg(nodes(alloc))?
         .arg(workers)?
+        .arg(metrics(alloc))?
         .arg(rules)
 }
 
@@ -190,6 +193,14 @@ fn workers<'a>(alloc: Global) -> Arg<'a>
     ensures { HasRule (option_line (codes "workers")) result }
 {
     option(alloc, "workers", "N").help("How many workers each node has, 1 to 16 [default: 4]")
+}
+
+fn metrics<'a>(alloc: Global) -> Arg<'a>
+    ensures { HasRule (option_line (codes "metrics")) result }
+{
+    option(alloc, "metrics", "ADDRESS:PORT").help(
+        "Where GET /metrics and GET /ready are answered [default: nowhere]",
+    )
 }
 
 fn quiet<'a>(alloc: Global) -> Arg<'a>

@@ -8,7 +8,7 @@ ghost use Rattle.log_arguments.specs.Values.{Finds};
 use crate::command::LogCommand;
 use crate::fault::{Fault, refusal};
 use crate::line::program;
-use crate::values::{Place, has_flag, offset_in, path_in, place_in, text_in};
+use crate::values::{Place, has_flag, metrics_in, offset_in, path_in, place_in, text_in};
 use clap::{ArgMatches, Error};
 use std::alloc::Global;
 
@@ -84,21 +84,24 @@ fn keep_in<'a>(found: &ArgMatches<'a>) -> Result<LogCommand<'a>, Fault<'a>>
         return Err(Fault::File);
     };
     let quiet = has_flag(found, "quiet");
-    match place_in(found, 1) {
-        Ok(place) => {
-            let Place {
-                listen,
-                nodes,
-                workers,
-            } = place;
-            Ok(LogCommand::Keep {
-                file,
-                listen,
-                nodes,
-                workers,
-                quiet,
-            })
-        }
+    let place = match place_in(found, 1) {
+        Ok(place) => place,
+        Err(fault) => return Err(fault),
+    };
+    let Place {
+        listen,
+        nodes,
+        workers,
+    } = place;
+    match metrics_in(found) {
+        Ok(metrics) => Ok(LogCommand::Keep {
+            file,
+            listen,
+            nodes,
+            workers,
+            metrics,
+            quiet,
+        }),
         Err(fault) => Err(fault),
     }
 }
@@ -106,19 +109,22 @@ fn keep_in<'a>(found: &ArgMatches<'a>) -> Result<LogCommand<'a>, Fault<'a>>
 fn follow_in<'a>(found: &ArgMatches<'a>) -> Result<LogCommand<'a>, Fault<'a>>
     ensures { Finds (IsAskedBy (codes "follow", rows_of (found_of found.now))) result }
 {
-    match place_in(found, 1) {
-        Ok(place) => {
-            let Place {
-                listen,
-                nodes,
-                workers,
-            } = place;
-            Ok(LogCommand::Follow {
-                listen,
-                nodes,
-                workers,
-            })
-        }
+    let place = match place_in(found, 1) {
+        Ok(place) => place,
+        Err(fault) => return Err(fault),
+    };
+    let Place {
+        listen,
+        nodes,
+        workers,
+    } = place;
+    match metrics_in(found) {
+        Ok(metrics) => Ok(LogCommand::Follow {
+            listen,
+            nodes,
+            workers,
+            metrics,
+        }),
         Err(fault) => Err(fault),
     }
 }
@@ -129,19 +135,22 @@ fn join_in<'a>(found: &ArgMatches<'a>) -> Result<LogCommand<'a>, Fault<'a>>
     if has_flag(found, "rules") {
         return Ok(LogCommand::Rules);
     }
-    match place_in(found, 2) {
-        Ok(place) => {
-            let Place {
-                listen,
-                nodes,
-                workers,
-            } = place;
-            Ok(LogCommand::Join {
-                listen,
-                nodes,
-                workers,
-            })
-        }
+    let place = match place_in(found, 2) {
+        Ok(place) => place,
+        Err(fault) => return Err(fault),
+    };
+    let Place {
+        listen,
+        nodes,
+        workers,
+    } = place;
+    match metrics_in(found) {
+        Ok(metrics) => Ok(LogCommand::Join {
+            listen,
+            nodes,
+            workers,
+            metrics,
+        }),
         Err(fault) => Err(fault),
     }
 }

@@ -4,7 +4,7 @@ ghost use Rattle.std.specs.List.{list_all};
 ghost use Rattle.std.specs.Char.{is_ascii_digit};
 ghost use Rattle.std.specs.Net.Grammar.{IsSocketText};
 ghost use Rattle.clap.specs.Words.{first_of, found_of, rows_of};
-ghost use Rattle.log_arguments.specs.Values.{Finds, IsNumberOr, IsOffsetOf, IsPlaceIn, SpellsWithin, has_flag, is_decimal, path_in};
+ghost use Rattle.log_arguments.specs.Values.{Finds, IsAddressOf, IsNumberOr, IsOffsetOf, IsPlaceIn, SpellsWithin, has_flag, is_decimal, path_in};
 
 use crate::fault::Fault;
 use clap::ArgMatches;
@@ -103,6 +103,19 @@ pub(crate) fn offset_in<'a>(
     match number_within(text, 0, OFFSET_LIMIT) {
         Some(offset) => Ok(Some(offset)),
         None => Err(Fault::Offset { option, text }),
+    }
+}
+
+/// The address behind `--metrics`, where the option is given.
+pub(crate) fn metrics_in<'a>(found: &ArgMatches<'a>) -> Result<Option<SocketAddr>, Fault<'a>>
+    ensures { Finds (IsAddressOf (first_of (codes "metrics") (rows_of (found_of found.now)))) result }
+{
+    let Some(text) = text_in(found, "metrics") else {
+        return Ok(None);
+    };
+    match text.parse::<SocketAddr>() {
+        Ok(address) => Ok(Some(address)),
+        Err(_) => Err(Fault::Metrics(text)),
     }
 }
 

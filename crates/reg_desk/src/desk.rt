@@ -4,25 +4,26 @@ ghost use mathlib.Core.List.{IsPrefix};
 ghost use Rattle.reg_desk.specs.Desk.{IsFresh, front_of};
 
 use crate::catching::catch_up;
-use crate::gate::{Gate, pass_gate};
+use crate::gate::pass_gate;
+use crate::node_types::NodeTypes;
 use crate::ruling::Ruling;
 use crate::standing::Standing;
 use crate::submitting::submit;
 use crate::wake::Wake;
 use reg_conversation::SharedDesk;
-use reg_feed::{Copies, FeedName, Seen};
+use reg_feed::{FeedName, Seen};
 use reg_http::Desk;
 use reg_judge::Judge;
 use reg_leader::{Command, Reply};
 use reg_lookup::{Answer, Query};
-use reg_node::{Draw, Follower, Taken, View};
-use reg_pen::{Keep, Pass, Pen, Submitted};
+use reg_node::{Follower, View};
+use reg_pen::{Pass, Pen, Submitted};
 use reg_shared::Shared;
 use reg_topic::Item;
 use std::alloc::{AllocError, Global};
 use std::marker::Model;
+use std::sync::Mutex;
 use std::sync::atomic::AtomicU64;
-use std::sync::{Mutex, Wait};
 
 /// A node's desk. A registration is judged by what the view shows. Then the command goes to the pen, once;
 /// the other nodes are woken; then the node's follower learns, pulls and publishes, and the view learns,
@@ -32,74 +33,44 @@ use std::sync::{Mutex, Wait};
 /// front, the count of submits, whether nothing after that command's submit was refused, and what wakes the
 /// other nodes.
 #[derive(Drop)]
-pub struct NodeDesk<
-    'a,
-    N: FeedName<Item, Shared>,
-    S: Copies<Item, Shared, N>,
-    K: Keep + Drop,
-    M: FeedName<Draw, Taken>,
-    U: Copies<Draw, Taken, M>,
-    R: Wait + Drop,
-    G: Gate,
-    W: Wake<N> + Drop,
-> {
-    rt: &'a R,
-    pen: &'a Mutex<Pen<N, S, K, R>>,
-    follower: &'a Mutex<Follower<N, S, M, U, R>>,
-    gate: &'a G,
-    wake: W,
+pub struct NodeDesk<'a, T: NodeTypes> {
+    rt: &'a T::Runtime,
+    pen: &'a Mutex<Pen<T::Topic, T::TopicCopies, T::Keep, T::Runtime>>,
+    follower: &'a Mutex<Follower<T::Topic, T::TopicCopies, T::Node, T::NodeCopies, T::Runtime>>,
+    gate: &'a T::Gate,
+    wake: T::Wake,
     calls: &'a AtomicU64,
-    pass: Pass<N>,
-    view: View<M, U>,
+    pass: Pass<T::Topic>,
+    view: View<T::Node, T::NodeCopies>,
     judge: Judge,
-    seen: Option<Seen<Item, Shared, N>>,
+    seen: Option<Seen<Item, Shared, T::Topic>>,
     fresh: bool,
 }
 
-impl<
-    'a,
-    N: FeedName<Item, Shared>,
-    S: Copies<Item, Shared, N>,
-    K: Keep + Drop,
-    M: FeedName<Draw, Taken>,
-    U: Copies<Draw, Taken, M>,
-    R: Wait + Drop,
-    G: Gate,
-    W: Wake<N> + Drop,
-> Model for NodeDesk<'a, N, S, K, M, U, R, G, W> {
+impl<'a, T: NodeTypes> Model for NodeDesk<'a, T> {
     ghost use Rattle.std.specs.Prelude.{◌≡◌, true};
     ghost use Rattle.reg_desk.specs.Desk.{IsFresh, Known, front_of};
 
-    ghost Value = { Known W };
+    ghost Value = { Known T.Wake };
 
     ghost view = { λ d. record { seen = d.seen; view = d.view; submits = d.pass.submits; fresh = d.fresh; wake = d.wake } };
 
-    ghost invariant = { λ d. d.fresh ≡ true → IsFresh N.first (front_of d.seen) d.view };
+    ghost invariant = { λ d. d.fresh ≡ true → IsFresh T.Topic.first (front_of d.seen) d.view };
 }
 
-impl<
-    'a,
-    N: FeedName<Item, Shared>,
-    S: Copies<Item, Shared, N>,
-    K: Keep + Drop,
-    M: FeedName<Draw, Taken>,
-    U: Copies<Draw, Taken, M>,
-    R: Wait + Drop,
-    G: Gate,
-    W: Wake<N> + Drop,
-> NodeDesk<'a, N, S, K, M, U, R, G, W> {
+impl<'a, T: NodeTypes> NodeDesk<'a, T> {
     /// A desk that has done no command.
     pub fn new(
-        rt: &'a R,
-        pen: &'a Mutex<Pen<N, S, K, R>>,
-        follower: &'a Mutex<Follower<N, S, M, U, R>>,
-        gate: &'a G,
-        wake: W,
+        rt: &'a T::Runtime,
+        pen: &'a Mutex<Pen<T::Topic, T::TopicCopies, T::Keep, T::Runtime>>,
+        follower: &'a Mutex<Follower<T::Topic, T::TopicCopies, T::Node, T::NodeCopies, T::Runtime>>,
+        gate: &'a T::Gate,
+        wake: T::Wake,
         calls: &'a AtomicU64,
-        pass: Pass<N>,
-        view: View<M, U>,
+        pass: Pass<T::Topic>,
+        view: View<T::Node, T::NodeCopies>,
         judge: Judge,
-    ) -> NodeDesk<'a, N, S, K, M, U, R, G, W>
+    ) -> NodeDesk<'a, T>
         ensures { result ≡ record { seen = None; view = view; submits = pass.submits; fresh = false; wake = wake } }
     {
         NodeDesk {
@@ -118,7 +89,7 @@ impl<
     }
 
     /// The topic's front of the last command, or a longer one that it learnt of.
-    pub fn seen(&self) -> Option<&Seen<Item, Shared, N>>
+    pub fn seen(&self) -> Option<&Seen<Item, Shared, T::Topic>>
         ensures { option_map (λ s. s.now) result ≡ self.now.seen }
     {
         self.seen.as_ref()
@@ -127,7 +98,7 @@ impl<
     /// Whether nothing after the submit that gave this front was refused.
     pub fn fresh(&self) -> bool
         ensures fresh { result ≡ self.now.fresh }
-        ensures shown { result ≡ true → IsFresh N.first (front_of self.now.seen) self.now.view }
+        ensures shown { result ≡ true → IsFresh T.Topic.first (front_of self.now.seen) self.now.view }
     {
         self.fresh
     }
@@ -140,22 +111,12 @@ impl<
     }
 }
 
-impl<
-    'a,
-    N: FeedName<Item, Shared>,
-    S: Copies<Item, Shared, N>,
-    K: Keep + Drop,
-    M: FeedName<Draw, Taken>,
-    U: Copies<Draw, Taken, M>,
-    R: Wait + Drop,
-    G: Gate,
-    W: Wake<N> + Drop,
-> Desk for NodeDesk<'a, N, S, K, M, U, R, G, W> {
+impl<'a, T: NodeTypes> Desk for NodeDesk<'a, T> {
     ghost use Rattle.reg_desk.specs.Desk.{DeskAsks, DeskCommands};
 
     ghost asks = { DeskAsks };
 
-    ghost commands = { DeskCommands K.keeps W.wakes N.first };
+    ghost commands = { DeskCommands T.Keep.keeps T.Wake.wakes T.Topic.first };
 
     fn ask(&mut self, alloc: Global, query: &Query) -> Result<Answer, AllocError> {
         pass_gate(self.gate, self.calls);
@@ -181,26 +142,16 @@ impl<
     }
 }
 
-impl<
-    'a,
-    N: FeedName<Item, Shared>,
-    S: Copies<Item, Shared, N>,
-    K: Keep + Drop,
-    M: FeedName<Draw, Taken>,
-    U: Copies<Draw, Taken, M>,
-    R: Wait + Drop,
-    G: Gate,
-    W: Wake<N> + Drop,
-> SharedDesk for NodeDesk<'a, N, S, K, M, U, R, G, W> {
-    type Standing = Standing<N, M>;
+impl<'a, T: NodeTypes> SharedDesk for NodeDesk<'a, T> {
+    type Standing = Standing<T::Topic, T::Node>;
 
     ghost use Rattle.reg_desk.specs.Desk.{LearnsFronts, StandsOn};
 
     ghost stands = { StandsOn };
 
-    ghost learns = { LearnsFronts N.first };
+    ghost learns = { LearnsFronts T.Topic.first };
 
-    fn standing(&self) -> Standing<N, M> {
+    fn standing(&self) -> Standing<T::Topic, T::Node> {
         let topic = match &self.seen {
             Some(seen) => Some(seen.again()),
             None => None,
@@ -209,7 +160,7 @@ impl<
     }
 
     #[tactic(auto, using(crate::proofs::Learnt::stays_learnt, crate::proofs::Learnt::takes_learnt))]
-    fn learn(&mut self, standing: &Standing<N, M>) {
+    fn learn(&mut self, standing: &Standing<T::Topic, T::Node>) {
         self.view.learn(standing.node());
         if let Some(topic) = standing.topic() {
             if is_news(&self.seen, topic) {

@@ -4,9 +4,8 @@ use reg_intake::{GiveError, IntakeError};
 use reg_records::LogFault;
 use reg_serve::{ListenError, StartError};
 use std::alloc::{AllocError, AllocFailed};
-use std::error::Error;
-use std::fmt;
 use std::io::{self, ErrorKind};
+use thiserror::Error;
 
 /// Where the lines of a log end.
 #[derive(Clone, Copy, Debug, PartialEq, Eq)]
@@ -20,20 +19,27 @@ pub enum LinesEnd {
 }
 
 /// Why lines aren't followed, or no longer.
-#[derive(Clone, Copy, Debug, PartialEq, Eq)]
+#[derive(Clone, Copy, Debug, PartialEq, Eq, Error)]
 pub enum FollowError {
     /// The first line that has a fault; lines count from 1.
+    #[error("line {line}: {fault}")]
     Fault { line: u64, fault: LogFault },
     /// The reader failed.
+    #[error("ReadFault")]
     ReadFault,
+    #[error("OutOfMemory")]
     OutOfMemory,
     /// A list has no place for another reader.
+    #[error("NoPlace")]
     NoPlace,
     /// A thread, or the memory that it begins with, was refused, or it wasn't time to begin.
+    #[error("nodes not started")]
     NotStarted,
     /// The system refused a node's poll or its listener's options.
+    #[error("nodes not started: {kind:?}")]
     Refused { kind: ErrorKind },
     /// A node can't listen at its port.
+    #[error("port {port}: {kind:?}")]
     Port { port: u64, kind: ErrorKind },
 }
 
@@ -51,22 +57,6 @@ impl FollowError {
         }
     }
 }
-
-impl fmt::Display for FollowError {
-    fn fmt<W: fmt::Write>(&self, f: &mut fmt::Formatter<W>) -> fmt::Result {
-        match *self {
-            FollowError::Fault { line, fault } => write!(f, "line {line}: {fault}"),
-            FollowError::ReadFault => write!(f, "ReadFault"),
-            FollowError::OutOfMemory => write!(f, "OutOfMemory"),
-            FollowError::NoPlace => write!(f, "NoPlace"),
-            FollowError::NotStarted => write!(f, "nodes not started"),
-            FollowError::Refused { kind } => write!(f, "nodes not started: {kind:?}"),
-            FollowError::Port { port, kind } => write!(f, "port {port}: {kind:?}"),
-        }
-    }
-}
-
-impl Error for FollowError {}
 
 impl From<IntakeError> for FollowError {
     ghost use Rattle.std.specs.Prelude.{◌≡◌};

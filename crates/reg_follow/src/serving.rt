@@ -9,6 +9,7 @@ use crate::intake::Intake;
 use crate::reading::follow_lines;
 use reg_connection::Limits;
 use reg_feed::{Copies, FeedName, Seen, Unnamed, feed};
+use reg_meters::Traffic;
 use reg_node::{Draw, Taken, View};
 use reg_serve::{Follow, Latch, NodeServer, StartError, begin, open_node};
 use std::alloc::Global;
@@ -55,11 +56,12 @@ pub trait FollowEndpoints {
     fn ready(&mut self, lines: u64) -> bool;
 }
 
-/// A node's follower, which has nothing to do but to tell that lines can't be taken any more.
+/// A node's follower, which has nothing to do but to tell that lines can't be taken any more, and where the node's traffic is counted.
 #[derive(Drop)]
 struct Watching<'a> {
     course: &'a Course,
     grown: Parker,
+    traffic: &'a Traffic,
 }
 
 impl Follow for Watching<'_> {
@@ -72,11 +74,15 @@ impl Follow for Watching<'_> {
     fn grown(&self) -> &Parker {
         &self.grown
     }
+
+    fn traffic(&self) -> &Traffic {
+        self.traffic
+    }
 }
 
 /// Serves what the lines of a reader come to, by so many nodes, which refuse commands. They listen once
 /// 500 ms passed without a line after the first one, 10 s without any, or the input ended. At its end, which
-/// is said on the error output, they go on with what they have.
+/// is said on the error output, they go on with what they have. Their connections and requests are counted in the traffic.
 ///
 /// With a limit the call returns once all nodes have ended. Without one it returns only where lines can't be
 /// taken any more, or the nodes can't be started.
@@ -84,8 +90,15 @@ pub fn serve_lines<
     B: BufRead + Send + Drop + 'static,
     R: Threads + Wait + Clock + Net + Eprint + Sync + Send + Copy + Drop + 'static,
     G: FollowEndpoints,
->(rt: R, alloc: Global, size: FollowSize, reader: B, endpoints: &mut G) -> Result<(), FollowError> {
-    serve_feed::<Brand, B, R, G>(rt, alloc, size, Unnamed::new(), reader, endpoints)
+>(
+    rt: R,
+    alloc: Global,
+    size: FollowSize,
+    reader: B,
+    traffic: &Traffic,
+    endpoints: &mut G,
+) -> Result<(), FollowError> {
+    serve_feed::<Brand, B, R, G>(rt, alloc, size, Unnamed::new(), reader, traffic, endpoints)
 }
 
 /// Makes the one feed of all nodes, starts the thread that takes lines, and serves from the views.
@@ -100,6 +113,7 @@ fn serve_feed<
     size: FollowSize,
     list: Unnamed<Draw>,
     reader: B,
+    traffic: &Traffic,
     endpoints: &mut G,
 ) -> Result<(), FollowError>
     requires { (list.reached.book ≡ M.book) × (M.first ≡ empty) }
@@ -115,7 +129,7 @@ fn serve_feed<
     let taking = Taking { rt, reader, intake };
     start(&rt, taking, Arc::try_clone(&course)?)?;
     wait_for_lines(&rt, &course);
-    let served = serve_views(&rt, alloc, size, &course, views, endpoints);
+    let served = serve_views(&rt, alloc, size, &course, views, traffic, endpoints);
     course.leave();
     served
 }
@@ -219,6 +233,7 @@ fn serve_views<
     size: FollowSize,
     course: &Course,
     views: Vec<View<M, U>>,
+    traffic: &Traffic,
     endpoints: &mut G,
 ) -> Result<(), FollowError> {
     if let Some(error) = course.error(rt) {
@@ -232,6 +247,7 @@ fn serve_views<
         let watching = Watching {
             course,
             grown: Parker::new(),
+            traffic,
         };
         nodes.push(NodeServer::new(rt, alloc, listener, watching, workers, limits)?)?;
     }

@@ -1,5 +1,6 @@
 // How the nodes of a process are reached, and who is told how far it is.
 use crate::error::JoinError;
+use reg_meters::Traffic;
 use std::net::TcpListener;
 
 /// Where the nodes of a process are reached, and who is told how far it is.
@@ -14,4 +15,7 @@ pub trait JoinEndpoints {
     /// What was told next, behind that offset's predecessor, is no command's: nothing is taken in any more, and commands are refused. Called
     /// once at most, by any thread.
     fn stopped(&self, offset: u64);
+
+    /// Where connections and requests of all nodes are counted.
+    fn traffic(&self) -> &Traffic;
 }

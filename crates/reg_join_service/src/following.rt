@@ -6,6 +6,7 @@ use reg_chain::Chain;
 use reg_feed::{Copies, FeedName};
 use reg_join::TakenIn;
 use reg_join_desk::{JoinedPen, SharedCheck};
+use reg_meters::Traffic;
 use reg_node::{Draw, Follower, Taken};
 use reg_serve::Follow;
 use reg_shared::Shared;
@@ -126,5 +127,9 @@ impl<
 
     fn grown(&self) -> &Parker {
         self.grown
+    }
+
+    fn traffic(&self) -> &Traffic {
+        self.common.endpoints.traffic()
     }
 }

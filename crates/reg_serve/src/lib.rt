@@ -2,6 +2,7 @@
 //! workers answer the requests that are whole; a thread follows the topic.
 #![tactic(auto)]
 
+mod answered;
 mod latch;
 mod listening;
 mod nodes;

@@ -1,28 +1,18 @@
 // Where nodes listen.
 use std::alloc::{AllocFailed, Global};
-use std::error::Error;
-use std::fmt;
 use std::io::ErrorKind;
 use std::net::{IpAddr, Net, TcpListener, TcpStream};
+use thiserror::Error;
 
 /// Why a node can't listen.
-#[derive(Clone, Copy, Debug, PartialEq, Eq)]
+#[derive(Clone, Copy, Debug, PartialEq, Eq, Error)]
 pub enum ListenError {
+    #[error("OutOfMemory")]
     OutOfMemory,
     /// The port isn't to be had. A number past the greatest port is an invalid input.
+    #[error("port {port}: {kind:?}")]
     Port { port: u64, kind: ErrorKind },
 }
-
-impl fmt::Display for ListenError {
-    fn fmt<W: fmt::Write>(&self, f: &mut fmt::Formatter<W>) -> fmt::Result {
-        match *self {
-            ListenError::OutOfMemory => write!(f, "OutOfMemory"),
-            ListenError::Port { port, kind } => write!(f, "port {port}: {kind:?}"),
-        }
-    }
-}
-
-impl Error for ListenError {}
 
 impl<T: Drop> From<AllocFailed<T>> for ListenError {
     fn from(_refused: AllocFailed<T>) -> ListenError {

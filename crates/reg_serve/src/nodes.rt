@@ -8,6 +8,7 @@ use crate::worker::{WorkerState, work};
 use mio::{Events, Poll};
 use reg_connection::Limits;
 use reg_conversation::SharedDesk;
+use reg_meters::Traffic;
 use std::alloc::{AllocError, Global};
 use std::io;
 use std::net::{Net, TcpListener};
@@ -19,8 +20,8 @@ use std::time::{Clock, Duration};
 /// How long a node's follower waits at most, in milliseconds.
 const FOLLOW_WITHIN: u64 = 50;
 
-/// Follows the topic for a node. One thread of the node calls `follow` each time that `grown` was
-/// unparked, and 50 ms after its last call at the latest.
+/// Follows the topic for a node, and has the counters of its traffic. One thread of the node calls
+/// `follow` each time that `grown` was unparked, and 50 ms after its last call at the latest.
 pub trait Follow {
     /// Brings what is new of the topic to the node.
     fn follow(&self);
@@ -30,6 +31,9 @@ pub trait Follow {
 
     /// Whoever makes the topic grow unparks it; nobody else parks on it.
     fn grown(&self) -> &Parker;
+
+    /// Where the node's connections and requests are counted.
+    fn traffic(&self) -> &Traffic;
 }
 
 /// A node: where it listens, who follows the topic for it, and what its poller and its workers share.
@@ -125,7 +129,7 @@ pub fn open_node<
 }
 
 /// What a worker's thread does.
-fn serve_at<R: Wait, D: SharedDesk + Drop, F: Follow + Drop>(
+fn serve_at<R: Wait + Clock, D: SharedDesk + Drop, F: Follow + Drop>(
     rt: &R,
     alloc: Global,
     latch: &Latch,
@@ -136,7 +140,8 @@ fn serve_at<R: Wait, D: SharedDesk + Drop, F: Follow + Drop>(
     let mut state = state;
     let mut desk = desk;
     if latch.pass(rt) {
-        work(rt, alloc, &node.shared, &mut state, &mut desk);
+        let traffic = node.follower.traffic();
+        work(rt, alloc, &node.shared, traffic, &mut state, &mut desk);
     }
     leave_work(node);
 }
@@ -154,7 +159,8 @@ fn poll_at<R: Wait + Clock, T: Drop, F: Follow + Drop>(
     let mut events = events;
     if latch.pass(rt) {
         let mut poll = node.poll.lock(rt);
-        poller.run(rt, &mut poll, &mut events, limit);
+        let traffic = node.follower.traffic();
+        poller.run(rt, &mut poll, &mut events, limit, traffic);
         node.shared.end(rt, node.workers);
     }
     leave_work(node);

@@ -3,6 +3,7 @@ use crate::shared_state::{Returned, SharedState};
 use crate::worker::READ_SIZE;
 use mio::{Events, Poll, Token};
 use reg_connection::{Connection, Limits, Places, Turn};
+use reg_meters::{ConnectionTally, Ending, Traffic};
 use std::alloc::{AllocError, Global};
 use std::io::ErrorKind;
 use std::net::{TcpListener, TcpStream};
@@ -42,6 +43,8 @@ pub(crate) struct Poller<'a, T: Drop> {
     unplaced: Option<TcpStream>,
     /// When it last looked for connections that take too long.
     looked: u64,
+    /// The connections that came and went since they were last counted.
+    tally: ConnectionTally,
 }
 
 impl<'a, T: Drop> Poller<'a, T> {
@@ -70,16 +73,18 @@ impl<'a, T: Drop> Poller<'a, T> {
             accepts_from: 0,
             unplaced: None,
             looked: 0,
+            tally: ConnectionTally::new(),
         })
     }
 
-    /// Runs until the node is to end; with a limit, until so many connections were closed.
+    /// Runs until the node is to end; with a limit, until so many connections were closed. Counts them in the traffic.
     pub(crate) fn run<R: Wait + Clock>(
         &mut self,
         rt: &R,
         poll: &mut Poll,
         events: &mut Events,
         limit: Option<u64>,
+        traffic: &Traffic,
     ) {
         for _ in rt.forever() {
             if self.is_done(limit) {
@@ -95,6 +100,9 @@ impl<'a, T: Drop> Poller<'a, T> {
             self.accept_some(rt);
             self.look_for_late();
             self.lighten();
+            traffic
+                .connections
+                .count(mem::replace(&mut self.tally, ConnectionTally::new()));
         }
     }
 
@@ -202,10 +210,10 @@ impl<'a, T: Drop> Poller<'a, T> {
                 self.places
                     .lend(at, connection.weight(), connection.stirred);
                 if !self.shared.hand(rt, connection) {
-                    self.places.leave(at);
+                    self.close(at, Ending::Failed);
                 }
             }
-            Turn::Over => self.places.leave(at),
+            Turn::Over => self.close(at, Ending::Done),
         }
     }
 
@@ -224,7 +232,7 @@ impl<'a, T: Drop> Poller<'a, T> {
                         place,
                         connection: None,
                     },
-                ) => self.places.leave(place),
+                ) => self.close(place, Ending::Done),
                 None => return,
             }
         }
@@ -236,7 +244,7 @@ impl<'a, T: Drop> Poller<'a, T> {
         let stirred = connection.stirred || self.places.was_stirred(at);
         connection.rest(self.alloc, self.now);
         if !connection.watched && !self.shared.watch(&mut connection) {
-            self.places.leave(at);
+            self.close(at, Ending::Failed);
         } else if stirred {
             self.look(rt, at, connection);
         } else {
@@ -282,17 +290,24 @@ impl<'a, T: Drop> Poller<'a, T> {
             self.accepts_from = self.now.saturating_add(self.limits.pause);
             return;
         };
+        self.tally.accept();
         let wait = Duration::from_millis(self.limits.stay);
         if !is_set_up(&stream, wait) {
-            self.places.leave(at);
+            self.close(at, Ending::Failed);
             return;
         }
         let mut connection = Connection::new(self.alloc, stream, at, self.now);
         if self.shared.watch(&mut connection) {
             self.places.hold(at, connection);
         } else {
-            self.places.leave(at);
+            self.close(at, Ending::Failed);
         }
+    }
+
+    /// Closes the connection of a place, if one is there, and frees the place.
+    fn close(&mut self, at: usize, ending: Ending) {
+        self.places.leave(at);
+        self.tally.close(ending);
     }
 
     /// Closes the connection that has waited longest since its last whole request, if for longer than from
@@ -306,7 +321,7 @@ impl<'a, T: Drop> Poller<'a, T> {
             };
             self.stir(rt, at);
             if self.places.held(at).is_some() {
-                self.places.leave(at);
+                self.close(at, Ending::Room);
                 return;
             }
             if !self.places.is_full() {
@@ -327,7 +342,7 @@ impl<'a, T: Drop> Poller<'a, T> {
                 None => false,
             };
             if late {
-                self.places.leave(at);
+                self.close(at, Ending::Late);
             }
         }
     }
@@ -339,7 +354,7 @@ impl<'a, T: Drop> Poller<'a, T> {
                 return;
             }
             match self.places.heaviest() {
-                Some(at) => self.places.leave(at),
+                Some(at) => self.close(at, Ending::Memory),
                 None => return,
             }
         }

@@ -8,6 +8,7 @@ ghost use Rattle.reg_connection.specs.Answering.{AnswersKnowing, HasLearnt};
 ghost use Rattle.reg_connection.specs.TurnKinds.{kind_in};
 ghost use Rattle.reg_serve.specs.Ready.{IsReady};
 
+use crate::answered::count_answer;
 use crate::shared_state::{Returned, SharedState};
 use crate::turns::{Leave, take_up};
 use reg_connection::{
@@ -15,11 +16,13 @@ use reg_connection::{
 };
 use reg_conversation::SharedDesk;
 use reg_http::{Paths, ServeError};
+use reg_meters::{Traffic, microseconds};
 use reg_records::Device;
 use std::alloc::{AllocError, Global};
 use std::mem;
 use std::net::TcpStream;
 use std::sync::Wait;
+use std::time::Clock;
 
 /// The bytes of one read.
 pub(crate) const READ_SIZE: usize = 16_384;
@@ -88,10 +91,11 @@ enum After {
 }
 
 /// Attends to the connections that are ready, one after the other, until there is nothing more to do.
-pub(crate) fn work<R: Wait, D: SharedDesk>(
+pub(crate) fn work<R: Wait + Clock, D: SharedDesk>(
     rt: &R,
     alloc: Global,
     shared: &SharedState<D::Standing>,
+    traffic: &Traffic,
     state: &mut WorkerState,
     desk: &mut D,
 ) {
@@ -99,16 +103,17 @@ pub(crate) fn work<R: Wait, D: SharedDesk>(
         let Some(connection) = shared.take(rt) else {
             return;
         };
-        serve_connection(rt, alloc, shared, state, desk, connection);
+        serve_connection(rt, alloc, shared, traffic, state, desk, connection);
     }
 }
 
 /// Answers what is whole on a connection, and stays with it while each other one that is ready has a
 /// worker, once that was so some times in a row. Before it leaves one it looks whether more has come.
-fn serve_connection<R: Wait, D: SharedDesk>(
+fn serve_connection<R: Wait + Clock, D: SharedDesk>(
     rt: &R,
     alloc: Global,
     shared: &SharedState<D::Standing>,
+    traffic: &Traffic,
     state: &mut WorkerState,
     desk: &mut D,
     connection: Connection<TcpStream, D::Standing>,
@@ -117,7 +122,7 @@ fn serve_connection<R: Wait, D: SharedDesk>(
     let mut stays = false;
     let mut after = After::GoesOn;
     for _ in 0..u64::MAX {
-        after = take_turn(rt, alloc, shared, state, desk, &mut connection);
+        after = take_turn(rt, alloc, shared, traffic, state, desk, &mut connection);
         if after == After::GoesOn && shared.is_calm() {
             continue;
         }
@@ -160,17 +165,18 @@ fn look<T: Drop>(state: &mut WorkerState, connection: &mut Connection<TcpStream,
 }
 
 /// Answers what is whole, and sends it.
-fn take_turn<R: Wait, D: SharedDesk>(
+fn take_turn<R: Wait + Clock, D: SharedDesk>(
     rt: &R,
     alloc: Global,
     shared: &SharedState<D::Standing>,
+    traffic: &Traffic,
     state: &mut WorkerState,
     desk: &mut D,
     connection: &mut Connection<TcpStream, D::Standing>,
 ) -> After {
     let mut answered = Answered::All;
     for _ in 0..u64::MAX {
-        match answer_in_turn(rt, alloc, shared, state, desk, connection) {
+        match answer_in_turn(rt, alloc, shared, traffic, state, desk, connection) {
             None => {}
             Some(last) => {
                 answered = last;
@@ -187,22 +193,33 @@ fn take_turn<R: Wait, D: SharedDesk>(
 }
 
 /// Answers the next request. None where this isn't the end of the turn.
-fn answer_in_turn<R: Wait, D: SharedDesk>(
+fn answer_in_turn<R: Wait + Clock, D: SharedDesk>(
     rt: &R,
     alloc: Global,
     shared: &SharedState<D::Standing>,
+    traffic: &Traffic,
     state: &mut WorkerState,
     desk: &mut D,
     connection: &mut Connection<TcpStream, D::Standing>,
 ) -> Option<Answered> {
     let Some(len) = connection.conversation.front_len() else {
-        return Some(answer_end(alloc, state, desk, connection));
+        return Some(answer_end(rt, alloc, traffic, state, desk, connection));
     };
     let leave = match be_ready(rt, shared, state, connection) {
         Ok(leave) => leave,
         Err(last) => return Some(last),
     };
+    let before = state.out.len();
+    let begun = microseconds(rt);
     let goes_on = answer_front(alloc, state, desk, connection, len, &leave);
+    note_answer(
+        rt,
+        traffic,
+        kind_of(&leave),
+        len,
+        answer_behind(state, before),
+        begun,
+    );
     end_turn(rt, shared, leave);
     match goes_on {
         Ok(true) => {
@@ -215,6 +232,32 @@ fn answer_in_turn<R: Wait, D: SharedDesk>(
         Ok(false) => Some(Answered::Closes),
         Err(_) => Some(Answered::Failed),
     }
+}
+
+/// The kind of a turn.
+fn kind_of(leave: &Option<Leave>) -> Option<TurnKind> {
+    match leave {
+        Some(leave) => Some(leave.kind()),
+        None => None,
+    }
+}
+
+/// What was answered behind so many bytes of answers.
+fn answer_behind(state: &WorkerState, before: usize) -> &[u8] {
+    state.out.get(before..).unwrap_or(&[])
+}
+
+/// Counts a request of so many bytes that took a turn of that kind or none, and its answer, which was begun at that moment.
+fn note_answer<R: Clock>(
+    rt: &R,
+    traffic: &Traffic,
+    kind: Option<TurnKind>,
+    request: usize,
+    answer: &[u8],
+    begun: u64,
+) {
+    let took = microseconds(rt).saturating_sub(begun);
+    count_answer(traffic, kind, request, answer, took);
 }
 
 /// Answers the request at the front, behind the answers that are gathered. Where that fails these stay as they are. A command is done with
@@ -255,8 +298,10 @@ fn answer_front<D: SharedDesk>(
 
 /// No request is whole: where the client has ended its side, what is held is answered, and the connection
 /// closes.
-fn answer_end<D: SharedDesk>(
+fn answer_end<R: Clock, D: SharedDesk>(
+    rt: &R,
     alloc: Global,
+    traffic: &Traffic,
     state: &mut WorkerState,
     desk: &mut D,
     connection: &mut Connection<TcpStream, D::Standing>,
@@ -264,11 +309,15 @@ fn answer_end<D: SharedDesk>(
     if !connection.ended {
         return Answered::All;
     }
+    let before = state.out.len();
+    let begun = microseconds(rt);
+    let held = connection.conversation.held_len();
     let answered = if connection.conversation.front_len().is_none() {
         answer_rest(alloc, state, desk, connection)
     } else {
         Ok(())
     };
+    note_answer(rt, traffic, None, held, answer_behind(state, before), begun);
     match answered {
         Ok(()) => Answered::Closes,
         Err(_) => Answered::Failed,

@@ -2,6 +2,7 @@
 use reg_connection::Limits;
 use reg_desk::Wake;
 use reg_feed::{FeedName, Seen};
+use reg_meters::Traffic;
 use reg_serve::Latch;
 use reg_shared::Shared;
 use reg_topic::Item;
@@ -32,6 +33,8 @@ pub(crate) struct Common<'a, R, G> {
     /// After how many closed connections a node ends.
     pub(crate) limit: Option<u64>,
     pub(crate) limits: Limits,
+    /// Where connections and requests are counted.
+    pub(crate) traffic: &'a Traffic,
 }
 
 /// Wakes the followers of the other nodes.

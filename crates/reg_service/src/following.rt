@@ -1,5 +1,6 @@
 // A node's follower, for the thread that follows the topic.
 use reg_feed::{Copies, FeedName};
+use reg_meters::Traffic;
 use reg_node::{Draw, Follower, Taken};
 use reg_serve::Follow;
 use reg_shared::Shared;
@@ -7,7 +8,7 @@ use reg_topic::Item;
 use std::sync::{Mutex, Wait};
 use std::thread::Parker;
 
-/// A node's follower, with what wakes its thread.
+/// A node's follower, with what wakes its thread, and where the node's traffic is counted.
 #[derive(Drop)]
 pub(crate) struct Following<
     'a,
@@ -20,6 +21,7 @@ pub(crate) struct Following<
     pub(crate) rt: &'a R,
     pub(crate) follower: &'a Mutex<Follower<N, S, M, U, R>>,
     pub(crate) grown: &'a Parker,
+    pub(crate) traffic: &'a Traffic,
 }
 
 impl<
@@ -46,5 +48,9 @@ impl<
 
     fn grown(&self) -> &Parker {
         self.grown
+    }
+
+    fn traffic(&self) -> &Traffic {
+        self.traffic
     }
 }

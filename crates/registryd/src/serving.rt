@@ -1,4 +1,5 @@
 // Nodes that serve until the program is stopped.
+use reg_meters::Traffic;
 use reg_serve::listen;
 use reg_service::{Endpoints, NoGate, ServiceError, Size, serve_nodes};
 use std::alloc::Global;
@@ -37,7 +38,7 @@ pub(crate) fn serve_ports<
         port,
         nodes,
     };
-    match serve_nodes(rt, alloc, size, &NoGate, &mut ports) {
+    match serve_nodes(rt, alloc, size, &NoGate, &Traffic::new(), &mut ports) {
         Ok(()) => 0,
         Err(fault) => {
             let _told = rt.eprintln(fault);

@@ -46,6 +46,13 @@ pub(crate) fn misread<R: Eprint>(rt: &R, error: io::Error) -> io::Result<Finishe
     Ok(Finished { status: 2 })
 }
 
+/// Says why metrics can't be shown.
+pub(crate) fn unshown<R: Eprint>(rt: &R, error: io::Error) -> io::Result<Finished> {
+    let kind = error.kind();
+    rt.eprintln(format_args!("metrics: {kind:?}"))?;
+    Ok(Finished { status: 1 })
+}
+
 /// Says why a log isn't served, or a file isn't read or written. What keeps a log from being taken over was told line by
 /// line.
 pub(crate) fn kept<R: Eprint>(rt: &R, served: Result<(), KeepError>) -> io::Result<Finished> {

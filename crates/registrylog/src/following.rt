@@ -1,12 +1,14 @@
 // `registrylog follow`: nodes over the lines of the standard input.
 use crate::ends::{Finished, followed};
+use crate::hearing::CountedLines;
 use crate::place::Place;
+use crate::watching::SharedBoard;
 use reg_follow::{FollowEndpoints, FollowError, FollowSize, serve_lines};
 use reg_serve::listen;
 use std::alloc::Global;
-use std::io::{self, BufRead, BufReader, Eprint};
+use std::io::{self, BufReader, Eprint, Read};
 use std::net::{Net, TcpListener, TcpStream};
-use std::sync::Wait;
+use std::sync::{Arc, Wait};
 use std::thread::Threads;
 use std::time::Clock;
 
@@ -19,6 +21,7 @@ struct FollowPorts<R: Drop> {
     rt: R,
     alloc: Global,
     place: Place,
+    board: SharedBoard,
 }
 
 impl<R: Net<Listener = TcpListener, Stream = TcpStream> + Eprint + Drop> FollowEndpoints
@@ -34,6 +37,7 @@ impl<R: Net<Listener = TcpListener, Stream = TcpStream> + Eprint + Drop> FollowE
     }
 
     fn ready(&mut self, lines: u64) -> bool {
+        self.board.marks.listens.set(true);
         let _told = self
             .rt
             .eprintln(format_args!("following, {lines} lines so far"));
@@ -43,7 +47,7 @@ impl<R: Net<Listener = TcpListener, Stream = TcpStream> + Eprint + Drop> FollowE
 
 /// Serves the lines of the input.
 pub(crate) fn follow<
-    I: BufRead + Send + Drop + 'static,
+    I: Read + Send + Drop + 'static,
     R: Threads
         + Wait
         + Clock
@@ -54,13 +58,20 @@ pub(crate) fn follow<
         + Copy
         + Drop
         + 'static,
->(rt: R, alloc: Global, input: I, place: Place) -> io::Result<Finished> {
+>(rt: R, alloc: Global, input: I, place: Place, board: SharedBoard) -> io::Result<Finished> {
     let size = FollowSize {
         nodes: place.nodes,
         workers: place.workers,
         limit: None,
     };
-    let reader = BufReader::with_capacity(alloc, PIECE, input)?;
-    let mut ports = FollowPorts { rt, alloc, place };
-    followed(&rt, serve_lines(rt, alloc, size, reader, &mut ports))
+    let lines = CountedLines::new(rt, input, Arc::try_clone(&board)?);
+    let reader = BufReader::with_capacity(alloc, PIECE, lines)?;
+    let mut ports = FollowPorts {
+        rt,
+        alloc,
+        place,
+        board: Arc::try_clone(&board)?,
+    };
+    let served = serve_lines(rt, alloc, size, reader, &board.traffic, &mut ports);
+    followed(&rt, served)
 }

@@ -1,9 +1,11 @@
 // `registrylog keep`: nodes over a log in a file.
 use crate::fault::KeepError;
+use crate::metered::MeteredFile;
 use crate::opening::{Locked, lock, open_or_make, start_log};
 use crate::place::Place;
 use crate::progress::Progress;
 use crate::telling::Telling;
+use crate::watching::SharedBoard;
 use reg_file_keep::{FileKeep, Started};
 use reg_inspection::obstacles;
 use reg_journal::{StoredFile, look};
@@ -14,6 +16,7 @@ use std::alloc::Global;
 use std::fs::{File, Files};
 use std::io::Eprint;
 use std::net::{Net, TcpListener, TcpStream};
+use std::sync::Arc;
 use std::thread::Threads;
 use std::time::Clock;
 
@@ -28,6 +31,7 @@ pub(crate) struct KeepPorts<R: Drop> {
     next: u64,
     bytes: u64,
     progress: Option<Progress>,
+    board: SharedBoard,
 }
 
 impl<R: Net<Listener = TcpListener, Stream = TcpStream> + Threads + Eprint + Clock + Drop> Endpoints
@@ -47,6 +51,7 @@ impl<R: Net<Listener = TcpListener, Stream = TcpStream> + Threads + Eprint + Clo
         if let Some(progress) = self.progress.take() {
             progress.end(&self.rt);
         }
+        self.board.marks.listens.set(true);
         let _told = self.rt.eprintln(format_args!(
             "serving {records} records, next offset {next}, {bytes} bytes"
         ));
@@ -56,21 +61,22 @@ impl<R: Net<Listener = TcpListener, Stream = TcpStream> + Threads + Eprint + Clo
 
 /// A log's file that is opened, under its lock.
 #[derive(Drop)]
-pub(crate) struct Opened<R: Files<File = File> + Eprint + Drop> {
+pub(crate) struct Opened<R: Files<File = File> + Clock + Eprint + Drop> {
     pub(crate) path: String,
     pub(crate) lock: File,
-    pub(crate) kept: KeptLog<Told<FileKeep<StoredFile<R>>, Telling<R>>>,
+    pub(crate) kept: KeptLog<Told<FileKeep<MeteredFile<R>>, Telling<R>>>,
     pub(crate) size: Size,
     pub(crate) ports: KeepPorts<R>,
 }
 
 /// Opens the file of a log, and compacts it where that is due.
-pub(crate) fn open_log<R: Files<File = File> + Eprint + Copy + Drop>(
+pub(crate) fn open_log<R: Files<File = File> + Clock + Eprint + Copy + Drop>(
     rt: R,
     alloc: Global,
     file: &str,
     place: Place,
     progress: Progress,
+    board: &SharedBoard,
 ) -> Result<Opened<R>, KeepError> {
     let Locked {
         path,
@@ -80,10 +86,15 @@ pub(crate) fn open_log<R: Files<File = File> + Eprint + Copy + Drop>(
     progress.has_size(opened.metadata()?.len());
     let disk = StoredFile::new(alloc, rt, path.as_str(), opened)?;
     disk.remove_unfinished()?;
+    let disk = MeteredFile::new(rt, disk, Arc::try_clone(board)?);
     let Started { kept, end, cut: _ } = start_log(rt, alloc, disk, path.as_str())?;
     let bytes = (end as u64).saturating_add(1);
-    progress.has_read(kept.keep().journal().lines(), bytes);
-    let mut telling = Telling::new(rt);
+    let lines = kept.keep().journal().lines();
+    progress.has_read(lines, bytes);
+    board.file.lines.set(lines);
+    board.file.bytes.set(bytes);
+    board.file.next.set(kept.log().next);
+    let mut telling = Telling::new(rt, Arc::try_clone(board)?);
     telling.tell_fault(kept.keep().compaction_fault());
     let ports = KeepPorts {
         rt,
@@ -93,6 +104,7 @@ pub(crate) fn open_log<R: Files<File = File> + Eprint + Copy + Drop>(
         next: kept.log().next,
         bytes,
         progress: Some(progress),
+        board: Arc::try_clone(board)?,
     };
     let size = Size {
         nodes: place.nodes,

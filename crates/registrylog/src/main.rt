@@ -10,27 +10,35 @@ mod ends;
 mod fault;
 mod filtering;
 mod following;
+mod hearing;
 mod joining;
 mod keeping;
+mod metered;
 mod opening;
 mod place;
 mod progress;
 mod replacing;
 mod telling;
+mod watching;
 
-use crate::ends::{Finished, joined, kept, misread, refused, tailed, told};
+use crate::ends::{Finished, joined, kept, misread, refused, tailed, told, unshown};
 use crate::filtering::{Wish, base, check, compact};
 use crate::following::{PIECE, follow};
+use crate::hearing::Heard;
 use crate::joining::{JoinPorts, Requests, join_size, tell_rules};
 use crate::keeping::{Opened, ended, open_log};
 use crate::place::Place;
 use crate::progress::Progress;
+use crate::watching::{Shown, make_board, shown_by};
 use log_arguments::{LogCommand, read_arguments};
 use reg_join_service::serve_joined;
+use reg_metrics::serve_pages;
 use reg_service::{NoGate, serve_log};
 use reg_tail::follow_file;
 use std::env;
 use std::io::{self, BufReader, Input};
+use std::net::TcpListener;
+use std::sync::Arc;
 
 fn main(rt: HostRuntime) -> io::Result<Finished> {
     let alloc = rt.alloc();
@@ -38,19 +46,34 @@ fn main(rt: HostRuntime) -> io::Result<Finished> {
         Ok(words) => words.collect(alloc)?,
         Err(error) => return misread(&rt, error),
     };
-    match read_arguments(alloc, words.as_slice()) {
-        Ok(
-            LogCommand::Keep {
-                file,
-                listen,
-                nodes,
-                workers,
-                quiet,
-            },
-        ) => {
+    let command = match read_arguments(alloc, words.as_slice()) {
+        Ok(command) => command,
+        Err(error) => return refused(&rt, error),
+    };
+    let board = make_board(&rt, alloc)?;
+    // Here, since the prover covers no thread of a type whose impl rests on bounds of a caller's.
+    if let Some((served, address)) = shown_by(&command) {
+        let shown = Shown::new(rt, &board, served)?;
+        let begun = match TcpListener::bind(&rt, address) {
+            Ok(listener) => serve_pages(rt, alloc, listener, shown),
+            Err(error) => Err(error),
+        };
+        if let Err(error) = begun {
+            return unshown(&rt, error);
+        }
+    }
+    match command {
+        LogCommand::Keep {
+            file,
+            listen,
+            nodes,
+            workers,
+            metrics: _,
+            quiet,
+        } => {
             let place = Place::new(listen, nodes, workers);
             let progress = Progress::begin(rt, alloc, Some(file), quiet)?;
-            match open_log(rt, alloc, file, place, progress) {
+            match open_log(rt, alloc, file, place, progress, &board) {
                 Ok(opened) => {
                     let Opened {
                         path,
@@ -59,49 +82,58 @@ fn main(rt: HostRuntime) -> io::Result<Finished> {
                         size,
                         mut ports,
                     } = opened;
-                    let served = serve_log(rt, alloc, size, &NoGate, &mut ports, log);
+                    let served = serve_log(
+                        rt,
+                        alloc,
+                        size,
+                        &NoGate,
+                        &board.traffic,
+                        &mut ports,
+                        log,
+                    );
                     drop(lock);
                     kept(&rt, ended(rt, alloc, path.as_str(), served))
                 }
                 Err(fault) => kept(&rt, Err(fault)),
             }
         }
-        Ok(
-            LogCommand::Follow {
-                listen,
-                nodes,
-                workers,
-            },
-        ) => follow(rt, alloc, rt.reader(), Place::new(listen, nodes, workers)),
-        Ok(
-            LogCommand::Join {
-                listen,
-                nodes,
-                workers,
-            },
-        ) => {
+        LogCommand::Follow {
+            listen,
+            nodes,
+            workers,
+            metrics: _,
+        } => {
             let place = Place::new(listen, nodes, workers);
-            let input = BufReader::with_capacity(alloc, PIECE, rt.reader())?;
-            let ports = JoinPorts::new(rt, alloc, place);
+            follow(rt, alloc, rt.reader(), place, board)
+        }
+        LogCommand::Join {
+            listen,
+            nodes,
+            workers,
+            metrics: _,
+        } => {
+            let place = Place::new(listen, nodes, workers);
+            let heard = Heard::new(rt, rt.reader(), Arc::try_clone(&board)?);
+            let input = BufReader::with_capacity(alloc, PIECE, heard)?;
+            let requests = Requests::new(rt, Arc::try_clone(&board)?);
+            let ports = JoinPorts::new(rt, alloc, place, board);
             let size = join_size(place);
-            let served = serve_joined(rt, alloc, size, input, Requests::new(rt), &ports);
+            let served = serve_joined(rt, alloc, size, input, requests, &ports);
             joined(&rt, alloc, served)
         }
-        Ok(LogCommand::Rules) => told(tell_rules(&rt)),
-        Ok(LogCommand::Tail { file, from }) => {
+        LogCommand::Rules => told(tell_rules(&rt)),
+        LogCommand::Tail { file, from } => {
             let error = follow_file(&rt, alloc, file, from, &mut io::writer(&rt));
             tailed(&rt, error)
         }
-        Ok(LogCommand::Check { file, quiet }) => check(rt, alloc, file, quiet),
-        Ok(LogCommand::Base { file, below, quiet }) => base(rt, alloc, file, below, quiet),
-        Ok(
-            LogCommand::Compact {
-                file,
-                to,
-                output,
-                quiet,
-            },
-        ) => {
+        LogCommand::Check { file, quiet } => check(rt, alloc, file, quiet),
+        LogCommand::Base { file, below, quiet } => base(rt, alloc, file, below, quiet),
+        LogCommand::Compact {
+            file,
+            to,
+            output,
+            quiet,
+        } => {
             let wish = Wish {
                 file,
                 floor: to,
@@ -109,6 +141,5 @@ fn main(rt: HostRuntime) -> io::Result<Finished> {
             };
             compact(rt, alloc, wish, quiet)
         }
-        Err(error) => refused(&rt, error),
     }
 }

@@ -1,5 +1,6 @@
 // Opening a log's file, under its lock.
 use crate::fault::KeepError;
+use crate::metered::MeteredFile;
 use reg_compaction::{Aside, Opens};
 use reg_file_keep::{NotStarted, Started, start_file_keep};
 use reg_journal::{DiskError, StoredFile};
@@ -7,6 +8,7 @@ use std::alloc::Global;
 use std::fs::{File, Files, TryLockError};
 use std::io::Eprint;
 use std::path::Path;
+use std::time::Clock;
 
 /// A log's file. While this is there no other process has it.
 #[derive(Drop)]
@@ -97,12 +99,12 @@ impl<R: Files<File = File> + Copy + Drop> Opens<StoredFile<R>> for CutFile<R> {
 
 /// Starts over a log's file. What stands behind its empty line is copied to a file of its own, with `.cut` behind the
 /// name, before it is cut off.
-pub(crate) fn start_log<R: Files<File = File> + Eprint + Copy + Drop>(
+pub(crate) fn start_log<R: Files<File = File> + Clock + Eprint + Copy + Drop>(
     rt: R,
     alloc: Global,
-    disk: StoredFile<R>,
+    disk: MeteredFile<R>,
     path: &str,
-) -> Result<Started<StoredFile<R>>, KeepError> {
+) -> Result<Started<MeteredFile<R>>, KeepError> {
     let cut = CutFile {
         rt,
         alloc,

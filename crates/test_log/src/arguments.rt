@@ -5,47 +5,69 @@ use std::test::Fail;
 
 /// Command lines behind the program's name, each with what it asks for or the first line of why it is refused. A word ends at a
 /// space.
-static LINES: [(&str, &str); 63] = [
+static LINES: [(&str, &str); 69] = [
     // The defaults, and each option.
     (
         "keep a",
-        "Keep { file: \"a\", listen: 127.0.0.1:8081, nodes: 1, workers: 4, quiet: false }",
+        "Keep { file: \"a\", listen: 127.0.0.1:8081, nodes: 1, workers: 4, metrics: None, quiet: false }",
     ),
     (
         "keep --listen 0.0.0.0:9000 --nodes 3 --workers 16 --quiet a",
-        "Keep { file: \"a\", listen: 0.0.0.0:9000, nodes: 3, workers: 16, quiet: true }",
+        "Keep { file: \"a\", listen: 0.0.0.0:9000, nodes: 3, workers: 16, metrics: None, quiet: true }",
     ),
     (
         "keep a --workers=1 --listen=[::1]:65533 --nodes=3",
-        "Keep { file: \"a\", listen: [::1]:65533, nodes: 3, workers: 1, quiet: false }",
+        "Keep { file: \"a\", listen: [::1]:65533, nodes: 3, workers: 1, metrics: None, quiet: false }",
     ),
     (
         "keep -- --quiet",
-        "Keep { file: \"--quiet\", listen: 127.0.0.1:8081, nodes: 1, workers: 4, quiet: false }",
+        "Keep { file: \"--quiet\", listen: 127.0.0.1:8081, nodes: 1, workers: 4, metrics: None, quiet: false }",
     ),
     (
         "keep -",
-        "Keep { file: \"-\", listen: 127.0.0.1:8081, nodes: 1, workers: 4, quiet: false }",
+        "Keep { file: \"-\", listen: 127.0.0.1:8081, nodes: 1, workers: 4, metrics: None, quiet: false }",
     ),
     (
         "follow",
-        "Follow { listen: 127.0.0.1:8081, nodes: 1, workers: 4 }",
+        "Follow { listen: 127.0.0.1:8081, nodes: 1, workers: 4, metrics: None }",
     ),
     (
         "follow --nodes 2 --listen 127.0.0.1:65534",
-        "Follow { listen: 127.0.0.1:65534, nodes: 2, workers: 4 }",
+        "Follow { listen: 127.0.0.1:65534, nodes: 2, workers: 4, metrics: None }",
     ),
     (
         "join",
-        "Join { listen: 127.0.0.1:8081, nodes: 1, workers: 4 }",
+        "Join { listen: 127.0.0.1:8081, nodes: 1, workers: 4, metrics: None }",
     ),
     (
         "join --workers 2 --nodes=3 --listen [::1]:65533",
-        "Join { listen: [::1]:65533, nodes: 3, workers: 2 }",
+        "Join { listen: [::1]:65533, nodes: 3, workers: 2, metrics: None }",
     ),
     (
         "join --workers 16",
-        "Join { listen: 127.0.0.1:8081, nodes: 1, workers: 16 }",
+        "Join { listen: 127.0.0.1:8081, nodes: 1, workers: 16, metrics: None }",
+    ),
+    // Where metrics are shown.
+    (
+        "keep --metrics 127.0.0.1:9081 a",
+        "Keep { file: \"a\", listen: 127.0.0.1:8081, nodes: 1, workers: 4, metrics: Some(127.0.0.1:9081), quiet: false }",
+    ),
+    (
+        "follow --metrics=[::1]:65535",
+        "Follow { listen: 127.0.0.1:8081, nodes: 1, workers: 4, metrics: Some([::1]:65535) }",
+    ),
+    (
+        "join --workers 2 --metrics 0.0.0.0:9081",
+        "Join { listen: 127.0.0.1:8081, nodes: 1, workers: 2, metrics: Some(0.0.0.0:9081) }",
+    ),
+    ("join --metrics 0.0.0.0:9081 --rules", "Rules"),
+    (
+        "keep --metrics 9081 a",
+        "error: --metrics 9081: an address with a port, as 127.0.0.1:9081 or [::1]:9081",
+    ),
+    (
+        "follow --metrics localhost:9081",
+        "error: --metrics localhost:9081: an address with a port, as 127.0.0.1:9081 or [::1]:9081",
     ),
     ("join --rules", "Rules"),
     ("join --workers 1 --rules", "Rules"),

@@ -1,6 +1,7 @@
 //! Tests of the kept log, over public calls: its journal, also on a disk that tears at each byte of each write and fails at each
 //! call, its compactions and inspections, how its file is followed, and what its program's command lines come to; of what a process and
-//! its adapter say to each other, also in threads; and of pages of metrics.
+//! its adapter say to each other, also in threads; and of pages of metrics, and of what stands on
+//! that of `registrylog`.
 #![tactic(auto)]
 
 #[cfg(test)]
@@ -21,6 +22,8 @@ mod journal;
 mod keeping;
 #[cfg(test)]
 mod messages;
+#[cfg(test)]
+mod metrics;
 #[cfg(test)]
 mod pages;
 #[cfg(test)]

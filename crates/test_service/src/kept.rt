@@ -1,5 +1,6 @@
 // Nodes over a topic that begins with a log, and whose batches are lent to a keep.
 use crate::asking::{ask, body, listen, send, use_up};
+use reg_meters::Traffic;
 use reg_pen::{Keep, Kept, KeptLog, Lack};
 use reg_records::{Device, Log, Record, read_log};
 use reg_service::{Listening, NoGate, Size, serve_log};
@@ -176,6 +177,7 @@ fn serve<
                     alloc,
                     size,
                     &NoGate,
+                    &Traffic::new(),
                     &mut endpoints,
                     KeptLog::new(base, keep),
                 )

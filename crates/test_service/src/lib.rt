@@ -1,9 +1,11 @@
-//! Tests of connections by scripts of their own, of nodes over sockets, of lines that come in pieces, of nodes that follow them, and of
-//! the nodes of the service.
+//! Tests of connections by scripts of their own, of nodes over sockets, of lines that come in pieces, of nodes that follow them, of
+//! the nodes of the service, and of what is counted and shown of them.
 #![tactic(auto)]
 
 #[cfg(test)]
 mod asking;
+#[cfg(test)]
+mod counting;
 #[cfg(test)]
 mod crowd;
 #[cfg(test)]
@@ -20,5 +22,7 @@ mod rows;
 mod serve;
 #[cfg(test)]
 mod serving;
+#[cfg(test)]
+mod showing;
 #[cfg(test)]
 mod slow;

@@ -1,5 +1,6 @@
 // Nodes that serve at listeners.
 use reg_desk::Gate;
+use reg_meters::Traffic;
 use reg_service::{Listening, ServiceError, Size, serve_nodes};
 use std::alloc::Global;
 use std::net::{Net, TcpListener, TcpStream};
@@ -32,5 +33,5 @@ pub(crate) fn serve_at<
         limit: Some(limit),
     };
     let mut endpoints = Listening::new(alloc, listeners);
-    serve_nodes(rt, alloc, size, gate, &mut endpoints)
+    serve_nodes(rt, alloc, size, gate, &Traffic::new(), &mut endpoints)
 }

@@ -2,6 +2,7 @@
 use crate::asking::ask;
 use crate::follow::scripted::{Piece, Script};
 use reg_follow::{FollowEndpoints, FollowError, FollowSize, serve_lines};
+use reg_meters::Traffic;
 use reg_records::{LineError, LogFault};
 use std::alloc::Global;
 use std::io::{self, Eprint};
@@ -159,7 +160,8 @@ fn serve<
                 listeners,
                 begun,
             };
-            serve_lines(rt, alloc, size, Script::new(rt, script), &mut ports)
+            let reader = Script::new(rt, script);
+            serve_lines(rt, alloc, size, reader, &Traffic::new(), &mut ports)
         });
         let other = other_body(alloc, &rt, addresses, row.asked);
         let ended = match server {

@@ -1,6 +1,7 @@
 // A node over a listening socket, and what its clients meet.
 use crate::serve::fakes::{EchoDesk, Ledger};
 use reg_connection::Limits;
+use reg_meters::Traffic;
 use reg_serve::{Follow, Latch, NodeServer, StartError, begin, open_node};
 use std::alloc::Global;
 use std::io;
@@ -17,6 +18,7 @@ pub struct Counting<'a> {
     pub calls: &'a AtomicU64,
     pub ledger: &'a Ledger,
     pub grown: Parker,
+    pub traffic: Traffic,
 }
 
 impl Follow for Counting<'_> {
@@ -30,6 +32,10 @@ impl Follow for Counting<'_> {
 
     fn grown(&self) -> &Parker {
         &self.grown
+    }
+
+    fn traffic(&self) -> &Traffic {
+        &self.traffic
     }
 }
 
@@ -90,6 +96,7 @@ pub fn with_node<
         calls: &calls,
         ledger,
         grown: Parker::new(),
+        traffic: Traffic::new(),
     };
     let node = NodeServer::new(rt, alloc, &listener, following, workers as usize, limits)?;
     let latch = Latch::new();

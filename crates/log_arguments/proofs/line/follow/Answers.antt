@@ -9,4 +9,5 @@ returns c =
     let bare : HasLine (new_app (codes "follow")) c.after_help.result = search rules in
     let one = HasLine-arg _ _ _ _ _ bare c.listen.ensures c.in_ok-arg.ensures in
     let two = HasLine-arg _ _ _ _ _ one c.nodes.ensures c.in_ok-arg-2.ensures in
-    HasLine-last _ _ c.arg-3.result _ _ two c.workers.ensures c.arg-3.ensures
+    let three = HasLine-arg _ _ _ _ _ two c.workers.ensures c.in_ok-arg-3.ensures in
+    HasLine-last _ _ c.arg-4.result _ _ three c.metrics.ensures c.arg-4.ensures

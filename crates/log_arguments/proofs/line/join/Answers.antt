@@ -12,4 +12,5 @@ returns c =
     let one = HasLine-arg _ _ _ _ _ bare c.listen.ensures c.in_ok-arg.ensures in
     let two = HasLine-arg _ _ _ _ _ one c.nodes.ensures c.in_ok-arg-2.ensures in
     let three = HasLine-arg _ _ _ _ _ two workers c.in_ok-arg-3.ensures in
-    HasLine-last _ _ c.arg-4.result _ _ three asked c.arg-4.ensures
+    let four = HasLine-arg _ _ _ _ _ three c.metrics.ensures c.in_ok-arg-4.ensures in
+    HasLine-last _ _ c.arg-5.result _ _ four asked c.arg-5.ensures

@@ -11,5 +11,6 @@ returns c =
     let one = HasLine-arg _ _ _ _ _ bare c.listen.ensures c.in_ok-arg.ensures in
     let two = HasLine-arg _ _ _ _ _ one c.nodes.ensures c.in_ok-arg-2.ensures in
     let three = HasLine-arg _ _ _ _ _ two c.workers.ensures c.in_ok-arg-3.ensures in
-    let four = HasLine-arg _ _ _ _ _ three c.quiet.ensures c.in_ok-arg-4.ensures in
-    HasLine-last _ _ c.arg-5.result _ _ four file c.arg-5.ensures
+    let four = HasLine-arg _ _ _ _ _ three c.metrics.ensures c.in_ok-arg-4.ensures in
+    let five = HasLine-arg _ _ _ _ _ four c.quiet.ensures c.in_ok-arg-5.ensures in
+    HasLine-last _ _ c.arg-6.result _ _ five file c.arg-6.ensures

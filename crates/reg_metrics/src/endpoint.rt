@@ -1,0 +1,174 @@
+// Where pages are asked for: a listener, and threads that answer, each one connection at a time.
+use crate::answering::answer_to;
+use crate::asked::{PageRequest, asked_in};
+use crate::stage::Stage;
+use std::alloc::{AllocError, Global};
+use std::io::{self, ErrorKind, Read, Write};
+use std::net::{TcpListener, TcpStream};
+use std::sync::{Arc, Wait};
+use std::thread::{self, Threads};
+use std::time::{Clock, Duration, Instant};
+
+/// How many connections there are at most.
+const CONNECTIONS: u32 = 8;
+
+/// The bytes of a head at most.
+const HEAD: usize = 8_192;
+
+/// The bytes of one read at most.
+const PIECE: usize = 1_024;
+
+/// How long a request and its answer may take, in seconds.
+const WITHIN: u64 = 10;
+
+/// How long it is waited where no connection can be accepted, in milliseconds.
+const AGAIN: u64 = 100;
+
+/// What is shown.
+pub trait Pages {
+    /// The page of numbers.
+    fn metrics(&self, alloc: Global) -> Result<Vec<u8>, AllocError>;
+
+    /// How far the process is.
+    fn stage(&self) -> Stage;
+}
+
+/// A listener, and what is shown there.
+#[derive(Drop)]
+struct Endpoint<R: Drop, P: Drop> {
+    rt: R,
+    alloc: Global,
+    listener: TcpListener,
+    pages: P,
+}
+
+/// Answers requests for pages at the listener, in threads that end with the process. Fails where one of them can't be made.
+pub fn serve_pages<
+    R: Threads + Wait + Clock + Sync + Send + Copy + Drop + 'static,
+    P: Pages + Sync + Send + Drop + 'static,
+>(rt: R, alloc: Global, listener: TcpListener, pages: P) -> io::Result<()> {
+    let endpoint = Endpoint {
+        rt,
+        alloc,
+        listener,
+        pages,
+    };
+    let endpoint = Arc::new(alloc, endpoint)?;
+    for _connection in 0..CONNECTIONS {
+        start(&rt, Arc::try_clone(&endpoint)?)?;
+    }
+    Ok(())
+}
+
+fn start<R: Threads, T: Answers + Send + Drop + 'static>(rt: &R, task: T) -> io::Result<()> {
+    match thread::spawn(rt, move || task.answer_all()) {
+        Ok(_thread) => Ok(()),
+        Err(_refused) => Err(io::Error::from(ErrorKind::OutOfMemory)),
+    }
+}
+
+/// What a thread does.
+trait Answers {
+    fn answer_all(&self);
+}
+
+impl<R: Wait + Clock + Drop, P: Pages + Drop> Answers for Arc<Endpoint<R, P>, Global> {
+    fn answer_all(&self) {
+        for _ in self.rt.forever() {
+            match self.listener.accept() {
+                Ok((stream, _peer)) => {
+                    let _answered = answer(&self.rt, self.alloc, stream, &self.pages);
+                }
+                Err(_refused) => thread::sleep(&self.rt, Duration::from_millis(AGAIN)),
+            }
+        }
+    }
+}
+
+/// Answers the one request of a connection.
+fn answer<R: Clock, P: Pages>(
+    rt: &R,
+    alloc: Global,
+    stream: TcpStream,
+    pages: &P,
+) -> io::Result<()> {
+    let mut stream = stream;
+    let begun = Instant::now(rt)?;
+    let asked = match take_head(rt, alloc, &mut stream, begun)? {
+        Some(head) => asked_in(&head),
+        None => PageRequest::Malformed,
+    };
+    let page = match asked {
+        PageRequest::Metrics => pages.metrics(alloc)?,
+        _ => Vec::new(alloc),
+    };
+    let response = answer_to(alloc, asked, pages.stage(), &page)?;
+    send(rt, &mut stream, begun, &response)
+}
+
+/// Sends a response.
+fn send<R: Clock>(
+    rt: &R,
+    stream: &mut TcpStream,
+    begun: Instant,
+    response: &[u8],
+) -> io::Result<()> {
+    let mut rest = response;
+    for _piece in 0..response.len() {
+        if rest.is_empty() {
+            break;
+        }
+        stream.set_write_timeout(Some(left(rt, begun)?))?;
+        let len = stream.write(rest)?;
+        rest = rest.get(len..).unwrap_or(&[]);
+    }
+    Ok(())
+}
+
+/// The time that is left; an error where none is.
+fn left<R: Clock>(rt: &R, begun: Instant) -> io::Result<Duration> {
+    let taken = Instant::now(rt)?.duration_since(begun);
+    match Duration::from_secs(WITHIN).checked_sub(taken) {
+        Some(left) => {
+            if left.is_zero() {
+                return Err(io::Error::from(ErrorKind::TimedOut));
+            }
+            Ok(left)
+        }
+        None => Err(io::Error::from(ErrorKind::TimedOut)),
+    }
+}
+
+/// The bytes up to an empty line; none where there is none within the limit.
+fn take_head<R: Clock>(
+    rt: &R,
+    alloc: Global,
+    stream: &mut TcpStream,
+    begun: Instant,
+) -> io::Result<Option<Vec<u8>>> {
+    let mut head = Vec::new(alloc);
+    let mut buffer = [0u8; PIECE];
+    for _piece in 0..HEAD {
+        stream.set_read_timeout(Some(left(rt, begun)?))?;
+        let len = stream.read(&mut buffer)?;
+        let bytes = buffer.get(..len).unwrap_or(&[]);
+        if bytes.is_empty() || HEAD - head.len().min(HEAD) < bytes.len() {
+            return Ok(None);
+        }
+        head.extend_from_slice(bytes)?;
+        if has_end(&head) {
+            return Ok(Some(head));
+        }
+    }
+    Ok(None)
+}
+
+/// Whether an empty line stands in the bytes.
+fn has_end(bytes: &[u8]) -> bool {
+    for place in 0..bytes.len() {
+        if bytes[place..].starts_with(b"\r\n\r\n") {
+            return true;
+        }
+    }
+    false
+}

@@ -1,0 +1,112 @@
+// Inputs of which it is counted what comes on them.
+use crate::watching::{SharedBoard, date};
+use reg_meters::microseconds;
+use reg_metrics::WordFinder;
+use std::io::{self, Read};
+use std::time::Clock;
+
+/// The lines of a log that is followed. They end with the input, or with an empty line.
+#[derive(Drop)]
+pub(crate) struct CountedLines<I: Drop, R: Drop> {
+    rt: R,
+    input: I,
+    board: SharedBoard,
+    /// Whether nothing of the next line came.
+    is_at_start: bool,
+}
+
+impl<I: Read + Drop, R: Clock + Drop> CountedLines<I, R> {
+    pub(crate) fn new(rt: R, input: I, board: SharedBoard) -> CountedLines<I, R> {
+        CountedLines {
+            rt,
+            input,
+            board,
+            is_at_start: true,
+        }
+    }
+
+    /// Counts the lines that end in these bytes, which came next.
+    fn count(&mut self, bytes: &[u8]) {
+        let marks = &self.board.marks;
+        if bytes.is_empty() {
+            marks.has_ended.set(true);
+        }
+        let mut lines: u64 = 0;
+        for b in bytes {
+            if *b != b'\n' {
+                self.is_at_start = false;
+                continue;
+            }
+            if self.is_at_start {
+                marks.has_ended.set(true);
+            }
+            if marks.has_ended.is_set() {
+                break;
+            }
+            lines = lines.saturating_add(1);
+            self.is_at_start = true;
+        }
+        if lines > 0 {
+            self.board.lines.lines.add(lines);
+            self.board.lines.last.set(date(&self.rt));
+        }
+    }
+}
+
+impl<I: Read + Drop, R: Clock + Drop> Read for CountedLines<I, R> {
+    fn read(&mut self, buf: &mut [u8]) -> io::Result<usize> {
+        let read = self.input.read(buf)?;
+        if let Some(bytes) = buf.get(..read) {
+            self.count(bytes);
+        }
+        Ok(read)
+    }
+}
+
+/// What an adapter says.
+#[derive(Drop)]
+pub(crate) struct Heard<I: Drop, R: Drop> {
+    rt: R,
+    input: I,
+    board: SharedBoard,
+    finder: WordFinder,
+}
+
+impl<I: Read + Drop, R: Clock + Drop> Heard<I, R> {
+    pub(crate) fn new(rt: R, input: I, board: SharedBoard) -> Heard<I, R> {
+        Heard {
+            rt,
+            input,
+            board,
+            finder: WordFinder::new(),
+        }
+    }
+
+    /// Counts what is said in these bytes, which came next.
+    fn count(&mut self, bytes: &[u8]) {
+        let mut rest = bytes;
+        for _line in 0..bytes.len() {
+            if rest.is_empty() {
+                break;
+            }
+            let (len, word) = self.finder.take(rest);
+            rest = rest.get(len..).unwrap_or(&[]);
+            if let Some(word) = word {
+                let (now, date) = (microseconds(&self.rt), date(&self.rt));
+                self.board
+                    .adapter
+                    .hear(&self.board.batches, word, now, date);
+            }
+        }
+    }
+}
+
+impl<I: Read + Drop, R: Clock + Drop> Read for Heard<I, R> {
+    fn read(&mut self, buf: &mut [u8]) -> io::Result<usize> {
+        let read = self.input.read(buf)?;
+        if let Some(bytes) = buf.get(..read) {
+            self.count(bytes);
+        }
+        Ok(read)
+    }
+}

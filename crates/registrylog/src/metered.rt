@@ -1,0 +1,96 @@
+// A log's file of which it is counted how long its changes take.
+ghost use Rattle.std.specs.Prelude.{[], ⊤};
+
+use crate::watching::SharedBoard;
+use reg_journal::{Disk, DiskError, RenewError, Renewable, StoredFile};
+use reg_meters::microseconds;
+use std::alloc::Global;
+use std::fs::{File, Files};
+use std::time::Clock;
+
+/// A log's file. Nothing is known of it as a disk, as of the file itself.
+#[derive(Drop)]
+pub(crate) struct MeteredFile<R: Files<File = File> + Drop> {
+    rt: R,
+    file: StoredFile<R>,
+    board: SharedBoard,
+    /// When its length was asked for last, which is how an append begins, and how long after that it was synced last. In microseconds.
+    begun: u64,
+    took: u64,
+}
+
+impl<R: Files<File = File> + Clock + Drop> MeteredFile<R> {
+    pub(crate) fn new(rt: R, file: StoredFile<R>, board: SharedBoard) -> MeteredFile<R> {
+        MeteredFile {
+            rt,
+            file,
+            board,
+            begun: 0,
+            took: 0,
+        }
+    }
+
+    /// How long the last append took, in microseconds.
+    pub(crate) fn took(&self) -> u64 {
+        self.took
+    }
+}
+
+impl<R: Files<File = File> + Clock + Drop> Disk for MeteredFile<R> {
+    ghost is_modelled = { ⊥ };
+
+    ghost known = { λ f. ⊥ };
+
+    ghost seen = { λ f. [] };
+
+    ghost may_leave = { λ f c. ⊤ };
+
+    ghost moment = { λ f. 0 };
+
+    ghost left_since = { λ f t c. ⊤ };
+
+    ghost seen_counts = { λ f none. absurd none };
+
+    ghost counts_now = { λ f t c none. absurd none };
+
+    ghost only_now = { λ f c none. absurd none };
+
+    fn size(&mut self) -> Result<usize, DiskError> {
+        self.begun = microseconds(&self.rt);
+        self.file.size()
+    }
+
+    fn read(&mut self, alloc: Global) -> Result<Vec<u8>, DiskError> {
+        self.file.read(alloc)
+    }
+
+    fn write_at(&mut self, at: usize, bytes: &[u8]) -> Result<(), DiskError> {
+        self.file.write_at(at, bytes)
+    }
+
+    fn cut(&mut self, len: usize) -> Result<(), DiskError> {
+        self.file.cut(len)
+    }
+
+    fn sync(&mut self) -> Result<(), DiskError> {
+        let synced = self.file.sync();
+        self.took = microseconds(&self.rt).saturating_sub(self.begun);
+        synced
+    }
+}
+
+impl<R: Files<File = File> + Clock + Drop> Renewable for MeteredFile<R> {
+    fn renew(&mut self, bytes: &[u8]) -> Result<(), RenewError> {
+        let begun = microseconds(&self.rt);
+        let renewed = self.file.renew(bytes);
+        let meters = &self.board.file;
+        meters
+            .renewal
+            .add(microseconds(&self.rt).saturating_sub(begun));
+        match renewed {
+            Ok(()) => meters.renewed.add(1),
+            Err(_) => meters.not_renewed.add(1),
+        }
+        renewed
+    }
+}

@@ -1,0 +1,135 @@
+// What an operator looks at: whether commands are answered, and numbers.
+use exposition::page_text;
+use log_arguments::{LogCommand, VERSION};
+use reg_meters::{Traffic, microseconds};
+use reg_metrics::{
+    AdapterMeters, BatchMeters, FileMeters, LineMeters, Marks, Pages, Stage, adapter_families,
+    batch_families, file_families, line_families, process_families, process_numbers,
+    stage_families, traffic_families,
+};
+use std::alloc::{Alloc, AllocError, Global};
+use std::fs::Files;
+use std::net::SocketAddr;
+use std::sync::Arc;
+use std::time::Clock;
+
+/// What a process serves.
+#[derive(Clone, Copy, Debug, PartialEq, Eq)]
+pub(crate) enum Served {
+    /// The log of a file.
+    Kept,
+    /// The lines of the input.
+    Followed,
+    /// A log that others write too.
+    Joined,
+}
+
+impl Served {
+    /// The command that serves it.
+    fn command(self) -> &'static str {
+        match self {
+            Served::Kept => "keep",
+            Served::Followed => "follow",
+            Served::Joined => "join",
+        }
+    }
+}
+
+/// How far a process that serves is, and its numbers.
+#[derive(Drop)]
+pub(crate) struct Board {
+    pub(crate) marks: Marks,
+    pub(crate) traffic: Traffic,
+    pub(crate) batches: BatchMeters,
+    /// Those of `keep` alone.
+    pub(crate) file: FileMeters,
+    /// Those of `follow` alone.
+    pub(crate) lines: LineMeters,
+    /// Those of `join` alone.
+    pub(crate) adapter: AdapterMeters,
+}
+
+/// That of a process, for its threads.
+pub(crate) type SharedBoard = Arc<Board, Global>;
+
+/// A process begins.
+pub(crate) fn make_board<R: Clock>(rt: &R, alloc: Global) -> Result<SharedBoard, AllocError> {
+    let board = Board {
+        marks: Marks::new(),
+        traffic: Traffic::new(),
+        batches: BatchMeters::new(),
+        file: FileMeters::new(),
+        lines: LineMeters::new(),
+        adapter: AdapterMeters::new(),
+    };
+    let begun = date(rt);
+    board.lines.last.set(begun);
+    board.adapter.last.set(begun);
+    Ok(Arc::new(alloc, board)?)
+}
+
+/// The microseconds since 1970; 0 where there is no clock.
+pub(crate) fn date<R: Clock>(rt: &R) -> u64 {
+    match rt.since_1970() {
+        Ok(date) => date
+            .as_secs()
+            .saturating_mul(1_000_000)
+            .saturating_add(u64::from(date.subsec_micros())),
+        Err(_) => 0,
+    }
+}
+
+/// What is shown of a process.
+#[derive(Drop)]
+pub(crate) struct Shown<R: Drop> {
+    rt: R,
+    board: SharedBoard,
+    served: Served,
+}
+
+impl<R: Drop> Shown<R> {
+    pub(crate) fn new(rt: R, board: &SharedBoard, served: Served) -> Result<Shown<R>, AllocError> {
+        let board = Arc::try_clone(board)?;
+        Ok(Shown { rt, board, served })
+    }
+}
+
+impl<R: Files + Alloc + Clock + Clone + Drop> Pages for Shown<R> {
+    fn metrics(&self, alloc: Global) -> Result<Vec<u8>, AllocError> {
+        let board = &self.board;
+        let command = self.served.command();
+        let mut families = Vec::new(alloc);
+        stage_families(alloc, VERSION, command, self.stage(), &mut families)?;
+        traffic_families(alloc, &board.traffic, &mut families)?;
+        match self.served {
+            Served::Kept => {
+                batch_families(alloc, &board.batches, &mut families)?;
+                file_families(alloc, &board.file, &mut families)?;
+            }
+            Served::Followed => line_families(alloc, &board.lines, &mut families)?,
+            Served::Joined => {
+                batch_families(alloc, &board.batches, &mut families)?;
+                adapter_families(alloc, &board.adapter, &mut families)?;
+            }
+        }
+        if let Some((numbers, begun)) = process_numbers(&self.rt) {
+            process_families(alloc, &numbers, begun, &mut families)?;
+        }
+        page_text(alloc, &families)
+    }
+
+    fn stage(&self) -> Stage {
+        let is_away = self.board.adapter.is_away(microseconds(&self.rt));
+        self.board.marks.condition(is_away).stage()
+    }
+}
+
+/// What a command serves, and the address where that is shown, if it has one.
+pub(crate) fn shown_by(command: &LogCommand<'_>) -> Option<(Served, SocketAddr)> {
+    match command {
+        LogCommand::Keep { metrics, .. } => metrics.map(|address| (Served::Kept, address)),
+        LogCommand::Follow { metrics, .. } => metrics.map(|address| (Served::Followed, address)),
+        LogCommand::Join { metrics, .. } => metrics.map(|address| (Served::Joined, address)),
+        _ => None,
+    }
+}
