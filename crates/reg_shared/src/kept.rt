@@ -1,11 +1,11 @@
 // The kept records: the last ones, which the registry holds, and older ones beside them.
-ghost use Rattle.std.specs.Prelude.{[], true, ◌≡◌, ◌++◌, ◌&&◌, ◌||◌, IfOk, IfSome, OnErr, OnOk, not, nat_le, nat_lt};
+ghost use Rattle.std.specs.Prelude.{[], true, ◌≡◌, ◌++◌, ◌&&◌, ◌||◌, IfOk, IfSome, IsTrue, OnErr, OnOk, not, nat_le, nat_lt};
 ghost use Rattle.std.specs.FinSet.{contains, from_list, union};
 ghost use Rattle.std.specs.List.{filter, list_all};
 ghost use Rattle.reg_set.specs.Compaction.{deletes_below};
 ghost use Rattle.reg_set.specs.LastRecords.{last_records};
 ghost use Rattle.reg_set.specs.RecordOrder.{record_cmp};
-ghost use Rattle.reg_set.specs.Records.{Records};
+ghost use Rattle.reg_set.specs.Records.{Records, is_in_order};
 ghost use Rattle.reg_shared.specs.Kept.{IsRising, lasts_at, may_go};
 
 use reg_floored::{deletes_below, is_gone};
@@ -16,6 +16,11 @@ use std::alloc::{AllocError, Global};
 
 /// So many records are sought in a list of others one by one; more in their set.
 const FEW: usize = 8;
+
+/// A list has room for one record more of so many, and for so many at least.
+const PART: usize = 8;
+
+const LEAST: usize = 64;
 
 /// The records at or above an offset.
 pub(crate) fn since(by_offset: &[Record], from: u64) -> &[Record]
@@ -233,6 +238,31 @@ pub(crate) fn push_all(records: &mut Vec<Record>, batch: &[Record]) -> Result<()
     ensures refused { OnErr result (records.new.items ≡ records.old.items) }
 {
     records.extend_from_slice(batch)
+}
+
+/// How many more records a list of so many has room for, so that the next ones need no copy of all.
+fn spare(count: usize) -> usize {
+    (count / PART).saturating_add(LEAST)
+}
+
+/// The records of a set in their order, with room for more. The only error is out of memory.
+pub(crate) fn list_records(set: &RecordSet) -> Result<Vec<Record>, AllocError>
+    ensures in_order { IfOk result (λ found. IsTrue (is_in_order found.items)) }
+    ensures members { IfOk result (λ found. set.now ≡ from_list found.items) }
+{
+    let mut records = set.records()?;
+    records.reserve_exact(spare(records.len()))?;
+    Ok(records)
+}
+
+/// A copy of a list, with room for more. The only error is out of memory.
+pub(crate) fn copy_list(alloc: Global, records: &[Record]) -> Result<Vec<Record>, AllocError>
+    ensures { IfOk result (λ copy. copy.items ≡ records.now) }
+{
+    let mut copy = Vec::new(alloc);
+    copy.reserve_exact(records.len().saturating_add(spare(records.len())))?;
+    push_all(&mut copy, records)?;
+    Ok(copy)
 }
 
 /// Copies of the last records of the batch's keys. The only error is out of memory.

@@ -10,8 +10,8 @@ ghost use Rattle.reg_topic.specs.Topic.{follows, may_compact, owed_by, plain_top
 ghost use Rattle.reg_shared.specs.Held.{IsBelow, IsSince, base_of, held_after_batch, held_after_compaction, held_of};
 
 use crate::kept::{
-    are_none, copy_below, copy_deletes, copy_kept, copy_left, copy_older, grow, keep_lasts,
-    may_leave, push_all, since, until,
+    are_none, copy_below, copy_deletes, copy_kept, copy_left, copy_list, copy_older, grow,
+    keep_lasts, list_records, may_leave, push_all, since, until,
 };
 use reg_feed::{FeedName, Fold};
 use reg_floored::compacting_drops_what_may_leave;
@@ -100,7 +100,7 @@ impl Shared {
     {
         records_are_ordered();
         last_records_are_enough();
-        let by_offset = log.records()?;
+        let by_offset = list_records(log)?;
         let older = copy_older(alloc, &registry, &by_offset)?;
         Ok(Shared {
             alloc,
@@ -302,8 +302,7 @@ impl Clone for Shared {
     fn clone(&self) -> Result<Shared, AllocError> {
         let mut older = Vec::new(self.alloc);
         push_all(&mut older, &self.older)?;
-        let mut by_offset = Vec::new(self.alloc);
-        push_all(&mut by_offset, &self.by_offset)?;
+        let by_offset = copy_list(self.alloc, &self.by_offset)?;
         Ok(Shared {
             alloc: self.alloc,
             registry: self.registry.clone()?,

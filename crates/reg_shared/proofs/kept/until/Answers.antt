@@ -1,4 +1,4 @@
-use Rattle.std.proofs.Common.{rules, of_calls, ℕ, List, length, take, ◌∙◌, arith}
+use Rattle.std.proofs.Common.{rules, of_calls, ℕ, List, arith}
 use Rattle.std.specs.Bool.{nat_lt}
 use Rattle.std.proofs.lemmas.Fn.{always_returns_same}
 use Rattle.reg_records.specs.declared.record.Record.{Record}
