@@ -4,26 +4,25 @@ ghost use mathlib.Core.List.{IsPrefix};
 ghost use Rattle.reg_desk.specs.Desk.{IsFresh, front_of};
 
 use crate::catching::catch_up;
-use crate::gate::pass_gate;
-use crate::node_types::NodeTypes;
+use crate::gate::{Gate, pass_gate};
 use crate::ruling::Ruling;
 use crate::standing::Standing;
 use crate::submitting::submit;
 use crate::wake::Wake;
 use reg_conversation::SharedDesk;
-use reg_feed::{FeedName, Seen};
+use reg_feed::{Copies, FeedName, Seen};
 use reg_http::Desk;
 use reg_judge::Judge;
 use reg_leader::{Command, Reply};
 use reg_lookup::{Answer, Query};
-use reg_node::{Follower, View};
-use reg_pen::{Pass, Pen, Submitted};
+use reg_node::{Draw, Follower, Taken, View};
+use reg_pen::{Keep, Pass, Pen, Submitted};
 use reg_shared::Shared;
 use reg_topic::Item;
 use std::alloc::{AllocError, Global};
 use std::marker::Model;
-use std::sync::Mutex;
 use std::sync::atomic::AtomicU64;
+use std::sync::{Mutex, Wait};
 
 /// A node's desk. A registration is judged by what the view shows. Then the command goes to the pen, once;
 /// the other nodes are woken; then the node's follower learns, pulls and publishes, and the view learns,
@@ -33,44 +32,74 @@ use std::sync::atomic::AtomicU64;
 /// front, the count of submits, whether nothing after that command's submit was refused, and what wakes the
 /// other nodes.
 #[derive(Drop)]
-pub struct NodeDesk<'a, T: NodeTypes> {
-    rt: &'a T::Runtime,
-    pen: &'a Mutex<Pen<T::Topic, T::TopicCopies, T::Keep, T::Runtime>>,
-    follower: &'a Mutex<Follower<T::Topic, T::TopicCopies, T::Node, T::NodeCopies, T::Runtime>>,
-    gate: &'a T::Gate,
-    wake: T::Wake,
+pub struct NodeDesk<
+    'a,
+    N: FeedName<Item, Shared>,
+    S: Copies<Item, Shared, N>,
+    K: Keep + Drop,
+    M: FeedName<Draw, Taken>,
+    U: Copies<Draw, Taken, M>,
+    R: Wait + Drop,
+    G: Gate,
+    W: Wake<N> + Drop,
+> {
+    rt: &'a R,
+    pen: &'a Mutex<Pen<N, S, K, R>>,
+    follower: &'a Mutex<Follower<N, S, M, U, R>>,
+    gate: &'a G,
+    wake: W,
     calls: &'a AtomicU64,
-    pass: Pass<T::Topic>,
-    view: View<T::Node, T::NodeCopies>,
+    pass: Pass<N>,
+    view: View<M, U>,
     judge: Judge,
-    seen: Option<Seen<Item, Shared, T::Topic>>,
+    seen: Option<Seen<Item, Shared, N>>,
     fresh: bool,
 }
 
-impl<'a, T: NodeTypes> Model for NodeDesk<'a, T> {
+impl<
+    'a,
+    N: FeedName<Item, Shared>,
+    S: Copies<Item, Shared, N>,
+    K: Keep + Drop,
+    M: FeedName<Draw, Taken>,
+    U: Copies<Draw, Taken, M>,
+    R: Wait + Drop,
+    G: Gate,
+    W: Wake<N> + Drop,
+> Model for NodeDesk<'a, N, S, K, M, U, R, G, W> {
     ghost use Rattle.std.specs.Prelude.{◌≡◌, true};
     ghost use Rattle.reg_desk.specs.Desk.{IsFresh, Known, front_of};
 
-    ghost Value = { Known T.Wake };
+    ghost Value = { Known W };
 
     ghost view = { λ d. record { seen = d.seen; view = d.view; submits = d.pass.submits; fresh = d.fresh; wake = d.wake } };
 
-    ghost invariant = { λ d. d.fresh ≡ true → IsFresh T.Topic.first (front_of d.seen) d.view };
+    ghost invariant = { λ d. d.fresh ≡ true → IsFresh N.first (front_of d.seen) d.view };
 }
 
-impl<'a, T: NodeTypes> NodeDesk<'a, T> {
+impl<
+    'a,
+    N: FeedName<Item, Shared>,
+    S: Copies<Item, Shared, N>,
+    K: Keep + Drop,
+    M: FeedName<Draw, Taken>,
+    U: Copies<Draw, Taken, M>,
+    R: Wait + Drop,
+    G: Gate,
+    W: Wake<N> + Drop,
+> NodeDesk<'a, N, S, K, M, U, R, G, W> {
     /// A desk that has done no command.
     pub fn new(
-        rt: &'a T::Runtime,
-        pen: &'a Mutex<Pen<T::Topic, T::TopicCopies, T::Keep, T::Runtime>>,
-        follower: &'a Mutex<Follower<T::Topic, T::TopicCopies, T::Node, T::NodeCopies, T::Runtime>>,
-        gate: &'a T::Gate,
-        wake: T::Wake,
+        rt: &'a R,
+        pen: &'a Mutex<Pen<N, S, K, R>>,
+        follower: &'a Mutex<Follower<N, S, M, U, R>>,
+        gate: &'a G,
+        wake: W,
         calls: &'a AtomicU64,
-        pass: Pass<T::Topic>,
-        view: View<T::Node, T::NodeCopies>,
+        pass: Pass<N>,
+        view: View<M, U>,
         judge: Judge,
-    ) -> NodeDesk<'a, T>
+    ) -> NodeDesk<'a, N, S, K, M, U, R, G, W>
         ensures { result ≡ record { seen = None; view = view; submits = pass.submits; fresh = false; wake = wake } }
     {
         NodeDesk {
@@ -89,7 +118,7 @@ impl<'a, T: NodeTypes> NodeDesk<'a, T> {
     }
 
     /// The topic's front of the last command, or a longer one that it learnt of.
-    pub fn seen(&self) -> Option<&Seen<Item, Shared, T::Topic>>
+    pub fn seen(&self) -> Option<&Seen<Item, Shared, N>>
         ensures { option_map (λ s. s.now) result ≡ self.now.seen }
     {
         self.seen.as_ref()
@@ -98,7 +127,7 @@ impl<'a, T: NodeTypes> NodeDesk<'a, T> {
     /// Whether nothing after the submit that gave this front was refused.
     pub fn fresh(&self) -> bool
         ensures fresh { result ≡ self.now.fresh }
-        ensures shown { result ≡ true → IsFresh T.Topic.first (front_of self.now.seen) self.now.view }
+        ensures shown { result ≡ true → IsFresh N.first (front_of self.now.seen) self.now.view }
     {
         self.fresh
     }
@@ -111,12 +140,22 @@ impl<'a, T: NodeTypes> NodeDesk<'a, T> {
     }
 }
 
-impl<'a, T: NodeTypes> Desk for NodeDesk<'a, T> {
+impl<
+    'a,
+    N: FeedName<Item, Shared>,
+    S: Copies<Item, Shared, N>,
+    K: Keep + Drop,
+    M: FeedName<Draw, Taken>,
+    U: Copies<Draw, Taken, M>,
+    R: Wait + Drop,
+    G: Gate,
+    W: Wake<N> + Drop,
+> Desk for NodeDesk<'a, N, S, K, M, U, R, G, W> {
     ghost use Rattle.reg_desk.specs.Desk.{DeskAsks, DeskCommands};
 
     ghost asks = { DeskAsks };
 
-    ghost commands = { DeskCommands T.Keep.keeps T.Wake.wakes T.Topic.first };
+    ghost commands = { DeskCommands K.keeps W.wakes N.first };
 
     fn ask(&mut self, alloc: Global, query: &Query) -> Result<Answer, AllocError> {
         pass_gate(self.gate, self.calls);
@@ -142,16 +181,26 @@ impl<'a, T: NodeTypes> Desk for NodeDesk<'a, T> {
     }
 }
 
-impl<'a, T: NodeTypes> SharedDesk for NodeDesk<'a, T> {
-    type Standing = Standing<T::Topic, T::Node>;
+impl<
+    'a,
+    N: FeedName<Item, Shared>,
+    S: Copies<Item, Shared, N>,
+    K: Keep + Drop,
+    M: FeedName<Draw, Taken>,
+    U: Copies<Draw, Taken, M>,
+    R: Wait + Drop,
+    G: Gate,
+    W: Wake<N> + Drop,
+> SharedDesk for NodeDesk<'a, N, S, K, M, U, R, G, W> {
+    type Standing = Standing<N, M>;
 
     ghost use Rattle.reg_desk.specs.Desk.{LearnsFronts, StandsOn};
 
     ghost stands = { StandsOn };
 
-    ghost learns = { LearnsFronts T.Topic.first };
+    ghost learns = { LearnsFronts N.first };
 
-    fn standing(&self) -> Standing<T::Topic, T::Node> {
+    fn standing(&self) -> Standing<N, M> {
         let topic = match &self.seen {
             Some(seen) => Some(seen.again()),
             None => None,
@@ -160,7 +209,7 @@ impl<'a, T: NodeTypes> SharedDesk for NodeDesk<'a, T> {
     }
 
     #[tactic(auto, using(crate::proofs::Learnt::stays_learnt, crate::proofs::Learnt::takes_learnt))]
-    fn learn(&mut self, standing: &Standing<T::Topic, T::Node>) {
+    fn learn(&mut self, standing: &Standing<N, M>) {
         self.view.learn(standing.node());
         if let Some(topic) = standing.topic() {
             if is_news(&self.seen, topic) {

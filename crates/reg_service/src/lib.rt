@@ -7,7 +7,7 @@ mod endpoints;
 mod error;
 mod following;
 mod gate;
-mod making;
+mod holding;
 mod nodes;
 mod parts;
 mod running;

@@ -2,10 +2,10 @@
 ghost use Rattle.std.specs.Prelude.{◌≡◌, ◌≤◌};
 ghost use Rattle.std.specs.FinSet.{empty};
 
-use crate::common::{Common, Others};
+use crate::common::Common;
 use crate::error::ServiceError;
 use crate::following::Following;
-use reg_desk::{Gate, NodeDesk, NodeTypes};
+use reg_desk::{Gate, NodeDesk, Wake};
 use reg_feed::{Copies, FeedName, FeedReader, Stored, Unnamed, feed};
 use reg_judge::Judge;
 use reg_node::{Draw, Follower, Taken, View};
@@ -14,10 +14,8 @@ use reg_serve::NodeServer;
 use reg_shared::Shared;
 use reg_topic::Item;
 use std::alloc::Global;
-use std::marker::PhantomData;
 use std::net::{Net, TcpListener};
 use std::sync::{Mutex, Wait};
-use std::thread::Parker;
 
 /// How many schemas the judge of a desk keeps.
 const SCHEMAS: usize = 256;
@@ -50,9 +48,9 @@ pub(crate) struct Parts<
     pub(crate) views: Mutex<Vec<View<M, U>>>,
 }
 
-/// What nodes are made with: what they share, the pen of the topic, and where they listen.
+/// Where nodes are made: what they share, the pen of the topic, and where they listen.
 #[derive(Drop)]
-pub(crate) struct Resources<
+pub(crate) struct Stage<
     'a,
     N: FeedName<Item, Shared>,
     S: Copies<Item, Shared, N>,
@@ -65,7 +63,7 @@ pub(crate) struct Resources<
     pub(crate) listeners: &'a [TcpListener],
 }
 
-/// Makes the feed, the follower and the views of the node of that number, if there is one.
+/// Makes a node's feed, its follower and its views.
 pub(crate) fn make_parts<
     N: FeedName<Item, Shared>,
     S: Copies<Item, Shared, N>,
@@ -75,20 +73,16 @@ pub(crate) fn make_parts<
 >(
     common: &Common<'_, R, G>,
     handles: &mut TopicHandles<N, S>,
-    number: usize,
     list: Unnamed<Draw>,
-) -> Result<Option<Parts<N, S, M, Stored<Draw, Taken, M>, R>>, ServiceError>
+) -> Result<Parts<N, S, M, Stored<Draw, Taken, M>, R>, ServiceError>
     requires { (list.reached.book ≡ M.book) × (M.first ≡ empty) }
 {
-    if number >= common.nodes {
-        return Ok(None);
-    }
     let mut follower = make_follower::<N, S, M, R, G>(common, handles, list)?;
     let views = begin_to_follow(&mut follower, common.alloc, common.workers.max(1))?;
-    Ok(Some(Parts {
+    Ok(Parts {
         follower: Mutex::new(follower),
         views: Mutex::new(views),
-    }))
+    })
 }
 
 /// Makes a node's feed and its follower, which has read nothing yet.
@@ -142,44 +136,6 @@ fn begin_to_follow<
     Ok(views)
 }
 
-/// The types of the service's desks.
-pub(crate) struct ServiceTypes<'a, N, S, K, M, U, R, G> {
-    of: PhantomData<(&'a Parker, N, S, K, M, U, R, G)>,
-}
-
-impl<
-    'a,
-    N: FeedName<Item, Shared>,
-    S: Copies<Item, Shared, N>,
-    K: Keep + Drop,
-    M: FeedName<Draw, Taken>,
-    U: Copies<Draw, Taken, M>,
-    R: Wait + Drop,
-    G: Gate,
-> NodeTypes for ServiceTypes<'a, N, S, K, M, U, R, G> {
-    type Topic = N;
-
-    type TopicCopies = S;
-
-    type Keep = K;
-
-    type Node = M;
-
-    type NodeCopies = U;
-
-    type Runtime = R;
-
-    type Gate = G;
-
-    type Wake = Others<'a>;
-}
-
-/// A desk that wakes the other nodes.
-pub(crate) type NamedDesk<'a, N, S, K, M, U, R, G> = NodeDesk<
-    'a,
-    ServiceTypes<'a, N, S, K, M, U, R, G>,
->;
-
 /// A desk of a node for each view, with a judge of its own.
 pub(crate) fn make_desks<
     'a,
@@ -191,14 +147,15 @@ pub(crate) fn make_desks<
     U: Copies<Draw, Taken, M>,
     R: Wait + Drop,
     G: Gate,
+    W: Wake<N> + Copy + Drop,
 >(
     common: &Common<'x, R, G>,
     pen: &'a Mutex<Pen<N, S, K, R>>,
     passes: &mut Vec<Pass<N>>,
     follower: &'a Mutex<Follower<N, S, M, U, R>>,
-    others: Others<'a>,
+    wake: W,
     views: Vec<View<M, U>>,
-) -> Result<Vec<NamedDesk<'a, N, S, K, M, U, R, G>>, ServiceError> {
+) -> Result<Vec<NodeDesk<'a, N, S, K, M, U, R, G, W>>, ServiceError> {
     let alloc = common.alloc;
     let mut desks = Vec::new(alloc);
     for view in views {
@@ -209,7 +166,7 @@ pub(crate) fn make_desks<
             pen,
             follower,
             common.gate,
-            others,
+            wake,
             common.calls,
             pass,
             view,
@@ -220,8 +177,8 @@ pub(crate) fn make_desks<
     Ok(desks)
 }
 
-/// The server of the node of that number, which isn't opened yet.
-pub(crate) fn make_server<
+/// The node of that number, which isn't opened yet.
+pub(crate) fn make_node<
     'a,
     'x: 'a,
     N: FeedName<Item, Shared>,
@@ -234,22 +191,22 @@ pub(crate) fn make_server<
 >(
     common: &Common<'x, R, G>,
     listeners: &'a [TcpListener],
-    number: usize,
+    own: usize,
     follower: &'a Mutex<Follower<N, S, M, U, R>>,
 ) -> Result<NodeServer<'a, Following<'a, N, S, M, U, R>, T>, ServiceError> {
     let following = Following {
         rt: common.rt,
         follower,
-        grown: common.grown.get(number).ok_or(ServiceError::NoPlace)?,
+        grown: common.grown.get(own).ok_or(ServiceError::NoPlace)?,
         traffic: common.traffic,
     };
-    let server = NodeServer::new(
+    let node = NodeServer::new(
         common.rt,
         common.alloc,
-        listeners.get(number).ok_or(ServiceError::NoPlace)?,
+        listeners.get(own).ok_or(ServiceError::NoPlace)?,
         following,
         common.workers as usize,
         common.limits,
     )?;
-    Ok(server)
+    Ok(node)
 }

@@ -6,7 +6,7 @@ use crate::nodes::{Asked, Node, Peer, make_node};
 use crate::runs::{Answers, Change, Row, Told, UNSEEN, command_of};
 use crate::topics::{Course, kept_records, reader_of};
 use base_text::Text;
-use reg_desk::{Gate, NodeDesk, NodeTypes, Wake};
+use reg_desk::{Gate, NodeDesk, Wake};
 use reg_feed::{Copies, FeedName, Seen, Unnamed};
 use reg_http::{Desk, reply_answer};
 use reg_judge::Judge;
@@ -19,7 +19,7 @@ use reg_shared::Shared;
 use reg_topic::Item;
 use std::alloc::{AllocError, Global};
 use std::hash::RandomState;
-use std::marker::{Brand, PhantomData};
+use std::marker::Brand;
 use std::sync::atomic::AtomicU64;
 use std::sync::{Mutex, Wait};
 
@@ -43,35 +43,6 @@ impl<N: FeedName<Item, Shared>> Wake<N> for NoWake {
     fn topic_grew(&mut self, _front: &Seen<Item, Shared, N>) {}
 }
 
-/// The types of a desk whose pen keeps nothing.
-struct TestTypes<N, S, M, U, R> {
-    of: PhantomData<(N, S, M, U, R)>,
-}
-
-impl<
-    N: FeedName<Item, Shared>,
-    S: Copies<Item, Shared, N>,
-    M: FeedName<Draw, Taken>,
-    U: Copies<Draw, Taken, M>,
-    R: Wait + Drop,
-> NodeTypes for TestTypes<N, S, M, U, R> {
-    type Topic = N;
-
-    type TopicCopies = S;
-
-    type Keep = MemoryAlone;
-
-    type Node = M;
-
-    type NodeCopies = U;
-
-    type Runtime = R;
-
-    type Gate = NoGate;
-
-    type Wake = NoWake;
-}
-
 /// A desk, whatever its feeds are named.
 trait Worker: Asked {
     /// The answer that the reply has, and whether the desk is fresh then.
@@ -88,7 +59,7 @@ impl<
     M: FeedName<Draw, Taken>,
     U: Copies<Draw, Taken, M>,
     R: Wait + Drop,
-> Asked for NodeDesk<'a, TestTypes<N, S, M, U, R>> {
+> Asked for NodeDesk<'a, N, S, MemoryAlone, M, U, R, NoGate, NoWake> {
     fn answer_to(&mut self, alloc: Global, query: &Query) -> Result<Answer, AllocError> {
         self.ask(alloc, query)
     }
@@ -101,7 +72,7 @@ impl<
     M: FeedName<Draw, Taken>,
     U: Copies<Draw, Taken, M>,
     R: Wait + Drop,
-> Worker for NodeDesk<'a, TestTypes<N, S, M, U, R>> {
+> Worker for NodeDesk<'a, N, S, MemoryAlone, M, U, R, NoGate, NoWake> {
     fn work(&mut self, alloc: Global, command: &Command) -> Result<(Answer, bool), AllocError> {
         let reply = self.command(command);
         let is_fresh = self.fresh();
@@ -250,9 +221,7 @@ fn at_desk<
     let calls = AtomicU64::new(0);
     let gate = NoGate;
     let judge = make_judge(alloc, keys)?;
-    let mut desk: NodeDesk<'_, TestTypes<N, S, M, U, R>> = NodeDesk::new(
-        rt, pen, follower, &gate, NoWake, &calls, pass, view, judge,
-    );
+    let mut desk = NodeDesk::new(rt, pen, follower, &gate, NoWake, &calls, pass, view, judge);
     done_at(alloc, &mut desk, row)
 }
 
@@ -273,7 +242,7 @@ fn done_at<
     R: Wait + Drop,
 >(
     alloc: Global,
-    desk: &mut NodeDesk<'a, TestTypes<N, S, M, U, R>>,
+    desk: &mut NodeDesk<'a, N, S, MemoryAlone, M, U, R, NoGate, NoWake>,
     row: &Row,
 ) -> Result<Option<Seen<Item, Shared, N>>, AllocError> {
     if !desk_holds(alloc, desk, row)? {

@@ -11,7 +11,7 @@ returns-then-is_news g c =
     let topic : Some c.in-Some.topic.now ≡ c.args.standing.now.topic = c.in-Some.ensures.front in
     let before : front_of c.self.inside.seen ≡ front_of c.args.self.now.seen = ap (λ (k : Known _). front_of k.seen) c.self.view_is in
     let known : IsPrefix (front_of c.self.inside.seen) c.in-Some.topic.now = c.if-is_news.ensures in
-    takes_learnt g.T.Topic.FeedName.first c.args.self.now _ c.args.standing.now
+    takes_learnt g.N.FeedName.first c.args.self.now _ c.args.standing.now
     (ap Some c.again.ensures ∙ topic)
     c.fresh-self-inside.ensures
     (ap (λ (k : Known _). k.submits) c.self.view_is)
@@ -27,7 +27,7 @@ returns-else-is_news g c =
     let topic : Some c.in-Some.topic.now ≡ c.args.standing.now.topic = c.in-Some.ensures.front in
     let before : front_of c.self.inside.seen ≡ front_of c.args.self.now.seen = ap (λ (k : Known _). front_of k.seen) c.self.view_is in
     let known : IsPrefix c.in-Some.topic.now (front_of c.self.inside.seen) = c.if-is_news.ensures in
-    stays_learnt g.T.Topic.FeedName.first c.args.self.now _ c.args.standing.now
+    stays_learnt g.N.FeedName.first c.args.self.now _ c.args.standing.now
     (ap (λ (k : Known _). k.seen) c.self.view_is)
     (ap (λ (k : Known _). k.fresh) c.self.view_is)
     (ap (λ (k : Known _). k.submits) c.self.view_is)
@@ -36,11 +36,11 @@ returns-else-is_news g c =
     (subst (λ (w : List Item). IsPrefix c.in-Some.topic.now w) before known))
     (subst (λ (w : List Draw). IsPrefix w c.learn.new.self) (ap (λ (k : Known _). k.view) c.self.view_is) c.learn.ensures.this)
     (subst (λ (w : List Draw). IsPrefix w c.learn.new.self) c.node.ensures c.learn.ensures.that)
-    (subst (λ (k : Known _). k.fresh ≡ true → IsFresh g.T.Topic.FeedName.first (front_of k.seen) k.view) c.self.view_is c.self.invariant)
+    (subst (λ (k : Known _). k.fresh ≡ true → IsFresh g.N.FeedName.first (front_of k.seen) k.view) c.self.view_is c.self.invariant)
 
 pub returns-in_default : goal.returns-in_default
 returns-in_default g c =
-    stays_learnt g.T.Topic.FeedName.first c.args.self.now _ c.args.standing.now
+    stays_learnt g.N.FeedName.first c.args.self.now _ c.args.standing.now
     (ap (λ (k : Known _). k.seen) c.self.view_is)
     (ap (λ (k : Known _). k.fresh) c.self.view_is)
     (ap (λ (k : Known _). k.submits) c.self.view_is)
@@ -48,4 +48,4 @@ returns-in_default g c =
     (nothing_known c.args.standing.now.topic (front_of c.args.self.now.seen) c.in_default.ensures.front)
     (subst (λ (w : List Draw). IsPrefix w c.learn.new.self) (ap (λ (k : Known _). k.view) c.self.view_is) c.learn.ensures.this)
     (subst (λ (w : List Draw). IsPrefix w c.learn.new.self) c.node.ensures c.learn.ensures.that)
-    (subst (λ (k : Known _). k.fresh ≡ true → IsFresh g.T.Topic.FeedName.first (front_of k.seen) k.view) c.self.view_is c.self.invariant)
+    (subst (λ (k : Known _). k.fresh ≡ true → IsFresh g.N.FeedName.first (front_of k.seen) k.view) c.self.view_is c.self.invariant)
